@@ -1,0 +1,3 @@
+pub mod TimerBag
+pub mod Order
+pub mod Inside
