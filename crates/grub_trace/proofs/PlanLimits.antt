@@ -1,0 +1,15 @@
+-- Parts of a plan keep their limits.
+use Rattle.std.proofs.Common.{◌≡◌, ℕ, zero, suc, List, [], ◌∷◌, length, Some, subst}
+use Rattle.std.specs.Prelude.{slice_get}
+use Rattle.std.specs.List.{AllByRecursion}
+use Rattle.grub_trace.specs.declared.line.Line.{Line}
+use Rattle.grub_trace.specs.Plans.{PlanView}
+use Rattle.grub_trace.specs.Limits.{PlanFits, ScriptFits}
+
+script_at : (n : ℕ) (ss : List (List Line)) (r : ℕ) (s : List Line) → AllByRecursion (ScriptFits n 0) ss → slice_get ss r ≡ Some s → ScriptFits n 0 s
+script_at n [] r s h e = absurd cc
+script_at n (x ∷ xs) zero s h e = let same : x ≡ s = cc in subst (ScriptFits n 0) same h.0
+script_at n (x ∷ xs) (suc r) s h e = script_at n xs r s h.1 e
+
+pub script_fits : (p v : PlanView) (r : ℕ) (s : List Line) → PlanFits p → p ≡ v → slice_get v.scripts r ≡ Some s → ScriptFits (length v.setup.tasks) 0 s
+script_fits p v r s fits is e = script_at (length v.setup.tasks) v.scripts r s (subst PlanFits is fits).scripts e
