@@ -1,0 +1,22 @@
+ghost use Rattle.std.specs.Prelude.{◌≡◌, ◌≢◌, ◌↔◌, IsNone, Some};
+ghost use Rattle.grub_bw.specs.Bandwidth.{Reservation, IsReservation};
+ghost use Rattle.grub_words.specs.Words.{params_word};
+
+use crate::bits::{halves, join_halves};
+use grub_bw::Params;
+
+/// The word of the reservation.
+pub fn pack_params(params: Params) -> u64
+    ensures { result ≡ params_word params }
+{
+    join_halves(params.runtime(), params.period())
+}
+
+/// The one reservation that has this word; none where there is none.
+pub fn unpack_params(word: u64) -> Option<Params>
+    ensures found { (p : Reservation) → (result ≡ Some p) ↔ (IsReservation p × (params_word p ≡ word)) }
+    ensures none { IsNone result ↔ ((p : Reservation) → IsReservation p → params_word p ≢ word) }
+{
+    let (runtime, period) = halves(word);
+    Params::new(runtime, period).ok()
+}

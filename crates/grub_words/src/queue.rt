@@ -1,0 +1,38 @@
+ghost use Rattle.std.specs.Prelude.{◌≡◌, ◌≢◌, ◌↔◌, IsTrue, IsNone, Some};
+ghost use Rattle.grub_book.specs.declared.event.Reading.{Reading};
+ghost use Rattle.grub_words.specs.Words.{queue_word, QueueFits};
+
+use crate::bits::{halves, join_halves};
+use grub_book::Reading;
+
+/// A bandwidth of one.
+const UNIT: u32 = 1048576;
+
+/// Whether the reading has a word: running is at most this, and this at most 2^20.
+pub fn queue_fits(reading: Reading) -> bool
+    ensures { IsTrue result ↔ QueueFits reading }
+{
+    reading.running <= reading.this && reading.this <= UNIT
+}
+
+/// The word of a runqueue with this reading.
+pub fn pack_queue(reading: Reading) -> u64
+    requires { QueueFits reading }
+    ensures { result ≡ queue_word reading }
+{
+    join_halves(reading.running, reading.this)
+}
+
+/// The one reading that has this word; none where there is none.
+pub fn unpack_queue(word: u64) -> Option<Reading>
+    ensures found { (now : Reading) → (result ≡ Some now) ↔ (QueueFits now × (queue_word now ≡ word)) }
+    ensures none { IsNone result ↔ ((now : Reading) → QueueFits now → queue_word now ≢ word) }
+{
+    let (running, this) = halves(word);
+    let reading = Reading { running, this };
+    if queue_fits(reading) {
+        Some(reading)
+    } else {
+        None
+    }
+}
