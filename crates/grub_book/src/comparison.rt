@@ -1,0 +1,85 @@
+//! The book beside the plain one, over ops without a visible order.
+
+ghost use Rattle.std.specs.Prelude.{◌≡◌};
+
+use crate::plain::PlainBook;
+use crate::tests::setup_of;
+use crate::{Book, Op, Reply, Setup};
+use std::process::Abort;
+use std::test::Fail;
+
+/// Asks both books, expects the same reply and the same readings, and gives the reply.
+fn ask_both(
+    rt: &impl Abort,
+    book: &mut Book<'_>,
+    plain: &mut PlainBook<'_>,
+    setup: &Setup,
+    t: u32,
+    op: Op,
+) -> Reply
+    requires book { book.old.setup ≡ setup.now }
+    requires plain { plain.old.setup ≡ setup.now }
+    ensures book { book.new.setup ≡ setup.now }
+    ensures plain { plain.new.setup ≡ setup.now }
+{
+    assert!(rt; setup.has_task(t) && op.fits(setup));
+    let reply = book.apply(t, op);
+    assert_eq!(rt; reply, plain.apply(t, op));
+    assert!(rt; setup.has_queue(0) && setup.has_queue(1));
+    assert_eq!(rt; book.read(0), plain.read(0));
+    assert_eq!(rt; book.read(1), plain.read(1));
+    reply
+}
+
+/// The next of a row of numbers without a visible order.
+fn scrambled(seed: u32) -> u32 {
+    let x = seed ^ (seed << 13);
+    let x = x ^ (x >> 17);
+    x ^ (x << 5)
+}
+
+fn any_op(x: u32, ticket: u32, m: u32) -> Op {
+    let r = x / 16 % 2;
+    match x % 16 {
+        0..2 => Op::Join { r, m },
+        2..4 => Op::Wake { r, m },
+        4..7 => Op::Block { r, m },
+        7 => Op::Leave,
+        8..11 => Op::Timer { ticket, m },
+        11 => Op::Retune {
+            q: 1 + x / 32 % 4,
+            p: 8,
+        },
+        12 if x / 64 % 16 == 0 => Op::Exit,
+        _ => Op::Charge {
+            r,
+            dt: 1 + x / 32 % 4,
+        },
+    }
+}
+
+/// The ticket of the latest block that waits.
+fn latest(reply: Reply, ticket: u32) -> u32 {
+    match reply {
+        Reply::Waiting { ticket, .. } => ticket,
+        _ => ticket,
+    }
+}
+
+#[test]
+fn as_the_plain_book(rt: HostRuntime) -> Result<(), Fail> {
+    let tasks = [(1, 8), (2, 8), (3, 8), (4, 8), (5, 8), (6, 8)];
+    let setup = setup_of(rt.alloc(), 2, &tasks)?;
+    let mut book = Book::new(rt.alloc(), &setup)?;
+    let mut plain = PlainBook::new(rt.alloc(), &setup)?;
+    let mut x = 2463534242;
+    let mut ticket = 1;
+    for i in 0..4000 {
+        x = scrambled(x);
+        let t = x / 65536 % 6;
+        let op = any_op(x, ticket, i / 8);
+        let reply = ask_both(&rt, &mut book, &mut plain, &setup, t, op);
+        ticket = latest(reply, ticket);
+    }
+    Ok(())
+}
