@@ -1,5 +1,5 @@
 -- Words of two halves tell both.
-use Rattle.std.proofs.Common.{◌≡◌, ℕ, ◌/◌, ◌%◌, ◌^◌, ◌↔◌, Some, None, Result, Ok, Err, IfOk, IsOk, arith, refl, subst, sym}
+use Rattle.std.proofs.Common.{◌≡◌, ℕ, ◌/◌, ◌%◌, ◌^◌, ◌↔◌, ◌∙◌, Some, None, Result, Ok, Err, IfOk, IsOk, arith, refl, subst, sym}
 use Rattle.std.specs.Result.{result_ok}
 use Rattle.grub_bw.specs.Bandwidth.{Reservation, IsReservation}
 use Rattle.grub_bw.specs.declared.server.Server.{Server}
@@ -68,3 +68,13 @@ module _ (word low high : ℕ) (is_low : low ≡ word % 2 ^ 32) (is_high : high 
   pub params_read : {E : Type 0} (r : Result Reservation E) → IfOk r (λ p. p ≡ record { runtime = low; period = high }) → (IsOk r ↔ IsReservation (record { runtime = low; period = high })) → (v : Reservation) → (result_ok r ≡ Some v) ↔ (IsReservation v × (params_word v ≡ word))
   params_read (Ok p) same accepted = subst (λ q. (v : Reservation) → (Some q ≡ Some v) ↔ (IsReservation v × (params_word v ≡ word))) (sym same) (params_found (accepted.0 refl))
   params_read (Err e) same accepted = params_not_found (λ is. let h = accepted.1 is in absurd cc)
+
+-- two values with one word are one
+pub same_queue : (a b : Reading) → QueueFits a → QueueFits b → queue_word a ≡ queue_word b → a ≡ b
+same_queue a b f g e = queue_same (queue_word b) _ _ refl refl a f e ∙ sym (queue_same (queue_word b) _ _ refl refl b g refl)
+
+pub same_server_word : (a b : Server) → ServerFits a → ServerFits b → server_word a ≡ server_word b → a ≡ b
+same_server_word a b f g e = server_same (server_word b) _ _ refl refl a f e ∙ sym (server_same (server_word b) _ _ refl refl b g refl)
+
+pub same_params : (a b : Reservation) → IsReservation a → IsReservation b → params_word a ≡ params_word b → a ≡ b
+same_params a b f g e = params_same (params_word b) _ _ refl refl a f e ∙ sym (params_same (params_word b) _ _ refl refl b g refl)

@@ -1,3 +1,4 @@
 pub mod Found
 pub mod Halves
 pub mod Tasks
+pub mod Bounds

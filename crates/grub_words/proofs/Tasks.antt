@@ -1,5 +1,5 @@
 -- The word of a task tells its place, its claim bit and its count.
-use Rattle.std.proofs.Common.{◌≡◌, ℕ, zero, suc, ◌/◌, ◌%◌, ◌^◌, ◌<◌, ◌≤◌, ◌↔◌, Bool, true, false, Some, None, nat_eq, refl, arith, ap, sym, ◌∙◌}
+use Rattle.std.proofs.Common.{◌≡◌, ◌≢◌, ◌+◌, ℕ, zero, suc, ◌/◌, ◌%◌, ◌^◌, ◌<◌, ◌≤◌, ◌↔◌, Bool, true, false, IsTrue, Some, None, nat_eq, refl, arith, ap, sym, ◌∙◌}
 use mir.Val.{bool_byte}
 use Rattle.grub_book.specs.Step.{count_most}
 use Rattle.grub_book.specs.declared.place.State.TheVariants.{Contending, NonContending, Inactive}
@@ -133,3 +133,15 @@ module _ (word : ℕ) where
       let b : claim_bit (nat_eq claim 1) ≡ word / 2 ^ 3 % 2 ^ 1 = claim_bit-eq claim (omega arith) ∙ c in
       let e : word_of v ≡ word = task_word-fields word place (nat_eq claim 1) s q b in
       found_some TaskFits word_of word v f e (λ u g h. same_task u v g f (h ∙ sym e))
+
+-- a claim adds bit 3
+pub task_word-claimed : (place : Place) (count : ℕ) → task_word place count true ≡ task_word place count false + 2 ^ 3
+unfolding task_word
+task_word-claimed place count = omega arith
+
+pub claim_test : (place : Place) (count : ℕ) (claimed : Bool) → IsTrue claimed ↔ (task_word place count claimed / 2 ^ 3 % 2 ≡ 1)
+claim_test place count true = (λ _. claim_of_word place count true, λ _. refl)
+claim_test place count false = (λ h. absurd cc, λ h. let k = claim_of_word place count false in absurd (omega arith))
+
+pub claims_apart : (p q : Place) (m n : ℕ) → task_word p m true ≢ task_word q n false
+claims_apart p q m n e = let h = claim_of_word p m true in let k = claim_of_word q n false in let l = ap (λ w. w / 2 ^ 3 % 2 ^ 1) e in omega arith

@@ -2,11 +2,15 @@
 #![tactic(auto)]
 
 mod bits;
+mod laws;
 mod params;
 mod queue;
 mod server;
 mod task;
 
+pub use laws::{
+    claims_are_one_bit, sound_books_have_words, words_have_64_bits, words_tell_their_values,
+};
 pub use params::{pack_params, unpack_params};
 pub use queue::{pack_queue, queue_fits, unpack_queue};
 pub use server::{pack_server, server_fits, unpack_server};

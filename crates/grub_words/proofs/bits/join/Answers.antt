@@ -1,6 +1,5 @@
-use Rattle.std.proofs.Common.{◌∙◌, add_comm}
+use Rattle.std.proofs.Common.{◌∙◌, add_comm, mod-eq_of_lt}
 use Rattle.std.proofs.lemmas.Nat.{or_shifted}
-use native.Mathlib.Nat.{mod-eq_of_lt}
 use Rattle.grub_words.proofs.bits.join.Goals as goal
 
 pub returns : goal.returns
