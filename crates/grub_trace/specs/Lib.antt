@@ -3,3 +3,9 @@ pub mod Limits
 pub mod Texts
 pub mod Timers
 pub mod Asked
+pub mod Tree
+pub mod Naming
+pub mod Faults
+pub mod Meaning
+pub mod Reading
+pub mod Halts

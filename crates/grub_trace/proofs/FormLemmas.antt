@@ -1,0 +1,128 @@
+-- The words of a form, and the line that they make.
+use Rattle.std.proofs.Common.{◌≡◌, ℕ, zero, suc, ◌+◌, ◌-◌, ◌*◌, ◌^◌, ◌<◌, ◌≤◌, Bool, true, false, not, ◌&&◌, ◌||◌, cond, eqb, ltb, ◌⊎◌, inl, inr, List, [], ◌∷◌, ◌++◌, length, map, get_or, Option, Some, None, option_map, refl, ap, ◌∙◌, sym, arith, rules, subst}
+use Rattle.std.specs.Prelude.{codes, decimal, nat_le}
+use Rattle.std.specs.Str.{bytes_eq}
+use Rattle.std.specs.Char.{is_ascii_digit}
+use Rattle.std.specs.List.{list_all, join_with_byte, slice_split}
+use Rattle.std.specs.Cmp.Lexicographic.{bytes_decides}
+use Rattle.std.proofs.lemmas.List.Splits.{join_with_byte-slice_split}
+use Rattle.std.proofs.lemmas.Bool.Decides.{nat_tests}
+use Rattle.std.proofs.lemmas.Fmt.{decimal-digits_value}
+use Rattle.grub_trace.specs.declared.form.Verb.{Verb}
+use Rattle.grub_trace.specs.declared.form.Verb.TheVariants.{Join, Wake, Block, Leave, Exit}
+use Rattle.grub_trace.specs.Tree.{Declaration, Deed, does, runs, reads, Moment, verb_word, declaration_words, moment_words, deed_words, is_name}
+use Rattle.grub_trace.specs.Faults.{Form, queue, task, does_at, runs_at, reads_at, words_of, form_of, verb_of, is_named, is_number, value}
+use Rattle.grub_trace.proofs.NumberLemmas.{numerals}
+
+pub both : (a b : Bool) → (a && b) ≡ true → (a ≡ true) × (b ≡ true)
+both true b h = (refl, h)
+both false b h = absurd cc
+
+abbrev pub form_words : Form → List (List ℕ)
+form_words (queue a b) = codes "queue" ∷ a ∷ b ∷ []
+form_words (task n q p) = codes "task" ∷ n ∷ q ∷ p ∷ []
+form_words (does_at m v n) = codes "at" ∷ m ∷ verb_word v ∷ n ∷ []
+form_words (runs_at m n d) = codes "at" ∷ m ∷ codes "run" ∷ n ∷ d ∷ []
+form_words (reads_at m) = codes "at" ∷ m ∷ codes "read" ∷ []
+
+abbrev pub IsForm : List (List ℕ) → Form → Type 0
+IsForm ws f = (ws ≡ form_words f) × (is_named f ≡ true)
+
+text_is : (a b : List ℕ) → bytes_eq a b ≡ true → a ≡ b
+text_is a b e = (bytes_decides a b).0 e
+
+pick : (b : Bool) (v : Verb) (o : Option Verb) (u : Verb) → cond b (Some v) o ≡ Some u → ((b ≡ true) × (v ≡ u)) ⊎ (o ≡ Some u)
+pick true v o u e = inl (refl, cc)
+pick false v o u e = inr e
+
+abbrev Named : List ℕ → Verb → Type 0
+Named w u = w ≡ verb_word u
+
+named : (w : List ℕ) (v u : Verb) → (bytes_eq w (verb_word v) ≡ true) × (v ≡ u) → w ≡ verb_word u
+named w v u h = text_is w (verb_word v) h.0 ∙ ap verb_word h.1
+
+pub verb_is : (w : List ℕ) (u : Verb) → verb_of w ≡ Some u → w ≡ verb_word u
+verb_is w u e =
+    elim (pick (bytes_eq w (codes "join")) Join _ u e) [
+      | inl h ↦ named w Join u h
+      | inr e ↦ elim (pick (bytes_eq w (codes "wake")) Wake _ u e) [
+        | inl h ↦ named w Wake u h
+        | inr e ↦ elim (pick (bytes_eq w (codes "block")) Block _ u e) [
+          | inl h ↦ named w Block u h
+          | inr e ↦ elim (pick (bytes_eq w (codes "leave")) Leave _ u e) [
+            | inl h ↦ named w Leave u h
+            | inr e ↦ elim (pick (bytes_eq w (codes "exit")) Exit None u e) [
+              | inl h ↦ named w Exit u h
+              | inr e ↦ absurd cc
+            ]
+          ]
+        ]
+      ]
+    ]
+
+some_form : (x y : Form) → Some x ≡ Some y → x ≡ y
+some_form x y e = cc
+
+mapped : (g : Verb → Form) (o : Option Verb) (f : Form) → option_map g o ≡ Some f → (v : Verb) × (o ≡ Some v) × (g v ≡ f)
+mapped g None f e = absurd cc
+mapped g (Some v) f e = (v, refl, some_form (g v) f e)
+
+three : (t u : Bool) (x y f : Form) → cond t (Some x) (cond u (Some y) None) ≡ Some f → ((t ≡ true) × (x ≡ f)) ⊎ ((u ≡ true) × (y ≡ f))
+three true u x y f e = inl (refl, cc)
+three false true x y f e = inr (refl, cc)
+three false false x y f e = absurd cc
+
+four : (t u : Bool) (x : Form) (o : Option Form) (f : Form) → cond t (Some x) (cond u o None) ≡ Some f → ((t ≡ true) × (x ≡ f)) ⊎ ((u ≡ true) × (o ≡ Some f))
+four true u x o f e = inl (refl, cc)
+four false true x o f e = inr (refl, e)
+four false false x o f e = absurd cc
+
+five : (t : Bool) (x f : Form) → cond t (Some x) None ≡ Some f → (t ≡ true) × (x ≡ f)
+five true x f e = (refl, cc)
+five false x f e = absurd cc
+
+pub form_is : (ws : List (List ℕ)) (f : Form) → form_of ws ≡ Some f → IsForm ws f
+form_is [] f e = absurd cc
+form_is (k ∷ []) f e = absurd cc
+form_is (k ∷ a ∷ []) f e = absurd cc
+form_is (k ∷ a ∷ b ∷ []) f e =
+    elim (three (bytes_eq k (codes "queue")) (bytes_eq k (codes "at") && bytes_eq b (codes "read")) (queue a b) (reads_at a) f e) [
+      | inl h ↦ subst (IsForm (k ∷ a ∷ b ∷ [])) h.1 (ap (λ (w : List ℕ). w ∷ a ∷ b ∷ []) (text_is k (codes "queue") h.0), refl)
+      | inr h ↦ let p = both (bytes_eq k (codes "at")) (bytes_eq b (codes "read")) h.0 in
+          subst (IsForm (k ∷ a ∷ b ∷ [])) h.1
+          (ap (λ (w : List ℕ). w ∷ a ∷ b ∷ []) (text_is k (codes "at") p.0) ∙ ap (λ (w : List ℕ). codes "at" ∷ a ∷ w ∷ []) (text_is b (codes "read") p.1), refl)
+    ]
+form_is (k ∷ a ∷ b ∷ c ∷ []) f e =
+    elim (four (bytes_eq k (codes "task") && is_name a) (bytes_eq k (codes "at") && is_name c) (task a b c) (option_map (λ v. does_at a v c) (verb_of b)) f e) [
+      | inl h ↦ let p = both (bytes_eq k (codes "task")) (is_name a) h.0 in
+          subst (IsForm (k ∷ a ∷ b ∷ c ∷ [])) h.1 (ap (λ (w : List ℕ). w ∷ a ∷ b ∷ c ∷ []) (text_is k (codes "task") p.0), p.1)
+      | inr h ↦ let p = both (bytes_eq k (codes "at")) (is_name c) h.0 in
+          let v = mapped (λ v. does_at a v c) (verb_of b) f h.1 in
+          subst (IsForm (k ∷ a ∷ b ∷ c ∷ [])) v.2
+          (ap (λ (w : List ℕ). w ∷ a ∷ b ∷ c ∷ []) (text_is k (codes "at") p.0) ∙ ap (λ (w : List ℕ). codes "at" ∷ a ∷ w ∷ c ∷ []) (verb_is b v.0 v.1), p.1)
+    ]
+form_is (k ∷ a ∷ b ∷ c ∷ d ∷ []) f e =
+    let h = five (bytes_eq k (codes "at") && bytes_eq b (codes "run") && is_name c) (runs_at a c d) f e in
+    let p = both (bytes_eq k (codes "at") && bytes_eq b (codes "run")) (is_name c) h.0 in
+    let q = both (bytes_eq k (codes "at")) (bytes_eq b (codes "run")) p.0 in
+    subst (IsForm (k ∷ a ∷ b ∷ c ∷ d ∷ [])) h.1
+    (ap (λ (w : List ℕ). w ∷ a ∷ b ∷ c ∷ d ∷ []) (text_is k (codes "at") q.0) ∙ ap (λ (w : List ℕ). codes "at" ∷ a ∷ w ∷ c ∷ d ∷ []) (text_is b (codes "run") q.1), p.1)
+form_is (k ∷ a ∷ b ∷ c ∷ d ∷ x ∷ xs) f e = absurd cc
+
+-- ---- numbers
+
+digits_part : (w : List ℕ) → is_number w ≡ true → list_all is_ascii_digit w ≡ true
+digits_part [] h = absurd cc
+digits_part (c ∷ cs) h = (both (list_all is_ascii_digit (c ∷ cs)) (not (eqb c 48) || eqb (length cs) 0) h).0
+
+some_part : (w : List ℕ) → is_number w ≡ true → 0 < length w
+some_part [] h = absurd cc
+some_part (c ∷ cs) h = omega arith
+
+lone_zero : (w : List ℕ) → is_number w ≡ true → get_or w 0 0 ≡ 48 → length w ≡ 1
+lone_zero [] h z = absurd cc
+lone_zero (c ∷ cs) h z = let p = (both (list_all is_ascii_digit (c ∷ cs)) (not (eqb c 48) || eqb (length cs) 0) h).1 in grind (arith, nat_tests)
+
+-- the one spelling of a number
+pub number_is : (w : List ℕ) → is_number w ≡ true → value w < 2 ^ 64 → decimal (value w) ≡ w
+number_is w h lt = decimal-digits_value numerals w (digits_part w h) (some_part w h) (lone_zero w h) lt

@@ -1,0 +1,122 @@
+-- The plan of trees keeps the limits.
+use Rattle.std.proofs.Common.{◌≡◌, ℕ, zero, suc, ◌+◌, ◌^◌, ◌<◌, ◌≤◌, Bool, true, false, cond, List, [], ◌∷◌, ◌++◌, length, map, Option, Some, None, option_map, refl, ap, ◌∙◌, sym, arith, subst}
+use Rattle.std.specs.Prelude.{IsSome, slice_get, Ok}
+use Rattle.grub_trace.specs.Reading.{plan_from}
+use Rattle.grub_trace.proofs.Together.{in_turn}
+use Rattle.grub_trace.proofs.PlanLaws.{plan_read}
+use Rattle.std.specs.Str.{bytes_eq}
+use Rattle.std.specs.List.{AllByRecursion, filter_map, cons_option, flat_map}
+use Rattle.std.proofs.lemmas.List.{length-append, length-map}
+use Rattle.grub_bw.specs.Bandwidth.{Reservation, Capacity, IsReservation, IsCapacity}
+use Rattle.grub_book.specs.Machine.{IsMachine}
+use Rattle.std.proofs.lemmas.Bool.Decides.{nat_tests}
+use Rattle.grub_trace.specs.declared.form.Verb.{Verb}
+use Rattle.grub_trace.specs.declared.form.Verb.TheVariants.{Join, Wake, Block, Leave, Exit}
+use Rattle.grub_trace.specs.declared.line.Line.{Line}
+use Rattle.grub_trace.specs.declared.line.Act.{Act}
+use Rattle.grub_trace.specs.declared.line.Act.TheVariants as act
+use Rattle.grub_trace.specs.Tree.{Declaration, Deed, does, runs, reads, Moment, Tree, names_of, params_of, is_span, is_moment, text}
+use Rattle.grub_trace.specs.Faults.{task_of}
+use Rattle.grub_trace.specs.Plans.{PlanView}
+use Rattle.grub_trace.specs.Naming.{line_in, act_in, act_of, script_of, all_tasks, plan_of}
+use Rattle.grub_trace.specs.Meaning.{IsDeclaration, AreDeclared, GoOn, IsDeed, IsTree, AreTrees, AreKnown, Reads}
+use Rattle.grub_trace.specs.Limits.{ActFits, ScriptFits, PlanFits}
+
+place_below : (names : List (List ℕ)) (n : List ℕ) (t : ℕ) → task_of names n ≡ Some t → t < length names
+place_below [] n t e = absurd cc
+place_below (x ∷ xs) n t e = go (bytes_eq x n) (task_of xs n) (λ i h. place_below xs n i h) e
+  where
+    some_is : (a b : ℕ) → Some a ≡ Some b → a ≡ b
+    some_is a b e = cc
+
+    go : (b : Bool) (o : Option ℕ) → ((i : ℕ) → o ≡ Some i → i < length xs) → cond b (Some 0) (option_map (λ i. i + 1) o) ≡ Some t → t < length (x ∷ xs)
+    go true o h e = let p = some_is 0 t e in omega arith
+    go false None h e = absurd cc
+    go false (Some i) h e = let p = some_is (i + 1) t e in omega (arith, h i refl)
+
+act_fits : (v : Verb) (n t : ℕ) → t < n → ActFits n (act_of v t)
+act_fits Join n t h = h
+act_fits Wake n t h = h
+act_fits Block n t h = h
+act_fits Leave n t h = h
+act_fits Exit n t h = h
+
+mapped : {A : Type 0} (f : ℕ → A) (o : Option ℕ) (a : A) → option_map f o ≡ Some a → (t : ℕ) × (o ≡ Some t) × (f t ≡ a)
+mapped f None a e = absurd cc
+mapped f (Some t) a e = (t, refl, cc)
+
+span_is : (d : ℕ) → is_span d ≡ true → (1 ≤ d) × (d ≤ 2 ^ 24)
+span_is d h = (grind (arith, nat_tests), grind (arith, nat_tests))
+
+moment_is : (m : ℕ) → is_moment m ≡ true → m < 2 ^ 31
+moment_is m h = grind (arith, nat_tests)
+
+deed_fits : (names : List (List ℕ)) (d : Deed) (a : Act) → IsDeed d → act_in names d ≡ Some a → ActFits (length names) a
+deed_fits names (does v n) a is e = let m = mapped (act_of v) (task_of names n) a e in subst (ActFits (length names)) m.2 (act_fits v (length names) m.0 (place_below names n m.0 m.1))
+deed_fits names (runs n s) a is e = let m = mapped (λ t. act.Run t s) (task_of names n) a e in subst (ActFits (length names)) m.2 (let s = span_is s is.1 in (place_below names n m.0 m.1, s.0, s.1))
+deed_fits names reads a is e = let h : act.Read ≡ a = cc in subst (ActFits (length names)) h tt
+
+abbrev at_moment : Moment → Act → Line
+at_moment m a = record { m = m.at; act = a }
+
+script_fits : (names : List (List ℕ)) (ms : List Moment) (low : ℕ) → GoOn low ms → AreKnown names ms → ScriptFits (length names) low (filter_map (line_in names) ms)
+script_fits names [] low on known = tt
+script_fits names (m ∷ ms) low on known = go (act_in names m.deed) refl known.0 (script_fits names ms m.at on.1 known.1)
+  where
+    go : (o : Option Act) → act_in names m.deed ≡ o → IsSome (option_map (at_moment m) o) → ScriptFits (length names) m.at (filter_map (line_in names) ms) → ScriptFits (length names) low (cons_option (option_map (at_moment m) o) (filter_map (line_in names) ms))
+    go None e some rest = absurd cc
+    go (Some a) e some rest = (on.0.after, moment_is m.at on.0.within, deed_fits names m.deed a on.0.deed e, rest)
+
+few_declared : (ds : List Declaration) (names : List (List ℕ)) → length names ≤ 256 → AreDeclared names ds → length names + length ds ≤ 256
+few_declared [] names few are = omega arith
+few_declared (d ∷ ds) names few are = let more = length-append names (d.name ∷ []) in omega (arith, are.0.few, few_declared ds (names ++ d.name ∷ []) (omega (arith, are.0.few)) are.1)
+
+declared_fit : (ds : List Declaration) (names : List (List ℕ)) → AreDeclared names ds → AllByRecursion IsReservation (params_of ds)
+declared_fit [] names are = tt
+declared_fit (d ∷ ds) names are = (are.0.fits, declared_fit ds (names ++ d.name ∷ []) are.1)
+
+all_declared : (ds es : List Declaration) → AllByRecursion IsReservation (params_of ds) → AllByRecursion IsReservation (params_of es) → AllByRecursion IsReservation (params_of (ds ++ es))
+all_declared [] es h k = k
+all_declared (d ∷ ds) es h k = (h.0, all_declared ds es h.1 k)
+
+few_tasks : (ts : List Tree) (names : List (List ℕ)) → length names ≤ 256 → AreTrees names ts → length names + length (all_tasks ts) ≤ 256
+few_tasks [] names few are = omega arith
+few_tasks (t ∷ ts) names few are =
+    let here = few_declared t.tasks names few are.0.tasks in
+    let more = length-append names (names_of t.tasks) in
+    let same = length-map t.tasks (λ (d : Declaration). d.name) in
+    omega (arith, few_tasks ts (names ++ names_of t.tasks) (omega arith) are.1, length-append t.tasks (all_tasks ts))
+
+tasks_fit : (ts : List Tree) (names : List (List ℕ)) → AreTrees names ts → AllByRecursion IsReservation (params_of (all_tasks ts))
+tasks_fit [] names are = tt
+tasks_fit (t ∷ ts) names are = all_declared t.tasks (all_tasks ts) (declared_fit t.tasks names are.0.tasks) (tasks_fit ts (names ++ names_of t.tasks) are.1)
+
+queues_fit : (ts : List Tree) (names : List (List ℕ)) → AreTrees names ts → AllByRecursion IsCapacity (map (λ (t : Tree). t.queue) ts)
+queues_fit [] names are = tt
+queues_fit (t ∷ ts) names are = (are.0.queue, queues_fit ts (names ++ names_of t.tasks) are.1)
+
+scripts_fit : (all : List (List ℕ)) (ts : List Tree) (names : List (List ℕ)) → AreTrees names ts → AllByRecursion (λ (t : Tree). AreKnown all t.moments) ts → AllByRecursion (ScriptFits (length all) 0) (map (script_of all) ts)
+scripts_fit all [] names are known = tt
+scripts_fit all (t ∷ ts) names are known = (script_fits all t.moments 0 are.0.moments known.0, scripts_fit all ts (names ++ names_of t.tasks) are.1 known.1)
+
+pub plan_fits : (files : List (List ℕ)) (ts : List Tree) → Reads files ts → PlanFits (plan_of ts)
+plan_fits files ts is =
+    let tasks = all_tasks ts in
+    let all = names_of tasks in
+    let count : length files ≡ length ts = ap length is.texts ∙ length-map ts text in
+    let scripts : length (map (script_of all) ts) ≡ length ts = length-map ts (script_of all) in
+    let queues : length (map (λ (t : Tree). t.queue) ts) ≡ length ts = length-map ts (λ (t : Tree). t.queue) in
+    let named : length all ≡ length tasks = length-map tasks (λ (d : Declaration). d.name) in
+    let reserved : length (params_of tasks) ≡ length tasks = length-map tasks (λ (d : Declaration). d.params) in
+    let trees = in_turn ts is.together in
+    record {
+      setup = record { queues_some = omega (arith, is.some); queues_most = omega (arith, is.few); tasks_most = omega (arith, few_tasks ts [] (omega arith) trees) };
+      each = scripts ∙ sym queues;
+      named = named ∙ sym reserved;
+      queues = queues_fit ts [] trees;
+      tasks = tasks_fit ts [] trees;
+      scripts = subst (λ (n : ℕ). AllByRecursion (ScriptFits n 0) (map (script_of all) ts)) (named ∙ sym reserved) (scripts_fit all ts [] trees is.known);
+    }
+
+pub plan_from_fits : (files : List (List ℕ)) (p : PlanView) → plan_from files ≡ Ok p → PlanFits p
+plan_from_fits files p e = let h = plan_read files p e in subst PlanFits (sym h.2) (plan_fits files h.0 h.1)

@@ -1,0 +1,231 @@
+-- A printed line is read again.
+use Rattle.std.proofs.Common.{◌≡◌, ℕ, zero, suc, ◌+◌, ◌-◌, ◌*◌, ◌^◌, ◌<◌, ◌≤◌, Bool, true, false, not, ◌&&◌, ◌||◌, cond, eqb, ltb, ◌⊎◌, inl, inr, List, [], ◌∷◌, ◌++◌, length, map, get_or, Option, Some, None, Ok, option_map, refl, ap, ◌∙◌, sym, arith, rules, subst, append_assoc, All}
+use Rattle.std.specs.Prelude.{codes, decimal, nat_le, nat_lt, is_none}
+use Rattle.std.specs.Str.{bytes_eq}
+use Rattle.std.specs.Char.{is_ascii_digit}
+use Rattle.std.specs.List.{list_all, join_with_byte, slice_split, AllByRecursion}
+use Rattle.std.specs.Cmp.Lexicographic.{bytes_decides}
+use Rattle.std.proofs.lemmas.List.Splits.{slice_split_at, slice_split_none}
+use Rattle.std.proofs.lemmas.List.Elements.{All-from_recursion}
+use Rattle.std.proofs.lemmas.List.{length-map}
+use Rattle.std.proofs.lemmas.Bool.Decides.{nat_tests}
+use Rattle.std.proofs.lemmas.Bool.{lt-ltb, eqb-true}
+use Rattle.std.proofs.lemmas.Fmt.{digits_decimal, digits_value-decimal, decimal_nonempty, first_decimal, decimal_digit}
+use Rattle.grub_bw.specs.Bandwidth.{Reservation, Capacity, IsReservation, IsCapacity}
+use Rattle.grub_trace.proofs.LimitTests.{reservation_test, capacity_test}
+use Rattle.grub_trace.specs.declared.fault.Kind.{Kind}
+use Rattle.grub_trace.specs.declared.form.Verb.{Verb}
+use Rattle.grub_trace.specs.declared.form.Verb.TheVariants.{Join, Wake, Block, Leave, Exit}
+use Rattle.grub_trace.specs.Tree.{Declaration, Deed, does, runs, reads, Moment, declaration_words, moment_words, queue_words, verb_word, is_name, is_name_byte, is_moment, is_span, names_of}
+use Rattle.grub_trace.specs.Faults.{Form, queue, task, does_at, runs_at, reads_at, words_of, form_of, verb_of, form_fault, is_number, value, last_of, task_of, queue_fault, is_allowed, numbers_of, is_in_range, is_fresh, is_timely}
+use Rattle.grub_trace.specs.Reading.{Read, take_line, take_option, take_form, unless, adds, declares, says, times_of, read_queue, queue_of}
+use Rattle.grub_trace.specs.Meaning.{IsDeclaration, IsMomentFrom, IsDeed, declaration_line, moment_line}
+use Rattle.grub_trace.proofs.NumberLemmas.{numerals}
+use Rattle.grub_trace.proofs.LineMeaning.{small_period, small_moment, small_span}
+
+-- each byte is above the space
+abbrev pub IsPlain : List ℕ → Type 0
+IsPlain w = AllByRecursion (λ b. 32 < b) w
+
+and_parts : (a b : Bool) → (a && b) ≡ true → (a ≡ true) × (b ≡ true)
+and_parts true b h = (refl, h)
+and_parts false b h = absurd cc
+
+digit_above : (b : ℕ) → is_ascii_digit b ≡ true → 32 < b
+digit_above b h = grind (arith, nat_tests)
+
+digits_plain : (w : List ℕ) → list_all is_ascii_digit w ≡ true → IsPlain w
+digits_plain [] h = tt
+digits_plain (b ∷ bs) h = let p = and_parts (is_ascii_digit b) (list_all is_ascii_digit bs) h in (digit_above b p.0, digits_plain bs p.1)
+
+name_above : (b : ℕ) → is_name_byte b ≡ true → 32 < b
+name_above b h = grind (arith, nat_tests)
+
+name_bytes_plain : (w : List ℕ) → list_all is_name_byte w ≡ true → IsPlain w
+name_bytes_plain [] h = tt
+name_bytes_plain (b ∷ bs) h = let p = and_parts (is_name_byte b) (list_all is_name_byte bs) h in (name_above b p.0, name_bytes_plain bs p.1)
+
+name_plain : (w : List ℕ) → is_name w ≡ true → IsPlain w
+name_plain w h = name_bytes_plain w (and_parts (not (eqb (length w) 0) && nat_le (length w) 16) (list_all is_name_byte w) h).1
+
+decimal_plain : (n : ℕ) → n < 2 ^ 64 → IsPlain (decimal n)
+decimal_plain n h = digits_plain (decimal n) (digits_decimal numerals n h)
+
+-- ---- numbers
+
+number_from : (w : List ℕ) → list_all is_ascii_digit w ≡ true → 0 < length w → (get_or w 0 0 ≡ 48 → length w ≡ 1) → is_number w ≡ true
+number_from [] digits some lone = absurd (omega arith)
+number_from (c ∷ cs) digits some lone =
+    let go : (b : Bool) → eqb c 48 ≡ b → (not b || eqb (length cs) 0) ≡ true
+    = λ (b : Bool). elim b as (λ b. eqb c 48 ≡ b → (not b || eqb (length cs) 0) ≡ true) [
+      | true ↦ λ is. let one = lone (eqb-true c 48 is) in let none : length cs ≡ 0 = omega arith in rw none refl
+      | false ↦ λ is. refl
+    ] in
+    rw (digits, go (eqb c 48) refl) refl
+
+pub number_again : (n : ℕ) → n < 2 ^ 64 → is_number (decimal n) ≡ true
+number_again n h = number_from (decimal n) (digits_decimal numerals n h) (decimal_nonempty n h) (lone n h)
+  where
+    lone : (n : ℕ) → n < 2 ^ 64 → get_or (decimal n) 0 0 ≡ 48 → length (decimal n) ≡ 1
+    lone zero h e = ap length (decimal_digit 0 (omega arith))
+    lone (suc n) h e = absurd (let f = first_decimal (suc n) (omega arith) h in omega arith)
+
+pub value_again : (n : ℕ) → n < 2 ^ 64 → value (decimal n) ≡ n
+value_again n h = digits_value-decimal numerals n h
+
+-- ---- words
+
+not_space : (w : List ℕ) → IsPlain w → AllByRecursion (λ b. eqb b 32 ≡ false) w
+not_space [] h = tt
+not_space (b ∷ bs) h = (let above = h.0 in grind (arith, nat_tests), not_space bs h.1)
+
+abbrev ArePlain : List (List ℕ) → Type 0
+ArePlain ws = AllByRecursion IsPlain ws
+
+pub words_again : (w : List ℕ) (ws : List (List ℕ)) → IsPlain w → ArePlain ws → words_of (join_with_byte 32 (w ∷ ws)) ≡ w ∷ ws
+words_again w [] p ps = slice_split_none (λ b. eqb b 32) w (All-from_recursion (λ b. eqb b 32 ≡ false) w (not_space w p))
+words_again w (v ∷ vs) p ps =
+    slice_split_at (λ b. eqb b 32) w 32 (join_with_byte 32 (v ∷ vs)) (All-from_recursion (λ b. eqb b 32 ≡ false) w (not_space w p)) refl
+    ∙ ap (λ (x : List (List ℕ)). w ∷ x) (words_again v vs ps.0 ps.1)
+
+-- no byte of a line ends it
+abbrev pub IsOneLine : List ℕ → Type 0
+IsOneLine l = AllByRecursion (λ b. eqb b 10 ≡ false) l
+
+plain_line : (w more : List ℕ) → IsPlain w → IsOneLine more → IsOneLine (w ++ more)
+plain_line [] more h m = m
+plain_line (b ∷ bs) more h m = (let above = h.0 in grind (arith, nat_tests), plain_line bs more h.1 m)
+
+one_word : (w : List ℕ) → IsPlain w → IsOneLine w
+one_word [] h = tt
+one_word (b ∷ bs) h = (let above = h.0 in grind (arith, nat_tests), one_word bs h.1)
+
+pub join_line : (w : List ℕ) (ws : List (List ℕ)) → IsPlain w → ArePlain ws → IsOneLine (join_with_byte 32 (w ∷ ws))
+join_line w [] p ps = one_word w p
+join_line w (v ∷ vs) p ps = plain_line w (32 ∷ join_with_byte 32 (v ∷ vs)) p (refl, join_line v vs ps.0 ps.1)
+
+verb_plain : (v : Verb) → IsPlain (verb_word v)
+verb_plain Join = search rules
+verb_plain Wake = search rules
+verb_plain Block = search rules
+verb_plain Leave = search rules
+verb_plain Exit = search rules
+
+verb_again : (v : Verb) → verb_of (verb_word v) ≡ Some v
+verb_again Join = refl
+verb_again Wake = refl
+verb_again Block = refl
+verb_again Leave = refl
+verb_again Exit = refl
+
+-- ---- lines
+
+keyword_task : IsPlain (codes "task")
+keyword_task = search rules
+
+keyword_at : IsPlain (codes "at")
+keyword_at = search rules
+
+keyword_run : IsPlain (codes "run")
+keyword_run = search rules
+
+keyword_read : IsPlain (codes "read")
+keyword_read = search rules
+
+keyword_queue : IsPlain (codes "queue")
+keyword_queue = search rules
+
+-- a form that passes the five tests
+pub no_fault : (names : List (List ℕ)) (moments : List ℕ) (f : Form) → is_allowed moments f ≡ true → list_all is_number (numbers_of f) ≡ true → is_in_range (length names) f ≡ true → is_fresh names f ≡ true → is_timely moments f ≡ true → form_fault names moments f ≡ None
+no_fault names moments f a b c d e = rw (a, b, c, d, e) refl
+
+le_true : (a b : ℕ) → a ≤ b → nat_le a b ≡ true
+le_true a b h = grind (arith, nat_tests)
+
+both_numbers : (m n : ℕ) → m < 2 ^ 64 → n < 2 ^ 64 → list_all is_number (decimal m ∷ decimal n ∷ []) ≡ true
+both_numbers m n h k = rw (number_again m h, number_again n k) refl
+
+one_number : (m : ℕ) → m < 2 ^ 64 → list_all is_number (decimal m ∷ []) ≡ true
+one_number m h = rw (number_again m h) refl
+
+taken_form : (r : Read) (line : List ℕ) (f : Form) → form_of (words_of line) ≡ Some f → form_fault (names_of r.declared) (times_of r.moments) f ≡ None → take_line r line ≡ Ok (adds f r)
+taken_form r line f is none = ap (take_option r) is ∙ ap (λ (o : Option Kind). unless o (adds f r)) none
+
+task_form : (n q p : List ℕ) → is_name n ≡ true → form_of (codes "task" ∷ n ∷ q ∷ p ∷ []) ≡ Some (task n q p)
+task_form n q p h = ap (λ (b : Bool). cond b (Some (task n q p)) (cond false (option_map (λ v. does_at n v p) (verb_of q)) None)) h
+
+does_form : (m n : List ℕ) (v : Verb) → is_name n ≡ true → form_of (codes "at" ∷ m ∷ verb_word v ∷ n ∷ []) ≡ Some (does_at m v n)
+does_form m n v h = ap (λ (b : Bool). cond b (option_map (λ v. does_at m v n) (verb_of (verb_word v))) None) h ∙ ap (option_map (λ v. does_at m v n)) (verb_again v)
+
+runs_form : (m n d : List ℕ) → is_name n ≡ true → form_of (codes "at" ∷ m ∷ codes "run" ∷ n ∷ d ∷ []) ≡ Some (runs_at m n d)
+runs_form m n d h = ap (λ (b : Bool). cond b (Some (runs_at m n d)) None) h
+
+pub declaration_again : (r : Read) (d : Declaration) → IsDeclaration (names_of r.declared) d → length r.moments ≡ 0 → take_line r (declaration_line d) ≡ Ok (declares d r)
+declaration_again r d is first =
+    let small = small_period d.params is.fits in
+    let f : Form = task d.name (decimal d.params.runtime) (decimal d.params.period) in
+    let words = words_again (codes "task") (d.name ∷ decimal d.params.runtime ∷ decimal d.params.period ∷ []) keyword_task (name_plain d.name is.name, (decimal_plain d.params.runtime small.0, (decimal_plain d.params.period small.1, tt))) in
+    let range : is_in_range (length (names_of r.declared)) f ≡ true = rw (value_again d.params.runtime small.0, value_again d.params.period small.1, lt-ltb (length (names_of r.declared)) 256 is.few) (reservation_test d.params is.fits) in
+    let allowed : is_allowed (times_of r.moments) f ≡ true = rw (length-map r.moments (λ m. m.at), first) refl in
+    let fresh : is_fresh (names_of r.declared) f ≡ true = rw is.fresh refl in
+    taken_form r (declaration_line d) f (ap form_of words ∙ task_form d.name (decimal d.params.runtime) (decimal d.params.period) is.name)
+    (no_fault (names_of r.declared) (times_of r.moments) f allowed (both_numbers d.params.runtime d.params.period small.0 small.1) range fresh refl)
+    ∙ ap (λ (q : ℕ). Ok (declares (record { name = d.name; params = record { runtime = q; period = value (decimal d.params.period) } }) r)) (value_again d.params.runtime small.0)
+    ∙ ap (λ (p : ℕ). Ok (declares (record { name = d.name; params = record { runtime = d.params.runtime; period = p } }) r)) (value_again d.params.period small.1)
+
+moment_form : (r : Read) (at : ℕ) (deed : Deed) → last_of (times_of r.moments) ≤ at → is_moment at ≡ true → IsDeed deed → take_line r (moment_line (record { at = at; deed = deed })) ≡ Ok (says at deed r)
+moment_form r at (does v n) after within is =
+    let small = small_moment at within in
+    let f : Form = does_at (decimal at) v n in
+    let words = words_again (codes "at") (decimal at ∷ verb_word v ∷ n ∷ []) keyword_at (decimal_plain at small, (verb_plain v, (name_plain n is, tt))) in
+    taken_form r (moment_line (record { at = at; deed = does v n })) f (ap form_of words ∙ does_form (decimal at) n v is)
+    (no_fault (names_of r.declared) (times_of r.moments) f refl (one_number at small) (rw (value_again at small) within) refl (rw (value_again at small) (le_true (last_of (times_of r.moments)) at after)))
+    ∙ ap (λ (m : ℕ). Ok (says m (does v n) r)) (value_again at small)
+moment_form r at (runs n d) after within is =
+    let small = small_moment at within in
+    let short = small_span d is.1 in
+    let f : Form = runs_at (decimal at) n (decimal d) in
+    let words = words_again (codes "at") (decimal at ∷ codes "run" ∷ n ∷ decimal d ∷ []) keyword_at (decimal_plain at small, (keyword_run, (name_plain n is.0, (decimal_plain d short, tt)))) in
+    let range : is_in_range (length (names_of r.declared)) f ≡ true = rw (value_again at small, value_again d short, within) is.1 in
+    taken_form r (moment_line (record { at = at; deed = runs n d })) f (ap form_of words ∙ runs_form (decimal at) n (decimal d) is.0)
+    (no_fault (names_of r.declared) (times_of r.moments) f refl (both_numbers at d small short) range refl (rw (value_again at small) (le_true (last_of (times_of r.moments)) at after)))
+    ∙ ap (λ (m : ℕ). Ok (says m (runs n (value (decimal d))) r)) (value_again at small)
+    ∙ ap (λ (s : ℕ). Ok (says at (runs n s) r)) (value_again d short)
+moment_form r at reads after within is =
+    let small = small_moment at within in
+    let f : Form = reads_at (decimal at) in
+    let words = words_again (codes "at") (decimal at ∷ codes "read" ∷ []) keyword_at (decimal_plain at small, (keyword_read, tt)) in
+    taken_form r (moment_line (record { at = at; deed = reads })) f (ap form_of words)
+    (no_fault (names_of r.declared) (times_of r.moments) f refl (one_number at small) (rw (value_again at small) within) refl (rw (value_again at small) (le_true (last_of (times_of r.moments)) at after)))
+    ∙ ap (λ (m : ℕ). Ok (says m reads r)) (value_again at small)
+
+pub moment_again : (r : Read) (m : Moment) → IsMomentFrom (last_of (times_of r.moments)) m → take_line r (moment_line m) ≡ Ok (says m.at m.deed r)
+moment_again r m is = moment_form r m.at m.deed is.after is.within is.deed
+
+pub queue_again : (c : Capacity) → c.most < 2 ^ 64 → c.extra < 2 ^ 64 → IsCapacity c → read_queue (join_with_byte 32 (queue_words c)) ≡ Ok c
+queue_again c hu hx fits =
+    let u = c.most in
+    let x = c.extra in
+    let words = words_again (codes "queue") (decimal u ∷ decimal x ∷ []) keyword_queue (decimal_plain u hu, (decimal_plain x hx, tt)) in
+    let form : form_of (words_of (join_with_byte 32 (queue_words c))) ≡ Some (queue (decimal u) (decimal x)) = ap form_of words in
+    let none : queue_fault (join_with_byte 32 (queue_words c)) ≡ None = rw (words, number_again u hu, number_again x hx, value_again u hu, value_again x hx, capacity_test c fits) refl in
+    ap (λ (o : Option Kind). unless o (queue_of (form_of (words_of (join_with_byte 32 (queue_words c)))))) none
+    ∙ ap (λ (o : Option Form). Ok (queue_of o)) form
+    ∙ ap (λ (n : ℕ). Ok (record { most = n; extra = value (decimal x) })) (value_again u hu)
+    ∙ ap (λ (n : ℕ). Ok (record { most = u; extra = n })) (value_again x hx)
+
+pub declaration_one_line : (names : List (List ℕ)) (d : Declaration) → IsDeclaration names d → IsOneLine (declaration_line d)
+declaration_one_line names d is =
+    let small = small_period d.params is.fits in
+    join_line (codes "task") (d.name ∷ decimal d.params.runtime ∷ decimal d.params.period ∷ []) keyword_task (name_plain d.name is.name, (decimal_plain d.params.runtime small.0, (decimal_plain d.params.period small.1, tt)))
+
+deed_one_line : (at : ℕ) (deed : Deed) → is_moment at ≡ true → IsDeed deed → IsOneLine (moment_line (record { at = at; deed = deed }))
+deed_one_line at (does v n) within is = join_line (codes "at") (decimal at ∷ verb_word v ∷ n ∷ []) keyword_at (decimal_plain at (small_moment at within), (verb_plain v, (name_plain n is, tt)))
+deed_one_line at (runs n d) within is = join_line (codes "at") (decimal at ∷ codes "run" ∷ n ∷ decimal d ∷ []) keyword_at (decimal_plain at (small_moment at within), (keyword_run, (name_plain n is.0, (decimal_plain d (small_span d is.1), tt))))
+deed_one_line at reads within is = join_line (codes "at") (decimal at ∷ codes "read" ∷ []) keyword_at (decimal_plain at (small_moment at within), (keyword_read, tt))
+
+pub moment_one_line : (low : ℕ) (m : Moment) → IsMomentFrom low m → IsOneLine (moment_line m)
+moment_one_line low m is = deed_one_line m.at m.deed is.within is.deed
+
+pub queue_one_line : (c : Capacity) → c.most < 2 ^ 64 → c.extra < 2 ^ 64 → IsOneLine (join_with_byte 32 (queue_words c))
+queue_one_line c hu hx = join_line (codes "queue") (decimal c.most ∷ decimal c.extra ∷ []) keyword_queue (decimal_plain c.most hu, (decimal_plain c.extra hx, tt))

@@ -1,0 +1,32 @@
+use Rattle.std.proofs.Common.{sym, ◌∙◌, ap, length, map, arith, ◌<◌}
+use Rattle.std.specs.Prelude.{string_bytes}
+use Rattle.std.proofs.lemmas.Bool.Decides.{nat_tests}
+use Rattle.std.proofs.lemmas.List.{length-map}
+use Rattle.grub_trace.specs.Reading.{contents}
+use Rattle.grub_trace.proofs.LimitLaws.{plan_from_fits}
+use Rattle.grub_trace.proofs.AllLemmas.{plan_made}
+use Rattle.grub_trace.proofs.read.plan.Goals as goal
+
+pub new-requires : goal.new-requires
+new-requires c =
+    let len = length-map c.args.files.now (λ v. v.items) in
+    let some : 0 < length c.args.files.now = grind (arith, nat_tests) in
+    let all = c.in_ok-all.all in
+    plan_from_fits (contents c.args.files.now) _
+    (plan_made (contents c.args.files.now) all.tasks all.files.items _ _ _ _ (omega (arith, len)) (omega (arith, len)) c.in_ok-all.ensures.gives
+    (rw c.deref.ensures.value at c.in_ok-scripts.ensures)
+    (c.in_ok-queues.ensures.queues ∙ ap (λ fs. map (λ f. f.queue) fs) c.deref-2.ensures.value)
+    (c.in_ok-params.ensures.params ∙ ap (λ ts. map (λ t. t.params) ts) c.deref-3.ensures.value)
+    c.in_ok-names.ensures.names)
+
+pub returns : goal.returns
+returns c =
+    let len = length-map c.args.files.now (λ v. v.items) in
+    let some : 0 < length c.args.files.now = grind (arith, nat_tests) in
+    let all = c.in_ok-all.all in
+    rw c.new.ensures
+    (plan_made (contents c.args.files.now) all.tasks all.files.items _ _ _ _ (omega (arith, len)) (omega (arith, len)) c.in_ok-all.ensures.gives
+    (rw c.deref.ensures.value at c.in_ok-scripts.ensures)
+    (c.in_ok-queues.ensures.queues ∙ ap (λ fs. map (λ f. f.queue) fs) c.deref-2.ensures.value)
+    (c.in_ok-params.ensures.params ∙ ap (λ ts. map (λ t. t.params) ts) c.deref-3.ensures.value)
+    c.in_ok-names.ensures.names)

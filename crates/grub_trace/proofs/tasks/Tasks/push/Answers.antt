@@ -1,0 +1,19 @@
+use Rattle.std.proofs.Common.{sym, ◌∙◌, ap, arith, length, List}
+use Rattle.std.specs.Prelude.{string_bytes}
+use Rattle.std.proofs.lemmas.Map.Text.{hash_map_updates_text}
+use Rattle.grub_trace.proofs.TaskLemmas.{index_push}
+use Rattle.grub_trace.specs.Faults.{task_of}
+use Rattle.grub_trace.specs.Tree.{names_of}
+use Rattle.grub_trace.specs.Reading.{declarations}
+use Rattle.grub_trace.specs.Reading.{task_view}
+use Rattle.grub_trace.proofs.tasks.Tasks.push.Goals as goal
+
+pub returns-clause-indexed : goal.returns-clause-indexed
+returns-clause-indexed c = record {
+  found = λ q.
+      let u = hash_map_updates_text (string_bytes c.in_ok-key.key) c.args.self.now.index c.insert.new.self _ c.in_ok-insert.ensures.updates q in
+      let k = c.in_ok-key.ensures.ok in
+      let n = c.in_ok-name.ensures.ok in
+      let list = c.args.self.now.list in
+      rw c.in_ok-push.ensures.items (index_push list.items (record { name = c.in_ok-name.name; params = c.args.params }) c.args.name.now q c.len-number.result _ _ n c.requires.fresh (omega (arith, c.len-number.ensures, list.ok.0)) (c.requires.indexed.found q) (rw k at u));
+}

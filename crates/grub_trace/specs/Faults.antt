@@ -1,0 +1,151 @@
+-- What is wrong with a line, where the lines before it are as they should be.
+use Rattle.std.specs.Prelude.{◌≡◌, ℕ, ◌≤◌, ◌<◌, Bool, true, false, not, ◌&&◌, ◌||◌, nat_le, nat_lt, ◌==◌, List, [], ◌∷◌, ◌++◌, length, map, codes, Option, Some, None, if◌then◌else◌, option_map, is_none, slice_index, ◌+◌, ◌-◌, ◌^◌}
+use Rattle.std.specs.List.{list_all, list_any, slice_split}
+use Rattle.std.specs.Str.{bytes_eq}
+use Rattle.std.specs.Char.{is_ascii_digit}
+use Rattle.std.specs.Str.Parse.{digits_value}
+use Rattle.grub_bw.specs.Bandwidth.{Reservation, Capacity, bandwidth_of}
+use Rattle.grub_trace.specs.declared.form.Verb.{Verb}
+use Rattle.grub_trace.specs.declared.form.Verb.TheVariants.{Join, Wake, Block, Leave, Exit}
+use Rattle.grub_trace.specs.declared.fault.Kind.{Kind}
+use Rattle.grub_trace.specs.declared.fault.Kind.TheVariants.{BadHeader, BadLine, BadNumber, OutOfRange, DuplicateTask, UnknownTask, MomentGoesBack, MissingQueue, CutShort}
+use Rattle.grub_trace.specs.Tree.{is_name, is_moment, is_span}
+
+-- the words of a line: its parts between single spaces
+abbrev pub words_of : List ℕ → List (List ℕ)
+words_of line = slice_split (λ b. b == 32) line
+
+-- A form of a line, with its numbers unread.
+pub data Form : Type 0 where
+  queue : List ℕ → List ℕ → Form
+  task : List ℕ → List ℕ → List ℕ → Form
+  does_at : List ℕ → Verb → List ℕ → Form
+  runs_at : List ℕ → List ℕ → List ℕ → Form
+  reads_at : List ℕ → Form
+
+abbrev pub verb_of : List ℕ → Option Verb
+verb_of w = if bytes_eq w (codes "join") then Some Join else (if bytes_eq w (codes "wake") then Some Wake else (if bytes_eq w (codes "block") then Some Block
+    else (if bytes_eq w (codes "leave") then Some Leave else (if bytes_eq w (codes "exit") then Some Exit else None))))
+
+abbrev pub form_of : List (List ℕ) → Option Form
+form_of (k ∷ a ∷ b ∷ []) = if bytes_eq k (codes "queue") then Some (queue a b) else (if bytes_eq k (codes "at") && bytes_eq b (codes "read") then Some (reads_at a) else None)
+form_of (k ∷ a ∷ b ∷ c ∷ []) = if bytes_eq k (codes "task") && is_name a then Some (task a b c) else (if bytes_eq k (codes "at") && is_name c then option_map (λ v. does_at a v c) (verb_of b) else None)
+form_of (k ∷ a ∷ b ∷ c ∷ d ∷ []) = if bytes_eq k (codes "at") && bytes_eq b (codes "run") && is_name c then Some (runs_at a c d) else None
+form_of _ = None
+
+-- ---- numbers
+
+-- `0`, or a digit that is not 0 and any digits
+abbrev pub is_number : List ℕ → Bool
+is_number [] = false
+is_number (c ∷ cs) = list_all is_ascii_digit (c ∷ cs) && (not (c == 48) || length cs == 0)
+
+abbrev pub value : List ℕ → ℕ
+value digits = digits_value 10 digits
+
+-- the name in a form is a name
+abbrev pub is_named : Form → Bool
+is_named (queue a b) = true
+is_named (task n q p) = is_name n
+is_named (does_at m v n) = is_name n
+is_named (runs_at m n d) = is_name n
+is_named (reads_at m) = true
+
+-- ---- the tests of a line below the second
+
+abbrev pub numbers_of : Form → List (List ℕ)
+numbers_of (queue a b) = a ∷ b ∷ []
+numbers_of (task n q p) = q ∷ p ∷ []
+numbers_of (does_at m v n) = m ∷ []
+numbers_of (runs_at m n d) = m ∷ d ∷ []
+numbers_of (reads_at m) = m ∷ []
+
+-- a queue line stands in the second line alone, and a task line before the first moment
+abbrev pub is_allowed : List ℕ → Form → Bool
+is_allowed moments (queue a b) = false
+is_allowed moments (task n q p) = length moments == 0
+is_allowed moments (does_at m v n) = true
+is_allowed moments (runs_at m n d) = true
+is_allowed moments (reads_at m) = true
+
+-- the tests of IsReservation and IsCapacity
+abbrev pub reservation_fits : Reservation → Bool
+reservation_fits p = nat_le 1 p.period && nat_le p.period (2 ^ 24) && nat_le 1 p.runtime && nat_le p.runtime p.period && nat_le 1 (bandwidth_of p)
+
+abbrev pub capacity_fits : Capacity → Bool
+capacity_fits c = nat_le 1 c.most && nat_le c.most (2 ^ 20) && nat_le c.extra c.most
+
+-- the reservation and the constants that two words spell
+abbrev pub reservation_value : List ℕ → List ℕ → Reservation
+reservation_value q p = record { runtime = value q; period = value p }
+
+abbrev pub capacity_value : List ℕ → List ℕ → Capacity
+capacity_value u x = record { most = value u; extra = value x }
+
+-- each number is within its limit, where so many tasks were declared
+abbrev pub is_in_range : ℕ → Form → Bool
+is_in_range declared (queue a b) = capacity_fits (capacity_value a b)
+is_in_range declared (task n q p) = nat_lt declared 256 && reservation_fits (reservation_value q p)
+is_in_range declared (does_at m v n) = is_moment (value m)
+is_in_range declared (runs_at m n d) = is_moment (value m) && is_span (value d)
+is_in_range declared (reads_at m) = is_moment (value m)
+
+-- the number of the task with this name, where one was declared
+abbrev pub task_of : List (List ℕ) → List ℕ → Option ℕ
+task_of [] name = None
+task_of (n ∷ names) name = if bytes_eq n name then Some 0 else option_map (λ i. i + 1) (task_of names name)
+
+abbrev pub is_fresh : List (List ℕ) → Form → Bool
+is_fresh names (task n q p) = is_none (task_of names n)
+is_fresh names (queue a b) = true
+is_fresh names (does_at m v n) = true
+is_fresh names (runs_at m n d) = true
+is_fresh names (reads_at m) = true
+
+-- the moment of the line before, or 0
+abbrev pub last_of : List ℕ → ℕ
+last_of moments = slice_index moments (length moments - 1)
+
+abbrev pub is_timely : List ℕ → Form → Bool
+is_timely moments (queue a b) = true
+is_timely moments (task n q p) = true
+is_timely moments (does_at m v n) = nat_le (last_of moments) (value m)
+is_timely moments (runs_at m n d) = nat_le (last_of moments) (value m)
+is_timely moments (reads_at m) = nat_le (last_of moments) (value m)
+
+-- The first test that a form fails, after the names declared so far, in any file, and the moments so far, in this one.
+abbrev pub form_fault : List (List ℕ) → List ℕ → Form → Option Kind
+form_fault names moments f =
+    if not (is_allowed moments f) then Some BadLine
+    else (if not (list_all is_number (numbers_of f)) then Some BadNumber
+    else (if not (is_in_range (length names) f) then Some OutOfRange
+    else (if not (is_fresh names f) then Some DuplicateTask
+    else (if not (is_timely moments f) then Some MomentGoesBack else None))))
+
+-- the same of a line; what fits no form is a bad line
+abbrev pub fault_of_form : List (List ℕ) → List ℕ → Option Form → Option Kind
+fault_of_form names moments None = Some BadLine
+fault_of_form names moments (Some f) = form_fault names moments f
+
+abbrev pub line_fault : List (List ℕ) → List ℕ → List ℕ → Option Kind
+line_fault names moments line = fault_of_form names moments (form_of (words_of line))
+
+-- ---- the first two lines
+
+abbrev pub queue_form_fault : Option Form → Option Kind
+queue_form_fault None = Some BadLine
+queue_form_fault (Some (queue a b)) = if not (list_all is_number (a ∷ b ∷ [])) then Some BadNumber else (if not (capacity_fits (capacity_value a b)) then Some OutOfRange else None)
+queue_form_fault (Some (task n q p)) = Some BadLine
+queue_form_fault (Some (does_at m v n)) = Some BadLine
+queue_form_fault (Some (runs_at m n d)) = Some BadLine
+queue_form_fault (Some (reads_at m)) = Some BadLine
+
+abbrev pub begins_with_queue : List (List ℕ) → Bool
+begins_with_queue [] = false
+begins_with_queue (w ∷ ws) = bytes_eq w (codes "queue")
+
+abbrev pub queue_fault : List ℕ → Option Kind
+queue_fault line = if not (begins_with_queue (words_of line)) then Some MissingQueue else queue_form_fault (form_of (words_of line))
+
+abbrev pub header_fault : List ℕ → Option Kind
+header_fault line = if bytes_eq line (codes "grub 1") then None else Some BadHeader

@@ -1,0 +1,155 @@
+ghost use Rattle.std.specs.Prelude.{◌≡◌, map, OnOk, IfOk, IfSome, is_some, List, length, Ok, Some, None, true};
+ghost use Rattle.grub_trace.specs.Reading.{read_view, take_line, take_form, declarations, IsIndexed, Takes, moment_view, times_of, says, deed_view, declares, Stops, Says, Declares, IsMoment, form_view};
+ghost use Rattle.grub_trace.specs.Faults.{last_of, is_named, reservation_fits};
+ghost use Rattle.grub_trace.specs.Tree.{is_name};
+
+use crate::fault::{Kind, Stop};
+use crate::form::{Form, Verb, form_of};
+use crate::number::number;
+use crate::tasks::Tasks;
+use grub_bw::Params;
+use std::alloc::Global;
+
+/// What a line says that happens, with the name of the task as the line has it.
+#[derive(Clone, Copy)]
+pub enum RawDeed<'a> {
+    Does(Verb, &'a [u8]),
+    Runs(&'a [u8], u32),
+    Reads,
+}
+
+#[derive(Clone, Copy)]
+pub struct RawMoment<'a> {
+    pub at: u32,
+    pub deed: RawDeed<'a>,
+}
+
+/// The moment of the last line so far, or 0.
+fn last(moments: &[RawMoment]) -> u32
+    ensures { result ≡ last_of (times_of (map moment_view moments.now)) }
+{
+    match moments.last() {
+        None => 0,
+        Some(m) => m.at,
+    }
+}
+
+/// Adds a moment that is within its limits.
+fn say<'a>(moments: &mut Vec<RawMoment<'a>>, at: u32, deed: RawDeed<'a>) -> Result<(), Stop>
+    ensures { Says result (map moment_view moments.old.items) (map moment_view moments.new.items) at (deed_view deed.entry) }
+{
+    if at < last(moments) {
+        return Err(Stop::Fault(Kind::MomentGoesBack));
+    }
+    moments.push(RawMoment { at, deed })?;
+    Ok(())
+}
+
+/// The reservation, where it is one.
+fn reservation(runtime: u32, period: u32) -> Option<Params>
+    ensures value { IfSome result (λ p. p ≡ record { runtime = runtime; period = period }) }
+    ensures exact { is_some result ≡ reservation_fits (record { runtime = runtime; period = period }) }
+{
+    Params::new(runtime, period).ok()
+}
+
+/// Declares a task.
+fn declare(
+    alloc: Global,
+    tasks: &mut Tasks,
+    name: &[u8],
+    runtime: &[u8],
+    period: &[u8],
+) -> Result<(), Stop>
+    requires indexed { IsIndexed tasks.old }
+    requires name_in { is_name name.now ≡ true }
+    ensures takes { Declares result (declarations tasks.old) (declarations tasks.new) name.now runtime.now period.now }
+    ensures indexed { OnOk result (IsIndexed tasks.new) }
+{
+    let (Some(runtime), Some(period)) = (number(runtime), number(period)) else {
+        return Err(Stop::Fault(Kind::BadNumber));
+    };
+    if tasks.list.len() >= 256 {
+        return Err(Stop::Fault(Kind::OutOfRange));
+    }
+    let Some(params) = reservation(runtime, period) else {
+        return Err(Stop::Fault(Kind::OutOfRange));
+    };
+    if tasks.find(name).is_some() {
+        return Err(Stop::Fault(Kind::DuplicateTask));
+    }
+    let Ok(name) = str::from_utf8(name) else {
+        unreachable!();
+    };
+    tasks.push(alloc, name, params)
+}
+
+fn take_form<'a>(
+    alloc: Global,
+    tasks: &mut Tasks,
+    moments: &mut Vec<RawMoment<'a>>,
+    form: Form<'a>,
+) -> Result<(), Stop>
+    requires indexed { IsIndexed tasks.old }
+    requires names { is_named (form_view form) ≡ true }
+    ensures takes { Takes result (read_view tasks.new moments.new.items) (take_form (read_view tasks.old moments.old.items) (form_view form.entry)) }
+    ensures indexed { OnOk result (IsIndexed tasks.new) }
+{
+    match form {
+        Form::Queue(..) => Err(Stop::Fault(Kind::BadLine)),
+        Form::Task(name, runtime, period) => {
+            if !moments.is_empty() {
+                return Err(Stop::Fault(Kind::BadLine));
+            }
+            declare(alloc, tasks, name, runtime, period)
+        }
+        Form::Does(at, verb, name) => {
+            let at = moment(at)?;
+            say(moments, at, RawDeed::Does(verb, name))
+        }
+        Form::Run(at, name, span) => {
+            let (Some(at), Some(span)) = (number(at), number(span)) else {
+                return Err(Stop::Fault(Kind::BadNumber));
+            };
+            if at > MAX_MOMENT || span < 1 || span > MAX_SPAN {
+                return Err(Stop::Fault(Kind::OutOfRange));
+            }
+            say(moments, at, RawDeed::Runs(name, span))
+        }
+        Form::Read(at) => {
+            let at = moment(at)?;
+            say(moments, at, RawDeed::Reads)
+        }
+    }
+}
+
+const MAX_MOMENT: u32 = 2147483647;
+
+const MAX_SPAN: u32 = 16777216;
+
+fn moment(word: &[u8]) -> Result<u32, Stop>
+    ensures { IsMoment result word.now }
+{
+    match number(word) {
+        None => Err(Stop::Fault(Kind::BadNumber)),
+        Some(at) if at > MAX_MOMENT => Err(Stop::Fault(Kind::OutOfRange)),
+        Some(at) => Ok(at),
+    }
+}
+
+/// Takes a line below the second.
+pub fn take_line<'a>(
+    alloc: Global,
+    tasks: &mut Tasks,
+    moments: &mut Vec<RawMoment<'a>>,
+    line: &'a [u8],
+) -> Result<(), Stop>
+    requires indexed { IsIndexed tasks.old }
+    ensures takes { Takes result (read_view tasks.new moments.new.items) (take_line (read_view tasks.old moments.old.items) line.now) }
+    ensures indexed { OnOk result (IsIndexed tasks.new) }
+{
+    match form_of(line) {
+        None => Err(Stop::Fault(Kind::BadLine)),
+        Some(form) => take_form(alloc, tasks, moments, form),
+    }
+}

@@ -1,0 +1,124 @@
+ghost use Rattle.std.specs.Prelude.{◌≡◌, OnOk, IfSome, is_some, [], codes};
+ghost use Rattle.std.specs.Str.{bytes_eq};
+ghost use Rattle.grub_trace.specs.Reading.{moment_view, declarations, IsIndexed, read_view, read_lines, read_queue, Gives, GivesQueue, file_view, read_second, read_file};
+ghost use Rattle.grub_trace.specs.Meaning.{parts_of};
+ghost use Rattle.grub_trace.specs.Faults.{capacity_fits};
+
+use crate::body::{RawMoment, take_line};
+use crate::fault::{Halt, Kind};
+use crate::form::{Form, form_of};
+use crate::number::number;
+use crate::raw::RawFile;
+use crate::tasks::Tasks;
+use crate::words::{first_line, first_word};
+use grub_bw::Queue;
+use std::alloc::Global;
+
+/// Reads the lines below the second.
+fn read_lines<'a>(
+    alloc: Global,
+    tasks: &mut Tasks,
+    text: &'a [u8],
+) -> Result<Vec<RawMoment<'a>>, Halt>
+    requires indexed { IsIndexed tasks.old }
+    ensures gives { Gives result (λ v. read_view tasks.new v.items) (read_lines (record { declared = declarations tasks.old; moments = [] }) 3 (parts_of text.now)) }
+    ensures indexed { OnOk result (IsIndexed tasks.new) }
+{
+    let mut moments = Vec::new(alloc);
+    let mut rest = text;
+    let mut number = 3;
+    while let Some((line, after)) = first_line(rest) {
+        if let Err(stop) = take_line(alloc, tasks, &mut moments, line) {
+            return Err(stop.at_line(number));
+        }
+        rest = after;
+        number += 1;
+    }
+    if !rest.is_empty() {
+        return Err(Halt::At(Kind::CutShort, number));
+    }
+    Ok(moments)
+}
+
+/// The constants of a runqueue, where they are ones.
+fn capacity(umax: u32, uextra: u32) -> Option<Queue>
+    ensures value { IfSome result (λ q. q ≡ record { most = umax; extra = uextra }) }
+    ensures exact { is_some result ≡ capacity_fits (record { most = umax; extra = uextra }) }
+{
+    Queue::new(umax, uextra).ok()
+}
+
+fn read_queue(line: &[u8]) -> Result<Queue, Kind>
+    ensures { GivesQueue result line.now }
+{
+    let (first, _) = first_word(line);
+    if first != b"queue".as_slice() {
+        return Err(Kind::MissingQueue);
+    }
+    let Some(Form::Queue(umax, uextra)) = form_of(line) else {
+        return Err(Kind::BadLine);
+    };
+    let (Some(umax), Some(uextra)) = (number(umax), number(uextra)) else {
+        return Err(Kind::BadNumber);
+    };
+    match capacity(umax, uextra) {
+        Some(queue) => Ok(queue),
+        None => Err(Kind::OutOfRange),
+    }
+}
+
+#[tactic(auto, unfolding(crate::specs::Reading::read_second))]
+/// Reads the second line and those below it.
+fn read_second<'a>(alloc: Global, tasks: &mut Tasks, text: &'a [u8]) -> Result<RawFile<'a>, Halt>
+    requires indexed { IsIndexed tasks.old }
+    ensures gives { Gives result (λ v. file_view tasks.new v) (read_second (declarations tasks.old) (parts_of text.now)) }
+    ensures indexed { OnOk result (IsIndexed tasks.new) }
+{
+    let Some((line, rest)) = first_line(text) else {
+        let kind = if text.is_empty() {
+            Kind::MissingQueue
+        } else {
+            Kind::CutShort
+        };
+        return Err(Halt::At(kind, 2));
+    };
+    let queue = match read_queue(line) {
+        Ok(queue) => queue,
+        Err(kind) => return Err(Halt::At(kind, 2)),
+    };
+    let before = tasks.list.len();
+    let moments = read_lines(alloc, tasks, rest)?;
+    let first = 3 + (tasks.list.len() - before);
+    Ok(RawFile {
+        queue,
+        first,
+        moments,
+    })
+}
+
+#[tactic(auto, unfolding(crate::specs::Reading::read_file, crate::specs::Reading::read_first))]
+/// Reads a file, after the tasks of the files before it.
+pub fn read_file<'a>(alloc: Global, tasks: &mut Tasks, bytes: &'a [u8]) -> Result<RawFile<'a>, Halt>
+    requires indexed { IsIndexed tasks.old }
+    ensures gives { Gives result (λ v. file_view tasks.new v) (read_file (declarations tasks.old) bytes.now) }
+    ensures indexed { OnOk result (IsIndexed tasks.new) }
+{
+    let Some((line, rest)) = first_line(bytes) else {
+        let kind = if bytes.is_empty() {
+            Kind::BadHeader
+        } else {
+            Kind::CutShort
+        };
+        return Err(Halt::At(kind, 1));
+    };
+    if !is_header(line) {
+        return Err(Halt::At(Kind::BadHeader, 1));
+    }
+    read_second(alloc, tasks, rest)
+}
+
+fn is_header(line: &[u8]) -> bool
+    ensures { result ≡ bytes_eq line.now (codes "grub 1") }
+{
+    line == b"grub 1".as_slice()
+}
