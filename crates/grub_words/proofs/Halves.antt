@@ -1,5 +1,5 @@
--- Words of two halves tell both.
-use Rattle.std.proofs.Common.{◌≡◌, ℕ, ◌/◌, ◌%◌, ◌^◌, ◌↔◌, ◌∙◌, Some, None, Result, Ok, Err, IfOk, IsOk, arith, refl, subst, sym}
+-- A word of two halves tells the one value that has it.
+use Rattle.std.proofs.Common.{◌≡◌, ℕ, ◌+◌, ◌*◌, ◌/◌, ◌%◌, ◌^◌, ◌↔◌, ◌∙◌, Some, None, Result, Ok, Err, IfOk, IsOk, arith, refl, subst, sym}
 use Rattle.std.specs.Result.{result_ok}
 use Rattle.grub_bw.specs.Bandwidth.{Reservation, IsReservation}
 use Rattle.grub_bw.specs.declared.server.Server.{Server}
@@ -7,74 +7,72 @@ use Rattle.grub_book.specs.declared.event.Reading.{Reading}
 use Rattle.grub_words.specs.Words.{queue_word, server_word, params_word, QueueFits, ServerFits}
 use Rattle.grub_words.proofs.Found.{found_some, found_none}
 
-same_reading : (a b : Reading) → a.running ≡ b.running → a.this ≡ b.this → a ≡ b
-same_reading a b e f =
-    let same : (i j k l : ℕ) → i ≡ k → j ≡ l → (let x : Reading = record { running = i; this = j } in x) ≡ record { running = k; this = l } = λ i j k l g h. cc in same _ _ _ _ e f
+-- a kind of value, made of the halves of its word
+module _ {V : Type 0} (Fits : V → Type 0) (word_of : V → ℕ) (made_of : ℕ → ℕ → V) (word_of-made : (low high : ℕ) → word_of (made_of low high) ≡ low + 2 ^ 32 * high) (made_of-halves : (v : V) → Fits v → made_of (word_of v % 2 ^ 32) (word_of v / 2 ^ 32) ≡ v) where
+  pub same_value : (a b : V) → Fits a → Fits b → word_of a ≡ word_of b → a ≡ b
+  same_value a b f g e = let h = made_of-halves a f in let k = made_of-halves b g in cc
 
-same_server : (a b : Server) → a.q ≡ b.q → a.d ≡ b.d → a ≡ b
-same_server a b e f =
-    let same : (i j k l : ℕ) → i ≡ k → j ≡ l → (let x : Server = record { q = i; d = j } in x) ≡ record { q = k; d = l } = λ i j k l g h. cc in same _ _ _ _ e f
+  module _ (word low high : ℕ) (is_low : low ≡ word % 2 ^ 32) (is_high : high ≡ word / 2 ^ 32) where
+    only_value : (v : V) → Fits v → word_of v ≡ word → v ≡ made_of low high
+    only_value v fits e = let h = made_of-halves v fits in cc
 
-same_reservation : (a b : Reservation) → a.runtime ≡ b.runtime → a.period ≡ b.period → a ≡ b
-same_reservation a b e f =
-    let same : (i j k l : ℕ) → i ≡ k → j ≡ l → (let x : Reservation = record { runtime = i; period = j } in x) ≡ record { runtime = k; period = l } = λ i j k l g h. cc in same _ _ _ _ e f
+    pub halves_found : Fits (made_of low high) → (v : V) → (Some (made_of low high) ≡ Some v) ↔ (Fits v × (word_of v ≡ word))
+    halves_found fits = let both : low + 2 ^ 32 * high ≡ word = omega arith in found_some Fits word_of word _ fits (word_of-made low high ∙ both) only_value
 
-module _ (word low high : ℕ) (is_low : low ≡ word % 2 ^ 32) (is_high : high ≡ word / 2 ^ 32) where
-  queue_same : (v : Reading) → QueueFits v → queue_word v ≡ word → v ≡ record { running = low; this = high }
-  unfolding queue_word
-  queue_same v fits e = let h0 = fits.running in let h1 = fits.this in same_reading _ _ (omega arith) (omega arith)
+    pub halves_not_found : (Fits (made_of low high) → ⊥) → (v : V) → (None ≡ Some v) ↔ (Fits v × (word_of v ≡ word))
+    halves_not_found never = found_none Fits word_of word (λ v fits e. never (subst Fits (only_value v fits e) fits))
 
-  queue_word-halves : queue_word (record { running = low; this = high }) ≡ word
-  unfolding queue_word
-  queue_word-halves = omega arith
+    -- what a constructor that checks makes of the halves
+    pub halves_checked : {E : Type 0} (r : Result V E) → IfOk r (λ v. v ≡ made_of low high) → (IsOk r ↔ Fits (made_of low high)) → (v : V) → (result_ok r ≡ Some v) ↔ (Fits v × (word_of v ≡ word))
+    halves_checked (Ok p) same accepted = subst (λ q. (v : V) → (Some q ≡ Some v) ↔ (Fits v × (word_of v ≡ word))) (sym same) (halves_found (accepted.0 refl))
+    halves_checked (Err e) same accepted = halves_not_found (λ fits. let h = accepted.1 fits in absurd cc)
 
-  pub queue_found : QueueFits (record { running = low; this = high }) → (v : Reading) → (Some (record { running = low; this = high }) ≡ Some v) ↔ (QueueFits v × (queue_word v ≡ word))
-  queue_found fits = found_some QueueFits queue_word word _ fits queue_word-halves queue_same
+abbrev pub reading : ℕ → ℕ → Reading
+reading running this = record { running = running; this = this }
 
-  pub queue_not_found : (QueueFits (record { running = low; this = high }) → ⊥) → (v : Reading) → (None ≡ Some v) ↔ (QueueFits v × (queue_word v ≡ word))
-  queue_not_found never = found_none QueueFits queue_word word (λ v fits e. never (subst QueueFits (queue_same v fits e) fits))
+abbrev pub server : ℕ → ℕ → Server
+server q d = record { q = q; d = d }
 
-module _ (word low high : ℕ) (is_low : low ≡ word % 2 ^ 32) (is_high : high ≡ word / 2 ^ 32) where
-  server_same : (v : Server) → ServerFits v → server_word v ≡ word → v ≡ record { q = low; d = high }
-  unfolding server_word
-  server_same v fits e = let h0 = fits.most in same_server _ _ (omega arith) (omega arith)
+abbrev pub reservation : ℕ → ℕ → Reservation
+reservation runtime period = record { runtime = runtime; period = period }
 
-  server_word-halves : server_word (record { q = low; d = high }) ≡ word
-  unfolding server_word
-  server_word-halves = omega arith
+pub queue_word-made : (low high : ℕ) → queue_word (reading low high) ≡ low + 2 ^ 32 * high
+unfolding queue_word
+queue_word-made low high = refl
 
-  pub server_found : ServerFits (record { q = low; d = high }) → (v : Server) → (Some (record { q = low; d = high }) ≡ Some v) ↔ (ServerFits v × (server_word v ≡ word))
-  server_found fits = found_some ServerFits server_word word _ fits server_word-halves server_same
+pub server_word-made : (low high : ℕ) → server_word (server low high) ≡ low + 2 ^ 32 * high
+unfolding server_word
+server_word-made low high = refl
 
-  pub server_not_found : (ServerFits (record { q = low; d = high }) → ⊥) → (v : Server) → (None ≡ Some v) ↔ (ServerFits v × (server_word v ≡ word))
-  server_not_found never = found_none ServerFits server_word word (λ v fits e. never (subst ServerFits (server_same v fits e) fits))
+pub params_word-made : (low high : ℕ) → params_word (reservation low high) ≡ low + 2 ^ 32 * high
+unfolding params_word
+params_word-made low high = refl
 
-module _ (word low high : ℕ) (is_low : low ≡ word % 2 ^ 32) (is_high : high ≡ word / 2 ^ 32) where
-  params_same : (v : Reservation) → IsReservation v → params_word v ≡ word → v ≡ record { runtime = low; period = high }
-  unfolding params_word
-  params_same v fits e = let h0 = fits.runtime_most in let h1 = fits.period_most in same_reservation _ _ (omega arith) (omega arith)
+pub reading-halves : (now : Reading) → QueueFits now → reading (queue_word now % 2 ^ 32) (queue_word now / 2 ^ 32) ≡ now
+unfolding queue_word
+reading-halves now fits =
+    let h = fits.running in
+    let k = fits.this in
+    let low : queue_word now % 2 ^ 32 ≡ now.running = omega arith in
+    let high : queue_word now / 2 ^ 32 ≡ now.this = omega arith in
+    let same : reading (queue_word now % 2 ^ 32) (queue_word now / 2 ^ 32) ≡ reading now.running now.this = cc in
+    same
 
-  params_word-halves : params_word (record { runtime = low; period = high }) ≡ word
-  unfolding params_word
-  params_word-halves = omega arith
+pub server-halves : (s : Server) → ServerFits s → server (server_word s % 2 ^ 32) (server_word s / 2 ^ 32) ≡ s
+unfolding server_word
+server-halves s fits =
+    let h = fits.most in
+    let low : server_word s % 2 ^ 32 ≡ s.q = omega arith in
+    let high : server_word s / 2 ^ 32 ≡ s.d = omega arith in
+    let same : server (server_word s % 2 ^ 32) (server_word s / 2 ^ 32) ≡ server s.q s.d = cc in
+    same
 
-  pub params_found : IsReservation (record { runtime = low; period = high }) → (v : Reservation) → (Some (record { runtime = low; period = high }) ≡ Some v) ↔ (IsReservation v × (params_word v ≡ word))
-  params_found fits = found_some IsReservation params_word word _ fits params_word-halves params_same
-
-  pub params_not_found : (IsReservation (record { runtime = low; period = high }) → ⊥) → (v : Reservation) → (None ≡ Some v) ↔ (IsReservation v × (params_word v ≡ word))
-  params_not_found never = found_none IsReservation params_word word (λ v fits e. never (subst IsReservation (params_same v fits e) fits))
-
-  -- what a checked constructor makes of the halves
-  pub params_read : {E : Type 0} (r : Result Reservation E) → IfOk r (λ p. p ≡ record { runtime = low; period = high }) → (IsOk r ↔ IsReservation (record { runtime = low; period = high })) → (v : Reservation) → (result_ok r ≡ Some v) ↔ (IsReservation v × (params_word v ≡ word))
-  params_read (Ok p) same accepted = subst (λ q. (v : Reservation) → (Some q ≡ Some v) ↔ (IsReservation v × (params_word v ≡ word))) (sym same) (params_found (accepted.0 refl))
-  params_read (Err e) same accepted = params_not_found (λ is. let h = accepted.1 is in absurd cc)
-
--- two values with one word are one
-pub same_queue : (a b : Reading) → QueueFits a → QueueFits b → queue_word a ≡ queue_word b → a ≡ b
-same_queue a b f g e = queue_same (queue_word b) _ _ refl refl a f e ∙ sym (queue_same (queue_word b) _ _ refl refl b g refl)
-
-pub same_server_word : (a b : Server) → ServerFits a → ServerFits b → server_word a ≡ server_word b → a ≡ b
-same_server_word a b f g e = server_same (server_word b) _ _ refl refl a f e ∙ sym (server_same (server_word b) _ _ refl refl b g refl)
-
-pub same_params : (a b : Reservation) → IsReservation a → IsReservation b → params_word a ≡ params_word b → a ≡ b
-same_params a b f g e = params_same (params_word b) _ _ refl refl a f e ∙ sym (params_same (params_word b) _ _ refl refl b g refl)
+pub reservation-halves : (p : Reservation) → IsReservation p → reservation (params_word p % 2 ^ 32) (params_word p / 2 ^ 32) ≡ p
+unfolding params_word
+reservation-halves p is =
+    let h = is.runtime_most in
+    let k = is.period_most in
+    let low : params_word p % 2 ^ 32 ≡ p.runtime = omega arith in
+    let high : params_word p / 2 ^ 32 ≡ p.period = omega arith in
+    let same : reservation (params_word p % 2 ^ 32) (params_word p / 2 ^ 32) ≡ reservation p.runtime p.period = cc in
+    same

@@ -31,32 +31,23 @@ same_claim true true e = refl
 same_claim false true e = absurd (omega arith)
 same_claim true false e = absurd (omega arith)
 
+-- the place of two codes
+abbrev place_from : ℕ → ℕ → Place
+place_from zero r = Away
+place_from (suc zero) r = On r Contending
+place_from (suc (suc zero)) r = On r NonContending
+place_from (suc (suc (suc zero))) r = On r Inactive
+place_from (suc (suc (suc (suc n)))) r = Gone
+
+place_from-codes : (place : Place) → place_from (state_code place) (queue_code place) ≡ place
+place_from-codes Away = refl
+place_from-codes (On r Contending) = refl
+place_from-codes (On r NonContending) = refl
+place_from-codes (On r Inactive) = refl
+place_from-codes Gone = refl
+
 same_place : (a b : Place) → state_code a ≡ state_code b → queue_code a ≡ queue_code b → a ≡ b
-same_place Away Away e f = refl
-same_place Gone Gone e f = refl
-same_place (On r Contending) (On s Contending) e f = cc
-same_place (On r NonContending) (On s NonContending) e f = cc
-same_place (On r Inactive) (On s Inactive) e f = cc
-same_place Away Gone e f = absurd (omega arith)
-same_place Away (On s Contending) e f = absurd (omega arith)
-same_place Away (On s NonContending) e f = absurd (omega arith)
-same_place Away (On s Inactive) e f = absurd (omega arith)
-same_place Gone Away e f = absurd (omega arith)
-same_place Gone (On s Contending) e f = absurd (omega arith)
-same_place Gone (On s NonContending) e f = absurd (omega arith)
-same_place Gone (On s Inactive) e f = absurd (omega arith)
-same_place (On r Contending) Away e f = absurd (omega arith)
-same_place (On r Contending) Gone e f = absurd (omega arith)
-same_place (On r Contending) (On s NonContending) e f = absurd (omega arith)
-same_place (On r Contending) (On s Inactive) e f = absurd (omega arith)
-same_place (On r NonContending) Away e f = absurd (omega arith)
-same_place (On r NonContending) Gone e f = absurd (omega arith)
-same_place (On r NonContending) (On s Contending) e f = absurd (omega arith)
-same_place (On r NonContending) (On s Inactive) e f = absurd (omega arith)
-same_place (On r Inactive) Away e f = absurd (omega arith)
-same_place (On r Inactive) Gone e f = absurd (omega arith)
-same_place (On r Inactive) (On s Contending) e f = absurd (omega arith)
-same_place (On r Inactive) (On s NonContending) e f = absurd (omega arith)
+same_place a b e f = let h = place_from-codes a in let k = place_from-codes b in cc
 
 module _ (place : Place) (count : ℕ) (claimed : Bool) where
   -- the fields of a task's word
@@ -90,10 +81,11 @@ pub task_word-fields : (word : ℕ) (place : Place) (claimed : Bool) → state_c
 unfolding task_word
 task_word-fields word place claimed s r c = omega arith
 
+abbrev task : Place → ℕ → Bool → TaskWord
+task place count claimed = record { place = place; count = count; claimed = claimed }
+
 same_task_word : (t u : TaskWord) → t.place ≡ u.place → t.count ≡ u.count → t.claimed ≡ u.claimed → t ≡ u
-same_task_word t u e f g =
-    let same : (p q : Place) (m n : ℕ) (a b : Bool) → p ≡ q → m ≡ n → a ≡ b → (let x : TaskWord = record { place = p; count = m; claimed = a } in x) ≡ record { place = q; count = n; claimed = b } = λ p q m n a b i j k. cc in
-    same _ _ _ _ _ _ e f g
+same_task_word t u e f g = let same : task t.place t.count t.claimed ≡ task u.place u.count u.claimed = cc in same
 
 abbrev pub word_of : TaskWord → ℕ
 word_of t = task_word t.place t.count t.claimed

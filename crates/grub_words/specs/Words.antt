@@ -1,5 +1,5 @@
--- The words of a shared table, and the values that have one. The layout is this project's profile.
--- Bit 0 is the lowest, and a bit that nothing is said of is 0.
+-- The words of readings, tasks, servers and reservations, and the values that have one: this project's profile.
+-- Bit 0 is the lowest, and a bit that no line names is 0.
 use Rattle.std.specs.Prelude.{ℕ, ◌+◌, ◌*◌, ◌^◌, ◌<◌, ◌≤◌, Bool, true, false}
 use Rattle.grub_bw.specs.Bandwidth.{Reservation}
 use Rattle.grub_bw.specs.declared.server.Server.{Server}
@@ -22,7 +22,7 @@ server_word s = s.q + 2 ^ 32 * s.d
 unfoldable pub params_word : Reservation → ℕ
 params_word p = p.runtime + 2 ^ 32 * p.period
 
--- bits 0 to 2
+-- bits 0 to 2 of a task's word
 abbrev pub state_code : Place → ℕ
 state_code Away = 0
 state_code (On r Contending) = 1
@@ -30,18 +30,18 @@ state_code (On r NonContending) = 2
 state_code (On r Inactive) = 3
 state_code Gone = 4
 
--- bit 3
+-- bit 3 of a task's word
 abbrev pub claim_bit : Bool → ℕ
 claim_bit false = 0
 claim_bit true = 1
 
--- bits 4 to 11
+-- bits 4 to 11 of a task's word
 abbrev pub queue_code : Place → ℕ
 queue_code Away = 0
 queue_code (On r state) = r
 queue_code Gone = 0
 
--- a task has its block count in bits 12 to 35
+-- a task's word has the block count in bits 12 to 35
 unfoldable pub task_word : Place → ℕ → Bool → ℕ
 task_word place count claimed = state_code place + 2 ^ 3 * claim_bit claimed + 2 ^ 4 * queue_code place + 2 ^ 12 * count
 

@@ -1,4 +1,4 @@
-//! Numbers beside each other in a word.
+//! Numbers side by side in a word. Bit 0 is the lowest.
 
 ghost use Rattle.std.specs.Prelude.{◌≡◌, ◌+◌, ◌*◌, ◌/◌, ◌%◌, ◌^◌, ◌<◌, ◌≤◌};
 

@@ -1,4 +1,5 @@
-//! The words of 64 bits that stand for readings, tasks, servers and reservations.
+//! Words of 64 bits for what threads share: a runqueue's reading, and a task's place, server and reservation.
+//! Each value has one word, and each word is of one value at most. The layouts are this project's profile.
 #![tactic(auto)]
 
 mod bits;

@@ -1,3 +1,5 @@
+//! The word of a reservation: its runtime in bits 0 to 31, and its period in bits 32 to 63.
+
 ghost use Rattle.std.specs.Prelude.{◌≡◌, ◌≢◌, ◌↔◌, IsNone, Some};
 ghost use Rattle.grub_bw.specs.Bandwidth.{Reservation, IsReservation};
 ghost use Rattle.grub_words.specs.Words.{params_word};
@@ -5,7 +7,7 @@ ghost use Rattle.grub_words.specs.Words.{params_word};
 use crate::bits::{halves, join_halves};
 use grub_bw::Params;
 
-/// The word of the reservation.
+/// The word of the reservation. Every reservation has one.
 pub fn pack_params(params: Params) -> u64
     ensures { result ≡ params_word params }
 {

@@ -1,3 +1,5 @@
+//! The word of a runqueue: running_bw in bits 0 to 31, and this_bw in bits 32 to 63, in 1/2^20.
+
 ghost use Rattle.std.specs.Prelude.{◌≡◌, ◌≢◌, ◌↔◌, IsTrue, IsNone, Some};
 ghost use Rattle.grub_book.specs.declared.event.Reading.{Reading};
 ghost use Rattle.grub_words.specs.Words.{queue_word, QueueFits};
@@ -5,17 +7,17 @@ ghost use Rattle.grub_words.specs.Words.{queue_word, QueueFits};
 use crate::bits::{halves, join_halves};
 use grub_book::Reading;
 
-/// A bandwidth of one.
+/// A bandwidth of one, in 1/2^20.
 const UNIT: u32 = 1048576;
 
-/// Whether the reading has a word: running is at most this, and this at most 2^20.
+/// Whether the reading has a word: running_bw is at most this_bw, and this_bw at most one.
 pub fn queue_fits(reading: Reading) -> bool
     ensures { IsTrue result ↔ QueueFits reading }
 {
     reading.running <= reading.this && reading.this <= UNIT
 }
 
-/// The word of a runqueue with this reading.
+/// The word of the reading.
 pub fn pack_queue(reading: Reading) -> u64
     requires { QueueFits reading }
     ensures { result ≡ queue_word reading }

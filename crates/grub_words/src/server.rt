@@ -1,3 +1,5 @@
+//! The word of a server: its budget in bits 0 to 31, and its deadline in bits 32 to 63.
+
 ghost use Rattle.std.specs.Prelude.{◌≡◌, ◌≢◌, ◌↔◌, IsTrue, IsNone, Some};
 ghost use Rattle.grub_bw.specs.declared.server.Server.{Server};
 ghost use Rattle.grub_words.specs.Words.{server_word, ServerFits};
@@ -5,10 +7,10 @@ ghost use Rattle.grub_words.specs.Words.{server_word, ServerFits};
 use crate::bits::{halves, join_halves};
 use grub_bw::Server;
 
-/// The longest runtime.
+/// The longest runtime, in the files' unit.
 const RUNTIME_MOST: u32 = 16777216;
 
-/// Whether the server has a word: its budget is 1 to 2^24.
+/// Whether the server has a word: its budget is 1 to 16777216.
 pub fn server_fits(server: Server) -> bool
     ensures { IsTrue result ↔ ServerFits server }
 {

@@ -1,3 +1,12 @@
+//! The word of a task: its place, the claim bit and its block count.
+//!
+//! | Bits | Content |
+//! |---|---|
+//! | 0 to 2 | 0 away, 1 contending, 2 non-contending, 3 inactive, 4 gone |
+//! | 3 | whether the task is claimed |
+//! | 4 to 11 | its runqueue; 0 where it is on none |
+//! | 12 to 35 | its block count |
+
 ghost use Rattle.std.specs.Prelude.{◌≡◌, ◌≢◌, ◌↔◌, IsTrue, IsNone, Some};
 ghost use Rattle.grub_book.specs.declared.place.Place.{Place};
 ghost use Rattle.grub_words.specs.declared.task.TaskWord.{TaskWord};
@@ -12,11 +21,16 @@ const QUEUE_MOST: u64 = 63;
 /// The highest block count.
 const COUNT_MOST: u64 = 16777215;
 
-/// What the word of a task says: its place and block count, and whether someone holds the right to change it.
+/// What the word of a task says.
 #[derive(Clone, Copy, Debug, PartialEq, Eq)]
 pub struct TaskWord {
+    /// Where the task is.
     pub place: Place,
+
+    /// Whether someone holds the right to change the task.
     pub claimed: bool,
+
+    /// How often the task has blocked and waited: the ticket of the latest such block.
     pub count: u32,
 }
 

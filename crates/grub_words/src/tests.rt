@@ -1,10 +1,12 @@
+//! Worked examples of words, both ways.
+
 use super::*;
 use grub_book::{Place, Reading, State};
 use grub_bw::{Params, Server};
 use std::process::Abort;
 use std::test::Fail;
 
-/// The task has this word, both ways.
+/// The task has this word, and the word is this task's.
 fn task(rt: &impl Abort, place: Place, claimed: bool, count: u32, word: u64) {
     let value = TaskWord {
         place,
@@ -53,6 +55,12 @@ fn tasks(rt: HostRuntime) {
         count: 0,
     };
     assert!(rt; !task_fits(far));
+    let worn = TaskWord {
+        place: Place::Away,
+        claimed: false,
+        count: 16777216,
+    };
+    assert!(rt; !task_fits(worn));
 }
 
 #[test]
@@ -72,6 +80,7 @@ fn reservations(rt: HostRuntime) -> Result<(), Fail> {
     assert_eq!(rt; pack_params(params), 34359738372);
     assert_eq!(rt; unpack_params(34359738372), Some(params));
 
+    assert!(rt; !Params::fits(4, 0));
     assert_eq!(rt; unpack_params(4), None);
     Ok(())
 }

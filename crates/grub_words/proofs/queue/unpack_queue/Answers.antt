@@ -1,11 +1,11 @@
 use Rattle.grub_words.specs.Words.{queue_word, QueueFits}
 use Rattle.grub_words.proofs.Found.{none_from_found}
-use Rattle.grub_words.proofs.Halves.{queue_found, queue_not_found}
+use Rattle.grub_words.proofs.Halves.{reading, queue_word-made, reading-halves, halves_found, halves_not_found}
 use Rattle.grub_words.proofs.queue.unpack_queue.Goals as goal
 
 pub returns-then-queue_fits-clause-found : goal.returns-then-queue_fits-clause-found
 returns-then-queue_fits-clause-found c =
-    queue_found _ _ _ c.halves-running.ensures.low c.halves-running.ensures.high (c.queue_fits.ensures.0 c.if-queue_fits.true)
+    halves_found QueueFits queue_word reading queue_word-made reading-halves c.args.word _ _ c.halves-running.ensures.low c.halves-running.ensures.high (c.queue_fits.ensures.0 c.if-queue_fits.true)
 
 pub returns-then-queue_fits-clause-none : goal.returns-then-queue_fits-clause-none
 returns-then-queue_fits-clause-none c =
@@ -13,7 +13,7 @@ returns-then-queue_fits-clause-none c =
 
 pub returns-else-queue_fits-clause-found : goal.returns-else-queue_fits-clause-found
 returns-else-queue_fits-clause-found c =
-    queue_not_found _ _ _ c.halves-running.ensures.low c.halves-running.ensures.high (λ fits. let yes = c.queue_fits.ensures.1 fits in cc)
+    halves_not_found QueueFits queue_word reading queue_word-made reading-halves c.args.word _ _ c.halves-running.ensures.low c.halves-running.ensures.high (λ fits. let yes = c.queue_fits.ensures.1 fits in cc)
 
 pub returns-else-queue_fits-clause-none : goal.returns-else-queue_fits-clause-none
 returns-else-queue_fits-clause-none c =
