@@ -9,7 +9,7 @@ use Rattle.grub_words.proofs.Found.{found_some, found_none}
 
 -- a kind of value, made of the halves of its word
 module _ {V : Type 0} (Fits : V → Type 0) (word_of : V → ℕ) (made_of : ℕ → ℕ → V) (word_of-made : (low high : ℕ) → word_of (made_of low high) ≡ low + 2 ^ 32 * high) (made_of-halves : (v : V) → Fits v → made_of (word_of v % 2 ^ 32) (word_of v / 2 ^ 32) ≡ v) where
-  pub same_value : (a b : V) → Fits a → Fits b → word_of a ≡ word_of b → a ≡ b
+  same_value : (a b : V) → Fits a → Fits b → word_of a ≡ word_of b → a ≡ b
   same_value a b f g e = let h = made_of-halves a f in let k = made_of-halves b g in cc
 
   module _ (word low high : ℕ) (is_low : low ≡ word % 2 ^ 32) (is_high : high ≡ word / 2 ^ 32) where
@@ -76,3 +76,13 @@ reservation-halves p is =
     let high : params_word p / 2 ^ 32 ≡ p.period = omega arith in
     let same : reservation (params_word p % 2 ^ 32) (params_word p / 2 ^ 32) ≡ reservation p.runtime p.period = cc in
     same
+
+-- two values of a kind that have one word are one
+pub same_queue : (a b : Reading) → QueueFits a → QueueFits b → queue_word a ≡ queue_word b → a ≡ b
+same_queue = same_value QueueFits queue_word reading queue_word-made reading-halves
+
+pub same_server : (a b : Server) → ServerFits a → ServerFits b → server_word a ≡ server_word b → a ≡ b
+same_server = same_value ServerFits server_word server server_word-made server-halves
+
+pub same_params : (a b : Reservation) → IsReservation a → IsReservation b → params_word a ≡ params_word b → a ≡ b
+same_params = same_value IsReservation params_word reservation params_word-made reservation-halves
