@@ -8,20 +8,27 @@ use Rattle.std.proofs.lemmas.List.Elements.{All-from_recursion}
 use Rattle.std.proofs.lemmas.Bool.Decides.{nat_tests}
 use Rattle.std.proofs.lemmas.Bool.{le-ltb}
 use Rattle.grub_bw.specs.Bandwidth.{Capacity}
+use Rattle.grub_trace.specs.declared.version.Version.{Version}
+use Rattle.grub_trace.specs.declared.version.Version.TheVariants.{One, Two}
 use Rattle.grub_trace.specs.declared.fault.Kind.{Kind}
 use Rattle.grub_trace.specs.declared.line.Line.{Line}
-use Rattle.grub_trace.specs.Tree.{Declaration, Moment, Tree, text, line, head_text, queue_words, declaration_words, moment_words, names_of}
+use Rattle.grub_trace.specs.Tree.{Declaration, Happening, Tree, text, line, header, head_text, queue_words, declaration_words, happening_words, names_of}
 use Rattle.grub_trace.specs.Faults.{last_of}
 use Rattle.grub_trace.specs.Plans.{PlanView}
 use Rattle.grub_trace.specs.Naming.{line_in, script_of, all_tasks, plan_of, plan_with}
-use Rattle.grub_trace.specs.Meaning.{parts_of, IsDeclaration, IsMomentFrom, AreDeclared, GoOn, IsTree, AreTrees, AreKnown, Reads, declaration_line, moment_line}
-use Rattle.grub_trace.specs.Reading.{Read, FileRead, AllRead, Body, body_of, with_file, in_file, read_lines, read_file, read_from, take_line, at_line, ◌>>=◌, times_of, script_from, scripts_from, option_or_err, unknown_in, plan_from, plan_of_read, declares, says}
-use Rattle.grub_trace.proofs.LineLemmas.{lines_step, first_step, second_view}
+use Rattle.grub_trace.specs.Meaning.{parts_of, IsDeclaration, IsHappeningFrom, AreDeclared, GoOn, IsTree, AreTrees, AreKnown, Reads, declaration_line, happening_line}
+use Rattle.grub_trace.specs.Reading.{Read, FileRead, AllRead, Body, body_of, with_file, in_file, read_lines, read_file, opened, read_from, take_line, at_line, ◌>>=◌, times_of, script_from, scripts_from, option_or_err, unknown_in, plan_from, plan_of_read, declares, says}
+use Rattle.grub_trace.proofs.LineLemmas.{lines_step, first_known, second_view}
+use Rattle.grub_trace.proofs.FormLemmas.{version_again}
 use Rattle.grub_trace.proofs.FileLaws.{small_queue}
 use Rattle.grub_trace.proofs.Runs.{last_push}
 use Rattle.grub_trace.proofs.Together.{in_turn}
 use Rattle.grub_trace.proofs.PlanLaws.{body_of_tree, scripts_are, queues_are}
-use Rattle.grub_trace.proofs.Printed.{IsOneLine, declaration_again, moment_again, queue_again, declaration_one_line, moment_one_line, queue_one_line}
+use Rattle.grub_trace.proofs.Printed.{IsOneLine, declaration_again, happening_again, queue_again, declaration_one_line, happening_one_line, queue_one_line}
+
+pub header_one_line : (v : Version) → IsOneLine (header v)
+header_one_line One = search rules
+header_one_line Two = search rules
 
 pub parts_again : (l rest : List ℕ) → IsOneLine l → parts_of (l ++ 10 ∷ rest) ≡ l ∷ parts_of rest
 parts_again l rest h = slice_split_at (λ b. eqb b 10) l 10 rest (All-from_recursion (λ b. eqb b 10 ≡ false) l h) refl
@@ -33,59 +40,57 @@ step r s n l rest one taken =
     ∙ ap (read_lines r n) (parts_again l rest one) ∙ lines_step r n l rest
     ∙ ap (λ (x : Result Read Kind). at_line n x >>= λ t. read_lines t (n + 1) (parts_of rest)) taken
 
-pub declared_run : (ds : List Declaration) (r : Read) (n : ℕ) (rest : List ℕ) → AreDeclared (names_of r.declared) ds → length r.moments ≡ 0
-    → read_lines r n (parts_of (flat_map (λ d. line (declaration_words d)) ds ++ rest)) ≡ read_lines (record { declared = r.declared ++ ds; moments = r.moments }) (n + length ds) (parts_of rest)
-declared_run [] r n rest are first = ap (λ (ds : List Declaration). read_lines (record { declared = ds; moments = r.moments }) n (parts_of rest)) (sym (append-nil r.declared)) ∙ ap (λ (k : ℕ). read_lines (record { declared = r.declared ++ []; moments = r.moments }) k (parts_of rest)) (omega arith)
+pub declared_run : (ds : List Declaration) (r : Read) (n : ℕ) (rest : List ℕ) → AreDeclared (names_of r.declared) ds → length r.happenings ≡ 0
+    → read_lines r n (parts_of (flat_map (λ d. line (declaration_words d)) ds ++ rest)) ≡ read_lines (record { version = r.version; declared = r.declared ++ ds; happenings = r.happenings }) (n + length ds) (parts_of rest)
+declared_run [] r n rest are first = ap (λ (ds : List Declaration). read_lines (record { version = r.version; declared = ds; happenings = r.happenings }) n (parts_of rest)) (sym (append-nil r.declared)) ∙ ap (λ (k : ℕ). read_lines (record { version = r.version; declared = r.declared ++ []; happenings = r.happenings }) k (parts_of rest)) (omega arith)
 declared_run (d ∷ ds) r n rest are first =
     let others = flat_map (λ d. line (declaration_words d)) ds in
     let next : AreDeclared (names_of (r.declared ++ d ∷ [])) ds = subst (λ (ns : List (List ℕ)). AreDeclared ns ds) (sym (map_push (λ (d : Declaration). d.name) r.declared d)) are.1 in
     ap (λ (bytes : List ℕ). read_lines r n (parts_of bytes)) (append_assoc (line (declaration_words d)) others rest)
     ∙ step r (declares d r) n (declaration_line d) (others ++ rest) (declaration_one_line (names_of r.declared) d are.0) (declaration_again r d are.0 first)
     ∙ declared_run ds (declares d r) (n + 1) rest next first
-    ∙ ap (λ (xs : List Declaration). read_lines (record { declared = xs; moments = r.moments }) (n + 1 + length ds) (parts_of rest)) (append_assoc r.declared (d ∷ []) ds)
-    ∙ ap (λ (k : ℕ). read_lines (record { declared = r.declared ++ d ∷ ds; moments = r.moments }) k (parts_of rest)) (omega arith)
+    ∙ ap (λ (xs : List Declaration). read_lines (record { version = r.version; declared = xs; happenings = r.happenings }) (n + 1 + length ds) (parts_of rest)) (append_assoc r.declared (d ∷ []) ds)
+    ∙ ap (λ (k : ℕ). read_lines (record { version = r.version; declared = r.declared ++ d ∷ ds; happenings = r.happenings }) k (parts_of rest)) (omega arith)
 
-pub said_run : (ms : List Moment) (r : Read) (n : ℕ) (rest : List ℕ) → GoOn (last_of (times_of r.moments)) ms
-    → read_lines r n (parts_of (flat_map (λ m. line (moment_words m)) ms ++ rest)) ≡ read_lines (record { declared = r.declared; moments = r.moments ++ ms }) (n + length ms) (parts_of rest)
-said_run [] r n rest on = ap (λ (ms : List Moment). read_lines (record { declared = r.declared; moments = ms }) n (parts_of rest)) (sym (append-nil r.moments)) ∙ ap (λ (k : ℕ). read_lines (record { declared = r.declared; moments = r.moments ++ [] }) k (parts_of rest)) (omega arith)
+pub said_run : (ms : List Happening) (r : Read) (n : ℕ) (rest : List ℕ) → GoOn r.version (last_of (times_of r.happenings)) ms
+    → read_lines r n (parts_of (flat_map (λ m. line (happening_words m)) ms ++ rest)) ≡ read_lines (record { version = r.version; declared = r.declared; happenings = r.happenings ++ ms }) (n + length ms) (parts_of rest)
+said_run [] r n rest on = ap (λ (ms : List Happening). read_lines (record { version = r.version; declared = r.declared; happenings = ms }) n (parts_of rest)) (sym (append-nil r.happenings)) ∙ ap (λ (k : ℕ). read_lines (record { version = r.version; declared = r.declared; happenings = r.happenings ++ [] }) k (parts_of rest)) (omega arith)
 said_run (m ∷ ms) r n rest on =
-    let others = flat_map (λ m. line (moment_words m)) ms in
-    let next : GoOn (last_of (times_of (r.moments ++ m ∷ []))) ms = subst (λ (low : ℕ). GoOn low ms) (sym (last_push r.moments m)) on.1 in
-    ap (λ (bytes : List ℕ). read_lines r n (parts_of bytes)) (append_assoc (line (moment_words m)) others rest)
-    ∙ step r (says m.at m.deed r) n (moment_line m) (others ++ rest) (moment_one_line (last_of (times_of r.moments)) m on.0) (moment_again r m on.0)
+    let others = flat_map (λ m. line (happening_words m)) ms in
+    let next : GoOn r.version (last_of (times_of (r.happenings ++ m ∷ []))) ms = subst (λ (low : ℕ). GoOn r.version low ms) (sym (last_push r.happenings m)) on.1 in
+    ap (λ (bytes : List ℕ). read_lines r n (parts_of bytes)) (append_assoc (line (happening_words m)) others rest)
+    ∙ step r (says m.at m.deed r) n (happening_line m) (others ++ rest) (happening_one_line r.version (last_of (times_of r.happenings)) m on.0) (happening_again r m on.0)
     ∙ said_run ms (says m.at m.deed r) (n + 1) rest next
-    ∙ ap (λ (xs : List Moment). read_lines (record { declared = r.declared; moments = xs }) (n + 1 + length ms) (parts_of rest)) (append_assoc r.moments (m ∷ []) ms)
-    ∙ ap (λ (k : ℕ). read_lines (record { declared = r.declared; moments = r.moments ++ m ∷ ms }) k (parts_of rest)) (omega arith)
+    ∙ ap (λ (xs : List Happening). read_lines (record { version = r.version; declared = r.declared; happenings = xs }) (n + 1 + length ms) (parts_of rest)) (append_assoc r.happenings (m ∷ []) ms)
+    ∙ ap (λ (k : ℕ). read_lines (record { version = r.version; declared = r.declared; happenings = r.happenings ++ m ∷ ms }) k (parts_of rest)) (omega arith)
 
 no_more : (r : Read) (n : ℕ) → read_lines r n (parts_of []) ≡ Ok r
 unfolding read_lines
 no_more r n = refl
 
-abbrev start : List Declaration → Read
-start ds = record { declared = ds; moments = [] }
-
 body_again : (ds : List Declaration) (t : Tree) → IsTree (names_of ds) t
-    → read_lines (start ds) 3 (parts_of (flat_map (λ d. line (declaration_words d)) t.tasks ++ flat_map (λ m. line (moment_words m)) t.moments)) ≡ Ok (record { declared = ds ++ t.tasks; moments = t.moments })
+    → read_lines (opened t.version ds) 3 (parts_of (flat_map (λ d. line (declaration_words d)) t.tasks ++ flat_map (λ m. line (happening_words m)) t.happenings)) ≡ Ok (record { version = t.version; declared = ds ++ t.tasks; happenings = t.happenings })
 body_again ds t is =
-    declared_run t.tasks (start ds) 3 (flat_map (λ m. line (moment_words m)) t.moments) is.tasks refl
-    ∙ ap (λ (bytes : List ℕ). read_lines (record { declared = ds ++ t.tasks; moments = [] }) (3 + length t.tasks) (parts_of bytes)) (sym (append-nil (flat_map (λ m. line (moment_words m)) t.moments)))
-    ∙ said_run t.moments (record { declared = ds ++ t.tasks; moments = [] }) (3 + length t.tasks) [] is.moments
-    ∙ no_more (record { declared = ds ++ t.tasks; moments = t.moments }) (3 + length t.tasks + length t.moments)
+    declared_run t.tasks (opened t.version ds) 3 (flat_map (λ m. line (happening_words m)) t.happenings) is.tasks refl
+    ∙ ap (λ (bytes : List ℕ). read_lines (record { version = t.version; declared = ds ++ t.tasks; happenings = [] }) (3 + length t.tasks) (parts_of bytes)) (sym (append-nil (flat_map (λ m. line (happening_words m)) t.happenings)))
+    ∙ said_run t.happenings (record { version = t.version; declared = ds ++ t.tasks; happenings = [] }) (3 + length t.tasks) [] is.happenings
+    ∙ no_more (record { version = t.version; declared = ds ++ t.tasks; happenings = t.happenings }) (3 + length t.tasks + length t.happenings)
 
 abbrev pub file_of : List Declaration → Tree → FileRead
-file_of ds t = record { queue = t.queue; first = 3 + length t.tasks; read = record { declared = ds ++ t.tasks; moments = t.moments } }
+file_of ds t = record { queue = t.queue; first = 3 + length t.tasks; declared = ds ++ t.tasks; happenings = t.happenings }
 
 -- the text of a tree is read
 pub file_again : (ds : List Declaration) (t : Tree) → IsTree (names_of ds) t → read_file ds (text t) ≡ Ok (file_of ds t)
 unfolding text
 file_again ds t is =
     let small = small_queue t.queue is.queue in
-    let body = flat_map (λ d. line (declaration_words d)) t.tasks ++ flat_map (λ m. line (moment_words m)) t.moments in
+    let body = flat_map (λ d. line (declaration_words d)) t.tasks ++ flat_map (λ m. line (happening_words m)) t.happenings in
     let second = join_with_byte 32 (queue_words t.queue) in
     let rest = (second ++ 10 ∷ []) ++ body in
+    let whole : parts_of (text t) ≡ header t.version ∷ parts_of rest = ap parts_of (append_assoc (header t.version) (10 ∷ (second ++ 10 ∷ [])) body) ∙ parts_again (header t.version) rest (header_one_line t.version) in
     let parts : parts_of rest ≡ second ∷ parts_of body = ap parts_of (append_assoc second (10 ∷ []) body) ∙ parts_again second body (queue_one_line t.queue small.0 small.1) in
-    first_step ds (text t) (codes "grub 1") rest (parts_again (codes "grub 1") rest (search rules))
-    ∙ second_view ds rest second body t.queue (record { declared = ds ++ t.tasks; moments = t.moments }) (3 + length t.tasks) parts (queue_again t.queue small.0 small.1 is.queue) (body_again ds t is) (omega (arith, length-append ds t.tasks))
+    first_known t.version ds (text t) (header t.version) rest whole (version_again t.version)
+    ∙ second_view t.version ds rest second body t.queue (record { version = t.version; declared = ds ++ t.tasks; happenings = t.happenings }) (3 + length t.tasks) parts (queue_again t.queue small.0 small.1 is.queue) (body_again ds t is) (omega (arith, length-append ds t.tasks))
 
 -- ---- all files
 
@@ -103,7 +108,7 @@ some_is : (o : Option Line) → IsSome o → (l : Line) × (o ≡ Some l)
 some_is None h = absurd cc
 some_is (Some l) h = (l, refl)
 
-pub script_again : (names : List (List ℕ)) (ms : List Moment) (done : List Line) (n : ℕ) → AreKnown names ms → script_from names done n ms ≡ Ok (done ++ filter_map (line_in names) ms)
+pub script_again : (names : List (List ℕ)) (ms : List Happening) (done : List Line) (n : ℕ) → AreKnown names ms → script_from names done n ms ≡ Ok (done ++ filter_map (line_in names) ms)
 unfolding script_from
 script_again names [] done n known = ap (λ (ls : List Line). Ok ls) (sym (append-nil done))
 script_again names (m ∷ ms) done n known =
@@ -112,11 +117,11 @@ script_again names (m ∷ ms) done n known =
     ∙ script_again names ms (done ++ s.0 ∷ []) (n + 1) known.1
     ∙ ap (λ (ls : List Line). Ok ls) (append_assoc done (s.0 ∷ []) (filter_map (line_in names) ms) ∙ ap (λ (o : Option Line). done ++ cons_option o (filter_map (line_in names) ms)) (sym s.1))
 
-scripts_again : (names : List (List ℕ)) (ts : List Tree) (done : List (List Line)) (f : ℕ) → AllByRecursion (λ t. AreKnown names t.moments) ts → scripts_from names done f (map body_of_tree ts) ≡ Ok (done ++ map (script_of names) ts)
+scripts_again : (names : List (List ℕ)) (ts : List Tree) (done : List (List Line)) (f : ℕ) → AllByRecursion (λ t. AreKnown names t.happenings) ts → scripts_from names done f (map body_of_tree ts) ≡ Ok (done ++ map (script_of names) ts)
 unfolding scripts_from
 scripts_again names [] done f known = ap (λ (ls : List (List Line)). Ok ls) (sym (append-nil done))
 scripts_again names (t ∷ ts) done f known =
-    ap (λ (r : Result (List Line) ℕ). unknown_in f r >>= λ s. scripts_from names (done ++ s ∷ []) (f + 1) (map body_of_tree ts)) (script_again names t.moments [] (3 + length t.tasks) known.0)
+    ap (λ (r : Result (List Line) ℕ). unknown_in f r >>= λ s. scripts_from names (done ++ s ∷ []) (f + 1) (map body_of_tree ts)) (script_again names t.happenings [] (3 + length t.tasks) known.0)
     ∙ scripts_again names ts (done ++ script_of names t ∷ []) (f + 1) known.1
     ∙ ap (λ (ls : List (List Line)). Ok ls) (append_assoc done (script_of names t ∷ []) (map (script_of names) ts))
 

@@ -4,7 +4,7 @@ use Rattle.std.specs.Global.{Vec}
 use Rattle.std.proofs.lemmas.List.{map_push, drop_all}
 use Rattle.grub_trace.specs.declared.fault.Kind.TheVariants.{UnknownTask}
 use Rattle.grub_trace.specs.declared.line.Act.{Act}
-use Rattle.grub_trace.specs.declared.body.RawMoment.{RawMoment}
+use Rattle.grub_trace.specs.declared.body.RawHappening.{RawHappening}
 use Rattle.grub_trace.specs.declared.raw.RawFile.{RawFile}
 use Rattle.grub_bw.specs.Bandwidth.{Capacity, Reservation}
 use Rattle.std.specs.Prelude.{string_bytes}
@@ -16,10 +16,10 @@ use Rattle.grub_trace.specs.declared.fault.Halt.TheVariants as halt
 use Rattle.grub_trace.specs.declared.fault.TraceFault.{TraceFault}
 use Rattle.grub_trace.specs.declared.line.Line.{Line}
 use Rattle.grub_trace.specs.Halts.{fault_of}
-use Rattle.grub_trace.specs.Tree.{Moment, names_of, params_of}
+use Rattle.grub_trace.specs.Tree.{Happening, names_of, params_of}
 use Rattle.std.proofs.lemmas.Bool.{le-ltb}
 use Rattle.std.proofs.lemmas.Bool.Decides.{nat_tests}
-use Rattle.grub_trace.specs.Reading.{◌>>=◌, Halts, Faults, AllRead, FileRead, Body, with_file, in_file, read_file, read_from, script_from, option_or_err, scripts_from, unknown_in, ScriptHalts, moment_view, deed_view, body_view, contents, plan_from, plan_of_read, all_view, declarations, task_view}
+use Rattle.grub_trace.specs.Reading.{◌>>=◌, Halts, Faults, AllRead, FileRead, Body, with_file, in_file, read_file, read_from, script_from, option_or_err, scripts_from, unknown_in, ScriptHalts, happening_view, deed_view, body_view, contents, plan_from, plan_of_read, all_view, declarations, task_view}
 use Rattle.grub_trace.specs.Naming.{line_in, act_in, plan_with}
 
 pub drop_item : {X : Type 0} (xs : List X) (i : ℕ) (x : X) → i < length xs → x ≡ get_or xs i x → drop i xs ≡ x ∷ drop (i + 1) xs
@@ -30,30 +30,30 @@ drop_rest xs i le = drop_all i xs le
 
 -- ---- a script
 
-pub script_next : (names : List (List ℕ)) (done : List Line) (n k i : ℕ) (ms : List RawMoment) (d : RawMoment) (a : Act) (total : Result (List Line) ℕ) → i < length ms → Some a ≡ act_in names (deed_view (get_or ms i d).deed) → k ≡ n + 1
-    → script_from names done n (map moment_view (drop i ms)) ≡ total → script_from names (done ++ record { m = (get_or ms i d).at; act = a } ∷ []) k (map moment_view (drop (i + 1) ms)) ≡ total
+pub script_next : (names : List (List ℕ)) (done : List Line) (n k i : ℕ) (ms : List RawHappening) (d : RawHappening) (a : Act) (total : Result (List Line) ℕ) → i < length ms → Some a ≡ act_in names (deed_view (get_or ms i d).deed) → k ≡ n + 1
+    → script_from names done n (map happening_view (drop i ms)) ≡ total → script_from names (done ++ record { m = (get_or ms i d).at; act = a } ∷ []) k (map happening_view (drop (i + 1) ms)) ≡ total
 unfolding script_from
 script_next names done n k i ms d a total lt is next so_far =
     let e : drop i ms ≡ get_or ms i d ∷ drop (i + 1) ms = rw add-one (drop-cons ms i d lt) in
-    let m : script_from names done n (map moment_view (drop i ms)) ≡ script_from names (done ++ record { m = (get_or ms i d).at; act = a } ∷ []) (n + 1) (map moment_view (drop (i + 1) ms)) = rw (e, ← is) refl in
+    let m : script_from names done n (map happening_view (drop i ms)) ≡ script_from names (done ++ record { m = (get_or ms i d).at; act = a } ∷ []) (n + 1) (map happening_view (drop (i + 1) ms)) = rw (e, ← is) refl in
     rw next (sym m ∙ so_far)
 
-pub script_unknown : (names : List (List ℕ)) (done : List Line) (n i : ℕ) (ms : List RawMoment) (d : RawMoment) (total : Result (List Line) ℕ) → i < length ms → None ≡ act_in names (deed_view (get_or ms i d).deed)
-    → script_from names done n (map moment_view (drop i ms)) ≡ total → total ≡ Err n
+pub script_unknown : (names : List (List ℕ)) (done : List Line) (n i : ℕ) (ms : List RawHappening) (d : RawHappening) (total : Result (List Line) ℕ) → i < length ms → None ≡ act_in names (deed_view (get_or ms i d).deed)
+    → script_from names done n (map happening_view (drop i ms)) ≡ total → total ≡ Err n
 unfolding script_from
 script_unknown names done n i ms d total lt is so_far =
     let e : drop i ms ≡ get_or ms i d ∷ drop (i + 1) ms = rw add-one (drop-cons ms i d lt) in
-    let m : script_from names done n (map moment_view (drop i ms)) ≡ Err n = rw (e, ← is) refl in
+    let m : script_from names done n (map happening_view (drop i ms)) ≡ Err n = rw (e, ← is) refl in
     sym so_far ∙ m
 
-pub script_done : (names : List (List ℕ)) (done : List Line) (n i : ℕ) (ms : List RawMoment) (total : Result (List Line) ℕ) → length ms ≤ i → script_from names done n (map moment_view (drop i ms)) ≡ total → total ≡ Ok done
+pub script_done : (names : List (List ℕ)) (done : List Line) (n i : ℕ) (ms : List RawHappening) (total : Result (List Line) ℕ) → length ms ≤ i → script_from names done n (map happening_view (drop i ms)) ≡ total → total ≡ Ok done
 unfolding script_from
 script_done names done n i ms total le so_far = sym so_far ∙ rw (drop_rest ms i le) refl
 
 -- ---- all scripts
 
 pub scripts_next : (names : List (List ℕ)) (done : List (List Line)) (i : ℕ) (fs : List RawFile) (f : RawFile) (s : List Line) (total : Result (List (List Line)) (Kind × ℕ × ℕ)) → i < length fs → f ≡ get_or fs i f
-    → script_from names [] f.first (map moment_view f.moments.items) ≡ Ok s
+    → script_from names [] f.first (map happening_view f.happenings.items) ≡ Ok s
     → scripts_from names done i (map body_view (drop i fs)) ≡ total → scripts_from names (done ++ s ∷ []) (i + 1) (map body_view (drop (i + 1) fs)) ≡ total
 unfolding scripts_from
 scripts_next names done i fs f s total lt item is so_far =
@@ -62,7 +62,7 @@ scripts_next names done i fs f s total lt item is so_far =
     sym m ∙ so_far
 
 pub scripts_stop : (h : Halt) (names : List (List ℕ)) (done : List (List Line)) (i : ℕ) (fs : List RawFile) (f : RawFile) (total : Result (List (List Line)) (Kind × ℕ × ℕ)) → i < length fs → f ≡ get_or fs i f
-    → ScriptHalts h (script_from names [] f.first (map moment_view f.moments.items))
+    → ScriptHalts h (script_from names [] f.first (map happening_view f.happenings.items))
     → scripts_from names done i (map body_view (drop i fs)) ≡ total → Faults (fault_of h i) total
 unfolding scripts_from
 scripts_stop halt.Memory names done i fs f total lt item is so_far = tt

@@ -1,6 +1,6 @@
 -- A fault by the definitions is the one that reading gives, so there is one at most.
 use Rattle.std.proofs.Common.{◌≡◌, ℕ, zero, suc, ◌+◌, ◌-◌, ◌<◌, ◌≤◌, Bool, true, false, not, cond, eqb, ◌⊎◌, inl, inr, List, [], ◌∷◌, ◌++◌, length, map, Option, Some, None, Result, Ok, Err, refl, ap, ◌∙◌, sym, arith, rules, subst, append_assoc}
-use Rattle.std.specs.Prelude.{codes, IsSome}
+use Rattle.std.specs.Prelude.{codes, IsSome, is_none}
 use Rattle.std.proofs.lemmas.Bool.{le-ltb, lt-ltb}
 use Rattle.std.proofs.lemmas.Bool.Decides.{nat_tests}
 use Rattle.grub_trace.specs.declared.line.Line.{Line}
@@ -8,25 +8,27 @@ use Rattle.std.specs.List.{join_with_byte, flat_map, AllByRecursion}
 use Rattle.std.specs.Str.{bytes_eq}
 use Rattle.std.proofs.lemmas.List.{append-nil, map-append, length-append}
 use Rattle.std.proofs.lemmas.List.Splits.{join_with_byte-slice_split}
+use Rattle.grub_trace.specs.declared.version.Version.{Version}
 use Rattle.grub_trace.specs.declared.fault.Kind.{Kind}
 use Rattle.grub_trace.specs.declared.fault.Halt.TheVariants as halt
 use Rattle.grub_trace.specs.declared.fault.Kind.TheVariants.{CutShort, BadHeader, MissingQueue, BadLine, UnknownTask}
-use Rattle.grub_trace.specs.Tree.{Declaration, Moment, Tree, text, line, head_text, queue_words, declaration_words, moment_words, names_of}
-use Rattle.grub_trace.specs.Faults.{Form, form_of, words_of, form_fault, line_fault, fault_of_form, header_fault, queue_fault}
+use Rattle.grub_trace.specs.Tree.{Declaration, Happening, Tree, text, line, header, head_text, queue_words, declaration_words, happening_words, names_of}
+use Rattle.grub_trace.specs.Faults.{Form, form_of, words_of, form_fault, line_fault, fault_of_form, header_fault, version_of, queue_fault}
 use Rattle.grub_trace.specs.Meaning.{parts_of, front_fault, LineFault, HeaderFault, QueueFault, FileFault, IsTree, AreTrees, AreKnown, UnknownIn, UnknownFault, FirstFault, IsFault, too_many, no_file, first, unknown}
 use Rattle.grub_trace.specs.Naming.{all_tasks, line_in, script_of}
-use Rattle.grub_trace.specs.Reading.{Read, FileRead, AllRead, with_file, in_file, read_file, read_first, read_second, read_lines, read_from, read_queue, queue_of, take_line, take_option, unless, adds, at_line, ◌>>=◌, times_of, script_from, scripts_from, option_or_err, unknown_in, plan_from, plan_of_read}
+use Rattle.grub_trace.specs.Reading.{Read, FileRead, AllRead, with_file, in_file, read_file, read_first, read_as, opened, file_from, read_second, read_lines, read_from, read_queue, queue_of, take_line, take_option, unless, adds, at_line, ◌>>=◌, times_of, script_from, scripts_from, option_or_err, unknown_in, plan_from, plan_of_read}
 use Rattle.grub_trace.proofs.PlanLaws.{body_of_tree}
 use Rattle.grub_trace.proofs.WordLemmas.{has_part}
-use Rattle.grub_trace.proofs.LineLemmas.{first_step, second_halts}
+use Rattle.grub_trace.proofs.LineLemmas.{first_known, second_halts}
+use Rattle.grub_trace.proofs.FormLemmas.{version_again}
 use Rattle.grub_trace.proofs.FileLaws.{small_queue}
 use Rattle.grub_trace.proofs.Printed.{queue_again, queue_one_line}
-use Rattle.grub_trace.proofs.Again.{script_again, files_again, parts_again, declared_run, said_run, file_again, file_of}
+use Rattle.grub_trace.proofs.Again.{script_again, files_again, parts_again, header_one_line, declared_run, said_run, file_again, file_of}
 
 same_kind : (a b : Kind) → Some a ≡ Some b → a ≡ b
 same_kind a b e = cc
 
-faulty : (o : Option Form) (r : Read) (k : Kind) → fault_of_form (names_of r.declared) (times_of r.moments) o ≡ Some k → take_option r o ≡ Err k
+faulty : (o : Option Form) (r : Read) (k : Kind) → fault_of_form r.version (names_of r.declared) (times_of r.happenings) o ≡ Some k → take_option r o ≡ Err k
 faulty None r k e = ap (λ (x : Kind). Err x) (same_kind BadLine k e)
 faulty (Some f) r k e = ap (λ (o : Option Kind). unless o (adds f r)) e
 
@@ -39,7 +41,7 @@ failed x = Err x
 no_zero : (n : ℕ) → 0 < n → eqb n 0 ≡ false
 no_zero n h = grind (arith, nat_tests)
 
-stop_here : (r : Read) (n : ℕ) (rest : List ℕ) (parts : List (List ℕ)) (k : Kind) → 0 < length rest → parts_of rest ≡ parts → front_fault CutShort (line_fault (names_of r.declared) (times_of r.moments)) parts ≡ Some k → read_lines r n parts ≡ Err (k, n)
+stop_here : (r : Read) (n : ℕ) (rest : List ℕ) (parts : List (List ℕ)) (k : Kind) → 0 < length rest → parts_of rest ≡ parts → front_fault CutShort (line_fault r.version (names_of r.declared) (times_of r.happenings)) parts ≡ Some k → read_lines r n parts ≡ Err (k, n)
 unfolding read_lines
 stop_here r n rest [] k some p e = absurd (let w = has_part (λ b. eqb b 10) rest in let x : [] ≡ w.0 ∷ w.1 = sym p ∙ w.2 in cc)
 stop_here r n rest (last ∷ []) k some p e = go (eqb (length last) 0) (no_zero (length last) (subst (λ (l : List ℕ). 0 < length l) (one_part rest last p) some)) e
@@ -49,61 +51,58 @@ stop_here r n rest (last ∷ []) k some p e = go (eqb (length last) 0) (no_zero 
     go false h e = ap (λ (j : Kind). failed (j, n)) (same_kind CutShort k e)
 stop_here r n rest (l ∷ t ∷ more) k some p e = ap (λ (x : Result Read Kind). at_line n x >>= λ s. read_lines s (n + 1) (t ∷ more)) (faulty (form_of (words_of l)) r k e)
 
-abbrev start : List Declaration → Read
-start ds = record { declared = ds; moments = [] }
-
 lines_stop : (ds : List Declaration) (t : Tree) (rest : List ℕ) (k : Kind) → IsTree (names_of ds) t → 0 < length rest
-    → front_fault CutShort (line_fault (names_of ds ++ names_of t.tasks) (map (λ m. m.at) t.moments)) (parts_of rest) ≡ Some k
-    → read_lines (start ds) 3 (parts_of ((flat_map (λ d. line (declaration_words d)) t.tasks ++ flat_map (λ m. line (moment_words m)) t.moments) ++ rest)) ≡ Err (k, 3 + length t.tasks + length t.moments)
+    → front_fault CutShort (line_fault t.version (names_of ds ++ names_of t.tasks) (map (λ m. m.at) t.happenings)) (parts_of rest) ≡ Some k
+    → read_lines (opened t.version ds) 3 (parts_of ((flat_map (λ d. line (declaration_words d)) t.tasks ++ flat_map (λ m. line (happening_words m)) t.happenings) ++ rest)) ≡ Err (k, 3 + length t.tasks + length t.happenings)
 lines_stop ds t rest k is some e =
-    let said = flat_map (λ m. line (moment_words m)) t.moments in
+    let said = flat_map (λ m. line (happening_words m)) t.happenings in
     let names : names_of (ds ++ t.tasks) ≡ names_of ds ++ names_of t.tasks = map-append (λ (d : Declaration). d.name) ds t.tasks in
-    ap (λ (bytes : List ℕ). read_lines (start ds) 3 (parts_of bytes)) (append_assoc (flat_map (λ d. line (declaration_words d)) t.tasks) said rest)
-    ∙ declared_run t.tasks (start ds) 3 (said ++ rest) is.tasks refl
-    ∙ said_run t.moments (record { declared = ds ++ t.tasks; moments = [] }) (3 + length t.tasks) rest is.moments
-    ∙ stop_here (record { declared = ds ++ t.tasks; moments = t.moments }) (3 + length t.tasks + length t.moments) rest (parts_of rest) k some refl
-    (ap (λ (ns : List (List ℕ)). front_fault CutShort (line_fault ns (map (λ m. m.at) t.moments)) (parts_of rest)) names ∙ e)
-
-header_none : (b : Bool) (k : Kind) → cond b None (Some BadHeader) ≡ Some k → (b ≡ false) × (k ≡ BadHeader)
-header_none true k e = absurd cc
-header_none false k e = (refl, sym (same_kind BadHeader k e))
+    ap (λ (bytes : List ℕ). read_lines (opened t.version ds) 3 (parts_of bytes)) (append_assoc (flat_map (λ d. line (declaration_words d)) t.tasks) said rest)
+    ∙ declared_run t.tasks (opened t.version ds) 3 (said ++ rest) is.tasks refl
+    ∙ said_run t.happenings (record { version = t.version; declared = ds ++ t.tasks; happenings = [] }) (3 + length t.tasks) rest is.happenings
+    ∙ stop_here (record { version = t.version; declared = ds ++ t.tasks; happenings = t.happenings }) (3 + length t.tasks + length t.happenings) rest (parts_of rest) k some refl
+    (ap (λ (ns : List (List ℕ)). front_fault CutShort (line_fault t.version ns (map (λ m. m.at) t.happenings)) (parts_of rest)) names ∙ e)
 
 header_again : (ds : List Declaration) (parts : List (List ℕ)) (k : Kind) → front_fault BadHeader header_fault parts ≡ Some k → read_first ds parts ≡ Err (k, 1)
 unfolding read_first
 header_again ds [] k e = ap (λ (j : Kind). Err (j, 1)) (same_kind BadHeader k e)
 header_again ds (l ∷ []) k e = ap (λ (j : Kind). Err (j, 1)) (same_kind _ k e)
-header_again ds (l ∷ t ∷ more) k e =
-    let h = header_none (bytes_eq l (codes "grub 1")) k e in
-    ap (λ (b : Bool). cond b (read_second ds (t ∷ more)) (Err (BadHeader, 1))) h.0 ∙ ap (λ (j : Kind). Err (j, 1)) (sym h.1)
+header_again ds (l ∷ t ∷ more) k e = go (version_of l) e
+  where
+    go : (o : Option Version) → cond (is_none o) (Some BadHeader) None ≡ Some k → read_as o ds (t ∷ more) ≡ Err (k, 1)
+    go None e = ap (λ (j : Kind). Err (j, 1)) (same_kind BadHeader k e)
+    go (Some version) e = absurd cc
 
-second_again : (ds : List Declaration) (parts : List (List ℕ)) (k : Kind) → front_fault MissingQueue queue_fault parts ≡ Some k → read_second ds parts ≡ Err (k, 2)
+second_again : (version : Version) (ds : List Declaration) (parts : List (List ℕ)) (k : Kind) → front_fault MissingQueue queue_fault parts ≡ Some k → read_second version ds parts ≡ Err (k, 2)
 unfolding read_second
-second_again ds [] k e = ap (λ (j : Kind). Err (j, 2)) (same_kind MissingQueue k e)
-second_again ds (l ∷ []) k e = ap (λ (j : Kind). Err (j, 2)) (same_kind _ k e)
-second_again ds (l ∷ t ∷ more) k e = ap (λ (o : Option Kind). at_line 2 (unless o (queue_of (form_of (words_of l)))) >>= λ q. read_lines (start ds) 3 (t ∷ more) >>= λ r. Ok (record { queue = q; first = 3 + (length r.declared - length ds); read = r })) e
+second_again version ds [] k e = ap (λ (j : Kind). Err (j, 2)) (same_kind MissingQueue k e)
+second_again version ds (l ∷ []) k e = ap (λ (j : Kind). Err (j, 2)) (same_kind _ k e)
+second_again version ds (l ∷ t ∷ more) k e = ap (λ (o : Option Kind). at_line 2 (unless o (queue_of (form_of (words_of l)))) >>= λ q. read_lines (opened version ds) 3 (t ∷ more) >>= λ r. Ok (file_from q (3 + (length r.declared - length ds)) r)) e
 
 -- after a right first line
-after_header : (ds : List Declaration) (rest : List ℕ) → read_file ds (codes "grub 1\n" ++ rest) ≡ read_second ds (parts_of rest)
-after_header ds rest = first_step ds (codes "grub 1\n" ++ rest) (codes "grub 1") rest (parts_again (codes "grub 1") rest (search rules))
+after_header : (version : Version) (ds : List Declaration) (bytes rest : List ℕ) → bytes ≡ header version ++ 10 ∷ rest → read_file ds bytes ≡ read_second version ds (parts_of rest)
+after_header version ds bytes rest e =
+    first_known version ds bytes (header version) rest (ap parts_of e ∙ parts_again (header version) rest (header_one_line version)) (version_again version)
 
 line_again : (ds : List Declaration) (bytes : List ℕ) (k : Kind) (n : ℕ) → LineFault (names_of ds) bytes k n → read_file ds bytes ≡ Err (k, n)
 unfolding text
 line_again ds bytes k n f =
     let t = f.tree in
     let small = small_queue t.queue f.is.queue in
-    let body = flat_map (λ d. line (declaration_words d)) t.tasks ++ flat_map (λ m. line (moment_words m)) t.moments in
+    let body = flat_map (λ d. line (declaration_words d)) t.tasks ++ flat_map (λ m. line (happening_words m)) t.happenings in
     let second = join_with_byte 32 (queue_words t.queue) in
     let rest = (second ++ 10 ∷ []) ++ (body ++ f.rest) in
-    let whole : bytes ≡ codes "grub 1\n" ++ rest = f.front ∙ append_assoc (head_text t.queue) body f.rest in
+    let whole : bytes ≡ header t.version ++ 10 ∷ rest =
+    f.front ∙ append_assoc (head_text t.version t.queue) body f.rest ∙ append_assoc (header t.version) (10 ∷ (second ++ 10 ∷ [])) (body ++ f.rest) in
     let parts : parts_of rest ≡ second ∷ parts_of (body ++ f.rest) = ap parts_of (append_assoc second (10 ∷ []) (body ++ f.rest)) ∙ parts_again second (body ++ f.rest) (queue_one_line t.queue small.0 small.1) in
-    ap (read_file ds) whole ∙ after_header ds rest
-    ∙ second_halts (halt.At k (3 + length t.tasks + length t.moments)) ds rest second (body ++ f.rest) t.queue parts (queue_again t.queue small.0 small.1 f.is.queue) (lines_stop ds t f.rest k f.is f.more f.fault)
+    after_header t.version ds bytes rest whole
+    ∙ second_halts (halt.At k (3 + length t.tasks + length t.happenings)) t.version ds rest second (body ++ f.rest) t.queue parts (queue_again t.queue small.0 small.1 f.is.queue) (lines_stop ds t f.rest k f.is f.more f.fault)
     ∙ ap (λ (m : ℕ). Err (k, m)) (sym f.number)
 
 pub file_fault_again : (ds : List Declaration) (bytes : List ℕ) (k : Kind) (n : ℕ) → FileFault (names_of ds) bytes k n → read_file ds bytes ≡ Err (k, n)
 unfolding read_file
 file_fault_again ds bytes k n (inl h) = header_again ds (parts_of bytes) k h.1 ∙ ap (λ (m : ℕ). Err (k, m)) (sym h.0)
-file_fault_again ds bytes k n (inr (inl q)) = ap (read_file ds) q.2 ∙ after_header ds q.0 ∙ second_again ds (parts_of q.0) k q.3 ∙ ap (λ (m : ℕ). Err (k, m)) (sym q.1)
+file_fault_again ds bytes k n (inr (inl q)) = after_header q.version ds bytes q.rest q.front ∙ second_again q.version ds (parts_of q.rest) k q.fault ∙ ap (λ (m : ℕ). Err (k, m)) (sym q.number)
 file_fault_again ds bytes k n (inr (inr f)) = line_again ds bytes k n f
 
 pub first_fault_again : (fronts : List Tree) (all : AllRead) (g : ℕ) (bytes : List ℕ) (more : List (List ℕ)) (k : Kind) (n : ℕ) → AreTrees (names_of all.declared) fronts → FileFault (names_of all.declared ++ names_of (all_tasks fronts)) bytes k n
@@ -126,7 +125,7 @@ is_line : (o : Option Line) → IsSome o → (l : Line) × (o ≡ Some l)
 is_line None h = absurd cc
 is_line (Some l) h = (l, refl)
 
-script_stop_again : (names : List (List ℕ)) (before : List Moment) (m : Moment) (after : List Moment) (done : List Line) (n : ℕ) → AreKnown names before → line_in names m ≡ None → script_from names done n (before ++ m ∷ after) ≡ Err (n + length before)
+script_stop_again : (names : List (List ℕ)) (before : List Happening) (m : Happening) (after : List Happening) (done : List Line) (n : ℕ) → AreKnown names before → line_in names m ≡ None → script_from names done n (before ++ m ∷ after) ≡ Err (n + length before)
 unfolding script_from
 script_stop_again names [] m after done n known none = ap (λ (o : Option Line). option_or_err n o >>= λ l. script_from names (done ++ l ∷ []) (n + 1) after) none ∙ ap (λ (k : ℕ). Err k) (omega arith)
 script_stop_again names (b ∷ bs) m after done n known none =
@@ -134,14 +133,14 @@ script_stop_again names (b ∷ bs) m after done n known none =
     ap (λ (o : Option Line). option_or_err n o >>= λ l. script_from names (done ++ l ∷ []) (n + 1) (bs ++ m ∷ after)) s.1
     ∙ script_stop_again names bs m after (done ++ s.0 ∷ []) (n + 1) known.1 none ∙ ap (λ (k : ℕ). Err k) (omega arith)
 
-scripts_stop_again : (names : List (List ℕ)) (fronts : List Tree) (t : Tree) (more : List Tree) (done : List (List Line)) (f place : ℕ) → AllByRecursion (λ (t : Tree). AreKnown names t.moments) fronts → UnknownIn names t.moments place
+scripts_stop_again : (names : List (List ℕ)) (fronts : List Tree) (t : Tree) (more : List Tree) (done : List (List Line)) (f place : ℕ) → AllByRecursion (λ (t : Tree). AreKnown names t.happenings) fronts → UnknownIn names t.happenings place
     → scripts_from names done f (map body_of_tree (fronts ++ t ∷ more)) ≡ Err (UnknownTask, f + length fronts, 3 + length t.tasks + place)
 unfolding scripts_from
 scripts_stop_again names [] t more done f place known u =
-    let s = ap (script_from names [] (3 + length t.tasks)) u.moments_are ∙ script_stop_again names u.before u.moment u.after [] (3 + length t.tasks) u.known u.unknown ∙ ap (λ (k : ℕ). Err (3 + length t.tasks + k)) (sym u.line) in
+    let s = ap (script_from names [] (3 + length t.tasks)) u.happenings_are ∙ script_stop_again names u.before u.happening u.after [] (3 + length t.tasks) u.known u.unknown ∙ ap (λ (k : ℕ). Err (3 + length t.tasks + k)) (sym u.line) in
     ap (λ (r : Result (List Line) ℕ). unknown_in f r >>= λ s. scripts_from names (done ++ s ∷ []) (f + 1) (map body_of_tree more)) s ∙ ap (λ (g : ℕ). Err (UnknownTask, g, 3 + length t.tasks + place)) (omega arith)
 scripts_stop_again names (x ∷ xs) t more done f place known u =
-    ap (λ (r : Result (List Line) ℕ). unknown_in f r >>= λ s. scripts_from names (done ++ s ∷ []) (f + 1) (map body_of_tree (xs ++ t ∷ more))) (script_again names x.moments [] (3 + length x.tasks) known.0)
+    ap (λ (r : Result (List Line) ℕ). unknown_in f r >>= λ s. scripts_from names (done ++ s ∷ []) (f + 1) (map body_of_tree (xs ++ t ∷ more))) (script_again names x.happenings [] (3 + length x.tasks) known.0)
     ∙ scripts_stop_again names xs t more (done ++ script_of names x ∷ []) (f + 1) place known.1 u ∙ ap (λ (g : ℕ). Err (UnknownTask, g, 3 + length t.tasks + place)) (omega arith)
 
 not_zero : (n : ℕ) → 1 ≤ n → eqb n 0 ≡ false

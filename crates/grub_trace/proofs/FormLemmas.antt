@@ -8,10 +8,12 @@ use Rattle.std.specs.Cmp.Lexicographic.{bytes_decides}
 use Rattle.std.proofs.lemmas.List.Splits.{join_with_byte-slice_split}
 use Rattle.std.proofs.lemmas.Bool.Decides.{nat_tests}
 use Rattle.std.proofs.lemmas.Fmt.{decimal-digits_value}
+use Rattle.grub_trace.specs.declared.version.Version.{Version}
+use Rattle.grub_trace.specs.declared.version.Version.TheVariants.{One, Two}
 use Rattle.grub_trace.specs.declared.form.Verb.{Verb}
 use Rattle.grub_trace.specs.declared.form.Verb.TheVariants.{Join, Wake, Block, Leave, Exit}
-use Rattle.grub_trace.specs.Tree.{Declaration, Deed, does, runs, reads, Moment, verb_word, declaration_words, moment_words, deed_words, is_name}
-use Rattle.grub_trace.specs.Faults.{Form, queue, task, does_at, runs_at, reads_at, words_of, form_of, verb_of, is_named, is_number, value}
+use Rattle.grub_trace.specs.Tree.{Declaration, Deed, does, runs, retunes, reads, Happening, verb_word, header, declaration_words, happening_words, deed_words, is_name}
+use Rattle.grub_trace.specs.Faults.{Form, queue, task, does_at, runs_at, retunes_at, reads_at, words_of, form_of, verb_of, version_of, is_named, is_number, value}
 use Rattle.grub_trace.proofs.NumberLemmas.{numerals}
 
 pub both : (a b : Bool) → (a && b) ≡ true → (a ≡ true) × (b ≡ true)
@@ -23,6 +25,7 @@ form_words (queue a b) = codes "queue" ∷ a ∷ b ∷ []
 form_words (task n q p) = codes "task" ∷ n ∷ q ∷ p ∷ []
 form_words (does_at m v n) = codes "at" ∷ m ∷ verb_word v ∷ n ∷ []
 form_words (runs_at m n d) = codes "at" ∷ m ∷ codes "run" ∷ n ∷ d ∷ []
+form_words (retunes_at m n q p) = codes "at" ∷ m ∷ codes "retune" ∷ n ∷ q ∷ p ∷ []
 form_words (reads_at m) = codes "at" ∷ m ∷ codes "read" ∷ []
 
 abbrev pub IsForm : List (List ℕ) → Form → Type 0
@@ -107,7 +110,31 @@ form_is (k ∷ a ∷ b ∷ c ∷ d ∷ []) f e =
     let q = both (bytes_eq k (codes "at")) (bytes_eq b (codes "run")) p.0 in
     subst (IsForm (k ∷ a ∷ b ∷ c ∷ d ∷ [])) h.1
     (ap (λ (w : List ℕ). w ∷ a ∷ b ∷ c ∷ d ∷ []) (text_is k (codes "at") q.0) ∙ ap (λ (w : List ℕ). codes "at" ∷ a ∷ w ∷ c ∷ d ∷ []) (text_is b (codes "run") q.1), p.1)
-form_is (k ∷ a ∷ b ∷ c ∷ d ∷ x ∷ xs) f e = absurd cc
+form_is (k ∷ a ∷ b ∷ c ∷ d ∷ x ∷ []) f e =
+    let h = five (bytes_eq k (codes "at") && bytes_eq b (codes "retune") && is_name c) (retunes_at a c d x) f e in
+    let p = both (bytes_eq k (codes "at") && bytes_eq b (codes "retune")) (is_name c) h.0 in
+    let q = both (bytes_eq k (codes "at")) (bytes_eq b (codes "retune")) p.0 in
+    subst (IsForm (k ∷ a ∷ b ∷ c ∷ d ∷ x ∷ [])) h.1
+    (ap (λ (w : List ℕ). w ∷ a ∷ b ∷ c ∷ d ∷ x ∷ []) (text_is k (codes "at") q.0) ∙ ap (λ (w : List ℕ). codes "at" ∷ a ∷ w ∷ c ∷ d ∷ x ∷ []) (text_is b (codes "retune") q.1), p.1)
+form_is (k ∷ a ∷ b ∷ c ∷ d ∷ x ∷ y ∷ ys) f e = absurd cc
+
+-- ---- the first line
+
+version_from : (a b : Bool) (v : Version) → cond a (Some One) (cond b (Some Two) None) ≡ Some v → ((a ≡ true) × (One ≡ v)) ⊎ ((b ≡ true) × (Two ≡ v))
+version_from true b v e = inl (refl, cc)
+version_from false true v e = inr (refl, cc)
+version_from false false v e = absurd cc
+
+pub version_is : (l : List ℕ) (v : Version) → version_of l ≡ Some v → l ≡ header v
+version_is l v e =
+    elim (version_from (bytes_eq l (header One)) (bytes_eq l (header Two)) v e) [
+      | inl h ↦ text_is l (header One) h.0 ∙ ap header h.1
+      | inr h ↦ text_is l (header Two) h.0 ∙ ap header h.1
+    ]
+
+pub version_again : (v : Version) → version_of (header v) ≡ Some v
+version_again One = refl
+version_again Two = refl
 
 -- ---- numbers
 

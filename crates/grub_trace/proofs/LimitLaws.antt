@@ -10,12 +10,13 @@ use Rattle.std.proofs.lemmas.List.{length-append, length-map}
 use Rattle.grub_bw.specs.Bandwidth.{Reservation, Capacity, IsReservation, IsCapacity}
 use Rattle.grub_book.specs.Machine.{IsMachine}
 use Rattle.std.proofs.lemmas.Bool.Decides.{nat_tests}
+use Rattle.grub_trace.specs.declared.version.Version.{Version}
 use Rattle.grub_trace.specs.declared.form.Verb.{Verb}
 use Rattle.grub_trace.specs.declared.form.Verb.TheVariants.{Join, Wake, Block, Leave, Exit}
 use Rattle.grub_trace.specs.declared.line.Line.{Line}
 use Rattle.grub_trace.specs.declared.line.Act.{Act}
 use Rattle.grub_trace.specs.declared.line.Act.TheVariants as act
-use Rattle.grub_trace.specs.Tree.{Declaration, Deed, does, runs, reads, Moment, Tree, names_of, params_of, is_span, is_moment, text}
+use Rattle.grub_trace.specs.Tree.{Declaration, Deed, does, runs, retunes, reads, Happening, Tree, names_of, params_of, is_span, is_moment, text}
 use Rattle.grub_trace.specs.Faults.{task_of}
 use Rattle.grub_trace.specs.Plans.{PlanView}
 use Rattle.grub_trace.specs.Naming.{line_in, act_in, act_of, script_of, all_tasks, plan_of}
@@ -51,21 +52,22 @@ span_is d h = (grind (arith, nat_tests), grind (arith, nat_tests))
 moment_is : (m : ℕ) → is_moment m ≡ true → m < 2 ^ 31
 moment_is m h = grind (arith, nat_tests)
 
-deed_fits : (names : List (List ℕ)) (d : Deed) (a : Act) → IsDeed d → act_in names d ≡ Some a → ActFits (length names) a
-deed_fits names (does v n) a is e = let m = mapped (act_of v) (task_of names n) a e in subst (ActFits (length names)) m.2 (act_fits v (length names) m.0 (place_below names n m.0 m.1))
-deed_fits names (runs n s) a is e = let m = mapped (λ t. act.Run t s) (task_of names n) a e in subst (ActFits (length names)) m.2 (let s = span_is s is.1 in (place_below names n m.0 m.1, s.0, s.1))
-deed_fits names reads a is e = let h : act.Read ≡ a = cc in subst (ActFits (length names)) h tt
+deed_fits : (version : Version) (names : List (List ℕ)) (d : Deed) (a : Act) → IsDeed version d → act_in names d ≡ Some a → ActFits (length names) a
+deed_fits version names (does v n) a is e = let m = mapped (act_of v) (task_of names n) a e in subst (ActFits (length names)) m.2 (act_fits v (length names) m.0 (place_below names n m.0 m.1))
+deed_fits version names (runs n s) a is e = let m = mapped (λ t. act.Run t s) (task_of names n) a e in subst (ActFits (length names)) m.2 (let s = span_is s is.1 in (place_below names n m.0 m.1, s.0, s.1))
+deed_fits version names (retunes n p) a is e = let m = mapped (λ t. act.Retune t p.runtime p.period) (task_of names n) a e in subst (ActFits (length names)) m.2 (place_below names n m.0 m.1, is.1)
+deed_fits version names reads a is e = let h : act.Read ≡ a = cc in subst (ActFits (length names)) h tt
 
-abbrev at_moment : Moment → Act → Line
+abbrev at_moment : Happening → Act → Line
 at_moment m a = record { m = m.at; act = a }
 
-script_fits : (names : List (List ℕ)) (ms : List Moment) (low : ℕ) → GoOn low ms → AreKnown names ms → ScriptFits (length names) low (filter_map (line_in names) ms)
-script_fits names [] low on known = tt
-script_fits names (m ∷ ms) low on known = go (act_in names m.deed) refl known.0 (script_fits names ms m.at on.1 known.1)
+script_fits : (version : Version) (names : List (List ℕ)) (ms : List Happening) (low : ℕ) → GoOn version low ms → AreKnown names ms → ScriptFits (length names) low (filter_map (line_in names) ms)
+script_fits version names [] low on known = tt
+script_fits version names (m ∷ ms) low on known = go (act_in names m.deed) refl known.0 (script_fits version names ms m.at on.1 known.1)
   where
     go : (o : Option Act) → act_in names m.deed ≡ o → IsSome (option_map (at_moment m) o) → ScriptFits (length names) m.at (filter_map (line_in names) ms) → ScriptFits (length names) low (cons_option (option_map (at_moment m) o) (filter_map (line_in names) ms))
     go None e some rest = absurd cc
-    go (Some a) e some rest = (on.0.after, moment_is m.at on.0.within, deed_fits names m.deed a on.0.deed e, rest)
+    go (Some a) e some rest = (on.0.after, moment_is m.at on.0.within, deed_fits version names m.deed a on.0.deed e, rest)
 
 few_declared : (ds : List Declaration) (names : List (List ℕ)) → length names ≤ 256 → AreDeclared names ds → length names + length ds ≤ 256
 few_declared [] names few are = omega arith
@@ -95,9 +97,9 @@ queues_fit : (ts : List Tree) (names : List (List ℕ)) → AreTrees names ts �
 queues_fit [] names are = tt
 queues_fit (t ∷ ts) names are = (are.0.queue, queues_fit ts (names ++ names_of t.tasks) are.1)
 
-scripts_fit : (all : List (List ℕ)) (ts : List Tree) (names : List (List ℕ)) → AreTrees names ts → AllByRecursion (λ (t : Tree). AreKnown all t.moments) ts → AllByRecursion (ScriptFits (length all) 0) (map (script_of all) ts)
+scripts_fit : (all : List (List ℕ)) (ts : List Tree) (names : List (List ℕ)) → AreTrees names ts → AllByRecursion (λ (t : Tree). AreKnown all t.happenings) ts → AllByRecursion (ScriptFits (length all) 0) (map (script_of all) ts)
 scripts_fit all [] names are known = tt
-scripts_fit all (t ∷ ts) names are known = (script_fits all t.moments 0 are.0.moments known.0, scripts_fit all ts (names ++ names_of t.tasks) are.1 known.1)
+scripts_fit all (t ∷ ts) names are known = (script_fits t.version all t.happenings 0 are.0.happenings known.0, scripts_fit all ts (names ++ names_of t.tasks) are.1 known.1)
 
 pub plan_fits : (files : List (List ℕ)) (ts : List Tree) → Reads files ts → PlanFits (plan_of ts)
 plan_fits files ts is =

@@ -1,12 +1,13 @@
 -- Reading lines one after the other.
-use Rattle.std.proofs.Common.{◌≡◌, ℕ, Bool, true, false, ◌+◌, ◌≤◌, ◌<◌, List, [], ◌∷◌, length, Result, Ok, Err, refl, sym, ap, ◌∙◌, arith, rules, cond, not, eqb, subst}
+use Rattle.std.proofs.Common.{◌≡◌, ℕ, Bool, true, false, ◌+◌, ◌≤◌, ◌<◌, List, [], ◌∷◌, length, Result, Ok, Err, refl, sym, ap, ◌∙◌, arith, rules, cond, not, ◌&&◌, eqb, subst}
 use Rattle.grub_bw.specs.Bandwidth.{Capacity}
+use Rattle.grub_trace.specs.declared.version.Version.{Version}
 use Rattle.grub_trace.specs.declared.fault.Kind.{Kind}
-use Rattle.grub_trace.specs.declared.fault.Kind.TheVariants.{CutShort, BadHeader}
+use Rattle.grub_trace.specs.declared.fault.Kind.TheVariants.{CutShort, BadHeader, BadLine, BadNumber, OutOfRange, MomentGoesBack}
 use Rattle.grub_trace.specs.declared.fault.Stop.{Stop}
 use Rattle.grub_trace.specs.declared.fault.Stop.TheVariants as stop
 use Rattle.grub_trace.specs.Halts.{halt_of}
-use Rattle.grub_trace.specs.Reading.{Read, FileRead, Gives, read_queue, read_second, read_first, read_file, unless, adds, take_option, times_of, read_lines, take_line, at_line, ◌>>=◌, Stops, Halts}
+use Rattle.grub_trace.specs.Reading.{Read, FileRead, Gives, read_queue, read_second, read_first, read_as, read_file, file_from, opened, unless, adds, take_option, times_of, read_lines, take_line, at_line, ◌>>=◌, Stops, Halts, two_fault, IsRun, IsRetune, take_form}
 use Rattle.grub_trace.specs.Meaning.{parts_of}
 use Rattle.std.proofs.Common.{◌-◌, Option, Some, None, codes}
 use Rattle.std.proofs.lemmas.List.{length_push}
@@ -15,8 +16,8 @@ use Rattle.std.proofs.lemmas.List.Sums.{count_by-le-length}
 use Rattle.std.specs.Str.{bytes_eq}
 use Rattle.grub_trace.specs.declared.fault.Halt.{Halt}
 use Rattle.grub_trace.specs.declared.fault.Halt.TheVariants as halt
-use Rattle.grub_trace.specs.Tree.{Declaration, Moment, Deed, does, runs, reads, names_of}
-use Rattle.grub_trace.specs.Faults.{Form, queue, task, does_at, runs_at, reads_at, words_of, form_of, form_fault, is_allowed, value, reservation_value}
+use Rattle.grub_trace.specs.Tree.{Declaration, Happening, Deed, does, runs, retunes, reads, names_of, is_moment, is_span, may_retune}
+use Rattle.grub_trace.specs.Faults.{Form, queue, task, does_at, runs_at, retunes_at, reads_at, words_of, form_of, form_fault, is_allowed, is_number, is_timely, version_of, reservation_fits, value, reservation_value}
 use Rattle.grub_trace.proofs.WordLemmas.{has_part}
 
 pub lines_step : (r : Read) (n : ℕ) (line rest : List ℕ) → read_lines r n (line ∷ parts_of rest) ≡ (at_line n (take_line r line) >>= λ s. read_lines s (n + 1) (parts_of rest))
@@ -50,18 +51,19 @@ unless_ok : {X : Type 0} (o : Option Kind) (x y : X) → unless o x ≡ Ok y →
 unless_ok None x y e = (refl, cc)
 unless_ok (Some k) x y e = absurd cc
 
-pub taken : (r s : Read) (line : List ℕ) → take_line r line ≡ Ok s → (f : Form) × (form_of (words_of line) ≡ Some f) × (form_fault (names_of r.declared) (times_of r.moments) f ≡ None) × (adds f r ≡ s)
+pub taken : (r s : Read) (line : List ℕ) → take_line r line ≡ Ok s → (f : Form) × (form_of (words_of line) ≡ Some f) × (form_fault r.version (names_of r.declared) (times_of r.happenings) f ≡ None) × (adds f r ≡ s)
 taken r s line e = go (form_of (words_of line)) refl e
   where
-    go : (o : Option Form) → form_of (words_of line) ≡ o → take_option r o ≡ Ok s → (f : Form) × (form_of (words_of line) ≡ Some f) × (form_fault (names_of r.declared) (times_of r.moments) f ≡ None) × (adds f r ≡ s)
+    go : (o : Option Form) → form_of (words_of line) ≡ o → take_option r o ≡ Ok s → (f : Form) × (form_of (words_of line) ≡ Some f) × (form_fault r.version (names_of r.declared) (times_of r.happenings) f ≡ None) × (adds f r ≡ s)
     go None is t = absurd cc
-    go (Some f) is t = let k = unless_ok (form_fault (names_of r.declared) (times_of r.moments) f) (adds f r) s t in (f, is, k.0, k.1)
+    go (Some f) is t = let k = unless_ok (form_fault r.version (names_of r.declared) (times_of r.happenings) f) (adds f r) s t in (f, is, k.0, k.1)
 
 adds_grows : (f : Form) (r : Read) → length r.declared ≤ length (adds f r).declared
 adds_grows (queue a b) r = omega arith
 adds_grows (task n q p) r = omega (arith, length_push r.declared (record { name = n; params = reservation_value q p }))
 adds_grows (does_at m v n) r = omega arith
 adds_grows (runs_at m n d) r = omega arith
+adds_grows (retunes_at m n q p) r = omega arith
 adds_grows (reads_at m) r = omega arith
 
 pub bind_ok : {A B E : Type 0} (r : Result A E) (f : A → Result B E) (y : B) → (r >>= f) ≡ Ok y → (x : A) × (r ≡ Ok x) × (f x ≡ Ok y)
@@ -89,55 +91,59 @@ lines_grow (line ∷ next ∷ more) r s n e =
 
 -- ---- the first two lines
 
-queue_then : List Declaration → List ℕ → List (List ℕ) → Result FileRead (Kind × ℕ)
-queue_then ds line parts = at_line 2 (read_queue line) >>= λ q. read_lines (record { declared = ds; moments = [] }) 3 parts >>= λ r. Ok (record { queue = q; first = 3 + (length r.declared - length ds); read = r })
+queue_then : Version → List Declaration → List ℕ → List (List ℕ) → Result FileRead (Kind × ℕ)
+queue_then version ds line parts = at_line 2 (read_queue line) >>= λ q. read_lines (opened version ds) 3 parts >>= λ r. Ok (file_from q (3 + (length r.declared - length ds)) r)
 
-second_step : (ds : List Declaration) (line rest : List ℕ) → read_second ds (line ∷ parts_of rest) ≡ queue_then ds line (parts_of rest)
+second_step : (version : Version) (ds : List Declaration) (line rest : List ℕ) → read_second version ds (line ∷ parts_of rest) ≡ queue_then version ds line (parts_of rest)
 unfolding read_second queue_then
-second_step ds line rest = let h = has_part (λ b. eqb b 10) rest in rw (h.2) refl
+second_step version ds line rest = let h = has_part (λ b. eqb b 10) rest in rw (h.2) refl
 
-pub second_err : (ds : List Declaration) (text line rest : List ℕ) (k : Kind) → parts_of text ≡ line ∷ parts_of rest → read_queue line ≡ Err k → read_second ds (parts_of text) ≡ Err (k, 2)
+pub second_err : (version : Version) (ds : List Declaration) (text line rest : List ℕ) (k : Kind) → parts_of text ≡ line ∷ parts_of rest → read_queue line ≡ Err k → read_second version ds (parts_of text) ≡ Err (k, 2)
 unfolding queue_then
-second_err ds text line rest k parts q = ap (read_second ds) parts ∙ second_step ds line rest ∙ rw q refl
+second_err version ds text line rest k parts q = ap (read_second version ds) parts ∙ second_step version ds line rest ∙ rw q refl
 
-pub second_halts : (e : Halt) (ds : List Declaration) (text line rest : List ℕ) (q : Capacity) → parts_of text ≡ line ∷ parts_of rest → read_queue line ≡ Ok q → Halts e (read_lines (record { declared = ds; moments = [] }) 3 (parts_of rest)) → Halts e (read_second ds (parts_of text))
+pub second_halts : (e : Halt) (version : Version) (ds : List Declaration) (text line rest : List ℕ) (q : Capacity) → parts_of text ≡ line ∷ parts_of rest → read_queue line ≡ Ok q → Halts e (read_lines (opened version ds) 3 (parts_of rest)) → Halts e (read_second version ds (parts_of text))
 unfolding queue_then
-second_halts halt.Memory ds text line rest q parts is h = tt
-second_halts (halt.At k n) ds text line rest q parts is h = ap (read_second ds) parts ∙ second_step ds line rest ∙ rw (is, h) refl
+second_halts halt.Memory version ds text line rest q parts is h = tt
+second_halts (halt.At k n) version ds text line rest q parts is h = ap (read_second version ds) parts ∙ second_step version ds line rest ∙ rw (is, h) refl
 
-pub second_ok : (ds : List Declaration) (text line rest : List ℕ) (q : Capacity) (r : Read) → parts_of text ≡ line ∷ parts_of rest → read_queue line ≡ Ok q → read_lines (record { declared = ds; moments = [] }) 3 (parts_of rest) ≡ Ok r
-    → read_second ds (parts_of text) ≡ Ok (record { queue = q; first = 3 + (length r.declared - length ds); read = r })
+pub second_ok : (version : Version) (ds : List Declaration) (text line rest : List ℕ) (q : Capacity) (r : Read) → parts_of text ≡ line ∷ parts_of rest → read_queue line ≡ Ok q → read_lines (opened version ds) 3 (parts_of rest) ≡ Ok r
+    → read_second version ds (parts_of text) ≡ Ok (file_from q (3 + (length r.declared - length ds)) r)
 unfolding queue_then
-second_ok ds text line rest q r parts is h = ap (read_second ds) parts ∙ second_step ds line rest ∙ rw (is, h) refl
+second_ok version ds text line rest q r parts is h = ap (read_second version ds) parts ∙ second_step version ds line rest ∙ rw (is, h) refl
 
-pub first_step : (ds : List Declaration) (text line rest : List ℕ) → parts_of text ≡ line ∷ parts_of rest → read_file ds text ≡ cond (bytes_eq line (codes "grub 1")) (read_second ds (parts_of rest)) (Err (BadHeader, 1))
+pub first_step : (ds : List Declaration) (text line rest : List ℕ) → parts_of text ≡ line ∷ parts_of rest → read_file ds text ≡ read_as (version_of line) ds (parts_of rest)
 unfolding read_file read_first
 first_step ds text line rest parts = let h = has_part (λ b. eqb b 10) rest in ap (read_first ds) parts ∙ rw (h.2) refl
 
-pub gives_first : {U : Type 0} (r : Result U Halt) (view : U → FileRead) (ds : List Declaration) (text line rest : List ℕ) → parts_of text ≡ line ∷ parts_of rest → bytes_eq line (codes "grub 1") ≡ true → Gives r view (read_second ds (parts_of rest)) → Gives r view (read_file ds text)
-gives_first r view ds text line rest parts good h = subst (λ (x : Result FileRead (Kind × ℕ)). Gives r view x) (sym (first_step ds text line rest parts ∙ rw good refl)) h
+pub first_known : (version : Version) (ds : List Declaration) (text line rest : List ℕ) → parts_of text ≡ line ∷ parts_of rest → version_of line ≡ Some version → read_file ds text ≡ read_second version ds (parts_of rest)
+first_known version ds text line rest parts known = first_step ds text line rest parts ∙ ap (λ (o : Option Version). read_as o ds (parts_of rest)) known
 
-pub header_err : (ds : List Declaration) (text line rest : List ℕ) → parts_of text ≡ line ∷ parts_of rest → bytes_eq line (codes "grub 1") ≡ false → read_file ds text ≡ Err (BadHeader, 1)
-header_err ds text line rest parts bad = first_step ds text line rest parts ∙ rw bad refl
+pub gives_first : {U : Type 0} (r : Result U Halt) (view : U → FileRead) (version : Version) (ds : List Declaration) (text line rest : List ℕ) → parts_of text ≡ line ∷ parts_of rest → version_of line ≡ Some version → Gives r view (read_second version ds (parts_of rest)) → Gives r view (read_file ds text)
+gives_first r view version ds text line rest parts known h = subst (λ (x : Result FileRead (Kind × ℕ)). Gives r view x) (sym (first_known version ds text line rest parts known)) h
 
-pub second_view : (ds : List Declaration) (text line rest : List ℕ) (q : Capacity) (r : Read) (k : ℕ) → parts_of text ≡ line ∷ parts_of rest → read_queue line ≡ Ok q → read_lines (record { declared = ds; moments = [] }) 3 (parts_of rest) ≡ Ok r
-    → k ≡ 3 + (length r.declared - length ds) → read_second ds (parts_of text) ≡ Ok (record { queue = q; first = k; read = r })
-second_view ds text line rest q r k parts is h e = second_ok ds text line rest q r parts is h ∙ ap (λ (n : ℕ). Ok (record { queue = q; first = n; read = r })) (sym e)
+pub header_err : (ds : List Declaration) (text line rest : List ℕ) → parts_of text ≡ line ∷ parts_of rest → version_of line ≡ None → read_file ds text ≡ Err (BadHeader, 1)
+header_err ds text line rest parts unknown = first_step ds text line rest parts ∙ ap (λ (o : Option Version). read_as o ds (parts_of rest)) unknown
+
+pub second_view : (version : Version) (ds : List Declaration) (text line rest : List ℕ) (q : Capacity) (r : Read) (k : ℕ) → parts_of text ≡ line ∷ parts_of rest → read_queue line ≡ Ok q → read_lines (opened version ds) 3 (parts_of rest) ≡ Ok r
+    → k ≡ 3 + (length r.declared - length ds) → read_second version ds (parts_of text) ≡ Ok (file_from q (k) r)
+second_view version ds text line rest q r k parts is h e = second_ok version ds text line rest q r parts is h ∙ ap (λ (n : ℕ). Ok (file_from q (n) r)) (sym e)
 
 -- ---- each line is a declaration or a moment
 
-adds_one : (f : Form) (r : Read) (moments : List ℕ) → is_allowed moments f ≡ true → length (adds f r).declared + length (adds f r).moments ≡ length r.declared + length r.moments + 1
+adds_one : (f : Form) (r : Read) (moments : List ℕ) → is_allowed r.version moments f ≡ true → length (adds f r).declared + length (adds f r).happenings ≡ length r.declared + length r.happenings + 1
 adds_one (queue a b) r moments h = absurd cc
 adds_one (task n q p) r moments h = omega (arith, length_push r.declared (record { name = n; params = reservation_value q p }))
-adds_one (does_at m v n) r moments h = omega (arith, length_push r.moments (record { at = value m; deed = does v n }))
-adds_one (runs_at m n d) r moments h = omega (arith, length_push r.moments (record { at = value m; deed = runs n (value d) }))
-adds_one (reads_at m) r moments h = omega (arith, length_push r.moments (record { at = value m; deed = reads }))
+adds_one (does_at m v n) r moments h = omega (arith, length_push r.happenings (record { at = value m; deed = does v n }))
+adds_one (runs_at m n d) r moments h = omega (arith, length_push r.happenings (record { at = value m; deed = runs n (value d) }))
+adds_one (retunes_at m n q p) r moments h = omega (arith, length_push r.happenings (record { at = value m; deed = retunes n (reservation_value q p) }))
+adds_one (reads_at m) r moments h = omega (arith, length_push r.happenings (record { at = value m; deed = reads }))
 
 pub none_if : (b : Bool) (k : Kind) (o : Option Kind) → cond (not b) (Some k) o ≡ None → (b ≡ true) × (o ≡ None)
 none_if true k o e = (refl, e)
 none_if false k o e = absurd cc
 
-pub lines_count : (parts : List (List ℕ)) (r s : Read) (n : ℕ) → 0 < length parts → read_lines r n parts ≡ Ok s → length s.declared + length s.moments + 1 ≡ length r.declared + length r.moments + length parts
+pub lines_count : (parts : List (List ℕ)) (r s : Read) (n : ℕ) → 0 < length parts → read_lines r n parts ≡ Ok s → length s.declared + length s.happenings + 1 ≡ length r.declared + length r.happenings + length parts
 unfolding read_lines
 lines_count [] r s n some e = absurd (omega arith)
 lines_count (line ∷ []) r s n some e = let h = cond_ok (eqb (length line) 0) r s (CutShort, n) e in rw h.1 refl
@@ -146,15 +152,53 @@ lines_count (line ∷ next ∷ more) r s n some e =
     let t = taken r a.0 line (at_line_ok n _ _ a.1) in
     let rest = lines_count (next ∷ more) a.0 s (n + 1) (omega arith) a.2 in
     let allowed = (none_if _ _ _ t.2).0 in
-    let g : length a.0.declared + length a.0.moments ≡ length r.declared + length r.moments + 1 = subst (λ (u : Read). length u.declared + length u.moments ≡ length r.declared + length r.moments + 1) t.3 (adds_one t.0 r (times_of r.moments) allowed) in
+    let g : length a.0.declared + length a.0.happenings ≡ length r.declared + length r.happenings + 1 = subst (λ (u : Read). length u.declared + length u.happenings ≡ length r.declared + length r.happenings + 1) t.3 (adds_one t.0 r (times_of r.happenings) allowed) in
     omega (arith, rest, g)
 
 pub parts_fit : (text : List ℕ) → length (parts_of text) ≤ length text + 1
 parts_fit text = omega (arith, length-slice_split (λ b. eqb b 10) text, count_by-le-length (λ b. eqb b 10) text)
 
-pub first_fits : (ds : List Declaration) (s : Read) (text : List ℕ) (k : ℕ) → read_lines (record { declared = ds; moments = [] }) 3 (parts_of text) ≡ Ok s → k ≡ 3 + (length s.declared - length ds) → k + length s.moments ≤ 3 + length text
-first_fits ds s text k e is =
+pub first_fits : (version : Version) (ds : List Declaration) (s : Read) (text : List ℕ) (k : ℕ) → read_lines (opened version ds) 3 (parts_of text) ≡ Ok s → k ≡ 3 + (length s.declared - length ds) → k + length s.happenings ≤ 3 + length text
+first_fits version ds s text k e is =
     let c = has_part (λ b. eqb b 10) text in
     let some : 0 < length (parts_of text) = subst (λ (ps : List (List ℕ)). 0 < length ps) (sym c.2) (omega arith) in
-    let count = lines_count (parts_of text) (record { declared = ds; moments = [] }) s 3 some e in
+    let count = lines_count (parts_of text) (opened version ds) s 3 some e in
     omega (arith, count, lines_grow _ _ _ 3 e, parts_fit text)
+
+-- ---- lines with two or three numbers
+
+fault_from : (s w : Bool) (o : Option Kind) (k : Kind) → two_fault s w ≡ Some k → cond (not s) (Some BadNumber) (cond (not w) (Some OutOfRange) o) ≡ Some k
+fault_from false w o k h = h
+fault_from true false o k h = h
+fault_from true true o k h = absurd cc
+
+all_two : (a b : Bool) → (a && (b && true)) ≡ (a && b)
+all_two true true = refl
+all_two true false = refl
+all_two false b = refl
+
+all_three : (a b c : Bool) → (a && (b && (c && true))) ≡ (a && b && c)
+all_three true b c = all_two b c
+all_three false b c = refl
+
+pub run_stops : (e : Stop) (r : Read) (m n d : List ℕ) → IsRun (Err e) m d → Stops e (take_form r (runs_at m n d))
+run_stops stop.Memory r m n d h = tt
+run_stops (stop.Fault k) r m n d h =
+    let f = runs_at m n d in
+    let late = cond (not (is_timely (times_of r.happenings) f)) (Some MomentGoesBack) None in
+    let within = is_moment (value m) && is_span (value d) in
+    let fault : form_fault r.version (names_of r.declared) (times_of r.happenings) f ≡ Some k =
+    ap (λ (s : Bool). cond (not s) (Some BadNumber) (cond (not within) (Some OutOfRange) late)) (all_two (is_number m) (is_number d)) ∙ fault_from (is_number m && is_number d) within late k h in
+    ap (λ (o : Option Kind). unless o (adds f r)) fault
+
+pub retune_stops : (e : Stop) (r : Read) (m n q p : List ℕ) → may_retune r.version ≡ true → IsRetune (Err e) m q p → Stops e (take_form r (retunes_at m n q p))
+retune_stops stop.Memory r m n q p may h = tt
+retune_stops (stop.Fault k) r m n q p may h =
+    let f = retunes_at m n q p in
+    let late = cond (not (is_timely (times_of r.happenings) f)) (Some MomentGoesBack) None in
+    let within = is_moment (value m) && reservation_fits (reservation_value q p) in
+    let fault : form_fault r.version (names_of r.declared) (times_of r.happenings) f ≡ Some k =
+    ap (λ (b : Bool). cond (not b) (Some BadLine) (cond (not (is_number m && (is_number q && (is_number p && true)))) (Some BadNumber) (cond (not within) (Some OutOfRange) late))) may
+    ∙ ap (λ (s : Bool). cond (not s) (Some BadNumber) (cond (not within) (Some OutOfRange) late)) (all_three (is_number m) (is_number q) (is_number p))
+    ∙ fault_from (is_number m && is_number q && is_number p) within late k h in
+    ap (λ (o : Option Kind). unless o (adds f r)) fault

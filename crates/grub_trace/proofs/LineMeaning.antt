@@ -8,12 +8,13 @@ use Rattle.std.proofs.lemmas.Bool.Decides.{nat_tests}
 use Rattle.std.proofs.lemmas.Bool.{eqb-true, ltb-true}
 use Rattle.grub_bw.specs.Bandwidth.{Reservation, IsReservation}
 use Rattle.grub_trace.proofs.LimitTests.{reservation_is}
+use Rattle.grub_trace.specs.declared.version.Version.{Version}
 use Rattle.grub_trace.specs.declared.fault.Kind.{Kind}
 use Rattle.grub_trace.specs.declared.fault.Kind.TheVariants.{BadLine, BadNumber, OutOfRange, DuplicateTask, MomentGoesBack}
-use Rattle.grub_trace.specs.Tree.{Declaration, Deed, does, runs, reads, Moment, declaration_words, moment_words, is_name, is_moment, is_span, names_of, verb_word}
-use Rattle.grub_trace.specs.Faults.{Form, queue, task, does_at, runs_at, reads_at, words_of, form_of, form_fault, is_named, is_number, value, task_of, last_of, is_allowed, is_in_range, is_fresh, is_timely, numbers_of, reservation_fits, reservation_value}
+use Rattle.grub_trace.specs.Tree.{Declaration, Deed, does, runs, retunes, reads, Happening, declaration_words, happening_words, is_name, is_moment, is_span, names_of, verb_word}
+use Rattle.grub_trace.specs.Faults.{Form, queue, task, does_at, runs_at, retunes_at, reads_at, words_of, form_of, form_fault, is_named, is_number, value, task_of, last_of, is_allowed, is_in_range, is_fresh, is_timely, numbers_of, reservation_fits, reservation_value}
 use Rattle.grub_trace.specs.Reading.{Read, take_line, declares, says, adds, times_of}
-use Rattle.grub_trace.specs.Meaning.{IsDeclaration, IsMomentFrom, declaration_line, moment_line}
+use Rattle.grub_trace.specs.Meaning.{IsDeclaration, IsHappeningFrom, declaration_line, happening_line}
 use Rattle.grub_trace.proofs.FormLemmas.{form_is, form_words, number_is, both}
 use Rattle.grub_trace.proofs.LineLemmas.{taken, none_if}
 
@@ -21,26 +22,26 @@ pub record Declares (r : Read) (line : List ℕ) (s : Read) : Type 0 where
   pub declaration : Declaration
   pub is : IsDeclaration (names_of r.declared) declaration
   pub spelled : line ≡ declaration_line declaration
-  pub first : length r.moments ≡ 0
+  pub first : length r.happenings ≡ 0
   pub added : declares declaration r ≡ s
 
 pub record Says (r : Read) (line : List ℕ) (s : Read) : Type 0 where
-  pub moment : Moment
-  pub is : IsMomentFrom (last_of (times_of r.moments)) moment
-  pub spelled : line ≡ moment_line moment
-  pub added : says moment.at moment.deed r ≡ s
+  pub happening : Happening
+  pub is : IsHappeningFrom r.version (last_of (times_of r.happenings)) happening
+  pub spelled : line ≡ happening_line happening
+  pub added : says happening.at happening.deed r ≡ s
 
 -- the tests that a form without a fault passes
-pub record Passes (names : List (List ℕ)) (moments : List ℕ) (f : Form) : Type 0 where
-  pub allowed : is_allowed moments f ≡ true
+pub record Passes (version : Version) (names : List (List ℕ)) (moments : List ℕ) (f : Form) : Type 0 where
+  pub allowed : is_allowed version moments f ≡ true
   pub spelled : list_all is_number (numbers_of f) ≡ true
   pub in_range : is_in_range (length names) f ≡ true
   pub fresh : is_fresh names f ≡ true
   pub timely : is_timely moments f ≡ true
 
-pub passes : (names : List (List ℕ)) (moments : List ℕ) (f : Form) → form_fault names moments f ≡ None → Passes names moments f
-passes names moments f e =
-    let a = none_if (is_allowed moments f) BadLine _ e in
+pub passes : (version : Version) (names : List (List ℕ)) (moments : List ℕ) (f : Form) → form_fault version names moments f ≡ None → Passes version names moments f
+passes version names moments f e =
+    let a = none_if (is_allowed version moments f) BadLine _ e in
     let b = none_if (list_all is_number (numbers_of f)) BadNumber _ a.1 in
     let c = none_if (is_in_range (length names) f) OutOfRange _ b.1 in
     let d = none_if (is_fresh names f) DuplicateTask _ c.1 in
@@ -69,7 +70,10 @@ one w h = (both (is_number w) true h).0
 pub two : (v w : List ℕ) → list_all is_number (v ∷ w ∷ []) ≡ true → (is_number v ≡ true) × (is_number w ≡ true)
 two v w h = let p = both (is_number v) (list_all is_number (w ∷ [])) h in (p.0, one w p.1)
 
-pub form_means : (r s : Read) (line : List ℕ) (f : Form) → line ≡ join_with_byte 32 (form_words f) → is_named f ≡ true → Passes (names_of r.declared) (times_of r.moments) f → adds f r ≡ s → Declares r line s ⊎ Says r line s
+three : (u v w : List ℕ) → list_all is_number (u ∷ v ∷ w ∷ []) ≡ true → (is_number u ≡ true) × (is_number v ≡ true) × (is_number w ≡ true)
+three u v w h = let p = both (is_number u) (list_all is_number (v ∷ w ∷ [])) h in let q = two v w p.1 in (p.0, q.0, q.1)
+
+pub form_means : (r s : Read) (line : List ℕ) (f : Form) → line ≡ join_with_byte 32 (form_words f) → is_named f ≡ true → Passes r.version (names_of r.declared) (times_of r.happenings) f → adds f r ≡ s → Declares r line s ⊎ Says r line s
 form_means r s line (queue a b) is name p e = absurd (let h = p.allowed in cc)
 form_means r s line (task n q p) is name t e =
     let w = two q p t.spelled in
@@ -81,12 +85,12 @@ form_means r s line (task n q p) is name t e =
       is = record { name = name; fits = fits; few = ltb-true _ _ x.0; fresh = no_task (task_of (names_of r.declared) n) t.fresh };
       spelled = is ∙ ap (λ (u : List ℕ). join_with_byte 32 (codes "task" ∷ n ∷ u ∷ p ∷ [])) (sym (number_is q w.0 small.0))
           ∙ ap (λ (u : List ℕ). join_with_byte 32 (codes "task" ∷ n ∷ decimal (value q) ∷ u ∷ [])) (sym (number_is p w.1 small.1));
-      first = sym (length-map r.moments (λ m. m.at)) ∙ eqb-true _ _ t.allowed;
+      first = sym (length-map r.happenings (λ m. m.at)) ∙ eqb-true _ _ t.allowed;
       added = e;
     })
 form_means r s line (does_at m v n) is name t e =
     inr (record {
-      moment = record { at = value m; deed = does v n };
+      happening = record { at = value m; deed = does v n };
       is = record { after = le_test _ _ t.timely; within = t.in_range; deed = name };
       spelled = is ∙ ap (λ (u : List ℕ). join_with_byte 32 (codes "at" ∷ u ∷ verb_word v ∷ n ∷ [])) (sym (number_is m (one m t.spelled) (small_moment (value m) t.in_range)));
       added = e;
@@ -95,15 +99,28 @@ form_means r s line (runs_at m n d) is name t e =
     let w = two m d t.spelled in
     let x = both (is_moment (value m)) (is_span (value d)) t.in_range in
     inr (record {
-      moment = record { at = value m; deed = runs n (value d) };
+      happening = record { at = value m; deed = runs n (value d) };
       is = record { after = le_test _ _ t.timely; within = x.0; deed = (name, x.1) };
       spelled = is ∙ ap (λ (u : List ℕ). join_with_byte 32 (codes "at" ∷ u ∷ codes "run" ∷ n ∷ d ∷ [])) (sym (number_is m w.0 (small_moment (value m) x.0)))
           ∙ ap (λ (u : List ℕ). join_with_byte 32 (codes "at" ∷ decimal (value m) ∷ codes "run" ∷ n ∷ u ∷ [])) (sym (number_is d w.1 (small_span (value d) x.1)));
       added = e;
     })
+form_means r s line (retunes_at m n q p) is name t e =
+    let w = three m q p t.spelled in
+    let x = both (is_moment (value m)) (reservation_fits (reservation_value q p)) t.in_range in
+    let fits = reservation_is (reservation_value q p) x.1 in
+    let small = small_period (reservation_value q p) fits in
+    inr (record {
+      happening = record { at = value m; deed = retunes n (reservation_value q p) };
+      is = record { after = le_test _ _ t.timely; within = x.0; deed = (name, fits, t.allowed) };
+      spelled = is ∙ ap (λ (u : List ℕ). join_with_byte 32 (codes "at" ∷ u ∷ codes "retune" ∷ n ∷ q ∷ p ∷ [])) (sym (number_is m w.0 (small_moment (value m) x.0)))
+          ∙ ap (λ (u : List ℕ). join_with_byte 32 (codes "at" ∷ decimal (value m) ∷ codes "retune" ∷ n ∷ u ∷ p ∷ [])) (sym (number_is q w.1 small.0))
+          ∙ ap (λ (u : List ℕ). join_with_byte 32 (codes "at" ∷ decimal (value m) ∷ codes "retune" ∷ n ∷ decimal (value q) ∷ u ∷ [])) (sym (number_is p w.2 small.1));
+      added = e;
+    })
 form_means r s line (reads_at m) is name t e =
     inr (record {
-      moment = record { at = value m; deed = reads };
+      happening = record { at = value m; deed = reads };
       is = record { after = le_test _ _ t.timely; within = t.in_range; deed = tt };
       spelled = is ∙ ap (λ (u : List ℕ). join_with_byte 32 (codes "at" ∷ u ∷ codes "read" ∷ [])) (sym (number_is m (one m t.spelled) (small_moment (value m) t.in_range)));
       added = e;
@@ -113,4 +130,4 @@ pub line_means : (r s : Read) (line : List ℕ) → take_line r line ≡ Ok s �
 line_means r s line e =
     let t = taken r s line e in
     let h = form_is (words_of line) t.0 t.1 in
-    form_means r s line t.0 (sym (join_with_byte-slice_split 32 line) ∙ ap (join_with_byte 32) h.0) h.1 (passes (names_of r.declared) (times_of r.moments) t.0 t.2) t.3
+    form_means r s line t.0 (sym (join_with_byte-slice_split 32 line) ∙ ap (join_with_byte 32) h.0) h.1 (passes r.version (names_of r.declared) (times_of r.happenings) t.0 t.2) t.3

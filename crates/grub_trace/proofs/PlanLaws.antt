@@ -8,7 +8,7 @@ use Rattle.grub_bw.specs.Bandwidth.{Capacity}
 use Rattle.grub_trace.specs.declared.fault.Kind.{Kind}
 use Rattle.grub_trace.specs.declared.fault.Kind.TheVariants.{UnknownTask, OutOfRange, MissingQueue}
 use Rattle.grub_trace.specs.declared.line.Line.{Line}
-use Rattle.grub_trace.specs.Tree.{Declaration, Moment, Tree, text, names_of}
+use Rattle.grub_trace.specs.Tree.{Declaration, Happening, Tree, text, names_of}
 use Rattle.grub_trace.specs.Plans.{PlanView}
 use Rattle.grub_trace.specs.Naming.{line_in, script_of, all_tasks, plan_of, plan_with}
 use Rattle.grub_trace.specs.Meaning.{IsTree, AreTrees, AreKnown, FileFault, UnknownIn, FirstFault, UnknownFault, IsFault, too_many, no_file, first, unknown, Reads}
@@ -19,7 +19,7 @@ use Rattle.grub_trace.proofs.FileLaws.{file_read, file_fault, FileIs}
 
 -- ---- names to numbers
 
-pub script_read : (names : List (List ℕ)) (ms : List Moment) (done s : List Line) (n : ℕ) → script_from names done n ms ≡ Ok s → (s ≡ done ++ filter_map (line_in names) ms) × AreKnown names ms
+pub script_read : (names : List (List ℕ)) (ms : List Happening) (done s : List Line) (n : ℕ) → script_from names done n ms ≡ Ok s → (s ≡ done ++ filter_map (line_in names) ms) × AreKnown names ms
 unfolding script_from
 script_read names [] done s n e = (let h : done ≡ s = cc in sym h ∙ sym (append-nil done), tt)
 script_read names (m ∷ more) done s n e = go (λ l h. script_read names more (done ++ l ∷ []) s (n + 1) h) (line_in names m) refl e
@@ -33,23 +33,23 @@ script_read names (m ∷ more) done s n e = go (λ l h. script_read names more (
           (subst (λ (o : Option Line). IsSome o) (sym is) refl, h.1),
         )
 
-pub script_stops : (names : List (List ℕ)) (ms : List Moment) (done : List Line) (n m : ℕ) → script_from names done n ms ≡ Err m → (place : ℕ) × UnknownIn names ms place × (m ≡ n + place)
+pub script_stops : (names : List (List ℕ)) (ms : List Happening) (done : List Line) (n m : ℕ) → script_from names done n ms ≡ Err m → (place : ℕ) × UnknownIn names ms place × (m ≡ n + place)
 unfolding script_from
 script_stops names [] done n m e = absurd cc
 script_stops names (x ∷ more) done n m e = go (λ l h. script_stops names more (done ++ l ∷ []) (n + 1) m h) (line_in names x) refl e
   where
     go : ((l : Line) → script_from names (done ++ l ∷ []) (n + 1) more ≡ Err m → (place : ℕ) × UnknownIn names more place × (m ≡ n + 1 + place))
         → (o : Option Line) → line_in names x ≡ o → (option_or_err n o >>= λ l. script_from names (done ++ l ∷ []) (n + 1) more) ≡ Err m → (place : ℕ) × UnknownIn names (x ∷ more) place × (m ≡ n + place)
-    go rest None is e = (0, record { before = []; moment = x; after = more; moments_are = refl; known = tt; unknown = is; line = refl }, let h : n ≡ m = cc in omega (arith, h))
+    go rest None is e = (0, record { before = []; happening = x; after = more; happenings_are = refl; known = tt; unknown = is; line = refl }, let h : n ≡ m = cc in omega (arith, h))
     go rest (Some l) is e =
         let h = rest l e in
         let u = h.1 in (
           suc h.0,
           record {
             before = x ∷ u.before;
-            moment = u.moment;
+            happening = u.happening;
             after = u.after;
-            moments_are = ap (λ (xs : List Moment). x ∷ xs) u.moments_are;
+            happenings_are = ap (λ (xs : List Happening). x ∷ xs) u.happenings_are;
             known = (subst (λ (o : Option Line). IsSome o) (sym is) refl, u.known);
             unknown = u.unknown;
             line = ap suc u.line;
@@ -61,14 +61,14 @@ unknown_ok : {X : Type 0} (f : ℕ) (r : Result X ℕ) (x : X) → unknown_in f 
 unknown_ok f (Ok y) x e = let h : y ≡ x = cc in ap Ok h
 unknown_ok f (Err n) x e = absurd cc
 
-pub scripts_read : (names : List (List ℕ)) (bs : List Body) (done ss : List (List Line)) (f : ℕ) → scripts_from names done f bs ≡ Ok ss → (ss ≡ done ++ map (λ (b : Body). filter_map (line_in names) b.moments) bs) × AllByRecursion (λ (b : Body). AreKnown names b.moments) bs
+pub scripts_read : (names : List (List ℕ)) (bs : List Body) (done ss : List (List Line)) (f : ℕ) → scripts_from names done f bs ≡ Ok ss → (ss ≡ done ++ map (λ (b : Body). filter_map (line_in names) b.happenings) bs) × AllByRecursion (λ (b : Body). AreKnown names b.happenings) bs
 unfolding scripts_from
 scripts_read names [] done ss f e = (let h : done ≡ ss = cc in sym h ∙ sym (append-nil done), tt)
 scripts_read names (b ∷ more) done ss f e =
-    let a = bind_ok (unknown_in f (script_from names [] b.first b.moments)) (λ s. scripts_from names (done ++ s ∷ []) (f + 1) more) ss e in
-    let s = script_read names b.moments [] a.0 b.first (unknown_ok f (script_from names [] b.first b.moments) a.0 a.1) in
+    let a = bind_ok (unknown_in f (script_from names [] b.first b.happenings)) (λ s. scripts_from names (done ++ s ∷ []) (f + 1) more) ss e in
+    let s = script_read names b.happenings [] a.0 b.first (unknown_ok f (script_from names [] b.first b.happenings) a.0 a.1) in
     let h = scripts_read names more (done ++ a.0 ∷ []) ss (f + 1) a.2 in
-    (h.0 ∙ append_assoc done (a.0 ∷ []) (map (λ (b : Body). filter_map (line_in names) b.moments) more) ∙ ap (λ (x : List Line). done ++ x ∷ map (λ (b : Body). filter_map (line_in names) b.moments) more) s.0, (s.1, h.1))
+    (h.0 ∙ append_assoc done (a.0 ∷ []) (map (λ (b : Body). filter_map (line_in names) b.happenings) more) ∙ ap (λ (x : List Line). done ++ x ∷ map (λ (b : Body). filter_map (line_in names) b.happenings) more) s.0, (s.1, h.1))
 
 -- where the scripts stop
 pub record ScriptsStop (names : List (List ℕ)) (bs : List Body) (k : Kind) (g n : ℕ) : Type 0 where
@@ -77,10 +77,10 @@ pub record ScriptsStop (names : List (List ℕ)) (bs : List Body) (k : Kind) (g 
   pub body : Body
   pub more : List Body
   pub split : bs ≡ fronts ++ body ∷ more
-  pub known : AllByRecursion (λ (b : Body). AreKnown names b.moments) fronts
+  pub known : AllByRecursion (λ (b : Body). AreKnown names b.happenings) fronts
   pub file : g ≡ length fronts
   pub place : ℕ
-  pub unknown : UnknownIn names body.moments place
+  pub unknown : UnknownIn names body.happenings place
   pub line : n ≡ body.first + place
 
 abbrev Where : Type 0
@@ -103,11 +103,11 @@ pub scripts_stops : (names : List (List ℕ)) (bs : List Body) (done : List (Lis
 unfolding scripts_from
 scripts_stops names [] done f k g n e = absurd cc
 scripts_stops names (b ∷ more) done f k g n e =
-    elim (bind_err (unknown_in f (script_from names [] b.first b.moments)) (λ s. scripts_from names (done ++ s ∷ []) (f + 1) more) (k, g, n) e) [
-      | inl x ↦ let u = unknown_err f (script_from names [] b.first b.moments) k g n x in
-          let s = script_stops names b.moments [] b.first n u.0 in
+    elim (bind_err (unknown_in f (script_from names [] b.first b.happenings)) (λ s. scripts_from names (done ++ s ∷ []) (f + 1) more) (k, g, n) e) [
+      | inl x ↦ let u = unknown_err f (script_from names [] b.first b.happenings) k g n x in
+          let s = script_stops names b.happenings [] b.first n u.0 in
           (0, record { kind = u.1; fronts = []; body = b; more = more; split = refl; known = tt; file = refl; place = s.0; unknown = s.1; line = s.2 }, omega (arith, u.2))
-      | inr x ↦ let s = script_read names b.moments [] x.0 b.first (unknown_ok f (script_from names [] b.first b.moments) x.0 x.1) in
+      | inr x ↦ let s = script_read names b.happenings [] x.0 b.first (unknown_ok f (script_from names [] b.first b.happenings) x.0 x.1) in
           let h = scripts_stops names more (done ++ x.0 ∷ []) (f + 1) k g n x.2 in
           let u = h.1 in
           (suc h.0, record { kind = u.kind; fronts = b ∷ u.fronts; body = u.body; more = u.more; split = ap (λ (xs : List Body). b ∷ xs) u.split; known = (s.1, u.known); file = ap suc u.file; place = u.place; unknown = u.unknown; line = u.line }, omega (arith, h.2))
@@ -116,7 +116,7 @@ scripts_stops names (b ∷ more) done f k g n e =
 -- ---- files
 
 abbrev pub body_of_tree : Tree → Body
-body_of_tree t = record { queue = t.queue; first = 3 + length t.tasks; moments = t.moments }
+body_of_tree t = record { queue = t.queue; first = 3 + length t.tasks; happenings = t.happenings }
 
 pub record AllIs (all : AllRead) (files : List (List ℕ)) (res : AllRead) : Type 0 where
   pub trees : List Tree
@@ -136,9 +136,9 @@ in_file_err f (Err m) k g n e =
     (ap (λ (x : Where). Err (x.0, x.2)) p, sym (ap (λ (x : Where). x.1) p))
 
 body_is : (ds : List Declaration) (bytes : List ℕ) (r : FileRead) (h : FileIs ds bytes r) → body_of r ≡ body_of_tree h.tree
-body_is ds bytes r h = rw (h.queue_is, h.first_is, h.moments_are) refl
+body_is ds bytes r h = rw (h.queue_is, h.first_is, h.happenings_are) refl
 
-names_after : (ds ts : List Declaration) (r : FileRead) → r.read.declared ≡ ds ++ ts → names_of r.read.declared ≡ names_of ds ++ names_of ts
+names_after : (ds ts : List Declaration) (r : FileRead) → r.declared ≡ ds ++ ts → names_of r.declared ≡ names_of ds ++ names_of ts
 names_after ds ts r e = ap names_of e ∙ map-append (λ (d : Declaration). d.name) ds ts
 
 pub files_read : (files : List (List ℕ)) (all res : AllRead) (f : ℕ) → read_from all f files ≡ Ok res → AllIs all files res
@@ -197,11 +197,11 @@ files_fault (bytes ∷ more) all f k g n e =
 
 -- ---- the plan
 
-known_bodies : (names : List (List ℕ)) (ts : List Tree) → AllByRecursion (λ (b : Body). AreKnown names b.moments) (map body_of_tree ts) → AllByRecursion (λ (t : Tree). AreKnown names t.moments) ts
+known_bodies : (names : List (List ℕ)) (ts : List Tree) → AllByRecursion (λ (b : Body). AreKnown names b.happenings) (map body_of_tree ts) → AllByRecursion (λ (t : Tree). AreKnown names t.happenings) ts
 known_bodies names [] h = tt
 known_bodies names (t ∷ ts) h = (h.0, known_bodies names ts h.1)
 
-pub scripts_are : (names : List (List ℕ)) (ts : List Tree) → map (λ (b : Body). filter_map (line_in names) b.moments) (map body_of_tree ts) ≡ map (script_of names) ts
+pub scripts_are : (names : List (List ℕ)) (ts : List Tree) → map (λ (b : Body). filter_map (line_in names) b.happenings) (map body_of_tree ts) ≡ map (script_of names) ts
 scripts_are names [] = refl
 scripts_are names (t ∷ ts) = ap (λ (xs : List (List Line)). script_of names t ∷ xs) (scripts_are names ts)
 
@@ -252,19 +252,19 @@ plan_read files p e =
             let b = bind_ok (scripts_from (names_of a.0.declared) [] 0 a.0.files) (λ ss. Ok (plan_with (map (λ b. b.queue) a.0.files) (a.0.declared) (ss))) p a.2 in
             let s = scripts_read (names_of a.0.declared) a.0.files [] b.0 0 b.1 in
             let names : names_of a.0.declared ≡ names_of (all_tasks t.trees) = ap names_of t.declared_is in
-            let known = subst (λ (bs : List Body). AllByRecursion (λ (b : Body). AreKnown (names_of a.0.declared) b.moments) bs) t.bodies_are s.1 in (
+            let known = subst (λ (bs : List Body). AllByRecursion (λ (b : Body). AreKnown (names_of a.0.declared) b.happenings) bs) t.bodies_are s.1 in (
               t.trees,
               record {
                 some = h.0;
                 few = h.1;
                 texts = t.texts;
                 together = together t.trees t.trees_are;
-                known = subst (λ (ns : List (List ℕ)). AllByRecursion (λ (t : Tree). AreKnown ns t.moments) t.trees) names (known_bodies (names_of a.0.declared) t.trees known);
+                known = subst (λ (ns : List (List ℕ)). AllByRecursion (λ (t : Tree). AreKnown ns t.happenings) t.trees) names (known_bodies (names_of a.0.declared) t.trees known);
               },
               sym (same_plan (plan_with (map (λ b. b.queue) a.0.files) (a.0.declared) (b.0)) p b.2)
                   ∙ ap (λ (ss : List (List Line)). plan_with (map (λ b. b.queue) a.0.files) (a.0.declared) (ss)) s.0
-                  ∙ ap (λ (bs : List Body). plan_with (map (λ b. b.queue) bs) (a.0.declared) (map (λ (b : Body). filter_map (line_in (names_of a.0.declared)) b.moments) bs)) t.bodies_are
-                  ∙ ap (λ (qs : List Capacity). plan_with (qs) (a.0.declared) (map (λ (b : Body). filter_map (line_in (names_of a.0.declared)) b.moments) (map body_of_tree t.trees))) (queues_are t.trees)
+                  ∙ ap (λ (bs : List Body). plan_with (map (λ b. b.queue) bs) (a.0.declared) (map (λ (b : Body). filter_map (line_in (names_of a.0.declared)) b.happenings) bs)) t.bodies_are
+                  ∙ ap (λ (qs : List Capacity). plan_with (qs) (a.0.declared) (map (λ (b : Body). filter_map (line_in (names_of a.0.declared)) b.happenings) (map body_of_tree t.trees))) (queues_are t.trees)
                   ∙ ap (λ (ss : List (List Line)). plan_with (map (λ (t : Tree). t.queue) t.trees) (a.0.declared) (ss)) (scripts_are (names_of a.0.declared) t.trees)
                   ∙ ap (λ (ds : List Declaration). plan_with (map (λ (t : Tree). t.queue) t.trees) (ds) (map (script_of (names_of ds)) t.trees)) t.declared_is,
             )
@@ -300,7 +300,7 @@ plan_fault files k f n e =
               let v = u.1 in
               let s = split_trees t.trees v.fronts v.body v.more (sym t.bodies_are ∙ v.split) in
               let names : names_of all.declared ≡ names_of (all_tasks t.trees) = ap names_of t.declared_is in
-              let known = known_bodies (names_of all.declared) s.0 (subst (λ (bs : List Body). AllByRecursion (λ (b : Body). AreKnown (names_of all.declared) b.moments) bs) (sym s.4) v.known) in
+              let known = known_bodies (names_of all.declared) s.0 (subst (λ (bs : List Body). AllByRecursion (λ (b : Body). AreKnown (names_of all.declared) b.happenings) bs) (sym s.4) v.known) in
               record {
                 kind = v.kind;
                 trees = t.trees;
@@ -311,9 +311,9 @@ plan_fault files k f n e =
                 more = s.2;
                 split = s.3;
                 file = omega (arith, u.2, v.file, ap length s.4, length-map s.0 body_of_tree);
-                known = subst (λ (ns : List (List ℕ)). AllByRecursion (λ (t : Tree). AreKnown ns t.moments) s.0) names known;
+                known = subst (λ (ns : List (List ℕ)). AllByRecursion (λ (t : Tree). AreKnown ns t.happenings) s.0) names known;
                 place = v.place;
-                unknown = subst (λ (ns : List (List ℕ)). UnknownIn ns s.1.moments v.place) names (subst (λ (b : Body). UnknownIn (names_of all.declared) b.moments v.place) (sym s.5) v.unknown);
+                unknown = subst (λ (ns : List (List ℕ)). UnknownIn ns s.1.happenings v.place) names (subst (λ (b : Body). UnknownIn (names_of all.declared) b.happenings v.place) (sym s.5) v.unknown);
                 line = v.line ∙ ap (λ (b : Body). b.first + v.place) (sym s.5);
               }
         ]

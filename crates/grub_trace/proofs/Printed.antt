@@ -13,13 +13,14 @@ use Rattle.std.proofs.lemmas.Bool.{lt-ltb, eqb-true}
 use Rattle.std.proofs.lemmas.Fmt.{digits_decimal, digits_value-decimal, decimal_nonempty, first_decimal, decimal_digit}
 use Rattle.grub_bw.specs.Bandwidth.{Reservation, Capacity, IsReservation, IsCapacity}
 use Rattle.grub_trace.proofs.LimitTests.{reservation_test, capacity_test}
+use Rattle.grub_trace.specs.declared.version.Version.{Version}
 use Rattle.grub_trace.specs.declared.fault.Kind.{Kind}
 use Rattle.grub_trace.specs.declared.form.Verb.{Verb}
 use Rattle.grub_trace.specs.declared.form.Verb.TheVariants.{Join, Wake, Block, Leave, Exit}
-use Rattle.grub_trace.specs.Tree.{Declaration, Deed, does, runs, reads, Moment, declaration_words, moment_words, queue_words, verb_word, is_name, is_name_byte, is_moment, is_span, names_of}
-use Rattle.grub_trace.specs.Faults.{Form, queue, task, does_at, runs_at, reads_at, words_of, form_of, verb_of, form_fault, is_number, value, last_of, task_of, queue_fault, is_allowed, numbers_of, is_in_range, is_fresh, is_timely}
+use Rattle.grub_trace.specs.Tree.{Declaration, Deed, does, runs, retunes, reads, Happening, declaration_words, happening_words, queue_words, verb_word, is_name, is_name_byte, is_moment, is_span, names_of}
+use Rattle.grub_trace.specs.Faults.{Form, queue, task, does_at, runs_at, retunes_at, reads_at, words_of, form_of, verb_of, form_fault, is_number, value, last_of, task_of, queue_fault, reservation_value, is_allowed, numbers_of, is_in_range, is_fresh, is_timely}
 use Rattle.grub_trace.specs.Reading.{Read, take_line, take_option, take_form, unless, adds, declares, says, times_of, read_queue, queue_of}
-use Rattle.grub_trace.specs.Meaning.{IsDeclaration, IsMomentFrom, IsDeed, declaration_line, moment_line}
+use Rattle.grub_trace.specs.Meaning.{IsDeclaration, IsHappeningFrom, IsDeed, declaration_line, happening_line}
 use Rattle.grub_trace.proofs.NumberLemmas.{numerals}
 use Rattle.grub_trace.proofs.LineMeaning.{small_period, small_moment, small_span}
 
@@ -129,6 +130,9 @@ keyword_at = search rules
 keyword_run : IsPlain (codes "run")
 keyword_run = search rules
 
+keyword_retune : IsPlain (codes "retune")
+keyword_retune = search rules
+
 keyword_read : IsPlain (codes "read")
 keyword_read = search rules
 
@@ -136,8 +140,8 @@ keyword_queue : IsPlain (codes "queue")
 keyword_queue = search rules
 
 -- a form that passes the five tests
-pub no_fault : (names : List (List ℕ)) (moments : List ℕ) (f : Form) → is_allowed moments f ≡ true → list_all is_number (numbers_of f) ≡ true → is_in_range (length names) f ≡ true → is_fresh names f ≡ true → is_timely moments f ≡ true → form_fault names moments f ≡ None
-no_fault names moments f a b c d e = rw (a, b, c, d, e) refl
+pub no_fault : (version : Version) (names : List (List ℕ)) (moments : List ℕ) (f : Form) → is_allowed version moments f ≡ true → list_all is_number (numbers_of f) ≡ true → is_in_range (length names) f ≡ true → is_fresh names f ≡ true → is_timely moments f ≡ true → form_fault version names moments f ≡ None
+no_fault version names moments f a b c d e = rw (a, b, c, d, e) refl
 
 le_true : (a b : ℕ) → a ≤ b → nat_le a b ≡ true
 le_true a b h = grind (arith, nat_tests)
@@ -145,10 +149,13 @@ le_true a b h = grind (arith, nat_tests)
 both_numbers : (m n : ℕ) → m < 2 ^ 64 → n < 2 ^ 64 → list_all is_number (decimal m ∷ decimal n ∷ []) ≡ true
 both_numbers m n h k = rw (number_again m h, number_again n k) refl
 
+three_numbers : (k m n : ℕ) → k < 2 ^ 64 → m < 2 ^ 64 → n < 2 ^ 64 → list_all is_number (decimal k ∷ decimal m ∷ decimal n ∷ []) ≡ true
+three_numbers k m n f g h = rw (number_again k f, number_again m g, number_again n h) refl
+
 one_number : (m : ℕ) → m < 2 ^ 64 → list_all is_number (decimal m ∷ []) ≡ true
 one_number m h = rw (number_again m h) refl
 
-taken_form : (r : Read) (line : List ℕ) (f : Form) → form_of (words_of line) ≡ Some f → form_fault (names_of r.declared) (times_of r.moments) f ≡ None → take_line r line ≡ Ok (adds f r)
+taken_form : (r : Read) (line : List ℕ) (f : Form) → form_of (words_of line) ≡ Some f → form_fault r.version (names_of r.declared) (times_of r.happenings) f ≡ None → take_line r line ≡ Ok (adds f r)
 taken_form r line f is none = ap (take_option r) is ∙ ap (λ (o : Option Kind). unless o (adds f r)) none
 
 task_form : (n q p : List ℕ) → is_name n ≡ true → form_of (codes "task" ∷ n ∷ q ∷ p ∷ []) ≡ Some (task n q p)
@@ -160,47 +167,63 @@ does_form m n v h = ap (λ (b : Bool). cond b (option_map (λ v. does_at m v n) 
 runs_form : (m n d : List ℕ) → is_name n ≡ true → form_of (codes "at" ∷ m ∷ codes "run" ∷ n ∷ d ∷ []) ≡ Some (runs_at m n d)
 runs_form m n d h = ap (λ (b : Bool). cond b (Some (runs_at m n d)) None) h
 
-pub declaration_again : (r : Read) (d : Declaration) → IsDeclaration (names_of r.declared) d → length r.moments ≡ 0 → take_line r (declaration_line d) ≡ Ok (declares d r)
+retunes_form : (m n q p : List ℕ) → is_name n ≡ true → form_of (codes "at" ∷ m ∷ codes "retune" ∷ n ∷ q ∷ p ∷ []) ≡ Some (retunes_at m n q p)
+retunes_form m n q p h = ap (λ (b : Bool). cond b (Some (retunes_at m n q p)) None) h
+
+pub declaration_again : (r : Read) (d : Declaration) → IsDeclaration (names_of r.declared) d → length r.happenings ≡ 0 → take_line r (declaration_line d) ≡ Ok (declares d r)
 declaration_again r d is first =
     let small = small_period d.params is.fits in
     let f : Form = task d.name (decimal d.params.runtime) (decimal d.params.period) in
     let words = words_again (codes "task") (d.name ∷ decimal d.params.runtime ∷ decimal d.params.period ∷ []) keyword_task (name_plain d.name is.name, (decimal_plain d.params.runtime small.0, (decimal_plain d.params.period small.1, tt))) in
     let range : is_in_range (length (names_of r.declared)) f ≡ true = rw (value_again d.params.runtime small.0, value_again d.params.period small.1, lt-ltb (length (names_of r.declared)) 256 is.few) (reservation_test d.params is.fits) in
-    let allowed : is_allowed (times_of r.moments) f ≡ true = rw (length-map r.moments (λ m. m.at), first) refl in
+    let allowed : is_allowed r.version (times_of r.happenings) f ≡ true = rw (length-map r.happenings (λ m. m.at), first) refl in
     let fresh : is_fresh (names_of r.declared) f ≡ true = rw is.fresh refl in
     taken_form r (declaration_line d) f (ap form_of words ∙ task_form d.name (decimal d.params.runtime) (decimal d.params.period) is.name)
-    (no_fault (names_of r.declared) (times_of r.moments) f allowed (both_numbers d.params.runtime d.params.period small.0 small.1) range fresh refl)
+    (no_fault r.version (names_of r.declared) (times_of r.happenings) f allowed (both_numbers d.params.runtime d.params.period small.0 small.1) range fresh refl)
     ∙ ap (λ (q : ℕ). Ok (declares (record { name = d.name; params = record { runtime = q; period = value (decimal d.params.period) } }) r)) (value_again d.params.runtime small.0)
     ∙ ap (λ (p : ℕ). Ok (declares (record { name = d.name; params = record { runtime = d.params.runtime; period = p } }) r)) (value_again d.params.period small.1)
 
-moment_form : (r : Read) (at : ℕ) (deed : Deed) → last_of (times_of r.moments) ≤ at → is_moment at ≡ true → IsDeed deed → take_line r (moment_line (record { at = at; deed = deed })) ≡ Ok (says at deed r)
-moment_form r at (does v n) after within is =
+happening_form : (r : Read) (at : ℕ) (deed : Deed) → last_of (times_of r.happenings) ≤ at → is_moment at ≡ true → IsDeed r.version deed → take_line r (happening_line (record { at = at; deed = deed })) ≡ Ok (says at deed r)
+happening_form r at (does v n) after within is =
     let small = small_moment at within in
     let f : Form = does_at (decimal at) v n in
     let words = words_again (codes "at") (decimal at ∷ verb_word v ∷ n ∷ []) keyword_at (decimal_plain at small, (verb_plain v, (name_plain n is, tt))) in
-    taken_form r (moment_line (record { at = at; deed = does v n })) f (ap form_of words ∙ does_form (decimal at) n v is)
-    (no_fault (names_of r.declared) (times_of r.moments) f refl (one_number at small) (rw (value_again at small) within) refl (rw (value_again at small) (le_true (last_of (times_of r.moments)) at after)))
+    taken_form r (happening_line (record { at = at; deed = does v n })) f (ap form_of words ∙ does_form (decimal at) n v is)
+    (no_fault r.version (names_of r.declared) (times_of r.happenings) f refl (one_number at small) (rw (value_again at small) within) refl (rw (value_again at small) (le_true (last_of (times_of r.happenings)) at after)))
     ∙ ap (λ (m : ℕ). Ok (says m (does v n) r)) (value_again at small)
-moment_form r at (runs n d) after within is =
+happening_form r at (runs n d) after within is =
     let small = small_moment at within in
     let short = small_span d is.1 in
     let f : Form = runs_at (decimal at) n (decimal d) in
     let words = words_again (codes "at") (decimal at ∷ codes "run" ∷ n ∷ decimal d ∷ []) keyword_at (decimal_plain at small, (keyword_run, (name_plain n is.0, (decimal_plain d short, tt)))) in
     let range : is_in_range (length (names_of r.declared)) f ≡ true = rw (value_again at small, value_again d short, within) is.1 in
-    taken_form r (moment_line (record { at = at; deed = runs n d })) f (ap form_of words ∙ runs_form (decimal at) n (decimal d) is.0)
-    (no_fault (names_of r.declared) (times_of r.moments) f refl (both_numbers at d small short) range refl (rw (value_again at small) (le_true (last_of (times_of r.moments)) at after)))
+    taken_form r (happening_line (record { at = at; deed = runs n d })) f (ap form_of words ∙ runs_form (decimal at) n (decimal d) is.0)
+    (no_fault r.version (names_of r.declared) (times_of r.happenings) f refl (both_numbers at d small short) range refl (rw (value_again at small) (le_true (last_of (times_of r.happenings)) at after)))
     ∙ ap (λ (m : ℕ). Ok (says m (runs n (value (decimal d))) r)) (value_again at small)
     ∙ ap (λ (s : ℕ). Ok (says at (runs n s) r)) (value_again d short)
-moment_form r at reads after within is =
+happening_form r at (retunes n p) after within is =
+    let small = small_moment at within in
+    let fits = small_period p is.1 in
+    let q = decimal p.runtime in
+    let d = decimal p.period in
+    let f : Form = retunes_at (decimal at) n q d in
+    let words = words_again (codes "at") (decimal at ∷ codes "retune" ∷ n ∷ q ∷ d ∷ []) keyword_at (decimal_plain at small, (keyword_retune, (name_plain n is.0, (decimal_plain p.runtime fits.0, (decimal_plain p.period fits.1, tt))))) in
+    let range : is_in_range (length (names_of r.declared)) f ≡ true = rw (value_again at small, value_again p.runtime fits.0, value_again p.period fits.1, within) (reservation_test p is.1) in
+    taken_form r (happening_line (record { at = at; deed = retunes n p })) f (ap form_of words ∙ retunes_form (decimal at) n q d is.0)
+    (no_fault r.version (names_of r.declared) (times_of r.happenings) f is.2 (three_numbers at p.runtime p.period small fits.0 fits.1) range refl (rw (value_again at small) (le_true (last_of (times_of r.happenings)) at after)))
+    ∙ ap (λ (m : ℕ). Ok (says m (retunes n (reservation_value q d)) r)) (value_again at small)
+    ∙ ap (λ (u : ℕ). Ok (says at (retunes n (record { runtime = u; period = value d })) r)) (value_again p.runtime fits.0)
+    ∙ ap (λ (u : ℕ). Ok (says at (retunes n (record { runtime = p.runtime; period = u })) r)) (value_again p.period fits.1)
+happening_form r at reads after within is =
     let small = small_moment at within in
     let f : Form = reads_at (decimal at) in
     let words = words_again (codes "at") (decimal at ∷ codes "read" ∷ []) keyword_at (decimal_plain at small, (keyword_read, tt)) in
-    taken_form r (moment_line (record { at = at; deed = reads })) f (ap form_of words)
-    (no_fault (names_of r.declared) (times_of r.moments) f refl (one_number at small) (rw (value_again at small) within) refl (rw (value_again at small) (le_true (last_of (times_of r.moments)) at after)))
+    taken_form r (happening_line (record { at = at; deed = reads })) f (ap form_of words)
+    (no_fault r.version (names_of r.declared) (times_of r.happenings) f refl (one_number at small) (rw (value_again at small) within) refl (rw (value_again at small) (le_true (last_of (times_of r.happenings)) at after)))
     ∙ ap (λ (m : ℕ). Ok (says m reads r)) (value_again at small)
 
-pub moment_again : (r : Read) (m : Moment) → IsMomentFrom (last_of (times_of r.moments)) m → take_line r (moment_line m) ≡ Ok (says m.at m.deed r)
-moment_again r m is = moment_form r m.at m.deed is.after is.within is.deed
+pub happening_again : (r : Read) (m : Happening) → IsHappeningFrom r.version (last_of (times_of r.happenings)) m → take_line r (happening_line m) ≡ Ok (says m.at m.deed r)
+happening_again r m is = happening_form r m.at m.deed is.after is.within is.deed
 
 pub queue_again : (c : Capacity) → c.most < 2 ^ 64 → c.extra < 2 ^ 64 → IsCapacity c → read_queue (join_with_byte 32 (queue_words c)) ≡ Ok c
 queue_again c hu hx fits =
@@ -219,13 +242,16 @@ declaration_one_line names d is =
     let small = small_period d.params is.fits in
     join_line (codes "task") (d.name ∷ decimal d.params.runtime ∷ decimal d.params.period ∷ []) keyword_task (name_plain d.name is.name, (decimal_plain d.params.runtime small.0, (decimal_plain d.params.period small.1, tt)))
 
-deed_one_line : (at : ℕ) (deed : Deed) → is_moment at ≡ true → IsDeed deed → IsOneLine (moment_line (record { at = at; deed = deed }))
-deed_one_line at (does v n) within is = join_line (codes "at") (decimal at ∷ verb_word v ∷ n ∷ []) keyword_at (decimal_plain at (small_moment at within), (verb_plain v, (name_plain n is, tt)))
-deed_one_line at (runs n d) within is = join_line (codes "at") (decimal at ∷ codes "run" ∷ n ∷ decimal d ∷ []) keyword_at (decimal_plain at (small_moment at within), (keyword_run, (name_plain n is.0, (decimal_plain d (small_span d is.1), tt))))
-deed_one_line at reads within is = join_line (codes "at") (decimal at ∷ codes "read" ∷ []) keyword_at (decimal_plain at (small_moment at within), (keyword_read, tt))
+deed_one_line : (version : Version) (at : ℕ) (deed : Deed) → is_moment at ≡ true → IsDeed version deed → IsOneLine (happening_line (record { at = at; deed = deed }))
+deed_one_line version at (does v n) within is = join_line (codes "at") (decimal at ∷ verb_word v ∷ n ∷ []) keyword_at (decimal_plain at (small_moment at within), (verb_plain v, (name_plain n is, tt)))
+deed_one_line version at (runs n d) within is = join_line (codes "at") (decimal at ∷ codes "run" ∷ n ∷ decimal d ∷ []) keyword_at (decimal_plain at (small_moment at within), (keyword_run, (name_plain n is.0, (decimal_plain d (small_span d is.1), tt))))
+deed_one_line version at (retunes n p) within is =
+    let small = small_period p is.1 in
+    join_line (codes "at") (decimal at ∷ codes "retune" ∷ n ∷ decimal p.runtime ∷ decimal p.period ∷ []) keyword_at (decimal_plain at (small_moment at within), (keyword_retune, (name_plain n is.0, (decimal_plain p.runtime small.0, (decimal_plain p.period small.1, tt)))))
+deed_one_line version at reads within is = join_line (codes "at") (decimal at ∷ codes "read" ∷ []) keyword_at (decimal_plain at (small_moment at within), (keyword_read, tt))
 
-pub moment_one_line : (low : ℕ) (m : Moment) → IsMomentFrom low m → IsOneLine (moment_line m)
-moment_one_line low m is = deed_one_line m.at m.deed is.within is.deed
+pub happening_one_line : (version : Version) (low : ℕ) (m : Happening) → IsHappeningFrom version low m → IsOneLine (happening_line m)
+happening_one_line version low m is = deed_one_line version m.at m.deed is.within is.deed
 
 pub queue_one_line : (c : Capacity) → c.most < 2 ^ 64 → c.extra < 2 ^ 64 → IsOneLine (join_with_byte 32 (queue_words c))
 queue_one_line c hu hx = join_line (codes "queue") (decimal c.most ∷ decimal c.extra ∷ []) keyword_queue (decimal_plain c.most hu, (decimal_plain c.extra hx, tt))

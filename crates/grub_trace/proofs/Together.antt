@@ -4,7 +4,7 @@ use Rattle.std.specs.Str.{bytes_eq}
 use Rattle.std.specs.List.{AllByRecursion, flat_map}
 use Rattle.std.specs.Cmp.Lexicographic.{nat_list_eq_equiv}
 use Rattle.std.proofs.lemmas.List.{append-nil, length-append, length-map, map-append}
-use Rattle.grub_trace.specs.Tree.{Declaration, Moment, Tree, names_of}
+use Rattle.grub_trace.specs.Tree.{Declaration, Happening, Tree, names_of}
 use Rattle.grub_trace.specs.Faults.{task_of}
 use Rattle.grub_trace.specs.Naming.{all_tasks}
 use Rattle.grub_trace.specs.Meaning.{IsDeclaration, AreDeclared, GoOn, IsTree, AreTrees, AreDistinct, IsGood, IsAlone, AreTogether}
@@ -100,13 +100,13 @@ trees_declare : (ts : List Tree) (names : List (List ℕ)) → AreTrees names ts
 trees_declare [] names are = (tt, tt)
 trees_declare (t ∷ ts) names are =
     let r = trees_declare ts (names ++ names_of t.tasks) are.1 in
-    (declared_append t.tasks (all_tasks ts) names are.0.tasks r.0, ((are.0.queue, (new_from t.tasks names are.0.tasks).good, are.0.moments), r.1))
+    (declared_append t.tasks (all_tasks ts) names are.0.tasks r.0, ((are.0.queue, (new_from t.tasks names are.0.tasks).good, are.0.happenings), r.1))
 
 trees_from : (ts : List Tree) (names : List (List ℕ)) → AreDeclared names (all_tasks ts) → AllByRecursion IsAlone ts → AreTrees names ts
 trees_from [] names are alone = tt
 trees_from (t ∷ ts) names are alone =
     let p = declared_split t.tasks (all_tasks ts) names are in
-    (record { queue = alone.0.0; tasks = p.0; moments = alone.0.2 }, trees_from ts (names ++ names_of t.tasks) p.1 alone.1)
+    (record { queue = alone.0.0; tasks = p.0; happenings = alone.0.2 }, trees_from ts (names ++ names_of t.tasks) p.1 alone.1)
 
 good_all : (ts : List Tree) → AllByRecursion IsAlone ts → AllByRecursion IsGood (all_tasks ts)
 good_all [] alone = tt

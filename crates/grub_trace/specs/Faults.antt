@@ -7,9 +7,11 @@ use Rattle.std.specs.Str.Parse.{digits_value}
 use Rattle.grub_bw.specs.Bandwidth.{Reservation, Capacity, bandwidth_of}
 use Rattle.grub_trace.specs.declared.form.Verb.{Verb}
 use Rattle.grub_trace.specs.declared.form.Verb.TheVariants.{Join, Wake, Block, Leave, Exit}
+use Rattle.grub_trace.specs.declared.version.Version.{Version}
+use Rattle.grub_trace.specs.declared.version.Version.TheVariants.{One, Two}
 use Rattle.grub_trace.specs.declared.fault.Kind.{Kind}
 use Rattle.grub_trace.specs.declared.fault.Kind.TheVariants.{BadHeader, BadLine, BadNumber, OutOfRange, DuplicateTask, UnknownTask, MomentGoesBack, MissingQueue, CutShort}
-use Rattle.grub_trace.specs.Tree.{is_name, is_moment, is_span}
+use Rattle.grub_trace.specs.Tree.{is_name, is_moment, is_span, header, may_retune}
 
 -- the words of a line: its parts between single spaces
 abbrev pub words_of : List ℕ → List (List ℕ)
@@ -21,6 +23,7 @@ pub data Form : Type 0 where
   task : List ℕ → List ℕ → List ℕ → Form
   does_at : List ℕ → Verb → List ℕ → Form
   runs_at : List ℕ → List ℕ → List ℕ → Form
+  retunes_at : List ℕ → List ℕ → List ℕ → List ℕ → Form
   reads_at : List ℕ → Form
 
 abbrev pub verb_of : List ℕ → Option Verb
@@ -31,6 +34,7 @@ abbrev pub form_of : List (List ℕ) → Option Form
 form_of (k ∷ a ∷ b ∷ []) = if bytes_eq k (codes "queue") then Some (queue a b) else (if bytes_eq k (codes "at") && bytes_eq b (codes "read") then Some (reads_at a) else None)
 form_of (k ∷ a ∷ b ∷ c ∷ []) = if bytes_eq k (codes "task") && is_name a then Some (task a b c) else (if bytes_eq k (codes "at") && is_name c then option_map (λ v. does_at a v c) (verb_of b) else None)
 form_of (k ∷ a ∷ b ∷ c ∷ d ∷ []) = if bytes_eq k (codes "at") && bytes_eq b (codes "run") && is_name c then Some (runs_at a c d) else None
+form_of (k ∷ a ∷ b ∷ c ∷ d ∷ e ∷ []) = if bytes_eq k (codes "at") && bytes_eq b (codes "retune") && is_name c then Some (retunes_at a c d e) else None
 form_of _ = None
 
 -- ---- numbers
@@ -49,6 +53,7 @@ is_named (queue a b) = true
 is_named (task n q p) = is_name n
 is_named (does_at m v n) = is_name n
 is_named (runs_at m n d) = is_name n
+is_named (retunes_at m n q p) = is_name n
 is_named (reads_at m) = true
 
 -- ---- the tests of a line below the second
@@ -58,15 +63,17 @@ numbers_of (queue a b) = a ∷ b ∷ []
 numbers_of (task n q p) = q ∷ p ∷ []
 numbers_of (does_at m v n) = m ∷ []
 numbers_of (runs_at m n d) = m ∷ d ∷ []
+numbers_of (retunes_at m n q p) = m ∷ q ∷ p ∷ []
 numbers_of (reads_at m) = m ∷ []
 
--- a queue line stands in the second line alone, and a task line before the first moment
-abbrev pub is_allowed : List ℕ → Form → Bool
-is_allowed moments (queue a b) = false
-is_allowed moments (task n q p) = length moments == 0
-is_allowed moments (does_at m v n) = true
-is_allowed moments (runs_at m n d) = true
-is_allowed moments (reads_at m) = true
+-- a queue line stands in the second line alone, a task line before the first moment, and a retune line in a file of version 2
+abbrev pub is_allowed : Version → List ℕ → Form → Bool
+is_allowed version moments (queue a b) = false
+is_allowed version moments (task n q p) = length moments == 0
+is_allowed version moments (does_at m v n) = true
+is_allowed version moments (runs_at m n d) = true
+is_allowed version moments (retunes_at m n q p) = may_retune version
+is_allowed version moments (reads_at m) = true
 
 -- the tests of IsReservation and IsCapacity
 abbrev pub reservation_fits : Reservation → Bool
@@ -88,6 +95,7 @@ is_in_range declared (queue a b) = capacity_fits (capacity_value a b)
 is_in_range declared (task n q p) = nat_lt declared 256 && reservation_fits (reservation_value q p)
 is_in_range declared (does_at m v n) = is_moment (value m)
 is_in_range declared (runs_at m n d) = is_moment (value m) && is_span (value d)
+is_in_range declared (retunes_at m n q p) = is_moment (value m) && reservation_fits (reservation_value q p)
 is_in_range declared (reads_at m) = is_moment (value m)
 
 -- the number of the task with this name, where one was declared
@@ -100,6 +108,7 @@ is_fresh names (task n q p) = is_none (task_of names n)
 is_fresh names (queue a b) = true
 is_fresh names (does_at m v n) = true
 is_fresh names (runs_at m n d) = true
+is_fresh names (retunes_at m n q p) = true
 is_fresh names (reads_at m) = true
 
 -- the moment of the line before, or 0
@@ -111,24 +120,25 @@ is_timely moments (queue a b) = true
 is_timely moments (task n q p) = true
 is_timely moments (does_at m v n) = nat_le (last_of moments) (value m)
 is_timely moments (runs_at m n d) = nat_le (last_of moments) (value m)
+is_timely moments (retunes_at m n q p) = nat_le (last_of moments) (value m)
 is_timely moments (reads_at m) = nat_le (last_of moments) (value m)
 
 -- The first test that a form fails, after the names declared so far, in any file, and the moments so far, in this one.
-abbrev pub form_fault : List (List ℕ) → List ℕ → Form → Option Kind
-form_fault names moments f =
-    if not (is_allowed moments f) then Some BadLine
+abbrev pub form_fault : Version → List (List ℕ) → List ℕ → Form → Option Kind
+form_fault version names moments f =
+    if not (is_allowed version moments f) then Some BadLine
     else (if not (list_all is_number (numbers_of f)) then Some BadNumber
     else (if not (is_in_range (length names) f) then Some OutOfRange
     else (if not (is_fresh names f) then Some DuplicateTask
     else (if not (is_timely moments f) then Some MomentGoesBack else None))))
 
 -- the same of a line; what fits no form is a bad line
-abbrev pub fault_of_form : List (List ℕ) → List ℕ → Option Form → Option Kind
-fault_of_form names moments None = Some BadLine
-fault_of_form names moments (Some f) = form_fault names moments f
+abbrev pub fault_of_form : Version → List (List ℕ) → List ℕ → Option Form → Option Kind
+fault_of_form version names moments None = Some BadLine
+fault_of_form version names moments (Some f) = form_fault version names moments f
 
-abbrev pub line_fault : List (List ℕ) → List ℕ → List ℕ → Option Kind
-line_fault names moments line = fault_of_form names moments (form_of (words_of line))
+abbrev pub line_fault : Version → List (List ℕ) → List ℕ → List ℕ → Option Kind
+line_fault version names moments line = fault_of_form version names moments (form_of (words_of line))
 
 -- ---- the first two lines
 
@@ -138,6 +148,7 @@ queue_form_fault (Some (queue a b)) = if not (list_all is_number (a ∷ b ∷ []
 queue_form_fault (Some (task n q p)) = Some BadLine
 queue_form_fault (Some (does_at m v n)) = Some BadLine
 queue_form_fault (Some (runs_at m n d)) = Some BadLine
+queue_form_fault (Some (retunes_at m n q p)) = Some BadLine
 queue_form_fault (Some (reads_at m)) = Some BadLine
 
 abbrev pub begins_with_queue : List (List ℕ) → Bool
@@ -147,5 +158,9 @@ begins_with_queue (w ∷ ws) = bytes_eq w (codes "queue")
 abbrev pub queue_fault : List ℕ → Option Kind
 queue_fault line = if not (begins_with_queue (words_of line)) then Some MissingQueue else queue_form_fault (form_of (words_of line))
 
+-- the version that a first line names
+abbrev pub version_of : List ℕ → Option Version
+version_of line = if bytes_eq line (header One) then Some One else (if bytes_eq line (header Two) then Some Two else None)
+
 abbrev pub header_fault : List ℕ → Option Kind
-header_fault line = if bytes_eq line (codes "grub 1") then None else Some BadHeader
+header_fault line = if is_none (version_of line) then Some BadHeader else None

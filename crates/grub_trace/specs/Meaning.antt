@@ -2,20 +2,21 @@
 use Rattle.std.specs.Prelude.{◌≡◌, ℕ, ◌≤◌, ◌<◌, true, List, [], ◌∷◌, ◌++◌, length, map, None, Option, Some, ◌==◌, ◌+◌, ◌⊎◌, if◌then◌else◌, codes, IsSome}
 use Rattle.std.specs.List.{join_with_byte, slice_split, AllByRecursion}
 use Rattle.grub_trace.specs.Naming.{line_in, all_tasks}
+use Rattle.grub_trace.specs.declared.version.Version.{Version}
 use Rattle.grub_trace.specs.declared.fault.Kind.{Kind}
 use Rattle.grub_trace.specs.declared.fault.TraceFault.{TraceFault}
 use Rattle.grub_trace.specs.declared.fault.TraceFault.TheVariants as trace
 use Rattle.grub_trace.specs.declared.fault.Kind.TheVariants.{BadHeader, MissingQueue, CutShort, UnknownTask, OutOfRange}
 use Rattle.grub_bw.specs.Bandwidth.{IsReservation, IsCapacity}
-use Rattle.grub_trace.specs.Tree.{Declaration, Deed, does, runs, reads, Moment, Tree, text, declaration_words, moment_words, is_name, is_span, is_moment, names_of}
+use Rattle.grub_trace.specs.Tree.{Declaration, Deed, does, runs, retunes, reads, Happening, header, may_retune, Tree, text, declaration_words, happening_words, is_name, is_span, is_moment, names_of}
 use Rattle.grub_trace.specs.Faults.{task_of, line_fault, header_fault, queue_fault}
 
 -- a line without the byte that ends it
 abbrev pub declaration_line : Declaration → List ℕ
 declaration_line d = join_with_byte 32 (declaration_words d)
 
-abbrev pub moment_line : Moment → List ℕ
-moment_line m = join_with_byte 32 (moment_words m)
+abbrev pub happening_line : Happening → List ℕ
+happening_line m = join_with_byte 32 (happening_words m)
 
 -- ---- the limits
 
@@ -25,15 +26,17 @@ pub record IsDeclaration (names : List (List ℕ)) (d : Declaration) : Type 0 wh
   pub few : length names < 256
   pub fresh : task_of names d.name ≡ None
 
-abbrev pub IsDeed : Deed → Type 0
-IsDeed (does v n) = is_name n ≡ true
-IsDeed (runs n s) = (is_name n ≡ true) × (is_span s ≡ true)
-IsDeed reads = Unit {0}
+-- what may be said in a file of this version
+abbrev pub IsDeed : Version → Deed → Type 0
+IsDeed version (does v n) = is_name n ≡ true
+IsDeed version (runs n s) = (is_name n ≡ true) × (is_span s ≡ true)
+IsDeed version (retunes n p) = (is_name n ≡ true) × IsReservation p × (may_retune version ≡ true)
+IsDeed version reads = Unit {0}
 
-pub record IsMomentFrom (low : ℕ) (m : Moment) : Type 0 where
+pub record IsHappeningFrom (version : Version) (low : ℕ) (m : Happening) : Type 0 where
   pub after : low ≤ m.at
   pub within : is_moment m.at ≡ true
-  pub deed : IsDeed m.deed
+  pub deed : IsDeed version m.deed
 
 -- each is declared after these names, and the names that are declared before it
 abbrev pub AreDeclared : List (List ℕ) → List Declaration → Type 0
@@ -41,15 +44,15 @@ AreDeclared names [] = Unit {0}
 AreDeclared names (d ∷ ds) = IsDeclaration names d × AreDeclared (names ++ d.name ∷ []) ds
 
 -- no moment is before low, or before the one in front of it
-abbrev pub GoOn : ℕ → List Moment → Type 0
-GoOn low [] = Unit {0}
-GoOn low (m ∷ ms) = IsMomentFrom low m × GoOn m.at ms
+abbrev pub GoOn : Version → ℕ → List Happening → Type 0
+GoOn version low [] = Unit {0}
+GoOn version low (m ∷ ms) = IsHappeningFrom version low m × GoOn version m.at ms
 
 -- a tree that may stand after these names
 pub record IsTree (names : List (List ℕ)) (t : Tree) : Type 0 where
   pub queue : IsCapacity t.queue
   pub tasks : AreDeclared names t.tasks
-  pub moments : GoOn 0 t.moments
+  pub happenings : GoOn t.version 0 t.happenings
 
 -- ---- the first fault of a file
 
@@ -70,15 +73,19 @@ pub record LineFault (names : List (List ℕ)) (bytes : List ℕ) (k : Kind) (n 
   pub is : IsTree names tree
   pub front : bytes ≡ text tree ++ rest
   pub more : 0 < length rest
-  pub number : n ≡ 3 + length tree.tasks + length tree.moments
-  pub fault : front_fault CutShort (line_fault (names ++ names_of tree.tasks) (map (λ m. m.at) tree.moments)) (parts_of rest) ≡ Some k
+  pub number : n ≡ 3 + length tree.tasks + length tree.happenings
+  pub fault : front_fault CutShort (line_fault tree.version (names ++ names_of tree.tasks) (map (λ m. m.at) tree.happenings)) (parts_of rest) ≡ Some k
 
 -- the first line may not stand there; or the second, after a right first one
 abbrev pub HeaderFault : List ℕ → Kind → ℕ → Type 0
 HeaderFault bytes k n = (n ≡ 1) × (front_fault BadHeader header_fault (parts_of bytes) ≡ Some k)
 
-abbrev pub QueueFault : List ℕ → Kind → ℕ → Type 0
-QueueFault bytes k n = (rest : List ℕ) × (n ≡ 2) × (bytes ≡ codes "grub 1\n" ++ rest) × (front_fault MissingQueue queue_fault (parts_of rest) ≡ Some k)
+pub record QueueFault (bytes : List ℕ) (k : Kind) (n : ℕ) : Type 0 where
+  pub version : Version
+  pub rest : List ℕ
+  pub number : n ≡ 2
+  pub front : bytes ≡ header version ++ 10 ∷ rest
+  pub fault : front_fault MissingQueue queue_fault (parts_of rest) ≡ Some k
 
 -- the first fault of a file, after these names
 abbrev pub FileFault : List (List ℕ) → List ℕ → Kind → ℕ → Type 0
@@ -92,7 +99,7 @@ AreTrees names [] = Unit {0}
 AreTrees names (t ∷ ts) = IsTree names t × AreTrees (names ++ names_of t.tasks) ts
 
 -- each task that is named is declared
-abbrev pub AreKnown : List (List ℕ) → List Moment → Type 0
+abbrev pub AreKnown : List (List ℕ) → List Happening → Type 0
 AreKnown names ms = AllByRecursion (λ m. IsSome (line_in names m)) ms
 
 -- ---- the same of all trees at once: each name is declared once, and at most 256 are
@@ -105,7 +112,7 @@ abbrev pub IsGood : Declaration → Type 0
 IsGood d = (is_name d.name ≡ true) × IsReservation d.params
 
 abbrev pub IsAlone : Tree → Type 0
-IsAlone t = IsCapacity t.queue × AllByRecursion IsGood t.tasks × GoOn 0 t.moments
+IsAlone t = IsCapacity t.queue × AllByRecursion IsGood t.tasks × GoOn t.version 0 t.happenings
 
 pub record AreTogether (ts : List Tree) : Type 0 where
   pub each : AllByRecursion IsAlone ts
@@ -118,7 +125,7 @@ pub record Reads (files : List (List ℕ)) (trees : List Tree) : Type 0 where
   pub few : length files ≤ 64
   pub texts : files ≡ map text trees
   pub together : AreTogether trees
-  pub known : AllByRecursion (λ t. AreKnown (names_of (all_tasks trees)) t.moments) trees
+  pub known : AllByRecursion (λ t. AreKnown (names_of (all_tasks trees)) t.happenings) trees
 
 -- the files before this one have trees, and it has a fault
 pub record FirstFault (names : List (List ℕ)) (files : List (List ℕ)) (k : Kind) (f n : ℕ) : Type 0 where
@@ -131,13 +138,13 @@ pub record FirstFault (names : List (List ℕ)) (files : List (List ℕ)) (k : K
   pub fault : FileFault (names ++ names_of (all_tasks fronts)) bytes k n
 
 -- the first moment with a name that is not declared
-pub record UnknownIn (names : List (List ℕ)) (ms : List Moment) (n : ℕ) : Type 0 where
-  pub before : List Moment
-  pub moment : Moment
-  pub after : List Moment
-  pub moments_are : ms ≡ before ++ moment ∷ after
+pub record UnknownIn (names : List (List ℕ)) (ms : List Happening) (n : ℕ) : Type 0 where
+  pub before : List Happening
+  pub happening : Happening
+  pub after : List Happening
+  pub happenings_are : ms ≡ before ++ happening ∷ after
   pub known : AreKnown names before
-  pub unknown : line_in names moment ≡ None
+  pub unknown : line_in names happening ≡ None
   pub line : n ≡ length before
 
 -- all files have trees, and this is the first line that names a task that none declares
@@ -151,9 +158,9 @@ pub record UnknownFault (files : List (List ℕ)) (k : Kind) (f n : ℕ) : Type 
   pub more : List Tree
   pub split : trees ≡ fronts ++ tree ∷ more
   pub file : f ≡ length fronts
-  pub known : AllByRecursion (λ t. AreKnown (names_of (all_tasks trees)) t.moments) fronts
+  pub known : AllByRecursion (λ t. AreKnown (names_of (all_tasks trees)) t.happenings) fronts
   pub place : ℕ
-  pub unknown : UnknownIn (names_of (all_tasks trees)) tree.moments place
+  pub unknown : UnknownIn (names_of (all_tasks trees)) tree.happenings place
   pub line : n ≡ 3 + length tree.tasks + place
 
 -- the fault that is answered

@@ -9,7 +9,7 @@ use Rattle.grub_trace.specs.declared.line.Act.{Act}
 use Rattle.grub_trace.specs.declared.line.Act.TheVariants as act
 use Rattle.grub_trace.specs.Faults.{task_of}
 use Rattle.grub_trace.specs.declared.line.Line.{Line}
-use Rattle.grub_trace.specs.Tree.{Declaration, Deed, does, runs, reads, Moment, Tree, names_of, params_of}
+use Rattle.grub_trace.specs.Tree.{Declaration, Deed, does, runs, retunes, reads, Happening, Tree, names_of, params_of}
 
 -- ---- names to numbers
 
@@ -23,16 +23,17 @@ act_of Exit t = act.Exit t
 abbrev pub act_in : List (List ℕ) → Deed → Option Act
 act_in names (does v n) = option_map (act_of v) (task_of names n)
 act_in names (runs n d) = option_map (λ t. act.Run t d) (task_of names n)
+act_in names (retunes n p) = option_map (λ t. act.Retune t p.runtime p.period) (task_of names n)
 act_in names reads = Some act.Read
 
-abbrev pub line_in : List (List ℕ) → Moment → Option Line
+abbrev pub line_in : List (List ℕ) → Happening → Option Line
 line_in names m = option_map (λ a. record { m = m.at; act = a }) (act_in names m.deed)
 
 -- ---- the plan of trees
 
 -- the script of a tree, where these names are declared
 abbrev pub script_of : List (List ℕ) → Tree → List Line
-script_of names t = filter_map (line_in names) t.moments
+script_of names t = filter_map (line_in names) t.happenings
 
 abbrev pub all_tasks : List Tree → List Declaration
 all_tasks ts = flat_map (λ t. t.tasks) ts

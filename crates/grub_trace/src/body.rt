@@ -1,5 +1,5 @@
 ghost use Rattle.std.specs.Prelude.{◌≡◌, map, OnOk, IfOk, IfSome, is_some, List, length, Ok, Some, None, true};
-ghost use Rattle.grub_trace.specs.Reading.{read_view, take_line, take_form, declarations, IsIndexed, Takes, moment_view, times_of, says, deed_view, declares, Stops, Says, Declares, IsMoment, form_view};
+ghost use Rattle.grub_trace.specs.Reading.{read_view, take_line, take_form, declarations, IsIndexed, Takes, happening_view, times_of, says, deed_view, declares, Stops, Says, Declares, IsMoment, IsRun, IsRetune, form_view};
 ghost use Rattle.grub_trace.specs.Faults.{last_of, is_named, reservation_fits};
 ghost use Rattle.grub_trace.specs.Tree.{is_name};
 
@@ -7,6 +7,7 @@ use crate::fault::{Kind, Stop};
 use crate::form::{Form, Verb, form_of};
 use crate::number::number;
 use crate::tasks::Tasks;
+use crate::version::Version;
 use grub_bw::Params;
 use std::alloc::Global;
 
@@ -15,33 +16,35 @@ use std::alloc::Global;
 pub enum RawDeed<'a> {
     Does(Verb, &'a [u8]),
     Runs(&'a [u8], u32),
+    Retunes(&'a [u8], u32, u32),
     Reads,
 }
 
+/// What happens at a moment.
 #[derive(Clone, Copy)]
-pub struct RawMoment<'a> {
+pub struct RawHappening<'a> {
     pub at: u32,
     pub deed: RawDeed<'a>,
 }
 
-/// The moment of the last line so far, or 0.
-fn last(moments: &[RawMoment]) -> u32
-    ensures { result ≡ last_of (times_of (map moment_view moments.now)) }
+/// The moment of the last happening so far, or 0.
+fn last(happenings: &[RawHappening]) -> u32
+    ensures { result ≡ last_of (times_of (map happening_view happenings.now)) }
 {
-    match moments.last() {
+    match happenings.last() {
         None => 0,
         Some(m) => m.at,
     }
 }
 
-/// Adds a moment that is within its limits.
-fn say<'a>(moments: &mut Vec<RawMoment<'a>>, at: u32, deed: RawDeed<'a>) -> Result<(), Stop>
-    ensures { Says result (map moment_view moments.old.items) (map moment_view moments.new.items) at (deed_view deed.entry) }
+/// Adds a happening that is within its limits.
+fn say<'a>(happenings: &mut Vec<RawHappening<'a>>, at: u32, deed: RawDeed<'a>) -> Result<(), Stop>
+    ensures { Says result (map happening_view happenings.old.items) (map happening_view happenings.new.items) at (deed_view deed.entry) }
 {
-    if at < last(moments) {
+    if at < last(happenings) {
         return Err(Stop::Fault(Kind::MomentGoesBack));
     }
-    moments.push(RawMoment { at, deed })?;
+    happenings.push(RawHappening { at, deed })?;
     Ok(())
 }
 
@@ -84,41 +87,45 @@ fn declare(
     tasks.push(alloc, name, params)
 }
 
+/// Takes a line's form, whose name is a name.
 fn take_form<'a>(
     alloc: Global,
+    version: Version,
     tasks: &mut Tasks,
-    moments: &mut Vec<RawMoment<'a>>,
+    happenings: &mut Vec<RawHappening<'a>>,
     form: Form<'a>,
 ) -> Result<(), Stop>
     requires indexed { IsIndexed tasks.old }
     requires names { is_named (form_view form) ≡ true }
-    ensures takes { Takes result (read_view tasks.new moments.new.items) (take_form (read_view tasks.old moments.old.items) (form_view form.entry)) }
+    ensures takes { Takes result (read_view version tasks.new happenings.new.items) (take_form (read_view version tasks.old happenings.old.items) (form_view form.entry)) }
     ensures indexed { OnOk result (IsIndexed tasks.new) }
 {
     match form {
         Form::Queue(..) => Err(Stop::Fault(Kind::BadLine)),
         Form::Task(name, runtime, period) => {
-            if !moments.is_empty() {
+            if !happenings.is_empty() {
                 return Err(Stop::Fault(Kind::BadLine));
             }
             declare(alloc, tasks, name, runtime, period)
         }
         Form::Does(at, verb, name) => {
             let at = moment(at)?;
-            say(moments, at, RawDeed::Does(verb, name))
+            say(happenings, at, RawDeed::Does(verb, name))
         }
         Form::Run(at, name, span) => {
-            let (Some(at), Some(span)) = (number(at), number(span)) else {
-                return Err(Stop::Fault(Kind::BadNumber));
-            };
-            if at > MAX_MOMENT || span < 1 || span > MAX_SPAN {
-                return Err(Stop::Fault(Kind::OutOfRange));
+            let (at, span) = run(at, span)?;
+            say(happenings, at, RawDeed::Runs(name, span))
+        }
+        Form::Retune(at, name, runtime, period) => {
+            if !version.may_retune() {
+                return Err(Stop::Fault(Kind::BadLine));
             }
-            say(moments, at, RawDeed::Runs(name, span))
+            let (at, runtime, period) = retune(at, runtime, period)?;
+            say(happenings, at, RawDeed::Retunes(name, runtime, period))
         }
         Form::Read(at) => {
             let at = moment(at)?;
-            say(moments, at, RawDeed::Reads)
+            say(happenings, at, RawDeed::Reads)
         }
     }
 }
@@ -127,6 +134,7 @@ const MAX_MOMENT: u32 = 2147483647;
 
 const MAX_SPAN: u32 = 16777216;
 
+/// The moment that a word spells.
 fn moment(word: &[u8]) -> Result<u32, Stop>
     ensures { IsMoment result word.now }
 {
@@ -137,19 +145,47 @@ fn moment(word: &[u8]) -> Result<u32, Stop>
     }
 }
 
+/// The moment and the length of a run.
+fn run(at: &[u8], span: &[u8]) -> Result<(u32, u32), Stop>
+    ensures { IsRun result at.now span.now }
+{
+    let (Some(at), Some(span)) = (number(at), number(span)) else {
+        return Err(Stop::Fault(Kind::BadNumber));
+    };
+    if at > MAX_MOMENT || span < 1 || span > MAX_SPAN {
+        return Err(Stop::Fault(Kind::OutOfRange));
+    }
+    Ok((at, span))
+}
+
+/// The moment and the new reservation of a retune.
+fn retune(at: &[u8], runtime: &[u8], period: &[u8]) -> Result<(u32, u32, u32), Stop>
+    ensures { IsRetune result at.now runtime.now period.now }
+{
+    let (Some(at), Some(runtime), Some(period)) = (number(at), number(runtime), number(period))
+    else {
+        return Err(Stop::Fault(Kind::BadNumber));
+    };
+    if at > MAX_MOMENT || reservation(runtime, period).is_none() {
+        return Err(Stop::Fault(Kind::OutOfRange));
+    }
+    Ok((at, runtime, period))
+}
+
 /// Takes a line below the second.
 pub fn take_line<'a>(
     alloc: Global,
+    version: Version,
     tasks: &mut Tasks,
-    moments: &mut Vec<RawMoment<'a>>,
+    happenings: &mut Vec<RawHappening<'a>>,
     line: &'a [u8],
 ) -> Result<(), Stop>
     requires indexed { IsIndexed tasks.old }
-    ensures takes { Takes result (read_view tasks.new moments.new.items) (take_line (read_view tasks.old moments.old.items) line.now) }
+    ensures takes { Takes result (read_view version tasks.new happenings.new.items) (take_line (read_view version tasks.old happenings.old.items) line.now) }
     ensures indexed { OnOk result (IsIndexed tasks.new) }
 {
     match form_of(line) {
         None => Err(Stop::Fault(Kind::BadLine)),
-        Some(form) => take_form(alloc, tasks, moments, form),
+        Some(form) => take_form(alloc, version, tasks, happenings, form),
     }
 }

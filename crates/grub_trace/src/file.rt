@@ -1,15 +1,15 @@
-ghost use Rattle.std.specs.Prelude.{◌≡◌, OnOk, IfSome, is_some, [], codes};
-ghost use Rattle.std.specs.Str.{bytes_eq};
-ghost use Rattle.grub_trace.specs.Reading.{moment_view, declarations, IsIndexed, read_view, read_lines, read_queue, Gives, GivesQueue, file_view, read_second, read_file};
+ghost use Rattle.std.specs.Prelude.{◌≡◌, OnOk, IfSome, is_some};
+ghost use Rattle.grub_trace.specs.Reading.{opened, happening_view, declarations, IsIndexed, read_view, read_lines, read_queue, Gives, GivesQueue, file_view, read_second, read_file};
 ghost use Rattle.grub_trace.specs.Meaning.{parts_of};
-ghost use Rattle.grub_trace.specs.Faults.{capacity_fits};
+ghost use Rattle.grub_trace.specs.Faults.{capacity_fits, version_of};
 
-use crate::body::{RawMoment, take_line};
+use crate::body::{RawHappening, take_line};
 use crate::fault::{Halt, Kind};
 use crate::form::{Form, form_of};
 use crate::number::number;
 use crate::raw::RawFile;
 use crate::tasks::Tasks;
+use crate::version::Version;
 use crate::words::{first_line, first_word};
 use grub_bw::Queue;
 use std::alloc::Global;
@@ -17,18 +17,19 @@ use std::alloc::Global;
 /// Reads the lines below the second.
 fn read_lines<'a>(
     alloc: Global,
+    version: Version,
     tasks: &mut Tasks,
     text: &'a [u8],
-) -> Result<Vec<RawMoment<'a>>, Halt>
+) -> Result<Vec<RawHappening<'a>>, Halt>
     requires indexed { IsIndexed tasks.old }
-    ensures gives { Gives result (λ v. read_view tasks.new v.items) (read_lines (record { declared = declarations tasks.old; moments = [] }) 3 (parts_of text.now)) }
+    ensures gives { Gives result (λ v. read_view version tasks.new v.items) (read_lines (opened version (declarations tasks.old)) 3 (parts_of text.now)) }
     ensures indexed { OnOk result (IsIndexed tasks.new) }
 {
-    let mut moments = Vec::new(alloc);
+    let mut happenings = Vec::new(alloc);
     let mut rest = text;
     let mut number = 3;
     while let Some((line, after)) = first_line(rest) {
-        if let Err(stop) = take_line(alloc, tasks, &mut moments, line) {
+        if let Err(stop) = take_line(alloc, version, tasks, &mut happenings, line) {
             return Err(stop.at_line(number));
         }
         rest = after;
@@ -37,7 +38,7 @@ fn read_lines<'a>(
     if !rest.is_empty() {
         return Err(Halt::At(Kind::CutShort, number));
     }
-    Ok(moments)
+    Ok(happenings)
 }
 
 /// The constants of a runqueue, where they are ones.
@@ -69,9 +70,14 @@ fn read_queue(line: &[u8]) -> Result<Queue, Kind>
 
 #[tactic(auto, unfolding(crate::specs::Reading::read_second))]
 /// Reads the second line and those below it.
-fn read_second<'a>(alloc: Global, tasks: &mut Tasks, text: &'a [u8]) -> Result<RawFile<'a>, Halt>
+fn read_second<'a>(
+    alloc: Global,
+    version: Version,
+    tasks: &mut Tasks,
+    text: &'a [u8],
+) -> Result<RawFile<'a>, Halt>
     requires indexed { IsIndexed tasks.old }
-    ensures gives { Gives result (λ v. file_view tasks.new v) (read_second (declarations tasks.old) (parts_of text.now)) }
+    ensures gives { Gives result (λ v. file_view tasks.new v) (read_second version (declarations tasks.old) (parts_of text.now)) }
     ensures indexed { OnOk result (IsIndexed tasks.new) }
 {
     let Some((line, rest)) = first_line(text) else {
@@ -87,12 +93,12 @@ fn read_second<'a>(alloc: Global, tasks: &mut Tasks, text: &'a [u8]) -> Result<R
         Err(kind) => return Err(Halt::At(kind, 2)),
     };
     let before = tasks.list.len();
-    let moments = read_lines(alloc, tasks, rest)?;
+    let happenings = read_lines(alloc, version, tasks, rest)?;
     let first = 3 + (tasks.list.len() - before);
     Ok(RawFile {
         queue,
         first,
-        moments,
+        happenings,
     })
 }
 
@@ -111,14 +117,21 @@ pub fn read_file<'a>(alloc: Global, tasks: &mut Tasks, bytes: &'a [u8]) -> Resul
         };
         return Err(Halt::At(kind, 1));
     };
-    if !is_header(line) {
+    let Some(version) = version_of(line) else {
         return Err(Halt::At(Kind::BadHeader, 1));
-    }
-    read_second(alloc, tasks, rest)
+    };
+    read_second(alloc, version, tasks, rest)
 }
 
-fn is_header(line: &[u8]) -> bool
-    ensures { result ≡ bytes_eq line.now (codes "grub 1") }
+/// The version that a first line names.
+fn version_of(line: &[u8]) -> Option<Version>
+    ensures { result ≡ version_of line.now }
 {
-    line == b"grub 1".as_slice()
+    if line == b"grub 1".as_slice() {
+        Some(Version::One)
+    } else if line == b"grub 2".as_slice() {
+        Some(Version::Two)
+    } else {
+        None
+    }
 }

@@ -15,6 +15,7 @@ mod tasks;
 #[cfg(test)]
 mod tests;
 mod text;
+mod version;
 mod words;
 
 pub use entry::{Answer, Ask, Entry, Report};

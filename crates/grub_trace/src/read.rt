@@ -1,5 +1,5 @@
 ghost use Rattle.std.specs.Prelude.{◌≡◌, ℕ, List, MatchResult, IfOk, IfErr, [], map, string_bytes};
-ghost use Rattle.grub_trace.specs.Reading.{Answers, all_view, read_from, contents, IsIndexed, declarations, script_from, ScriptIs, moment_view, deed_view, body_view, scripts_from, plan_from};
+ghost use Rattle.grub_trace.specs.Reading.{Answers, all_view, read_from, contents, IsIndexed, declarations, script_from, ScriptIs, happening_view, deed_view, body_view, scripts_from, plan_from};
 ghost use Rattle.grub_trace.specs.Naming.{act_in, line_in};
 ghost use Rattle.grub_trace.specs.Tree.{Tree, names_of};
 ghost use Rattle.grub_trace.specs.Meaning.{Reads, IsTraceFault, IsFault, IsOnly};
@@ -41,6 +41,7 @@ fn read_all(alloc: Global, files: &[Vec<u8>]) -> Result<AllRead<'_>, TraceFault>
     Ok(AllRead { tasks, files: raw })
 }
 
+/// The act of a deed, where its task is declared.
 fn act(tasks: &Tasks, deed: RawDeed) -> Option<Act>
     requires { IsIndexed tasks.now }
     ensures { result ≡ act_in (names_of (declarations tasks.now)) (deed_view deed.entry) }
@@ -60,6 +61,10 @@ fn act(tasks: &Tasks, deed: RawDeed) -> Option<Act>
             let task = tasks.find(name)?;
             Some(Act::Run(task, span))
         }
+        RawDeed::Retunes(name, runtime, period) => {
+            let task = tasks.find(name)?;
+            Some(Act::Retune(task, runtime, period))
+        }
         RawDeed::Reads => Some(Act::Read),
     }
 }
@@ -67,14 +72,17 @@ fn act(tasks: &Tasks, deed: RawDeed) -> Option<Act>
 /// The script of a file.
 fn script(alloc: Global, tasks: &Tasks, file: &RawFile) -> Result<Vec<Line>, Halt>
     requires { IsIndexed tasks.now }
-    ensures { ScriptIs result (λ v. v.items) (script_from (names_of (declarations tasks.now)) [] file.now.first (map moment_view file.now.moments.items)) }
+    ensures { ScriptIs result (λ v. v.items) (script_from (names_of (declarations tasks.now)) [] file.now.first (map happening_view file.now.happenings.items)) }
 {
-    let mut lines = Vec::with_capacity(alloc, file.moments.len())?;
-    for (i, moment) in file.moments.iter().enumerate() {
-        let Some(act) = act(tasks, moment.deed) else {
+    let mut lines = Vec::with_capacity(alloc, file.happenings.len())?;
+    for (i, happening) in file.happenings.iter().enumerate() {
+        let Some(act) = act(tasks, happening.deed) else {
             return Err(Halt::At(Kind::UnknownTask, file.first + i));
         };
-        lines.push(Line { m: moment.at, act })?;
+        lines.push(Line {
+            m: happening.at,
+            act,
+        })?;
     }
     Ok(lines)
 }

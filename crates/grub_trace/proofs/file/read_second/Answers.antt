@@ -7,16 +7,16 @@ use Rattle.grub_trace.proofs.LineLemmas.{second_err, second_halts, second_view, 
 use Rattle.grub_trace.proofs.file.read_second.Goals as goal
 
 pub returns-in-Err-clause-gives : goal.returns-in-Err-clause-gives
-returns-in-Err-clause-gives c = second_err (declarations c.args.tasks.now) c.args.text.now c.in-Some.line.now c.in-Some.rest.now c.in-Err.kind c.in-Some.ensures.parts (sym c.in-Err.ensures)
+returns-in-Err-clause-gives c = second_err c.args.version (declarations c.args.tasks.now) c.args.text.now c.in-Some.line.now c.in-Some.rest.now c.in-Err.kind c.in-Some.ensures.parts (sym c.in-Err.ensures)
 
-pub returns-in_err-moments-clause-gives : goal.returns-in_err-moments-clause-gives
-returns-in_err-moments-clause-gives c =
+pub returns-in_err-happenings-clause-gives : goal.returns-in_err-happenings-clause-gives
+returns-in_err-happenings-clause-gives c =
     let p = err_from_is_err_and c.from_residual.result c.from_residual.ensures.1 in
-    rw (p.1, p.2) (second_halts c.in_err-moments.field-0.0 (declarations c.args.tasks.now) c.args.text.now c.in-Some.line.now c.in-Some.rest.now _ c.in-Some.ensures.parts (sym c.in-Ok.ensures) c.in_err-moments.ensures.gives)
+    rw (p.1, p.2) (second_halts c.in_err-happenings.field-0.0 c.args.version (declarations c.args.tasks.now) c.args.text.now c.in-Some.line.now c.in-Some.rest.now _ c.in-Some.ensures.parts (sym c.in-Ok.ensures) c.in_err-happenings.ensures.gives)
 
 pub overflow_sub-first : goal.overflow_sub-first
 overflow_sub-first c =
-    let grow = lines_grow _ _ _ 3 c.in_ok-moments.ensures.gives in
+    let grow = lines_grow _ _ _ 3 c.in_ok-happenings.ensures.gives in
     let before = c.args.tasks.now.list in
     let after = c.read_lines.new.tasks.list in
     omega (arith, grow, length-map before.items task_view, length-map after.items task_view, before.ok.0, after.ok.0, c.len.ensures, c.len-before.ensures)
@@ -25,5 +25,5 @@ pub returns-clause-gives : goal.returns-clause-gives
 returns-clause-gives c =
     let before = c.args.tasks.now.list in
     let after = c.read_lines.new.tasks.list in
-    second_view (declarations c.args.tasks.now) c.args.text.now c.in-Some.line.now c.in-Some.rest.now c.in-Ok.queue _ _ c.in-Some.ensures.parts (sym c.in-Ok.ensures) c.in_ok-moments.ensures.gives
+    second_view c.args.version (declarations c.args.tasks.now) c.args.text.now c.in-Some.line.now c.in-Some.rest.now c.in-Ok.queue _ _ c.in-Some.ensures.parts (sym c.in-Ok.ensures) c.in_ok-happenings.ensures.gives
     (omega (arith, length-map before.items task_view, length-map after.items task_view, before.ok.0, after.ok.0, c.len.ensures, c.len-before.ensures))
