@@ -16,6 +16,7 @@ use Rattle.grub_book.specs.declared.op.Op.{Op}
 use Rattle.grub_book.specs.declared.op.Op.TheVariants.{Join, Wake, Block, Leave, Timer, Exit, Charge, Retune}
 use Rattle.grub_book.specs.declared.reply.Reply.{Reply}
 use Rattle.grub_book.specs.declared.reply.Reply.TheVariants.{Joined, Waiting, Asleep, Retired, Retuned, Elsewhere, Worn, Stale, Early, Full}
+use Rattle.grub_book.proofs.Cases.{of_either}
 use Rattle.grub_book.proofs.Soundness.{moved}
 
 -- it gives no reply that is given under a claim
@@ -28,14 +29,10 @@ outside answer is reply e = let same : answer ≡ reply = cc in rw (← same) is
 undecided : IsOutside None
 undecided = λ reply e. absurd cc
 
-outside_either : (b : Bool) (x y : Option Reply) → IsOutside x → IsOutside y → IsOutside (cond b x y)
-outside_either true x y k l = k
-outside_either false x y k l = l
-
 outside_on : (r : ℕ) (place : Place) (by_state : State → Option Reply) → ((state : State) → IsOutside (by_state state)) → IsOutside (refused_on r place by_state)
 outside_on r Away by_state h = outside _ refl
 outside_on r Gone by_state h = outside _ refl
-outside_on r (On s state) by_state h = outside_either (s == r) (by_state state) (Some (Elsewhere s)) (h state) (outside (Elsewhere s) refl)
+outside_on r (On s state) by_state h = of_either IsOutside (s == r) (by_state state) (Some (Elsewhere s)) (h state) (outside (Elsewhere s) refl)
 
 outside_wake : (state : State) → IsOutside (refused_wake state)
 outside_wake Contending = outside _ refl
@@ -43,7 +40,7 @@ outside_wake NonContending = undecided
 outside_wake Inactive = undecided
 
 outside_block : (count : ℕ) (state : State) → IsOutside (refused_block count state)
-outside_block count Contending = outside_either (count == count_most) (Some Worn) None (outside Worn refl) undecided
+outside_block count Contending = of_either IsOutside (count == count_most) (Some Worn) None (outside Worn refl) undecided
 outside_block count NonContending = outside _ refl
 outside_block count Inactive = outside _ refl
 
@@ -68,7 +65,7 @@ refused_outside (On s Inactive) count Leave = undecided
 refused_outside Away count (Timer ticket m) = outside _ refl
 refused_outside Gone count (Timer ticket m) = outside _ refl
 refused_outside (On s Contending) count (Timer ticket m) = outside _ refl
-refused_outside (On s NonContending) count (Timer ticket m) = outside_either (count == ticket) None (Some Stale) undecided (outside Stale refl)
+refused_outside (On s NonContending) count (Timer ticket m) = of_either IsOutside (count == ticket) None (Some Stale) undecided (outside Stale refl)
 refused_outside (On s Inactive) count (Timer ticket m) = outside _ refl
 refused_outside Gone count (Retune q p) = outside _ refl
 refused_outside Away count (Retune q p) = undecided
@@ -81,10 +78,6 @@ refused_outside (On s Contending) count Exit = outside _ refl
 refused_outside (On s NonContending) count Exit = outside _ refl
 refused_outside (On s Inactive) count Exit = undecided
 
-under_either : (b : Bool) (x y : Record × Reply) → is_under_claim x.1 ≡ true → is_under_claim y.1 ≡ true → is_under_claim (cond b x y).1 ≡ true
-under_either true x y k l = k
-under_either false x y k l = l
-
 under_charged : (x : Record) (dq : ℕ) (o : Option (ℕ × Server)) → is_under_claim (charged x dq o).1 ≡ true
 under_charged x dq None = refl
 under_charged x dq (Some (k, t)) = refl
@@ -93,20 +86,20 @@ under_charged x dq (Some (k, t)) = refl
 pub settled_under : (queue : Capacity) (now : Reading) (x : Record) (op : Op) → is_under_claim (settled x queue now op).1 ≡ true
 settled_under queue now x (Join r m) =
     let y = arrived x r m in
-    under_either (nat_lt queue.most (now.this + bandwidth_of x.params)) (x, Full) (y, Joined y.server.q y.server.d) refl refl
+    of_either (λ (m : Record × Reply). is_under_claim m.1 ≡ true) (nat_lt queue.most (now.this + bandwidth_of x.params)) (x, Full) (y, Joined y.server.q y.server.d) refl refl
 settled_under queue now x (Wake r m) = refl
 settled_under queue now x (Block r m) =
     let waits : Record = record x { place = On r NonContending; count = x.count + 1 } in
     let sleeps : Record = record x { place = On r Inactive } in
-    under_either (nat_lt m (lag_moment x)) (waits, Waiting (x.count + 1) (lag_moment x)) (sleeps, Asleep) refl refl
+    of_either (λ (m : Record × Reply). is_under_claim m.1 ≡ true) (nat_lt m (lag_moment x)) (waits, Waiting (x.count + 1) (lag_moment x)) (sleeps, Asleep) refl refl
 settled_under queue now x Leave = refl
 settled_under queue now x (Timer ticket m) =
     let retires : Record = record x { place = On (runqueue_of x.place (Timer ticket m)) Inactive } in
-    under_either (nat_lt m (lag_moment x)) (x, Early (lag_moment x)) (retires, Retired) refl refl
+    of_either (λ (m : Record × Reply). is_under_claim m.1 ≡ true) (nat_lt m (lag_moment x)) (x, Early (lag_moment x)) (retires, Retired) refl refl
 settled_under queue now x Exit = refl
 settled_under queue now x (Retune q p) =
     let params : Reservation = record { runtime = q; period = p } in
-    under_either (is_inactive x.place && nat_lt (queue.most + bandwidth_of x.params) (now.this + bandwidth_of params)) (x, Full) (record x { params = params; server = record { q = q; d = 0 } }, Retuned) refl refl
+    of_either (λ (m : Record × Reply). is_under_claim m.1 ≡ true) (is_inactive x.place && nat_lt (queue.most + bandwidth_of x.params) (now.this + bandwidth_of params)) (x, Full) (record x { params = params; server = record { q = q; d = 0 } }, Retuned) refl refl
 settled_under queue now x (Charge r dt) =
     let dq = charge_of dt (bandwidth_of x.params) queue now.running now.this in
     under_charged x dq (depleted_of x.server x.params dq)
