@@ -1,0 +1,3 @@
+pub mod AloneLemmas
+pub mod Known
+pub mod TextLemmas

@@ -1,0 +1,58 @@
+-- The text that a run writes, and what a writer took of it.
+use Rattle.std.specs.Prelude.{◌≡◌, ℕ, ◌+◌, ◌++◌, List, [], ◌∷◌, take, ⊤, Option, Some, None}
+use Rattle.std.specs.Io.KnownBytes.{Appends}
+use Rattle.grub_book.specs.declared.event.Reading.{Reading}
+use Rattle.grub_trace.specs.Meaning.{Reads, IsTraceFault, IsOnly}
+use Rattle.grub_trace.specs.Naming.{plan_of}
+use Rattle.grub_trace.specs.Tree.{Tree}
+use Rattle.grub_trace.specs.Texts.{report_text}
+use Rattle.grub_trace.specs.declared.entry.Report.{Report}
+use Rattle.grub_trace.specs.declared.fault.Kind.{Kind}
+use Rattle.grub_trace.specs.declared.fault.TraceFault.TheVariants as trace
+use Rattle.grub_run.specs.Alone.{IsOutcome}
+use Rattle.grub_run.specs.declared.fault.GrubFault.{GrubFault}
+use Rattle.grub_run.specs.declared.fault.GrubFault.TheVariants as faults
+
+-- the texts of these reports, the first of which is of runqueue r and the next of r + 1
+abbrev pub texts_from : List (List ℕ) → ℕ → List Report → List Reading → List ℕ
+texts_from names r [] closing = []
+texts_from names r (x ∷ reports) [] = []
+texts_from names r (x ∷ reports) (c ∷ closing) = report_text names r x.entries.items c ++ texts_from names (r + 1) reports closing
+
+-- the text is that of the reports of a run of these files, in file order
+pub record IsText (files : List (List ℕ)) (text : List ℕ) : Type 0 where
+  pub trees : List Tree
+  pub read : Reads files trees
+  pub reports : List Report
+  pub closing : List Reading
+  pub outcome : IsOutcome (plan_of trees) reports closing
+  pub whole : text ≡ texts_from (plan_of trees).names 0 reports closing
+
+-- known bytes grow by a beginning of the text
+abbrev pub AppendsPrefix : Option (List ℕ) → Option (List ℕ) → List ℕ → Type 0
+AppendsPrefix None new text = ⊤
+AppendsPrefix (Some xs) None text = ⊥
+AppendsPrefix (Some xs) (Some ys) text = (k : ℕ) × (ys ≡ xs ++ take k text)
+
+-- what was written is the text of a run, and nothing else
+abbrev pub WritesText : List (List ℕ) → Option (List ℕ) → Option (List ℕ) → Type 0
+WritesText files old new = (text : List ℕ) × IsText files text × Appends old new text
+
+-- what was written is a beginning of the text of a run
+abbrev pub WritesPrefix : List (List ℕ) → Option (List ℕ) → Option (List ℕ) → Type 0
+WritesPrefix files old new = (text : List ℕ) × IsText files text × AppendsPrefix old new text
+
+-- a fault of the files is the one that their reader answers
+abbrev pub IsFaultOf : List (List ℕ) → GrubFault → Type 0
+IsFaultOf files (faults.Trace fault) = IsTraceFault files fault
+IsFaultOf files fault = ⊤
+
+-- this fault of a file and no other, unless memory was refused to the reader
+abbrev pub IsOnlyFault : GrubFault → Kind → ℕ → ℕ → Type 0
+IsOnlyFault (faults.Trace fault) k f n = IsOnly fault k f n
+IsOnlyFault fault k f n = ⊥
+
+-- no fault of a file
+abbrev pub IsNoFileFault : GrubFault → Type 0
+IsNoFileFault (faults.Trace fault) = fault ≡ trace.NoMemory
+IsNoFileFault fault = ⊤
