@@ -7,7 +7,7 @@ use Rattle.grub_book.specs.Sums.{Records, reading_of}
 use Rattle.grub_book.specs.History.{after, book_from, book_of, is_reading, changes_from, changes_of, StartsWith, HasChanged}
 use Rattle.grub_book.specs.declared.event.Event.{Event}
 use Rattle.grub_book.specs.declared.event.Reading.{Reading}
-use Rattle.grub_book.proofs.Histories.{book_from-append, book_more}
+use Rattle.grub_book.proofs.Histories.{book_more}
 
 pub changes_from-append : (s : Machine) (book : Records) (r : ℕ) (more rest : List Event) → changes_from s book r (more ++ rest) ≡ changes_from s book r more + changes_from s (book_from s book more) r rest
 changes_from-append s book r [] rest = omega arith
