@@ -1,3 +1,6 @@
 pub mod TimerBag
 pub mod Order
-pub mod Inside
+pub mod Sorted
+pub mod Firsts
+pub mod Nodes
+pub mod Used

@@ -9,13 +9,13 @@ entry x = (x.t, (x.z, x.ticket))
 abbrev pub entries_of : List Timer → List (ℕ × (ℕ × ℕ))
 entries_of xs = map entry xs
 
-abbrev pub is_earlier : Timer → Timer → Bool
-is_earlier x y = nat_lt x.z y.z || x.z == y.z && nat_lt x.t y.t
+abbrev pub is_before : Timer → Timer → Bool
+is_before x y = nat_lt x.z y.z || x.z == y.z && nat_lt x.t y.t
 
 -- each is earlier than all behind it
 abbrev pub IsAscending : List Timer → Type 0
 IsAscending [] = Unit {0}
-IsAscending (x ∷ xs) = AllByRecursion (λ y. is_earlier x y ≡ true) xs × IsAscending xs
+IsAscending (x ∷ xs) = AllByRecursion (λ y. is_before x y ≡ true) xs × IsAscending xs
 
 -- no two are of one task
 abbrev pub AreApart : List Timer → Type 0

@@ -1,10 +1,18 @@
 //! The timers of one worker: a bag from which the least comes first once it is due.
 #![tactic(auto)]
 
+mod chains;
+mod fault;
+mod node;
+mod scan;
+mod sorted;
 #[cfg(test)]
 mod tests;
 mod timer;
+mod used;
 mod wheel;
 
+pub use fault::WheelFault;
+pub use sorted::SortedWheel;
 pub use timer::Timer;
-pub use wheel::{Wheel, WheelFault};
+pub use wheel::Wheel;

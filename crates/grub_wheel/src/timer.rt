@@ -1,7 +1,19 @@
+ghost use Rattle.std.specs.Prelude.{◌≡◌};
+ghost use Rattle.grub_wheel.specs.Order.{is_before};
+
 /// The timer of a blocked task `t`: at its 0-lag moment `z`, with the ticket of the block that waits for it.
 #[derive(Clone, Copy, Debug, PartialEq, Eq)]
 pub struct Timer {
     pub z: u32,
     pub t: u32,
     pub ticket: u32,
+}
+
+impl Timer {
+    /// Whether it comes before the timer of another task: by moment, then by task.
+    pub(crate) fn is_before(self, other: Timer) -> bool
+        ensures { result ≡ is_before self other }
+    {
+        self.z < other.z || (self.z == other.z && self.t < other.t)
+    }
 }

@@ -1,29 +1,38 @@
-ghost use Rattle.std.specs.Prelude.{◌≡◌, ◌<◌, ◌≤◌, ◌↔◌, Some, None, IfOk, OnOk, OnErr, IfSome, IfNone, IsTrue, not, position, ◌==◌};
+//! Timers in slots by their moments.
+ghost use Rattle.std.specs.Prelude.{◌≡◌, ◌≢◌, ◌<◌, ◌≤◌, ◌↔◌, ℕ, Some, None, IfOk, OnOk, OnErr, IfSome, IfNone, IsTrue, length};
 ghost use Rattle.std.specs.Bool.{OnTrue, OnFalse};
 ghost use Rattle.std.specs.FinMap as map;
 ghost use Rattle.grub_wheel.specs.TimerBag.{IsArmed, IsArmedWith, IsLeast, AreLater, fresh, after_arming, after_taking};
-ghost use Rattle.grub_wheel.specs.Order.{is_earlier};
+ghost use Rattle.grub_wheel.specs.Nodes.{Armed, tasks, free_node};
 
+use crate::chains::{SLOTS, put, take};
+use crate::fault::WheelFault;
+use crate::node::Node;
+use crate::scan::earliest;
 use crate::timer::Timer;
-use std::alloc::{AllocError, Global};
+use std::alloc::Global;
 use std::marker::Model;
 
-/// Why a wheel could not be made, or given a place.
-#[derive(Clone, Copy, Debug, PartialEq, Eq)]
-pub enum WheelFault {
-    NoMemory,
-}
-
-/// Timers, the earliest first.
+/// The armed timers of a worker, at most one for each task. A timer at moment z stands in slot z mod 256.
+/// Slots and free places are lists of nodes of one vector, so that one place serves any slot.
 #[derive(Drop)]
 pub struct Wheel {
-    timers: Vec<Timer>,
+    nodes: Vec<Node>,
+
+    /// The earliest node of each slot.
+    heads: Vec<Option<usize>>,
+
+    /// A bit for each slot that is not empty.
+    used: [u64; 4],
+    free: Option<usize>,
     spare: usize,
+
+    /// No armed timer is before this moment.
+    from: u64,
     last: Option<u32>,
 }
 
 impl Model for Wheel {
-    ghost use Rattle.std.specs.Prelude.{◌+◌, ◌≤◌, vec_len, vec_capacity};
     ghost use Rattle.std.specs.FinMap as map;
     ghost use Rattle.grub_wheel.specs.TimerBag.{WheelState, state_code};
 
@@ -32,11 +41,12 @@ impl Model for Wheel {
     ghost coded = { state_code };
 
     ghost use Rattle.grub_wheel.specs.Order.{entries_of};
-    ghost use Rattle.grub_wheel.specs.Inside.{IsOrderly};
+    ghost use Rattle.grub_wheel.specs.Nodes.{timers_of, IsHashed};
+    ghost use Rattle.grub_wheel.specs.Used.{IsMapped};
 
-    ghost view = { λ w. record { timers = map.from_entries (entries_of w.timers.items); spare = w.spare; last = w.last } };
+    ghost view = { λ w. record { timers = map.from_entries (entries_of (timers_of w.nodes.items)); spare = w.spare; last = w.last } };
 
-    ghost invariant = { IsOrderly };
+    ghost invariant = { λ w. record { hashed : IsHashed w.nodes.items w.heads.items w.free w.spare w.from w.last; mapped : IsMapped w.used w.heads.items } };
 }
 
 impl Wheel {
@@ -44,9 +54,16 @@ impl Wheel {
     pub fn new(alloc: Global) -> Result<Wheel, WheelFault>
         ensures { IfOk result (λ w. w ≡ fresh) }
     {
+        let Ok(heads) = vec![in alloc; None; SLOTS] else {
+            return Err(WheelFault::NoMemory);
+        };
         Ok(Wheel {
-            timers: Vec::new(alloc),
+            nodes: Vec::new(alloc),
+            heads,
+            used: [0; 4],
+            free: None,
             spare: 0,
+            from: 0,
             last: None,
         })
     }
@@ -74,9 +91,11 @@ impl Wheel {
         ensures err { OnErr result (self.new ≡ self.old) }
     {
         if self.spare == 0 {
-            if self.timers.reserve(1).is_err() {
+            let place = self.nodes.len();
+            if self.nodes.push(free_node()).is_err() {
                 return Err(WheelFault::NoMemory);
             }
+            self.free = Some(place);
             self.spare = 1;
         }
         Ok(())
@@ -88,8 +107,8 @@ impl Wheel {
         ensures task { IfSome result (λ x. x.t ≡ t) }
         ensures none { IfNone result (map.get self.now.timers t ≡ None) }
     {
-        match index_of(&self.timers, t) {
-            Some(i) => Some(self.timers[i]),
+        match index_of(&self.nodes, t) {
+            Some(i) => Some(self.nodes[i].timer),
             None => None,
         }
     }
@@ -101,11 +120,18 @@ impl Wheel {
         requires later { IfSome self.old.last (λ m. m < z) }
         ensures { self.new ≡ after_arming self.old (record { z = z; t = t; ticket = ticket }) }
     {
-        let timer = Timer { z, t, ticket };
-        let i = place(&self.timers, timer).unwrap_or(self.timers.len());
-        let Ok(()) = self.timers.insert(i, timer) else {
+        let Some(i) = self.free else {
             unreachable!();
         };
+        let free = self.nodes[i].next;
+        put(
+            &mut self.nodes,
+            &mut self.heads,
+            &mut self.used,
+            i,
+            Timer { z, t, ticket },
+        );
+        self.free = free;
         self.spare -= 1;
     }
 
@@ -115,9 +141,16 @@ impl Wheel {
         ensures taken { OnTrue result (self.new ≡ after_taking self.old t) }
         ensures kept { OnFalse result (self.new ≡ self.old) }
     {
-        match index_of(&self.timers, t) {
-            Some(i) if self.timers[i].ticket == ticket => {
-                let _ = self.timers.remove(i);
+        match index_of(&self.nodes, t) {
+            Some(i) if self.nodes[i].timer.ticket == ticket => {
+                take(
+                    &mut self.nodes,
+                    &mut self.heads,
+                    &mut self.used,
+                    i,
+                    self.free,
+                );
+                self.free = Some(i);
                 self.spare += 1;
                 true
             }
@@ -136,34 +169,51 @@ impl Wheel {
         ensures kept { IfNone result (self.new ≡ record self.old { last = Some m }) }
     {
         self.last = Some(m);
-        match self.timers.first() {
-            Some(first) if first.z <= m => {
-                let timer = self.timers.remove(0);
-                self.spare += 1;
-                Some(timer)
-            }
-            _ => None,
-        }
+        let Some(i) = earliest(&self.nodes, &self.heads, &self.used, self.from, m) else {
+            self.from = u64::from(m) + 1;
+            return None;
+        };
+        let timer = self.nodes[i].timer;
+        take(
+            &mut self.nodes,
+            &mut self.heads,
+            &mut self.used,
+            i,
+            self.free,
+        );
+        self.free = Some(i);
+        self.spare += 1;
+        self.from = u64::from(timer.z);
+        Some(timer)
     }
 }
 
-/// Whether one timer comes before another.
-fn is_earlier(x: Timer, y: Timer) -> bool
-    ensures { result ≡ is_earlier x y }
+/// A free place with none behind it.
+fn free_node() -> Node
+    ensures { result ≡ free_node }
 {
-    x.z < y.z || (x.z == y.z && x.t < y.t)
+    Node {
+        timer: Timer {
+            z: 0,
+            t: 0,
+            ticket: 0,
+        },
+        armed: false,
+        next: None,
+    }
 }
 
-/// The first timer that isn't earlier than this one.
-fn place(timers: &[Timer], timer: Timer) -> Option<usize>
-    ensures { result ≡ position (λ y. not (is_earlier y timer)) timers.now }
+/// The place of a task's timer.
+fn index_of(nodes: &[Node], t: u32) -> Option<usize>
+    ensures within { IfSome result (λ i. i < length nodes.now) }
+    ensures armed { IfSome result (Armed nodes.now) }
+    ensures task { IfSome result (λ i. tasks nodes.now i ≡ t) }
+    ensures none { IfNone result ((j : ℕ) → Armed nodes.now j → tasks nodes.now j ≢ t) }
 {
-    timers.iter().position(|y| !is_earlier(*y, timer))
-}
-
-/// Where the timer of a task stands.
-fn index_of(timers: &[Timer], t: u32) -> Option<usize>
-    ensures { result ≡ position (λ y. y.t == t) timers.now }
-{
-    timers.iter().position(|y| y.t == t)
+    for (i, node) in nodes.iter().enumerate() {
+        if node.armed && node.timer.t == t {
+            return Some(i);
+        }
+    }
+    None
 }

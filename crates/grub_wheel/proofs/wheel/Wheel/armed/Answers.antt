@@ -1,21 +1,26 @@
-use Rattle.std.proofs.Common.{sym, ◌∙◌, ap}
-use Rattle.std.specs.List.{position}
-use Rattle.grub_wheel.proofs.Lists.{of_task, stands_at, stands_nowhere}
+use Rattle.std.proofs.Common.{◌≡◌, Some, sym, ◌∙◌, ap, ◌<◌, length}
+use Rattle.grub_wheel.specs.declared.node.Node.{Node}
+use Rattle.grub_wheel.specs.Nodes.{Armed, tasks, timers_of}
+use Rattle.grub_wheel.proofs.Apart.{look_is, look_not}
+use Rattle.grub_wheel.proofs.NodeReads.{node_read}
 use Rattle.grub_wheel.proofs.Views.{looks, is_armed}
 use Rattle.grub_wheel.proofs.wheel.Wheel.armed.Goals as goal
 
 pub returns-in-Some-clause-armed : goal.returns-in-Some-clause-armed
 returns-in-Some-clause-armed c =
-    let xs = c.self.inside.timers.items in
-    let s = stands_at c.args.t xs c.in-Some.i c.index.result.now (ap (position (of_task c.args.t)) (sym c.deref.ensures.value) ∙ sym c.in-Some.ensures) c.index.ensures in
-    is_armed xs _ _ _ c.args.t _ c.self.view_is s.found s.task
-
-pub returns-in-Some-clause-task : goal.returns-in-Some-clause-task
-returns-in-Some-clause-task c =
-    let xs = c.self.inside.timers.items in
-    (stands_at c.args.t xs c.in-Some.i c.index.result.now (ap (position (of_task c.args.t)) (sym c.deref.ensures.value) ∙ sym c.in-Some.ensures) c.index.ensures).task
+    let ns = c.self.inside.nodes.items in
+    let e = c.deref.ensures.value in
+    let a : Armed ns c.in-Some.i = rw e at c.in-Some.ensures.armed in
+    let t : tasks ns c.in-Some.i ≡ c.args.t = rw e at c.in-Some.ensures.task in
+    let w : c.in-Some.i < length ns = rw e at c.in-Some.ensures.within in
+    let n = node_read ns c.in-Some.i c.index.result.now w c.index.ensures in
+    is_armed (timers_of ns) _ _ _ c.args.t c.index.result.now.timer c.self.view_is
+      (look_is ns c.in-Some.i c.args.t c.self.invariant.hashed.sound.apart a t ∙ ap (λ (x : Node). Some (x.timer.z, x.timer.ticket)) n)
+      (sym (ap (λ (x : Node). x.timer.t) n) ∙ t)
 
 pub returns-in-None-clause-none : goal.returns-in-None-clause-none
 returns-in-None-clause-none c =
-    let xs = c.self.inside.timers.items in
-    looks xs _ _ _ c.args.t c.self.view_is ∙ stands_nowhere c.args.t xs (ap (position (of_task c.args.t)) (sym c.deref.ensures.value) ∙ sym c.in-None.ensures)
+    let ns = c.self.inside.nodes.items in
+    let e = c.deref.ensures.value in
+    let n = rw e at c.in-None.ensures.none in
+    looks (timers_of ns) _ _ _ c.args.t c.self.view_is ∙ look_not ns c.args.t n

@@ -1,36 +1,73 @@
-use Rattle.std.proofs.Common.{sym, ◌∙◌, ap, subst, length, ◌≤◌}
-use Rattle.std.specs.Option.{option_copied}
-use Rattle.grub_wheel.proofs.Lists.{head}
-use Rattle.grub_wheel.proofs.Views.{looks, taken_view, least, none_due, none_at_all, none_first, first_is}
+use Rattle.std.proofs.Common.{◌≡◌, ℕ, Some, refl, sym, ◌∙◌, ap, ◌<◌, ◌≤◌, ◌+◌, List, length, subst, arith}
+use Rattle.grub_wheel.specs.declared.timer.Timer.{Timer}
+use Rattle.grub_wheel.specs.declared.node.Node.{Node}
+use Rattle.grub_wheel.specs.Nodes.{moments, timers_of, AreOthersKept}
+use Rattle.grub_wheel.proofs.NodeReads.{node_read, lent_back}
+use Rattle.grub_wheel.proofs.Apart.{bag_take}
+use Rattle.grub_wheel.proofs.Scans.{armed_within}
+use Rattle.grub_wheel.proofs.Hashed.{take_hashed, hashed_as, mapped_as, moved_on}
+use Rattle.grub_wheel.proofs.Views.{state_of, taking_state}
+use Rattle.grub_wheel.proofs.Dues.{due_is, none_due, none_later, due_armed, due_least, rest_after}
 use Rattle.grub_wheel.proofs.wheel.Wheel.due.Goals as goal
-
-pub returns-in-Some-clause-armed : goal.returns-in-Some-clause-armed
-returns-in-Some-clause-armed c =
-    let xs = c.self.inside.timers.items in
-    let f = first_is xs _ c.in-Some.first.now c.in-Some.ensures.value c.deref.ensures.value in
-    let h = head xs c.remove-timer.result f.0 c.remove-timer.ensures.value c.self.invariant.ascending in
-    looks xs _ _ _ c.remove-timer.result.t c.self.view_is ∙ h.found
-
-pub returns-in-Some-clause-least : goal.returns-in-Some-clause-least
-returns-in-Some-clause-least c =
-    let xs = c.self.inside.timers.items in
-    let f = first_is xs _ c.in-Some.first.now c.in-Some.ensures.value c.deref.ensures.value in
-    least xs _ _ _ c.remove-timer.result c.self.view_is (head xs c.remove-timer.result f.0 c.remove-timer.ensures.value c.self.invariant.ascending)
-
-pub returns-in-Some-clause-taken : goal.returns-in-Some-clause-taken
-returns-in-Some-clause-taken c =
-    let xs = c.self.inside.timers.items in
-    let f = first_is xs _ c.in-Some.first.now c.in-Some.ensures.value c.deref.ensures.value in
-    let h = head xs c.remove-timer.result f.0 c.remove-timer.ensures.value c.self.invariant.ascending in
-    taken_view xs c.remove-timer.new.self.items c.remove-timer.result.t c.self.inside.spare _ _ _ c.self.view_is c.self.invariant.apart (c.remove-timer.ensures.items ∙ h.removed)
 
 pub returns-in_default-clause-none : goal.returns-in_default-clause-none
 returns-in_default-clause-none c =
-    let xs = c.self.inside.timers.items in
-    let f = first_is xs _ c.in-Some.first.now c.in-Some.ensures.value c.deref.ensures.value in
-    none_due xs _ _ _ c.in-Some.first.now c.args.m c.self.view_is (head xs c.in-Some.first.now f.0 f.1 c.self.invariant.ascending) c.if-first-m.false
+    let ns = c.self.inside.nodes.items in
+    none_later ns _ _ _ c.self.view_is c.args.m (none_due ns c.deref.result.now c.args.m c.earliest.result c.deref.ensures.value c.earliest.ensures c.in_default.is)
 
-pub returns-in_default-2-clause-none : goal.returns-in_default-2-clause-none
-returns-in_default-2-clause-none c =
-    let xs = c.self.inside.timers.items in
-    none_at_all xs _ _ _ c.args.m c.self.view_is (subst (λ ys. length ys ≤ 0) c.deref.ensures.value (none_first _ (ap option_copied (sym c.in_default.is) ∙ c.first.ensures.value)))
+pub invariant_of-self-2 : goal.invariant_of-self-2
+invariant_of-self-2 c =
+    let ns = c.self.inside.nodes.items in
+    let ms = c.take.new.nodes in
+    let gs = c.take.new.heads in
+    let i = c.in-Some.i in
+    let h = c.self.invariant.hashed in
+    let d = due_is ns c.deref.result.now c.args.m i c.earliest.result c.deref.ensures.value c.earliest.ensures c.in-Some.is in
+    let w : i < length ns = armed_within ns i d.armed in
+    let others : AreOthersKept ns ms i = subst (λ (x : List Node). AreOthersKept x ms i) c.deref_mut.ensures.value c.take.ensures.others in
+    let size = others.size in
+    let count = c.take.ensures.sound.count in
+    let n = node_read ns i c.index.result.now w c.index.ensures in
+    let z : c.from-self-inside.result ≡ moments ns i = c.from-self-inside.ensures ∙ sym (ap (λ (x : Node). x.timer.z) n) in
+    let taken = take_hashed ns ms c.self.inside.heads.items gs c.self.inside.free i c.self.inside.spare c.self.inside.from c.self.inside.last h w d.armed c.take.ensures.sound c.take.ensures.here others in
+    let after = rest_after ns _ _ _ c.self.view_is c.self.inside.heads.items h.sound c.args.m i d c.index.result.now.timer (ap (λ (x : Node). x.timer) n) ms others c.take.ensures.here.armed in
+    let meets : moments ns i ≤ c.args.m = d.meets in
+    let heads = lent_back c.self.inside.heads.len gs c.self.inside.heads.items (omega (arith, count, h.sound.count, c.self.inside.heads.ok.0)) in
+    record {
+      hashed =
+          hashed_as ms _ gs _ (Some i) _ _ _ _
+            (lent_back c.self.inside.nodes.len ms ns (omega (arith, size, c.self.inside.nodes.ok.0)))
+            heads
+            refl
+            (moved_on ms gs (Some i) (c.self.inside.spare + 1) c.self.inside.from c.from-self-inside.result c.args.m c.self.inside.last taken (λ j b. let q = after j b in omega (arith, q, z)) (omega (arith, meets, z)));
+      mapped = mapped_as c.take.new.used gs _ heads c.take.ensures.mapped;
+    }
+
+pub returns-clause-armed : goal.returns-clause-armed
+returns-clause-armed c =
+    let ns = c.self.inside.nodes.items in
+    let i = c.in-Some.i in
+    let d = due_is ns c.deref.result.now c.args.m i c.earliest.result c.deref.ensures.value c.earliest.ensures c.in-Some.is in
+    let n = node_read ns i c.index.result.now (armed_within ns i d.armed) c.index.ensures in
+    due_armed ns _ _ _ c.self.view_is c.self.inside.heads.items c.self.invariant.hashed.sound c.args.m i d c.index.result.now.timer (ap (λ (x : Node). x.timer) n)
+
+pub returns-clause-least : goal.returns-clause-least
+returns-clause-least c =
+    let ns = c.self.inside.nodes.items in
+    let i = c.in-Some.i in
+    let d = due_is ns c.deref.result.now c.args.m i c.earliest.result c.deref.ensures.value c.earliest.ensures c.in-Some.is in
+    let n = node_read ns i c.index.result.now (armed_within ns i d.armed) c.index.ensures in
+    due_least ns _ _ _ c.self.view_is c.self.inside.heads.items c.self.invariant.hashed.sound c.args.m i d c.index.result.now.timer (ap (λ (x : Node). x.timer) n)
+
+pub returns-clause-taken : goal.returns-clause-taken
+returns-clause-taken c =
+    let ns = c.self.inside.nodes.items in
+    let ms = c.take.new.nodes in
+    let i = c.in-Some.i in
+    let d = due_is ns c.deref.result.now c.args.m i c.earliest.result c.deref.ensures.value c.earliest.ensures c.in-Some.is in
+    let n = node_read ns i c.index.result.now (armed_within ns i d.armed) c.index.ensures in
+    let others : AreOthersKept ns ms i = subst (λ (x : List Node). AreOthersKept x ms i) c.deref_mut.ensures.value c.take.ensures.others in
+    let size = others.size in
+    ap (λ (x : List Node). state_of (timers_of x) (c.self.inside.spare + 1) (Some c.args.m)) (lent_back c.self.inside.nodes.len ms ns (omega (arith, size, c.self.inside.nodes.ok.0)))
+    ∙ taking_state (timers_of ns) (timers_of ms) c.index.result.now.timer.t c.self.inside.spare c.self.inside.last (Some c.args.m) _ c.self.view_is
+      (bag_take ns ms i others c.take.ensures.here.armed c.index.result.now.timer.t c.self.invariant.hashed.sound.apart d.armed (ap (λ (x : Node). x.timer.t) n))

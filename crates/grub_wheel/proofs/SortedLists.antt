@@ -4,39 +4,25 @@ use Rattle.std.specs.Prelude.{unwrap_or, insert, remove}
 use Rattle.std.specs.List.{AllByRecursion, position, position_or_len}
 use Rattle.std.specs.Ordering.{nat_cmp}
 use Rattle.std.specs.Cmp.{nat_cmp_total, unsigned_tied}
-use Rattle.std.specs.FinMap as m
+use Rattle.std.specs.FinMap as map
 use Rattle.std.proofs.lemmas.Bool.{eqb-true, ltb-true, ltb-false}
 use Rattle.std.proofs.lemmas.Bool.Decides.{nat_tests}
 use Rattle.grub_wheel.specs.declared.timer.Timer.{Timer}
-use Rattle.grub_wheel.specs.Order.{entries_of, is_earlier, IsAscending, AreApart}
-
--- what a list has for a task
-abbrev pub look : List Timer → ℕ → Option (ℕ × ℕ)
-look [] q = None
-look (x ∷ xs) q = cond (eqb q x.t) (Some (x.z, x.ticket)) (look xs q)
-
-abbrev pub map_of : List Timer → m.FinMap nat_cmp (ℕ × ℕ)
-map_of xs = m.from_entries (entries_of xs)
-
-find_look : (xs : List Timer) (q : ℕ) → m.find nat_cmp q (entries_of xs) ≡ look xs q
-find_look [] q = refl
-find_look (x ∷ xs) q = ap (λ (b : Bool). cond b (Some (x.z, x.ticket)) (m.find nat_cmp q (entries_of xs))) (unsigned_tied q x.t) ∙ ap (cond (eqb q x.t) (Some (x.z, x.ticket))) (find_look xs q)
-
-pub get_look : (xs : List Timer) (q : ℕ) → m.get (map_of xs) q ≡ look xs q
-get_look xs q = m.get-from_entries nat_cmp_total (entries_of xs) q ∙ find_look xs q
+use Rattle.grub_wheel.proofs.Looks.{look, bag_of, bag-insert, bag-remove}
+use Rattle.grub_wheel.specs.Order.{entries_of, is_before, IsAscending, AreApart}
 
 -- ---- a timer more
 
 abbrev pub put : Timer → List Timer → List Timer
 put x [] = x ∷ []
-put x (y ∷ ys) = cond (is_earlier y x) (y ∷ put x ys) (x ∷ y ∷ ys)
+put x (y ∷ ys) = cond (is_before y x) (y ∷ put x ys) (x ∷ y ∷ ys)
 
 abbrev pub later : Timer → Timer → Bool
-later x y = not (is_earlier y x)
+later x y = not (is_before y x)
 
 put_at : (x : Timer) (xs : List Timer) → insert xs (position_or_len (later x) xs) x ≡ put x xs
 put_at x [] = refl
-put_at x (y ∷ ys) = go (is_earlier y x) (put_at x ys)
+put_at x (y ∷ ys) = go (is_before y x) (put_at x ys)
   where
     go : (b : Bool) → insert ys (position_or_len (later x) ys) x ≡ put x ys → insert (y ∷ ys) (cond (not (not b)) (1 + position_or_len (later x) ys) 0) x ≡ cond b (y ∷ put x ys) (x ∷ y ∷ ys)
     go true h =
@@ -77,25 +63,23 @@ pub look_put : (x : Timer) (xs : List Timer) (q : ℕ) → look xs x.t ≡ None 
 look_put x [] q h = refl
 look_put x (y ∷ ys) q h =
     let k = none_parts (eqb x.t y.t) (y.z, y.ticket) (look ys x.t) h in
-    go (is_earlier y x) k.0 (look_put x ys q k.1)
+    go (is_before y x) k.0 (look_put x ys q k.1)
   where
     go : (b : Bool) → eqb x.t y.t ≡ false → look (put x ys) q ≡ cond (eqb q x.t) (Some (x.z, x.ticket)) (look ys q) → look (cond b (y ∷ put x ys) (x ∷ y ∷ ys)) q ≡ cond (eqb q x.t) (Some (x.z, x.ticket)) (look (y ∷ ys) q)
     go true ne ih = ap (cond (eqb q y.t) (Some (y.z, y.ticket))) ih ∙ swap_tests (eqb q y.t) (eqb q x.t) (Some (y.z, y.ticket)) (Some (x.z, x.ticket)) (look ys q) (differ q y.t x.t ne)
     go false ne ih = refl
 
-pub map_put : (x : Timer) (xs : List Timer) → look xs x.t ≡ None → map_of (put x xs) ≡ m.insert (map_of xs) x.t (x.z, x.ticket)
-map_put x xs h = m.same_map nat_cmp_total m.nat_cmp-IsAntisymmetric _ _ (λ q.
-    get_look (put x xs) q ∙ look_put x xs q h
-    ∙ sym (m.get-insert nat_cmp_total (map_of xs) x.t (x.z, x.ticket) q ∙ ap (λ (b : Bool). cond b (Some (x.z, x.ticket)) (m.get (map_of xs) q)) (unsigned_tied q x.t) ∙ ap (cond (eqb q x.t) (Some (x.z, x.ticket))) (get_look xs q)))
+pub bag_put : (x : Timer) (xs : List Timer) → look xs x.t ≡ None → bag_of (put x xs) ≡ map.insert (bag_of xs) x.t (x.z, x.ticket)
+bag_put x xs h = bag-insert xs (put x xs) x (λ q. look_put x xs q h)
 
 -- ---- order
 
 abbrev Before : Timer → Timer → Type 0
-Before x y = is_earlier x y ≡ true
+Before x y = is_before x y ≡ true
 
 all_put : (P : Timer → Type 0) (x : Timer) (xs : List Timer) → P x → AllByRecursion P xs → AllByRecursion P (put x xs)
 all_put P x [] px h = (px, tt)
-all_put P x (y ∷ ys) px h = go (is_earlier y x) (all_put P x ys px h.1)
+all_put P x (y ∷ ys) px h = go (is_before y x) (all_put P x ys px h.1)
   where
     go : (b : Bool) → AllByRecursion P (put x ys) → AllByRecursion P (cond b (y ∷ put x ys) (x ∷ y ∷ ys))
     go true ih = (h.0, ih)
@@ -111,7 +95,7 @@ chain x y z a b = earlier_chain x.z x.t y.z y.t z.z z.t a b
     earlier_chain : (a b c d e f : ℕ) → (ltb a c || eqb a c && ltb b d) ≡ true → (ltb c e || eqb c e && ltb d f) ≡ true → (ltb a e || eqb a e && ltb b f) ≡ true
     earlier_chain a b c d e f p q = grind (arith, nat_tests)
 
-other_way : (x y : Timer) → is_earlier y x ≡ false → eqb x.t y.t ≡ false → Before x y
+other_way : (x y : Timer) → is_before y x ≡ false → eqb x.t y.t ≡ false → Before x y
 other_way x y a b = turned x.z x.t y.z y.t a b
   where
     turned : (a b c d : ℕ) → (ltb c a || eqb c a && ltb d b) ≡ false → eqb b d ≡ false → (ltb a c || eqb a c && ltb b d) ≡ true
@@ -121,9 +105,9 @@ pub ascending_put : (x : Timer) (xs : List Timer) → look xs x.t ≡ None → I
 ascending_put x [] h asc = (tt, tt)
 ascending_put x (y ∷ ys) h asc =
     let k = none_parts (eqb x.t y.t) (y.z, y.ticket) (look ys x.t) h in
-    go (is_earlier y x) refl k.0 (ascending_put x ys k.1 asc.1)
+    go (is_before y x) refl k.0 (ascending_put x ys k.1 asc.1)
   where
-    go : (b : Bool) → is_earlier y x ≡ b → eqb x.t y.t ≡ false → IsAscending (put x ys) → IsAscending (cond b (y ∷ put x ys) (x ∷ y ∷ ys))
+    go : (b : Bool) → is_before y x ≡ b → eqb x.t y.t ≡ false → IsAscending (put x ys) → IsAscending (cond b (y ∷ put x ys) (x ∷ y ∷ ys))
     go true e ne ih = (all_put (Before y) x ys e asc.0, ih)
     go false e ne ih = let xy = other_way x y e ne in ((xy, all_weaker (Before y) (Before x) ys (λ z yz. chain x y z xy yz) asc.0), asc)
 
@@ -140,7 +124,7 @@ pub apart_put : (x : Timer) (xs : List Timer) → look xs x.t ≡ None → AreAp
 apart_put x [] h ap = (tt, tt)
 apart_put x (y ∷ ys) h apart =
     let k = none_parts (eqb x.t y.t) (y.z, y.ticket) (look ys x.t) h in
-    go (is_earlier y x) k.0 (apart_put x ys k.1 apart.1)
+    go (is_before y x) k.0 (apart_put x ys k.1 apart.1)
   where
     go : (b : Bool) → eqb x.t y.t ≡ false → AreApart (put x ys) → AreApart (cond b (y ∷ put x ys) (x ∷ y ∷ ys))
     go true ne ih = (all_put (λ z. eqb z.t y.t ≡ false) x ys ne apart.0, ih)
@@ -195,10 +179,8 @@ look_without t (x ∷ xs) q apart = go (eqb x.t t) (eqb q t) refl refl (look_wit
     go false true e f ih = ap (cond (eqb q x.t) (Some (x.z, x.ticket))) ih ∙ rw (kept e f, f) refl
     go false false e f ih = ap (cond (eqb q x.t) (Some (x.z, x.ticket))) (ih ∙ ap (λ (b : Bool). cond b None (look xs q)) f)
 
-pub map_without : (t : ℕ) (xs : List Timer) → AreApart xs → map_of (without t xs) ≡ m.remove (map_of xs) t
-map_without t xs apart = m.same_map nat_cmp_total m.nat_cmp-IsAntisymmetric _ _ (λ q.
-    get_look (without t xs) q ∙ look_without t xs q apart
-    ∙ sym (m.get-remove nat_cmp_total (map_of xs) t q ∙ ap (λ (b : Bool). cond b None (m.get (map_of xs) q)) (unsigned_tied q t) ∙ ap (cond (eqb q t) None) (get_look xs q)))
+pub bag_without : (t : ℕ) (xs : List Timer) → AreApart xs → bag_of (without t xs) ≡ map.remove (bag_of xs) t
+bag_without t xs apart = bag-remove xs (without t xs) t (λ q. look_without t xs q apart)
 
 all_without : (P : Timer → Type 0) (t : ℕ) (xs : List Timer) → AllByRecursion P xs → AllByRecursion P (without t xs)
 all_without P t [] h = tt

@@ -1,6 +1,6 @@
 -- What a wheel's list keeps.
 use Rattle.std.specs.Prelude.{◌+◌, ◌≤◌, vec_len, vec_capacity}
-use Rattle.grub_wheel.specs.declared.wheel.Wheel.TheInside.{Inside}
+use Rattle.grub_wheel.specs.declared.sorted.SortedWheel.TheInside.{Inside}
 use Rattle.grub_wheel.specs.Order.{IsAscending, AreApart}
 
 pub record IsOrderly (w : Inside) : Type 0 where

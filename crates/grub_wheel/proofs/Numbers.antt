@@ -1,0 +1,64 @@
+-- Cases of numbers, and timers as numbers.
+use Rattle.std.proofs.Common.{◌≡◌, ◌≢◌, ℕ, ◌+◌, ◌-◌, ◌*◌, ◌%◌, ◌<◌, ◌≤◌, Bool, true, false, eqb, ltb, ◌||◌, ◌&&◌, ◌⊎◌, inl, inr, refl, arith}
+use Rattle.std.proofs.lemmas.Bool.{eqb-true, ltb-true, ltb-false}
+use Rattle.std.proofs.lemmas.Bool.Decides.{nat_tests}
+
+pub less_or : (a b : ℕ) → (a < b) ⊎ (b ≤ a)
+less_or a b = go (ltb a b) refl
+  where
+    go : (t : Bool) → ltb a b ≡ t → (a < b) ⊎ (b ≤ a)
+    go true e = inl (ltb-true a b e)
+    go false e = inr (ltb-false a b e)
+
+pub same_or : (a b : ℕ) → (a ≡ b) ⊎ (a ≢ b)
+same_or a b = go (eqb a b) refl
+  where
+    go : (t : Bool) → eqb a b ≡ t → (a ≡ b) ⊎ (a ≢ b)
+    go true e = inl (eqb-true a b e)
+    go false e = inr (λ h. absurd (grind (arith, nat_tests)))
+
+pub no_both : (b : Bool) → b ≡ true → b ≡ false → ⊥
+no_both b t f = absurd cc
+
+-- ---- a moment and a task as one number
+
+pub key_tasks : (z t y u : ℕ) → t < 4294967296 → u < 4294967296 → z * 4294967296 + t ≡ y * 4294967296 + u → t ≡ u
+key_tasks z t y u a b e = omega arith
+
+pub key_moments : (z t y u : ℕ) → u < 4294967296 → z * 4294967296 + t ≤ y * 4294967296 + u → z ≤ y
+key_moments z t y u lt h = omega arith
+
+pub later_key : (z t y u : ℕ) → t < 4294967296 → z < y → z * 4294967296 + t ≤ y * 4294967296 + u
+later_key z t y u lt h = omega arith
+
+pub key_parts : (z t y u : ℕ) → t < 4294967296 → u < 4294967296 → z * 4294967296 + t ≤ y * 4294967296 + u → (z < y) ⊎ ((z ≡ y) × (t ≤ u))
+key_parts z t y u a b h = go (less_or z y)
+  where
+    go : (z < y) ⊎ (y ≤ z) → (z < y) ⊎ ((z ≡ y) × (t ≤ u))
+    go (inl l) = inl l
+    go (inr l) = let e : z ≡ y = omega arith in inr (e, omega arith)
+
+pub before_key : (z t y u : ℕ) → t < 4294967296 → (ltb z y || (eqb z y && ltb t u)) ≡ true → z * 4294967296 + t < y * 4294967296 + u
+before_key z t y u a h = go (ltb z y) refl h
+  where
+    go : (b : Bool) → ltb z y ≡ b → (b || (eqb z y && ltb t u)) ≡ true → z * 4294967296 + t < y * 4294967296 + u
+    go true e h = let l = ltb-true z y e in omega arith
+    go false e h = go2 (eqb z y) refl h
+      where
+        go2 : (b : Bool) → eqb z y ≡ b → (b && ltb t u) ≡ true → z * 4294967296 + t < y * 4294967296 + u
+        go2 true f h = let s = eqb-true z y f in let l = ltb-true t u h in omega arith
+        go2 false f h = absurd cc
+
+pub not_before_key : (z t y u : ℕ) → u < 4294967296 → (ltb z y || (eqb z y && ltb t u)) ≡ false → y * 4294967296 + u ≤ z * 4294967296 + t
+not_before_key z t y u a h = go (ltb z y) refl h
+  where
+    go : (b : Bool) → ltb z y ≡ b → (b || (eqb z y && ltb t u)) ≡ false → y * 4294967296 + u ≤ z * 4294967296 + t
+    go true e h = absurd cc
+    go false e h = go2 (eqb z y) refl h
+      where
+        ge : y ≤ z
+        ge = ltb-false z y e
+
+        go2 : (b : Bool) → eqb z y ≡ b → (b && ltb t u) ≡ false → y * 4294967296 + u ≤ z * 4294967296 + t
+        go2 true f h = let s = eqb-true z y f in let l = ltb-false t u h in omega arith
+        go2 false f h = let g = ge in let ne : z ≢ y = grind (arith, nat_tests) in omega arith
