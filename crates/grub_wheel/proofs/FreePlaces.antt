@@ -30,9 +30,13 @@ some_free ns (j ∷ js) free spare f room some is = absurd (let x = sym f.0 ∙ 
 
 pub free_kept : (ns ms : List Node) (i : ℕ) → AreOthersKept ns ms i → (places : List ℕ) (at : Option ℕ) → AllByRecursion (λ j. j ≢ i) places → AreFree ns places at → AreFree ms places at
 free_kept ns ms i others [] at ne f = f
-free_kept ns ms i others (j ∷ js) at ne f =
-    (f.0, let s = others.size in let w = f.1 in omega arith, (others.kept j ne.0).armed ∙ f.2, f.3,
-      subst (AreFree ms js) (sym (others.free j ne.0 f.2)) (free_kept ns ms i others js (links ns j) ne.1 f.4))
+free_kept ns ms i others (j ∷ js) at ne f = (
+  f.0,
+  let s = others.size in let w = f.1 in omega arith,
+  (others.kept j ne.0).armed ∙ f.2,
+  f.3,
+  subst (AreFree ms js) (sym (others.free j ne.0 f.2)) (free_kept ns ms i others js (links ns j) ne.1 f.4),
+)
 
 -- an armed node is no free place
 pub none_armed : (ns : List Node) (i : ℕ) → Armed ns i → (places : List ℕ) (at : Option ℕ) → AreFree ns places at → AllByRecursion (λ j. j ≢ i) places

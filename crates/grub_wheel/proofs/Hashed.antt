@@ -30,18 +30,18 @@ none_in i a = absurd cc
 
 fresh_sound : (hs : List (Option ℕ)) → hs ≡ replicate 256 None → AreInSlots [] hs
 fresh_sound hs e = record {
-    count = ap (λ (xs : List (Option ℕ)). length xs) e ∙ length-replicate {A = Option ℕ} 256 None;
-    chained = record {
-      heads = λ s lt. subst (λ (o : Option ℕ). IsFirst (Armed []) (keys []) (λ i. slots [] i ≡ s) o) (sym (no_head hs e s lt)) (λ i a p. none_in i a);
-      nexts = λ i a. absurd (none_in i a);
-    };
-    apart = λ i j a b t. absurd (none_in i a);
-    narrow = λ i a. absurd (none_in i a);
-  }
+  count = ap (λ (xs : List (Option ℕ)). length xs) e ∙ length-replicate {A = Option ℕ} 256 None;
+  chained = record {
+    heads = λ s lt. subst (λ (o : Option ℕ). IsFirst (Armed []) (keys []) (λ i. slots [] i ≡ s) o) (sym (no_head hs e s lt)) (λ i a p. none_in i a);
+    nexts = λ i a. absurd (none_in i a);
+  };
+  apart = λ i j a b t. absurd (none_in i a);
+  narrow = λ i a. absurd (none_in i a);
+}
 
 pub fresh_hashed : (ns : List Node) (hs : List (Option ℕ)) → ns ≡ [] → hs ≡ replicate 256 None → IsHashed ns hs None 0 0 None
 fresh_hashed ns hs e f = subst (λ (xs : List Node). IsHashed xs hs None 0 0 None) (sym e)
-  (record { sound = fresh_sound hs f; places = []; linked = refl; room = refl; count = refl; after = λ i a. absurd (none_in i a); behind = omega arith })
+    (record { sound = fresh_sound hs f; places = []; linked = refl; room = refl; count = refl; after = λ i a. absurd (none_in i a); behind = omega arith })
 
 pub fresh_mapped : (us : List ℕ) (hs : List (Option ℕ)) → hs ≡ replicate 256 None → IsMapped us hs
 fresh_mapped us hs e s lt some = absurd (some (no_head hs e s lt))
@@ -58,11 +58,11 @@ put_hashed ns ms hs gs free i spare from last x h is sound here others later =
       linked = free_kept ns ms i others f.rest (links ns i) f.others f.linked;
       room = let r = f.room in omega arith;
       count =
-        let c = armed_count-others ns ms i f.within others in
-        let a = none_if_free (node_at ns i) f.off in
-        let b = one_armed (node_at ms i) here.armed in
-        let r = f.room in let q = others.size in let k = h.count in
-        omega arith;
+          let c = armed_count-others ns ms i f.within others in
+          let a = none_if_free (node_at ns i) f.off in
+          let b = one_armed (node_at ms i) here.armed in
+          let r = f.room in let q = others.size in let k = h.count in
+          omega arith;
       after = λ j a. after j a (same_or j i);
       behind = h.behind;
     }
@@ -74,20 +74,20 @@ put_hashed ns ms hs gs free i spare from last x h is sound here others later =
 pub take_hashed : (ns ms : List Node) (hs gs : List (Option ℕ)) (free : Option ℕ) (i spare from : ℕ) (last : Option ℕ) → IsHashed ns hs free spare from last → i < length ns → Armed ns i
     → AreInSlots ms gs → IsFreed (node_at ms i) free → AreOthersKept ns ms i → IsHashed ms gs (Some i) (spare + 1) from last
 take_hashed ns ms hs gs free i spare from last h within armed sound here others = record {
-    sound = sound;
-    places = i ∷ h.places;
-    linked =
+  sound = sound;
+  places = i ∷ h.places;
+  linked =
       let ne = none_armed ns i armed h.places free h.linked in
       (refl, let s = others.size in omega arith, here.armed, ne, subst (AreFree ms h.places) (sym here.next) (free_kept ns ms i others h.places free ne h.linked));
-    room = let r = h.room in omega arith;
-    count =
+  room = let r = h.room in omega arith;
+  count =
       let c = armed_count-others ns ms i within others in
       let a = one_armed (node_at ns i) armed in
       let b = none_if_free (node_at ms i) here.armed in
       let s = others.size in let k = h.count in omega arith;
-    after = λ j a. let k = others.kept j (not_it j a) in let n = h.after j (sym k.armed ∙ a) in let t = ap (λ (y : Timer). y.z) k.timer in omega arith;
-    behind = h.behind;
-  }
+  after = λ j a. let k = others.kept j (not_it j a) in let n = h.after j (sym k.armed ∙ a) in let t = ap (λ (y : Timer). y.z) k.timer in omega arith;
+  behind = h.behind;
+}
   where
     not_it : (j : ℕ) → Armed ms j → j ≢ i
     not_it j a e = no_both (node_at ms i).armed (subst (Armed ms) e a) here.armed
@@ -140,34 +140,34 @@ module _ (ns : List Node) (n : Node) (off : n.armed ≡ false) where
 
   more_chained : (hs : List (Option ℕ)) → AreChained ns hs → AreChained More hs
   more_chained hs ch = record {
-      heads = λ s lt. first_as (Armed ns) (Armed More) (keys ns) (keys More) (slots ns) (slots More) (λ j. slots ns j ≡ s) (λ j. slots More j ≡ s) (head_of hs s) (ch.heads s lt)
+    heads = λ s lt. first_as (Armed ns) (Armed More) (keys ns) (keys More) (slots ns) (slots More) (λ j. slots ns j ≡ s) (λ j. slots More j ≡ s) (head_of hs s) (ch.heads s lt)
         (λ j a p. let c = same j (armed_was j a) in (c, sym c.slot ∙ p))
         (λ h is f. let c = same h f.armed in (c, c.slot ∙ f.meets));
-      nexts = λ i a. let b = armed_was i a in
+    nexts = λ i a. let b = armed_was i a in
         subst (Next i) (sym (ap (λ (m : Node). m.next) (more_at i (armed_within ns i b))))
         (first_as (Armed ns) (Armed More) (keys ns) (keys More) (slots ns) (slots More) (Behind (keys ns) (slots ns) i) (Behind (keys More) (slots More) i) (links ns i) (ch.nexts i b)
-          (λ j q p. let c = same j (armed_was j q) in (c, behind_as (Armed ns) (Armed More) (keys ns) (keys More) (slots ns) (slots More) i j (same i b) c p))
-          (λ h is f. let c = same h f.armed in (c, behind_to (Armed ns) (Armed More) (keys ns) (keys More) (slots ns) (slots More) i h (same i b) c f.meets)));
-    }
+        (λ j q p. let c = same j (armed_was j q) in (c, behind_as (Armed ns) (Armed More) (keys ns) (keys More) (slots ns) (slots More) i j (same i b) c p))
+        (λ h is f. let c = same h f.armed in (c, behind_to (Armed ns) (Armed More) (keys ns) (keys More) (slots ns) (slots More) i h (same i b) c f.meets)));
+  }
 
   more_sound : (hs : List (Option ℕ)) → AreInSlots ns hs → AreInSlots More hs
   more_sound hs h = record {
-      count = h.count;
-      chained = more_chained hs h.chained;
-      apart = λ i j a b t. let p = armed_was i a in let q = armed_was j b in h.apart i j p q (sym (task_is i p) ∙ t ∙ task_is j q);
-      narrow = λ i a. let p = armed_was i a in let l = h.narrow i p in let t = task_is i p in omega arith;
-    }
+    count = h.count;
+    chained = more_chained hs h.chained;
+    apart = λ i j a b t. let p = armed_was i a in let q = armed_was j b in h.apart i j p q (sym (task_is i p) ∙ t ∙ task_is j q);
+    narrow = λ i a. let p = armed_was i a in let l = h.narrow i p in let t = task_is i p in omega arith;
+  }
 
   more_hashed : (hs : List (Option ℕ)) (free : Option ℕ) (from : ℕ) (last : Option ℕ) → IsHashed ns hs free 0 from last → n.next ≡ None → IsHashed More hs (Some (length ns)) 1 from last
   more_hashed hs free from last h end = record {
-      sound = more_sound hs h.sound;
-      places = length ns ∷ [];
-      linked = (refl, let k = more_length in omega arith, ap (λ (m : Node). m.armed) more_end ∙ off, tt, ap (λ (m : Node). m.next) more_end ∙ end);
-      room = refl;
-      count = counted;
-      after = λ i a. let p = armed_was i a in let l = h.after i p in let t = ap (λ (x : Timer). x.z) (timer_is i p) in omega arith;
-      behind = h.behind;
-    }
+    sound = more_sound hs h.sound;
+    places = length ns ∷ [];
+    linked = (refl, let k = more_length in omega arith, ap (λ (m : Node). m.armed) more_end ∙ off, tt, ap (λ (m : Node). m.next) more_end ∙ end);
+    room = refl;
+    count = counted;
+    after = λ i a. let p = armed_was i a in let l = h.after i p in let t = ap (λ (x : Timer). x.z) (timer_is i p) in omega arith;
+    behind = h.behind;
+  }
     where
       counted : 1 + armed_count More ≡ length More
       counted =

@@ -158,13 +158,16 @@ module _ (ns ms : List Node) (hs gs : List (Option ℕ)) (i s : ℕ) (before : O
       let t = subst (λ (r : ℕ). MatchOption before (to ≡ head_of hs r) (λ b. to ≡ links ns b)) e is in
       let q = subst (λ (r : ℕ). IsPointed (set ns i (record { timer = x; armed = true; next = to })) ms hs gs r before (Some i)) e p in
       let others = put_others ns ms hs gs i h.chained within apart x to free fresh before l q in
-      let here = put_here ns ms hs gs i h.chained within apart x to free fresh before q in
-      (record {
-        count = len ∙ h.count;
-        chained = put_chained ns ms hs gs i h.chained within apart x to free fresh before l t q;
-        apart = apart_put ns ms i others x here other h.apart;
-        narrow = narrow_put ns ms i others x here other lt h.narrow;
-      }, others, here)
+      let here = put_here ns ms hs gs i h.chained within apart x to free fresh before q in (
+        record {
+          count = len ∙ h.count;
+          chained = put_chained ns ms hs gs i h.chained within apart x to free fresh before l t q;
+          apart = apart_put ns ms i others x here other h.apart;
+          narrow = narrow_put ns ms i others x here other lt h.narrow;
+        },
+        others,
+        here,
+      )
 
   pub take_sound : (n : Node) → n.armed ≡ false → s ≡ slots ns i → Armed ns i
       → IsLastOf ns s (keys ns i) before → IsPointed ns ms hs gs s before (links ns i) → AreInSlots (set ms i n) gs × AreOthersKept ns (set ms i n) i × (node_at (set ms i n) i ≡ n)
@@ -174,10 +177,13 @@ module _ (ns ms : List Node) (hs gs : List (Option ℕ)) (i s : ℕ) (before : O
       let l = subst (λ (r : ℕ). IsLastOf ns r (keys ns i) before) e last in
       let others = take_others ns ms hs gs i h.chained within apart armed n off before q l in
       let here = end_here ns ms hs gs i h.chained within apart armed n off before q in
-      let gone = ap (λ (m : Node). m.armed) here ∙ off in
-      (record {
-        count = len ∙ h.count;
-        chained = taken_out ns ms hs gs i h.chained within apart armed n off before q l;
-        apart = apart_take ns (set ms i n) i others gone h.apart;
-        narrow = narrow_take ns (set ms i n) i others gone h.narrow;
-      }, others, here)
+      let gone = ap (λ (m : Node). m.armed) here ∙ off in (
+        record {
+          count = len ∙ h.count;
+          chained = taken_out ns ms hs gs i h.chained within apart armed n off before q l;
+          apart = apart_take ns (set ms i n) i others gone h.apart;
+          narrow = narrow_take ns (set ms i n) i others gone h.narrow;
+        },
+        others,
+        here,
+      )

@@ -32,15 +32,15 @@ some_is a b e = cc
 
 pub best_is_sooner : (ns : List Node) (best head : Option ℕ) (m i j : ℕ) → head ≡ Some i → best ≡ Some j → keys ns j < keys ns i → IsSooner ns best head m (Some j)
 best_is_sooner ns best head m i j eh eb lt = record {
-    unused = λ e. sym eb;
-    late = λ h e l. sym eb;
-    only = λ h e l n. absurd (let x = sym eb ∙ n in cc);
-    later = λ h b e l f k. sym eb;
-    sooner = λ h b e l f k.
+  unused = λ e. sym eb;
+  late = λ h e l. sym eb;
+  only = λ h e l n. absurd (let x = sym eb ∙ n in cc);
+  later = λ h b e l f k. sym eb;
+  sooner = λ h b e l f k.
       let x = ap (keys ns) (some_is i h (sym eh ∙ e)) in
       let y = ap (keys ns) (some_is j b (sym eb ∙ f)) in
       absurd (omega arith);
-  }
+}
 
 module _ (ns : List Node) (hs : List (Option ℕ)) (sound : AreInSlots ns hs) (P Q : ℕ → Type 0) (s m : ℕ)
     (in_old : (i : ℕ) → Armed ns i → P i → Q i)
@@ -162,9 +162,9 @@ module _ (ns : List Node) (hs : List (Option ℕ)) (sound : AreInSlots ns hs) (f
   pub skips : (us : List ℕ) → IsMapped us hs → (k next : ℕ) (best : Option ℕ) → IsScanned ns from m k best → k < 256 → (from + k) % 256 ≤ next → next ≤ 256
       → ((r : ℕ) → (from + k) % 256 ≤ r → r < next → mark_of us r ≡ 0) → IsScanned ns from m (k + (next - (from + k) % 256)) best
   skips us mapped k next best sc kl lo hi none = record {
-      seen = passed_seen us mapped k ((from + k) % 256) next (k + (next - (from + k) % 256)) refl lo hi none refl kl best sc.seen;
-      exact = λ i a. passed_exact us mapped k ((from + k) % 256) next (k + (next - (from + k) % 256)) refl lo hi none refl kl i a (sc.exact i a);
-    }
+    seen = passed_seen us mapped k ((from + k) % 256) next (k + (next - (from + k) % 256)) refl lo hi none refl kl best sc.seen;
+    exact = λ i a. passed_exact us mapped k ((from + k) % 256) next (k + (next - (from + k) % 256)) refl lo hi none refl kl i a (sc.exact i a);
+  }
 
   -- a head at the very moment is the earliest of all
   pub at_once : (k : ℕ) (best head : Option ℕ) → IsScanned ns from m k best → head ≡ head_of hs ((from + k) % 256) → IsSomeAnd head (λ h. moments ns h ≡ from + k) → from + k ≤ m → IsFirstOf ns (λ i. moments ns i ≤ m) head
@@ -198,10 +198,10 @@ module _ (ns : List Node) (hs : List (Option ℕ)) (sound : AreInSlots ns hs) (f
       seen : IsFirstOf ns (λ i. (moments ns i ≤ m) × ((moments ns i - from) % 256 < k + 1)) result
       seen =
           sooner_first ns hs sound (λ i. (moments ns i ≤ m) × ((moments ns i - from) % 256 < k)) (λ i. (moments ns i ≤ m) × ((moments ns i - from) % 256 < k + 1)) ((from + k) % 256) m
-            (λ i a p. let l = p.1 in (p.0, omega (arith, l)))
-            (λ i a p l. let o = off_here (moments ns i) from k (after i a) lt p in (l, omega (arith, o)))
-            (λ i a p. out i a p.0 p.1 (less_or ((moments ns i - from) % 256) k))
-            best head result r sc.seen first
+          (λ i a p. let l = p.1 in (p.0, omega (arith, l)))
+          (λ i a p l. let o = off_here (moments ns i) from k (after i a) lt p in (l, omega (arith, o)))
+          (λ i a p. out i a p.0 p.1 (less_or ((moments ns i - from) % 256) k))
+          best head result r sc.seen first
 
       there : (head : Option ℕ) → IsFirstOf ns (λ j. slots ns j ≡ (from + k) % 256) head → (IsSomeAnd head (λ h. moments ns h ≡ from + k) → ⊥) → (i : ℕ) → Armed ns i → moments ns i ≢ from + k
       there None n not i a q = n i a (ap (λ (z : ℕ). z % 256) q)

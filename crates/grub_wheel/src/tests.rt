@@ -1,65 +1,245 @@
+ghost use Rattle.std.specs.Prelude.{◌↔◌, ◌<◌, ◌≤◌, IsTrue, IfSome};
+ghost use Rattle.std.specs.Bool.{IsFalse};
+
 use super::*;
+use std::alloc::Global;
 use std::process::Abort;
 use std::test::Fail;
 
-fn timer(z: u32, t: u32, ticket: u32) -> Timer {
-    Timer { z, t, ticket }
+/// A wheel and the plain program beside it, which are to answer alike.
+#[derive(Drop)]
+struct Pair {
+    wheel: Wheel,
+    sorted: SortedWheel,
 }
 
-/// Reserves a place, and arms a timer in it.
-fn put(rt: &impl Abort, wheel: &mut Wheel, timer: Timer) -> Result<(), WheelFault> {
-    wheel.reserve_one()?;
-    let is_later = match wheel.last() {
-        Some(last) => last < timer.z,
-        None => true,
-    };
-    assert!(rt; is_later && wheel.armed(timer.t).is_none());
-    wheel.arm(timer.z, timer.t, timer.ticket);
-    Ok(())
+impl Pair {
+    fn new(alloc: Global) -> Result<Pair, WheelFault> {
+        Ok(Pair {
+            wheel: Wheel::new(alloc)?,
+            sorted: SortedWheel::new(alloc)?,
+        })
+    }
+
+    fn armed(&self, rt: &impl Abort, t: u32) -> Option<Timer> {
+        let timer = self.wheel.armed(t);
+        assert_eq!(rt; self.sorted.armed(t), timer);
+        timer
+    }
+
+    /// Reserves a place, and arms a timer in it.
+    fn put(&mut self, rt: &impl Abort, z: u32, t: u32, ticket: u32) -> Result<(), WheelFault> {
+        self.wheel.reserve_one()?;
+        self.sorted.reserve_one()?;
+        let wheel = &mut self.wheel;
+        assert!(rt; wheel.spare() >= 1 && wheel.armed(t).is_none() && is_before(wheel.last(), z));
+        wheel.arm(z, t, ticket);
+        let sorted = &mut self.sorted;
+        assert!(rt;
+            sorted.spare() >= 1 && sorted.armed(t).is_none() && is_before(sorted.last(), z)
+        );
+        sorted.arm(z, t, ticket);
+        assert_eq!(rt; self.armed(rt, t), Some(Timer { z, t, ticket }));
+        Ok(())
+    }
+
+    /// Reserves a place. Where one is refused, as many are spare as before, and the next call gives it.
+    fn reserve_after_all(&mut self, rt: &impl Abort) {
+        let spare = self.wheel.spare();
+        if let Err(fault) = self.wheel.reserve_one() {
+            assert_eq!(rt; fault, WheelFault::NoMemory);
+            assert_eq!(rt; self.wheel.spare(), spare);
+            assert_eq!(rt; self.wheel.reserve_one(), Ok(()));
+        }
+        let spare = self.sorted.spare();
+        if let Err(fault) = self.sorted.reserve_one() {
+            assert_eq!(rt; fault, WheelFault::NoMemory);
+            assert_eq!(rt; self.sorted.spare(), spare);
+            assert_eq!(rt; self.sorted.reserve_one(), Ok(()));
+        }
+    }
+
+    fn cancel(&mut self, rt: &impl Abort, t: u32, ticket: u32) -> bool {
+        let is_cancelled = self.wheel.cancel(t, ticket);
+        assert_eq!(rt; self.sorted.cancel(t, ticket), is_cancelled);
+        is_cancelled
+    }
+
+    fn due(&mut self, rt: &impl Abort, m: u32) -> Option<Timer> {
+        assert!(rt; !is_after(self.wheel.last(), m) && !is_after(self.sorted.last(), m));
+        let timer = self.wheel.due(m);
+        assert_eq!(rt; self.sorted.due(m), timer);
+        assert_eq!(rt; self.wheel.last(), Some(m));
+        assert_eq!(rt; self.sorted.last(), Some(m));
+        timer
+    }
 }
 
-/// Takes out what is due.
-fn due(rt: &impl Abort, wheel: &mut Wheel, m: u32) -> Option<Timer> {
-    let is_in_order = match wheel.last() {
-        Some(last) => last <= m,
+fn is_before(last: Option<u32>, z: u32) -> bool
+    ensures { IsTrue result ↔ IfSome last (λ m. m < z) }
+{
+    match last {
+        Some(m) => m < z,
         None => true,
-    };
-    assert!(rt; is_in_order);
-    wheel.due(m)
+    }
+}
+
+fn is_after(last: Option<u32>, z: u32) -> bool
+    ensures { IsFalse result ↔ IfSome last (λ m. m ≤ z) }
+{
+    match last {
+        Some(m) => m > z,
+        None => false,
+    }
+}
+
+fn timer(z: u32, t: u32, ticket: u32) -> Option<Timer> {
+    Some(Timer { z, t, ticket })
 }
 
 #[test]
 fn the_least_timer_comes_first(rt: HostRuntime) -> Result<(), Fail> {
-    let mut wheel = Wheel::new(rt.alloc())?;
-    put(&rt, &mut wheel, timer(9, 2, 1))?;
-    put(&rt, &mut wheel, timer(4, 1, 1))?;
-    put(&rt, &mut wheel, timer(4, 0, 3))?;
-    assert_eq!(rt; due(&rt, &mut wheel, 3), None);
-    assert_eq!(rt; due(&rt, &mut wheel, 4), Some(timer(4, 0, 3)));
-    assert_eq!(rt; due(&rt, &mut wheel, 4), Some(timer(4, 1, 1)));
-    assert_eq!(rt; due(&rt, &mut wheel, 8), None);
-    assert!(rt; wheel.cancel(2, 1));
-    assert!(rt; !wheel.cancel(2, 1));
-    assert_eq!(rt; due(&rt, &mut wheel, 20), None);
+    let mut wheel = Pair::new(rt.alloc())?;
+    wheel.put(&rt, 9, 2, 1)?;
+    wheel.put(&rt, 4, 1, 1)?;
+    wheel.put(&rt, 4, 0, 3)?;
+    assert_eq!(rt; wheel.due(&rt, 3), None);
+    assert_eq!(rt; wheel.due(&rt, 4), timer(4, 0, 3));
+    assert_eq!(rt; wheel.due(&rt, 4), timer(4, 1, 1));
+    assert_eq!(rt; wheel.due(&rt, 8), None);
+    assert!(rt; wheel.cancel(&rt, 2, 1));
+    assert!(rt; !wheel.cancel(&rt, 2, 1));
+    assert_eq!(rt; wheel.due(&rt, 20), None);
     Ok(())
 }
 
 #[test]
-fn timers_of_one_slot_are_apart(rt: HostRuntime) -> Result<(), Fail> {
-    let mut wheel = Wheel::new(rt.alloc())?;
-    put(&rt, &mut wheel, timer(10, 0, 1))?;
-    put(&rt, &mut wheel, timer(522, 2, 1))?;
-    put(&rt, &mut wheel, timer(266, 1, 1))?;
-    assert_eq!(rt; due(&rt, &mut wheel, 9), None);
-    assert_eq!(rt; due(&rt, &mut wheel, 300), Some(timer(10, 0, 1)));
-    assert_eq!(rt; due(&rt, &mut wheel, 300), Some(timer(266, 1, 1)));
-    assert_eq!(rt; due(&rt, &mut wheel, 300), None);
-    assert_eq!(rt; due(&rt, &mut wheel, 522), Some(timer(522, 2, 1)));
-    put(&rt, &mut wheel, timer(4294967295, 3, 1))?;
-    assert_eq!(rt; due(&rt, &mut wheel, 4294967294), None);
-    assert_eq!(rt;
-        due(&rt, &mut wheel, 4294967295),
-        Some(timer(4294967295, 3, 1))
-    );
+fn timers_of_one_slot_are_told_apart(rt: HostRuntime) -> Result<(), Fail> {
+    let mut wheel = Pair::new(rt.alloc())?;
+    wheel.put(&rt, 10, 0, 1)?;
+    wheel.put(&rt, 522, 2, 1)?;
+    wheel.put(&rt, 266, 1, 1)?;
+    assert_eq!(rt; wheel.due(&rt, 9), None);
+    assert_eq!(rt; wheel.due(&rt, 300), timer(10, 0, 1));
+    assert_eq!(rt; wheel.due(&rt, 300), timer(266, 1, 1));
+    assert_eq!(rt; wheel.due(&rt, 300), None);
+    assert_eq!(rt; wheel.due(&rt, 522), timer(522, 2, 1));
+    wheel.put(&rt, 4294967295, 3, 1)?;
+    assert_eq!(rt; wheel.due(&rt, 4294967294), None);
+    assert_eq!(rt; wheel.due(&rt, 4294967295), timer(4294967295, 3, 1));
+    Ok(())
+}
+
+/// Numbers that look random, from a seed.
+#[derive(Drop)]
+struct Numbers(u64);
+
+impl Numbers {
+    fn next(&mut self) -> u64 {
+        self.0 = self
+            .0
+            .wrapping_mul(6364136223846793005)
+            .wrapping_add(1442695040888963407);
+        self.0 >> 33
+    }
+
+    fn below(&mut self, count: u32) -> u32
+        requires { 1 ≤ count }
+    {
+        (self.next() % u64::from(count)) as u32
+    }
+
+    /// A distance of two moments: mostly within the slots, at times a round of them or more.
+    fn distance(&mut self) -> u32 {
+        match self.next() % 8 {
+            0 => 0,
+            1 => 1,
+            2 => self.below(20),
+            3 => 255,
+            4 => 256,
+            5 => 257,
+            6 => self.below(1000),
+            _ => self.below(20000),
+        }
+    }
+}
+
+const TASKS: u32 = 24;
+
+/// Arms, cancels and takes timers from a moment on, as a seed has it. Each task has at most one timer,
+/// so no more than `TASKS` come due at once.
+fn run_a_seed(rt: &impl Abort, alloc: Global, seed: u64, start: u32) -> Result<(), WheelFault> {
+    let mut numbers = Numbers(seed);
+    let mut wheel = Pair::new(alloc)?;
+    let mut now = start;
+    for _ in 0..300 {
+        let t = numbers.below(TASKS);
+        let ticket = numbers.below(3);
+        match numbers.next() % 4 {
+            0 | 1 => {
+                let z = now.saturating_add(numbers.distance());
+                if z > now && wheel.armed(rt, t).is_none() {
+                    wheel.put(rt, z, t, ticket)?;
+                }
+            }
+            2 => {
+                wheel.cancel(rt, t, ticket);
+            }
+            _ => {
+                now = now.saturating_add(numbers.distance());
+                take_all(rt, &mut wheel, now);
+            }
+        }
+    }
+    Ok(())
+}
+
+fn take_all(rt: &impl Abort, wheel: &mut Pair, m: u32) {
+    for _ in 0..TASKS {
+        if wheel.due(rt, m).is_none() {
+            return;
+        }
+    }
+    assert!(rt; wheel.due(rt, m).is_none());
+}
+
+#[test]
+fn both_wheels_answer_alike(rt: HostRuntime) -> Result<(), Fail> {
+    for seed in 0..60 {
+        run_a_seed(&rt, rt.alloc(), seed, 0)?;
+        run_a_seed(&rt, rt.alloc(), seed, 4294960000)?;
+    }
+    Ok(())
+}
+
+/// Passes under `rt try --test --fail-alloc N` for each N too: there growth 1 is that of `Wheel::new`, and the next ones
+/// those of the places of both wheels.
+#[test]
+fn a_refused_growth_gives_27(rt: HostRuntime) -> Result<(), Fail> {
+    let sorted = SortedWheel::new(rt.alloc())?;
+    match Wheel::new(rt.alloc()) {
+        Ok(wheel) => fill(&rt, Pair { wheel, sorted }),
+        Err(fault) => assert_eq!(rt; fault, WheelFault::NoMemory),
+    }
+    Ok(())
+}
+
+/// Arms timers of tasks 0 to 39, one after another.
+fn fill(rt: &impl Abort, pair: Pair) {
+    let mut pair = pair;
+    for t in 0..40 {
+        pair.reserve_after_all(rt);
+        assert_eq!(rt; pair.wheel.last(), None);
+        for u in 0..40 {
+            assert_eq!(rt; pair.armed(rt, u).is_some(), u < t);
+        }
+        assert_eq!(rt; pair.put(rt, 7, t, t), Ok(()));
+    }
+}
+
+#[test]
+fn the_fault_has_its_number(rt: HostRuntime) -> Result<(), Fail> {
+    let text = format!(in rt.alloc(); "{}", WheelFault::NoMemory)?;
+    assert_eq!(rt; text.as_str(), "27 NoMemory");
     Ok(())
 }

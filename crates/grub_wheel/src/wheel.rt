@@ -169,19 +169,19 @@ impl Wheel {
         ensures kept { IfNone result (self.new ≡ record self.old { last = Some m }) }
     {
         self.last = Some(m);
-        let Some(i) = earliest(&self.nodes, &self.heads, &self.used, self.from, m) else {
+        let Some(first) = earliest(&self.nodes, &self.heads, &self.used, self.from, m) else {
             self.from = u64::from(m) + 1;
             return None;
         };
-        let timer = self.nodes[i].timer;
+        let timer = self.nodes[first].timer;
         take(
             &mut self.nodes,
             &mut self.heads,
             &mut self.used,
-            i,
+            first,
             self.free,
         );
-        self.free = Some(i);
+        self.free = Some(first);
         self.spare += 1;
         self.from = u64::from(timer.z);
         Some(timer)

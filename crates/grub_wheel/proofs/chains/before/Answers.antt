@@ -14,7 +14,7 @@ loop-at-smaller c =
     let o = stands_on (Armed ns) (keys ns) (slots ns) (links ns) (head_of c.args.heads.now) c.args.slot k c.loop-at.before i r in
     let lt = before_key (node_at ns i).timer.z (tasks ns i) c.args.timer.z c.args.timer.t (h.narrow i o.armed) (sym c.is_before.ensures ∙ c.if-not-is_before.false) in
     subst (λ (o : Option ℕ). way_left (keys ns) k (links ns i) < way_left (keys ns) k o) (sym c.in-Some.is)
-      (goes_on (Armed ns) (keys ns) (slots ns) (links ns) (head_of c.args.heads.now) c.args.slot k i h.chained o.armed lt)
+    (goes_on (Armed ns) (keys ns) (slots ns) (links ns) (head_of c.args.heads.now) c.args.slot k i h.chained o.armed lt)
 
 pub loop-at-preserved : goal.loop-at-preserved
 loop-at-preserved c =

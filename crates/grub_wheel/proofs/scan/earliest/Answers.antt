@@ -31,6 +31,6 @@ loop-k-preserved c =
     let sc = skips c.args.nodes.now c.args.heads.now r.sound c.args.from c.args.m r.after c.args.used.now r.mapped c.loop-k.k c.next_used.result c.loop-k.best c.loop-k.invariant.scanned (omega (arith, c.min-count.ensures, c.loop-k-test.true)) n.low n.high n.none in
     record {
       scanned = goes_past c.args.nodes.now c.args.heads.now r.sound c.args.from c.args.m r.after _ c.loop-k.best _ c.sooner-best.result sc refl
-        (omega (arith, c.min-count.ensures, c.if-at-count.false)) (not_of c.is_at.result _ c.is_at.ensures c.if-is_at.false) c.sooner-best.ensures;
+          (omega (arith, c.min-count.ensures, c.if-at-count.false)) (not_of c.is_at.result _ c.is_at.ensures c.if-is_at.false) c.sooner-best.ensures;
       low = omega (arith, c.if-at-count.false);
     }

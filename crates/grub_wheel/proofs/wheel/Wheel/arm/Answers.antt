@@ -53,11 +53,11 @@ invariant_of-self c =
     record {
       hashed =
           hashed_as ms _ gs _ (links ns i) _ _ _ _
-            (lent_back c.self.inside.nodes.len ms ns (omega (arith, size, c.self.inside.nodes.ok.0)))
-            heads
-            (sym (ap (λ (y : Node). y.next) n))
-            (put_hashed ns ms c.self.inside.heads.items gs c.self.inside.free i c.self.inside.spare c.self.inside.from c.self.inside.last x h c.in-Some.is c.put.ensures.sound c.put.ensures.here others
-              (later_from c.self.inside.from c.args.z _ _ h.behind (ap (λ w. w.last) c.self.view_is) c.requires.later));
+          (lent_back c.self.inside.nodes.len ms ns (omega (arith, size, c.self.inside.nodes.ok.0)))
+          heads
+          (sym (ap (λ (y : Node). y.next) n))
+          (put_hashed ns ms c.self.inside.heads.items gs c.self.inside.free i c.self.inside.spare c.self.inside.from c.self.inside.last x h c.in-Some.is c.put.ensures.sound c.put.ensures.here others
+          (later_from c.self.inside.from c.args.z _ _ h.behind (ap (λ w. w.last) c.self.view_is) c.requires.later));
       mapped = mapped_as c.put.new.used gs _ heads c.put.ensures.mapped;
     }
 

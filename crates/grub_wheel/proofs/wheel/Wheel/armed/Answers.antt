@@ -15,8 +15,8 @@ returns-in-Some-clause-armed c =
     let w : c.in-Some.i < length ns = rw e at c.in-Some.ensures.within in
     let n = node_read ns c.in-Some.i c.index.result.now w c.index.ensures in
     is_armed (timers_of ns) _ _ _ c.args.t c.index.result.now.timer c.self.view_is
-      (look_is ns c.in-Some.i c.args.t c.self.invariant.hashed.sound.apart a t ∙ ap (λ (x : Node). Some (x.timer.z, x.timer.ticket)) n)
-      (sym (ap (λ (x : Node). x.timer.t) n) ∙ t)
+    (look_is ns c.in-Some.i c.args.t c.self.invariant.hashed.sound.apart a t ∙ ap (λ (x : Node). Some (x.timer.z, x.timer.ticket)) n)
+    (sym (ap (λ (x : Node). x.timer.t) n) ∙ t)
 
 pub returns-in-None-clause-none : goal.returns-in-None-clause-none
 returns-in-None-clause-none c =

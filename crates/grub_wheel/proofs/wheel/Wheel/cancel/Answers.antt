@@ -25,10 +25,10 @@ invariant_of-self c =
     record {
       hashed =
           hashed_as ms _ gs _ (Some i) _ _ _ _
-            (lent_back c.self.inside.nodes.len ms ns (omega (arith, size, c.self.inside.nodes.ok.0)))
-            heads
-            refl
-            (take_hashed ns ms c.self.inside.heads.items gs c.self.inside.free i c.self.inside.spare c.self.inside.from c.self.inside.last h w a c.take.ensures.sound c.take.ensures.here others);
+          (lent_back c.self.inside.nodes.len ms ns (omega (arith, size, c.self.inside.nodes.ok.0)))
+          heads
+          refl
+          (take_hashed ns ms c.self.inside.heads.items gs c.self.inside.free i c.self.inside.spare c.self.inside.from c.self.inside.last h w a c.take.ensures.sound c.take.ensures.here others);
       mapped = mapped_as c.take.new.used gs _ heads c.take.ensures.mapped;
     }
 
@@ -64,9 +64,11 @@ returns-in_default-clause-answer c =
     let a : Armed ns i = rw e at c.in-Some.ensures.armed in
     let t : tasks ns i ≡ c.args.t = rw e at c.in-Some.ensures.task in
     let w : i < length ns = rw e at c.in-Some.ensures.within in
-    let n = node_read ns i c.index.result.now w c.index.ensures in
-    (λ f. absurd cc, λ h. absurd (other_ticket _ _ _ c.args.ticket (looks (timers_of ns) _ _ _ c.args.t c.self.view_is ∙ look_is ns i c.args.t c.self.invariant.hashed.sound.apart a t)
-      (λ k. c.if-index-ticket.false (sym (ap (λ (x : Node). x.timer.ticket) n) ∙ k)) h))
+    let n = node_read ns i c.index.result.now w c.index.ensures in (
+      λ f. absurd cc,
+      λ h. absurd (other_ticket _ _ _ c.args.ticket (looks (timers_of ns) _ _ _ c.args.t c.self.view_is ∙ look_is ns i c.args.t c.self.invariant.hashed.sound.apart a t)
+          (λ k. c.if-index-ticket.false (sym (ap (λ (x : Node). x.timer.ticket) n) ∙ k)) h),
+    )
 
 pub returns-in_default-2-clause-answer : goal.returns-in_default-2-clause-answer
 returns-in_default-2-clause-answer c =

@@ -20,7 +20,7 @@ invariant_of-self-2 c =
     let ns = c.self.inside.nodes.items in
     let ms = c.take.new.nodes in
     let gs = c.take.new.heads in
-    let i = c.in-Some.i in
+    let i = c.in-Some.first in
     let h = c.self.invariant.hashed in
     let d = due_is ns c.deref.result.now c.args.m i c.earliest.result c.deref.ensures.value c.earliest.ensures c.in-Some.is in
     let w : i < length ns = armed_within ns i d.armed in
@@ -36,17 +36,17 @@ invariant_of-self-2 c =
     record {
       hashed =
           hashed_as ms _ gs _ (Some i) _ _ _ _
-            (lent_back c.self.inside.nodes.len ms ns (omega (arith, size, c.self.inside.nodes.ok.0)))
-            heads
-            refl
-            (moved_on ms gs (Some i) (c.self.inside.spare + 1) c.self.inside.from c.from-self-inside.result c.args.m c.self.inside.last taken (λ j b. let q = after j b in omega (arith, q, z)) (omega (arith, meets, z)));
+          (lent_back c.self.inside.nodes.len ms ns (omega (arith, size, c.self.inside.nodes.ok.0)))
+          heads
+          refl
+          (moved_on ms gs (Some i) (c.self.inside.spare + 1) c.self.inside.from c.from-self-inside.result c.args.m c.self.inside.last taken (λ j b. let q = after j b in omega (arith, q, z)) (omega (arith, meets, z)));
       mapped = mapped_as c.take.new.used gs _ heads c.take.ensures.mapped;
     }
 
 pub returns-clause-armed : goal.returns-clause-armed
 returns-clause-armed c =
     let ns = c.self.inside.nodes.items in
-    let i = c.in-Some.i in
+    let i = c.in-Some.first in
     let d = due_is ns c.deref.result.now c.args.m i c.earliest.result c.deref.ensures.value c.earliest.ensures c.in-Some.is in
     let n = node_read ns i c.index.result.now (armed_within ns i d.armed) c.index.ensures in
     due_armed ns _ _ _ c.self.view_is c.self.inside.heads.items c.self.invariant.hashed.sound c.args.m i d c.index.result.now.timer (ap (λ (x : Node). x.timer) n)
@@ -54,7 +54,7 @@ returns-clause-armed c =
 pub returns-clause-least : goal.returns-clause-least
 returns-clause-least c =
     let ns = c.self.inside.nodes.items in
-    let i = c.in-Some.i in
+    let i = c.in-Some.first in
     let d = due_is ns c.deref.result.now c.args.m i c.earliest.result c.deref.ensures.value c.earliest.ensures c.in-Some.is in
     let n = node_read ns i c.index.result.now (armed_within ns i d.armed) c.index.ensures in
     due_least ns _ _ _ c.self.view_is c.self.inside.heads.items c.self.invariant.hashed.sound c.args.m i d c.index.result.now.timer (ap (λ (x : Node). x.timer) n)
@@ -63,11 +63,11 @@ pub returns-clause-taken : goal.returns-clause-taken
 returns-clause-taken c =
     let ns = c.self.inside.nodes.items in
     let ms = c.take.new.nodes in
-    let i = c.in-Some.i in
+    let i = c.in-Some.first in
     let d = due_is ns c.deref.result.now c.args.m i c.earliest.result c.deref.ensures.value c.earliest.ensures c.in-Some.is in
     let n = node_read ns i c.index.result.now (armed_within ns i d.armed) c.index.ensures in
     let others : AreOthersKept ns ms i = subst (λ (x : List Node). AreOthersKept x ms i) c.deref_mut.ensures.value c.take.ensures.others in
     let size = others.size in
     ap (λ (x : List Node). state_of (timers_of x) (c.self.inside.spare + 1) (Some c.args.m)) (lent_back c.self.inside.nodes.len ms ns (omega (arith, size, c.self.inside.nodes.ok.0)))
     ∙ taking_state (timers_of ns) (timers_of ms) c.index.result.now.timer.t c.self.inside.spare c.self.inside.last (Some c.args.m) _ c.self.view_is
-      (bag_take ns ms i others c.take.ensures.here.armed c.index.result.now.timer.t c.self.invariant.hashed.sound.apart d.armed (ap (λ (x : Node). x.timer.t) n))
+    (bag_take ns ms i others c.take.ensures.here.armed c.index.result.now.timer.t c.self.invariant.hashed.sound.apart d.armed (ap (λ (x : Node). x.timer.t) n))
