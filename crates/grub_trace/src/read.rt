@@ -169,7 +169,10 @@ fn plan(alloc: Global, files: &[Vec<u8>]) -> Result<Plan, TraceFault>
     Ok(Plan::new(queues, params, names, scripts))
 }
 
-/// The plan of event files.
+/// The plan of event files, of version 1 or 2, one for each runqueue.
+///
+/// Faults 28 to 36 come with the file and the line. The files are read in order, each line by line, and the first fault is
+/// answered; names that no file declares are looked for last. It is refused with 37 where the allocator refused.
 pub fn read_files(alloc: Global, files: &[Vec<u8>]) -> Result<Plan, TraceFault>
     // What is read is the plan of trees whose texts the files are.
     ensures read { IfOk result (λ p. (trees : List Tree) × Reads (contents files.now) trees × (p ≡ plan_of trees)) }

@@ -6,12 +6,25 @@ use crate::plan::Plan;
 use grub_book::{Op, Reading, Reply};
 use itoa::Buffer;
 use std::alloc::{AllocError, Global};
+use std::error::Error;
+use std::fmt;
 
 /// Why a text was not made.
 #[derive(Clone, Copy, Debug, PartialEq, Eq)]
 pub enum TextFault {
+    /// 43: the allocator refused.
     NoMemory,
 }
+
+impl fmt::Display for TextFault {
+    fn fmt<W: fmt::Write>(&self, f: &mut fmt::Formatter<W>) -> fmt::Result {
+        f.write_str(match self {
+            TextFault::NoMemory => "43 NoMemory",
+        })
+    }
+}
+
+impl Error for TextFault {}
 
 fn put_number(out: &mut Vec<u8>, text: &[u8], n: u64) -> Result<(), AllocError>
     ensures { OnOk result (out.new.items ≡ out.old.items ++ (text.now ++ decimal n)) }
@@ -189,8 +202,8 @@ fn text_of_report(
     Ok(out)
 }
 
-/// The line of an entry, with the byte that ends it. Its task is to be the plan's.
-/// `NoMemory` is fault 43.
+/// The line of an entry, with the byte that ends it. Its task is to be one of the plan's.
+/// It is refused with 43 where the allocator refused.
 pub fn line_of(alloc: Global, plan: &Plan, entry: &Entry) -> Result<Vec<u8>, TextFault>
     requires { IsAskOf (length plan.now.setup.tasks) entry.now.ask }
     ensures { IfOk result (λ v. v.items ≡ entry_line plan.now.names entry.now) }
@@ -198,8 +211,8 @@ pub fn line_of(alloc: Global, plan: &Plan, entry: &Entry) -> Result<Vec<u8>, Tex
     entry_text(alloc, plan, *entry).map_err(|_| TextFault::NoMemory)
 }
 
-/// The text of the report of runqueue `r`, with its closing reading. Its tasks are to be the plan's.
-/// `NoMemory` is fault 43.
+/// The text of the report of runqueue `r`: its number, a line for each entry, and the closing reading.
+/// The entries' tasks are to be the plan's. It is refused with 43 where the allocator refused.
 pub fn report_of(
     alloc: Global,
     plan: &Plan,

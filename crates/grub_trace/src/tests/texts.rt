@@ -1,0 +1,217 @@
+//! The texts of entries and reports.
+
+ghost use Rattle.std.specs.Prelude.{length, All, IsTrue, ◌↔◌};
+ghost use Rattle.grub_trace.specs.Texts.{IsAskOf};
+
+use super::*;
+use grub_book::{Op, Reading, Reply};
+use std::process::Abort;
+use std::test::Fail;
+
+/// Whether an ask is of a task of the plan.
+fn is_of(plan: &Plan, ask: Ask) -> bool
+    ensures { IsTrue result ↔ IsAskOf (length plan.now.setup.tasks) ask }
+{
+    match ask {
+        Ask::Call { t, op: _ } => plan.setup().has_task(t),
+        Ask::Read => true,
+    }
+}
+
+fn call(m: u32, t: u32, op: Op, reply: Reply) -> Entry {
+    Entry {
+        m,
+        ask: Ask::Call { t, op },
+        answer: Answer::Replied(reply),
+    }
+}
+
+/// Expects the lines of entries.
+fn expect(
+    rt: &impl Abort,
+    alloc: Global,
+    plan: &Plan,
+    cases: &[(Entry, &[u8])],
+) -> Result<(), TextFault> {
+    for (entry, text) in cases {
+        assert!(rt; is_of(plan, entry.ask));
+        assert_eq!(rt; line_of(alloc, plan, entry)?.as_slice(), *text);
+    }
+    Ok(())
+}
+
+/// The entries of the example's run.
+fn example_entries() -> [Entry; 9] {
+    let half = Reply::Joined { q: 4, d: 8 };
+    let charged = |k: u32, q: u32, d: u32| Reply::Charged { dq: 2, k, q, d };
+    [
+        call(0, 0, Op::Join { r: 0, m: 0 }, half),
+        call(0, 1, Op::Join { r: 0, m: 0 }, half),
+        call(0, 0, Op::Charge { r: 0, dt: 2 }, charged(0, 2, 8)),
+        call(
+            2,
+            0,
+            Op::Block { r: 0, m: 2 },
+            Reply::Waiting { ticket: 1, z: 4 },
+        ),
+        call(2, 1, Op::Charge { r: 0, dt: 2 }, charged(0, 2, 8)),
+        call(4, 0, Op::Timer { ticket: 1, m: 4 }, Reply::Retired),
+        call(4, 1, Op::Charge { r: 0, dt: 4 }, charged(1, 4, 16)),
+        call(8, 0, Op::Wake { r: 0, m: 8 }, Reply::Woken { q: 4, d: 16 }),
+        Entry {
+            m: 8,
+            ask: Ask::Read,
+            answer: Answer::Seen(Reading {
+                running: 1048576,
+                this: 1048576,
+            }),
+        },
+    ]
+}
+
+const EXAMPLE_LINES: [&[u8]; 9] = [
+    b"at 0 join T1: joined q=4 d=8\n",
+    b"at 0 join T2: joined q=4 d=8\n",
+    b"at 0 run T1 2: charged dq=2 k=0 q=2 d=8\n",
+    b"at 2 block T1: waiting ticket=1 z=4\n",
+    b"at 2 run T2 2: charged dq=2 k=0 q=2 d=8\n",
+    b"at 4 timer T1 1: retired\n",
+    b"at 4 run T2 4: charged dq=2 k=1 q=4 d=16\n",
+    b"at 8 wake T1: woken q=4 d=16\n",
+    b"at 8 read: running=1048576 this=1048576\n",
+];
+
+#[test]
+fn lines_of_the_example(rt: HostRuntime) -> Result<(), Fail> {
+    let alloc = rt.alloc();
+    let plan = read_files(alloc, &files_of(alloc, &[EXAMPLE])?)?;
+    for (entry, text) in example_entries().iter().zip(EXAMPLE_LINES) {
+        expect(&rt, alloc, &plan, &[(*entry, text)])?;
+    }
+    Ok(())
+}
+
+/// Each ask and each answer once, apart from those of the example.
+#[test]
+fn lines(rt: HostRuntime) -> Result<(), Fail> {
+    let alloc = rt.alloc();
+    let plan = read_files(alloc, &files_of(alloc, &[EXAMPLE])?)?;
+    let join = Op::Join { r: 0, m: 7 };
+    let replied = |op: Op, reply: Reply| call(7, 1, op, reply);
+    let other = |ask: Ask, answer: Answer| Entry { m: 7, ask, answer };
+    let t2 = Ask::Call { t: 1, op: join };
+    expect(
+        &rt,
+        alloc,
+        &plan,
+        &[
+            (
+                replied(Op::Block { r: 0, m: 7 }, Reply::Asleep),
+                b"at 7 block T2: asleep\n",
+            ),
+            (
+                replied(Op::Leave, Reply::Left { r: 0 }),
+                b"at 7 leave T2: left 0\n",
+            ),
+            (replied(Op::Exit, Reply::Ended), b"at 7 exit T2: ended\n"),
+            (
+                replied(Op::Retune { q: 2, p: 8 }, Reply::Retuned),
+                b"at 7 retune T2 2 8: retuned\n",
+            ),
+            (replied(join, Reply::Gone), b"at 7 join T2: gone\n"),
+            (replied(Op::Leave, Reply::NotOn), b"at 7 leave T2: not-on\n"),
+            (
+                replied(join, Reply::AlreadyOn(63)),
+                b"at 7 join T2: already-on 63\n",
+            ),
+            (
+                replied(Op::Wake { r: 1, m: 7 }, Reply::Elsewhere(0)),
+                b"at 7 wake T2: elsewhere 0\n",
+            ),
+            (
+                replied(Op::Wake { r: 0, m: 7 }, Reply::AlreadyContending),
+                b"at 7 wake T2: already-contending\n",
+            ),
+            (
+                replied(Op::Charge { r: 0, dt: 16777216 }, Reply::NotContending),
+                b"at 7 run T2 16777216: not-contending\n",
+            ),
+            (
+                replied(Op::Leave, Reply::StillContending),
+                b"at 7 leave T2: still-contending\n",
+            ),
+            (
+                replied(Op::Exit, Reply::StillActive),
+                b"at 7 exit T2: still-active\n",
+            ),
+            (
+                replied(Op::Block { r: 0, m: 7 }, Reply::Worn),
+                b"at 7 block T2: worn\n",
+            ),
+            (
+                replied(Op::Timer { ticket: 3, m: 7 }, Reply::Stale),
+                b"at 7 timer T2 3: stale\n",
+            ),
+            (
+                replied(Op::Timer { ticket: 3, m: 7 }, Reply::Early(9)),
+                b"at 7 timer T2 3: early z=9\n",
+            ),
+            (replied(join, Reply::Full), b"at 7 join T2: full\n"),
+            (
+                replied(Op::Charge { r: 0, dt: 1 }, Reply::DeadlineOverflow),
+                b"at 7 run T2 1: deadline-overflow\n",
+            ),
+            (other(t2, Answer::Busy), b"at 7 join T2: busy\n"),
+            (other(t2, Answer::Lost), b"at 7 join T2: lost\n"),
+        ],
+    )?;
+    Ok(())
+}
+
+/// Whether the asks of entries are of tasks of the plan.
+fn are_of(plan: &Plan, entries: &[Entry]) -> bool
+    ensures { IsTrue result ↔ All (λ e. IsAskOf (length plan.now.setup.tasks) e.ask) entries.now }
+{
+    entries.iter().all(|e| is_of(plan, e.ask))
+}
+
+#[test]
+fn report_of_the_example(rt: HostRuntime) -> Result<(), Fail> {
+    let alloc = rt.alloc();
+    let plan = read_files(alloc, &files_of(alloc, &[EXAMPLE])?)?;
+    let closing = Reading {
+        running: 1048576,
+        this: 1048576,
+    };
+    let report = Report {
+        entries: Vec::from_slice(alloc, &example_entries())?,
+    };
+    let mut expected = Vec::from_slice(alloc, b"runqueue 0\n")?;
+    for text in EXAMPLE_LINES {
+        expected.extend_from_slice(text)?;
+    }
+    expected.extend_from_slice(b"close running=1048576 this=1048576\n")?;
+    assert!(rt; are_of(&plan, &report.entries));
+    let text = report_of(alloc, &plan, 0, &report, closing)?;
+    assert_eq!(rt; text.as_slice(), expected.as_slice());
+    Ok(())
+}
+
+#[test]
+fn report_of_nothing(rt: HostRuntime) -> Result<(), Fail> {
+    let alloc = rt.alloc();
+    let plan = read_files(alloc, &files_of(alloc, &[b"grub 1\nqueue 1 0\n"])?)?;
+    let report = Report {
+        entries: Vec::new(alloc),
+    };
+    let closing = Reading {
+        running: 0,
+        this: 0,
+    };
+    let text = report_of(alloc, &plan, 0, &report, closing)?;
+    assert_eq!(rt;
+        text.as_slice(),
+        b"runqueue 0\nclose running=0 this=0\n".as_slice()
+    );
+    Ok(())
+}
