@@ -1,0 +1,86 @@
+//! The command line.
+
+ghost use Rattle.std.specs.Prelude.{◌≡◌, ◌≤◌, IfOk, IfSome, codes, pos, Some};
+ghost use Rattle.clap.specs.declared.builder.value_parser.ValueParser.TheVariants as parsers;
+ghost use Rattle.grubrun.specs.Rounds.{IsOf, TakesRounds};
+
+use clap::{Arg, ArgAction, ArgMatches, Command, Error, value_parser};
+use std::alloc::{AllocError, Global};
+
+const TRIES_DEFAULT: u8 = 8;
+
+const ROUNDS_DEFAULT: u16 = 64;
+
+/// What the words of the command line say.
+#[derive(Drop)]
+pub struct Options<'a> {
+    /// Has the words that name the event files, under `FILE`.
+    pub matches: ArgMatches<'a>,
+    pub tries: u8,
+    pub rounds: u16,
+    ghost some_rounds: { 1 ≤ rounds },
+}
+
+fn tries_arg<'a>(alloc: Global) -> Arg<'a>
+    ensures { IsOf (codes "tries") result }
+{
+    Arg::new(alloc, "tries")
+        .long("tries")
+        .value_name("N")
+        .help("Tries for a runqueue's word in a round, 0 to 255")
+        .value_parser(value_parser!(u8))
+        .default_value("8")
+}
+
+fn rounds_arg<'a>(alloc: Global) -> Arg<'a>
+    ensures is { IsOf (codes "rounds") result }
+    ensures parser { result.value_parser ≡ Some (parsers.Signed (pos 1) (pos 65535)) }
+{
+    Arg::new(alloc, "rounds")
+        .long("rounds")
+        .value_name("N")
+        .help("Rounds until an ask is given up, 1 to 65535")
+        .value_parser(value_parser!(u16).range(1..))
+        .default_value("64")
+}
+
+fn files_arg<'a>(alloc: Global) -> Arg<'a>
+    ensures { IsOf (codes "FILE") result }
+{
+    Arg::new(alloc, "FILE")
+        .help("Event files, one for each runqueue")
+        .required(true)
+        .num_args(1..)
+        .action(ArgAction::Append)
+}
+
+/// `grubrun [--tries N] [--rounds N] FILE...`: two numbers in their ranges, and at least one file.
+fn command<'a>(alloc: Global) -> Result<Command<'a>, AllocError>
+    ensures { IfOk result TakesRounds }
+{
+    Command::new(alloc, "grubrun")
+        .about("Plays event files against the reference book-keeper of GRUB bandwidth reclaiming")
+        .arg(tries_arg(alloc))?
+        .arg(rounds_arg(alloc))?
+        .arg(files_arg(alloc))
+}
+
+/// The matches of the words, and the rounds among them, which are at least 1 by their range.
+fn parse<'a>(alloc: Global, words: &'a [String]) -> Result<(ArgMatches<'a>, Option<u16>), Error>
+    ensures { IfOk result (λ r. IfSome r.1 (λ n. 1 ≤ n)) }
+{
+    let matches = command(alloc)?.try_get_matches_from(words)?;
+    let rounds = matches.get_one::<u16>("rounds");
+    Ok((matches, rounds))
+}
+
+/// What the words say, the first of which is the program's name.
+pub fn options_of<'a>(alloc: Global, words: &'a [String]) -> Result<Options<'a>, Error> {
+    let (matches, rounds) = parse(alloc, words)?;
+    let tries = matches.get_one::<u8>("tries").unwrap_or(TRIES_DEFAULT);
+    Ok(Options {
+        matches,
+        tries,
+        rounds: rounds.unwrap_or(ROUNDS_DEFAULT),
+    })
+}

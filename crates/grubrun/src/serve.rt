@@ -1,0 +1,116 @@
+//! The program over its words and two writers.
+
+use crate::command::{Options, options_of};
+use crate::fault::FileFault;
+use crate::input::read_file;
+use clap::error::ErrorKind;
+use clap::Error;
+use grub_run::{GrubFault, run_texts};
+use grub_trace::TraceFault;
+use std::alloc::Global;
+use std::io;
+use std::io::Write;
+use std::rt::Files;
+use std::sync::Wait;
+use std::thread::Threads;
+
+/// A file, or all files, could not be used: the reports are not there.
+const STATUS_FILE: u8 = 1;
+
+/// The command line is wrong.
+const STATUS_USAGE: u8 = 2;
+
+/// Memory, a thread, a file or a writer failed.
+const STATUS_SYSTEM: u8 = 3;
+
+/// Runs the program on its words, the first of which is its name, and gives its status. Reports and the help go to
+/// `out`, and the line of a fault to `faults`.
+pub fn serve<R: Files + Threads + Wait, W: Write, E: Write>(
+    rt: &R,
+    alloc: Global,
+    words: &[String],
+    out: &mut W,
+    faults: &mut E,
+) -> u8 {
+    match options_of(alloc, words) {
+        Ok(options) => serve_files(rt, alloc, &options, out, faults),
+        Err(error) => serve_error(&error, out, faults),
+    }
+}
+
+/// The text of the command line's fault, or the help.
+fn serve_error<W: Write, E: Write>(error: &Error, out: &mut W, faults: &mut E) -> u8 {
+    if error.kind() == ErrorKind::OutOfMemory {
+        let _ = writeln!(faults, "grubrun: {}", FileFault::NoMemory);
+        return STATUS_SYSTEM;
+    }
+    if error.use_stderr() {
+        let _ = write!(faults, "{error}");
+        return STATUS_USAGE;
+    }
+    if write!(out, "{error}").is_err() || out.flush().is_err() {
+        let _ = writeln!(faults, "grubrun: {}", GrubFault::WriteFault);
+        return STATUS_SYSTEM;
+    }
+    0
+}
+
+/// Reads all files, and then runs them.
+fn serve_files<R: Files + Threads + Wait, W: Write, E: Write>(
+    rt: &R,
+    alloc: Global,
+    options: &Options<'_>,
+    out: &mut W,
+    faults: &mut E,
+) -> u8 {
+    let paths = options.matches.get_strs("FILE").unwrap_or(&[]);
+    let mut files = Vec::new(alloc);
+    for path in paths {
+        let fault = match read_file(rt, alloc, path) {
+            Ok(bytes) => match files.push(bytes) {
+                Ok(()) => continue,
+                Err(_) => FileFault::NoMemory,
+            },
+            Err(fault) => fault,
+        };
+        return serve_file_fault(path, fault, faults);
+    }
+    match run_texts(rt, alloc, &files, options.tries, options.rounds, out) {
+        Ok(()) => 0,
+        Err(fault) => serve_fault(paths, fault, faults),
+    }
+}
+
+/// The line of a file that was not read whole.
+fn serve_file_fault<E: Write>(path: &str, fault: FileFault, faults: &mut E) -> u8 {
+    if fault == FileFault::NoMemory {
+        let _ = writeln!(faults, "grubrun: {fault}");
+        return STATUS_SYSTEM;
+    }
+    let _ = writeln!(faults, "grubrun: {path}: {fault}");
+    match fault {
+        FileFault::TooLong => STATUS_FILE,
+        _ => STATUS_SYSTEM,
+    }
+}
+
+/// The line of a run that did not write its reports.
+fn serve_fault<E: Write>(paths: &[&str], fault: GrubFault, faults: &mut E) -> u8 {
+    if let GrubFault::Trace(TraceFault::At { file, line, .. }) = fault {
+        let path = paths.get(file).copied().unwrap_or("");
+        let _ = writeln!(faults, "grubrun: {path}:{line}: {fault}");
+        return STATUS_FILE;
+    }
+    let _ = writeln!(faults, "grubrun: {fault}");
+    STATUS_SYSTEM
+}
+
+/// The line where the words could not be had: memory was refused, or they are no text.
+pub fn serve_no_words<E: Write>(error: &io::Error, faults: &mut E) -> u8 {
+    if error.kind() == io::ErrorKind::OutOfMemory {
+        let _ = writeln!(faults, "grubrun: {}", FileFault::NoMemory);
+        return STATUS_SYSTEM;
+    }
+    let _ = writeln!(faults, "error: the arguments are no text");
+    STATUS_USAGE
+}

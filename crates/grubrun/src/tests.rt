@@ -1,0 +1,297 @@
+use crate::fault::FileFault;
+use crate::input::{FILE_BYTES_MAX, read_all};
+use crate::serve::{serve, serve_no_words};
+use std::alloc::{AllocError, Global};
+use std::fs;
+use std::io;
+use std::io::{ErrorKind, Read, Write};
+use std::rt::Files;
+use std::sync::Wait;
+use std::test::Fail;
+use std::thread::Threads;
+
+const FIRST: &str = "\
+grub 1
+queue 1048576 0
+task A 4 8
+at 0 join A
+at 0 block A
+at 0 read
+at 3 wake A
+at 3 read
+";
+
+const FIRST_REPORT: &str = "\
+runqueue 0
+at 0 join A: joined q=4 d=8
+at 0 block A: asleep
+at 0 read: running=0 this=524288
+at 3 wake A: woken q=4 d=11
+at 3 read: running=524288 this=524288
+close running=524288 this=524288
+";
+
+fn words_of(alloc: Global, words: &[&str]) -> Result<Vec<String>, AllocError> {
+    let mut all = Vec::new(alloc);
+    all.push(String::from_str(alloc, "grubrun")?)?;
+    for word in words {
+        all.push(String::from_str(alloc, word)?)?;
+    }
+    Ok(all)
+}
+
+/// Whether the program answers these words by this status, output and line of a fault.
+fn serves<R: Files + Threads + Wait>(
+    rt: &R,
+    alloc: Global,
+    words: &[&str],
+    status: u8,
+    text: &str,
+    fault: &str,
+) -> Result<bool, AllocError> {
+    let words = words_of(alloc, words)?;
+    let mut out: Vec<u8> = Vec::new(alloc);
+    let mut faults: Vec<u8> = Vec::new(alloc);
+    let got = serve(rt, alloc, &words, &mut out, &mut faults);
+    Ok(got == status
+        && out.as_slice() == text.as_bytes()
+        && faults.as_slice() == fault.as_bytes())
+}
+
+#[test]
+fn one_file(rt: HostRuntime) -> Result<(), Fail> {
+    fs::write(&rt, "first.grub", FIRST.as_bytes())?;
+    for words in [
+        ["first.grub"].as_slice(),
+        ["--tries", "255", "--rounds", "65535", "first.grub"].as_slice(),
+        ["--tries=0", "first.grub", "--rounds=1"].as_slice(),
+    ] {
+        assert!(rt; serves(&rt, rt.alloc(), words, 0, FIRST_REPORT, "")?);
+    }
+    Ok(())
+}
+
+#[test]
+fn faults_of_files(rt: HostRuntime) -> Result<(), Fail> {
+    for (text, fault) in [
+        ("", "grubrun: a file.grub:1: 28 BadHeader\n"),
+        (
+            "grub 1\nqueue 1 0\n\n",
+            "grubrun: a file.grub:3: 29 BadLine\n",
+        ),
+        (
+            "grub 1\nqueue 01 0\n",
+            "grubrun: a file.grub:2: 30 BadNumber\n",
+        ),
+        (
+            "grub 1\nqueue 1 0\ntask A 9 8\n",
+            "grubrun: a file.grub:3: 31 OutOfRange\n",
+        ),
+        (
+            "grub 1\nqueue 1 0\ntask A 4 8\ntask A 4 8\n",
+            "grubrun: a file.grub:4: 32 DuplicateTask\n",
+        ),
+        (
+            "grub 1\nqueue 1 0\nat 0 join Z\n",
+            "grubrun: a file.grub:3: 33 UnknownTask\n",
+        ),
+        (
+            "grub 1\nqueue 1 0\nat 6 read\nat 5 read\n",
+            "grubrun: a file.grub:4: 34 MomentGoesBack\n",
+        ),
+        ("grub 1\n", "grubrun: a file.grub:2: 35 MissingQueue\n"),
+        (
+            "grub 1\nqueue 1 0",
+            "grubrun: a file.grub:2: 36 CutShort\n",
+        ),
+    ] {
+        fs::write(&rt, "a file.grub", text.as_bytes())?;
+        assert!(rt; serves(&rt, rt.alloc(), ["a file.grub"].as_slice(), 1, "", fault)?, "{fault}");
+    }
+    Ok(())
+}
+
+#[test]
+fn many_files(rt: HostRuntime) -> Result<(), Fail> {
+    fs::write(&rt, "empty.grub", b"grub 1\nqueue 1 0\n")?;
+    let mut words = ["empty.grub"; 65];
+    words[64] = "./empty.grub";
+    let line = "grubrun: ./empty.grub:1: 31 OutOfRange\n";
+    assert!(rt; serves(&rt, rt.alloc(), words.as_slice(), 1, "", line)?);
+    words[64] = "not there";
+    let line = "grubrun: not there: 46 ReadFault\n";
+    assert!(rt; serves(&rt, rt.alloc(), words.as_slice(), 3, "", line)?);
+    Ok(())
+}
+
+/// Whether the program refuses these words by status 2 and a text of the fault.
+fn refuses<R: Files + Threads + Wait>(
+    rt: &R,
+    alloc: Global,
+    words: &[&str],
+) -> Result<bool, AllocError> {
+    let words = words_of(alloc, words)?;
+    let mut out: Vec<u8> = Vec::new(alloc);
+    let mut faults: Vec<u8> = Vec::new(alloc);
+    let status = serve(rt, alloc, &words, &mut out, &mut faults);
+    Ok(status == 2 && out.is_empty() && !faults.is_empty())
+}
+
+#[test]
+fn wrong_words(rt: HostRuntime) -> Result<(), Fail> {
+    let alloc = rt.alloc();
+    assert!(rt; refuses(&rt, alloc, [].as_slice())?);
+    assert!(rt; refuses(&rt, alloc, ["--rounds", "0", "x"].as_slice())?);
+    assert!(rt; refuses(&rt, alloc, ["--rounds", "65536", "x"].as_slice())?);
+    assert!(rt; refuses(&rt, alloc, ["--tries", "256", "x"].as_slice())?);
+    assert!(rt; refuses(&rt, alloc, ["--tries", "x"].as_slice())?);
+    assert!(rt; refuses(&rt, alloc, ["--wheel", "x"].as_slice())?);
+    Ok(())
+}
+
+#[test]
+fn no_words(rt: HostRuntime) -> Result<(), Fail> {
+    let alloc = rt.alloc();
+    for (kind, status, line) in [
+        (
+            ErrorKind::InvalidData,
+            2,
+            "error: the arguments are no text\n",
+        ),
+        (ErrorKind::OutOfMemory, 3, "grubrun: 47 NoMemory\n"),
+    ] {
+        let mut faults: Vec<u8> = Vec::new(alloc);
+        let got = serve_no_words(&io::Error::from(kind), &mut faults);
+        assert_eq!(rt; got, status);
+        assert_eq!(rt; faults.as_slice(), line.as_bytes());
+    }
+    Ok(())
+}
+
+#[test]
+fn help(rt: HostRuntime) -> Result<(), Fail> {
+    let alloc = rt.alloc();
+    let words = words_of(alloc, ["--help"].as_slice())?;
+    let mut out: Vec<u8> = Vec::new(alloc);
+    let mut faults: Vec<u8> = Vec::new(alloc);
+    let status = serve(&rt, alloc, &words, &mut out, &mut faults);
+    assert_eq!(rt; status, 0);
+    assert!(rt; faults.is_empty());
+    let text = String::from_utf8_lossy(alloc, &out)?;
+    assert!(rt; text.as_str().contains("--tries <N>"));
+    assert!(rt; text.as_str().contains("--rounds <N>"));
+    Ok(())
+}
+
+#[test]
+fn long_files(rt: HostRuntime) -> Result<(), Fail> {
+    for (len, fault) in [
+        (FILE_BYTES_MAX, "grubrun: long.grub:1: 36 CutShort\n"),
+        (FILE_BYTES_MAX + 1, "grubrun: long.grub: 44 FileTooLong\n"),
+    ] {
+        let text = Vec::from_elem(rt.alloc(), b'7', len)?;
+        fs::write(&rt, "long.grub", text.as_slice())?;
+        assert!(rt; serves(&rt, rt.alloc(), ["long.grub"].as_slice(), 1, "", fault)?);
+    }
+    Ok(())
+}
+
+/// Gives so many single bytes, and then fails.
+#[derive(Drop)]
+struct Broken {
+    left: usize,
+}
+
+impl Read for Broken {
+    fn read(&mut self, buf: &mut [u8]) -> io::Result<usize> {
+        if self.left == 0 {
+            return Err(io::Error::from(ErrorKind::Other));
+        }
+        if buf.is_empty() {
+            return Ok(0);
+        }
+        buf[0] = b'7';
+        self.left -= 1;
+        Ok(1)
+    }
+}
+
+#[test]
+fn broken_reads(rt: HostRuntime) -> Result<(), Fail> {
+    let alloc = rt.alloc();
+    for left in [0usize, 3] {
+        let mut reader = Broken { left };
+        let fault = match read_all(alloc, &mut reader) {
+            Ok(_) => None,
+            Err(fault) => Some(fault),
+        };
+        assert!(rt; fault == Some(FileFault::Read));
+    }
+    fs::create_dir(&rt, "folder")?;
+    let line = "grubrun: folder: 46 ReadFault\n";
+    assert!(rt; serves(&rt, rt.alloc(), ["folder"].as_slice(), 3, "", line)?);
+    Ok(())
+}
+
+/// Takes nothing.
+#[derive(Drop)]
+struct Closed;
+
+impl Write for Closed {
+    fn write(&mut self, _buf: &[u8]) -> io::Result<usize> {
+        Err(io::Error::from(ErrorKind::Other))
+    }
+
+    fn flush(&mut self) -> io::Result<()> {
+        Ok(())
+    }
+}
+
+#[test]
+fn closed_output(rt: HostRuntime) -> Result<(), Fail> {
+    let alloc = rt.alloc();
+    fs::write(&rt, "first.grub", FIRST.as_bytes())?;
+    for words in [["first.grub"].as_slice(), ["--help"].as_slice()] {
+        let words = words_of(alloc, words)?;
+        let mut out = Closed;
+        let mut faults: Vec<u8> = Vec::new(alloc);
+        let status = serve(&rt, alloc, &words, &mut out, &mut faults);
+        assert_eq!(rt; status, 3);
+        assert_eq!(rt; faults.as_slice(), b"grubrun: 45 WriteFault\n".as_slice());
+    }
+    Ok(())
+}
+
+/// Where memory is refused, the program ends with status 3 and the line of a fault, or as with ample memory.
+#[test]
+fn refused_memory(rt: HostRuntime) -> Result<(), Fail> {
+    let alloc = rt.alloc();
+    fs::write(&rt, "first.grub", FIRST.as_bytes())?;
+    let words = words_of(alloc, ["first.grub"].as_slice())?;
+    let mut out: Vec<u8> = Vec::with_capacity(alloc, 1000)?;
+    let mut faults: Vec<u8> = Vec::with_capacity(alloc, 1000)?;
+    let status = serve(&rt, alloc, &words, &mut out, &mut faults);
+    if status == 0 {
+        assert_eq!(rt; out.as_slice(), FIRST_REPORT.as_bytes());
+        return Ok(());
+    }
+    assert_eq!(rt; status, 3);
+    assert!(rt; out.is_empty());
+    let line = faults.as_slice();
+    assert!(rt;
+        [37, 38, 43, 47]
+            .iter()
+            .any(|n| is_no_memory(*n, line))
+    );
+    Ok(())
+}
+
+fn is_no_memory(number: u8, line: &[u8]) -> bool {
+    let want: &[u8] = match number {
+        37 => b"grubrun: 37 NoMemory\n",
+        38 => b"grubrun: 38 NoMemory\n",
+        43 => b"grubrun: 43 NoMemory\n",
+        _ => b"grubrun: 47 NoMemory\n",
+    };
+    line == want
+}
