@@ -3,8 +3,8 @@
 use crate::command::{Options, options_of};
 use crate::fault::FileFault;
 use crate::input::read_file;
-use clap::error::ErrorKind;
 use clap::Error;
+use clap::error::ErrorKind;
 use grub_run::{GrubFault, run_texts};
 use grub_trace::TraceFault;
 use std::alloc::Global;

@@ -2,13 +2,12 @@ use crate::fault::FileFault;
 use crate::input::{FILE_BYTES_MAX, read_all};
 use crate::serve::{serve, serve_no_words};
 use std::alloc::{AllocError, Global};
-use std::fs;
-use std::io;
 use std::io::{ErrorKind, Read, Write};
 use std::rt::Files;
 use std::sync::Wait;
 use std::test::Fail;
 use std::thread::Threads;
+use std::{fs, io};
 
 const FIRST: &str = "\
 grub 1
@@ -53,21 +52,20 @@ fn serves<R: Files + Threads + Wait>(
     let mut out: Vec<u8> = Vec::new(alloc);
     let mut faults: Vec<u8> = Vec::new(alloc);
     let got = serve(rt, alloc, &words, &mut out, &mut faults);
-    Ok(got == status
-        && out.as_slice() == text.as_bytes()
-        && faults.as_slice() == fault.as_bytes())
+    Ok(got == status && out.as_slice() == text.as_bytes() && faults.as_slice() == fault.as_bytes())
 }
 
 #[test]
 fn one_file(rt: HostRuntime) -> Result<(), Fail> {
-    fs::write(&rt, "first.grub", FIRST.as_bytes())?;
+    fs::write(&rt, "one.grub", FIRST.as_bytes())?;
     for words in [
-        ["first.grub"].as_slice(),
-        ["--tries", "255", "--rounds", "65535", "first.grub"].as_slice(),
-        ["--tries=0", "first.grub", "--rounds=1"].as_slice(),
+        ["one.grub"].as_slice(),
+        ["--tries", "255", "--rounds", "65535", "one.grub"].as_slice(),
+        ["--tries=0", "one.grub", "--rounds=1"].as_slice(),
     ] {
         assert!(rt; serves(&rt, rt.alloc(), words, 0, FIRST_REPORT, "")?);
     }
+    fs::remove_file(&rt, "one.grub")?;
     Ok(())
 }
 
@@ -100,14 +98,15 @@ fn faults_of_files(rt: HostRuntime) -> Result<(), Fail> {
             "grubrun: a file.grub:4: 34 MomentGoesBack\n",
         ),
         ("grub 1\n", "grubrun: a file.grub:2: 35 MissingQueue\n"),
-        (
-            "grub 1\nqueue 1 0",
-            "grubrun: a file.grub:2: 36 CutShort\n",
-        ),
+        ("grub 1\nqueue 1 0", "grubrun: a file.grub:2: 36 CutShort\n"),
     ] {
         fs::write(&rt, "a file.grub", text.as_bytes())?;
-        assert!(rt; serves(&rt, rt.alloc(), ["a file.grub"].as_slice(), 1, "", fault)?, "{fault}");
+        assert!(rt;
+            serves(&rt, rt.alloc(), ["a file.grub"].as_slice(), 1, "", fault)?,
+            "{fault}"
+        );
     }
+    fs::remove_file(&rt, "a file.grub")?;
     Ok(())
 }
 
@@ -121,6 +120,7 @@ fn many_files(rt: HostRuntime) -> Result<(), Fail> {
     words[64] = "not there";
     let line = "grubrun: not there: 46 ReadFault\n";
     assert!(rt; serves(&rt, rt.alloc(), words.as_slice(), 3, "", line)?);
+    fs::remove_file(&rt, "empty.grub")?;
     Ok(())
 }
 
@@ -193,6 +193,7 @@ fn long_files(rt: HostRuntime) -> Result<(), Fail> {
         fs::write(&rt, "long.grub", text.as_slice())?;
         assert!(rt; serves(&rt, rt.alloc(), ["long.grub"].as_slice(), 1, "", fault)?);
     }
+    fs::remove_file(&rt, "long.grub")?;
     Ok(())
 }
 
@@ -230,6 +231,7 @@ fn broken_reads(rt: HostRuntime) -> Result<(), Fail> {
     fs::create_dir(&rt, "folder")?;
     let line = "grubrun: folder: 46 ReadFault\n";
     assert!(rt; serves(&rt, rt.alloc(), ["folder"].as_slice(), 3, "", line)?);
+    fs::remove_dir(&rt, "folder")?;
     Ok(())
 }
 
@@ -250,8 +252,8 @@ impl Write for Closed {
 #[test]
 fn closed_output(rt: HostRuntime) -> Result<(), Fail> {
     let alloc = rt.alloc();
-    fs::write(&rt, "first.grub", FIRST.as_bytes())?;
-    for words in [["first.grub"].as_slice(), ["--help"].as_slice()] {
+    fs::write(&rt, "closed.grub", FIRST.as_bytes())?;
+    for words in [["closed.grub"].as_slice(), ["--help"].as_slice()] {
         let words = words_of(alloc, words)?;
         let mut out = Closed;
         let mut faults: Vec<u8> = Vec::new(alloc);
@@ -259,6 +261,7 @@ fn closed_output(rt: HostRuntime) -> Result<(), Fail> {
         assert_eq!(rt; status, 3);
         assert_eq!(rt; faults.as_slice(), b"grubrun: 45 WriteFault\n".as_slice());
     }
+    fs::remove_file(&rt, "closed.grub")?;
     Ok(())
 }
 
@@ -266,11 +269,12 @@ fn closed_output(rt: HostRuntime) -> Result<(), Fail> {
 #[test]
 fn refused_memory(rt: HostRuntime) -> Result<(), Fail> {
     let alloc = rt.alloc();
-    fs::write(&rt, "first.grub", FIRST.as_bytes())?;
-    let words = words_of(alloc, ["first.grub"].as_slice())?;
+    fs::write(&rt, "refused.grub", FIRST.as_bytes())?;
+    let words = words_of(alloc, ["refused.grub"].as_slice())?;
     let mut out: Vec<u8> = Vec::with_capacity(alloc, 1000)?;
     let mut faults: Vec<u8> = Vec::with_capacity(alloc, 1000)?;
     let status = serve(&rt, alloc, &words, &mut out, &mut faults);
+    fs::remove_file(&rt, "refused.grub")?;
     if status == 0 {
         assert_eq!(rt; out.as_slice(), FIRST_REPORT.as_bytes());
         return Ok(());
@@ -278,11 +282,7 @@ fn refused_memory(rt: HostRuntime) -> Result<(), Fail> {
     assert_eq!(rt; status, 3);
     assert!(rt; out.is_empty());
     let line = faults.as_slice();
-    assert!(rt;
-        [37, 38, 43, 47]
-            .iter()
-            .any(|n| is_no_memory(*n, line))
-    );
+    assert!(rt; [37, 38, 43, 47].iter().any(|n| is_no_memory(*n, line)));
     Ok(())
 }
 
