@@ -1,6 +1,6 @@
 # Builds, tests and installs grubrun. The proofs and the compiler are the kit's command rt.
 
-PROGRAM := crates/grub_run/out/grub_run
+PROGRAM := crates/grubrun/out/grubrun
 PREFIX ?= /usr/local
 FILES ?= examples/documentation.grub
 FLAGS ?=
@@ -9,7 +9,7 @@ FLAGS ?=
 
 # Proves the program with all that it stands on, and links it.
 build:
-	@cd crates/grub_run && rt run -- --help > /dev/null
+	@cd crates/grubrun && rt run -- --help > /dev/null
 
 # Plays the event files FILES, one runqueue each, and prints their reports.
 run: build
