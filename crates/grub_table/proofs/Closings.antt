@@ -1,0 +1,114 @@
+-- The table at the end.
+use Rattle.std.proofs.Common.{◌≡◌, ℕ, zero, suc, ◌<◌, ◌+◌, ◌*◌, List, [], ◌∷◌, ◌++◌, length, map, get_or, refl, set, sym, ap, ◌∙◌, subst, arith, append_assoc, get_or-set_other, get_or-set_same, ⊎_elim, inl, inr, ◌≤◌}
+use mathlib.Core.Logic.{dite}
+use native.Mathlib.Decide.{ℕ_discrete}
+use mathlib.Core.List.{map-append}
+use mathlib.Core.Option.{some, some-injective, some-ne-none}
+use lib.ListN.{get_elem?}
+use Rattle.atomic_table.specs.Table.{State}
+use Rattle.grub_book.specs.History.{calls_of}
+use Rattle.grub_book.specs.declared.event.Event.{Event}
+use Rattle.grub_book.specs.declared.event.Reading.{Reading}
+use Rattle.grub_words.specs.Words.{queue_word, QueueFits}
+use Rattle.grub_words.proofs.Halves.{same_queue}
+use Rattle.grub_table.specs.declared.pass.Pass.{Pass}
+use Rattle.grub_table.specs.declared.pass.Shared.{Shared}
+use Rattle.grub_table.specs.declared.view.Mark.{Mark}
+use Rattle.grub_table.specs.declared.view.Share.{Share}
+use Rattle.grub_table.specs.declared.view.Terms.{Terms}
+use Rattle.grub_table.specs.declared.view.View.{View}
+use Rattle.grub_table.specs.Calls.{share_of, terms, IsPartOf, IsMarkPartOf, HasNumber, IsClosed}
+use Rattle.grub_table.specs.Histories.{Every, reading_in}
+use Rattle.grub_table.specs.Layout.{queue_word_at}
+use Rattle.grub_table.specs.Marks.{marks_of}
+use Rattle.grub_table.specs.Rule.{Stands, Kept}
+use Rattle.grub_table.specs.Views.{ShareOf, MarkedBy}
+use Rattle.grub_table.proofs.Growths.{every_weaker}
+use Rattle.grub_table.proofs.Moves.{reading_fits}
+use Rattle.grub_table.proofs.Pigeons.{Among, all_there}
+
+every_start : {X : Type 0} (P : X → Type 0) (xs ys : List X) → Every P (xs ++ ys) → Every P xs
+every_start P [] ys a = tt
+every_start P (x ∷ xs) ys a = (a.0, every_start P xs ys a.1)
+
+every_last : {X : Type 0} (P : X → Type 0) (xs : List X) (y : X) → Every P (xs ++ y ∷ []) → P y
+every_last P [] y a = a.0
+every_last P (x ∷ xs) y a = every_last P xs y a.1
+
+pub every_popped : {X : Type 0} (P : X → Type 0) (old new : List X) (y : X) → old ≡ new ++ y ∷ [] → Every P old → Every P new × P y
+every_popped P old new y is a = let b = subst (Every P) is a in (every_start P new (y ∷ []) b, every_last P new y b)
+
+pub shares_popped : (old new : List Pass) (p : Pass) (ss : List Share) → old ≡ new ++ p ∷ [] → map share_of new ++ share_of p ∷ ss ≡ map share_of old ++ ss
+shares_popped old new p ss is = sym (append_assoc (map share_of new) (share_of p ∷ []) ss) ∙ ap (λ l. l ++ ss) (sym (map-append share_of new (p ∷ [])) ∙ ap (map share_of) (sym is))
+
+pub shares_left : (xs ys : List Share) (ps : List Pass) → length ps ≡ 0 → map share_of ps ++ xs ≡ ys → xs ≡ ys
+shares_left xs ys [] none is = is
+shares_left xs ys (p ∷ ps) none is = absurd (omega arith)
+
+parts : (T : Terms) (h : List Event) (ps : List Pass) → Every (ShareOf T h) (map share_of ps) → Every (IsPartOf h) ps
+parts T h [] a = tt
+parts T h (p ∷ ps) a = (record { starts = a.0.seen; own = subst (λ n. calls_of n h ≡ calls_of n (share_of p).seen) p.numbered a.0.own }, parts T h ps a.1)
+
+mark_parts : (ms : List Mark) (ps : List Pass) → Every (MarkedBy ms) (map share_of ps) → Every (IsMarkPartOf ms) ps
+mark_parts ms [] a = tt
+mark_parts ms (p ∷ ps) a = (record { starts = a.0.starts; own = subst (λ n. marks_of n ms ≡ marks_of n (share_of p).marks) p.numbered a.0.own }, mark_parts ms ps a.1)
+
+has_number : (i : ℕ) (ps : List Pass) → Among i (map share_of ps) → HasNumber i ps
+has_number i [] a = a
+has_number i (p ∷ ps) a = ⊎_elim (λ is. inl (sym p.numbered ∙ is)) (λ t. inr (has_number i ps t)) a
+
+length_shares : (ps : List Pass) → length (map share_of ps) ≡ length ps
+length_shares [] = refl
+length_shares (p ∷ ps) = ap suc (length_shares ps)
+
+pub get_at : (xs : List ℕ) (i a : ℕ) → get_elem? xs i ≡ some a → get_or xs i 0 ≡ a
+get_at [] i a e = absurd (some-ne-none a (sym e))
+get_at (x ∷ xs) zero a e = some-injective x a e
+get_at (x ∷ xs) (suc i) a e = get_at xs i a e
+
+-- the reading that was in a runqueue's word
+pub record IsReadingOf (words : List ℕ) (r : ℕ) (now : Reading) : Type 0 where
+  pub fits : QueueFits now
+  pub word : get_or words (queue_word_at r) 0 ≡ queue_word now
+
+pub is_reading_of : (words : List ℕ) (r found : ℕ) (now : Reading) → get_elem? words (queue_word_at r) ≡ some found → QueueFits now → queue_word now ≡ found → IsReadingOf words r now
+is_reading_of words r found now at fits is = record { fits = fits; word = get_at words (queue_word_at r) found at ∙ sym is }
+
+-- what is known of the rule's words at the end, and of the shares that stand together
+module _ {S : Type 0} (self : Shared) (s : State S View) (id : ℕ) (v : View) (ps : List Pass) (words : List ℕ) (readings : List Reading) (kept : Kept self.table.shared.key s) (at : get_elem? s.views id ≡ some v)
+    (shares : v.shares ≡ map share_of ps) (same : s.words ≡ words) (all : (terms self).passes ≤ length ps) where
+  rule : Kept self.terms s
+  rule = subst (λ (T : Terms). Kept T s) self.kept kept
+
+  pub word_fits : (r : ℕ) → r < length (terms self).setup.queues → (now : Reading) × QueueFits now × (get_or words (queue_word_at r) 0 ≡ queue_word now)
+  word_fits r lt =
+      let k = rule in
+      (reading_in self.terms k.history r, reading_fits self.terms k.history r k.limited k.is_history lt, ap (λ l. get_or l (queue_word_at r) 0) (sym same) ∙ k.written.queues r lt)
+
+  pub closes : length readings ≡ length (terms self).setup.queues → ((r : ℕ) (d : Reading) → r < length readings → IsReadingOf words r (get_or readings r d)) → IsClosed self ps readings
+  closes room told =
+      let k = rule in
+      let T = self.terms in
+      let mine = k.known id v at in
+      record {
+        history = k.history;
+        is_history = k.is_history;
+        parts = parts T k.history ps (subst (Every (ShareOf T k.history)) shares (every_weaker (Stands T k.history k.owner id) (ShareOf T k.history) (λ x t. t.0) v.shares mine.0));
+        marks = k.marks;
+        lawful = k.lawful;
+        mark_parts = mark_parts k.marks ps (subst (Every (MarkedBy k.marks)) shares (k.marked id v at));
+        readings = record {
+          one_each = room;
+          value = λ r d lt.
+              let one = told r d (omega arith) in
+              same_queue _ _ one.fits (reading_fits T k.history r k.limited k.is_history lt) (sym one.word ∙ ap (λ l. get_or l (queue_word_at r) 0) (sym same) ∙ k.written.queues r lt);
+        };
+        whole = λ i lt. has_number i ps (subst (Among i) shares (all_there T.passes v.shares mine.1
+            (every_weaker (Stands T k.history k.owner id) (λ (x : Share). x.number < T.passes) (λ x t. t.0.number) v.shares mine.0) (omega (arith, ap length shares, length_shares ps, all)) i lt));
+      }
+
+pub read_more : (readings : List Reading) (words : List ℕ) (r : ℕ) (now : Reading) → r < length readings → IsReadingOf words r now → ((k : ℕ) (d : Reading) → k < r → IsReadingOf words k (get_or readings k d))
+    → (k : ℕ) (d : Reading) → k < r + 1 → IsReadingOf words k (get_or (set readings r now) k d)
+read_more readings words r now lt is done k d below = dite (ℕ_discrete k r)
+    (λ here. subst (λ (p : ℕ × Reading). IsReadingOf words p.0 p.1) (λ i. (sym here i, sym (ap (λ n. get_or (set readings r now) n d) here ∙ get_or-set_same readings r now d lt) i)) is)
+    (λ other. subst (IsReadingOf words k) (sym (get_or-set_other readings r k now d other)) (done k d (omega arith)))

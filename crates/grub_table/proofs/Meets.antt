@@ -1,0 +1,65 @@
+-- Two beginnings of one history, or of one list of marks.
+use Rattle.std.proofs.Common.{◌≡◌, ◌⊎◌, ℕ, Bool, List, [], ◌∷◌, ◌++◌, length, drop, filter, sym, refl, ap, ◌∙◌, subst, ⊎_elim, inl, inr, arith, append-nil, length-append, ◌==◌}
+use Rattle.std.proofs.lemmas.List.{nil_from_length}
+use Rattle.std.proofs.lemmas.List.Elements.{filter-append}
+use Rattle.grub_book.specs.History.{StartsWith, calls_of, pass_of}
+use Rattle.grub_table.specs.declared.pass.Pass.{Pass}
+use Rattle.grub_table.specs.declared.view.Share.{Share}
+use Rattle.grub_table.specs.Calls.{IsBehind, IsMarkedBehind, share_of}
+use Rattle.grub_table.specs.Marks.{marks_of, marker_of}
+use Rattle.grub_table.specs.Views.{StandTogether}
+
+head_or : {A : Type 0} → A → List A → A
+head_or a [] = a
+head_or a (x ∷ xs) = x
+
+head_is : {A : Type 0} (x y : A) (a b : List A) → x ∷ a ≡ y ∷ b → x ≡ y
+unfolding head_or
+head_is x y a b e = ap (head_or x) e
+
+tail_is : {A : Type 0} (x y : A) (a b : List A) → x ∷ a ≡ y ∷ b → a ≡ b
+tail_is x y a b e = ap (drop 1) e
+
+-- of two beginnings of one list, one is a beginning of the other
+compared : {A : Type 0} (a b r s : List A) → a ++ r ≡ b ++ s → StartsWith b a ⊎ StartsWith a b
+compared {A} [] b r s e = inl (b, refl)
+compared {A} (x ∷ a) [] r s e = inr (x ∷ a, refl)
+compared {A} (x ∷ a) (y ∷ b) r s e = let same = head_is x y (a ++ r) (b ++ s) e in ⊎_elim
+    (λ (t : StartsWith b a). inl (t.0, (λ i. sym same i ∷ t.1 i)))
+    (λ (t : StartsWith a b). inr (t.0, (λ i. same i ∷ t.1 i)))
+    (compared a b r s (tail_is x y (a ++ r) (b ++ s) e))
+
+pub either_first : {A : Type 0} (h a b : List A) → StartsWith h a → StartsWith h b → StartsWith b a ⊎ StartsWith a b
+either_first h a b s t = compared a b s.0 t.0 (sym s.1 ∙ t.1)
+
+-- what passes the test in the whole list and in a beginning is the same in each beginning between
+none_between : {A : Type 0} (p : A → Bool) (h a b : List A) → StartsWith h b → StartsWith b a → filter p h ≡ filter p a → filter p b ≡ filter p a
+none_between p h a b hb ba own =
+    let whole : filter p h ≡ filter p b ++ filter p hb.0 = ap (filter p) hb.1 ∙ filter-append p b hb.0 in
+    let part : filter p b ≡ filter p a ++ filter p ba.0 = ap (filter p) ba.1 ∙ filter-append p a ba.0 in
+    let none : length (filter p ba.0) ≡ 0 = omega (arith, ap length whole, ap length part, ap length own, length-append (filter p b) (filter p hb.0), length-append (filter p a) (filter p ba.0)) in
+    part ∙ ap (λ l. filter p a ++ l) (nil_from_length (filter p ba.0) none) ∙ append-nil (filter p a)
+
+-- two passes that stand together
+module _ (p q : Pass) (t : StandTogether (share_of p ∷ share_of q ∷ [])) where
+  pub met : IsBehind p q ⊎ IsBehind q p
+  met =
+      let h = t.history in
+      let a = t.known.0 in
+      let b = t.known.1.0 in
+      let x : Share = share_of p in
+      let y : Share = share_of q in ⊎_elim
+      (λ (s : StartsWith y.seen x.seen). inl (record { starts = s; own = subst (λ n. calls_of n y.seen ≡ calls_of n x.seen) p.numbered (none_between (λ e. pass_of e == x.number) h x.seen y.seen b.seen s a.own) }))
+      (λ (s : StartsWith x.seen y.seen). inr (record { starts = s; own = subst (λ n. calls_of n x.seen ≡ calls_of n y.seen) q.numbered (none_between (λ e. pass_of e == y.number) h y.seen x.seen a.seen s b.own) }))
+      (either_first h x.seen y.seen a.seen b.seen)
+
+  pub marked_met : IsMarkedBehind p q ⊎ IsMarkedBehind q p
+  marked_met =
+      let h = t.marks in
+      let a = t.marked.0 in
+      let b = t.marked.1.0 in
+      let x : Share = share_of p in
+      let y : Share = share_of q in ⊎_elim
+      (λ (s : StartsWith y.marks x.marks). inl (record { starts = s; own = subst (λ n. marks_of n y.marks ≡ marks_of n x.marks) p.numbered (none_between (λ m. marker_of m == x.number) h x.marks y.marks b.starts s a.own) }))
+      (λ (s : StartsWith x.marks y.marks). inr (record { starts = s; own = subst (λ n. marks_of n x.marks ≡ marks_of n y.marks) q.numbered (none_between (λ m. marker_of m == y.number) h y.marks x.marks a.starts s b.own) }))
+      (either_first h x.marks y.marks a.starts b.starts)

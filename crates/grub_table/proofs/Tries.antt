@@ -1,0 +1,358 @@
+-- What the steps of a call under a claim tell together.
+use Rattle.std.proofs.Common.{◌≡◌, ◌≢◌, ℕ, ◌+◌, ◌<◌, ◌≤◌, Bool, true, false, nat_lt, cond, List, [], ◌∷◌, ◌++◌, length, set, sym, refl, ap, ◌∙◌, subst, arith, Option, Some, None}
+use Rattle.grub_bw.specs.Bandwidth.{Capacity, bandwidth_of}
+use Rattle.grub_bw.specs.Server.{charge_of, depleted_of}
+use Rattle.grub_bw.specs.declared.server.Server.{Server}
+use Rattle.grub_book.specs.Machine.{Machine, queue_at}
+use Rattle.grub_book.specs.Op.{IsOp}
+use Rattle.grub_book.specs.Sums.{Records, record_at, reading_of}
+use Rattle.grub_book.specs.History.{HasChanged, book_of}
+use Rattle.grub_book.specs.Sound.{IsKept, IsSound}
+use Rattle.grub_book.specs.Step.{refused, settled, step, charged, changes_sum, is_inactive, is_under_claim, runqueue_of, LooksAtQueue}
+use Rattle.grub_book.specs.Totals.{shifted_of}
+use Rattle.grub_book.specs.declared.event.Event.{Event}
+use Rattle.grub_book.specs.declared.event.Event.TheVariants.{Call}
+use Rattle.grub_book.specs.declared.event.Reading.{Reading}
+use Rattle.grub_book.specs.declared.op.Op.{Op}
+use Rattle.grub_book.specs.declared.op.Op.TheVariants.{Join, Wake, Block, Leave, Timer, Exit, Charge, Retune}
+use Rattle.grub_book.specs.declared.place.Record.{Record}
+use Rattle.grub_book.specs.declared.reply.Reply.{Reply}
+use Rattle.grub_book.proofs.Changes.{changed_none, changed_once, changed_more}
+use Rattle.grub_book.proofs.Claims.{settled_under}
+use Rattle.grub_book.proofs.Histories.{starts_whole}
+use Rattle.grub_book.proofs.Refusals.{settled_alike, settling}
+use Rattle.grub_book.proofs.Soundness.{kept_settled, sound_step}
+use Rattle.grub_book.proofs.Totals.{shifted_set}
+use Rattle.grub_words.specs.Words.{server_word, params_word, QueueFits}
+use Rattle.grub_words.proofs.Bounds.{QueueFits-sound}
+use Rattle.grub_table.specs.declared.pass.Claim.{Claim}
+use Rattle.grub_table.specs.declared.pass.Pass.{Pass}
+use Rattle.grub_table.specs.declared.pass.Shared.{Shared}
+use Rattle.grub_table.specs.declared.pass.Finished.{Finished}
+use Rattle.grub_table.specs.declared.pass.Finished.TheVariants.{Done, Held}
+use Rattle.grub_table.specs.declared.view.Hold.TheVariants.{Free, Undecided, Decided}
+use Rattle.grub_table.specs.declared.view.Mark.{Mark}
+use Rattle.grub_table.specs.declared.view.Mark.TheVariants.{Given}
+use Rattle.grub_table.specs.declared.view.Share.{Share}
+use Rattle.grub_table.specs.declared.view.Stored.{Stored}
+use Rattle.grub_table.specs.declared.view.Terms.{Terms}
+use Rattle.grub_table.specs.Between.{TheSeat, share_on, hold_of, IsSeatOf, HoldsFor, HoldsMade, Tells, Leaves, SawQueue, Exchanged, GivenUp, Concluded}
+use Rattle.grub_table.specs.Calls.{terms, seen, marks, claim_share, claim_seen, claim_marks, claim_queue, claim_changes_sum, IsPassOf, IsClaimOf, IsStill, IsDone, IsLost, IsFinished, IsCancelled}
+use Rattle.grub_table.specs.Histories.{IsHistory, Grows, Finishes, record_in, reading_in}
+use Rattle.grub_table.specs.Layout.{stored_of}
+use Rattle.grub_table.specs.Marks.{AreLawful, MarksGo}
+use Rattle.grub_table.specs.Tellings.{early, is_decided_at_load, outcome, Gave, settled_quietly, Sees, Calls, Decides, IsReadingFor, LoadedQueueAs, SettledServer, StoredServer, StoredParams, GaveClaim}
+use Rattle.grub_table.specs.Tries.{is_charge, half_stored, Knows, TriedAs, Tried}
+use Rattle.grub_table.proofs.Growths.{grows_grows, grows_finishes, grows_none}
+use Rattle.grub_table.proofs.Moves.{sound, reading_fits}
+use Rattle.grub_table.proofs.Turns.{under}
+
+pub is_not : {A : Type 0} {b : Bool} → b ≡ true → b ≡ false → A
+is_not e f = let g = sym e ∙ f in absurd cc
+
+-- ---- the ops
+or_charge : (b : Bool) → (b ≡ false → false ≡ true) → b ≡ true
+or_charge true f = refl
+or_charge false f = let g = f refl in absurd cc
+
+-- a charge is decided at the load of the runqueue's word
+charge_decided : (x : Record) (dq : ℕ) (o : Option (ℕ × Server)) → is_decided_at_load (charged x dq o).1 ≡ true
+charge_decided x dq None = refl
+charge_decided x dq (Some (k, s)) = refl
+
+pub lost_changes : (queue : Capacity) (now : Reading) (x : Record) (op : Op) → (changes_sum x op ≡ false → is_charge op ≡ true) → is_decided_at_load (settled x queue now op).1 ≡ false → changes_sum x op ≡ true
+lost_changes queue now x (Charge r dt) about off = let dq = charge_of dt (bandwidth_of x.params) queue now.running now.this in is_not (charge_decided x dq (depleted_of x.server x.params dq)) off
+lost_changes queue now x (Join r m) about off = refl
+lost_changes queue now x Leave about off = refl
+lost_changes queue now x (Timer ticket m) about off = refl
+lost_changes queue now x (Wake r m) about off = or_charge (changes_sum x (Wake r m)) about
+lost_changes queue now x (Block r m) about off = or_charge (changes_sum x (Block r m)) about
+lost_changes queue now x (Retune q p) about off = or_charge (changes_sum x (Retune q p)) about
+lost_changes queue now x Exit about off = or_charge (changes_sum x Exit) about
+
+-- an op that changes no sum, and is no charge, looks at no runqueue
+pub quiet_blind : (x : Record) (op : Op) → changes_sum x op ≡ false → is_charge op ≡ false → ¬ LooksAtQueue x.place op
+quiet_blind x (Join r m) quiet off looks = absurd cc
+quiet_blind x (Wake r m) quiet off looks = looks
+quiet_blind x (Block r m) quiet off looks = looks
+quiet_blind x (Charge r dt) quiet off looks = absurd cc
+quiet_blind x Leave quiet off looks = looks
+quiet_blind x (Timer ticket m) quiet off looks = looks
+quiet_blind x (Retune q p) quiet off looks = is_not looks quiet
+quiet_blind x Exit quiet off looks = looks
+
+-- ---- claims
+pub claim_holds : (s : Shared) (c : Claim) → IsClaimOf s c → HoldsFor s c.seat c.task c.op c.held
+claim_holds s c is = record {
+  seat_of = record { home = is.home; single = c.single; terms = is.terms };
+  hold = c.holds;
+  task = is.task;
+  op = is.op;
+  kept = is.kept;
+  unrefused = is.unrefused;
+}
+
+-- ---- two steps, one after the other
+sees_after : (T : Terms) (x m y : Share) → m.number ≡ x.number → Sees T x m → Sees T m y → Sees T x y
+sees_after T x m y same g h = grows_grows T x.number x.seen m.seen y.seen g (subst (λ n. Grows T n m.seen y.seen) same h)
+
+calls_after : (T : Terms) (x m y : Share) (t : ℕ) (op : Op) (reply : Reply) → m.number ≡ x.number → Sees T x m → Calls T m t op reply y → Calls T x t op reply y
+calls_after T x m y t op reply same g f = grows_finishes T x.number x.seen m.seen (Call x.number t op reply) y.seen g (subst (λ n. Finishes T n m.seen (Call n t op reply) y.seen) same f)
+
+-- ---- a try
+module _ (s : Shared) (t : ℕ) (op : Op) (rec : Record) (r : ℕ) (now : Reading) (old mid : TheSeat) (h : HoldsFor s old t op rec) (about : r ≡ runqueue_of rec.place op) (there : r < length s.terms.setup.queues) (saw : Tells s (SawQueue r now) old mid) where
+  abbrev T : Terms
+  T = s.terms
+
+  abbrev p : Record × Reply
+  p = outcome T r now rec op
+
+  abbrev x : Share
+  x = share_on old
+
+  abbrev m : Share
+  m = share_on mid
+
+  told : (m.marks ≡ x.marks) × IsReadingFor T r rec now × LoadedQueueAs (is_decided_at_load p.1) T x r t op rec now m
+  told = saw.of t op rec h.hold
+
+  pub reading_is : IsReadingFor T r rec now
+  reading_is = told.1
+
+  next_kept : IsKept T.setup p.0
+  next_kept = kept_settled T.setup (queue_at T.setup r) now rec op h.op h.unrefused h.kept
+
+  under_claim : is_under_claim p.1 ≡ true
+  under_claim = settled_under (queue_at T.setup r) now rec op
+
+  made : (q : Record × Reply) (new : TheSeat) → q ≡ p → IsSeatOf s new → (share_on new).number ≡ x.number → (share_on new).marks ≡ x.marks → Decides T x t op rec p (stored_of rec) (share_on new) → Tells s (Tried r (Some q)) old new
+  made q new is seat number same d =
+      let w = subst (λ (z : Record × Reply). Decides T x t op rec z (stored_of rec) (share_on new) × IsKept T.setup z.0 × (is_under_claim z.1 ≡ true)) (sym is) (d, next_kept, under_claim) in
+      record { seat = seat; number = number; of = under x.hold t op rec (λ t op rec. ((share_on new).marks ≡ x.marks) × TriedAs r (Some q) T x t op rec (share_on new)) h.hold (same, w) }
+
+  -- the reply is decided at the load
+  pub tried_at_load : (q : Record × Reply) → q ≡ p → is_decided_at_load q.1 ≡ true → Tells s (Tried r (Some q)) old mid
+  tried_at_load q is now_decided =
+      let on : is_decided_at_load p.1 ≡ true = ap (λ (z : Record × Reply). is_decided_at_load z.1) (sym is) ∙ now_decided in
+      made q mid is saw.seat saw.number told.0 (subst (λ b. LoadedQueueAs b T x r t op rec now m) on told.2)
+
+  -- it is not
+  module _ (q : Record × Reply) (is : q ≡ p) (undecided : is_decided_at_load q.1 ≡ false) where
+    off : is_decided_at_load p.1 ≡ false
+    off = ap (λ (z : Record × Reply). is_decided_at_load z.1) (sym is) ∙ undecided
+
+    still : Sees T x m × (m.hold ≡ x.hold) × (now ≡ reading_in T m.seen r) × (record_in T m.seen t ≡ rec)
+    still = subst (λ b. LoadedQueueAs b T x r t op rec now m) off told.2
+
+    pub holds_still : HoldsFor s mid t op rec
+    holds_still = record { seat_of = saw.seat; hold = still.1 ∙ h.hold; task = h.task; op = h.op; kept = h.kept; unrefused = h.unrefused }
+
+    abbrev b : Records
+    b = book_of T.setup m.seen
+
+    pub new_fits : (new : Reading) → new ≡ shifted_of now r rec q.0 → QueueFits new
+    new_fits new moves =
+        let is_sound : IsSound T.setup b = sound T m.seen s.limited still.0.history in
+        let one = is_sound.one_each in
+        let lt = h.task in
+        let below : t < length b = omega (arith, one, lt) in
+        let steps : step T.setup b t op ≡ (set b t p.0, p.1) = settling T.setup b t op rec (queue_at T.setup r) now still.3 h.unrefused (λ _. (ap (queue_at T.setup) about, still.2 ∙ ap (reading_of b) about)) in
+        let sound_then : IsSound T.setup (set b t p.0) = subst (IsSound T.setup) (ap (λ z. z.0) steps) (sound_step T.setup b t op is_sound lt h.op) in
+        let moved : shifted_of (reading_of b r) r (record_at b t) p.0 ≡ reading_of (set b t p.0) r = shifted_set b t p.0 r below in
+        let same : new ≡ reading_of (set b t p.0) r =
+        moves ∙ ap (λ (z : Record × Reply). shifted_of now r rec z.0) is ∙ ap (λ (n : Reading). shifted_of n r rec p.0) still.2 ∙ ap (λ (z : Record). shifted_of (reading_of b r) r z p.0) (sym still.3) ∙ moved in
+        subst QueueFits (sym same) (QueueFits-sound T.setup (set b t p.0) r sound_then there (s.limited.capacities r there))
+
+    module _ (new : TheSeat) where
+      abbrev y : Share
+      y = share_on new
+
+      pub tried_won : Tells s (Exchanged r now true) mid new → Tells s (Tried r (Some q)) old new
+      tried_won won =
+          let w = won.of t op rec holds_still.hold in
+          made q new is won.seat (won.number ∙ saw.number) (w.0 ∙ told.0) (calls_after T x m y t op p.1 saw.number still.0 w.1.0, w.1.1)
+
+      pub tried_lost : (changes_sum rec op ≡ false → is_charge op ≡ true) → Tells s (Exchanged r now false) mid new → Tells s (Tried r None) old new
+      tried_lost sums lost =
+          let l = lost.of t op rec holds_still.hold in
+          let changed : HasChanged T.setup r x.seen y.seen 1 = changed_more T.setup r x.seen m.seen y.seen 0 1 (changed_none T.setup r x.seen m.seen still.0.starts) (changed_once T.setup r m.seen y.seen l.1.starts (λ same. l.3 (still.2 ∙ same))) in
+          record {
+            seat = lost.seat;
+            number = lost.number ∙ saw.number;
+            of = under x.hold t op rec (λ t op rec. (y.marks ≡ x.marks) × TriedAs r None T x t op rec y) h.hold
+                (l.0 ∙ told.0, (sees_after T x m y saw.number still.0 l.1, l.2 ∙ still.1, l.4, changed, lost_changes (queue_at T.setup r) now rec op sums off));
+          }
+
+-- ---- what is stored after the event
+module _ (s : Shared) (t : ℕ) (next : Record) (stored : Stored) (old new : TheSeat) (h : HoldsMade s old t next stored) where
+  pub stored_server : (n : ℕ) → Tells s (StoredServer n) old new → ((share_on new).seen ≡ (share_on old).seen) × ((share_on new).marks ≡ (share_on old).marks) × HoldsMade s new t next (record { server = n; params = stored.params })
+  stored_server n told = let w = told.of t h.hold.0 next stored h.hold.1 in (w.0, w.1, record { seat_of = told.seat; task = h.task; hold = (h.hold.0, w.2) })
+
+  pub stored_params : (n : ℕ) → Tells s (StoredParams n) old new → Tells s Knows old new × HoldsMade s new t next (record { server = stored.server; params = n })
+  stored_params n told = let w = told.of t h.hold.0 next stored h.hold.1 in
+      (record { seat = told.seat; number = told.number; of = (w.0, w.1) }, record { seat_of = told.seat; task = h.task; hold = (h.hold.0, w.2) })
+
+pub leaves_after : (s : Shared) (t : ℕ) (old mid : TheSeat) (q : Pass) → Tells s Knows old mid → Leaves s (Concluded t) mid q → Leaves s (Concluded t) old q
+leaves_after s t old mid q k l = record {
+  home = l.home;
+  terms = l.terms;
+  number = l.number ∙ k.number;
+  of = (
+    l.of.0 ∙ k.of.0,
+    (l.of.1.0, subst (λ (p : ℕ × List Mark). MarksGo s.terms.passes p.0 p.1 (marks q) (Given p.0 t ∷ [])) (λ i. (k.number i, k.of.1 i)) l.of.1.1),
+  );
+}
+
+-- ---- the ends of calls
+module _ (s : Shared) (c : Claim) (is : IsClaimOf s c) where
+  abbrev mine : Share
+  mine = claim_share c
+
+  -- the call is made, and then the task is given back
+  pub done : (mid : TheSeat) (reply : Reply) (tries : ℕ) (q : Pass) → q.number ≡ c.number → (share_on mid).number ≡ mine.number → (share_on mid).marks ≡ mine.marks → Calls s.terms mine c.task c.op reply (share_on mid)
+      → Leaves s (Concluded c.task) mid q → is_under_claim reply ≡ true → (claim_changes_sum c ≡ true → 1 ≤ tries) → IsDone s c tries q reply
+  done mid reply tries q number_is number known calls leaves claimed tried =
+      let f : Finishes s.terms c.number mine.seen (Call c.number c.task c.op reply) (seen q) =
+      subst (λ (p : ℕ × List Event). Finishes s.terms p.0 mine.seen (Call p.0 c.task c.op reply) p.1) (λ i. (c.numbered i, sym leaves.of.0 i)) calls in
+      let g : MarksGo s.terms.passes c.number mine.marks (marks q) (Given c.number c.task ∷ []) =
+      subst (λ (p : ℕ × List Mark). MarksGo s.terms.passes p.0 p.1 (marks q) (Given p.0 c.task ∷ [])) (λ i. ((number ∙ c.numbered) i, known i)) leaves.of.1.1 in
+      record {
+        of = record { home = leaves.home; terms = leaves.terms; history = f.history; lawful = g.lawful };
+        number = number_is;
+        finishes = f;
+        marked = g;
+        claimed = claimed;
+        tried = tried;
+      }
+
+  -- the call is not made, and the task is given back
+  pub cancelled : (q : Pass) → q.number ≡ c.number → Leaves s (GivenUp c.task) c.seat q → IsCancelled s c q
+  cancelled q number_is leaves =
+      let f : Grows s.terms c.number mine.seen (seen q) = subst (λ n. Grows s.terms n mine.seen (seen q)) c.numbered leaves.of.0 in
+      let g : MarksGo s.terms.passes c.number mine.marks (marks q) (Given c.number c.task ∷ []) = subst (λ n. MarksGo s.terms.passes n mine.marks (marks q) (Given n c.task ∷ [])) c.numbered leaves.of.1.1 in
+      record { of = record { home = leaves.home; terms = leaves.terms; history = f.history; lawful = g.lawful }; number = number_is; grows = f; marked = g }
+
+  -- an exchange was lost
+  pub lost : (mid : TheSeat) (d : Claim) → d.seat ≡ mid → d.number ≡ c.number → d.task ≡ c.task → d.op ≡ c.op → d.held ≡ c.held → Tells s (Tried (claim_queue c) None) c.seat mid → IsLost s c 1 d
+  lost mid d seat_is number_is task_is op_is held_is tells =
+      let y : Share = share_on mid in
+      let w = tells.of c.task c.op c.held c.holds in
+      let same : (share_on d.seat).marks ≡ mine.marks = ap (λ (u : TheSeat). (share_on u).marks) seat_is ∙ w.0 in
+      let grows : Grows s.terms c.number mine.seen y.seen = subst (λ n. Grows s.terms n mine.seen y.seen) c.numbered w.1.0 in
+      record {
+        still = record {
+          of = record {
+            home = ap (λ (u : TheSeat). u.table_id) seat_is ∙ tells.seat.home;
+            terms = ap (λ (u : TheSeat). (share_on u).terms) seat_is ∙ tells.seat.terms;
+            history = subst (λ (u : TheSeat). IsHistory s.terms (share_on u).seen) (sym seat_is) grows.history;
+            lawful = subst (AreLawful s.terms.passes) (sym same) is.lawful;
+            task = subst (λ t. t < length s.terms.setup.tasks) (sym task_is) is.task;
+            op = subst (IsOp s.terms.setup) (sym op_is) is.op;
+            held = ap (λ (p : TheSeat × ℕ). record_in s.terms (share_on p.0).seen p.1) (λ i. (seat_is i, task_is i)) ∙ w.1.2 ∙ sym held_is;
+            kept = subst (IsKept s.terms.setup) (sym held_is) is.kept;
+            unrefused = ap (λ (p : Record × Op). refused p.0.place p.0.count p.1) (λ i. (held_is i, op_is i)) ∙ is.unrefused;
+            timely = ap (λ (p : Record × Op). early p.0 p.1) (λ i. (held_is i, op_is i)) ∙ is.timely;
+          };
+          number = number_is;
+          task = task_is;
+          op = op_is;
+          held = held_is;
+          marks = same;
+        };
+        grows = subst (λ (u : TheSeat). Grows s.terms c.number mine.seen (share_on u).seen) (sym seat_is) grows;
+        sum = w.1.4;
+        changes = subst (λ (u : TheSeat). HasChanged s.terms.setup (claim_queue c) mine.seen (share_on u).seen 1) (sym seat_is) w.1.3;
+      }
+
+  pub lost_none : claim_changes_sum c ≡ true → IsLost s c 0 c
+  lost_none sum = record {
+    still = record { of = is; number = refl; task = refl; op = refl; held = refl; marks = refl };
+    grows = grows_none s.terms c.number mine.seen is.history;
+    sum = sum;
+    changes = changed_none s.terms.setup (claim_queue c) mine.seen mine.seen (starts_whole mine.seen);
+  }
+
+-- ---- between the steps of a claim's call
+module _ (s : Shared) (c : Claim) (is : IsClaimOf s c) where
+  -- the call is made by a try
+  module _ (mid : TheSeat) (p : Record × Reply) (tells : Tells s (Tried (claim_queue c) (Some p)) c.seat mid) where
+    tried_it : ((share_on mid).marks ≡ (claim_share c).marks) × TriedAs (claim_queue c) (Some p) s.terms (claim_share c) c.task c.op c.held (share_on mid)
+    tried_it = tells.of c.task c.op c.held c.holds
+
+    pub tried_marks : (share_on mid).marks ≡ (claim_share c).marks
+    tried_marks = tried_it.0
+
+    pub tried_calls : Calls s.terms (claim_share c) c.task c.op p.1 (share_on mid)
+    tried_calls = tried_it.1.0.0
+
+    pub tried_made : HoldsMade s mid c.task p.0 (stored_of c.held)
+    tried_made = record { seat_of = tells.seat; task = is.task; hold = (c.held, tried_it.1.0.1) }
+
+    pub tried_kept : IsKept s.terms.setup p.0
+    tried_kept = tried_it.1.1
+
+    pub tried_claimed : is_under_claim p.1 ≡ true
+    tried_claimed = tried_it.1.2
+
+  -- the call is made by the store of the server word
+  module _ (mid : TheSeat) (queue : Capacity) (now : Reading) (p : Record × Reply) (settles : p ≡ settled c.held queue now c.op) (quiet : claim_changes_sum c ≡ false) (blind : is_charge c.op ≡ false) where
+    quietly : p ≡ settled_quietly c.held c.op
+    quietly = settles ∙ settled_alike c.held c.op queue (record { most = 1; extra = 0 }) now (record { running = 0; this = 0 }) (λ looks. absurd (quiet_blind c.held c.op quiet blind looks))
+
+    pub quiet_kept : IsKept s.terms.setup p.0
+    quiet_kept = subst (λ (q : Record × Reply). IsKept s.terms.setup q.0) (sym settles) (kept_settled s.terms.setup queue now c.held c.op is.op is.unrefused is.kept)
+
+    pub quiet_claimed : is_under_claim p.1 ≡ true
+    quiet_claimed = ap (λ (q : Record × Reply). is_under_claim q.1) settles ∙ settled_under queue now c.held c.op
+
+    module _ (tells : Tells s (SettledServer (server_word p.0.server)) c.seat mid) where
+      settled_it : ((share_on mid).marks ≡ (claim_share c).marks) × Decides s.terms (claim_share c) c.task c.op c.held p (half_stored c.held p.0) (share_on mid)
+      settled_it =
+          let w = tells.of c.task c.op c.held c.holds in
+          (w.0, subst (λ (q : Record × Reply). Decides s.terms (claim_share c) c.task c.op c.held q (record { server = server_word p.0.server; params = params_word c.held.params }) (share_on mid)) (sym quietly) w.1)
+
+      pub quiet_marks : (share_on mid).marks ≡ (claim_share c).marks
+      quiet_marks = settled_it.0
+
+      pub quiet_calls : Calls s.terms (claim_share c) c.task c.op p.1 (share_on mid)
+      quiet_calls = settled_it.1.0
+
+      pub quiet_made : HoldsMade s mid c.task p.0 (half_stored c.held p.0)
+      quiet_made = record { seat_of = tells.seat; task = is.task; hold = (c.held, settled_it.1.1) }
+
+-- ---- tries, one after another
+lost_done : (s : Shared) (c d : Claim) (n m : ℕ) (q : Pass) (reply : Reply) → IsLost s c n d → IsDone s d m q reply → IsDone s c (n + m) q reply
+lost_done s c d n m q reply a b =
+    let same = a.still in record {
+      of = b.of;
+      number = b.number ∙ same.number;
+      finishes = grows_finishes s.terms c.number (claim_seen c) (claim_seen d) (Call c.number c.task c.op reply) (seen q) a.grows
+          (subst (λ (p : ℕ × ℕ × Op). Finishes s.terms p.0 (claim_seen d) (Call p.0 p.1 p.2 reply) (seen q)) (λ i. (same.number i, same.task i, same.op i)) b.finishes);
+      marked = subst (λ (p : ℕ × ℕ × List Mark). MarksGo s.terms.passes p.0 p.2 (marks q) (Given p.0 p.1 ∷ [])) (λ i. (same.number i, same.task i, same.marks i)) b.marked;
+      claimed = b.claimed;
+      tried = λ sum. let one = b.tried (ap (λ (p : Record × Op). changes_sum p.0 p.1) (λ i. (same.held i, same.op i)) ∙ sum) in omega (arith, one);
+    }
+
+lost_lost : (s : Shared) (c d e : Claim) (n m : ℕ) → IsLost s c n d → IsLost s d m e → IsLost s c (n + m) e
+lost_lost s c d e n m a b =
+    let x = a.still in
+    let y = b.still in record {
+      still = record { of = y.of; number = y.number ∙ x.number; task = y.task ∙ x.task; op = y.op ∙ x.op; held = y.held ∙ x.held; marks = y.marks ∙ x.marks };
+      grows = grows_grows s.terms c.number (claim_seen c) (claim_seen d) (claim_seen e) a.grows (subst (λ n. Grows s.terms n (claim_seen d) (claim_seen e)) x.number b.grows);
+      sum = a.sum;
+      changes = changed_more s.terms.setup (claim_queue c) (claim_seen c) (claim_seen d) (claim_seen e) n m a.changes
+          (subst (λ (p : Record × Op). HasChanged s.terms.setup (runqueue_of p.0.place p.1) (claim_seen d) (claim_seen e) m) (λ i. (x.held i, x.op i)) b.changes);
+    }
+
+pub tried_more : (s : Shared) (c d : Claim) (n m : ℕ) (r : Finished) → IsLost s c n d → IsFinished s d m r → IsFinished s c (n + m) r
+tried_more s c d n m (Done q reply) a b = lost_done s c d n m q reply a b
+tried_more s c d n m (Held e) a b = lost_lost s c d e n m a b
+
+-- a call that was made was made within any more tries
+pub done_within : (s : Shared) (c : Claim) (n m : ℕ) (q : Pass) (reply : Reply) → n ≤ m → IsDone s c n q reply → IsDone s c m q reply
+done_within s c n m q reply le d = record { of = d.of; number = d.number; finishes = d.finishes; marked = d.marked; claimed = d.claimed; tried = λ sum. let one = d.tried sum in omega (arith, one, le) }
+
+-- an op that changes no sum needs no try
+pub quiet_within : (s : Shared) (c : Claim) (n m : ℕ) (r : Finished) → claim_changes_sum c ≡ false → IsFinished s c n r → IsFinished s c m r
+quiet_within s c n m (Done q reply) quiet d = record { of = d.of; number = d.number; finishes = d.finishes; marked = d.marked; claimed = d.claimed; tried = λ sum. is_not sum quiet }
+quiet_within s c n m (Held e) quiet l = is_not l.sum quiet

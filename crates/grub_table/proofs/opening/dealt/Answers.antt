@@ -1,0 +1,55 @@
+use Rattle.std.proofs.Common.{◌≡◌, ◌+◌, [], ap, sym, subst, ◌∙◌, arith, length}
+use Rattle.std.proofs.lemmas.List.{length_push}
+use Rattle.grub_table.specs.declared.view.View.{View}
+use Rattle.grub_table.specs.Calls.{terms, AreNew, IsNew, seen, marks}
+use Rattle.grub_table.specs.Histories.{IsHistory}
+use Rattle.grub_table.specs.Marks.{AreLawful}
+use Rattle.grub_table.specs.Views.{view, alone, first_of, only_first, without_first}
+use Rattle.grub_table.proofs.Moves.{split_allowed_as}
+use Rattle.grub_table.proofs.Openings.{fresh_next, new_more}
+use Rattle.grub_table.proofs.opening.dealt.Goals as goal
+
+pub split_seat-one-requires : goal.split_seat-one-requires
+split_seat-one-requires c =
+    let s = c.args.shared.now in
+    let i = c.loop-number.invariant in
+    let machine = s.limited.machine in
+    let some = machine.queues_some in
+    let words = s.words in
+    let whole = ap (λ m. m.0) i.left ∙ ap view (fresh_next (terms s) c.loop-number.number (terms s).passes c.loop-number-test.true) in
+    (i.table, omega (arith, words, some), split_allowed_as _ _ _ _ _ whole)
+
+pub invariant_of-push : goal.invariant_of-push
+invariant_of-push c =
+    let s = c.args.shared.now in
+    let whole = ap (λ m. m.0) c.loop-number.invariant.left ∙ ap view (fresh_next (terms s) c.loop-number.number (terms s).passes c.loop-number-test.true) in
+    let one = c.split_seat-one.ensures.4 ∙ ap (λ (v : View). (only_first v, [])) whole in
+    record { single = one ∙ ap (λ m. (alone (first_of m.0), [])) (sym one); numbered = ap (λ m. (first_of m.0).number) one; free = ap (λ m. (first_of m.0).hold) one }
+
+pub loop-number-preserved : goal.loop-number-preserved
+loop-number-preserved c =
+    let s = c.args.shared.now in
+    let T = terms s in
+    let i = c.loop-number.invariant in
+    let whole = ap (λ m. m.0) i.left ∙ ap view (fresh_next T c.loop-number.number T.passes c.loop-number-test.true) in
+    let one = c.split_seat-one.ensures.4 ∙ ap (λ (v : View). (only_first v, [])) whole in
+    let no_event = ap (λ m. (first_of m.0).seen) one in
+    let no_mark = ap (λ m. (first_of m.0).marks) one in
+    let count = i.count in
+    record {
+      table = c.split_seat-one.ensures.0 ∙ i.table;
+      left = c.split_seat-one.ensures.2 ∙ (λ k. (without_first (whole k), (i.left k).1));
+      count = ap length c.in_ok-push.ensures.items ∙ length_push _ _ ∙ ap (λ n. n + 1) i.count;
+      new = subst (AreNew s 0) (sym c.in_ok-push.ensures.items)
+          (new_more s 0 c.loop-number.passes.items _ i.new (record {
+            of = record {
+              home = c.split_seat-one.ensures.3 ∙ i.table;
+              terms = ap (λ m. (first_of m.0).terms) one;
+              history = subst (IsHistory T) (sym no_event) (record { legal = tt; numbers = tt });
+              lawful = subst (AreLawful T.passes) (sym no_mark) tt;
+            };
+            number = omega (arith, count);
+            seen = no_event;
+            marks = no_mark;
+          }));
+    }

@@ -1,0 +1,12 @@
+use Rattle.std.proofs.Common.{◌≡◌, ◌-◌, [], length}
+use Rattle.grub_table.specs.Calls.{terms, AreNew}
+use Rattle.grub_table.specs.Views.{view, fresh}
+use Rattle.grub_table.proofs.opening.dealt.Given as goal
+
+abbrev pub invariant-loop-number : goal.invariant-loop-number
+invariant-loop-number l = record {
+  table : l.seat.table_id ≡ l.shared.table.shared.table_id;
+  left : l.seat.me ≡ (view (fresh (terms l.shared) l.number ((terms l.shared).passes - l.number)), []);
+  count : length l.passes.items ≡ l.number;
+  new : AreNew l.shared 0 l.passes.items;
+}

@@ -1,0 +1,22 @@
+use Rattle.std.proofs.Common.{◌≡◌, ◌<◌, ◌+◌, refl, ap, sym, ◌∙◌, arith}
+use Rattle.grub_words.specs.Words.{queue_word}
+use Rattle.grub_table.proofs.Between.{tells_of, exchanged}
+use Rattle.grub_table.proofs.Seated.{queue_within, about_there, on_change_queue}
+use Rattle.grub_table.proofs.pass.Shared.change_queue.Goals as goal
+
+pub compare_exchange-found-requires : goal.compare_exchange-found-requires
+compare_exchange-found-requires c =
+    let s = c.args.self.now in
+    let seat = c.args.seat.now in
+    let at = c.queue_word_at.ensures in
+    let r = c.requires.held in
+    let h = r.3 in
+    (h.seat_of.home, queue_within s seat c.args.r _ (about_there s seat r.0 0 _ _ h c.args.r r.4) at, on_change_queue s seat r.0 _ _ _ h c.args.r _ _ c.args.old at r.4 c.pack_queue-loaded.ensures c.requires.old (c.pack_queue.ensures ∙ ap queue_word r.5))
+
+pub returns : goal.returns
+returns c =
+    let s = c.args.self.now in
+    let seat = c.args.seat.now in
+    let h = c.requires.held.3 in
+    exchanged s seat c.compare_exchange-found.new.seat c.requires.held.0 _ _ h c.args.r _ c.compare_exchange-found.result c.pack_queue-loaded.result c.args.old
+    (tells_of s _ seat c.compare_exchange-found.new.seat h.seat_of c.compare_exchange-found.ensures.0 c.compare_exchange-found.ensures.2) c.queue_word_at.ensures c.requires.old c.pack_queue-loaded.ensures _ refl

@@ -1,0 +1,28 @@
+use Rattle.std.proofs.Common.{◌≡◌, ℕ, ◌≤◌, sym, refl, ◌∙◌}
+use Rattle.grub_table.proofs.Tries.{claim_holds, done, lost, quiet_blind, quiet_kept, quiet_claimed, quiet_marks, quiet_calls, quiet_made, is_not}
+use Rattle.grub_book.specs.declared.event.Reading.{Reading}
+use Rattle.grub_table.proofs.pass.Shared.finish_quiet.Goals as goal
+
+abbrev unseen : Reading
+unseen = record { running = 0; this = 0 }
+
+pub hand_back-pass-requires-clause-held : goal.hand_back-pass-requires-clause-held
+hand_back-pass-requires-clause-held c = quiet_made c.args.self.now c.args.claim c.requires.of c.settle_server.new.seat c.queue.result unseen c.settle-reply.result c.settle-reply.ensures c.requires.sum c.requires.charge c.settle_server.ensures
+
+pub hand_back-pass-requires-clause-kept : goal.hand_back-pass-requires-clause-kept
+hand_back-pass-requires-clause-kept c = quiet_kept c.args.self.now c.args.claim c.requires.of c.settle_server.new.seat c.queue.result unseen c.settle-reply.result c.settle-reply.ensures c.requires.sum c.requires.charge
+
+pub returns : goal.returns
+returns c tries =
+    let s = c.args.self.now in
+    let q = c.args.claim in
+    let of = c.requires.of in
+    done s q of c.settle_server.new.seat _ tries _ c.hand_back-pass.ensures.number c.settle_server.ensures.number
+    (quiet_marks s q of c.settle_server.new.seat c.queue.result unseen c.settle-reply.result c.settle-reply.ensures c.requires.sum c.requires.charge c.settle_server.ensures)
+    (quiet_calls s q of c.settle_server.new.seat c.queue.result unseen c.settle-reply.result c.settle-reply.ensures c.requires.sum c.requires.charge c.settle_server.ensures)
+    c.hand_back-pass.ensures.leaves
+    (quiet_claimed s q of c.settle_server.new.seat c.queue.result unseen c.settle-reply.result c.settle-reply.ensures c.requires.sum c.requires.charge)
+    (λ sum. is_not sum c.requires.sum)
+
+pub hand_back-pass-requires-clause-number : goal.hand_back-pass-requires-clause-number
+hand_back-pass-requires-clause-number c = c.settle_server.ensures.number ∙ c.args.claim.numbered

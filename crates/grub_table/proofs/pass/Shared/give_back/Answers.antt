@@ -1,0 +1,20 @@
+use Rattle.std.proofs.Common.{◌≡◌, ◌<◌, ◌+◌, refl, sym, ap, ◌∙◌, arith}
+use Rattle.grub_table.proofs.Between.{tells_of, left_back, left_free_back}
+use Rattle.grub_table.proofs.Seated.{word_within, on_give_back}
+use Rattle.grub_table.proofs.pass.Shared.give_back.Goals as goal
+
+pub store-requires : goal.store-requires
+store-requires c =
+    let s = c.args.self.now in
+    let seat = c.args.seat in
+    let at = c.task_word_at-at.ensures.value in
+    let h = c.requires.held in
+    (h.seat_of.home, word_within s seat c.args.t _ 0 h.task (omega arith) (omega (arith, at)), on_give_back s seat c.args.t _ _ _ h _ at refl c.free_word.ensures)
+
+pub invariant_of-result : goal.invariant_of-result
+invariant_of-result c = let m = left_free_back c.args.self.now c.args.seat c.store.new.seat c.args.t c.args.now.now c.args.number _ c.requires.held c.requires.number
+    (tells_of c.args.self.now _ c.args.seat c.store.new.seat c.requires.held.seat_of c.store.ensures.0 c.store.ensures.2) in record { single = m.single; numbered = m.numbered; free = m.free }
+
+pub returns-clause-leaves : goal.returns-clause-leaves
+returns-clause-leaves c = left_back c.args.self.now c.args.seat _ c.args.t c.args.now.now _ c.requires.held
+    (tells_of c.args.self.now _ c.args.seat c.store.new.seat c.requires.held.seat_of c.store.ensures.0 c.store.ensures.2)

@@ -1,0 +1,19 @@
+use Rattle.std.proofs.Common.{◌≡◌, ◌<◌, ◌+◌, refl, subst, sym, ◌∙◌, arith}
+use Rattle.grub_table.specs.Between.{Tells}
+use Rattle.grub_table.specs.Tellings.{StoredParams}
+use Rattle.grub_table.proofs.Between.{tells_of}
+use Rattle.grub_table.proofs.Seated.{word_within, on_store_params}
+use Rattle.grub_table.proofs.pass.Shared.store_params.Goals as goal
+
+pub store-requires : goal.store-requires
+store-requires c =
+    let s = c.args.self.now in
+    let seat = c.args.seat.now in
+    let at = c.params_word_at-at.ensures.value in
+    let h = c.requires.2 in
+    (h.seat_of.home, word_within s seat c.args.t _ 2 h.task (omega arith) at, on_store_params s seat c.args.t _ _ _ h _ at)
+
+pub returns : goal.returns
+returns c =
+    let h = c.requires.2 in
+    subst (λ n. Tells c.args.self.now (StoredParams n) c.args.seat.now c.store.new.seat) c.pack_params.ensures (tells_of c.args.self.now _ c.args.seat.now _ h.seat_of c.store.ensures.0 c.store.ensures.2)

@@ -1,0 +1,19 @@
+use Rattle.std.proofs.Common.{◌≡◌, ◌<◌, ◌+◌, refl, subst, sym, ◌∙◌, arith}
+use Rattle.grub_table.specs.Between.{Tells}
+use Rattle.grub_table.specs.Tellings.{StoredServer}
+use Rattle.grub_table.proofs.Between.{tells_of}
+use Rattle.grub_table.proofs.Seated.{word_within, on_store_server}
+use Rattle.grub_table.proofs.pass.Shared.store_server.Goals as goal
+
+pub store-requires : goal.store-requires
+store-requires c =
+    let s = c.args.self.now in
+    let seat = c.args.seat.now in
+    let at = c.server_word_at-at.ensures.value in
+    let h = c.requires.held.2 in
+    (h.seat_of.home, word_within s seat c.args.t _ 1 h.task (omega arith) at, on_store_server s seat c.args.t _ _ _ h _ at)
+
+pub returns : goal.returns
+returns c =
+    let h = c.requires.held.2 in
+    subst (λ n. Tells c.args.self.now (StoredServer n) c.args.seat.now c.store.new.seat) c.pack_server.ensures (tells_of c.args.self.now _ c.args.seat.now _ h.seat_of c.store.ensures.0 c.store.ensures.2)

@@ -1,0 +1,279 @@
+-- What the calls of a table promise, in terms of its passes and claims.
+use Rattle.std.specs.Prelude.{Bool, true, false, IsTrue, ◌≡◌, ◌≢◌, ℕ, suc, ◌+◌, ◌-◌, ◌<◌, ◌≤◌, List, [], ◌∷◌, ◌++◌, length, slice_index_or, ◌⊎◌, Some, None, if◌then◌else◌}
+use Rattle.grub_book.specs.Machine.{Machine}
+use Rattle.grub_book.specs.Op.{IsOp}
+use Rattle.grub_book.specs.Sums.{record_at}
+use Rattle.grub_book.specs.History.{book_of, calls_of, StartsWith, HasChanged}
+use Rattle.grub_book.specs.Sound.{IsKept}
+use Rattle.grub_book.specs.Step.{refused, runqueue_of, changes_sum, is_under_claim}
+use Rattle.grub_book.specs.declared.event.Event.{Event}
+use Rattle.grub_book.specs.declared.event.Event.TheVariants.{Call}
+use Rattle.grub_book.specs.declared.event.Reading.{Reading}
+use Rattle.grub_book.specs.declared.op.Op.{Op}
+use Rattle.grub_book.specs.declared.place.Record.{Record}
+use Rattle.grub_book.specs.declared.reply.Reply.{Reply}
+use Rattle.grub_book.specs.declared.reply.Reply.TheVariants.{Early}
+use Rattle.grub_table.specs.declared.view.Mark.{Mark}
+use Rattle.grub_table.specs.declared.view.Mark.TheVariants.{Taken, Given}
+use Rattle.grub_table.specs.declared.view.Terms.{Terms}
+use Rattle.grub_table.specs.declared.view.Share.{Share}
+use Rattle.grub_table.specs.declared.pass.Pass.{Pass}
+use Rattle.grub_table.specs.declared.pass.Claim.{Claim}
+use Rattle.grub_table.specs.declared.pass.Shared.{Shared}
+use Rattle.grub_table.specs.declared.pass.Sighting.{Sighting}
+use Rattle.grub_table.specs.declared.pass.Sighting.TheVariants.{Claimed, Changed}
+use Rattle.grub_table.specs.declared.pass.Started.{Started}
+use Rattle.grub_table.specs.declared.pass.Started.TheVariants as started
+use Rattle.grub_table.specs.declared.pass.Started.TheVariants.{Answered, Busy}
+use Rattle.grub_table.specs.declared.pass.Finished.{Finished}
+use Rattle.grub_table.specs.declared.pass.Finished.TheVariants.{Done, Held}
+use Rattle.grub_table.specs.declared.pass.CloseFault.{CloseFault}
+use Rattle.grub_table.specs.declared.pass.CloseWhy.{CloseWhy}
+use Rattle.grub_table.specs.declared.pass.CloseWhy.TheVariants.{Missing, NoMemory}
+use Rattle.grub_table.specs.Marks.{AreLawful, MarksGo, marks_of, holder_of}
+use Rattle.grub_table.specs.Layout.{shown}
+use Rattle.grub_table.specs.Histories.{Every, IsHistory, Grows, Finishes, record_in, reading_in}
+use Rattle.grub_table.specs.Views.{first_of}
+use Rattle.grub_table.specs.Tellings.{early, IsHeldByOther, WasClaimedWord}
+
+-- ---- what a pass or a claim knows
+abbrev pub share_of : Pass → Share
+share_of p = first_of p.seat.me.0
+
+abbrev pub number_of : Pass → ℕ
+number_of p = p.number
+
+-- the history that the pass has seen
+abbrev pub seen : Pass → List Event
+seen p = (share_of p).seen
+
+-- the marks that the pass knows
+abbrev pub marks : Pass → List Mark
+marks p = (share_of p).marks
+
+abbrev pub claim_share : Claim → Share
+claim_share c = first_of c.seat.me.0
+
+abbrev pub claim_number : Claim → ℕ
+claim_number c = c.number
+
+abbrev pub claim_task : Claim → ℕ
+claim_task c = c.task
+
+abbrev pub claim_op : Claim → Op
+claim_op c = c.op
+
+-- the record of the task that is held
+abbrev pub claim_record : Claim → Record
+claim_record c = c.held
+
+-- the runqueue that its op is about
+abbrev pub claim_queue : Claim → ℕ
+claim_queue c = runqueue_of c.held.place c.op
+
+abbrev pub claim_seen : Claim → List Event
+claim_seen c = (claim_share c).seen
+
+abbrev pub claim_marks : Claim → List Mark
+claim_marks c = (claim_share c).marks
+
+-- what the table was opened for
+abbrev pub terms : Shared → Terms
+terms s = s.terms
+
+-- the pass comes from this table
+pub record IsPassOf (s : Shared) (p : Pass) : Type 0 where
+  pub home : p.seat.table_id ≡ s.table.shared.table_id
+  pub terms : (share_of p).terms ≡ s.terms
+  pub history : IsHistory s.terms (seen p)
+  pub lawful : AreLawful s.terms.passes (marks p)
+
+-- the claim comes from this table, and holds a task whose record is the one that it names, for an op that neither the record nor the server refuses
+pub record IsClaimOf (s : Shared) (c : Claim) : Type 0 where
+  pub home : c.seat.table_id ≡ s.table.shared.table_id
+  pub terms : (claim_share c).terms ≡ s.terms
+  pub history : IsHistory s.terms (claim_seen c)
+  pub lawful : AreLawful s.terms.passes (claim_marks c)
+  pub task : claim_task c < length s.terms.setup.tasks
+  pub op : IsOp s.terms.setup (claim_op c)
+  pub held : record_in s.terms (claim_seen c) (claim_task c) ≡ claim_record c
+  pub kept : IsKept s.terms.setup (claim_record c)
+  pub unrefused : refused (claim_record c).place (claim_record c).count (claim_op c) ≡ None
+  pub timely : early (claim_record c) (claim_op c) ≡ None
+
+-- ---- opening
+-- new passes, from number k on, which have seen nothing
+pub record IsNew (s : Shared) (k : ℕ) (p : Pass) : Type 0 where
+  pub of : IsPassOf s p
+  pub number : number_of p ≡ k
+  pub seen : seen p ≡ []
+  pub marks : marks p ≡ []
+
+abbrev pub AreNew : Shared → ℕ → List Pass → Type 0
+AreNew s k [] = Unit {0}
+AreNew s k (p ∷ ps) = IsNew s k p × AreNew s (suc k) ps
+
+-- a table and its passes, for these runqueues and tasks
+pub record IsOpened (s : Shared) (ps : List Pass) (machine : Machine) (n : ℕ) : Type 0 where
+  pub setup : (terms s).setup ≡ machine
+  pub passes : (terms s).passes ≡ n
+  pub count : length ps ≡ n
+  pub new : AreNew s 0 ps
+
+-- ---- meeting
+-- the same pass: it knows what it knew
+pub record IsSame (s : Shared) (p q : Pass) : Type 0 where
+  pub of : IsPassOf s q
+  pub number : number_of q ≡ number_of p
+  pub seen : seen q ≡ seen p
+  pub marks : marks q ≡ marks p
+
+-- what p has seen is a beginning of what q has, which has of p just the events that p has seen
+pub record IsBehind (p q : Pass) : Type 0 where
+  pub starts : StartsWith (seen q) (seen p)
+  pub own : calls_of (number_of p) (seen q) ≡ calls_of (number_of p) (seen p)
+
+-- the same of the marks
+pub record IsMarkedBehind (p q : Pass) : Type 0 where
+  pub starts : StartsWith (marks q) (marks p)
+  pub own : marks_of (number_of p) (marks q) ≡ marks_of (number_of p) (marks p)
+
+-- ---- closing
+-- what the pass has seen is a beginning of this history, which has of it just the calls that it made
+pub record IsPartOf (h : List Event) (p : Pass) : Type 0 where
+  pub starts : StartsWith h (seen p)
+  pub own : calls_of (number_of p) h ≡ calls_of (number_of p) (seen p)
+
+-- what the pass knows of the marks is a beginning of these, which have of it just its own
+pub record IsMarkPartOf (ms : List Mark) (p : Pass) : Type 0 where
+  pub starts : StartsWith ms (marks p)
+  pub own : marks_of (number_of p) ms ≡ marks_of (number_of p) (marks p)
+
+-- one of the passes has this number
+abbrev pub HasNumber : ℕ → List Pass → Type 0
+HasNumber i [] = ⊥
+HasNumber i (p ∷ ps) = (number_of p ≡ i) ⊎ HasNumber i ps
+
+-- one reading for each runqueue, of the book after the history
+pub record AreReadings (T : Terms) (h : List Event) (readings : List Reading) : Type 0 where
+  pub one_each : length readings ≡ length T.setup.queues
+  pub value : (r : ℕ) (d : Reading) → r < length T.setup.queues → slice_index_or readings r d ≡ reading_in T h r
+
+-- the whole history and all marks of a table, from its passes and its readings at the end
+pub record IsClosed (s : Shared) (ps : List Pass) (last : List Reading) : Type 0 where
+  pub history : List Event
+  pub is_history : IsHistory (terms s) history
+  pub parts : Every (IsPartOf history) ps
+  pub marks : List Mark
+  pub lawful : AreLawful (terms s).passes marks
+  pub mark_parts : Every (IsMarkPartOf marks) ps
+  pub readings : AreReadings (terms s) history last
+  pub whole : (i : ℕ) → i < (terms s).passes → HasNumber i ps
+
+abbrev pub IsReason : Shared → List Pass → CloseWhy → Type 0
+IsReason s ps (Missing n) = (length ps < (terms s).passes) × (n ≡ (terms s).passes - length ps)
+IsReason s ps NoMemory = (terms s).passes ≤ length ps
+
+-- all is given back, with the reason
+pub record IsRefusal (s : Shared) (ps : List Pass) (f : CloseFault) : Type 0 where
+  pub shared : f.shared ≡ s
+  pub passes : f.passes.items ≡ ps
+  pub why : IsReason s ps f.why
+
+-- ---- calls on a task
+-- a reply of `start`: of the place, the count or the ticket, or Early
+abbrev pub IsEarly : Reply → Type 0
+IsEarly (Early z) = Unit {0}
+IsEarly reply = ⊥
+
+-- a call that was made under a claim took the task and gave it back
+abbrev pub marks_of_call : ℕ → ℕ → Reply → List Mark
+marks_of_call i t reply = if is_under_claim reply then Taken i t ∷ Given i t ∷ [] else []
+
+-- `start` made the call
+pub record IsAnswered (s : Shared) (p : Pass) (t : ℕ) (op : Op) (q : Pass) (reply : Reply) : Type 0 where
+  pub of : IsPassOf s q
+  pub number : number_of q ≡ number_of p
+  pub finishes : Finishes (terms s) (number_of p) (seen p) (Call (number_of p) t op reply) (seen q)
+  pub marked : MarksGo (terms s).passes (number_of p) (marks p) (marks q) (marks_of_call (number_of p) t reply)
+  pub soon : IsTrue (is_under_claim reply) → IsEarly reply
+
+-- `start` took the task
+pub record IsTaken (s : Shared) (p : Pass) (t : ℕ) (asked : Op) (c : Claim) : Type 0 where
+  pub of : IsClaimOf s c
+  pub number : claim_number c ≡ number_of p
+  pub task : claim_task c ≡ t
+  pub op : claim_op c ≡ asked
+  pub grows : Grows (terms s) (number_of p) (seen p) (claim_seen c)
+  pub marked : MarksGo (terms s).passes (number_of p) (marks p) (claim_marks c) (Taken (number_of p) t ∷ [])
+
+-- the task word of t was seen with its claim bit, and another pass has t
+pub record IsClaimedSighting (T : Terms) (i t : ℕ) (after : List Event) (known : List Mark) (word : ℕ) : Type 0 where
+  pub was : WasClaimedWord T after t word
+  pub held : IsHeldByOther i t known
+
+-- The task word of t was loaded and, later in the call, found another.
+pub record IsChangedSighting (T : Terms) (i t : ℕ) (before after : List Event) (known : List Mark) (loaded found : ℕ) : Type 0 where
+  pub differ : found ≢ loaded
+  pub at_load : List Event
+  pub not_before : StartsWith at_load before
+  pub known_then : StartsWith after at_load
+  pub loaded_word : loaded ≡ shown (record_in T at_load t) false
+  pub found_word : IsClaimedSighting T i t after known found ⊎ ((b : List Event) × StartsWith b at_load × StartsWith after b × (found ≡ shown (record_in T b t) false))
+
+abbrev pub IsSighting : Terms → ℕ → ℕ → List Event → List Event → List Mark → Sighting → Type 0
+IsSighting T i t before after known (Claimed word) = IsClaimedSighting T i t after known word
+IsSighting T i t before after known (Changed loaded found) = IsChangedSighting T i t before after known loaded found
+
+-- `start` found the task busy
+pub record IsBusy (s : Shared) (p : Pass) (t : ℕ) (q : Pass) (sighting : Sighting) : Type 0 where
+  pub of : IsPassOf s q
+  pub number : number_of q ≡ number_of p
+  pub grows : Grows (terms s) (number_of p) (seen p) (seen q)
+  pub marked : MarksGo (terms s).passes (number_of p) (marks p) (marks q) []
+  pub sight : IsSighting (terms s) (number_of p) t (seen p) (seen q) (marks q) sighting
+
+abbrev pub IsStarted : Shared → Pass → ℕ → Op → Started → Type 0
+IsStarted s p t op (Answered q reply) = IsAnswered s p t op q reply
+IsStarted s p t op (started.Held c) = IsTaken s p t op c
+IsStarted s p t op (Busy q sighting) = IsBusy s p t q sighting
+
+-- whether the op of a claim changes a sum of its runqueue
+abbrev pub claim_changes_sum : Claim → Bool
+claim_changes_sum c = changes_sum (claim_record c) (claim_op c)
+
+-- `finish` made the call; with no try it makes only one that changes no sum
+pub record IsDone (s : Shared) (c : Claim) (tries : ℕ) (q : Pass) (reply : Reply) : Type 0 where
+  pub of : IsPassOf s q
+  pub number : number_of q ≡ claim_number c
+  pub finishes : Finishes (terms s) (claim_number c) (claim_seen c) (Call (claim_number c) (claim_task c) (claim_op c) reply) (seen q)
+  pub marked : MarksGo (terms s).passes (claim_number c) (claim_marks c) (marks q) (Given (claim_number c) (claim_task c) ∷ [])
+  pub claimed : is_under_claim reply ≡ true
+  pub tried : claim_changes_sum c ≡ true → 1 ≤ tries
+
+-- the claim is as it was, and knows more of the history
+pub record IsStill (s : Shared) (c d : Claim) : Type 0 where
+  pub of : IsClaimOf s d
+  pub number : claim_number d ≡ claim_number c
+  pub task : claim_task d ≡ claim_task c
+  pub op : claim_op d ≡ claim_op c
+  pub held : claim_record d ≡ claim_record c
+  pub marks : claim_marks d ≡ claim_marks c
+
+-- `finish` gave the claim back, after so many tries, each lost to a change of the runqueue's reading
+pub record IsLost (s : Shared) (c : Claim) (tries : ℕ) (d : Claim) : Type 0 where
+  pub still : IsStill s c d
+  pub grows : Grows (terms s) (claim_number c) (claim_seen c) (claim_seen d)
+  pub sum : claim_changes_sum c ≡ true
+  pub changes : HasChanged (terms s).setup (claim_queue c) (claim_seen c) (claim_seen d) tries
+
+abbrev pub IsFinished : Shared → Claim → ℕ → Finished → Type 0
+IsFinished s c tries (Done q reply) = IsDone s c tries q reply
+IsFinished s c tries (Held d) = IsLost s c tries d
+
+-- `cancel` gave the task back
+pub record IsCancelled (s : Shared) (c : Claim) (q : Pass) : Type 0 where
+  pub of : IsPassOf s q
+  pub number : number_of q ≡ claim_number c
+  pub grows : Grows (terms s) (claim_number c) (claim_seen c) (seen q)
+  pub marked : MarksGo (terms s).passes (claim_number c) (claim_marks c) (marks q) (Given (claim_number c) (claim_task c) ∷ [])

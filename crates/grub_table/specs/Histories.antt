@@ -1,0 +1,39 @@
+-- Histories of a table, and how they grow.
+use Rattle.std.specs.Prelude.{◌≡◌, ℕ, ◌<◌, List, [], ◌∷◌, ◌++◌}
+use Rattle.grub_book.specs.Machine.{queue_at}
+use Rattle.grub_book.specs.Sums.{record_at, reading_of}
+use Rattle.grub_book.specs.History.{IsLegal, book_of, calls_of, pass_of, StartsWith}
+use Rattle.grub_book.specs.declared.event.Event.{Event}
+use Rattle.grub_book.specs.declared.event.Reading.{Reading}
+use Rattle.grub_book.specs.declared.place.Record.{Record}
+use Rattle.grub_table.specs.declared.view.Terms.{Terms}
+
+-- P holds of each element
+abbrev pub Every : {X : Type 0} → (X → Type 0) → List X → Type 0
+Every P [] = Unit {0}
+Every P (x ∷ xs) = P x × Every P xs
+
+-- a history of the table: a one-thread book could have made it, and only passes of the table are in it
+pub record IsHistory (T : Terms) (h : List Event) : Type 0 where
+  pub legal : IsLegal T.setup h
+  pub numbers : Every (λ e. pass_of e < T.passes) h
+
+-- the record of a task, and the reading of a runqueue, in the book after a history
+abbrev pub record_in : Terms → List Event → ℕ → Record
+record_in T h t = record_at (book_of T.setup h) t
+
+abbrev pub reading_in : Terms → List Event → ℕ → Reading
+reading_in T h r = reading_of (book_of T.setup h) r
+
+-- the history went on, with no event of the pass i
+pub record Grows (T : Terms) (i : ℕ) (before after : List Event) : Type 0 where
+  pub history : IsHistory T after
+  pub starts : StartsWith after before
+  pub own : calls_of i after ≡ calls_of i before
+
+-- the history went on and ends with this event, the only new one of the pass i
+pub record Finishes (T : Terms) (i : ℕ) (before : List Event) (e : Event) (after : List Event) : Type 0 where
+  pub history : IsHistory T after
+  pub starts : StartsWith after before
+  pub last : (others : List Event) × (after ≡ (before ++ others) ++ e ∷ [])
+  pub own : calls_of i after ≡ calls_of i before ++ e ∷ []

@@ -1,0 +1,10 @@
+pub mod Marks
+pub mod Layout
+pub mod Histories
+pub mod Views
+pub mod Tellings
+pub mod Rule
+pub mod Calls
+pub mod Between
+pub mod FirstWords
+pub mod Tries

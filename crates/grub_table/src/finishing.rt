@@ -1,0 +1,203 @@
+//! A call that took its task is made, or given up.
+ghost use Rattle.std.specs.Prelude.{◌≡◌, ℕ, ◌<◌, ◌≤◌, ◌+◌, length, true, false};
+ghost use Rattle.grub_book.specs.Sound.{IsKept};
+ghost use Rattle.grub_book.specs.Step.{changes_sum, runqueue_of};
+ghost use Rattle.grub_table.specs.Between.{Concluded, HoldsFor, HoldsMade, Leaves, Tells, share_on};
+ghost use Rattle.grub_table.specs.Calls.{claim_changes_sum, claim_number, claim_op, claim_task, number_of, terms, IsCancelled, IsClaimOf, IsFinished};
+ghost use Rattle.grub_table.specs.Layout.{stored_of};
+ghost use Rattle.grub_table.specs.Tellings.{is_decided_at_load};
+ghost use Rattle.grub_table.specs.Tries.{half_stored, is_charge, Knows, Tried};
+
+use crate::pass::{Claim, Finished, Pass, Shared};
+use crate::view::{Note, View};
+use atomic_table::Seat;
+use grub_book::{Op, Reading, Record, Reply, changes_sum, runqueue, settle, shifted};
+use grub_words::pack_params;
+
+impl Claim {
+    /// The task that it holds.
+    pub fn task(&self) -> u32
+        ensures { result ≡ claim_task self.now }
+    {
+        self.task
+    }
+
+    /// The op that it is held for.
+    pub fn op(&self) -> Op
+        ensures { result ≡ claim_op self.now }
+    {
+        self.op
+    }
+
+    /// The number of its pass.
+    pub fn number(&self) -> u32
+        ensures { result ≡ claim_number self.now }
+    {
+        self.number
+    }
+}
+
+/// Whether the reply stands as soon as the runqueue's word is loaded.
+fn is_decided_at_load(reply: Reply) -> bool
+    ensures { result ≡ is_decided_at_load reply }
+{
+    matches!(
+        reply,
+        Reply::Charged { .. } | Reply::Full | Reply::DeadlineOverflow
+    )
+}
+
+fn is_charge(op: Op) -> bool
+    ensures { result ≡ is_charge op }
+{
+    matches!(op, Op::Charge { .. })
+}
+
+impl Shared {
+    /// Makes the call. A try is one load and one exchange of the runqueue's word.
+    /// The claim is given back where all `tries` were lost, each to a change of that runqueue's reading. An op that changes no sum needs no try.
+    pub fn finish(&self, claim: Claim, tries: u8) -> Finished
+        requires { IsClaimOf self.now claim }
+        ensures { IsFinished self.now claim tries result }
+    {
+        if changes_sum(&claim.held, claim.op) {
+            return self.finish_sum(claim, tries);
+        }
+        if is_charge(claim.op) {
+            self.attempt(claim)
+        } else {
+            self.finish_quiet(claim)
+        }
+    }
+
+    /// Gives the task back. Nothing is added to the history.
+    pub fn cancel(&self, claim: Claim) -> Pass
+        requires { IsClaimOf self.now claim }
+        ensures { IsCancelled self.now claim result }
+    {
+        let Claim {
+            seat,
+            number,
+            task,
+            op: _,
+            held,
+        } = claim;
+        self.give_up(seat, number, task, &held)
+    }
+
+    fn finish_sum(&self, claim: Claim, tries: u8) -> Finished
+        requires of { IsClaimOf self.now claim }
+        requires sum { claim_changes_sum claim ≡ true }
+        ensures { IsFinished self.now claim tries result }
+    {
+        let mut claim = claim;
+        for _ in 0..tries {
+            match self.attempt(claim) {
+                Finished::Held(back) => claim = back,
+                Finished::Done(pass, reply) => return Finished::Done(pass, reply),
+            }
+        }
+        Finished::Held(claim)
+    }
+
+    /// One try.
+    fn attempt(&self, claim: Claim) -> Finished
+        requires of { IsClaimOf self.now claim }
+        requires about { claim_changes_sum claim ≡ false → is_charge (claim_op claim) ≡ true }
+        ensures { IsFinished self.now claim 1 result }
+    {
+        let Claim {
+            mut seat,
+            number,
+            task,
+            op,
+            held,
+        } = claim;
+        let Some((next, reply)) = self.decide(&mut seat, op, &held) else {
+            return Finished::Held(Claim {
+                seat,
+                number,
+                task,
+                op,
+                held,
+            });
+        };
+        self.store_server(&mut seat, task, next.server);
+        let pass = self.hand_back(seat, number, task, &held, &next);
+        Finished::Done(pass, reply)
+    }
+
+    /// The event of an op that looks at its runqueue or changes a sum of it: at the load of the runqueue's word, or at its exchange where that is won.
+    fn decide(&self, seat: &mut Seat<Note, View>, op: Op, held: &Record) -> Option<(Record, Reply)>
+        requires held { (t : ℕ) × HoldsFor self.now seat.old t op held.now }
+        requires about { changes_sum held.now op ≡ false → is_charge op ≡ true }
+        ensures { Tells self.now (Tried (runqueue_of held.now.place op) result) seat.old seat.new }
+    {
+        let r = runqueue(held.place, op);
+        let now = self.load_queue(seat, r);
+        let (next, reply) = settle(*held, self.terms.setup.queue(r), now, op);
+        if is_decided_at_load(reply) {
+            return Some((next, reply));
+        }
+        let new = shifted(now, r, held, &next);
+        if self.change_queue(seat, r, now, new) {
+            Some((next, reply))
+        } else {
+            None
+        }
+    }
+
+    /// An op that neither looks at its runqueue nor changes a sum of it: the store of the server's word is the event.
+    fn finish_quiet(&self, claim: Claim) -> Finished
+        requires of { IsClaimOf self.now claim }
+        requires sum { claim_changes_sum claim ≡ false }
+        requires charge { is_charge (claim_op claim) ≡ false }
+        ensures { (tries : ℕ) → IsFinished self.now claim tries result }
+    {
+        let Claim {
+            mut seat,
+            number,
+            task,
+            op,
+            held,
+        } = claim;
+        let unseen = Reading {
+            running: 0,
+            this: 0,
+        };
+        let (next, reply) = settle(held, self.terms.setup.queue(0), unseen, op);
+        self.settle_server(&mut seat, task, next.server);
+        let pass = self.hand_back(seat, number, task, &held, &next);
+        Finished::Done(pass, reply)
+    }
+
+    /// After the event and the store of the server's word: the parameter word is stored where it changes, and the task is given back.
+    fn hand_back(
+        &self,
+        mut seat: Seat<Note, View>,
+        number: u32,
+        task: u32,
+        held: &Record,
+        next: &Record,
+    ) -> Pass
+        requires held { HoldsMade self.now seat task next.now (half_stored held.now next.now) }
+        requires kept { IsKept (terms self.now).setup next.now }
+        requires number { (share_on seat).number ≡ number }
+        ensures leaves { Leaves self.now (Concluded task) seat result }
+        ensures number { number_of result ≡ number }
+    {
+        self.store_changed(&mut seat, task, held, next);
+        self.give_back(seat, number, task, next)
+    }
+
+    /// Stores the parameter word where it changes.
+    fn store_changed(&self, seat: &mut Seat<Note, View>, task: u32, held: &Record, next: &Record)
+        requires { HoldsMade self.now seat.old task next.now (half_stored held.now next.now) }
+        ensures knows { Tells self.now Knows seat.old seat.new }
+        ensures stored { HoldsMade self.now seat.new task next.now (stored_of next.now) }
+    {
+        if pack_params(next.params) != pack_params(held.params) {
+            self.store_params(seat, task, next.params);
+        }
+    }
+}

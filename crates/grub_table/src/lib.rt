@@ -1,0 +1,19 @@
+//! The book of GRUB bandwidth reclaiming, shared by threads without a lock. Each finished call is the reply of a one-thread book at one point of one growing history.
+#![tactic(auto)]
+
+mod closing;
+mod finishing;
+mod opening;
+mod pass;
+mod reading;
+mod row;
+mod rule;
+mod starting;
+mod steps;
+#[cfg(test)]
+mod tests;
+mod view;
+
+pub use pass::{
+    Claim, CloseFault, CloseWhy, Finished, OpenFault, Pass, Shared, Sighting, Started,
+};

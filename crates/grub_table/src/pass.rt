@@ -1,0 +1,89 @@
+//! The public types of a table.
+ghost use Rattle.std.specs.Prelude.{◌≡◌, ◌<◌, ◌≤◌, ◌+◌, ◌*◌, [], length, None};
+ghost use Rattle.grub_table.specs.Layout.{word_count};
+ghost use Rattle.grub_table.specs.Rule.{AreLimited};
+ghost use Rattle.grub_table.specs.Views.{alone, first_of};
+ghost use Rattle.grub_table.specs.declared.view.Hold.TheVariants.{Free, Undecided};
+
+use crate::rule::OneHistory;
+use crate::view::{Note, Terms, View};
+use atomic_table::{Seat, Table};
+use grub_book::{Op, Record, Reply};
+use std::alloc::Global;
+
+/// The runqueues and tasks, lent to threads by reference.
+#[derive(Drop)]
+pub struct Shared {
+    pub(crate) table: Table<Note, View, Terms, OneHistory, Global>,
+    pub(crate) terms: Terms,
+    ghost kept: { table.shared.key ≡ terms },
+    ghost words: { table.shared.table_id.words ≡ word_count terms.setup },
+    ghost slots: { table.shared.table_id.slots ≡ 0 },
+    ghost limited: { AreLimited terms.setup },
+    ghost passes: { 0 < terms.passes },
+}
+
+/// The right to make calls under one number. A pass may be dropped; its table then cannot be closed.
+#[derive(Drop)]
+pub struct Pass {
+    pub(crate) seat: Seat<Note, View>,
+    pub(crate) number: u32,
+    ghost single: { seat.me ≡ (alone (first_of seat.me.0), []) },
+    ghost numbered: { (first_of seat.me.0).number ≡ number },
+    ghost free: { (first_of seat.me.0).hold ≡ Free },
+}
+
+/// A pass that holds a task, for an op whose transition is not in the history. It has to be spent, by `finish` or `cancel`: it is neither `Drop` nor `Copy`.
+pub struct Claim {
+    pub(crate) seat: Seat<Note, View>,
+    pub(crate) number: u32,
+    pub(crate) task: u32,
+    pub(crate) op: Op,
+    pub(crate) held: Record,
+    ghost single: { seat.me ≡ (alone (first_of seat.me.0), []) },
+    ghost numbered: { (first_of seat.me.0).number ≡ number },
+    ghost holds: { (first_of seat.me.0).hold ≡ Undecided task op held },
+}
+
+/// What a call saw that found its task busy: the task's word with its claim bit set, or a word that had changed from the one that the call had loaded.
+#[derive(Clone, Copy, PartialEq, Eq, Debug)]
+pub enum Sighting {
+    Claimed { word: u64 },
+    Changed { loaded: u64, found: u64 },
+}
+
+/// The answer of `start`: the reply, a claim on the task, or that another pass has the task.
+pub enum Started {
+    Answered(Pass, Reply),
+    Held(Claim),
+    Busy(Pass, Sighting),
+}
+
+/// The answer of `finish`: the reply, or the claim as it was, where all tries were lost.
+pub enum Finished {
+    Done(Pass, Reply),
+    Held(Claim),
+}
+
+/// Why no table was made. Number 23 is NoPass, 24 TooManyPasses, 25 NoMemory.
+#[derive(Clone, Copy, PartialEq, Eq, Debug)]
+pub enum OpenFault {
+    NoPass,
+    TooManyPasses,
+    NoMemory,
+}
+
+/// Why a table was not closed. Number 26 is Missing, with the number of passes that are not there, and 42 is NoMemory.
+#[derive(Clone, Copy, PartialEq, Eq, Debug)]
+pub enum CloseWhy {
+    Missing(u32),
+    NoMemory,
+}
+
+/// A refused close: the table and the passes come back as they were.
+#[derive(Drop)]
+pub struct CloseFault {
+    pub why: CloseWhy,
+    pub shared: Shared,
+    pub passes: Vec<Pass>,
+}

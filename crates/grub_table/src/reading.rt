@@ -1,0 +1,65 @@
+//! Readings of runqueues, and the meeting of two passes.
+ghost use Rattle.std.specs.Prelude.{◌≡◌, ◌<◌, ◌≤◌, ◌+◌, ◌⊎◌, length};
+ghost use Rattle.grub_book.specs.declared.event.Event.TheVariants.{Look};
+ghost use Rattle.grub_table.specs.Histories.{Finishes};
+ghost use Rattle.grub_table.specs.Calls.{terms, number_of, seen, marks, claim_number, claim_seen, IsPassOf, IsClaimOf, IsStill, IsSame, IsBehind, IsMarkedBehind};
+
+use crate::pass::{Claim, Pass, Shared};
+use crate::rule::{All, Compare, First};
+use grub_book::Reading;
+
+impl Shared {
+    /// The bandwidths of a runqueue, in 1/2^20: running_bw of its active tasks, and this_bw of all its tasks. One load.
+    pub fn read(&self, pass: &mut Pass, r: u32) -> Reading
+        requires of { IsPassOf self.now pass.old }
+        requires queue { r < length (terms self.now).setup.queues }
+        ensures of { IsPassOf self.now pass.new }
+        ensures number { number_of pass.new ≡ number_of pass.old }
+        ensures finishes { Finishes (terms self.now) (number_of pass.old) (seen pass.old) (Look (number_of pass.old) r result) (seen pass.new) }
+        ensures marks { marks pass.new ≡ marks pass.old }
+    {
+        self.look(&mut pass.seat, r)
+    }
+
+    /// A reading, as in `read`, by a pass that holds a claim.
+    pub fn read_held(&self, claim: &mut Claim, r: u32) -> Reading
+        requires of { IsClaimOf self.now claim.old }
+        requires queue { r < length (terms self.now).setup.queues }
+        ensures still { IsStill self.now claim.old claim.new }
+        ensures finishes { Finishes (terms self.now) (claim_number claim.old) (claim_seen claim.old) (Look (claim_number claim.old) r result) (claim_seen claim.new) }
+    {
+        self.look(&mut claim.seat, r)
+    }
+
+    /// Gives both passes back. What the two have seen are then known to be beginnings of one history.
+    pub fn meet(&self, first: Pass, second: Pass) -> (Pass, Pass)
+        requires first { IsPassOf self.now first }
+        requires second { IsPassOf self.now second }
+        ensures first { IsSame self.now first result.0 }
+        ensures second { IsSame self.now second result.1 }
+        ensures met { IsBehind result.0 result.1 ⊎ IsBehind result.1 result.0 }
+        ensures marks { IsMarkedBehind result.0 result.1 ⊎ IsMarkedBehind result.1 result.0 }
+    {
+        let Pass {
+            seat: one,
+            number: first,
+        } = first;
+        let Pass {
+            mut seat,
+            number: second,
+        } = second;
+        self.table.shared.join_seat::<All>(&mut seat, one);
+        self.table.shared.load::<Compare>(&mut seat, 0);
+        let one = self.table.shared.split_seat::<First>(&mut seat);
+        (
+            Pass {
+                seat: one,
+                number: first,
+            },
+            Pass {
+                seat,
+                number: second,
+            },
+        )
+    }
+}

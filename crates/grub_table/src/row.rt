@@ -1,0 +1,104 @@
+//! Which word of the row is whose, and what is in it.
+ghost use Rattle.std.specs.Prelude.{◌≡◌, ℕ, ◌<◌, ◌≤◌, ◌+◌, ◌*◌, false, length, IfSome, IsNone, ◌≢◌};
+ghost use Rattle.grub_bw.specs.Bandwidth.{Reservation, IsReservation};
+ghost use Rattle.grub_bw.specs.declared.server.Server.{Server};
+ghost use Rattle.grub_book.specs.Machine.{IsMachine};
+ghost use Rattle.grub_book.specs.Step.{count_most};
+ghost use Rattle.grub_book.specs.declared.event.Reading.{Reading};
+ghost use Rattle.grub_book.specs.declared.place.Place.{Place};
+ghost use Rattle.grub_words.specs.Words.{queue_word, server_word, params_word, task_word, PlaceFits, QueueFits, ServerFits, TaskFits};
+ghost use Rattle.grub_table.specs.Layout.{queue_word_at, task_word_at, server_word_at, params_word_at, shown};
+
+use grub_book::{Reading, Record, Setup};
+use grub_bw::{Params, Server};
+use grub_words::{TaskWord, pack_task, unpack_params, unpack_queue, unpack_server, unpack_task};
+
+/// How many words a runqueue or a task has to itself: 128 bytes.
+pub(crate) const SPACING: usize = 16;
+
+pub(crate) fn queue_word_at(r: u32) -> usize
+    ensures { result ≡ queue_word_at r }
+{
+    SPACING * r as usize
+}
+
+pub(crate) fn task_word_at(setup: &Setup, t: u32) -> usize
+    ensures value { result ≡ task_word_at setup.now t }
+    ensures limits { IsMachine setup.now }
+{
+    SPACING * (setup.queue_count() as usize + t as usize)
+}
+
+pub(crate) fn server_word_at(setup: &Setup, t: u32) -> usize
+    ensures value { result ≡ server_word_at setup.now t }
+    ensures limits { IsMachine setup.now }
+{
+    task_word_at(setup, t) + 1
+}
+
+pub(crate) fn params_word_at(setup: &Setup, t: u32) -> usize
+    ensures value { result ≡ params_word_at setup.now t }
+    ensures limits { IsMachine setup.now }
+{
+    task_word_at(setup, t) + 2
+}
+
+/// The reading in a runqueue's word.
+pub(crate) fn reading_in(word: u64) -> Reading
+    requires { (now : Reading) × QueueFits now × (queue_word now ≡ word) }
+    ensures fits { QueueFits result }
+    ensures word { queue_word result ≡ word }
+{
+    let Some(reading) = unpack_queue(word) else {
+        unreachable!()
+    };
+    reading
+}
+
+/// The server in a server word.
+pub(crate) fn server_in(word: u64) -> Server
+    requires { (server : Server) × ServerFits server × (server_word server ≡ word) }
+    ensures fits { ServerFits result }
+    ensures word { server_word result ≡ word }
+{
+    let Some(server) = unpack_server(word) else {
+        unreachable!()
+    };
+    server
+}
+
+/// The reservation in a parameter word.
+pub(crate) fn params_in(word: u64) -> Params
+    requires { (p : Reservation) × IsReservation p × (params_word p ≡ word) }
+    ensures fits { IsReservation result }
+    ensures word { params_word result ≡ word }
+{
+    let Some(params) = unpack_params(word) else {
+        unreachable!()
+    };
+    params
+}
+
+/// What the word of a free task says; none where the claim bit is set.
+pub(crate) fn unclaimed(word: u64) -> Option<TaskWord>
+    ensures found { IfSome result (λ w. TaskFits w × (w.claimed ≡ false) × (task_word w.place w.count false ≡ word)) }
+    ensures none { IsNone result → (p : Place) (n : ℕ) → PlaceFits p → n ≤ count_most → task_word p n false ≢ word }
+{
+    let Some(shown) = unpack_task(word) else {
+        return None;
+    };
+    if shown.claimed { None } else { Some(shown) }
+}
+
+/// The task word of a free task with this record.
+pub(crate) fn free_word(held: &Record) -> u64
+    requires place { PlaceFits held.now.place }
+    requires count { held.now.count ≤ count_most }
+    ensures { result ≡ shown held.now false }
+{
+    pack_task(TaskWord {
+        place: held.place,
+        claimed: false,
+        count: held.count,
+    })
+}

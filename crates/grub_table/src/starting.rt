@@ -1,0 +1,115 @@
+//! A call begins: it is answered at once, or takes its task.
+ghost use Rattle.std.specs.Prelude.{◌≡◌, ℕ, ◌<◌, ◌≤◌, ◌+◌, ◌-◌, nat_lt, if◌then◌else◌, false, IfOk, length};
+ghost use Rattle.grub_bw.specs.Server.{Fits, lag_of};
+ghost use Rattle.grub_book.specs.Op.{IsOp};
+ghost use Rattle.grub_book.specs.declared.op.Op.{Op};
+ghost use Rattle.grub_book.specs.declared.place.Record.{Record};
+ghost use Rattle.grub_words.specs.Words.{TaskFits};
+ghost use Rattle.grub_table.specs.Between.{hold_of, IsSeatOf, HoldsFor, Tells, SawTask, SawRecord};
+ghost use Rattle.grub_table.specs.Calls.{terms, IsPassOf, IsStarted};
+ghost use Rattle.grub_table.specs.Tellings.{early};
+ghost use Rattle.grub_table.specs.declared.view.Hold.TheVariants.{Free};
+
+use crate::pass::{Claim, Pass, Shared, Sighting, Started};
+use crate::row::unclaimed;
+use crate::view::{Note, View};
+use atomic_table::Seat;
+use grub_book::{Op, Record, Reply, refusal};
+use grub_bw::{Params, Server, zero_lag};
+use grub_words::{TaskWord, pack_task};
+use std::marker::Brand;
+
+/// The 0-lag moment of a task, where it is after `m`.
+fn lag_after(server: Server, params: Params, m: u32) -> Option<u32>
+    requires { Fits server params }
+    ensures { let z = server.d - lag_of server params in result ≡ (if nat_lt m z then Some z else None) }
+{
+    let z = zero_lag(server, params);
+    if z > i64::from(m) {
+        Some(z as u32)
+    } else {
+        None
+    }
+}
+
+/// The reply of a timer that is early.
+fn early(held: &Record, op: Op) -> Option<Reply>
+    requires { Fits held.now.server held.now.params }
+    ensures { result ≡ early held.now op }
+{
+    match op {
+        Op::Timer { ticket: _, m } => {
+            let z = lag_after(held.server, held.params, m)?;
+            Some(Reply::Early(z))
+        }
+        _ => None,
+    }
+}
+
+impl Shared {
+    /// What the task's word says, or the word itself where another pass has the task.
+    fn look_at_task(&self, seat: &mut Seat<Note, View>, t: u32, op: Op) -> Result<TaskWord, u64>
+        requires seat { IsSeatOf self.now seat.old }
+        requires free { hold_of seat.old ≡ Free }
+        requires task { t < length (terms self.now).setup.tasks }
+        requires op { IsOp (terms self.now).setup op }
+        ensures told { Tells self.now (SawTask t op result) seat.old seat.new }
+        ensures free { IfOk result (λ w. TaskFits w × (w.claimed ≡ false)) }
+    {
+        let word = self.load_task::<Brand>(seat, t, op);
+        match unclaimed(word) {
+            Some(shown) => Ok(shown),
+            None => Err(word),
+        }
+    }
+
+    /// The record of a task that was taken, whose word said this.
+    fn load_record(&self, seat: &mut Seat<Note, View>, t: u32, shown: TaskWord) -> Record
+        requires { (op : Op) × (rec : Record) × HoldsFor self.now seat.old t op rec × (shown.place ≡ rec.place) × (shown.count ≡ rec.count) }
+        ensures { Tells self.now (SawRecord result) seat.old seat.new }
+    {
+        let params = self.load_params(seat, t);
+        let server = self.load_server(seat, t);
+        Record {
+            place: shown.place,
+            count: shown.count,
+            server,
+            params,
+        }
+    }
+
+    /// Makes the call where the task's place, count or ticket decides it, or where its timer is early; else takes the task for it.
+    /// Where another pass has the task, or changed it meanwhile, the answer is `Busy` with what was seen.
+    pub fn start(&self, pass: Pass, t: u32, op: Op) -> Started
+        requires of { IsPassOf self.now pass }
+        requires task { t < length (terms self.now).setup.tasks }
+        requires op { IsOp (terms self.now).setup op }
+        ensures { IsStarted self.now pass t op result }
+    {
+        let Pass { mut seat, number } = pass;
+        let shown = match self.look_at_task(&mut seat, t, op) {
+            Ok(shown) => shown,
+            Err(word) => return Started::Busy(Pass { seat, number }, Sighting::Claimed { word }),
+        };
+        if let Some(reply) = refusal(shown.place, shown.count, op) {
+            return Started::Answered(Pass { seat, number }, reply);
+        }
+        let loaded = pack_task(shown);
+        let found = self.take_claim(&mut seat, t, op, shown);
+        if found != loaded {
+            return Started::Busy(Pass { seat, number }, Sighting::Changed { loaded, found });
+        }
+        let held = self.load_record(&mut seat, t, shown);
+        if let Some(reply) = early(&held, op) {
+            let pass = self.give_back(seat, number, t, &held);
+            return Started::Answered(pass, reply);
+        }
+        Started::Held(Claim {
+            seat,
+            number,
+            task: t,
+            op,
+            held,
+        })
+    }
+}
