@@ -20,6 +20,7 @@ happening_line m = join_with_byte 32 (happening_words m)
 
 -- ---- the limits
 
+-- a declaration that may stand after these names
 pub record IsDeclaration (names : List (List ℕ)) (d : Declaration) : Type 0 where
   pub name : is_name d.name ≡ true
   pub fits : IsReservation d.params
@@ -33,6 +34,7 @@ IsDeed version (runs n s) = (is_name n ≡ true) × (is_span s ≡ true)
 IsDeed version (retunes n p) = (is_name n ≡ true) × IsReservation p × (may_retune version ≡ true)
 IsDeed version reads = Unit {0}
 
+-- a happening that may stand after a moment, in a file of this version
 pub record IsHappeningFrom (version : Version) (low : ℕ) (m : Happening) : Type 0 where
   pub after : low ≤ m.at
   pub within : is_moment m.at ≡ true
@@ -76,10 +78,11 @@ pub record LineFault (names : List (List ℕ)) (bytes : List ℕ) (k : Kind) (n 
   pub number : n ≡ 3 + length tree.tasks + length tree.happenings
   pub fault : front_fault CutShort (line_fault tree.version (names ++ names_of tree.tasks) (map (λ m. m.at) tree.happenings)) (parts_of rest) ≡ Some k
 
--- the first line may not stand there; or the second, after a right first one
+-- the first line may not stand there
 abbrev pub HeaderFault : List ℕ → Kind → ℕ → Type 0
 HeaderFault bytes k n = (n ≡ 1) × (front_fault BadHeader header_fault (parts_of bytes) ≡ Some k)
 
+-- the second line may not stand there, after a right first one
 pub record QueueFault (bytes : List ℕ) (k : Kind) (n : ℕ) : Type 0 where
   pub version : Version
   pub rest : List ℕ
@@ -104,16 +107,19 @@ AreKnown names ms = AllByRecursion (λ m. IsSome (line_in names m)) ms
 
 -- ---- the same of all trees at once: each name is declared once, and at most 256 are
 
+-- no name stands twice
 abbrev pub AreDistinct : List (List ℕ) → Type 0
 AreDistinct [] = Unit {0}
 AreDistinct (n ∷ ns) = (task_of ns n ≡ None) × AreDistinct ns
 
+-- a declaration by itself, and a tree by itself
 abbrev pub IsGood : Declaration → Type 0
 IsGood d = (is_name d.name ≡ true) × IsReservation d.params
 
 abbrev pub IsAlone : Tree → Type 0
 IsAlone t = IsCapacity t.queue × AllByRecursion IsGood t.tasks × GoOn t.version 0 t.happenings
 
+-- trees that may stand in one run
 pub record AreTogether (ts : List Tree) : Type 0 where
   pub each : AllByRecursion IsAlone ts
   pub few : length (names_of (all_tasks ts)) ≤ 256
@@ -137,7 +143,7 @@ pub record FirstFault (names : List (List ℕ)) (files : List (List ℕ)) (k : K
   pub file : f ≡ length fronts
   pub fault : FileFault (names ++ names_of (all_tasks fronts)) bytes k n
 
--- the first moment with a name that is not declared
+-- the first happening that names a task which is not declared
 pub record UnknownIn (names : List (List ℕ)) (ms : List Happening) (n : ℕ) : Type 0 where
   pub before : List Happening
   pub happening : Happening

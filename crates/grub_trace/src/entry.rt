@@ -1,3 +1,5 @@
+//! What was asked in a run, and what was answered.
+
 use grub_book::{Op, Reading, Reply};
 
 /// What was asked: an op for a task, or a reading of the runqueue.
@@ -10,7 +12,7 @@ pub enum Ask {
 /// What came of an ask.
 #[derive(Clone, Copy, Debug, PartialEq, Eq)]
 pub enum Answer {
-    /// The book's reply.
+    /// The book's reply, of which a refusing one changed nothing.
     Replied(Reply),
     /// The reading of the runqueue.
     Seen(Reading),

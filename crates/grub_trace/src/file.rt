@@ -1,3 +1,5 @@
+//! One file: its version, its runqueue, and the lines below.
+
 ghost use Rattle.std.specs.Prelude.{◌≡◌, OnOk, IfSome, is_some};
 ghost use Rattle.grub_trace.specs.Reading.{opened, happening_view, declarations, IsIndexed, read_view, read_lines, read_queue, Gives, GivesQueue, file_view, read_second, read_file};
 ghost use Rattle.grub_trace.specs.Meaning.{parts_of};

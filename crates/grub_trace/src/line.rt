@@ -1,3 +1,5 @@
+//! The lines of a script.
+
 /// What a line of a script says that happens. Tasks are given by their numbers.
 #[derive(Clone, Copy, Debug, PartialEq, Eq)]
 pub enum Act {

@@ -1,3 +1,5 @@
+//! What event files say, with tasks by number.
+
 ghost use Rattle.std.specs.Prelude.{◌≡◌, ◌<◌, ◌≤◌, length, map, string_bytes, slice_get, Some};
 ghost use Rattle.grub_trace.specs.Limits.{PlanFits, ScriptFits};
 
@@ -28,7 +30,7 @@ impl Model for Plan {
 }
 
 impl Plan {
-    /// The plan of these parts. The vectors are kept, so no memory is taken.
+    /// The plan of these parts. The vectors are kept, so it takes no memory.
     pub(crate) fn new(
         queues: Vec<Queue>,
         tasks: Vec<Params>,

@@ -1,3 +1,5 @@
+//! All files, one after the other, and the names that they use.
+
 ghost use Rattle.std.specs.Prelude.{◌≡◌, ℕ, List, MatchResult, IfOk, IfErr, [], map, string_bytes};
 ghost use Rattle.grub_trace.specs.Reading.{Answers, all_view, read_from, contents, IsIndexed, declarations, script_from, ScriptIs, happening_view, deed_view, body_view, scripts_from, plan_from};
 ghost use Rattle.grub_trace.specs.Naming.{act_in, line_in};

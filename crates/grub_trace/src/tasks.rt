@@ -1,3 +1,5 @@
+//! The declared tasks, and their numbers by their names.
+
 ghost use Rattle.std.specs.Prelude.{◌≡◌, ◌<◌, length, ◌∷◌, [], ◌++◌, OnOk, IfErr, None};
 ghost use Rattle.grub_trace.specs.Tree.{is_name, names_of};
 ghost use Rattle.grub_trace.specs.Faults.{task_of};

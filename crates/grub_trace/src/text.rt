@@ -1,3 +1,5 @@
+//! The texts of entries and reports.
+
 ghost use Rattle.std.specs.Prelude.{◌≡◌, ◌++◌, length, decimal, codes, OnOk, IfOk, IfErr, All};
 ghost use Rattle.grub_trace.specs.Texts.{reading_text, op_text, reply_text, server_text, answer_text, ask_text, entry_line, report_text, IsAskOf};
 

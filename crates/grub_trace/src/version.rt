@@ -1,3 +1,5 @@
+//! The versions of event files.
+
 ghost use Rattle.std.specs.Prelude.{◌≡◌};
 
 /// The version that the first line of a file names. A file of version 2 may have `retune` lines.
