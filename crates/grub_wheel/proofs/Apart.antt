@@ -1,12 +1,12 @@
 -- Nodes of different tasks, and what they have for a task.
-use Rattle.std.proofs.Common.{◌≡◌, ◌≢◌, ℕ, zero, suc, ◌+◌, ◌*◌, ◌<◌, ◌≤◌, ◌⊎◌, inl, inr, Bool, true, false, cond, eqb, List, [], ◌∷◌, length, Option, Some, None, refl, ap, ◌∙◌, sym, arith, subst}
+use Rattle.std.proofs.Common.{◌≡◌, ◌≢◌, ℕ, zero, suc, ◌<◌, ◌⊎◌, inl, inr, Bool, true, false, cond, eqb, List, [], ◌∷◌, Option, Some, None, refl, ap, ◌∙◌, sym, arith, subst}
 use Rattle.std.proofs.lemmas.Bool.{eqb-true}
 use Rattle.std.proofs.lemmas.Bool.Decides.{nat_tests}
 use Rattle.std.specs.FinMap as map
 use Rattle.grub_wheel.specs.declared.timer.Timer.{Timer}
 use Rattle.grub_wheel.specs.declared.node.Node.{Node}
-use Rattle.grub_wheel.specs.Nodes.{node_at, Armed, tasks, keys, timers_of, AreInSlots, IsKept, AreOthersKept, IsArmedNode}
-use Rattle.grub_wheel.proofs.Numbers.{no_both, same_or, key_tasks}
+use Rattle.grub_wheel.specs.Nodes.{node_at, Armed, tasks, keys, timers_of, AreInSlots, AreOthersKept, IsArmedNode}
+use Rattle.grub_wheel.proofs.Numbers.{no_both, same_or, some_is, key_tasks}
 use Rattle.grub_wheel.proofs.Looks.{look, bag_of, bag-insert, bag-remove}
 
 abbrev pub Apart : List Node → Type 0
@@ -30,9 +30,6 @@ pub record IsEntry (ns : List Node) (q : ℕ) (p : ℕ × ℕ) : Type 0 where
 
 further : (n : Node) (ns : List Node) (q : ℕ) (p : ℕ × ℕ) → IsEntry ns q p → IsEntry (n ∷ ns) q p
 further n ns q p e = record { at = suc e.at; armed = e.armed; task = e.task; pair = e.pair }
-
-some_is : (a b : ℕ × ℕ) → Some a ≡ Some b → a ≡ b
-some_is a b e = cc
 
 pub look_at : (ns : List Node) (q : ℕ) (p : ℕ × ℕ) → look (timers_of ns) q ≡ Some p → IsEntry ns q p
 look_at [] q p h = absurd cc

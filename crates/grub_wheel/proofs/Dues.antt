@@ -1,5 +1,5 @@
 -- What is due, and what a wheel becomes by `due`.
-use Rattle.std.proofs.Common.{◌≡◌, ◌≢◌, ℕ, false, ◌+◌, ◌-◌, ◌<◌, ◌≤◌, ◌⊎◌, inl, inr, List, Option, Some, None, refl, ap, ◌∙◌, sym, arith, subst}
+use Rattle.std.proofs.Common.{◌≡◌, ◌≢◌, ℕ, false, ◌<◌, ◌≤◌, ◌⊎◌, inl, inr, List, Option, Some, None, refl, ap, ◌∙◌, sym, arith, subst}
 use Rattle.grub_wheel.specs.declared.timer.Timer.{Timer}
 use Rattle.grub_wheel.specs.declared.node.Node.{Node}
 use Rattle.grub_wheel.specs.TimerBag.{WheelState, IsArmed, IsLeast, AreLater}
@@ -7,7 +7,6 @@ use Rattle.grub_wheel.specs.Firsts.{IsFront}
 use Rattle.grub_wheel.specs.Nodes.{node_at, Armed, keys, tasks, moments, timers_of, AreInSlots, IsFirstOf, AreOthersKept}
 use Rattle.grub_wheel.proofs.Numbers.{less_or, no_both, key_parts}
 use Rattle.grub_wheel.proofs.Bags.{not_after}
-use Rattle.grub_wheel.proofs.Looks.{look}
 use Rattle.grub_wheel.proofs.Views.{state_of, looks, is_armed}
 use Rattle.grub_wheel.proofs.Apart.{IsEntry, look_at, look_is}
 

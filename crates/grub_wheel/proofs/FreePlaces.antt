@@ -1,11 +1,10 @@
 -- The list of free places, and how many nodes are armed.
-use Rattle.std.proofs.Common.{◌≡◌, ◌≢◌, ℕ, zero, suc, ◌+◌, ◌-◌, ◌<◌, ◌≤◌, ◌⊎◌, inl, inr, Bool, true, false, cond, List, [], ◌∷◌, length, set, Option, Some, None, refl, ap, ◌∙◌, sym, arith, subst, get_or-set_same, get_or-set_other, length-set}
+use Rattle.std.proofs.Common.{◌≡◌, ◌≢◌, ℕ, suc, ◌+◌, ◌<◌, ◌≤◌, ◌⊎◌, inl, inr, Bool, true, false, cond, List, [], ◌∷◌, length, set, Option, Some, None, refl, ap, ◌∙◌, sym, arith, subst, get_or-set_same, get_or-set_other, length-set}
 use Rattle.std.specs.List.{AllByRecursion}
-use Rattle.std.specs.Prelude.{sum_by}
 use Rattle.std.proofs.lemmas.List.Sums.{sum_by-set, sum_by-cons}
 use Rattle.grub_wheel.specs.declared.node.Node.{Node}
 use Rattle.grub_wheel.specs.Nodes.{free_node, node_at, Armed, links, AreOthersKept, AreFree, armed_count, one_if_armed}
-use Rattle.grub_wheel.proofs.Numbers.{no_both, same_or}
+use Rattle.grub_wheel.proofs.Numbers.{no_both, same_or, some_is}
 
 -- the first of the free places, and the rest
 pub record IsFreeHead (ns : List Node) (spare i : ℕ) : Type 0 where
@@ -15,9 +14,6 @@ pub record IsFreeHead (ns : List Node) (spare i : ℕ) : Type 0 where
   pub others : AllByRecursion (λ j. j ≢ i) rest
   pub linked : AreFree ns rest (links ns i)
   pub room : length rest + 1 ≡ spare
-
-some_is : (a b : ℕ) → Some a ≡ Some b → a ≡ b
-some_is a b e = cc
 
 pub free_head : (ns : List Node) (places : List ℕ) (free : Option ℕ) (spare i : ℕ) → AreFree ns places free → length places ≡ spare → free ≡ Some i → IsFreeHead ns spare i
 free_head ns [] free spare i f room is = absurd (let x = sym f ∙ is in cc)

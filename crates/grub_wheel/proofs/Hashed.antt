@@ -1,5 +1,5 @@
 -- What the fields of a hashed wheel become.
-use Rattle.std.proofs.Common.{◌≡◌, ◌≢◌, ℕ, ◌+◌, ◌-◌, ◌<◌, ◌≤◌, ◌⊎◌, inl, inr, Bool, false, cond, List, [], ◌∷◌, ◌++◌, length, Option, Some, None, refl, ap, ◌∙◌, sym, arith, subst}
+use Rattle.std.proofs.Common.{◌≡◌, ◌≢◌, ℕ, ◌+◌, ◌-◌, ◌<◌, ◌≤◌, ◌⊎◌, inl, inr, false, List, [], ◌∷◌, ◌++◌, length, Option, Some, None, refl, ap, ◌∙◌, sym, arith, subst}
 use Rattle.std.specs.Prelude.{sum_by, IfSome, replicate}
 use Rattle.std.proofs.lemmas.List.Sums.{sum_by-cons, sum_by-append}
 use Rattle.std.proofs.Math.ListN.{get_or-append}
@@ -7,7 +7,7 @@ use Rattle.std.proofs.Math.Seq.{get_or-append_seam}
 use Rattle.std.proofs.lemmas.List.{length-append, get_or-replicate, length-replicate}
 use Rattle.grub_wheel.specs.declared.timer.Timer.{Timer}
 use Rattle.grub_wheel.specs.declared.node.Node.{Node}
-use Rattle.grub_wheel.specs.Firsts.{IsFirst, IsFront, Behind}
+use Rattle.grub_wheel.specs.Firsts.{IsFirst, Behind}
 use Rattle.grub_wheel.specs.Nodes.{free_node, node_at, Armed, timers_of, key_of, slot_of, keys, slots, moments, links, tasks, head_of, AreInSlots, AreChained, AreOthersKept, IsArmedNode, IsFreed, AreFree, armed_count, one_if_armed, moment_after, IsHashed}
 use Rattle.grub_wheel.proofs.Numbers.{no_both, same_or, less_or}
 use Rattle.grub_wheel.proofs.Links.{IsSame, first_as, behind_as, behind_to}

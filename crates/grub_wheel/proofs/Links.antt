@@ -1,6 +1,6 @@
 -- A node put into the list of its slot, and one taken out.
 use Rattle.std.proofs.Common.{◌≡◌, ◌≢◌, ℕ, ◌<◌, ◌≤◌, ◌⊎◌, inl, inr, Option, Some, None, refl, ap, ◌∙◌, sym, arith, subst}
-use Rattle.grub_wheel.specs.Firsts.{IsNobody, IsFront, IsFirst, Behind, IsChained, IsBack, IsLast}
+use Rattle.grub_wheel.specs.Firsts.{IsFront, IsFirst, Behind, IsChained, IsBack, IsLast}
 use Rattle.grub_wheel.proofs.Numbers.{less_or, same_or}
 
 -- armed before and after, with the same key and slot

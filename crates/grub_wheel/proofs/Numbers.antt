@@ -1,5 +1,5 @@
--- Cases of numbers, and timers as numbers.
-use Rattle.std.proofs.Common.{◌≡◌, ◌≢◌, ℕ, ◌+◌, ◌-◌, ◌*◌, ◌%◌, ◌<◌, ◌≤◌, Bool, true, false, eqb, ltb, ◌||◌, ◌&&◌, ◌⊎◌, inl, inr, refl, arith}
+-- Cases of numbers, options and tests, and timers as numbers.
+use Rattle.std.proofs.Common.{◌≡◌, ◌≢◌, ℕ, ◌+◌, ◌*◌, ◌<◌, ◌≤◌, Bool, true, false, eqb, ltb, ◌||◌, ◌&&◌, ◌⊎◌, inl, inr, Some, refl, arith}
 use Rattle.std.proofs.lemmas.Bool.{eqb-true, ltb-true, ltb-false}
 use Rattle.std.proofs.lemmas.Bool.Decides.{nat_tests}
 
@@ -16,6 +16,9 @@ same_or a b = go (eqb a b) refl
     go : (t : Bool) → eqb a b ≡ t → (a ≡ b) ⊎ (a ≢ b)
     go true e = inl (eqb-true a b e)
     go false e = inr (λ h. absurd (grind (arith, nat_tests)))
+
+pub some_is : {A : Type 0} (a b : A) → Some a ≡ Some b → a ≡ b
+some_is a b e = cc
 
 pub no_both : (b : Bool) → b ≡ true → b ≡ false → ⊥
 no_both b t f = absurd cc

@@ -1,13 +1,12 @@
 -- Lists of nodes where a node is put into its slot, or taken out.
-use Rattle.std.proofs.Common.{◌≡◌, ◌≢◌, ℕ, ◌+◌, ◌%◌, ◌<◌, ◌≤◌, Bool, true, false, List, length, set, Option, Some, None, refl, ap, ◌∙◌, sym, arith, subst, get_or-set_same, get_or-set_other, length-set}
+use Rattle.std.proofs.Common.{◌≡◌, ◌≢◌, ℕ, ◌%◌, ◌<◌, true, false, List, length, set, Option, Some, None, refl, ap, ◌∙◌, sym, arith, subst, get_or-set_same, get_or-set_other, length-set}
 use Rattle.std.specs.Prelude.{MatchOption}
 use Rattle.grub_wheel.specs.declared.timer.Timer.{Timer}
 use Rattle.grub_wheel.specs.declared.node.Node.{Node}
-use Rattle.grub_wheel.specs.Firsts.{IsBack}
-use Rattle.grub_wheel.specs.Nodes.{free_node, node_at, Armed, key_of, slot_of, keys, slots, links, head_of, tasks, AreInSlots, AreChained, IsLastOf, IsKept, IsPointed, IsRelinked, AreOthersKept, IsArmedNode}
+use Rattle.grub_wheel.specs.Nodes.{free_node, node_at, Armed, key_of, slot_of, keys, slots, links, head_of, tasks, AreInSlots, AreChained, IsLastOf, IsPointed, IsRelinked, AreOthersKept, IsArmedNode}
 use Rattle.grub_wheel.proofs.Numbers.{no_both, key_tasks}
 use Rattle.grub_wheel.proofs.Apart.{keys_apart, apart_put, narrow_put, apart_take, narrow_take}
-use Rattle.grub_wheel.proofs.Links.{IsSame, IsAdded, IsTaken, IsLinkedIn, IsPassedOver, add_chained, take_chained}
+use Rattle.grub_wheel.proofs.Links.{IsSame, IsAdded, IsLinkedIn, IsPassedOver, add_chained, take_chained}
 
 slot_low : (z : ℕ) → z % 256 < 256
 slot_low z = omega arith

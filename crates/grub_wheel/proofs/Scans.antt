@@ -1,12 +1,11 @@
 -- The search for the earliest timer that is due.
-use Rattle.std.proofs.Common.{◌≡◌, ◌≢◌, ℕ, ◌+◌, ◌-◌, ◌*◌, ◌%◌, ◌<◌, ◌≤◌, ◌⊎◌, inl, inr, min, Option, Some, None, refl, ap, ◌∙◌, sym, arith, subst, List, length}
+use Rattle.std.proofs.Common.{◌≡◌, ◌≢◌, ℕ, ◌+◌, ◌-◌, ◌%◌, ◌<◌, ◌≤◌, ◌⊎◌, inl, inr, min, Option, Some, None, refl, ap, ◌∙◌, sym, arith, subst, List, length}
 use Rattle.std.specs.Prelude.{IfSome, IsSomeAnd}
 use Rattle.std.proofs.lemmas.List.{get_or_past}
 use Rattle.grub_wheel.specs.declared.node.Node.{Node}
-use Rattle.grub_wheel.specs.Firsts.{IsFront}
 use Rattle.grub_wheel.specs.Nodes.{free_node, node_at, Armed, keys, slots, tasks, moments, head_of, AreInSlots, IsFirstOf, IsNarrowNode, IsSooner}
 use Rattle.grub_wheel.specs.Used.{IsMapped, mark_of}
-use Rattle.grub_wheel.proofs.Numbers.{less_or, same_or, no_both, key_moments, later_key}
+use Rattle.grub_wheel.proofs.Numbers.{less_or, same_or, no_both, some_is, key_moments, later_key}
 
 off_here : (z f k : ℕ) → f ≤ z → k < 256 → z % 256 ≡ (f + k) % 256 → (z - f) % 256 ≡ k
 off_here z f k le lt e = omega arith
@@ -26,9 +25,6 @@ first_narrow ns hs P None h n = tt
 first_narrow ns hs P (Some i) h f = record { within = armed_within ns i f.armed; narrow = h.narrow i f.armed }
 
 -- ---- the earlier of two
-
-some_is : (a b : ℕ) → Some a ≡ Some b → a ≡ b
-some_is a b e = cc
 
 pub best_is_sooner : (ns : List Node) (best head : Option ℕ) (m i j : ℕ) → head ≡ Some i → best ≡ Some j → keys ns j < keys ns i → IsSooner ns best head m (Some j)
 best_is_sooner ns best head m i j eh eb lt = record {

@@ -2,14 +2,17 @@
 use Rattle.std.proofs.Common.{◌≡◌, ℕ, suc, ◌+◌, ◌<◌, ◌≤◌, Bool, true, false, not, ◌&&◌, ◌||◌, cond, eqb, ltb, ◌⊎◌, inl, inr, List, [], ◌∷◌, length, get_or, Option, Some, None, refl, ap, ◌∙◌, sym, arith, subst}
 use Rattle.std.specs.Prelude.{unwrap_or, insert, remove}
 use Rattle.std.specs.List.{AllByRecursion, position, position_or_len}
-use Rattle.std.specs.Ordering.{nat_cmp}
-use Rattle.std.specs.Cmp.{nat_cmp_total, unsigned_tied}
 use Rattle.std.specs.FinMap as map
 use Rattle.std.proofs.lemmas.Bool.{eqb-true, ltb-true, ltb-false}
 use Rattle.std.proofs.lemmas.Bool.Decides.{nat_tests}
 use Rattle.grub_wheel.specs.declared.timer.Timer.{Timer}
+use Rattle.grub_wheel.proofs.Numbers.{some_is}
 use Rattle.grub_wheel.proofs.Looks.{look, bag_of, bag-insert, bag-remove}
-use Rattle.grub_wheel.specs.Order.{entries_of, is_before, IsAscending, AreApart}
+use Rattle.grub_wheel.specs.Order.{is_before, IsAscending, AreApart}
+
+turned : (a b : ℕ) (t : Bool) → eqb a b ≡ t → eqb b a ≡ t
+turned a b true e = grind (arith, nat_tests)
+turned a b false e = grind (arith, nat_tests)
 
 -- ---- a timer more
 
@@ -115,10 +118,7 @@ apart_all : (x : Timer) (xs : List Timer) → look xs x.t ≡ None → AllByRecu
 apart_all x [] h = tt
 apart_all x (y ∷ ys) h =
     let k = none_parts (eqb x.t y.t) (y.z, y.ticket) (look ys x.t) h in
-    (turned x.t y.t k.0, apart_all x ys k.1)
-  where
-    turned : (a b : ℕ) → eqb a b ≡ false → eqb b a ≡ false
-    turned a b e = grind (arith, nat_tests)
+    (turned x.t y.t false k.0, apart_all x ys k.1)
 
 pub apart_put : (x : Timer) (xs : List Timer) → look xs x.t ≡ None → AreApart xs → AreApart (put x xs)
 apart_put x [] h ap = (tt, tt)
@@ -151,10 +151,7 @@ remove_at t (x ∷ xs) = go (eqb x.t t) (remove_at t xs)
 
 not_there : (t : ℕ) (xs : List Timer) → AllByRecursion (λ y. eqb y.t t ≡ false) xs → look xs t ≡ None
 not_there t [] h = refl
-not_there t (y ∷ ys) h = let e : eqb t y.t ≡ false = turned y.t t h.0 in rw e (not_there t ys h.1)
-  where
-    turned : (a b : ℕ) → eqb a b ≡ false → eqb b a ≡ false
-    turned a b e = grind (arith, nat_tests)
+not_there t (y ∷ ys) h = let e : eqb t y.t ≡ false = turned y.t t false h.0 in rw e (not_there t ys h.1)
 
 pub look_without : (t : ℕ) (xs : List Timer) (q : ℕ) → AreApart xs → look (without t xs) q ≡ cond (eqb q t) None (look xs q)
 look_without t [] q apart = go (eqb q t)
@@ -220,27 +217,18 @@ at_place : (t : ℕ) (xs : List Timer) (d : Timer) → position_or_len (of_task 
 at_place t [] d lt = absurd (omega arith)
 at_place t (x ∷ xs) d lt = go (eqb x.t t) refl lt (at_place t xs d)
   where
-    seen : eqb x.t t ≡ true → eqb t x.t ≡ true
-    seen e = grind (arith, nat_tests)
-
-    passed : eqb x.t t ≡ false → eqb t x.t ≡ false
-    passed e = grind (arith, nat_tests)
-
     go : (b : Bool) → eqb x.t t ≡ b → cond (not b) (1 + position_or_len (of_task t) xs) 0 < length (x ∷ xs)
         → (position_or_len (of_task t) xs < length xs → (look xs t ≡ Some ((get_or xs (position_or_len (of_task t) xs) d).z, (get_or xs (position_or_len (of_task t) xs) d).ticket)) × ((get_or xs (position_or_len (of_task t) xs) d).t ≡ t))
         → AtPlace (x ∷ xs) t d (cond (not b) (1 + position_or_len (of_task t) xs) 0)
-    go true e lt ih = (rw (seen e) refl, eqb-true x.t t e)
+    go true e lt ih = (rw (turned x.t t true e) refl, eqb-true x.t t e)
     go false e lt ih =
         let h = ih (omega arith) in
         let s : 1 + position_or_len (of_task t) xs ≡ suc (position_or_len (of_task t) xs) = omega arith in
-        subst (AtPlace (x ∷ xs) t d) (sym s) (rw (passed e) h.0, h.1)
+        subst (AtPlace (x ∷ xs) t d) (sym s) (rw (turned x.t t false e) h.0, h.1)
 
 pub stands_at : (t : ℕ) (xs : List Timer) (i : ℕ) (x : Timer) → position (of_task t) xs ≡ Some i → x ≡ get_or xs i x → StandsAt xs t i x
 stands_at t xs i x e is = go (ltb (position_or_len (of_task t) xs) (length xs)) refl e
   where
-    some_is : (a b : ℕ) → Some a ≡ Some b → a ≡ b
-    some_is a b e = cc
-
     go : (b : Bool) → ltb (position_or_len (of_task t) xs) (length xs) ≡ b → cond b (Some (position_or_len (of_task t) xs)) None ≡ Some i → StandsAt xs t i x
     go true lt e =
         let same : position_or_len (of_task t) xs ≡ i = some_is _ _ e in
@@ -253,16 +241,13 @@ stands_at t xs i x e is = go (ltb (position_or_len (of_task t) xs) (length xs)) 
         }
     go false lt e = absurd cc
 
-passed_by : (t a : ℕ) → eqb a t ≡ false → eqb t a ≡ false
-passed_by t a e = grind (arith, nat_tests)
-
 none_at : (t : ℕ) (xs : List Timer) → length xs ≤ position_or_len (of_task t) xs → look xs t ≡ None
 none_at t [] le = refl
 none_at t (x ∷ xs) le = go (eqb x.t t) refl le (none_at t xs)
   where
     go : (b : Bool) → eqb x.t t ≡ b → length (x ∷ xs) ≤ cond (not b) (1 + position_or_len (of_task t) xs) 0 → (length xs ≤ position_or_len (of_task t) xs → look xs t ≡ None) → look (x ∷ xs) t ≡ None
     go true e le ih = absurd (omega arith)
-    go false e le ih = rw (passed_by t x.t e) (ih (omega arith))
+    go false e le ih = rw (turned x.t t false e) (ih (omega arith))
 
 none_inside : (b : Bool) (i : ℕ) → cond b (Some i) None ≡ None → b ≡ false
 none_inside true i e = absurd cc
@@ -272,9 +257,6 @@ pub stands_nowhere : (t : ℕ) (xs : List Timer) → position (of_task t) xs ≡
 stands_nowhere t xs e = none_at t xs (ltb-false (position_or_len (of_task t) xs) (length xs) (none_inside (ltb (position_or_len (of_task t) xs) (length xs)) (position_or_len (of_task t) xs) e))
 
 -- ---- the first
-
-same_pair : (p q : ℕ × ℕ) → Some p ≡ Some q → p ≡ q
-same_pair p q e = cc
 
 in_order : (a b c d : ℕ) → (ltb a c || eqb a c && ltb b d) ≡ true → (a < c) ⊎ ((a ≡ c) × (b ≤ d))
 in_order a b c d h = go (ltb a c) refl h
@@ -296,7 +278,7 @@ later_than x (v ∷ vs) u y k h e = go (eqb u v.t) refl e (later_than x vs u y k
   where
     go : (b : Bool) → eqb u v.t ≡ b → cond b (Some (v.z, v.ticket)) (look vs u) ≡ Some (y, k) → (look vs u ≡ Some (y, k) → NotBefore x y u) → NotBefore x y u
     go true f e ih =
-        let p = same_pair (v.z, v.ticket) (y, k) e in
+        let p = some_is (v.z, v.ticket) (y, k) e in
         subst (λ (n : ℕ). NotBefore x y n) (sym (eqb-true u v.t f)) (subst (λ (n : ℕ). NotBefore x n v.t) (ap (λ (q : ℕ × ℕ). q.0) p) (in_order x.z x.t v.z v.t h.0))
     go false f e ih = ih e
 
@@ -318,7 +300,7 @@ head_is x xs asc = record {
   where
     go : (u y k : ℕ) (b : Bool) → eqb u x.t ≡ b → cond b (Some (x.z, x.ticket)) (look xs u) ≡ Some (y, k) → NotBefore x y u
     go u y k true f e =
-        let p = same_pair (x.z, x.ticket) (y, k) e in
+        let p = some_is (x.z, x.ticket) (y, k) e in
         let t = eqb-true u x.t f in
         inr (ap (λ (q : ℕ × ℕ). q.0) p, omega arith)
     go u y k false f e = later_than x xs u y k asc.0 e

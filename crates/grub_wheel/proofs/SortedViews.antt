@@ -1,17 +1,13 @@
 -- What a wheel's value becomes.
-use Rattle.std.proofs.Common.{◌≡◌, ℕ, ◌+◌, ◌-◌, ◌<◌, ◌≤◌, inl, inr, List, [], ◌∷◌, length, get_or, Option, Some, None, ap, ◌∙◌, sym, arith, subst}
+use Rattle.std.proofs.Common.{◌≡◌, ℕ, ◌<◌, ◌≤◌, inl, inr, List, [], ◌∷◌, length, get_or, Option, Some, None, ap, ◌∙◌, sym, arith}
 use Rattle.std.specs.Prelude.{unwrap_or, insert, slice_get}
 use Rattle.std.proofs.lemmas.Option.{slice_get_within, get_or_from_slice_get}
 use Rattle.std.specs.List.{position}
-use Rattle.std.specs.Ordering.{nat_cmp}
-use Rattle.std.specs.FinMap as m
 use Rattle.grub_wheel.specs.declared.timer.Timer.{Timer}
-use Rattle.grub_wheel.specs.Order.{AreApart}
-use Rattle.grub_wheel.specs.TimerBag.{WheelState, IsArmed, IsLeast, AreLater}
+use Rattle.grub_wheel.specs.TimerBag.{WheelState, IsLeast, AreLater}
 use Rattle.grub_wheel.proofs.Bags.{not_after}
-use Rattle.grub_wheel.proofs.Looks.{look}
 use Rattle.grub_wheel.proofs.Views.{state_of, looks}
-use Rattle.grub_wheel.proofs.SortedLists.{put, without, IsHead, NotBefore, later, insert_put}
+use Rattle.grub_wheel.proofs.SortedLists.{put, IsHead, NotBefore, later, insert_put}
 
 pub least : (xs : List Timer) (s : ℕ) (l : Option ℕ) (w : WheelState) (x : Timer) → state_of xs s l ≡ w → IsHead xs x → IsLeast w.timers x
 least xs s l w x e h = λ y a. not_after w.timers x y (looks xs s l w x.t e ∙ h.found) a (h.least y.t y.z y.ticket (sym (looks xs s l w y.t e) ∙ a))

@@ -1,5 +1,5 @@
 -- What callers see of a list of timers, and what that becomes.
-use Rattle.std.proofs.Common.{◌≡◌, ℕ, ◌+◌, ◌-◌, List, Option, Some, None, ap, ◌∙◌, sym, subst}
+use Rattle.std.proofs.Common.{◌≡◌, ℕ, ◌+◌, ◌-◌, List, Option, Some, ap, ◌∙◌, sym, subst}
 use Rattle.std.specs.FinMap as map
 use Rattle.grub_wheel.specs.declared.timer.Timer.{Timer}
 use Rattle.grub_wheel.specs.TimerBag.{TimerBag, WheelState, IsArmed, after_arming, after_taking}

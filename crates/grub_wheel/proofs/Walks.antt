@@ -1,6 +1,6 @@
 -- The walk along a slot, to the last before a key.
-use Rattle.std.proofs.Common.{◌≡◌, ℕ, ◌+◌, ◌-◌, ◌<◌, ◌≤◌, ◌⊎◌, inl, inr, Option, Some, None, refl, ap, ◌∙◌, sym, arith, subst}
-use Rattle.grub_wheel.specs.Firsts.{IsNobody, IsFront, IsFirst, Behind, IsChained, IsBack, IsLast}
+use Rattle.std.proofs.Common.{◌≡◌, ℕ, ◌+◌, ◌-◌, ◌<◌, ◌≤◌, ◌⊎◌, inl, inr, Option, Some, None, ◌∙◌, sym, arith}
+use Rattle.grub_wheel.specs.Firsts.{IsFirst, Behind, IsChained, IsLast}
 use Rattle.grub_wheel.proofs.Numbers.{less_or}
 
 -- the walk has passed this node, and stands before another

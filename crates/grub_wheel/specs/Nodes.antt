@@ -1,5 +1,5 @@
 -- The nodes of a wheel.
-use Rattle.std.specs.Prelude.{◌≡◌, ◌≢◌, ℕ, ◌<◌, ◌≤◌, ◌+◌, ◌*◌, ◌%◌, sum_by, Bool, true, false, List, [], ◌∷◌, length, Option, Some, None, if◌then◌else◌, slice_index_or}
+use Rattle.std.specs.Prelude.{◌≡◌, ◌≢◌, ℕ, ◌<◌, ◌≤◌, ◌+◌, ◌*◌, ◌%◌, sum_by, true, false, List, [], ◌∷◌, length, Option, Some, None, if◌then◌else◌, slice_index_or}
 use Rattle.std.specs.List.{AllByRecursion}
 use Rattle.grub_wheel.specs.declared.timer.Timer.{Timer}
 use Rattle.grub_wheel.specs.declared.node.Node.{Node}

@@ -85,10 +85,8 @@ impl SortedWheel {
         ensures task { IfSome result (λ x. x.t ≡ t) }
         ensures none { IfNone result (map.get self.now.timers t ≡ None) }
     {
-        match index_of(&self.timers, t) {
-            Some(i) => Some(self.timers[i]),
-            None => None,
-        }
+        let i = index_of(&self.timers, t)?;
+        Some(self.timers[i])
     }
 
     /// Arms the timer of task `t` at moment `z`, in a place that is spare. The moment is later than that of the latest `due`.

@@ -225,8 +225,7 @@ fn a_refused_growth_gives_27(rt: HostRuntime) -> Result<(), Fail> {
 }
 
 /// Arms timers of tasks 0 to 39, one after another.
-fn fill(rt: &impl Abort, pair: Pair) {
-    let mut pair = pair;
+fn fill(rt: &impl Abort, mut pair: Pair) {
     for t in 0..40 {
         pair.reserve_after_all(rt);
         assert_eq!(rt; pair.wheel.last(), None);

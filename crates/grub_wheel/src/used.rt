@@ -2,6 +2,8 @@
 ghost use Rattle.std.specs.Prelude.{◌≡◌, ◌≢◌, ◌<◌, ◌≤◌, ℕ, length};
 ghost use Rattle.grub_wheel.specs.Used.{mark_of, IsMapped, IsMappedBut};
 
+use crate::chains::SLOTS;
+
 /// Marks a slot as used.
 fn mark(used: &mut [u64; 4], slot: usize)
     requires { slot < 256 }
@@ -54,5 +56,5 @@ pub fn next_used(used: &[u64], slot: usize) -> usize
         }
         word += 1;
     }
-    256
+    SLOTS
 }

@@ -107,10 +107,8 @@ impl Wheel {
         ensures task { IfSome result (λ x. x.t ≡ t) }
         ensures none { IfNone result (map.get self.now.timers t ≡ None) }
     {
-        match index_of(&self.nodes, t) {
-            Some(i) => Some(self.nodes[i].timer),
-            None => None,
-        }
+        let i = index_of(&self.nodes, t)?;
+        Some(self.nodes[i].timer)
     }
 
     /// Arms the timer of task `t` at moment `z`, in a place that is spare. The moment is later than that of the latest `due`.

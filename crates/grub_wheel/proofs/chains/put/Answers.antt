@@ -1,4 +1,4 @@
-use Rattle.std.proofs.Common.{◌∙◌, arith, length, ◌≡◌, ◌<◌}
+use Rattle.std.proofs.Common.{arith, length, ◌≡◌, ◌<◌}
 use Rattle.grub_wheel.proofs.Puts.{put_sound}
 use Rattle.grub_wheel.proofs.chains.put.Goals as goal
 

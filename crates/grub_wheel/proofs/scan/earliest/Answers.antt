@@ -1,4 +1,4 @@
-use Rattle.std.proofs.Common.{◌≡◌, ℕ, ◌+◌, ◌-◌, ◌%◌, ◌<◌, Bool, true, false, refl, arith, ◌↔◌, IsTrue}
+use Rattle.std.proofs.Common.{◌≡◌, Bool, true, false, refl, arith, ◌↔◌, IsTrue}
 use Rattle.grub_wheel.proofs.Scans.{skips, all_seen, at_once, goes_past}
 use Rattle.grub_wheel.proofs.scan.earliest.Goals as goal
 

@@ -1,4 +1,4 @@
-use Rattle.std.proofs.Common.{◌≡◌, ℕ, ◌<◌, ◌≤◌, Option, Some, sym, ◌∙◌, subst}
+use Rattle.std.proofs.Common.{ℕ, Option, sym, ◌∙◌, subst}
 use Rattle.std.specs.Prelude.{IfSome}
 use Rattle.grub_wheel.specs.Nodes.{node_at, tasks, IsNarrowNode}
 use Rattle.grub_wheel.proofs.Numbers.{before_key}

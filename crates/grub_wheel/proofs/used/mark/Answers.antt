@@ -1,4 +1,4 @@
-use Rattle.std.proofs.Common.{arith, ◌≡◌, length}
+use Rattle.std.proofs.Common.{arith}
 use Rattle.grub_wheel.proofs.Marks.{set_here, set_others}
 use Rattle.grub_wheel.proofs.used.mark.Goals as goal
 

@@ -1,4 +1,4 @@
-use Rattle.std.proofs.Common.{arith, ◌≡◌, ◌<◌, ◌≤◌, ◌/◌, length, get_or}
+use Rattle.std.proofs.Common.{arith, ◌/◌, get_or}
 use Rattle.grub_wheel.proofs.Marks.{rest_zero, rest_high, rest_none, word_none}
 use Rattle.grub_wheel.proofs.used.next_used.Goals as goal
 

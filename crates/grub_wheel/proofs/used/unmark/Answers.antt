@@ -1,4 +1,4 @@
-use Rattle.std.proofs.Common.{arith, ◌≡◌, length}
+use Rattle.std.proofs.Common.{arith}
 use Rattle.grub_wheel.proofs.Marks.{clear_here, clear_others}
 use Rattle.grub_wheel.proofs.used.unmark.Goals as goal
 

@@ -1,4 +1,4 @@
-use Rattle.std.proofs.Common.{◌≡◌, ℕ, Some, refl, sym, ◌∙◌, ap, ◌<◌, ◌+◌, List, length, subst, arith}
+use Rattle.std.proofs.Common.{◌≡◌, Some, refl, sym, ◌∙◌, ap, ◌<◌, ◌+◌, List, length, subst, arith}
 use Rattle.grub_wheel.specs.declared.node.Node.{Node}
 use Rattle.grub_wheel.specs.Nodes.{Armed, tasks, timers_of, AreOthersKept}
 use Rattle.grub_wheel.proofs.Bags.{has_ticket, other_ticket, no_ticket}

@@ -1,5 +1,4 @@
-use Rattle.std.proofs.Common.{◌≡◌, ℕ, Some, refl, sym, ◌∙◌, ap, ◌<◌, ◌≤◌, ◌+◌, List, length, subst, arith}
-use Rattle.grub_wheel.specs.declared.timer.Timer.{Timer}
+use Rattle.std.proofs.Common.{◌≡◌, Some, refl, sym, ◌∙◌, ap, ◌<◌, ◌≤◌, ◌+◌, List, length, subst, arith}
 use Rattle.grub_wheel.specs.declared.node.Node.{Node}
 use Rattle.grub_wheel.specs.Nodes.{moments, timers_of, AreOthersKept}
 use Rattle.grub_wheel.proofs.NodeReads.{node_read, lent_back}

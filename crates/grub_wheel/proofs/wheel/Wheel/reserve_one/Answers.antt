@@ -1,7 +1,6 @@
-use Rattle.std.proofs.Common.{◌≡◌, ℕ, Bool, true, false, not, cond, refl, sym, ◌∙◌, ap, List, [], ◌∷◌, ◌++◌, length, arith}
+use Rattle.std.proofs.Common.{◌≡◌, Bool, false, not, cond, ◌∙◌, ap, List, [], ◌∷◌, ◌++◌, length, arith}
 use Rattle.grub_wheel.specs.TimerBag.{WheelState}
 use Rattle.grub_wheel.specs.declared.node.Node.{Node}
-use Rattle.grub_wheel.specs.Nodes.{free_node}
 use Rattle.grub_wheel.proofs.Hashed.{free_more, bag-free_more}
 use Rattle.grub_wheel.proofs.wheel.Wheel.reserve_one.Goals as goal
 
