@@ -51,7 +51,33 @@ rest_none us slot r fits ne lo hi =
     let b = bit_at-trailing_zeros w64 (get_or us (slot / 64) 0 / 2 ^ (slot % 64)) (omega (arith, ne)) (omega arith) in
     marked us r (slot / 64) (slot % 64 + (r - slot)) d e ∙ shifted (get_or us (slot / 64) 0) (slot % 64) (r - slot) ∙ b.2 (r - slot) (omega arith)
 
+pub rest_used : (us : List ℕ) (slot : ℕ) → get_or us (slot / 64) 0 < 18446744073709551616 → (get_or us (slot / 64) 0 / 2 ^ (slot % 64) ≡ 0 → ⊥)
+    → mark_of us (slot + trailing_zeros w64 (get_or us (slot / 64) 0 / 2 ^ (slot % 64))) ≡ 1
+rest_used us slot fits ne =
+    let b = bit_at-trailing_zeros w64 (get_or us (slot / 64) 0 / 2 ^ (slot % 64)) (omega (arith, ne)) small in
+    go (trailing_zeros w64 (get_or us (slot / 64) 0 / 2 ^ (slot % 64))) (rest_high (get_or us (slot / 64) 0) slot fits ne) b.1
+  where
+    small : get_or us (slot / 64) 0 / 2 ^ (slot % 64) < 18446744073709551616
+    small = let l : get_or us (slot / 64) 0 / 2 ^ (slot % 64) ≤ get_or us (slot / 64) 0 = div-le_self (get_or us (slot / 64) 0) (2 ^ (slot % 64)) in omega arith
+
+    go : (t : ℕ) → slot % 64 + t < 64 → bit_at (get_or us (slot / 64) 0 / 2 ^ (slot % 64)) t ≡ 1 → mark_of us (slot + t) ≡ 1
+    go t h o =
+        let d : (slot + t) / 64 ≡ slot / 64 = omega arith in
+        let e : (slot + t) % 64 ≡ slot % 64 + t = omega arith in
+        marked us (slot + t) (slot / 64) (slot % 64 + t) d e ∙ shifted (get_or us (slot / 64) 0) (slot % 64) t ∙ o
+
 -- ---- a later word
+
+pub word_used : (us : List ℕ) (word : ℕ) → get_or us word 0 < 18446744073709551616 → (get_or us word 0 ≡ 0 → ⊥) → mark_of us (word * 64 + trailing_zeros w64 (get_or us word 0)) ≡ 1
+word_used us word fits ne =
+    let b = bit_at-trailing_zeros w64 (get_or us word 0) (omega (arith, ne)) fits in
+    go (trailing_zeros w64 (get_or us word 0)) b.0 b.1
+  where
+    go : (t : ℕ) → t < 64 → bit_at (get_or us word 0) t ≡ 1 → mark_of us (word * 64 + t) ≡ 1
+    go t h o =
+        let d : (word * 64 + t) / 64 ≡ word = omega arith in
+        let e : (word * 64 + t) % 64 ≡ t = omega arith in
+        marked us (word * 64 + t) word t d e ∙ o
 
 pub word_none : (us : List ℕ) (slot word r : ℕ) → get_or us word 0 < 18446744073709551616 → (get_or us word 0 ≡ 0 → ⊥) → ((q : ℕ) → slot ≤ q → q < word * 64 → mark_of us q ≡ 0) → slot ≤ r
     → r < word * 64 + trailing_zeros w64 (get_or us word 0) → mark_of us r ≡ 0

@@ -43,6 +43,7 @@ pub fn next_used(used: &[u64], slot: usize) -> usize
     ensures low { slot ≤ result }
     ensures high { result ≤ 256 }
     ensures none { (r : ℕ) → slot ≤ r → r < result → mark_of used.now r ≡ 0 }
+    ensures used { result < 256 → mark_of used.now result ≡ 1 }
 {
     let rest = used[slot / 64] >> (slot % 64);
     if rest != 0 {

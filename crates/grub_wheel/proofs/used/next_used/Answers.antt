@@ -1,5 +1,5 @@
 use Rattle.std.proofs.Common.{arith, ◌/◌, get_or}
-use Rattle.grub_wheel.proofs.Marks.{rest_zero, rest_high, rest_none, word_none}
+use Rattle.grub_wheel.proofs.Marks.{rest_zero, rest_high, rest_none, rest_used, word_none, word_used}
 use Rattle.grub_wheel.proofs.used.next_used.Goals as goal
 
 pub returns-then-rest-ne0-clause-high : goal.returns-then-rest-ne0-clause-high
@@ -16,3 +16,9 @@ loop-word-init c = record { low = omega arith; high = let l = c.requires.within 
 
 pub returns-then-bits-ne0-clause-none : goal.returns-then-bits-ne0-clause-none
 returns-then-bits-ne0-clause-none c = λ r lo hi. word_none c.args.used.now c.args.slot c.loop-word.word r (omega (arith, c.type_inv.used c.loop-word.word)) c.if-bits-ne0.true c.loop-word.invariant.none lo hi
+
+pub returns-then-rest-ne0-clause-used : goal.returns-then-rest-ne0-clause-used
+returns-then-rest-ne0-clause-used c = λ lt. rest_used c.args.used.now c.args.slot (omega (arith, c.type_inv.used (c.args.slot / 64))) c.if-rest-ne0.true
+
+pub returns-then-bits-ne0-clause-used : goal.returns-then-bits-ne0-clause-used
+returns-then-bits-ne0-clause-used c = λ lt. word_used c.args.used.now c.loop-word.word (omega (arith, c.type_inv.used c.loop-word.word)) c.if-bits-ne0.true
