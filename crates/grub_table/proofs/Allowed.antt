@@ -92,7 +92,7 @@ module _ {S : Type 0} (T : Terms) (slots id : ℕ) (me : Me S View) (x : Share) 
       change_queue_allowed old new now was fit change = allowed_at (queue_word_at r) j (λ v. either (eqb v old) new v) (λ v. OfQueue j (λ q. ChangedQueue q old v)) e
           (λ s k at.
           let o = change_queue_out x s id me.1 k at t op rec has r about (subst (λ (U : Terms). r < length U.setup.queues) (sym of) inside) free (subst (λ (U : Terms). IsOp U.setup op) (sym of) fits) old new now was fit
-              (subst (λ (U : Terms). new ≡ queue_word (shifted_of now r rec (outcome U r now rec op).0)) (sym of) change) in
+          (subst (λ (U : Terms). new ≡ queue_word (shifted_of now r rec (outcome U r now rec op).0)) (sym of) change) in
           (o.0, o.1, o.2, o.3, queue_told r (λ q. ChangedQueue q old (get_or s.words (queue_word_at r) 0)) x.terms (holding x o.0 o.1 o.2) j e o.4))
 
   module _ (j t : ℕ) (before rec : Record) (stored : Stored) (has : x.hold ≡ Decided t before rec stored) where

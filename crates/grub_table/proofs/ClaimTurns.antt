@@ -159,7 +159,7 @@ module _ {S : Type 0} (x : Share) (s : State S View) (id : ℕ) (c : List (ℕ �
       let r : ℕ = runqueue_of rec.place op in
       let p : Record × Reply = (rec, reply) in
       let steps : step T.setup b t op ≡ (set b t rec, reply) =
-          settling T.setup b t op rec (queue_at T.setup r) (reading_of b r) record_is free (λ _. (refl, refl)) ∙ ap (λ (q : Record × Reply). (set b t q.0, q.1)) (early_settled (queue_at T.setup r) (reading_of b r) rec op reply is) in
+      settling T.setup b t op rec (queue_at T.setup r) (reading_of b r) record_is free (λ _. (refl, refl)) ∙ ap (λ (q : Record × Reply). (set b t q.0, q.1)) (early_settled (queue_at T.setup r) (reading_of b r) rec op reply is) in
       let same : set b t rec ≡ b = ap (set b t) (sym record_is) ∙ set-get_or b t no_record in
       let o = decided_here fits p steps i (λ q _. ap (λ z. reading_of z q) same) in
       (o.0, o.1, o.2, o.3, (o.4.0, o.4.2, (o.4.1.0, o.4.1.1)))
@@ -207,9 +207,14 @@ module _ {S : Type 0} (x : Share) (s : State S View) (id : ℕ) (c : List (ℕ �
     load_queue_out =
         let found : ℕ = get_or s.words (queue_word_at r) 0 in
         let o = load_queue_as (is_decided_at_load p.1) refl in
-        let z : Share = holding x o.0 o.1 o.2 in
-        (o.0, o.1, o.2, o.3, under x.hold t op rec (λ t op rec. (z.marks ≡ x.marks) × ((now : Reading) × (found ≡ queue_word now) × IsReadingFor T r rec now × LoadedQueueAs (is_decided_at_load (outcome T r now rec op).1) T x r t op rec now z)) has
-        (o.4.0, (now, k.written.queues r inside, is_reading, o.4.1)))
+        let z : Share = holding x o.0 o.1 o.2 in (
+          o.0,
+          o.1,
+          o.2,
+          o.3,
+          under x.hold t op rec (λ t op rec. (z.marks ≡ x.marks) × ((now : Reading) × (found ≡ queue_word now) × IsReadingFor T r rec now × LoadedQueueAs (is_decided_at_load (outcome T r now rec op).1) T x r t op rec now z)) has
+              (o.4.0, (now, k.written.queues r inside, is_reading, o.4.1)),
+        )
 
     -- change-queue
     change_queue_hit : (old new : ℕ) (then : Reading) → get_or s.words (queue_word_at r) 0 ≡ old → old ≡ queue_word then → QueueFits then → new ≡ queue_word (shifted_of then r rec (outcome T r then rec op).0)
@@ -220,11 +225,11 @@ module _ {S : Type 0} (x : Share) (s : State S View) (id : ℕ) (c : List (ℕ �
         let same : then ≡ now = same_queue then now fit fit_now (sym was ∙ sym found ∙ k.written.queues r inside) in
         let moved : shifted_of now r (record_at b t) p.0 ≡ reading_of (set b t p.0) r = shifted_set b t p.0 r below in
         let word : new ≡ queue_word (reading_of (set b t p.0) r) =
-            change ∙ ap (λ (m : Reading). queue_word (shifted_of m r rec (outcome T r m rec op).0)) same ∙ ap (λ (z : Record). queue_word (shifted_of now r z p.0)) (sym record_is) ∙ ap queue_word moved in
+        change ∙ ap (λ (m : Reading). queue_word (shifted_of m r rec (outcome T r m rec op).0)) same ∙ ap (λ (z : Record). queue_word (shifted_of now r z p.0)) (sym record_is) ∙ ap queue_word moved in
         let elsewhere : (q : ℕ) → q ≢ r → reading_of (set b t p.0) q ≡ reading_of b q = λ q other. ap (λ z. reading_of z q) (sym (ap (λ z. z.0) steps))
-            ∙ step_elsewhere T.setup b t op q below (λ e. other (sym e ∙ ap (λ (z : Record). runqueue_of z.place op) record_is ∙ sym about)) in
+        ∙ step_elsewhere T.setup b t op q below (λ e. other (sym e ∙ ap (λ (z : Record). runqueue_of z.place op) record_is ∙ sym about)) in
         let written = written_queue T b (set b t p.0) k.grips k.grips s.words t k.written (λ u _. refl) (λ u other. record_else b t u p.0 other) r new inside word elsewhere
-            (shows_held (k.grips t) x.number rec (record_at b t) (record_at (set b t p.0) t) (stored_of rec) (words_of T.setup s.words t) mine (k.written.tasks t lt)) in (
+        (shows_held (k.grips t) x.number rec (record_at b t) (record_at (set b t p.0) t) (stored_of rec) (words_of T.setup s.words t) mine (k.written.tasks t lt)) in (
           k.history ++ Call x.number t op p.1 ∷ [],
           Decided t rec p.0 (stored_of rec),
           x.marks,
@@ -237,8 +242,8 @@ module _ {S : Type 0} (x : Share) (s : State S View) (id : ℕ) (c : List (ℕ �
     change_queue_out old new then was fit change =
         let found : ℕ = get_or s.words (queue_word_at r) 0 in
         let Q : Share → ℕ → Op → Record → Type 0 = λ z t op rec. (z.marks ≡ x.marks)
-            × (found ≡ old → (now : Reading) × (old ≡ queue_word now) × QueueFits now × Decides T x t op rec (outcome T r now rec op) (stored_of rec) z)
-            × (found ≢ old → Sees T x z × (z.hold ≡ x.hold) × (found ≡ queue_word (reading_in T z.seen r)) × (record_in T z.seen t ≡ rec)) in
+        × (found ≡ old → (now : Reading) × (old ≡ queue_word now) × QueueFits now × Decides T x t op rec (outcome T r now rec op) (stored_of rec) z)
+        × (found ≢ old → Sees T x z × (z.hold ≡ x.hold) × (found ≡ queue_word (reading_in T z.seen r)) × (record_in T z.seen t ≡ rec)) in
         exchanged found old new (λ m. Out x s id c (queue_word_at r) m (ChangedQueue r old found))
         (λ hit. let o = change_queue_hit old new then hit was fit change in let z : Share = holding x o.0 o.1 o.2 in (o.0, o.1, o.2, o.3, under x.hold t op rec (Q z) has (o.4.0, (λ _. o.4.1), (λ not. absurd (not hit)))))
         (λ not. (k.history, x.hold, x.marks, stays_seen x s id c k at (queue_word_at r), under x.hold t op rec (Q y) has (refl, (λ hit. absurd (not hit)), (λ _. (sees, refl, k.written.queues r inside, record_is)))))
@@ -256,7 +261,7 @@ module _ {S : Type 0} (x : Share) (s : State S View) (id : ℕ) (c : List (ℕ �
       let readings : (q : ℕ) → q < length T.setup.queues → reading_of (set b t p.0) q ≡ reading_of b q = λ q _. ap (λ z. reading_of z q) (sym (ap (λ z. z.0) steps)) ∙ step_unchanged T.setup b t op q below (ap (λ z. changes_sum z op) record_is ∙ quiet) in
       let shown_now : Shows g (record_at (set b t p.0) t) (words_of T.setup (set s.words j stored) t) = subst (Shows g (record_at (set b t p.0) t)) (sym (set_server T.setup s.words t stored k.written.long lt)) (shows.0, refl, shows.2) in
       let written = written_task T b (set b t p.0) k.grips grips s.words t k.written (put_else k.grips t g) (λ u other. record_else b t u p.0 other) j stored (1, one_three, refl) readings
-          (subst (λ f. Shows f (record_at (set b t p.0) t) (words_of T.setup (set s.words j stored) t)) (sym here) shown_now) in
+      (subst (λ f. Shows f (record_at (set b t p.0) t) (words_of T.setup (set s.words j stored) t)) (sym here) shown_now) in
       let h = k.history ++ Call x.number t op p.1 ∷ [] in
       let d : Hold = Decided t rec p.0 st in
       let z : Share = holding x h d x.marks in (

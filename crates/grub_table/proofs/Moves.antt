@@ -107,14 +107,17 @@ module _ {S : Type 0} where
         keeps,
         tt,
         unmoved T s i id me.1 me.0 k.history k (starts_whole k.history) k.is_history (subst (Known T k.history k.owner) same k.known) (subst (Held T k.grips (book_of T.setup k.history)) same k.held) k.written (subst (Marked k.marks) same k.marked),
-        (refl, record {
-          terms = T;
-          history = k.history;
-          marks = k.marks;
-          is_history = k.is_history;
-          known = every_weaker (Stands T k.history k.owner id) (ShareOf T k.history) (λ x t. t.0) me.0.shares (k.known id me.0 at).0;
-          marked = k.marked id me.0 at;
-        }),
+        (
+          refl,
+          record {
+            terms = T;
+            history = k.history;
+            marks = k.marks;
+            is_history = k.is_history;
+            known = every_weaker (Stands T k.history k.owner id) (ShareOf T k.history) (λ x t. t.0) me.0.shares (k.known id me.0 at).0;
+            marked = k.marked id me.0 at;
+          },
+        ),
       )
 
   pub split_allowed : (T : Terms) (id : ℕ) (x : Share) (xs : List Share) → Splits (Kept T {S = S}) id (view (x ∷ xs)) (view xs) (alone x)

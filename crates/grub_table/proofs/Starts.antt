@@ -77,20 +77,24 @@ module _ (s : Shared) (n : Note) (found : ℕ) (old new : TheSeat) (told : Tells
   rec = record_in s.terms (share_on new).seen n.task
 
   pub saw_free : (w : TaskWord) → PlaceFits w.place → task_word w.place w.count false ≡ found → Tells s (SawTask n.task n.op (Ok w)) old new
-  saw_free w fits is = tells_as s (LoadedTask n found) (SawTask n.task n.op (Ok w)) old new told (told.of.0, told.of.1, ⊎_elim
-      (λ (a : Sees s.terms (share_on old) (share_on new) × IsOthers s.terms (share_on old).number n.task found (share_on new)). absurd (claims_apart _ w.place _ w.count (sym a.1.0.2 ∙ sym is)))
-      (λ (f : (found ≡ shown rec false) × IsKept s.terms.setup rec × CallsIf (refused rec.place rec.count n.op) s.terms (share_on old) n.task n.op (share_on new)).
-      let e = word_says s w rec fits f.1 (is ∙ f.0) in
-      (e.0, e.1, f.1, subst (λ (q : Place × ℕ). CallsIf (refused q.0 q.1 n.op) s.terms (share_on old) n.task n.op (share_on new)) (λ i. (sym e.0 i, sym e.1 i)) f.2))
-      told.of.2)
+  saw_free w fits is = tells_as s (LoadedTask n found) (SawTask n.task n.op (Ok w)) old new told (
+    told.of.0,
+    told.of.1,
+    ⊎_elim
+        (λ (a : Sees s.terms (share_on old) (share_on new) × IsOthers s.terms (share_on old).number n.task found (share_on new)). absurd (claims_apart _ w.place _ w.count (sym a.1.0.2 ∙ sym is)))
+        (λ (f : (found ≡ shown rec false) × IsKept s.terms.setup rec × CallsIf (refused rec.place rec.count n.op) s.terms (share_on old) n.task n.op (share_on new)).
+        let e = word_says s w rec fits f.1 (is ∙ f.0) in
+        (e.0, e.1, f.1, subst (λ (q : Place × ℕ). CallsIf (refused q.0 q.1 n.op) s.terms (share_on old) n.task n.op (share_on new)) (λ i. (sym e.0 i, sym e.1 i)) f.2))
+        told.of.2,
+  )
 
   pub saw_claimed : ((p : Place) (m : ℕ) → PlaceFits p → m ≤ count_most → task_word p m false ≢ found) → Tells s (SawTask n.task n.op (Err found)) old new
   saw_claimed none =
       let P : Type 0 = Sees s.terms (share_on old) (share_on new) × IsOthers s.terms (share_on old).number n.task found (share_on new) in
       let seen : P = ⊎_elim (λ (a : P). a)
-          (λ (f : (found ≡ shown rec false) × IsKept s.terms.setup rec × CallsIf (refused rec.place rec.count n.op) s.terms (share_on old) n.task n.op (share_on new)).
-          absurd (none rec.place rec.count (PlaceFits-kept s.terms.setup rec s.limited.machine f.1) f.1.count (sym f.0)))
-          told.of.2 in
+      (λ (f : (found ≡ shown rec false) × IsKept s.terms.setup rec × CallsIf (refused rec.place rec.count n.op) s.terms (share_on old) n.task n.op (share_on new)).
+      absurd (none rec.place rec.count (PlaceFits-kept s.terms.setup rec s.limited.machine f.1) f.1.count (sym f.0)))
+      told.of.2 in
       tells_as s (LoadedTask n found) (SawTask n.task n.op (Err found)) old new told (told.of.0, told.of.1, seen.0, seen.1)
 
 -- ---- the record of a task that was taken

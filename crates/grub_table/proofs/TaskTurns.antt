@@ -141,6 +141,7 @@ module _ {S : Type 0} (x : Share) (s : State S View) (id : ℕ) (c : List (ℕ �
     where
       lit_three : 0 < 3
       lit_three = omega arith
+
       add-zero : (n : ℕ) → n + 0 ≡ n
       add-zero n = omega arith
 

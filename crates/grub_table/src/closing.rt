@@ -4,8 +4,8 @@ ghost use Rattle.grub_table.specs.Histories.{Every};
 ghost use Rattle.grub_table.specs.Calls.{terms, IsPassOf, IsClosed, IsRefusal};
 
 use crate::pass::{CloseFault, CloseWhy, Pass, Shared};
-use crate::rule::All;
 use crate::row::{SPACING, reading_in};
+use crate::rule::All;
 use grub_book::Reading;
 use std::alloc::Global;
 

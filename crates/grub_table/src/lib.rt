@@ -14,6 +14,4 @@ mod steps;
 mod tests;
 mod view;
 
-pub use pass::{
-    Claim, CloseFault, CloseWhy, Finished, OpenFault, Pass, Shared, Sighting, Started,
-};
+pub use pass::{Claim, CloseFault, CloseWhy, Finished, OpenFault, Pass, Shared, Sighting, Started};

@@ -10,8 +10,8 @@ ghost use Rattle.grub_table.specs.Rule.{AreLimited};
 ghost use Rattle.grub_table.specs.Views.{first_view};
 
 use crate::pass::{OpenFault, Pass, Shared};
-use crate::rule::First;
 use crate::row::{SPACING, params_word_at, server_word_at};
+use crate::rule::First;
 use crate::view::{Note, Terms, View};
 use atomic_table::{Seat, Table};
 use grub_book::{Op, Setup};
@@ -118,11 +118,7 @@ impl Pass {
 impl Shared {
     /// A table of the setup's runqueues and tasks, each task away with a full budget, and `n` passes, numbered from 0.
     /// `NoPass` (23) is answered for `n = 0`, `TooManyPasses` (24) for more than 64, and `NoMemory` (25) where a growth was refused.
-    pub fn open(
-        alloc: Global,
-        setup: &Setup,
-        n: u32,
-    ) -> Result<(Shared, Vec<Pass>), OpenFault>
+    pub fn open(alloc: Global, setup: &Setup, n: u32) -> Result<(Shared, Vec<Pass>), OpenFault>
         ensures opened { IfOk result (λ r. IsOpened r.0 r.1.items setup.now n) }
         ensures none { IsErrOf result OpenFault.NoPass ↔ (n ≡ 0) }
         ensures many { IsErrOf result OpenFault.TooManyPasses ↔ (64 < n) }

@@ -18,7 +18,10 @@ ghost use Rattle.grub_table.specs.Layout.{stored_of};
 ghost use Rattle.grub_table.specs.Tellings.{LoadedTask, TookClaim, SettledServer, StoredServer, StoredParams, outcome};
 
 use crate::pass::{Pass, Shared};
-use crate::row::{free_word, params_in, params_word_at, queue_word_at, reading_in, server_in, server_word_at, task_word_at};
+use crate::row::{
+    free_word, params_in, params_word_at, queue_word_at, reading_in, server_in, server_word_at,
+    task_word_at,
+};
 use crate::rule::{
     Asked, ChangeQueue, GiveClaim, LoadParams, LoadQueue, LoadServer, LoadTask, Look, SettleServer,
     StoreParams, StoreServer, TakeClaim,
@@ -119,12 +122,10 @@ impl Shared {
         ensures { Tells self.now (Exchanged r old result) seat.old seat.new }
     {
         let loaded = pack_queue(old);
-        let found = self.table.shared.compare_exchange::<ChangeQueue>(
-            seat,
-            queue_word_at(r),
-            loaded,
-            pack_queue(new),
-        );
+        let found = self
+            .table
+            .shared
+            .compare_exchange::<ChangeQueue>(seat, queue_word_at(r), loaded, pack_queue(new));
         found == loaded
     }
 

@@ -1,0 +1,6 @@
+//! The worked examples of the table, and what no clause says: memory that is refused, and threads.
+
+mod examples;
+mod fixtures;
+mod growths;
+mod threads;

@@ -26,8 +26,7 @@ pub load_record-held-requires : goal.load_record-held-requires
 load_record-held-requires c =
     let was = c.pack_task-loaded.ensures ∙ ap (task_word c.in-Ok.shown.place c.in-Ok.shown.count) c.in-Ok.ensures.free.1 in
     let free = sym c.refusal.ensures ∙ c.in_default.is in
-    let s = says c.args.self.now c.args.pass c.args.t c.args.op c.in-Ok.shown c.in-Ok.ensures.free.1 c.look_at_task.new.seat c.in-Ok.ensures.told free c.pack_task-loaded.result c.take_claim-found.result was c.take_claim-found.new.seat c.take_claim-found.ensures c.if-found-loaded.false c.in-Ok.ensures.free.0.place c.requires.task c.requires.op in
-    (
+    let s = says c.args.self.now c.args.pass c.args.t c.args.op c.in-Ok.shown c.in-Ok.ensures.free.1 c.look_at_task.new.seat c.in-Ok.ensures.told free c.pack_task-loaded.result c.take_claim-found.result was c.take_claim-found.new.seat c.take_claim-found.ensures c.if-found-loaded.false c.in-Ok.ensures.free.0.place c.requires.task c.requires.op in (
       c.args.op,
       taken c.args.self.now c.args.pass c.args.t c.args.op c.in-Ok.shown c.in-Ok.ensures.free.1 c.look_at_task.new.seat c.in-Ok.ensures.told free c.pack_task-loaded.result c.take_claim-found.result was c.take_claim-found.new.seat c.take_claim-found.ensures c.if-found-loaded.false c.in-Ok.ensures.free.0.place c.requires.task c.requires.op,
       holds c.args.self.now c.args.pass c.args.t c.args.op c.in-Ok.shown c.in-Ok.ensures.free.1 c.look_at_task.new.seat c.in-Ok.ensures.told free c.pack_task-loaded.result c.take_claim-found.result was c.take_claim-found.new.seat c.take_claim-found.ensures c.if-found-loaded.false c.in-Ok.ensures.free.0.place c.requires.task c.requires.op,

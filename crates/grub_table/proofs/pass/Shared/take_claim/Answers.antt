@@ -11,9 +11,11 @@ compare_exchange_with-requires c =
     let s = c.args.self.now in
     let seat = c.args.seat.now in
     let at = c.task_word_at-at.ensures.value in
-    let is = c.requires.seat in
-    (is.home, word_within s seat c.args.t _ 0 c.requires.task (omega arith) (omega (arith, at)),
-    on_take_claim s seat is c.requires.free c.args.t _ c.requires.task at c.args.op _ _ c.args.shown.place c.args.shown.count (c.pack_task-loaded.ensures ∙ ap (task_word c.args.shown.place c.args.shown.count) c.requires.unclaimed) c.pack_task-claimed.ensures)
+    let is = c.requires.seat in (
+      is.home,
+      word_within s seat c.args.t _ 0 c.requires.task (omega arith) (omega (arith, at)),
+      on_take_claim s seat is c.requires.free c.args.t _ c.requires.task at c.args.op _ _ c.args.shown.place c.args.shown.count (c.pack_task-loaded.ensures ∙ ap (task_word c.args.shown.place c.args.shown.count) c.requires.unclaimed) c.pack_task-claimed.ensures,
+    )
 
 pub returns : goal.returns
 returns c =
