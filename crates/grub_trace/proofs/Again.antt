@@ -1,8 +1,8 @@
 -- Texts of trees are read.
-use Rattle.std.proofs.Common.{◌≡◌, ℕ, zero, suc, ◌+◌, ◌-◌, ◌^◌, ◌<◌, ◌≤◌, Bool, true, false, cond, eqb, ltb, List, [], ◌∷◌, ◌++◌, length, map, Option, Some, None, Result, Ok, Err, refl, ap, ◌∙◌, sym, arith, rules, subst, append_assoc}
-use Rattle.std.specs.Prelude.{codes, decimal, IsSome}
+use Rattle.std.proofs.Common.{◌≡◌, ℕ, ◌+◌, ◌≤◌, false, eqb, List, [], ◌∷◌, ◌++◌, length, map, Option, Some, None, Result, Ok, refl, ap, ◌∙◌, sym, arith, rules, subst, append_assoc}
+use Rattle.std.specs.Prelude.{IsSome}
 use Rattle.std.specs.List.{join_with_byte, flat_map, filter_map, cons_option, AllByRecursion}
-use Rattle.std.proofs.lemmas.List.{append-nil, length-append, length-map, map-append, map_push, length_push}
+use Rattle.std.proofs.lemmas.List.{append-nil, length-append, map-append, map_push}
 use Rattle.std.proofs.lemmas.List.Splits.{slice_split_at}
 use Rattle.std.proofs.lemmas.List.Elements.{All-from_recursion}
 use Rattle.std.proofs.lemmas.Bool.Decides.{nat_tests}
@@ -12,18 +12,17 @@ use Rattle.grub_trace.specs.declared.version.Version.{Version}
 use Rattle.grub_trace.specs.declared.version.Version.TheVariants.{One, Two}
 use Rattle.grub_trace.specs.declared.fault.Kind.{Kind}
 use Rattle.grub_trace.specs.declared.line.Line.{Line}
-use Rattle.grub_trace.specs.Tree.{Declaration, Happening, Tree, text, line, header, head_text, queue_words, declaration_words, happening_words, names_of}
+use Rattle.grub_trace.specs.Tree.{Declaration, Happening, Tree, text, line, header, queue_words, declaration_words, happening_words, names_of}
 use Rattle.grub_trace.specs.Faults.{last_of}
-use Rattle.grub_trace.specs.Plans.{PlanView}
 use Rattle.grub_trace.specs.Naming.{line_in, script_of, all_tasks, plan_of, plan_with}
-use Rattle.grub_trace.specs.Meaning.{parts_of, IsDeclaration, IsHappeningFrom, AreDeclared, GoOn, IsTree, AreTrees, AreKnown, Reads, declaration_line, happening_line}
-use Rattle.grub_trace.specs.Reading.{Read, FileRead, AllRead, Body, body_of, with_file, in_file, read_lines, read_file, opened, read_from, take_line, at_line, ◌>>=◌, times_of, script_from, scripts_from, option_or_err, unknown_in, plan_from, plan_of_read, declares, says}
+use Rattle.grub_trace.specs.Meaning.{parts_of, AreDeclared, GoOn, IsTree, AreTrees, AreKnown, Reads, declaration_line, happening_line}
+use Rattle.grub_trace.specs.Reading.{Read, FileRead, AllRead, Body, with_file, in_file, read_lines, read_file, opened, read_from, take_line, at_line, ◌>>=◌, times_of, script_from, scripts_from, option_or_err, unknown_in, plan_from, declares, says}
 use Rattle.grub_trace.proofs.LineLemmas.{lines_step, first_known, second_view}
 use Rattle.grub_trace.proofs.FormLemmas.{version_again}
 use Rattle.grub_trace.proofs.FileLaws.{small_queue}
 use Rattle.grub_trace.proofs.Runs.{last_push}
 use Rattle.grub_trace.proofs.Together.{in_turn}
-use Rattle.grub_trace.proofs.PlanLaws.{body_of_tree, scripts_are, queues_are}
+use Rattle.grub_trace.proofs.PlanLaws.{body_of_tree, queues_are}
 use Rattle.grub_trace.proofs.Printed.{IsOneLine, declaration_again, happening_again, queue_again, declaration_one_line, happening_one_line, queue_one_line}
 
 pub header_one_line : (v : Version) → IsOneLine (header v)

@@ -1,7 +1,7 @@
 -- Going over files and moments by their numbers.
-use Rattle.std.proofs.Common.{◌≡◌, ℕ, suc, ◌+◌, ◌≤◌, ◌<◌, List, [], ◌∷◌, ◌++◌, length, get_or, drop, map, Option, Some, None, Result, Ok, Err, refl, sym, ap, ◌∙◌, arith, add-one, drop-cons, eqb, false}
+use Rattle.std.proofs.Common.{◌≡◌, ℕ, ◌+◌, ◌≤◌, ◌<◌, List, [], ◌∷◌, ◌++◌, length, get_or, drop, map, Some, None, Result, Ok, Err, refl, sym, ap, ◌∙◌, arith, add-one, drop-cons, eqb, false}
 use Rattle.std.specs.Global.{Vec}
-use Rattle.std.proofs.lemmas.List.{map_push, drop_all}
+use Rattle.std.proofs.lemmas.List.{drop_all}
 use Rattle.grub_trace.specs.declared.fault.Kind.TheVariants.{UnknownTask}
 use Rattle.grub_trace.specs.declared.line.Act.{Act}
 use Rattle.grub_trace.specs.declared.body.RawHappening.{RawHappening}
@@ -13,14 +13,13 @@ use Rattle.grub_trace.specs.declared.tasks.Tasks.{Tasks}
 use Rattle.grub_trace.specs.declared.fault.Kind.{Kind}
 use Rattle.grub_trace.specs.declared.fault.Halt.{Halt}
 use Rattle.grub_trace.specs.declared.fault.Halt.TheVariants as halt
-use Rattle.grub_trace.specs.declared.fault.TraceFault.{TraceFault}
 use Rattle.grub_trace.specs.declared.line.Line.{Line}
 use Rattle.grub_trace.specs.Halts.{fault_of}
-use Rattle.grub_trace.specs.Tree.{Happening, names_of, params_of}
+use Rattle.grub_trace.specs.Tree.{names_of, params_of}
 use Rattle.std.proofs.lemmas.Bool.{le-ltb}
 use Rattle.std.proofs.lemmas.Bool.Decides.{nat_tests}
-use Rattle.grub_trace.specs.Reading.{◌>>=◌, Halts, Faults, AllRead, FileRead, Body, with_file, in_file, read_file, read_from, script_from, option_or_err, scripts_from, unknown_in, ScriptHalts, happening_view, deed_view, body_view, contents, plan_from, plan_of_read, all_view, declarations, task_view}
-use Rattle.grub_trace.specs.Naming.{line_in, act_in, plan_with}
+use Rattle.grub_trace.specs.Reading.{Halts, Faults, AllRead, FileRead, Body, with_file, read_file, read_from, script_from, scripts_from, ScriptHalts, happening_view, deed_view, body_view, contents, plan_from, all_view, declarations, task_view}
+use Rattle.grub_trace.specs.Naming.{act_in, plan_with}
 
 pub drop_item : {X : Type 0} (xs : List X) (i : ℕ) (x : X) → i < length xs → x ≡ get_or xs i x → drop i xs ≡ x ∷ drop (i + 1) xs
 drop_item xs i x lt is = rw add-one (drop-cons xs i x lt) ∙ ap (λ y. y ∷ drop (i + 1) xs) (sym is)

@@ -1,22 +1,21 @@
 -- A fault by the definitions is the one that reading gives, so there is one at most.
-use Rattle.std.proofs.Common.{◌≡◌, ℕ, zero, suc, ◌+◌, ◌-◌, ◌<◌, ◌≤◌, Bool, true, false, not, cond, eqb, ◌⊎◌, inl, inr, List, [], ◌∷◌, ◌++◌, length, map, Option, Some, None, Result, Ok, Err, refl, ap, ◌∙◌, sym, arith, rules, subst, append_assoc}
-use Rattle.std.specs.Prelude.{codes, IsSome, is_none}
+use Rattle.std.proofs.Common.{◌≡◌, ℕ, ◌+◌, ◌-◌, ◌<◌, ◌≤◌, Bool, true, false, cond, eqb, inl, inr, List, [], ◌∷◌, ◌++◌, length, map, Option, Some, None, Result, Ok, Err, refl, ap, ◌∙◌, sym, arith, subst, append_assoc}
+use Rattle.std.specs.Prelude.{IsSome, is_none}
 use Rattle.std.proofs.lemmas.Bool.{le-ltb, lt-ltb}
 use Rattle.std.proofs.lemmas.Bool.Decides.{nat_tests}
 use Rattle.grub_trace.specs.declared.line.Line.{Line}
 use Rattle.std.specs.List.{join_with_byte, flat_map, AllByRecursion}
-use Rattle.std.specs.Str.{bytes_eq}
-use Rattle.std.proofs.lemmas.List.{append-nil, map-append, length-append}
+use Rattle.std.proofs.lemmas.List.{append-nil, map-append}
 use Rattle.std.proofs.lemmas.List.Splits.{join_with_byte-slice_split}
 use Rattle.grub_trace.specs.declared.version.Version.{Version}
 use Rattle.grub_trace.specs.declared.fault.Kind.{Kind}
 use Rattle.grub_trace.specs.declared.fault.Halt.TheVariants as halt
 use Rattle.grub_trace.specs.declared.fault.Kind.TheVariants.{CutShort, BadHeader, MissingQueue, BadLine, UnknownTask}
 use Rattle.grub_trace.specs.Tree.{Declaration, Happening, Tree, text, line, header, head_text, queue_words, declaration_words, happening_words, names_of}
-use Rattle.grub_trace.specs.Faults.{Form, form_of, words_of, form_fault, line_fault, fault_of_form, header_fault, version_of, queue_fault}
-use Rattle.grub_trace.specs.Meaning.{parts_of, front_fault, LineFault, HeaderFault, QueueFault, FileFault, IsTree, AreTrees, AreKnown, UnknownIn, UnknownFault, FirstFault, IsFault, too_many, no_file, first, unknown}
+use Rattle.grub_trace.specs.Faults.{Form, form_of, words_of, line_fault, fault_of_form, header_fault, version_of, queue_fault}
+use Rattle.grub_trace.specs.Meaning.{parts_of, front_fault, LineFault, FileFault, IsTree, AreTrees, AreKnown, UnknownIn, UnknownFault, IsFault, too_many, no_file, first, unknown}
 use Rattle.grub_trace.specs.Naming.{all_tasks, line_in, script_of}
-use Rattle.grub_trace.specs.Reading.{Read, FileRead, AllRead, with_file, in_file, read_file, read_first, read_as, opened, file_from, read_second, read_lines, read_from, read_queue, queue_of, take_line, take_option, unless, adds, at_line, ◌>>=◌, times_of, script_from, scripts_from, option_or_err, unknown_in, plan_from, plan_of_read}
+use Rattle.grub_trace.specs.Reading.{Read, FileRead, AllRead, with_file, in_file, read_file, read_first, read_as, opened, file_from, read_second, read_lines, read_from, queue_of, take_option, unless, adds, at_line, ◌>>=◌, times_of, script_from, scripts_from, option_or_err, unknown_in, plan_from}
 use Rattle.grub_trace.proofs.PlanLaws.{body_of_tree}
 use Rattle.grub_trace.proofs.WordLemmas.{has_part}
 use Rattle.grub_trace.proofs.LineLemmas.{first_known, second_halts}

@@ -1,10 +1,7 @@
 -- The two laws of reading a file: what is read is the text of a tree, and a fault is the first one.
-use Rattle.std.proofs.Common.{◌≡◌, ℕ, zero, suc, ◌+◌, ◌-◌, ◌^◌, ◌<◌, ◌≤◌, Bool, true, false, not, ◌&&◌, cond, eqb, ◌⊎◌, inl, inr, List, [], ◌∷◌, ◌++◌, length, map, Option, Some, None, Result, Ok, Err, refl, ap, ◌∙◌, sym, arith, rules, subst, append_assoc}
-use Rattle.std.specs.Prelude.{codes, decimal, nat_le}
+use Rattle.std.proofs.Common.{◌≡◌, ℕ, ◌+◌, ◌-◌, ◌^◌, ◌<◌, Bool, true, false, cond, eqb, ◌⊎◌, inl, inr, List, [], ◌∷◌, ◌++◌, length, map, Option, Some, None, Result, Ok, Err, refl, ap, ◌∙◌, sym, arith, subst, append_assoc}
+use Rattle.std.specs.Prelude.{codes, decimal}
 use Rattle.std.specs.List.{join_with_byte, flat_map, list_all}
-use Rattle.std.specs.Str.{bytes_eq}
-use Rattle.std.specs.Cmp.Lexicographic.{bytes_decides}
-use Rattle.std.proofs.lemmas.Bool.Decides.{nat_tests}
 use Rattle.std.proofs.lemmas.List.{append-nil, length-append, length-map, map-append}
 use Rattle.grub_trace.specs.Reading.{times_of}
 use Rattle.grub_trace.specs.Faults.{line_fault}
@@ -14,16 +11,16 @@ use Rattle.grub_bw.specs.Bandwidth.{Capacity, IsCapacity}
 use Rattle.grub_trace.proofs.LimitTests.{capacity_is}
 use Rattle.grub_trace.specs.declared.version.Version.{Version}
 use Rattle.grub_trace.specs.declared.fault.Kind.{Kind}
-use Rattle.grub_trace.specs.declared.fault.Kind.TheVariants.{CutShort, BadHeader, MissingQueue, BadNumber, OutOfRange, BadLine}
-use Rattle.grub_trace.specs.Tree.{Declaration, Happening, Tree, text, line, header, head_text, queue_words, declaration_words, happening_words, names_of}
-use Rattle.grub_trace.specs.Faults.{Form, queue, task, does_at, runs_at, retunes_at, reads_at, form_of, words_of, queue_fault, queue_form_fault, begins_with_queue, header_fault, version_of, is_number, value, capacity_fits, capacity_value}
-use Rattle.grub_trace.specs.Meaning.{parts_of, declaration_line, happening_line, front_fault, LineFault, HeaderFault, QueueFault, FileFault, IsTree}
+use Rattle.grub_trace.specs.declared.fault.Kind.TheVariants.{CutShort, BadHeader, MissingQueue, BadNumber, OutOfRange}
+use Rattle.grub_trace.specs.Tree.{Declaration, Tree, text, line, header, head_text, queue_words, declaration_words, happening_words, names_of}
+use Rattle.grub_trace.specs.Faults.{Form, queue, task, does_at, runs_at, retunes_at, reads_at, form_of, words_of, queue_fault, queue_form_fault, begins_with_queue, version_of, is_number, value, capacity_fits, capacity_value}
+use Rattle.grub_trace.specs.Meaning.{parts_of, declaration_line, happening_line, front_fault, LineFault, QueueFault, FileFault, IsTree}
 use Rattle.grub_trace.specs.Reading.{Read, FileRead, read_file, read_first, read_as, read_second, file_from, opened, read_lines, read_queue, queue_of, unless, at_line, ◌>>=◌}
-use Rattle.grub_trace.proofs.FormLemmas.{form_is, form_words, number_is, version_is}
+use Rattle.grub_trace.proofs.FormLemmas.{form_is, number_is, version_is}
 use Rattle.grub_trace.proofs.LineLemmas.{bind_ok, at_line_ok, none_if}
 use Rattle.grub_trace.proofs.LineMeaning.{two}
 use Rattle.grub_trace.proofs.Runs.{ended, printed, broke, Printed, Follows, Tail}
-use Rattle.grub_trace.proofs.FileMeaning.{front, fronts, Front, ended_lines, lines_append, declared_text, said_text}
+use Rattle.grub_trace.proofs.FileMeaning.{front, fronts, ended_lines, lines_append, declared_text, said_text}
 
 -- ---- the runqueue's line
 

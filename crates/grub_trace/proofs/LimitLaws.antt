@@ -1,14 +1,13 @@
 -- The plan of trees keeps the limits.
-use Rattle.std.proofs.Common.{◌≡◌, ℕ, zero, suc, ◌+◌, ◌^◌, ◌<◌, ◌≤◌, Bool, true, false, cond, List, [], ◌∷◌, ◌++◌, length, map, Option, Some, None, option_map, refl, ap, ◌∙◌, sym, arith, subst}
-use Rattle.std.specs.Prelude.{IsSome, slice_get, Ok}
+use Rattle.std.proofs.Common.{◌≡◌, ℕ, ◌+◌, ◌^◌, ◌<◌, ◌≤◌, Bool, true, false, cond, List, [], ◌∷◌, ◌++◌, length, map, Option, Some, None, option_map, refl, ap, ◌∙◌, sym, arith, subst}
+use Rattle.std.specs.Prelude.{IsSome, Ok}
 use Rattle.grub_trace.specs.Reading.{plan_from}
 use Rattle.grub_trace.proofs.Together.{in_turn}
 use Rattle.grub_trace.proofs.PlanLaws.{plan_read}
 use Rattle.std.specs.Str.{bytes_eq}
-use Rattle.std.specs.List.{AllByRecursion, filter_map, cons_option, flat_map}
+use Rattle.std.specs.List.{AllByRecursion, filter_map, cons_option}
 use Rattle.std.proofs.lemmas.List.{length-append, length-map}
-use Rattle.grub_bw.specs.Bandwidth.{Reservation, Capacity, IsReservation, IsCapacity}
-use Rattle.grub_book.specs.Machine.{IsMachine}
+use Rattle.grub_bw.specs.Bandwidth.{IsReservation, IsCapacity}
 use Rattle.std.proofs.lemmas.Bool.Decides.{nat_tests}
 use Rattle.grub_trace.specs.declared.version.Version.{Version}
 use Rattle.grub_trace.specs.declared.form.Verb.{Verb}
@@ -20,7 +19,7 @@ use Rattle.grub_trace.specs.Tree.{Declaration, Deed, does, runs, retunes, reads,
 use Rattle.grub_trace.specs.Faults.{task_of}
 use Rattle.grub_trace.specs.Plans.{PlanView}
 use Rattle.grub_trace.specs.Naming.{line_in, act_in, act_of, script_of, all_tasks, plan_of}
-use Rattle.grub_trace.specs.Meaning.{IsDeclaration, AreDeclared, GoOn, IsDeed, IsTree, AreTrees, AreKnown, Reads}
+use Rattle.grub_trace.specs.Meaning.{AreDeclared, GoOn, IsDeed, AreTrees, AreKnown, Reads}
 use Rattle.grub_trace.specs.Limits.{ActFits, ScriptFits, PlanFits}
 
 place_below : (names : List (List ℕ)) (n : List ℕ) (t : ℕ) → task_of names n ≡ Some t → t < length names

@@ -1,5 +1,5 @@
 -- Reading lines one after the other.
-use Rattle.std.proofs.Common.{◌≡◌, ℕ, Bool, true, false, ◌+◌, ◌≤◌, ◌<◌, List, [], ◌∷◌, length, Result, Ok, Err, refl, sym, ap, ◌∙◌, arith, rules, cond, not, ◌&&◌, eqb, subst}
+use Rattle.std.proofs.Common.{◌≡◌, ℕ, Bool, true, false, ◌+◌, ◌≤◌, ◌<◌, List, [], ◌∷◌, length, Result, Ok, Err, refl, sym, ap, ◌∙◌, arith, cond, not, ◌&&◌, eqb, subst}
 use Rattle.grub_bw.specs.Bandwidth.{Capacity}
 use Rattle.grub_trace.specs.declared.version.Version.{Version}
 use Rattle.grub_trace.specs.declared.fault.Kind.{Kind}
@@ -9,14 +9,13 @@ use Rattle.grub_trace.specs.declared.fault.Stop.TheVariants as stop
 use Rattle.grub_trace.specs.Halts.{halt_of}
 use Rattle.grub_trace.specs.Reading.{Read, FileRead, Gives, read_queue, read_second, read_first, read_as, read_file, file_from, opened, unless, adds, take_option, times_of, read_lines, take_line, at_line, ◌>>=◌, Stops, Halts, two_fault, IsRun, IsRetune, take_form}
 use Rattle.grub_trace.specs.Meaning.{parts_of}
-use Rattle.std.proofs.Common.{◌-◌, Option, Some, None, codes}
+use Rattle.std.proofs.Common.{◌-◌, Option, Some, None}
 use Rattle.std.proofs.lemmas.List.{length_push}
 use Rattle.std.proofs.lemmas.List.Splits.{length-slice_split}
 use Rattle.std.proofs.lemmas.List.Sums.{count_by-le-length}
-use Rattle.std.specs.Str.{bytes_eq}
 use Rattle.grub_trace.specs.declared.fault.Halt.{Halt}
 use Rattle.grub_trace.specs.declared.fault.Halt.TheVariants as halt
-use Rattle.grub_trace.specs.Tree.{Declaration, Happening, Deed, does, runs, retunes, reads, names_of, is_moment, is_span, may_retune}
+use Rattle.grub_trace.specs.Tree.{Declaration, does, runs, retunes, reads, names_of, is_moment, is_span, may_retune}
 use Rattle.grub_trace.specs.Faults.{Form, queue, task, does_at, runs_at, retunes_at, reads_at, words_of, form_of, form_fault, is_allowed, is_number, is_timely, version_of, reservation_fits, value, reservation_value}
 use Rattle.grub_trace.proofs.WordLemmas.{has_part}
 

@@ -1,5 +1,5 @@
 -- What a line that was taken means.
-use Rattle.std.proofs.Common.{◌≡◌, ℕ, zero, suc, ◌+◌, ◌-◌, ◌*◌, ◌/◌, ◌^◌, ◌<◌, ◌≤◌, Bool, true, false, not, ◌&&◌, cond, eqb, ltb, ◌⊎◌, inl, inr, List, [], ◌∷◌, ◌++◌, length, map, Option, Some, None, Ok, refl, ap, ◌∙◌, sym, arith, rules, subst}
+use Rattle.std.proofs.Common.{◌≡◌, ℕ, ◌^◌, ◌<◌, ◌≤◌, true, ◌⊎◌, inl, inr, List, [], ◌∷◌, length, Option, Some, None, Ok, refl, ap, ◌∙◌, sym, arith}
 use Rattle.std.specs.Prelude.{codes, decimal, nat_le, nat_lt, is_none}
 use Rattle.std.specs.List.{list_all, join_with_byte}
 use Rattle.std.proofs.lemmas.List.Splits.{join_with_byte-slice_split}
@@ -9,10 +9,9 @@ use Rattle.std.proofs.lemmas.Bool.{eqb-true, ltb-true}
 use Rattle.grub_bw.specs.Bandwidth.{Reservation, IsReservation}
 use Rattle.grub_trace.proofs.LimitTests.{reservation_is}
 use Rattle.grub_trace.specs.declared.version.Version.{Version}
-use Rattle.grub_trace.specs.declared.fault.Kind.{Kind}
 use Rattle.grub_trace.specs.declared.fault.Kind.TheVariants.{BadLine, BadNumber, OutOfRange, DuplicateTask, MomentGoesBack}
-use Rattle.grub_trace.specs.Tree.{Declaration, Deed, does, runs, retunes, reads, Happening, declaration_words, happening_words, is_name, is_moment, is_span, names_of, verb_word}
-use Rattle.grub_trace.specs.Faults.{Form, queue, task, does_at, runs_at, retunes_at, reads_at, words_of, form_of, form_fault, is_named, is_number, value, task_of, last_of, is_allowed, is_in_range, is_fresh, is_timely, numbers_of, reservation_fits, reservation_value}
+use Rattle.grub_trace.specs.Tree.{Declaration, does, runs, retunes, reads, Happening, is_moment, is_span, names_of, verb_word}
+use Rattle.grub_trace.specs.Faults.{Form, queue, task, does_at, runs_at, retunes_at, reads_at, words_of, form_fault, is_named, is_number, value, task_of, last_of, is_allowed, is_in_range, is_fresh, is_timely, numbers_of, reservation_fits, reservation_value}
 use Rattle.grub_trace.specs.Reading.{Read, take_line, declares, says, adds, times_of}
 use Rattle.grub_trace.specs.Meaning.{IsDeclaration, IsHappeningFrom, declaration_line, happening_line}
 use Rattle.grub_trace.proofs.FormLemmas.{form_is, form_words, number_is, both}

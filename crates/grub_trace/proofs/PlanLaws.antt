@@ -1,9 +1,9 @@
 -- The laws of reading all files.
-use Rattle.std.proofs.Common.{◌≡◌, ℕ, zero, suc, ◌+◌, ◌-◌, ◌<◌, ◌≤◌, Bool, true, false, cond, eqb, ltb, ◌⊎◌, inl, inr, List, [], ◌∷◌, ◌++◌, length, map, Option, Some, None, Result, Ok, Err, refl, ap, ◌∙◌, sym, arith, rules, subst, append_assoc}
+use Rattle.std.proofs.Common.{◌≡◌, ℕ, suc, ◌+◌, ◌<◌, ◌≤◌, Bool, true, false, cond, eqb, ltb, ◌⊎◌, inl, inr, List, [], ◌∷◌, ◌++◌, length, map, Option, Some, None, Result, Ok, Err, refl, ap, ◌∙◌, sym, arith, subst, append_assoc}
 use Rattle.std.specs.Prelude.{IsSome}
-use Rattle.std.specs.List.{flat_map, filter_map, AllByRecursion, cons_option}
+use Rattle.std.specs.List.{filter_map, AllByRecursion, cons_option}
 use Rattle.std.proofs.lemmas.Bool.{eqb-true, eqb-false, ltb-true, ltb-false}
-use Rattle.std.proofs.lemmas.List.{append-nil, length-append, length-map, map-append}
+use Rattle.std.proofs.lemmas.List.{append-nil, length-map, map-append}
 use Rattle.grub_bw.specs.Bandwidth.{Capacity}
 use Rattle.grub_trace.specs.declared.fault.Kind.{Kind}
 use Rattle.grub_trace.specs.declared.fault.Kind.TheVariants.{UnknownTask, OutOfRange, MissingQueue}
@@ -11,7 +11,7 @@ use Rattle.grub_trace.specs.declared.line.Line.{Line}
 use Rattle.grub_trace.specs.Tree.{Declaration, Happening, Tree, text, names_of}
 use Rattle.grub_trace.specs.Plans.{PlanView}
 use Rattle.grub_trace.specs.Naming.{line_in, script_of, all_tasks, plan_of, plan_with}
-use Rattle.grub_trace.specs.Meaning.{IsTree, AreTrees, AreKnown, FileFault, UnknownIn, FirstFault, UnknownFault, IsFault, too_many, no_file, first, unknown, Reads}
+use Rattle.grub_trace.specs.Meaning.{AreTrees, AreKnown, FileFault, UnknownIn, FirstFault, UnknownFault, IsFault, too_many, no_file, first, unknown, Reads}
 use Rattle.grub_trace.specs.Reading.{AllRead, FileRead, Body, body_of, with_file, in_file, read_file, read_from, ◌>>=◌, script_from, option_or_err, scripts_from, unknown_in, plan_from, plan_of_read}
 use Rattle.grub_trace.proofs.LineLemmas.{bind_ok}
 use Rattle.grub_trace.proofs.Together.{together}

@@ -1,25 +1,23 @@
 -- A printed line is read again.
-use Rattle.std.proofs.Common.{◌≡◌, ℕ, zero, suc, ◌+◌, ◌-◌, ◌*◌, ◌^◌, ◌<◌, ◌≤◌, Bool, true, false, not, ◌&&◌, ◌||◌, cond, eqb, ltb, ◌⊎◌, inl, inr, List, [], ◌∷◌, ◌++◌, length, map, get_or, Option, Some, None, Ok, option_map, refl, ap, ◌∙◌, sym, arith, rules, subst, append_assoc, All}
-use Rattle.std.specs.Prelude.{codes, decimal, nat_le, nat_lt, is_none}
-use Rattle.std.specs.Str.{bytes_eq}
+use Rattle.std.proofs.Common.{◌≡◌, ℕ, zero, suc, ◌^◌, ◌<◌, ◌≤◌, Bool, true, false, not, ◌&&◌, ◌||◌, cond, eqb, List, [], ◌∷◌, ◌++◌, length, get_or, Option, Some, None, Ok, option_map, refl, ap, ◌∙◌, arith, rules}
+use Rattle.std.specs.Prelude.{codes, decimal, nat_le}
 use Rattle.std.specs.Char.{is_ascii_digit}
-use Rattle.std.specs.List.{list_all, join_with_byte, slice_split, AllByRecursion}
-use Rattle.std.specs.Cmp.Lexicographic.{bytes_decides}
+use Rattle.std.specs.List.{list_all, join_with_byte, AllByRecursion}
 use Rattle.std.proofs.lemmas.List.Splits.{slice_split_at, slice_split_none}
 use Rattle.std.proofs.lemmas.List.Elements.{All-from_recursion}
 use Rattle.std.proofs.lemmas.List.{length-map}
 use Rattle.std.proofs.lemmas.Bool.Decides.{nat_tests}
 use Rattle.std.proofs.lemmas.Bool.{lt-ltb, eqb-true}
 use Rattle.std.proofs.lemmas.Fmt.{digits_decimal, digits_value-decimal, decimal_nonempty, first_decimal, decimal_digit}
-use Rattle.grub_bw.specs.Bandwidth.{Reservation, Capacity, IsReservation, IsCapacity}
+use Rattle.grub_bw.specs.Bandwidth.{Capacity, IsCapacity}
 use Rattle.grub_trace.proofs.LimitTests.{reservation_test, capacity_test}
 use Rattle.grub_trace.specs.declared.version.Version.{Version}
 use Rattle.grub_trace.specs.declared.fault.Kind.{Kind}
 use Rattle.grub_trace.specs.declared.form.Verb.{Verb}
 use Rattle.grub_trace.specs.declared.form.Verb.TheVariants.{Join, Wake, Block, Leave, Exit}
-use Rattle.grub_trace.specs.Tree.{Declaration, Deed, does, runs, retunes, reads, Happening, declaration_words, happening_words, queue_words, verb_word, is_name, is_name_byte, is_moment, is_span, names_of}
-use Rattle.grub_trace.specs.Faults.{Form, queue, task, does_at, runs_at, retunes_at, reads_at, words_of, form_of, verb_of, form_fault, is_number, value, last_of, task_of, queue_fault, reservation_value, is_allowed, numbers_of, is_in_range, is_fresh, is_timely}
-use Rattle.grub_trace.specs.Reading.{Read, take_line, take_option, take_form, unless, adds, declares, says, times_of, read_queue, queue_of}
+use Rattle.grub_trace.specs.Tree.{Declaration, Deed, does, runs, retunes, reads, Happening, queue_words, verb_word, is_name, is_name_byte, is_moment, names_of}
+use Rattle.grub_trace.specs.Faults.{Form, queue, task, does_at, runs_at, retunes_at, reads_at, words_of, form_of, verb_of, form_fault, is_number, value, last_of, queue_fault, reservation_value, is_allowed, numbers_of, is_in_range, is_fresh, is_timely}
+use Rattle.grub_trace.specs.Reading.{Read, take_line, take_option, unless, adds, declares, says, times_of, read_queue, queue_of}
 use Rattle.grub_trace.specs.Meaning.{IsDeclaration, IsHappeningFrom, IsDeed, declaration_line, happening_line}
 use Rattle.grub_trace.proofs.NumberLemmas.{numerals}
 use Rattle.grub_trace.proofs.LineMeaning.{small_period, small_moment, small_span}

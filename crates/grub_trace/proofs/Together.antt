@@ -1,13 +1,13 @@
 -- Trees one after the other, and all at once.
-use Rattle.std.proofs.Common.{◌≡◌, ℕ, zero, suc, ◌+◌, ◌<◌, ◌≤◌, Bool, true, false, cond, List, [], ◌∷◌, ◌++◌, length, map, Option, Some, None, option_map, refl, ap, ◌∙◌, sym, arith, subst, append_assoc}
+use Rattle.std.proofs.Common.{◌≡◌, ℕ, ◌+◌, ◌≤◌, Bool, true, false, cond, List, [], ◌∷◌, ◌++◌, length, Option, Some, None, option_map, refl, ◌∙◌, sym, arith, subst, append_assoc}
 use Rattle.std.specs.Str.{bytes_eq}
-use Rattle.std.specs.List.{AllByRecursion, flat_map}
+use Rattle.std.specs.List.{AllByRecursion}
 use Rattle.std.specs.Cmp.Lexicographic.{nat_list_eq_equiv}
-use Rattle.std.proofs.lemmas.List.{append-nil, length-append, length-map, map-append}
-use Rattle.grub_trace.specs.Tree.{Declaration, Happening, Tree, names_of}
+use Rattle.std.proofs.lemmas.List.{append-nil, length-append, length-map}
+use Rattle.grub_trace.specs.Tree.{Declaration, Tree, names_of}
 use Rattle.grub_trace.specs.Faults.{task_of}
 use Rattle.grub_trace.specs.Naming.{all_tasks}
-use Rattle.grub_trace.specs.Meaning.{IsDeclaration, AreDeclared, GoOn, IsTree, AreTrees, AreDistinct, IsGood, IsAlone, AreTogether}
+use Rattle.grub_trace.specs.Meaning.{AreDeclared, AreTrees, AreDistinct, IsGood, IsAlone, AreTogether}
 
 abbrev Differ : List ℕ → List ℕ → Type 0
 Differ m n = bytes_eq m n ≡ false

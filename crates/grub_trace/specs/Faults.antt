@@ -1,6 +1,6 @@
 -- What is wrong with a line, where the lines before it are as they should be.
-use Rattle.std.specs.Prelude.{◌≡◌, ℕ, ◌≤◌, ◌<◌, Bool, true, false, not, ◌&&◌, ◌||◌, nat_le, nat_lt, ◌==◌, List, [], ◌∷◌, ◌++◌, length, map, codes, Option, Some, None, if◌then◌else◌, option_map, is_none, slice_index, ◌+◌, ◌-◌, ◌^◌}
-use Rattle.std.specs.List.{list_all, list_any, slice_split}
+use Rattle.std.specs.Prelude.{ℕ, Bool, true, false, not, ◌&&◌, ◌||◌, nat_le, nat_lt, ◌==◌, List, [], ◌∷◌, length, codes, Option, Some, None, if◌then◌else◌, option_map, is_none, slice_index, ◌+◌, ◌-◌, ◌^◌}
+use Rattle.std.specs.List.{list_all, slice_split}
 use Rattle.std.specs.Str.{bytes_eq}
 use Rattle.std.specs.Char.{is_ascii_digit}
 use Rattle.std.specs.Str.Parse.{digits_value}
@@ -10,7 +10,7 @@ use Rattle.grub_trace.specs.declared.form.Verb.TheVariants.{Join, Wake, Block, L
 use Rattle.grub_trace.specs.declared.version.Version.{Version}
 use Rattle.grub_trace.specs.declared.version.Version.TheVariants.{One, Two}
 use Rattle.grub_trace.specs.declared.fault.Kind.{Kind}
-use Rattle.grub_trace.specs.declared.fault.Kind.TheVariants.{BadHeader, BadLine, BadNumber, OutOfRange, DuplicateTask, UnknownTask, MomentGoesBack, MissingQueue, CutShort}
+use Rattle.grub_trace.specs.declared.fault.Kind.TheVariants.{BadHeader, BadLine, BadNumber, OutOfRange, DuplicateTask, MomentGoesBack, MissingQueue}
 use Rattle.grub_trace.specs.Tree.{is_name, is_moment, is_span, header, may_retune}
 
 -- the words of a line: its parts between single spaces

@@ -1,22 +1,16 @@
-use Rattle.std.specs.Prelude.{◌≡◌, ℕ, min, ◌^◌, List, [], ◌∷◌, Option, Some, None, true, Result, Ok, Err, if◌then◌else◌}
-use Rattle.std.specs.Prelude.{◌++◌, map, string_bytes, false, ◌≤◌, nat_lt, option_map, Bool, not, ◌&&◌, ◌-◌, length, ◌==◌, ◌+◌, codes}
+use Rattle.std.specs.Prelude.{◌≡◌, ℕ, min, List, [], ◌∷◌, Option, Some, None, true, Result, Ok, Err, if◌then◌else◌}
+use Rattle.std.specs.Prelude.{◌++◌, map, string_bytes, false, ◌≤◌, nat_lt, Bool, not, ◌&&◌, ◌-◌, length, ◌==◌, ◌+◌}
 use Rattle.std.specs.HashMap.{get_by_text}
-use Rattle.grub_bw.specs.Bandwidth.{Reservation, Capacity}
-use Rattle.std.specs.Str.{bytes_eq}
+use Rattle.grub_bw.specs.Bandwidth.{Capacity}
 use Rattle.grub_trace.specs.declared.version.Version.{Version}
 use Rattle.grub_trace.specs.declared.fault.Kind.{Kind}
 use Rattle.grub_trace.specs.declared.fault.Kind.TheVariants.{BadLine, MomentGoesBack, BadNumber, OutOfRange, CutShort, MissingQueue, BadHeader, UnknownTask}
 use Rattle.grub_trace.specs.declared.fault.TraceFault.{TraceFault}
 use Rattle.grub_trace.specs.declared.fault.TraceFault.TheVariants as fault
-use Rattle.grub_trace.specs.declared.form.Verb.{Verb}
-use Rattle.grub_trace.specs.declared.form.Verb.TheVariants.{Join, Wake, Block, Leave, Exit}
-use Rattle.grub_trace.specs.declared.line.Act.{Act}
-use Rattle.grub_trace.specs.declared.line.Act.TheVariants as act
 use Rattle.grub_trace.specs.declared.line.Line.{Line}
 use Rattle.std.specs.Global.{Vec}
 use Rattle.grub_trace.specs.declared.fault.Halt.{Halt}
 use Rattle.grub_trace.specs.declared.fault.Halt.TheVariants as halt
-use Rattle.std.specs.List.{slice_split}
 use Rattle.grub_trace.specs.declared.fault.Stop.{Stop}
 use Rattle.grub_trace.specs.declared.fault.Stop.TheVariants as stop
 use Rattle.grub_trace.specs.declared.tasks.Task.{Task}
@@ -27,7 +21,7 @@ use Rattle.grub_trace.specs.declared.body.RawHappening.{RawHappening}
 use Rattle.grub_trace.specs.declared.raw.RawFile.{RawFile}
 use Rattle.grub_trace.specs.Meaning.{parts_of}
 use Rattle.grub_trace.specs.Plans.{PlanView}
-use Rattle.grub_trace.specs.Naming.{act_of, act_in, line_in, plan_with}
+use Rattle.grub_trace.specs.Naming.{line_in, plan_with}
 use Rattle.grub_trace.specs.Tree.{is_moment, is_span, Declaration, Deed, does, runs, retunes, reads, Happening, names_of}
 use Rattle.grub_trace.specs.Faults.{queue_fault, form_fault, task_of, last_of, version_of, reservation_fits}
 use Rattle.grub_trace.specs.declared.form.Form as coded

@@ -1,4 +1,4 @@
-use Rattle.std.proofs.Common.{take, refl}
+use Rattle.std.proofs.Common.{refl}
 use Rattle.std.proofs.lemmas.List.{take_all}
 use Rattle.grub_trace.specs.Texts.{report_text}
 use Rattle.grub_trace.proofs.text.text_of_report.Goals as goal

@@ -1,11 +1,7 @@
-use Rattle.std.proofs.Common.{sym, ◌∙◌, ap, arith, length, List}
+use Rattle.std.proofs.Common.{arith}
 use Rattle.std.specs.Prelude.{string_bytes}
 use Rattle.std.proofs.lemmas.Map.Text.{hash_map_updates_text}
 use Rattle.grub_trace.proofs.TaskLemmas.{index_push}
-use Rattle.grub_trace.specs.Faults.{task_of}
-use Rattle.grub_trace.specs.Tree.{names_of}
-use Rattle.grub_trace.specs.Reading.{declarations}
-use Rattle.grub_trace.specs.Reading.{task_view}
 use Rattle.grub_trace.proofs.tasks.Tasks.push.Goals as goal
 
 pub returns-clause-indexed : goal.returns-clause-indexed
