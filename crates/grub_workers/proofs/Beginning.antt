@@ -1,0 +1,37 @@
+-- A worker that has asked nothing yet.
+use Rattle.std.proofs.Common.{◌≡◌, ℕ, ◌<◌, List, [], ◌∷◌, Option, Some, None, length, refl, sym, ap, ◌∙◌, subst}
+use Rattle.std.specs.Prelude.{option_map}
+use Rattle.std.specs.Ordering.{nat_cmp}
+use Rattle.std.proofs.lemmas.List.Elements.{All-nil}
+use Rattle.std.specs.FinMap as map
+use Rattle.grub_book.specs.History.{calls_of}
+use Rattle.grub_table.specs.Marks.{marks_of}
+use Rattle.grub_table.specs.declared.pass.Pass.{Pass}
+use Rattle.grub_table.specs.declared.pass.Shared.{Shared}
+use Rattle.grub_table.specs.Calls.{marks, seen}
+use Rattle.grub_trace.specs.declared.entry.Entry.{Entry}
+use Rattle.grub_trace.specs.Texts.{IsAskOf}
+use Rattle.grub_trace.specs.Timers.{armed}
+use Rattle.grub_workers.specs.declared.worker.Worker.{Worker}
+use Rattle.grub_workers.specs.Evidence.{IsBacked}
+use Rattle.grub_workers.proofs.Alarms.{alarm}
+use Rattle.grub_workers.specs.Working.{IsAtWork, IsFresh, IsToldBy, machine}
+
+told_nothing : (s : Shared) (tries i : ℕ) (p : Pass) → IsFresh s i p → IsToldBy s tries i p []
+told_nothing s tries i p fresh = record {
+  of = fresh.of;
+  number = fresh.number;
+  calls = ap (calls_of i) fresh.unseen;
+  own_marks = ap (marks_of i) fresh.unmarked;
+  tasks = All-nil (λ (e : Entry). IsAskOf (length (machine s).tasks) e.ask);
+  backed = All-nil (λ (e : Entry). IsBacked (machine s) tries i (seen p) (marks p) e.ask e.answer);
+}
+
+pub at_work_first : (s : Shared) (tries i : ℕ) (w : Worker) → IsFresh s i w.pass → w.entries.items ≡ [] → w.wheel.timers ≡ map.empty → IsAtWork s tries i w
+at_work_first s tries i w fresh none empty = record {
+  told = subst (IsToldBy s tries i w.pass) (sym none) (told_nothing s tries i w.pass fresh);
+  kept = record {
+    armed_are = λ t. ap (option_map alarm) (ap (λ m. map.get m t) empty ∙ map.get-empty nat_cmp t) ∙ sym (ap (λ es. armed es t) none);
+    tasks = λ t a at. let bad : None ≡ Some a = sym (ap (λ es. armed es t) none) ∙ at in absurd (cc);
+  };
+}

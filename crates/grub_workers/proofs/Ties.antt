@@ -1,0 +1,208 @@
+-- What the closing of the table ties together: whose each event and each mark is.
+use Rattle.std.proofs.Common.{◌≡◌, ◌≢◌, ◌⊎◌, ℕ, zero, suc, ◌+◌, ◌<◌, ◌≤◌, cond, Bool, true, false, IsTrue, ◌==◌, List, [], ◌∷◌, ◌++◌, length, get_or, filter, refl, sym, ap, ◌∙◌, subst, ⊎_elim, inl, inr, arith, eq-eqb, Some}
+use Rattle.std.specs.Prelude.{slice_get}
+use Rattle.std.specs.List.{All, Any, flat_map}
+use Rattle.std.proofs.lemmas.List.Elements.{All-nil, All-cons, All-weaker}
+use Rattle.std.proofs.lemmas.Option.{get_or_from_slice_get, slice_get-get_or, slice_get_within}
+use Rattle.grub_book.specs.Machine.{Machine}
+use Rattle.grub_book.specs.Step.{is_under_claim}
+use Rattle.grub_book.specs.Sums.{reading_of}
+use Rattle.grub_book.specs.History.{IsLegal, book_of, calls_of, pass_of}
+use Rattle.grub_book.specs.declared.op.Op.{Op}
+use Rattle.grub_book.specs.declared.reply.Reply.{Reply}
+use Rattle.grub_book.specs.declared.reply.Reply.TheVariants.{Full}
+use Rattle.grub_book.specs.declared.event.Event.{Event}
+use Rattle.grub_book.specs.declared.event.Event.TheVariants as events
+use Rattle.grub_book.specs.declared.event.Reading.{Reading}
+use Rattle.grub_table.specs.declared.view.Mark.{Mark}
+use Rattle.grub_table.specs.declared.view.Mark.TheVariants.{Taken, Given}
+use Rattle.grub_table.specs.declared.pass.Pass.{Pass}
+use Rattle.grub_table.specs.declared.pass.Shared.{Shared}
+use Rattle.grub_table.specs.Marks.{AreLawful, AreLawfulFrom, Holders, after_mark, nobody_holds, marker_of, marks_of}
+use Rattle.grub_table.specs.Histories.{Every}
+use Rattle.grub_table.specs.Calls.{AreNew, IsClosed, IsMarkPartOf, IsNew, IsPartOf, IsPassOf, number_of, marks, seen, terms}
+use Rattle.grub_trace.specs.declared.line.Line.{Line}
+use Rattle.grub_trace.specs.declared.entry.Ask.{Ask}
+use Rattle.grub_trace.specs.declared.entry.Ask.TheVariants.{Call, Read}
+use Rattle.grub_trace.specs.declared.entry.Answer.{Answer}
+use Rattle.grub_trace.specs.declared.entry.Answer.TheVariants.{Replied, Seen, Busy, Lost}
+use Rattle.grub_trace.specs.declared.entry.Entry.{Entry}
+use Rattle.grub_trace.specs.declared.entry.Report.{Report}
+use Rattle.grub_trace.specs.Asked.{Asked}
+use Rattle.grub_trace.specs.Plans.{PlanView}
+use Rattle.grub_workers.specs.Entries.{HeldTask, event_told, events_told, has_held, mark_told, marks_told}
+use Rattle.grub_workers.specs.Evidence.{AreBacked, CallsElse, ChangesElse, IsBacked, ShowsHolder, TakesElse}
+use Rattle.grub_workers.specs.Working.{IsFresh, IsToldBy, IsWorked, machine}
+use Rattle.grub_workers.specs.Handles.{AllFresh, AllWorked, script_at}
+use Rattle.grub_workers.specs.Runs.{HeldElsewhere, IsNotVain, IsReportOf, IsRun, entries_of}
+use Rattle.grub_workers.proofs.Finding.{Somewhere, any_of, found, somewhere_of, somewhere_filter, somewhere_flat, somewhere_weaker}
+use Rattle.grub_workers.proofs.Advancing.{all_backed_later}
+use Rattle.grub_workers.proofs.Steps.{some_of}
+
+-- ---- lists
+every_at : {X : Type 0} (P : X → Type 0) (xs : List X) (i : ℕ) (d : X) → i < length xs → Every P xs → P (get_or xs i d)
+every_at P [] i d low all = absurd (omega arith)
+every_at P (x ∷ xs) zero d low all = all.0
+every_at P (x ∷ xs) (suc i) d low all = every_at P xs i d (omega arith) all.1
+
+every_from : {X : Type 0} (P : X → Type 0) (xs : List X) → ((i : ℕ) (d : X) → i < length xs → P (get_or xs i d)) → Every P xs
+every_from P [] f = tt
+every_from P (x ∷ xs) f = (f 0 x (omega arith), every_from P xs (λ i d low. f (suc i) d (omega arith)))
+
+all_from_every : {X : Type 0} (P : X → Type 0) (xs : List X) → Every P xs → All P xs
+all_from_every P [] all = All-nil P
+all_from_every P (x ∷ xs) all = All-cons P x xs all.0 (all_from_every P xs all.1)
+
+markers_below : (n : ℕ) (g : Holders) (ms : List Mark) → AreLawfulFrom n g ms → All (λ m. marker_of m < n) ms
+markers_below n g [] lawful = All-nil (λ m. marker_of m < n)
+markers_below n g (Taken i t ∷ ms) lawful = All-cons (λ m. marker_of m < n) (Taken i t) ms lawful.0.0 (markers_below n (after_mark g (Taken i t)) ms lawful.1)
+markers_below n g (Given i t ∷ ms) lawful = All-cons (λ m. marker_of m < n) (Given i t) ms lawful.0.0 (markers_below n (after_mark g (Given i t)) ms lawful.1)
+
+-- ---- from an event or a mark back to an entry
+abbrev event_task : Event → ℕ
+event_task (events.Call i t op reply) = t
+event_task (events.Look i r reading) = 0
+
+abbrev event_reply : Event → Reply
+event_reply (events.Call i t op reply) = reply
+event_reply (events.Look i r reading) = Full
+
+abbrev mark_task : Mark → ℕ
+mark_task (Taken i t) = t
+mark_task (Given i t) = t
+
+held_by_call : (i j t u : ℕ) (op : Op) (reply : Reply) → u ≡ t → IsTrue (is_under_claim reply) → (ask : Ask) (answer : Answer) → Somewhere (λ e. e ≡ events.Call j u op reply) (event_told i ask answer) → HeldTask t ask answer
+held_by_call i j t u op reply same on (Call v o) (Replied r) a = ⊎_elim (λ (is : events.Call i v o r ≡ events.Call j u op reply). (ap event_task is ∙ same, ap is_under_claim (ap event_reply is) ∙ on)) (λ k. absurd k) a
+held_by_call i j t u op reply same on (Call v o) (Seen reading) a = absurd a
+held_by_call i j t u op reply same on (Call v o) Busy a = absurd a
+held_by_call i j t u op reply same on (Call v o) Lost a = absurd a
+held_by_call i j t u op reply same on Read (Seen reading) a = ⊎_elim (λ (is : events.Look i i reading ≡ events.Call j u op reply). absurd (cc)) (λ k. absurd k) a
+held_by_call i j t u op reply same on Read (Replied r) a = absurd a
+held_by_call i j t u op reply same on Read Busy a = absurd a
+held_by_call i j t u op reply same on Read Lost a = absurd a
+
+held_by_mark : (i j t u : ℕ) → u ≡ t → (ask : Ask) (answer : Answer) → Somewhere (λ m. m ≡ Taken j u) (mark_told i ask answer) → HeldTask t ask answer
+held_by_mark i j t u same Read answer a = absurd a
+held_by_mark i j t u same (Call v o) answer a = go (has_held answer) refl a
+  where
+    go : (b : Bool) → has_held answer ≡ b → Somewhere (λ m. m ≡ Taken j u) (cond b (Taken i v ∷ Given i v ∷ []) []) → (v ≡ t) × IsTrue (has_held answer)
+    go true on k = ⊎_elim (λ (is : Taken i v ≡ Taken j u). (ap mark_task is ∙ same, on)) (λ l. ⊎_elim (λ (is : Given i v ≡ Taken j u). absurd (cc)) (λ z. absurd z) l) k
+    go false off k = absurd k
+
+-- ---- the new passes
+new_fresh : (s : Shared) (k : ℕ) (ps : List Pass) → AreNew s k ps → (i : ℕ) (d : Pass) → i < length ps → IsFresh s (k + i) (get_or ps i d)
+new_fresh s k [] new i d low = absurd (omega arith)
+new_fresh s k (p ∷ ps) new zero d low = record { of = new.0.of; number = new.0.number ∙ omega arith; unseen = new.0.seen; unmarked = new.0.marks }
+new_fresh s k (p ∷ ps) new (suc i) d low = let at : suc k + i ≡ k + suc i = omega arith in subst (λ n. IsFresh s n (get_or ps i d)) at (new_fresh s (suc k) ps new.1 i d (omega arith))
+
+pub all_fresh : (s : Shared) (ps : List Pass) (n : ℕ) → n ≡ length ps → AreNew s 0 ps → AllFresh s n ps
+all_fresh s ps n is new = λ i d low. let at : 0 + i ≡ i = omega arith in subst (λ k. IsFresh s k (get_or ps i d)) at (new_fresh s 0 ps new i d (omega (arith, is, low)))
+
+module _ (s : Shared) (tries : ℕ) (scripts : List (List Line)) (ps : List Pass) (rs : List Report) (all : AllWorked s tries scripts ps rs) where
+  pub all_of : Every (IsPassOf s) ps
+  all_of = every_from (IsPassOf s) ps (λ i d low. (all.each i d (some_of rs i (omega (arith, all.reports_len, all.passes_len, low))) (omega (arith, all.passes_len, low))).told.of)
+
+  module _ (last : List Reading) (closed : IsClosed s ps last) (many : (terms s).passes ≡ length scripts) where
+    calls_at : (i : ℕ) (r : Report) → i < length scripts → calls_of i closed.history ≡ events_told i (entries_of (get_or rs i r))
+    calls_at i r low =
+        let there : i < length ps = omega (arith, all.passes_len, low) in
+        let d : Pass = some_of ps i there in
+        let w = (all.each i d r low).told in
+        let part = every_at (IsPartOf closed.history) ps i d there closed.parts in
+        subst (λ n. calls_of n closed.history ≡ calls_of n (seen (get_or ps i d))) w.number part.own ∙ w.calls
+
+    marks_at : (i : ℕ) (r : Report) → i < length scripts → marks_of i closed.marks ≡ marks_told i (entries_of (get_or rs i r))
+    marks_at i r low =
+        let there : i < length ps = omega (arith, all.passes_len, low) in
+        let d : Pass = some_of ps i there in
+        let w = (all.each i d r low).told in
+        let part = every_at (IsMarkPartOf closed.marks) ps i d there closed.mark_parts in
+        subst (λ n. marks_of n closed.marks ≡ marks_of n (marks (get_or ps i d))) w.number part.own ∙ w.own_marks
+
+    backed_at : (i : ℕ) (r : Report) → i < length scripts → AreBacked (machine s) tries i closed.history closed.marks (entries_of (get_or rs i r))
+    backed_at i r low =
+        let there : i < length ps = omega (arith, all.passes_len, low) in
+        let d : Pass = some_of ps i there in
+        let part = every_at (IsPartOf closed.history) ps i d there closed.parts in
+        let mark = every_at (IsMarkPartOf closed.marks) ps i d there closed.mark_parts in
+        all_backed_later (machine s) tries i (seen (get_or ps i d)) closed.history (marks (get_or ps i d)) closed.marks (entries_of (get_or rs i r)) part.starts mark.starts (all.each i d r low).told.backed
+
+    numbers_at : All (λ e. pass_of e < length scripts) closed.history
+    numbers_at = all_from_every (λ e. pass_of e < length scripts) closed.history (subst (λ n. Every (λ e. pass_of e < n) closed.history) many closed.is_history.numbers)
+
+    -- the report of a worker that held the task
+    held_in : (i j t : ℕ) → j ≢ i → j < length scripts → ((r : Report) → Somewhere (λ (e : Entry). HeldTask t e.ask e.answer) (entries_of (get_or rs j r))) → HeldElsewhere rs i t
+    held_in i j t ne low held =
+        let there : j < length rs = omega (arith, low, all.reports_len) in
+        let r : Report = some_of rs j there in record {
+          number = j;
+          report = get_or rs j r;
+          there = slice_get-get_or rs j r there;
+          other = ne;
+          held = any_of (λ (e : Entry). HeldTask t e.ask e.answer) (entries_of (get_or rs j r)) (held r);
+        }
+
+    by_call : (i t : ℕ) (e : Event) → CallsElse i t e → pass_of e < length scripts → Somewhere (λ x. x ≡ e) closed.history → HeldElsewhere rs i t
+    by_call i t (events.Look j r reading) is low a = absurd is
+    by_call i t (events.Call j u op reply) is low a =
+        held_in i j t is.1 low (λ r.
+        let own : Somewhere (λ x. x ≡ events.Call j u op reply) (calls_of j closed.history) = somewhere_filter (λ e. pass_of e == j) (events.Call j u op reply) closed.history (eq-eqb j j refl) a in
+        let there = subst (Somewhere (λ x. x ≡ events.Call j u op reply)) (calls_at j r low) own in
+        somewhere_weaker (λ (e : Entry). Somewhere (λ x. x ≡ events.Call j u op reply) (event_told j e.ask e.answer)) (λ (e : Entry). HeldTask t e.ask e.answer)
+        (λ e k. held_by_call j j t u op reply is.0 is.2 e.ask e.answer k) (entries_of (get_or rs j r))
+        (somewhere_flat (λ x. x ≡ events.Call j u op reply) (λ (e : Entry). event_told j e.ask e.answer) (entries_of (get_or rs j r)) there))
+
+    by_mark : (i t : ℕ) (m : Mark) → TakesElse i t m → marker_of m < length scripts → Somewhere (λ x. x ≡ m) closed.marks → HeldElsewhere rs i t
+    by_mark i t (Given j u) is low a = absurd is
+    by_mark i t (Taken j u) is low a =
+        held_in i j t is.1 low (λ r.
+        let own : Somewhere (λ x. x ≡ Taken j u) (marks_of j closed.marks) = somewhere_filter (λ m. marker_of m == j) (Taken j u) closed.marks (eq-eqb j j refl) a in
+        let there = subst (Somewhere (λ x. x ≡ Taken j u)) (marks_at j r low) own in
+        somewhere_weaker (λ (e : Entry). Somewhere (λ x. x ≡ Taken j u) (mark_told j e.ask e.answer)) (λ (e : Entry). HeldTask t e.ask e.answer)
+        (λ e k. held_by_mark j j t u is.0 e.ask e.answer k) (entries_of (get_or rs j r))
+        (somewhere_flat (λ x. x ≡ Taken j u) (λ (e : Entry). mark_told j e.ask e.answer) (entries_of (get_or rs j r)) there))
+
+    held_elsewhere : (i t : ℕ) → ShowsHolder i t closed.history closed.marks → HeldElsewhere rs i t
+    held_elsewhere i t a = ⊎_elim
+        (λ k. let f = found (CallsElse i t) (λ e. pass_of e < length scripts) closed.history (somewhere_of (CallsElse i t) closed.history k) numbers_at in by_call i t f.element f.is f.also f.inside)
+        (λ k. let f = found (TakesElse i t) (λ m. marker_of m < length scripts) closed.marks (somewhere_of (TakesElse i t) closed.marks k)
+        (markers_below (length scripts) nobody_holds closed.marks (subst (λ n. AreLawful n closed.marks) many closed.lawful)) in by_mark i t f.element f.is f.also f.inside)
+        a
+
+    not_vain : (i : ℕ) (ask : Ask) (answer : Answer) → IsBacked (machine s) tries i closed.history closed.marks ask answer → IsNotVain (machine s) tries closed.history rs i ask answer
+    not_vain i (Call t op) Busy b = held_elsewhere i t b
+    not_vain i (Call t op) Lost b = b
+    not_vain i (Call t op) (Replied reply) b = tt
+    not_vain i (Call t op) (Seen reading) b = absurd b
+    not_vain i Read (Seen reading) b = tt
+    not_vain i Read (Replied reply) b = absurd b
+    not_vain i Read Busy b = absurd b
+    not_vain i Read Lost b = absurd b
+
+    report_at : (i : ℕ) (r : Report) → i < length scripts → IsReportOf (machine s) tries closed.history rs i (script_at scripts i) (entries_of (get_or rs i r))
+    report_at i r low = record {
+      calls = calls_at i r low;
+      asked = (all.each i (some_of ps i (omega (arith, all.passes_len, low))) r low).asked;
+      tasks = (all.each i (some_of ps i (omega (arith, all.passes_len, low))) r low).told.tasks;
+      not_vain = All-weaker (λ (e : Entry). IsBacked (machine s) tries i closed.history closed.marks e.ask e.answer) (λ (e : Entry). IsNotVain (machine s) tries closed.history rs i e.ask e.answer)
+          (λ e b. not_vain i e.ask e.answer b) (entries_of (get_or rs i r)) (backed_at i r low);
+    }
+
+    pub run_of : (plan : PlanView) → plan.scripts ≡ scripts → plan.setup ≡ machine s → length scripts ≡ length (machine s).queues → IsRun plan tries rs last
+    run_of plan same setup queues =
+        let legal : IsLegal plan.setup closed.history = subst (λ k. IsLegal k closed.history) (sym setup) closed.is_history.legal in record {
+          history = closed.history;
+          legal = legal;
+          numbers = subst (λ l. All (λ e. pass_of e < length l) closed.history) (sym same) numbers_at;
+          one_each = all.reports_len ∙ sym (ap length same);
+          each = λ i script report at there.
+              let here : slice_get scripts i ≡ Some script = subst (λ l. slice_get l i ≡ Some script) same at in
+              let low = slice_get_within scripts i script here in
+              let is_script : script_at scripts i ≡ script = get_or_from_slice_get scripts i script [] here in
+              let is_report : get_or rs i report ≡ report = get_or_from_slice_get rs i report report there in
+              subst (λ (k : Machine × List Line × Report). IsReportOf k.0 tries closed.history rs i k.1 (entries_of k.2)) (λ j. (sym setup j, is_script j, is_report j)) (report_at i report low);
+          one_reading_each = closed.readings.one_each ∙ sym queues ∙ sym (ap length same);
+          readings = λ r reading there.
+              let low : r < length (machine s).queues = omega (arith, slice_get_within last r reading there, closed.readings.one_each) in
+              sym (get_or_from_slice_get last r reading reading there) ∙ closed.readings.value r reading low ∙ ap (λ k. reading_of (book_of k closed.history) r) (sym setup);
+        }

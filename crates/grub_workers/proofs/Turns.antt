@@ -1,0 +1,37 @@
+-- What a worker holds between two rounds of an ask.
+use Rattle.std.proofs.Common.{◌≡◌, ℕ, ◌≤◌, true, [], ◌∷◌}
+use Rattle.grub_book.specs.declared.op.Op.{Op}
+use Rattle.grub_table.specs.declared.view.Mark.TheVariants.{Taken}
+use Rattle.grub_table.specs.declared.pass.Pass.{Pass}
+use Rattle.grub_table.specs.declared.pass.Claim.{Claim}
+use Rattle.grub_table.specs.declared.pass.Shared.{Shared}
+use Rattle.grub_table.specs.Calls.{IsPassOf, IsClaimOf, number_of, claim_number, claim_task, claim_op, claim_changes_sum, seen, marks, claim_seen, claim_marks}
+use Rattle.grub_workers.specs.declared.asking.Turn.{Turn}
+use Rattle.grub_workers.specs.declared.asking.Turn.TheVariants as turns
+use Rattle.grub_workers.specs.Evidence.{ShowsHolder, ChangesElse}
+use Rattle.grub_workers.specs.Working.{Advances, machine}
+
+-- the pass holds nothing, and after a round it knows who held the task
+pub record IsFree (s : Shared) (round : ℕ) (p : Pass) (t : ℕ) (now : Pass) : Type 0 where
+  pub of : IsPassOf s now
+  pub number : number_of now ≡ number_of p
+  pub advances : Advances (number_of p) (seen p) (seen now) (marks p) (marks now) [] []
+  pub busy : 1 ≤ round → ShowsHolder (number_of p) t (seen now) (marks now)
+
+-- the pass holds the task for this ask, and nothing of it is in the history
+pub record IsHolding (s : Shared) (p : Pass) (t : ℕ) (asked : Op) (c : Claim) : Type 0 where
+  pub of : IsClaimOf s c
+  pub number : claim_number c ≡ number_of p
+  pub task : claim_task c ≡ t
+  pub op : claim_op c ≡ asked
+  pub advances : Advances (number_of p) (seen p) (claim_seen c) (marks p) (claim_marks c) [] (Taken (number_of p) t ∷ [])
+
+-- the same, and all tries so far were lost
+pub record HasLost (s : Shared) (tries : ℕ) (p : Pass) (t : ℕ) (asked : Op) (c : Claim) : Type 0 where
+  pub holding : IsHolding s p t asked c
+  pub sum : claim_changes_sum c ≡ true
+  pub changes : 1 ≤ tries → ChangesElse (machine s) (number_of p) (claim_seen c)
+
+abbrev pub IsTurn : Shared → ℕ → ℕ → Pass → ℕ → Op → Turn → Type 0
+IsTurn s tries round p t op (turns.Free now) = IsFree s round p t now
+IsTurn s tries round p t op (turns.Held claim) = HasLost s tries p t op claim

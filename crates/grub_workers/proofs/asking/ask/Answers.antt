@@ -1,0 +1,56 @@
+use Rattle.std.proofs.Common.{◌≡◌, arith, sym, subst}
+use Rattle.grub_workers.proofs.Turns.{IsTurn, IsFree, IsHolding, HasLost}
+use Rattle.grub_workers.proofs.Rounds.{busy_round, taken_round, lost_round, done_round, done_waits, gave_up_lost}
+use Rattle.grub_workers.proofs.asking.ask.Goals as goal
+use Rattle.grub_workers.proofs.asking.ask.Goals.{in-Free+in-Held-start, in-Held}
+
+pub loop-preserved-in-Busy : goal.loop-preserved-in-Busy
+loop-preserved-in-Busy g c =
+    let a = c.args in let s = a.desk.now.table.now in
+    let free : IsFree s c.loop.counter a.pass a.t c.in-Free.pass = subst (IsTurn s a.desk.now.tries c.loop.counter a.pass a.t a.op) c.in-Free.is c.loop.invariant in
+    busy_round s a.pass a.t a.op c.loop.counter c.in-Free.pass c.in-Busy.pass c.in-Busy.field-1 free c.in-Busy.ensures
+
+pub returns-in-Done-clause-asked : goal.returns-in-Done-clause-asked
+returns-in-Done-clause-asked g c =
+    let a = c.args in let s = a.desk.now.table.now in let tries = a.desk.now.tries in
+    let holds : IsHolding s a.pass a.t a.op c.match-turn.claim = elim c.match-turn.branch [
+      | in-Free+in-Held-start w ↦
+          let free : IsFree s c.loop.counter a.pass a.t w.in-Free.pass = subst (IsTurn s tries c.loop.counter a.pass a.t a.op) w.in-Free.is c.loop.invariant in
+          subst (IsHolding s a.pass a.t a.op) (sym w.claim-is) (taken_round s a.pass a.t a.op c.loop.counter w.in-Free.pass w.in-Held-start.claim free w.in-Held-start.ensures)
+      | in-Held w ↦
+          let lost : HasLost s tries a.pass a.t a.op w.in-Held.claim = subst (IsTurn s tries c.loop.counter a.pass a.t a.op) w.in-Held.is c.loop.invariant in
+          subst (IsHolding s a.pass a.t a.op) (sym w.claim-is) lost.holding
+    ] in
+    done_round s a.pass a.t a.op tries tries c.match-turn.claim c.in-Done.pass c.in-Done.reply holds c.in-Done.ensures
+
+pub returns-in-Done-clause-waits : goal.returns-in-Done-clause-waits
+returns-in-Done-clause-waits g c =
+    let a = c.args in let s = a.desk.now.table.now in let tries = a.desk.now.tries in
+    let holds : IsHolding s a.pass a.t a.op c.match-turn.claim = elim c.match-turn.branch [
+      | in-Free+in-Held-start w ↦
+          let free : IsFree s c.loop.counter a.pass a.t w.in-Free.pass = subst (IsTurn s tries c.loop.counter a.pass a.t a.op) w.in-Free.is c.loop.invariant in
+          subst (IsHolding s a.pass a.t a.op) (sym w.claim-is) (taken_round s a.pass a.t a.op c.loop.counter w.in-Free.pass w.in-Held-start.claim free w.in-Held-start.ensures)
+      | in-Held w ↦
+          let lost : HasLost s tries a.pass a.t a.op w.in-Held.claim = subst (IsTurn s tries c.loop.counter a.pass a.t a.op) w.in-Held.is c.loop.invariant in
+          subst (IsHolding s a.pass a.t a.op) (sym w.claim-is) lost.holding
+    ] in
+    done_waits s a.pass a.t a.op tries c.match-turn.claim c.in-Done.pass c.in-Done.reply holds c.in-Done.ensures
+
+pub loop-preserved : goal.loop-preserved
+loop-preserved g c =
+    let a = c.args in let s = a.desk.now.table.now in let tries = a.desk.now.tries in
+    let holds : IsHolding s a.pass a.t a.op c.match-turn.claim = elim c.match-turn.branch [
+      | in-Free+in-Held-start w ↦
+          let free : IsFree s c.loop.counter a.pass a.t w.in-Free.pass = subst (IsTurn s tries c.loop.counter a.pass a.t a.op) w.in-Free.is c.loop.invariant in
+          subst (IsHolding s a.pass a.t a.op) (sym w.claim-is) (taken_round s a.pass a.t a.op c.loop.counter w.in-Free.pass w.in-Held-start.claim free w.in-Held-start.ensures)
+      | in-Held w ↦
+          let lost : HasLost s tries a.pass a.t a.op w.in-Held.claim = subst (IsTurn s tries c.loop.counter a.pass a.t a.op) w.in-Held.is c.loop.invariant in
+          subst (IsHolding s a.pass a.t a.op) (sym w.claim-is) lost.holding
+    ] in
+    lost_round s a.pass a.t a.op tries c.match-turn.claim c.in-Held-finish.claim holds c.in-Held-finish.ensures
+
+pub returns-in-Held-turn-clause-asked : goal.returns-in-Held-turn-clause-asked
+returns-in-Held-turn-clause-asked g c =
+    let a = c.args in let s = a.desk.now.table.now in let tries = a.desk.now.tries in
+    let lost : HasLost s tries a.pass a.t a.op c.in-Held-turn.claim = subst (IsTurn s tries c.loop.counter a.pass a.t a.op) c.in-Held-turn.is c.loop.invariant in
+    gave_up_lost s a.pass a.t a.op tries c.in-Held-turn.claim c.cancel.result lost c.cancel.ensures

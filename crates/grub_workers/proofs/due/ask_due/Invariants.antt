@@ -1,0 +1,16 @@
+use Rattle.std.proofs.Common.{◌≡◌, ℕ, ◌≤◌, List, Some}
+use Rattle.std.specs.List.{FoldsTo}
+use Rattle.std.specs.FinMap as map
+use Rattle.grub_trace.specs.Asked.{AsksTimer, Timer}
+use Rattle.grub_workers.specs.Working.{IsAtWork, IsNotPast}
+use Rattle.grub_workers.proofs.due.ask_due.Given as goal
+
+-- the timers that were asked for so far
+abbrev pub invariant-loop-timer : goal.invariant-loop-timer
+invariant-loop-timer g l =
+    IsAtWork l.desk.table.now l.desk.tries l.desk.number l.worker
+    × IsNotPast l.m l.worker
+    × ((timers : List Timer) × FoldsTo (AsksTimer l.m) l.fn.worker.entries.items timers l.worker.entries.items)
+
+abbrev pub decreases-loop-timer : goal.decreases-loop-timer
+decreases-loop-timer g l = map.len l.worker.wheel.timers

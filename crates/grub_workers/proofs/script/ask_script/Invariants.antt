@@ -1,0 +1,14 @@
+use Rattle.std.proofs.Common.{◌≡◌, ℕ, ◌≤◌, [], length, take, drop, Some}
+use Rattle.std.specs.List.{FoldsTo}
+use Rattle.grub_table.specs.Calls.{terms}
+use Rattle.grub_trace.specs.Asked.{AsksLine}
+use Rattle.grub_trace.specs.Limits.{ScriptFits}
+use Rattle.grub_workers.specs.Working.{IsAtWork, IsNotPast}
+use Rattle.grub_workers.proofs.script.ask_script.Given as goal
+
+-- the lines so far were asked, and those that are left begin no earlier than the wheel's latest moment
+abbrev pub invariant-loop-line : goal.invariant-loop-line
+invariant-loop-line g l =
+    IsAtWork l.desk.table.now l.desk.tries l.desk.number l.worker
+    × FoldsTo (AsksLine l.desk.number) [] (take l.line-index l.script) l.worker.entries.items
+    × ((low : ℕ) × IsNotPast low l.worker × ScriptFits (length (terms l.desk.table.now).setup.tasks) low (drop l.line-index l.script))

@@ -1,0 +1,9 @@
+use Rattle.std.proofs.Common.{rules}
+use Rattle.grub_trace.specs.declared.entry.Ask.TheVariants.{Call}
+use Rattle.grub_workers.proofs.Entering.{entered}
+use Rattle.grub_workers.proofs.worker.put.Goals as goal
+
+pub returns-clause-told : goal.returns-clause-told
+returns-clause-told g c =
+    let a = c.args in let d = a.desk.now in
+    entered d.table.now d.tries d.number a.m a.worker.pass c.ask-pass.result.0 a.worker.entries.items _ (Call a.t a.op) c.ask-pass.result.1 c.requires.task c.requires.told c.ask-pass.ensures.asked (search rules)

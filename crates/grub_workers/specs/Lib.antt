@@ -1,0 +1,5 @@
+pub mod Entries
+pub mod Evidence
+pub mod Working
+pub mod Handles
+pub mod Runs

@@ -1,0 +1,57 @@
+//! One ask of an op: rounds of `start` and `finish`.
+ghost use Rattle.std.specs.Prelude.{◌≡◌, ◌<◌, ◌≤◌, length};
+ghost use Rattle.grub_book.specs.Op.{IsOp};
+ghost use Rattle.grub_table.specs.Calls.{IsPassOf, terms};
+ghost use Rattle.grub_trace.specs.declared.entry.Ask.TheVariants.{Call};
+ghost use Rattle.grub_workers.specs.Working.{IsAsked, WaitsRightly};
+
+use crate::desk::Desk;
+use crate::gate::Gate;
+use grub_book::Op;
+use grub_table::{Claim, Finished, Pass, Started};
+use grub_trace::Answer;
+
+/// Where an ask stands between two rounds.
+enum Turn {
+    Free(Pass),
+    Held(Claim),
+}
+
+/// Asks in at most so many rounds. A task that is still held then is given back.
+pub fn ask<G: Gate>(
+    desk: &Desk<'_, G>,
+    calls: &mut u64,
+    pass: Pass,
+    t: u32,
+    op: Op,
+) -> (Pass, Answer)
+    requires of { IsPassOf desk.now.table.now pass }
+    requires task { t < length (terms desk.now.table.now).setup.tasks }
+    requires op { IsOp (terms desk.now.table.now).setup op }
+    requires rounds { 1 ≤ desk.now.rounds }
+    ensures asked { IsAsked desk.now.table.now desk.now.tries pass (Call t op) result.0 result.1 }
+    ensures waits { WaitsRightly op result.1 }
+{
+    let mut turn = Turn::Free(pass);
+    for _ in 0..desk.rounds {
+        let claim = match turn {
+            Turn::Free(pass) => match desk.start(calls, pass, t, op) {
+                Started::Answered(pass, reply) => return (pass, Answer::Replied(reply)),
+                Started::Held(claim) => claim,
+                Started::Busy(pass, _) => {
+                    turn = Turn::Free(pass);
+                    continue;
+                }
+            },
+            Turn::Held(claim) => claim,
+        };
+        match desk.finish(calls, claim) {
+            Finished::Done(pass, reply) => return (pass, Answer::Replied(reply)),
+            Finished::Held(claim) => turn = Turn::Held(claim),
+        }
+    }
+    match turn {
+        Turn::Free(pass) => (pass, Answer::Busy),
+        Turn::Held(claim) => (desk.cancel(calls, claim), Answer::Lost),
+    }
+}

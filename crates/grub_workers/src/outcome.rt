@@ -1,0 +1,57 @@
+//! A run: a table, a worker for each file, and the closing readings.
+ghost use Rattle.std.specs.Prelude.{◌≡◌, ◌≤◌, IfOk, length};
+ghost use Rattle.grub_workers.specs.Runs.{AllAsksOf, IsGivenUp, IsLostCharge, IsOnlyRun, IsRun, NoEntry};
+
+use crate::gate::Gate;
+use crate::scoped::{Done, run_scoped};
+use grub_book::Reading;
+use grub_table::Shared;
+use grub_trace::{Plan, Report};
+use std::alloc::Global;
+use std::sync::Wait;
+use std::thread::Threads;
+
+/// Why a run has no outcome. Number 38 is NoMemory, where a growth was refused, and 39 Spawn, where the start of a thread was.
+#[derive(Clone, Copy, Debug, PartialEq, Eq)]
+pub enum RunFault {
+    NoMemory,
+    Spawn,
+}
+
+/// A report for each file, and the closing reading of each runqueue, in 1/2^20, both in the order of the files.
+#[derive(Drop)]
+pub struct Outcome {
+    pub reports: Vec<Report>,
+    pub closing: Vec<Reading>,
+}
+
+/// Runs each script of the plan in a thread of its own, all at once over one table.
+/// An ask has at most `rounds` rounds, and each round at most `tries` tries of the runqueue's word. The gate runs around each call of the table.
+/// `NoMemory` (38) is meant for a refused growth, and `Spawn` (39) for a refused start of a thread. Then all workers that were started are joined.
+pub fn run<R: Threads + Wait, G: Gate>(
+    rt: &R,
+    alloc: Global,
+    plan: &Plan,
+    tries: u8,
+    rounds: u16,
+    gate: &G,
+) -> Result<Outcome, RunFault>
+    requires { 1 ≤ rounds }
+    ensures run { IfOk result (λ o. IsRun plan.now tries o.reports.items o.closing.items) }
+    ensures tasks { IfOk result (λ o. AllAsksOf plan.now o.reports.items) }
+    ensures charges { IfOk result (λ o. NoEntry IsLostCharge o.reports.items) }
+
+    // With one file alone no ask is given up, and the outcome is a function of the file.
+    ensures alone { IfOk result (λ o. length plan.now.scripts ≡ 1 → 1 ≤ tries → NoEntry IsGivenUp o.reports.items) }
+    ensures same { IfOk result (λ o. length plan.now.scripts ≡ 1 → 1 ≤ tries → IsOnlyRun plan.now o.reports.items o.closing.items) }
+{
+    let Ok((shared, passes)) = Shared::open(alloc, plan.setup(), plan.files()) else {
+        return Err(RunFault::NoMemory);
+    };
+    let done = run_scoped(rt, alloc, &shared, plan, passes, tries, rounds, gate)?;
+    let Done { passes, reports } = done;
+    match shared.close(alloc, passes) {
+        Ok(closing) => Ok(Outcome { reports, closing }),
+        Err(_) => Err(RunFault::NoMemory),
+    }
+}

@@ -1,0 +1,5 @@
+//! Workers held by a gate, and the examples of runs.
+mod files;
+mod gates;
+mod runs;
+mod singles;

@@ -1,0 +1,70 @@
+//! The work of one thread, and what its join promises.
+ghost use Rattle.std.specs.Prelude.{◌≡◌, ◌<◌, ◌≤◌, IfOk, length};
+ghost use Rattle.grub_table.specs.Calls.{terms};
+ghost use Rattle.grub_trace.specs.Limits.{ScriptFits};
+ghost use Rattle.grub_workers.specs.Working.{IsFresh, IsWorked};
+
+use crate::desk::Desk;
+use crate::gate::Gate;
+use crate::script::ask_script;
+use crate::worker::Worker;
+use grub_table::{Pass, Shared};
+use grub_trace::{Line, Report};
+use grub_wheel::Wheel;
+use std::alloc::{AllocError, Global};
+use std::thread::Promise;
+
+/// What a worker gives back.
+#[derive(Drop)]
+pub struct Worked {
+    pub pass: Pass,
+    pub report: Report,
+}
+
+/// That the script was asked by the worker of this number, over this table.
+#[derive(Drop)]
+pub struct WorkOf<'a> {
+    pub table: &'a Shared,
+    pub number: u32,
+    pub script: &'a [Line],
+    pub tries: u8,
+}
+
+impl<'a> Promise<Result<Worked, AllocError>> for WorkOf<'a> {
+    ghost kept_by = { λ p r. IfOk r (λ w. IsWorked p.table.now p.tries p.number p.script.now w.pass w.report.entries.items) };
+}
+
+/// Asks a script with a fresh pass and a wheel of its own.
+pub fn work_through<G: Gate>(
+    desk: &Desk<'_, G>,
+    alloc: Global,
+    script: &[Line],
+    pass: Pass,
+) -> Result<Worked, AllocError>
+    requires fresh { IsFresh desk.now.table.now desk.now.number pass }
+    requires fits { ScriptFits (length (terms desk.now.table.now).setup.tasks) 0 script.now }
+    requires queue { desk.now.number < length (terms desk.now.table.now).setup.queues }
+    requires rounds { 1 ≤ desk.now.rounds }
+    ensures { IfOk result (λ w. IsWorked desk.now.table.now desk.now.tries desk.now.number script.now w.pass w.report.entries.items) }
+{
+    let Ok(wheel) = Wheel::new(alloc) else {
+        return Err(AllocError);
+    };
+    let worker = Worker {
+        pass,
+        entries: Vec::new(alloc),
+        wheel,
+        calls: 0,
+    };
+    let worker = ask_script(desk, worker, script)?;
+    let Worker {
+        pass,
+        entries,
+        wheel: _,
+        calls: _,
+    } = worker;
+    Ok(Worked {
+        pass,
+        report: Report { entries },
+    })
+}
