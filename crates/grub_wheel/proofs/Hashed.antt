@@ -8,7 +8,7 @@ use Rattle.std.proofs.lemmas.List.{length-append, get_or-replicate, length-repli
 use Rattle.grub_wheel.specs.declared.timer.Timer.{Timer}
 use Rattle.grub_wheel.specs.declared.node.Node.{Node}
 use Rattle.grub_wheel.specs.Firsts.{IsFirst, Behind}
-use Rattle.grub_wheel.specs.Nodes.{free_node, node_at, Armed, timers_of, key_of, slot_of, keys, slots, moments, links, tasks, head_of, AreInSlots, AreChained, AreOthersKept, IsArmedNode, IsFreed, AreFree, armed_count, one_if_armed, moment_after, IsHashed}
+use Rattle.grub_wheel.specs.Nodes.{free_node, node_at, Armed, timers_of, key_of, slot_of, keys, slots, moments, links, tasks, head_of, AreInSlots, AreChained, AreOthersKept, IsArmedNode, IsFreed, AreFree, armed_count, one_if_armed, IsHashed}
 use Rattle.grub_wheel.proofs.Numbers.{no_both, same_or, less_or}
 use Rattle.grub_wheel.proofs.Links.{IsSame, first_as, behind_as, behind_to}
 use Rattle.grub_wheel.proofs.Looks.{bag_of, bag-same}
@@ -39,41 +39,40 @@ fresh_sound hs e = record {
   narrow = λ i a. absurd (none_in i a);
 }
 
-pub fresh_hashed : (ns : List Node) (hs : List (Option ℕ)) → ns ≡ [] → hs ≡ replicate 256 None → IsHashed ns hs None 0 0 None
-fresh_hashed ns hs e f = subst (λ (xs : List Node). IsHashed xs hs None 0 0 None) (sym e)
-    (record { sound = fresh_sound hs f; places = []; linked = refl; room = refl; count = refl; after = λ i a. absurd (none_in i a); behind = omega arith })
+pub fresh_hashed : (ns : List Node) (hs : List (Option ℕ)) → ns ≡ [] → hs ≡ replicate 256 None → IsHashed ns hs None 0 0
+fresh_hashed ns hs e f = subst (λ (xs : List Node). IsHashed xs hs None 0 0) (sym e)
+    (record { sound = fresh_sound hs f; places = []; linked = refl; room = refl; count = refl; after = λ i a. absurd (none_in i a) })
 
 pub fresh_mapped : (us : List ℕ) (hs : List (Option ℕ)) → hs ≡ replicate 256 None → IsMapped us hs
 fresh_mapped us hs e s lt some = absurd (some (no_head hs e s lt))
 
 -- ---- a timer more, and a timer less
 
-pub put_hashed : (ns ms : List Node) (hs gs : List (Option ℕ)) (free : Option ℕ) (i spare from : ℕ) (last : Option ℕ) (x : Timer) → IsHashed ns hs free spare from last → free ≡ Some i
-    → AreInSlots ms gs → IsArmedNode (node_at ms i) x → AreOthersKept ns ms i → from ≤ x.z → IsHashed ms gs (links ns i) (spare - 1) from last
-put_hashed ns ms hs gs free i spare from last x h is sound here others later =
-    let f = free_head ns h.places free spare i h.linked h.room is in
+pub put_hashed : (ns ms : List Node) (hs gs : List (Option ℕ)) (free : Option ℕ) (i spare from f : ℕ) (x : Timer) → IsHashed ns hs free spare from → free ≡ Some i
+    → AreInSlots ms gs → IsArmedNode (node_at ms i) x → AreOthersKept ns ms i → f ≤ from → f ≤ x.z → IsHashed ms gs (links ns i) (spare - 1) f
+put_hashed ns ms hs gs free i spare from f x h is sound here others lower later =
+    let head = free_head ns h.places free spare i h.linked h.room is in
     record {
       sound = sound;
-      places = f.rest;
-      linked = free_kept ns ms i others f.rest (links ns i) f.others f.linked;
-      room = let r = f.room in omega arith;
+      places = head.rest;
+      linked = free_kept ns ms i others head.rest (links ns i) head.others head.linked;
+      room = let r = head.room in omega arith;
       count =
-          let c = armed_count-others ns ms i f.within others in
-          let a = none_if_free (node_at ns i) f.off in
+          let c = armed_count-others ns ms i head.within others in
+          let a = none_if_free (node_at ns i) head.off in
           let b = one_armed (node_at ms i) here.armed in
-          let r = f.room in let q = others.size in let k = h.count in
+          let r = head.room in let q = others.size in let k = h.count in
           omega arith;
       after = λ j a. after j a (same_or j i);
-      behind = h.behind;
     }
   where
-    after : (j : ℕ) → Armed ms j → (j ≡ i) ⊎ (j ≢ i) → from ≤ moments ms j
+    after : (j : ℕ) → Armed ms j → (j ≡ i) ⊎ (j ≢ i) → f ≤ moments ms j
     after j a (inl e) = let t : moments ms j ≡ x.z = ap (moments ms) e ∙ ap (λ (y : Timer). y.z) here.timer in omega arith
     after j a (inr ne) = let k = others.kept j ne in let n = h.after j (sym k.armed ∙ a) in let t = ap (λ (y : Timer). y.z) k.timer in omega arith
 
-pub take_hashed : (ns ms : List Node) (hs gs : List (Option ℕ)) (free : Option ℕ) (i spare from : ℕ) (last : Option ℕ) → IsHashed ns hs free spare from last → i < length ns → Armed ns i
-    → AreInSlots ms gs → IsFreed (node_at ms i) free → AreOthersKept ns ms i → IsHashed ms gs (Some i) (spare + 1) from last
-take_hashed ns ms hs gs free i spare from last h within armed sound here others = record {
+pub take_hashed : (ns ms : List Node) (hs gs : List (Option ℕ)) (free : Option ℕ) (i spare from : ℕ) → IsHashed ns hs free spare from → i < length ns → Armed ns i
+    → AreInSlots ms gs → IsFreed (node_at ms i) free → AreOthersKept ns ms i → IsHashed ms gs (Some i) (spare + 1) from
+take_hashed ns ms hs gs free i spare from h within armed sound here others = record {
   sound = sound;
   places = i ∷ h.places;
   linked =
@@ -86,16 +85,15 @@ take_hashed ns ms hs gs free i spare from last h within armed sound here others 
       let b = none_if_free (node_at ms i) here.armed in
       let s = others.size in let k = h.count in omega arith;
   after = λ j a. let k = others.kept j (not_it j a) in let n = h.after j (sym k.armed ∙ a) in let t = ap (λ (y : Timer). y.z) k.timer in omega arith;
-  behind = h.behind;
 }
   where
     not_it : (j : ℕ) → Armed ms j → j ≢ i
     not_it j a e = no_both (node_at ms i).armed (subst (Armed ms) e a) here.armed
 
--- once nothing armed is before f, and `due` was asked for k
-pub moved_on : (ns : List Node) (hs : List (Option ℕ)) (free : Option ℕ) (spare from f k : ℕ) (last : Option ℕ) → IsHashed ns hs free spare from last → ((j : ℕ) → Armed ns j → f ≤ moments ns j) → f ≤ k + 1 → IsHashed ns hs free spare f (Some k)
-moved_on ns hs free spare from f k last h after behind =
-    record { sound = h.sound; places = h.places; linked = h.linked; room = h.room; count = h.count; after = after; behind = behind }
+-- once nothing armed is before f
+pub moved_on : (ns : List Node) (hs : List (Option ℕ)) (free : Option ℕ) (spare from f : ℕ) → IsHashed ns hs free spare from → ((j : ℕ) → Armed ns j → f ≤ moments ns j) → IsHashed ns hs free spare f
+moved_on ns hs free spare from f h after =
+    record { sound = h.sound; places = h.places; linked = h.linked; room = h.room; count = h.count; after = after }
 
 -- ---- a place more
 
@@ -158,15 +156,14 @@ module _ (ns : List Node) (n : Node) (off : n.armed ≡ false) where
     narrow = λ i a. let p = armed_was i a in let l = h.narrow i p in let t = task_is i p in omega arith;
   }
 
-  more_hashed : (hs : List (Option ℕ)) (free : Option ℕ) (from : ℕ) (last : Option ℕ) → IsHashed ns hs free 0 from last → n.next ≡ None → IsHashed More hs (Some (length ns)) 1 from last
-  more_hashed hs free from last h end = record {
+  more_hashed : (hs : List (Option ℕ)) (free : Option ℕ) (from : ℕ) → IsHashed ns hs free 0 from → n.next ≡ None → IsHashed More hs (Some (length ns)) 1 from
+  more_hashed hs free from h end = record {
     sound = more_sound hs h.sound;
     places = length ns ∷ [];
     linked = (refl, let k = more_length in omega arith, ap (λ (m : Node). m.armed) more_end ∙ off, tt, ap (λ (m : Node). m.next) more_end ∙ end);
     room = refl;
     count = counted;
     after = λ i a. let p = armed_was i a in let l = h.after i p in let t = ap (λ (x : Timer). x.z) (timer_is i p) in omega arith;
-    behind = h.behind;
   }
     where
       counted : 1 + armed_count More ≡ length More
@@ -183,28 +180,19 @@ module _ (ns : List Node) (n : Node) (off : n.armed ≡ false) where
       (λ j a t. (armed_is j a, task_is j a ∙ t))
       (λ j a t. let p = armed_was j a in (p, timer_is j p)))
 
-pub free_more : (ns ms : List Node) (hs : List (Option ℕ)) (free : Option ℕ) (spare place from : ℕ) (last : Option ℕ) → IsHashed ns hs free spare from last → spare ≡ 0 → ms ≡ ns ++ free_node ∷ [] → place ≡ length ns → IsHashed ms hs (Some place) 1 from last
-free_more ns ms hs free spare place from last h z e p =
-    let m = more_hashed ns free_node refl hs free from last (subst (λ (s : ℕ). IsHashed ns hs free s from last) z h) refl in
-    subst (λ (k : ℕ). IsHashed ms hs (Some k) 1 from last) (sym p) (subst (λ (xs : List Node). IsHashed xs hs (Some (length ns)) 1 from last) (sym e) m)
+pub free_more : (ns ms : List Node) (hs : List (Option ℕ)) (free : Option ℕ) (spare place from : ℕ) → IsHashed ns hs free spare from → spare ≡ 0 → ms ≡ ns ++ free_node ∷ [] → place ≡ length ns → IsHashed ms hs (Some place) 1 from
+free_more ns ms hs free spare place from h z e p =
+    let m = more_hashed ns free_node refl hs free from (subst (λ (s : ℕ). IsHashed ns hs free s from) z h) refl in
+    subst (λ (k : ℕ). IsHashed ms hs (Some k) 1 from) (sym p) (subst (λ (xs : List Node). IsHashed xs hs (Some (length ns)) 1 from) (sym e) m)
 
 pub bag-free_more : (ns ms : List Node) → Apart ns → ms ≡ ns ++ free_node ∷ [] → bag_of (timers_of ms) ≡ bag_of (timers_of ns)
 bag-free_more ns ms apart e = ap (λ (xs : List Node). bag_of (timers_of xs)) e ∙ more_bag ns free_node refl apart
 
--- ---- before the next `due`
-
-pub later_from : (from z : ℕ) (l o : Option ℕ) → from ≤ moment_after l → l ≡ o → IfSome o (λ m. m < z) → from ≤ z
-later_from from z l o b e h = go o (subst (λ (k : Option ℕ). from ≤ moment_after k) e b) h
-  where
-    go : (o : Option ℕ) → from ≤ moment_after o → IfSome o (λ m. m < z) → from ≤ z
-    go None b h = omega arith
-    go (Some m) b h = omega arith
-
 -- ---- the fields as the code leaves them
 
-pub hashed_as : (ns ms : List Node) (hs gs : List (Option ℕ)) (free to : Option ℕ) (s from : ℕ) (l : Option ℕ) → ms ≡ ns → gs ≡ hs → to ≡ free → IsHashed ns hs free s from l → IsHashed ms gs to s from l
-hashed_as ns ms hs gs free to s from l a b c h =
-    subst (λ (xs : List Node). IsHashed xs gs to s from l) (sym a) (subst (λ (ys : List (Option ℕ)). IsHashed ns ys to s from l) (sym b) (subst (λ (o : Option ℕ). IsHashed ns hs o s from l) (sym c) h))
+pub hashed_as : (ns ms : List Node) (hs gs : List (Option ℕ)) (free to : Option ℕ) (s from : ℕ) → ms ≡ ns → gs ≡ hs → to ≡ free → IsHashed ns hs free s from → IsHashed ms gs to s from
+hashed_as ns ms hs gs free to s from a b c h =
+    subst (λ (xs : List Node). IsHashed xs gs to s from) (sym a) (subst (λ (ys : List (Option ℕ)). IsHashed ns ys to s from) (sym b) (subst (λ (o : Option ℕ). IsHashed ns hs o s from) (sym c) h))
 
 pub mapped_as : (us : List ℕ) (hs gs : List (Option ℕ)) → gs ≡ hs → IsMapped us hs → IsMapped us gs
 mapped_as us hs gs e h = subst (IsMapped us) (sym e) h

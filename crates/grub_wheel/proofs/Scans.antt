@@ -90,6 +90,35 @@ module _ (ns : List Node) (hs : List (Option ℕ)) (sound : AreInSlots ns hs) (P
           (keep (λ i a p k. let g = key_moments (moments ns h) (tasks ns h) (moments ns i) (tasks ns i) (sound.narrow i a) (f.least i a p) in absurd (omega arith)) best b)
       go (inr l) = due l best r b
 
+empty_slot : (ns : List Node) (hs : List (Option ℕ)) → AreInSlots ns hs → (us : List ℕ) → IsMapped us hs → (r : ℕ) → r < 256 → mark_of us r ≡ 0 → (i : ℕ) → Armed ns i → slots ns i ≢ r
+empty_slot ns hs sound us mapped r lt z i a p = go (head_of hs r) refl (sound.chained.heads r lt)
+  where
+    go : (o : Option ℕ) → head_of hs r ≡ o → IsFirstOf ns (λ j. slots ns j ≡ r) o → ⊥
+    go None e n = n i a p
+    go (Some h) e f = let o = mapped r lt (λ n. let x = sym e ∙ n in absurd cc) in let q : 0 ≡ 1 = sym z ∙ o in absurd (omega (arith, q))
+
+-- ---- a bound by the heads of the slots
+
+module _ (ns : List Node) (hs : List (Option ℕ)) (sound : AreInSlots ns hs) (us : List ℕ) (mapped : IsMapped us hs) (slot next bound : ℕ)
+    (none : (r : ℕ) → slot ≤ r → r < next → mark_of us r ≡ 0) (old : (i : ℕ) → Armed ns i → slots ns i < slot → bound ≤ moments ns i) where
+  pub bound_passes : (i : ℕ) → Armed ns i → slots ns i < next → bound ≤ moments ns i
+  bound_passes i a lt = go (less_or (slots ns i) slot)
+    where
+      go : (slots ns i < slot) ⊎ (slot ≤ slots ns i) → bound ≤ moments ns i
+      go (inl l) = old i a l
+      go (inr l) = let b : slots ns i < 256 = omega arith in absurd (empty_slot ns hs sound us mapped (slots ns i) b (none (slots ns i) l lt) i a refl)
+
+  pub bound_goes_on : (result : ℕ) → next < 256 → result ≤ bound → IfSome (head_of hs next) (λ h. result ≤ moments ns h) → (i : ℕ) → Armed ns i → slots ns i < next + 1 → result ≤ moments ns i
+  bound_goes_on result low le at i a lt = go (same_or (slots ns i) next)
+    where
+      at_head : (o : Option ℕ) → IsFirstOf ns (λ j. slots ns j ≡ next) o → IfSome o (λ h. result ≤ moments ns h) → slots ns i ≡ next → result ≤ moments ns i
+      at_head None n h e = absurd (n i a e)
+      at_head (Some k) f h e = let g = key_moments (moments ns k) (tasks ns k) (moments ns i) (tasks ns i) (sound.narrow i a) (f.least i a e) in omega arith
+
+      go : (slots ns i ≡ next) ⊎ (slots ns i ≢ next) → result ≤ moments ns i
+      go (inl e) = at_head (head_of hs next) (sound.chained.heads next low) at e
+      go (inr ne) = let p = bound_passes i a (omega arith) in omega arith
+
 -- ---- the slots of the moments from `from` on
 
 -- what the search has seen of the k slots from a moment on
@@ -110,13 +139,6 @@ module _ (ns : List Node) (hs : List (Option ℕ)) (sound : AreInSlots ns hs) (f
   pub best_narrow : (k : ℕ) (best : Option ℕ) → IsScanned ns from m k best → IfSome best (IsNarrowNode ns)
   best_narrow k best sc = first_narrow ns hs (λ i. (moments ns i ≤ m) × ((moments ns i - from) % 256 < k)) best sound sc.seen
 
-  empty_slot : (us : List ℕ) → IsMapped us hs → (r : ℕ) → r < 256 → mark_of us r ≡ 0 → (i : ℕ) → Armed ns i → slots ns i ≢ r
-  empty_slot us mapped r lt z i a p = go (head_of hs r) refl (sound.chained.heads r lt)
-    where
-      go : (o : Option ℕ) → head_of hs r ≡ o → IsFirstOf ns (λ j. slots ns j ≡ r) o → ⊥
-      go None e n = n i a p
-      go (Some h) e f = let o = mapped r lt (λ n. let x = sym e ∙ n in absurd cc) in let q : 0 ≡ 1 = sym z ∙ o in absurd (omega (arith, q))
-
   module _ (us : List ℕ) (mapped : IsMapped us hs) (k slot next at : ℕ) (e : slot ≡ (from + k) % 256) (lo : slot ≤ next) (hi : next ≤ 256)
       (none : (r : ℕ) → slot ≤ r → r < next → mark_of us r ≡ 0) (is : at ≡ k + (next - slot)) (kl : k < 256) where
     place_of : (z o : ℕ) → from ≤ z → (z - from) % 256 ≡ o → k ≤ o → o < at → (slot ≤ z % 256) × (z % 256 < next)
@@ -129,7 +151,7 @@ module _ (ns : List Node) (hs : List (Option ℕ)) (sound : AreInSlots ns hs) (f
     no_such i o a q l h =
         let p = place_of (moments ns i) o (after i a) q l h in
         let b : moments ns i % 256 < 256 = omega arith in
-        empty_slot us mapped (moments ns i % 256) b (none (moments ns i % 256) p.0 p.1) i a refl
+        empty_slot ns hs sound us mapped (moments ns i % 256) b (none (moments ns i % 256) p.0 p.1) i a refl
 
     not_passed : (i : ℕ) → Armed ns i → (moments ns i - from) % 256 < at → (moments ns i - from) % 256 < k
     not_passed i a h = go (less_or ((moments ns i - from) % 256) k)
@@ -152,7 +174,7 @@ module _ (ns : List Node) (hs : List (Option ℕ)) (sound : AreInSlots ns hs) (f
             let p : slot ≤ moments ns i % 256 = omega (arith, w) in
             let q : moments ns i % 256 < next = omega (arith, w, x, l, is, lo) in
             let b : moments ns i % 256 < 256 = omega arith in
-            absurd (empty_slot us mapped (moments ns i % 256) b (none (moments ns i % 256) p q) i a refl)
+            absurd (empty_slot ns hs sound us mapped (moments ns i % 256) b (none (moments ns i % 256) p q) i a refl)
 
   -- empty slots are passed over, up to the next used one
   pub skips : (us : List ℕ) → IsMapped us hs → (k next : ℕ) (best : Option ℕ) → IsScanned ns from m k best → k < 256 → (from + k) % 256 ≤ next → next ≤ 256

@@ -116,17 +116,11 @@ one_if_armed n = if n.armed then 1 else 0
 abbrev pub armed_count : List Node → ℕ
 armed_count ns = sum_by one_if_armed ns
 
--- the first moment after the latest `due`
-abbrev pub moment_after : Option ℕ → ℕ
-moment_after None = 0
-moment_after (Some m) = m + 1
-
 -- the nodes and slots of a wheel, with no armed timer before `from`
-pub record IsHashed (ns : List Node) (hs : List (Option ℕ)) (free : Option ℕ) (spare from : ℕ) (last : Option ℕ) : Type 0 where
+pub record IsHashed (ns : List Node) (hs : List (Option ℕ)) (free : Option ℕ) (spare from : ℕ) : Type 0 where
   pub sound : AreInSlots ns hs
   pub places : List ℕ
   pub linked : AreFree ns places free
   pub room : length places ≡ spare
   pub count : spare + armed_count ns ≡ length ns
   pub after : (i : ℕ) → Armed ns i → from ≤ moments ns i
-  pub behind : from ≤ moment_after last

@@ -37,6 +37,56 @@ fn sooner(nodes: &[Node], best: Option<usize>, head: Option<usize>, m: u32) -> O
     }
 }
 
+/// The lesser of a bound and the moment of a slot's head.
+fn bound_by(nodes: &[Node], head: Option<usize>, bound: u64) -> u64
+    requires { IfSome head (IsNarrowNode nodes.now) }
+    ensures bound { result ≤ bound }
+    ensures head { IfSome head (λ i. result ≤ moments nodes.now i) }
+{
+    match head {
+        Some(i) => bound.min(u64::from(nodes[i].timer.z)),
+        None => bound,
+    }
+}
+
+/// A moment that no armed timer is before, by the heads of all used slots.
+fn least_moment(nodes: &[Node], heads: &[Option<usize>], used: &[u64]) -> u64
+    requires sound { AreInSlots nodes.now heads.now }
+    requires words { length used.now ≡ 4 }
+    requires mapped { IsMapped used.now heads.now }
+    ensures { (i : ℕ) → Armed nodes.now i → result ≤ moments nodes.now i }
+{
+    let mut bound = u64::MAX;
+    let mut slot = 0;
+    while slot < SLOTS {
+        let next = next_used(used, slot);
+        if next >= SLOTS {
+            return bound;
+        }
+        bound = bound_by(nodes, heads[next], bound);
+        slot = next + 1;
+    }
+    bound
+}
+
+/// A moment that no armed timer is before, where none is due at m and none was before `from`. All slots are looked at only
+/// where the moments from `from` to m have led through all of them.
+pub fn bound_after(nodes: &[Node], heads: &[Option<usize>], used: &[u64], from: u64, m: u32) -> u64
+    requires sound { AreInSlots nodes.now heads.now }
+    requires words { length used.now ≡ 4 }
+    requires mapped { IsMapped used.now heads.now }
+    requires from { from ≤ m }
+    requires later { (i : ℕ) → Armed nodes.now i → m < moments nodes.now i }
+    ensures { (i : ℕ) → Armed nodes.now i → result ≤ moments nodes.now i }
+{
+    let after = u64::from(m) + 1;
+    if after - from < SLOTS as u64 {
+        after
+    } else {
+        least_moment(nodes, heads, used)
+    }
+}
+
 /// The earliest timer that is due at m, where none is before `from`. Only used slots of the moments from `from` to m are looked at.
 pub fn earliest(
     nodes: &[Node],

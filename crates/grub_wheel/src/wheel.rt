@@ -8,7 +8,7 @@ ghost use Rattle.grub_wheel.specs.Nodes.{Armed, tasks, free_node};
 use crate::chains::{SLOTS, put, take};
 use crate::fault::WheelFault;
 use crate::node::Node;
-use crate::scan::earliest;
+use crate::scan::{bound_after, earliest};
 use crate::timer::Timer;
 use std::alloc::Global;
 use std::marker::Model;
@@ -46,7 +46,7 @@ impl Model for Wheel {
 
     ghost view = { λ w. record { timers = map.from_entries (entries_of (timers_of w.nodes.items)); spare = w.spare; last = w.last } };
 
-    ghost invariant = { λ w. record { hashed : IsHashed w.nodes.items w.heads.items w.free w.spare w.from w.last; mapped : IsMapped w.used w.heads.items } };
+    ghost invariant = { λ w. record { hashed : IsHashed w.nodes.items w.heads.items w.free w.spare w.from; mapped : IsMapped w.used w.heads.items } };
 }
 
 impl Wheel {
@@ -131,6 +131,7 @@ impl Wheel {
         );
         self.free = free;
         self.spare -= 1;
+        self.from = self.from.min(u64::from(z));
     }
 
     /// Takes out the timer of task `t`, where one is armed with this ticket.
@@ -167,8 +168,11 @@ impl Wheel {
         ensures kept { IfNone result (self.new ≡ record self.old { last = Some m }) }
     {
         self.last = Some(m);
+        if u64::from(m) < self.from {
+            return None;
+        }
         let Some(first) = earliest(&self.nodes, &self.heads, &self.used, self.from, m) else {
-            self.from = u64::from(m) + 1;
+            self.from = bound_after(&self.nodes, &self.heads, &self.used, self.from, m);
             return None;
         };
         let timer = self.nodes[first].timer;

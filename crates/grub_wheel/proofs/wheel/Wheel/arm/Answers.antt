@@ -5,7 +5,7 @@ use Rattle.grub_wheel.specs.Nodes.{timers_of, links, AreOthersKept}
 use Rattle.grub_wheel.proofs.NodeReads.{node_read, lent_back}
 use Rattle.grub_wheel.proofs.Apart.{bag_put}
 use Rattle.grub_wheel.proofs.FreePlaces.{free_head, some_free}
-use Rattle.grub_wheel.proofs.Hashed.{put_hashed, hashed_as, mapped_as, no_task, later_from}
+use Rattle.grub_wheel.proofs.Hashed.{put_hashed, hashed_as, mapped_as, no_task}
 use Rattle.grub_wheel.proofs.Views.{state_of, arming_state}
 use Rattle.grub_wheel.proofs.wheel.Wheel.arm.Goals as goal
 
@@ -52,12 +52,11 @@ invariant_of-self c =
     let heads = lent_back c.self.inside.heads.len gs c.self.inside.heads.items (omega (arith, count, h.sound.count, c.self.inside.heads.ok.0)) in
     record {
       hashed =
-          hashed_as ms _ gs _ (links ns i) _ _ _ _
+          hashed_as ms _ gs _ (links ns i) _ _ _
           (lent_back c.self.inside.nodes.len ms ns (omega (arith, size, c.self.inside.nodes.ok.0)))
           heads
           (sym (ap (λ (y : Node). y.next) n))
-          (put_hashed ns ms c.self.inside.heads.items gs c.self.inside.free i c.self.inside.spare c.self.inside.from c.self.inside.last x h c.in-Some.is c.put.ensures.sound c.put.ensures.here others
-          (later_from c.self.inside.from c.args.z _ _ h.behind (ap (λ w. w.last) c.self.view_is) c.requires.later));
+          (put_hashed ns ms c.self.inside.heads.items gs c.self.inside.free i c.self.inside.spare c.self.inside.from _ x h c.in-Some.is c.put.ensures.sound c.put.ensures.here others (omega arith) (omega arith));
       mapped = mapped_as c.put.new.used gs _ heads c.put.ensures.mapped;
     }
 

@@ -24,11 +24,11 @@ invariant_of-self c =
     let heads = lent_back c.self.inside.heads.len gs c.self.inside.heads.items (omega (arith, count, h.sound.count, c.self.inside.heads.ok.0)) in
     record {
       hashed =
-          hashed_as ms _ gs _ (Some i) _ _ _ _
+          hashed_as ms _ gs _ (Some i) _ _ _
           (lent_back c.self.inside.nodes.len ms ns (omega (arith, size, c.self.inside.nodes.ok.0)))
           heads
           refl
-          (take_hashed ns ms c.self.inside.heads.items gs c.self.inside.free i c.self.inside.spare c.self.inside.from c.self.inside.last h w a c.take.ensures.sound c.take.ensures.here others);
+          (take_hashed ns ms c.self.inside.heads.items gs c.self.inside.free i c.self.inside.spare c.self.inside.from h w a c.take.ensures.sound c.take.ensures.here others);
       mapped = mapped_as c.take.new.used gs _ heads c.take.ensures.mapped;
     }
 

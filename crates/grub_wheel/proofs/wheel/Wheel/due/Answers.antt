@@ -14,6 +14,11 @@ returns-in_default-clause-none c =
     let ns = c.self.inside.nodes.items in
     none_later ns _ _ _ c.self.view_is c.args.m (none_due ns c.deref.result.now c.args.m c.earliest.result c.deref.ensures.value c.earliest.ensures c.in_default.is)
 
+pub returns-then-from-self-clause-none : goal.returns-then-from-self-clause-none
+returns-then-from-self-clause-none c =
+    let ns = c.self.inside.nodes.items in
+    none_later ns _ _ _ c.self.view_is c.args.m (λ j a. let l = c.self.invariant.hashed.after j a in omega (arith, l, c.if-from-self.true, c.from.ensures))
+
 pub invariant_of-self-2 : goal.invariant_of-self-2
 invariant_of-self-2 c =
     let ns = c.self.inside.nodes.items in
@@ -28,17 +33,17 @@ invariant_of-self-2 c =
     let count = c.take.ensures.sound.count in
     let n = node_read ns i c.index.result.now w c.index.ensures in
     let z : c.from-self-inside.result ≡ moments ns i = c.from-self-inside.ensures ∙ sym (ap (λ (x : Node). x.timer.z) n) in
-    let taken = take_hashed ns ms c.self.inside.heads.items gs c.self.inside.free i c.self.inside.spare c.self.inside.from c.self.inside.last h w d.armed c.take.ensures.sound c.take.ensures.here others in
+    let taken = take_hashed ns ms c.self.inside.heads.items gs c.self.inside.free i c.self.inside.spare c.self.inside.from h w d.armed c.take.ensures.sound c.take.ensures.here others in
     let after = rest_after ns _ _ _ c.self.view_is c.self.inside.heads.items h.sound c.args.m i d c.index.result.now.timer (ap (λ (x : Node). x.timer) n) ms others c.take.ensures.here.armed in
     let meets : moments ns i ≤ c.args.m = d.meets in
     let heads = lent_back c.self.inside.heads.len gs c.self.inside.heads.items (omega (arith, count, h.sound.count, c.self.inside.heads.ok.0)) in
     record {
       hashed =
-          hashed_as ms _ gs _ (Some i) _ _ _ _
+          hashed_as ms _ gs _ (Some i) _ _ _
           (lent_back c.self.inside.nodes.len ms ns (omega (arith, size, c.self.inside.nodes.ok.0)))
           heads
           refl
-          (moved_on ms gs (Some i) (c.self.inside.spare + 1) c.self.inside.from c.from-self-inside.result c.args.m c.self.inside.last taken (λ j b. let q = after j b in omega (arith, q, z)) (omega (arith, meets, z)));
+          (moved_on ms gs (Some i) (c.self.inside.spare + 1) c.self.inside.from c.from-self-inside.result taken (λ j b. let q = after j b in omega (arith, q, z)));
       mapped = mapped_as c.take.new.used gs _ heads c.take.ensures.mapped;
     }
 

@@ -13,7 +13,7 @@ invariant_of-self-then-self-eq0 c =
     let e : c.push.new.self.items ≡ ns ++ c.free_node.result ∷ [] = pushed _ _ _ _ _ c.push.ensures.items c.is_err.ensures.negation c.if-is_err.false in
     let p : c.len-place.result ≡ length ns = omega (arith, c.len-place.ensures, c.self.inside.nodes.ok.0) in
     record {
-      hashed = free_more ns _ _ c.self.inside.free c.self.inside.spare _ _ _ c.self.invariant.hashed c.if-self-eq0.true (e ∙ ap (λ (x : Node). ns ++ x ∷ []) c.free_node.ensures) p;
+      hashed = free_more ns _ _ c.self.inside.free c.self.inside.spare _ _ c.self.invariant.hashed c.if-self-eq0.true (e ∙ ap (λ (x : Node). ns ++ x ∷ []) c.free_node.ensures) p;
       mapped = c.self.invariant.mapped;
     }
 
