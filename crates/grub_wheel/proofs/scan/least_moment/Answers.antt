@@ -1,5 +1,4 @@
-use Rattle.std.proofs.Common.{◌≡◌, ◌<◌, ◌%◌, arith}
-use Rattle.grub_wheel.specs.Nodes.{slots}
+use Rattle.std.proofs.Common.{arith}
 use Rattle.grub_wheel.proofs.Scans.{bound_passes, bound_goes_on}
 use Rattle.grub_wheel.proofs.scan.least_moment.Goals as goal
 

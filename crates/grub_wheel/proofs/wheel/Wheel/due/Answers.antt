@@ -1,4 +1,4 @@
-use Rattle.std.proofs.Common.{◌≡◌, Some, refl, sym, ◌∙◌, ap, ◌<◌, ◌≤◌, ◌+◌, List, length, subst, arith}
+use Rattle.std.proofs.Common.{◌≡◌, Some, refl, sym, ◌∙◌, ap, ◌<◌, ◌+◌, List, length, subst, arith}
 use Rattle.grub_wheel.specs.declared.node.Node.{Node}
 use Rattle.grub_wheel.specs.Nodes.{moments, timers_of, AreOthersKept}
 use Rattle.grub_wheel.proofs.NodeReads.{node_read, lent_back}
@@ -35,7 +35,6 @@ invariant_of-self-2 c =
     let z : c.from-self-inside.result ≡ moments ns i = c.from-self-inside.ensures ∙ sym (ap (λ (x : Node). x.timer.z) n) in
     let taken = take_hashed ns ms c.self.inside.heads.items gs c.self.inside.free i c.self.inside.spare c.self.inside.from h w d.armed c.take.ensures.sound c.take.ensures.here others in
     let after = rest_after ns _ _ _ c.self.view_is c.self.inside.heads.items h.sound c.args.m i d c.index.result.now.timer (ap (λ (x : Node). x.timer) n) ms others c.take.ensures.here.armed in
-    let meets : moments ns i ≤ c.args.m = d.meets in
     let heads = lent_back c.self.inside.heads.len gs c.self.inside.heads.items (omega (arith, count, h.sound.count, c.self.inside.heads.ok.0)) in
     record {
       hashed =
