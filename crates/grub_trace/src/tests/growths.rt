@@ -61,20 +61,19 @@ fn refused_texts(rt: &impl Abort, alloc: Global, plan: &Plan) {
         }
         Err(fault) => assert_eq!(rt; fault, TextFault::NoMemory),
     }
-    let report = Report {
-        entries: Vec::new(alloc),
+    let Ok(entries) = Vec::from_slice(alloc, &[entry]) else {
+        return;
     };
+    let report = Report { entries };
     let closing = Reading {
         running: 0,
         this: 0,
     };
     match report_of(alloc, plan, 1, &report, closing) {
-        Ok(text) => {
-            assert_eq!(rt;
-                text.as_slice(),
-                b"runqueue 1\nclose running=0 this=0\n".as_slice()
-            );
-        }
+        Ok(text) => assert_eq!(rt;
+            text.as_slice(),
+            b"runqueue 1\nat 3 retune T1 1 2: retuned\nclose running=0 this=0\n".as_slice()
+        ),
         Err(fault) => assert_eq!(rt; fault, TextFault::NoMemory),
     }
 }
