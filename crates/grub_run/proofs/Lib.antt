@@ -1,3 +1,2 @@
-pub mod AloneLemmas
 pub mod Known
 pub mod TextLemmas

@@ -1,10 +1,15 @@
 -- The texts of reports, one more at the end.
-use Rattle.std.proofs.Common.{◌≡◌, ℕ, suc, ◌+◌, List, [], ◌∷◌, ◌++◌, length, ap, ◌∙◌, sym, append_assoc, append-nil, add-zero, arith, take, get_or, refl, ◌<◌}
-use Rattle.std.proofs.lemmas.List.{take_more, length-take-le}
+use Rattle.std.proofs.Common.{◌≡◌, ℕ, suc, ◌+◌, List, [], ◌∷◌, ◌++◌, length, ap, ◌∙◌, sym, append_assoc, append-nil, add-zero, arith, take, get_or, refl, ◌<◌, ◌≤◌, map, subst, zero, Some, All}
+use Rattle.std.proofs.lemmas.List.{take_more, length-map, length-take-le}
 use Rattle.grub_book.specs.declared.event.Reading.{Reading}
 use Rattle.grub_trace.specs.Texts.{report_text}
 use Rattle.grub_trace.specs.declared.entry.Report.{Report}
-use Rattle.grub_run.specs.Written.{texts_from}
+use Rattle.grub_trace.specs.Meaning.{Reads}
+use Rattle.grub_trace.specs.Naming.{all_tasks, plan_of, script_of}
+use Rattle.grub_trace.specs.Plans.{PlanView}
+use Rattle.grub_trace.specs.Tree.{Tree, names_of, text as tree_text}
+use Rattle.grub_workers.specs.Runs.{IsOnlyRun, IsRun, entries_of}
+use Rattle.grub_run.specs.Written.{IsOnlyText, IsOutput, IsText, texts_from}
 
 pub texts_push : (names : List (List ℕ)) (r : ℕ) (xs : List Report) (cs : List Reading) (x : Report) (c : Reading) → length xs ≡ length cs
     → texts_from names r (xs ++ x ∷ []) (cs ++ c ∷ []) ≡ texts_from names r xs cs ++ report_text names (r + length xs) x.entries.items c
@@ -29,3 +34,49 @@ texts_more names xs cs r x c text part new same below x_is c_is text_is part_is 
     let more_cs : take (r + 1) cs ≡ take r cs ++ c ∷ [] = take_more cs r c (omega arith) ∙ ap (λ y. take r cs ++ y ∷ []) c_is in
     let at : 0 + length (take r xs) ≡ r = omega arith in
     rw (more_xs, more_cs, texts_push names 0 (take r xs) (take r cs) x c lens, at, new_is, text_is, part_is) refl
+
+-- reports with the same entries have one text
+texts_same : (names : List (List ℕ)) (r : ℕ) (xs ys : List Report) (cs : List Reading) → map entries_of xs ≡ map entries_of ys → texts_from names r xs cs ≡ texts_from names r ys cs
+texts_same names r [] [] cs e = refl
+texts_same names r [] (y ∷ ys) cs e = cc
+texts_same names r (x ∷ xs) [] cs e = cc
+texts_same names r (x ∷ xs) (y ∷ ys) [] e = refl
+texts_same names r (x ∷ xs) (y ∷ ys) (c ∷ cs) e =
+    let first : entries_of x ≡ entries_of y = cc in
+    let rest : map entries_of xs ≡ map entries_of ys = cc in
+    rw (first, texts_same names (r + 1) xs ys cs rest) refl
+
+-- where a run of the plan gives one outcome alone, it has one text alone
+pub only_text : (files : List (List ℕ)) (plan : PlanView) (reports : List Report) (closing : List Reading) (text : List ℕ)
+    → ((trees : List Tree) → Reads files trees → plan ≡ plan_of trees) → IsOnlyRun plan reports closing → text ≡ texts_from plan.names 0 reports closing → IsOnlyText files text
+only_text files plan reports closing text every only whole = λ tries other some is.
+    let same : plan ≡ plan_of is.trees = every is.trees is.read in
+    let run : IsRun plan tries is.reports is.closing = subst (λ p. IsRun p tries is.reports is.closing) (sym same) is.run in
+    let outcome = only tries is.reports is.closing some run in
+    let names : (plan_of is.trees).names ≡ plan.names = ap (λ p. p.names) (sym same) in
+    is.whole ∙ ap (λ ns. texts_from ns 0 is.reports is.closing) names ∙ texts_same plan.names 0 is.reports reports is.closing outcome.0
+    ∙ ap (λ cs. texts_from plan.names 0 reports cs) outcome.1 ∙ sym whole
+
+-- a plan has a script for each file
+one_script_each : (files : List (List ℕ)) (trees : List Tree) → Reads files trees → length (plan_of trees).scripts ≡ length files
+one_script_each files trees read =
+    length-map trees (script_of (names_of (all_tasks trees))) ∙ sym (length-map trees tree_text) ∙ ap length (sym read.texts)
+
+-- the text of the reports of a run of the plan of these files
+pub output_of : (tries : ℕ) (files : List (List ℕ)) (plan : PlanView) (reports : List Report) (closing : List Reading) (text : List ℕ)
+    → (trees : List Tree) → Reads files trees → plan ≡ plan_of trees → ((others : List Tree) → Reads files others → plan ≡ plan_of others)
+    → IsRun plan tries reports closing → (length plan.scripts ≡ 1 → 1 ≤ tries → IsOnlyRun plan reports closing)
+    → text ≡ texts_from plan.names 0 reports closing → IsOutput tries files text
+output_of tries files plan reports closing text trees read is every run only whole = record {
+  is = record {
+    trees = trees;
+    read = read;
+    reports = reports;
+    closing = closing;
+    run = subst (λ p. IsRun p tries reports closing) is run;
+    whole = whole ∙ ap (λ p. texts_from p.names 0 reports closing) is;
+  };
+  only = λ one some.
+      let alone : length plan.scripts ≡ 1 = ap (λ p. length p.scripts) is ∙ one_script_each files trees read ∙ one in
+      only_text files plan reports closing text every (only alone some) whole;
+}

@@ -1,5 +1,5 @@
 -- The text that a run writes, and what a writer took of it.
-use Rattle.std.specs.Prelude.{◌≡◌, ℕ, ◌+◌, ◌++◌, List, [], ◌∷◌, take, ⊤, Option, Some, None}
+use Rattle.std.specs.Prelude.{◌≡◌, ◌≤◌, ℕ, ◌+◌, ◌++◌, List, [], ◌∷◌, length, take, ⊤, Option, Some, None}
 use Rattle.std.specs.Io.KnownBytes.{Appends}
 use Rattle.grub_book.specs.declared.event.Reading.{Reading}
 use Rattle.grub_trace.specs.Meaning.{Reads, IsTraceFault, IsOnly}
@@ -9,7 +9,7 @@ use Rattle.grub_trace.specs.Texts.{report_text}
 use Rattle.grub_trace.specs.declared.entry.Report.{Report}
 use Rattle.grub_trace.specs.declared.fault.Kind.{Kind}
 use Rattle.grub_trace.specs.declared.fault.TraceFault.TheVariants as trace
-use Rattle.grub_run.specs.Alone.{IsOutcome}
+use Rattle.grub_workers.specs.Runs.{IsRun}
 use Rattle.grub_run.specs.declared.fault.GrubFault.{GrubFault}
 use Rattle.grub_run.specs.declared.fault.GrubFault.TheVariants as faults
 
@@ -20,13 +20,22 @@ texts_from names r (x ∷ reports) [] = []
 texts_from names r (x ∷ reports) (c ∷ closing) = report_text names r x.entries.items c ++ texts_from names (r + 1) reports closing
 
 -- the text is that of the reports of a run of these files, in file order
-pub record IsText (files : List (List ℕ)) (text : List ℕ) : Type 0 where
+pub record IsText (tries : ℕ) (files : List (List ℕ)) (text : List ℕ) : Type 0 where
   pub trees : List Tree
   pub read : Reads files trees
   pub reports : List Report
   pub closing : List Reading
-  pub outcome : IsOutcome (plan_of trees) reports closing
+  pub run : IsRun (plan_of trees) tries reports closing
   pub whole : text ≡ texts_from (plan_of trees).names 0 reports closing
+
+-- no other text than this is that of a run of the files, with however many tries, but one at least
+abbrev pub IsOnlyText : List (List ℕ) → List ℕ → Type 0
+IsOnlyText files text = (tries : ℕ) (other : List ℕ) → 1 ≤ tries → IsText tries files other → other ≡ text
+
+-- the text of a run, which with one file alone is a function of the file
+pub record IsOutput (tries : ℕ) (files : List (List ℕ)) (text : List ℕ) : Type 0 where
+  pub is : IsText tries files text
+  pub only : length files ≡ 1 → 1 ≤ tries → IsOnlyText files text
 
 -- known bytes grow by a beginning of the text
 abbrev pub AppendsPrefix : Option (List ℕ) → Option (List ℕ) → List ℕ → Type 0
@@ -35,12 +44,12 @@ AppendsPrefix (Some xs) None text = ⊥
 AppendsPrefix (Some xs) (Some ys) text = (k : ℕ) × (ys ≡ xs ++ take k text)
 
 -- what was written is the text of a run, and nothing else
-abbrev pub WritesText : List (List ℕ) → Option (List ℕ) → Option (List ℕ) → Type 0
-WritesText files old new = (text : List ℕ) × IsText files text × Appends old new text
+abbrev pub WritesText : ℕ → List (List ℕ) → Option (List ℕ) → Option (List ℕ) → Type 0
+WritesText tries files old new = (text : List ℕ) × IsOutput tries files text × Appends old new text
 
 -- what was written is a beginning of the text of a run
-abbrev pub WritesPrefix : List (List ℕ) → Option (List ℕ) → Option (List ℕ) → Type 0
-WritesPrefix files old new = (text : List ℕ) × IsText files text × AppendsPrefix old new text
+abbrev pub WritesPrefix : ℕ → List (List ℕ) → Option (List ℕ) → Option (List ℕ) → Type 0
+WritesPrefix tries files old new = (text : List ℕ) × IsOutput tries files text × AppendsPrefix old new text
 
 -- a fault of the files is the one that their reader answers
 abbrev pub IsFaultOf : List (List ℕ) → GrubFault → Type 0

@@ -1,14 +1,6 @@
 use grub_trace::{Kind, TextFault, TraceFault};
+use grub_workers::RunFault;
 use thiserror::Error;
-
-/// Why a run has no outcome. Started threads were joined.
-#[derive(Clone, Copy, Debug, PartialEq, Eq)]
-pub enum RunFault {
-    /// 38.
-    NoMemory,
-    /// 39: a thread that was wanted could not be started.
-    Spawn,
-}
 
 /// Why nothing, or not all, was written. Its text is the fault's number and name, without the place.
 #[derive(Clone, Copy, Debug, PartialEq, Eq, Error)]

@@ -1,29 +1,37 @@
-use crate::{GrubFault, RunFault, run_texts};
+use crate::{GrubFault, run_texts};
 use grub_trace::{Kind, TraceFault};
 use std::alloc::{AllocError, Global};
 use std::io;
 use std::io::{ErrorKind, Write};
 use std::test::Fail;
 
-const FIRST: &str = "\
+const DOCUMENTATION: &str = "\
 grub 1
 queue 1048576 0
-task A 4 8
-at 0 join A
-at 0 block A
-at 0 read
-at 3 wake A
-at 3 read
+task T1 4 8
+task T2 4 8
+at 0 join T1
+at 0 join T2
+at 0 run T1 2
+at 2 block T1
+at 2 run T2 2
+at 4 run T2 4
+at 8 wake T1
+at 8 read
 ";
 
-const FIRST_REPORT: &str = "\
+const DOCUMENTATION_REPORT: &str = "\
 runqueue 0
-at 0 join A: joined q=4 d=8
-at 0 block A: asleep
-at 0 read: running=0 this=524288
-at 3 wake A: woken q=4 d=11
-at 3 read: running=524288 this=524288
-close running=524288 this=524288
+at 0 join T1: joined q=4 d=8
+at 0 join T2: joined q=4 d=8
+at 0 run T1 2: charged dq=2 k=0 q=2 d=8
+at 2 block T1: waiting ticket=1 z=4
+at 2 run T2 2: charged dq=2 k=0 q=2 d=8
+at 4 timer T1 1: retired
+at 4 run T2 4: charged dq=2 k=1 q=4 d=16
+at 8 wake T1: woken q=4 d=16
+at 8 read: running=1048576 this=1048576
+close running=1048576 this=1048576
 ";
 
 /// How a `Narrow` writer goes on after its calls are used up.
@@ -85,24 +93,23 @@ fn files_of(alloc: Global, texts: &[&str]) -> Result<Vec<Vec<u8>>, AllocError> {
 }
 
 #[test]
-fn the_first_file(rt: HostRuntime) -> Result<(), Fail> {
+fn the_documentation(rt: HostRuntime) -> Result<(), Fail> {
     let alloc = rt.alloc();
-    let files = files_of(alloc, [FIRST].as_slice())?;
+    let files = files_of(alloc, [DOCUMENTATION].as_slice())?;
     let mut out: Vec<u8> = Vec::new(alloc);
-    let result = run_texts(&rt, alloc, &files, 8, 64, &mut out);
+    let result = run_texts(&rt, alloc, &files, 4, 100, &mut out);
     assert!(rt; result == Ok(()));
-    assert_eq!(rt; out.as_slice(), FIRST_REPORT.as_bytes());
+    assert_eq!(rt; out.as_slice(), DOCUMENTATION_REPORT.as_bytes());
     Ok(())
 }
 
 #[test]
 fn faults_before_anything_is_written(rt: HostRuntime) -> Result<(), Fail> {
     let alloc = rt.alloc();
-    let empty = "grub 1\nqueue 1 0\n";
     for (count, kind, file) in [(0, Kind::MissingQueue, 0usize), (65, Kind::OutOfRange, 64)] {
         let mut files = Vec::new(alloc);
         for _ in 0..count {
-            files.push(empty.as_bytes().to_vec(alloc)?)?;
+            files.push(b"grub 1\nqueue 1 0\n".to_vec(alloc)?)?;
         }
         let mut out: Vec<u8> = Vec::new(alloc);
         let result = run_texts(&rt, alloc, &files, 8, 64, &mut out);
@@ -114,19 +121,14 @@ fn faults_before_anything_is_written(rt: HostRuntime) -> Result<(), Fail> {
         assert!(rt; result == Err(GrubFault::Trace(fault)));
         assert!(rt; out.is_empty());
     }
-    let files = files_of(alloc, [empty, empty].as_slice())?;
-    let mut out: Vec<u8> = Vec::new(alloc);
-    let result = run_texts(&rt, alloc, &files, 8, 64, &mut out);
-    assert!(rt; result == Err(GrubFault::Run(RunFault::Spawn)));
-    assert!(rt; out.is_empty());
     Ok(())
 }
 
 #[test]
 fn writers_that_fail(rt: HostRuntime) -> Result<(), Fail> {
     let alloc = rt.alloc();
-    let files = files_of(alloc, [FIRST].as_slice())?;
-    let whole = FIRST_REPORT.as_bytes();
+    let files = files_of(alloc, [DOCUMENTATION].as_slice())?;
+    let whole = DOCUMENTATION_REPORT.as_bytes();
     let whole_calls = whole.len().div_ceil(7);
     for then in [Then::Fails, Then::TakesNothing, Then::FailsInFlush] {
         for calls in 0..whole_calls {
@@ -146,7 +148,7 @@ fn writers_that_fail(rt: HostRuntime) -> Result<(), Fail> {
 #[test]
 fn writers_that_take_all(rt: HostRuntime) -> Result<(), Fail> {
     let alloc = rt.alloc();
-    let files = files_of(alloc, [FIRST].as_slice())?;
+    let files = files_of(alloc, [DOCUMENTATION].as_slice())?;
     for (each, then, want) in [
         (1, Then::Fails, Ok(())),
         (1000, Then::TakesNothing, Ok(())),
@@ -155,7 +157,7 @@ fn writers_that_take_all(rt: HostRuntime) -> Result<(), Fail> {
         let mut out = Narrow::new(alloc, each, 1000, then);
         let result = run_texts(&rt, alloc, &files, 8, 64, &mut out);
         assert!(rt; result == want);
-        assert_eq!(rt; out.text.as_slice(), FIRST_REPORT.as_bytes());
+        assert_eq!(rt; out.text.as_slice(), DOCUMENTATION_REPORT.as_bytes());
     }
     Ok(())
 }

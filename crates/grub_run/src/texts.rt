@@ -1,25 +1,25 @@
 //! From the bytes of event files to the bytes of their reports.
 
-ghost use Rattle.std.specs.Prelude.{◌≡◌, ◌≤◌, ℕ, List, length, All, MatchResult, OnOk, IfOk, IfErr};
+ghost use Rattle.std.specs.Prelude.{◌≡◌, ◌≤◌, ℕ, List, length, MatchResult, OnOk, IfOk, IfErr};
 ghost use Rattle.grub_trace.specs.Meaning.{Reads, IsFault};
 ghost use Rattle.grub_trace.specs.Reading.{contents};
 ghost use Rattle.grub_trace.specs.Tree.{Tree};
 ghost use Rattle.grub_trace.specs.declared.fault.Kind.{Kind};
-ghost use Rattle.grub_run.specs.Alone.{AreAsks, IsOutcome};
-ghost use Rattle.grub_run.specs.Written.{IsFaultOf, IsNoFileFault, IsOnlyFault, WritesText, WritesPrefix, texts_from};
+ghost use Rattle.grub_workers.specs.Runs.{AllAsksOf};
+ghost use Rattle.grub_run.specs.Written.{IsFaultOf, IsNoFileFault, IsOnlyFault, IsOutput, WritesText, WritesPrefix, texts_from};
 ghost use Rattle.grub_run.specs.declared.fault.GrubFault.TheVariants as faults;
 
-use crate::alone::run;
 use crate::fault::GrubFault;
 use crate::output::write_text;
 use grub_book::Reading;
 use grub_trace::{Plan, Report, TextFault, read_files, report_of};
+use grub_workers::{NoGate, run};
 use std::alloc::Global;
 use std::io::Write;
 use std::sync::Wait;
 use std::thread::Threads;
 
-/// Reads event files, runs them, and writes the texts of their reports in file order.
+/// Reads event files, runs them with a thread for each, and writes the texts of their reports in file order.
 ///
 /// `Trace` (28 to 37) is the reader's fault. `WriteFault` (45) comes where a write or the flush failed, or a write took
 /// nothing; a beginning of the text was written then. On every other fault nothing was written.
@@ -33,8 +33,8 @@ pub fn run_texts<R: Threads + Wait, W: Write>(
 ) -> Result<(), GrubFault>
     requires { 1 ≤ rounds }
 
-    ensures text { OnOk result (WritesText (contents files.now) (W.contents out.old) (W.contents out.new)) }
-    ensures prefix { IfErr result (λ e. e ≡ faults.WriteFault → WritesPrefix (contents files.now) (W.contents out.old) (W.contents out.new)) }
+    ensures text { OnOk result (WritesText tries (contents files.now) (W.contents out.old) (W.contents out.new)) }
+    ensures prefix { IfErr result (λ e. e ≡ faults.WriteFault → WritesPrefix tries (contents files.now) (W.contents out.old) (W.contents out.new)) }
     ensures nothing { IfErr result (λ e. (e ≡ faults.WriteFault → ⊥) → out.new ≡ out.old) }
 
     // A fault of the files is the reader's, and where there is one it is answered, memory aside.
@@ -42,22 +42,40 @@ pub fn run_texts<R: Threads + Wait, W: Write>(
     ensures answered { (k : Kind) (f n : ℕ) → IsFault (contents files.now) k f n → MatchResult result (λ _. ⊥) (λ e. IsOnlyFault e k f n) }
     ensures readable { (trees : List Tree) → Reads (contents files.now) trees → IfErr result IsNoFileFault }
 {
-    // Not used before the workers stand.
-    let _ = rt;
-    let _ = (tries, rounds);
+    let text = match text_of_run(rt, alloc, files, tries, rounds) {
+        Ok(text) => text,
+        Err(fault) => return Err(fault),
+    };
+    write_text(out, &text)
+}
+
+/// The whole text of a run of the files.
+fn text_of_run<R: Threads + Wait>(
+    rt: &R,
+    alloc: Global,
+    files: &[Vec<u8>],
+    tries: u8,
+    rounds: u16,
+) -> Result<Vec<u8>, GrubFault>
+    requires { 1 ≤ rounds }
+    ensures text { IfOk result (λ v. IsOutput tries (contents files.now) v.items) }
+    ensures unwritten { IfErr result (λ e. e ≡ faults.WriteFault → ⊥) }
+    ensures fault { IfErr result (IsFaultOf (contents files.now)) }
+    ensures answered { (k : Kind) (f n : ℕ) → IsFault (contents files.now) k f n → MatchResult result (λ _. ⊥) (λ e. IsOnlyFault e k f n) }
+    ensures readable { (trees : List Tree) → Reads (contents files.now) trees → IfErr result IsNoFileFault }
+{
     let plan = match read_files(alloc, files) {
         Ok(plan) => plan,
         Err(fault) => return Err(GrubFault::Trace(fault)),
     };
-    let outcome = match run(alloc, &plan) {
+    let outcome = match run(rt, alloc, &plan, tries, rounds, &NoGate) {
         Ok(outcome) => outcome,
         Err(fault) => return Err(GrubFault::Run(fault)),
     };
-    let text = match text_of(alloc, &plan, &outcome.reports, &outcome.closing) {
-        Ok(text) => text,
-        Err(fault) => return Err(GrubFault::Text(fault)),
-    };
-    write_text(out, &text)
+    match text_of(alloc, &plan, &outcome.reports, &outcome.closing) {
+        Ok(text) => Ok(text),
+        Err(fault) => Err(GrubFault::Text(fault)),
+    }
 }
 
 /// The texts of the reports, in file order.
@@ -69,7 +87,7 @@ fn text_of(
 ) -> Result<Vec<u8>, TextFault>
     requires one_each { length reports.now ≡ length closing.now }
     requires most { length reports.now ≤ 64 }
-    requires asks { All (AreAsks plan.now) reports.now }
+    requires tasks { AllAsksOf plan.now reports.now }
     ensures { IfOk result (λ v. v.items ≡ texts_from plan.now.names 0 reports.now closing.now) }
 {
     let mut text = Vec::new(alloc);
