@@ -1,12 +1,11 @@
 -- The timers of a worker, as its entries tell of them.
-use Rattle.std.proofs.Common.{◌≡◌, ◌≢◌, ℕ, ◌+◌, ◌<◌, ◌≤◌, Bool, true, false, cond, nat_eq, List, [], ◌∷◌, ◌++◌, Option, Some, None, refl, sym, ap, ◌∙◌, ◌-◌, subst, unwrap_or, arith, eq-eqb, ne_eqb}
+use Rattle.std.proofs.Common.{◌≡◌, ℕ, ◌<◌, ◌≤◌, Bool, true, false, cond, nat_eq, List, Option, Some, None, refl, sym, ap, ◌∙◌, ◌-◌, subst, unwrap_or, arith, eq-eqb}
 use Rattle.std.specs.Prelude.{option_map, is_some, IsTrue, IsSomeAnd, IfSome}
 use mathlib.Core.Logic.{dite}
 use native.Mathlib.Decide.{ℕ_discrete}
 use Rattle.std.specs.Bool.{OnTrue}
 use Rattle.std.specs.Ordering.{nat_cmp, eq_by_cmp}
 use Rattle.std.specs.FinMap as map
-use Rattle.std.specs.FinMap.{gets}
 use Rattle.std.proofs.lemmas.Bool.Decides.{nat_tests}
 use Rattle.std.proofs.lemmas.Cmp.{nat_cmp_total}
 use Rattle.grub_wheel.specs.declared.timer.Timer.{Timer as WheelTimer}
@@ -16,7 +15,7 @@ use Rattle.grub_book.specs.declared.op.Op.TheVariants as ops
 use Rattle.grub_book.specs.declared.reply.Reply.TheVariants as replies
 use Rattle.grub_trace.specs.declared.entry.Answer.TheVariants as answers
 use Rattle.grub_trace.specs.declared.entry.Entry.{Entry}
-use Rattle.grub_trace.specs.Timers.{Alarm, Touch, leaves, disarms, arms, alarm_after, alarm_at, armed, armed_from, touch, touch_of_call, IsNextDue, NoneDue}
+use Rattle.grub_trace.specs.Timers.{Alarm, leaves, disarms, arms, alarm_after, alarm_at, armed, touch_of_call, IsNextDue, NoneDue}
 use Rattle.grub_workers.specs.Working.{IsBlockBefore, IsTouched, alarm_of}
 
 key_eq : (u t : ℕ) → eq_by_cmp nat_cmp u t ≡ nat_eq u t

@@ -1,17 +1,14 @@
 -- With one file alone, what is asked and answered is determined: by the script, and by the book of one thread.
-use Rattle.std.proofs.Common.{◌≡◌, ◌≢◌, ◌⊎◌, ℕ, zero, suc, ◌+◌, ◌<◌, ◌≤◌, cond, Bool, true, false, ◌==◌, List, [], ◌∷◌, ◌++◌, length, get_or, map, filter, refl, sym, ap, ◌∙◌, subst, ⊎_elim, inl, inr, arith, Option, Some, None, eq-eqb, append_assoc, append-nil}
-use Rattle.std.specs.Prelude.{slice_get}
-use Rattle.std.specs.List.{All, FoldsTo, flat_map}
+use Rattle.std.proofs.Common.{◌≡◌, ◌⊎◌, ℕ, ◌<◌, ◌≤◌, cond, List, [], ◌∷◌, ◌++◌, length, get_or, map, refl, sym, ap, ◌∙◌, subst, ⊎_elim, arith, Some, eq-eqb, append-nil}
+use Rattle.std.specs.List.{All, FoldsTo}
 use Rattle.std.proofs.lemmas.List.Elements.{All-head, All-tail, All-weaker}
 use Rattle.std.proofs.lemmas.Grind.{common_steps}
 use Rattle.std.proofs.lemmas.Option.{slice_get-get_or}
 use Rattle.grub_book.specs.Machine.{Machine}
 use Rattle.grub_book.specs.Step.{step}
 use Rattle.grub_book.specs.Sums.{Records, reading_of}
-use Rattle.grub_book.specs.History.{IsLegal, IsTrueOf, StartsWith, book_of, calls_of, pass_of}
-use Rattle.grub_book.specs.declared.op.Op.{Op}
+use Rattle.grub_book.specs.History.{IsLegal, StartsWith, book_of, calls_of, pass_of}
 use Rattle.grub_book.specs.declared.op.Op.TheVariants as ops
-use Rattle.grub_book.specs.declared.reply.Reply.{Reply}
 use Rattle.grub_book.specs.declared.reply.Reply.TheVariants as replies
 use Rattle.grub_book.specs.declared.event.Event.{Event}
 use Rattle.grub_book.specs.declared.event.Event.TheVariants as events
@@ -26,12 +23,12 @@ use Rattle.grub_trace.specs.declared.entry.Answer.{Answer}
 use Rattle.grub_trace.specs.declared.entry.Answer.TheVariants.{Replied, Seen, Busy, Lost}
 use Rattle.grub_trace.specs.declared.entry.Entry.{Entry}
 use Rattle.grub_trace.specs.declared.entry.Report.{Report}
-use Rattle.grub_trace.specs.Asked.{Asked, AsksDue, AsksLine, AsksTimer, Follows, GoesOn, JoinsAfter, MovesHere, Timer, ask_of, entry}
-use Rattle.grub_trace.specs.Timers.{Alarm, IsNextDue, IsNotAfter, NoneDue, alarm_at, armed}
+use Rattle.grub_trace.specs.Asked.{Asked, AsksLine, AsksTimer, Follows, JoinsAfter, Timer, ask_of, entry}
+use Rattle.grub_trace.specs.Timers.{IsNotAfter, NoneDue, alarm_at, armed}
 use Rattle.grub_trace.specs.Plans.{PlanView}
 use Rattle.grub_workers.specs.Entries.{IsAnswerTo, event_told, events_told}
 use Rattle.grub_workers.specs.Handles.{script_at}
-use Rattle.grub_workers.specs.Runs.{IsGivenUp, IsNotVain, IsOnlyRun, IsReportOf, IsRun, entries_of}
+use Rattle.grub_workers.specs.Runs.{IsGivenUp, IsNotVain, IsOnlyRun, IsRun, entries_of}
 use Rattle.grub_workers.proofs.Finding.{all_left, all_right}
 use Rattle.grub_workers.proofs.Entering.{events_more}
 use Rattle.grub_workers.proofs.OneFile.{not_given_up}

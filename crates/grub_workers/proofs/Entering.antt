@@ -1,12 +1,9 @@
 -- One more entry.
 use Rattle.std.proofs.Common.{◌≡◌, ℕ, ◌<◌, Bool, true, false, cond, nat_eq, List, [], ◌∷◌, ◌++◌, Option, Some, None, length, refl, sym, ap, ◌∙◌, subst, arith, append-nil}
-use Rattle.std.specs.List.{All, flat_map}
 use Rattle.std.proofs.lemmas.List.Elements.{All-push}
 use Rattle.std.proofs.lemmas.Grind.{common_steps}
 use Rattle.std.proofs.lemmas.Bool.{eqb-true}
-use Rattle.std.specs.FinMap as map
 use Rattle.grub_book.specs.Machine.{Machine}
-use Rattle.grub_book.specs.History.{calls_of}
 use Rattle.grub_book.specs.declared.op.Op.{Op}
 use Rattle.grub_book.specs.declared.event.Reading.{Reading}
 use Rattle.grub_book.specs.declared.event.Event.TheVariants as events
@@ -26,7 +23,7 @@ use Rattle.grub_trace.specs.Texts.{IsAskOf}
 use Rattle.grub_trace.specs.Timers.{Alarm, alarm_after, armed, armed_from, leaves, touch, touch_of_call}
 use Rattle.grub_workers.specs.Entries.{AreAsksOf, event_told, events_told, mark_told, marks_told}
 use Rattle.grub_workers.specs.Evidence.{AreBacked, IsBacked}
-use Rattle.grub_workers.specs.Working.{Advances, IsAsked, IsKept, IsToldBy, IsTouched, alarm_of, machine}
+use Rattle.grub_workers.specs.Working.{Advances, IsAsked, IsKept, IsToldBy, IsTouched, machine}
 use Rattle.grub_workers.proofs.Advancing.{all_backed_later}
 
 pub events_more : (i : ℕ) (es : List Entry) (e : Entry) → events_told i (es ++ e ∷ []) ≡ events_told i es ++ event_told i e.ask e.answer

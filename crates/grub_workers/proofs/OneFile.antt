@@ -1,16 +1,13 @@
 -- A run of one file alone.
-use Rattle.std.proofs.Common.{◌≡◌, ◌≢◌, ◌⊎◌, ℕ, zero, suc, ◌+◌, ◌<◌, ◌≤◌, cond, Bool, true, false, IsTrue, ◌==◌, List, [], ◌∷◌, ◌++◌, length, get_or, refl, sym, ap, ◌∙◌, subst, ⊎_elim, inl, inr, arith, Some}
-use Rattle.std.specs.Prelude.{slice_get}
-use Rattle.std.specs.List.{All, Any}
-use Rattle.std.proofs.lemmas.List.Elements.{All-weaker, All-get_or}
-use Rattle.std.proofs.lemmas.Option.{get_or_from_slice_get, slice_get-get_or, slice_get_within}
+use Rattle.std.proofs.Common.{◌≡◌, ℕ, ◌<◌, ◌≤◌, List, [], ◌∷◌, ◌++◌, length, get_or, subst, arith}
+use Rattle.std.specs.List.{All}
+use Rattle.std.proofs.lemmas.List.Elements.{All-weaker}
+use Rattle.std.proofs.lemmas.Option.{slice_get-get_or, slice_get_within}
 use Rattle.grub_book.specs.Machine.{Machine}
 use Rattle.grub_book.specs.History.{pass_of}
-use Rattle.grub_book.specs.declared.op.Op.{Op}
-use Rattle.grub_book.specs.declared.op.Op.TheVariants.{Charge, Join, Wake, Block, Leave, Timer, Exit, Retune}
+use Rattle.grub_book.specs.declared.op.Op.TheVariants.{Charge}
 use Rattle.grub_book.specs.declared.event.Event.{Event}
 use Rattle.grub_book.specs.declared.event.Reading.{Reading}
-use Rattle.grub_trace.specs.declared.line.Line.{Line}
 use Rattle.grub_trace.specs.declared.entry.Ask.{Ask}
 use Rattle.grub_trace.specs.declared.entry.Ask.TheVariants.{Call, Read}
 use Rattle.grub_trace.specs.declared.entry.Answer.{Answer}
@@ -18,7 +15,7 @@ use Rattle.grub_trace.specs.declared.entry.Answer.TheVariants.{Replied, Seen, Bu
 use Rattle.grub_trace.specs.declared.entry.Entry.{Entry}
 use Rattle.grub_trace.specs.declared.entry.Report.{Report}
 use Rattle.grub_trace.specs.Plans.{PlanView}
-use Rattle.grub_workers.specs.Runs.{AllAsksOf, HeldElsewhere, IsGivenUp, IsLostCharge, IsNotVain, IsReportOf, IsRun, NoEntry, entries_of}
+use Rattle.grub_workers.specs.Runs.{AllAsksOf, HeldElsewhere, IsGivenUp, IsLostCharge, IsNotVain, IsRun, NoEntry, entries_of}
 use Rattle.grub_workers.specs.Handles.{script_at}
 use Rattle.grub_workers.proofs.Finding.{all_left, all_right}
 

@@ -1,5 +1,5 @@
 -- What another pass must have done where a task's record was found changed, or a reading.
-use Rattle.std.proofs.Common.{◌≡◌, ◌≢◌, ◌⊎◌, ℕ, zero, suc, ◌+◌, ◌≤◌, cond, Bool, true, false, IsTrue, ◌==◌, ◌&&◌, List, [], ◌∷◌, ◌++◌, set, get_or, refl, sym, ap, ◌∙◌, subst, ⊎_elim, inl, inr, arith, unwrap_or, eq-eqb, ne_eqb, append_assoc, append-nil, get_or-set_other, Option, Some, None}
+use Rattle.std.proofs.Common.{◌≡◌, ◌≢◌, ◌⊎◌, ℕ, ◌+◌, ◌≤◌, cond, Bool, true, false, ◌==◌, ◌&&◌, List, [], ◌∷◌, ◌++◌, refl, sym, ap, ◌∙◌, subst, ⊎_elim, inl, inr, arith, unwrap_or, eq-eqb, ne_eqb, append_assoc, get_or-set_other, Option, Some, None}
 use Rattle.std.specs.List.{All, Any}
 use Rattle.std.proofs.lemmas.List.Elements.{All-weaker, All-head, All-tail}
 use mathlib.Core.Logic.{dite}
@@ -7,8 +7,7 @@ use native.Mathlib.Decide.{ℕ_discrete}
 use Rattle.grub_book.specs.Machine.{Machine}
 use Rattle.grub_book.specs.Sums.{Records, record_at, reading_of, opening_book}
 use Rattle.grub_book.specs.Step.{is_under_claim, refused, replied, step}
-use Rattle.grub_book.specs.History.{IsLegal, IsLegalFrom, IsTrueOf, StartsWith, HasChanged, after, book_from, book_of, calls_of, changes_from, is_reading, pass_of}
-use Rattle.grub_book.specs.declared.op.Op.{Op}
+use Rattle.grub_book.specs.History.{IsLegal, IsLegalFrom, StartsWith, HasChanged, after, book_from, book_of, calls_of, changes_from, is_reading, pass_of}
 use Rattle.grub_book.specs.declared.reply.Reply.{Reply}
 use Rattle.grub_book.specs.declared.place.Record.{Record}
 use Rattle.grub_book.specs.declared.event.Reading.{Reading}
@@ -16,11 +15,10 @@ use Rattle.grub_book.specs.declared.event.Event.{Event}
 use Rattle.grub_book.specs.declared.event.Event.TheVariants.{Call, Look}
 use Rattle.grub_book.proofs.Histories.{legal_first, legal_rest, book_from-append, book_push, calls_append}
 use Rattle.grub_book.proofs.Claims.{outside_same}
-use Rattle.grub_book.proofs.Changes.{is_reading-true}
 use Rattle.grub_table.specs.declared.view.Mark.{Mark}
 use Rattle.grub_table.specs.declared.view.Mark.TheVariants.{Taken, Given}
 use Rattle.grub_table.specs.Marks.{Holders, nobody_holds, handed, held_from, holder_of}
-use Rattle.grub_workers.specs.Evidence.{TakesElse, CallsElse, ShowsHolder, ChangesElse}
+use Rattle.grub_workers.specs.Evidence.{TakesElse, CallsElse, ChangesElse}
 use Rattle.grub_workers.proofs.Finding.{Somewhere, any_of, append_none, filter_none, somewhere_left, somewhere_right, all_left, all_right}
 
 not_own : (i : ℕ) (e : Event) → (pass_of e == i) ≡ false → pass_of e ≢ i

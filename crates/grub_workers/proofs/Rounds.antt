@@ -1,15 +1,15 @@
 -- One round of an ask.
-use Rattle.std.proofs.Common.{◌≡◌, ◌≢◌, ◌⊎◌, ℕ, ◌+◌, ◌≤◌, Bool, true, false, cond, IsTrue, List, [], ◌∷◌, ◌++◌, refl, sym, ap, ◌∙◌, subst, ⊎_elim, inl, inr, arith}
-use Rattle.grub_book.specs.Step.{is_under_claim, changes_sum}
+use Rattle.std.proofs.Common.{◌≡◌, ℕ, ◌+◌, ◌≤◌, false, cond, IsTrue, List, [], ◌∷◌, ◌++◌, refl, sym, ap, ◌∙◌, subst, ⊎_elim, inl, inr, arith}
+use Rattle.grub_book.specs.Step.{changes_sum}
 use Rattle.grub_book.specs.Sums.{record_at}
-use Rattle.grub_book.specs.History.{book_of, HasChanged, IsLegal, StartsWith}
+use Rattle.grub_book.specs.History.{book_of, IsLegal, StartsWith}
 use Rattle.grub_book.specs.declared.op.Op.{Op}
 use Rattle.grub_book.specs.declared.place.Record.{Record}
 use Rattle.grub_book.specs.declared.reply.Reply.{Reply}
 use Rattle.grub_book.specs.declared.reply.Reply.TheVariants as replies
 use Rattle.grub_book.specs.declared.event.Event.{Event}
 use Rattle.grub_book.specs.declared.event.Event.TheVariants as events
-use Rattle.grub_book.proofs.Histories.{starts_whole, legal_last, starts_after}
+use Rattle.grub_book.proofs.Histories.{legal_last, starts_after}
 use Rattle.grub_table.specs.declared.view.Mark.{Mark}
 use Rattle.grub_table.specs.declared.view.Mark.TheVariants.{Taken, Given}
 use Rattle.grub_table.specs.declared.view.Terms.{Terms}
@@ -21,11 +21,10 @@ use Rattle.grub_table.specs.declared.pass.Sighting.TheVariants.{Claimed, Changed
 use Rattle.grub_table.specs.Layout.{shown}
 use Rattle.grub_table.specs.Marks.{MarksGo, marks_of}
 use Rattle.grub_table.specs.Histories.{Grows, Finishes, record_in}
-use Rattle.grub_table.specs.Calls.{IsPassOf, IsClaimOf, IsAnswered, IsTaken, IsBusy, IsDone, IsLost, IsCancelled, IsSighting, IsClaimedSighting, number_of, claim_number, claim_task, claim_op, claim_queue, claim_record, claim_changes_sum, seen, marks, claim_seen, claim_marks, marks_of_call, terms}
-use Rattle.grub_trace.specs.declared.entry.Ask.TheVariants.{Call, Read}
-use Rattle.grub_trace.specs.declared.entry.Answer.TheVariants.{Replied, Seen, Busy, Lost}
-use Rattle.grub_workers.specs.Entries.{event_told, mark_told}
-use Rattle.grub_workers.specs.Evidence.{ShowsHolder, ChangesElse, WouldChange}
+use Rattle.grub_table.specs.Calls.{IsPassOf, IsAnswered, IsTaken, IsBusy, IsDone, IsLost, IsCancelled, IsSighting, IsClaimedSighting, number_of, claim_number, claim_task, claim_op, claim_queue, claim_changes_sum, seen, marks, claim_seen, claim_marks, marks_of_call, terms}
+use Rattle.grub_trace.specs.declared.entry.Ask.TheVariants.{Call}
+use Rattle.grub_trace.specs.declared.entry.Answer.TheVariants.{Replied, Busy, Lost}
+use Rattle.grub_workers.specs.Evidence.{ShowsHolder}
 use Rattle.grub_workers.specs.Working.{Advances, IsAsked, IsBlockBefore, WaitsRightly, machine}
 use Rattle.grub_workers.proofs.Advancing.{advances_grows, advances_finishes, advances_twice, advances_none, changes_later}
 use Rattle.grub_workers.proofs.Others.{calls_between, held_else, changed_else}

@@ -1,7 +1,7 @@
 -- What the closing of the table ties together: whose each event and each mark is.
-use Rattle.std.proofs.Common.{◌≡◌, ◌≢◌, ◌⊎◌, ℕ, zero, suc, ◌+◌, ◌<◌, ◌≤◌, cond, Bool, true, false, IsTrue, ◌==◌, List, [], ◌∷◌, ◌++◌, length, get_or, filter, refl, sym, ap, ◌∙◌, subst, ⊎_elim, inl, inr, arith, eq-eqb, Some}
+use Rattle.std.proofs.Common.{◌≡◌, ◌≢◌, ℕ, zero, suc, ◌+◌, ◌<◌, cond, Bool, true, false, IsTrue, ◌==◌, List, [], ◌∷◌, length, get_or, refl, sym, ap, ◌∙◌, subst, ⊎_elim, arith, eq-eqb, Some}
 use Rattle.std.specs.Prelude.{slice_get}
-use Rattle.std.specs.List.{All, Any, flat_map}
+use Rattle.std.specs.List.{All}
 use Rattle.std.proofs.lemmas.List.Elements.{All-nil, All-cons, All-weaker}
 use Rattle.std.proofs.lemmas.Option.{get_or_from_slice_get, slice_get-get_or, slice_get_within}
 use Rattle.grub_book.specs.Machine.{Machine}
@@ -20,7 +20,7 @@ use Rattle.grub_table.specs.declared.pass.Pass.{Pass}
 use Rattle.grub_table.specs.declared.pass.Shared.{Shared}
 use Rattle.grub_table.specs.Marks.{AreLawful, AreLawfulFrom, Holders, after_mark, nobody_holds, marker_of, marks_of}
 use Rattle.grub_table.specs.Histories.{Every}
-use Rattle.grub_table.specs.Calls.{AreNew, IsClosed, IsMarkPartOf, IsNew, IsPartOf, IsPassOf, number_of, marks, seen, terms}
+use Rattle.grub_table.specs.Calls.{AreNew, IsClosed, IsMarkPartOf, IsPartOf, IsPassOf, marks, seen, terms}
 use Rattle.grub_trace.specs.declared.line.Line.{Line}
 use Rattle.grub_trace.specs.declared.entry.Ask.{Ask}
 use Rattle.grub_trace.specs.declared.entry.Ask.TheVariants.{Call, Read}
@@ -28,11 +28,10 @@ use Rattle.grub_trace.specs.declared.entry.Answer.{Answer}
 use Rattle.grub_trace.specs.declared.entry.Answer.TheVariants.{Replied, Seen, Busy, Lost}
 use Rattle.grub_trace.specs.declared.entry.Entry.{Entry}
 use Rattle.grub_trace.specs.declared.entry.Report.{Report}
-use Rattle.grub_trace.specs.Asked.{Asked}
 use Rattle.grub_trace.specs.Plans.{PlanView}
 use Rattle.grub_workers.specs.Entries.{HeldTask, event_told, events_told, has_held, mark_told, marks_told}
-use Rattle.grub_workers.specs.Evidence.{AreBacked, CallsElse, ChangesElse, IsBacked, ShowsHolder, TakesElse}
-use Rattle.grub_workers.specs.Working.{IsFresh, IsToldBy, IsWorked, machine}
+use Rattle.grub_workers.specs.Evidence.{AreBacked, CallsElse, IsBacked, ShowsHolder, TakesElse}
+use Rattle.grub_workers.specs.Working.{IsFresh, machine}
 use Rattle.grub_workers.specs.Handles.{AllFresh, AllWorked, script_at}
 use Rattle.grub_workers.specs.Runs.{HeldElsewhere, IsNotVain, IsReportOf, IsRun, entries_of}
 use Rattle.grub_workers.proofs.Finding.{Somewhere, any_of, found, somewhere_of, somewhere_filter, somewhere_flat, somewhere_weaker}

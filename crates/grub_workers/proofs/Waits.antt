@@ -1,5 +1,5 @@
 -- Only a block waits.
-use Rattle.std.proofs.Common.{◌≡◌, ℕ, ◌+◌, ◌<◌, ◌&&◌, nat_lt, Bool, true, false, cond, Option, Some, None, refl, sym, ap, ◌∙◌, subst}
+use Rattle.std.proofs.Common.{◌≡◌, ℕ, ◌+◌, ◌<◌, ◌&&◌, nat_lt, Bool, true, false, cond, Option, Some, None, refl, ap, subst}
 use Rattle.std.proofs.lemmas.Bool.{ltb-true}
 use Rattle.grub_bw.specs.Bandwidth.{Reservation, Capacity, bandwidth_of}
 use Rattle.grub_bw.specs.Server.{charge_of, depleted_of}

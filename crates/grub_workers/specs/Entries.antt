@@ -3,7 +3,6 @@ use Rattle.std.specs.Prelude.{◌≡◌, ℕ, Bool, true, false, IsTrue, if◌th
 use Rattle.std.specs.List.{All, flat_map}
 use Rattle.grub_book.specs.declared.event.Event.{Event}
 use Rattle.grub_book.specs.declared.event.Event.TheVariants as events
-use Rattle.grub_book.specs.declared.op.Op.{Op}
 use Rattle.grub_book.specs.Machine.{Machine}
 use Rattle.grub_book.specs.Step.{is_under_claim}
 use Rattle.grub_table.specs.declared.view.Mark.{Mark}

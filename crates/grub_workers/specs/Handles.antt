@@ -8,7 +8,6 @@ use Rattle.grub_table.specs.declared.pass.Shared.{Shared}
 use Rattle.grub_table.specs.Calls.{terms}
 use Rattle.grub_trace.specs.declared.entry.Report.{Report}
 use Rattle.grub_trace.specs.declared.line.Line.{Line}
-use Rattle.grub_trace.specs.Limits.{ScriptFits}
 use Rattle.grub_trace.specs.Plans.{PlanView}
 use Rattle.grub_workers.specs.declared.work.WorkOf.{WorkOf}
 use Rattle.grub_workers.specs.declared.work.Worked.{Worked}

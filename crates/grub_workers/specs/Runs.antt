@@ -4,13 +4,12 @@ use Rattle.std.specs.List.{All, Any}
 use Rattle.grub_book.specs.Machine.{Machine}
 use Rattle.grub_book.specs.Sums.{reading_of}
 use Rattle.grub_book.specs.History.{IsLegal, book_of, calls_of, pass_of}
-use Rattle.grub_book.specs.declared.op.Op.{Op}
 use Rattle.grub_book.specs.declared.op.Op.TheVariants.{Charge}
 use Rattle.grub_book.specs.declared.event.Event.{Event}
 use Rattle.grub_book.specs.declared.event.Reading.{Reading}
 use Rattle.grub_trace.specs.declared.line.Line.{Line}
 use Rattle.grub_trace.specs.declared.entry.Ask.{Ask}
-use Rattle.grub_trace.specs.declared.entry.Ask.TheVariants.{Call, Read}
+use Rattle.grub_trace.specs.declared.entry.Ask.TheVariants.{Call}
 use Rattle.grub_trace.specs.declared.entry.Answer.{Answer}
 use Rattle.grub_trace.specs.declared.entry.Answer.TheVariants.{Replied, Seen, Busy, Lost}
 use Rattle.grub_trace.specs.declared.entry.Entry.{Entry}

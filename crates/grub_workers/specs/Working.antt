@@ -1,13 +1,11 @@
 -- What a worker keeps between its asks, and promises at its end.
-use Rattle.std.specs.Prelude.{◌≡◌, ◌<◌, ◌≤◌, ℕ, Option, Some, option_map, nat_eq, if◌then◌else◌, List, [], ◌∷◌, ◌++◌, length}
+use Rattle.std.specs.Prelude.{◌≡◌, ◌<◌, ◌≤◌, ℕ, Option, Some, option_map, nat_eq, if◌then◌else◌, List, [], ◌++◌, length}
 use Rattle.std.specs.FinMap as map
 use Rattle.grub_book.specs.Machine.{Machine}
-use Rattle.grub_book.specs.Op.{IsOp}
 use Rattle.grub_book.specs.History.{StartsWith, calls_of}
 use Rattle.grub_book.specs.declared.event.Event.{Event}
 use Rattle.grub_book.specs.declared.op.Op.{Op}
 use Rattle.grub_book.specs.declared.op.Op.TheVariants as ops
-use Rattle.grub_book.specs.declared.reply.Reply.{Reply}
 use Rattle.grub_book.specs.declared.reply.Reply.TheVariants as replies
 use Rattle.grub_table.specs.declared.view.Mark.{Mark}
 use Rattle.grub_table.specs.declared.pass.Pass.{Pass}
@@ -17,7 +15,6 @@ use Rattle.grub_table.specs.Calls.{IsPassOf, number_of, seen, marks, terms}
 use Rattle.grub_wheel.specs.TimerBag.{TimerBag}
 use Rattle.grub_trace.specs.declared.line.Line.{Line}
 use Rattle.grub_trace.specs.declared.entry.Ask.{Ask}
-use Rattle.grub_trace.specs.declared.entry.Ask.TheVariants.{Call, Read}
 use Rattle.grub_trace.specs.declared.entry.Answer.{Answer}
 use Rattle.grub_trace.specs.declared.entry.Answer.TheVariants as answers
 use Rattle.grub_trace.specs.declared.entry.Entry.{Entry}

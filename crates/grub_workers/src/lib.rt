@@ -12,14 +12,8 @@ mod script;
 mod work;
 mod worker;
 
-pub use asking::ask;
-pub use desk::Desk;
 pub use gate::{Gate, NoGate};
 pub use outcome::{Outcome, RunFault, run};
-pub use scoped::{Done, run_scoped};
-pub use script::ask_script;
-pub use work::{WorkOf, Worked, work_through};
-pub use worker::Worker;
 
 #[cfg(test)]
 mod tests;

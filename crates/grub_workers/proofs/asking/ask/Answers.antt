@@ -1,4 +1,4 @@
-use Rattle.std.proofs.Common.{◌≡◌, arith, sym, subst}
+use Rattle.std.proofs.Common.{sym, subst}
 use Rattle.grub_workers.proofs.Turns.{IsTurn, IsFree, IsHolding, HasLost}
 use Rattle.grub_workers.proofs.Rounds.{busy_round, taken_round, lost_round, done_round, done_waits, gave_up_lost}
 use Rattle.grub_workers.proofs.asking.ask.Goals as goal

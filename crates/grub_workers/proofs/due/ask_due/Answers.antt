@@ -1,11 +1,9 @@
-use Rattle.std.proofs.Common.{◌≡◌, ℕ, ◌≤◌, ◌<◌, ◌++◌, ◌∷◌, [], Some, rules, arith, sym, ap, ◌∙◌, subst}
+use Rattle.std.proofs.Common.{◌≡◌, ◌++◌, ◌∷◌, [], Some, rules, sym, ap, ◌∙◌}
 use Rattle.std.proofs.lemmas.Fn.{FoldsTo-push}
-use Rattle.std.specs.FinMap as map
 use Rattle.grub_book.specs.declared.op.Op.TheVariants as ops
-use Rattle.grub_wheel.specs.TimerBag.{TimerBag, WheelState}
-use Rattle.grub_trace.specs.Asked.{AsksTimer, Timer}
-use Rattle.grub_trace.specs.Timers.{disarms}
-use Rattle.grub_workers.specs.Working.{IsTouched, machine}
+use Rattle.grub_wheel.specs.TimerBag.{WheelState}
+use Rattle.grub_trace.specs.Asked.{AsksTimer}
+use Rattle.grub_workers.specs.Working.{machine}
 use Rattle.grub_workers.proofs.Alarms.{len_taken, next_due, none_due, touched_removed}
 use Rattle.grub_workers.proofs.Entering.{kept_call}
 use Rattle.grub_workers.proofs.due.ask_due.Goals as goal

@@ -1,4 +1,4 @@
-use Rattle.std.proofs.Common.{◌≡◌, ℕ, ◌≤◌, List, Some}
+use Rattle.std.proofs.Common.{List}
 use Rattle.std.specs.List.{FoldsTo}
 use Rattle.std.specs.FinMap as map
 use Rattle.grub_trace.specs.Asked.{AsksTimer, Timer}

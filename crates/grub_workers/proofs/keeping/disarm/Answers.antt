@@ -1,5 +1,5 @@
-use Rattle.std.proofs.Common.{◌≡◌, ap}
-use Rattle.grub_wheel.specs.TimerBag.{WheelState, after_taking}
+use Rattle.std.proofs.Common.{ap}
+use Rattle.grub_wheel.specs.TimerBag.{WheelState}
 use Rattle.grub_workers.proofs.Alarms.{cancelled, touched_removed, removed_none}
 use Rattle.grub_workers.proofs.keeping.disarm.Goals as goal
 

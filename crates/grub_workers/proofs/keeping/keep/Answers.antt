@@ -1,9 +1,8 @@
-use Rattle.std.proofs.Common.{◌≡◌, ℕ, Some, rules, sym, ap, ◌∙◌, subst}
+use Rattle.std.proofs.Common.{◌≡◌, rules, sym, ap, ◌∙◌, subst}
 use Rattle.grub_wheel.specs.TimerBag.{WheelState}
 use Rattle.grub_book.specs.declared.reply.Reply.TheVariants.{Waiting}
-use Rattle.grub_trace.specs.declared.entry.Answer.{Answer}
 use Rattle.grub_trace.specs.declared.entry.Answer.TheVariants.{Replied}
-use Rattle.grub_trace.specs.Timers.{Touch, touch_of_call}
+use Rattle.grub_trace.specs.Timers.{touch_of_call}
 use Rattle.grub_workers.specs.Working.{IsTouched}
 use Rattle.grub_workers.proofs.Alarms.{later_than, touch_waits, touched_armed}
 use Rattle.grub_workers.proofs.keeping.keep.Goals as goal

@@ -1,6 +1,4 @@
-use Rattle.std.proofs.Common.{rules, ◌≡◌, length, sym, ap, refl, ◌∙◌}
-use Rattle.grub_workers.specs.Runs.{IsRun}
-use Rattle.grub_workers.specs.Working.{machine}
+use Rattle.std.proofs.Common.{length, sym, ap, refl, ◌∙◌}
 use Rattle.grub_workers.proofs.Ties.{all_fresh, all_of, run_of}
 use Rattle.grub_workers.proofs.OneFile.{alone_of_run, charges_of_run, tasks_of_run}
 use Rattle.grub_workers.proofs.Determined.{only_run}

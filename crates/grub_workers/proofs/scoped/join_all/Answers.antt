@@ -1,4 +1,4 @@
-use Rattle.std.proofs.Common.{◌≡◌, ℕ, ◌+◌, ◌<◌, get_or, vec_items, vec_len, rules, arith, List}
+use Rattle.std.proofs.Common.{◌≡◌, ℕ, ◌+◌, vec_len, rules, arith}
 use Rattle.grub_table.specs.declared.pass.Pass.{Pass}
 use Rattle.grub_trace.specs.declared.entry.Report.{Report}
 use Rattle.grub_workers.specs.Handles.{Handle, IsOf, script_at}

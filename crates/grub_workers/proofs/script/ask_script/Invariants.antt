@@ -1,4 +1,4 @@
-use Rattle.std.proofs.Common.{◌≡◌, ℕ, ◌≤◌, [], length, take, drop, Some}
+use Rattle.std.proofs.Common.{ℕ, [], length, take, drop}
 use Rattle.std.specs.List.{FoldsTo}
 use Rattle.grub_table.specs.Calls.{terms}
 use Rattle.grub_trace.specs.Asked.{AsksLine}
