@@ -1,9 +1,13 @@
+ghost use Rattle.std.specs.Prelude.{◌≤◌};
+
 use crate::{GrubFault, run_texts};
-use grub_trace::{Kind, TraceFault};
+use grub_trace::{Kind, TextFault, TraceFault};
 use std::alloc::{AllocError, Global};
 use std::io;
 use std::io::{ErrorKind, Write};
+use std::sync::Wait;
 use std::test::Fail;
+use std::thread::Threads;
 
 const DOCUMENTATION: &str = "\
 grub 1
@@ -32,6 +36,117 @@ at 4 run T2 4: charged dq=2 k=1 q=4 d=16
 at 8 wake T1: woken q=4 d=16
 at 8 read: running=1048576 this=1048576
 close running=1048576 this=1048576
+";
+
+/// The first file.
+const FIRST: &str = "\
+grub 1
+queue 1048576 0
+task A 4 8
+at 0 join A
+at 0 block A
+at 0 read
+at 3 wake A
+at 3 read
+";
+
+const FIRST_REPORT: &str = "\
+runqueue 0
+at 0 join A: joined q=4 d=8
+at 0 block A: asleep
+at 0 read: running=0 this=524288
+at 3 wake A: woken q=4 d=11
+at 3 read: running=524288 this=524288
+close running=524288 this=524288
+";
+
+/// A task leaves and exits.
+const LEAVES: &str = "\
+grub 1
+queue 1048576 0
+task T1 4 8
+task T2 4 8
+at 0 join T1
+at 0 join T2
+at 0 run T1 2
+at 2 block T1
+at 2 run T2 2
+at 2 leave T1
+at 2 exit T1
+at 2 read
+";
+
+const LEAVES_REPORT: &str = "\
+runqueue 0
+at 0 join T1: joined q=4 d=8
+at 0 join T2: joined q=4 d=8
+at 0 run T1 2: charged dq=2 k=0 q=2 d=8
+at 2 block T1: waiting ticket=1 z=4
+at 2 run T2 2: charged dq=2 k=0 q=2 d=8
+at 2 leave T1: left 0
+at 2 exit T1: ended
+at 2 read: running=524288 this=524288
+close running=524288 this=524288
+";
+
+/// A timer that is due long after.
+const FAR_TIMER: &str = "\
+grub 1
+queue 1048576 0
+task A 100 1000
+at 0 join A
+at 0 run A 50
+at 50 block A
+at 499 read
+at 756 read
+";
+
+const FAR_TIMER_REPORT: &str = "\
+runqueue 0
+at 0 join A: joined q=100 d=1000
+at 0 run A 50: charged dq=50 k=0 q=50 d=1000
+at 50 block A: waiting ticket=1 z=500
+at 499 read: running=104857 this=104857
+at 500 timer A 1: retired
+at 756 read: running=0 this=104857
+close running=0 this=104857
+";
+
+/// New reservations.
+const RETUNES: &str = "\
+grub 2
+queue 1048576 0
+task A 4 8
+at 0 retune A 2 8
+at 0 join A
+at 0 block A
+at 1 retune A 6 8
+at 1 read
+at 2 wake A
+at 2 retune A 4 8
+";
+
+const RETUNES_REPORT: &str = "\
+runqueue 0
+at 0 retune A 2 8: retuned
+at 0 join A: joined q=2 d=8
+at 0 block A: asleep
+at 1 retune A 6 8: retuned
+at 1 read: running=0 this=786432
+at 2 wake A: woken q=6 d=10
+at 2 retune A 4 8: still-active
+close running=786432 this=786432
+";
+
+/// No events.
+const NO_EVENTS: &str = "\
+grub 1
+queue 1 0
+";
+
+const NO_EVENTS_REPORT: &str = "\
+runqueue 0
+close running=0 this=0
 ";
 
 /// How a `Narrow` writer goes on after its calls are used up.
@@ -92,14 +207,87 @@ fn files_of(alloc: Global, texts: &[&str]) -> Result<Vec<Vec<u8>>, AllocError> {
     Ok(files)
 }
 
-#[test]
-fn the_documentation(rt: HostRuntime) -> Result<(), Fail> {
-    let alloc = rt.alloc();
-    let files = files_of(alloc, [DOCUMENTATION].as_slice())?;
+/// Whether a run of these files writes this text.
+fn prints<R: Threads + Wait>(
+    rt: &R,
+    alloc: Global,
+    files: &[&str],
+    tries: u8,
+    rounds: u16,
+    text: &str,
+) -> Result<bool, AllocError>
+    requires { 1 ≤ rounds }
+{
+    let files = files_of(alloc, files)?;
     let mut out: Vec<u8> = Vec::new(alloc);
-    let result = run_texts(&rt, alloc, &files, 4, 100, &mut out);
-    assert!(rt; result == Ok(()));
-    assert_eq!(rt; out.as_slice(), DOCUMENTATION_REPORT.as_bytes());
+    let result = run_texts(rt, alloc, &files, tries, rounds, &mut out);
+    Ok(result == Ok(()) && out.as_slice() == text.as_bytes())
+}
+
+#[test]
+fn one_file(rt: HostRuntime) -> Result<(), Fail> {
+    let alloc = rt.alloc();
+    assert!(rt; prints(&rt, alloc, [FIRST].as_slice(), 8, 64, FIRST_REPORT)?);
+    assert!(rt; prints(&rt, alloc, [LEAVES].as_slice(), 1, 1, LEAVES_REPORT)?);
+    assert!(rt; prints(&rt, alloc, [FAR_TIMER].as_slice(), 8, 64, FAR_TIMER_REPORT)?);
+    assert!(rt; prints(&rt, alloc, [RETUNES].as_slice(), 8, 64, RETUNES_REPORT)?);
+    assert!(rt; prints(&rt, alloc, [NO_EVENTS].as_slice(), 0, 1, NO_EVENTS_REPORT)?);
+    assert!(rt;
+        prints(
+            &rt,
+            alloc,
+            [DOCUMENTATION].as_slice(),
+            4,
+            100,
+            DOCUMENTATION_REPORT
+        )?
+    );
+    Ok(())
+}
+
+/// Without a try every join is given up, in each of its rounds.
+#[test]
+fn no_tries(rt: HostRuntime) -> Result<(), Fail> {
+    let alloc = rt.alloc();
+    let text = "\
+runqueue 0
+at 0 join A: lost
+at 0 block A: not-on
+at 0 read: running=0 this=0
+at 3 wake A: not-on
+at 3 read: running=0 this=0
+close running=0 this=0
+";
+    assert!(rt; prints(&rt, alloc, [FIRST].as_slice(), 0, 1, text)?);
+    assert!(rt; prints(&rt, alloc, [FIRST].as_slice(), 0, 3, text)?);
+    Ok(())
+}
+
+/// Files that share no task have the reports that each has alone, whatever the schedule.
+#[test]
+fn several_files(rt: HostRuntime) -> Result<(), Fail> {
+    let alloc = rt.alloc();
+    let text = "\
+runqueue 0
+at 0 join T1: joined q=4 d=8
+at 0 join T2: joined q=4 d=8
+at 0 run T1 2: charged dq=2 k=0 q=2 d=8
+at 2 block T1: waiting ticket=1 z=4
+at 2 run T2 2: charged dq=2 k=0 q=2 d=8
+at 4 timer T1 1: retired
+at 4 run T2 4: charged dq=2 k=1 q=4 d=16
+at 8 wake T1: woken q=4 d=16
+at 8 read: running=1048576 this=1048576
+close running=1048576 this=1048576
+runqueue 1
+at 0 join A: joined q=4 d=8
+at 0 block A: asleep
+at 0 read: running=0 this=524288
+at 3 wake A: woken q=4 d=11
+at 3 read: running=524288 this=524288
+close running=524288 this=524288
+";
+    assert!(rt; prints(&rt, alloc, [DOCUMENTATION, FIRST].as_slice(), 8, 64, text)?);
     Ok(())
 }
 
@@ -159,5 +347,40 @@ fn writers_that_take_all(rt: HostRuntime) -> Result<(), Fail> {
         assert!(rt; result == want);
         assert_eq!(rt; out.text.as_slice(), DOCUMENTATION_REPORT.as_bytes());
     }
+    Ok(())
+}
+
+/// Whether a run of this file writes this text, or answers a refusal and writes nothing.
+fn prints_or_refuses<R: Threads + Wait>(
+    rt: &R,
+    alloc: Global,
+    file: &str,
+    text: &str,
+) -> Result<bool, AllocError> {
+    let files = files_of(alloc, [file].as_slice())?;
+    let mut out: Vec<u8> = Vec::with_capacity(alloc, 1000)?;
+    let result = run_texts(rt, alloc, &files, 8, 64, &mut out);
+    Ok(match result {
+        Ok(()) => out.as_slice() == text.as_bytes(),
+        Err(fault) => out.is_empty() && is_refusal(fault),
+    })
+}
+
+/// A refused start of a thread may be answered as the refused memory of it.
+fn is_refusal(fault: GrubFault) -> bool {
+    match fault {
+        GrubFault::Trace(fault) => fault == TraceFault::NoMemory,
+        GrubFault::Run(_) => true,
+        GrubFault::Text(fault) => fault == TextFault::NoMemory,
+        GrubFault::WriteFault => false,
+    }
+}
+
+/// Where memory is refused, the answer is a want of memory and nothing is written, or it is that with ample memory.
+#[test]
+fn refused_memory(rt: HostRuntime) -> Result<(), Fail> {
+    let alloc = rt.alloc();
+    assert!(rt; prints_or_refuses(&rt, alloc, FIRST, FIRST_REPORT)?);
+    assert!(rt; prints_or_refuses(&rt, alloc, DOCUMENTATION, DOCUMENTATION_REPORT)?);
     Ok(())
 }

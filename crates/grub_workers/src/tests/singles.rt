@@ -4,16 +4,16 @@ use super::gates::Count;
 use crate::NoGate;
 use std::test::Fail;
 
-const FIRST_FILE: &[u8] =
+pub const FIRST_FILE: &[u8] =
     b"task A 4 8\nat 0 join A\nat 0 block A\nat 0 read\nat 3 wake A\nat 3 read\n";
+
+pub const FIRST_REPORT: &[u8] =
+    b"runqueue 0\nat 0 join A: joined q=4 d=8\nat 0 block A: asleep\nat 0 read: running=0 this=524288\nat 3 wake A: woken q=4 d=11\nat 3 read: running=524288 this=524288\nclose running=524288 this=524288\n";
 
 #[test]
 fn the_first_file(rt: HostRuntime) -> Result<(), Fail> {
     let text = run_files(&rt, rt.alloc(), &[FIRST_FILE], 8, 64, &NoGate)?;
-    assert_eq!(rt;
-        text.as_slice(),
-        b"runqueue 0\nat 0 join A: joined q=4 d=8\nat 0 block A: asleep\nat 0 read: running=0 this=524288\nat 3 wake A: woken q=4 d=11\nat 3 read: running=524288 this=524288\nclose running=524288 this=524288\n".as_slice()
-    );
+    assert_eq!(rt; text.as_slice(), FIRST_REPORT);
     Ok(())
 }
 
@@ -52,14 +52,15 @@ fn all_rounds_are_used(rt: HostRuntime) -> Result<(), Fail> {
     Ok(())
 }
 
+pub const DOCUMENTATION: &[u8] =
+    b"task T1 4 8\ntask T2 4 8\nat 0 join T1\nat 0 join T2\nat 0 run T1 2\nat 2 block T1\nat 2 run T2 2\nat 4 run T2 4\nat 8 wake T1\nat 8 read\n";
+
+pub const DOCUMENTATION_REPORT: &[u8] =
+    b"runqueue 0\nat 0 join T1: joined q=4 d=8\nat 0 join T2: joined q=4 d=8\nat 0 run T1 2: charged dq=2 k=0 q=2 d=8\nat 2 block T1: waiting ticket=1 z=4\nat 2 run T2 2: charged dq=2 k=0 q=2 d=8\nat 4 timer T1 1: retired\nat 4 run T2 4: charged dq=2 k=1 q=4 d=16\nat 8 wake T1: woken q=4 d=16\nat 8 read: running=1048576 this=1048576\nclose running=1048576 this=1048576\n";
+
 #[test]
 fn the_documentations_example(rt: HostRuntime) -> Result<(), Fail> {
-    let lines: &[u8] =
-        b"task T1 4 8\ntask T2 4 8\nat 0 join T1\nat 0 join T2\nat 0 run T1 2\nat 2 block T1\nat 2 run T2 2\nat 4 run T2 4\nat 8 wake T1\nat 8 read\n";
-    let text = run_files(&rt, rt.alloc(), &[lines], 4, 100, &NoGate)?;
-    assert_eq!(rt;
-        text.as_slice(),
-        b"runqueue 0\nat 0 join T1: joined q=4 d=8\nat 0 join T2: joined q=4 d=8\nat 0 run T1 2: charged dq=2 k=0 q=2 d=8\nat 2 block T1: waiting ticket=1 z=4\nat 2 run T2 2: charged dq=2 k=0 q=2 d=8\nat 4 timer T1 1: retired\nat 4 run T2 4: charged dq=2 k=1 q=4 d=16\nat 8 wake T1: woken q=4 d=16\nat 8 read: running=1048576 this=1048576\nclose running=1048576 this=1048576\n".as_slice()
-    );
+    let text = run_files(&rt, rt.alloc(), &[DOCUMENTATION], 4, 100, &NoGate)?;
+    assert_eq!(rt; text.as_slice(), DOCUMENTATION_REPORT);
     Ok(())
 }
