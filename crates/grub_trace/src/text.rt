@@ -19,6 +19,11 @@ pub enum TextFault {
 }
 
 impl fmt::Display for TextFault {
+    ghost use Rattle.std.specs.Prelude.{Some};
+    ghost use Rattle.grub_trace.specs.Messages.{text_fault_text};
+
+    ghost output = { λ _. Some text_fault_text };
+
     fn fmt<W: fmt::Write>(&self, f: &mut fmt::Formatter<W>) -> fmt::Result {
         f.write_str(match self {
             TextFault::NoMemory => "43 NoMemory",

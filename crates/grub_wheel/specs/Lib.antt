@@ -1,6 +1,7 @@
-pub mod TimerBag
+pub mod Firsts
+pub mod Messages
+pub mod Nodes
 pub mod Order
 pub mod Sorted
-pub mod Firsts
-pub mod Nodes
+pub mod TimerBag
 pub mod Used

@@ -10,6 +10,11 @@ pub enum WheelFault {
 }
 
 impl fmt::Display for WheelFault {
+    ghost use Rattle.std.specs.Prelude.{Some};
+    ghost use Rattle.grub_wheel.specs.Messages.{wheel_fault_text};
+
+    ghost output = { λ _. Some wheel_fault_text };
+
     fn fmt<W: fmt::Write>(&self, f: &mut fmt::Formatter<W>) -> fmt::Result {
         f.write_str(match self {
             WheelFault::NoMemory => "27 NoMemory",
