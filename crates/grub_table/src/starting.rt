@@ -1,6 +1,6 @@
 //! A call begins: it is answered at once, or takes its task.
-ghost use Rattle.std.specs.Prelude.{◌≡◌, ℕ, ◌<◌, ◌≤◌, ◌+◌, ◌-◌, nat_lt, if◌then◌else◌, false, IfOk, length};
-ghost use Rattle.grub_bw.specs.Server.{Fits, lag_of};
+ghost use Rattle.std.specs.Prelude.{◌≡◌, ℕ, ◌<◌, ◌≤◌, ◌+◌, false, IfOk, length};
+ghost use Rattle.grub_bw.specs.Server.{Fits};
 ghost use Rattle.grub_book.specs.Op.{IsOp};
 ghost use Rattle.grub_book.specs.declared.op.Op.{Op};
 ghost use Rattle.grub_book.specs.declared.place.Record.{Record};
@@ -14,23 +14,9 @@ use crate::pass::{Claim, Pass, Shared, Sighting, Started};
 use crate::row::unclaimed;
 use crate::view::{Note, View};
 use atomic_table::Seat;
-use grub_book::{Op, Record, Reply, refusal};
-use grub_bw::{Params, Server, zero_lag};
+use grub_book::{Op, Record, Reply, lag_after, refusal};
 use grub_words::{TaskWord, pack_task};
 use std::marker::Brand;
-
-/// The 0-lag moment of a task, where it is after `m`.
-fn lag_after(server: Server, params: Params, m: u32) -> Option<u32>
-    requires { Fits server params }
-    ensures { let z = server.d - lag_of server params in result ≡ (if nat_lt m z then Some z else None) }
-{
-    let z = zero_lag(server, params);
-    if z > i64::from(m) {
-        Some(z as u32)
-    } else {
-        None
-    }
-}
 
 /// The reply of a timer that is early.
 fn early(held: &Record, op: Op) -> Option<Reply>
