@@ -1,4 +1,5 @@
-//! The timers of one worker: a bag from which the least comes first once it is due.
+//! The timers of one worker: a bag from which the least comes first once it is due. Moments have one unit, which the
+//! caller chooses.
 #![tactic(auto)]
 
 mod chains;

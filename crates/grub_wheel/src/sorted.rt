@@ -1,5 +1,5 @@
 //! Timers in a sorted list.
-ghost use Rattle.std.specs.Prelude.{◌≡◌, ◌<◌, ◌≤◌, ◌↔◌, Some, None, IfOk, OnOk, OnErr, IfSome, IfNone, IsTrue, not, position, ◌==◌};
+ghost use Rattle.std.specs.Prelude.{◌≡◌, ◌<◌, ◌≤◌, ◌↔◌, Some, None, IfOk, IsOk, OnOk, OnErr, IfSome, IfNone, IsTrue, not, position, ◌==◌};
 ghost use Rattle.std.specs.Bool.{OnTrue, OnFalse};
 ghost use Rattle.std.specs.FinMap as map;
 ghost use Rattle.grub_wheel.specs.TimerBag.{IsArmed, IsArmedWith, IsLeast, AreLater, fresh, after_arming, after_taking};
@@ -62,13 +62,15 @@ impl SortedWheel {
         self.last
     }
 
-    /// Makes a place for a timer, where there is none. A refused growth gives 27, `NoMemory`.
+    /// Makes a place for a timer, where there is none. A refused growth gives 27, `NoMemory`, and then nothing changed.
+    /// Where a place is spare, nothing grows, so nothing is refused.
     pub fn reserve_one(&mut self) -> Result<(), WheelFault>
         ensures place { OnOk result (1 ≤ self.new.spare) }
         ensures spare { OnOk result (self.old.spare ≤ self.new.spare) }
         ensures timers { OnOk result (self.new.timers ≡ self.old.timers) }
         ensures last { OnOk result (self.new.last ≡ self.old.last) }
         ensures err { OnErr result (self.new ≡ self.old) }
+        ensures spared { 1 ≤ self.old.spare → IsOk result }
     {
         if self.spare == 0 {
             if self.timers.reserve(1).is_err() {
@@ -89,7 +91,8 @@ impl SortedWheel {
         Some(self.timers[i])
     }
 
-    /// Arms the timer of task `t` at moment `z`, in a place that is spare. The moment is later than that of the latest `due`.
+    /// Arms the timer of task `t`, which has none armed, at moment `z`, in a place that is spare. The moment is later than
+    /// that of the latest `due`.
     pub fn arm(&mut self, z: u32, t: u32, ticket: u32)
         requires room { 1 ≤ self.old.spare }
         requires free { map.get self.old.timers t ≡ None }
@@ -120,7 +123,8 @@ impl SortedWheel {
         }
     }
 
-    /// Takes out the least timer whose moment is `m` or before, by moment, then by task, then by ticket.
+    /// Takes out the least timer whose moment is `m` or before, by moment, then by task, then by ticket. `m` is not before
+    /// the moment of the latest `due`.
     pub fn due(&mut self, m: u32) -> Option<Timer>
         requires { IfSome self.old.last (λ before. before ≤ m) }
         ensures armed { IfSome result (IsArmed self.old.timers) }

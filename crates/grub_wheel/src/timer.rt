@@ -1,11 +1,16 @@
 ghost use Rattle.std.specs.Prelude.{◌≡◌};
 ghost use Rattle.grub_wheel.specs.Order.{is_before};
 
-/// The timer of a blocked task `t`: at its 0-lag moment `z`, with the ticket of the block that waits for it.
+/// The timer of a blocked task.
 #[derive(Clone, Copy, Debug, PartialEq, Eq)]
 pub struct Timer {
+    /// The task's 0-lag moment, from which on the timer is due.
     pub z: u32,
+
+    /// The number of the task.
     pub t: u32,
+
+    /// The ticket of the block that waits for it.
     pub ticket: u32,
 }
 
