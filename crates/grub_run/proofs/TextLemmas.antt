@@ -1,5 +1,5 @@
 -- The texts of reports, one more at the end.
-use Rattle.std.proofs.Common.{◌≡◌, ℕ, suc, ◌+◌, List, [], ◌∷◌, ◌++◌, length, ap, ◌∙◌, sym, append_assoc, append-nil, add-zero, arith, take, get_or, refl, ◌<◌, ◌≤◌, map, subst, zero, Some, All}
+use Rattle.std.proofs.Common.{◌≡◌, ℕ, suc, ◌+◌, List, [], ◌∷◌, ◌++◌, length, ap, ◌∙◌, sym, append_assoc, append-nil, add-zero, arith, take, get_or, refl, ◌<◌, ◌≤◌, map, subst}
 use Rattle.std.proofs.lemmas.List.{take_more, length-map, length-take-le}
 use Rattle.grub_book.specs.declared.event.Reading.{Reading}
 use Rattle.grub_trace.specs.Texts.{report_text}
@@ -8,8 +8,9 @@ use Rattle.grub_trace.specs.Meaning.{Reads}
 use Rattle.grub_trace.specs.Naming.{all_tasks, plan_of, script_of}
 use Rattle.grub_trace.specs.Plans.{PlanView}
 use Rattle.grub_trace.specs.Tree.{Tree, names_of, text as tree_text}
+use Rattle.grub_workers.specs.Apart.{AllApart, AreOwn}
 use Rattle.grub_workers.specs.Runs.{IsOnlyRun, IsRun, entries_of}
-use Rattle.grub_run.specs.Written.{IsOnlyText, IsOutput, IsText, texts_from}
+use Rattle.grub_run.specs.Written.{IsOnlyText, IsOutput, texts_from}
 
 pub texts_push : (names : List (List ℕ)) (r : ℕ) (xs : List Report) (cs : List Reading) (x : Report) (c : Reading) → length xs ≡ length cs
     → texts_from names r (xs ++ x ∷ []) (cs ++ c ∷ []) ≡ texts_from names r xs cs ++ report_text names (r + length xs) x.entries.items c
@@ -65,9 +66,9 @@ one_script_each files trees read =
 -- the text of the reports of a run of the plan of these files
 pub output_of : (tries : ℕ) (files : List (List ℕ)) (plan : PlanView) (reports : List Report) (closing : List Reading) (text : List ℕ)
     → (trees : List Tree) → Reads files trees → plan ≡ plan_of trees → ((others : List Tree) → Reads files others → plan ≡ plan_of others)
-    → IsRun plan tries reports closing → (length plan.scripts ≡ 1 → 1 ≤ tries → IsOnlyRun plan reports closing)
+    → IsRun plan tries reports closing → (length plan.scripts ≡ 1 → 1 ≤ tries → IsOnlyRun plan reports closing) → (1 ≤ tries → AreOwn plan reports closing)
     → text ≡ texts_from plan.names 0 reports closing → IsOutput tries files text
-output_of tries files plan reports closing text trees read is every run only whole = record {
+output_of tries files plan reports closing text trees read is every run only own whole = record {
   is = record {
     trees = trees;
     read = read;
@@ -79,4 +80,5 @@ output_of tries files plan reports closing text trees read is every run only who
   only = λ one some.
       let alone : length plan.scripts ≡ 1 = ap (λ p. length p.scripts) is ∙ one_script_each files trees read ∙ one in
       only_text files plan reports closing text every (only alone some) whole;
+  apart = λ apart some. only_text files plan reports closing text every ((own some).whole (subst AllApart (sym is) (apart trees read))) whole;
 }

@@ -9,6 +9,7 @@ use Rattle.grub_trace.specs.Texts.{report_text}
 use Rattle.grub_trace.specs.declared.entry.Report.{Report}
 use Rattle.grub_trace.specs.declared.fault.Kind.{Kind}
 use Rattle.grub_trace.specs.declared.fault.TraceFault.TheVariants as trace
+use Rattle.grub_workers.specs.Apart.{AllApart}
 use Rattle.grub_workers.specs.Runs.{IsRun}
 use Rattle.grub_run.specs.declared.fault.GrubFault.{GrubFault}
 use Rattle.grub_run.specs.declared.fault.GrubFault.TheVariants as faults
@@ -32,10 +33,15 @@ pub record IsText (tries : ℕ) (files : List (List ℕ)) (text : List ℕ) : Ty
 abbrev pub IsOnlyText : List (List ℕ) → List ℕ → Type 0
 IsOnlyText files text = (tries : ℕ) (other : List ℕ) → 1 ≤ tries → IsText tries files other → other ≡ text
 
--- the text of a run, which with one file alone is a function of the file
+-- no two of the files name one task
+abbrev pub ShareNoTask : List (List ℕ) → Type 0
+ShareNoTask files = (trees : List Tree) → Reads files trees → AllApart (plan_of trees)
+
+-- the text of a run, which is a function of the files where they share no task, as with one file alone
 pub record IsOutput (tries : ℕ) (files : List (List ℕ)) (text : List ℕ) : Type 0 where
   pub is : IsText tries files text
   pub only : length files ≡ 1 → 1 ≤ tries → IsOnlyText files text
+  pub apart : ShareNoTask files → 1 ≤ tries → IsOnlyText files text
 
 -- known bytes grow by a beginning of the text
 abbrev pub AppendsPrefix : Option (List ℕ) → Option (List ℕ) → List ℕ → Type 0

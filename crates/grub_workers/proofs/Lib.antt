@@ -10,5 +10,8 @@ pub mod Steps
 pub mod Beginning
 pub mod Lines
 pub mod Ties
-pub mod OneFile
+pub mod Naming
+pub mod Apart
 pub mod Determined
+pub mod OwnReports
+pub mod OneFile

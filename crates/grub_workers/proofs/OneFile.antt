@@ -1,23 +1,24 @@
 -- A run of one file alone.
-use Rattle.std.proofs.Common.{◌≡◌, ℕ, ◌<◌, ◌≤◌, List, [], ◌∷◌, ◌++◌, length, get_or, subst, arith}
-use Rattle.std.specs.List.{All}
+use Rattle.std.proofs.Common.{◌≡◌, ◌≢◌, ℕ, zero, suc, ◌<◌, ◌≤◌, List, [], length, get_or, Some, refl, subst, arith}
+use Rattle.std.specs.Prelude.{slice_get}
 use Rattle.std.proofs.lemmas.List.Elements.{All-weaker}
-use Rattle.std.proofs.lemmas.Option.{slice_get-get_or, slice_get_within}
+use Rattle.std.proofs.lemmas.List.{get_or_past}
+use Rattle.std.proofs.lemmas.Option.{slice_get-get_or}
 use Rattle.grub_book.specs.Machine.{Machine}
-use Rattle.grub_book.specs.History.{pass_of}
 use Rattle.grub_book.specs.declared.op.Op.TheVariants.{Charge}
 use Rattle.grub_book.specs.declared.event.Event.{Event}
 use Rattle.grub_book.specs.declared.event.Reading.{Reading}
 use Rattle.grub_trace.specs.declared.entry.Ask.{Ask}
-use Rattle.grub_trace.specs.declared.entry.Ask.TheVariants.{Call, Read}
+use Rattle.grub_trace.specs.declared.entry.Ask.TheVariants.{Call}
 use Rattle.grub_trace.specs.declared.entry.Answer.{Answer}
-use Rattle.grub_trace.specs.declared.entry.Answer.TheVariants.{Replied, Seen, Busy, Lost}
+use Rattle.grub_trace.specs.declared.entry.Answer.TheVariants.{Lost}
 use Rattle.grub_trace.specs.declared.entry.Entry.{Entry}
 use Rattle.grub_trace.specs.declared.entry.Report.{Report}
 use Rattle.grub_trace.specs.Plans.{PlanView}
-use Rattle.grub_workers.specs.Runs.{AllAsksOf, HeldElsewhere, IsGivenUp, IsLostCharge, IsNotVain, IsRun, NoEntry, entries_of}
+use Rattle.grub_workers.specs.Runs.{AllAsksOf, IsGivenUp, IsLostCharge, IsNotVain, IsOnlyRun, IsRun, NoEntry, entries_of}
+use Rattle.grub_workers.specs.Apart.{AllApart, IsApart, Names}
 use Rattle.grub_workers.specs.Handles.{script_at}
-use Rattle.grub_workers.proofs.Finding.{all_left, all_right}
+use Rattle.grub_workers.proofs.OwnReports.{answered_own, whole_own}
 
 -- a clause of each report, at each entry of each report
 at_each : (plan : PlanView) (tries : ℕ) (rs : List Report) (last : List Reading) (run : IsRun plan tries rs last) (P : Ask → Answer → Type 0)
@@ -34,30 +35,35 @@ tasks_of_run plan tries rs last run k d low =
 
 -- a charge changes no sum, so it is never lost
 no_lost_charge : (s : Machine) (tries : ℕ) (h : List Event) (rs : List Report) (i : ℕ) (ask : Ask) (answer : Answer) → IsNotVain s tries h rs i ask answer → ¬ IsLostCharge ask answer
-no_lost_charge s tries h rs i (Call t (Charge r dt)) Lost v = λ k. let bad = v.0.2 in absurd (cc)
+no_lost_charge s tries h rs i (Call t (Charge r dt)) Lost v = λ k. let bad = v.would_change in absurd (cc)
 no_lost_charge s tries h rs i ask answer v = λ k. k
 
 pub charges_of_run : (plan : PlanView) (tries : ℕ) (rs : List Report) (last : List Reading) → IsRun plan tries rs last → NoEntry IsLostCharge rs
 charges_of_run plan tries rs last run = at_each plan tries rs last run IsLostCharge (λ i ask answer low v. no_lost_charge plan.setup tries run.history rs i ask answer v)
 
 -- ---- nobody else is there
+-- the only file is apart: no other names its tasks
+only_apart : (plan : PlanView) → length plan.scripts ≡ 1 → IsApart plan 0
+only_apart plan one j t other mine his =
+    let past : length plan.scripts ≤ j = let some = other_some j other in omega (arith, one, some) in
+    names_nothing t (subst (λ script. Names script t) (get_or_past plan.scripts j [] past) his)
+  where
+    other_some : (j : ℕ) → j ≢ 0 → 1 ≤ j
+    other_some zero ne = absurd (ne refl)
+    other_some (suc j) ne = omega arith
+
+    names_nothing : (t : ℕ) → ¬ Names [] t
+    names_nothing t named = let low = named.2 in absurd (omega (arith, low))
+
+all_apart : (plan : PlanView) → length plan.scripts ≡ 1 → AllApart plan
+all_apart plan one i low = let first : 0 ≡ i = omega (arith, one, low) in subst (IsApart plan) first (only_apart plan one)
+
 module _ (plan : PlanView) (tries : ℕ) (rs : List Report) (last : List Reading) (one : length plan.scripts ≡ 1) (some : 1 ≤ tries) (run : IsRun plan tries rs last) where
-  nobody_else : (i t : ℕ) → i < length plan.scripts → HeldElsewhere rs i t → ⊥
-  nobody_else i t low held = let there = slice_get_within rs held.number held.report held.there in held.other (omega (arith, one, low, there, run.one_each))
-
-  pub not_given_up : (i : ℕ) (ask : Ask) (answer : Answer) → i < length plan.scripts → IsNotVain plan.setup tries run.history rs i ask answer → ¬ IsGivenUp ask answer
-  not_given_up i (Call t op) Busy low v k = nobody_else i t low v
-  not_given_up i (Call t op) Lost low v k =
-      let c = v.1 some in
-      let below : All (λ e. pass_of e < length plan.scripts) ((c.before ++ c.event ∷ []) ++ c.rest) = subst (All (λ e. pass_of e < length plan.scripts)) c.stands run.numbers in
-      let his : pass_of c.event < length plan.scripts = all_right (λ e. pass_of e < length plan.scripts) c.before (c.event ∷ []) (all_left (λ e. pass_of e < length plan.scripts) (c.before ++ c.event ∷ []) c.rest below) 0 c.event (omega arith) in
-      c.other (omega (arith, one, low, his))
-  not_given_up i (Call t op) (Replied reply) low v k = k
-  not_given_up i (Call t op) (Seen reading) low v k = k
-  not_given_up i Read (Seen reading) low v k = k
-  not_given_up i Read (Replied reply) low v k = k
-  not_given_up i Read Busy low v k = v
-  not_given_up i Read Lost low v k = v
-
   pub alone_of_run : NoEntry IsGivenUp rs
-  alone_of_run = at_each plan tries rs last run IsGivenUp not_given_up
+  alone_of_run k d low =
+      let l = run.one_each in
+      let first : k ≡ 0 = omega (arith, one, low, l) in
+      answered_own plan tries rs last run 0 (only_apart plan one) some (get_or rs k d) (subst (λ n. slice_get rs n ≡ Some (get_or rs k d)) first (slice_get-get_or rs k d low))
+
+  pub only_run : IsOnlyRun plan rs last
+  only_run = whole_own plan tries rs last some run (all_apart plan one)

@@ -29,7 +29,7 @@ pub others_only : (i : ℕ) (h more : List Event) → calls_of i (h ++ more) ≡
 others_only i h more is = All-weaker (λ e. (pass_of e == i) ≡ false) (λ e. pass_of e ≢ i) (not_own i) more
     (filter_none (λ e. pass_of e == i) more (append_none (calls_of i h) (calls_of i more) (sym (calls_append i h more) ∙ is)))
 
-replied_else : (t : ℕ) (book : Records) (u : ℕ) → t ≢ u → (o : Option Reply) (m : Record × Reply) → record_at (replied book u o m).0 t ≡ record_at book t
+pub replied_else : (t : ℕ) (book : Records) (u : ℕ) → t ≢ u → (o : Option Reply) (m : Record × Reply) → record_at (replied book u o m).0 t ≡ record_at book t
 replied_else t book u ne (Some reply) m = refl
 replied_else t book u ne None m = get_or-set_other book u t m.0 _ ne
 
@@ -99,13 +99,13 @@ held_else i t ms j is ne = any_of (TakesElse i t) ms (⊎_elim (λ (e : nobody_h
 reading_itself : (a b : Reading) → a ≡ b → is_reading a b ≡ true
 reading_itself a b same = subst (λ x. is_reading a x ≡ true) same (ap (λ k. k && (a.this == a.this)) (eq-eqb a.running a.running refl) ∙ ap (λ k. true && k) (eq-eqb a.this a.this refl))
 
-find_change : (s : Machine) (i r : ℕ) (h more : List Event) → All (λ e. pass_of e ≢ i) more → 1 ≤ changes_from s (book_of s h) r more → ChangesElse s i (h ++ more)
+find_change : (s : Machine) (i r : ℕ) (h more : List Event) → All (λ e. pass_of e ≢ i) more → 1 ≤ changes_from s (book_of s h) r more → ChangesElse s i r (h ++ more)
 find_change s i r h [] o some = absurd (omega (arith, some))
 find_change s i r h (e ∷ es) o some =
-    go (λ at_least. subst (ChangesElse s i) (append_assoc h (e ∷ []) es) (find_change s i r (h ++ e ∷ []) es (All-tail (λ k. pass_of k ≢ i) e es o) (subst (λ b. 1 ≤ changes_from s b r es) (sym (book_push s h e)) at_least)))
+    go (λ at_least. subst (ChangesElse s i r) (append_assoc h (e ∷ []) es) (find_change s i r (h ++ e ∷ []) es (All-tail (λ k. pass_of k ≢ i) e es o) (subst (λ b. 1 ≤ changes_from s b r es) (sym (book_push s h e)) at_least)))
     (is_reading (reading_of (book_of s h) r) (reading_of (after s (book_of s h) e) r)) refl
   where
-    go : (1 ≤ changes_from s (after s (book_of s h) e) r es → ChangesElse s i (h ++ e ∷ es)) → (b : Bool) → is_reading (reading_of (book_of s h) r) (reading_of (after s (book_of s h) e) r) ≡ b → ChangesElse s i (h ++ e ∷ es)
+    go : (1 ≤ changes_from s (after s (book_of s h) e) r es → ChangesElse s i r (h ++ e ∷ es)) → (b : Bool) → is_reading (reading_of (book_of s h) r) (reading_of (after s (book_of s h) e) r) ≡ b → ChangesElse s i r (h ++ e ∷ es)
     go later true is =
         let some' : 1 ≤ (cond true 0 1) + changes_from s (after s (book_of s h) e) r es = subst (λ b. 1 ≤ (cond b 0 1) + changes_from s (after s (book_of s h) e) r es) is some in
         later (omega (arith, some'))
@@ -113,14 +113,13 @@ find_change s i r h (e ∷ es) o some =
       before = h;
       event = e;
       rest = es;
-      queue = r;
       stands = sym (append_assoc h (e ∷ []) es);
       other = All-head (λ k. pass_of k ≢ i) e es o;
       changed = λ same.
           let on = reading_itself (reading_of (book_of s h) r) (reading_of (after s (book_of s h) e) r) (same ∙ ap (λ b. reading_of b r) (book_push s h e)) in absurd (cc);
     }
 
-pub changed_else : (s : Machine) (i r n : ℕ) (before after : List Event) → calls_of i after ≡ calls_of i before → HasChanged s r before after n → 1 ≤ n → ChangesElse s i after
+pub changed_else : (s : Machine) (i r n : ℕ) (before after : List Event) → calls_of i after ≡ calls_of i before → HasChanged s r before after n → 1 ≤ n → ChangesElse s i r after
 changed_else s i r n before after own c some =
     let at_least : 1 ≤ changes_from s (book_of s before) r c.0 = omega (arith, some, c.2) in
-    subst (ChangesElse s i) (sym c.1) (find_change s i r before c.0 (others_only i before c.0 (ap (calls_of i) (sym c.1) ∙ own)) at_least)
+    subst (ChangesElse s i r) (sym c.1) (find_change s i r before c.0 (others_only i before c.0 (ap (calls_of i) (sym c.1) ∙ own)) at_least)

@@ -1,6 +1,6 @@
 -- One round of an ask.
-use Rattle.std.proofs.Common.{◌≡◌, ℕ, ◌+◌, ◌≤◌, false, cond, IsTrue, List, [], ◌∷◌, ◌++◌, refl, sym, ap, ◌∙◌, subst, ⊎_elim, inl, inr, arith}
-use Rattle.grub_book.specs.Step.{changes_sum}
+use Rattle.std.proofs.Common.{◌≡◌, ℕ, ◌+◌, ◌≤◌, true, false, cond, None, List, [], ◌∷◌, ◌++◌, refl, sym, ap, ◌∙◌, subst, ⊎_elim, inl, inr, arith}
+use Rattle.grub_book.specs.Step.{changes_sum, refused, runqueue_of}
 use Rattle.grub_book.specs.Sums.{record_at}
 use Rattle.grub_book.specs.History.{book_of, IsLegal, StartsWith}
 use Rattle.grub_book.specs.declared.op.Op.{Op}
@@ -21,10 +21,10 @@ use Rattle.grub_table.specs.declared.pass.Sighting.TheVariants.{Claimed, Changed
 use Rattle.grub_table.specs.Layout.{shown}
 use Rattle.grub_table.specs.Marks.{MarksGo, marks_of}
 use Rattle.grub_table.specs.Histories.{Grows, Finishes, record_in}
-use Rattle.grub_table.specs.Calls.{IsPassOf, IsAnswered, IsTaken, IsBusy, IsDone, IsLost, IsCancelled, IsSighting, IsClaimedSighting, number_of, claim_number, claim_task, claim_op, claim_queue, claim_changes_sum, seen, marks, claim_seen, claim_marks, marks_of_call, terms}
+use Rattle.grub_table.specs.Calls.{IsPassOf, IsAnswered, IsTaken, IsBusy, IsDone, IsLost, IsCancelled, IsSighting, IsClaimedSighting, number_of, claim_number, claim_task, claim_op, claim_record, claim_queue, claim_changes_sum, seen, marks, claim_seen, claim_marks, marks_of_call, terms}
 use Rattle.grub_trace.specs.declared.entry.Ask.TheVariants.{Call}
 use Rattle.grub_trace.specs.declared.entry.Answer.TheVariants.{Replied, Busy, Lost}
-use Rattle.grub_workers.specs.Evidence.{ShowsHolder}
+use Rattle.grub_workers.specs.Evidence.{ChangesElse, ShowsHolder}
 use Rattle.grub_workers.specs.Working.{Advances, IsAsked, IsBlockBefore, WaitsRightly, machine}
 use Rattle.grub_workers.proofs.Advancing.{advances_grows, advances_finishes, advances_twice, advances_none, changes_later}
 use Rattle.grub_workers.proofs.Others.{calls_between, held_else, changed_else}
@@ -99,7 +99,8 @@ module _ (s : Shared) (p : Pass) (t : ℕ) (asked : Op) where
   pub lost_round : (tries : ℕ) (c d : Claim) → IsHolding s p t asked c → IsLost s c tries d → HasLost s tries p t asked d
   lost_round tries c d a b =
       let g = subst (λ n. Grows (terms s) n (claim_seen c) (claim_seen d)) a.number b.grows in
-      let same : claim_changes_sum c ≡ claim_changes_sum d = ap (λ (k : Record × Op). changes_sum k.0 k.1) (λ j. (sym b.still.held j, sym b.still.op j)) in record {
+      let same : claim_changes_sum c ≡ claim_changes_sum d = ap (λ (k : Record × Op). changes_sum k.0 k.1) (λ j. (sym b.still.held j, sym b.still.op j)) in
+      let queue : claim_queue c ≡ claim_queue d = ap (λ (k : Record × Op). runqueue_of k.0.place k.1) (λ j. (sym b.still.held j, sym b.still.op j)) in record {
         holding = record {
           of = b.still.of;
           number = b.still.number ∙ a.number;
@@ -113,7 +114,7 @@ module _ (s : Shared) (p : Pass) (t : ℕ) (asked : Op) where
           };
         };
         sum = sym same ∙ b.sum;
-        changes = λ some. changed_else (machine s) (number_of p) (claim_queue c) tries (claim_seen c) (claim_seen d) g.own b.changes some;
+        changes = λ some. subst (λ r. ChangesElse (machine s) (number_of p) r (claim_seen d)) queue (changed_else (machine s) (number_of p) (claim_queue c) tries (claim_seen c) (claim_seen d) g.own b.changes some);
       }
 
   -- ---- a round that made the call
@@ -144,11 +145,19 @@ module _ (s : Shared) (p : Pass) (t : ℕ) (asked : Op) where
       let h = a.holding in
       let g = subst (λ n. Grows (terms s) n (claim_seen c) (seen q)) h.number b.grows in
       let m = subst (λ (k : ℕ × ℕ). MarksGo (terms s).passes k.0 (claim_marks c) (marks q) (Given k.0 k.1 ∷ [])) (λ j. (h.number j, h.task j)) b.marked in
-      let would : IsTrue (changes_sum (record_at (book_of (machine s) (claim_seen c)) t) asked) =
-      ap (λ (k : Record × Op). changes_sum k.0 k.1) (λ j. (sym (ap (record_in (terms s) (claim_seen c)) h.task) j, sym h.op j)) ∙ ap (λ (k : Record). changes_sum k (claim_op c)) h.of.held ∙ a.sum in record {
+      let found : record_at (book_of (machine s) (claim_seen c)) t ≡ claim_record c = ap (record_in (terms s) (claim_seen c)) (sym h.task) ∙ h.of.held in
+      let asks : (claim_op c) ≡ asked = h.op in record {
         of = b.of;
         number = b.number ∙ h.number;
         advances = advances_twice (number_of p) (seen p) (claim_seen c) (seen q) (marks p) (claim_marks c) (marks q) [] [] (Taken (number_of p) t ∷ []) (Given (number_of p) t ∷ []) h.advances
             (advances_grows (terms s) (terms s).passes (number_of p) (claim_seen c) (seen q) (claim_marks c) (marks q) (Given (number_of p) t ∷ []) g m);
-        backed = ((claim_seen c, g.starts, would), λ some. changes_later (machine s) (number_of p) (claim_seen c) (seen q) g.starts (a.changes some));
+        backed = record {
+          point = claim_seen c;
+          in_history = g.starts;
+          x = claim_record c;
+          found = found;
+          unrefused = subst (λ o. refused (claim_record c).place (claim_record c).count o ≡ None) asks h.of.unrefused;
+          would_change = subst (λ o. changes_sum (claim_record c) o ≡ true) asks a.sum;
+          changed_else = λ some. subst (λ o. ChangesElse (machine s) (number_of p) (runqueue_of (claim_record c).place o) (seen q)) asks (changes_later (machine s) (number_of p) (claim_queue c) (claim_seen c) (seen q) g.starts (a.changes some));
+        };
       }

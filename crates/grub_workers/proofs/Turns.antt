@@ -5,7 +5,7 @@ use Rattle.grub_table.specs.declared.view.Mark.TheVariants.{Taken}
 use Rattle.grub_table.specs.declared.pass.Pass.{Pass}
 use Rattle.grub_table.specs.declared.pass.Claim.{Claim}
 use Rattle.grub_table.specs.declared.pass.Shared.{Shared}
-use Rattle.grub_table.specs.Calls.{IsPassOf, IsClaimOf, number_of, claim_number, claim_task, claim_op, claim_changes_sum, seen, marks, claim_seen, claim_marks}
+use Rattle.grub_table.specs.Calls.{IsPassOf, IsClaimOf, number_of, claim_number, claim_task, claim_op, claim_queue, claim_changes_sum, seen, marks, claim_seen, claim_marks}
 use Rattle.grub_workers.specs.declared.asking.Turn.{Turn}
 use Rattle.grub_workers.specs.declared.asking.Turn.TheVariants as turns
 use Rattle.grub_workers.specs.Evidence.{ShowsHolder, ChangesElse}
@@ -30,7 +30,7 @@ pub record IsHolding (s : Shared) (p : Pass) (t : ℕ) (asked : Op) (c : Claim) 
 pub record HasLost (s : Shared) (tries : ℕ) (p : Pass) (t : ℕ) (asked : Op) (c : Claim) : Type 0 where
   pub holding : IsHolding s p t asked c
   pub sum : claim_changes_sum c ≡ true
-  pub changes : 1 ≤ tries → ChangesElse (machine s) (number_of p) (claim_seen c)
+  pub changes : 1 ≤ tries → ChangesElse (machine s) (number_of p) (claim_queue c) (claim_seen c)
 
 abbrev pub IsTurn : Shared → ℕ → ℕ → Pass → ℕ → Op → Turn → Type 0
 IsTurn s tries round p t op (turns.Free now) = IsFree s round p t now

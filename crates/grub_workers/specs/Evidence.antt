@@ -1,11 +1,12 @@
 -- What one pass knows of the others where an ask was given up.
-use Rattle.std.specs.Prelude.{◌≡◌, ◌≢◌, ◌⊎◌, ◌≤◌, ℕ, IsTrue, List, [], ◌∷◌, ◌++◌}
+use Rattle.std.specs.Prelude.{◌≡◌, ◌≢◌, ◌⊎◌, ◌≤◌, ℕ, IsTrue, true, None, List, [], ◌∷◌, ◌++◌}
 use Rattle.std.specs.List.{All, Any}
 use Rattle.grub_book.specs.Machine.{Machine}
 use Rattle.grub_book.specs.Sums.{reading_of, record_at}
-use Rattle.grub_book.specs.Step.{changes_sum, is_under_claim}
+use Rattle.grub_book.specs.Step.{changes_sum, is_under_claim, refused, runqueue_of}
 use Rattle.grub_book.specs.History.{StartsWith, book_of, pass_of}
 use Rattle.grub_book.specs.declared.op.Op.{Op}
+use Rattle.grub_book.specs.declared.place.Record.{Record}
 use Rattle.grub_book.specs.declared.event.Event.{Event}
 use Rattle.grub_book.specs.declared.event.Event.TheVariants as events
 use Rattle.grub_table.specs.declared.view.Mark.{Mark}
@@ -30,24 +31,30 @@ CallsElse i t (events.Look j r reading) = ⊥
 abbrev pub ShowsHolder : ℕ → ℕ → List Event → List Mark → Type 0
 ShowsHolder i t history marks = Any (CallsElse i t) history ⊎ Any (TakesElse i t) marks
 
--- the history has an event of another pass than i, at which the reading of a runqueue becomes another
-pub record ChangesElse (s : Machine) (i : ℕ) (history : List Event) : Type 0 where
+-- the history has an event of another pass than i, at which the reading of runqueue r becomes another
+pub record ChangesElse (s : Machine) (i r : ℕ) (history : List Event) : Type 0 where
   pub before : List Event
   pub event : Event
   pub rest : List Event
-  pub queue : ℕ
   pub stands : history ≡ (before ++ event ∷ []) ++ rest
   pub other : pass_of event ≢ i
-  pub changed : reading_of (book_of s before) queue ≢ reading_of (book_of s (before ++ event ∷ [])) queue
+  pub changed : reading_of (book_of s before) r ≢ reading_of (book_of s (before ++ event ∷ [])) r
 
--- at some point of the history the op would have changed a sum
-abbrev pub WouldChange : Machine → ℕ → Op → List Event → Type 0
-WouldChange s t op history = (h : List Event) × StartsWith history h × IsTrue (changes_sum (record_at (book_of s h) t) op)
+-- The op of pass i was to change a sum, and others were first: at some point of the history the task's record x let it change a sum of its runqueue,
+-- and with a try or more the history has another's change of that runqueue's reading.
+pub record IsOvertaken (s : Machine) (tries i t : ℕ) (op : Op) (history : List Event) : Type 0 where
+  pub point : List Event
+  pub in_history : StartsWith history point
+  pub x : Record
+  pub found : record_at (book_of s point) t ≡ x
+  pub unrefused : refused x.place x.count op ≡ None
+  pub would_change : changes_sum x op ≡ true
+  pub changed_else : 1 ≤ tries → ChangesElse s i (runqueue_of x.place op) history
 
 -- what stands behind an answer by which an ask was given up
 abbrev pub IsBacked : Machine → ℕ → ℕ → List Event → List Mark → Ask → Answer → Type 0
 IsBacked s tries i history marks (Call t op) Busy = ShowsHolder i t history marks
-IsBacked s tries i history marks (Call t op) Lost = WouldChange s t op history × (1 ≤ tries → ChangesElse s i history)
+IsBacked s tries i history marks (Call t op) Lost = IsOvertaken s tries i t op history
 IsBacked s tries i history marks (Call t op) (Replied reply) = Unit {0}
 IsBacked s tries i history marks (Call t op) (Seen reading) = ⊥
 IsBacked s tries i history marks Read (Seen reading) = Unit {0}

@@ -3,3 +3,4 @@ pub mod Evidence
 pub mod Working
 pub mod Handles
 pub mod Runs
+pub mod Apart

@@ -17,7 +17,7 @@ use Rattle.grub_trace.specs.declared.entry.Report.{Report}
 use Rattle.grub_trace.specs.Asked.{Asked}
 use Rattle.grub_trace.specs.Plans.{PlanView}
 use Rattle.grub_workers.specs.Entries.{AreAsksOf, HeldTask, IsAnswerTo, events_told}
-use Rattle.grub_workers.specs.Evidence.{ChangesElse, WouldChange}
+use Rattle.grub_workers.specs.Evidence.{IsOvertaken}
 
 abbrev pub entries_of : Report → List Entry
 entries_of report = report.entries.items
@@ -30,11 +30,11 @@ pub record HeldElsewhere (reports : List Report) (i t : ℕ) : Type 0 where
   pub other : number ≢ i
   pub held : Any (λ (e : Entry). HeldTask t e.ask e.answer) (entries_of report)
 
--- An ask is given up for a reason alone. It is Busy only where another worker held its task, and Lost only where its op would have changed a sum,
--- and with a try or more only where the history has a change of a reading by another worker.
+-- An ask is given up for a reason alone. It is Busy only where another worker held its task, and Lost only where its op would have changed a sum of its
+-- runqueue, and with a try or more only where the history has a change of that runqueue's reading by another worker.
 abbrev pub IsNotVain : Machine → ℕ → List Event → List Report → ℕ → Ask → Answer → Type 0
 IsNotVain s tries h reports i (Call t op) Busy = HeldElsewhere reports i t
-IsNotVain s tries h reports i (Call t op) Lost = WouldChange s t op h × (1 ≤ tries → ChangesElse s i h)
+IsNotVain s tries h reports i (Call t op) Lost = IsOvertaken s tries i t op h
 IsNotVain s tries h reports i ask answer = IsAnswerTo ask answer
 
 -- report i is that of its script in this history

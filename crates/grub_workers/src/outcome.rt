@@ -1,5 +1,6 @@
 //! A run: a table, a worker for each file, and the closing readings.
 ghost use Rattle.std.specs.Prelude.{◌≡◌, ◌≤◌, IfOk, length};
+ghost use Rattle.grub_workers.specs.Apart.{AreOwn};
 ghost use Rattle.grub_workers.specs.Runs.{AllAsksOf, IsGivenUp, IsLostCharge, IsOnlyRun, IsRun, NoEntry};
 
 use crate::gate::Gate;
@@ -40,6 +41,10 @@ pub fn run<R: Threads + Wait, G: Gate>(
     ensures run { IfOk result (λ o. IsRun plan.now tries o.reports.items o.closing.items) }
     ensures tasks { IfOk result (λ o. AllAsksOf plan.now o.reports.items) }
     ensures charges { IfOk result (λ o. NoEntry IsLostCharge o.reports.items) }
+
+    // A file whose tasks no other file names has each ask answered, and its report and closing reading are a function of the file.
+    // Where no two files name one task, so is the whole outcome.
+    ensures apart { IfOk result (λ o. 1 ≤ tries → AreOwn plan.now o.reports.items o.closing.items) }
 
     // With one file alone no ask is given up, and the outcome is a function of the file.
     ensures alone { IfOk result (λ o. length plan.now.scripts ≡ 1 → 1 ≤ tries → NoEntry IsGivenUp o.reports.items) }

@@ -1,7 +1,7 @@
 use Rattle.std.proofs.Common.{length, sym, ap, refl, ◌∙◌}
 use Rattle.grub_workers.proofs.Ties.{all_fresh, all_of, run_of}
-use Rattle.grub_workers.proofs.OneFile.{alone_of_run, charges_of_run, tasks_of_run}
-use Rattle.grub_workers.proofs.Determined.{only_run}
+use Rattle.grub_workers.proofs.OneFile.{alone_of_run, charges_of_run, only_run, tasks_of_run}
+use Rattle.grub_workers.proofs.OwnReports.{answered_own, only_own, whole_own}
 use Rattle.grub_workers.proofs.outcome.run.Goals as goal
 
 pub run_scoped-requires-clause-fresh : goal.run_scoped-requires-clause-fresh
@@ -29,4 +29,13 @@ pub returns-in-Ok-close-clause-alone : goal.returns-in-Ok-close-clause-alone
 returns-in-Ok-close-clause-alone g c one some = alone_of_run c.args.plan.now c.args.tries c.in_ok-done.done.reports.items c.in-Ok-close.closing.items one some (returns-in-Ok-close-clause-run g c)
 
 pub returns-in-Ok-close-clause-same : goal.returns-in-Ok-close-clause-same
-returns-in-Ok-close-clause-same g c one some = only_run c.args.plan.now one c.args.tries c.in_ok-done.done.reports.items c.in-Ok-close.closing.items some (returns-in-Ok-close-clause-run g c)
+returns-in-Ok-close-clause-same g c one some = only_run c.args.plan.now c.args.tries c.in_ok-done.done.reports.items c.in-Ok-close.closing.items one some (returns-in-Ok-close-clause-run g c)
+
+pub returns-in-Ok-close-clause-apart : goal.returns-in-Ok-close-clause-apart
+returns-in-Ok-close-clause-apart g c some =
+    let plan = c.args.plan.now in let reports = c.in_ok-done.done.reports.items in let closing = c.in-Ok-close.closing.items in
+    let is_run = returns-in-Ok-close-clause-run g c in record {
+      answered = λ i apart. answered_own plan c.args.tries reports closing is_run i apart some;
+      only = λ i low apart. only_own plan c.args.tries reports closing some is_run i low apart;
+      whole = λ apart. whole_own plan c.args.tries reports closing some is_run apart;
+    }

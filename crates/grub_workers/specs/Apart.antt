@@ -1,0 +1,57 @@
+-- Files whose tasks no other file names: their reports do not depend on the schedule.
+use Rattle.std.specs.Prelude.{◌≡◌, ◌≢◌, ◌<◌, ◌≤◌, ℕ, List, Option, Some, None, length, map, slice_get}
+use Rattle.std.specs.List.{All, Any}
+use Rattle.grub_book.specs.declared.event.Reading.{Reading}
+use Rattle.grub_trace.specs.declared.entry.Entry.{Entry}
+use Rattle.grub_trace.specs.declared.entry.Report.{Report}
+use Rattle.grub_trace.specs.declared.line.Act.{Act}
+use Rattle.grub_trace.specs.declared.line.Act.TheVariants.{Join, Wake, Block, Leave, Exit, Run, Retune, Read}
+use Rattle.grub_trace.specs.declared.line.Line.{Line}
+use Rattle.grub_trace.specs.Plans.{PlanView}
+use Rattle.grub_workers.specs.Handles.{script_at}
+use Rattle.grub_workers.specs.Runs.{IsGivenUp, IsOnlyRun, IsRun, entries_of}
+
+abbrev pub task_of : Act → Option ℕ
+task_of (Join t) = Some t
+task_of (Wake t) = Some t
+task_of (Block t) = Some t
+task_of (Leave t) = Some t
+task_of (Exit t) = Some t
+task_of (Run t dt) = Some t
+task_of (Retune t q p) = Some t
+task_of Read = None
+
+-- a line of the script names task t
+abbrev pub Names : List Line → ℕ → Type 0
+Names script t = Any (λ (line : Line). task_of line.act ≡ Some t) script
+
+-- no other file names a task that file i names
+abbrev pub IsApart : PlanView → ℕ → Type 0
+IsApart plan i = (j t : ℕ) → j ≢ i → Names (script_at plan.scripts i) t → ¬ Names (script_at plan.scripts j) t
+
+-- no two files name one task
+abbrev pub AllApart : PlanView → Type 0
+AllApart plan = (i : ℕ) → i < length plan.scripts → IsApart plan i
+
+-- another plan with the same runqueues, tasks and file i, which is apart there too
+pub record IsLikeAt (i : ℕ) (plan other : PlanView) : Type 0 where
+  pub setup : other.setup ≡ plan.setup
+  pub script : slice_get other.scripts i ≡ slice_get plan.scripts i
+  pub apart : IsApart other i
+
+-- none of the report's asks was given up
+abbrev pub IsAnsweredAt : ℕ → List Report → Type 0
+IsAnsweredAt i reports = (report : Report) → slice_get reports i ≡ Some report → All (λ (e : Entry). ¬ IsGivenUp e.ask e.answer) (entries_of report)
+
+-- whatever the schedule, the tries (one at least) and the other files, a run gives no other report i and no other closing reading of its runqueue
+abbrev pub IsOnlyReport : PlanView → ℕ → List Report → List Reading → Type 0
+IsOnlyReport plan i reports closing =
+    (other : PlanView) (tries : ℕ) (others : List Report) (last : List Reading) → IsLikeAt i plan other → 1 ≤ tries → IsRun other tries others last →
+    (slice_get (map entries_of others) i ≡ slice_get (map entries_of reports) i) × (slice_get last i ≡ slice_get closing i)
+
+-- A file that is apart has each ask answered, and its report and closing reading are a function of the file, its runqueue and its tasks.
+-- Where all files are, the whole outcome is a function of the files.
+pub record AreOwn (plan : PlanView) (reports : List Report) (closing : List Reading) : Type 0 where
+  pub answered : (i : ℕ) → IsApart plan i → IsAnsweredAt i reports
+  pub only : (i : ℕ) → i < length plan.scripts → IsApart plan i → IsOnlyReport plan i reports closing
+  pub whole : AllApart plan → IsOnlyRun plan reports closing
