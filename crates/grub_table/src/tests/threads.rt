@@ -7,8 +7,10 @@ use crate::{Pass, Shared, Sighting};
 use grub_book::{Op, Reading, Reply};
 use grub_words::unpack_task;
 use std::process::Abort;
+use std::sync::Wait;
 use std::test::Fail;
-use std::thread::{Threads, join};
+use std::thread;
+use std::thread::{Promise, Threads};
 
 const ATTEMPTS: u32 = 10000;
 
@@ -107,51 +109,68 @@ fn run_beside(rt: &impl Abort, shared: &Shared, pass: Pass, t: u32) -> Ran
     Ran { pass, turn }
 }
 
-fn both_alone<R: Threads + Abort + Sync>(
-    rt: &R,
-    shared: &Shared,
-    first: Pass,
-    second: Pass,
-) -> (Ran, Ran)
-    requires first { IsPassOf shared.now first }
-    requires second { IsPassOf shared.now second }
-    ensures first { IsPassOf shared.now result.0.pass }
-    ensures second { IsPassOf shared.now result.1.pass }
-{
-    join(
-        rt,
-        move || -> Ran
-            requires { IsPassOf shared.now first }
-            ensures { IsPassOf shared.entry.now result.pass }
-        { run_alone(rt, shared, first, A) },
-        move || -> Ran
-            requires { IsPassOf shared.now second }
-            ensures { IsPassOf shared.entry.now result.pass }
-        { run_alone(rt, shared, second, B) },
-    )
+/// That a worker's pass is of this table.
+#[derive(Drop)]
+struct OfTable<'a> {
+    shared: &'a Shared,
 }
 
-fn both_beside<R: Threads + Abort + Sync>(
+impl<'a> Promise<Ran> for OfTable<'a> {
+    ghost kept_by = { λ p ran. IsPassOf p.shared.now ran.pass };
+}
+
+/// The attempts of one worker, on a task that the other worker has too or has not.
+fn run(rt: &impl Abort, shared: &Shared, pass: Pass, t: u32, beside: bool) -> Ran
+    requires { IsPassOf shared.now pass }
+    ensures { IsPassOf shared.now result.pass }
+{
+    if beside {
+        run_beside(rt, shared, pass, t)
+    } else {
+        run_alone(rt, shared, pass, t)
+    }
+}
+
+/// Two scoped threads: the first has the task A, and the second this one.
+fn run_both<R: Threads + Wait + Abort + Sync>(
     rt: &R,
     shared: &Shared,
     first: Pass,
     second: Pass,
+    t: u32,
 ) -> (Ran, Ran)
     requires first { IsPassOf shared.now first }
     requires second { IsPassOf shared.now second }
     ensures first { IsPassOf shared.now result.0.pass }
     ensures second { IsPassOf shared.now result.1.pass }
 {
-    join(
+    thread::scope(
+        thread::scope_env(),
         rt,
-        move || -> Ran
-            requires { IsPassOf shared.now first }
-            ensures { IsPassOf shared.entry.now result.pass }
-        { run_beside(rt, shared, first, A) },
-        move || -> Ran
-            requires { IsPassOf shared.now second }
-            ensures { IsPassOf shared.entry.now result.pass }
-        { run_beside(rt, shared, second, A) },
+        |scope| -> (Ran, Ran)
+            requires { IsPassOf shared.now first × IsPassOf shared.now second }
+            ensures { IsPassOf shared.entry.now result.0.pass × IsPassOf shared.entry.now result.1.pass }
+        {
+            let Ok(one) = scope.spawn_with(
+                OfTable { shared },
+                move || -> Ran
+                    requires { IsPassOf shared.now first }
+                    ensures { IsPassOf shared.entry.now result.pass }
+                { run(rt, shared, first, A, t == A) },
+            ) else {
+                panic!(rt; "no first thread")
+            };
+            let Ok(other) = scope.spawn_with(
+                OfTable { shared },
+                move || -> Ran
+                    requires { IsPassOf shared.now second }
+                    ensures { IsPassOf shared.entry.now result.pass }
+                { run(rt, shared, second, t, t == A) },
+            ) else {
+                panic!(rt; "no second thread")
+            };
+            (one.join(rt), other.join(rt))
+        },
     )
 }
 
@@ -159,7 +178,7 @@ fn both_beside<R: Threads + Abort + Sync>(
 fn two_threads_two_tasks(rt: HostRuntime) -> Result<(), Fail> {
     let setup = setup_of(rt.alloc(), 1)?;
     let (shared, first, second) = two_passes(&rt, rt.alloc(), &setup);
-    let (one, other) = both_alone(&rt, &shared, first, second);
+    let (one, other) = run_both(&rt, &shared, first, second, B);
     let turns = (one.turn, other.turn);
     let readings = close_both(&rt, rt.alloc(), shared, one.pass, other.pass)?;
     let running = u64::from(turns.0 == Turn::Blocks) + u64::from(turns.1 == Turn::Blocks);
@@ -175,7 +194,7 @@ fn two_threads_two_tasks(rt: HostRuntime) -> Result<(), Fail> {
 fn two_threads_one_task(rt: HostRuntime) -> Result<(), Fail> {
     let setup = setup_of(rt.alloc(), 1)?;
     let (shared, first, second) = two_passes(&rt, rt.alloc(), &setup);
-    let (one, other) = both_beside(&rt, &shared, first, second);
+    let (one, other) = run_both(&rt, &shared, first, second, A);
     let readings = close_both(&rt, rt.alloc(), shared, one.pass, other.pass)?;
     assert!(rt; readings.len() == 1);
     let Reading { running, this } = readings[0];
