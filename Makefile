@@ -5,7 +5,7 @@ PREFIX ?= /usr/local
 FILES ?= examples/documentation.grub
 FLAGS ?=
 
-.PHONY: build run test install clean
+.PHONY: build run test growths install clean
 
 # Proves the program with all that it stands on, and links it.
 build:
@@ -18,6 +18,10 @@ run: build
 # Every proof from nothing, the must-fail edits, all tests and the stored run.
 test:
 	bash .ci/run
+
+# Each growth of memory refused in turn, in the tests that are made for it.
+growths:
+	scripts/refused-growths.sh
 
 install: build
 	install -D -m 755 $(PROGRAM) $(DESTDIR)$(PREFIX)/bin/grubrun

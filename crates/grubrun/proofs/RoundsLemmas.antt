@@ -1,7 +1,7 @@
 -- The rounds that a parse reads are at least 1.
-use Rattle.std.proofs.Common.{◌≡◌, ◌⊎◌, ◌∙◌, ◌<◌, ◌≤◌, ◌++◌, ℕ, zero, suc, Bool, true, false, List, [], ◌∷◌, length, Option, Some, None, option_map, ap, refl, sym, subst, inl, inr, arith, codes, ◌||◌}
+use Rattle.std.proofs.Common.{◌≡◌, ◌∙◌, ◌<◌, ℕ, true, false, List, [], ◌∷◌, length, Option, Some, None, option_map, ap, refl, sym, subst, inl, inr, arith, codes, ◌||◌}
 use Rattle.std.specs.Prelude.{slice_get, pos, unwrap_or}
-use Rattle.std.specs.List.{All, Any, slice_index_or}
+use Rattle.std.specs.List.{All, slice_index_or}
 use Rattle.std.specs.Borrow.{Bor}
 use Rattle.std.specs.Str.{bytes_eq}
 use Rattle.std.proofs.lemmas.Bool.{cases_lt}

@@ -1,5 +1,12 @@
 //! The program over its words and two writers.
 
+ghost use Rattle.std.specs.Prelude.{◌≡◌, ◌≤◌, ◌⊎◌, length, vec_len, OnOk, IfOk, IfErr};
+ghost use Rattle.clap.specs.Values.{kind_of};
+ghost use Rattle.clap.specs.declared.error.kind.ErrorKind.TheVariants as kinds;
+ghost use Rattle.grub_run.specs.Written.{WritesText, WritesPrefix};
+ghost use Rattle.grub_trace.specs.Reading.{contents};
+ghost use Rattle.grubrun.specs.Statuses.{file_status, run_status, WritesReports, WritesBeginning};
+
 use crate::command::{Options, options_of};
 use crate::fault::FileFault;
 use crate::input::read_file;
@@ -31,15 +38,27 @@ pub fn serve<R: Files + Threads + Wait, W: Write, E: Write>(
     words: &[String],
     out: &mut W,
     faults: &mut E,
-) -> u8 {
+) -> u8
+    ensures status { result ≤ 3 }
+    // On the status of a file's fault, and of a wrong command line, nothing was printed.
+    ensures nothing { (result ≡ STATUS_FILE) ⊎ (result ≡ STATUS_USAGE) → out.new ≡ out.old }
+{
     match options_of(alloc, words) {
-        Ok(options) => serve_files(rt, alloc, &options, out, faults),
+        Ok(options) => {
+            let paths = options.matches.get_strs("FILE").unwrap_or(&[]);
+            serve_files(rt, alloc, &options, paths, out, faults)
+        }
         Err(error) => serve_error(&error, out, faults),
     }
 }
 
 /// The text of the command line's fault, or the help.
-fn serve_error<W: Write, E: Write>(error: &Error, out: &mut W, faults: &mut E) -> u8 {
+fn serve_error<W: Write, E: Write>(error: &Error, out: &mut W, faults: &mut E) -> u8
+    ensures memory { kind_of error.now ≡ kinds.OutOfMemory → result ≡ STATUS_SYSTEM }
+    ensures help { kind_of error.now ≡ kinds.DisplayHelp → (result ≡ 0) ⊎ (result ≡ STATUS_SYSTEM) }
+    ensures status { (result ≡ 0) ⊎ (result ≡ STATUS_USAGE) ⊎ (result ≡ STATUS_SYSTEM) }
+    ensures nothing { result ≡ STATUS_USAGE → out.new ≡ out.old }
+{
     if error.kind() == ErrorKind::OutOfMemory {
         let _ = writeln!(faults, "grubrun: {}", FileFault::NoMemory);
         return STATUS_SYSTEM;
@@ -60,29 +79,68 @@ fn serve_files<R: Files + Threads + Wait, W: Write, E: Write>(
     rt: &R,
     alloc: Global,
     options: &Options<'_>,
+    paths: &[&str],
     out: &mut W,
     faults: &mut E,
-) -> u8 {
-    let paths = options.matches.get_strs("FILE").unwrap_or(&[]);
+) -> u8
+    ensures status { (result ≡ 0) ⊎ (result ≡ STATUS_FILE) ⊎ (result ≡ STATUS_SYSTEM) }
+    ensures done { result ≡ 0 → WritesReports options.now.tries (length paths.now) (W.contents out.old) (W.contents out.new) }
+    ensures nothing { result ≡ STATUS_FILE → out.new ≡ out.old }
+    ensures failed { result ≡ STATUS_SYSTEM → (out.new ≡ out.old) ⊎ WritesBeginning options.now.tries (length paths.now) (W.contents out.old) (W.contents out.new) }
+{
+    let files = match read_all_files(rt, alloc, paths) {
+        Ok(files) => files,
+        Err((path, fault)) => return serve_file_fault(path, fault, faults),
+    };
+    serve_run(rt, alloc, options, &files, paths, out, faults)
+}
+
+/// The bytes of all files, in order; else the first that was not read whole.
+fn read_all_files<'a, R: Files>(
+    rt: &R,
+    alloc: Global,
+    paths: &[&'a str],
+) -> Result<Vec<Vec<u8>>, (&'a str, FileFault)>
+    ensures each { IfOk result (λ files. vec_len files ≡ length paths.now) }
+{
     let mut files = Vec::new(alloc);
     for path in paths {
-        let fault = match read_file(rt, alloc, path) {
-            Ok(bytes) => match files.push(bytes) {
-                Ok(()) => continue,
-                Err(_) => FileFault::NoMemory,
-            },
-            Err(fault) => fault,
+        let bytes = match read_file(rt, alloc, path) {
+            Ok(bytes) => bytes,
+            Err(fault) => return Err((*path, fault)),
         };
-        return serve_file_fault(path, fault, faults);
+        if files.push(bytes).is_err() {
+            return Err((*path, FileFault::NoMemory));
+        }
     }
-    match run_texts(rt, alloc, &files, options.tries, options.rounds, out) {
+    Ok(files)
+}
+
+/// Runs the files' bytes and prints their reports.
+fn serve_run<R: Threads + Wait, W: Write, E: Write>(
+    rt: &R,
+    alloc: Global,
+    options: &Options<'_>,
+    files: &[Vec<u8>],
+    paths: &[&str],
+    out: &mut W,
+    faults: &mut E,
+) -> u8
+    ensures status { (result ≡ 0) ⊎ (result ≡ STATUS_FILE) ⊎ (result ≡ STATUS_SYSTEM) }
+    ensures done { result ≡ 0 → WritesText options.now.tries (contents files.now) (W.contents out.old) (W.contents out.new) }
+    ensures nothing { result ≡ STATUS_FILE → out.new ≡ out.old }
+    ensures failed { result ≡ STATUS_SYSTEM → (out.new ≡ out.old) ⊎ WritesPrefix options.now.tries (contents files.now) (W.contents out.old) (W.contents out.new) }
+{
+    match run_texts(rt, alloc, files, options.tries, options.rounds, out) {
         Ok(()) => 0,
         Err(fault) => serve_fault(paths, fault, faults),
     }
 }
 
 /// The line of a file that was not read whole.
-fn serve_file_fault<E: Write>(path: &str, fault: FileFault, faults: &mut E) -> u8 {
+fn serve_file_fault<E: Write>(path: &str, fault: FileFault, faults: &mut E) -> u8
+    ensures { result ≡ file_status fault }
+{
     if fault == FileFault::NoMemory {
         let _ = writeln!(faults, "grubrun: {fault}");
         return STATUS_SYSTEM;
@@ -95,7 +153,9 @@ fn serve_file_fault<E: Write>(path: &str, fault: FileFault, faults: &mut E) -> u
 }
 
 /// The line of a run that did not write its reports.
-fn serve_fault<E: Write>(paths: &[&str], fault: GrubFault, faults: &mut E) -> u8 {
+fn serve_fault<E: Write>(paths: &[&str], fault: GrubFault, faults: &mut E) -> u8
+    ensures { result ≡ run_status fault }
+{
     if let GrubFault::Trace(TraceFault::At { file, line, .. }) = fault {
         let path = paths.get(file).copied().unwrap_or("");
         let _ = writeln!(faults, "grubrun: {path}:{line}: {fault}");
@@ -106,7 +166,9 @@ fn serve_fault<E: Write>(paths: &[&str], fault: GrubFault, faults: &mut E) -> u8
 }
 
 /// The line where the words could not be had: memory was refused, or they are no text.
-pub fn serve_no_words<E: Write>(error: &io::Error, faults: &mut E) -> u8 {
+pub fn serve_no_words<E: Write>(error: &io::Error, faults: &mut E) -> u8
+    ensures { (result ≡ STATUS_USAGE) ⊎ (result ≡ STATUS_SYSTEM) }
+{
     if error.kind() == io::ErrorKind::OutOfMemory {
         let _ = writeln!(faults, "grubrun: {}", FileFault::NoMemory);
         return STATUS_SYSTEM;

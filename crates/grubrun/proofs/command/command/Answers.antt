@@ -1,4 +1,4 @@
-use Rattle.std.proofs.Common.{◌≡◌, ◌∙◌, rules, ap}
+use Rattle.std.proofs.Common.{◌∙◌, ap}
 use Rattle.std.proofs.lemmas.Result.{IfOk-weaker}
 use Rattle.grubrun.proofs.RoundsLemmas.{takes_rounds}
 use Rattle.grubrun.proofs.command.command.Goals as goal
