@@ -1,9 +1,9 @@
 -- Each step on a task's words, or on a runqueue's word under a claim, is allowed.
-use Rattle.std.proofs.Common.{◌≡◌, ℕ, ◌*◌, ◌<◌, true, false, None, length, get_or, sym, refl, ap, ◌∙◌, subst, arith, eqb}
-use mathlib.Core.Option.{some, none}
+use Rattle.std.proofs.Common.{◌≡◌, ℕ, ◌<◌, true, false, None, length, get_or, sym, refl, ap, ◌∙◌, subst, arith, eqb}
+use mathlib.Core.Option.{some}
 use lib.ListN.{get_elem?}
 use prog.Atomic.{either}
-use Rattle.atomic_table.specs.Table.{State, Me, step, keeps, stepped, Allows}
+use Rattle.atomic_table.specs.Table.{State, Me, keeps, stepped, Allows}
 use Rattle.grub_book.specs.Op.{IsOp}
 use Rattle.grub_book.specs.Step.{refused, runqueue_of, changes_sum, LooksAtQueue}
 use Rattle.grub_book.specs.Totals.{shifted_of}

@@ -1,9 +1,8 @@
 -- From what the single steps tell to what is known between the steps of a call.
-use Rattle.std.proofs.Common.{◌≡◌, ◌≢◌, ℕ, ◌<◌, ◌≤◌, Bool, true, false, [], length, ap, sym, ◌∙◌, subst, arith, eqb, eq-eqb}
+use Rattle.std.proofs.Common.{◌≡◌, ◌≢◌, ℕ, ◌<◌, Bool, true, false, [], length, ap, sym, ◌∙◌, subst, arith, eqb, eq-eqb}
 use Rattle.std.proofs.lemmas.Bool.{eqb-true}
 use Rattle.grub_bw.specs.Bandwidth.{Reservation, IsReservation}
 use Rattle.grub_bw.specs.declared.server.Server.{Server}
-use Rattle.grub_book.specs.Step.{runqueue_of}
 use Rattle.grub_book.specs.declared.event.Event.TheVariants.{Look}
 use Rattle.grub_book.specs.declared.event.Reading.{Reading}
 use Rattle.grub_book.specs.declared.op.Op.{Op}
@@ -13,7 +12,7 @@ use Rattle.grub_words.proofs.Bounds.{ServerFits-kept}
 use Rattle.grub_words.proofs.Halves.{same_queue, same_server, same_params}
 use Rattle.grub_table.specs.declared.pass.Pass.{Pass}
 use Rattle.grub_table.specs.declared.pass.Shared.{Shared}
-use Rattle.grub_table.specs.declared.view.Hold.TheVariants.{Free, Undecided, Decided}
+use Rattle.grub_table.specs.declared.view.Hold.TheVariants.{Free}
 use Rattle.grub_table.specs.declared.view.Note.{Note}
 use Rattle.grub_table.specs.declared.view.Share.{Share}
 use Rattle.grub_table.specs.declared.view.Terms.{Terms}

@@ -1,19 +1,17 @@
 -- The steps of a pass that holds a task whose call is undecided: load-params, load-server, load-queue, change-queue, and store-server with the event.
-use Rattle.std.proofs.Common.{◌≡◌, ◌≢◌, ◌⊎◌, ℕ, ◌+◌, ◌<◌, Bool, true, false, cond, nat_lt, ◌&&◌, List, [], ◌∷◌, ◌++◌, length, set, get_or, slice_index, sym, refl, ap, ◌∙◌, subst, inl, inr, ⊎_elim, arith, Option, Some, None, eqb}
+use Rattle.std.proofs.Common.{◌≡◌, ◌≢◌, ◌⊎◌, ℕ, ◌+◌, ◌<◌, Bool, true, false, cond, nat_lt, ◌&&◌, List, [], ◌∷◌, ◌++◌, length, set, get_or, sym, refl, ap, ◌∙◌, subst, inl, inr, ⊎_elim, arith, Option, Some, None, eqb}
 use mathlib.Core.Option.{some}
 use lib.ListN.{get_elem?}
 use lib.Seq.{set-get_or}
 use prog.Atomic.{either}
-use Rattle.atomic_table.specs.Table.{State, keeps, stepped}
+use Rattle.atomic_table.specs.Table.{State}
 use Rattle.atomic_table.proofs.Lists.{exchanged}
 use Rattle.grub_bw.specs.Bandwidth.{Capacity, Reservation, bandwidth_of}
 use Rattle.grub_book.specs.Machine.{queue_at}
 use Rattle.grub_book.specs.Op.{IsOp}
 use Rattle.grub_book.specs.Sums.{Records, record_at, reading_of}
-use Rattle.grub_book.specs.History.{book_of}
 use Rattle.grub_book.specs.Step.{refused, settled, step, runqueue_of, changes_sum, LooksAtQueue, Refuses, arrived, lag_moment, is_inactive}
 use Rattle.grub_book.specs.Totals.{Counts, shifted_of}
-use Rattle.grub_book.specs.declared.event.Event.{Event}
 use Rattle.grub_book.specs.declared.event.Event.TheVariants.{Call}
 use Rattle.grub_book.specs.declared.event.Reading.{Reading}
 use Rattle.grub_book.specs.declared.op.Op.{Op}
@@ -21,7 +19,7 @@ use Rattle.grub_book.specs.declared.op.Op.TheVariants.{Join, Wake, Block, Leave,
 use Rattle.grub_book.specs.declared.place.Place.TheVariants.{Gone}
 use Rattle.grub_book.specs.declared.place.Record.{Record}
 use Rattle.grub_book.specs.declared.reply.Reply.{Reply}
-use Rattle.grub_book.specs.declared.reply.Reply.TheVariants.{Early, Full, Joined, Retuned, Retired, Waiting, Asleep}
+use Rattle.grub_book.specs.declared.reply.Reply.TheVariants.{Early, Full, Joined, Retuned}
 use Rattle.grub_book.proofs.Refusals.{settling, refused_same}
 use Rattle.grub_book.proofs.Readings.{step_unchanged, step_elsewhere}
 use Rattle.grub_book.proofs.Tallies.{running_le_this}
@@ -34,13 +32,13 @@ use Rattle.grub_table.specs.declared.view.Share.{Share}
 use Rattle.grub_table.specs.declared.view.Stored.{Stored}
 use Rattle.grub_table.specs.declared.view.Terms.{Terms}
 use Rattle.grub_table.specs.declared.view.View.{View}
-use Rattle.grub_table.specs.Layout.{queue_word_at, server_word_at, params_word_at, shown, stored_of}
+use Rattle.grub_table.specs.Layout.{queue_word_at, server_word_at, params_word_at, stored_of}
 use Rattle.grub_table.specs.Histories.{record_in, reading_in}
 use Rattle.grub_table.specs.Views.{alone, holding}
 use Rattle.grub_table.specs.Tellings.{early, is_decided_at_load, settled_quietly, outcome, Sees, Decides, DecidesIf, IsReadingFor, LoadedParams, LoadedServer, LoadedQueueAs, LoadedQueue, ChangedQueue, SettledServer}
-use Rattle.grub_table.specs.Rule.{Grip, Grips, grip, TaskShows, Kept, Written}
+use Rattle.grub_table.specs.Rule.{Grip, Grips, grip, Kept, Written}
 use Rattle.grub_table.proofs.Moves.{reading_fits}
-use Rattle.grub_table.proofs.Rows.{put, put_here, put_else, only_put, Words, words_of, Shows, shows_held, set_server, written_same, written_queue, written_task}
+use Rattle.grub_table.proofs.Rows.{put, put_here, put_else, only_put, words_of, Shows, shows_held, set_server, written_same, written_queue, written_task}
 use Rattle.grub_table.proofs.Turns.{Out, book, is_sound, in_book, seen_told, stays_seen, under, holds, record_here, record_else, book_called, decided, decided_told}
 
 -- ---- which outcomes are decided early, or at the load of the runqueue's word

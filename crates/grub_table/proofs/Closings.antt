@@ -1,5 +1,5 @@
 -- The table at the end.
-use Rattle.std.proofs.Common.{◌≡◌, ℕ, zero, suc, ◌<◌, ◌+◌, ◌*◌, List, [], ◌∷◌, ◌++◌, length, map, get_or, refl, set, sym, ap, ◌∙◌, subst, arith, append_assoc, get_or-set_other, get_or-set_same, ⊎_elim, inl, inr, ◌≤◌}
+use Rattle.std.proofs.Common.{◌≡◌, ℕ, zero, suc, ◌<◌, ◌+◌, List, [], ◌∷◌, ◌++◌, length, map, get_or, refl, set, sym, ap, ◌∙◌, subst, arith, append_assoc, get_or-set_other, get_or-set_same, ⊎_elim, inl, inr, ◌≤◌}
 use mathlib.Core.Logic.{dite}
 use native.Mathlib.Decide.{ℕ_discrete}
 use mathlib.Core.List.{map-append}

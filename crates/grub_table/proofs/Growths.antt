@@ -1,8 +1,8 @@
 -- Histories that go on.
-use Rattle.std.proofs.Common.{◌≡◌, ◌≢◌, ℕ, ◌<◌, List, [], ◌∷◌, ◌++◌, sym, refl, ap, ◌∙◌, subst, append_assoc, append-nil}
-use Rattle.grub_book.specs.History.{IsTrueOf, after, book_of, calls_of, pass_of, StartsWith}
+use Rattle.std.proofs.Common.{◌≡◌, ℕ, ◌<◌, List, [], ◌∷◌, ◌++◌, refl, ap, ◌∙◌, subst, append_assoc}
+use Rattle.grub_book.specs.History.{IsTrueOf, book_of, calls_of, pass_of}
 use Rattle.grub_book.specs.declared.event.Event.{Event}
-use Rattle.grub_book.proofs.Histories.{legal_push, book_push, calls_append, calls_own, calls_other, starts_whole, starts_after, starts_next, starts_more}
+use Rattle.grub_book.proofs.Histories.{legal_push, calls_own, starts_whole, starts_after, starts_more}
 use Rattle.grub_table.specs.declared.view.Share.{Share}
 use Rattle.grub_table.specs.declared.view.Terms.{Terms}
 use Rattle.grub_table.specs.Histories.{Every, IsHistory, Grows, Finishes}

@@ -1,7 +1,6 @@
 -- Who holds which task, along the marks.
-use Rattle.std.proofs.Common.{◌≡◌, ◌≢◌, ℕ, cond, ◌==◌, List, [], ◌∷◌, ◌++◌, sym, refl, ap, ◌∙◌, subst, append_assoc, append-nil, eq-eqb, ne_eqb, Option}
+use Rattle.std.proofs.Common.{◌≡◌, ◌≢◌, ℕ, cond, ◌==◌, List, [], ◌∷◌, ◌++◌, sym, refl, ap, ◌∙◌, append_assoc, append-nil, eq-eqb, ne_eqb, Option}
 use Rattle.std.proofs.lemmas.List.Elements.{filter-append}
-use Rattle.grub_book.specs.History.{StartsWith}
 use Rattle.grub_book.proofs.Histories.{starts_after, starts_more, starts_whole}
 use Rattle.grub_table.specs.declared.view.Mark.{Mark}
 use Rattle.grub_table.specs.declared.view.Share.{Share}

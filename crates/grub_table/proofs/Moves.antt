@@ -1,13 +1,11 @@
 -- Steps that change no word and no task keep the rule: looks, and the cutting and joining of views.
-use Rattle.std.proofs.Common.{◌≡◌, ◌≢◌, ◌⊎◌, ℕ, ◌<◌, ◌≤◌, ◌*◌, List, [], ◌∷◌, ◌++◌, length, set, get_or, sym, refl, ap, ◌∙◌, subst, ⊎_elim, arith}
+use Rattle.std.proofs.Common.{◌≡◌, ◌≢◌, ℕ, ◌<◌, List, [], ◌∷◌, ◌++◌, length, set, get_or, sym, refl, ap, ◌∙◌, subst, ⊎_elim, arith}
 use mathlib.Core.Option.{some, none}
 use lib.ListN.{get_elem?}
 use lib.Seq.{set-get_or}
 use Rattle.atomic_table.specs.Table.{State, Me, step, keeps, stepped, Allows, Splits, Joins}
 use Rattle.atomic_table.proofs.Lists.{at_set, set_again}
-use Rattle.grub_bw.specs.Bandwidth.{IsCapacity}
-use Rattle.grub_book.specs.Machine.{queue_at}
-use Rattle.grub_book.specs.Sums.{record_at, reading_of}
+use Rattle.grub_book.specs.Sums.{reading_of}
 use Rattle.grub_book.specs.History.{IsTrueOf, book_of, StartsWith}
 use Rattle.grub_book.specs.Sound.{IsSound}
 use Rattle.grub_book.specs.declared.event.Event.{Event}
@@ -20,17 +18,15 @@ use Rattle.grub_book.proofs.Soundness.{sound_legal}
 use Rattle.grub_words.specs.Words.{queue_word, QueueFits}
 use Rattle.grub_words.proofs.Bounds.{QueueFits-sound}
 use Rattle.grub_table.specs.declared.view.Hold.{Hold}
-use Rattle.grub_table.specs.declared.view.Hold.TheVariants.{Free, Undecided, Decided}
-use Rattle.grub_table.specs.declared.view.Mark.{Mark}
+use Rattle.grub_table.specs.declared.view.Hold.TheVariants.{Undecided}
 use Rattle.grub_table.specs.declared.view.Share.{Share}
-use Rattle.grub_table.specs.declared.view.Stored.{Stored}
 use Rattle.grub_table.specs.declared.view.Terms.{Terms}
 use Rattle.grub_table.specs.declared.view.View.{View}
 use Rattle.grub_table.specs.Layout.{queue_word_at}
 use Rattle.grub_table.specs.Histories.{IsHistory, record_in}
-use Rattle.grub_table.specs.Views.{view, alone, nothing, without_first, only_first, both_of, holding, first_of, ShareOf, MarkedBy, StandTogether}
-use Rattle.grub_table.specs.Tellings.{Turns, OfQueue, Looked, looks, compares}
-use Rattle.grub_table.specs.Rule.{AreLimited, Stands, Known, Held, Grip, Grips, grip, Grasps, Written, Kept, Marked, Since}
+use Rattle.grub_table.specs.Views.{view, alone, nothing, without_first, only_first, both_of, holding, ShareOf, MarkedBy}
+use Rattle.grub_table.specs.Tellings.{Looked, looks, compares}
+use Rattle.grub_table.specs.Rule.{AreLimited, Stands, Known, Held, Grips, Grasps, Written, Kept, Marked, Since}
 use Rattle.grub_table.proofs.Growths.{every_weaker, history_more, finished}
 use Rattle.grub_table.proofs.Seats.{known_event, moved, taken, known_split, known_join, held_own, each_own, each_split, each_join}
 

@@ -1,5 +1,5 @@
 -- The table at the start.
-use Rattle.std.proofs.Common.{◌≡◌, ◌≢◌, ℕ, zero, suc, ◌+◌, ◌-◌, ◌<◌, ◌≤◌, false, List, [], ◌∷◌, ◌++◌, length, map, set, get_or, slice_index, take, sym, refl, ap, ◌∙◌, subst, arith, length-set, get_or-set_other, get_or-set_same, inl, inr, ⊎_elim, ◌⊎◌}
+use Rattle.std.proofs.Common.{◌≡◌, ◌≢◌, ℕ, zero, suc, ◌+◌, ◌-◌, ◌<◌, ◌≤◌, false, List, [], ◌∷◌, ◌++◌, length, set, get_or, slice_index, take, sym, refl, ap, ◌∙◌, subst, arith, length-set, get_or-set_other, get_or-set_same}
 use mathlib.Core.Logic.{dite}
 use mathlib.Core.Option.{some, some-injective, some-ne-none}
 use native.Mathlib.Decide.{ℕ_discrete}
@@ -23,7 +23,7 @@ use Rattle.grub_table.specs.Histories.{Every}
 use Rattle.grub_table.specs.Views.{share, fresh, first_view, MarkedBy}
 use Rattle.grub_table.specs.FirstWords.{AreOpeningWords}
 use Rattle.grub_table.specs.Rule.{AreLimited, Stands, Apart, loose, Grasps, TaskShows, Written, Kept}
-use Rattle.grub_table.specs.Calls.{AreNew, IsNew, IsPassOf, seen, share_of}
+use Rattle.grub_table.specs.Calls.{AreNew, IsNew}
 use Rattle.grub_table.proofs.Growths.{every_weaker}
 
 -- ---- copies

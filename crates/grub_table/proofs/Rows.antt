@@ -1,5 +1,5 @@
 -- The row of words, as a word and what is known of a task change.
-use Rattle.std.proofs.Common.{◌≡◌, ◌≢◌, ℕ, ◌+◌, ◌*◌, ◌<◌, Bool, true, false, cond, eqb, List, [], ◌∷◌, length, set, get_or, slice_index, sym, refl, ap, ◌∙◌, subst, arith, length-set, get_or-set_other, get_or-set_same, eq-eqb, ne_eqb, Option, Some, None}
+use Rattle.std.proofs.Common.{◌≡◌, ◌≢◌, ℕ, ◌+◌, ◌<◌, cond, eqb, List, length, set, get_or, slice_index, sym, refl, ap, ◌∙◌, subst, arith, length-set, get_or-set_other, get_or-set_same, eq-eqb, ne_eqb}
 use mathlib.Core.Logic.{dite}
 use native.Mathlib.Decide.{ℕ_discrete}
 use Rattle.grub_book.specs.Machine.{Machine}
@@ -8,7 +8,7 @@ use Rattle.grub_book.specs.declared.place.Record.{Record}
 use Rattle.grub_words.specs.Words.{queue_word}
 use Rattle.grub_table.specs.declared.view.Stored.{Stored}
 use Rattle.grub_table.specs.declared.view.Terms.{Terms}
-use Rattle.grub_table.specs.Layout.{spacing, word_count, queue_word_at, task_word_at, server_word_at, params_word_at, shown, stored_of}
+use Rattle.grub_table.specs.Layout.{word_count, queue_word_at, task_word_at, server_word_at, params_word_at}
 use Rattle.grub_table.specs.Rule.{Grip, Grips, loose, grip, IsOnly, TaskShows, Written}
 
 -- ---- grips

@@ -1,7 +1,7 @@
 -- The same of the seats that functions have: each step is allowed, under the facts that its function is given.
-use Rattle.std.proofs.Common.{◌≡◌, ℕ, ◌+◌, ◌*◌, ◌<◌, false, true, None, length, sym, refl, ap, ◌∙◌, subst, arith, eqb}
+use Rattle.std.proofs.Common.{◌≡◌, ℕ, ◌+◌, ◌<◌, false, true, length, sym, ap, subst, arith, eqb}
 use prog.Atomic.{either}
-use Rattle.atomic_table.specs.Table.{Me, Allows}
+use Rattle.atomic_table.specs.Table.{Allows}
 use Rattle.grub_book.specs.Op.{IsOp}
 use Rattle.grub_book.specs.Step.{runqueue_of, changes_sum, LooksAtQueue}
 use Rattle.grub_book.specs.Totals.{shifted_of}
@@ -17,7 +17,6 @@ use Rattle.grub_table.specs.declared.view.Note.{Note}
 use Rattle.grub_table.specs.declared.view.Share.{Share}
 use Rattle.grub_table.specs.declared.view.Stored.{Stored}
 use Rattle.grub_table.specs.declared.view.Terms.{Terms}
-use Rattle.grub_table.specs.declared.view.View.{View}
 use Rattle.grub_table.specs.Between.{TheSeat, share_on, hold_of, IsSeatOf, HoldsFor, HoldsMade}
 use Rattle.grub_table.specs.Layout.{queue_word_at, task_word_at, server_word_at, params_word_at, shown, stored_of}
 use Rattle.grub_table.specs.Rule.{Kept}

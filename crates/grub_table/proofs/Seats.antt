@@ -8,7 +8,6 @@ use Rattle.atomic_table.proofs.Lists.{at_set}
 use Rattle.grub_book.specs.Sums.{Records, record_at}
 use Rattle.grub_book.specs.History.{pass_of}
 use Rattle.grub_book.specs.declared.event.Event.{Event}
-use Rattle.grub_book.specs.declared.op.Op.{Op}
 use Rattle.grub_book.specs.declared.place.Record.{Record}
 use Rattle.grub_book.proofs.Histories.{calls_other, starts_whole, starts_more}
 use Rattle.grub_table.specs.declared.view.Hold.{Hold}

@@ -1,12 +1,10 @@
 -- From what the steps of a call tell to what `start` promises.
-use Rattle.std.proofs.Common.{◌≡◌, ◌≢◌, ◌⊎◌, ℕ, ◌<◌, ◌≤◌, Bool, true, false, cond, nat_lt, IsTrue, Option, Some, None, Ok, Err, List, [], ◌∷◌, length, sym, ap, ◌∙◌, subst, inl, inr, ⊎_elim}
+use Rattle.std.proofs.Common.{◌≡◌, ◌≢◌, ℕ, ◌<◌, ◌≤◌, Bool, true, false, cond, nat_lt, IsTrue, Option, Some, None, Ok, Err, [], ◌∷◌, length, sym, ap, ◌∙◌, subst, inl, inr, ⊎_elim}
 use Rattle.grub_bw.specs.Bandwidth.{Reservation}
 use Rattle.grub_bw.specs.declared.server.Server.{Server}
 use Rattle.grub_book.specs.Op.{IsOp}
-use Rattle.grub_book.specs.History.{StartsWith}
 use Rattle.grub_book.specs.Sound.{IsKept}
 use Rattle.grub_book.specs.Step.{count_most, refused, is_under_claim, lag_moment}
-use Rattle.grub_book.specs.declared.event.Event.{Event}
 use Rattle.grub_book.specs.declared.event.Event.TheVariants.{Call}
 use Rattle.grub_book.specs.declared.op.Op.{Op}
 use Rattle.grub_book.specs.declared.op.Op.TheVariants.{Join, Wake, Block, Leave, Timer, Exit, Charge, Retune}
@@ -25,17 +23,16 @@ use Rattle.grub_table.specs.declared.pass.Pass.{Pass}
 use Rattle.grub_table.specs.declared.pass.Shared.{Shared}
 use Rattle.grub_table.specs.declared.pass.Sighting.TheVariants.{Claimed, Changed}
 use Rattle.grub_table.specs.declared.view.Hold.TheVariants.{Free, Undecided, Decided}
-use Rattle.grub_table.specs.declared.view.Mark.{Mark}
 use Rattle.grub_table.specs.declared.view.Mark.TheVariants.{Taken, Given}
 use Rattle.grub_table.specs.declared.view.Note.{Note}
 use Rattle.grub_table.specs.declared.view.Share.{Share}
 use Rattle.grub_table.specs.declared.view.Terms.{Terms}
-use Rattle.grub_table.specs.Between.{TheSeat, share_on, IsSeatOf, HoldsFor, HoldsMade, Tells, Leaves, SawTask, SawParams, SawServer, SawRecord, Concluded}
+use Rattle.grub_table.specs.Between.{TheSeat, share_on, HoldsFor, HoldsMade, Tells, Leaves, SawTask, SawParams, SawServer, SawRecord, Concluded}
 use Rattle.grub_table.specs.Calls.{share_of, seen, marks, number_of, IsAnswered, IsTaken, IsBusy, IsSighting, IsEarly, marks_of_call}
 use Rattle.grub_table.specs.Histories.{IsHistory, Grows, Finishes, record_in}
 use Rattle.grub_table.specs.Layout.{shown, stored_of}
 use Rattle.grub_table.specs.Marks.{AreLawful, MarksGo}
-use Rattle.grub_table.specs.Tellings.{early, Sees, Calls, Adds, CallsIf, DecidesIf, IsOthers, IsHeldByOther, WasClaimedWord, LoadedTask, TookClaim}
+use Rattle.grub_table.specs.Tellings.{early, Sees, Calls, CallsIf, DecidesIf, IsOthers, LoadedTask, TookClaim}
 use Rattle.grub_table.proofs.Between.{tells_as}
 use Rattle.grub_table.proofs.Growths.{grows_grows, grows_finishes}
 use Rattle.grub_table.proofs.Marks.{marks_both}

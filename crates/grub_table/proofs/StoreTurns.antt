@@ -1,12 +1,11 @@
 -- The stores of a pass that holds a task: store-server and store-params after the event, and give-claim.
-use Rattle.std.proofs.Common.{◌≡◌, ℕ, ◌+◌, ◌<◌, true, false, List, [], ◌∷◌, ◌++◌, length, set, get_or, slice_index, sym, refl, ap, ◌∙◌, subst, arith, Option, None}
+use Rattle.std.proofs.Common.{◌≡◌, ℕ, ◌+◌, ◌<◌, false, List, [], ◌∷◌, ◌++◌, length, set, sym, refl, ap, ◌∙◌, subst, arith, None}
 use mathlib.Core.Logic.{dite}
 use mathlib.Core.Option.{some}
 use native.Mathlib.Decide.{ℕ_discrete}
 use lib.ListN.{get_elem?}
 use Rattle.atomic_table.specs.Table.{State, keeps, stepped}
 use Rattle.grub_book.specs.Sums.{Records, record_at}
-use Rattle.grub_book.specs.History.{book_of}
 use Rattle.grub_book.specs.declared.event.Event.{Event}
 use Rattle.grub_book.specs.declared.op.Op.{Op}
 use Rattle.grub_book.specs.declared.place.Record.{Record}
@@ -22,8 +21,8 @@ use Rattle.grub_table.specs.declared.view.View.{View}
 use Rattle.grub_table.specs.Marks.{AreLawful, holder_of, handed}
 use Rattle.grub_table.specs.Layout.{task_word_at, server_word_at, params_word_at, shown, stored_of}
 use Rattle.grub_table.specs.Views.{alone, holding}
-use Rattle.grub_table.specs.Tellings.{Adds, Sees, Gave, GaveClaim, StoredServer, StoredParams}
-use Rattle.grub_table.specs.Rule.{Known, Grip, Grips, loose, grip, Grasps, IsOnly, holder_in, Kept, Written}
+use Rattle.grub_table.specs.Tellings.{Sees, Gave, GaveClaim, StoredServer, StoredParams}
+use Rattle.grub_table.specs.Rule.{Known, Grip, Grips, loose, grip, Grasps, IsOnly, holder_in, Kept}
 use Rattle.grub_table.proofs.Marks.{lawful_more, holder_more, handed_here, handed_else, marks_gained}
 use Rattle.grub_table.proofs.Seats.{known_seen, known_kept, marked_more, IsMine}
 use Rattle.grub_table.proofs.Rows.{put, put_here, put_else, only_put, is_loose_not, IsWordOf, words_of, Shows, set_task, set_server, set_params, written_task}

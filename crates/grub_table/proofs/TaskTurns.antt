@@ -1,5 +1,5 @@
 -- load-task and take-claim keep the rule.
-use Rattle.std.proofs.Common.{◌≡◌, ◌≢◌, ◌⊎◌, ℕ, ◌+◌, ◌<◌, true, false, List, [], ◌∷◌, ◌++◌, length, set, get_or, slice_index, sym, refl, ap, ◌∙◌, subst, inl, inr, arith, Option, Some, None, eqb}
+use Rattle.std.proofs.Common.{◌≡◌, ◌⊎◌, ℕ, ◌+◌, ◌<◌, true, false, List, [], ◌∷◌, ◌++◌, length, set, get_or, sym, refl, ap, ◌∙◌, subst, inl, inr, arith, Option, Some, None, eqb}
 use mathlib.Core.Logic.{dite}
 use mathlib.Core.Option.{some}
 use native.Mathlib.Decide.{ℕ_discrete}
@@ -9,12 +9,10 @@ use Rattle.atomic_table.specs.Table.{State}
 use Rattle.atomic_table.proofs.Lists.{exchanged}
 use Rattle.grub_book.specs.Op.{IsOp}
 use Rattle.grub_book.specs.Sums.{Records, record_at}
-use Rattle.grub_book.specs.History.{book_of}
 use Rattle.grub_book.specs.Sound.{IsKept}
 use Rattle.grub_book.specs.Step.{refused, replied, step}
 use Rattle.grub_book.specs.declared.event.Event.{Event}
 use Rattle.grub_book.specs.declared.event.Event.TheVariants.{Call}
-use Rattle.grub_book.specs.declared.op.Op.{Op}
 use Rattle.grub_book.specs.declared.place.Place.{Place}
 use Rattle.grub_book.specs.declared.place.Record.{Record}
 use Rattle.grub_book.specs.declared.reply.Reply.{Reply}
@@ -32,15 +30,15 @@ use Rattle.grub_table.specs.declared.view.Stored.{Stored}
 use Rattle.grub_table.specs.declared.view.Terms.{Terms}
 use Rattle.grub_table.specs.declared.view.View.{View}
 use Rattle.grub_table.specs.Marks.{holder_of, handed}
-use Rattle.grub_table.specs.Layout.{task_word_at, server_word_at, params_word_at, shown, stored_of}
+use Rattle.grub_table.specs.Layout.{task_word_at, shown, stored_of}
 use Rattle.grub_table.specs.Histories.{record_in}
 use Rattle.grub_table.specs.Views.{alone, holding}
-use Rattle.grub_table.specs.Tellings.{CallsIf, IsOthers, LoadedTask, TookClaim, Adds}
+use Rattle.grub_table.specs.Tellings.{CallsIf, IsOthers, LoadedTask, TookClaim}
 use Rattle.grub_table.specs.Rule.{holder_in, Grip, Grips, loose, grip, Grasps, TaskShows, Kept}
 use Rattle.grub_table.proofs.Marks.{lawful_more, holder_more, handed_here, handed_else, marks_gained}
 use Rattle.grub_table.proofs.Seats.{known_seen, marked_more, IsMine}
 use Rattle.grub_table.proofs.Rows.{put, put_here, put_else, same_before, Words, words_of, Shows, set_task, written_task}
-use Rattle.grub_table.proofs.Turns.{Out, machine, book, own, grasp, marked, is_sound, seen_told, marks_told, call_told, stays_all, stays_called, turned}
+use Rattle.grub_table.proofs.Turns.{Out, book, own, grasp, marked, is_sound, seen_told, marks_told, call_told, stays_all, stays_called, turned}
 
 module _ {S : Type 0} (x : Share) (s : State S View) (id : ℕ) (c : List (ℕ × S)) (k : Kept x.terms s) (at : get_elem? s.views id ≡ some (alone x)) where
   abbrev T : Terms

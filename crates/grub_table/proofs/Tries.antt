@@ -1,14 +1,14 @@
 -- What the steps of a call under a claim tell together.
-use Rattle.std.proofs.Common.{◌≡◌, ◌≢◌, ℕ, ◌+◌, ◌<◌, ◌≤◌, Bool, true, false, nat_lt, cond, List, [], ◌∷◌, ◌++◌, length, set, sym, refl, ap, ◌∙◌, subst, arith, Option, Some, None}
+use Rattle.std.proofs.Common.{◌≡◌, ℕ, ◌+◌, ◌<◌, ◌≤◌, Bool, true, false, List, [], ◌∷◌, length, set, sym, refl, ap, ◌∙◌, subst, arith, Option, Some, None}
 use Rattle.grub_bw.specs.Bandwidth.{Capacity, bandwidth_of}
 use Rattle.grub_bw.specs.Server.{charge_of, depleted_of}
 use Rattle.grub_bw.specs.declared.server.Server.{Server}
-use Rattle.grub_book.specs.Machine.{Machine, queue_at}
+use Rattle.grub_book.specs.Machine.{queue_at}
 use Rattle.grub_book.specs.Op.{IsOp}
 use Rattle.grub_book.specs.Sums.{Records, record_at, reading_of}
 use Rattle.grub_book.specs.History.{HasChanged, book_of}
 use Rattle.grub_book.specs.Sound.{IsKept, IsSound}
-use Rattle.grub_book.specs.Step.{refused, settled, step, charged, changes_sum, is_inactive, is_under_claim, runqueue_of, LooksAtQueue}
+use Rattle.grub_book.specs.Step.{refused, settled, step, charged, changes_sum, is_under_claim, runqueue_of, LooksAtQueue}
 use Rattle.grub_book.specs.Totals.{shifted_of}
 use Rattle.grub_book.specs.declared.event.Event.{Event}
 use Rattle.grub_book.specs.declared.event.Event.TheVariants.{Call}
@@ -30,21 +30,20 @@ use Rattle.grub_table.specs.declared.pass.Pass.{Pass}
 use Rattle.grub_table.specs.declared.pass.Shared.{Shared}
 use Rattle.grub_table.specs.declared.pass.Finished.{Finished}
 use Rattle.grub_table.specs.declared.pass.Finished.TheVariants.{Done, Held}
-use Rattle.grub_table.specs.declared.view.Hold.TheVariants.{Free, Undecided, Decided}
 use Rattle.grub_table.specs.declared.view.Mark.{Mark}
 use Rattle.grub_table.specs.declared.view.Mark.TheVariants.{Given}
 use Rattle.grub_table.specs.declared.view.Share.{Share}
 use Rattle.grub_table.specs.declared.view.Stored.{Stored}
 use Rattle.grub_table.specs.declared.view.Terms.{Terms}
-use Rattle.grub_table.specs.Between.{TheSeat, share_on, hold_of, IsSeatOf, HoldsFor, HoldsMade, Tells, Leaves, SawQueue, Exchanged, GivenUp, Concluded}
-use Rattle.grub_table.specs.Calls.{terms, seen, marks, claim_share, claim_seen, claim_marks, claim_queue, claim_changes_sum, IsPassOf, IsClaimOf, IsStill, IsDone, IsLost, IsFinished, IsCancelled}
+use Rattle.grub_table.specs.Between.{TheSeat, share_on, IsSeatOf, HoldsFor, HoldsMade, Tells, Leaves, SawQueue, Exchanged, GivenUp, Concluded}
+use Rattle.grub_table.specs.Calls.{seen, marks, claim_share, claim_seen, claim_queue, claim_changes_sum, IsClaimOf, IsDone, IsLost, IsFinished, IsCancelled}
 use Rattle.grub_table.specs.Histories.{IsHistory, Grows, Finishes, record_in, reading_in}
 use Rattle.grub_table.specs.Layout.{stored_of}
 use Rattle.grub_table.specs.Marks.{AreLawful, MarksGo}
-use Rattle.grub_table.specs.Tellings.{early, is_decided_at_load, outcome, Gave, settled_quietly, Sees, Calls, Decides, IsReadingFor, LoadedQueueAs, SettledServer, StoredServer, StoredParams, GaveClaim}
+use Rattle.grub_table.specs.Tellings.{early, is_decided_at_load, outcome, settled_quietly, Sees, Calls, Decides, IsReadingFor, LoadedQueueAs, SettledServer, StoredServer, StoredParams}
 use Rattle.grub_table.specs.Tries.{is_charge, half_stored, Knows, TriedAs, Tried}
 use Rattle.grub_table.proofs.Growths.{grows_grows, grows_finishes, grows_none}
-use Rattle.grub_table.proofs.Moves.{sound, reading_fits}
+use Rattle.grub_table.proofs.Moves.{sound}
 use Rattle.grub_table.proofs.Turns.{under}
 
 pub is_not : {A : Type 0} {b : Bool} → b ≡ true → b ≡ false → A

@@ -1,5 +1,5 @@
 -- What stands between the steps of a call: the seat of a pass, and what it was told.
-use Rattle.std.specs.Prelude.{◌≡◌, ◌≢◌, ℕ, ◌<◌, Bool, true, false, [], ◌∷◌, length, Option, Some, None, Result, Ok, Err}
+use Rattle.std.specs.Prelude.{◌≡◌, ◌≢◌, ℕ, ◌<◌, Bool, true, false, [], length, None, Result, Ok, Err}
 use Rattle.atomic_table.specs.declared.shared.Seat.{Seat}
 use Rattle.grub_book.specs.Op.{IsOp}
 use Rattle.grub_book.specs.Sound.{IsKept}
@@ -19,11 +19,10 @@ use Rattle.grub_table.specs.declared.view.Share.{Share}
 use Rattle.grub_table.specs.declared.view.Stored.{Stored}
 use Rattle.grub_table.specs.declared.view.Terms.{Terms}
 use Rattle.grub_table.specs.declared.view.View.{View}
-use Rattle.grub_words.specs.Words.{server_word, params_word}
 use Rattle.grub_words.specs.declared.task.TaskWord.{TaskWord}
 use Rattle.grub_table.specs.Histories.{Finishes, record_in, reading_in}
 use Rattle.grub_table.specs.Layout.{stored_of}
-use Rattle.grub_table.specs.Tellings.{Adds, CallsIf, Decides, DecidesIf, Gave, IsOthers, IsReadingFor, LoadedQueueAs, Sees, early, is_decided_at_load, outcome, settled_quietly}
+use Rattle.grub_table.specs.Tellings.{Adds, CallsIf, Decides, DecidesIf, Gave, IsOthers, IsReadingFor, LoadedQueueAs, Sees, early, is_decided_at_load, outcome}
 use Rattle.grub_table.specs.Views.{alone, first_of}
 
 abbrev pub TheSeat : Type 0

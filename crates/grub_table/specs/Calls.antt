@@ -1,9 +1,8 @@
 -- What the calls of a table promise, in terms of its passes and claims.
-use Rattle.std.specs.Prelude.{Bool, true, false, IsTrue, ◌≡◌, ◌≢◌, ℕ, suc, ◌+◌, ◌-◌, ◌<◌, ◌≤◌, List, [], ◌∷◌, ◌++◌, length, slice_index_or, ◌⊎◌, Some, None, if◌then◌else◌}
+use Rattle.std.specs.Prelude.{Bool, true, false, IsTrue, ◌≡◌, ◌≢◌, ℕ, suc, ◌-◌, ◌<◌, ◌≤◌, List, [], ◌∷◌, length, slice_index_or, ◌⊎◌, None, if◌then◌else◌}
 use Rattle.grub_book.specs.Machine.{Machine}
 use Rattle.grub_book.specs.Op.{IsOp}
-use Rattle.grub_book.specs.Sums.{record_at}
-use Rattle.grub_book.specs.History.{book_of, calls_of, StartsWith, HasChanged}
+use Rattle.grub_book.specs.History.{calls_of, StartsWith, HasChanged}
 use Rattle.grub_book.specs.Sound.{IsKept}
 use Rattle.grub_book.specs.Step.{refused, runqueue_of, changes_sum, is_under_claim}
 use Rattle.grub_book.specs.declared.event.Event.{Event}
@@ -30,7 +29,7 @@ use Rattle.grub_table.specs.declared.pass.Finished.TheVariants.{Done, Held}
 use Rattle.grub_table.specs.declared.pass.CloseFault.{CloseFault}
 use Rattle.grub_table.specs.declared.pass.CloseWhy.{CloseWhy}
 use Rattle.grub_table.specs.declared.pass.CloseWhy.TheVariants.{Missing, NoMemory}
-use Rattle.grub_table.specs.Marks.{AreLawful, MarksGo, marks_of, holder_of}
+use Rattle.grub_table.specs.Marks.{AreLawful, MarksGo, marks_of}
 use Rattle.grub_table.specs.Layout.{shown}
 use Rattle.grub_table.specs.Histories.{Every, IsHistory, Grows, Finishes, record_in, reading_in}
 use Rattle.grub_table.specs.Views.{first_of}

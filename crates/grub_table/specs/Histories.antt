@@ -1,6 +1,5 @@
 -- Histories of a table, and how they grow.
 use Rattle.std.specs.Prelude.{◌≡◌, ℕ, ◌<◌, List, [], ◌∷◌, ◌++◌}
-use Rattle.grub_book.specs.Machine.{queue_at}
 use Rattle.grub_book.specs.Sums.{record_at, reading_of}
 use Rattle.grub_book.specs.History.{IsLegal, book_of, calls_of, pass_of, StartsWith}
 use Rattle.grub_book.specs.declared.event.Event.{Event}

@@ -1,7 +1,7 @@
 -- The rule of the table, which holds between any two steps.
 -- There is one history. What each pass has seen is a beginning of it, and it has of each pass just the calls that the pass made.
 -- Each runqueue's word is its reading in the book after that history, and a task's three words are its record, but for a task whose holder has decided and not stored yet.
-use Rattle.std.specs.Prelude.{◌≡◌, ◌≢◌, ℕ, ◌<◌, ◌≤◌, ◌++◌, Bool, true, false, List, [], ◌∷◌, length, slice_index, Option, Some, None}
+use Rattle.std.specs.Prelude.{◌≡◌, ◌≢◌, ℕ, ◌<◌, true, false, List, [], ◌∷◌, length, slice_index, Option, Some, None}
 use mathlib.Core.Option.{some}
 use lib.ListN.{get_elem?}
 use Rattle.atomic_table.specs.Table.{State}

@@ -1,8 +1,7 @@
 -- What each single step tells the pass that makes it. x is its share before the step, and y after it.
-use Rattle.std.specs.Prelude.{◌≡◌, ◌≢◌, ◌⊎◌, ℕ, ◌<◌, ◌≤◌, nat_lt, Bool, true, false, if◌then◌else◌, List, [], ◌∷◌, length, Option, Some, None}
+use Rattle.std.specs.Prelude.{◌≡◌, ◌≢◌, ◌⊎◌, ℕ, ◌≤◌, nat_lt, Bool, true, false, if◌then◌else◌, List, [], ◌∷◌, Option, Some, None}
 use mathlib.Core.Option.{Option as MOption, some, none}
 use Rattle.atomic_table.specs.Table.{Step}
-use Rattle.grub_bw.specs.Bandwidth.{Capacity}
 use Rattle.grub_book.specs.Machine.{queue_at}
 use Rattle.grub_book.specs.History.{StartsWith}
 use Rattle.grub_book.specs.Sound.{IsKept}
@@ -23,7 +22,6 @@ use Rattle.grub_table.specs.declared.view.Note.{Note}
 use Rattle.grub_table.specs.declared.view.Stored.{Stored}
 use Rattle.grub_table.specs.declared.view.Terms.{Terms}
 use Rattle.grub_table.specs.declared.view.Share.{Share}
-use Rattle.grub_table.specs.declared.view.Hold.{Hold}
 use Rattle.grub_table.specs.declared.view.Hold.TheVariants.{Free, Undecided, Decided}
 use Rattle.grub_table.specs.Marks.{MarksGo, holder_of}
 use Rattle.grub_table.specs.Layout.{queue_word_at, shown, stored_of}

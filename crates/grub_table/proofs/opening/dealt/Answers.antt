@@ -1,7 +1,7 @@
-use Rattle.std.proofs.Common.{◌≡◌, ◌+◌, [], ap, sym, subst, ◌∙◌, arith, length}
+use Rattle.std.proofs.Common.{◌+◌, [], ap, sym, subst, ◌∙◌, arith, length}
 use Rattle.std.proofs.lemmas.List.{length_push}
 use Rattle.grub_table.specs.declared.view.View.{View}
-use Rattle.grub_table.specs.Calls.{terms, AreNew, IsNew, seen, marks}
+use Rattle.grub_table.specs.Calls.{terms, AreNew}
 use Rattle.grub_table.specs.Histories.{IsHistory}
 use Rattle.grub_table.specs.Marks.{AreLawful}
 use Rattle.grub_table.specs.Views.{view, alone, first_of, only_first, without_first}

@@ -1,4 +1,4 @@
-use Rattle.std.proofs.Common.{◌≡◌, ◌≤◌, ℕ, ap, sym, refl, subst, ◌∙◌, arith, Option, Some, None}
+use Rattle.std.proofs.Common.{◌≤◌, sym, refl, subst, ◌∙◌, arith}
 use Rattle.grub_book.specs.declared.place.Record.{Record}
 use Rattle.grub_book.specs.declared.event.Event.TheVariants.{Call}
 use Rattle.grub_book.specs.declared.reply.Reply.{Reply}
@@ -6,7 +6,7 @@ use Rattle.grub_words.proofs.Bounds.{ServerFits-kept}
 use Rattle.grub_table.specs.Calls.{claim_share}
 use Rattle.grub_table.specs.Histories.{Finishes}
 use Rattle.grub_table.specs.Layout.{stored_of}
-use Rattle.grub_table.proofs.Tries.{claim_holds, done, lost, stored_server, tried_marks, tried_calls, tried_made, tried_kept, tried_claimed}
+use Rattle.grub_table.proofs.Tries.{done, lost, stored_server, tried_marks, tried_calls, tried_made, tried_kept, tried_claimed}
 use Rattle.grub_table.proofs.pass.Shared.attempt.Goals as goal
 
 pub invariant_of-result : goal.invariant_of-result

@@ -1,4 +1,4 @@
-use Rattle.std.proofs.Common.{◌≡◌, ◌<◌, ◌+◌, refl, ap, sym, ◌∙◌, arith}
+use Rattle.std.proofs.Common.{refl, ap, ◌∙◌}
 use Rattle.grub_words.specs.Words.{queue_word}
 use Rattle.grub_table.proofs.Between.{tells_of, exchanged}
 use Rattle.grub_table.proofs.Seated.{queue_within, about_there, on_change_queue}

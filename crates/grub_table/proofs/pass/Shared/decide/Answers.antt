@@ -1,4 +1,4 @@
-use Rattle.std.proofs.Common.{◌≡◌, ◌<◌, ◌≤◌, ap, sym, refl, subst, ◌∙◌, arith, true, false, Some, None}
+use Rattle.std.proofs.Common.{ap, sym, subst, ◌∙◌, arith, Some, None}
 use Rattle.grub_bw.specs.Bandwidth.{Capacity}
 use Rattle.grub_book.specs.Step.{settled}
 use Rattle.grub_book.specs.Totals.{shifted_of}

@@ -1,6 +1,4 @@
-use Rattle.std.proofs.Common.{rules, ◌≡◌, ◌<◌, ◌*◌, ◌++◌, [], length, map, ap, subst, sym, ◌∙◌, arith, length-set, append-nil}
-use mathlib.Core.Option.{some}
-use lib.ListN.{get_elem?}
+use Rattle.std.proofs.Common.{rules, ◌≡◌, ◌<◌, ◌++◌, [], length, map, ap, sym, ◌∙◌, arith, length-set, append-nil}
 use Rattle.grub_table.specs.Calls.{IsPassOf, share_of}
 use Rattle.grub_table.specs.Layout.{queue_word_at}
 use Rattle.grub_table.proofs.Moves.{join_allowed}

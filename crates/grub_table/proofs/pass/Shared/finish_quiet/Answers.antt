@@ -1,5 +1,5 @@
-use Rattle.std.proofs.Common.{◌≡◌, ℕ, ◌≤◌, sym, refl, ◌∙◌}
-use Rattle.grub_table.proofs.Tries.{claim_holds, done, lost, quiet_blind, quiet_kept, quiet_claimed, quiet_marks, quiet_calls, quiet_made, is_not}
+use Rattle.std.proofs.Common.{◌∙◌}
+use Rattle.grub_table.proofs.Tries.{done, quiet_kept, quiet_claimed, quiet_marks, quiet_calls, quiet_made, is_not}
 use Rattle.grub_book.specs.declared.event.Reading.{Reading}
 use Rattle.grub_table.proofs.pass.Shared.finish_quiet.Goals as goal
 

@@ -1,6 +1,5 @@
-use Rattle.std.proofs.Common.{◌≡◌, ◌<◌, ◌≤◌, arith}
-use Rattle.grub_table.specs.declared.pass.Finished.TheVariants.{Done, Held}
-use Rattle.grub_table.proofs.Tries.{lost_none, tried_more, done_within}
+use Rattle.grub_table.specs.declared.pass.Finished.TheVariants.{Held}
+use Rattle.grub_table.proofs.Tries.{lost_none, tried_more}
 use Rattle.grub_table.proofs.pass.Shared.finish_sum.Goals as goal
 
 pub loop-init : goal.loop-init

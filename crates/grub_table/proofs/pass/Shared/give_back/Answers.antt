@@ -1,4 +1,4 @@
-use Rattle.std.proofs.Common.{◌≡◌, ◌<◌, ◌+◌, refl, sym, ap, ◌∙◌, arith}
+use Rattle.std.proofs.Common.{refl, arith}
 use Rattle.grub_table.proofs.Between.{tells_of, left_back, left_free_back}
 use Rattle.grub_table.proofs.Seated.{word_within, on_give_back}
 use Rattle.grub_table.proofs.pass.Shared.give_back.Goals as goal

@@ -1,4 +1,4 @@
-use Rattle.std.proofs.Common.{◌≡◌, ◌<◌, ◌+◌, refl, sym, ap, ◌∙◌, arith}
+use Rattle.std.proofs.Common.{arith}
 use Rattle.grub_table.proofs.Between.{tells_of, left_up, left_free_up}
 use Rattle.grub_table.proofs.Seated.{word_within, on_give_up}
 use Rattle.grub_table.proofs.pass.Shared.give_up.Goals as goal

@@ -1,4 +1,4 @@
-use Rattle.std.proofs.Common.{◌≡◌, ◌∙◌}
+use Rattle.std.proofs.Common.{◌∙◌}
 use Rattle.grub_table.proofs.Tries.{leaves_after}
 use Rattle.grub_table.proofs.pass.Shared.hand_back.Goals as goal
 

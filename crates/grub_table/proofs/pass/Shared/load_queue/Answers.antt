@@ -1,4 +1,3 @@
-use Rattle.std.proofs.Common.{◌≡◌, ◌<◌, ◌+◌, refl, sym, ◌∙◌, arith}
 use Rattle.grub_table.proofs.Between.{tells_of, word_of_queue, saw_queue}
 use Rattle.grub_table.proofs.Seated.{queue_within, about_there, on_load_queue}
 use Rattle.grub_table.proofs.pass.Shared.load_queue.Goals as goal

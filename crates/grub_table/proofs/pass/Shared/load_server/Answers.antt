@@ -1,4 +1,4 @@
-use Rattle.std.proofs.Common.{◌≡◌, ◌<◌, ◌+◌, refl, sym, ◌∙◌, arith}
+use Rattle.std.proofs.Common.{sym, arith}
 use Rattle.grub_words.proofs.Bounds.{ServerFits-kept}
 use Rattle.grub_table.proofs.Between.{tells_of, saw_server}
 use Rattle.grub_table.proofs.Seated.{word_within, on_load_server}

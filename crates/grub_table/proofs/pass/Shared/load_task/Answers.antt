@@ -1,4 +1,4 @@
-use Rattle.std.proofs.Common.{◌≡◌, ◌<◌, ◌+◌, refl, sym, ◌∙◌, arith}
+use Rattle.std.proofs.Common.{arith}
 use Rattle.grub_table.proofs.Between.{tells_of}
 use Rattle.grub_table.proofs.Seated.{word_within, on_load_task}
 use Rattle.grub_table.proofs.pass.Shared.load_task.Goals as goal

@@ -1,4 +1,4 @@
-use Rattle.std.proofs.Common.{◌≡◌, false, refl, sym, ap, ◌∙◌}
+use Rattle.std.proofs.Common.{refl, sym, ap, ◌∙◌}
 use Rattle.grub_words.specs.Words.{task_word}
 use Rattle.grub_table.proofs.Starts.{answered, busy_changed, free_changed, number2, says, holds, taken, kept, claim_holds, is_taken, made_early, answered_early, number3}
 use Rattle.grub_table.proofs.pass.Shared.start.Goals as goal

@@ -1,4 +1,4 @@
-use Rattle.std.proofs.Common.{◌≡◌, ◌<◌, ◌+◌, refl, subst, sym, ◌∙◌, arith}
+use Rattle.std.proofs.Common.{subst, arith}
 use Rattle.grub_table.specs.Between.{Tells}
 use Rattle.grub_table.specs.Tellings.{StoredParams}
 use Rattle.grub_table.proofs.Between.{tells_of}

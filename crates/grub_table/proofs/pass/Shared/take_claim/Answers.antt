@@ -1,4 +1,4 @@
-use Rattle.std.proofs.Common.{◌≡◌, ◌<◌, ◌+◌, refl, ap, subst, sym, ◌∙◌, arith}
+use Rattle.std.proofs.Common.{ap, subst, ◌∙◌, arith}
 use Rattle.grub_words.specs.Words.{task_word}
 use Rattle.grub_table.specs.Between.{Tells}
 use Rattle.grub_table.specs.Tellings.{TookClaim}
