@@ -69,21 +69,22 @@ fn least_moment(nodes: &[Node], heads: &[Option<usize>], used: &[u64]) -> u64
     bound
 }
 
-/// A moment that no armed timer is before, where none is due at m and none was before `from`. All slots are looked at only
-/// where the moments from `from` to m have led through all of them.
+/// A moment after m that no armed timer is before, where none is due at m and none was before `from`. All slots are looked
+/// at only where the moments from `from` to m have led through all of them.
 pub fn bound_after(nodes: &[Node], heads: &[Option<usize>], used: &[u64], from: u64, m: u32) -> u64
     requires sound { AreInSlots nodes.now heads.now }
     requires words { length used.now ≡ 4 }
     requires mapped { IsMapped used.now heads.now }
     requires from { from ≤ m }
     requires later { (i : ℕ) → Armed nodes.now i → m < moments nodes.now i }
-    ensures { (i : ℕ) → Armed nodes.now i → result ≤ moments nodes.now i }
+    ensures bound { (i : ℕ) → Armed nodes.now i → result ≤ moments nodes.now i }
+    ensures after { m < result }
 {
     let after = u64::from(m) + 1;
     if after - from < SLOTS as u64 {
         after
     } else {
-        least_moment(nodes, heads, used)
+        after.max(least_moment(nodes, heads, used))
     }
 }
 
