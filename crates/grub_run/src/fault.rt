@@ -1,54 +1,37 @@
-use grub_trace::{Kind, TextFault, TraceFault};
+//! Why nothing, or not all, was written.
+
+use grub_trace::{TextFault, TraceFault};
 use grub_workers::RunFault;
+use std::fmt;
 use thiserror::Error;
 
 /// Why nothing, or not all, was written. Its text is the fault's number and name, without the place.
 #[derive(Clone, Copy, Debug, PartialEq, Eq, Error)]
 pub enum GrubFault {
     /// 28 to 37: the files were not read.
-    #[error("{}", trace_text(.0))]
+    #[error("{}", Placeless(.0))]
     Trace(TraceFault),
     /// 38 or 39: the files were read, and their run has no outcome.
-    #[error("{}", run_text(.0))]
+    #[error("{0}")]
     Run(RunFault),
     /// 43: no memory for the text.
-    #[error("{}", report_text(.0))]
+    #[error("{0}")]
     Text(TextFault),
     /// 45: a write or the flush failed, or a write took nothing.
     #[error("45 WriteFault")]
     WriteFault,
 }
 
-fn trace_text(fault: &TraceFault) -> &'static str {
-    match fault {
-        TraceFault::At { kind, .. } => kind_text(kind),
-        TraceFault::NoMemory => "37 NoMemory",
-    }
-}
+/// A fault of the files without the file and the line.
+#[derive(Drop)]
+struct Placeless<'a>(&'a TraceFault);
 
-fn kind_text(kind: &Kind) -> &'static str {
-    match kind {
-        Kind::BadHeader => "28 BadHeader",
-        Kind::BadLine => "29 BadLine",
-        Kind::BadNumber => "30 BadNumber",
-        Kind::OutOfRange => "31 OutOfRange",
-        Kind::DuplicateTask => "32 DuplicateTask",
-        Kind::UnknownTask => "33 UnknownTask",
-        Kind::MomentGoesBack => "34 MomentGoesBack",
-        Kind::MissingQueue => "35 MissingQueue",
-        Kind::CutShort => "36 CutShort",
-    }
-}
-
-fn run_text(fault: &RunFault) -> &'static str {
-    match fault {
-        RunFault::NoMemory => "38 NoMemory",
-        RunFault::Spawn => "39 Spawn",
-    }
-}
-
-fn report_text(fault: &TextFault) -> &'static str {
-    match fault {
-        TextFault::NoMemory => "43 NoMemory",
+impl fmt::Display for Placeless<'_> {
+    fn fmt<W: fmt::Write>(&self, f: &mut fmt::Formatter<W>) -> fmt::Result {
+        let fault = self.0;
+        match fault {
+            TraceFault::At { kind, .. } => write!(f, "{kind}"),
+            TraceFault::NoMemory => write!(f, "{fault}"),
+        }
     }
 }

@@ -1,3 +1,5 @@
+//! The run of files from their bytes: its output, writers that fail, and refused growths.
+
 ghost use Rattle.std.specs.Prelude.{◌≤◌};
 
 use crate::{GrubFault, run_texts};

@@ -1,3 +1,5 @@
+//! Both bodies against worked examples, against each other, and with refused growths.
+
 ghost use Rattle.std.specs.Prelude.{◌↔◌, ◌<◌, ◌≤◌, IsTrue, IfSome};
 ghost use Rattle.std.specs.Bool.{IsFalse};
 

@@ -1,3 +1,5 @@
+//! One timer of a task.
+
 ghost use Rattle.std.specs.Prelude.{◌≡◌};
 ghost use Rattle.grub_wheel.specs.Order.{is_before};
 

@@ -4,3 +4,4 @@ pub mod Working
 pub mod Handles
 pub mod Runs
 pub mod Apart
+pub mod Messages

@@ -1,3 +1,5 @@
+//! What runs around the calls of the table.
+
 /// What runs around each call of the table. It is a test's hook, and no lock on the table.
 pub trait Gate: Sync {
     /// Runs just before a call of this worker. Its calls of `read`, `start`, `finish` and `cancel` count from 1.

@@ -9,15 +9,36 @@ use grub_book::Reading;
 use grub_table::Shared;
 use grub_trace::{Plan, Report};
 use std::alloc::Global;
+use std::error::Error;
+use std::fmt;
 use std::sync::Wait;
 use std::thread::Threads;
 
-/// Why a run has no outcome. Number 38 is NoMemory, where a growth was refused, and 39 Spawn, where the start of a thread was.
+/// Why a run has no outcome.
 #[derive(Clone, Copy, Debug, PartialEq, Eq)]
 pub enum RunFault {
+    /// 38: the allocator refused.
     NoMemory,
+
+    /// 39: the start of a thread was refused.
     Spawn,
 }
+
+impl fmt::Display for RunFault {
+    ghost use Rattle.std.specs.Prelude.{Some};
+    ghost use Rattle.grub_workers.specs.Messages.{run_fault_text};
+
+    ghost output = { λ fault. Some (run_fault_text fault) };
+
+    fn fmt<W: fmt::Write>(&self, f: &mut fmt::Formatter<W>) -> fmt::Result {
+        f.write_str(match self {
+            RunFault::NoMemory => "38 NoMemory",
+            RunFault::Spawn => "39 Spawn",
+        })
+    }
+}
+
+impl Error for RunFault {}
 
 /// A report for each file, and the closing reading of each runqueue, in 1/2^20, both in the order of the files.
 #[derive(Drop)]

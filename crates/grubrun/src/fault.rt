@@ -1,3 +1,5 @@
+//! Why a file of the command line was not read.
+
 use thiserror::Error;
 
 /// Why a file was not read whole.

@@ -1,3 +1,5 @@
+//! The program: its statuses, its texts and its worked runs.
+
 use crate::fault::FileFault;
 use crate::input::{FILE_BYTES_MAX, read_all};
 use crate::serve::{serve, serve_no_words};
