@@ -8,3 +8,4 @@ pub mod Calls
 pub mod Between
 pub mod FirstWords
 pub mod Tries
+pub mod Messages
