@@ -8,10 +8,10 @@ use crate::timer::Timer;
 use crate::used;
 
 /// How many slots a wheel has.
-pub const SLOTS: usize = 256;
+pub(crate) const SLOTS: usize = 256;
 
 /// The slot of a moment.
-pub fn slot_of(z: u32) -> usize
+pub(crate) fn slot_of(z: u32) -> usize
     ensures { result ≡ z % 256 }
 {
     z as usize % SLOTS
@@ -72,7 +72,7 @@ fn point(
 }
 
 /// Arms a timer in the free place `i`.
-pub fn put(
+pub(crate) fn put(
     nodes: &mut [Node],
     heads: &mut [Option<usize>],
     used: &mut [u64; 4],
@@ -102,7 +102,7 @@ pub fn put(
 }
 
 /// Takes the armed node `i` out of its slot, and makes it a free place before `free`.
-pub fn take(
+pub(crate) fn take(
     nodes: &mut [Node],
     heads: &mut [Option<usize>],
     used: &mut [u64; 4],

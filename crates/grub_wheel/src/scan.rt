@@ -71,7 +71,13 @@ fn least_moment(nodes: &[Node], heads: &[Option<usize>], used: &[u64]) -> u64
 
 /// A moment after m that no armed timer is before, where none is due at m and none was before `from`. All slots are looked
 /// at only where the moments from `from` to m have led through all of them.
-pub fn bound_after(nodes: &[Node], heads: &[Option<usize>], used: &[u64], from: u64, m: u32) -> u64
+pub(crate) fn bound_after(
+    nodes: &[Node],
+    heads: &[Option<usize>],
+    used: &[u64],
+    from: u64,
+    m: u32,
+) -> u64
     requires sound { AreInSlots nodes.now heads.now }
     requires words { length used.now ≡ 4 }
     requires mapped { IsMapped used.now heads.now }
@@ -89,7 +95,7 @@ pub fn bound_after(nodes: &[Node], heads: &[Option<usize>], used: &[u64], from: 
 }
 
 /// The earliest timer that is due at m, where none is before `from`. Only used slots of the moments from `from` to m are looked at.
-pub fn earliest(
+pub(crate) fn earliest(
     nodes: &[Node],
     heads: &[Option<usize>],
     used: &[u64],

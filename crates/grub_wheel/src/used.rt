@@ -23,7 +23,7 @@ fn unmark(used: &mut [u64; 4], slot: usize)
 }
 
 /// Marks a slot by its head.
-pub fn note(used: &mut [u64; 4], heads: &[Option<usize>], slot: usize)
+pub(crate) fn note(used: &mut [u64; 4], heads: &[Option<usize>], slot: usize)
     requires slot { slot < 256 }
     requires count { length heads.now ≡ 256 }
     requires others { IsMappedBut slot used.old heads.now }
@@ -37,7 +37,7 @@ pub fn note(used: &mut [u64; 4], heads: &[Option<usize>], slot: usize)
 }
 
 /// The first used slot from this one on, or 256.
-pub fn next_used(used: &[u64], slot: usize) -> usize
+pub(crate) fn next_used(used: &[u64], slot: usize) -> usize
     requires words { length used.now ≡ 4 }
     requires within { slot < 256 }
     ensures low { slot ≤ result }
