@@ -2,7 +2,8 @@
 use Rattle.std.specs.Prelude.{◌≡◌, ◌≤◌, ℕ, ◌+◌, ◌++◌, List, [], ◌∷◌, length, take, ⊤, Option, Some, None}
 use Rattle.std.specs.Io.KnownBytes.{Appends}
 use Rattle.grub_book.specs.declared.event.Reading.{Reading}
-use Rattle.grub_trace.specs.Meaning.{Reads, IsTraceFault, IsOnly}
+use Rattle.grub_trace.specs.Meaning.{Reads}
+use Rattle.grub_trace.specs.FirstFault.{IsTraceFault, IsOnly}
 use Rattle.grub_trace.specs.Naming.{plan_of}
 use Rattle.grub_trace.specs.Tree.{Tree}
 use Rattle.grub_trace.specs.Texts.{report_text}

@@ -249,6 +249,47 @@ fn one_file(rt: HostRuntime) -> Result<(), Fail> {
     Ok(())
 }
 
+/// The first lines of a text.
+fn first_lines(alloc: Global, text: &str, lines: usize) -> Result<String, AllocError> {
+    let mut first = String::new(alloc);
+    for line in text.split_inclusive('\n').take(lines) {
+        first.push_str(line)?;
+    }
+    Ok(first)
+}
+
+/// The documentation's file, cut after each of its lines but the first: how many lines of its report come before the
+/// closing reading, and this.
+const CUTS: [(usize, usize, &str); 11] = [
+    (2, 1, "close running=0 this=0\n"),
+    (3, 1, "close running=0 this=0\n"),
+    (4, 1, "close running=0 this=0\n"),
+    (5, 2, "close running=524288 this=524288\n"),
+    (6, 3, "close running=1048576 this=1048576\n"),
+    (7, 4, "close running=1048576 this=1048576\n"),
+    (8, 5, "close running=1048576 this=1048576\n"),
+    (9, 6, "close running=1048576 this=1048576\n"),
+    (10, 8, "close running=524288 this=1048576\n"),
+    (11, 9, "close running=1048576 this=1048576\n"),
+    (12, 10, "close running=1048576 this=1048576\n"),
+];
+
+/// A file that is cut between two lines has the report of its whole lines.
+#[test]
+fn cuts_between_lines(rt: HostRuntime) -> Result<(), Fail> {
+    let alloc = rt.alloc();
+    for (lines, reported, close) in CUTS {
+        let file = first_lines(alloc, DOCUMENTATION, lines)?;
+        let mut text = first_lines(alloc, DOCUMENTATION_REPORT, reported)?;
+        text.push_str(close)?;
+        assert!(rt;
+            prints(&rt, alloc, [file.as_str()].as_slice(), 8, 64, &text)?,
+            "{lines}"
+        );
+    }
+    Ok(())
+}
+
 /// Without a try every join is given up, in each of its rounds.
 #[test]
 fn no_tries(rt: HostRuntime) -> Result<(), Fail> {

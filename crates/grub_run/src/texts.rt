@@ -1,7 +1,8 @@
 //! From the bytes of event files to the bytes of their reports.
 
 ghost use Rattle.std.specs.Prelude.{◌≡◌, ◌≤◌, ℕ, List, length, MatchResult, OnOk, IfOk, IfErr};
-ghost use Rattle.grub_trace.specs.Meaning.{Reads, IsFault};
+ghost use Rattle.grub_trace.specs.Meaning.{Reads};
+ghost use Rattle.grub_trace.specs.FirstFault.{IsFault};
 ghost use Rattle.grub_trace.specs.Reading.{contents};
 ghost use Rattle.grub_trace.specs.Tree.{Tree};
 ghost use Rattle.grub_trace.specs.declared.fault.Kind.{Kind};

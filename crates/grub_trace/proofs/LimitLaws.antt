@@ -19,7 +19,8 @@ use Rattle.grub_trace.specs.Tree.{Declaration, Deed, does, runs, retunes, reads,
 use Rattle.grub_trace.specs.Faults.{task_of}
 use Rattle.grub_trace.specs.Plans.{PlanView}
 use Rattle.grub_trace.specs.Naming.{line_in, act_in, act_of, script_of, all_tasks, plan_of}
-use Rattle.grub_trace.specs.Meaning.{AreDeclared, GoOn, IsDeed, AreTrees, AreKnown, Reads}
+use Rattle.grub_trace.specs.Meaning.{GoOn, IsDeed, AreKnown, Reads}
+use Rattle.grub_trace.specs.FirstFault.{AreDeclared, AreTrees}
 use Rattle.grub_trace.specs.Limits.{ActFits, ScriptFits, PlanFits}
 
 place_below : (names : List (List ℕ)) (n : List ℕ) (t : ℕ) → task_of names n ≡ Some t → t < length names

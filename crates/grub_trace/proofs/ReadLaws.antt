@@ -6,7 +6,8 @@ use Rattle.grub_trace.specs.declared.fault.TraceFault.TheVariants as trace
 use Rattle.grub_trace.specs.Tree.{Tree}
 use Rattle.grub_trace.specs.Plans.{PlanView}
 use Rattle.grub_trace.specs.Naming.{plan_of}
-use Rattle.grub_trace.specs.Meaning.{Reads, IsTraceFault, IsFault, IsOnly}
+use Rattle.grub_trace.specs.Meaning.{Reads}
+use Rattle.grub_trace.specs.FirstFault.{IsTraceFault, IsFault, IsOnly}
 use Rattle.grub_trace.proofs.FaultAgain.{plan_fault_again}
 use Rattle.grub_trace.specs.Reading.{Answers, plan_from}
 use Rattle.grub_trace.specs.declared.fault.Kind.{Kind}

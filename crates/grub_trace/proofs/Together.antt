@@ -7,7 +7,8 @@ use Rattle.std.proofs.lemmas.List.{append-nil, length-append, length-map}
 use Rattle.grub_trace.specs.Tree.{Declaration, Tree, names_of}
 use Rattle.grub_trace.specs.Faults.{task_of}
 use Rattle.grub_trace.specs.Naming.{all_tasks}
-use Rattle.grub_trace.specs.Meaning.{AreDeclared, AreTrees, AreDistinct, IsGood, IsAlone, AreTogether}
+use Rattle.grub_trace.specs.Meaning.{AreDistinct, IsGood, IsAlone, AreTogether}
+use Rattle.grub_trace.specs.FirstFault.{AreDeclared, AreTrees}
 
 abbrev Differ : List ℕ → List ℕ → Type 0
 Differ m n = bytes_eq m n ≡ false

@@ -1,5 +1,6 @@
 pub mod Asked
 pub mod Faults
+pub mod FirstFault
 pub mod Halts
 pub mod Limits
 pub mod Meaning

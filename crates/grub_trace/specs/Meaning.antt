@@ -1,31 +1,11 @@
 -- What event files mean: the trees whose texts they are.
-use Rattle.std.specs.Prelude.{◌≡◌, ℕ, ◌≤◌, ◌<◌, true, List, [], ◌∷◌, ◌++◌, length, map, None, Option, Some, ◌==◌, ◌+◌, ◌⊎◌, if◌then◌else◌, IsSome}
-use Rattle.std.specs.List.{join_with_byte, slice_split, AllByRecursion}
-use Rattle.grub_trace.specs.Naming.{line_in, all_tasks}
-use Rattle.grub_trace.specs.declared.version.Version.{Version}
-use Rattle.grub_trace.specs.declared.fault.Kind.{Kind}
-use Rattle.grub_trace.specs.declared.fault.TraceFault.{TraceFault}
-use Rattle.grub_trace.specs.declared.fault.TraceFault.TheVariants as trace
-use Rattle.grub_trace.specs.declared.fault.Kind.TheVariants.{BadHeader, MissingQueue, CutShort, UnknownTask, OutOfRange}
+use Rattle.std.specs.Prelude.{◌≡◌, ℕ, ◌≤◌, true, List, [], ◌∷◌, length, map, None, IsSome}
+use Rattle.std.specs.List.{AllByRecursion}
 use Rattle.grub_bw.specs.Bandwidth.{IsReservation, IsCapacity}
-use Rattle.grub_trace.specs.Tree.{Declaration, Deed, does, runs, retunes, reads, Happening, header, may_retune, Tree, text, declaration_words, happening_words, is_name, is_span, is_moment, names_of}
-use Rattle.grub_trace.specs.Faults.{task_of, line_fault, header_fault, queue_fault}
-
--- a line without the byte that ends it
-abbrev pub declaration_line : Declaration → List ℕ
-declaration_line d = join_with_byte 32 (declaration_words d)
-
-abbrev pub happening_line : Happening → List ℕ
-happening_line m = join_with_byte 32 (happening_words m)
-
--- ---- the limits
-
--- a declaration that may stand after these names
-pub record IsDeclaration (names : List (List ℕ)) (d : Declaration) : Type 0 where
-  pub name : is_name d.name ≡ true
-  pub fits : IsReservation d.params
-  pub few : length names < 256
-  pub fresh : task_of names d.name ≡ None
+use Rattle.grub_trace.specs.declared.version.Version.{Version}
+use Rattle.grub_trace.specs.Tree.{Declaration, Deed, does, runs, retunes, reads, Happening, may_retune, Tree, text, is_name, is_span, is_moment, names_of}
+use Rattle.grub_trace.specs.Faults.{task_of}
+use Rattle.grub_trace.specs.Naming.{line_in, all_tasks}
 
 -- what may be said in a file of this version
 abbrev pub IsDeed : Version → Deed → Type 0
@@ -40,77 +20,10 @@ pub record IsHappeningFrom (version : Version) (low : ℕ) (m : Happening) : Typ
   pub within : is_moment m.at ≡ true
   pub deed : IsDeed version m.deed
 
--- each is declared after these names, and the names that are declared before it
-abbrev pub AreDeclared : List (List ℕ) → List Declaration → Type 0
-AreDeclared names [] = Unit {0}
-AreDeclared names (d ∷ ds) = IsDeclaration names d × AreDeclared (names ++ d.name ∷ []) ds
-
 -- no moment is before low, or before the one in front of it
 abbrev pub GoOn : Version → ℕ → List Happening → Type 0
 GoOn version low [] = Unit {0}
 GoOn version low (m ∷ ms) = IsHappeningFrom version low m × GoOn version m.at ms
-
--- a tree that may stand after these names
-pub record IsTree (names : List (List ℕ)) (t : Tree) : Type 0 where
-  pub queue : IsCapacity t.queue
-  pub tasks : AreDeclared names t.tasks
-  pub happenings : GoOn t.version 0 t.happenings
-
--- ---- the first fault of a file
-
--- the parts of a text between the bytes that end lines; the last one is no whole line
-abbrev pub parts_of : List ℕ → List (List ℕ)
-parts_of bytes = slice_split (λ b. b == 10) bytes
-
--- what is wrong with the line in front, given what is wrong where there is none, and with a whole line
-abbrev pub front_fault : Kind → (List ℕ → Option Kind) → List (List ℕ) → Option Kind
-front_fault missing fault [] = Some missing
-front_fault missing fault (last ∷ []) = Some (if length last == 0 then missing else CutShort)
-front_fault missing fault (line ∷ next ∷ more) = fault line
-
--- the text of a tree, and then a line that may not stand there
-pub record LineFault (names : List (List ℕ)) (bytes : List ℕ) (k : Kind) (n : ℕ) : Type 0 where
-  pub tree : Tree
-  pub rest : List ℕ
-  pub is : IsTree names tree
-  pub front : bytes ≡ text tree ++ rest
-  pub more : 0 < length rest
-  pub number : n ≡ 3 + length tree.tasks + length tree.happenings
-  pub fault : front_fault CutShort (line_fault tree.version (names ++ names_of tree.tasks) (map (λ m. m.at) tree.happenings)) (parts_of rest) ≡ Some k
-
--- the first line may not stand there
-abbrev pub HeaderFault : List ℕ → Kind → ℕ → Type 0
-HeaderFault bytes k n = (n ≡ 1) × (front_fault BadHeader header_fault (parts_of bytes) ≡ Some k)
-
--- the second line may not stand there, after a right first one
-pub record QueueFault (bytes : List ℕ) (k : Kind) (n : ℕ) : Type 0 where
-  pub version : Version
-  pub rest : List ℕ
-  pub number : n ≡ 2
-  pub front : bytes ≡ header version ++ 10 ∷ rest
-  pub fault : front_fault MissingQueue queue_fault (parts_of rest) ≡ Some k
-
--- the first fault of a file, after these names
-abbrev pub FileFault : List (List ℕ) → List ℕ → Kind → ℕ → Type 0
-FileFault names bytes k n = HeaderFault bytes k n ⊎ QueueFault bytes k n ⊎ LineFault names bytes k n
-
--- ---- all files
-
--- trees that may stand one after the other, after these names
-abbrev pub AreTrees : List (List ℕ) → List Tree → Type 0
-AreTrees names [] = Unit {0}
-AreTrees names (t ∷ ts) = IsTree names t × AreTrees (names ++ names_of t.tasks) ts
-
--- each task that is named is declared
-abbrev pub AreKnown : List (List ℕ) → List Happening → Type 0
-AreKnown names ms = AllByRecursion (λ m. IsSome (line_in names m)) ms
-
--- ---- the same of all trees at once: each name is declared once, and at most 256 are
-
--- no name stands twice
-abbrev pub AreDistinct : List (List ℕ) → Type 0
-AreDistinct [] = Unit {0}
-AreDistinct (n ∷ ns) = (task_of ns n ≡ None) × AreDistinct ns
 
 -- a declaration by itself, and a tree by itself
 abbrev pub IsGood : Declaration → Type 0
@@ -119,11 +32,20 @@ IsGood d = (is_name d.name ≡ true) × IsReservation d.params
 abbrev pub IsAlone : Tree → Type 0
 IsAlone t = IsCapacity t.queue × AllByRecursion IsGood t.tasks × GoOn t.version 0 t.happenings
 
+-- no name stands twice
+abbrev pub AreDistinct : List (List ℕ) → Type 0
+AreDistinct [] = Unit {0}
+AreDistinct (n ∷ ns) = (task_of ns n ≡ None) × AreDistinct ns
+
 -- trees that may stand in one run
 pub record AreTogether (ts : List Tree) : Type 0 where
   pub each : AllByRecursion IsAlone ts
   pub few : length (names_of (all_tasks ts)) ≤ 256
   pub once : AreDistinct (names_of (all_tasks ts))
+
+-- each task that is named is declared
+abbrev pub AreKnown : List (List ℕ) → List Happening → Type 0
+AreKnown names ms = AllByRecursion (λ m. IsSome (line_in names m)) ms
 
 -- the files read as these trees
 pub record Reads (files : List (List ℕ)) (trees : List Tree) : Type 0 where
@@ -132,55 +54,3 @@ pub record Reads (files : List (List ℕ)) (trees : List Tree) : Type 0 where
   pub texts : files ≡ map text trees
   pub together : AreTogether trees
   pub known : AllByRecursion (λ t. AreKnown (names_of (all_tasks trees)) t.happenings) trees
-
--- the files before this one have trees, and it has a fault
-pub record FirstFault (names : List (List ℕ)) (files : List (List ℕ)) (k : Kind) (f n : ℕ) : Type 0 where
-  pub fronts : List Tree
-  pub bytes : List ℕ
-  pub more : List (List ℕ)
-  pub files_are : files ≡ map text fronts ++ bytes ∷ more
-  pub fronts_are : AreTrees names fronts
-  pub file : f ≡ length fronts
-  pub fault : FileFault (names ++ names_of (all_tasks fronts)) bytes k n
-
--- the first happening that names a task which is not declared
-pub record UnknownIn (names : List (List ℕ)) (ms : List Happening) (n : ℕ) : Type 0 where
-  pub before : List Happening
-  pub happening : Happening
-  pub after : List Happening
-  pub happenings_are : ms ≡ before ++ happening ∷ after
-  pub known : AreKnown names before
-  pub unknown : line_in names happening ≡ None
-  pub line : n ≡ length before
-
--- all files have trees, and this is the first line that names a task that none declares
-pub record UnknownFault (files : List (List ℕ)) (k : Kind) (f n : ℕ) : Type 0 where
-  pub kind : k ≡ UnknownTask
-  pub trees : List Tree
-  pub texts : files ≡ map text trees
-  pub trees_are : AreTrees [] trees
-  pub fronts : List Tree
-  pub tree : Tree
-  pub more : List Tree
-  pub split : trees ≡ fronts ++ tree ∷ more
-  pub file : f ≡ length fronts
-  pub known : AllByRecursion (λ t. AreKnown (names_of (all_tasks trees)) t.happenings) fronts
-  pub place : ℕ
-  pub unknown : UnknownIn (names_of (all_tasks trees)) tree.happenings place
-  pub line : n ≡ 3 + length tree.tasks + place
-
--- the fault that is answered
-pub data IsFault (files : List (List ℕ)) : Kind → ℕ → ℕ → Type 0 where
-  too_many : 64 < length files → IsFault files OutOfRange 64 1
-  no_file : length files ≡ 0 → IsFault files MissingQueue 0 1
-  first : (k : Kind) (f n : ℕ) → 1 ≤ length files → length files ≤ 64 → FirstFault [] files k f n → IsFault files k f n
-  unknown : (k : Kind) (f n : ℕ) → 1 ≤ length files → length files ≤ 64 → UnknownFault files k f n → IsFault files k f n
-
-abbrev pub IsTraceFault : List (List ℕ) → TraceFault → Type 0
-IsTraceFault files trace.NoMemory = Unit {0}
-IsTraceFault files (trace.At k f n) = IsFault files k f n
-
--- this fault and no other, memory aside
-abbrev pub IsOnly : TraceFault → Kind → ℕ → ℕ → Type 0
-IsOnly trace.NoMemory k f n = Unit {0}
-IsOnly (trace.At j g m) k f n = (j ≡ k) × (g ≡ f) × (m ≡ n)

@@ -19,7 +19,7 @@ use Rattle.grub_trace.specs.declared.body.RawDeed.{RawDeed}
 use Rattle.grub_trace.specs.declared.body.RawDeed.TheVariants as deed
 use Rattle.grub_trace.specs.declared.body.RawHappening.{RawHappening}
 use Rattle.grub_trace.specs.declared.raw.RawFile.{RawFile}
-use Rattle.grub_trace.specs.Meaning.{parts_of}
+use Rattle.grub_trace.specs.FirstFault.{parts_of}
 use Rattle.grub_trace.specs.Plans.{PlanView}
 use Rattle.grub_trace.specs.Naming.{line_in, plan_with}
 use Rattle.grub_trace.specs.Tree.{is_moment, is_span, Declaration, Deed, does, runs, retunes, reads, Happening, names_of}

@@ -2,7 +2,7 @@
 
 ghost use Rattle.std.specs.Prelude.{◌≡◌, OnOk, IfSome, is_some};
 ghost use Rattle.grub_trace.specs.Reading.{opened, happening_view, declarations, IsIndexed, read_view, read_lines, read_queue, Gives, GivesQueue, file_view, read_second, read_file};
-ghost use Rattle.grub_trace.specs.Meaning.{parts_of};
+ghost use Rattle.grub_trace.specs.FirstFault.{parts_of};
 ghost use Rattle.grub_trace.specs.Faults.{capacity_fits, version_of};
 
 use crate::body::{RawHappening, take_line};

@@ -4,7 +4,8 @@ ghost use Rattle.std.specs.Prelude.{◌≡◌, ℕ, List, MatchResult, IfOk, IfE
 ghost use Rattle.grub_trace.specs.Reading.{Answers, all_view, read_from, contents, IsIndexed, declarations, script_from, ScriptIs, happening_view, deed_view, body_view, scripts_from, plan_from};
 ghost use Rattle.grub_trace.specs.Naming.{act_in, line_in};
 ghost use Rattle.grub_trace.specs.Tree.{Tree, names_of};
-ghost use Rattle.grub_trace.specs.Meaning.{Reads, IsTraceFault, IsFault, IsOnly};
+ghost use Rattle.grub_trace.specs.Meaning.{Reads};
+ghost use Rattle.grub_trace.specs.FirstFault.{IsTraceFault, IsFault, IsOnly};
 ghost use Rattle.grub_trace.specs.declared.fault.Kind.{Kind};
 ghost use Rattle.grub_trace.specs.Naming.{plan_of};
 ghost use Rattle.grub_trace.specs.Limits.{PlanFits};

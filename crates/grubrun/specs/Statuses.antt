@@ -25,6 +25,10 @@ run_status run.WriteFault = 3
 abbrev pub WritesReports : ℕ → ℕ → Option (List ℕ) → Option (List ℕ) → Type 0
 WritesReports tries count old new = (files : List (List ℕ)) × (length files ≡ count) × WritesText tries files old new
 
+-- the same of a run with some number of tries
+abbrev pub WritesRun : ℕ → Option (List ℕ) → Option (List ℕ) → Type 0
+WritesRun count old new = (tries : ℕ) × WritesReports tries count old new
+
 -- a beginning of such reports was written
 abbrev pub WritesBeginning : ℕ → ℕ → Option (List ℕ) → Option (List ℕ) → Type 0
 WritesBeginning tries count old new = (files : List (List ℕ)) × (length files ≡ count) × WritesPrefix tries files old new

@@ -1,7 +1,9 @@
 //! The command line.
 
-ghost use Rattle.std.specs.Prelude.{◌≡◌, ◌≤◌, IfOk, IfSome, codes, pos, Some};
+ghost use Rattle.std.specs.Prelude.{◌≡◌, ◌≤◌, IfOk, IfSome, codes, pos, Some, map, string_bytes};
 ghost use Rattle.clap.specs.declared.builder.value_parser.ValueParser.TheVariants as parsers;
+ghost use Rattle.clap.specs.Words.{app_of, rule_of, rows_of, found_of, matches_of, fault_of, FailsBy};
+ghost use Rattle.grubrun.specs.CommandLine.{tries_rule, rounds_rule, files_rule, command_line};
 ghost use Rattle.grubrun.specs.Rounds.{IsOf, TakesRounds};
 
 use clap::{Arg, ArgAction, ArgMatches, Command, Error, value_parser};
@@ -22,7 +24,8 @@ pub struct Options<'a> {
 }
 
 fn tries_arg<'a>(alloc: Global) -> Arg<'a>
-    ensures { IsOf (codes "tries") result }
+    ensures is { IsOf (codes "tries") result }
+    ensures rule { rule_of result ≡ tries_rule }
 {
     Arg::new(alloc, "tries")
         .long("tries")
@@ -35,6 +38,7 @@ fn tries_arg<'a>(alloc: Global) -> Arg<'a>
 fn rounds_arg<'a>(alloc: Global) -> Arg<'a>
     ensures is { IsOf (codes "rounds") result }
     ensures parser { result.value_parser ≡ Some (parsers.Signed (pos 1) (pos 65535)) }
+    ensures rule { rule_of result ≡ rounds_rule }
 {
     Arg::new(alloc, "rounds")
         .long("rounds")
@@ -45,7 +49,8 @@ fn rounds_arg<'a>(alloc: Global) -> Arg<'a>
 }
 
 fn files_arg<'a>(alloc: Global) -> Arg<'a>
-    ensures { IsOf (codes "FILE") result }
+    ensures is { IsOf (codes "FILE") result }
+    ensures rule { rule_of result ≡ files_rule }
 {
     Arg::new(alloc, "FILE")
         .help("Event files, one for each runqueue")
@@ -56,7 +61,8 @@ fn files_arg<'a>(alloc: Global) -> Arg<'a>
 
 /// `grubrun [--tries N] [--rounds N] FILE...`: two numbers in their ranges, and at least one file.
 fn command<'a>(alloc: Global) -> Result<Command<'a>, AllocError>
-    ensures { IfOk result TakesRounds }
+    ensures rounds { IfOk result TakesRounds }
+    ensures line { IfOk result (λ c. app_of c ≡ command_line) }
 {
     Command::new(alloc, "grubrun")
         .about("Plays event files against the reference book-keeper of GRUB bandwidth reclaiming")
@@ -67,7 +73,9 @@ fn command<'a>(alloc: Global) -> Result<Command<'a>, AllocError>
 
 /// The matches of the words, and the rounds among them, which are at least 1 by their range.
 fn parse<'a>(alloc: Global, words: &'a [String]) -> Result<(ArgMatches<'a>, Option<u16>), Error>
-    ensures { IfOk result (λ r. IfSome r.1 (λ n. 1 ≤ n)) }
+    ensures rounds { IfOk result (λ r. IfSome r.1 (λ n. 1 ≤ n)) }
+    ensures matches { IfOk result (λ r. rows_of (found_of r.0) ≡ matches_of command_line (map string_bytes words.now)) }
+    ensures faults { FailsBy (fault_of command_line (map string_bytes words.now)) result }
 {
     let matches = command(alloc)?.try_get_matches_from(words)?;
     let rounds = matches.get_one::<u16>("rounds");
@@ -75,7 +83,10 @@ fn parse<'a>(alloc: Global, words: &'a [String]) -> Result<(ArgMatches<'a>, Opti
 }
 
 /// What the words say, the first of which is the program's name.
-pub fn options_of<'a>(alloc: Global, words: &'a [String]) -> Result<Options<'a>, Error> {
+pub fn options_of<'a>(alloc: Global, words: &'a [String]) -> Result<Options<'a>, Error>
+    ensures matches { IfOk result (λ o. rows_of (found_of o.matches) ≡ matches_of command_line (map string_bytes words.now)) }
+    ensures faults { FailsBy (fault_of command_line (map string_bytes words.now)) result }
+{
     let (matches, rounds) = parse(alloc, words)?;
     let tries = matches.get_one::<u8>("tries").unwrap_or(TRIES_DEFAULT);
     Ok(Options {

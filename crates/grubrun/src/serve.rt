@@ -1,11 +1,13 @@
 //! The program over its words and two writers.
 
-ghost use Rattle.std.specs.Prelude.{◌≡◌, ◌≤◌, ◌⊎◌, length, vec_len, OnOk, IfOk, IfErr};
+ghost use Rattle.std.specs.Prelude.{◌≡◌, ◌≤◌, ◌⊎◌, [], length, map, unwrap_or, codes, string_bytes, vec_len, IfOk};
 ghost use Rattle.clap.specs.Values.{kind_of};
+ghost use Rattle.clap.specs.Words.{all_of, fault_of, found_of, rows_of};
 ghost use Rattle.clap.specs.declared.error.kind.ErrorKind.TheVariants as kinds;
 ghost use Rattle.grub_run.specs.Written.{WritesText, WritesPrefix};
 ghost use Rattle.grub_trace.specs.Reading.{contents};
-ghost use Rattle.grubrun.specs.Statuses.{file_status, run_status, WritesReports, WritesBeginning};
+ghost use Rattle.grubrun.specs.CommandLine.{AsksForText, IsForOutput, IsRefused, files_named};
+ghost use Rattle.grubrun.specs.Statuses.{file_status, run_status, WritesRun, WritesReports, WritesBeginning};
 
 use crate::command::{Options, options_of};
 use crate::fault::FileFault;
@@ -42,6 +44,11 @@ pub fn serve<R: Files + Threads + Wait, W: Write, E: Write>(
     ensures status { result ≤ 3 }
     // On the status of a file's fault, and of a wrong command line, nothing was printed.
     ensures nothing { (result ≡ STATUS_FILE) ⊎ (result ≡ STATUS_USAGE) → out.new ≡ out.old }
+    // Right words are not answered as wrong, and are done once the reports of the files that they name are printed.
+    ensures usage { result ≡ STATUS_USAGE → IsRefused (map string_bytes words.now) }
+    ensures done { result ≡ 0 → IsRefused (map string_bytes words.now) ⊎ WritesRun (length (files_named (map string_bytes words.now))) (W.contents out.old) (W.contents out.new) }
+    // Of the words that are refused, only those that ask for help are done.
+    ensures help { IsRefused (map string_bytes words.now) → result ≡ 0 → AsksForText (map string_bytes words.now) }
 {
     match options_of(alloc, words) {
         Ok(options) => {
@@ -55,7 +62,8 @@ pub fn serve<R: Files + Threads + Wait, W: Write, E: Write>(
 /// The text of the command line's fault, or the help.
 fn serve_error<W: Write, E: Write>(error: &Error, out: &mut W, faults: &mut E) -> u8
     ensures memory { kind_of error.now ≡ kinds.OutOfMemory → result ≡ STATUS_SYSTEM }
-    ensures help { kind_of error.now ≡ kinds.DisplayHelp → (result ≡ 0) ⊎ (result ≡ STATUS_SYSTEM) }
+    ensures help { result ≡ 0 → IsForOutput (kind_of error.now) }
+    ensures mistake { (IsForOutput (kind_of error.now) → ⊥) → (result ≡ STATUS_USAGE) ⊎ (result ≡ STATUS_SYSTEM) }
     ensures status { (result ≡ 0) ⊎ (result ≡ STATUS_USAGE) ⊎ (result ≡ STATUS_SYSTEM) }
     ensures nothing { result ≡ STATUS_USAGE → out.new ≡ out.old }
 {

@@ -195,6 +195,10 @@ fn long_files(rt: HostRuntime) -> Result<(), Fail> {
         fs::write(&rt, "long.grub", text.as_slice())?;
         assert!(rt; serves(&rt, rt.alloc(), ["long.grub"].as_slice(), 1, "", fault)?);
     }
+    // Too many files are too long before they are too many.
+    let words = ["long.grub"; 65];
+    let fault = "grubrun: long.grub: 44 FileTooLong\n";
+    assert!(rt; serves(&rt, rt.alloc(), words.as_slice(), 1, "", fault)?);
     fs::remove_file(&rt, "long.grub")?;
     Ok(())
 }

@@ -250,6 +250,10 @@ fn too_many(rt: HostRuntime) -> Result<(), Fail> {
     }
     assert_eq!(rt; fault_of(alloc, &[&text])?, None);
 
+    let mut more = text.clone()?;
+    more.extend_from_slice(b"task 256 1 1\n")?;
+    assert_eq!(rt; fault_of(alloc, &[&more])?, at(Kind::OutOfRange, 0, 259));
+
     // The 257th task is out of range, though its name was declared before.
     text.extend_from_slice(b"task 0 1 1\n")?;
     assert_eq!(rt; fault_of(alloc, &[&text])?, at(Kind::OutOfRange, 0, 259));

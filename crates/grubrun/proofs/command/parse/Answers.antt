@@ -6,8 +6,8 @@ use Rattle.grubrun.specs.Rounds.{rounds_id}
 use Rattle.grubrun.proofs.RoundsLemmas.{rounds_read}
 use Rattle.grubrun.proofs.command.parse.Goals as goal
 
-pub returns : goal.returns
-returns c =
+pub returns-clause-rounds : goal.returns-clause-rounds
+returns-clause-rounds c =
     let m = c.in_ok-matches.matches in
     let r = c.get_one-rounds.result in
     go (one_text (found_of m) rounds_id) refl
@@ -15,7 +15,7 @@ returns c =
     go : (o : Option (List ℕ)) → one_text (found_of c.in_ok-matches.matches) rounds_id ≡ o → IfSome c.get_one-rounds.result (λ n. 1 ≤ n)
     go None none = rw (c.get_one-rounds.ensures.none none) tt
     go (Some t) some =
-        let read = rounds_read c.in_ok-command.field-0 c.in_ok-matches.matches c.in_ok-matches.ensures.parsed c.in_ok-command.ensures t some in
+        let read = rounds_read c.in_ok-command.field-0 c.in_ok-matches.matches c.in_ok-matches.ensures.parsed c.in_ok-command.ensures.rounds t some in
         let one = c.get_one-rounds.ensures.value t some in
         let got = signed_reads _ (λ bs r. ParsesUnsigned 16 10 bs r × ExplainsUnsignedError 10 bs r × HasUnsignedDigitsIfOk bs r) 16 1 65535 read.0 c.get_one-rounds.result (rw read.1 at one) (λ u x g. g.0) (omega arith) read.2 in
         rw got.1 got.2
