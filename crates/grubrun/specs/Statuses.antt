@@ -1,6 +1,8 @@
 -- What the program's status tells: which fault it is of, and what was written.
 use Rattle.std.specs.Prelude.{◌≡◌, ℕ, List, length, Option}
 use Rattle.grub_trace.specs.declared.fault.TraceFault.TheVariants as trace
+use Rattle.grub_trace.specs.FirstFault.{IsFault}
+use Rattle.grub_trace.specs.declared.fault.Kind.{Kind}
 use Rattle.grub_run.specs.Written.{WritesText, WritesPrefix}
 use Rattle.grub_run.specs.declared.fault.GrubFault.{GrubFault}
 use Rattle.grub_run.specs.declared.fault.GrubFault.TheVariants as run
@@ -20,6 +22,10 @@ run_status (run.Trace trace.NoMemory) = 3
 run_status (run.Run fault) = 3
 run_status (run.Text fault) = 3
 run_status run.WriteFault = 3
+
+-- one of these files has a fault
+abbrev pub HasFault : List (List ℕ) → Type 0
+HasFault files = (k : Kind) × (f : ℕ) × (n : ℕ) × IsFault files k f n
 
 -- the reports of a run of so many files were written, and nothing else
 abbrev pub WritesReports : ℕ → ℕ → Option (List ℕ) → Option (List ℕ) → Type 0

@@ -1,13 +1,13 @@
 //! The program over its words and two writers.
 
-ghost use Rattle.std.specs.Prelude.{◌≡◌, ◌≤◌, ◌⊎◌, [], length, map, unwrap_or, codes, string_bytes, vec_len, IfOk};
+ghost use Rattle.std.specs.Prelude.{◌≡◌, ◌≤◌, ◌⊎◌, [], length, map, unwrap_or, codes, string_bytes, vec_len, IfOk, IfErr, slice_get, Some, ℕ};
 ghost use Rattle.clap.specs.Values.{kind_of};
 ghost use Rattle.clap.specs.Words.{all_of, fault_of, found_of, rows_of};
 ghost use Rattle.clap.specs.declared.error.kind.ErrorKind.TheVariants as kinds;
 ghost use Rattle.grub_run.specs.Written.{WritesText, WritesPrefix};
 ghost use Rattle.grub_trace.specs.Reading.{contents};
 ghost use Rattle.grubrun.specs.CommandLine.{AsksForText, IsForOutput, IsRefused, files_named};
-ghost use Rattle.grubrun.specs.Statuses.{file_status, run_status, WritesRun, WritesReports, WritesBeginning};
+ghost use Rattle.grubrun.specs.Statuses.{file_status, run_status, HasFault, WritesRun, WritesReports, WritesBeginning};
 
 use crate::command::{Options, options_of};
 use crate::fault::FileFault;
@@ -110,6 +110,7 @@ fn read_all_files<'a, R: Files>(
     paths: &[&'a str],
 ) -> Result<Vec<Vec<u8>>, (&'a str, FileFault)>
     ensures each { IfOk result (λ files. vec_len files ≡ length paths.now) }
+    ensures path { IfErr result (λ e. (i : ℕ) × (slice_get paths.now i ≡ Some e.0)) }
 {
     let mut files = Vec::new(alloc);
     for path in paths {
@@ -135,6 +136,7 @@ fn serve_run<R: Threads + Wait, W: Write, E: Write>(
     faults: &mut E,
 ) -> u8
     ensures status { (result ≡ 0) ⊎ (result ≡ STATUS_FILE) ⊎ (result ≡ STATUS_SYSTEM) }
+    ensures fault { result ≡ STATUS_FILE → HasFault (contents files.now) }
     ensures done { result ≡ 0 → WritesText options.now.tries (contents files.now) (W.contents out.old) (W.contents out.new) }
     ensures nothing { result ≡ STATUS_FILE → out.new ≡ out.old }
     ensures failed { result ≡ STATUS_SYSTEM → (out.new ≡ out.old) ⊎ WritesPrefix options.now.tries (contents files.now) (W.contents out.old) (W.contents out.new) }
