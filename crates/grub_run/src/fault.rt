@@ -27,6 +27,11 @@ pub enum GrubFault {
 struct Placeless<'a>(&'a TraceFault);
 
 impl fmt::Display for Placeless<'_> {
+    ghost use Rattle.std.specs.Prelude.{Some};
+    ghost use Rattle.grub_run.specs.Messages.{placeless_text};
+
+    ghost output = { λ p. Some (placeless_text p.0.now) };
+
     fn fmt<W: fmt::Write>(&self, f: &mut fmt::Formatter<W>) -> fmt::Result {
         let fault = self.0;
         match fault {
