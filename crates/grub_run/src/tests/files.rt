@@ -1,0 +1,141 @@
+//! Event files and their reports.
+
+pub const DOCUMENTATION: &str = "\
+grub 1
+queue 1048576 0
+task T1 4 8
+task T2 4 8
+at 0 join T1
+at 0 join T2
+at 0 run T1 2
+at 2 block T1
+at 2 run T2 2
+at 4 run T2 4
+at 8 wake T1
+at 8 read
+";
+
+pub const DOCUMENTATION_REPORT: &str = "\
+runqueue 0
+at 0 join T1: joined q=4 d=8
+at 0 join T2: joined q=4 d=8
+at 0 run T1 2: charged dq=2 k=0 q=2 d=8
+at 2 block T1: waiting ticket=1 z=4
+at 2 run T2 2: charged dq=2 k=0 q=2 d=8
+at 4 timer T1 1: retired
+at 4 run T2 4: charged dq=2 k=1 q=4 d=16
+at 8 wake T1: woken q=4 d=16
+at 8 read: running=1048576 this=1048576
+close running=1048576 this=1048576
+";
+
+/// The first file.
+pub const FIRST: &str = "\
+grub 1
+queue 1048576 0
+task A 4 8
+at 0 join A
+at 0 block A
+at 0 read
+at 3 wake A
+at 3 read
+";
+
+pub const FIRST_REPORT: &str = "\
+runqueue 0
+at 0 join A: joined q=4 d=8
+at 0 block A: asleep
+at 0 read: running=0 this=524288
+at 3 wake A: woken q=4 d=11
+at 3 read: running=524288 this=524288
+close running=524288 this=524288
+";
+
+/// A task leaves and exits.
+pub const LEAVES: &str = "\
+grub 1
+queue 1048576 0
+task T1 4 8
+task T2 4 8
+at 0 join T1
+at 0 join T2
+at 0 run T1 2
+at 2 block T1
+at 2 run T2 2
+at 2 leave T1
+at 2 exit T1
+at 2 read
+";
+
+pub const LEAVES_REPORT: &str = "\
+runqueue 0
+at 0 join T1: joined q=4 d=8
+at 0 join T2: joined q=4 d=8
+at 0 run T1 2: charged dq=2 k=0 q=2 d=8
+at 2 block T1: waiting ticket=1 z=4
+at 2 run T2 2: charged dq=2 k=0 q=2 d=8
+at 2 leave T1: left 0
+at 2 exit T1: ended
+at 2 read: running=524288 this=524288
+close running=524288 this=524288
+";
+
+/// A timer that is due long after.
+pub const FAR_TIMER: &str = "\
+grub 1
+queue 1048576 0
+task A 100 1000
+at 0 join A
+at 0 run A 50
+at 50 block A
+at 499 read
+at 756 read
+";
+
+pub const FAR_TIMER_REPORT: &str = "\
+runqueue 0
+at 0 join A: joined q=100 d=1000
+at 0 run A 50: charged dq=50 k=0 q=50 d=1000
+at 50 block A: waiting ticket=1 z=500
+at 499 read: running=104857 this=104857
+at 500 timer A 1: retired
+at 756 read: running=0 this=104857
+close running=0 this=104857
+";
+
+/// New reservations.
+pub const RETUNES: &str = "\
+grub 2
+queue 1048576 0
+task A 4 8
+at 0 retune A 2 8
+at 0 join A
+at 0 block A
+at 1 retune A 6 8
+at 1 read
+at 2 wake A
+at 2 retune A 4 8
+";
+
+pub const RETUNES_REPORT: &str = "\
+runqueue 0
+at 0 retune A 2 8: retuned
+at 0 join A: joined q=2 d=8
+at 0 block A: asleep
+at 1 retune A 6 8: retuned
+at 1 read: running=0 this=786432
+at 2 wake A: woken q=6 d=10
+at 2 retune A 4 8: still-active
+close running=786432 this=786432
+";
+
+/// No events.
+pub const NO_EVENTS: &str = "\
+grub 1
+queue 1 0
+";
+
+pub const NO_EVENTS_REPORT: &str = "\
+runqueue 0
+close running=0 this=0
+";

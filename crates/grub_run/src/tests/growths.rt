@@ -1,0 +1,56 @@
+//! What a run answers where a growth is refused.
+
+use super::files::{DOCUMENTATION, DOCUMENTATION_REPORT, FIRST, FIRST_REPORT};
+use super::files_of;
+use crate::{GrubFault, run_texts};
+use grub_trace::{TextFault, TraceFault};
+use grub_workers::RunFault;
+use std::alloc::Global;
+use std::process::Abort;
+use std::sync::Wait;
+use std::thread::Threads;
+
+/// Expects that a run of this file writes this text, or that it answers a refusal and writes nothing.
+fn expect_text_or_refusal<R: Abort + Threads + Wait>(
+    rt: &R,
+    alloc: Global,
+    file: &str,
+    text: &str,
+) {
+    let Ok(files) = files_of(alloc, [file].as_slice()) else {
+        return;
+    };
+    let Ok(mut out) = Vec::with_capacity(alloc, 1000) else {
+        return;
+    };
+    match run_texts(rt, alloc, &files, 8, 64, &mut out) {
+        Ok(()) => assert_eq!(rt; out.as_slice(), text.as_bytes()),
+        Err(fault) => {
+            assert!(rt; is_refusal(fault));
+            assert!(rt; out.is_empty());
+        }
+    }
+}
+
+/// Whether the fault is a want of memory. A refused start of a thread may be answered as such.
+fn is_refusal(fault: GrubFault) -> bool {
+    match fault {
+        GrubFault::Trace(fault) => fault == TraceFault::NoMemory,
+        GrubFault::Run(RunFault::NoMemory | RunFault::Spawn) => true,
+        GrubFault::Text(TextFault::NoMemory) => true,
+        GrubFault::WriteFault => false,
+    }
+}
+
+// The next two pass with ample memory, and with any one of their growths refused: `scripts/refused-growths.sh` runs them
+// so once for each.
+
+#[test]
+fn refused_growths_of_the_first_file(rt: HostRuntime) {
+    expect_text_or_refusal(&rt, rt.alloc(), FIRST, FIRST_REPORT);
+}
+
+#[test]
+fn refused_growths_of_the_documentation(rt: HostRuntime) {
+    expect_text_or_refusal(&rt, rt.alloc(), DOCUMENTATION, DOCUMENTATION_REPORT);
+}
