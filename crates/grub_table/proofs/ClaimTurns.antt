@@ -146,7 +146,7 @@ module _ {S : Type 0} (x : Share) (s : State S View) (id : ℕ) (c : List (ℕ �
           d,
           x.marks,
           decided x s id c k at t op rec has p fits is i (get_or s.words i 0) k.grips (stored_of rec) mine (λ u _. refl) g.3 (subst (Written T (set b t p.0) k.grips) (sym (set-get_or s.words i 0)) (kept_words readings)),
-          (refl, (decided_told x s id c k at t op rec has p fits is (stored_of rec), refl), ap (λ z. record_at z t) (book_called x s id c k at t op rec has p fits is) ∙ record_here b t p.0 below),
+          (refl, (decided_told x s id c k at t op rec has p fits is (stored_of rec), refl, (k.history, refl, record_is)), ap (λ z. record_at z t) (book_called x s id c k at t op rec has p fits is) ∙ record_here b t p.0 below),
         )
 
   -- load-server
@@ -232,7 +232,7 @@ module _ {S : Type 0} (x : Share) (s : State S View) (id : ℕ) (c : List (ℕ �
           Decided t rec p.0 (stored_of rec),
           x.marks,
           decided x s id c k at t op rec has p fits steps (queue_word_at r) new k.grips (stored_of rec) mine (λ u _. refl) g.3 written,
-          (refl, (now, sym found ∙ k.written.queues r inside, fit_now, (decided_told x s id c k at t op rec has p fits steps (stored_of rec), refl))),
+          (refl, (now, sym found ∙ k.written.queues r inside, fit_now, (decided_told x s id c k at t op rec has p fits steps (stored_of rec), refl, (k.history, refl, record_is)))),
         )
 
     pub change_queue_out : (old new : ℕ) (then : Reading) → old ≡ queue_word then → QueueFits then → new ≡ queue_word (shifted_of then r rec (outcome T r then rec op).0)
@@ -267,7 +267,7 @@ module _ {S : Type 0} (x : Share) (s : State S View) (id : ℕ) (c : List (ℕ �
         d,
         x.marks,
         decided x s id c k at t op rec has p fits steps j stored grips st here (put_else k.grips t g) (only_put k.grips t g x.number (holds x s id c k at t op rec has).3) written,
-        under x.hold t op rec (λ t op rec. (z.marks ≡ x.marks) × Decides T x t op rec (settled_quietly rec op) (record { server = stored; params = (stored_of rec).params }) z) has (refl, (decided_told x s id c k at t op rec has p fits steps st, refl)),
+        under x.hold t op rec (λ t op rec. (z.marks ≡ x.marks) × Decides T x t op rec (settled_quietly rec op) (record { server = stored; params = (stored_of rec).params }) z) has (refl, (decided_told x s id c k at t op rec has p fits steps st, refl, (k.history, refl, record_is))),
       )
     where
       one_three : 1 < 3

@@ -37,7 +37,7 @@ use Rattle.grub_table.specs.declared.view.Stored.{Stored}
 use Rattle.grub_table.specs.declared.view.Terms.{Terms}
 use Rattle.grub_table.specs.Between.{TheSeat, share_on, IsSeatOf, HoldsFor, HoldsMade, Tells, Leaves, SawQueue, Exchanged, GivenUp, Concluded}
 use Rattle.grub_table.specs.Calls.{seen, marks, claim_share, claim_seen, claim_queue, claim_changes_sum, IsClaimOf, IsDone, IsLost, IsFinished, IsCancelled}
-use Rattle.grub_table.specs.Histories.{IsHistory, Grows, Finishes, record_in, reading_in}
+use Rattle.grub_table.specs.Histories.{IsHistory, Grows, Finishes, WasBefore, record_in, reading_in}
 use Rattle.grub_table.specs.Layout.{stored_of}
 use Rattle.grub_table.specs.Marks.{AreLawful, MarksGo}
 use Rattle.grub_table.specs.Tellings.{early, is_decided_at_load, outcome, settled_quietly, Sees, Calls, Decides, IsReadingFor, LoadedQueueAs, SettledServer, StoredServer, StoredParams}
@@ -169,7 +169,7 @@ module _ (s : Shared) (t : ℕ) (op : Op) (rec : Record) (r : ℕ) (now : Readin
       pub tried_won : Tells s (Exchanged r now true) mid new → Tells s (Tried r (Some q)) old new
       tried_won won =
           let w = won.of t op rec holds_still.hold in
-          made q new is won.seat (won.number ∙ saw.number) (w.0 ∙ told.0) (calls_after T x m y t op p.1 saw.number still.0 w.1.0, w.1.1)
+          made q new is won.seat (won.number ∙ saw.number) (w.0 ∙ told.0) (calls_after T x m y t op p.1 saw.number still.0 w.1.0, w.1.1, subst (λ n. WasBefore T t rec (Call n t op p.1) y.seen) saw.number w.1.2)
 
       pub tried_lost : (changes_sum rec op ≡ false → is_charge op ≡ true) → Tells s (Exchanged r now false) mid new → Tells s (Tried r None) old new
       tried_lost sums lost =
@@ -209,8 +209,8 @@ module _ (s : Shared) (c : Claim) (is : IsClaimOf s c) where
 
   -- the call is made, and then the task is given back
   pub done : (mid : TheSeat) (reply : Reply) (tries : ℕ) (q : Pass) → q.number ≡ c.number → (share_on mid).number ≡ mine.number → (share_on mid).marks ≡ mine.marks → Calls s.terms mine c.task c.op reply (share_on mid)
-      → Leaves s (Concluded c.task) mid q → is_under_claim reply ≡ true → (claim_changes_sum c ≡ true → 1 ≤ tries) → IsDone s c tries q reply
-  done mid reply tries q number_is number known calls leaves claimed tried =
+      → WasBefore s.terms c.task c.held (Call mine.number c.task c.op reply) (share_on mid).seen → Leaves s (Concluded c.task) mid q → is_under_claim reply ≡ true → (claim_changes_sum c ≡ true → 1 ≤ tries) → IsDone s c tries q reply
+  done mid reply tries q number_is number known calls was leaves claimed tried =
       let f : Finishes s.terms c.number mine.seen (Call c.number c.task c.op reply) (seen q) =
       subst (λ (p : ℕ × List Event). Finishes s.terms p.0 mine.seen (Call p.0 c.task c.op reply) p.1) (λ i. (c.numbered i, sym leaves.of.0 i)) calls in
       let g : MarksGo s.terms.passes c.number mine.marks (marks q) (Given c.number c.task ∷ []) =
@@ -219,6 +219,7 @@ module _ (s : Shared) (c : Claim) (is : IsClaimOf s c) where
         of = record { home = leaves.home; terms = leaves.terms; history = f.history; lawful = g.lawful };
         number = number_is;
         finishes = f;
+        before = subst (λ (p : ℕ × List Event). WasBefore s.terms c.task c.held (Call p.0 c.task c.op reply) p.1) (λ i. (c.numbered i, sym leaves.of.0 i)) was;
         marked = g;
         claimed = claimed;
         tried = tried;
@@ -284,6 +285,9 @@ module _ (s : Shared) (c : Claim) (is : IsClaimOf s c) where
     pub tried_calls : Calls s.terms (claim_share c) c.task c.op p.1 (share_on mid)
     tried_calls = tried_it.1.0.0
 
+    pub tried_was : WasBefore s.terms c.task c.held (Call (claim_share c).number c.task c.op p.1) (share_on mid).seen
+    tried_was = tried_it.1.0.2
+
     pub tried_made : HoldsMade s mid c.task p.0 (stored_of c.held)
     tried_made = record { seat_of = tells.seat; task = is.task; hold = (c.held, tried_it.1.0.1) }
 
@@ -316,6 +320,9 @@ module _ (s : Shared) (c : Claim) (is : IsClaimOf s c) where
       pub quiet_calls : Calls s.terms (claim_share c) c.task c.op p.1 (share_on mid)
       quiet_calls = settled_it.1.0
 
+      pub quiet_was : WasBefore s.terms c.task c.held (Call (claim_share c).number c.task c.op p.1) (share_on mid).seen
+      quiet_was = settled_it.1.2
+
       pub quiet_made : HoldsMade s mid c.task p.0 (half_stored c.held p.0)
       quiet_made = record { seat_of = tells.seat; task = is.task; hold = (c.held, settled_it.1.1) }
 
@@ -327,6 +334,7 @@ lost_done s c d n m q reply a b =
       number = b.number ∙ same.number;
       finishes = grows_finishes s.terms c.number (claim_seen c) (claim_seen d) (Call c.number c.task c.op reply) (seen q) a.grows
           (subst (λ (p : ℕ × ℕ × Op). Finishes s.terms p.0 (claim_seen d) (Call p.0 p.1 p.2 reply) (seen q)) (λ i. (same.number i, same.task i, same.op i)) b.finishes);
+      before = subst (λ (p : ℕ × ℕ × Op × Record). WasBefore s.terms p.1 p.3 (Call p.0 p.1 p.2 reply) (seen q)) (λ i. (same.number i, same.task i, same.op i, same.held i)) b.before;
       marked = subst (λ (p : ℕ × ℕ × List Mark). MarksGo s.terms.passes p.0 p.2 (marks q) (Given p.0 p.1 ∷ [])) (λ i. (same.number i, same.task i, same.marks i)) b.marked;
       claimed = b.claimed;
       tried = λ sum. let one = b.tried (ap (λ (p : Record × Op). changes_sum p.0 p.1) (λ i. (same.held i, same.op i)) ∙ sum) in omega (arith, one);
@@ -349,9 +357,9 @@ tried_more s c d n m (Held e) a b = lost_lost s c d e n m a b
 
 -- a call that was made was made within any more tries
 pub done_within : (s : Shared) (c : Claim) (n m : ℕ) (q : Pass) (reply : Reply) → n ≤ m → IsDone s c n q reply → IsDone s c m q reply
-done_within s c n m q reply le d = record { of = d.of; number = d.number; finishes = d.finishes; marked = d.marked; claimed = d.claimed; tried = λ sum. let one = d.tried sum in omega (arith, one, le) }
+done_within s c n m q reply le d = record { of = d.of; number = d.number; finishes = d.finishes; before = d.before; marked = d.marked; claimed = d.claimed; tried = λ sum. let one = d.tried sum in omega (arith, one, le) }
 
 -- an op that changes no sum needs no try
 pub quiet_within : (s : Shared) (c : Claim) (n m : ℕ) (r : Finished) → claim_changes_sum c ≡ false → IsFinished s c n r → IsFinished s c m r
-quiet_within s c n m (Done q reply) quiet d = record { of = d.of; number = d.number; finishes = d.finishes; marked = d.marked; claimed = d.claimed; tried = λ sum. is_not sum quiet }
+quiet_within s c n m (Done q reply) quiet d = record { of = d.of; number = d.number; finishes = d.finishes; before = d.before; marked = d.marked; claimed = d.claimed; tried = λ sum. is_not sum quiet }
 quiet_within s c n m (Held e) quiet l = is_not l.sum quiet

@@ -31,7 +31,7 @@ use Rattle.grub_table.specs.declared.pass.CloseWhy.{CloseWhy}
 use Rattle.grub_table.specs.declared.pass.CloseWhy.TheVariants.{Missing, NoMemory}
 use Rattle.grub_table.specs.Marks.{AreLawful, MarksGo, marks_of}
 use Rattle.grub_table.specs.Layout.{shown}
-use Rattle.grub_table.specs.Histories.{Every, IsHistory, Grows, Finishes, record_in, reading_in}
+use Rattle.grub_table.specs.Histories.{Every, IsHistory, Grows, Finishes, WasBefore, record_in, reading_in}
 use Rattle.grub_table.specs.Views.{first_of}
 use Rattle.grub_table.specs.Tellings.{early, IsHeldByOther, WasClaimedWord}
 
@@ -241,11 +241,12 @@ IsStarted s p t op (Busy q sighting) = IsBusy s p t q sighting
 abbrev pub claim_changes_sum : Claim → Bool
 claim_changes_sum c = changes_sum (claim_record c) (claim_op c)
 
--- `finish` made the call; with no try it makes only one that changes no sum
+-- `finish` made the call on the record that the claim names; with no try it makes only one that changes no sum
 pub record IsDone (s : Shared) (c : Claim) (tries : ℕ) (q : Pass) (reply : Reply) : Type 0 where
   pub of : IsPassOf s q
   pub number : number_of q ≡ claim_number c
   pub finishes : Finishes (terms s) (claim_number c) (claim_seen c) (Call (claim_number c) (claim_task c) (claim_op c) reply) (seen q)
+  pub before : WasBefore (terms s) (claim_task c) (claim_record c) (Call (claim_number c) (claim_task c) (claim_op c) reply) (seen q)
   pub marked : MarksGo (terms s).passes (claim_number c) (claim_marks c) (marks q) (Given (claim_number c) (claim_task c) ∷ [])
   pub claimed : is_under_claim reply ≡ true
   pub tried : claim_changes_sum c ≡ true → 1 ≤ tries

@@ -24,6 +24,10 @@ record_in T h t = record_at (book_of T.setup h) t
 abbrev pub reading_in : Terms → List Event → ℕ → Reading
 reading_in T h r = reading_of (book_of T.setup h) r
 
+-- the history ends with this event, and just before it the task's record was x
+abbrev pub WasBefore : Terms → ℕ → Record → Event → List Event → Type 0
+WasBefore T t x e h = (before : List Event) × (h ≡ before ++ e ∷ []) × (record_in T before t ≡ x)
+
 -- the history went on, with no event of the pass i
 pub record Grows (T : Terms) (i : ℕ) (before after : List Event) : Type 0 where
   pub history : IsHistory T after

@@ -25,7 +25,7 @@ use Rattle.grub_table.specs.declared.view.Share.{Share}
 use Rattle.grub_table.specs.declared.view.Hold.TheVariants.{Free, Undecided, Decided}
 use Rattle.grub_table.specs.Marks.{MarksGo, holder_of}
 use Rattle.grub_table.specs.Layout.{queue_word_at, shown, stored_of}
-use Rattle.grub_table.specs.Histories.{Grows, Finishes, record_in, reading_in}
+use Rattle.grub_table.specs.Histories.{Grows, Finishes, WasBefore, record_in, reading_in}
 use Rattle.grub_table.specs.Views.{alone, first_of, Sat, StandTogether}
 
 -- the reply that the server decides, where the place, the count and the ticket decide none: a timer that is early
@@ -113,9 +113,9 @@ LoadedServer found T x y = (t : ℕ) (op : Op) (rec : Record) → x.hold ≡ Und
 abbrev pub outcome : Terms → ℕ → Reading → Record → Op → Record × Reply
 outcome T r now rec op = settled rec (queue_at T.setup r) now op
 
--- the call was made with this outcome, and nothing is stored yet
+-- the call was made with this outcome, on the record that the claim is held for, and nothing is stored yet
 abbrev pub Decides : Terms → Share → ℕ → Op → Record → Record × Reply → Stored → Share → Type 0
-Decides T x t op rec p stored y = Calls T x t op p.1 y × (y.hold ≡ Decided t rec p.0 stored)
+Decides T x t op rec p stored y = Calls T x t op p.1 y × (y.hold ≡ Decided t rec p.0 stored) × WasBefore T t rec (Call x.number t op p.1) y.seen
 
 -- a runqueue that a claim is about has this reading
 pub record IsReadingFor (T : Terms) (r : ℕ) (rec : Record) (now : Reading) : Type 0 where

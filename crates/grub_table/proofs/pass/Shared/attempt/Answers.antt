@@ -4,9 +4,9 @@ use Rattle.grub_book.specs.declared.event.Event.TheVariants.{Call}
 use Rattle.grub_book.specs.declared.reply.Reply.{Reply}
 use Rattle.grub_words.proofs.Bounds.{ServerFits-kept}
 use Rattle.grub_table.specs.Calls.{claim_share}
-use Rattle.grub_table.specs.Histories.{Finishes}
+use Rattle.grub_table.specs.Histories.{Finishes, WasBefore}
 use Rattle.grub_table.specs.Layout.{stored_of}
-use Rattle.grub_table.proofs.Tries.{done, lost, stored_server, tried_marks, tried_calls, tried_made, tried_kept, tried_claimed}
+use Rattle.grub_table.proofs.Tries.{done, lost, stored_server, tried_marks, tried_calls, tried_was, tried_made, tried_kept, tried_claimed}
 use Rattle.grub_table.proofs.pass.Shared.attempt.Goals as goal
 
 pub invariant_of-result : goal.invariant_of-result
@@ -43,6 +43,7 @@ returns c =
     let k = stored_server s q.task c.in-Some.next (stored_of q.held) c.decide.new.seat c.store_server.new.seat (tried_made s q of c.decide.new.seat p tried) _ c.store_server.ensures in
     done s q of c.store_server.new.seat c.in-Some.reply 1 _ c.hand_back-pass.ensures.number (c.store_server.ensures.number ∙ tried.number) (k.1 ∙ tried_marks s q of c.decide.new.seat p tried)
     (subst (λ h. Finishes s.terms (claim_share q).number (claim_share q).seen (Call (claim_share q).number q.task q.op c.in-Some.reply) h) (sym k.0) (tried_calls s q of c.decide.new.seat p tried))
+    (subst (λ h. WasBefore s.terms q.task q.held (Call (claim_share q).number q.task q.op c.in-Some.reply) h) (sym k.0) (tried_was s q of c.decide.new.seat p tried))
     c.hand_back-pass.ensures.leaves (tried_claimed s q of c.decide.new.seat p tried) (λ _. one)
   where
     one : 1 ≤ 1

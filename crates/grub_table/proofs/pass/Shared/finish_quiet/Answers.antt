@@ -1,5 +1,5 @@
 use Rattle.std.proofs.Common.{◌∙◌}
-use Rattle.grub_table.proofs.Tries.{done, quiet_kept, quiet_claimed, quiet_marks, quiet_calls, quiet_made, is_not}
+use Rattle.grub_table.proofs.Tries.{done, quiet_kept, quiet_claimed, quiet_marks, quiet_calls, quiet_was, quiet_made, is_not}
 use Rattle.grub_book.specs.declared.event.Reading.{Reading}
 use Rattle.grub_table.proofs.pass.Shared.finish_quiet.Goals as goal
 
@@ -20,6 +20,7 @@ returns c tries =
     done s q of c.settle_server.new.seat _ tries _ c.hand_back-pass.ensures.number c.settle_server.ensures.number
     (quiet_marks s q of c.settle_server.new.seat c.queue.result unseen c.settle-reply.result c.settle-reply.ensures c.requires.sum c.requires.charge c.settle_server.ensures)
     (quiet_calls s q of c.settle_server.new.seat c.queue.result unseen c.settle-reply.result c.settle-reply.ensures c.requires.sum c.requires.charge c.settle_server.ensures)
+    (quiet_was s q of c.settle_server.new.seat c.queue.result unseen c.settle-reply.result c.settle-reply.ensures c.requires.sum c.requires.charge c.settle_server.ensures)
     c.hand_back-pass.ensures.leaves
     (quiet_claimed s q of c.settle_server.new.seat c.queue.result unseen c.settle-reply.result c.settle-reply.ensures c.requires.sum c.requires.charge)
     (λ sum. is_not sum c.requires.sum)
