@@ -15,8 +15,8 @@ use Rattle.grub_book.specs.declared.event.Reading.{Reading}
 use Rattle.grub_book.specs.declared.op.Op.{Op}
 use Rattle.grub_book.specs.declared.op.Op.TheVariants.{Join, Wake, Block, Leave, Timer, Exit, Charge, Retune}
 use Rattle.grub_book.specs.declared.reply.Reply.{Reply}
-use Rattle.grub_book.specs.declared.reply.Reply.TheVariants.{Joined, Waiting, Asleep, Retired, Retuned, Elsewhere, Worn, Stale, Early, Full}
-use Rattle.grub_book.proofs.Cases.{of_either}
+use Rattle.grub_book.specs.declared.reply.Reply.TheVariants.{Joined, Waiting, Asleep, Retired, Retuned, Elsewhere, Worn, Stale, Full}
+use Rattle.grub_book.proofs.Cases.{of_either, of_timer}
 use Rattle.grub_book.proofs.Soundness.{moved}
 
 -- it gives no reply that is given under a claim
@@ -95,7 +95,7 @@ settled_under queue now x (Block r m) =
 settled_under queue now x Leave = refl
 settled_under queue now x (Timer ticket m) =
     let retires : Record = record x { place = On (runqueue_of x.place (Timer ticket m)) Inactive } in
-    of_either (λ (m : Record × Reply). is_under_claim m.1 ≡ true) (nat_lt m (lag_moment x)) (x, Early (lag_moment x)) (retires, Retired) refl refl
+    of_timer (λ (m : Record × Reply). is_under_claim m.1 ≡ true) (nat_lt m (lag_moment x)) x (lag_moment x) (retires, Retired) refl refl
 settled_under queue now x Exit = refl
 settled_under queue now x (Retune q p) =
     let params : Reservation = record { runtime = q; period = p } in

@@ -20,7 +20,8 @@ use Rattle.grub_table.specs.Between.{TheSeat, share_on, IsSeatOf, HoldsFor, Hold
 use Rattle.grub_table.specs.declared.view.Stored.{Stored}
 use Rattle.grub_table.specs.Histories.{Finishes, record_in, reading_in}
 use Rattle.grub_table.specs.Layout.{queue_word_at, stored_of}
-use Rattle.grub_table.specs.Tellings.{Turns, OfQueue, outcome, is_decided_at_load, early, DecidesIf, Decides, Looked, LoadedParams, LoadedServer, LoadedQueue, LoadedQueueAs, ChangedQueue, GaveClaim, Sees, IsReadingFor}
+use Rattle.grub_book.specs.Step.{early}
+use Rattle.grub_table.specs.Tellings.{Turns, OfQueue, outcome, is_decided_at_load, DecidesIf, Decides, Looked, LoadedParams, LoadedServer, LoadedQueue, LoadedQueueAs, ChangedQueue, GaveClaim, Sees, IsReadingFor}
 use Rattle.grub_table.specs.Views.{alone}
 use Rattle.grub_table.proofs.Turns.{under}
 

@@ -10,16 +10,18 @@ use Rattle.grub_bw.specs.Bandwidth.{Capacity, Reservation, bandwidth_of}
 use Rattle.grub_book.specs.Machine.{queue_at}
 use Rattle.grub_book.specs.Op.{IsOp}
 use Rattle.grub_book.specs.Sums.{Records, record_at, reading_of}
-use Rattle.grub_book.specs.Step.{refused, settled, step, runqueue_of, changes_sum, LooksAtQueue, Refuses, arrived, lag_moment, is_inactive}
+use Rattle.grub_book.specs.Step.{early, unless, refused, settled, step, runqueue_of, changes_sum, LooksAtQueue, Refuses, arrived, lag_moment, is_inactive}
 use Rattle.grub_book.specs.Totals.{Counts, shifted_of}
 use Rattle.grub_book.specs.declared.event.Event.TheVariants.{Call}
 use Rattle.grub_book.specs.declared.event.Reading.{Reading}
 use Rattle.grub_book.specs.declared.op.Op.{Op}
 use Rattle.grub_book.specs.declared.op.Op.TheVariants.{Join, Wake, Block, Leave, Timer, Exit, Charge, Retune}
-use Rattle.grub_book.specs.declared.place.Place.TheVariants.{Gone}
+use Rattle.grub_book.specs.declared.place.State.TheVariants.{Inactive}
+use Rattle.grub_book.specs.declared.place.Place.TheVariants.{Gone, On}
 use Rattle.grub_book.specs.declared.place.Record.{Record}
+use Rattle.grub_book.proofs.Cases.{of_timer}
 use Rattle.grub_book.specs.declared.reply.Reply.{Reply}
-use Rattle.grub_book.specs.declared.reply.Reply.TheVariants.{Early, Full, Joined, Retuned}
+use Rattle.grub_book.specs.declared.reply.Reply.TheVariants.{Full, Joined, Retired, Retuned}
 use Rattle.grub_book.proofs.Refusals.{settling, refused_same}
 use Rattle.grub_book.proofs.Readings.{step_unchanged, step_elsewhere}
 use Rattle.grub_book.proofs.Tallies.{running_le_this}
@@ -35,23 +37,15 @@ use Rattle.grub_table.specs.declared.view.View.{View}
 use Rattle.grub_table.specs.Layout.{queue_word_at, server_word_at, params_word_at, stored_of}
 use Rattle.grub_table.specs.Histories.{record_in, reading_in}
 use Rattle.grub_table.specs.Views.{alone, holding}
-use Rattle.grub_table.specs.Tellings.{early, is_decided_at_load, settled_quietly, outcome, Sees, Decides, DecidesIf, IsReadingFor, LoadedParams, LoadedServer, LoadedQueueAs, LoadedQueue, ChangedQueue, SettledServer}
+use Rattle.grub_table.specs.Tellings.{is_decided_at_load, settled_quietly, outcome, Sees, Decides, DecidesIf, IsReadingFor, LoadedParams, LoadedServer, LoadedQueueAs, LoadedQueue, ChangedQueue, SettledServer}
 use Rattle.grub_table.specs.Rule.{Grip, Grips, grip, Kept, Written}
 use Rattle.grub_table.proofs.Moves.{reading_fits}
 use Rattle.grub_table.proofs.Rows.{put, put_here, put_else, only_put, words_of, Shows, shows_held, set_server, written_same, written_queue, written_task}
 use Rattle.grub_table.proofs.Turns.{Out, book, is_sound, in_book, seen_told, stays_seen, under, holds, record_here, record_else, book_called, decided, decided_told}
 
 -- ---- which outcomes are decided early, or at the load of the runqueue's word
-timer_early : (b : Bool) (x : Record) (z : ℕ) (later : Record × Reply) (reply : Reply) → cond b (Some (Early z)) None ≡ Some reply → cond b (x, Early z) later ≡ (x, reply)
-timer_early true x z later reply is = ap (λ o. (x, reply_in o)) is
-  where
-    reply_in : Option Reply → Reply
-    reply_in None = Full
-    reply_in (Some r) = r
-timer_early false x z later reply is = absurd cc
-
 pub early_settled : (queue : Capacity) (now : Reading) (x : Record) (op : Op) (reply : Reply) → early x op ≡ Some reply → settled x queue now op ≡ (x, reply)
-early_settled queue now x (Timer ticket m) reply is = timer_early (nat_lt m (lag_moment x)) x (lag_moment x) _ reply is
+early_settled queue now x (Timer ticket m) reply is = ap (λ o. unless o x (record x { place = On (runqueue_of x.place (Timer ticket m)) Inactive }, Retired)) is
 early_settled queue now x (Join r m) reply is = absurd cc
 early_settled queue now x (Wake r m) reply is = absurd cc
 early_settled queue now x (Block r m) reply is = absurd cc
@@ -83,7 +77,7 @@ decided_at_load queue now x (Wake r m) is = absurd cc
 decided_at_load queue now x (Block r m) is = absent (not_if (nat_lt m (lag_moment x)) _ _ refl refl) is
 decided_at_load queue now x (Charge r dt) is = inr refl
 decided_at_load queue now x Leave is = absurd cc
-decided_at_load queue now x (Timer ticket m) is = absent (not_if (nat_lt m (lag_moment x)) _ _ refl refl) is
+decided_at_load queue now x (Timer ticket m) is = absent (of_timer (λ (k : Record × Reply). is_decided_at_load k.1 ≡ false) (nat_lt m (lag_moment x)) x (lag_moment x) _ refl refl) is
 decided_at_load queue now x (Retune q p) is =
     let params : Reservation = record { runtime = q; period = p } in
     let y : Record = record x { params = params; server = record { q = q; d = 0 } } in

@@ -4,7 +4,7 @@ use Rattle.grub_bw.specs.Bandwidth.{Reservation}
 use Rattle.grub_bw.specs.declared.server.Server.{Server}
 use Rattle.grub_book.specs.Op.{IsOp}
 use Rattle.grub_book.specs.Sound.{IsKept}
-use Rattle.grub_book.specs.Step.{count_most, refused, is_under_claim, lag_moment}
+use Rattle.grub_book.specs.Step.{early, count_most, refused, is_under_claim, lag_moment}
 use Rattle.grub_book.specs.declared.event.Event.TheVariants.{Call}
 use Rattle.grub_book.specs.declared.op.Op.{Op}
 use Rattle.grub_book.specs.declared.op.Op.TheVariants.{Join, Wake, Block, Leave, Timer, Exit, Charge, Retune}
@@ -32,7 +32,7 @@ use Rattle.grub_table.specs.Calls.{share_of, seen, marks, number_of, IsAnswered,
 use Rattle.grub_table.specs.Histories.{IsHistory, Grows, Finishes, record_in}
 use Rattle.grub_table.specs.Layout.{shown, stored_of}
 use Rattle.grub_table.specs.Marks.{AreLawful, MarksGo}
-use Rattle.grub_table.specs.Tellings.{early, Sees, Calls, CallsIf, DecidesIf, IsOthers, LoadedTask, TookClaim}
+use Rattle.grub_table.specs.Tellings.{Sees, Calls, CallsIf, DecidesIf, IsOthers, LoadedTask, TookClaim}
 use Rattle.grub_table.proofs.Between.{tells_as}
 use Rattle.grub_table.proofs.Growths.{grows_grows, grows_finishes}
 use Rattle.grub_table.proofs.Marks.{marks_both}

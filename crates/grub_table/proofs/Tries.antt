@@ -8,7 +8,7 @@ use Rattle.grub_book.specs.Op.{IsOp}
 use Rattle.grub_book.specs.Sums.{Records, record_at, reading_of}
 use Rattle.grub_book.specs.History.{HasChanged, book_of}
 use Rattle.grub_book.specs.Sound.{IsKept, IsSound}
-use Rattle.grub_book.specs.Step.{refused, settled, step, charged, changes_sum, is_under_claim, runqueue_of, LooksAtQueue}
+use Rattle.grub_book.specs.Step.{early, refused, settled, step, charged, changes_sum, is_under_claim, runqueue_of, LooksAtQueue}
 use Rattle.grub_book.specs.Totals.{shifted_of}
 use Rattle.grub_book.specs.declared.event.Event.{Event}
 use Rattle.grub_book.specs.declared.event.Event.TheVariants.{Call}
@@ -40,7 +40,7 @@ use Rattle.grub_table.specs.Calls.{seen, marks, claim_share, claim_seen, claim_q
 use Rattle.grub_table.specs.Histories.{IsHistory, Grows, Finishes, WasBefore, record_in, reading_in}
 use Rattle.grub_table.specs.Layout.{stored_of}
 use Rattle.grub_table.specs.Marks.{AreLawful, MarksGo}
-use Rattle.grub_table.specs.Tellings.{early, is_decided_at_load, outcome, settled_quietly, Sees, Calls, Decides, IsReadingFor, LoadedQueueAs, SettledServer, StoredServer, StoredParams}
+use Rattle.grub_table.specs.Tellings.{is_decided_at_load, outcome, settled_quietly, Sees, Calls, Decides, IsReadingFor, LoadedQueueAs, SettledServer, StoredServer, StoredParams}
 use Rattle.grub_table.specs.Tries.{is_charge, half_stored, Knows, TriedAs, Tried}
 use Rattle.grub_table.proofs.Growths.{grows_grows, grows_finishes, grows_none}
 use Rattle.grub_table.proofs.Moves.{sound}

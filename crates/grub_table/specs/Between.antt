@@ -3,7 +3,7 @@ use Rattle.std.specs.Prelude.{◌≡◌, ◌≢◌, ℕ, ◌<◌, Bool, true, fa
 use Rattle.atomic_table.specs.declared.shared.Seat.{Seat}
 use Rattle.grub_book.specs.Op.{IsOp}
 use Rattle.grub_book.specs.Sound.{IsKept}
-use Rattle.grub_book.specs.Step.{refused}
+use Rattle.grub_book.specs.Step.{early, refused}
 use Rattle.grub_bw.specs.Bandwidth.{Reservation}
 use Rattle.grub_bw.specs.declared.server.Server.{Server}
 use Rattle.grub_book.specs.declared.event.Event.TheVariants.{Look}
@@ -22,7 +22,7 @@ use Rattle.grub_table.specs.declared.view.View.{View}
 use Rattle.grub_words.specs.declared.task.TaskWord.{TaskWord}
 use Rattle.grub_table.specs.Histories.{Finishes, record_in, reading_in}
 use Rattle.grub_table.specs.Layout.{stored_of}
-use Rattle.grub_table.specs.Tellings.{Adds, CallsIf, Decides, DecidesIf, Gave, IsOthers, IsReadingFor, LoadedQueueAs, Sees, early, is_decided_at_load, outcome}
+use Rattle.grub_table.specs.Tellings.{Adds, CallsIf, Decides, DecidesIf, Gave, IsOthers, IsReadingFor, LoadedQueueAs, Sees, is_decided_at_load, outcome}
 use Rattle.grub_table.specs.Views.{alone, first_of}
 
 abbrev pub TheSeat : Type 0

@@ -4,7 +4,7 @@ use Rattle.grub_book.specs.Machine.{Machine}
 use Rattle.grub_book.specs.Op.{IsOp}
 use Rattle.grub_book.specs.History.{calls_of, StartsWith, HasChanged}
 use Rattle.grub_book.specs.Sound.{IsKept}
-use Rattle.grub_book.specs.Step.{refused, runqueue_of, changes_sum, is_under_claim}
+use Rattle.grub_book.specs.Step.{early, refused, runqueue_of, changes_sum, is_under_claim}
 use Rattle.grub_book.specs.declared.event.Event.{Event}
 use Rattle.grub_book.specs.declared.event.Event.TheVariants.{Call}
 use Rattle.grub_book.specs.declared.event.Reading.{Reading}
@@ -33,7 +33,7 @@ use Rattle.grub_table.specs.Marks.{AreLawful, MarksGo, marks_of}
 use Rattle.grub_table.specs.Layout.{shown}
 use Rattle.grub_table.specs.Histories.{Every, IsHistory, Grows, Finishes, WasBefore, record_in, reading_in}
 use Rattle.grub_table.specs.Views.{first_of}
-use Rattle.grub_table.specs.Tellings.{early, IsHeldByOther, WasClaimedWord}
+use Rattle.grub_table.specs.Tellings.{IsHeldByOther, WasClaimedWord}
 
 -- ---- what a pass or a claim knows
 abbrev pub share_of : Pass → Share

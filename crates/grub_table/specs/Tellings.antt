@@ -1,20 +1,20 @@
 -- What each single step tells the pass that makes it. x is its share before the step, and y after it.
-use Rattle.std.specs.Prelude.{◌≡◌, ◌≢◌, ◌⊎◌, ℕ, ◌≤◌, nat_lt, Bool, true, false, if◌then◌else◌, List, [], ◌∷◌, Option, Some, None}
+use Rattle.std.specs.Prelude.{◌≡◌, ◌≢◌, ◌⊎◌, ℕ, ◌≤◌, Bool, true, false, List, [], ◌∷◌, Option, Some, None}
 use mathlib.Core.Option.{Option as MOption, some, none}
 use Rattle.atomic_table.specs.Table.{Step}
 use Rattle.grub_book.specs.Machine.{queue_at}
 use Rattle.grub_book.specs.History.{StartsWith}
 use Rattle.grub_book.specs.Sound.{IsKept}
-use Rattle.grub_book.specs.Step.{refused, settled, lag_moment}
+use Rattle.grub_book.specs.Step.{early, refused, settled}
 use Rattle.grub_book.specs.Totals.{Counts}
 use Rattle.grub_book.specs.declared.event.Event.{Event}
 use Rattle.grub_book.specs.declared.event.Event.TheVariants.{Call, Look}
 use Rattle.grub_book.specs.declared.event.Reading.{Reading}
 use Rattle.grub_book.specs.declared.op.Op.{Op}
-use Rattle.grub_book.specs.declared.op.Op.TheVariants.{Timer, Leave}
+use Rattle.grub_book.specs.declared.op.Op.TheVariants.{Leave}
 use Rattle.grub_book.specs.declared.place.Record.{Record}
 use Rattle.grub_book.specs.declared.reply.Reply.{Reply}
-use Rattle.grub_book.specs.declared.reply.Reply.TheVariants.{Early, Charged, Full, DeadlineOverflow}
+use Rattle.grub_book.specs.declared.reply.Reply.TheVariants.{Charged, Full, DeadlineOverflow}
 use Rattle.grub_words.specs.Words.{queue_word, QueueFits}
 use Rattle.grub_table.specs.declared.view.Mark.{Mark}
 use Rattle.grub_table.specs.declared.view.Mark.TheVariants.{Taken, Given}
@@ -27,11 +27,6 @@ use Rattle.grub_table.specs.Marks.{MarksGo, holder_of}
 use Rattle.grub_table.specs.Layout.{queue_word_at, shown, stored_of}
 use Rattle.grub_table.specs.Histories.{Grows, Finishes, WasBefore, record_in, reading_in}
 use Rattle.grub_table.specs.Views.{alone, first_of, Sat, StandTogether}
-
--- the reply that the server decides, where the place, the count and the ticket decide none: a timer that is early
-abbrev pub early : Record → Op → Option Reply
-early x (Timer ticket m) = if nat_lt m (lag_moment x) then Some (Early (lag_moment x)) else None
-early x op = None
 
 -- a reply that stands as soon as the runqueue's word is loaded
 abbrev pub is_decided_at_load : Reply → Bool

@@ -7,30 +7,15 @@ ghost use Rattle.grub_book.specs.declared.place.Record.{Record};
 ghost use Rattle.grub_words.specs.Words.{TaskFits};
 ghost use Rattle.grub_table.specs.Between.{hold_of, IsSeatOf, HoldsFor, Tells, SawTask, SawRecord};
 ghost use Rattle.grub_table.specs.Calls.{terms, IsPassOf, IsStarted};
-ghost use Rattle.grub_table.specs.Tellings.{early};
 ghost use Rattle.grub_table.specs.declared.view.Hold.TheVariants.{Free};
 
 use crate::pass::{Claim, Pass, Shared, Sighting, Started};
 use crate::row::unclaimed;
 use crate::view::{Note, View};
 use atomic_table::Seat;
-use grub_book::{Op, Record, Reply, lag_after, refusal};
+use grub_book::{Op, Record, early, refusal};
 use grub_words::{TaskWord, pack_task};
 use std::marker::Brand;
-
-/// The reply of a timer that is early.
-fn early(held: &Record, op: Op) -> Option<Reply>
-    requires { Fits held.now.server held.now.params }
-    ensures { result ≡ early held.now op }
-{
-    match op {
-        Op::Timer { ticket: _, m } => {
-            let z = lag_after(held.server, held.params, m)?;
-            Some(Reply::Early(z))
-        }
-        _ => None,
-    }
-}
 
 impl Shared {
     /// What the task's word says, or the word itself where another pass has the task.

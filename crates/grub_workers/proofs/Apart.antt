@@ -24,7 +24,7 @@ use Rattle.grub_book.specs.declared.reply.Reply.TheVariants as replies
 use Rattle.grub_book.specs.declared.event.Event.{Event}
 use Rattle.grub_book.specs.declared.event.Event.TheVariants as events
 use Rattle.grub_book.specs.declared.event.Reading.{Reading}
-use Rattle.grub_book.proofs.Cases.{of_either}
+use Rattle.grub_book.proofs.Cases.{of_either, of_timer}
 use Rattle.grub_book.proofs.Refusals.{settled_alike}
 use Rattle.grub_book.proofs.Soundness.{moved}
 use Rattle.grub_book.proofs.Totals.{same_sums, step_shifts}
@@ -64,7 +64,7 @@ module _ (Q : ℕ → Type 0) where
   settled_at x queue now Exit free at named = tt
   settled_at x queue now (Timer ticket m) free at named =
       let retires : Record = record x { place = On (runqueue_of x.place (Timer ticket m)) Inactive } in
-      of_either (λ (k : Record × Reply). IsAt Q k.0.place) (nat_lt m (lag_moment x)) (x, replies.Early (lag_moment x)) (retires, replies.Retired) at (timer_at x.place x.count ticket m free at)
+      of_timer (λ (k : Record × Reply). IsAt Q k.0.place) (nat_lt m (lag_moment x)) x (lag_moment x) (retires, replies.Retired) at (timer_at x.place x.count ticket m free at)
   settled_at x queue now (Retune q p) free at named =
       let params : Reservation = record { runtime = q; period = p } in
       let tuned : Record = record x { params = params; server = record { q = q; d = 0 } } in

@@ -14,7 +14,8 @@ use Rattle.grub_book.specs.declared.event.Reading.{Reading}
 use Rattle.grub_book.specs.declared.op.Op.{Op}
 use Rattle.grub_book.specs.declared.op.Op.TheVariants.{Join, Wake, Block, Leave, Timer, Exit, Charge, Retune}
 use Rattle.grub_book.specs.declared.reply.Reply.{Reply}
-use Rattle.grub_book.specs.declared.reply.Reply.TheVariants.{Joined, Waiting, Asleep, Retired, Retuned, Early, Full}
+use Rattle.grub_book.specs.declared.reply.Reply.TheVariants.{Joined, Waiting, Asleep, Retired, Retuned, Full}
+use Rattle.grub_book.proofs.Cases.{of_timer}
 use Rattle.grub_book.proofs.Claims.{refused_outside}
 use Rattle.grub_workers.specs.Working.{IsBlockBefore}
 
@@ -44,7 +45,7 @@ waits_settled queue now x (Block r m) ticket z is =
 waits_settled queue now x Leave ticket z is = absurd (cc)
 waits_settled queue now x (Timer k m) ticket z is =
     let retires : Record = record x { place = On (runqueue_of x.place (Timer k m)) Inactive } in
-    neither (nat_lt m (lag_moment x)) (x, Early (lag_moment x)) (retires, Retired) ticket z (λ e. absurd (cc)) (λ e. absurd (cc)) is
+    of_timer (λ (p : Record × Reply). p.1 ≡ Waiting ticket z → IsBlockBefore z (Timer k m)) (nat_lt m (lag_moment x)) x (lag_moment x) (retires, Retired) (λ e. absurd (cc)) (λ e. absurd (cc)) is
 waits_settled queue now x Exit ticket z is = absurd (cc)
 waits_settled queue now x (Retune q p) ticket z is =
     let params : Reservation = record { runtime = q; period = p } in
