@@ -2,7 +2,6 @@
 #![tactic(auto)]
 
 mod fault;
-mod output;
 mod texts;
 
 pub use fault::GrubFault;

@@ -11,7 +11,6 @@ ghost use Rattle.grub_run.specs.Written.{IsFaultOf, IsNoFileFault, IsOnlyFault, 
 ghost use Rattle.grub_run.specs.declared.fault.GrubFault.TheVariants as faults;
 
 use crate::fault::GrubFault;
-use crate::output::write_text;
 use grub_book::Reading;
 use grub_trace::{Plan, Report, TextFault, read_files, report_of};
 use grub_workers::{NoGate, run};
@@ -47,7 +46,17 @@ pub fn run_texts<R: Threads + Wait, W: Write>(
         Ok(text) => text,
         Err(fault) => return Err(fault),
     };
-    write_text(out, &text)
+    let mut at = 0;
+    while at < text.len() {
+        match out.write(&text[at..]) {
+            Ok(0) | Err(_) => return Err(GrubFault::WriteFault),
+            Ok(count) => at += count,
+        }
+    }
+    match out.flush() {
+        Ok(()) => Ok(()),
+        Err(_) => Err(GrubFault::WriteFault),
+    }
 }
 
 /// The whole text of a run of the files.

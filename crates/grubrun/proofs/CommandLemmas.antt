@@ -1,9 +1,29 @@
 -- The files that the words name.
-use Rattle.std.proofs.Common.{◌≡◌, ℕ, List, [], length, map, unwrap_or, Option, Some, None, option_map, Bor, sym, refl}
-use Rattle.std.proofs.lemmas.List.{length-map}
+use Rattle.std.proofs.Common.{◌≡◌, ◌∙◌, ℕ, List, [], codes, map, unwrap_or, Option, Some, None, Ok, Err, option_map, subst, Bor, refl}
+use Rattle.std.specs.Str.Parse.{ParsesUnsigned}
+use Rattle.std.specs.declared.result.Result.{Result}
+use Rattle.clap.proofs.WalkLemmas.{one_text-rows, raw_values-rows}
+use Rattle.clap.specs.Words.{ReadsOne, matched_of, one_of, one_text, raw_values, rows_of}
+use Rattle.clap.specs.declared.parser.matches.Found.{Found}
+use Rattle.grubrun.specs.CommandLine.{ReadsNumber, names_among, names_of}
 
--- as many files are read as values were found
-pub count_found : (o : Option (Bor (List (Bor (List ℕ))))) (d r : Bor (List (Bor (List ℕ)))) (named : Option (List (List ℕ))) → r ≡ unwrap_or o d → d.now ≡ []
-    → option_map (λ s. map (λ v. v.now) s.now) o ≡ named → length r.now ≡ length (unwrap_or named [])
-count_found None d r named is empty found = rw (← found) (rw is (rw empty refl))
-count_found (Some s) d r named is empty found = rw (← found) (rw is (sym (length-map s.now (λ v. v.now))))
+-- the values that were found, or none
+pub names_found : (o : Option (Bor (List (Bor (List ℕ))))) (d r : Bor (List (Bor (List ℕ)))) (named : Option (List (List ℕ))) → r ≡ unwrap_or o d → d.now ≡ []
+    → option_map (λ s. map (λ v. v.now) s.now) o ≡ named → map (λ v. v.now) r.now ≡ unwrap_or named []
+names_found None d r named is empty found = rw (← found) (rw is (rw empty refl))
+names_found (Some s) d r named is empty found = rw (← found) (rw is refl)
+
+-- the values of the argument for files are the names among the values of all arguments
+pub paths_are_names : (f : Found) (o : Option (Bor (List (Bor (List ℕ))))) (d r : Bor (List (Bor (List ℕ)))) → r ≡ unwrap_or o d → d.now ≡ []
+    → option_map (λ s. map (λ v. v.now) s.now) o ≡ option_map raw_values (matched_of f (codes "FILE")) → names_of r.now ≡ names_among (rows_of f)
+paths_are_names f o d r is empty found = names_found o d r _ is empty (found ∙ raw_values-rows f (codes "FILE"))
+
+-- what `get_one` reads of an argument's value
+pub number_read : (E : Type 0) (G : List ℕ → Result ℕ E → Type 0) (bits : ℕ) (f : Found) (id : List ℕ) (r : Option ℕ) → (one_text f id ≡ None → r ≡ None) → ((t : List ℕ) → one_text f id ≡ Some t → ReadsOne G t r)
+    → ((u : List ℕ) (x : Result ℕ E) → G u x → ParsesUnsigned bits 10 u x) → ReadsNumber bits (one_of id (rows_of f)) r
+number_read E G bits f id r none value parses = subst (λ o. ReadsNumber bits o r) (one_text-rows f id) (go (one_text f id) refl r none value)
+  where
+    go : (o : Option (List ℕ)) → one_text f id ≡ o → (r : Option ℕ) → (one_text f id ≡ None → r ≡ None) → ((t : List ℕ) → one_text f id ≡ Some t → ReadsOne G t r) → ReadsNumber bits o r
+    go None is r none value = none is
+    go (Some t) is (Some n) none value = parses t (Ok n) (value t is)
+    go (Some t) is None none value = let (e, said) = value t is in parses t (Err e) said

@@ -1,6 +1,8 @@
 -- The command line: `grubrun [--tries N] [--rounds N] FILE...`.
-use Rattle.std.specs.Prelude.{◌≡◌, ◌⊎◌, codes, pos, List, [], ◌∷◌, Some, true, unwrap_or}
-use Rattle.clap.specs.Words.{App, Rule, Text, all_of, fault_of, matches_of, new_app, new_rule, with_rule}
+use Rattle.std.specs.Prelude.{◌≡◌, ◌⊎◌, ◌<◌, ◌^◌, ℕ, codes, pos, List, [], ◌∷◌, map, Option, None, Some, true, unwrap_or}
+use Rattle.std.specs.Str.Parse.{IsNumeral, digits_value, without_leading_plus}
+use Rattle.std.specs.Borrow.{Bor}
+use Rattle.clap.specs.Words.{App, Row, Rule, Text, all_of, one_of, fault_of, matches_of, new_app, new_rule, with_rule}
 use Rattle.clap.specs.Kinds.{IsAmong}
 use Rattle.clap.specs.Lexer.{usize_max}
 use Rattle.clap.specs.declared.error.kind.ErrorKind.{ErrorKind}
@@ -24,9 +26,39 @@ files_rule = record (new_rule (codes "FILE")) { action = Some Append; range = So
 abbrev pub command_line : App
 command_line = with_rule (with_rule (with_rule (new_app (codes "grubrun")) tries_rule) rounds_rule) files_rule
 
+-- the values of the argument for files, among those of all arguments
+abbrev pub names_among : List Row → List Text
+names_among rows = unwrap_or (all_of (codes "FILE") rows) []
+
 -- the files that these words name
 abbrev pub files_named : List Text → List Text
-files_named words = unwrap_or (all_of (codes "FILE") (matches_of command_line words)) []
+files_named words = names_among (matches_of command_line words)
+
+-- a text is a decimal number of so many bits; a plus may stand first
+abbrev pub IsNumber : ℕ → Text → Type 0
+IsNumber bits text = IsNumeral 10 (without_leading_plus text) × (digits_value 10 (without_leading_plus text) < 2 ^ bits)
+
+-- the number that is read of a text, if there is one
+abbrev pub ReadsNumber : ℕ → Option Text → Option ℕ → Type 0
+ReadsNumber bits None r = r ≡ None
+ReadsNumber bits (Some text) (Some n) = IsNumber bits text × (n ≡ digits_value 10 (without_leading_plus text))
+ReadsNumber bits (Some text) None = IsNumber bits text → ⊥
+
+-- n is the number that the value of this argument spells, and else this one
+abbrev pub SpellsOr : ℕ → ℕ → Text → List Row → ℕ → Type 0
+SpellsOr other bits id rows n = (r : Option ℕ) × ReadsNumber bits (one_of id rows) r × (n ≡ unwrap_or r other)
+
+-- these words ask for so many tries
+abbrev pub TriesNamed : List Text → ℕ → Type 0
+TriesNamed words n = SpellsOr 8 8 (codes "tries") (matches_of command_line words) n
+
+-- and for so many rounds
+abbrev pub RoundsNamed : List Text → ℕ → Type 0
+RoundsNamed words n = SpellsOr 64 16 rounds_id (matches_of command_line words) n
+
+-- the texts behind these references
+abbrev pub names_of : List (Bor Text) → List Text
+names_of paths = map (λ path. path.now) paths
 
 -- the command line does not take these words
 abbrev pub IsRefused : List Text → Type 0

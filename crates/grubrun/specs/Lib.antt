@@ -1,3 +1,5 @@
 pub mod CommandLine
+pub mod Faults
 pub mod Rounds
+pub mod Source
 pub mod Statuses

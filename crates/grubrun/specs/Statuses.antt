@@ -1,40 +1,33 @@
--- What the program's status tells: which fault it is of, and what was written.
-use Rattle.std.specs.Prelude.{◌≡◌, ℕ, List, length, Option}
-use Rattle.grub_trace.specs.declared.fault.TraceFault.TheVariants as trace
-use Rattle.grub_trace.specs.FirstFault.{IsFault}
-use Rattle.grub_trace.specs.declared.fault.Kind.{Kind}
+-- What the program's status tells: what was printed, and of which files.
+use Rattle.std.specs.Prelude.{◌≡◌, ℕ, List, Option}
 use Rattle.grub_run.specs.Written.{WritesText, WritesPrefix}
-use Rattle.grub_run.specs.declared.fault.GrubFault.{GrubFault}
-use Rattle.grub_run.specs.declared.fault.GrubFault.TheVariants as run
-use Rattle.grubrun.specs.declared.fault.FileFault.{FileFault}
-use Rattle.grubrun.specs.declared.fault.FileFault.TheVariants as file
+use Rattle.grubrun.specs.declared.fault.ProgramFault.{ProgramFault}
+use Rattle.grubrun.specs.declared.input.Source.{Source}
+use Rattle.grubrun.specs.CommandLine.{TriesNamed, files_named}
+use Rattle.grubrun.specs.Faults.{HoldAll, Tells, status_of}
+use Rattle.grubrun.specs.Source.{Opener, Reader}
 
--- the status where a file was not read whole
-abbrev pub file_status : FileFault → ℕ
-file_status file.TooLong = 1
-file_status file.Read = 3
-file_status file.NoMemory = 3
+module _ {O N D : Type 0} (o : Opener O D) (g : Reader N D) (source : Source O N) where
+  -- what was printed are the reports of a run of the files of these names, and nothing else
+  pub record PrintsReports (tries : ℕ) (names : List (List ℕ)) (old new : Option (List ℕ)) : Type 0 where
+    pub files : List (List ℕ)
+    pub hold : HoldAll o g source names files
+    pub text : WritesText tries files old new
 
--- the status where a run did not write its reports
-abbrev pub run_status : GrubFault → ℕ
-run_status (run.Trace (trace.At k f n)) = 1
-run_status (run.Trace trace.NoMemory) = 3
-run_status (run.Run fault) = 3
-run_status (run.Text fault) = 3
-run_status run.WriteFault = 3
+  -- a beginning of such reports was printed
+  pub record PrintsBeginning (tries : ℕ) (names : List (List ℕ)) (old new : Option (List ℕ)) : Type 0 where
+    pub files : List (List ℕ)
+    pub hold : HoldAll o g source names files
+    pub text : WritesPrefix tries files old new
 
--- one of these files has a fault
-abbrev pub HasFault : List (List ℕ) → Type 0
-HasFault files = (k : Kind) × (f : ℕ) × (n : ℕ) × IsFault files k f n
+  -- the reports of a run as these words ask for it were printed
+  abbrev pub PrintsRun : List (List ℕ) → Option (List ℕ) → Option (List ℕ) → Type 0
+  PrintsRun words old new = (tries : ℕ) × TriesNamed words tries × PrintsReports tries (files_named words) old new
 
--- the reports of a run of so many files were written, and nothing else
-abbrev pub WritesReports : ℕ → ℕ → Option (List ℕ) → Option (List ℕ) → Type 0
-WritesReports tries count old new = (files : List (List ℕ)) × (length files ≡ count) × WritesText tries files old new
+  -- a beginning of them was printed
+  abbrev pub PrintsSome : List (List ℕ) → Option (List ℕ) → Option (List ℕ) → Type 0
+  PrintsSome words old new = (tries : ℕ) × TriesNamed words tries × PrintsBeginning tries (files_named words) old new
 
--- the same of a run with some number of tries
-abbrev pub WritesRun : ℕ → Option (List ℕ) → Option (List ℕ) → Type 0
-WritesRun count old new = (tries : ℕ) × WritesReports tries count old new
-
--- a beginning of such reports was written
-abbrev pub WritesBeginning : ℕ → ℕ → Option (List ℕ) → Option (List ℕ) → Type 0
-WritesBeginning tries count old new = (files : List (List ℕ)) × (length files ≡ count) × WritesPrefix tries files old new
+  -- one of these files is at fault
+  abbrev pub HasFileFault : List (List ℕ) → Type 0
+  HasFileFault names = (fault : ProgramFault) × (status_of fault ≡ 1) × Tells o g source names fault

@@ -2,9 +2,9 @@
 
 ghost use Rattle.std.specs.Prelude.{◌≡◌, ◌≤◌, IfOk, IfSome, codes, pos, Some, map, string_bytes};
 ghost use Rattle.clap.specs.declared.builder.value_parser.ValueParser.TheVariants as parsers;
-ghost use Rattle.clap.specs.Words.{app_of, rule_of, rows_of, found_of, matches_of, fault_of, FailsBy};
-ghost use Rattle.grubrun.specs.CommandLine.{tries_rule, rounds_rule, files_rule, command_line};
-ghost use Rattle.grubrun.specs.Rounds.{IsOf, TakesRounds};
+ghost use Rattle.clap.specs.Words.{app_of, one_of, rule_of, rows_of, found_of, matches_of, fault_of, FailsBy};
+ghost use Rattle.grubrun.specs.CommandLine.{ReadsNumber, RoundsNamed, TriesNamed, tries_rule, rounds_rule, files_rule, command_line};
+ghost use Rattle.grubrun.specs.Rounds.{IsOf, TakesRounds, rounds_id};
 
 use clap::{Arg, ArgAction, ArgMatches, Command, Error, value_parser};
 use std::alloc::{AllocError, Global};
@@ -74,6 +74,7 @@ fn command<'a>(alloc: Global) -> Result<Command<'a>, AllocError>
 /// The matches of the words, and the rounds among them, which are at least 1 by their range.
 fn parse<'a>(alloc: Global, words: &'a [String]) -> Result<(ArgMatches<'a>, Option<u16>), Error>
     ensures rounds { IfOk result (λ r. IfSome r.1 (λ n. 1 ≤ n)) }
+    ensures number { IfOk result (λ r. ReadsNumber 16 (one_of rounds_id (rows_of (found_of r.0))) r.1) }
     ensures matches { IfOk result (λ r. rows_of (found_of r.0) ≡ matches_of command_line (map string_bytes words.now)) }
     ensures faults { FailsBy (fault_of command_line (map string_bytes words.now)) result }
 {
@@ -84,6 +85,8 @@ fn parse<'a>(alloc: Global, words: &'a [String]) -> Result<(ArgMatches<'a>, Opti
 
 /// What the words say, the first of which is the program's name.
 pub fn options_of<'a>(alloc: Global, words: &'a [String]) -> Result<Options<'a>, Error>
+    ensures tries { IfOk result (λ o. TriesNamed (map string_bytes words.now) o.tries) }
+    ensures rounds { IfOk result (λ o. RoundsNamed (map string_bytes words.now) o.rounds) }
     ensures matches { IfOk result (λ o. rows_of (found_of o.matches) ≡ matches_of command_line (map string_bytes words.now)) }
     ensures faults { FailsBy (fault_of command_line (map string_bytes words.now)) result }
 {

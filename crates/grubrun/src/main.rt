@@ -4,18 +4,25 @@
 mod command;
 mod fault;
 mod input;
+mod reports;
 mod serve;
 
+use crate::input::Source;
 use crate::serve::{serve, serve_no_words};
-use std::env;
+use std::io::Read;
 use std::process::ExitCode;
+use std::{env, fs};
 
 fn main(rt: HostRuntime) -> ExitCode {
     let alloc = rt.alloc();
+    let source = Source {
+        open: |path: &str| fs::open(&rt, path),
+        read: |file: &mut fs::File, room: &mut [u8]| file.read(room),
+    };
     let mut out = rt.stdout();
     let mut faults = rt.stderr();
     let status = match env::args(&rt).and_then(|args| Ok(args.collect::<Vec<String>>(alloc)?)) {
-        Ok(words) => serve(&rt, alloc, &words, &mut out, &mut faults),
+        Ok(words) => serve(&rt, alloc, &words, &source, &mut out, &mut faults),
         Err(error) => serve_no_words(&error, &mut faults),
     };
     ExitCode::from(status)

@@ -1,7 +1,7 @@
 //! The program: its statuses, its texts and its worked runs.
 
 use crate::fault::FileFault;
-use crate::input::{FILE_BYTES_MAX, read_all};
+use crate::input::{FILE_BYTES_MAX, Source, read_file};
 use crate::serve::{serve, serve_no_words};
 use std::alloc::{AllocError, Global};
 use std::io::{ErrorKind, Read, Write};
@@ -41,6 +41,21 @@ fn words_of(alloc: Global, words: &[&str]) -> Result<Vec<String>, AllocError> {
     Ok(all)
 }
 
+/// The status of the program on these words, with the files of the folder that the test runs in.
+fn served<R: Files + Threads + Wait, W: Write, E: Write>(
+    rt: &R,
+    alloc: Global,
+    words: &[String],
+    out: &mut W,
+    faults: &mut E,
+) -> u8 {
+    let source = Source {
+        open: |path: &str| fs::open(rt, path),
+        read: |file: &mut R::File, room: &mut [u8]| file.read(room),
+    };
+    serve(rt, alloc, words, &source, out, faults)
+}
+
 /// Whether the program answers these words by this status, output and line of a fault.
 fn serves<R: Files + Threads + Wait>(
     rt: &R,
@@ -53,7 +68,7 @@ fn serves<R: Files + Threads + Wait>(
     let words = words_of(alloc, words)?;
     let mut out: Vec<u8> = Vec::new(alloc);
     let mut faults: Vec<u8> = Vec::new(alloc);
-    let got = serve(rt, alloc, &words, &mut out, &mut faults);
+    let got = served(rt, alloc, &words, &mut out, &mut faults);
     Ok(got == status && out.as_slice() == text.as_bytes() && faults.as_slice() == fault.as_bytes())
 }
 
@@ -135,7 +150,7 @@ fn refuses<R: Files + Threads + Wait>(
     let words = words_of(alloc, words)?;
     let mut out: Vec<u8> = Vec::new(alloc);
     let mut faults: Vec<u8> = Vec::new(alloc);
-    let status = serve(rt, alloc, &words, &mut out, &mut faults);
+    let status = served(rt, alloc, &words, &mut out, &mut faults);
     Ok(status == 2 && out.is_empty() && !faults.is_empty())
 }
 
@@ -176,7 +191,7 @@ fn help(rt: HostRuntime) -> Result<(), Fail> {
     let words = words_of(alloc, ["--help"].as_slice())?;
     let mut out: Vec<u8> = Vec::new(alloc);
     let mut faults: Vec<u8> = Vec::new(alloc);
-    let status = serve(&rt, alloc, &words, &mut out, &mut faults);
+    let status = served(&rt, alloc, &words, &mut out, &mut faults);
     assert_eq!(rt; status, 0);
     assert!(rt; faults.is_empty());
     let text = String::from_utf8_lossy(alloc, &out)?;
@@ -203,41 +218,70 @@ fn long_files(rt: HostRuntime) -> Result<(), Fail> {
     Ok(())
 }
 
-/// Gives so many single bytes, and then fails.
-#[derive(Drop)]
-struct Broken {
-    left: usize,
+/// Gives the next of so many single bytes of a file, and fails after them.
+fn one_byte(left: &mut usize, room: &mut [u8]) -> io::Result<usize> {
+    if *left == 0 || room.is_empty() {
+        return Err(io::Error::from(ErrorKind::Other));
+    }
+    room[0] = b'7';
+    *left -= 1;
+    Ok(1)
 }
 
-impl Read for Broken {
-    fn read(&mut self, buf: &mut [u8]) -> io::Result<usize> {
-        if self.left == 0 {
-            return Err(io::Error::from(ErrorKind::Other));
-        }
-        if buf.is_empty() {
-            return Ok(0);
-        }
-        buf[0] = b'7';
-        self.left -= 1;
-        Ok(1)
-    }
+/// Claims one byte more than there is room for.
+fn too_much(_file: &mut usize, room: &mut [u8]) -> io::Result<usize> {
+    Ok(room.len().saturating_add(1))
 }
 
 #[test]
 fn broken_reads(rt: HostRuntime) -> Result<(), Fail> {
     let alloc = rt.alloc();
-    for left in [0usize, 3] {
-        let mut reader = Broken { left };
-        let fault = match read_all(alloc, &mut reader) {
-            Ok(_) => None,
-            Err(fault) => Some(fault),
+    let line = b"grubrun: x: 46 ReadFault\n".as_slice();
+    let words = words_of(alloc, ["x"].as_slice())?;
+    for length in [0usize, 3, 5000] {
+        let source = Source {
+            open: |_path: &str| Ok(length),
+            read: |left: &mut usize, room: &mut [u8]| one_byte(left, room),
         };
-        assert!(rt; fault == Some(FileFault::Read));
+        let mut out: Vec<u8> = Vec::new(alloc);
+        let mut faults: Vec<u8> = Vec::new(alloc);
+        let status = serve(&rt, alloc, &words, &source, &mut out, &mut faults);
+        assert_eq!(rt; status, 3);
+        assert!(rt; out.is_empty() && faults.as_slice() == line);
     }
+    let source = Source {
+        open: |_path: &str| Ok(0usize),
+        read: |file: &mut usize, room: &mut [u8]| too_much(file, room),
+    };
+    let fault = match read_file(alloc, &source, "x") {
+        Ok(_) => None,
+        Err(fault) => Some(fault),
+    };
+    assert!(rt; fault == Some(FileFault::Read));
     fs::create_dir(&rt, "folder")?;
     let line = "grubrun: folder: 46 ReadFault\n";
     assert!(rt; serves(&rt, rt.alloc(), ["folder"].as_slice(), 3, "", line)?);
     fs::remove_dir(&rt, "folder")?;
+    Ok(())
+}
+
+/// A folder of two files, the second of which cannot be opened: the first decides where it is too long.
+#[test]
+fn the_first_unread_file_is_told(rt: HostRuntime) -> Result<(), Fail> {
+    let alloc = rt.alloc();
+    fs::write(&rt, "short.grub", FIRST.as_bytes())?;
+    let text = Vec::from_elem(alloc, b'7', FILE_BYTES_MAX + 1)?;
+    fs::write(&rt, "long.grub", text.as_slice())?;
+    let long = "grubrun: long.grub: 44 FileTooLong\n";
+    let gone = "grubrun: not there: 46 ReadFault\n";
+    for (words, status, line) in [
+        (["short.grub", "long.grub", "not there"], 1, long),
+        (["short.grub", "not there", "long.grub"], 3, gone),
+    ] {
+        assert!(rt; serves(&rt, alloc, words.as_slice(), status, "", line)?);
+    }
+    fs::remove_file(&rt, "short.grub")?;
+    fs::remove_file(&rt, "long.grub")?;
     Ok(())
 }
 
@@ -263,7 +307,7 @@ fn closed_output(rt: HostRuntime) -> Result<(), Fail> {
         let words = words_of(alloc, words)?;
         let mut out = Closed;
         let mut faults: Vec<u8> = Vec::new(alloc);
-        let status = serve(&rt, alloc, &words, &mut out, &mut faults);
+        let status = served(&rt, alloc, &words, &mut out, &mut faults);
         assert_eq!(rt; status, 3);
         assert_eq!(rt; faults.as_slice(), b"grubrun: 45 WriteFault\n".as_slice());
     }
@@ -297,7 +341,7 @@ fn refused_growths(rt: HostRuntime) {
     ) else {
         return;
     };
-    let status = serve(&rt, alloc, &words, &mut out, &mut faults);
+    let status = served(&rt, alloc, &words, &mut out, &mut faults);
     let _ = fs::remove_file(&rt, "refused.grub");
     if status == 0 {
         assert_eq!(rt; out.as_slice(), FIRST_REPORT.as_bytes());

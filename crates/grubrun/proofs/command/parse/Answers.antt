@@ -3,6 +3,7 @@ use Rattle.std.specs.Str.Parse.{ParsesUnsigned, ExplainsUnsignedError, HasUnsign
 use Rattle.clap.specs.Matches.{found_of, one_text}
 use Rattle.clap.proofs.CallerReads.{signed_reads}
 use Rattle.grubrun.specs.Rounds.{rounds_id}
+use Rattle.grubrun.proofs.CommandLemmas.{number_read}
 use Rattle.grubrun.proofs.RoundsLemmas.{rounds_read}
 use Rattle.grubrun.proofs.command.parse.Goals as goal
 
@@ -19,3 +20,8 @@ returns-clause-rounds c =
         let one = c.get_one-rounds.ensures.value t some in
         let got = signed_reads _ (λ bs r. ParsesUnsigned 16 10 bs r × ExplainsUnsignedError 10 bs r × HasUnsignedDigitsIfOk bs r) 16 1 65535 read.0 c.get_one-rounds.result (rw read.1 at one) (λ u x g. g.0) (omega arith) read.2 in
         rw got.1 got.2
+
+pub returns-clause-number : goal.returns-clause-number
+returns-clause-number c =
+    number_read _ (λ bs r. ParsesUnsigned 16 10 bs r × ExplainsUnsignedError 10 bs r × HasUnsignedDigitsIfOk bs r) 16 (found_of c.in_ok-matches.matches) rounds_id c.get_one-rounds.result
+    c.get_one-rounds.ensures.none c.get_one-rounds.ensures.value (λ u x g. g.0)
