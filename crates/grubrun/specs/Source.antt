@@ -1,5 +1,5 @@
 -- What the program's files are, by what the calls that open and read them may answer.
-use Rattle.std.specs.Prelude.{◌≡◌, ◌<◌, ◌≤◌, ◌⊎◌, ℕ, List, [], take, length, Ok, Err, IfOk}
+use Rattle.std.specs.Prelude.{◌≡◌, ◌<◌, ◌≤◌, ◌⊎◌, ◌+◌, ℕ, List, [], take, length, Ok, Err, IfOk}
 use Rattle.std.specs.Fn.{Shared, FnReturnsAt}
 use Rattle.std.specs.List.{FoldsTo, concat}
 use Rattle.std.specs.declared.result.Result.{Result}
@@ -56,9 +56,9 @@ module _ {N D : Type 0} (g : Reader N D) (read : N) where
   abbrev pub BreaksOff : D → Type 0
   BreaksOff file = (bytes : List ℕ) × (last : D) × Reads file bytes last × Fails last
 
-  -- there may be more bytes than this
+  -- there may be more bytes than this: one more is read
   abbrev pub Exceeds : ℕ → D → Type 0
-  Exceeds most file = (bytes : List ℕ) × (last : D) × Reads file bytes last × (most < length bytes)
+  Exceeds most file = (bytes : List ℕ) × (last : D) × Reads file bytes last × (length bytes ≡ most + 1)
 
 module _ {O N D : Type 0} (o : Opener O D) (g : Reader N D) (source : Source O N) where
   -- such a file may be opened under this name

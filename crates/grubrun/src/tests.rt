@@ -228,6 +228,34 @@ fn one_byte(left: &mut usize, room: &mut [u8]) -> io::Result<usize> {
     Ok(1)
 }
 
+/// Gives the next single byte of the first file.
+fn byte_of_first(at: &mut usize, room: &mut [u8]) -> io::Result<usize> {
+    let bytes = FIRST.as_bytes();
+    if *at >= bytes.len() || room.is_empty() {
+        return Ok(0);
+    }
+    room[0] = bytes[*at];
+    *at += 1;
+    Ok(1)
+}
+
+#[test]
+fn single_bytes(rt: HostRuntime) -> Result<(), Fail> {
+    let alloc = rt.alloc();
+    let words = words_of(alloc, ["x"].as_slice())?;
+    let source = Source {
+        open: |_path: &str| Ok(0usize),
+        read: |at: &mut usize, room: &mut [u8]| byte_of_first(at, room),
+    };
+    let mut out: Vec<u8> = Vec::new(alloc);
+    let mut faults: Vec<u8> = Vec::new(alloc);
+    let status = serve(&rt, alloc, &words, &source, &mut out, &mut faults);
+    assert_eq!(rt; status, 0);
+    assert_eq!(rt; out.as_slice(), FIRST_REPORT.as_bytes());
+    assert!(rt; faults.is_empty());
+    Ok(())
+}
+
 /// Claims one byte more than there is room for.
 fn too_much(_file: &mut usize, room: &mut [u8]) -> io::Result<usize> {
     Ok(room.len().saturating_add(1))
