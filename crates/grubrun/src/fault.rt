@@ -12,7 +12,8 @@ pub const STATUS_FILE: u8 = 1;
 /// Memory, a thread, a file or a writer failed.
 pub const STATUS_SYSTEM: u8 = 3;
 
-/// Why a file was not read whole.
+/// Why a file was not read whole: it has more bytes than it may have (44), it could not be opened or read (46), or
+/// there was no memory for its bytes (47).
 #[derive(Clone, Copy, Debug, PartialEq, Eq)]
 pub enum FileFault {
     TooLong,

@@ -11,10 +11,13 @@ use std::io;
 /// The most bytes that a file may have.
 pub const FILE_BYTES_MAX: usize = 16777216;
 
-/// How event files are opened, each by its path, and read into room for their next bytes.
+/// How event files are opened and read.
 #[derive(Drop)]
 pub struct Source<O, N> {
+    /// Opens the file at a path.
     pub open: O,
+
+    /// Reads the next bytes of an opened file into room, and gives their number: 0 at the end.
     pub read: N,
 }
 
