@@ -1,8 +1,9 @@
 -- Files of a list of names, read one after another.
-use Rattle.std.proofs.Common.{◌≡◌, ◌∙◌, ap, subst, sym, arith, suc, ℕ, ◌+◌, ◌<◌, List, [], ◌∷◌, ◌++◌, get_or, length, take, Some, option_map}
+use Rattle.std.proofs.Common.{◌≡◌, ◌∙◌, ap, subst, sym, ℕ, ◌+◌, ◌<◌, List, [], ◌∷◌, ◌++◌, get_or, length, take, Some, option_map}
 use Rattle.std.proofs.lemmas.List.{map-append, take-map}
 use Rattle.std.proofs.lemmas.List.Elements.{AllZip-push}
 use Rattle.std.proofs.lemmas.Option.{slice_get-map, slice_get-get_or}
+use Rattle.std.proofs.Math.Numerals.{suc-eq-add-one}
 use Rattle.std.proofs.Math.Seq.{take-suc}
 use Rattle.std.specs.Borrow.{Bor}
 use Rattle.std.specs.Global.{Vec}
@@ -13,16 +14,13 @@ use Rattle.grubrun.specs.Faults.{First, HoldAll}
 use Rattle.grubrun.specs.CommandLine.{names_of}
 use Rattle.grubrun.specs.Source.{Opener, Reader}
 
-suc-is : (i : ℕ) → i + 1 ≡ suc i
-suc-is i = omega arith
-
 -- the name at this place
 pub name_at : (paths : List (Bor (List ℕ))) (i : ℕ) (d : Bor (List ℕ)) → i < length paths → slice_get (names_of paths) i ≡ Some (get_or paths i d).now
 name_at paths i d below = slice_get-map (λ path. path.now) paths i ∙ ap (option_map (λ path. path.now)) (slice_get-get_or paths i d below)
 
 -- the names up to and with that one
 pub names_next : (paths : List (Bor (List ℕ))) (i : ℕ) (d : Bor (List ℕ)) → i < length paths → names_of (take (i + 1) paths) ≡ names_of (take i paths) ++ (get_or paths i d).now ∷ []
-names_next paths i d below = ap (λ n. names_of (take n paths)) (suc-is i) ∙ (ap names_of (take-suc paths i d below) ∙ map-append (λ path. path.now) (take i paths) (get_or paths i d ∷ []))
+names_next paths i d below = ap (λ n. names_of (take n paths)) (sym (suc-eq-add-one i)) ∙ (ap names_of (take-suc paths i d below) ∙ map-append (λ path. path.now) (take i paths) (get_or paths i d ∷ []))
 
 -- one file more
 pub held_next : (R : List ℕ → List ℕ → Type 0) (paths : List (Bor (List ℕ))) (i : ℕ) (d : Bor (List ℕ)) (files : List (Vec ℕ)) (v : Vec ℕ) (all : List (Vec ℕ)) → i < length paths → AllZip R (names_of (take i paths)) (contents files) → R (get_or paths i d).now v.items → all ≡ files ++ v ∷ [] → AllZip R (names_of (take (i + 1) paths)) (contents all)

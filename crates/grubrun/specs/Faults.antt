@@ -28,11 +28,11 @@ IsPlaced names (run.Trace (trace.At k f n)) r = (path : Bor (List ℕ)) × (r �
 IsPlaced names fault r = r ≡ faults.Run fault
 
 module _ {O N D : Type 0} (o : Opener O D) (g : Reader N D) (source : Source O N) where
-  -- the files of these names hold these bytes
+  -- the files of these names may be read as these bytes
   abbrev pub HoldAll : List (List ℕ) → List (List ℕ) → Type 0
   HoldAll names files = AllZip (Holds o g source) names files
 
-  -- this is said of a file, and those before it were read whole
+  -- this is said of a file, and those before it may be read whole
   pub record First (P : List ℕ → Type 0) (names : List (List ℕ)) (name : List ℕ) : Type 0 where
     pub at : ℕ
     pub is : slice_get names at ≡ Some name
@@ -40,7 +40,7 @@ module _ {O N D : Type 0} (o : Opener O D) (g : Reader N D) (source : Source O N
     pub hold : HoldAll (take at names) before
     pub says : P name
 
-  -- all files were read whole, and this is the fault of their lines: in this line of the file of this name
+  -- all files may be read whole, and this is then the fault of their lines: in this line of the file of this name
   pub record FaultInLine (names : List (List ℕ)) (name : List ℕ) (line : ℕ) (fault : GrubFault) : Type 0 where
     pub files : List (List ℕ)
     pub hold : HoldAll names files

@@ -8,7 +8,7 @@ use Rattle.grubrun.specs.Faults.{HoldAll, Tells, status_of}
 use Rattle.grubrun.specs.Source.{Opener, Reader}
 
 module _ {O N D : Type 0} (o : Opener O D) (g : Reader N D) (source : Source O N) where
-  -- what was printed are the reports of a run of the files of these names, and nothing else
+  -- what was printed are the reports of a run of what the files of these names may be read as, and nothing else
   pub record PrintsReports (tries : ℕ) (names : List (List ℕ)) (old new : Option (List ℕ)) : Type 0 where
     pub files : List (List ℕ)
     pub hold : HoldAll o g source names files
@@ -28,6 +28,6 @@ module _ {O N D : Type 0} (o : Opener O D) (g : Reader N D) (source : Source O N
   abbrev pub PrintsSome : List (List ℕ) → Option (List ℕ) → Option (List ℕ) → Type 0
   PrintsSome words old new = (tries : ℕ) × TriesNamed words tries × PrintsBeginning tries (files_named words) old new
 
-  -- one of these files is at fault
+  -- one of these files may be at fault
   abbrev pub HasFileFault : List (List ℕ) → Type 0
   HasFileFault names = (fault : ProgramFault) × (status_of fault ≡ 1) × Tells o g source names fault

@@ -40,7 +40,7 @@ pub fn serve<
     ensures status { result ≤ 3 }
     // On the status of a file's fault, and of a wrong command line, nothing was printed.
     ensures nothing { (result ≡ STATUS_FILE) ⊎ (result ≡ STATUS_USAGE) → out.new ≡ out.old }
-    // The status of a file's fault comes only where one of the files that the words name is at fault.
+    // The status of a file's fault comes only where, by what the calls of `source` may answer, a file that the words name is at fault.
     ensures file { result ≡ STATUS_FILE → HasFileFault O.Fn N.Fn source.now (files_named (map string_bytes words.now)) }
     // Right words are not answered as wrong, and are done once the reports of the files that they name are printed.
     ensures usage { result ≡ STATUS_USAGE → IsRefused (map string_bytes words.now) }
