@@ -1,12 +1,21 @@
 #!/usr/bin/env bash
 # Each growth of memory is refused in turn: every test whose name has the word `refused` runs once for each call of malloc
-# or realloc that it makes, with that one call refused, and has to pass. Crates may be named; else it is all that have
-# such tests. Ends with 0 where each run passes. It wants a C compiler as cc.
-set -eu
+# or realloc that it makes, with that one call refused, and has to pass; and so does the program on a short file, which
+# has to tell the refusal by the line of the work that it stopped, and print nothing.
+#
+# It takes the tests and the program as the gate left them in crates/*/out; with --build it proves and builds them first.
+# Crates may be named; else it is the program, and all crates that have such tests. Its last line is 'N passed, M failed',
+# and it ends with 0 where none failed. It wants a C compiler as cc.
+set -u
 root=$(cd "$(dirname "$0")/.." && pwd)
 work=$(mktemp -d)
 trap 'rm -rf "$work"' EXIT
+export work
 
+if ! command -v cc > /dev/null; then
+    echo "refused-growths: there is no C compiler cc"
+    exit 1
+fi
 cat > "$work/refuse.c" <<'C'
 #define _GNU_SOURCE
 #include <dlfcn.h>
@@ -38,31 +47,132 @@ void *realloc(void *block, size_t size) {
     return is_refused() ? 0 : next(block, size);
 }
 C
-cc -O1 -shared -fPIC -o "$work/refuse.so" "$work/refuse.c"
+if ! cc -O1 -shared -fPIC -o "$work/refuse.so" "$work/refuse.c"; then
+    echo "refused-growths: cc makes no library that can be loaded in front of malloc"
+    exit 1
+fi
+
+# refuse_one GROWTH COMMAND..: runs the command in this folder with that growth refused; `told` says whether there was one.
+refuse_one() {
+    local growth=$1
+    shift
+    : > told
+    timeout 60 env "REFUSED_GROWTH=$growth" "LD_PRELOAD=$work/refuse.so" "$@" 9> told
+}
 
 # Runs a test once for each of its growths, until there is no further one.
 refuse_each() {
-    local program=$1 test=$2 growth=1
+    local program=$1 test=$2 growth=1 folder
+    folder=$(mktemp -d "$work/test.XXXXXX")
+    cd "$folder" || return 1
     while :; do
-        : > "$work/told"
-        if ! (cd "$work" && timeout 60 env "REFUSED_GROWTH=$growth" "LD_PRELOAD=$work/refuse.so" "$program" "$test" \
-            > "$work/said" 2>&1 9> "$work/told"); then
-            echo "refused-growths: $test fails where growth $growth is refused"
-            tail -3 "$work/said"
+        if ! refuse_one "$growth" "$program" "$test" > said 2>&1; then
+            echo "refused-growths: $(basename "$program") $test fails where growth $growth is refused"
+            tail -3 said
             return 1
         fi
-        [[ -s $work/told ]] || break
+        [[ -s told ]] || break
         growth=$((growth + 1))
     done
-    echo "refused-growths: $test passes with each of $((growth - 1)) growths refused"
+    if [[ $growth == 1 ]]; then
+        echo "refused-growths: $(basename "$program") $test has no growth that could be refused"
+        return 1
+    fi
+    echo "refused-growths: $(basename "$program") $test passes with each of $((growth - 1)) growths refused"
+}
+export -f refuse_one refuse_each
+
+# Where in the program's work a refusal of this line stops it: words and files, lines, run, text.
+place_of() {
+    case $1 in
+    'grubrun: 47 NoMemory') echo 1 ;;
+    'grubrun: 37 NoMemory') echo 2 ;;
+    'grubrun: 38 NoMemory' | 'grubrun: 39 Spawn') echo 3 ;;
+    'grubrun: 43 NoMemory') echo 4 ;;
+    *) echo 0 ;;
+    esac
 }
 
-[[ $# -gt 0 ]] || set -- grub_book grub_wheel grub_table grub_trace grub_workers grub_run grubrun
-for crate in "$@"; do
-    cd "$root/crates/$crate"
-    rt test -- refused > "$work/proved" 2>&1 || { tail -5 "$work/proved"; exit 1; }
-    program="$root/crates/$crate/out/${crate}_tests"
-    for test in $("$program" --list | sed 's/: test$//' | grep refused); do
-        refuse_each "$program" "$test"
+# Runs the program on the first file once for each growth: the refusals come in the order of its work, each of them once
+# at least.
+refuse_program() {
+    local program=$1 growth=1 last=1 seen=' ' status line place
+    mkdir "$work/program"
+    cd "$work/program" || return 1
+    printf '%s\n' 'grub 1' 'queue 1048576 0' 'task A 4 8' 'at 0 join A' 'at 0 block A' 'at 3 wake A' > first
+    "$program" first > report || return 1
+    while :; do
+        refuse_one "$growth" "$program" first > out 2> err
+        status=$?
+        [[ -s told ]] || break
+        line=$(cat err)
+        place=$(place_of "$line")
+        if [[ $status == 0 && -z $line ]] && cmp -s out report; then
+            place=$last
+        fi
+        if [[ $place -lt $last || $place == 0 ]] || [[ $status != 0 && ( $status != 3 || -s out ) ]]; then
+            echo "refused-growths: grubrun gives status $status and '$line' where growth $growth is refused"
+            return 1
+        fi
+        last=$place
+        seen+="$place "
+        growth=$((growth + 1))
     done
-done
+    for place in 1 2 3 4; do
+        if [[ $seen != *" $place "* ]]; then
+            echo "refused-growths: no growth of grubrun is refused at place $place of its work"
+            return 1
+        fi
+    done
+    echo "refused-growths: grubrun tells each of $((growth - 1)) refused growths by its line"
+}
+
+build=no
+if [[ ${1-} == --build ]]; then
+    build=yes
+    shift
+fi
+if [[ $# -eq 0 ]]; then
+    mapfile -t named < <(cd "$root/crates" && grep -rlE '^fn [a-z_]*refused' --include='*.rt' . | cut -d/ -f2 | sort -u)
+    set -- "${named[@]}"
+fi
+passed=0
+failed=0
+count() {
+    if [[ $1 == 0 ]]; then passed=$((passed + 1)); else failed=$((failed + 1)); fi
+}
+
+for crate in "$@"; do
+    program="$root/crates/$crate/out/${crate}_tests"
+    if [[ $build == yes ]] && ! (cd "$root/crates/$crate" && rt test -- refused > "$work/proved" 2>&1); then
+        tail -5 "$work/proved"
+        exit 1
+    fi
+    if [[ ! -x $program ]]; then
+        echo "refused-growths: there is no $program; the gate makes it, or --build"
+        exit 1
+    fi
+    mapfile -t tests < <("$program" --list | sed -n 's/: test$//p' | grep refused)
+    for test in "${tests[@]}"; do
+        printf '%s\0%s\0' "$program" "$test"
+    done
+done > "$work/tests"
+# The status of each test's end, a line each.
+: > "$work/ended"
+# shellcheck disable=SC2016
+xargs -0 -r -n 2 -P "$(nproc)" bash -c 'refuse_each "$@"; echo "$?" >> "$work/ended"' - < "$work/tests"
+while read -r ended; do
+    count "$ended"
+done < "$work/ended"
+
+program="$root/crates/grubrun/out/grubrun"
+if [[ -x $program ]]; then
+    refuse_program "$program"
+    count $?
+else
+    echo "refused-growths: there is no $program; the gate makes it, and so does 'make build'"
+    count 1
+fi
+
+echo "$passed passed, $failed failed"
+[[ $failed == 0 ]]

@@ -8,6 +8,7 @@ use Rattle.grub_book.specs.History.{after, book_from, book_of, is_reading, chang
 use Rattle.grub_book.specs.declared.event.Event.{Event}
 use Rattle.grub_book.specs.declared.event.Reading.{Reading}
 use Rattle.grub_book.proofs.Histories.{book_more}
+use Rattle.grub_book.proofs.Totals.{same_sums}
 
 pub changes_from-append : (s : Machine) (book : Records) (r : ℕ) (more rest : List Event) → changes_from s book r (more ++ rest) ≡ changes_from s book r more + changes_from s (book_from s book more) r rest
 changes_from-append s book r [] rest = omega arith
@@ -20,11 +21,8 @@ pub changes-append : (s : Machine) (r : ℕ) (h more rest : List Event) → chan
 changes-append s r h more rest =
     changes_from-append s (book_of s h) r more rest ∙ ap (λ b. changes_of s r h more + changes_from s b r rest) (sym (book_more s h more))
 
-same_parts : (a b c d : ℕ) → a ≡ c → b ≡ d → let now : Reading = record { running = a; this = b } in now ≡ record { running = c; this = d }
-same_parts a b c d e f = rw (e, f) refl
-
 equal_parts : (a b : Reading) (x y : Bool) → (a.running == b.running) ≡ x → (a.this == b.this) ≡ y → (x && y) ≡ true → a ≡ b
-equal_parts a b true true running this both = same_parts a.running a.this b.running b.this (eqb-true _ _ running) (eqb-true _ _ this)
+equal_parts a b true true running this both = same_sums a.running a.this b.running b.this (eqb-true _ _ running) (eqb-true _ _ this)
 equal_parts a b true false running this both = absurd cc
 equal_parts a b false y running this both = absurd cc
 

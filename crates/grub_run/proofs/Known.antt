@@ -1,17 +1,28 @@
--- What a writer holds after several writes.
-use Rattle.std.proofs.Common.{◌≡◌, ℕ, ◌+◌, ◌++◌, List, take, drop, append_assoc, ap, ◌∙◌, sym, Option, Some, None, length, ◌-◌, arith}
-use Rattle.std.proofs.lemmas.Grind.{common_steps}
-use Rattle.std.proofs.Math.Seq.{take-add}
-use Rattle.std.specs.Io.KnownBytes.{Appends}
+-- What a writer holds after the reports went to it.
+use Rattle.std.proofs.Common.{◌≡◌, ℕ, ◌++◌, List, [], take, append_assoc, ap, ◌∙◌, sym, Option, Some, None, length}
+use Rattle.std.proofs.Math.Seq.{take-append_seam, take-length}
+use Rattle.std.specs.Io.KnownBytes.{Appends, Keeps}
+use Rattle.grub_trace.specs.Writing.{HandsOn, HandsPart}
+use Rattle.grub_run.specs.Written.{AppendsPrefix}
 
--- two writes, one after the other
-pub appends_more : (a b c : Option (List ℕ)) (text : List ℕ) (m n : ℕ) → Appends a b (take m text) → Appends b c (take n (drop m text)) → Appends a c (take (m + n) text)
-appends_more None b c text m n h k = tt
-appends_more (Some xs) None c text m n h k = absurd h
-appends_more (Some xs) (Some ys) None text m n h k = absurd k
-appends_more (Some xs) (Some ys) (Some zs) text m n h k =
-    k ∙ (ap (λ l. l ++ take n (drop m text)) h ∙ (append_assoc xs (take m text) (take n (drop m text)) ∙ ap (λ l. xs ++ l) (sym (take-add m n text))))
+-- a beginning of a beginning
+pub prefix_of : (a b : Option (List ℕ)) (text rest whole : List ℕ) → HandsPart a b [] text → whole ≡ text ++ rest → AppendsPrefix a b whole
+prefix_of None b text rest whole h is = tt
+prefix_of (Some xs) None text rest whole h is = absurd (h.1)
+prefix_of (Some xs) (Some ys) text rest whole h is =
+    let told = h.1.0 in
+    let all : whole ≡ told ++ (h.0 ++ rest) = is ∙ ap (λ l. l ++ rest) h.1.2 ∙ append_assoc told h.0 rest in
+    (length told, h.1.1 ∙ ap (λ l. xs ++ l) (sym (ap (take (length told)) all ∙ take-append_seam told (h.0 ++ rest))))
 
--- the rest of a slice, cut at its end
-pub rest_whole : (m : ℕ) (xs : List ℕ) → take (length xs - m) (drop m xs) ≡ drop m xs
-rest_whole m xs = grind (arith, common_steps)
+-- all of it, and a flush that failed
+pub prefix_flushed : (a b c : Option (List ℕ)) (text : List ℕ) → Appends a b text → Keeps b c → AppendsPrefix a c text
+prefix_flushed None b c text h k = tt
+prefix_flushed (Some xs) None c text h k = absurd h
+prefix_flushed (Some xs) (Some ys) None text h k = absurd k
+prefix_flushed (Some xs) (Some ys) (Some zs) text h k = (length text, k ∙ h ∙ ap (λ l. xs ++ l) (sym (take-length text)))
+
+pub appends_flushed : (a b c : Option (List ℕ)) (text : List ℕ) → Appends a b text → Keeps b c → Appends a c text
+appends_flushed None b c text h k = tt
+appends_flushed (Some xs) None c text h k = absurd h
+appends_flushed (Some xs) (Some ys) None text h k = absurd k
+appends_flushed (Some xs) (Some ys) (Some zs) text h k = k ∙ h

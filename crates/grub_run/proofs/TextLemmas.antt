@@ -1,5 +1,5 @@
 -- The texts of reports, one more at the end.
-use Rattle.std.proofs.Common.{◌≡◌, ℕ, suc, ◌+◌, List, [], ◌∷◌, ◌++◌, length, ap, ◌∙◌, sym, append_assoc, append-nil, add-zero, arith, take, get_or, refl, ◌<◌, ◌≤◌, map, subst}
+use Rattle.std.proofs.Common.{◌≡◌, ℕ, zero, suc, ◌+◌, List, [], ◌∷◌, ◌++◌, length, ap, ◌∙◌, sym, append_assoc, append-nil, add-zero, arith, take, get_or, refl, ◌<◌, ◌≤◌, map, subst}
 use Rattle.std.proofs.lemmas.List.{take_more, length-map, length-take-le}
 use Rattle.grub_book.specs.declared.event.Reading.{Reading}
 use Rattle.grub_trace.specs.Texts.{report_text}
@@ -24,17 +24,32 @@ texts_push names r (x' ∷ xs) (c' ∷ cs) x c e =
     ∙ sym (append_assoc (report_text names r x'.entries.items c') (texts_from names (r + 1) xs cs) (report_text names (r + suc (length xs)) x.entries.items c))
 
 -- the text after one report more
-pub texts_more : (names : List (List ℕ)) (xs : List Report) (cs : List Reading) (r : ℕ) (x : Report) (c : Reading) (text part new : List ℕ)
-    → length xs ≡ length cs → r < length xs → get_or xs r x ≡ x → get_or cs r c ≡ c
-    → text ≡ texts_from names 0 (take r xs) (take r cs) → part ≡ report_text names r x.entries.items c → new ≡ text ++ part
-    → new ≡ texts_from names 0 (take (r + 1) xs) (take (r + 1) cs)
-texts_more names xs cs r x c text part new same below x_is c_is text_is part_is new_is =
+pub texts_next : (names : List (List ℕ)) (xs : List Report) (cs : List Reading) (r : ℕ) (x : Report) (c : Reading) → length xs ≡ length cs → r < length xs → get_or xs r x ≡ x → get_or cs r c ≡ c
+    → texts_from names 0 (take r xs) (take r cs) ++ report_text names r x.entries.items c ≡ texts_from names 0 (take (r + 1) xs) (take (r + 1) cs)
+texts_next names xs cs r x c same below x_is c_is =
     let len : length (take r xs) ≡ r = length-take-le r xs (omega arith) in
     let lens : length (take r xs) ≡ length (take r cs) = len ∙ sym (length-take-le r cs (omega arith)) in
     let more_xs : take (r + 1) xs ≡ take r xs ++ x ∷ [] = take_more xs r x below ∙ ap (λ y. take r xs ++ y ∷ []) x_is in
     let more_cs : take (r + 1) cs ≡ take r cs ++ c ∷ [] = take_more cs r c (omega arith) ∙ ap (λ y. take r cs ++ y ∷ []) c_is in
     let at : 0 + length (take r xs) ≡ r = omega arith in
-    rw (more_xs, more_cs, texts_push names 0 (take r xs) (take r cs) x c lens, at, new_is, text_is, part_is) refl
+    rw (more_xs, more_cs, texts_push names 0 (take r xs) (take r cs) x c lens, at) refl
+
+-- the texts of the first reports are a beginning of all
+pub texts_front : (names : List (List ℕ)) (r n : ℕ) (xs : List Report) (cs : List Reading) → (rest : List ℕ) × (texts_from names r xs cs ≡ texts_from names r (take n xs) (take n cs) ++ rest)
+texts_front names r zero xs cs = (texts_from names r xs cs, refl)
+texts_front names r (suc n) [] cs = ([], refl)
+texts_front names r (suc n) (x ∷ xs) [] = ([], refl)
+texts_front names r (suc n) (x ∷ xs) (c ∷ cs) =
+    let more = texts_front names (r + 1) n xs cs in
+    let here = report_text names r x.entries.items c in
+    (more.0, ap (λ t. here ++ t) more.1 ∙ sym (append_assoc here (texts_from names (r + 1) (take n xs) (take n cs)) more.0))
+
+-- the texts so far and the next report are a beginning of all
+pub texts_before : (names : List (List ℕ)) (xs : List Report) (cs : List Reading) (r : ℕ) (x : Report) (c : Reading) → length xs ≡ length cs → r < length xs → get_or xs r x ≡ x → get_or cs r c ≡ c
+    → (rest : List ℕ) × (texts_from names 0 xs cs ≡ (texts_from names 0 (take r xs) (take r cs) ++ report_text names r x.entries.items c) ++ rest)
+texts_before names xs cs r x c same below x_is c_is =
+    let more = texts_front names 0 (r + 1) xs cs in
+    (more.0, more.1 ∙ ap (λ t. t ++ more.0) (sym (texts_next names xs cs r x c same below x_is c_is)))
 
 -- reports with the same entries have one text
 texts_same : (names : List (List ℕ)) (r : ℕ) (xs ys : List Report) (cs : List Reading) → map entries_of xs ≡ map entries_of ys → texts_from names r xs cs ≡ texts_from names r ys cs

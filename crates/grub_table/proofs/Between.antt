@@ -1,5 +1,5 @@
 -- From what the single steps tell to what is known between the steps of a call.
-use Rattle.std.proofs.Common.{◌≡◌, ◌≢◌, ℕ, ◌<◌, Bool, true, false, [], length, ap, sym, ◌∙◌, subst, arith, eqb, eq-eqb}
+use Rattle.std.proofs.Common.{◌≡◌, ◌≢◌, ℕ, ◌<◌, Bool, true, false, [], ◌∷◌, ◌++◌, length, ap, sym, ◌∙◌, subst, arith, eqb, eq-eqb}
 use Rattle.std.proofs.lemmas.Bool.{eqb-true}
 use Rattle.grub_bw.specs.Bandwidth.{Reservation, IsReservation}
 use Rattle.grub_bw.specs.declared.server.Server.{Server}
@@ -14,23 +14,41 @@ use Rattle.grub_table.specs.declared.pass.Pass.{Pass}
 use Rattle.grub_table.specs.declared.pass.Shared.{Shared}
 use Rattle.grub_table.specs.declared.view.Hold.TheVariants.{Free}
 use Rattle.grub_table.specs.declared.view.Note.{Note}
+use Rattle.grub_table.specs.declared.view.Access.{Access}
 use Rattle.grub_table.specs.declared.view.Share.{Share}
 use Rattle.grub_table.specs.declared.view.Terms.{Terms}
-use Rattle.grub_table.specs.Between.{TheSeat, share_on, IsSeatOf, HoldsFor, HoldsMade, Tells, Leaves, GivenUp, SawReading, SawParams, SawServer, SawQueue, Exchanged, Concluded}
+use Rattle.grub_table.specs.Between.{TheSeat, share_on, made_on, IsSeatOf, HoldsFor, HoldsMade, Tells, Leaves, GivenUp, SawReading, SawParams, SawServer, SawQueue, Exchanged, Concluded}
 use Rattle.grub_table.specs.declared.view.Stored.{Stored}
 use Rattle.grub_table.specs.Histories.{Finishes, record_in, reading_in}
 use Rattle.grub_table.specs.Layout.{queue_word_at, stored_of}
 use Rattle.grub_book.specs.Step.{early}
 use Rattle.grub_table.specs.Tellings.{Turns, OfQueue, outcome, is_decided_at_load, DecidesIf, Decides, Looked, LoadedParams, LoadedServer, LoadedQueue, LoadedQueueAs, ChangedQueue, GaveClaim, Sees, IsReadingFor}
+use Rattle.grub_table.specs.Trails.{each_after, head_made, known, lone, trail}
 use Rattle.grub_table.specs.Views.{alone}
 use Rattle.grub_table.proofs.Turns.{under}
 
 -- what a step tells, in terms of the table's own setup
-pub tells_of : (s : Shared) (P : Terms → Share → Share → Type 0) (old new : TheSeat) → IsSeatOf s old → new.table_id ≡ old.table_id → Turns {S = Note} P old.me new.me → Tells s P old new
-tells_of s P old new is same t = record {
+made_after : (s : Shared) (old new : TheSeat) (a : Access) → IsSeatOf s old → new.me.0.made ≡ each_after old.me.0.made a → new.me.0.made ≡ (made_on old ++ a ∷ []) ∷ []
+made_after s old new a is made = made ∙ ap (λ m. each_after m.0.made a) is.single
+
+-- the access is the pass's own
+pub made_more : (s : Shared) (old new : TheSeat) (a : Access) → IsSeatOf s old → new.me.0.made ≡ each_after old.me.0.made a → made_on new ≡ made_on old ++ a ∷ []
+made_more s old new a is made = ap head_made (made_after s old new a is made)
+
+-- the same, at a word that is known by its place
+pub made_at : (s : Shared) (old new : TheSeat) (k : ℕ → Access) (i j : ℕ) → IsSeatOf s old → new.me.0.made ≡ each_after old.me.0.made (k i) → i ≡ j → made_on new ≡ made_on old ++ k j ∷ []
+made_at s old new k i j is made at = made_more s old new (k i) is made ∙ ap (λ w. made_on old ++ k w ∷ []) at
+
+pub tells_of : (s : Shared) (P : Terms → Share → Share → Type 0) (old new : TheSeat) (a : Access) → IsSeatOf s old → new.table_id ≡ old.table_id → Turns {S = Note} P (known old.me) (known new.me) → new.me.0.made ≡ each_after old.me.0.made a
+    → Tells s P old new
+tells_of s P old new a is same t made = record {
   seat = record {
     home = same ∙ is.home;
-    single = t.single ∙ ap (λ c. (alone (share_on new), c)) (ap (λ m. m.1) is.single);
+    single =
+        let one = made_after s old new a is made in
+        let lists : new.me.0.made ≡ made_on new ∷ [] = one ∙ sym (ap (λ l. head_made l ∷ []) one) in
+        let views : known new.me ≡ (alone (share_on new), []) = t.single ∙ ap (λ m. (alone (share_on new), m.1)) is.single in
+        λ i. (trail (views i).0 (lists i), (views i).1);
     terms = t.terms ∙ is.terms;
   };
   number = t.number;
@@ -116,7 +134,7 @@ module _ (s : Shared) (old new : TheSeat) (t : ℕ) (op : Op) (rec : Record) (h 
 -- ---- the task is given back
 -- the ghost fields of a pass, of the seat that it gets
 pub record MayBePass (seat : TheSeat) (number : ℕ) : Type 0 where
-  pub single : seat.me ≡ (alone (share_on seat), [])
+  pub single : seat.me ≡ (lone (share_on seat) (made_on seat), [])
   pub numbered : (share_on seat).number ≡ number
   pub free : (share_on seat).hold ≡ Free
 

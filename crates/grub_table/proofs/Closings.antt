@@ -75,7 +75,7 @@ pub is_reading_of : (words : List ℕ) (r found : ℕ) (now : Reading) → get_e
 is_reading_of words r found now at fits is = record { fits = fits; word = get_at words (queue_word_at r) found at ∙ sym is }
 
 -- what is known of the rule's words at the end, and of the shares that stand together
-module _ {S : Type 0} (self : Shared) (s : State S View) (id : ℕ) (v : View) (ps : List Pass) (words : List ℕ) (readings : List Reading) (kept : Kept self.table.shared.key s) (at : get_elem? s.views id ≡ some v)
+module _ {S : Type 0} (self : Shared) (s : State S View) (id : ℕ) (v : View) (ps : List Pass) (words : List ℕ) (readings : List Reading) (kept : Kept self.table.inner.shared.key s) (at : get_elem? s.views id ≡ some v)
     (shares : v.shares ≡ map share_of ps) (same : s.words ≡ words) (all : (terms self).passes ≤ length ps) where
   rule : Kept self.terms s
   rule = subst (λ (T : Terms). Kept T s) self.kept kept

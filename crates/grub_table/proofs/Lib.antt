@@ -3,6 +3,7 @@ pub mod Marks
 pub mod Seats
 pub mod Rows
 pub mod Moves
+pub mod Counts
 pub mod Turns
 pub mod TaskTurns
 pub mod ClaimTurns
@@ -16,3 +17,4 @@ pub mod Pigeons
 pub mod Meets
 pub mod Closings
 pub mod Tries
+pub mod Brief

@@ -1,13 +1,21 @@
 -- Two beginnings of one history, or of one list of marks.
-use Rattle.std.proofs.Common.{◌≡◌, ◌⊎◌, Bool, List, [], ◌∷◌, ◌++◌, length, drop, filter, sym, refl, ap, ◌∙◌, subst, ⊎_elim, inl, inr, arith, append-nil, length-append, ◌==◌}
+use Rattle.std.proofs.Common.{◌≡◌, ◌⊎◌, Bool, List, [], ◌∷◌, ◌++◌, length, drop, filter, sym, refl, ap, ◌∙◌, subst, ⊎_elim, inl, inr, arith, append-nil, append_assoc, length-append, ◌==◌}
 use Rattle.std.proofs.lemmas.List.{nil_from_length}
 use Rattle.std.proofs.lemmas.List.Elements.{filter-append}
 use Rattle.grub_book.specs.History.{StartsWith, calls_of, pass_of}
 use Rattle.grub_table.specs.declared.pass.Pass.{Pass}
 use Rattle.grub_table.specs.declared.view.Share.{Share}
-use Rattle.grub_table.specs.Calls.{IsBehind, IsMarkedBehind, share_of}
+use Rattle.grub_table.specs.declared.view.Access.TheVariants.{Load}
+use Rattle.grub_table.specs.declared.view.Note.{Note}
+use Rattle.grub_table.specs.declared.view.Trail.{Trail}
+use Rattle.grub_table.specs.declared.view.View.{View}
+use Rattle.grub_table.specs.Accesses.{meeting_loads}
+use Rattle.grub_table.specs.Between.{TheSeat}
+use Rattle.grub_table.specs.Calls.{IsBehind, IsMarkedBehind, accesses, share_of}
 use Rattle.grub_table.specs.Marks.{marks_of, marker_of}
-use Rattle.grub_table.specs.Views.{StandTogether}
+use Rattle.grub_table.specs.Trails.{Accesses, each_after, joined, known, left_trail, lone, right_trail, trail}
+use Rattle.grub_table.specs.Views.{StandTogether, view}
+use Rattle.atomic_table.specs.Table.{Me}
 
 head_or : {A : Type 0} → A → List A → A
 head_or a [] = a
@@ -63,3 +71,36 @@ module _ (p q : Pass) (t : StandTogether (share_of p ∷ share_of q ∷ [])) whe
       (λ (s : StartsWith y.marks x.marks). inl (record { starts = s; own = subst (λ n. marks_of n y.marks ≡ marks_of n x.marks) p.numbered (none_between (λ m. marker_of m == x.number) h x.marks y.marks b.starts s a.own) }))
       (λ (s : StartsWith x.marks y.marks). inr (record { starts = s; own = subst (λ n. marks_of n x.marks ≡ marks_of n y.marks) q.numbered (none_between (λ m. marker_of m == y.number) h y.marks x.marks a.starts s b.own) }))
       (either_first h x.marks y.marks a.starts b.starts)
+
+-- the trails of two passes that meet: joined, looking, and each with a seat of its own again
+module _ (p q : Pass) (j : TheSeat) (joins : j.me ≡ (joined q.seat.me.0 p.seat.me.0, q.seat.me.1)) where
+  abbrev both : View
+  both = view (share_of p ∷ share_of q ∷ [])
+
+  abbrev lists : List Accesses
+  lists = (accesses p ++ Load 0 ∷ []) ∷ (accesses q ++ Load 0 ∷ []) ∷ []
+
+  join_is : j.me ≡ (trail both lists, [])
+  join_is = joins ∙ (λ i. (joined (q.single i).0 (p.single i).0, (q.single i).1))
+
+  pub both_known : j.me.0.view ≡ both
+  both_known = ap (λ m. m.0.view) join_is
+
+  module _ (l : TheSeat) (sees : known l.me ≡ known j.me) (made : l.me.0.made ≡ each_after j.me.0.made (Load 0)) where
+    load_is : l.me ≡ (trail both (each_after lists (Load 0)), [])
+    load_is =
+        let what : known l.me ≡ (both, []) = sees ∙ ap known join_is in
+        let how : l.me.0.made ≡ each_after lists (Load 0) = made ∙ ap (λ m. each_after m.0.made (Load 0)) join_is in
+        λ i. (trail (what i).0 (how i), (what i).1)
+
+    pub both_seen : l.me.0.view ≡ both
+    both_seen = ap (λ m. m.0.view) load_is
+
+    three : (made : Accesses) → ((made ++ Load 0 ∷ []) ++ Load 0 ∷ []) ++ Load 0 ∷ [] ≡ made ++ meeting_loads
+    three made = append_assoc (made ++ Load 0 ∷ []) (Load 0 ∷ []) (Load 0 ∷ []) ∙ append_assoc made (Load 0 ∷ []) (Load 0 ∷ Load 0 ∷ [])
+
+    pub right_is : (m : Me Note Trail) → m ≡ (right_trail l.me.0, []) → m ≡ (lone (share_of p) (accesses p ++ meeting_loads), [])
+    right_is m is = is ∙ ap (λ m. (right_trail m.0, [])) load_is ∙ ap (λ made. (lone (share_of p) made, [])) (three (accesses p))
+
+    pub left_is : (m : Me Note Trail) → m ≡ (left_trail l.me.0, l.me.1) → m ≡ (lone (share_of q) (accesses q ++ meeting_loads), [])
+    left_is m is = is ∙ ap (λ m. (left_trail m.0, m.1)) load_is ∙ ap (λ made. (lone (share_of q) made, [])) (three (accesses q))

@@ -35,7 +35,7 @@ since_more T h h' grips more since t i before stored is = let s = since t i befo
 
 -- the book of a table's history is sound, and so each reading has a word
 pub sound : (T : Terms) (h : List Event) → AreLimited T.setup → IsHistory T h → IsSound T.setup (book_of T.setup h)
-sound T h are is = sound_legal T.setup h are.reservations is.legal
+sound T h are is = sound_legal T.setup h are is.legal
 
 pub reading_fits : (T : Terms) (h : List Event) (r : ℕ) → AreLimited T.setup → IsHistory T h → r < length T.setup.queues → QueueFits (reading_of (book_of T.setup h) r)
 reading_fits T h r are is lt = QueueFits-sound T.setup (book_of T.setup h) r (sound T h are is) lt (are.capacities r lt)

@@ -67,7 +67,7 @@ early_is x (Retune q p) reply is = absurd cc
 -- ---- the task's word
 -- what a free task's word says is the task's place and count
 pub word_says : (s : Shared) (w : TaskWord) (rec : Record) → PlaceFits w.place → IsKept s.terms.setup rec → task_word w.place w.count false ≡ shown rec false → (w.place ≡ rec.place) × (w.count ≡ rec.count)
-word_says s w rec fits kept is = let f = same_fields w.place rec.place w.count rec.count false false fits (PlaceFits-kept s.terms.setup rec s.limited.machine kept) is in (f.0, f.1)
+word_says s w rec fits kept is = let f = same_fields w.place rec.place w.count rec.count false false fits (PlaceFits-kept s.terms.setup rec s.limited kept) is in (f.0, f.1)
 
 module _ (s : Shared) (n : Note) (found : ℕ) (old new : TheSeat) (told : Tells s (LoadedTask n found) old new) where
   abbrev rec : Record
@@ -90,7 +90,7 @@ module _ (s : Shared) (n : Note) (found : ℕ) (old new : TheSeat) (told : Tells
       let P : Type 0 = Sees s.terms (share_on old) (share_on new) × IsOthers s.terms (share_on old).number n.task found (share_on new) in
       let seen : P = ⊎_elim (λ (a : P). a)
       (λ (f : (found ≡ shown rec false) × IsKept s.terms.setup rec × CallsIf (refused rec.place rec.count n.op) s.terms (share_on old) n.task n.op (share_on new)).
-      absurd (none rec.place rec.count (PlaceFits-kept s.terms.setup rec s.limited.machine f.1) f.1.count (sym f.0)))
+      absurd (none rec.place rec.count (PlaceFits-kept s.terms.setup rec s.limited f.1) f.1.count (sym f.0)))
       told.of.2 in
       tells_as s (LoadedTask n found) (SawTask n.task n.op (Err found)) old new told (told.of.0, told.of.1, seen.0, seen.1)
 

@@ -1,5 +1,5 @@
 -- What stands between the steps of a call: the seat of a pass, and what it was told.
-use Rattle.std.specs.Prelude.{◌≡◌, ◌≢◌, ℕ, ◌<◌, Bool, true, false, [], length, None, Result, Ok, Err}
+use Rattle.std.specs.Prelude.{◌≡◌, ◌≢◌, ℕ, ◌<◌, Bool, true, false, List, [], length, None, Result, Ok, Err}
 use Rattle.atomic_table.specs.declared.shared.Seat.{Seat}
 use Rattle.grub_book.specs.Op.{IsOp}
 use Rattle.grub_book.specs.Sound.{IsKept}
@@ -18,26 +18,32 @@ use Rattle.grub_table.specs.declared.view.Note.{Note}
 use Rattle.grub_table.specs.declared.view.Share.{Share}
 use Rattle.grub_table.specs.declared.view.Stored.{Stored}
 use Rattle.grub_table.specs.declared.view.Terms.{Terms}
-use Rattle.grub_table.specs.declared.view.View.{View}
+use Rattle.grub_table.specs.declared.view.Access.{Access}
+use Rattle.grub_table.specs.declared.view.Trail.{Trail}
 use Rattle.grub_words.specs.declared.task.TaskWord.{TaskWord}
 use Rattle.grub_table.specs.Histories.{Finishes, record_in, reading_in}
 use Rattle.grub_table.specs.Layout.{stored_of}
 use Rattle.grub_table.specs.Tellings.{Adds, CallsIf, Decides, DecidesIf, Gave, IsOthers, IsReadingFor, LoadedQueueAs, Sees, is_decided_at_load, outcome}
-use Rattle.grub_table.specs.Views.{alone, first_of}
+use Rattle.grub_table.specs.Trails.{lone, first_made}
+use Rattle.grub_table.specs.Views.{first_of}
 
 abbrev pub TheSeat : Type 0
-TheSeat = Seat Note View
+TheSeat = Seat Note Trail
 
 abbrev pub share_on : TheSeat → Share
-share_on seat = first_of seat.me.0
+share_on seat = first_of seat.me.0.view
+
+-- the accesses that the pass has made
+abbrev pub made_on : TheSeat → List Access
+made_on seat = first_made seat.me.0
 
 abbrev pub hold_of : TheSeat → Hold
 hold_of seat = (share_on seat).hold
 
 -- the seat of one pass of this table
 pub record IsSeatOf (s : Shared) (seat : TheSeat) : Type 0 where
-  pub home : seat.table_id ≡ s.table.shared.table_id
-  pub single : seat.me ≡ (alone (share_on seat), [])
+  pub home : seat.table_id ≡ s.table.inner.shared.table_id
+  pub single : seat.me ≡ (lone (share_on seat) (made_on seat), [])
   pub terms : (share_on seat).terms ≡ s.terms
 
 -- the seat is still of the same pass, and this is told of its shares
@@ -106,10 +112,10 @@ Concluded t T x y = (y.seen ≡ x.seen) × Gave T x t y
 
 -- the pass whose seat this was, of which this is told
 pub record Leaves (s : Shared) (told : Terms → Share → Share → Type 0) (old : TheSeat) (q : Pass) : Type 0 where
-  pub home : q.seat.table_id ≡ s.table.shared.table_id
-  pub terms : (first_of q.seat.me.0).terms ≡ s.terms
-  pub number : (first_of q.seat.me.0).number ≡ (share_on old).number
-  pub of : told s.terms (share_on old) (first_of q.seat.me.0)
+  pub home : q.seat.table_id ≡ s.table.inner.shared.table_id
+  pub terms : (first_of q.seat.me.0.view).terms ≡ s.terms
+  pub number : (first_of q.seat.me.0.view).number ≡ (share_on old).number
+  pub of : told s.terms (share_on old) (first_of q.seat.me.0.view)
 
 -- the seat holds a task whose call is made: its record is now this one, and its words are still to be stored
 pub record HoldsMade (s : Shared) (seat : TheSeat) (t : ℕ) (now : Record) (stored : Stored) : Type 0 where

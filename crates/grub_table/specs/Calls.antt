@@ -1,5 +1,5 @@
 -- What the calls of a table promise, in terms of its passes and claims.
-use Rattle.std.specs.Prelude.{Bool, true, false, IsTrue, ◌≡◌, ◌≢◌, ℕ, suc, ◌-◌, ◌<◌, ◌≤◌, List, [], ◌∷◌, length, slice_index_or, ◌⊎◌, None, if◌then◌else◌}
+use Rattle.std.specs.Prelude.{Bool, true, false, IsTrue, ◌≡◌, ◌≢◌, ℕ, suc, ◌-◌, ◌<◌, ◌≤◌, List, [], ◌∷◌, ◌++◌, length, slice_index_or, ◌⊎◌, None, if◌then◌else◌}
 use Rattle.grub_book.specs.Machine.{Machine}
 use Rattle.grub_book.specs.Op.{IsOp}
 use Rattle.grub_book.specs.History.{calls_of, StartsWith, HasChanged}
@@ -12,6 +12,7 @@ use Rattle.grub_book.specs.declared.op.Op.{Op}
 use Rattle.grub_book.specs.declared.place.Record.{Record}
 use Rattle.grub_book.specs.declared.reply.Reply.{Reply}
 use Rattle.grub_book.specs.declared.reply.Reply.TheVariants.{Early}
+use Rattle.grub_table.specs.declared.view.Access.{Access}
 use Rattle.grub_table.specs.declared.view.Mark.{Mark}
 use Rattle.grub_table.specs.declared.view.Mark.TheVariants.{Taken, Given}
 use Rattle.grub_table.specs.declared.view.Terms.{Terms}
@@ -30,14 +31,16 @@ use Rattle.grub_table.specs.declared.pass.CloseFault.{CloseFault}
 use Rattle.grub_table.specs.declared.pass.CloseWhy.{CloseWhy}
 use Rattle.grub_table.specs.declared.pass.CloseWhy.TheVariants.{Missing, NoMemory}
 use Rattle.grub_table.specs.Marks.{AreLawful, MarksGo, marks_of}
-use Rattle.grub_table.specs.Layout.{shown}
+use Rattle.grub_table.specs.Accesses.{FinishesBriefly, lost_tries}
+use Rattle.grub_table.specs.Layout.{queue_word_at, shown}
 use Rattle.grub_table.specs.Histories.{Every, IsHistory, Grows, Finishes, WasBefore, record_in, reading_in}
+use Rattle.grub_table.specs.Trails.{first_made}
 use Rattle.grub_table.specs.Views.{first_of}
 use Rattle.grub_table.specs.Tellings.{IsHeldByOther, WasClaimedWord}
 
 -- ---- what a pass or a claim knows
 abbrev pub share_of : Pass → Share
-share_of p = first_of p.seat.me.0
+share_of p = first_of p.seat.me.0.view
 
 abbrev pub number_of : Pass → ℕ
 number_of p = p.number
@@ -50,8 +53,12 @@ seen p = (share_of p).seen
 abbrev pub marks : Pass → List Mark
 marks p = (share_of p).marks
 
+-- the accesses of the table's words that the pass has made, the first one first
+abbrev pub accesses : Pass → List Access
+accesses p = first_made p.seat.me.0
+
 abbrev pub claim_share : Claim → Share
-claim_share c = first_of c.seat.me.0
+claim_share c = first_of c.seat.me.0.view
 
 abbrev pub claim_number : Claim → ℕ
 claim_number c = c.number
@@ -76,20 +83,24 @@ claim_seen c = (claim_share c).seen
 abbrev pub claim_marks : Claim → List Mark
 claim_marks c = (claim_share c).marks
 
+-- the accesses of the table's words that it has made, its pass before it among them
+abbrev pub claim_accesses : Claim → List Access
+claim_accesses c = first_made c.seat.me.0
+
 -- what the table was opened for
 abbrev pub terms : Shared → Terms
 terms s = s.terms
 
 -- the pass comes from this table
 pub record IsPassOf (s : Shared) (p : Pass) : Type 0 where
-  pub home : p.seat.table_id ≡ s.table.shared.table_id
+  pub home : p.seat.table_id ≡ s.table.inner.shared.table_id
   pub terms : (share_of p).terms ≡ s.terms
   pub history : IsHistory s.terms (seen p)
   pub lawful : AreLawful s.terms.passes (marks p)
 
 -- the claim comes from this table, and holds a task whose record is the one that it names, for an op that neither the record nor the server refuses
 pub record IsClaimOf (s : Shared) (c : Claim) : Type 0 where
-  pub home : c.seat.table_id ≡ s.table.shared.table_id
+  pub home : c.seat.table_id ≡ s.table.inner.shared.table_id
   pub terms : (claim_share c).terms ≡ s.terms
   pub history : IsHistory s.terms (claim_seen c)
   pub lawful : AreLawful s.terms.passes (claim_marks c)
@@ -237,6 +248,12 @@ IsStarted s p t op (Answered q reply) = IsAnswered s p t op q reply
 IsStarted s p t op (started.Held c) = IsTaken s p t op c
 IsStarted s p t op (Busy q sighting) = IsBusy s p t q sighting
 
+-- the accesses of the pass or the claim that `start` answers with
+abbrev pub started_accesses : Started → List Access
+started_accesses (Answered q reply) = accesses q
+started_accesses (started.Held c) = claim_accesses c
+started_accesses (Busy q sighting) = accesses q
+
 -- whether the op of a claim changes a sum of its runqueue
 abbrev pub claim_changes_sum : Claim → Bool
 claim_changes_sum c = changes_sum (claim_record c) (claim_op c)
@@ -270,6 +287,11 @@ pub record IsLost (s : Shared) (c : Claim) (tries : ℕ) (d : Claim) : Type 0 wh
 abbrev pub IsFinished : Shared → Claim → ℕ → Finished → Type 0
 IsFinished s c tries (Done q reply) = IsDone s c tries q reply
 IsFinished s c tries (Held d) = IsLost s c tries d
+
+-- `finish` made the call within so many tries; where it gave the claim back it made just these, and lost each
+abbrev pub IsWithin : Claim → ℕ → Finished → Type 0
+IsWithin c tries (Done q reply) = FinishesBriefly (queue_word_at (claim_queue c)) tries (claim_changes_sum c) (claim_accesses c) (accesses q)
+IsWithin c tries (Held d) = claim_accesses d ≡ claim_accesses c ++ lost_tries (queue_word_at (claim_queue c)) tries
 
 -- `cancel` gave the task back
 pub record IsCancelled (s : Shared) (c : Claim) (q : Pass) : Type 0 where

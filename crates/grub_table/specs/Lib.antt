@@ -9,3 +9,6 @@ pub mod Between
 pub mod FirstWords
 pub mod Tries
 pub mod Messages
+pub mod Trails
+pub mod Accesses
+pub mod Brief

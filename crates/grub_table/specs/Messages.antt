@@ -2,6 +2,7 @@
 use Rattle.std.specs.Prelude.{ℕ, List, codes, ◌++◌, decimal}
 use Rattle.grub_table.specs.declared.pass.OpenFault.{OpenFault}
 use Rattle.grub_table.specs.declared.pass.OpenFault.TheVariants as opens
+use Rattle.grub_table.specs.declared.pass.CloseFault.{CloseFault}
 use Rattle.grub_table.specs.declared.pass.CloseWhy.{CloseWhy}
 use Rattle.grub_table.specs.declared.pass.CloseWhy.TheVariants.{Missing, NoMemory}
 
@@ -14,3 +15,7 @@ open_fault_text opens.NoMemory = codes "25 NoMemory"
 abbrev pub close_why_text : CloseWhy → List ℕ
 close_why_text (Missing n) = codes "26 Missing(" ++ decimal n ++ codes ")"
 close_why_text NoMemory = codes "42 NoMemory"
+
+-- a refused close prints why it was refused
+abbrev pub close_fault_text : CloseFault → List ℕ
+close_fault_text fault = close_why_text fault.why

@@ -5,11 +5,9 @@ use Rattle.std.specs.Prelude.{◌≡◌, ◌≢◌, ℕ, ◌<◌, true, false, L
 use mathlib.Core.Option.{some}
 use lib.ListN.{get_elem?}
 use Rattle.atomic_table.specs.Table.{State}
-use Rattle.grub_bw.specs.Bandwidth.{IsCapacity}
-use Rattle.grub_book.specs.Machine.{Machine, IsMachine, queue_at}
+use Rattle.grub_book.specs.Machine.{Machine, IsMachine}
 use Rattle.grub_book.specs.Sums.{Records, record_at, reading_of}
 use Rattle.grub_book.specs.History.{book_of, StartsWith}
-use Rattle.grub_book.specs.Sound.{AreReservations}
 use Rattle.grub_book.specs.declared.event.Event.{Event}
 use Rattle.grub_book.specs.declared.place.Record.{Record}
 use Rattle.grub_words.specs.Words.{queue_word}
@@ -26,10 +24,8 @@ use Rattle.grub_table.specs.Histories.{Every, IsHistory, record_in}
 use Rattle.grub_table.specs.Views.{ShareOf, MarkedBy}
 
 -- all numbers of a setup are within the limits
-pub record AreLimited (s : Machine) : Type 0 where
-  pub machine : IsMachine s
-  pub reservations : AreReservations s
-  pub capacities : (r : ℕ) → r < length s.queues → IsCapacity (queue_at s r)
+abbrev pub AreLimited : Machine → Type 0
+AreLimited s = IsMachine s
 
 -- the share stands in the view of the seat that owns its number
 abbrev pub Stands : Terms → List Event → (ℕ → ℕ) → ℕ → Share → Type 0

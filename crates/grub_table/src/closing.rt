@@ -5,7 +5,6 @@ ghost use Rattle.grub_table.specs.Calls.{terms, IsPassOf, IsClosed, IsRefusal};
 
 use crate::pass::{CloseFault, CloseWhy, Pass, Shared};
 use crate::row::{SPACING, reading_in};
-use crate::rule::All;
 use grub_book::Reading;
 use std::alloc::Global;
 
@@ -65,7 +64,7 @@ impl Shared {
                 seat: one,
                 number: _,
             } = pass;
-            self.table.shared.join_seat::<All>(&mut seat, one);
+            self.table.join_seat(&mut seat, one);
         }
         let Shared { table, terms: _ } = self;
         let closed = table.close_with(seat);

@@ -1,15 +1,17 @@
 //! A call that took its task is made, or given up.
-ghost use Rattle.std.specs.Prelude.{◌≡◌, ℕ, ◌<◌, ◌≤◌, ◌+◌, length, true, false};
+ghost use Rattle.std.specs.Prelude.{◌≡◌, ℕ, ◌<◌, ◌≤◌, ◌+◌, [], ◌∷◌, ◌++◌, length, true, false};
 ghost use Rattle.grub_book.specs.Sound.{IsKept};
 ghost use Rattle.grub_book.specs.Step.{changes_sum, runqueue_of};
-ghost use Rattle.grub_table.specs.Between.{Concluded, HoldsFor, HoldsMade, Leaves, Tells, share_on};
-ghost use Rattle.grub_table.specs.Calls.{claim_changes_sum, claim_number, claim_op, claim_task, number_of, terms, IsCancelled, IsClaimOf, IsFinished};
-ghost use Rattle.grub_table.specs.Layout.{stored_of};
+ghost use Rattle.grub_table.specs.declared.view.Access.TheVariants.{Store};
+ghost use Rattle.grub_table.specs.Between.{Concluded, HoldsFor, HoldsMade, Leaves, Tells, made_on, share_on};
+ghost use Rattle.grub_table.specs.Brief.{StoresFew, TriesOnce};
+ghost use Rattle.grub_table.specs.Calls.{accesses, claim_accesses, claim_changes_sum, claim_number, claim_op, claim_task, number_of, terms, IsCancelled, IsClaimOf, IsFinished, IsWithin};
+ghost use Rattle.grub_table.specs.Layout.{queue_word_at, task_word_at, stored_of};
 ghost use Rattle.grub_table.specs.Tellings.{is_decided_at_load};
 ghost use Rattle.grub_table.specs.Tries.{half_stored, is_charge, Knows, Tried};
 
 use crate::pass::{Claim, Finished, Pass, Shared};
-use crate::view::{Note, View};
+use crate::view::{Note, Trail};
 use atomic_table::Seat;
 use grub_book::{Op, Reading, Record, Reply, changes_sum, runqueue, settle, shifted};
 use grub_words::pack_params;
@@ -58,7 +60,8 @@ impl Shared {
     /// The claim is given back where all `tries` were lost, each to a change of that runqueue's reading. An op that changes no sum needs no try.
     pub fn finish(&self, claim: Claim, tries: u8) -> Finished
         requires { IsClaimOf self.now claim }
-        ensures { IsFinished self.now claim tries result }
+        ensures finished { IsFinished self.now claim tries result }
+        ensures within { IsWithin claim tries result }
     {
         if changes_sum(&claim.held, claim.op) {
             return self.finish_sum(claim, tries);
@@ -73,7 +76,8 @@ impl Shared {
     /// Gives the task back. Nothing is added to the history.
     pub fn cancel(&self, claim: Claim) -> Pass
         requires { IsClaimOf self.now claim }
-        ensures { IsCancelled self.now claim result }
+        ensures cancelled { IsCancelled self.now claim result }
+        ensures made { accesses result ≡ claim_accesses claim ++ Store (task_word_at (terms self.now).setup (claim_task claim)) ∷ [] }
     {
         let Claim {
             seat,
@@ -88,7 +92,8 @@ impl Shared {
     fn finish_sum(&self, claim: Claim, tries: u8) -> Finished
         requires of { IsClaimOf self.now claim }
         requires sum { claim_changes_sum claim ≡ true }
-        ensures { IsFinished self.now claim tries result }
+        ensures finished { IsFinished self.now claim tries result }
+        ensures within { IsWithin claim tries result }
     {
         let mut claim = claim;
         for _ in 0..tries {
@@ -104,7 +109,8 @@ impl Shared {
     fn attempt(&self, claim: Claim) -> Finished
         requires of { IsClaimOf self.now claim }
         requires about { claim_changes_sum claim ≡ false → is_charge (claim_op claim) ≡ true }
-        ensures { IsFinished self.now claim 1 result }
+        ensures finished { IsFinished self.now claim 1 result }
+        ensures within { IsWithin claim 1 result }
     {
         let Claim {
             mut seat,
@@ -128,10 +134,11 @@ impl Shared {
     }
 
     /// The event of an op that looks at its runqueue or changes a sum of it: at the load of the runqueue's word, or at its exchange where that is won.
-    fn decide(&self, seat: &mut Seat<Note, View>, op: Op, held: &Record) -> Option<(Record, Reply)>
+    fn decide(&self, seat: &mut Seat<Note, Trail>, op: Op, held: &Record) -> Option<(Record, Reply)>
         requires held { (t : ℕ) × HoldsFor self.now seat.old t op held.now }
         requires about { changes_sum held.now op ≡ false → is_charge op ≡ true }
-        ensures { Tells self.now (Tried (runqueue_of held.now.place op) result) seat.old seat.new }
+        ensures told { Tells self.now (Tried (runqueue_of held.now.place op) result) seat.old seat.new }
+        ensures made { TriesOnce (queue_word_at (runqueue_of held.now.place op)) (changes_sum held.now op) result (made_on seat.old) (made_on seat.new) }
     {
         let r = runqueue(held.place, op);
         let now = self.load_queue(seat, r);
@@ -152,7 +159,8 @@ impl Shared {
         requires of { IsClaimOf self.now claim }
         requires sum { claim_changes_sum claim ≡ false }
         requires charge { is_charge (claim_op claim) ≡ false }
-        ensures { (tries : ℕ) → IsFinished self.now claim tries result }
+        ensures finished { (tries : ℕ) → IsFinished self.now claim tries result }
+        ensures within { (tries : ℕ) → IsWithin claim tries result }
     {
         let Claim {
             mut seat,
@@ -174,7 +182,7 @@ impl Shared {
     /// After the event and the store of the server's word: the parameter word is stored where it changes, and the task is given back.
     fn hand_back(
         &self,
-        mut seat: Seat<Note, View>,
+        mut seat: Seat<Note, Trail>,
         number: u32,
         task: u32,
         held: &Record,
@@ -185,16 +193,18 @@ impl Shared {
         requires number { (share_on seat).number ≡ number }
         ensures leaves { Leaves self.now (Concluded task) seat result }
         ensures number { number_of result ≡ number }
+        ensures made { StoresFew 2 (made_on seat) (accesses result) }
     {
         self.store_changed(&mut seat, task, held, next);
         self.give_back(seat, number, task, next)
     }
 
     /// Stores the parameter word where it changes.
-    fn store_changed(&self, seat: &mut Seat<Note, View>, task: u32, held: &Record, next: &Record)
+    fn store_changed(&self, seat: &mut Seat<Note, Trail>, task: u32, held: &Record, next: &Record)
         requires { HoldsMade self.now seat.old task next.now (half_stored held.now next.now) }
         ensures knows { Tells self.now Knows seat.old seat.new }
         ensures stored { HoldsMade self.now seat.new task next.now (stored_of next.now) }
+        ensures made { StoresFew 1 (made_on seat.old) (made_on seat.new) }
     {
         if pack_params(next.params) != pack_params(held.params) {
             self.store_params(seat, task, next.params);

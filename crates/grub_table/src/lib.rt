@@ -2,6 +2,7 @@
 #![tactic(auto)]
 
 mod closing;
+mod counted;
 mod finishing;
 mod opening;
 mod pass;

@@ -1,19 +1,17 @@
 //! A table is opened: its words, and its passes.
 ghost use Rattle.std.specs.Prelude.{◌≡◌, ℕ, ◌<◌, ◌≤◌, ◌+◌, ◌↔◌, [], IsTrue, IfOk, OnOk, IsErrOf, length};
-ghost use Rattle.grub_bw.specs.Bandwidth.{IsCapacity};
-ghost use Rattle.grub_book.specs.Machine.{IsMachine, queue_at};
+ghost use Rattle.grub_book.specs.Machine.{IsMachine};
 ghost use Rattle.grub_book.specs.Op.{IsOp};
-ghost use Rattle.grub_book.specs.Sound.{AreReservations};
 ghost use Rattle.grub_table.specs.Calls.{terms, number_of, AreNew, IsOpened};
 ghost use Rattle.grub_table.specs.FirstWords.{AreOpeningWords};
 ghost use Rattle.grub_table.specs.Rule.{AreLimited};
-ghost use Rattle.grub_table.specs.Views.{first_view};
+ghost use Rattle.grub_table.specs.Trails.{first_trail};
 
+use crate::counted::CountedTable;
 use crate::pass::{OpenFault, Pass, Shared};
 use crate::row::{SPACING, params_word_at, server_word_at};
-use crate::rule::First;
-use crate::view::{Note, Terms, View};
-use atomic_table::{Seat, Table};
+use crate::view::{Note, Terms, Trail};
+use atomic_table::Seat;
 use grub_book::{Op, Setup};
 use grub_bw::{Params, Queue, Server};
 use grub_words::{pack_params, pack_server};
@@ -24,8 +22,7 @@ const PASSES_MAX: u32 = 64;
 
 fn copied_queues(alloc: Global, setup: &Setup) -> Result<Vec<Queue>, AllocError>
     ensures items { IfOk result (λ queues. queues.items ≡ setup.now.queues) }
-    ensures capacities { OnOk result ((r : ℕ) → r < length setup.now.queues → IsCapacity (queue_at setup.now r)) }
-    ensures machine { OnOk result (IsMachine setup.now) }
+    ensures limits { OnOk result (IsMachine setup.now) }
 {
     let mut queues = Vec::new(alloc);
     for r in 0..setup.queue_count() {
@@ -35,8 +32,7 @@ fn copied_queues(alloc: Global, setup: &Setup) -> Result<Vec<Queue>, AllocError>
 }
 
 fn copied_tasks(alloc: Global, setup: &Setup) -> Result<Vec<Params>, AllocError>
-    ensures items { IfOk result (λ tasks. tasks.items ≡ setup.now.tasks) }
-    ensures reservations { OnOk result (AreReservations setup.now) }
+    ensures { IfOk result (λ tasks. tasks.items ≡ setup.now.tasks) }
 {
     let mut tasks = Vec::new(alloc);
     for t in 0..setup.task_count() {
@@ -76,16 +72,16 @@ fn opening_words(alloc: Global, setup: &Setup) -> Result<Vec<u64>, AllocError>
 fn dealt(
     alloc: Global,
     shared: &Shared,
-    mut seat: Seat<Note, View>,
+    mut seat: Seat<Note, Trail>,
 ) -> Result<Vec<Pass>, AllocError>
-    requires of { seat.table_id ≡ shared.now.table.shared.table_id }
-    requires whole { seat.me ≡ (first_view (terms shared.now), []) }
+    requires of { seat.table_id ≡ shared.now.table.inner.shared.table_id }
+    requires whole { seat.me ≡ (first_trail (terms shared.now), []) }
     ensures count { IfOk result (λ passes. length passes.items ≡ (terms shared.now).passes) }
     ensures new { IfOk result (λ passes. AreNew shared.now 0 passes.items) }
 {
     let mut passes = Vec::new(alloc);
     for number in 0..shared.terms.passes {
-        let one = shared.table.shared.split_seat::<First>(&mut seat);
+        let one = shared.table.split_seat(&mut seat);
         passes.push(Pass { seat: one, number })?;
     }
     Ok(passes)
@@ -100,7 +96,7 @@ fn made(alloc: Global, setup: &Setup, n: u32) -> Result<(Shared, Vec<Pass>), All
         passes: n,
     };
     let words = opening_words(alloc, &terms.setup)?;
-    let (table, seat) = Table::of_words(alloc, words.as_slice(), &terms)?;
+    let (table, seat) = CountedTable::of_words(alloc, words.as_slice(), &terms)?;
     let shared = Shared { table, terms };
     let passes = dealt(alloc, &shared, seat)?;
     Ok((shared, passes))

@@ -2,25 +2,25 @@
 ghost use Rattle.std.specs.Prelude.{◌≡◌, ◌<◌, ◌≤◌, ◌+◌, ◌*◌, [], length, None};
 ghost use Rattle.grub_table.specs.Layout.{word_count};
 ghost use Rattle.grub_table.specs.Rule.{AreLimited};
-ghost use Rattle.grub_table.specs.Views.{alone, first_of};
+ghost use Rattle.grub_table.specs.Trails.{lone, first_made};
+ghost use Rattle.grub_table.specs.Views.{first_of};
 ghost use Rattle.grub_table.specs.declared.view.Hold.TheVariants.{Free, Undecided};
 
-use crate::rule::OneHistory;
-use crate::view::{Note, Terms, View};
-use atomic_table::{Seat, Table};
+use crate::counted::CountedTable;
+use crate::view::{Note, Terms, Trail};
+use atomic_table::Seat;
 use grub_book::{Op, Record, Reply};
-use std::alloc::Global;
 use std::error::Error;
 use std::fmt;
 
 /// The runqueues and tasks, lent to threads by reference.
 #[derive(Drop)]
 pub struct Shared {
-    pub(crate) table: Table<Note, View, Terms, OneHistory, Global>,
+    pub(crate) table: CountedTable,
     pub(crate) terms: Terms,
-    ghost kept: { table.shared.key ≡ terms },
-    ghost words: { table.shared.table_id.words ≡ word_count terms.setup },
-    ghost slots: { table.shared.table_id.slots ≡ 0 },
+    ghost kept: { table.inner.shared.key ≡ terms },
+    ghost words: { table.inner.shared.table_id.words ≡ word_count terms.setup },
+    ghost slots: { table.inner.shared.table_id.slots ≡ 0 },
     ghost limited: { AreLimited terms.setup },
     ghost passes: { 0 < terms.passes },
 }
@@ -28,23 +28,23 @@ pub struct Shared {
 /// The right to make calls under one number. A pass may be dropped; its table then cannot be closed.
 #[derive(Drop)]
 pub struct Pass {
-    pub(crate) seat: Seat<Note, View>,
+    pub(crate) seat: Seat<Note, Trail>,
     pub(crate) number: u32,
-    ghost single: { seat.me ≡ (alone (first_of seat.me.0), []) },
-    ghost numbered: { (first_of seat.me.0).number ≡ number },
-    ghost free: { (first_of seat.me.0).hold ≡ Free },
+    ghost single: { seat.me ≡ (lone (first_of seat.me.0.view) (first_made seat.me.0), []) },
+    ghost numbered: { (first_of seat.me.0.view).number ≡ number },
+    ghost free: { (first_of seat.me.0.view).hold ≡ Free },
 }
 
 /// A pass that holds a task, for an op whose transition is not in the history. It has to be spent, by `finish` or `cancel`: it is neither `Drop` nor `Copy`.
 pub struct Claim {
-    pub(crate) seat: Seat<Note, View>,
+    pub(crate) seat: Seat<Note, Trail>,
     pub(crate) number: u32,
     pub(crate) task: u32,
     pub(crate) op: Op,
     pub(crate) held: Record,
-    ghost single: { seat.me ≡ (alone (first_of seat.me.0), []) },
-    ghost numbered: { (first_of seat.me.0).number ≡ number },
-    ghost holds: { (first_of seat.me.0).hold ≡ Undecided task op held },
+    ghost single: { seat.me ≡ (lone (first_of seat.me.0.view) (first_made seat.me.0), []) },
+    ghost numbered: { (first_of seat.me.0.view).number ≡ number },
+    ghost holds: { (first_of seat.me.0.view).hold ≡ Undecided task op held },
 }
 
 /// What a call saw that found its task busy: the task's word with its claim bit set, or a word that had changed from the one that the call had loaded.
@@ -129,4 +129,15 @@ pub struct CloseFault {
     pub why: CloseWhy,
     pub shared: Shared,
     pub passes: Vec<Pass>,
+}
+
+impl fmt::Display for CloseFault {
+    ghost use Rattle.std.specs.Prelude.{Some};
+    ghost use Rattle.grub_table.specs.Messages.{close_fault_text};
+
+    ghost output = { λ fault. Some (close_fault_text fault) };
+
+    fn fmt<W: fmt::Write>(&self, f: &mut fmt::Formatter<W>) -> fmt::Result {
+        self.why.fmt(f)
+    }
 }

@@ -1,11 +1,14 @@
 //! Readings of runqueues, and the meeting of two passes.
-ghost use Rattle.std.specs.Prelude.{◌≡◌, ◌<◌, ◌≤◌, ◌+◌, ◌⊎◌, length};
+ghost use Rattle.std.specs.Prelude.{◌≡◌, ◌<◌, ◌≤◌, ◌+◌, ◌⊎◌, [], ◌∷◌, ◌++◌, length};
 ghost use Rattle.grub_book.specs.declared.event.Event.TheVariants.{Look};
 ghost use Rattle.grub_table.specs.Histories.{Finishes};
-ghost use Rattle.grub_table.specs.Calls.{terms, number_of, seen, marks, claim_number, claim_seen, IsPassOf, IsClaimOf, IsStill, IsSame, IsBehind, IsMarkedBehind};
+ghost use Rattle.grub_table.specs.declared.view.Access.TheVariants.{Load};
+ghost use Rattle.grub_table.specs.Accesses.{meeting_loads};
+ghost use Rattle.grub_table.specs.Layout.{queue_word_at};
+ghost use Rattle.grub_table.specs.Calls.{terms, number_of, seen, marks, accesses, claim_accesses, claim_number, claim_seen, IsPassOf, IsClaimOf, IsStill, IsSame, IsBehind, IsMarkedBehind};
 
 use crate::pass::{Claim, Pass, Shared};
-use crate::rule::{All, Compare, First};
+use crate::rule::Compare;
 use grub_book::Reading;
 
 impl Shared {
@@ -17,6 +20,7 @@ impl Shared {
         ensures number { number_of pass.new ≡ number_of pass.old }
         ensures finishes { Finishes (terms self.now) (number_of pass.old) (seen pass.old) (Look (number_of pass.old) r result) (seen pass.new) }
         ensures marks { marks pass.new ≡ marks pass.old }
+        ensures made { accesses pass.new ≡ accesses pass.old ++ Load (queue_word_at r) ∷ [] }
     {
         self.look(&mut pass.seat, r)
     }
@@ -27,6 +31,7 @@ impl Shared {
         requires queue { r < length (terms self.now).setup.queues }
         ensures still { IsStill self.now claim.old claim.new }
         ensures finishes { Finishes (terms self.now) (claim_number claim.old) (claim_seen claim.old) (Look (claim_number claim.old) r result) (claim_seen claim.new) }
+        ensures made { claim_accesses claim.new ≡ claim_accesses claim.old ++ Load (queue_word_at r) ∷ [] }
     {
         self.look(&mut claim.seat, r)
     }
@@ -39,6 +44,7 @@ impl Shared {
         ensures second { IsSame self.now second result.1 }
         ensures met { IsBehind result.0 result.1 ⊎ IsBehind result.1 result.0 }
         ensures marks { IsMarkedBehind result.0 result.1 ⊎ IsMarkedBehind result.1 result.0 }
+        ensures made { (accesses result.0 ≡ accesses first ++ meeting_loads) × (accesses result.1 ≡ accesses second ++ meeting_loads) }
     {
         let Pass {
             seat: one,
@@ -48,9 +54,9 @@ impl Shared {
             mut seat,
             number: second,
         } = second;
-        self.table.shared.join_seat::<All>(&mut seat, one);
-        self.table.shared.load::<Compare>(&mut seat, 0);
-        let one = self.table.shared.split_seat::<First>(&mut seat);
+        self.table.join_seat(&mut seat, one);
+        self.table.load::<Compare>(&mut seat, 0);
+        let one = self.table.split_seat(&mut seat);
         (
             Pass {
                 seat: one,

@@ -1,20 +1,46 @@
 //! The rule of the table, and what each step tells.
-ghost use Rattle.grub_table.specs.Views.{without_first, only_first, both_of, nothing};
+ghost use Rattle.grub_table.specs.Trails.{left_trail, right_trail, joined, spent, counts_load, counts_store, counts_exchange};
 ghost use Rattle.grub_table.specs.Tellings.{looks, compares, loads_task, takes_claim, loads_params, loads_server, loads_queue, changes_queue, settles_server, stores_server, stores_params, gives_claim};
 
-use crate::view::{Note, Terms, View};
+use crate::view::{Note, Terms, Trail, View};
 use atomic_table::{Join, Play, Split, TableRule};
 use std::marker::{Brand, PhantomData};
 
 pub struct OneHistory;
 
-impl TableRule<Note, View, Terms> for OneHistory {
-    ghost use Rattle.grub_table.specs.Rule.{Kept};
-    ghost use Rattle.grub_table.specs.Views.{first_view};
+impl TableRule<Note, Trail, Terms> for OneHistory {
+    ghost use Rattle.grub_table.specs.Trails.{KeptOf, first_trail};
 
-    ghost holds = { λ terms. Kept terms };
+    ghost holds = { λ terms. KeptOf terms };
 
-    ghost first = { λ terms. first_view terms };
+    ghost first = { λ terms. first_trail terms };
+}
+
+/// A load, told as `P` tells it, and counted.
+pub struct Loads<P> {
+    told: PhantomData<P>,
+}
+
+impl<P: Play<Note, View>> Play<Note, Trail> for Loads<P> {
+    ghost then = { counts_load P.then };
+}
+
+/// A store, told as `P` tells it, and counted.
+pub struct Stores<P> {
+    told: PhantomData<P>,
+}
+
+impl<P: Play<Note, View>> Play<Note, Trail> for Stores<P> {
+    ghost then = { counts_store P.then };
+}
+
+/// A compare-exchange, told as `P` tells it, and counted.
+pub struct Exchanges<P> {
+    told: PhantomData<P>,
+}
+
+impl<P: Play<Note, View>> Play<Note, Trail> for Exchanges<P> {
+    ghost then = { counts_exchange P.then };
 }
 
 /// What a load is told of the call that makes it. Each call of the program picks it.
@@ -107,16 +133,16 @@ impl Play<Note, View> for GiveClaim {
 /// The first share is cut off.
 pub struct First;
 
-impl Split<View> for First {
-    ghost left = { without_first };
+impl Split<Trail> for First {
+    ghost left = { left_trail };
 
-    ghost right = { only_first };
+    ghost right = { right_trail };
 }
 
 pub struct All;
 
-impl Join<View> for All {
-    ghost both = { both_of };
+impl Join<Trail> for All {
+    ghost both = { joined };
 
-    ghost spent = { nothing };
+    ghost spent = { spent };
 }

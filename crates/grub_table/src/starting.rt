@@ -1,17 +1,20 @@
 //! A call begins: it is answered at once, or takes its task.
-ghost use Rattle.std.specs.Prelude.{◌≡◌, ℕ, ◌<◌, ◌≤◌, ◌+◌, false, IfOk, length};
+ghost use Rattle.std.specs.Prelude.{◌≡◌, ℕ, ◌<◌, ◌≤◌, ◌+◌, false, IfOk, [], ◌∷◌, ◌++◌, length};
 ghost use Rattle.grub_bw.specs.Server.{Fits};
 ghost use Rattle.grub_book.specs.Op.{IsOp};
 ghost use Rattle.grub_book.specs.declared.op.Op.{Op};
 ghost use Rattle.grub_book.specs.declared.place.Record.{Record};
 ghost use Rattle.grub_words.specs.Words.{TaskFits};
-ghost use Rattle.grub_table.specs.Between.{hold_of, IsSeatOf, HoldsFor, Tells, SawTask, SawRecord};
-ghost use Rattle.grub_table.specs.Calls.{terms, IsPassOf, IsStarted};
+ghost use Rattle.grub_table.specs.declared.view.Access.TheVariants.{Load};
+ghost use Rattle.grub_table.specs.Accesses.{StartsBriefly};
+ghost use Rattle.grub_table.specs.Layout.{task_word_at, server_word_at, params_word_at};
+ghost use Rattle.grub_table.specs.Between.{hold_of, made_on, IsSeatOf, HoldsFor, Tells, SawTask, SawRecord};
+ghost use Rattle.grub_table.specs.Calls.{terms, accesses, started_accesses, IsPassOf, IsStarted};
 ghost use Rattle.grub_table.specs.declared.view.Hold.TheVariants.{Free};
 
 use crate::pass::{Claim, Pass, Shared, Sighting, Started};
 use crate::row::unclaimed;
-use crate::view::{Note, View};
+use crate::view::{Note, Trail};
 use atomic_table::Seat;
 use grub_book::{Op, Record, early, refusal};
 use grub_words::{TaskWord, pack_task};
@@ -19,12 +22,13 @@ use std::marker::Brand;
 
 impl Shared {
     /// What the task's word says, or the word itself where another pass has the task.
-    fn look_at_task(&self, seat: &mut Seat<Note, View>, t: u32, op: Op) -> Result<TaskWord, u64>
+    fn look_at_task(&self, seat: &mut Seat<Note, Trail>, t: u32, op: Op) -> Result<TaskWord, u64>
         requires seat { IsSeatOf self.now seat.old }
         requires free { hold_of seat.old ≡ Free }
         requires task { t < length (terms self.now).setup.tasks }
         requires op { IsOp (terms self.now).setup op }
         ensures told { Tells self.now (SawTask t op result) seat.old seat.new }
+        ensures made { made_on seat.new ≡ made_on seat.old ++ Load (task_word_at (terms self.now).setup t) ∷ [] }
         ensures free { IfOk result (λ w. TaskFits w × (w.claimed ≡ false)) }
     {
         let word = self.load_task::<Brand>(seat, t, op);
@@ -35,9 +39,10 @@ impl Shared {
     }
 
     /// The record of a task that was taken, whose word said this.
-    fn load_record(&self, seat: &mut Seat<Note, View>, t: u32, shown: TaskWord) -> Record
+    fn load_record(&self, seat: &mut Seat<Note, Trail>, t: u32, shown: TaskWord) -> Record
         requires { (op : Op) × (rec : Record) × HoldsFor self.now seat.old t op rec × (shown.place ≡ rec.place) × (shown.count ≡ rec.count) }
-        ensures { Tells self.now (SawRecord result) seat.old seat.new }
+        ensures told { Tells self.now (SawRecord result) seat.old seat.new }
+        ensures made { made_on seat.new ≡ made_on seat.old ++ Load (params_word_at (terms self.now).setup t) ∷ Load (server_word_at (terms self.now).setup t) ∷ [] }
     {
         let params = self.load_params(seat, t);
         let server = self.load_server(seat, t);
@@ -55,7 +60,8 @@ impl Shared {
         requires of { IsPassOf self.now pass }
         requires task { t < length (terms self.now).setup.tasks }
         requires op { IsOp (terms self.now).setup op }
-        ensures { IsStarted self.now pass t op result }
+        ensures started { IsStarted self.now pass t op result }
+        ensures brief { StartsBriefly (task_word_at (terms self.now).setup t) (accesses pass) (started_accesses result) }
     {
         let Pass { mut seat, number } = pass;
         let shown = match self.look_at_task(&mut seat, t, op) {

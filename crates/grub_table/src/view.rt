@@ -46,6 +46,20 @@ pub struct View {
     pub shares: LinkedList<Share>,
 }
 
+/// One atomic access of a word, which is named by its place in the row.
+pub enum Access {
+    Load(usize),
+    Store(usize),
+    /// A compare-exchange, and whether it found the word that it was to replace.
+    Exchange(usize, bool),
+}
+
+/// What a seat knows, and for each of its passes the accesses that the pass has made, the first one first.
+pub struct Trail {
+    pub view: View,
+    pub made: LinkedList<LinkedList<Access>>,
+}
+
 /// What a step is told of the call that makes it.
 #[derive(Clone, Copy)]
 pub struct Note {

@@ -160,7 +160,7 @@ file_read ds bytes r h = first_read ds bytes (parts_of bytes) r refl h
 
 -- ---- what is wrong
 
-bind_err : {A B : Type 0} (r : Result A (Kind × ℕ)) (f : A → Result B (Kind × ℕ)) (e : Kind × ℕ) → (r >>= f) ≡ Err e → (r ≡ Err e) ⊎ ((x : A) × (r ≡ Ok x) × (f x ≡ Err e))
+pub bind_err : {A B : Type 0} (r : Result A (Kind × ℕ)) (f : A → Result B (Kind × ℕ)) (e : Kind × ℕ) → (r >>= f) ≡ Err e → (r ≡ Err e) ⊎ ((x : A) × (r ≡ Ok x) × (f x ≡ Err e))
 bind_err (Ok x) f e h = inr (x, refl, h)
 bind_err {A} (Err d) f e h = inl (let p : d ≡ e = cc in ap (λ (x : Kind × ℕ). Err x) p)
 

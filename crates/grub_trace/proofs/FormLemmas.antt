@@ -12,7 +12,7 @@ use Rattle.grub_trace.specs.declared.version.Version.TheVariants.{One, Two}
 use Rattle.grub_trace.specs.declared.form.Verb.{Verb}
 use Rattle.grub_trace.specs.declared.form.Verb.TheVariants.{Join, Wake, Block, Leave, Exit}
 use Rattle.grub_trace.specs.Tree.{verb_word, header, is_name}
-use Rattle.grub_trace.specs.Faults.{Form, queue, task, does_at, runs_at, retunes_at, reads_at, form_of, verb_of, version_of, is_named, is_number, value}
+use Rattle.grub_trace.specs.Faults.{Form, queue, task, does_at, runs_at, retunes_at, reads_at, form_of, shape_of, is_filled, verb_of, version_of, is_named, is_number, value}
 use Rattle.grub_trace.proofs.NumberLemmas.{numerals}
 
 pub both : (a b : Bool) → (a && b) ≡ true → (a ≡ true) × (b ≡ true)
@@ -83,18 +83,18 @@ five : (t : Bool) (x f : Form) → cond t (Some x) None ≡ Some f → (t ≡ tr
 five true x f e = (refl, cc)
 five false x f e = absurd cc
 
-pub form_is : (ws : List (List ℕ)) (f : Form) → form_of ws ≡ Some f → IsForm ws f
-form_is [] f e = absurd cc
-form_is (k ∷ []) f e = absurd cc
-form_is (k ∷ a ∷ []) f e = absurd cc
-form_is (k ∷ a ∷ b ∷ []) f e =
+shape_is : (ws : List (List ℕ)) (f : Form) → shape_of ws ≡ Some f → IsForm ws f
+shape_is [] f e = absurd cc
+shape_is (k ∷ []) f e = absurd cc
+shape_is (k ∷ a ∷ []) f e = absurd cc
+shape_is (k ∷ a ∷ b ∷ []) f e =
     elim (three (bytes_eq k (codes "queue")) (bytes_eq k (codes "at") && bytes_eq b (codes "read")) (queue a b) (reads_at a) f e) [
       | inl h ↦ subst (IsForm (k ∷ a ∷ b ∷ [])) h.1 (ap (λ (w : List ℕ). w ∷ a ∷ b ∷ []) (text_is k (codes "queue") h.0), refl)
       | inr h ↦ let p = both (bytes_eq k (codes "at")) (bytes_eq b (codes "read")) h.0 in
           subst (IsForm (k ∷ a ∷ b ∷ [])) h.1
           (ap (λ (w : List ℕ). w ∷ a ∷ b ∷ []) (text_is k (codes "at") p.0) ∙ ap (λ (w : List ℕ). codes "at" ∷ a ∷ w ∷ []) (text_is b (codes "read") p.1), refl)
     ]
-form_is (k ∷ a ∷ b ∷ c ∷ []) f e =
+shape_is (k ∷ a ∷ b ∷ c ∷ []) f e =
     elim (four (bytes_eq k (codes "task") && is_name a) (bytes_eq k (codes "at") && is_name c) (task a b c) (option_map (λ v. does_at a v c) (verb_of b)) f e) [
       | inl h ↦ let p = both (bytes_eq k (codes "task")) (is_name a) h.0 in
           subst (IsForm (k ∷ a ∷ b ∷ c ∷ [])) h.1 (ap (λ (w : List ℕ). w ∷ a ∷ b ∷ c ∷ []) (text_is k (codes "task") p.0), p.1)
@@ -103,19 +103,41 @@ form_is (k ∷ a ∷ b ∷ c ∷ []) f e =
           subst (IsForm (k ∷ a ∷ b ∷ c ∷ [])) v.2
           (ap (λ (w : List ℕ). w ∷ a ∷ b ∷ c ∷ []) (text_is k (codes "at") p.0) ∙ ap (λ (w : List ℕ). codes "at" ∷ a ∷ w ∷ c ∷ []) (verb_is b v.0 v.1), p.1)
     ]
-form_is (k ∷ a ∷ b ∷ c ∷ d ∷ []) f e =
+shape_is (k ∷ a ∷ b ∷ c ∷ d ∷ []) f e =
     let h = five (bytes_eq k (codes "at") && bytes_eq b (codes "run") && is_name c) (runs_at a c d) f e in
     let p = both (bytes_eq k (codes "at") && bytes_eq b (codes "run")) (is_name c) h.0 in
     let q = both (bytes_eq k (codes "at")) (bytes_eq b (codes "run")) p.0 in
     subst (IsForm (k ∷ a ∷ b ∷ c ∷ d ∷ [])) h.1
     (ap (λ (w : List ℕ). w ∷ a ∷ b ∷ c ∷ d ∷ []) (text_is k (codes "at") q.0) ∙ ap (λ (w : List ℕ). codes "at" ∷ a ∷ w ∷ c ∷ d ∷ []) (text_is b (codes "run") q.1), p.1)
-form_is (k ∷ a ∷ b ∷ c ∷ d ∷ x ∷ []) f e =
+shape_is (k ∷ a ∷ b ∷ c ∷ d ∷ x ∷ []) f e =
     let h = five (bytes_eq k (codes "at") && bytes_eq b (codes "retune") && is_name c) (retunes_at a c d x) f e in
     let p = both (bytes_eq k (codes "at") && bytes_eq b (codes "retune")) (is_name c) h.0 in
     let q = both (bytes_eq k (codes "at")) (bytes_eq b (codes "retune")) p.0 in
     subst (IsForm (k ∷ a ∷ b ∷ c ∷ d ∷ x ∷ [])) h.1
     (ap (λ (w : List ℕ). w ∷ a ∷ b ∷ c ∷ d ∷ x ∷ []) (text_is k (codes "at") q.0) ∙ ap (λ (w : List ℕ). codes "at" ∷ a ∷ w ∷ c ∷ d ∷ x ∷ []) (text_is b (codes "retune") q.1), p.1)
-form_is (k ∷ a ∷ b ∷ c ∷ d ∷ x ∷ y ∷ ys) f e = absurd cc
+shape_is (k ∷ a ∷ b ∷ c ∷ d ∷ x ∷ y ∷ ys) f e = absurd cc
+
+-- words with a form are filled, and have its shape
+filled : (b : Bool) (o : Option Form) (f : Form) → cond b o None ≡ Some f → (b ≡ true) × (o ≡ Some f)
+filled true o f e = (refl, e)
+filled false o f e = absurd cc
+
+pub form_is : (ws : List (List ℕ)) (f : Form) → form_of ws ≡ Some f → IsForm ws f
+form_is ws f e = shape_is ws f (filled (list_all is_filled ws) (shape_of ws) f e).1
+
+-- filled words have the form of their shape
+pub form_again : (ws : List (List ℕ)) → list_all is_filled ws ≡ true → form_of ws ≡ shape_of ws
+form_again ws h = ap (λ (b : Bool). cond b (shape_of ws) None) h
+
+pub no_form : (ws : List (List ℕ)) → list_all is_filled ws ≡ false → form_of ws ≡ None
+no_form ws h = ap (λ (b : Bool). cond b (shape_of ws) None) h
+
+pub no_shape : (ws : List (List ℕ)) → shape_of ws ≡ None → form_of ws ≡ None
+no_shape ws h = go (list_all is_filled ws) (shape_of ws) h
+  where
+    go : (b : Bool) (o : Option Form) → o ≡ None → cond b o None ≡ None
+    go true o h = h
+    go false o h = refl
 
 -- ---- the first line
 

@@ -20,3 +20,5 @@ pub mod Again
 pub mod LimitLaws
 pub mod FaultAgain
 pub mod Together
+pub mod Openings
+pub mod Handing

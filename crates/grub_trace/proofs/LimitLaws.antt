@@ -1,5 +1,5 @@
 -- The plan of trees keeps the limits.
-use Rattle.std.proofs.Common.{◌≡◌, ℕ, ◌+◌, ◌^◌, ◌<◌, ◌≤◌, Bool, true, false, cond, List, [], ◌∷◌, ◌++◌, length, map, Option, Some, None, option_map, refl, ap, ◌∙◌, sym, arith, subst}
+use Rattle.std.proofs.Common.{◌≡◌, ℕ, zero, suc, get_or, ◌+◌, ◌^◌, ◌<◌, ◌≤◌, Bool, true, false, cond, List, [], ◌∷◌, ◌++◌, length, map, Option, Some, None, option_map, refl, ap, ◌∙◌, sym, arith, subst}
 use Rattle.std.specs.Prelude.{IsSome, Ok}
 use Rattle.grub_trace.specs.Reading.{plan_from}
 use Rattle.grub_trace.proofs.Together.{in_turn}
@@ -15,7 +15,7 @@ use Rattle.grub_trace.specs.declared.form.Verb.TheVariants.{Join, Wake, Block, L
 use Rattle.grub_trace.specs.declared.line.Line.{Line}
 use Rattle.grub_trace.specs.declared.line.Act.{Act}
 use Rattle.grub_trace.specs.declared.line.Act.TheVariants as act
-use Rattle.grub_trace.specs.Tree.{Declaration, Deed, does, runs, retunes, reads, Happening, Tree, names_of, params_of, is_span, is_moment, text}
+use Rattle.grub_trace.specs.Tree.{Declaration, Deed, does, runs, retunes, reads, Happening, Tree, names_of, params_of, is_name, is_span, is_moment, text}
 use Rattle.grub_trace.specs.Faults.{task_of}
 use Rattle.grub_trace.specs.Plans.{PlanView}
 use Rattle.grub_trace.specs.Naming.{line_in, act_in, act_of, script_of, all_tasks, plan_of}
@@ -89,6 +89,18 @@ few_tasks (t ∷ ts) names few are =
     let same = length-map t.tasks (λ (d : Declaration). d.name) in
     omega (arith, few_tasks ts (names ++ names_of t.tasks) (omega arith) are.1, length-append t.tasks (all_tasks ts))
 
+names_are : (ds : List Declaration) (names : List (List ℕ)) → AreDeclared names ds → AllByRecursion (λ (n : List ℕ). is_name n ≡ true) (names_of ds)
+names_are [] names are = tt
+names_are (d ∷ ds) names are = (are.0.name, names_are ds (names ++ d.name ∷ []) are.1)
+
+all_names : (ds es : List Declaration) → AllByRecursion (λ (n : List ℕ). is_name n ≡ true) (names_of ds) → AllByRecursion (λ (n : List ℕ). is_name n ≡ true) (names_of es) → AllByRecursion (λ (n : List ℕ). is_name n ≡ true) (names_of (ds ++ es))
+all_names [] es h k = k
+all_names (d ∷ ds) es h k = (h.0, all_names ds es h.1 k)
+
+names_fit : (ts : List Tree) (names : List (List ℕ)) → AreTrees names ts → AllByRecursion (λ (n : List ℕ). is_name n ≡ true) (names_of (all_tasks ts))
+names_fit [] names are = tt
+names_fit (t ∷ ts) names are = all_names t.tasks (all_tasks ts) (names_are t.tasks names are.0.tasks) (names_fit ts (names ++ names_of t.tasks) are.1)
+
 tasks_fit : (ts : List Tree) (names : List (List ℕ)) → AreTrees names ts → AllByRecursion IsReservation (params_of (all_tasks ts))
 tasks_fit [] names are = tt
 tasks_fit (t ∷ ts) names are = all_declared t.tasks (all_tasks ts) (declared_fit t.tasks names are.0.tasks) (tasks_fit ts (names ++ names_of t.tasks) are.1)
@@ -101,6 +113,11 @@ scripts_fit : (all : List (List ℕ)) (ts : List Tree) (names : List (List ℕ))
 scripts_fit all [] names are known = tt
 scripts_fit all (t ∷ ts) names are known = (script_fits t.version all t.happenings 0 are.0.happenings known.0, scripts_fit all ts (names ++ names_of t.tasks) are.1 known.1)
 
+each_at : {A : Type 0} (P : A → Type 0) (xs : List A) (i : ℕ) (d : A) → AllByRecursion P xs → i < length xs → P (get_or xs i d)
+each_at P [] i d all there = absurd (omega arith)
+each_at P (x ∷ xs) zero d all there = all.0
+each_at P (x ∷ xs) (suc i) d all there = each_at P xs i d all.1 (omega arith)
+
 pub plan_fits : (files : List (List ℕ)) (ts : List Tree) → Reads files ts → PlanFits (plan_of ts)
 plan_fits files ts is =
     let tasks = all_tasks ts in
@@ -112,11 +129,16 @@ plan_fits files ts is =
     let reserved : length (params_of tasks) ≡ length tasks = length-map tasks (λ (d : Declaration). d.params) in
     let trees = in_turn ts is.together in
     record {
-      setup = record { queues_some = omega (arith, is.some); queues_most = omega (arith, is.few); tasks_most = omega (arith, few_tasks ts [] (omega arith) trees) };
+      setup = record {
+        queues_some = omega (arith, is.some);
+        queues_most = omega (arith, is.few);
+        tasks_most = omega (arith, few_tasks ts [] (omega arith) trees);
+        capacities = λ r there. each_at IsCapacity (map (λ (t : Tree). t.queue) ts) r _ (queues_fit ts [] trees) there;
+        reservations = λ t there. each_at IsReservation (params_of tasks) t _ (tasks_fit ts [] trees) there;
+      };
       each = scripts ∙ sym queues;
       named = named ∙ sym reserved;
-      queues = queues_fit ts [] trees;
-      tasks = tasks_fit ts [] trees;
+      names = names_fit ts [] trees;
       scripts = subst (λ (n : ℕ). AllByRecursion (ScriptFits n 0) (map (script_of all) ts)) (named ∙ sym reserved) (scripts_fit all ts [] trees is.known);
     }
 

@@ -90,10 +90,10 @@ lines_grow (line ∷ next ∷ more) r s n e =
 
 -- ---- the first two lines
 
-queue_then : Version → List Declaration → List ℕ → List (List ℕ) → Result FileRead (Kind × ℕ)
+unfoldable pub queue_then : Version → List Declaration → List ℕ → List (List ℕ) → Result FileRead (Kind × ℕ)
 queue_then version ds line parts = at_line 2 (read_queue line) >>= λ q. read_lines (opened version ds) 3 parts >>= λ r. Ok (file_from q (3 + (length r.declared - length ds)) r)
 
-second_step : (version : Version) (ds : List Declaration) (line rest : List ℕ) → read_second version ds (line ∷ parts_of rest) ≡ queue_then version ds line (parts_of rest)
+pub second_step : (version : Version) (ds : List Declaration) (line rest : List ℕ) → read_second version ds (line ∷ parts_of rest) ≡ queue_then version ds line (parts_of rest)
 unfolding read_second queue_then
 second_step version ds line rest = let h = has_part (λ b. eqb b 10) rest in rw (h.2) refl
 

@@ -87,7 +87,7 @@ pub record ScriptsStop (names : List (List ℕ)) (bs : List Body) (k : Kind) (g 
 abbrev Where : Type 0
 Where = Kind × ℕ × ℕ
 
-bind_err : {A B : Type 0} (r : Result A Where) (f : A → Result B Where) (e : Where) → (r >>= f) ≡ Err e → (r ≡ Err e) ⊎ ((x : A) × (r ≡ Ok x) × (f x ≡ Err e))
+pub bind_err : {A B : Type 0} (r : Result A Where) (f : A → Result B Where) (e : Where) → (r >>= f) ≡ Err e → (r ≡ Err e) ⊎ ((x : A) × (r ≡ Ok x) × (f x ≡ Err e))
 bind_err (Ok x) f e h = inr (x, refl, h)
 bind_err {A} (Err d) f e h = inl (let p : d ≡ e = cc in ap (λ (x : Where). Err x) p)
 
@@ -130,7 +130,7 @@ in_file_ok : {X : Type 0} (f : ℕ) (r : Result X (Kind × ℕ)) (x : X) → in_
 in_file_ok f (Ok y) x e = let h : y ≡ x = cc in ap Ok h
 in_file_ok f (Err n) x e = absurd cc
 
-in_file_err : (f : ℕ) (r : Result FileRead (Kind × ℕ)) (k : Kind) (g n : ℕ) → in_file f r ≡ Err (k, g, n) → (r ≡ Err (k, n)) × (g ≡ f)
+pub in_file_err : (f : ℕ) (r : Result FileRead (Kind × ℕ)) (k : Kind) (g n : ℕ) → in_file f r ≡ Err (k, g, n) → (r ≡ Err (k, n)) × (g ≡ f)
 in_file_err f (Ok x) k g n e = absurd cc
 in_file_err f (Err m) k g n e =
     let p = same_where FileRead (m.0, f, m.1) (k, g, n) e in

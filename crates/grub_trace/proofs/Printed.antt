@@ -13,15 +13,17 @@ use Rattle.grub_bw.specs.Bandwidth.{Capacity, IsCapacity}
 use Rattle.grub_trace.proofs.LimitTests.{reservation_test, capacity_test}
 use Rattle.grub_trace.specs.declared.version.Version.{Version}
 use Rattle.grub_trace.specs.declared.fault.Kind.{Kind}
+use Rattle.grub_trace.specs.declared.fault.Kind.TheVariants.{MissingQueue}
 use Rattle.grub_trace.specs.declared.form.Verb.{Verb}
 use Rattle.grub_trace.specs.declared.form.Verb.TheVariants.{Join, Wake, Block, Leave, Exit}
 use Rattle.grub_trace.specs.Tree.{Declaration, Deed, does, runs, retunes, reads, Happening, queue_words, verb_word, is_name, is_name_byte, is_moment, names_of}
-use Rattle.grub_trace.specs.Faults.{Form, queue, task, does_at, runs_at, retunes_at, reads_at, words_of, form_of, verb_of, form_fault, is_number, value, last_of, queue_fault, reservation_value, is_allowed, numbers_of, is_in_range, is_fresh, is_timely}
+use Rattle.grub_trace.specs.Faults.{Form, queue, task, does_at, runs_at, retunes_at, reads_at, words_of, form_of, is_filled, verb_of, form_fault, is_number, value, last_of, queue_fault, queue_form_fault, begins_with_queue, reservation_value, is_allowed, numbers_of, is_in_range, is_fresh, is_timely}
 use Rattle.grub_trace.specs.Reading.{Read, take_line, take_option, unless, adds, declares, says, times_of, read_queue, queue_of}
 use Rattle.grub_trace.specs.Meaning.{IsHappeningFrom, IsDeed}
 use Rattle.grub_trace.specs.FirstFault.{IsDeclaration}
 use Rattle.grub_trace.specs.Tree.{declaration_line, happening_line}
 use Rattle.grub_trace.proofs.NumberLemmas.{numerals}
+use Rattle.grub_trace.proofs.FormLemmas.{form_again}
 use Rattle.grub_trace.proofs.LineMeaning.{small_period, small_moment, small_span}
 
 -- each byte is above the space
@@ -158,17 +160,49 @@ one_number m h = rw (number_again m h) refl
 taken_form : (r : Read) (line : List ℕ) (f : Form) → form_of (words_of line) ≡ Some f → form_fault r.version (names_of r.declared) (times_of r.happenings) f ≡ None → take_line r line ≡ Ok (adds f r)
 taken_form r line f is none = ap (take_option r) is ∙ ap (λ (o : Option Kind). unless o (adds f r)) none
 
-task_form : (n q p : List ℕ) → is_name n ≡ true → form_of (codes "task" ∷ n ∷ q ∷ p ∷ []) ≡ Some (task n q p)
-task_form n q p h = ap (λ (b : Bool). cond b (Some (task n q p)) (cond false (option_map (λ v. does_at n v p) (verb_of q)) None)) h
+name_filled : (w : List ℕ) → is_name w ≡ true → is_filled w ≡ true
+name_filled [] h = absurd cc
+name_filled (c ∷ cs) h = refl
 
-does_form : (m n : List ℕ) (v : Verb) → is_name n ≡ true → form_of (codes "at" ∷ m ∷ verb_word v ∷ n ∷ []) ≡ Some (does_at m v n)
-does_form m n v h = ap (λ (b : Bool). cond b (option_map (λ v. does_at m v n) (verb_of (verb_word v))) None) h ∙ ap (option_map (λ v. does_at m v n)) (verb_again v)
+number_filled : (w : List ℕ) → is_number w ≡ true → is_filled w ≡ true
+number_filled [] h = absurd cc
+number_filled (c ∷ cs) h = refl
 
-runs_form : (m n d : List ℕ) → is_name n ≡ true → form_of (codes "at" ∷ m ∷ codes "run" ∷ n ∷ d ∷ []) ≡ Some (runs_at m n d)
-runs_form m n d h = ap (λ (b : Bool). cond b (Some (runs_at m n d)) None) h
+decimal_filled : (n : ℕ) → n < 2 ^ 64 → is_filled (decimal n) ≡ true
+decimal_filled n h = number_filled (decimal n) (number_again n h)
 
-retunes_form : (m n q p : List ℕ) → is_name n ≡ true → form_of (codes "at" ∷ m ∷ codes "retune" ∷ n ∷ q ∷ p ∷ []) ≡ Some (retunes_at m n q p)
-retunes_form m n q p h = ap (λ (b : Bool). cond b (Some (retunes_at m n q p)) None) h
+task_form : (n q p : List ℕ) → is_name n ≡ true → is_filled q ≡ true → is_filled p ≡ true → form_of (codes "task" ∷ n ∷ q ∷ p ∷ []) ≡ Some (task n q p)
+task_form n q p h fq fp =
+    form_again (codes "task" ∷ n ∷ q ∷ p ∷ []) (rw (name_filled n h, fq, fp) refl)
+    ∙ ap (λ (b : Bool). cond b (Some (task n q p)) (cond false (option_map (λ v. does_at n v p) (verb_of q)) None)) h
+
+verb_filled : (v : Verb) → is_filled (verb_word v) ≡ true
+verb_filled Join = refl
+verb_filled Wake = refl
+verb_filled Block = refl
+verb_filled Leave = refl
+verb_filled Exit = refl
+
+does_form : (m n : List ℕ) (v : Verb) → is_filled m ≡ true → is_name n ≡ true → form_of (codes "at" ∷ m ∷ verb_word v ∷ n ∷ []) ≡ Some (does_at m v n)
+does_form m n v fm h =
+    form_again (codes "at" ∷ m ∷ verb_word v ∷ n ∷ []) (rw (fm, verb_filled v, name_filled n h) refl)
+    ∙ ap (λ (b : Bool). cond b (option_map (λ v. does_at m v n) (verb_of (verb_word v))) None) h ∙ ap (option_map (λ v. does_at m v n)) (verb_again v)
+
+runs_form : (m n d : List ℕ) → is_filled m ≡ true → is_name n ≡ true → is_filled d ≡ true → form_of (codes "at" ∷ m ∷ codes "run" ∷ n ∷ d ∷ []) ≡ Some (runs_at m n d)
+runs_form m n d fm h fd =
+    form_again (codes "at" ∷ m ∷ codes "run" ∷ n ∷ d ∷ []) (rw (fm, name_filled n h, fd) refl)
+    ∙ ap (λ (b : Bool). cond b (Some (runs_at m n d)) None) h
+
+retunes_form : (m n q p : List ℕ) → is_filled m ≡ true → is_name n ≡ true → is_filled q ≡ true → is_filled p ≡ true → form_of (codes "at" ∷ m ∷ codes "retune" ∷ n ∷ q ∷ p ∷ []) ≡ Some (retunes_at m n q p)
+retunes_form m n q p fm h fq fp =
+    form_again (codes "at" ∷ m ∷ codes "retune" ∷ n ∷ q ∷ p ∷ []) (rw (fm, name_filled n h, fq, fp) refl)
+    ∙ ap (λ (b : Bool). cond b (Some (retunes_at m n q p)) None) h
+
+reads_form : (m : List ℕ) → is_filled m ≡ true → form_of (codes "at" ∷ m ∷ codes "read" ∷ []) ≡ Some (reads_at m)
+reads_form m fm = form_again (codes "at" ∷ m ∷ codes "read" ∷ []) (rw fm refl)
+
+queue_form : (u x : List ℕ) → is_filled u ≡ true → is_filled x ≡ true → form_of (codes "queue" ∷ u ∷ x ∷ []) ≡ Some (queue u x)
+queue_form u x fu fx = form_again (codes "queue" ∷ u ∷ x ∷ []) (rw (fu, fx) refl)
 
 pub declaration_again : (r : Read) (d : Declaration) → IsDeclaration (names_of r.declared) d → length r.happenings ≡ 0 → take_line r (declaration_line d) ≡ Ok (declares d r)
 declaration_again r d is first =
@@ -178,7 +212,7 @@ declaration_again r d is first =
     let range : is_in_range (length (names_of r.declared)) f ≡ true = rw (value_again d.params.runtime small.0, value_again d.params.period small.1, lt-ltb (length (names_of r.declared)) 256 is.few) (reservation_test d.params is.fits) in
     let allowed : is_allowed r.version (times_of r.happenings) f ≡ true = rw (length-map r.happenings (λ m. m.at), first) refl in
     let fresh : is_fresh (names_of r.declared) f ≡ true = rw is.fresh refl in
-    taken_form r (declaration_line d) f (ap form_of words ∙ task_form d.name (decimal d.params.runtime) (decimal d.params.period) is.name)
+    taken_form r (declaration_line d) f (ap form_of words ∙ task_form d.name (decimal d.params.runtime) (decimal d.params.period) is.name (decimal_filled d.params.runtime small.0) (decimal_filled d.params.period small.1))
     (no_fault r.version (names_of r.declared) (times_of r.happenings) f allowed (both_numbers d.params.runtime d.params.period small.0 small.1) range fresh refl)
     ∙ ap (λ (q : ℕ). Ok (declares (record { name = d.name; params = record { runtime = q; period = value (decimal d.params.period) } }) r)) (value_again d.params.runtime small.0)
     ∙ ap (λ (p : ℕ). Ok (declares (record { name = d.name; params = record { runtime = d.params.runtime; period = p } }) r)) (value_again d.params.period small.1)
@@ -188,7 +222,7 @@ happening_form r at (does v n) after within is =
     let small = small_moment at within in
     let f : Form = does_at (decimal at) v n in
     let words = words_again (codes "at") (decimal at ∷ verb_word v ∷ n ∷ []) keyword_at (decimal_plain at small, (verb_plain v, (name_plain n is, tt))) in
-    taken_form r (happening_line (record { at = at; deed = does v n })) f (ap form_of words ∙ does_form (decimal at) n v is)
+    taken_form r (happening_line (record { at = at; deed = does v n })) f (ap form_of words ∙ does_form (decimal at) n v (decimal_filled at small) is)
     (no_fault r.version (names_of r.declared) (times_of r.happenings) f refl (one_number at small) (rw (value_again at small) within) refl (rw (value_again at small) (le_true (last_of (times_of r.happenings)) at after)))
     ∙ ap (λ (m : ℕ). Ok (says m (does v n) r)) (value_again at small)
 happening_form r at (runs n d) after within is =
@@ -197,7 +231,7 @@ happening_form r at (runs n d) after within is =
     let f : Form = runs_at (decimal at) n (decimal d) in
     let words = words_again (codes "at") (decimal at ∷ codes "run" ∷ n ∷ decimal d ∷ []) keyword_at (decimal_plain at small, (keyword_run, (name_plain n is.0, (decimal_plain d short, tt)))) in
     let range : is_in_range (length (names_of r.declared)) f ≡ true = rw (value_again at small, value_again d short, within) is.1 in
-    taken_form r (happening_line (record { at = at; deed = runs n d })) f (ap form_of words ∙ runs_form (decimal at) n (decimal d) is.0)
+    taken_form r (happening_line (record { at = at; deed = runs n d })) f (ap form_of words ∙ runs_form (decimal at) n (decimal d) (decimal_filled at small) is.0 (decimal_filled d short))
     (no_fault r.version (names_of r.declared) (times_of r.happenings) f refl (both_numbers at d small short) range refl (rw (value_again at small) (le_true (last_of (times_of r.happenings)) at after)))
     ∙ ap (λ (m : ℕ). Ok (says m (runs n (value (decimal d))) r)) (value_again at small)
     ∙ ap (λ (s : ℕ). Ok (says at (runs n s) r)) (value_again d short)
@@ -209,7 +243,7 @@ happening_form r at (retunes n p) after within is =
     let f : Form = retunes_at (decimal at) n q d in
     let words = words_again (codes "at") (decimal at ∷ codes "retune" ∷ n ∷ q ∷ d ∷ []) keyword_at (decimal_plain at small, (keyword_retune, (name_plain n is.0, (decimal_plain p.runtime fits.0, (decimal_plain p.period fits.1, tt))))) in
     let range : is_in_range (length (names_of r.declared)) f ≡ true = rw (value_again at small, value_again p.runtime fits.0, value_again p.period fits.1, within) (reservation_test p is.1) in
-    taken_form r (happening_line (record { at = at; deed = retunes n p })) f (ap form_of words ∙ retunes_form (decimal at) n q d is.0)
+    taken_form r (happening_line (record { at = at; deed = retunes n p })) f (ap form_of words ∙ retunes_form (decimal at) n q d (decimal_filled at small) is.0 (decimal_filled p.runtime fits.0) (decimal_filled p.period fits.1))
     (no_fault r.version (names_of r.declared) (times_of r.happenings) f is.2 (three_numbers at p.runtime p.period small fits.0 fits.1) range refl (rw (value_again at small) (le_true (last_of (times_of r.happenings)) at after)))
     ∙ ap (λ (m : ℕ). Ok (says m (retunes n (reservation_value q d)) r)) (value_again at small)
     ∙ ap (λ (u : ℕ). Ok (says at (retunes n (record { runtime = u; period = value d })) r)) (value_again p.runtime fits.0)
@@ -218,7 +252,7 @@ happening_form r at reads after within is =
     let small = small_moment at within in
     let f : Form = reads_at (decimal at) in
     let words = words_again (codes "at") (decimal at ∷ codes "read" ∷ []) keyword_at (decimal_plain at small, (keyword_read, tt)) in
-    taken_form r (happening_line (record { at = at; deed = reads })) f (ap form_of words)
+    taken_form r (happening_line (record { at = at; deed = reads })) f (ap form_of words ∙ reads_form (decimal at) (decimal_filled at small))
     (no_fault r.version (names_of r.declared) (times_of r.happenings) f refl (one_number at small) (rw (value_again at small) within) refl (rw (value_again at small) (le_true (last_of (times_of r.happenings)) at after)))
     ∙ ap (λ (m : ℕ). Ok (says m reads r)) (value_again at small)
 
@@ -230,8 +264,11 @@ queue_again c hu hx fits =
     let u = c.most in
     let x = c.extra in
     let words = words_again (codes "queue") (decimal u ∷ decimal x ∷ []) keyword_queue (decimal_plain u hu, (decimal_plain x hx, tt)) in
-    let form : form_of (words_of (join_with_byte 32 (queue_words c))) ≡ Some (queue (decimal u) (decimal x)) = ap form_of words in
-    let none : queue_fault (join_with_byte 32 (queue_words c)) ≡ None = rw (words, number_again u hu, number_again x hx, value_again u hu, value_again x hx, capacity_test c fits) refl in
+    let form : form_of (words_of (join_with_byte 32 (queue_words c))) ≡ Some (queue (decimal u) (decimal x)) = ap form_of words ∙ queue_form (decimal u) (decimal x) (decimal_filled u hu) (decimal_filled x hx) in
+    let right : queue_form_fault (Some (queue (decimal u) (decimal x))) ≡ None = rw (number_again u hu, number_again x hx, value_again u hu, value_again x hx, capacity_test c fits) refl in
+    let none : queue_fault (join_with_byte 32 (queue_words c)) ≡ None =
+    ap (λ (ws : List (List ℕ)). cond (not (begins_with_queue ws)) (Some MissingQueue) (queue_form_fault (form_of ws))) words
+    ∙ ap queue_form_fault (queue_form (decimal u) (decimal x) (decimal_filled u hu) (decimal_filled x hx)) ∙ right in
     ap (λ (o : Option Kind). unless o (queue_of (form_of (words_of (join_with_byte 32 (queue_words c)))))) none
     ∙ ap (λ (o : Option Form). Ok (queue_of o)) form
     ∙ ap (λ (n : ℕ). Ok (record { most = n; extra = value (decimal x) })) (value_again u hu)

@@ -30,12 +30,21 @@ abbrev pub verb_of : List ℕ → Option Verb
 verb_of w = if bytes_eq w (codes "join") then Some Join else (if bytes_eq w (codes "wake") then Some Wake else (if bytes_eq w (codes "block") then Some Block
     else (if bytes_eq w (codes "leave") then Some Leave else (if bytes_eq w (codes "exit") then Some Exit else None))))
 
+-- the form that the keywords, the number of words and the name among them make
+abbrev pub shape_of : List (List ℕ) → Option Form
+shape_of (k ∷ a ∷ b ∷ []) = if bytes_eq k (codes "queue") then Some (queue a b) else (if bytes_eq k (codes "at") && bytes_eq b (codes "read") then Some (reads_at a) else None)
+shape_of (k ∷ a ∷ b ∷ c ∷ []) = if bytes_eq k (codes "task") && is_name a then Some (task a b c) else (if bytes_eq k (codes "at") && is_name c then option_map (λ v. does_at a v c) (verb_of b) else None)
+shape_of (k ∷ a ∷ b ∷ c ∷ d ∷ []) = if bytes_eq k (codes "at") && bytes_eq b (codes "run") && is_name c then Some (runs_at a c d) else None
+shape_of (k ∷ a ∷ b ∷ c ∷ d ∷ e ∷ []) = if bytes_eq k (codes "at") && bytes_eq b (codes "retune") && is_name c then Some (retunes_at a c d e) else None
+shape_of _ = None
+
+abbrev pub is_filled : List ℕ → Bool
+is_filled [] = false
+is_filled (b ∷ bs) = true
+
+-- an empty word fits no form
 abbrev pub form_of : List (List ℕ) → Option Form
-form_of (k ∷ a ∷ b ∷ []) = if bytes_eq k (codes "queue") then Some (queue a b) else (if bytes_eq k (codes "at") && bytes_eq b (codes "read") then Some (reads_at a) else None)
-form_of (k ∷ a ∷ b ∷ c ∷ []) = if bytes_eq k (codes "task") && is_name a then Some (task a b c) else (if bytes_eq k (codes "at") && is_name c then option_map (λ v. does_at a v c) (verb_of b) else None)
-form_of (k ∷ a ∷ b ∷ c ∷ d ∷ []) = if bytes_eq k (codes "at") && bytes_eq b (codes "run") && is_name c then Some (runs_at a c d) else None
-form_of (k ∷ a ∷ b ∷ c ∷ d ∷ e ∷ []) = if bytes_eq k (codes "at") && bytes_eq b (codes "retune") && is_name c then Some (retunes_at a c d e) else None
-form_of _ = None
+form_of words = if list_all is_filled words then shape_of words else None
 
 -- ---- numbers
 
@@ -105,11 +114,7 @@ task_of (n ∷ names) name = if bytes_eq n name then Some 0 else option_map (λ 
 
 abbrev pub is_fresh : List (List ℕ) → Form → Bool
 is_fresh names (task n q p) = is_none (task_of names n)
-is_fresh names (queue a b) = true
-is_fresh names (does_at m v n) = true
-is_fresh names (runs_at m n d) = true
-is_fresh names (retunes_at m n q p) = true
-is_fresh names (reads_at m) = true
+is_fresh names form = true
 
 -- the moment of the line before, or 0
 abbrev pub last_of : List ℕ → ℕ
@@ -143,13 +148,8 @@ line_fault version names moments line = fault_of_form version names moments (for
 -- ---- the first two lines
 
 abbrev pub queue_form_fault : Option Form → Option Kind
-queue_form_fault None = Some BadLine
 queue_form_fault (Some (queue a b)) = if not (list_all is_number (a ∷ b ∷ [])) then Some BadNumber else (if not (capacity_fits (capacity_value a b)) then Some OutOfRange else None)
-queue_form_fault (Some (task n q p)) = Some BadLine
-queue_form_fault (Some (does_at m v n)) = Some BadLine
-queue_form_fault (Some (runs_at m n d)) = Some BadLine
-queue_form_fault (Some (retunes_at m n q p)) = Some BadLine
-queue_form_fault (Some (reads_at m)) = Some BadLine
+queue_form_fault form = Some BadLine
 
 abbrev pub begins_with_queue : List (List ℕ) → Bool
 begins_with_queue [] = false

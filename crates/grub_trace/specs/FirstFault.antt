@@ -128,3 +128,11 @@ IsTraceFault files (trace.At k f n) = IsFault files k f n
 abbrev pub IsOnly : TraceFault → Kind → ℕ → ℕ → Type 0
 IsOnly trace.NoMemory k f n = Unit {0}
 IsOnly (trace.At j g m) k f n = (j ≡ k) × (g ≡ f) × (m ≡ n)
+
+-- the first or the second line of the first file has this fault; what comes before it takes no memory
+pub record OpeningFault (files : List (List ℕ)) (k : Kind) (n : ℕ) : Type 0 where
+  pub few : length files ≤ 64
+  pub bytes : List ℕ
+  pub more : List (List ℕ)
+  pub files_are : files ≡ bytes ∷ more
+  pub fault : HeaderFault bytes k n ⊎ QueueFault bytes k n

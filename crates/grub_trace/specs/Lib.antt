@@ -1,4 +1,3 @@
-pub mod Asked
 pub mod Faults
 pub mod FirstFault
 pub mod Halts
@@ -9,5 +8,5 @@ pub mod Naming
 pub mod Plans
 pub mod Reading
 pub mod Texts
-pub mod Timers
+pub mod Writing
 pub mod Tree

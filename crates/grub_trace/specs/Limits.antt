@@ -1,12 +1,13 @@
 -- What every plan keeps.
-use Rattle.std.specs.Prelude.{◌≡◌, ℕ, ◌≤◌, ◌<◌, ◌^◌, List, [], ◌∷◌, length}
+use Rattle.std.specs.Prelude.{◌≡◌, ℕ, ◌≤◌, ◌<◌, ◌^◌, List, [], ◌∷◌, length, true}
 use Rattle.std.specs.List.{AllByRecursion}
-use Rattle.grub_bw.specs.Bandwidth.{IsReservation, IsCapacity}
+use Rattle.grub_bw.specs.Bandwidth.{IsReservation}
 use Rattle.grub_book.specs.Machine.{IsMachine}
 use Rattle.grub_trace.specs.declared.line.Act.{Act}
 use Rattle.grub_trace.specs.declared.line.Act.TheVariants as act
 use Rattle.grub_trace.specs.declared.line.Line.{Line}
 use Rattle.grub_trace.specs.Plans.{PlanView}
+use Rattle.grub_trace.specs.Tree.{is_name}
 
 -- an act of one of so many tasks, with its numbers within their limits
 abbrev pub ActFits : ℕ → Act → Type 0
@@ -29,6 +30,5 @@ pub record PlanFits (p : PlanView) : Type 0 where
   pub setup : IsMachine p.setup
   pub each : length p.scripts ≡ length p.setup.queues
   pub named : length p.names ≡ length p.setup.tasks
-  pub queues : AllByRecursion IsCapacity p.setup.queues
-  pub tasks : AllByRecursion IsReservation p.setup.tasks
+  pub names : AllByRecursion (λ name. is_name name ≡ true) p.names
   pub scripts : AllByRecursion (ScriptFits (length p.setup.tasks) 0) p.scripts

@@ -1,5 +1,6 @@
 use Rattle.std.specs.Prelude.{◌≡◌, ℕ, min, List, [], ◌∷◌, Option, Some, None, true, Result, Ok, Err, if◌then◌else◌}
 use Rattle.std.specs.Prelude.{◌++◌, map, string_bytes, false, ◌≤◌, nat_lt, Bool, not, ◌&&◌, ◌-◌, length, ◌==◌, ◌+◌}
+use Rattle.std.specs.List.{list_all}
 use Rattle.std.specs.HashMap.{get_by_text}
 use Rattle.grub_bw.specs.Bandwidth.{Capacity}
 use Rattle.grub_trace.specs.declared.version.Version.{Version}
@@ -28,15 +29,18 @@ use Rattle.grub_trace.specs.declared.form.Form as coded
 use Rattle.grub_trace.specs.declared.form.Form.TheVariants as code
 use Rattle.grub_trace.specs.declared.words.Words.{Words}
 use Rattle.grub_trace.specs.declared.words.Words.TheVariants as words
-use Rattle.grub_trace.specs.Faults.{Form, queue, task, does_at, runs_at, retunes_at, reads_at, words_of, form_of, is_number, value, reservation_value, capacity_value}
+use Rattle.grub_trace.specs.Faults.{Form, queue, task, does_at, runs_at, retunes_at, reads_at, words_of, form_of, is_filled, is_number, value, reservation_value, capacity_value}
 
--- what was split off is the front of the words
-abbrev pub Splits : Words → List (List ℕ) → Type 0
-Splits (words.Three k a b) ws = ws ≡ k.now ∷ a.now ∷ b.now ∷ []
-Splits (words.Four k a b c) ws = ws ≡ k.now ∷ a.now ∷ b.now ∷ c.now ∷ []
-Splits (words.Five k a b c d) ws = ws ≡ k.now ∷ a.now ∷ b.now ∷ c.now ∷ d.now ∷ []
-Splits (words.Six k a b c d e) ws = ws ≡ k.now ∷ a.now ∷ b.now ∷ c.now ∷ d.now ∷ e.now ∷ []
-Splits words.Other ws = form_of ws ≡ None
+-- these are the words
+abbrev pub AreWords : Words → List (List ℕ) → Type 0
+AreWords (words.Three k a b) ws = ws ≡ k.now ∷ a.now ∷ b.now ∷ []
+AreWords (words.Four k a b c) ws = ws ≡ k.now ∷ a.now ∷ b.now ∷ c.now ∷ []
+AreWords (words.Five k a b c d) ws = ws ≡ k.now ∷ a.now ∷ b.now ∷ c.now ∷ d.now ∷ []
+AreWords (words.Six k a b c d e) ws = ws ≡ k.now ∷ a.now ∷ b.now ∷ c.now ∷ d.now ∷ e.now ∷ []
+
+-- these are the words, and none of them is empty
+abbrev pub AreFilled : Words → List (List ℕ) → Type 0
+AreFilled words ws = AreWords words ws × (list_all is_filled ws ≡ true)
 
 abbrev pub form_view : coded.Form → Form
 form_view (code.Queue a b) = queue a.now b.now
@@ -182,13 +186,8 @@ read_lines r n (line ∷ []) = if length line == 0 then Ok r else Err (CutShort,
 read_lines r n (line ∷ next ∷ more) = at_line n (take_line r line) >>= λ s. read_lines s (n + 1) (next ∷ more)
 
 abbrev pub queue_of : Option Form → Capacity
-queue_of None = record { most = 0; extra = 0 }
 queue_of (Some (queue a b)) = capacity_value a b
-queue_of (Some (task n q p)) = record { most = 0; extra = 0 }
-queue_of (Some (does_at m v n)) = record { most = 0; extra = 0 }
-queue_of (Some (runs_at m n d)) = record { most = 0; extra = 0 }
-queue_of (Some (retunes_at m n q p)) = record { most = 0; extra = 0 }
-queue_of (Some (reads_at m)) = record { most = 0; extra = 0 }
+queue_of form = record { most = 0; extra = 0 }
 
 abbrev pub read_queue : List ℕ → Result Capacity Kind
 read_queue line = unless (queue_fault line) (queue_of (form_of (words_of line)))
@@ -234,6 +233,10 @@ Halts (halt.At k n) r = r ≡ Err (k, n)
 abbrev pub Gives : {U X : Type 0} → Result U Halt → (U → X) → Result X (Kind × ℕ) → Type 0
 Gives (Ok u) view r = r ≡ Ok (view u)
 Gives (Err e) view r = Halts e r
+
+-- a fault of the first two lines is answered, since nothing grows before it
+abbrev pub GivesOpening : {U X : Type 0} → Result U Halt → Result X (Kind × ℕ) → Type 0
+GivesOpening r total = (k : Kind) (n : ℕ) → n ≤ 2 → total ≡ Err (k, n) → r ≡ Err (halt.At k n)
 
 abbrev pub GivesQueue : Result Capacity Kind → List ℕ → Type 0
 GivesQueue r line = r ≡ read_queue line
@@ -284,6 +287,10 @@ Faults (fault.At k f n) r = r ≡ Err (k, f, n)
 abbrev pub Answers : {U X : Type 0} → Result U TraceFault → (U → X) → Result X (Kind × ℕ × ℕ) → Type 0
 Answers (Ok u) view r = r ≡ Ok (view u)
 Answers (Err e) view r = Faults e r
+
+-- the same of the first two lines of the first file
+abbrev pub AnswersOpening : {U X : Type 0} → Result U TraceFault → Result X (Kind × ℕ × ℕ) → Type 0
+AnswersOpening r total = (k : Kind) (n : ℕ) → n ≤ 2 → total ≡ Err (k, 0, n) → r ≡ Err (fault.At k 0 n)
 
 -- ---- names to numbers
 

@@ -69,9 +69,16 @@ answer_text answer.Lost = codes "lost"
 unfoldable pub entry_line : List (List ℕ) → Entry → List ℕ
 entry_line names e = codes "at " ++ decimal e.m ++ codes " " ++ ask_text names e.ask ++ codes ": " ++ answer_text e.answer ++ codes "\n"
 
+-- the first and the last line of a report: the runqueue's number, and the closing reading
+unfoldable pub head_line : ℕ → List ℕ
+head_line r = codes "runqueue " ++ decimal r ++ codes "\n"
+
+unfoldable pub close_line : Reading → List ℕ
+close_line closing = codes "close " ++ reading_text closing ++ codes "\n"
+
 -- the report of a runqueue: its number, a line for each entry, and the closing reading
 unfoldable pub report_text : List (List ℕ) → ℕ → List Entry → Reading → List ℕ
-report_text names r entries closing = codes "runqueue " ++ decimal r ++ codes "\n" ++ flat_map (entry_line names) entries ++ codes "close " ++ reading_text closing ++ codes "\n"
+report_text names r entries closing = head_line r ++ flat_map (entry_line names) entries ++ close_line closing
 
 -- a call is on one of so many tasks
 abbrev pub IsAskOf : ℕ → Ask → Type 0

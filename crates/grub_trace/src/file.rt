@@ -1,7 +1,7 @@
 //! One file: its version, its runqueue, and the lines below.
 
 ghost use Rattle.std.specs.Prelude.{◌≡◌, OnOk, IfSome, is_some};
-ghost use Rattle.grub_trace.specs.Reading.{opened, happening_view, declarations, IsIndexed, read_view, read_lines, read_queue, Gives, GivesQueue, file_view, read_second, read_file};
+ghost use Rattle.grub_trace.specs.Reading.{opened, happening_view, declarations, IsIndexed, read_view, read_lines, read_queue, Gives, GivesOpening, GivesQueue, file_view, read_second, read_file};
 ghost use Rattle.grub_trace.specs.FirstFault.{parts_of};
 ghost use Rattle.grub_trace.specs.Faults.{capacity_fits, version_of};
 
@@ -80,6 +80,7 @@ fn read_second<'a>(
 ) -> Result<RawFile<'a>, Halt>
     requires indexed { IsIndexed tasks.old }
     ensures gives { Gives result (λ v. file_view tasks.new v) (read_second version (declarations tasks.old) (parts_of text.now)) }
+    ensures opening { GivesOpening result (read_second version (declarations tasks.old) (parts_of text.now)) }
     ensures indexed { OnOk result (IsIndexed tasks.new) }
 {
     let Some((line, rest)) = first_line(text) else {
@@ -109,6 +110,7 @@ fn read_second<'a>(
 pub fn read_file<'a>(alloc: Global, tasks: &mut Tasks, bytes: &'a [u8]) -> Result<RawFile<'a>, Halt>
     requires indexed { IsIndexed tasks.old }
     ensures gives { Gives result (λ v. file_view tasks.new v) (read_file (declarations tasks.old) bytes.now) }
+    ensures opening { GivesOpening result (read_file (declarations tasks.old) bytes.now) }
     ensures indexed { OnOk result (IsIndexed tasks.new) }
 {
     let Some((line, rest)) = first_line(bytes) else {

@@ -1,7 +1,8 @@
 //! What event files say, with tasks by number.
 
-ghost use Rattle.std.specs.Prelude.{◌≡◌, ◌<◌, ◌≤◌, length, map, string_bytes, slice_get, Some};
+ghost use Rattle.std.specs.Prelude.{◌≡◌, ◌<◌, ◌≤◌, length, map, string_bytes, slice_get, Some, true};
 ghost use Rattle.grub_trace.specs.Limits.{PlanFits, ScriptFits};
+ghost use Rattle.grub_trace.specs.Tree.{is_name};
 
 use crate::line::Line;
 use grub_book::Setup;
@@ -78,7 +79,8 @@ impl Plan {
     /// The name of task `t`, which counts from 0 over all files.
     pub fn name(&self, t: u32) -> &str
         requires { t < length self.now.setup.tasks }
-        ensures { slice_get self.now.names t ≡ Some result.now }
+        ensures name { slice_get self.now.names t ≡ Some result.now }
+        ensures limits { is_name result.now ≡ true }
     {
         self.names[t as usize].as_str()
     }

@@ -1,11 +1,11 @@
 //! All files, one after the other, and the names that they use.
 
-ghost use Rattle.std.specs.Prelude.{◌≡◌, ℕ, List, MatchResult, IfOk, IfErr, [], map, string_bytes};
-ghost use Rattle.grub_trace.specs.Reading.{Answers, all_view, read_from, contents, IsIndexed, declarations, script_from, ScriptIs, happening_view, deed_view, body_view, scripts_from, plan_from};
+ghost use Rattle.std.specs.Prelude.{◌≡◌, ◌<◌, ◌≤◌, ℕ, List, MatchResult, IfOk, IfErr, [], length, map, string_bytes};
+ghost use Rattle.grub_trace.specs.Reading.{Answers, AnswersOpening, all_view, read_from, contents, IsIndexed, declarations, script_from, ScriptIs, happening_view, deed_view, body_view, scripts_from, plan_from};
 ghost use Rattle.grub_trace.specs.Naming.{act_in, line_in};
 ghost use Rattle.grub_trace.specs.Tree.{Tree, names_of};
 ghost use Rattle.grub_trace.specs.Meaning.{Reads};
-ghost use Rattle.grub_trace.specs.FirstFault.{IsTraceFault, IsFault, IsOnly};
+ghost use Rattle.grub_trace.specs.FirstFault.{IsTraceFault, IsFault, IsOnly, OpeningFault};
 ghost use Rattle.grub_trace.specs.declared.fault.Kind.{Kind};
 ghost use Rattle.grub_trace.specs.Naming.{plan_of};
 ghost use Rattle.grub_trace.specs.Limits.{PlanFits};
@@ -30,6 +30,7 @@ struct AllRead<'a> {
 /// Reads all files, without a look at the names that are used.
 fn read_all(alloc: Global, files: &[Vec<u8>]) -> Result<AllRead<'_>, TraceFault>
     ensures gives { Answers result (λ a. all_view a.tasks a.files.items) (read_from (record { declared = []; files = [] }) 0 (contents files.now)) }
+    ensures opening { AnswersOpening result (read_from (record { declared = []; files = [] }) 0 (contents files.now)) }
     ensures indexed { IfOk result (λ a. IsIndexed a.tasks) }
 {
     let mut tasks = Tasks::new(alloc);
@@ -146,7 +147,10 @@ fn names(alloc: Global, tasks: Vec<Task>) -> Result<Vec<String>, TraceFault>
 #[tactic(auto, unfolding(crate::specs::Reading::plan_from))]
 /// The plan of event files, as the function on lists gives it.
 fn plan(alloc: Global, files: &[Vec<u8>]) -> Result<Plan, TraceFault>
-    ensures { Answers result (λ p. p) (plan_from (contents files.now)) }
+    ensures answers { Answers result (λ p. p) (plan_from (contents files.now)) }
+    ensures many { 64 < length files.now → result ≡ Err (TraceFault.At Kind.OutOfRange 64 1) }
+    ensures nothing { length files.now ≡ 0 → result ≡ Err (TraceFault.At Kind.MissingQueue 0 1) }
+    ensures opening { 0 < length files.now → length files.now ≤ 64 → AnswersOpening result (read_from (record { declared = []; files = [] }) 0 (contents files.now)) }
 {
     if files.len() > 64 {
         return Err(TraceFault::At {
@@ -187,6 +191,11 @@ pub fn read_files(alloc: Global, files: &[Vec<u8>]) -> Result<Plan, TraceFault>
     ensures fault { IfErr result (IsTraceFault (contents files.now)) }
     // Where there is a fault, it is answered and no other, unless memory runs out.
     ensures answered { (k : Kind) (f n : ℕ) → IsFault (contents files.now) k f n → MatchResult result (λ _. ⊥) (λ e. IsOnly e k f n) }
+
+    // Nothing grows before the first line of a task or of a moment, so these faults are answered, whatever memory there is.
+    ensures many { 64 < length files.now → result ≡ Err (TraceFault.At Kind.OutOfRange 64 1) }
+    ensures nothing { length files.now ≡ 0 → result ≡ Err (TraceFault.At Kind.MissingQueue 0 1) }
+    ensures opening { (k : Kind) (n : ℕ) → OpeningFault (contents files.now) k n → result ≡ Err (TraceFault.At k 0 n) }
 {
     plan(alloc, files)
 }

@@ -1,12 +1,12 @@
 -- Nodes of different tasks, and what they have for a task.
 use Rattle.std.proofs.Common.{◌≡◌, ◌≢◌, ℕ, zero, suc, ◌<◌, ◌⊎◌, inl, inr, Bool, true, false, cond, eqb, List, [], ◌∷◌, Option, Some, None, refl, ap, ◌∙◌, sym, arith, subst}
-use Rattle.std.proofs.lemmas.Bool.{eqb-true}
+use Rattle.std.proofs.lemmas.Bool.{eqb-true, cases_eq}
 use Rattle.std.proofs.lemmas.Bool.Decides.{nat_tests}
 use Rattle.std.specs.FinMap as map
 use Rattle.grub_wheel.specs.declared.timer.Timer.{Timer}
 use Rattle.grub_wheel.specs.declared.node.Node.{Node}
-use Rattle.grub_wheel.specs.Nodes.{node_at, Armed, tasks, keys, timers_of, AreInSlots, AreOthersKept, IsArmedNode}
-use Rattle.grub_wheel.proofs.Numbers.{no_both, same_or, some_is, key_tasks}
+use Rattle.grub_wheel.specs.inside.Nodes.{node_at, Armed, tasks, keys, timers_of, AreInSlots, AreOthersKept, IsArmedNode}
+use Rattle.grub_wheel.proofs.Numbers.{some_is, no_both, key_tasks}
 use Rattle.grub_wheel.proofs.Looks.{look, bag_of, bag-insert, bag-remove}
 
 abbrev pub Apart : List Node → Type 0
@@ -109,7 +109,7 @@ module _ (ns ms : List Node) (i : ℕ) (others : AreOthersKept ns ms i) where
     task_here = ap (λ (y : Timer). y.t) here.timer
 
     pub apart_put : Apart ns → Apart ms
-    apart_put apart j k a b t = go (same_or j i) (same_or k i)
+    apart_put apart j k a b t = go (cases_eq j i) (cases_eq k i)
       where
         go : (j ≡ i) ⊎ (j ≢ i) → (k ≡ i) ⊎ (k ≢ i) → j ≡ k
         go (inl e) (inl f) = e ∙ sym f
@@ -118,7 +118,7 @@ module _ (ns ms : List Node) (i : ℕ) (others : AreOthersKept ns ms i) where
         go (inr e) (inr f) = apart j k (armed_from j e a) (armed_from k f b) (sym (task_is j e) ∙ t ∙ task_is k f)
 
     pub narrow_put : x.t < 4294967296 → ((j : ℕ) → Armed ns j → tasks ns j < 4294967296) → (j : ℕ) → Armed ms j → tasks ms j < 4294967296
-    narrow_put lt narrow j a = go (same_or j i)
+    narrow_put lt narrow j a = go (cases_eq j i)
       where
         go : (j ≡ i) ⊎ (j ≢ i) → tasks ms j < 4294967296
         go (inl e) = let t = ap (tasks ms) e ∙ task_here in omega arith

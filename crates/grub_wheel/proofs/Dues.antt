@@ -3,9 +3,10 @@ use Rattle.std.proofs.Common.{◌≡◌, ◌≢◌, ℕ, false, ◌<◌, ◌≤�
 use Rattle.grub_wheel.specs.declared.timer.Timer.{Timer}
 use Rattle.grub_wheel.specs.declared.node.Node.{Node}
 use Rattle.grub_wheel.specs.TimerBag.{WheelState, IsArmed, IsLeast, AreLater}
-use Rattle.grub_wheel.specs.Firsts.{IsFront}
-use Rattle.grub_wheel.specs.Nodes.{node_at, Armed, keys, tasks, moments, timers_of, AreInSlots, IsFirstOf, AreOthersKept}
-use Rattle.grub_wheel.proofs.Numbers.{less_or, no_both, key_parts}
+use Rattle.grub_wheel.specs.inside.Firsts.{IsFront}
+use Rattle.grub_wheel.specs.inside.Nodes.{node_at, Armed, keys, tasks, moments, timers_of, AreInSlots, IsFirstOf, AreOthersKept}
+use Rattle.std.proofs.lemmas.Bool.{cases_lt}
+use Rattle.grub_wheel.proofs.Numbers.{no_both, key_parts}
 use Rattle.grub_wheel.proofs.Bags.{not_after}
 use Rattle.grub_wheel.proofs.Views.{state_of, looks, is_armed}
 use Rattle.grub_wheel.proofs.Apart.{IsEntry, look_at, look_is}
@@ -18,7 +19,7 @@ pub due_is : (ns ds : List Node) (k i : ℕ) (o : Option ℕ) → ds ≡ ns → 
 due_is ns ds k i o e f is = subst (λ (xs : List Node). IsFirstOf xs (λ j. moments xs j ≤ k) (Some i)) e (subst (λ (p : Option ℕ). IsFirstOf ds (λ j. moments ds j ≤ k) p) is f)
 
 pub none_due : (ns ds : List Node) (k : ℕ) (o : Option ℕ) → ds ≡ ns → IsFirstOf ds (λ j. moments ds j ≤ k) o → o ≡ None → (j : ℕ) → Armed ns j → k < moments ns j
-none_due ns ds k o e f is j a = go (less_or k (moments ns j))
+none_due ns ds k o e f is j a = go (cases_lt k (moments ns j))
   where
     none : (j : ℕ) → Armed ns j → moments ns j ≤ k → ⊥
     none = subst (λ (xs : List Node). IsFirstOf xs (λ j. moments xs j ≤ k) None) e (subst (λ (p : Option ℕ). IsFirstOf ds (λ j. moments ds j ≤ k) p) is f)
@@ -43,7 +44,7 @@ module _ (ns : List Node) (s : ℕ) (l : Option ℕ) (w : WheelState) (view : st
     due_armed = is_armed (timers_of ns) s l w x.t x view (look_is ns i x.t sound.apart d.armed (ap (λ (y : Timer). y.t) is) ∙ ap (λ (y : Timer). Some (y.z, y.ticket)) is) refl
 
     in_order : (j : ℕ) → Armed ns j → (moments ns i < moments ns j) ⊎ ((moments ns i ≡ moments ns j) × (tasks ns i ≤ tasks ns j))
-    in_order j a = go (less_or k (moments ns j))
+    in_order j a = go (cases_lt k (moments ns j))
       where
         go : (k < moments ns j) ⊎ (moments ns j ≤ k) → (moments ns i < moments ns j) ⊎ ((moments ns i ≡ moments ns j) × (tasks ns i ≤ tasks ns j))
         go (inl l) = let r = d.meets in inl (omega arith)

@@ -3,8 +3,9 @@ use Rattle.std.proofs.Common.{◌≡◌, ◌≢◌, ℕ, suc, ◌+◌, ◌<◌, 
 use Rattle.std.specs.List.{AllByRecursion}
 use Rattle.std.proofs.lemmas.List.Sums.{sum_by-set, sum_by-cons}
 use Rattle.grub_wheel.specs.declared.node.Node.{Node}
-use Rattle.grub_wheel.specs.Nodes.{free_node, node_at, Armed, links, AreOthersKept, AreFree, armed_count, one_if_armed}
-use Rattle.grub_wheel.proofs.Numbers.{no_both, same_or, some_is}
+use Rattle.grub_wheel.specs.inside.Nodes.{free_node, node_at, Armed, links, AreOthersKept, AreFree, armed_count, one_if_armed}
+use Rattle.std.proofs.lemmas.Bool.{cases_eq}
+use Rattle.grub_wheel.proofs.Numbers.{some_is, no_both}
 
 -- the first of the free places, and the rest
 pub record IsFreeHead (ns : List Node) (spare i : ℕ) : Type 0 where
@@ -63,7 +64,7 @@ pub armed_count-others : (ns ms : List Node) (i : ℕ) → i < length ns → Are
 armed_count-others ns ms i lt others =
     let s : armed_count (set ns i (node_at ms i)) + one_if_armed (node_at ns i) ≡ armed_count ns + one_if_armed (node_at ms i) = sum_by-set one_if_armed ns i (node_at ms i) free_node lt in
     let l : length ms ≡ length (set ns i (node_at ms i)) = others.size ∙ sym (length-set ns i (node_at ms i)) in
-    let c : armed_count ms ≡ armed_count (set ns i (node_at ms i)) = armed_count-same (set ns i (node_at ms i)) ms l (λ j. at j (same_or j i)) in
+    let c : armed_count ms ≡ armed_count (set ns i (node_at ms i)) = armed_count-same (set ns i (node_at ms i)) ms l (λ j. at j (cases_eq j i)) in
     omega arith
   where
     at : (j : ℕ) → (j ≡ i) ⊎ (j ≢ i) → (node_at ms j).armed ≡ (node_at (set ns i (node_at ms i)) j).armed

@@ -7,13 +7,14 @@ use Rattle.std.proofs.Math.Seq.{get_or-append_seam}
 use Rattle.std.proofs.lemmas.List.{length-append, get_or-replicate, length-replicate}
 use Rattle.grub_wheel.specs.declared.timer.Timer.{Timer}
 use Rattle.grub_wheel.specs.declared.node.Node.{Node}
-use Rattle.grub_wheel.specs.Firsts.{IsFirst, Behind}
-use Rattle.grub_wheel.specs.Nodes.{free_node, node_at, Armed, timers_of, key_of, slot_of, keys, slots, moments, links, tasks, head_of, AreInSlots, AreChained, AreOthersKept, IsArmedNode, IsFreed, AreFree, armed_count, one_if_armed, IsHashed}
-use Rattle.grub_wheel.proofs.Numbers.{no_both, same_or, less_or}
+use Rattle.grub_wheel.specs.inside.Firsts.{IsFirst, Behind}
+use Rattle.grub_wheel.specs.inside.Nodes.{free_node, node_at, Armed, timers_of, key_of, slot_of, keys, slots, moments, links, tasks, head_of, AreInSlots, AreChained, AreOthersKept, IsArmedNode, IsFreed, AreFree, armed_count, one_if_armed, IsHashed}
+use Rattle.std.proofs.lemmas.Bool.{cases_eq, cases_lt}
+use Rattle.grub_wheel.proofs.Numbers.{no_both}
 use Rattle.grub_wheel.proofs.Links.{IsSame, first_as, behind_as, behind_to}
 use Rattle.grub_wheel.proofs.Looks.{bag_of, bag-same}
 use Rattle.grub_wheel.specs.TimerBag.{WheelState}
-use Rattle.grub_wheel.specs.Used.{IsMapped}
+use Rattle.grub_wheel.specs.inside.Used.{IsMapped}
 use Rattle.std.specs.FinMap as map
 use Rattle.grub_wheel.proofs.Views.{state_of, looks}
 use Rattle.grub_wheel.proofs.Apart.{Apart, same_look, look_has}
@@ -63,7 +64,7 @@ put_hashed ns ms hs gs free i spare from f x h is sound here others lower later 
           let b = one_armed (node_at ms i) here.armed in
           let r = head.room in let q = others.size in let k = h.count in
           omega arith;
-      after = λ j a. after j a (same_or j i);
+      after = λ j a. after j a (cases_eq j i);
     }
   where
     after : (j : ℕ) → Armed ms j → (j ≡ i) ⊎ (j ≢ i) → f ≤ moments ms j
@@ -111,7 +112,7 @@ module _ (ns : List Node) (n : Node) (off : n.armed ≡ false) where
   more_end = get_or-append_seam ns n [] free_node
 
   more_within : (j : ℕ) → Armed More j → j < length ns
-  more_within j a = go (less_or j (length ns)) (same_or j (length ns))
+  more_within j a = go (cases_lt j (length ns)) (cases_eq j (length ns))
     where
       go : (j < length ns) ⊎ (length ns ≤ j) → (j ≡ length ns) ⊎ (j ≢ length ns) → j < length ns
       go (inl l) o = l

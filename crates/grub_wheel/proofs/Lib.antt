@@ -12,5 +12,3 @@ pub mod FreePlaces
 pub mod Hashed
 pub mod Bags
 pub mod Dues
-pub mod SortedLists
-pub mod SortedViews

@@ -1,7 +1,7 @@
 -- A node put into the list of its slot, and one taken out.
 use Rattle.std.proofs.Common.{◌≡◌, ◌≢◌, ℕ, ◌<◌, ◌≤◌, ◌⊎◌, inl, inr, Option, Some, None, refl, ap, ◌∙◌, sym, arith, subst}
-use Rattle.grub_wheel.specs.Firsts.{IsFront, IsFirst, Behind, IsChained, IsBack, IsLast}
-use Rattle.grub_wheel.proofs.Numbers.{less_or, same_or}
+use Rattle.grub_wheel.specs.inside.Firsts.{IsFront, IsFirst, Behind, IsChained, IsBack, IsLast}
+use Rattle.std.proofs.lemmas.Bool.{cases_lt, cases_eq}
 
 -- armed before and after, with the same key and slot
 pub record IsSame (A A' : ℕ → Type 0) (K K' S S' : ℕ → ℕ) (j : ℕ) : Type 0 where
@@ -87,7 +87,7 @@ module _ (A A' : ℕ → Type 0) (K K' S S' : ℕ → ℕ) (next next' head head
 
   -- of a slot, what stands below k is at b or before it
   lower : (b k : ℕ) → IsBack A K S s k b → (j : ℕ) → A j → j ≢ b → S j ≡ s → K j < k → K j < K b
-  lower b k last j a ne p l = go (same_or (K j) (K b))
+  lower b k last j a ne p l = go (cases_eq (K j) (K b))
     where
       go : (K j ≡ K b) ⊎ (K j ≢ K b) → K j < K b
       go (inl e) = absurd (ne (distinct j b a last.armed e))
@@ -95,7 +95,7 @@ module _ (A A' : ℕ → Type 0) (K K' S S' : ℕ → ℕ) (next next' head head
 
   module _ (before : Option ℕ) (g : IsAdded A A' K K' S S' next next' head head' s before i) (new : (j : ℕ) → A j → K j ≢ K' i) where
     add_head_empty : IsLast A K S s (K' i) None → head' s ≡ Some i → Head s (head' s)
-    add_head_empty n e = subst (Head s) (sym e) (record { armed = g.here; meets = g.place; least = λ j a p. least j a p (same_or j i) })
+    add_head_empty n e = subst (Head s) (sym e) (record { armed = g.here; meets = g.place; least = λ j a p. least j a p (cases_eq j i) })
       where
         least2 : (j : ℕ) → Same j → S j ≡ s → (K j < K' i) ⊎ (K' i ≤ K j) → K' i ≤ K' j
         least2 j b p (inl l) = absurd (n j b.old (p, l))
@@ -103,7 +103,7 @@ module _ (A A' : ℕ → Type 0) (K K' S S' : ℕ → ℕ) (next next' head head
 
         least : (j : ℕ) → A' j → S' j ≡ s → (j ≡ i) ⊎ (j ≢ i) → K' i ≤ K' j
         least j a p (inl e) = let f = ap K' e in omega arith
-        least j a p (inr ne) = let b = g.old j a ne in least2 j b (sym b.slot ∙ p) (less_or (K j) (K' i))
+        least j a p (inr ne) = let b = g.old j a ne in least2 j b (sym b.slot ∙ p) (cases_lt (K j) (K' i))
 
     add_head_behind : (b : ℕ) → IsBack A K S s (K' i) b → head' s ≡ head s → Head s (head' s)
     add_head_behind b last e = subst (Head s) (sym e) (go (head s) (ch.heads s low))
@@ -112,7 +112,7 @@ module _ (A A' : ℕ → Type 0) (K K' S S' : ℕ → ℕ) (next next' head head
         go None n = absurd (n b last.armed last.here)
         go (Some h) f =
             let c = g.kept h f.armed in
-            front_as A A' K K' S S' (λ j. S j ≡ s) (λ j. S' j ≡ s) h f (λ j a p. from j a p (same_or j i)) c (c.slot ∙ f.meets)
+            front_as A A' K K' S S' (λ j. S j ≡ s) (λ j. S' j ≡ s) h f (λ j a p. from j a p (cases_eq j i)) c (c.slot ∙ f.meets)
           where
             from : (j : ℕ) → A' j → S' j ≡ s → (j ≡ i) ⊎ (j ≢ i) → (Same j × (S j ≡ s)) ⊎ (K' h ≤ K' j)
             from j a p (inl e) =
@@ -131,7 +131,7 @@ module _ (A A' : ℕ → Type 0) (K K' S S' : ℕ → ℕ) (next next' head head
     -- ---- the new one's own link
 
     not_below : (h : ℕ) → Same h → (K h < K' i → ⊥) → K' i < K' h
-    not_below h c not = go (less_or (K h) (K' i)) (same_or (K h) (K' i))
+    not_below h c not = go (cases_lt (K h) (K' i)) (cases_eq (K h) (K' i))
       where
         go : (K h < K' i) ⊎ (K' i ≤ K h) → (K h ≡ K' i) ⊎ (K h ≢ K' i) → K' i < K' h
         go (inl l) o = absurd (not l)
@@ -181,7 +181,7 @@ module _ (A A' : ℕ → Type 0) (K K' S S' : ℕ → ℕ) (next next' head head
     before_link b last c e =
         let u = c.key in let w = last.below in let lt : K' b < K' i = omega arith in
         subst (Next b) (sym e)
-        (record { armed = g.here; meets = (g.place ∙ sym last.here ∙ sym c.slot, lt); least = λ x a p. least x a p (same_or x i) })
+        (record { armed = g.here; meets = (g.place ∙ sym last.here ∙ sym c.slot, lt); least = λ x a p. least x a p (cases_eq x i) })
       where
         least2 : (x : ℕ) → Same x → Behind K S b x → (K x < K' i) ⊎ (K' i ≤ K x) → K' i ≤ K' x
         least2 x d p (inl l) = let m = last.most x d.old (p.0 ∙ last.here) l in let q = p.1 in absurd (omega arith)
@@ -189,7 +189,7 @@ module _ (A A' : ℕ → Type 0) (K K' S S' : ℕ → ℕ) (next next' head head
 
         least : (x : ℕ) → A' x → Behind K' S' b x → (x ≡ i) ⊎ (x ≢ i) → K' i ≤ K' x
         least x a p (inl f) = let q = ap K' f in omega arith
-        least x a p (inr nx) = let d = g.old x a nx in least2 x d (behind_as A A' K K' S S' b x c d p) (less_or (K x) (K' i))
+        least x a p (inr nx) = let d = g.old x a nx in least2 x d (behind_as A A' K K' S S' b x c d p) (cases_lt (K x) (K' i))
 
     other_behind : (b : ℕ) → IsBack A K S s (K' i) b → (j : ℕ) → j ≢ b → Same j → next' j ≡ next j → Next j (next' j)
     other_behind b last j nb c e = subst (Next j) (sym e) (go (next j) (ch.nexts j c.old))
@@ -202,14 +202,14 @@ module _ (A A' : ℕ → Type 0) (K K' S S' : ℕ → ℕ) (next next' head head
             (last.here ∙ sym h, lower b (K' i) last j c.old nb h lt)
 
         go : (o : Option ℕ) → IsFirst A K (Behind K S j) o → Next j o
-        go None n = λ x a p. nobody x a p (same_or x i)
+        go None n = λ x a p. nobody x a p (cases_eq x i)
           where
             nobody : (x : ℕ) → A' x → Behind K' S' j x → (x ≡ i) ⊎ (x ≢ i) → ⊥
             nobody x a p (inl e) = n b last.armed (here_too x e p)
             nobody x a p (inr nx) = let d = g.old x a nx in n x d.old (behind_as A A' K K' S S' j x c d p)
         go (Some h) f =
             let d = g.kept h f.armed in
-            front_as A A' K K' S S' (Behind K S j) (Behind K' S' j) h f (λ x a p. from x a p (same_or x i)) d (behind_to A A' K K' S S' j h c d f.meets)
+            front_as A A' K K' S S' (Behind K S j) (Behind K' S' j) h f (λ x a p. from x a p (cases_eq x i)) d (behind_to A A' K K' S S' j h c d f.meets)
           where
             from : (x : ℕ) → A' x → Behind K' S' j x → (x ≡ i) ⊎ (x ≢ i) → (Same x × Behind K S j x) ⊎ (K' h ≤ K' x)
             from x a p (inl e) =
@@ -219,7 +219,7 @@ module _ (A A' : ℕ → Type 0) (K K' S S' : ℕ → ℕ) (next next' head head
             from x a p (inr nx) = let d = g.old x a nx in inl (d, behind_as A A' K K' S S' j x c d p)
 
   pub add_chained : (before : Option ℕ) → IsAdded A A' K K' S S' next next' head head' s before i → ((j : ℕ) → A j → K j ≢ K' i) → IsLast A K S s (K' i) before → IsChained A' K' S' next' head'
-  add_chained before g new last = record { heads = λ r lt. heads before g last r lt (same_or r s); nexts = λ j a. nexts before g last j a (same_or j i) }
+  add_chained before g new last = record { heads = λ r lt. heads before g last r lt (cases_eq r s); nexts = λ j a. nexts before g last j a (cases_eq j i) }
     where
       heads : (before : Option ℕ) (g : IsAdded A A' K K' S S' next next' head head' s before i) → IsLast A K S s (K' i) before → (r : ℕ) → r < 256 → (r ≡ s) ⊎ (r ≢ s) → Head r (head' r)
       heads before g last r lt (inr ne) = add_head_other before g new r lt ne
@@ -234,7 +234,7 @@ module _ (A A' : ℕ → Type 0) (K K' S S' : ℕ → ℕ) (next next' head head
       nexts None g last j a (inl e) = subst (λ (q : ℕ). Next q (next' q)) (sym e) (own_at_head None g new last g.linked.0)
       nexts None g last j a (inr ne) = other_at_head None g new last j (g.old j a ne) (g.linked.2 j ne)
       nexts (Some b) g last j a (inl e) = subst (λ (q : ℕ). Next q (next' q)) (sym e) (own_behind (Some b) g new b last g.linked.0)
-      nexts (Some b) g last j a (inr ne) = others b g last j ne (g.old j a ne) (same_or j b)
+      nexts (Some b) g last j a (inr ne) = others b g last j ne (g.old j a ne) (cases_eq j b)
 
   module _ (before : Option ℕ) (g : IsTaken A A' K K' S S' next next' head head' s before i) where
     not_gone : (j : ℕ) → A' j → j ≢ i
@@ -242,7 +242,7 @@ module _ (A A' : ℕ → Type 0) (K K' S S' : ℕ → ℕ) (next next' head head
 
     -- a node of the slot other than i that isn't below i is behind it
     up : (j : ℕ) → A j → j ≢ i → (K j < K i → ⊥) → K i < K j
-    up j a nj not = go (less_or (K j) (K i)) (same_or (K j) (K i))
+    up j a nj not = go (cases_lt (K j) (K i)) (cases_eq (K j) (K i))
       where
         go : (K j < K i) ⊎ (K i ≤ K j) → (K j ≡ K i) ⊎ (K j ≢ K i) → K i < K j
         go (inl l) o = absurd (not l)
@@ -306,7 +306,7 @@ module _ (A A' : ℕ → Type 0) (K K' S S' : ℕ → ℕ) (next next' head head
         (d, behind_to A A' K K' S S' b h c d (f.meets.0 ∙ g.place ∙ sym last.here, lt))))
 
   pub take_chained : (before : Option ℕ) → IsTaken A A' K K' S S' next next' head head' s before i → IsLast A K S s (K i) before → IsChained A' K' S' next' head'
-  take_chained before g last = record { heads = λ r lt. heads before g last r lt (same_or r s); nexts = λ j a. nexts before g last j a }
+  take_chained before g last = record { heads = λ r lt. heads before g last r lt (cases_eq r s); nexts = λ j a. nexts before g last j a }
     where
       heads : (before : Option ℕ) (g : IsTaken A A' K K' S S' next next' head head' s before i) → IsLast A K S s (K i) before → (r : ℕ) → r < 256 → (r ≡ s) ⊎ (r ≢ s) → Head r (head' r)
       heads before g last r lt (inr ne) = take_head_other before g r lt ne
@@ -319,4 +319,4 @@ module _ (A A' : ℕ → Type 0) (K K' S S' : ℕ → ℕ) (next next' head head
 
       nexts : (before : Option ℕ) (g : IsTaken A A' K K' S S' next next' head head' s before i) → IsLast A K S s (K i) before → (j : ℕ) → A' j → Next j (next' j)
       nexts None g last j a = link_kept None g j a (not_first None g last j (g.old j a).old) (g.linked.1 j (not_gone None g j a))
-      nexts (Some b) g last j a = others b g last j a (same_or j b)
+      nexts (Some b) g last j a = others b g last j a (cases_eq j b)

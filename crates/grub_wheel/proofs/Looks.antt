@@ -4,7 +4,7 @@ use Rattle.std.specs.Ordering.{nat_cmp}
 use Rattle.std.specs.Cmp.{nat_cmp_total, unsigned_tied}
 use Rattle.std.specs.FinMap as map
 use Rattle.grub_wheel.specs.declared.timer.Timer.{Timer}
-use Rattle.grub_wheel.specs.Order.{entries_of}
+use Rattle.grub_wheel.specs.inside.Order.{entries_of}
 use Rattle.grub_wheel.specs.TimerBag.{TimerBag}
 
 abbrev pub look : List Timer → ℕ → Option (ℕ × ℕ)

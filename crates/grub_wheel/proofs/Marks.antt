@@ -4,8 +4,8 @@ use Rattle.std.specs.Int.{bit_at, trailing_zeros}
 use Rattle.std.proofs.Math.Nat.{mod-lt, mod-add-div, div-le_self}
 use Rattle.std.proofs.Math.Pow.{pow_pos}
 use Rattle.std.proofs.lemmas.Nat.Bits.{bit_at_cat_high, bit_at_above, bit_at-trailing_zeros, bit_at_set_same, bit_at_set_other, bit_at_clear_same, bit_at_clear_other, bit_at-zero}
-use Rattle.grub_wheel.specs.Used.{mark_of}
-use Rattle.grub_wheel.proofs.Numbers.{less_or, same_or}
+use Rattle.grub_wheel.specs.inside.Used.{mark_of}
+use Rattle.std.proofs.lemmas.Bool.{cases_lt, cases_eq}
 
 shifted : (n k j : ℕ) → bit_at n (k + j) ≡ bit_at (n / 2 ^ k) j
 shifted n k j =
@@ -28,7 +28,7 @@ rest_zero us slot r z lo hi =
     marked us r (slot / 64) (slot % 64 + (r - slot)) d e ∙ shifted (get_or us (slot / 64) 0) (slot % 64) (r - slot) ∙ ap (λ (x : ℕ). bit_at x (r - slot)) z ∙ bit_at-zero (r - slot)
 
 pub rest_high : (n slot : ℕ) → n < 18446744073709551616 → (n / 2 ^ (slot % 64) ≡ 0 → ⊥) → slot % 64 + trailing_zeros w64 (n / 2 ^ (slot % 64)) < 64
-rest_high n slot fits ne = go (less_or (slot % 64 + trailing_zeros w64 (n / 2 ^ (slot % 64))) 64)
+rest_high n slot fits ne = go (cases_lt (slot % 64 + trailing_zeros w64 (n / 2 ^ (slot % 64))) 64)
   where
     small : n / 2 ^ (slot % 64) < 18446744073709551616
     small = let l : n / 2 ^ (slot % 64) ≤ n = div-le_self n (2 ^ (slot % 64)) in omega arith
@@ -81,7 +81,7 @@ word_used us word fits ne =
 
 pub word_none : (us : List ℕ) (slot word r : ℕ) → get_or us word 0 < 18446744073709551616 → (get_or us word 0 ≡ 0 → ⊥) → ((q : ℕ) → slot ≤ q → q < word * 64 → mark_of us q ≡ 0) → slot ≤ r
     → r < word * 64 + trailing_zeros w64 (get_or us word 0) → mark_of us r ≡ 0
-word_none us slot word r fits ne none lo hi = go (less_or r (word * 64))
+word_none us slot word r fits ne none lo hi = go (cases_lt r (word * 64))
   where
     go : (r < word * 64) ⊎ (word * 64 ≤ r) → mark_of us r ≡ 0
     go (inl l) = none r lo l
@@ -99,7 +99,7 @@ module _ (us : List ℕ) (s : ℕ) (len : length us ≡ 4) (low : s < 256) where
   same_word = omega arith
 
   changed : (x r : ℕ) → (r ≡ s → ⊥) → ((r % 64 ≡ s % 64 → ⊥) → bit_at x (r % 64) ≡ bit_at (get_or us (s / 64) 0) (r % 64)) → mark_of (set us (s / 64) x) r ≡ mark_of us r
-  changed x r ne same = go (same_or (r / 64) (s / 64))
+  changed x r ne same = go (cases_eq (r / 64) (s / 64))
     where
       go : (r / 64 ≡ s / 64) ⊎ (r / 64 ≡ s / 64 → ⊥) → mark_of (set us (s / 64) x) r ≡ mark_of us r
       go (inl e) =

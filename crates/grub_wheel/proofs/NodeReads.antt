@@ -3,7 +3,7 @@ use Rattle.std.proofs.Common.{◌≡◌, ℕ, ◌<◌, ◌++◌, List, length, t
 use Rattle.std.proofs.Math.Seq.{take-append_seam}
 use Rattle.std.proofs.lemmas.List.{get_or_default}
 use Rattle.grub_wheel.specs.declared.node.Node.{Node}
-use Rattle.grub_wheel.specs.Nodes.{free_node, node_at}
+use Rattle.grub_wheel.specs.inside.Nodes.{free_node, node_at}
 
 pub node_read : (ns : List Node) (i : ℕ) (n : Node) → i < length ns → n ≡ get_or ns i n → node_at ns i ≡ n
 node_read ns i n lt e = get_or_default ns i free_node n lt ∙ sym e

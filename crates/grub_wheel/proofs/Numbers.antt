@@ -1,21 +1,6 @@
--- Cases of numbers, options and tests, and timers as numbers.
-use Rattle.std.proofs.Common.{◌≡◌, ◌≢◌, ℕ, ◌+◌, ◌*◌, ◌<◌, ◌≤◌, Bool, true, false, eqb, ltb, ◌||◌, ◌&&◌, ◌⊎◌, inl, inr, Some, refl, arith}
-use Rattle.std.proofs.lemmas.Bool.{eqb-true, ltb-true, ltb-false}
-use Rattle.std.proofs.lemmas.Bool.Decides.{nat_tests}
-
-pub less_or : (a b : ℕ) → (a < b) ⊎ (b ≤ a)
-less_or a b = go (ltb a b) refl
-  where
-    go : (t : Bool) → ltb a b ≡ t → (a < b) ⊎ (b ≤ a)
-    go true e = inl (ltb-true a b e)
-    go false e = inr (ltb-false a b e)
-
-pub same_or : (a b : ℕ) → (a ≡ b) ⊎ (a ≢ b)
-same_or a b = go (eqb a b) refl
-  where
-    go : (t : Bool) → eqb a b ≡ t → (a ≡ b) ⊎ (a ≢ b)
-    go true e = inl (eqb-true a b e)
-    go false e = inr (λ h. absurd (grind (arith, nat_tests)))
+-- Cases of options and tests, and timers as numbers.
+use Rattle.std.proofs.Common.{◌≡◌, ℕ, ◌+◌, ◌*◌, ◌<◌, ◌≤◌, Bool, true, false, eqb, ltb, ◌||◌, ◌&&◌, ◌⊎◌, inl, inr, Some, refl, arith}
+use Rattle.std.proofs.lemmas.Bool.{eqb-true, ltb-true, cases_lt}
 
 pub some_is : {A : Type 0} (a b : A) → Some a ≡ Some b → a ≡ b
 some_is a b e = cc
@@ -35,7 +20,7 @@ pub later_key : (z t y u : ℕ) → t < 4294967296 → z < y → z * 4294967296 
 later_key z t y u lt h = omega arith
 
 pub key_parts : (z t y u : ℕ) → t < 4294967296 → u < 4294967296 → z * 4294967296 + t ≤ y * 4294967296 + u → (z < y) ⊎ ((z ≡ y) × (t ≤ u))
-key_parts z t y u a b h = go (less_or z y)
+key_parts z t y u a b h = go (cases_lt z y)
   where
     go : (z < y) ⊎ (y ≤ z) → (z < y) ⊎ ((z ≡ y) × (t ≤ u))
     go (inl l) = inl l
@@ -51,17 +36,3 @@ before_key z t y u a h = go (ltb z y) refl h
         go2 : (b : Bool) → eqb z y ≡ b → (b && ltb t u) ≡ true → z * 4294967296 + t < y * 4294967296 + u
         go2 true f h = let s = eqb-true z y f in let l = ltb-true t u h in omega arith
         go2 false f h = absurd cc
-
-pub not_before_key : (z t y u : ℕ) → u < 4294967296 → (ltb z y || (eqb z y && ltb t u)) ≡ false → y * 4294967296 + u ≤ z * 4294967296 + t
-not_before_key z t y u a h = go (ltb z y) refl h
-  where
-    go : (b : Bool) → ltb z y ≡ b → (b || (eqb z y && ltb t u)) ≡ false → y * 4294967296 + u ≤ z * 4294967296 + t
-    go true e h = absurd cc
-    go false e h = go2 (eqb z y) refl h
-      where
-        ge : y ≤ z
-        ge = ltb-false z y e
-
-        go2 : (b : Bool) → eqb z y ≡ b → (b && ltb t u) ≡ false → y * 4294967296 + u ≤ z * 4294967296 + t
-        go2 true f h = let s = eqb-true z y f in let l = ltb-false t u h in omega arith
-        go2 false f h = let g = ge in let ne : z ≢ y = grind (arith, nat_tests) in omega arith

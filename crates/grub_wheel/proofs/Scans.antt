@@ -3,9 +3,10 @@ use Rattle.std.proofs.Common.{◌≡◌, ◌≢◌, ℕ, ◌+◌, ◌-◌, ◌%�
 use Rattle.std.specs.Prelude.{IfSome, IsSomeAnd}
 use Rattle.std.proofs.lemmas.List.{get_or_past}
 use Rattle.grub_wheel.specs.declared.node.Node.{Node}
-use Rattle.grub_wheel.specs.Nodes.{free_node, node_at, Armed, keys, slots, tasks, moments, head_of, AreInSlots, IsFirstOf, IsNarrowNode, IsSooner}
-use Rattle.grub_wheel.specs.Used.{IsMapped, mark_of}
-use Rattle.grub_wheel.proofs.Numbers.{less_or, same_or, no_both, some_is, key_moments, later_key}
+use Rattle.grub_wheel.specs.inside.Nodes.{free_node, node_at, Armed, keys, slots, tasks, moments, head_of, AreInSlots, IsFirstOf, IsNarrowNode, IsSooner}
+use Rattle.grub_wheel.specs.inside.Used.{IsMapped, mark_of}
+use Rattle.std.proofs.lemmas.Bool.{cases_lt, cases_eq}
+use Rattle.grub_wheel.proofs.Numbers.{some_is, no_both, key_moments, later_key}
 
 off_here : (z f k : ℕ) → f ≤ z → k < 256 → z % 256 ≡ (f + k) % 256 → (z - f) % 256 ≡ k
 off_here z f k le lt e = omega arith
@@ -14,7 +15,7 @@ off_slot : (z f k : ℕ) → f ≤ z → (z - f) % 256 ≡ k → z % 256 ≡ (f 
 off_slot z f k le e = omega arith
 
 pub armed_within : (ns : List Node) (j : ℕ) → Armed ns j → j < length ns
-armed_within ns j a = go (less_or j (length ns))
+armed_within ns j a = go (cases_lt j (length ns))
   where
     go : (j < length ns) ⊎ (length ns ≤ j) → j < length ns
     go (inl l) = l
@@ -74,11 +75,11 @@ module _ (ns : List Node) (hs : List (Option ℕ)) (sound : AreInSlots ns hs) (P
 
   pub sooner_first : (best head result : Option ℕ) → IsSooner ns best head m result → IsFirstOf ns P best → IsFirstOf ns (λ i. slots ns i ≡ s) head → IsFirstOf ns Q result
   sooner_first best None result r b n = subst (IsFirstOf ns Q) (sym (r.unused refl)) (keep (λ i a p l. n i a p) best b)
-  sooner_first best (Some h) result r b f = go (less_or m (moments ns h))
+  sooner_first best (Some h) result r b f = go (cases_lt m (moments ns h))
     where
       due : moments ns h ≤ m → (best : Option ℕ) → IsSooner ns best (Some h) m result → IsFirstOf ns P best → IsFirstOf ns Q result
       due l None r b = subst (IsFirstOf ns Q) (sym (r.only h refl l refl)) (head_best None h b (λ c e. absurd cc) f l)
-      due l (Some c) r b = which (less_or (keys ns c) (keys ns h))
+      due l (Some c) r b = which (cases_lt (keys ns c) (keys ns h))
         where
           which : (keys ns c < keys ns h) ⊎ (keys ns h ≤ keys ns c) → IsFirstOf ns Q result
           which (inl k) = subst (IsFirstOf ns Q) (sym (r.later h c refl l refl k)) (best_best c h b k f)
@@ -102,14 +103,14 @@ empty_slot ns hs sound us mapped r lt z i a p = go (head_of hs r) refl (sound.ch
 module _ (ns : List Node) (hs : List (Option ℕ)) (sound : AreInSlots ns hs) (us : List ℕ) (mapped : IsMapped us hs) (slot next bound : ℕ)
     (none : (r : ℕ) → slot ≤ r → r < next → mark_of us r ≡ 0) (old : (i : ℕ) → Armed ns i → slots ns i < slot → bound ≤ moments ns i) where
   pub bound_passes : (i : ℕ) → Armed ns i → slots ns i < next → bound ≤ moments ns i
-  bound_passes i a lt = go (less_or (slots ns i) slot)
+  bound_passes i a lt = go (cases_lt (slots ns i) slot)
     where
       go : (slots ns i < slot) ⊎ (slot ≤ slots ns i) → bound ≤ moments ns i
       go (inl l) = old i a l
       go (inr l) = let b : slots ns i < 256 = omega arith in absurd (empty_slot ns hs sound us mapped (slots ns i) b (none (slots ns i) l lt) i a refl)
 
   pub bound_goes_on : (result : ℕ) → next < 256 → result ≤ bound → IfSome (head_of hs next) (λ h. result ≤ moments ns h) → (i : ℕ) → Armed ns i → slots ns i < next + 1 → result ≤ moments ns i
-  bound_goes_on result low le at i a lt = go (same_or (slots ns i) next)
+  bound_goes_on result low le at i a lt = go (cases_eq (slots ns i) next)
     where
       at_head : (o : Option ℕ) → IsFirstOf ns (λ j. slots ns j ≡ next) o → IfSome o (λ h. result ≤ moments ns h) → slots ns i ≡ next → result ≤ moments ns i
       at_head None n h e = absurd (n i a e)
@@ -154,7 +155,7 @@ module _ (ns : List Node) (hs : List (Option ℕ)) (sound : AreInSlots ns hs) (f
         empty_slot ns hs sound us mapped (moments ns i % 256) b (none (moments ns i % 256) p.0 p.1) i a refl
 
     not_passed : (i : ℕ) → Armed ns i → (moments ns i - from) % 256 < at → (moments ns i - from) % 256 < k
-    not_passed i a h = go (less_or ((moments ns i - from) % 256) k)
+    not_passed i a h = go (cases_lt ((moments ns i - from) % 256) k)
       where
         go : ((moments ns i - from) % 256 < k) ⊎ (k ≤ (moments ns i - from) % 256) → (moments ns i - from) % 256 < k
         go (inl l) = l
@@ -165,7 +166,7 @@ module _ (ns : List Node) (hs : List (Option ℕ)) (sound : AreInSlots ns hs) (f
     passed_seen (Some b) f = record { armed = f.armed; meets = (f.meets.0, let l = f.meets.1 in omega (arith, l, is)); least = λ i a p. f.least i a (p.0, not_passed i a p.1) }
 
     passed_exact : (i : ℕ) → Armed ns i → from + k ≤ moments ns i → from + at ≤ moments ns i
-    passed_exact i a x = go (less_or (moments ns i) (from + at))
+    passed_exact i a x = go (cases_lt (moments ns i) (from + at))
       where
         go : (moments ns i < from + at) ⊎ (from + at ≤ moments ns i) → from + at ≤ moments ns i
         go (inr l) = l
@@ -190,7 +191,7 @@ module _ (ns : List Node) (hs : List (Option ℕ)) (sound : AreInSlots ns hs) (f
   at_once k best (Some h) sc e is le = go (subst (IsFirstOf ns (λ i. slots ns i ≡ (from + k) % 256)) (sym e) (head_first k))
     where
       go : IsFirstOf ns (λ i. slots ns i ≡ (from + k) % 256) (Some h) → IsFirstOf ns (λ i. moments ns i ≤ m) (Some h)
-      go f = record { armed = f.armed; meets = omega (arith, is, le); least = λ i a p. least i a (less_or (moments ns h) (moments ns i)) }
+      go f = record { armed = f.armed; meets = omega (arith, is, le); least = λ i a p. least i a (cases_lt (moments ns h) (moments ns i)) }
         where
           least : (i : ℕ) → Armed ns i → (moments ns h < moments ns i) ⊎ (moments ns i ≤ moments ns h) → keys ns h ≤ keys ns i
           least i a (inl l) = later_key (moments ns h) (tasks ns h) (moments ns i) (tasks ns i) (sound.narrow h f.armed) l
@@ -201,7 +202,7 @@ module _ (ns : List Node) (hs : List (Option ℕ)) (sound : AreInSlots ns hs) (f
 
   pub goes_past : (k : ℕ) (best head result : Option ℕ) → IsScanned ns from m k best → head ≡ head_of hs ((from + k) % 256) → k < 256
       → (IsSomeAnd head (λ h. moments ns h ≡ from + k) → ⊥) → IsSooner ns best head m result → IsScanned ns from m (k + 1) result
-  goes_past k best head result sc e lt not_at r = record { seen = seen; exact = λ i a. exact i a (same_or (moments ns i) (from + k)) }
+  goes_past k best head result sc e lt not_at r = record { seen = seen; exact = λ i a. exact i a (cases_eq (moments ns i) (from + k)) }
     where
       first : IsFirstOf ns (λ i. slots ns i ≡ (from + k) % 256) head
       first = subst (IsFirstOf ns (λ i. slots ns i ≡ (from + k) % 256)) (sym e) (head_first k)
@@ -218,7 +219,7 @@ module _ (ns : List Node) (hs : List (Option ℕ)) (sound : AreInSlots ns hs) (f
           sooner_first ns hs sound (λ i. (moments ns i ≤ m) × ((moments ns i - from) % 256 < k)) (λ i. (moments ns i ≤ m) × ((moments ns i - from) % 256 < k + 1)) ((from + k) % 256) m
           (λ i a p. let l = p.1 in (p.0, omega (arith, l)))
           (λ i a p l. let o = off_here (moments ns i) from k (after i a) lt p in (l, omega (arith, o)))
-          (λ i a p. out i a p.0 p.1 (less_or ((moments ns i - from) % 256) k))
+          (λ i a p. out i a p.0 p.1 (cases_lt ((moments ns i - from) % 256) k))
           best head result r sc.seen first
 
       there : (head : Option ℕ) → IsFirstOf ns (λ j. slots ns j ≡ (from + k) % 256) head → (IsSomeAnd head (λ h. moments ns h ≡ from + k) → ⊥) → (i : ℕ) → Armed ns i → moments ns i ≢ from + k

@@ -1,7 +1,7 @@
 -- The walk along a slot, to the last before a key.
 use Rattle.std.proofs.Common.{◌≡◌, ℕ, ◌+◌, ◌-◌, ◌<◌, ◌≤◌, ◌⊎◌, inl, inr, Option, Some, None, ◌∙◌, sym, arith}
-use Rattle.grub_wheel.specs.Firsts.{IsFirst, Behind, IsChained, IsLast}
-use Rattle.grub_wheel.proofs.Numbers.{less_or}
+use Rattle.grub_wheel.specs.inside.Firsts.{IsFirst, Behind, IsChained, IsLast}
+use Rattle.std.proofs.lemmas.Bool.{cases_lt}
 
 -- the walk has passed this node, and stands before another
 pub record IsPassed (A : ℕ → Type 0) (K S : ℕ → ℕ) (s k before : ℕ) (at : Option ℕ) : Type 0 where
@@ -42,14 +42,14 @@ module _ (A : ℕ → Type 0) (K S : ℕ → ℕ) (next head : ℕ → Option �
 
   -- nothing of the slot stands between `before` and what is ahead
   most : (b i : ℕ) → IsPassed A K S s k b (Some i) → k ≤ K i → (j : ℕ) → A j → S j ≡ s → K j < k → K j ≤ K b
-  most b i r le j a h lt = go (less_or (K b) (K j))
+  most b i r le j a h lt = go (cases_lt (K b) (K j))
     where
       go : (K b < K j) ⊎ (K j ≤ K b) → K j ≤ K b
       go (inl l) = let g = r.ahead.least j a (h ∙ sym r.here, l) in absurd (omega arith)
       go (inr l) = l
 
   most_at_end : (b : ℕ) → IsPassed A K S s k b None → (j : ℕ) → A j → S j ≡ s → K j ≤ K b
-  most_at_end b r j a h = go (less_or (K b) (K j))
+  most_at_end b r j a h = go (cases_lt (K b) (K j))
     where
       go : (K b < K j) ⊎ (K j ≤ K b) → K j ≤ K b
       go (inl l) = absurd (r.ahead j a (h ∙ sym r.here, l))

@@ -1,7 +1,3 @@
-pub mod Firsts
+pub mod inside
 pub mod Messages
-pub mod Nodes
-pub mod Order
-pub mod Sorted
 pub mod TimerBag
-pub mod Used

@@ -15,8 +15,8 @@ pub record WheelState : Type 0 where
   pub spare : ℕ
   pub last : Option ℕ
 
-abbrev pub state_code : Coded WheelState
-state_code = code_by (TimerBag × (ℕ × Option ℕ)) (coded× (map.code coded_ℕ (coded× coded_ℕ coded_ℕ)) (coded× coded_ℕ (coded_option coded_ℕ))) (λ w. (w.timers, (w.spare, w.last))) (λ p. record { timers = p.0; spare = p.1.0; last = p.1.1 }) (λ _. refl)
+abbrev pub wheel_code : Coded WheelState
+wheel_code = code_by (TimerBag × (ℕ × Option ℕ)) (coded× (map.code coded_ℕ (coded× coded_ℕ coded_ℕ)) (coded× coded_ℕ (coded_option coded_ℕ))) (λ w. (w.timers, (w.spare, w.last))) (λ p. record { timers = p.0; spare = p.1.0; last = p.1.1 }) (λ _. refl)
 
 -- no timer, no place for one, and no `due` yet
 abbrev pub fresh : WheelState

@@ -1,7 +1,7 @@
 //! The lists of the slots: each holds its timers in order, the earliest at its head.
 ghost use Rattle.std.specs.Prelude.{◌≡◌, ◌≢◌, ◌<◌, ◌%◌, ℕ, length, false, IfSome, MatchOption};
-ghost use Rattle.grub_wheel.specs.Nodes.{key_of, AreInSlots, IsLastOf, node_at, Armed, tasks, links, head_of, IsPointed, AreOthersKept, IsFreed, IsArmedNode};
-ghost use Rattle.grub_wheel.specs.Used.{IsMapped};
+ghost use Rattle.grub_wheel.specs.inside.Nodes.{key_of, AreInSlots, IsLastOf, node_at, Armed, tasks, links, head_of, IsPointed, AreOthersKept, IsFreed, IsArmedNode};
+ghost use Rattle.grub_wheel.specs.inside.Used.{IsMapped};
 
 use crate::node::Node;
 use crate::timer::Timer;

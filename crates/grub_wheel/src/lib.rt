@@ -5,8 +5,9 @@
 mod chains;
 mod fault;
 mod node;
+#[cfg(test)]
+mod plain;
 mod scan;
-mod sorted;
 #[cfg(test)]
 mod tests;
 mod timer;
@@ -14,6 +15,5 @@ mod used;
 mod wheel;
 
 pub use fault::WheelFault;
-pub use sorted::SortedWheel;
 pub use timer::Timer;
 pub use wheel::Wheel;

@@ -1,7 +1,7 @@
 //! The search for the earliest timer that is due.
 ghost use Rattle.std.specs.Prelude.{◌≡◌, ◌<◌, ◌≤◌, ℕ, ◌+◌, length, IsTrue, IsSomeAnd, IfSome, ◌↔◌};
-ghost use Rattle.grub_wheel.specs.Nodes.{AreInSlots, IsFirstOf, IsNarrowNode, Armed, moments, IsSooner};
-ghost use Rattle.grub_wheel.specs.Used.{IsMapped};
+ghost use Rattle.grub_wheel.specs.inside.Nodes.{AreInSlots, IsFirstOf, IsNarrowNode, Armed, moments, IsSooner};
+ghost use Rattle.grub_wheel.specs.inside.Used.{IsMapped};
 
 use crate::chains::SLOTS;
 use crate::node::Node;

@@ -1,80 +1,80 @@
-//! Both bodies against worked examples, against each other, and with refused growths.
+//! The wheel against worked examples, against a plain one, at its limits, and with refused growths.
 
 ghost use Rattle.std.specs.Prelude.{◌↔◌, ◌<◌, ◌≤◌, IsTrue, IfSome};
 ghost use Rattle.std.specs.Bool.{IsFalse};
 
 use super::*;
+use crate::plain::PlainWheel;
 use std::alloc::Global;
 use std::process::Abort;
 use std::test::Fail;
 
-/// A wheel and the plain program beside it, which are to answer alike.
+/// A wheel and the plain one beside it, which are to answer alike.
 #[derive(Drop)]
 struct Pair {
     wheel: Wheel,
-    sorted: SortedWheel,
+    plain: PlainWheel,
 }
 
 impl Pair {
     fn new(alloc: Global) -> Result<Pair, WheelFault> {
         Ok(Pair {
-            wheel: Wheel::new(alloc)?,
-            sorted: SortedWheel::new(alloc)?,
+            wheel: wheel_after_all(alloc)?,
+            plain: PlainWheel::new(alloc),
         })
     }
 
     fn armed(&self, rt: &impl Abort, t: u32) -> Option<Timer> {
         let timer = self.wheel.armed(t);
-        assert_eq!(rt; self.sorted.armed(t), timer);
+        assert_eq!(rt; self.plain.armed(t), timer);
         timer
     }
 
     /// Reserves a place, and arms a timer in it.
-    fn put(&mut self, rt: &impl Abort, z: u32, t: u32, ticket: u32) -> Result<(), WheelFault> {
-        self.wheel.reserve_one()?;
-        self.sorted.reserve_one()?;
+    fn put(&mut self, rt: &impl Abort, z: u32, t: u32, ticket: u32) -> Result<(), Fail> {
+        reserve_after_all(rt, &mut self.wheel);
         let wheel = &mut self.wheel;
         assert!(rt; wheel.spare() >= 1 && wheel.armed(t).is_none() && is_before(wheel.last(), z));
         wheel.arm(z, t, ticket);
-        let sorted = &mut self.sorted;
-        assert!(rt;
-            sorted.spare() >= 1 && sorted.armed(t).is_none() && is_before(sorted.last(), z)
-        );
-        sorted.arm(z, t, ticket);
-        assert_eq!(rt; self.armed(rt, t), Some(Timer { z, t, ticket }));
+        let timer = Timer { z, t, ticket };
+        if self.plain.arm(timer).is_err() {
+            self.plain.arm(timer)?;
+        }
+        assert_eq!(rt; self.armed(rt, t), Some(timer));
         Ok(())
-    }
-
-    /// Reserves a place. Where one is refused, as many are spare as before, and the next call gives it.
-    fn reserve_after_all(&mut self, rt: &impl Abort) {
-        let spare = self.wheel.spare();
-        if let Err(fault) = self.wheel.reserve_one() {
-            assert_eq!(rt; fault, WheelFault::NoMemory);
-            assert_eq!(rt; self.wheel.spare(), spare);
-            assert_eq!(rt; self.wheel.reserve_one(), Ok(()));
-        }
-        let spare = self.sorted.spare();
-        if let Err(fault) = self.sorted.reserve_one() {
-            assert_eq!(rt; fault, WheelFault::NoMemory);
-            assert_eq!(rt; self.sorted.spare(), spare);
-            assert_eq!(rt; self.sorted.reserve_one(), Ok(()));
-        }
     }
 
     fn cancel(&mut self, rt: &impl Abort, t: u32, ticket: u32) -> bool {
         let is_cancelled = self.wheel.cancel(t, ticket);
-        assert_eq!(rt; self.sorted.cancel(t, ticket), is_cancelled);
+        assert_eq!(rt; self.plain.cancel(t, ticket), is_cancelled);
         is_cancelled
     }
 
     fn due(&mut self, rt: &impl Abort, m: u32) -> Option<Timer> {
-        assert!(rt; !is_after(self.wheel.last(), m) && !is_after(self.sorted.last(), m));
+        assert!(rt; !is_after(self.wheel.last(), m));
         let timer = self.wheel.due(m);
-        assert_eq!(rt; self.sorted.due(m), timer);
+        assert_eq!(rt; self.plain.due(m), timer);
         assert_eq!(rt; self.wheel.last(), Some(m));
-        assert_eq!(rt; self.sorted.last(), Some(m));
         timer
     }
+}
+
+/// A wheel, which is made a second time where memory was refused once.
+fn wheel_after_all(alloc: Global) -> Result<Wheel, WheelFault> {
+    match Wheel::new(alloc) {
+        Err(WheelFault::NoMemory) => Wheel::new(alloc),
+        made => made,
+    }
+}
+
+/// Reserves a place. Where one is refused, as many are spare as before, and the next call gives it.
+fn reserve_after_all(rt: &impl Abort, wheel: &mut Wheel) {
+    let spare = wheel.spare();
+    if let Err(WheelFault::NoMemory) = wheel.reserve_one() {
+        assert_eq!(rt; wheel.spare(), spare);
+        assert_eq!(rt; wheel.reserve_one(), Ok(()));
+    }
+    assert_eq!(rt; wheel.spare(), spare.max(1));
 }
 
 fn is_before(last: Option<u32>, z: u32) -> bool
@@ -170,7 +170,7 @@ const TASKS: u32 = 24;
 
 /// Arms, cancels and takes timers from a moment on, as a seed has it. Each task has at most one timer,
 /// so no more than `TASKS` come due at once.
-fn run_a_seed(rt: &impl Abort, alloc: Global, seed: u64, start: u32) -> Result<(), WheelFault> {
+fn run_a_seed(rt: &impl Abort, alloc: Global, seed: u64, start: u32) -> Result<(), Fail> {
     let mut numbers = Numbers(seed);
     let mut wheel = Pair::new(alloc)?;
     let mut now = start;
@@ -206,7 +206,7 @@ fn take_all(rt: &impl Abort, wheel: &mut Pair, m: u32) {
 }
 
 #[test]
-fn both_wheels_answer_alike(rt: HostRuntime) -> Result<(), Fail> {
+fn answers_as_the_plain_wheel(rt: HostRuntime) -> Result<(), Fail> {
     for seed in 0..60 {
         run_a_seed(&rt, rt.alloc(), seed, 0)?;
         run_a_seed(&rt, rt.alloc(), seed, 4294960000)?;
@@ -214,28 +214,72 @@ fn both_wheels_answer_alike(rt: HostRuntime) -> Result<(), Fail> {
     Ok(())
 }
 
-/// Passes under `rt try --test --fail-alloc N` for each N too: there growth 1 is that of `Wheel::new`, and the next ones
-/// those of the places of both wheels.
+/// Passes too where any one growth is refused (`scripts/refused-growths.sh`).
 #[test]
-fn a_refused_growth_gives_27(rt: HostRuntime) -> Result<(), Fail> {
-    let sorted = SortedWheel::new(rt.alloc())?;
-    match Wheel::new(rt.alloc()) {
-        Ok(wheel) => fill(&rt, Pair { wheel, sorted }),
-        Err(fault) => assert_eq!(rt; fault, WheelFault::NoMemory),
+fn a_refused_growth_changes_nothing(rt: HostRuntime) -> Result<(), Fail> {
+    let mut pair = Pair::new(rt.alloc())?;
+    for t in 0..40 {
+        assert_eq!(rt; pair.wheel.last(), None);
+        for u in 0..40 {
+            assert_eq!(rt; pair.armed(&rt, u).is_some(), u < t);
+        }
+        pair.put(&rt, 7, t, t)?;
     }
     Ok(())
 }
 
-/// Arms timers of tasks 0 to 39, one after another.
-fn fill(rt: &impl Abort, mut pair: Pair) {
-    for t in 0..40 {
-        pair.reserve_after_all(rt);
-        assert_eq!(rt; pair.wheel.last(), None);
-        for u in 0..40 {
-            assert_eq!(rt; pair.armed(rt, u).is_some(), u < t);
-        }
-        assert_eq!(rt; pair.put(rt, 7, t, t), Ok(()));
+/// A timer for each of 256 tasks, with four at each moment.
+#[test]
+fn all_tasks_have_a_timer(rt: HostRuntime) -> Result<(), Fail> {
+    let mut pair = Pair::new(rt.alloc())?;
+    for t in 0..256 {
+        pair.put(&rt, 1 + t % 64 * 300, t, 1)?;
     }
+    for i in 0..256 {
+        let z = 1 + i / 4 * 300;
+        assert_eq!(rt; pair.due(&rt, 18901), timer(z, i / 4 + i % 4 * 64, 1));
+    }
+    assert_eq!(rt; pair.due(&rt, 4294967295), None);
+    assert_eq!(rt; pair.wheel.spare(), 256);
+    Ok(())
+}
+
+/// The most pieces of memory that are held back.
+const PIECES: usize = 131072;
+
+/// All memory that is left, so that every growth is refused until it is dropped; none of it is written. None where the
+/// allocator gives memory without end, as that of `rt try` does.
+fn all_memory(alloc: Global) -> Result<Option<Vec<Vec<u8>>>, Fail> {
+    let mut pieces = Vec::with_capacity(alloc, PIECES)?;
+    let mut size = usize::MAX / 65536;
+    for _halving in 0..48 {
+        for _piece in 0..PIECES {
+            let Ok(piece) = Vec::with_capacity(alloc, size) else {
+                break;
+            };
+            if pieces.push(piece).is_err() {
+                return Ok(None);
+            }
+        }
+        size /= 2;
+    }
+    Ok(Some(pieces))
+}
+
+#[test]
+fn no_memory_is_left(rt: HostRuntime) -> Result<(), Fail> {
+    let mut wheel = Wheel::new(rt.alloc())?;
+    let Some(held_back) = all_memory(rt.alloc())? else {
+        return Ok(());
+    };
+    let made = Wheel::new(rt.alloc()).err();
+    let reserved = wheel.reserve_one();
+    drop(held_back);
+    assert_eq!(rt; made, Some(WheelFault::NoMemory));
+    assert_eq!(rt; reserved, Err(WheelFault::NoMemory));
+    assert_eq!(rt; wheel.spare(), 0);
+    assert_eq!(rt; wheel.reserve_one(), Ok(()));
+    Ok(())
 }
 
 #[test]

@@ -1,7 +1,7 @@
 //! One timer of a task.
 
 ghost use Rattle.std.specs.Prelude.{◌≡◌};
-ghost use Rattle.grub_wheel.specs.Order.{is_before};
+ghost use Rattle.grub_wheel.specs.inside.Order.{is_before};
 
 /// The timer of a blocked task.
 #[derive(Clone, Copy, Debug, PartialEq, Eq)]

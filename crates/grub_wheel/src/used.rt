@@ -1,6 +1,6 @@
 //! A map of the used slots, a bit for each.
 ghost use Rattle.std.specs.Prelude.{◌≡◌, ◌≢◌, ◌<◌, ◌≤◌, ℕ, length};
-ghost use Rattle.grub_wheel.specs.Used.{mark_of, IsMapped, IsMappedBut};
+ghost use Rattle.grub_wheel.specs.inside.Used.{mark_of, IsMapped, IsMappedBut};
 
 use crate::chains::SLOTS;
 

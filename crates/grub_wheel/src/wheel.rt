@@ -3,7 +3,7 @@ ghost use Rattle.std.specs.Prelude.{◌≡◌, ◌≢◌, ◌<◌, ◌≤◌, �
 ghost use Rattle.std.specs.Bool.{OnTrue, OnFalse};
 ghost use Rattle.std.specs.FinMap as map;
 ghost use Rattle.grub_wheel.specs.TimerBag.{IsArmed, IsArmedWith, IsLeast, AreLater, fresh, after_arming, after_taking};
-ghost use Rattle.grub_wheel.specs.Nodes.{Armed, tasks, free_node};
+ghost use Rattle.grub_wheel.specs.inside.Nodes.{Armed, tasks, free_node};
 
 use crate::chains::{SLOTS, put, take};
 use crate::fault::WheelFault;
@@ -34,15 +34,15 @@ pub struct Wheel {
 
 impl Model for Wheel {
     ghost use Rattle.std.specs.FinMap as map;
-    ghost use Rattle.grub_wheel.specs.TimerBag.{WheelState, state_code};
+    ghost use Rattle.grub_wheel.specs.TimerBag.{WheelState, wheel_code};
 
     ghost Value = { WheelState };
 
-    ghost coded = { state_code };
+    ghost coded = { wheel_code };
 
-    ghost use Rattle.grub_wheel.specs.Order.{entries_of};
-    ghost use Rattle.grub_wheel.specs.Nodes.{timers_of, IsHashed};
-    ghost use Rattle.grub_wheel.specs.Used.{IsMapped};
+    ghost use Rattle.grub_wheel.specs.inside.Order.{entries_of};
+    ghost use Rattle.grub_wheel.specs.inside.Nodes.{timers_of, IsHashed};
+    ghost use Rattle.grub_wheel.specs.inside.Used.{IsMapped};
 
     ghost view = { λ w. record { timers = map.from_entries (entries_of (timers_of w.nodes.items)); spare = w.spare; last = w.last } };
 
@@ -82,22 +82,23 @@ impl Wheel {
         self.last
     }
 
-    /// Makes a place for a timer, where there is none. A refused growth gives 27, `NoMemory`, and then nothing changed.
-    /// Where a place is spare, nothing grows, so nothing is refused.
+    /// Makes one place for a timer, where there is none. A refused growth gives 27, `NoMemory`, and then nothing changed.
+    /// Where a place is spare, nothing changes either, and nothing is refused.
     pub fn reserve_one(&mut self) -> Result<(), WheelFault>
         ensures place { OnOk result (1 ≤ self.new.spare) }
-        ensures spare { OnOk result (self.old.spare ≤ self.new.spare) }
+        ensures one { self.old.spare ≡ 0 → OnOk result (self.new.spare ≡ 1) }
         ensures timers { OnOk result (self.new.timers ≡ self.old.timers) }
         ensures last { OnOk result (self.new.last ≡ self.old.last) }
         ensures err { OnErr result (self.new ≡ self.old) }
         ensures spared { 1 ≤ self.old.spare → IsOk result }
+        ensures kept { 1 ≤ self.old.spare → self.new ≡ self.old }
     {
         if self.spare == 0 {
-            let place = self.nodes.len();
-            if self.nodes.push(free_node()).is_err() {
+            if self.nodes.reserve(1).is_err() {
                 return Err(WheelFault::NoMemory);
             }
-            self.free = Some(place);
+            self.free = Some(self.nodes.len());
+            self.nodes.push_reserved(free_node());
             self.spare = 1;
         }
         Ok(())

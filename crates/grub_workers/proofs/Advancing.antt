@@ -4,7 +4,6 @@ use Rattle.std.specs.List.{Any}
 use Rattle.std.proofs.lemmas.List.Elements.{All-weaker}
 use Rattle.grub_book.specs.Machine.{Machine}
 use Rattle.grub_book.specs.History.{StartsWith, calls_of}
-use Rattle.grub_book.specs.Step.{runqueue_of}
 use Rattle.grub_book.specs.declared.op.Op.{Op}
 use Rattle.grub_book.specs.declared.event.Event.{Event}
 use Rattle.grub_book.proofs.Histories.{starts_after}
@@ -17,7 +16,7 @@ use Rattle.grub_trace.specs.declared.entry.Ask.TheVariants.{Call, Read}
 use Rattle.grub_trace.specs.declared.entry.Answer.{Answer}
 use Rattle.grub_trace.specs.declared.entry.Answer.TheVariants.{Replied, Seen, Busy, Lost}
 use Rattle.grub_trace.specs.declared.entry.Entry.{Entry}
-use Rattle.grub_workers.specs.Evidence.{AreBacked, CallsElse, ChangesElse, IsBacked, IsOvertaken, ShowsHolder, TakesElse}
+use Rattle.grub_workers.specs.Evidence.{AreBacked, CallsElse, IsBacked, IsOvertaken, ShowsHolder, TakesElse}
 use Rattle.grub_workers.specs.Working.{Advances}
 use Rattle.grub_workers.proofs.Finding.{Somewhere, any_of, somewhere_of, somewhere_left}
 
@@ -49,16 +48,6 @@ any_later P xs ys starts a = any_of P ys (subst (λ l. Somewhere P l) (sym start
 shows_later : (i t : ℕ) (h h' : List Event) (m m' : List Mark) → StartsWith h' h → StartsWith m' m → ShowsHolder i t h m → ShowsHolder i t h' m'
 shows_later i t h h' m m' a b = ⊎_elim (λ k. inl (any_later (CallsElse i t) h h' a k)) (λ k. inr (any_later (TakesElse i t) m m' b k))
 
-pub changes_later : (s : Machine) (i r : ℕ) (h h' : List Event) → StartsWith h' h → ChangesElse s i r h → ChangesElse s i r h'
-changes_later s i r h h' a c = record {
-  before = c.before;
-  event = c.event;
-  rest = c.rest ++ a.0;
-  stands = a.1 ∙ ap (λ l. l ++ a.0) c.stands ∙ append_assoc (c.before ++ c.event ∷ []) c.rest a.0;
-  other = c.other;
-  changed = c.changed;
-}
-
 pub overtaken_later : (s : Machine) (n i t : ℕ) (op : Op) (h h' : List Event) → StartsWith h' h → IsOvertaken s n i t op h → IsOvertaken s n i t op h'
 overtaken_later s n i t op h h' a o = record {
   point = o.point;
@@ -67,7 +56,9 @@ overtaken_later s n i t op h h' a o = record {
   found = o.found;
   unrefused = o.unrefused;
   would_change = o.would_change;
-  changed_else = λ some. changes_later s i (runqueue_of o.x.place op) h h' a (o.changed_else some);
+  earlier = o.earlier;
+  none_own = o.none_own;
+  changes = o.changes;
 }
 
 -- what stands behind an answer still does when more is known

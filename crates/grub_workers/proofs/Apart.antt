@@ -1,6 +1,7 @@
 -- A pass whose tasks no other pass calls on, and whose runqueue no other joins, gets the replies of a book of its own.
-use Rattle.std.proofs.Common.{◌≡◌, ◌≢◌, ◌⊎◌, ℕ, ◌+◌, ◌<◌, nat_lt, ◌&&◌, cond, true, false, List, [], ◌∷◌, length, set, Option, Some, None, refl, sym, ap, ◌∙◌, subst, ⊎_elim, arith, eq-eqb, ne_eqb, get_or-set_other}
-use Rattle.std.specs.List.{All}
+use Rattle.std.proofs.Common.{◌≡◌, ◌≢◌, ◌⊎◌, ℕ, ◌+◌, ◌<◌, nat_lt, ◌&&◌, cond, true, false, List, [], ◌∷◌, length, set, Option, Some, None, refl, sym, ap, ◌∙◌, subst, ⊎_elim, arith, eq-eqb, ne_eqb, get_or-set_other, get_or, unwrap_or}
+use Rattle.std.specs.List.{All, slice_get}
+use Rattle.std.proofs.lemmas.Option.{slice_get-get_or, slice_get_within, unwrap_or-slice_get}
 use Rattle.std.proofs.lemmas.List.{get_or-set_same, length-set}
 use Rattle.std.proofs.lemmas.List.Elements.{All-head, All-tail}
 use mathlib.Core.Logic.{dite}
@@ -9,6 +10,7 @@ use Rattle.grub_bw.specs.Bandwidth.{Capacity, Reservation, bandwidth_of}
 use Rattle.grub_bw.specs.Server.{charge_of, depleted_of}
 use Rattle.grub_bw.specs.declared.server.Server.{Server}
 use Rattle.grub_book.specs.Machine.{Machine, queue_at}
+use Rattle.grub_book.specs.Op.{IsPlaced}
 use Rattle.grub_book.specs.Sums.{Records, is_active_on, is_on, reading_of, record_at, share_of}
 use Rattle.grub_book.specs.Step.{LooksAtQueue, arrived, charged, is_inactive, lag_moment, refused, replied, runqueue_of, settled, step}
 use Rattle.grub_book.specs.Totals.{shifted_of}
@@ -132,69 +134,101 @@ reading_after s book t op i low named at =
 
 -- ---- a book beside the pass's own
 -- The pass's tasks are those for which Own holds. They have the same records in both books, all off other runqueues, and the others are off the pass's.
-pub record Agrees (i : ℕ) (Own : ℕ → Type 0) (n : ℕ) (book mine : Records) : Type 0 where
+pub record Agrees (i : ℕ) (Own : ℕ → Type 0) (n n' : ℕ) (book mine : Records) : Type 0 where
   pub long : length book ≡ n
-  pub mine_long : length mine ≡ n
+  pub mine_long : length mine ≡ n'
   pub same : (t : ℕ) → Own t → record_at book t ≡ record_at mine t
   pub here : (t : ℕ) → Own t → IsAt (λ r. r ≡ i) (record_at book t).place
   pub off : (t : ℕ) → ¬ Own t → IsAt (λ r. r ≢ i) (record_at book t).place
   pub reading : reading_of book i ≡ reading_of mine i
+
+-- the runqueue i and the tasks for which Own holds are the same in both
+pub record IsSameAt (i : ℕ) (Own : ℕ → Type 0) (s s' : Machine) : Type 0 where
+  pub queue : slice_get s'.queues i ≡ slice_get s.queues i
+  pub tasks : (t : ℕ) → Own t → slice_get s'.tasks t ≡ slice_get s.tasks t
+
+pub same_get : {X : Type 0} (xs ys : List X) (i : ℕ) (d : X) → slice_get ys i ≡ slice_get xs i → get_or ys i d ≡ get_or xs i d
+same_get {X} xs ys i d same = sym (unwrap_or-slice_get ys i d) ∙ ap (λ o. unwrap_or o d) same ∙ unwrap_or-slice_get xs i d
+
+same_within : {X : Type 0} (xs ys : List X) (i : ℕ) (d : X) → slice_get ys i ≡ slice_get xs i → i < length xs → i < length ys
+same_within {X} xs ys i d same low = slice_get_within ys i (get_or xs i d) (same ∙ slice_get-get_or xs i d low)
 
 -- a call of the pass is on its own tasks and runqueue, and one of another pass is on neither
 abbrev pub IsOneSided : ℕ → (ℕ → Type 0) → Event → Type 0
 IsOneSided i Own (events.Call j t op reply) = ((j ≡ i) × Own t × NamesAt (λ r. r ≡ i) op) ⊎ ((j ≢ i) × ¬ Own t × NamesAt (λ r. r ≢ i) op)
 IsOneSided i Own (events.Look j r reading) = j ≡ i → r ≡ i
 
-module _ (s : Machine) (i : ℕ) (Own : ℕ → Type 0) where
-  module _ (book mine : Records) (a : Agrees i Own (length s.tasks) book mine) where
+-- s is of the book with all passes, and s' of the pass's own book
+module _ (s s' : Machine) (i : ℕ) (Own : ℕ → Type 0) (like : IsSameAt i Own s s') where
+  queue_same : queue_at s i ≡ queue_at s' i
+  queue_same = sym (same_get s.queues s'.queues i (record { most = 0; extra = 0 }) like.queue)
+
+  queue_low : (r : ℕ) → r ≡ i → r < length s.queues → r < length s'.queues
+  queue_low r is low = subst (λ k. k < length s'.queues) (sym is) (same_within s.queues s'.queues i (record { most = 0; extra = 0 }) like.queue (subst (λ k. k < length s.queues) is low))
+
+  task_low : (t : ℕ) → Own t → t < length s.tasks → t < length s'.tasks
+  task_low t own low = same_within s.tasks s'.tasks t (record { runtime = 0; period = 0 }) (like.tasks t own) low
+
+  placed_same : (op : Op) → NamesAt (λ r. r ≡ i) op → IsPlaced s op → IsPlaced s' op
+  placed_same (Join r m) named low = queue_low r named low
+  placed_same (Wake r m) named low = queue_low r named low
+  placed_same (Block r m) named low = queue_low r named low
+  placed_same (Charge r dt) named low = queue_low r named low
+  placed_same Leave named low = tt
+  placed_same (Timer ticket m) named low = tt
+  placed_same (Retune q p) named low = tt
+  placed_same Exit named low = tt
+
+  module _ (book mine : Records) (a : Agrees i Own (length s.tasks) (length s'.tasks) book mine) where
     low_of : (t : ℕ) → t < length s.tasks → t < length book
     low_of t low = let l = a.long in omega (arith, l, low)
 
     -- ---- a call of the pass
-    moved_same : (t : ℕ) (op : Op) → Own t → NamesAt (λ r. r ≡ i) op → moved s book t op ≡ moved s mine t op
+    moved_same : (t : ℕ) (op : Op) → Own t → NamesAt (λ r. r ≡ i) op → moved s book t op ≡ moved s' mine t op
     moved_same t op own named =
         let x = record_at book t in
         let r = runqueue_of x.place op in
-        settled_alike x op (queue_at s r) (queue_at s r) (reading_of book r) (reading_of mine r)
-        (λ looks. let is = looks_at (λ k. k ≡ i) x.place op (a.here t own) named looks in (refl, ap (reading_of book) is ∙ a.reading ∙ sym (ap (reading_of mine) is)))
-        ∙ ap (λ (y : Record). settled y (queue_at s (runqueue_of y.place op)) (reading_of mine (runqueue_of y.place op)) op) (a.same t own)
+        settled_alike x op (queue_at s r) (queue_at s' r) (reading_of book r) (reading_of mine r)
+        (λ looks. let is = looks_at (λ k. k ≡ i) x.place op (a.here t own) named looks in (ap (queue_at s) is ∙ queue_same ∙ sym (ap (queue_at s') is), ap (reading_of book) is ∙ a.reading ∙ sym (ap (reading_of mine) is)))
+        ∙ ap (λ (y : Record). settled y (queue_at s' (runqueue_of y.place op)) (reading_of mine (runqueue_of y.place op)) op) (a.same t own)
 
-    replied_same : (t : ℕ) (op : Op) → Own t → NamesAt (λ r. r ≡ i) op → let x = record_at book t in step s mine t op ≡ replied mine t (refused x.place x.count op) (moved s book t op)
+    replied_same : (t : ℕ) (op : Op) → Own t → NamesAt (λ r. r ≡ i) op → let x = record_at book t in step s' mine t op ≡ replied mine t (refused x.place x.count op) (moved s book t op)
     replied_same t op own named = sym (ap (λ (k : Option Reply × (Record × Reply)). replied mine t k.0 k.1) (λ j. (ap (λ (y : Record). refused y.place y.count op) (a.same t own) j, moved_same t op own named j)))
 
-    pub reply_same : (t : ℕ) (op : Op) → Own t → NamesAt (λ r. r ≡ i) op → (step s book t op).1 ≡ (step s mine t op).1
+    pub reply_same : (t : ℕ) (op : Op) → Own t → NamesAt (λ r. r ≡ i) op → (step s book t op).1 ≡ (step s' mine t op).1
     reply_same t op own named = go (refused (record_at book t).place (record_at book t).count op) (moved s book t op) ∙ sym (ap (λ (k : Records × Reply). k.1) (replied_same t op own named))
       where
         go : (o : Option Reply) (m : Record × Reply) → (replied book t o m).1 ≡ (replied mine t o m).1
         go (Some reply) m = refl
         go None m = refl
 
-    record_same : (t u : ℕ) (o : Option Reply) (m : Record × Reply) → t < length s.tasks → record_at book u ≡ record_at mine u → record_at (replied book t o m).0 u ≡ record_at (replied mine t o m).0 u
-    record_same t u (Some reply) m low same = same
-    record_same t u None m low same = dite (ℕ_discrete u t)
-        (λ is. let l = a.mine_long in ap (λ k. record_at (set book t m.0) k) is ∙ get_or-set_same book t m.0 _ (low_of t low) ∙ sym (ap (λ k. record_at (set mine t m.0) k) is ∙ get_or-set_same mine t m.0 _ (omega (arith, l, low))))
+    record_same : (t u : ℕ) (o : Option Reply) (m : Record × Reply) → t < length s.tasks → t < length s'.tasks → record_at book u ≡ record_at mine u → record_at (replied book t o m).0 u ≡ record_at (replied mine t o m).0 u
+    record_same t u (Some reply) m low low' same = same
+    record_same t u None m low low' same = dite (ℕ_discrete u t)
+        (λ is. let l = a.mine_long in ap (λ k. record_at (set book t m.0) k) is ∙ get_or-set_same book t m.0 _ (low_of t low) ∙ sym (ap (λ k. record_at (set mine t m.0) k) is ∙ get_or-set_same mine t m.0 _ (omega (arith, l, low'))))
         (λ other. get_or-set_other book t u m.0 _ other ∙ same ∙ sym (get_or-set_other mine t u m.0 _ other))
 
-    pub own_call : (t : ℕ) (op : Op) → t < length s.tasks → Own t → NamesAt (λ r. r ≡ i) op → Agrees i Own (length s.tasks) (step s book t op).0 (step s mine t op).0
+    pub own_call : (t : ℕ) (op : Op) → t < length s.tasks → Own t → NamesAt (λ r. r ≡ i) op → Agrees i Own (length s.tasks) (length s'.tasks) (step s book t op).0 (step s' mine t op).0
     own_call t op low own named =
         let x = record_at book t in
         let then = replied_same t op own named in
-        let same : (u : ℕ) → Own u → record_at (step s book t op).0 u ≡ record_at (step s mine t op).0 u
-        = λ u own'. record_same t u (refused x.place x.count op) (moved s book t op) low (a.same u own') ∙ sym (ap (λ (k : Records × Reply). record_at k.0 u) then) in
+        let same : (u : ℕ) → Own u → record_at (step s book t op).0 u ≡ record_at (step s' mine t op).0 u
+        = λ u own'. record_same t u (refused x.place x.count op) (moved s book t op) low (task_low t own low) (a.same u own') ∙ sym (ap (λ (k : Records × Reply). record_at k.0 u) then) in
         let l = a.mine_long in
-        let low' : t < length mine = omega (arith, l, low) in record {
+        let below = task_low t own low in
+        let low' : t < length mine = omega (arith, l, below) in record {
           long = length_step s book t op ∙ a.long;
-          mine_long = length_step s mine t op ∙ a.mine_long;
+          mine_long = length_step s' mine t op ∙ a.mine_long;
           same = same;
           here = λ u own'. at_after (λ r. r ≡ i) s book t op u (low_of t low) (λ _. named) (a.here u own');
           off = λ u not. at_after (λ r. r ≢ i) s book t op u (low_of t low) (λ (is : u ≡ t). absurd (not (subst Own (sym is) own))) (a.off u not);
           reading = step_shifts s book t op i (low_of t low)
               ∙ ap (λ (k : Reading × Record × Record). shifted_of k.0 i k.1 k.2) (λ j. (a.reading j, a.same t own j, same t own j))
-              ∙ sym (step_shifts s mine t op i low');
+              ∙ sym (step_shifts s' mine t op i low');
         }
 
     -- ---- a call of another pass
-    pub other_call : (t : ℕ) (op : Op) → t < length s.tasks → ¬ Own t → NamesAt (λ r. r ≢ i) op → Agrees i Own (length s.tasks) (step s book t op).0 mine
+    pub other_call : (t : ℕ) (op : Op) → t < length s.tasks → ¬ Own t → NamesAt (λ r. r ≢ i) op → Agrees i Own (length s.tasks) (length s'.tasks) (step s book t op).0 mine
     other_call t op low not named =
         let x = record_at book t in
         let away : (u : ℕ) → Own u → u ≢ t = λ u own is. not (subst Own is own) in record {
@@ -209,24 +243,24 @@ module _ (s : Machine) (i : ℕ) (Own : ℕ → Type 0) where
   -- ---- a whole history
   -- the calls of the pass alone are a history of a book of its own, and both books agree at its end
   pub record Splits (book mine : Records) (h : List Event) : Type 0 where
-    pub legal : IsLegalFrom s mine (calls_of i h)
-    pub agrees : Agrees i Own (length s.tasks) (book_from s book h) (book_from s mine (calls_of i h))
+    pub legal : IsLegalFrom s' mine (calls_of i h)
+    pub agrees : Agrees i Own (length s.tasks) (length s'.tasks) (book_from s book h) (book_from s' mine (calls_of i h))
 
-  kept_call : (book mine : Records) (e : Event) (h : List Event) → pass_of e ≡ i → IsLegalFrom s mine (e ∷ []) → Splits (after s book e) (after s mine e) h → Splits book mine (e ∷ h)
+  kept_call : (book mine : Records) (e : Event) (h : List Event) → pass_of e ≡ i → IsLegalFrom s' mine (e ∷ []) → Splits (after s book e) (after s' mine e) h → Splits book mine (e ∷ h)
   kept_call book mine e h is here rest =
       let calls : calls_of i (e ∷ h) ≡ e ∷ calls_of i h = ap (λ b. cond b (e ∷ calls_of i h) (calls_of i h)) (eq-eqb (pass_of e) i is) in record {
-        legal = subst (IsLegalFrom s mine) (sym calls) (here.0, rest.legal);
-        agrees = subst (λ l. Agrees i Own (length s.tasks) (book_from s (after s book e) h) (book_from s mine l)) (sym calls) rest.agrees;
+        legal = subst (IsLegalFrom s' mine) (sym calls) (here.0, rest.legal);
+        agrees = subst (λ l. Agrees i Own (length s.tasks) (length s'.tasks) (book_from s (after s book e) h) (book_from s' mine l)) (sym calls) rest.agrees;
       }
 
   dropped_call : (book mine : Records) (e : Event) (h : List Event) → pass_of e ≢ i → Splits (after s book e) mine h → Splits book mine (e ∷ h)
   dropped_call book mine e h other rest =
       let calls : calls_of i (e ∷ h) ≡ calls_of i h = ap (λ b. cond b (e ∷ calls_of i h) (calls_of i h)) (ne_eqb (pass_of e) i other) in record {
-        legal = subst (IsLegalFrom s mine) (sym calls) rest.legal;
-        agrees = subst (λ l. Agrees i Own (length s.tasks) (book_from s (after s book e) h) (book_from s mine l)) (sym calls) rest.agrees;
+        legal = subst (IsLegalFrom s' mine) (sym calls) rest.legal;
+        agrees = subst (λ l. Agrees i Own (length s.tasks) (length s'.tasks) (book_from s (after s book e) h) (book_from s' mine l)) (sym calls) rest.agrees;
       }
 
-  pub splits : (book mine : Records) (h : List Event) → Agrees i Own (length s.tasks) book mine → All (IsOneSided i Own) h → IsLegalFrom s book h → Splits book mine h
+  pub splits : (book mine : Records) (h : List Event) → Agrees i Own (length s.tasks) (length s'.tasks) book mine → All (IsOneSided i Own) h → IsLegalFrom s book h → Splits book mine h
   splits book mine [] a sided legal = record { legal = tt; agrees = a }
   splits book mine (events.Look j r reading ∷ h) a sided legal =
       let e : Event = events.Look j r reading in
@@ -235,15 +269,15 @@ module _ (s : Machine) (i : ℕ) (Own : ℕ → Type 0) where
       dite (ℕ_discrete j i)
       (λ is.
       let read : reading_of mine r ≡ reading = ap (reading_of mine) (here is) ∙ sym a.reading ∙ sym (ap (reading_of book) (here is)) ∙ legal.0.1 in
-      kept_call book mine e h is ((legal.0.0, read), tt) rest)
+      kept_call book mine e h is ((queue_low r (here is) legal.0.0, read), tt) rest)
       (λ other. dropped_call book mine e h other rest)
   splits book mine (events.Call j t op reply ∷ h) a sided legal =
       let e : Event = events.Call j t op reply in
       let tail = All-tail (IsOneSided i Own) e h sided in
       ⊎_elim
       (λ (own : (j ≡ i) × Own t × NamesAt (λ r. r ≡ i) op).
-      kept_call book mine e h own.0 ((legal.0.0, legal.0.1, sym (reply_same book mine a t op own.1 own.2) ∙ legal.0.2), tt)
-      (splits (step s book t op).0 (step s mine t op).0 h (own_call book mine a t op legal.0.0 own.1 own.2) tail legal.1))
+      kept_call book mine e h own.0 ((task_low t own.1 legal.0.0, (placed_same op own.2 legal.0.1.0, legal.0.1.1), sym (reply_same book mine a t op own.1 own.2) ∙ legal.0.2), tt)
+      (splits (step s book t op).0 (step s' mine t op).0 h (own_call book mine a t op legal.0.0 own.1 own.2) tail legal.1))
       (λ (else : (j ≢ i) × ¬ Own t × NamesAt (λ r. r ≢ i) op).
       dropped_call book mine e h else.0 (splits (step s book t op).0 mine h (other_call book mine a t op legal.0.0 else.1 else.2) tail legal.1))
       (All-head (IsOneSided i Own) e h sided)

@@ -1,7 +1,5 @@
 -- A worker that has asked nothing yet.
-use Rattle.std.proofs.Common.{◌≡◌, ℕ, [], Some, None, length, sym, ap, ◌∙◌, subst}
-use Rattle.std.specs.Prelude.{option_map}
-use Rattle.std.specs.Ordering.{nat_cmp}
+use Rattle.std.proofs.Common.{◌≡◌, ℕ, [], length, sym, ap, subst}
 use Rattle.std.proofs.lemmas.List.Elements.{All-nil}
 use Rattle.std.specs.FinMap as map
 use Rattle.grub_book.specs.History.{calls_of}
@@ -11,10 +9,9 @@ use Rattle.grub_table.specs.declared.pass.Shared.{Shared}
 use Rattle.grub_table.specs.Calls.{marks, seen}
 use Rattle.grub_trace.specs.declared.entry.Entry.{Entry}
 use Rattle.grub_trace.specs.Texts.{IsAskOf}
-use Rattle.grub_trace.specs.Timers.{armed}
 use Rattle.grub_workers.specs.declared.worker.Worker.{Worker}
 use Rattle.grub_workers.specs.Evidence.{IsBacked}
-use Rattle.grub_workers.proofs.Alarms.{alarm}
+use Rattle.grub_asks.proofs.Kept.{kept_nothing}
 use Rattle.grub_workers.specs.Working.{IsAtWork, IsFresh, IsToldBy, machine}
 
 told_nothing : (s : Shared) (tries i : ℕ) (p : Pass) → IsFresh s i p → IsToldBy s tries i p []
@@ -30,8 +27,5 @@ told_nothing s tries i p fresh = record {
 pub at_work_first : (s : Shared) (tries i : ℕ) (w : Worker) → IsFresh s i w.pass → w.entries.items ≡ [] → w.wheel.timers ≡ map.empty → IsAtWork s tries i w
 at_work_first s tries i w fresh none empty = record {
   told = subst (IsToldBy s tries i w.pass) (sym none) (told_nothing s tries i w.pass fresh);
-  kept = record {
-    armed_are = λ t. ap (option_map alarm) (ap (λ m. map.get m t) empty ∙ map.get-empty nat_cmp t) ∙ sym (ap (λ es. armed es t) none);
-    tasks = λ t a at. let bad : None ≡ Some a = sym (ap (λ es. armed es t) none) ∙ at in absurd (cc);
-  };
+  kept = kept_nothing (machine s) w.entries.items w.wheel.timers none empty;
 }

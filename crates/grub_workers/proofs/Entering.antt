@@ -1,10 +1,7 @@
 -- One more entry.
-use Rattle.std.proofs.Common.{◌≡◌, ℕ, ◌<◌, Bool, true, false, cond, nat_eq, List, [], ◌∷◌, ◌++◌, Option, Some, None, length, refl, sym, ap, ◌∙◌, subst, arith, append-nil}
+use Rattle.std.proofs.Common.{◌≡◌, ℕ, List, [], ◌∷◌, ◌++◌, length, sym, ap, ◌∙◌, subst, arith, append-nil}
 use Rattle.std.proofs.lemmas.List.Elements.{All-push}
 use Rattle.std.proofs.lemmas.Grind.{common_steps}
-use Rattle.std.proofs.lemmas.Bool.{eqb-true}
-use Rattle.grub_book.specs.Machine.{Machine}
-use Rattle.grub_book.specs.declared.op.Op.{Op}
 use Rattle.grub_book.specs.declared.event.Reading.{Reading}
 use Rattle.grub_book.specs.declared.event.Event.TheVariants as events
 use Rattle.grub_table.specs.declared.pass.Pass.{Pass}
@@ -12,22 +9,19 @@ use Rattle.grub_table.specs.declared.pass.Shared.{Shared}
 use Rattle.grub_table.specs.Histories.{Finishes}
 use Rattle.grub_table.specs.Marks.{marks_of}
 use Rattle.grub_table.specs.Calls.{IsPassOf, number_of, seen, marks, terms}
-use Rattle.grub_wheel.specs.TimerBag.{TimerBag}
 use Rattle.grub_trace.specs.declared.entry.Ask.{Ask}
-use Rattle.grub_trace.specs.declared.entry.Ask.TheVariants.{Call, Read}
+use Rattle.grub_trace.specs.declared.entry.Ask.TheVariants.{Read}
 use Rattle.grub_trace.specs.declared.entry.Answer.{Answer}
 use Rattle.grub_trace.specs.declared.entry.Answer.TheVariants.{Seen}
 use Rattle.grub_trace.specs.declared.entry.Entry.{Entry}
-use Rattle.grub_trace.specs.Asked.{entry}
+use Rattle.grub_asks.specs.Asked.{entry}
 use Rattle.grub_trace.specs.Texts.{IsAskOf}
-use Rattle.grub_trace.specs.Timers.{Alarm, alarm_after, armed, armed_from, leaves, touch, touch_of_call}
-use Rattle.grub_workers.specs.Entries.{AreAsksOf, event_told, events_told, mark_told, marks_told}
+use Rattle.grub_asks.specs.Answers.{AreAsksOf, event_told, events_told}
+use Rattle.grub_workers.specs.Entries.{mark_told, marks_told}
 use Rattle.grub_workers.specs.Evidence.{AreBacked, IsBacked}
-use Rattle.grub_workers.specs.Working.{Advances, IsAsked, IsKept, IsToldBy, IsTouched, machine}
+use Rattle.grub_workers.specs.Working.{Advances, IsAsked, IsToldBy, machine}
+use Rattle.grub_asks.proofs.Starts.{events_more}
 use Rattle.grub_workers.proofs.Advancing.{all_backed_later}
-
-pub events_more : (i : ℕ) (es : List Entry) (e : Entry) → events_told i (es ++ e ∷ []) ≡ events_told i es ++ event_told i e.ask e.answer
-events_more i es e = grind (arith, common_steps)
 
 marks_more : (i : ℕ) (es : List Entry) (e : Entry) → marks_told i (es ++ e ∷ []) ≡ marks_told i es ++ mark_told i e.ask e.answer
 marks_more i es e = grind (arith, common_steps)
@@ -63,30 +57,3 @@ looked s tries r p q reading is of number finishes same =
       };
       backed = tt;
     }
-
--- ---- timers
-armed_from-more : (t : ℕ) (a : Option Alarm) (es : List Entry) (e : Entry) → armed_from t a (es ++ e ∷ []) ≡ alarm_after (touch t e.ask e.answer) (armed_from t a es)
-armed_from-more t a [] e = refl
-armed_from-more t a (x ∷ es) e = armed_from-more t (alarm_after (touch t x.ask x.answer) a) es e
-
-pub armed-more : (t : ℕ) (es : List Entry) (e : Entry) → armed (es ++ e ∷ []) t ≡ alarm_after (touch t e.ask e.answer) (armed es t)
-armed-more t es e = armed_from-more t None es e
-
--- the wheel after a call on task t
-pub kept_call : (s : Machine) (m t : ℕ) (op : Op) (answer : Answer) (old new : List Entry) (timers then : TimerBag) → IsKept s old timers → t < length s.tasks → new ≡ old ++ entry m (Call t op) answer ∷ []
-    → IsTouched timers then t (touch_of_call op answer) → IsKept s new then
-kept_call s m t op answer old new timers then kept there list touched = record {
-  armed_are = λ u. touched u ∙ ap (alarm_after (touch u (Call t op) answer)) (kept.armed_are u) ∙ sym (ap (λ es. armed es u) list ∙ armed-more u old (entry m (Call t op) answer));
-  tasks = λ u a at. go u a (nat_eq u t) refl (sym (ap (λ es. armed es u) list ∙ armed-more u old (entry m (Call t op) answer)) ∙ at);
-}
-  where
-    go : (u : ℕ) (a : Alarm) (b : Bool) → nat_eq u t ≡ b → alarm_after (touch u (Call t op) answer) (armed old u) ≡ Some a → u < length s.tasks
-    go u a true is at = let same : u ≡ t = eqb-true u t is in omega (arith, same, there)
-    go u a false is at = kept.tasks u a (subst (λ b. alarm_after (cond b (touch_of_call op answer) leaves) (armed old u) ≡ Some a) is at)
-
--- the wheel after a reading
-pub kept_look : (s : Machine) (m : ℕ) (reading : Reading) (old new : List Entry) (timers : TimerBag) → IsKept s old timers → new ≡ old ++ entry m Read (Seen reading) ∷ [] → IsKept s new timers
-kept_look s m reading old new timers kept list = record {
-  armed_are = λ u. kept.armed_are u ∙ sym (ap (λ es. armed es u) list ∙ armed-more u old (entry m Read (Seen reading)));
-  tasks = λ u a at. kept.tasks u a (sym (ap (λ es. armed es u) list ∙ armed-more u old (entry m Read (Seen reading))) ∙ at);
-}

@@ -1,14 +1,11 @@
 pub mod Finding
 pub mod Others
-pub mod Waits
 pub mod Advancing
 pub mod Turns
 pub mod Rounds
-pub mod Alarms
 pub mod Entering
 pub mod Steps
 pub mod Beginning
-pub mod Lines
 pub mod Ties
 pub mod Naming
 pub mod Apart

@@ -15,8 +15,8 @@ use Rattle.grub_trace.specs.declared.entry.Ask.TheVariants.{Call, Read}
 use Rattle.grub_trace.specs.declared.entry.Answer.{Answer}
 use Rattle.grub_trace.specs.declared.entry.Answer.TheVariants.{Replied}
 use Rattle.grub_trace.specs.declared.entry.Entry.{Entry}
-use Rattle.grub_trace.specs.Asked.{Asked, AsksLine, AsksTimer, Follows, JoinsAfter, Timer, ask_of, entry}
-use Rattle.grub_trace.specs.Timers.{Alarm, alarm_after, alarm_at, armed_from, leaves, touch, touch_of_call}
+use Rattle.grub_asks.specs.Asked.{Asked, AsksLine, AsksTimer, Follows, JoinsAfter, Timer, ask_of, entry}
+use Rattle.grub_asks.specs.Timers.{Alarm, alarm_after, alarm_at, armed_from, leaves, touch, touch_of_call}
 use Rattle.grub_workers.specs.Apart.{Names, task_of}
 
 -- the op names no runqueue, or one for which Q holds

@@ -15,7 +15,8 @@ use Rattle.grub_trace.specs.declared.entry.Answer.TheVariants.{Lost}
 use Rattle.grub_trace.specs.declared.entry.Entry.{Entry}
 use Rattle.grub_trace.specs.declared.entry.Report.{Report}
 use Rattle.grub_trace.specs.Plans.{PlanView}
-use Rattle.grub_workers.specs.Runs.{AllAsksOf, IsGivenUp, IsLostCharge, IsNotVain, IsOnlyRun, IsRun, NoEntry, entries_of}
+use Rattle.grub_asks.specs.Answers.{IsGivenUp}
+use Rattle.grub_workers.specs.Runs.{AllAsksOf, IsLostCharge, IsNotVain, IsOnlyRun, IsRun, NoEntry, entries_of}
 use Rattle.grub_workers.specs.Apart.{AllApart, IsApart, Names}
 use Rattle.grub_workers.specs.Handles.{script_at}
 use Rattle.grub_workers.proofs.OwnReports.{answered_own, whole_own}

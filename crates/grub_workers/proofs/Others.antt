@@ -18,7 +18,7 @@ use Rattle.grub_book.proofs.Claims.{outside_same}
 use Rattle.grub_table.specs.declared.view.Mark.{Mark}
 use Rattle.grub_table.specs.declared.view.Mark.TheVariants.{Taken, Given}
 use Rattle.grub_table.specs.Marks.{Holders, nobody_holds, handed, held_from, holder_of}
-use Rattle.grub_workers.specs.Evidence.{TakesElse, CallsElse, ChangesElse}
+use Rattle.grub_workers.specs.Evidence.{TakesElse, CallsElse}
 use Rattle.grub_workers.proofs.Finding.{Somewhere, any_of, append_none, filter_none, somewhere_left, somewhere_right, all_left, all_right}
 
 not_own : (i : ℕ) (e : Event) → (pass_of e == i) ≡ false → pass_of e ≢ i
@@ -96,6 +96,15 @@ pub held_else : (i t : ℕ) (ms : List Mark) → (j : ℕ) → holder_of ms t �
 held_else i t ms j is ne = any_of (TakesElse i t) ms (⊎_elim (λ (e : nobody_holds t ≡ Some j). absurd (cc)) (λ k. k) (taken_else i t j ne nobody_holds ms is))
 
 -- ---- what a lost try shows
+-- the history has an event of another pass than i, at which the reading of runqueue r becomes another
+pub record ChangesElse (s : Machine) (i r : ℕ) (history : List Event) : Type 0 where
+  pub before : List Event
+  pub event : Event
+  pub rest : List Event
+  pub stands : history ≡ (before ++ event ∷ []) ++ rest
+  pub other : pass_of event ≢ i
+  pub changed : reading_of (book_of s before) r ≢ reading_of (book_of s (before ++ event ∷ [])) r
+
 reading_itself : (a b : Reading) → a ≡ b → is_reading a b ≡ true
 reading_itself a b same = subst (λ x. is_reading a x ≡ true) same (ap (λ k. k && (a.this == a.this)) (eq-eqb a.running a.running refl) ∙ ap (λ k. true && k) (eq-eqb a.this a.this refl))
 
@@ -123,3 +132,14 @@ pub changed_else : (s : Machine) (i r n : ℕ) (before after : List Event) → c
 changed_else s i r n before after own c some =
     let at_least : 1 ≤ changes_from s (book_of s before) r c.0 = omega (arith, some, c.2) in
     subst (ChangesElse s i r) (sym c.1) (find_change s i r before c.0 (others_only i before c.0 (ap (calls_of i) (sym c.1) ∙ own)) at_least)
+
+-- what a history has shown, each later one shows
+pub changes_later : (s : Machine) (i r : ℕ) (h h' : List Event) → StartsWith h' h → ChangesElse s i r h → ChangesElse s i r h'
+changes_later s i r h h' a c = record {
+  before = c.before;
+  event = c.event;
+  rest = c.rest ++ a.0;
+  stands = a.1 ∙ ap (λ l. l ++ a.0) c.stands ∙ append_assoc (c.before ++ c.event ∷ []) c.rest a.0;
+  other = c.other;
+  changed = c.changed;
+}

@@ -21,6 +21,7 @@ use Rattle.grub_book.specs.declared.event.Event.{Event}
 use Rattle.grub_book.specs.declared.event.Event.TheVariants as events
 use Rattle.grub_book.specs.declared.event.Reading.{Reading}
 use Rattle.grub_book.proofs.Histories.{book_push, legal_first, legal_last}
+use Rattle.grub_book.proofs.Totals.{opening_totals}
 use Rattle.grub_trace.specs.declared.line.Line.{Line}
 use Rattle.grub_trace.specs.declared.entry.Ask.{Ask}
 use Rattle.grub_trace.specs.declared.entry.Ask.TheVariants.{Call, Read}
@@ -28,17 +29,20 @@ use Rattle.grub_trace.specs.declared.entry.Answer.{Answer}
 use Rattle.grub_trace.specs.declared.entry.Answer.TheVariants.{Replied, Seen, Busy, Lost}
 use Rattle.grub_trace.specs.declared.entry.Entry.{Entry}
 use Rattle.grub_trace.specs.declared.entry.Report.{Report}
-use Rattle.grub_trace.specs.Asked.{Asked}
+use Rattle.grub_asks.specs.Asked.{Asked}
 use Rattle.grub_trace.specs.Plans.{PlanView}
-use Rattle.grub_workers.specs.Entries.{HeldTask, IsAnswerTo, event_told, events_told}
-use Rattle.grub_workers.specs.Evidence.{ChangesElse, IsOvertaken}
+use Rattle.grub_asks.specs.Answers.{IsAnswerTo, event_told, events_told}
+use Rattle.grub_workers.specs.Entries.{HeldTask}
+use Rattle.grub_workers.specs.Evidence.{IsOvertaken}
 use Rattle.grub_workers.specs.Handles.{script_at}
-use Rattle.grub_workers.specs.Runs.{HeldElsewhere, IsGivenUp, IsNotVain, IsOnlyRun, IsReportOf, IsRun, entries_of}
+use Rattle.grub_asks.specs.Answers.{IsGivenUp}
+use Rattle.grub_workers.specs.Runs.{HeldElsewhere, IsNotVain, IsOnlyRun, IsReportOf, IsRun, entries_of}
 use Rattle.grub_workers.specs.Apart.{AllApart, IsAnsweredAt, IsApart, IsOnlyReport, Names}
-use Rattle.grub_workers.proofs.Apart.{Agrees, IsAt, IsOneSided, Splits, reading_after, retune_at, splits, timer_at}
+use Rattle.grub_workers.proofs.Apart.{Agrees, IsAt, IsOneSided, IsSameAt, Splits, reading_after, retune_at, same_get, splits, timer_at}
 use Rattle.grub_workers.proofs.Determined.{IsPlain, script_alike}
 use Rattle.grub_workers.proofs.Finding.{all_left, all_right}
 use Rattle.grub_workers.proofs.Naming.{IsOwnAsk, NamesAt, script_own}
+use Rattle.grub_workers.proofs.Others.{ChangesElse, changed_else, changes_later}
 use Rattle.grub_workers.proofs.Steps.{some_of}
 
 -- ---- whose each event of a run is
@@ -99,14 +103,14 @@ opening_at Q [] t d is = is
 opening_at Q (x ∷ xs) zero d is = tt
 opening_at Q (x ∷ xs) (suc t) d is = opening_at Q xs t d is
 
-opening_agrees : (s : Machine) (i : ℕ) (Own : ℕ → Type 0) → Agrees i Own (length s.tasks) (opening_book s) (opening_book s)
-opening_agrees s i Own = record {
+opening_agrees : (s s' : Machine) (i : ℕ) (Own : ℕ → Type 0) → IsSameAt i Own s s' → Agrees i Own (length s.tasks) (length s'.tasks) (opening_book s) (opening_book s')
+opening_agrees s s' i Own like = record {
   long = length-map s.tasks opening_record;
-  mine_long = length-map s.tasks opening_record;
-  same = λ t own. refl;
+  mine_long = length-map s'.tasks opening_record;
+  same = λ t own. same_get (opening_book s') (opening_book s) t _ (slice_get-map opening_record s.tasks t ∙ ap (option_map opening_record) (sym (like.tasks t own)) ∙ sym (slice_get-map opening_record s'.tasks t));
   here = λ t own. opening_at (λ r. r ≡ i) s.tasks t _ tt;
   off = λ t not. opening_at (λ r. r ≢ i) s.tasks t _ tt;
-  reading = refl;
+  reading = opening_totals s i ∙ sym (opening_totals s' i);
 }
 
 -- the runqueue whose sum an op changes is the one where its task is, or that it names
@@ -161,10 +165,17 @@ module _ (plan : PlanView) (tries : ℕ) (rs : List Report) (last : List Reading
     all_sided : All (IsOneSided i Own) run.history
     all_sided = λ k d low. one_sided plan i apart (get_or run.history k d) (all_own k d low)
 
-    first_splits : (h rest : List Event) → run.history ≡ h ++ rest → Splits plan.setup i Own (opening_book plan.setup) (opening_book plan.setup) h
-    first_splits h rest is =
-        splits plan.setup i Own (opening_book plan.setup) (opening_book plan.setup) h (opening_agrees plan.setup i Own) (all_left (IsOneSided i Own) h rest (subst (All (IsOneSided i Own)) is all_sided))
+    -- beside a book of its own, on these runqueues and tasks
+    splits_like : (s : Machine) (like : IsSameAt i Own plan.setup s) (h rest : List Event) → run.history ≡ h ++ rest → Splits plan.setup s i Own like (opening_book plan.setup) (opening_book s) h
+    splits_like s like h rest is =
+        splits plan.setup s i Own like (opening_book plan.setup) (opening_book s) h (opening_agrees plan.setup s i Own like) (all_left (IsOneSided i Own) h rest (subst (All (IsOneSided i Own)) is all_sided))
         (legal_first plan.setup (opening_book plan.setup) h rest (subst (IsLegal plan.setup) is run.legal))
+
+    itself : IsSameAt i Own plan.setup plan.setup
+    itself = record { queue = refl; tasks = λ t own. refl }
+
+    first_splits : (h rest : List Event) → run.history ≡ h ++ rest → Splits plan.setup plan.setup i Own itself (opening_book plan.setup) (opening_book plan.setup) h
+    first_splits = splits_like plan.setup itself
 
     -- no other file's worker held a task of this one
     not_held : (t : ℕ) → Own t → HeldElsewhere rs i t → ⊥
@@ -188,7 +199,7 @@ module _ (plan : PlanView) (tries : ℕ) (rs : List Report) (last : List Reading
         let first = first_splits c.before (c.event ∷ c.rest) (whole ∙ append_assoc c.before (c.event ∷ []) c.rest) in
         c.changed (sym (ap (λ b. reading_of b i) (book_push plan.setup c.before c.event) ∙ go c.event c.other here (legal_last plan.setup c.before c.event legal) first.agrees))
       where
-        go : (e : Event) → pass_of e ≢ i → IsOneSided i Own e → IsTrueOf plan.setup (book_of plan.setup c.before) e → Agrees i Own (length plan.setup.tasks) (book_of plan.setup c.before) (book_of plan.setup (calls_of i c.before))
+        go : (e : Event) → pass_of e ≢ i → IsOneSided i Own e → IsTrueOf plan.setup (book_of plan.setup c.before) e → Agrees i Own (length plan.setup.tasks) (length plan.setup.tasks) (book_of plan.setup c.before) (book_of plan.setup (calls_of i c.before))
             → reading_of (after plan.setup (book_of plan.setup c.before) e) i ≡ reading_of (book_of plan.setup c.before) i
         go (events.Look j r reading) other sided is agrees = refl
         go (events.Call j t op reply) other sided is agrees = ⊎_elim
@@ -201,7 +212,8 @@ module _ (plan : PlanView) (tries : ℕ) (rs : List Report) (last : List Reading
     not_overtaken t op some own named o =
         let here : IsAt (λ r. r ≡ i) o.x.place = subst (λ (x : Record). IsAt (λ r. r ≡ i) x.place) o.found ((first_splits o.point o.in_history.0 o.in_history.1).agrees.here t own) in
         let at = changes_at (λ r. r ≡ i) o.x op o.unrefused o.would_change here named in
-        not_changed (subst (λ r. ChangesElse plan.setup i r run.history) at (o.changed_else some))
+        let changed = changed_else plan.setup i (runqueue_of o.x.place op) tries o.earlier o.point o.none_own o.changes some in
+        not_changed (subst (λ r. ChangesElse plan.setup i r run.history) at (changes_later plan.setup i (runqueue_of o.x.place op) o.point run.history o.in_history changed))
 
     not_given_up : 1 ≤ tries → (ask : Ask) (answer : Answer) → IsOwnAsk i Own ask → IsNotVain plan.setup tries run.history rs i ask answer → ¬ IsGivenUp ask answer
     not_given_up some (Call t op) Busy own v up = not_held t own.0 v
@@ -219,17 +231,17 @@ module _ (plan : PlanView) (tries : ℕ) (rs : List Report) (last : List Reading
         not_given_up some e.ask e.answer (asks_own i report there k d low) ((report_at i report there).not_vain k d low)
 
     -- its report, as a book of its own could have given it
-    pub plain_own : 1 ≤ tries → (report : Report) → slice_get rs i ≡ Some report → IsPlain i plan.setup (entries_of report)
-    plain_own some report there = record {
-      legal = subst (IsLegal plan.setup) (report_at i report there).calls (first_splits run.history [] (sym (append-nil run.history))).legal;
+    pub plain_own : (s : Machine) → IsSameAt i Own plan.setup s → 1 ≤ tries → (report : Report) → slice_get rs i ≡ Some report → IsPlain i s (entries_of report)
+    plain_own s like some report there = record {
+      legal = subst (IsLegal s) (report_at i report there).calls (splits_like s like run.history [] (sym (append-nil run.history))).legal;
       answered = λ k d low.
           let e : Entry = get_or (entries_of report) k d in
           (rightly_answered plan.setup tries run.history rs i e.ask e.answer ((report_at i report there).not_vain k d low), answered_own some report there k d low);
     }
 
-    pub reading_own : (report : Report) (reading : Reading) → slice_get rs i ≡ Some report → slice_get last i ≡ Some reading → reading ≡ reading_of (book_of plan.setup (events_told i (entries_of report))) i
-    reading_own report reading there here =
-        run.readings i reading here ∙ (first_splits run.history [] (sym (append-nil run.history))).agrees.reading ∙ ap (λ h. reading_of (book_of plan.setup h) i) (report_at i report there).calls
+    pub reading_own : (s : Machine) → IsSameAt i Own plan.setup s → (report : Report) (reading : Reading) → slice_get rs i ≡ Some report → slice_get last i ≡ Some reading → reading ≡ reading_of (book_of s (events_told i (entries_of report))) i
+    reading_own s like report reading there here =
+        run.readings i reading here ∙ (splits_like s like run.history [] (sym (append-nil run.history))).agrees.reading ∙ ap (λ h. reading_of (book_of s h) i) (report_at i report there).calls
 
 -- ---- two runs of one file
 module _ (i : ℕ) (s : Machine) (script : List Line) where
@@ -249,8 +261,9 @@ module _ (i : ℕ) (s : Machine) (script : List Line) where
         b.reading ∙ ap (λ es. Some (reading_of (book_of s (events_told i es)) i)) same ∙ sym a.reading,
       )
 
-has_own : (plan : PlanView) (tries : ℕ) (rs : List Report) (last : List Reading) (i : ℕ) → i < length plan.scripts → IsApart plan i → 1 ≤ tries → IsRun plan tries rs last → HasOwn i plan.setup (script_at plan.scripts i) rs last
-has_own plan tries rs last i low apart some run =
+has_own : (plan : PlanView) (tries : ℕ) (rs : List Report) (last : List Reading) (i : ℕ) (s : Machine) → IsSameAt i (Names (script_at plan.scripts i)) plan.setup s → i < length plan.scripts → IsApart plan i → 1 ≤ tries → IsRun plan tries rs last
+    → HasOwn i s (script_at plan.scripts i) rs last
+has_own plan tries rs last i s like low apart some run =
     let l = run.one_each in let l' = run.one_reading_each in
     let here : i < length rs = omega (arith, low, l) in
     let here' : i < length last = omega (arith, low, l') in
@@ -261,8 +274,8 @@ has_own plan tries rs last i low apart some run =
       report = report;
       there = there;
       asked = (report_at plan tries rs last run i report there).asked;
-      plain = plain_own plan tries rs last run i apart some report there;
-      reading = there' ∙ ap (λ k. Some k) (reading_own plan tries rs last run i apart report reading there there');
+      plain = plain_own plan tries rs last run i apart s like some report there;
+      reading = there' ∙ ap (λ k. Some k) (reading_own plan tries rs last run i apart s like report reading there there');
     }
 
 pub only_own : (plan : PlanView) (tries : ℕ) (rs : List Report) (last : List Reading) → 1 ≤ tries → IsRun plan tries rs last → (i : ℕ) → i < length plan.scripts → IsApart plan i → IsOnlyReport plan i rs last
@@ -270,8 +283,9 @@ only_own plan tries rs last some run i low apart other tries' others last' like 
     let at : slice_get other.scripts i ≡ Some (script_at plan.scripts i) = like.script ∙ slice_get-get_or plan.scripts i [] low in
     let low' = slice_get_within other.scripts i (script_at plan.scripts i) at in
     let script : script_at other.scripts i ≡ script_at plan.scripts i = get_or_from_slice_get other.scripts i (script_at plan.scripts i) [] at in
-    own_alike i plan.setup (script_at plan.scripts i) rs others last last' (has_own plan tries rs last i low apart some run)
-    (subst (λ (k : Machine × List Line). HasOwn i k.0 k.1 others last') (λ j. (like.setup j, script j)) (has_own other tries' others last' i low' like.apart some' run'))
+    let back : IsSameAt i (Names (script_at other.scripts i)) other.setup plan.setup = record { queue = sym like.queue; tasks = λ t own. sym (like.tasks t (subst (λ lines. Names lines t) script own)) } in
+    own_alike i plan.setup (script_at plan.scripts i) rs others last last' (has_own plan tries rs last i plan.setup (record { queue = refl; tasks = λ t own. refl }) low apart some run)
+    (subst (λ lines. HasOwn i plan.setup lines others last') script (has_own other tries' others last' i plan.setup back low' like.apart some' run'))
 
 -- ---- runs of a plan whose files share no task
 same_at_each : {X : Type 0} (xs ys : List X) → length xs ≡ length ys → ((i : ℕ) → i < length ys → slice_get xs i ≡ slice_get ys i) → xs ≡ ys
@@ -281,7 +295,7 @@ same_at_each xs ys long each = same_lists xs ys long
 pub whole_own : (plan : PlanView) (tries : ℕ) (rs : List Report) (last : List Reading) → 1 ≤ tries → IsRun plan tries rs last → AllApart plan → IsOnlyRun plan rs last
 whole_own plan tries rs last some run apart tries' others last' some' run' =
     let same : (i : ℕ) → i < length plan.scripts → (slice_get (map entries_of others) i ≡ slice_get (map entries_of rs) i) × (slice_get last' i ≡ slice_get last i)
-    = λ i low. only_own plan tries rs last some run i low (apart i low) plan tries' others last' (record { setup = refl; script = refl; apart = apart i low }) some' run' in
+    = λ i low. only_own plan tries rs last some run i low (apart i low) plan tries' others last' (record { script = refl; queue = refl; tasks = λ t named. refl; apart = apart i low }) some' run' in
     let long : length (map entries_of rs) ≡ length plan.scripts = length-map rs entries_of ∙ run.one_each in (
       same_at_each (map entries_of others) (map entries_of rs) (length-map others entries_of ∙ run'.one_each ∙ sym long) (λ i low. (same i (omega (arith, low, long))).0),
       same_at_each last' last (run'.one_reading_each ∙ sym run.one_reading_each) (λ i low. (same i (let l = run.one_reading_each in omega (arith, low, l))).1),

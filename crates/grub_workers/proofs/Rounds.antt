@@ -2,7 +2,7 @@
 use Rattle.std.proofs.Common.{◌≡◌, ℕ, ◌+◌, ◌≤◌, true, false, cond, None, List, [], ◌∷◌, ◌++◌, refl, sym, ap, ◌∙◌, subst, ⊎_elim, inl, inr, arith}
 use Rattle.grub_book.specs.Step.{changes_sum, refused, runqueue_of}
 use Rattle.grub_book.specs.Sums.{record_at}
-use Rattle.grub_book.specs.History.{book_of, IsLegal, StartsWith}
+use Rattle.grub_book.specs.History.{HasChanged, book_of, IsLegal, StartsWith}
 use Rattle.grub_book.specs.declared.op.Op.{Op}
 use Rattle.grub_book.specs.declared.place.Record.{Record}
 use Rattle.grub_book.specs.declared.reply.Reply.{Reply}
@@ -24,12 +24,13 @@ use Rattle.grub_table.specs.Histories.{Grows, Finishes, record_in}
 use Rattle.grub_table.specs.Calls.{IsPassOf, IsAnswered, IsTaken, IsBusy, IsDone, IsLost, IsCancelled, IsSighting, IsClaimedSighting, number_of, claim_number, claim_task, claim_op, claim_record, claim_queue, claim_changes_sum, seen, marks, claim_seen, claim_marks, marks_of_call, terms}
 use Rattle.grub_trace.specs.declared.entry.Ask.TheVariants.{Call}
 use Rattle.grub_trace.specs.declared.entry.Answer.TheVariants.{Replied, Busy, Lost}
-use Rattle.grub_workers.specs.Evidence.{ChangesElse, ShowsHolder}
-use Rattle.grub_workers.specs.Working.{Advances, IsAsked, IsBlockBefore, WaitsRightly, machine}
-use Rattle.grub_workers.proofs.Advancing.{advances_grows, advances_finishes, advances_twice, advances_none, changes_later}
-use Rattle.grub_workers.proofs.Others.{calls_between, held_else, changed_else}
+use Rattle.grub_workers.specs.Evidence.{ShowsHolder}
+use Rattle.grub_asks.specs.Keeping.{IsBlockBefore, WaitsRightly}
+use Rattle.grub_workers.specs.Working.{Advances, IsAsked, machine}
+use Rattle.grub_workers.proofs.Advancing.{advances_grows, advances_finishes, advances_twice, advances_none}
+use Rattle.grub_workers.proofs.Others.{calls_between, held_else}
 use Rattle.grub_workers.proofs.Turns.{IsFree, IsHolding, HasLost}
-use Rattle.grub_workers.proofs.Waits.{waits_step}
+use Rattle.grub_asks.proofs.Waits.{waits_step}
 
 -- ---- what a busy call saw
 claimed_shows : (T : Terms) (i t : ℕ) (after : List Event) (known : List Mark) (word : ℕ) → IsClaimedSighting T i t after known word → ShowsHolder i t after known
@@ -114,7 +115,9 @@ module _ (s : Shared) (p : Pass) (t : ℕ) (asked : Op) where
           };
         };
         sum = sym same ∙ b.sum;
-        changes = λ some. subst (λ r. ChangesElse (machine s) (number_of p) r (claim_seen d)) queue (changed_else (machine s) (number_of p) (claim_queue c) tries (claim_seen c) (claim_seen d) g.own b.changes some);
+        earlier = claim_seen c;
+        none_own = g.own;
+        changes = subst (λ r. HasChanged (machine s) r (claim_seen c) (claim_seen d) tries) queue b.changes;
       }
 
   -- ---- a round that made the call
@@ -158,6 +161,8 @@ module _ (s : Shared) (p : Pass) (t : ℕ) (asked : Op) where
           found = found;
           unrefused = subst (λ o. refused (claim_record c).place (claim_record c).count o ≡ None) asks h.of.unrefused;
           would_change = subst (λ o. changes_sum (claim_record c) o ≡ true) asks a.sum;
-          changed_else = λ some. subst (λ o. ChangesElse (machine s) (number_of p) (runqueue_of (claim_record c).place o) (seen q)) asks (changes_later (machine s) (number_of p) (claim_queue c) (claim_seen c) (seen q) g.starts (a.changes some));
+          earlier = a.earlier;
+          none_own = a.none_own;
+          changes = subst (λ o. HasChanged (machine s) (runqueue_of (claim_record c).place o) a.earlier (claim_seen c) tries) asks a.changes;
         };
       }

@@ -29,7 +29,8 @@ use Rattle.grub_trace.specs.declared.entry.Answer.TheVariants.{Replied, Seen, Bu
 use Rattle.grub_trace.specs.declared.entry.Entry.{Entry}
 use Rattle.grub_trace.specs.declared.entry.Report.{Report}
 use Rattle.grub_trace.specs.Plans.{PlanView}
-use Rattle.grub_workers.specs.Entries.{HeldTask, event_told, events_told, has_held, mark_told, marks_told}
+use Rattle.grub_asks.specs.Answers.{event_told, events_told}
+use Rattle.grub_workers.specs.Entries.{HeldTask, has_held, mark_told, marks_told}
 use Rattle.grub_workers.specs.Evidence.{AreBacked, CallsElse, IsBacked, ShowsHolder, TakesElse}
 use Rattle.grub_workers.specs.Working.{IsFresh, machine}
 use Rattle.grub_workers.specs.Handles.{AllFresh, AllWorked, script_at}

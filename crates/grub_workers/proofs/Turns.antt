@@ -1,5 +1,7 @@
 -- What a worker holds between two rounds of an ask.
-use Rattle.std.proofs.Common.{◌≡◌, ℕ, ◌≤◌, true, [], ◌∷◌}
+use Rattle.std.proofs.Common.{◌≡◌, ℕ, ◌≤◌, true, List, [], ◌∷◌}
+use Rattle.grub_book.specs.History.{HasChanged, calls_of}
+use Rattle.grub_book.specs.declared.event.Event.{Event}
 use Rattle.grub_book.specs.declared.op.Op.{Op}
 use Rattle.grub_table.specs.declared.view.Mark.TheVariants.{Taken}
 use Rattle.grub_table.specs.declared.pass.Pass.{Pass}
@@ -8,7 +10,7 @@ use Rattle.grub_table.specs.declared.pass.Shared.{Shared}
 use Rattle.grub_table.specs.Calls.{IsPassOf, IsClaimOf, number_of, claim_number, claim_task, claim_op, claim_queue, claim_changes_sum, seen, marks, claim_seen, claim_marks}
 use Rattle.grub_workers.specs.declared.asking.Turn.{Turn}
 use Rattle.grub_workers.specs.declared.asking.Turn.TheVariants as turns
-use Rattle.grub_workers.specs.Evidence.{ShowsHolder, ChangesElse}
+use Rattle.grub_workers.specs.Evidence.{ShowsHolder}
 use Rattle.grub_workers.specs.Working.{Advances, machine}
 
 -- the pass holds nothing, and after a round it knows who held the task
@@ -26,11 +28,13 @@ pub record IsHolding (s : Shared) (p : Pass) (t : ℕ) (asked : Op) (c : Claim) 
   pub op : claim_op c ≡ asked
   pub advances : Advances (number_of p) (seen p) (claim_seen c) (marks p) (claim_marks c) [] (Taken (number_of p) t ∷ [])
 
--- the same, and all tries so far were lost
+-- the same, and all tries of the last round were lost
 pub record HasLost (s : Shared) (tries : ℕ) (p : Pass) (t : ℕ) (asked : Op) (c : Claim) : Type 0 where
   pub holding : IsHolding s p t asked c
   pub sum : claim_changes_sum c ≡ true
-  pub changes : 1 ≤ tries → ChangesElse (machine s) (number_of p) (claim_queue c) (claim_seen c)
+  pub earlier : List Event
+  pub none_own : calls_of (number_of p) (claim_seen c) ≡ calls_of (number_of p) earlier
+  pub changes : HasChanged (machine s) (claim_queue c) earlier (claim_seen c) tries
 
 abbrev pub IsTurn : Shared → ℕ → ℕ → Pass → ℕ → Op → Turn → Type 0
 IsTurn s tries round p t op (turns.Free now) = IsFree s round p t now

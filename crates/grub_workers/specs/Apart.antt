@@ -9,7 +9,8 @@ use Rattle.grub_trace.specs.declared.line.Act.TheVariants.{Join, Wake, Block, Le
 use Rattle.grub_trace.specs.declared.line.Line.{Line}
 use Rattle.grub_trace.specs.Plans.{PlanView}
 use Rattle.grub_workers.specs.Handles.{script_at}
-use Rattle.grub_workers.specs.Runs.{IsGivenUp, IsOnlyRun, IsRun, entries_of}
+use Rattle.grub_asks.specs.Answers.{IsGivenUp}
+use Rattle.grub_workers.specs.Runs.{IsOnlyRun, IsRun, entries_of}
 
 abbrev pub task_of : Act → Option ℕ
 task_of (Join t) = Some t
@@ -33,23 +34,24 @@ IsApart plan i = (j t : ℕ) → j ≢ i → Names (script_at plan.scripts i) t 
 abbrev pub AllApart : PlanView → Type 0
 AllApart plan = (i : ℕ) → i < length plan.scripts → IsApart plan i
 
--- another plan with the same runqueues, tasks and file i, which is apart there too
+-- another plan with the same file i, which is apart there too, the same constants of its runqueue and the same tasks where the file names them
 pub record IsLikeAt (i : ℕ) (plan other : PlanView) : Type 0 where
-  pub setup : other.setup ≡ plan.setup
   pub script : slice_get other.scripts i ≡ slice_get plan.scripts i
+  pub queue : slice_get other.setup.queues i ≡ slice_get plan.setup.queues i
+  pub tasks : (t : ℕ) → Names (script_at plan.scripts i) t → slice_get other.setup.tasks t ≡ slice_get plan.setup.tasks t
   pub apart : IsApart other i
 
 -- none of the report's asks was given up
 abbrev pub IsAnsweredAt : ℕ → List Report → Type 0
 IsAnsweredAt i reports = (report : Report) → slice_get reports i ≡ Some report → All (λ (e : Entry). ¬ IsGivenUp e.ask e.answer) (entries_of report)
 
--- whatever the schedule, the tries (one at least) and the other files, a run gives no other report i and no other closing reading of its runqueue
+-- whatever the schedule, the tries (one at least), the other files, their runqueues and their tasks, a run gives no other report i and no other closing reading of its runqueue
 abbrev pub IsOnlyReport : PlanView → ℕ → List Report → List Reading → Type 0
 IsOnlyReport plan i reports closing =
     (other : PlanView) (tries : ℕ) (others : List Report) (last : List Reading) → IsLikeAt i plan other → 1 ≤ tries → IsRun other tries others last →
     (slice_get (map entries_of others) i ≡ slice_get (map entries_of reports) i) × (slice_get last i ≡ slice_get closing i)
 
--- A file that is apart has each ask answered, and its report and closing reading are a function of the file, its runqueue and its tasks.
+-- A file that is apart has each ask answered, and its report and closing reading are a function of the file, its runqueue and the tasks that it names.
 -- Where all files are, the whole outcome is a function of the files.
 pub record AreOwn (plan : PlanView) (reports : List Report) (closing : List Reading) : Type 0 where
   pub answered : (i : ℕ) → IsApart plan i → IsAnsweredAt i reports

@@ -2,9 +2,9 @@
 use Rattle.std.specs.Prelude.{◌≡◌, ◌≢◌, ◌⊎◌, ◌≤◌, ℕ, IsTrue, true, None, List, [], ◌∷◌, ◌++◌}
 use Rattle.std.specs.List.{All, Any}
 use Rattle.grub_book.specs.Machine.{Machine}
-use Rattle.grub_book.specs.Sums.{reading_of, record_at}
+use Rattle.grub_book.specs.Sums.{record_at}
 use Rattle.grub_book.specs.Step.{changes_sum, is_under_claim, refused, runqueue_of}
-use Rattle.grub_book.specs.History.{StartsWith, book_of, pass_of}
+use Rattle.grub_book.specs.History.{HasChanged, StartsWith, book_of, calls_of}
 use Rattle.grub_book.specs.declared.op.Op.{Op}
 use Rattle.grub_book.specs.declared.place.Record.{Record}
 use Rattle.grub_book.specs.declared.event.Event.{Event}
@@ -31,17 +31,8 @@ CallsElse i t (events.Look j r reading) = ⊥
 abbrev pub ShowsHolder : ℕ → ℕ → List Event → List Mark → Type 0
 ShowsHolder i t history marks = Any (CallsElse i t) history ⊎ Any (TakesElse i t) marks
 
--- the history has an event of another pass than i, at which the reading of runqueue r becomes another
-pub record ChangesElse (s : Machine) (i r : ℕ) (history : List Event) : Type 0 where
-  pub before : List Event
-  pub event : Event
-  pub rest : List Event
-  pub stands : history ≡ (before ++ event ∷ []) ++ rest
-  pub other : pass_of event ≢ i
-  pub changed : reading_of (book_of s before) r ≢ reading_of (book_of s (before ++ event ∷ [])) r
-
 -- The op of pass i was to change a sum, and others were first: at some point of the history the task's record x let it change a sum of its runqueue,
--- and with a try or more the history has another's change of that runqueue's reading.
+-- and from an earlier point on, with no event of pass i between, the reading of that runqueue became another at least once for each try.
 pub record IsOvertaken (s : Machine) (tries i t : ℕ) (op : Op) (history : List Event) : Type 0 where
   pub point : List Event
   pub in_history : StartsWith history point
@@ -49,7 +40,9 @@ pub record IsOvertaken (s : Machine) (tries i t : ℕ) (op : Op) (history : List
   pub found : record_at (book_of s point) t ≡ x
   pub unrefused : refused x.place x.count op ≡ None
   pub would_change : changes_sum x op ≡ true
-  pub changed_else : 1 ≤ tries → ChangesElse s i (runqueue_of x.place op) history
+  pub earlier : List Event
+  pub none_own : calls_of i point ≡ calls_of i earlier
+  pub changes : HasChanged s (runqueue_of x.place op) earlier point tries
 
 -- what stands behind an answer by which an ask was given up
 abbrev pub IsBacked : Machine → ℕ → ℕ → List Event → List Mark → Ask → Answer → Type 0

@@ -11,12 +11,13 @@ use Rattle.grub_trace.specs.declared.line.Line.{Line}
 use Rattle.grub_trace.specs.declared.entry.Ask.{Ask}
 use Rattle.grub_trace.specs.declared.entry.Ask.TheVariants.{Call}
 use Rattle.grub_trace.specs.declared.entry.Answer.{Answer}
-use Rattle.grub_trace.specs.declared.entry.Answer.TheVariants.{Replied, Seen, Busy, Lost}
+use Rattle.grub_trace.specs.declared.entry.Answer.TheVariants.{Busy, Lost}
 use Rattle.grub_trace.specs.declared.entry.Entry.{Entry}
 use Rattle.grub_trace.specs.declared.entry.Report.{Report}
-use Rattle.grub_trace.specs.Asked.{Asked}
+use Rattle.grub_asks.specs.Asked.{Asked}
 use Rattle.grub_trace.specs.Plans.{PlanView}
-use Rattle.grub_workers.specs.Entries.{AreAsksOf, HeldTask, IsAnswerTo, events_told}
+use Rattle.grub_asks.specs.Answers.{AreAsksOf, IsAnswerTo, events_told}
+use Rattle.grub_workers.specs.Entries.{HeldTask}
 use Rattle.grub_workers.specs.Evidence.{IsOvertaken}
 
 abbrev pub entries_of : Report → List Entry
@@ -31,7 +32,7 @@ pub record HeldElsewhere (reports : List Report) (i t : ℕ) : Type 0 where
   pub held : Any (λ (e : Entry). HeldTask t e.ask e.answer) (entries_of report)
 
 -- An ask is given up for a reason alone. It is Busy only where another worker held its task, and Lost only where its op would have changed a sum of its
--- runqueue, and with a try or more only where the history has a change of that runqueue's reading by another worker.
+-- runqueue, and other workers changed that runqueue's reading as often as there are tries in a round.
 abbrev pub IsNotVain : Machine → ℕ → List Event → List Report → ℕ → Ask → Answer → Type 0
 IsNotVain s tries h reports i (Call t op) Busy = HeldElsewhere reports i t
 IsNotVain s tries h reports i (Call t op) Lost = IsOvertaken s tries i t op h
@@ -65,13 +66,6 @@ AllAsksOf plan reports = All (λ (report : Report). AreAsksOf plan.setup (entrie
 -- no entry of any report is so
 abbrev pub NoEntry : (Ask → Answer → Type 0) → List Report → Type 0
 NoEntry P reports = All (λ (report : Report). All (λ (e : Entry). ¬ P e.ask e.answer) (entries_of report)) reports
-
--- the ask got neither a reply nor a reading
-abbrev pub IsGivenUp : Ask → Answer → Type 0
-IsGivenUp ask Busy = Unit {0}
-IsGivenUp ask Lost = Unit {0}
-IsGivenUp ask (Replied reply) = ⊥
-IsGivenUp ask (Seen reading) = ⊥
 
 -- no other reports and readings than these are what a run of the plan gives, with however many tries, but one at least
 abbrev pub IsOnlyRun : PlanView → List Report → List Reading → Type 0

@@ -3,7 +3,8 @@ ghost use Rattle.std.specs.Prelude.{◌≡◌, ◌<◌, ◌≤◌, length};
 ghost use Rattle.grub_book.specs.Op.{IsOp};
 ghost use Rattle.grub_table.specs.Calls.{IsPassOf, terms};
 ghost use Rattle.grub_trace.specs.declared.entry.Ask.TheVariants.{Call};
-ghost use Rattle.grub_workers.specs.Working.{IsAsked, WaitsRightly};
+ghost use Rattle.grub_asks.specs.Keeping.{WaitsRightly};
+ghost use Rattle.grub_workers.specs.Working.{IsAsked};
 
 use crate::desk::Desk;
 use crate::gate::Gate;

@@ -1,7 +1,7 @@
 //! Timers that are due.
 ghost use Rattle.std.specs.Prelude.{◌≡◌, ◌<◌, ◌≤◌, ◌^◌, Some, IfOk, length};
 ghost use Rattle.grub_table.specs.Calls.{terms};
-ghost use Rattle.grub_trace.specs.Asked.{AsksDue};
+ghost use Rattle.grub_asks.specs.Asked.{AsksDue};
 ghost use Rattle.grub_workers.specs.Working.{IsAtWork, IsNotPast};
 
 use crate::desk::Desk;

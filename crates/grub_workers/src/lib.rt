@@ -5,7 +5,6 @@ mod asking;
 mod desk;
 mod due;
 mod gate;
-mod keeping;
 mod outcome;
 mod scoped;
 mod script;

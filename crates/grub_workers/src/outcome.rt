@@ -1,7 +1,8 @@
 //! A run: a table, a worker for each file, and the closing readings.
 ghost use Rattle.std.specs.Prelude.{◌≡◌, ◌≤◌, IfOk, length};
 ghost use Rattle.grub_workers.specs.Apart.{AreOwn};
-ghost use Rattle.grub_workers.specs.Runs.{AllAsksOf, IsGivenUp, IsLostCharge, IsOnlyRun, IsRun, NoEntry};
+ghost use Rattle.grub_asks.specs.Answers.{IsGivenUp};
+ghost use Rattle.grub_workers.specs.Runs.{AllAsksOf, IsLostCharge, IsOnlyRun, IsRun, NoEntry};
 
 use crate::gate::Gate;
 use crate::scoped::{Done, run_scoped};
@@ -63,7 +64,7 @@ pub fn run<R: Threads + Wait, G: Gate>(
     ensures tasks { IfOk result (λ o. AllAsksOf plan.now o.reports.items) }
     ensures charges { IfOk result (λ o. NoEntry IsLostCharge o.reports.items) }
 
-    // A file whose tasks no other file names has each ask answered, and its report and closing reading are a function of the file.
+    // A file whose tasks no other file names has each ask answered, and its report and closing reading are a function of the file, its runqueue and its tasks.
     // Where no two files name one task, so is the whole outcome.
     ensures apart { IfOk result (λ o. 1 ≤ tries → AreOwn plan.now o.reports.items o.closing.items) }
 

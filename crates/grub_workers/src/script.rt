@@ -1,8 +1,7 @@
 //! A script, line by line.
-ghost use Rattle.std.specs.Prelude.{◌≡◌, ◌<◌, ◌≤◌, ◌^◌, [], Some, None, IfOk, MatchOption, length};
+ghost use Rattle.std.specs.Prelude.{◌≡◌, ◌<◌, ◌≤◌, ◌^◌, [], Some, None, IfOk, length};
 ghost use Rattle.grub_table.specs.Calls.{terms};
-ghost use Rattle.grub_trace.specs.declared.entry.Ask.TheVariants as asks;
-ghost use Rattle.grub_trace.specs.Asked.{Asked, AsksLine, Follows, JoinsAfter, ask_of};
+ghost use Rattle.grub_asks.specs.Asked.{Asked, AsksLine, Follows, JoinsAfter};
 ghost use Rattle.grub_trace.specs.Limits.{ActFits, ScriptFits};
 ghost use Rattle.grub_workers.specs.Working.{IsAtWork, IsNotPast};
 
@@ -10,25 +9,10 @@ use crate::desk::Desk;
 use crate::due::ask_due;
 use crate::gate::Gate;
 use crate::worker::{Worker, call, look};
+use grub_asks::call_of;
 use grub_book::{Op, Reply};
 use grub_trace::{Act, Answer, Line};
 use std::alloc::AllocError;
-
-/// The task and the op of a line, where it is no reading.
-fn call_of(r: u32, m: u32, act: Act) -> Option<(u32, Op)>
-    ensures { MatchOption result (ask_of r m act ≡ asks.Read) (λ c. ask_of r m act ≡ asks.Call c.0 c.1) }
-{
-    match act {
-        Act::Join(t) => Some((t, Op::Join { r, m })),
-        Act::Wake(t) => Some((t, Op::Wake { r, m })),
-        Act::Block(t) => Some((t, Op::Block { r, m })),
-        Act::Leave(t) => Some((t, Op::Leave)),
-        Act::Exit(t) => Some((t, Op::Exit)),
-        Act::Run(t, dt) => Some((t, Op::Charge { r, dt })),
-        Act::Retune(t, q, p) => Some((t, Op::Retune { q, p })),
-        Act::Read => None,
-    }
-}
 
 /// Where a task has left, it joins here.
 fn join_here<G: Gate>(

@@ -3,13 +3,14 @@ ghost use Rattle.std.specs.Prelude.{◌≡◌, ◌<◌, ◌≤◌, ◌++◌, ◌
 ghost use Rattle.grub_book.specs.Op.{IsOp};
 ghost use Rattle.grub_table.specs.Calls.{terms};
 ghost use Rattle.grub_trace.specs.declared.entry.Ask.TheVariants.{Call, Read};
-ghost use Rattle.grub_trace.specs.Asked.{GoesOn, entry};
-ghost use Rattle.grub_workers.specs.Working.{IsAtWork, IsLineOp, IsToldBy, WaitsRightly};
+ghost use Rattle.grub_asks.specs.Asked.{GoesOn, entry};
+ghost use Rattle.grub_asks.specs.Keeping.{IsLineOp, WaitsRightly};
+ghost use Rattle.grub_workers.specs.Working.{IsAtWork, IsToldBy};
 
 use crate::asking::ask;
 use crate::desk::Desk;
 use crate::gate::Gate;
-use crate::keeping::{keep, make_room};
+use grub_asks::{keep, make_room};
 use grub_book::Op;
 use grub_table::Pass;
 use grub_trace::{Answer, Ask, Entry};

@@ -1,11 +1,14 @@
 -- The files that the words name.
-use Rattle.std.proofs.Common.{◌≡◌, ◌∙◌, ℕ, List, [], codes, map, unwrap_or, Option, Some, None, Ok, Err, option_map, subst, Bor, refl}
+use Rattle.std.proofs.Common.{◌≡◌, ◌∙◌, ℕ, List, [], codes, map, unwrap_or, Option, Some, None, Ok, Err, option_map, ap, subst, Bor, refl}
 use Rattle.std.specs.Str.Parse.{ParsesUnsigned}
 use Rattle.std.specs.declared.result.Result.{Result}
 use Rattle.clap.proofs.WalkLemmas.{one_text-rows, raw_values-rows}
 use Rattle.clap.specs.Words.{ReadsOne, matched_of, one_of, one_text, raw_values, rows_of}
 use Rattle.clap.specs.declared.parser.matches.Found.{Found}
-use Rattle.grubrun.specs.CommandLine.{ReadsNumber, names_among, names_of}
+use Rattle.grub_serve.specs.Faults.{names_of}
+use Rattle.grubrun.specs.CommandLine.{ReadsNumber, names_among}
+use Rattle.grubrun.specs.Views.{ReadsViewWord, view_word}
+use Rattle.grubrun.specs.declared.view.ViewWord.{ViewWord}
 
 -- the values that were found, or none
 pub names_found : (o : Option (Bor (List (Bor (List ℕ))))) (d r : Bor (List (Bor (List ℕ)))) (named : Option (List (List ℕ))) → r ≡ unwrap_or o d → d.now ≡ []
@@ -27,3 +30,12 @@ number_read E G bits f id r none value parses = subst (λ o. ReadsNumber bits o 
     go None is r none value = none is
     go (Some t) is (Some n) none value = parses t (Ok n) (value t is)
     go (Some t) is None none value = let (e, said) = value t is in parses t (Err e) said
+
+-- and of the word that names a view
+pub word_read : (f : Found) (id : List ℕ) (r : Option ViewWord) → (one_text f id ≡ None → r ≡ None) → ((t : List ℕ) → one_text f id ≡ Some t → ReadsOne ReadsViewWord t r) → r ≡ option_map view_word (one_of id (rows_of f))
+word_read f id r none value = subst (λ o. r ≡ option_map view_word o) (one_text-rows f id) (go (one_text f id) refl r none value)
+  where
+    go : (o : Option (List ℕ)) → one_text f id ≡ o → (r : Option ViewWord) → (one_text f id ≡ None → r ≡ None) → ((t : List ℕ) → one_text f id ≡ Some t → ReadsOne ReadsViewWord t r) → r ≡ option_map view_word o
+    go None is r none value = none is
+    go (Some t) is (Some w) none value = ap Some (value t is)
+    go (Some t) is None none value = absurd (value t is).1

@@ -1,5 +1,2 @@
 pub mod CommandLemmas
-pub mod FilesLemmas
-pub mod PrintLemmas
 pub mod RoundsLemmas
-pub mod SourceLemmas

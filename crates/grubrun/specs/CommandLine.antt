@@ -1,15 +1,17 @@
--- The command line: `grubrun [--tries N] [--rounds N] FILE...`.
-use Rattle.std.specs.Prelude.{◌≡◌, ◌⊎◌, ◌<◌, ◌^◌, ℕ, codes, pos, List, [], ◌∷◌, map, Option, None, Some, true, unwrap_or}
+-- The command line: `grubrun [--tries N] [--rounds N] [--view V] FILE...`, or `--help` or `--version`.
+use Rattle.std.specs.Prelude.{◌≡◌, ◌⊎◌, ◌<◌, ◌^◌, ℕ, codes, pos, List, [], ◌∷◌, map, Option, None, Some, true, option_map, unwrap_or}
 use Rattle.std.specs.Str.Parse.{IsNumeral, digits_value, without_leading_plus}
-use Rattle.std.specs.Borrow.{Bor}
+use Rattle.clap.specs.Simple.{on_top}
 use Rattle.clap.specs.Words.{App, Row, Rule, Text, all_of, one_of, fault_of, matches_of, new_app, new_rule, with_rule}
 use Rattle.clap.specs.Kinds.{IsAmong}
 use Rattle.clap.specs.Lexer.{usize_max}
-use Rattle.clap.specs.declared.error.kind.ErrorKind.{ErrorKind}
 use Rattle.clap.specs.declared.error.kind.ErrorKind.TheVariants as kinds
 use Rattle.clap.specs.declared.builder.action.ArgAction.TheVariants.{Append}
 use Rattle.clap.specs.declared.builder.value_parser.ValueParser.TheVariants as parsers
+use Rattle.grubrun.specs.declared.view.Wanted.{Wanted}
+use Rattle.grubrun.specs.declared.view.Wanted.TheVariants.{NoView}
 use Rattle.grubrun.specs.Rounds.{rounds_id, rounds_parser}
+use Rattle.grubrun.specs.Views.{view_word, wanted_of}
 
 -- a number from 0 to 255, 8 where it is not given
 abbrev pub tries_rule : Rule
@@ -19,12 +21,20 @@ tries_rule = record (new_rule (codes "tries")) { long = Some (codes "tries"); va
 abbrev pub rounds_rule : Rule
 rounds_rule = record (new_rule rounds_id) { long = Some (codes "rounds"); value_names = 1; defaults = codes "64" ∷ []; parser = Some rounds_parser }
 
+-- a word that names a view
+abbrev pub view_rule : Rule
+view_rule = record (new_rule (codes "view")) { long = Some (codes "view"); value_names = 1 }
+
 -- one file or more
 abbrev pub files_rule : Rule
 files_rule = record (new_rule (codes "FILE")) { action = Some Append; range = Some (record { start_inclusive = 1; end_inclusive = usize_max }); required = true }
 
+-- with `--version`
+abbrev pub with_version : App → App
+with_version app = on_top (λ s. record s { has_version = true }) app
+
 abbrev pub command_line : App
-command_line = with_rule (with_rule (with_rule (new_app (codes "grubrun")) tries_rule) rounds_rule) files_rule
+command_line = with_rule (with_rule (with_rule (with_rule (with_version (new_app (codes "grubrun"))) tries_rule) rounds_rule) view_rule) files_rule
 
 -- the values of the argument for files, among those of all arguments
 abbrev pub names_among : List Row → List Text
@@ -56,18 +66,17 @@ TriesNamed words n = SpellsOr 8 8 (codes "tries") (matches_of command_line words
 abbrev pub RoundsNamed : List Text → ℕ → Type 0
 RoundsNamed words n = SpellsOr 64 16 rounds_id (matches_of command_line words) n
 
--- the texts behind these references
-abbrev pub names_of : List (Bor Text) → List Text
-names_of paths = map (λ path. path.now) paths
+-- these words ask for this to be printed
+abbrev pub wanted_in : List Text → Wanted
+wanted_in words = wanted_of (option_map view_word (one_of (codes "view") (matches_of command_line words)))
 
--- the command line does not take these words
+-- the command line does not take these words, or they name no view
 abbrev pub IsRefused : List Text → Type 0
-IsRefused words = fault_of command_line words ≡ [] → ⊥
+IsRefused words = (fault_of command_line words ≡ [] → ⊥) ⊎ (wanted_in words ≡ NoView)
 
--- what a parse answers goes to the output: a text that the words ask for
-abbrev pub IsForOutput : ErrorKind → Type 0
-IsForOutput kind = (kind ≡ kinds.DisplayHelp) ⊎ (kind ≡ kinds.DisplayVersion)
+-- these words ask for the help, or for the version
+abbrev pub AsksForHelp : List Text → Type 0
+AsksForHelp words = IsAmong kinds.DisplayHelp (fault_of command_line words)
 
--- these words ask for such a text
-abbrev pub AsksForText : List Text → Type 0
-AsksForText words = IsAmong kinds.DisplayHelp (fault_of command_line words) ⊎ IsAmong kinds.DisplayVersion (fault_of command_line words)
+abbrev pub AsksForVersion : List Text → Type 0
+AsksForVersion words = IsAmong kinds.DisplayVersion (fault_of command_line words)

@@ -1,5 +1,4 @@
 pub mod CommandLine
-pub mod Faults
 pub mod Rounds
-pub mod Source
 pub mod Statuses
+pub mod Views

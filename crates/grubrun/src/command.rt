@@ -3,9 +3,11 @@
 ghost use Rattle.std.specs.Prelude.{◌≡◌, ◌≤◌, IfOk, IfSome, codes, pos, Some, map, string_bytes};
 ghost use Rattle.clap.specs.declared.builder.value_parser.ValueParser.TheVariants as parsers;
 ghost use Rattle.clap.specs.Words.{app_of, one_of, rule_of, rows_of, found_of, matches_of, fault_of, FailsBy};
-ghost use Rattle.grubrun.specs.CommandLine.{ReadsNumber, RoundsNamed, TriesNamed, tries_rule, rounds_rule, files_rule, command_line};
+ghost use Rattle.grubrun.specs.CommandLine.{ReadsNumber, RoundsNamed, TriesNamed, tries_rule, rounds_rule, view_rule, files_rule, command_line, wanted_in};
 ghost use Rattle.grubrun.specs.Rounds.{IsOf, TakesRounds, rounds_id};
 
+use crate::texts::VERSION;
+use crate::view::{ViewWord, Wanted, wanted_by};
 use clap::{Arg, ArgAction, ArgMatches, Command, Error, value_parser};
 use std::alloc::{AllocError, Global};
 
@@ -20,6 +22,7 @@ pub struct Options<'a> {
     pub matches: ArgMatches<'a>,
     pub tries: u8,
     pub rounds: u16,
+    pub wanted: Wanted,
     ghost some_rounds: { 1 ≤ rounds },
 }
 
@@ -30,7 +33,6 @@ fn tries_arg<'a>(alloc: Global) -> Arg<'a>
     Arg::new(alloc, "tries")
         .long("tries")
         .value_name("N")
-        .help("Tries for a runqueue's word in a round, 0 to 255")
         .value_parser(value_parser!(u8))
         .default_value("8")
 }
@@ -43,9 +45,15 @@ fn rounds_arg<'a>(alloc: Global) -> Arg<'a>
     Arg::new(alloc, "rounds")
         .long("rounds")
         .value_name("N")
-        .help("Rounds until an ask is given up, 1 to 65535")
         .value_parser(value_parser!(u16).range(1..))
         .default_value("64")
+}
+
+fn view_arg<'a>(alloc: Global) -> Arg<'a>
+    ensures is { IsOf (codes "view") result }
+    ensures rule { rule_of result ≡ view_rule }
+{
+    Arg::new(alloc, "view").long("view").value_name("V")
 }
 
 fn files_arg<'a>(alloc: Global) -> Arg<'a>
@@ -53,21 +61,22 @@ fn files_arg<'a>(alloc: Global) -> Arg<'a>
     ensures rule { rule_of result ≡ files_rule }
 {
     Arg::new(alloc, "FILE")
-        .help("Event files, one for each runqueue")
         .required(true)
         .num_args(1..)
         .action(ArgAction::Append)
 }
 
-/// `grubrun [--tries N] [--rounds N] FILE...`: two numbers in their ranges, and at least one file.
+/// `grubrun [--tries N] [--rounds N] [--view V] FILE...`: two numbers in their ranges, a word, and at least one file; or
+/// `--help` or `--version`.
 fn command<'a>(alloc: Global) -> Result<Command<'a>, AllocError>
     ensures rounds { IfOk result TakesRounds }
     ensures line { IfOk result (λ c. app_of c ≡ command_line) }
 {
     Command::new(alloc, "grubrun")
-        .about("Plays event files against the reference book-keeper of GRUB bandwidth reclaiming")
+        .version(VERSION)
         .arg(tries_arg(alloc))?
         .arg(rounds_arg(alloc))?
+        .arg(view_arg(alloc))?
         .arg(files_arg(alloc))
 }
 
@@ -87,14 +96,17 @@ fn parse<'a>(alloc: Global, words: &'a [String]) -> Result<(ArgMatches<'a>, Opti
 pub fn options_of<'a>(alloc: Global, words: &'a [String]) -> Result<Options<'a>, Error>
     ensures tries { IfOk result (λ o. TriesNamed (map string_bytes words.now) o.tries) }
     ensures rounds { IfOk result (λ o. RoundsNamed (map string_bytes words.now) o.rounds) }
+    ensures wanted { IfOk result (λ o. o.wanted ≡ wanted_in (map string_bytes words.now)) }
     ensures matches { IfOk result (λ o. rows_of (found_of o.matches) ≡ matches_of command_line (map string_bytes words.now)) }
     ensures faults { FailsBy (fault_of command_line (map string_bytes words.now)) result }
 {
     let (matches, rounds) = parse(alloc, words)?;
     let tries = matches.get_one::<u8>("tries").unwrap_or(TRIES_DEFAULT);
+    let wanted = wanted_by(matches.get_one::<ViewWord>("view"));
     Ok(Options {
         matches,
         tries,
         rounds: rounds.unwrap_or(ROUNDS_DEFAULT),
+        wanted,
     })
 }

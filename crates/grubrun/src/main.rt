@@ -2,13 +2,12 @@
 #![tactic(auto)]
 
 mod command;
-mod fault;
-mod input;
-mod reports;
 mod serve;
+mod texts;
+mod view;
 
-use crate::input::Source;
 use crate::serve::{serve, serve_no_words};
+use grub_files::Source;
 use std::io::Read;
 use std::process::ExitCode;
 use std::{env, fs};

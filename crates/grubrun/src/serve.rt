@@ -2,20 +2,23 @@
 
 ghost use Rattle.std.specs.Prelude.{◌≡◌, ◌≢◌, ◌≤◌, ◌⊎◌, map, string_bytes};
 ghost use Rattle.std.specs.IoError.{error_kind};
+ghost use Rattle.std.specs.Io.KnownBytes.{Appends};
 ghost use Rattle.clap.specs.Values.{kind_of};
 ghost use Rattle.clap.specs.Words.{found_of, rows_of};
 ghost use Rattle.clap.specs.declared.error.kind.ErrorKind.TheVariants as kinds;
 ghost use Rattle.std.specs.declared.io.ErrorKind.TheVariants as io_kinds;
-ghost use Rattle.grubrun.specs.CommandLine.{AsksForText, IsForOutput, IsRefused, files_named, names_among};
-ghost use Rattle.grubrun.specs.Statuses.{HasFileFault, PrintsBeginning, PrintsReports, PrintsRun, PrintsSome};
+ghost use Rattle.grub_serve.specs.Printed.{HasFileFault};
+ghost use Rattle.grubrun.specs.CommandLine.{IsRefused, files_named, names_among};
+ghost use Rattle.grubrun.specs.Statuses.{BeginsOf, PrintsAsked, PrintsKind, PrintsOf, PrintsRun, PrintsSome};
 
 use crate::command::{Options, options_of};
-use crate::fault::{ProgramFault, STATUS_FILE, STATUS_SYSTEM};
-use crate::input::Source;
-use crate::reports::print_reports;
+use crate::texts::{HELP, VERSION};
+use crate::view::Wanted;
 use clap::Error;
 use clap::error::ErrorKind;
+use grub_files::Source;
 use grub_run::GrubFault;
+use grub_serve::{ProgramFault, STATUS_FILE, STATUS_SYSTEM, serve_files, serve_view};
 use std::alloc::Global;
 use std::io;
 use std::io::Write;
@@ -42,22 +45,22 @@ pub fn serve<
     ensures nothing { (result ≡ STATUS_FILE) ⊎ (result ≡ STATUS_USAGE) → out.new ≡ out.old }
     // The status of a file's fault comes only where, by what the calls of `source` may answer, a file that the words name is at fault.
     ensures file { result ≡ STATUS_FILE → HasFileFault O.Fn N.Fn source.now (files_named (map string_bytes words.now)) }
-    // Right words are not answered as wrong, and are done once the reports of the files that they name are printed.
+    // Right words are not answered as wrong, and are done once what they ask for is printed of the files that they name.
     ensures usage { result ≡ STATUS_USAGE → IsRefused (map string_bytes words.now) }
     ensures done { result ≡ 0 → IsRefused (map string_bytes words.now) ⊎ PrintsRun O.Fn N.Fn source.now (map string_bytes words.now) (W.contents out.old) (W.contents out.new) }
-    // Where the system failed on right words, nothing or a beginning of these reports was printed.
+    // Where the system failed on right words, nothing or a beginning of this was printed.
     ensures failed { result ≡ STATUS_SYSTEM → IsRefused (map string_bytes words.now) ⊎ (out.new ≡ out.old) ⊎ PrintsSome O.Fn N.Fn source.now (map string_bytes words.now) (W.contents out.old) (W.contents out.new) }
-    // Of the words that are refused, only those that ask for help are done.
-    ensures help { IsRefused (map string_bytes words.now) → result ≡ 0 → AsksForText (map string_bytes words.now) }
+    // Of the words that are refused, only those that ask for the help or the version are done, and it was printed.
+    ensures help { IsRefused (map string_bytes words.now) → result ≡ 0 → PrintsAsked (map string_bytes words.now) (W.contents out.old) (W.contents out.new) }
 {
     match options_of(alloc, words) {
-        Ok(options) => serve_files(rt, alloc, &options, source, out, faults),
+        Ok(options) => serve_options(rt, alloc, &options, source, out, faults),
         Err(error) => serve_error(&error, out, faults),
     }
 }
 
-/// Prints the reports of the files that right words name.
-fn serve_files<
+/// Prints what right words ask for of the files that they name.
+fn serve_options<
     R: Threads + Wait,
     D: Drop,
     O: Fn(&str) -> io::Result<D>,
@@ -74,43 +77,68 @@ fn serve_files<
 ) -> u8
     requires open { O.IsAlwaysCallable source.now.open }
     requires read { N.IsAlwaysCallable source.now.read }
-    ensures status { (result ≡ 0) ⊎ (result ≡ STATUS_FILE) ⊎ (result ≡ STATUS_SYSTEM) }
-    ensures done { result ≡ 0 → PrintsReports O.Fn N.Fn source.now options.now.tries (names_among (rows_of (found_of options.now.matches))) (W.contents out.old) (W.contents out.new) }
+    ensures status { (result ≡ 0) ⊎ (result ≡ STATUS_FILE) ⊎ (result ≡ STATUS_USAGE) ⊎ (result ≡ STATUS_SYSTEM) }
+    ensures done { result ≡ 0 → PrintsOf O.Fn N.Fn source.now options.now.wanted options.now.tries (names_among (rows_of (found_of options.now.matches))) (W.contents out.old) (W.contents out.new) }
     ensures file { result ≡ STATUS_FILE → HasFileFault O.Fn N.Fn source.now (names_among (rows_of (found_of options.now.matches))) }
-    ensures nothing { result ≡ STATUS_FILE → out.new ≡ out.old }
-    ensures failed { result ≡ STATUS_SYSTEM → (out.new ≡ out.old) ⊎ PrintsBeginning O.Fn N.Fn source.now options.now.tries (names_among (rows_of (found_of options.now.matches))) (W.contents out.old) (W.contents out.new) }
+    ensures usage { result ≡ STATUS_USAGE → options.now.wanted ≡ Wanted.NoView }
+    ensures nothing { (result ≡ STATUS_FILE) ⊎ (result ≡ STATUS_USAGE) → out.new ≡ out.old }
+    ensures failed { result ≡ STATUS_SYSTEM → (out.new ≡ out.old) ⊎ BeginsOf O.Fn N.Fn source.now options.now.wanted options.now.tries (names_among (rows_of (found_of options.now.matches))) (W.contents out.old) (W.contents out.new) }
 {
     let paths = options.matches.get_strs("FILE").unwrap_or(&[]);
-    match print_reports(rt, alloc, options, source, paths, out) {
-        Ok(()) => 0,
-        Err(fault) => {
-            let _ = writeln!(faults, "grubrun: {fault}");
-            fault.status()
+    match options.wanted {
+        Wanted::Reports => serve_files(
+            rt,
+            alloc,
+            options.tries,
+            options.rounds,
+            source,
+            paths,
+            out,
+            faults,
+        ),
+        Wanted::View(view) => serve_view(alloc, view, source, paths, out, faults),
+        Wanted::NoView => {
+            let _ = writeln!(
+                faults,
+                "error: the views are 'timeline', 'steps', 'summary' and 'picture'"
+            );
+            STATUS_USAGE
         }
     }
 }
 
-/// The text of the command line's fault, or the help.
-fn serve_error<W: Write, E: Write>(error: &Error, out: &mut W, faults: &mut E) -> u8
-    ensures memory { kind_of error.now ≡ kinds.OutOfMemory → (result ≡ STATUS_SYSTEM) × (out.new ≡ out.old) }
-    ensures help { result ≡ 0 → IsForOutput (kind_of error.now) }
-    ensures mistake { (IsForOutput (kind_of error.now) → ⊥) → (result ≡ STATUS_USAGE) ⊎ (result ≡ STATUS_SYSTEM) }
-    ensures status { (result ≡ 0) ⊎ (result ≡ STATUS_USAGE) ⊎ (result ≡ STATUS_SYSTEM) }
-    ensures nothing { result ≡ STATUS_USAGE → out.new ≡ out.old }
+/// Prints a text that the words ask for.
+fn show<W: Write, E: Write>(text: &str, out: &mut W, faults: &mut E) -> u8
+    ensures status { (result ≡ 0) ⊎ (result ≡ STATUS_SYSTEM) }
+    ensures shown { result ≡ 0 → Appends (W.contents out.old) (W.contents out.new) text.now }
 {
-    if error.kind() == ErrorKind::OutOfMemory {
-        let _ = writeln!(faults, "grubrun: {}", ProgramFault::NoMemory);
-        return STATUS_SYSTEM;
-    }
-    if error.use_stderr() {
-        let _ = write!(faults, "{error}");
-        return STATUS_USAGE;
-    }
-    if write!(out, "{error}").is_err() || out.flush().is_err() {
+    if out.write_all(text.as_bytes()).is_err() || out.flush().is_err() {
         let _ = writeln!(faults, "grubrun: {}", GrubFault::WriteFault);
         return STATUS_SYSTEM;
     }
     0
+}
+
+/// The text of the command line's fault, or the text that the words ask for.
+fn serve_error<W: Write, E: Write>(error: &Error, out: &mut W, faults: &mut E) -> u8
+    ensures memory { kind_of error.now ≡ kinds.OutOfMemory → (result ≡ STATUS_SYSTEM) × (out.new ≡ out.old) }
+    ensures shown { result ≡ 0 → PrintsKind (kind_of error.now) (W.contents out.old) (W.contents out.new) }
+    ensures status { (result ≡ 0) ⊎ (result ≡ STATUS_USAGE) ⊎ (result ≡ STATUS_SYSTEM) }
+    ensures nothing { result ≡ STATUS_USAGE → out.new ≡ out.old }
+    ensures system { result ≡ STATUS_SYSTEM → (kind_of error.now ≡ kinds.OutOfMemory) ⊎ (kind_of error.now ≡ kinds.DisplayHelp) ⊎ (kind_of error.now ≡ kinds.DisplayVersion) }
+{
+    match error.kind() {
+        ErrorKind::OutOfMemory => {
+            let _ = writeln!(faults, "grubrun: {}", ProgramFault::NoMemory);
+            STATUS_SYSTEM
+        }
+        ErrorKind::DisplayHelp => show(HELP, out, faults),
+        ErrorKind::DisplayVersion => show(VERSION, out, faults),
+        _ => {
+            let _ = write!(faults, "{error}");
+            STATUS_USAGE
+        }
+    }
 }
 
 /// The line where the words could not be had: memory was refused, or they are no text.

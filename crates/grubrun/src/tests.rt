@@ -1,8 +1,7 @@
-//! The program: its statuses, its texts and its worked runs.
+//! The program: its words, its statuses and its worked runs.
 
-use crate::fault::FileFault;
-use crate::input::{FILE_BYTES_MAX, Source, read_file};
 use crate::serve::{serve, serve_no_words};
+use grub_files::Source;
 use std::alloc::{AllocError, Global};
 use std::io::{ErrorKind, Read, Write};
 use std::rt::Files;
@@ -87,57 +86,14 @@ fn one_file(rt: HostRuntime) -> Result<(), Fail> {
 }
 
 #[test]
-fn faults_of_files(rt: HostRuntime) -> Result<(), Fail> {
-    for (text, fault) in [
-        ("", "grubrun: a file.grub:1: 28 BadHeader\n"),
-        (
-            "grub 1\nqueue 1 0\n\n",
-            "grubrun: a file.grub:3: 29 BadLine\n",
-        ),
-        (
-            "grub 1\nqueue 01 0\n",
-            "grubrun: a file.grub:2: 30 BadNumber\n",
-        ),
-        (
-            "grub 1\nqueue 1 0\ntask A 9 8\n",
-            "grubrun: a file.grub:3: 31 OutOfRange\n",
-        ),
-        (
-            "grub 1\nqueue 1 0\ntask A 4 8\ntask A 4 8\n",
-            "grubrun: a file.grub:4: 32 DuplicateTask\n",
-        ),
-        (
-            "grub 1\nqueue 1 0\nat 0 join Z\n",
-            "grubrun: a file.grub:3: 33 UnknownTask\n",
-        ),
-        (
-            "grub 1\nqueue 1 0\nat 6 read\nat 5 read\n",
-            "grubrun: a file.grub:4: 34 MomentGoesBack\n",
-        ),
-        ("grub 1\n", "grubrun: a file.grub:2: 35 MissingQueue\n"),
-        ("grub 1\nqueue 1 0", "grubrun: a file.grub:2: 36 CutShort\n"),
-    ] {
-        fs::write(&rt, "a file.grub", text.as_bytes())?;
-        assert!(rt;
-            serves(&rt, rt.alloc(), ["a file.grub"].as_slice(), 1, "", fault)?,
-            "{fault}"
-        );
-    }
-    fs::remove_file(&rt, "a file.grub")?;
-    Ok(())
-}
-
-#[test]
-fn many_files(rt: HostRuntime) -> Result<(), Fail> {
-    fs::write(&rt, "empty.grub", b"grub 1\nqueue 1 0\n")?;
-    let mut words = ["empty.grub"; 65];
-    words[64] = "./empty.grub";
-    let line = "grubrun: ./empty.grub:1: 31 OutOfRange\n";
-    assert!(rt; serves(&rt, rt.alloc(), words.as_slice(), 1, "", line)?);
-    words[64] = "not there";
+fn files_at_fault(rt: HostRuntime) -> Result<(), Fail> {
+    let alloc = rt.alloc();
+    fs::write(&rt, "wrong.grub", b"grub 1\nqueue 1 0\ntask A 9 8\n")?;
+    let line = "grubrun: wrong.grub:3: 31 OutOfRange\n";
+    assert!(rt; serves(&rt, alloc, ["wrong.grub"].as_slice(), 1, "", line)?);
+    fs::remove_file(&rt, "wrong.grub")?;
     let line = "grubrun: not there: 46 ReadFault\n";
-    assert!(rt; serves(&rt, rt.alloc(), words.as_slice(), 3, "", line)?);
-    fs::remove_file(&rt, "empty.grub")?;
+    assert!(rt; serves(&rt, alloc, ["not there"].as_slice(), 3, "", line)?);
     Ok(())
 }
 
@@ -185,131 +141,54 @@ fn no_words(rt: HostRuntime) -> Result<(), Fail> {
     Ok(())
 }
 
+/// What the program prints on these words, which ask for a text.
+fn asked<R: Files + Threads + Wait>(
+    rt: &R,
+    alloc: Global,
+    words: &[&str],
+) -> Result<String, AllocError> {
+    let words = words_of(alloc, words)?;
+    let mut out: Vec<u8> = Vec::new(alloc);
+    let mut faults: Vec<u8> = Vec::new(alloc);
+    let status = served(rt, alloc, &words, &mut out, &mut faults);
+    if status != 0 || !faults.is_empty() {
+        return Ok(String::new(alloc));
+    }
+    String::from_utf8_lossy(alloc, &out)
+}
+
 #[test]
 fn help(rt: HostRuntime) -> Result<(), Fail> {
     let alloc = rt.alloc();
-    let words = words_of(alloc, ["--help"].as_slice())?;
-    let mut out: Vec<u8> = Vec::new(alloc);
-    let mut faults: Vec<u8> = Vec::new(alloc);
-    let status = served(&rt, alloc, &words, &mut out, &mut faults);
-    assert_eq!(rt; status, 0);
-    assert!(rt; faults.is_empty());
-    let text = String::from_utf8_lossy(alloc, &out)?;
-    assert!(rt; text.as_str().contains("--tries <N>"));
-    assert!(rt; text.as_str().contains("--rounds <N>"));
-    Ok(())
-}
-
-#[test]
-fn long_files(rt: HostRuntime) -> Result<(), Fail> {
-    for (len, fault) in [
-        (FILE_BYTES_MAX, "grubrun: long.grub:1: 36 CutShort\n"),
-        (FILE_BYTES_MAX + 1, "grubrun: long.grub: 44 FileTooLong\n"),
+    for words in [
+        ["--help"].as_slice(),
+        ["-h"].as_slice(),
+        ["x", "--help"].as_slice(),
     ] {
-        let text = Vec::from_elem(rt.alloc(), b'7', len)?;
-        fs::write(&rt, "long.grub", text.as_slice())?;
-        assert!(rt; serves(&rt, rt.alloc(), ["long.grub"].as_slice(), 1, "", fault)?);
+        let text = asked(&rt, alloc, words)?;
+        for part in [
+            "grubrun [OPTIONS] <FILE>...",
+            "--tries <N>",
+            "0 to 255 [default: 8]",
+            "--rounds <N>",
+            "1 to 65535 [default: 64]",
+            "-h, --help",
+            "-V, --version",
+        ] {
+            assert!(rt; text.as_str().contains(part), "{part}");
+        }
     }
-    // Too many files are too long before they are too many.
-    let words = ["long.grub"; 65];
-    let fault = "grubrun: long.grub: 44 FileTooLong\n";
-    assert!(rt; serves(&rt, rt.alloc(), words.as_slice(), 1, "", fault)?);
-    fs::remove_file(&rt, "long.grub")?;
     Ok(())
 }
 
-/// Gives the next of so many single bytes of a file, and fails after them.
-fn one_byte(left: &mut usize, room: &mut [u8]) -> io::Result<usize> {
-    if *left == 0 || room.is_empty() {
-        return Err(io::Error::from(ErrorKind::Other));
-    }
-    room[0] = b'7';
-    *left -= 1;
-    Ok(1)
-}
-
-/// Gives the next single byte of the first file.
-fn byte_of_first(at: &mut usize, room: &mut [u8]) -> io::Result<usize> {
-    let bytes = FIRST.as_bytes();
-    if *at >= bytes.len() || room.is_empty() {
-        return Ok(0);
-    }
-    room[0] = bytes[*at];
-    *at += 1;
-    Ok(1)
-}
-
 #[test]
-fn single_bytes(rt: HostRuntime) -> Result<(), Fail> {
+fn version(rt: HostRuntime) -> Result<(), Fail> {
     let alloc = rt.alloc();
-    let words = words_of(alloc, ["x"].as_slice())?;
-    let source = Source {
-        open: |_path: &str| Ok(0usize),
-        read: |at: &mut usize, room: &mut [u8]| byte_of_first(at, room),
-    };
-    let mut out: Vec<u8> = Vec::new(alloc);
-    let mut faults: Vec<u8> = Vec::new(alloc);
-    let status = serve(&rt, alloc, &words, &source, &mut out, &mut faults);
-    assert_eq!(rt; status, 0);
-    assert_eq!(rt; out.as_slice(), FIRST_REPORT.as_bytes());
-    assert!(rt; faults.is_empty());
-    Ok(())
-}
-
-/// Claims one byte more than there is room for.
-fn too_much(_file: &mut usize, room: &mut [u8]) -> io::Result<usize> {
-    Ok(room.len().saturating_add(1))
-}
-
-#[test]
-fn broken_reads(rt: HostRuntime) -> Result<(), Fail> {
-    let alloc = rt.alloc();
-    let line = b"grubrun: x: 46 ReadFault\n".as_slice();
-    let words = words_of(alloc, ["x"].as_slice())?;
-    for length in [0usize, 3, 5000] {
-        let source = Source {
-            open: |_path: &str| Ok(length),
-            read: |left: &mut usize, room: &mut [u8]| one_byte(left, room),
-        };
-        let mut out: Vec<u8> = Vec::new(alloc);
-        let mut faults: Vec<u8> = Vec::new(alloc);
-        let status = serve(&rt, alloc, &words, &source, &mut out, &mut faults);
-        assert_eq!(rt; status, 3);
-        assert!(rt; out.is_empty() && faults.as_slice() == line);
-    }
-    let source = Source {
-        open: |_path: &str| Ok(0usize),
-        read: |file: &mut usize, room: &mut [u8]| too_much(file, room),
-    };
-    let fault = match read_file(alloc, &source, "x") {
-        Ok(_) => None,
-        Err(fault) => Some(fault),
-    };
-    assert!(rt; fault == Some(FileFault::Read));
-    fs::create_dir(&rt, "folder")?;
-    let line = "grubrun: folder: 46 ReadFault\n";
-    assert!(rt; serves(&rt, rt.alloc(), ["folder"].as_slice(), 3, "", line)?);
-    fs::remove_dir(&rt, "folder")?;
-    Ok(())
-}
-
-/// A folder of two files, the second of which cannot be opened: the first decides where it is too long.
-#[test]
-fn the_first_unread_file_is_told(rt: HostRuntime) -> Result<(), Fail> {
-    let alloc = rt.alloc();
-    fs::write(&rt, "short.grub", FIRST.as_bytes())?;
-    let text = Vec::from_elem(alloc, b'7', FILE_BYTES_MAX + 1)?;
-    fs::write(&rt, "long.grub", text.as_slice())?;
-    let long = "grubrun: long.grub: 44 FileTooLong\n";
-    let gone = "grubrun: not there: 46 ReadFault\n";
-    for (words, status, line) in [
-        (["short.grub", "long.grub", "not there"], 1, long),
-        (["short.grub", "not there", "long.grub"], 3, gone),
-    ] {
-        assert!(rt; serves(&rt, alloc, words.as_slice(), status, "", line)?);
-    }
-    fs::remove_file(&rt, "short.grub")?;
-    fs::remove_file(&rt, "long.grub")?;
+    let long = asked(&rt, alloc, ["--version"].as_slice())?;
+    assert!(rt; long.as_str().starts_with("grubrun "));
+    assert!(rt; long.as_str().ends_with("\n"));
+    let short = asked(&rt, alloc, ["-V"].as_slice())?;
+    assert_eq!(rt; long.as_str(), short.as_str());
     Ok(())
 }
 
@@ -343,7 +222,8 @@ fn closed_output(rt: HostRuntime) -> Result<(), Fail> {
     Ok(())
 }
 
-/// The faults of refused memory. A refused start of a thread may be answered as such.
+/// The lines that a refused growth may have, in the order of the program's work: its words and files, its lines, its
+/// run, and the text of its reports. A refused start of a thread may be answered as such.
 const REFUSALS: [&[u8]; 5] = [
     b"grubrun: 37 NoMemory\n",
     b"grubrun: 38 NoMemory\n",

@@ -38,7 +38,7 @@ fn is_refusal(fault: GrubFault) -> bool {
         GrubFault::Trace(fault) => fault == TraceFault::NoMemory,
         GrubFault::Run(RunFault::NoMemory | RunFault::Spawn) => true,
         GrubFault::Text(TextFault::NoMemory) => true,
-        GrubFault::WriteFault => false,
+        GrubFault::View | GrubFault::WriteFault => false,
     }
 }
 

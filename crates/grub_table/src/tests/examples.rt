@@ -120,6 +120,28 @@ fn open_refuses(rt: HostRuntime) -> Result<(), Fail> {
 }
 
 #[test]
+fn fault_texts(rt: HostRuntime) -> Result<(), Fail> {
+    let alloc = rt.alloc();
+    let texts = [
+        (format!(in alloc; "{}", OpenFault::NoPass)?, "23 NoPass"),
+        (
+            format!(in alloc; "{}", OpenFault::TooManyPasses)?,
+            "24 TooManyPasses",
+        ),
+        (format!(in alloc; "{}", OpenFault::NoMemory)?, "25 NoMemory"),
+        (
+            format!(in alloc; "{}", CloseWhy::Missing(64))?,
+            "26 Missing(64)",
+        ),
+        (format!(in alloc; "{}", CloseWhy::NoMemory)?, "42 NoMemory"),
+    ];
+    for (text, line) in &texts {
+        assert_eq!(rt; text.as_str(), *line);
+    }
+    Ok(())
+}
+
+#[test]
 fn open_meet_close(rt: HostRuntime) -> Result<(), Fail> {
     let setup = setup_of(rt.alloc(), 1)?;
     let (shared, first, second) = two_passes(&rt, rt.alloc(), &setup);
@@ -130,6 +152,8 @@ fn open_meet_close(rt: HostRuntime) -> Result<(), Fail> {
     passes.push(first)?;
     let fault = refuse(&rt, rt.alloc(), shared, passes);
     assert_eq!(rt; fault.why, CloseWhy::Missing(1));
+    let told = format!(in rt.alloc(); "{fault}")?;
+    assert_eq!(rt; told.as_str(), "26 Missing(1)");
     let mut passes = fault.passes;
     assert!(rt; passes.len() == 1 && passes[0].number() == 0);
     passes.push(second)?;

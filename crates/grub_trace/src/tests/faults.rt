@@ -64,6 +64,11 @@ fn first_two_lines(rt: HostRuntime) -> Result<(), Fail> {
             (b"grub 1\nqueue x 0\n", Kind::BadNumber, 2),
             (b"grub 1\nqueue 1 0\r\n", Kind::BadNumber, 2),
             (b"grub 1\nqueue 1048576\n", Kind::BadLine, 2),
+            // An empty word fits no form, also where a number is to stand.
+            (b"grub 1\nqueue 1 \n", Kind::BadLine, 2),
+            (b"grub 1\nqueue  1\n", Kind::BadLine, 2),
+            (b"grub 1\nqueue  \n", Kind::BadLine, 2),
+            (b"grub 1\nqueue 1 0 \n", Kind::BadLine, 2),
             (b"grub 1\nqueue 1048577 x\n", Kind::BadNumber, 2),
             (b"grub 1\nqueue 1048577 0\n", Kind::OutOfRange, 2),
             (b"grub 1\nqueue 5 6\n", Kind::OutOfRange, 2),
@@ -112,6 +117,15 @@ fn third_lines(rt: HostRuntime) -> Result<(), Fail> {
             (b"at 0 retune A 04 8", Kind::BadLine),
             (b" at 0 read", Kind::BadLine),
             (b"at 0 read ", Kind::BadLine),
+            // An empty word fits no form, also where a number is to stand.
+            (b"task A 4 ", Kind::BadLine),
+            (b"task A  8", Kind::BadLine),
+            (b"task A  ", Kind::BadLine),
+            (b"at  read", Kind::BadLine),
+            (b"at  join A", Kind::BadLine),
+            (b"at 0 run A ", Kind::BadLine),
+            (b"at  run A 1", Kind::BadLine),
+            (b" ", Kind::BadLine),
         ],
     )?;
     Ok(())
@@ -155,6 +169,9 @@ fn retune_lines(rt: HostRuntime) -> Result<(), Fail> {
             (b"at 2147483648 retune A 4 8", Kind::OutOfRange),
             (b"at 2147483648 retune A 4 x", Kind::BadNumber),
             (b"at 0 retune A 4", Kind::BadLine),
+            (b"at 0 retune A 4 ", Kind::BadLine),
+            (b"at 0 retune A  8", Kind::BadLine),
+            (b"at  retune A 4 8", Kind::BadLine),
             (b"at 0 retune A 4 8 9", Kind::BadLine),
             (b"at 0 retune Z 4 8", Kind::UnknownTask),
         ],

@@ -210,3 +210,52 @@ fn report_of_nothing(rt: HostRuntime) -> Result<(), Fail> {
     );
     Ok(())
 }
+
+/// More entries than the buffer has room for.
+#[test]
+fn long_report(rt: HostRuntime) -> Result<(), Fail> {
+    let alloc = rt.alloc();
+    let plan = read_files(alloc, &files_of(alloc, &[EXAMPLE])?)?;
+    let closing = Reading {
+        running: 0,
+        this: 0,
+    };
+    let [.., read] = example_entries();
+    let mut entries = Vec::new(alloc);
+    let mut wanted = Vec::from_slice(alloc, b"runqueue 63\n")?;
+    for _entry in 0..5000 {
+        entries.push(read)?;
+        wanted.extend_from_slice(b"at 8 read: running=1048576 this=1048576\n")?;
+    }
+    wanted.extend_from_slice(b"close running=0 this=0\n")?;
+    let report = Report { entries };
+    assert!(rt; are_of(&plan, &report.entries));
+    let text = report_of(alloc, &plan, 63, &report, closing)?;
+    assert!(rt; text.as_slice() == wanted.as_slice());
+    Ok(())
+}
+
+/// The longest name and the greatest numbers.
+#[test]
+fn longest_line(rt: HostRuntime) -> Result<(), Fail> {
+    let alloc = rt.alloc();
+    let file: &[u8] = b"grub 1\nqueue 1 0\ntask ABCDEFGHIJKLMNOP 1 1\n";
+    let plan = read_files(alloc, &files_of(alloc, &[file])?)?;
+    let most = u32::MAX;
+    let charged = Reply::Charged {
+        dq: u64::MAX,
+        k: most,
+        q: most,
+        d: most,
+    };
+    expect(
+        &rt,
+        alloc,
+        &plan,
+        &[(
+            call(most, 0, Op::Retune { q: most, p: most }, charged),
+            b"at 4294967295 retune ABCDEFGHIJKLMNOP 4294967295 4294967295: charged dq=18446744073709551615 k=4294967295 q=4294967295 d=4294967295\n",
+        )],
+    )?;
+    Ok(())
+}

@@ -1,5 +1,4 @@
-use Rattle.std.proofs.Common.{◌≡◌, ◌<◌, length, below_more, subst, arith}
-use Rattle.grub_bw.specs.Bandwidth.{IsCapacity}
+use Rattle.std.proofs.Common.{◌≡◌, ◌<◌, length, arith}
 use Rattle.grub_book.specs.Machine.{queue_at}
 use Rattle.grub_table.proofs.Openings.{copied_more}
 use Rattle.grub_table.proofs.opening.copied_queues.Goals as goal
@@ -13,7 +12,6 @@ loop-r-preserved c =
     let here : r < length s.queues = omega (arith, count, test) in
     let is : c.queue.result ≡ queue_at s r = c.queue.ensures.value in
     record {
-      machine = c.loop-r.invariant.machine;
+      limits = c.loop-r.invariant.limits;
       items = copied_more s.queues _ _ r _ _ here c.loop-r.invariant.items is c.in_ok-push.ensures.items;
-      capacities = below_more _ _ c.loop-r.invariant.capacities (subst IsCapacity is c.queue.ensures.limits);
     }

@@ -1,5 +1,4 @@
-use Rattle.std.proofs.Common.{◌≡◌, ◌<◌, length, below_more, subst, arith}
-use Rattle.grub_bw.specs.Bandwidth.{IsReservation}
+use Rattle.std.proofs.Common.{◌≡◌, ◌<◌, length, arith}
 use Rattle.grub_book.specs.Machine.{task_at}
 use Rattle.grub_table.proofs.Openings.{copied_more}
 use Rattle.grub_table.proofs.opening.copied_tasks.Goals as goal
@@ -12,8 +11,4 @@ loop-t-preserved c =
     let test = c.loop-t-test.true in
     let here : t < length s.tasks = omega (arith, count, test) in
     let is : c.params.result ≡ task_at s t = c.params.ensures.value in
-    record {
-      machine = c.loop-t.invariant.machine;
-      items = copied_more s.tasks _ _ t _ _ here c.loop-t.invariant.items is c.in_ok-push.ensures.items;
-      reservations = below_more _ _ c.loop-t.invariant.reservations (subst IsReservation is c.params.ensures.limits);
-    }
+    copied_more s.tasks _ _ t _ _ here c.loop-t.invariant is c.in_ok-push.ensures.items

@@ -1,12 +1,14 @@
 use Rattle.std.proofs.Common.{◌≡◌, ◌-◌, [], length}
 use Rattle.grub_table.specs.Calls.{terms, AreNew}
+use Rattle.grub_table.specs.Trails.{known}
 use Rattle.grub_table.specs.Views.{view, fresh}
 use Rattle.grub_table.proofs.opening.dealt.Given as goal
 
 abbrev pub invariant-loop-number : goal.invariant-loop-number
 invariant-loop-number l = record {
-  table : l.seat.table_id ≡ l.shared.table.shared.table_id;
-  left : l.seat.me ≡ (view (fresh (terms l.shared) l.number ((terms l.shared).passes - l.number)), []);
+  table : l.seat.table_id ≡ l.shared.table.inner.shared.table_id;
+  left : known l.seat.me ≡ (view (fresh (terms l.shared) l.number ((terms l.shared).passes - l.number)), []);
+  each : length l.seat.me.0.made ≡ length l.seat.me.0.view.shares;
   count : length l.passes.items ≡ l.number;
   new : AreNew l.shared 0 l.passes.items;
 }

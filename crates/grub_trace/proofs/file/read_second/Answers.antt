@@ -4,6 +4,7 @@ use Rattle.std.proofs.lemmas.List.{length-map}
 use Rattle.grub_trace.specs.Reading.{declarations}
 use Rattle.grub_trace.specs.Reading.{task_view}
 use Rattle.grub_trace.proofs.LineLemmas.{second_err, second_halts, second_view, lines_grow}
+use Rattle.grub_trace.proofs.Openings.{second_late, opening_is, opening_late}
 use Rattle.grub_trace.proofs.file.read_second.Goals as goal
 
 pub returns-in-Err-clause-gives : goal.returns-in-Err-clause-gives
@@ -27,3 +28,15 @@ returns-clause-gives c =
     let after = c.read_lines.new.tasks.list in
     second_view c.args.version (declarations c.args.tasks.now) c.args.text.now c.in-Some.line.now c.in-Some.rest.now c.in-Ok.queue _ _ c.in-Some.ensures.parts (sym c.in-Ok.ensures) c.in_ok-happenings.ensures.gives
     (omega (arith, length-map before.items task_view, length-map after.items task_view, before.ok.0, after.ok.0, c.len.ensures, c.len-before.ensures))
+
+pub returns-in-Err-clause-opening : goal.returns-in-Err-clause-opening
+returns-in-Err-clause-opening c =
+    opening_is c.in-Err.kind 2 _ (second_err c.args.version (declarations c.args.tasks.now) c.args.text.now c.in-Some.line.now c.in-Some.rest.now c.in-Err.kind c.in-Some.ensures.parts (sym c.in-Err.ensures))
+
+pub returns-in_err-happenings-clause-opening : goal.returns-in_err-happenings-clause-opening
+returns-in_err-happenings-clause-opening c =
+    opening_late _ _ (λ k n e. second_late c.args.version (declarations c.args.tasks.now) c.args.text.now c.in-Some.line.now c.in-Some.rest.now c.in-Ok.queue k n c.in-Some.ensures.parts (sym c.in-Ok.ensures) e)
+
+pub returns-clause-opening : goal.returns-clause-opening
+returns-clause-opening c =
+    opening_late _ _ (λ k n e. second_late c.args.version (declarations c.args.tasks.now) c.args.text.now c.in-Some.line.now c.in-Some.rest.now c.in-Ok.queue k n c.in-Some.ensures.parts (sym c.in-Ok.ensures) e)

@@ -18,8 +18,8 @@ new-requires c =
     (c.in_ok-params.ensures.params ∙ ap (λ ts. map (λ t. t.params) ts) c.deref-3.ensures.value)
     c.in_ok-names.ensures.names)
 
-pub returns : goal.returns
-returns c =
+pub returns-clause-answers : goal.returns-clause-answers
+returns-clause-answers c =
     let len = length-map c.args.files.now (λ v. v.items) in
     let some : 0 < length c.args.files.now = grind (arith, nat_tests) in
     let all = c.in_ok-all.all in

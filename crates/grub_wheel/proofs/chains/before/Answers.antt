@@ -1,5 +1,5 @@
 use Rattle.std.proofs.Common.{ℕ, ◌<◌, Option, ◌∙◌, sym, subst}
-use Rattle.grub_wheel.specs.Nodes.{Armed, keys, slots, links, head_of, key_of, node_at, tasks}
+use Rattle.grub_wheel.specs.inside.Nodes.{Armed, keys, slots, links, head_of, key_of, node_at, tasks}
 use Rattle.grub_wheel.proofs.Numbers.{before_key}
 use Rattle.grub_wheel.proofs.Walks.{IsReached, way_left, stands_on, steps_on, goes_on}
 use Rattle.grub_wheel.proofs.chains.before.Goals as goal

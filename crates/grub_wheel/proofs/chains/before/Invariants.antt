@@ -1,4 +1,4 @@
-use Rattle.grub_wheel.specs.Nodes.{Armed, keys, slots, key_of}
+use Rattle.grub_wheel.specs.inside.Nodes.{Armed, keys, slots, key_of}
 use Rattle.grub_wheel.proofs.Walks.{IsReached, way_left}
 use Rattle.grub_wheel.proofs.chains.before.Given as goal
 

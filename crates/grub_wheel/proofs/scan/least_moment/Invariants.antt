@@ -1,5 +1,5 @@
 use Rattle.std.proofs.Common.{ℕ, ◌-◌, ◌<◌, ◌≤◌}
-use Rattle.grub_wheel.specs.Nodes.{Armed, slots, moments}
+use Rattle.grub_wheel.specs.inside.Nodes.{Armed, slots, moments}
 use Rattle.grub_wheel.proofs.scan.least_moment.Given as goal
 
 abbrev pub invariant-loop-slot : goal.invariant-loop-slot

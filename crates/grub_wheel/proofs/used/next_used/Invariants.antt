@@ -1,5 +1,5 @@
 use Rattle.std.proofs.Common.{◌≡◌, ℕ, ◌-◌, ◌*◌, ◌<◌, ◌≤◌}
-use Rattle.grub_wheel.specs.Used.{mark_of}
+use Rattle.grub_wheel.specs.inside.Used.{mark_of}
 use Rattle.grub_wheel.proofs.used.next_used.Given as goal
 
 abbrev pub invariant-loop-word : goal.invariant-loop-word

@@ -1,7 +1,7 @@
 use Rattle.grub_workers.specs.declared.worker.Worker.{Worker}
 use Rattle.grub_trace.specs.declared.entry.Ask.TheVariants.{Read}
-use Rattle.grub_trace.specs.Asked.{AsksLine, GoesOn}
-use Rattle.grub_workers.proofs.Lines.{if_ok_weaker, line_read}
+use Rattle.grub_asks.specs.Asked.{AsksLine, GoesOn}
+use Rattle.grub_asks.proofs.Lines.{if_ok_weaker, line_read}
 use Rattle.grub_workers.proofs.script.ask_line.Goals as goal
 
 pub returns-in-None-clause-asked : goal.returns-in-None-clause-asked

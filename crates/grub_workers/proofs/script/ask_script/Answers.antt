@@ -4,7 +4,7 @@ use Rattle.std.proofs.lemmas.List.{take_more}
 use Rattle.grub_table.specs.Calls.{terms}
 use Rattle.grub_trace.specs.declared.line.Line.{Line}
 use Rattle.grub_trace.specs.declared.line.Act.TheVariants as acts
-use Rattle.grub_trace.specs.Asked.{AsksLine}
+use Rattle.grub_asks.specs.Asked.{AsksLine}
 use Rattle.grub_trace.specs.Limits.{ScriptFits}
 use Rattle.grub_workers.proofs.script.ask_script.Goals as goal
 

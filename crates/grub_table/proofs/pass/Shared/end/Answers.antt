@@ -12,7 +12,7 @@ loop-pass-init c =
       table = popped.1.home;
       empty = ap (λ m. m.1) p.single;
       of = popped.0;
-      all = ap (λ m. map share_of c.pop.new.self.items ++ m.0.shares) p.single ∙ shares_popped c.args.passes.items c.pop.new.self.items p [] c.in-Some.ensures.items ∙ append-nil _;
+      all = ap (λ m. map share_of c.pop.new.self.items ++ m.0.view.shares) p.single ∙ shares_popped c.args.passes.items c.pop.new.self.items p [] c.in-Some.ensures.items ∙ append-nil _;
     }
 
 pub join_seat-requires : goal.join_seat-requires
@@ -20,7 +20,7 @@ join_seat-requires c =
     let p = c.in-Some-pop.pass in
     let i = c.loop-pass.invariant in
     let words = c.args.self.words in
-    let some = c.args.self.limited.machine.queues_some in
+    let some = c.args.self.limited.queues_some in
     let popped = every_popped (IsPassOf c.args.self) c.loop-pass.passes.items c.pop-in-loop-pass.new.self.items p c.in-Some-pop.ensures.items i.of in
     (i.table, popped.1.home, ap (λ m. m.1) p.single, omega (arith, words, some), join_allowed _ _ _ _ _)
 
@@ -31,7 +31,7 @@ reading_in-requires c =
     let d = c.in_default-pop.ensures in
     let none : length c.loop-pass.passes.items ≡ 0 = search rules in
     let room = c.requires.room in
-    let w = word_fits c.args.self f.0 c.loop-pass.seat.id c.loop-pass.seat.me.0 c.args.passes.items _ c.args.readings.items f.1.0 f.1.1 (shares_left _ _ c.loop-pass.passes.items none i.all) f.2 c.requires.all c.loop-r.r (omega arith) in
+    let w = word_fits c.args.self f.0 c.loop-pass.seat.id c.loop-pass.seat.me.0.view c.args.passes.items _ c.args.readings.items f.1.0 f.1.1 (shares_left _ _ c.loop-pass.passes.items none i.all) f.2 c.requires.all c.loop-r.r (omega arith) in
     (w.0, w.1, sym w.2 ∙ get_at c.close_with-closed.result.words.items (queue_word_at c.loop-r.r) c.word.result c.word.ensures)
 
 pub loop-r-preserved : goal.loop-r-preserved
@@ -50,5 +50,5 @@ returns c =
     let d = c.in_default-pop.ensures in
     let none : length c.loop-pass.passes.items ≡ 0 = search rules in
     let room = c.loop-r.invariant.room in
-    closes c.args.self f.0 c.loop-pass.seat.id c.loop-pass.seat.me.0 c.args.passes.items _ c.loop-r.readings.items f.1.0 f.1.1 (shares_left _ _ c.loop-pass.passes.items none i.all) f.2 c.requires.all
+    closes c.args.self f.0 c.loop-pass.seat.id c.loop-pass.seat.me.0.view c.args.passes.items _ c.loop-r.readings.items f.1.0 f.1.1 (shares_left _ _ c.loop-pass.passes.items none i.all) f.2 c.requires.all
     (room ∙ c.requires.room) (λ r d lt. c.loop-r.invariant.done r d (omega arith))

@@ -7,10 +7,10 @@ use Rattle.grub_table.proofs.pass.Shared.end.Given as goal
 
 abbrev pub invariant-loop-pass : goal.invariant-loop-pass
 invariant-loop-pass l = record {
-  table : l.seat.table_id ≡ l.self.table.shared.table_id;
+  table : l.seat.table_id ≡ l.self.table.inner.shared.table_id;
   empty : l.seat.me.1 ≡ [];
   of : Every (IsPassOf l.self) l.passes.items;
-  all : map share_of l.passes.items ++ l.seat.me.0.shares ≡ map share_of l.fn.passes.items;
+  all : map share_of l.passes.items ++ l.seat.me.0.view.shares ≡ map share_of l.fn.passes.items;
 }
 
 abbrev pub decreases-loop-pass : goal.decreases-loop-pass

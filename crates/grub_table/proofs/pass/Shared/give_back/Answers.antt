@@ -1,5 +1,6 @@
 use Rattle.std.proofs.Common.{refl, arith}
-use Rattle.grub_table.proofs.Between.{tells_of, left_back, left_free_back}
+use Rattle.grub_table.specs.declared.view.Access.TheVariants.{Store}
+use Rattle.grub_table.proofs.Between.{made_at, tells_of, left_back, left_free_back}
 use Rattle.grub_table.proofs.Seated.{word_within, on_give_back}
 use Rattle.grub_table.proofs.pass.Shared.give_back.Goals as goal
 
@@ -13,8 +14,11 @@ store-requires c =
 
 pub invariant_of-result : goal.invariant_of-result
 invariant_of-result c = let m = left_free_back c.args.self.now c.args.seat c.store.new.seat c.args.t c.args.now.now c.args.number _ c.requires.held c.requires.number
-    (tells_of c.args.self.now _ c.args.seat c.store.new.seat c.requires.held.seat_of c.store.ensures.0 c.store.ensures.2) in record { single = m.single; numbered = m.numbered; free = m.free }
+    (tells_of c.args.self.now _ c.args.seat c.store.new.seat _ c.requires.held.seat_of c.store.ensures.home c.store.ensures.told c.store.ensures.made) in record { single = m.single; numbered = m.numbered; free = m.free }
 
 pub returns-clause-leaves : goal.returns-clause-leaves
 returns-clause-leaves c = left_back c.args.self.now c.args.seat _ c.args.t c.args.now.now _ c.requires.held
-    (tells_of c.args.self.now _ c.args.seat c.store.new.seat c.requires.held.seat_of c.store.ensures.0 c.store.ensures.2)
+    (tells_of c.args.self.now _ c.args.seat c.store.new.seat _ c.requires.held.seat_of c.store.ensures.home c.store.ensures.told c.store.ensures.made)
+
+pub returns-clause-made : goal.returns-clause-made
+returns-clause-made c = made_at c.args.self.now c.args.seat c.store.new.seat Store _ _ c.requires.held.seat_of c.store.ensures.made c.task_word_at-at.ensures.value

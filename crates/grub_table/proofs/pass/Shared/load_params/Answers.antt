@@ -1,5 +1,6 @@
 use Rattle.std.proofs.Common.{sym, arith}
-use Rattle.grub_table.proofs.Between.{tells_of, saw_params}
+use Rattle.grub_table.specs.declared.view.Access.TheVariants.{Load}
+use Rattle.grub_table.proofs.Between.{made_at, tells_of, saw_params}
 use Rattle.grub_table.proofs.Seated.{word_within, on_load_params}
 use Rattle.grub_table.proofs.pass.Shared.load_params.Goals as goal
 
@@ -14,10 +15,13 @@ load-word-requires c =
 pub params_in-requires : goal.params_in-requires
 params_in-requires c =
     let h = c.requires.2 in
-    let told = tells_of c.args.self.now _ c.args.seat.now c.load-word.new.seat h.seat_of c.load-word.ensures.0 c.load-word.ensures.2 in
+    let told = tells_of c.args.self.now _ c.args.seat.now c.load-word.new.seat _ h.seat_of c.load-word.ensures.home c.load-word.ensures.told c.load-word.ensures.made in
     (c.requires.1.params, h.kept.reservation, sym (told.of c.args.t c.requires.0 c.requires.1 h.hold).0)
 
-pub returns : goal.returns
-returns c =
+pub returns-clause-told : goal.returns-clause-told
+returns-clause-told c =
     let h = c.requires.2 in
-    saw_params c.args.self.now c.args.seat.now _ c.args.t _ _ h _ _ (tells_of c.args.self.now _ c.args.seat.now c.load-word.new.seat h.seat_of c.load-word.ensures.0 c.load-word.ensures.2) c.params_in.ensures.fits c.params_in.ensures.word
+    saw_params c.args.self.now c.args.seat.now _ c.args.t _ _ h _ _ (tells_of c.args.self.now _ c.args.seat.now c.load-word.new.seat _ h.seat_of c.load-word.ensures.home c.load-word.ensures.told c.load-word.ensures.made) c.params_in.ensures.fits c.params_in.ensures.word
+
+pub returns-clause-made : goal.returns-clause-made
+returns-clause-made c = made_at c.args.self.now c.args.seat.now c.load-word.new.seat Load _ _ c.requires.2.seat_of c.load-word.ensures.made c.params_word_at-at.ensures.value

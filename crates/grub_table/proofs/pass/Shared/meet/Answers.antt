@@ -1,53 +1,53 @@
-use Rattle.std.proofs.Common.{◌≡◌, [], ◌∷◌, ap, sym, subst, ◌∙◌, arith}
+use Rattle.std.proofs.Common.{[], ◌∷◌, ap, sym, subst, ◌∙◌, arith}
 use Rattle.grub_table.specs.declared.view.View.{View}
-use Rattle.grub_table.specs.Views.{StandTogether, view, first_of, both_of, only_first, without_first}
+use Rattle.grub_table.specs.Calls.{share_of}
+use Rattle.grub_table.specs.Trails.{known}
+use Rattle.grub_table.specs.Views.{StandTogether, first_of}
 use Rattle.grub_table.proofs.Moves.{join_allowed, compare_allowed, split_allowed_as}
-use Rattle.grub_table.proofs.Meets.{met, marked_met}
+use Rattle.grub_table.proofs.Meets.{both_known, both_seen, left_is, met, marked_met, right_is}
 use Rattle.grub_table.proofs.pass.Shared.meet.Goals as goal
 
 pub join_seat-requires : goal.join_seat-requires
 join_seat-requires c =
     let self = c.args.self.now in
     let words = self.words in
-    let some = self.limited.machine.queues_some in
+    let some = self.limited.queues_some in
     (c.requires.second.home, c.requires.first.home, ap (λ m. m.1) c.args.first.single, omega (arith, words, some), join_allowed _ _ _ _ _)
 
 pub load-requires : goal.load-requires
 load-requires c =
     let self = c.args.self.now in
     let words = self.words in
-    let some = self.limited.machine.queues_some in
-    (c.join_seat.ensures.0 ∙ c.requires.second.home, omega (arith, words, some), compare_allowed _ _ _ _ _)
+    let some = self.limited.queues_some in
+    (c.join_seat.ensures.home ∙ c.requires.second.home, omega (arith, words, some), compare_allowed _ _ _ _ (known c.join_seat.new.seat.me))
 
 pub split_seat-one-requires : goal.split_seat-one-requires
 split_seat-one-requires c =
     let self = c.args.self.now in
     let words = self.words in
-    let some = self.limited.machine.queues_some in
-    let x = first_of c.args.first.seat.me.0 in
-    let y = first_of c.args.second.seat.me.0 in
-    let whole : c.load.new.seat.me.0 ≡ view (x ∷ y ∷ []) = ap (λ m. m.0) (c.load.ensures.2.0 ∙ c.join_seat.ensures.2) ∙ (λ i. both_of (c.args.second.single i).0 (c.args.first.single i).0) in (
-      c.load.ensures.0 ∙ c.join_seat.ensures.0 ∙ c.requires.second.home,
+    let some = self.limited.queues_some in
+    let first = c.args.first in
+    let second = c.args.second in
+    let whole = both_seen first second c.join_seat.new.seat c.join_seat.ensures.both c.load.new.seat c.load.ensures.told.0 c.load.ensures.made in (
+      c.load.ensures.home ∙ c.join_seat.ensures.home ∙ c.requires.second.home,
       omega (arith, words, some),
-      split_allowed_as _ _ _ x (y ∷ []) whole,
+      split_allowed_as _ _ _ (share_of first) (share_of second ∷ []) whole,
     )
 
 pub returns-clause-met : goal.returns-clause-met
 returns-clause-met c =
-    let x = first_of c.args.first.seat.me.0 in
-    let y = first_of c.args.second.seat.me.0 in
-    let joined : c.join_seat.new.seat.me.0 ≡ view (x ∷ y ∷ []) = ap (λ m. m.0) c.join_seat.ensures.2 ∙ (λ i. both_of (c.args.second.single i).0 (c.args.first.single i).0) in
-    let whole : c.load.new.seat.me.0 ≡ view (x ∷ y ∷ []) = ap (λ m. m.0) c.load.ensures.2.0 ∙ joined in
-    let one = ap (λ m. m.0) c.split_seat-one.ensures.4 ∙ ap only_first whole in
-    let other = ap (λ m. m.0) c.split_seat-one.ensures.2 ∙ ap without_first whole in
-    met _ _ (subst (λ (p : View × View). StandTogether (first_of p.0 ∷ first_of p.1 ∷ [])) (λ k. (sym one k, sym other k)) (subst (λ (v : View). StandTogether v.shares) joined c.load.ensures.2.1))
+    let first = c.args.first in
+    let second = c.args.second in
+    let together = subst (λ (v : View). StandTogether v.shares) (both_known first second c.join_seat.new.seat c.join_seat.ensures.both) c.load.ensures.told.1 in
+    let one = right_is first second c.join_seat.new.seat c.join_seat.ensures.both c.load.new.seat c.load.ensures.told.0 c.load.ensures.made _ c.split_seat-one.ensures.right in
+    let other = left_is first second c.join_seat.new.seat c.join_seat.ensures.both c.load.new.seat c.load.ensures.told.0 c.load.ensures.made _ c.split_seat-one.ensures.left in
+    met _ _ (subst (λ (p : View × View). StandTogether (first_of p.0 ∷ first_of p.1 ∷ [])) (λ k. (sym (ap (λ m. m.0.view) one) k, sym (ap (λ m. m.0.view) other) k)) together)
 
 pub returns-clause-marks : goal.returns-clause-marks
 returns-clause-marks c =
-    let x = first_of c.args.first.seat.me.0 in
-    let y = first_of c.args.second.seat.me.0 in
-    let joined : c.join_seat.new.seat.me.0 ≡ view (x ∷ y ∷ []) = ap (λ m. m.0) c.join_seat.ensures.2 ∙ (λ i. both_of (c.args.second.single i).0 (c.args.first.single i).0) in
-    let whole : c.load.new.seat.me.0 ≡ view (x ∷ y ∷ []) = ap (λ m. m.0) c.load.ensures.2.0 ∙ joined in
-    let one = ap (λ m. m.0) c.split_seat-one.ensures.4 ∙ ap only_first whole in
-    let other = ap (λ m. m.0) c.split_seat-one.ensures.2 ∙ ap without_first whole in
-    marked_met _ _ (subst (λ (p : View × View). StandTogether (first_of p.0 ∷ first_of p.1 ∷ [])) (λ k. (sym one k, sym other k)) (subst (λ (v : View). StandTogether v.shares) joined c.load.ensures.2.1))
+    let first = c.args.first in
+    let second = c.args.second in
+    let together = subst (λ (v : View). StandTogether v.shares) (both_known first second c.join_seat.new.seat c.join_seat.ensures.both) c.load.ensures.told.1 in
+    let one = right_is first second c.join_seat.new.seat c.join_seat.ensures.both c.load.new.seat c.load.ensures.told.0 c.load.ensures.made _ c.split_seat-one.ensures.right in
+    let other = left_is first second c.join_seat.new.seat c.join_seat.ensures.both c.load.new.seat c.load.ensures.told.0 c.load.ensures.made _ c.split_seat-one.ensures.left in
+    marked_met _ _ (subst (λ (p : View × View). StandTogether (first_of p.0 ∷ first_of p.1 ∷ [])) (λ k. (sym (ap (λ m. m.0.view) one) k, sym (ap (λ m. m.0.view) other) k)) together)

@@ -1,7 +1,8 @@
 use Rattle.std.proofs.Common.{subst, arith}
 use Rattle.grub_table.specs.Between.{Tells}
 use Rattle.grub_table.specs.Tellings.{StoredParams}
-use Rattle.grub_table.proofs.Between.{tells_of}
+use Rattle.grub_table.specs.declared.view.Access.TheVariants.{Store}
+use Rattle.grub_table.proofs.Between.{made_at, tells_of}
 use Rattle.grub_table.proofs.Seated.{word_within, on_store_params}
 use Rattle.grub_table.proofs.pass.Shared.store_params.Goals as goal
 
@@ -13,7 +14,10 @@ store-requires c =
     let h = c.requires.2 in
     (h.seat_of.home, word_within s seat c.args.t _ 2 h.task (omega arith) at, on_store_params s seat c.args.t _ _ _ h _ at)
 
-pub returns : goal.returns
-returns c =
+pub returns-clause-told : goal.returns-clause-told
+returns-clause-told c =
     let h = c.requires.2 in
-    subst (λ n. Tells c.args.self.now (StoredParams n) c.args.seat.now c.store.new.seat) c.pack_params.ensures (tells_of c.args.self.now _ c.args.seat.now _ h.seat_of c.store.ensures.0 c.store.ensures.2)
+    subst (λ n. Tells c.args.self.now (StoredParams n) c.args.seat.now c.store.new.seat) c.pack_params.ensures (tells_of c.args.self.now _ c.args.seat.now _ _ h.seat_of c.store.ensures.home c.store.ensures.told c.store.ensures.made)
+
+pub returns-clause-made : goal.returns-clause-made
+returns-clause-made c = made_at c.args.self.now c.args.seat.now c.store.new.seat Store _ _ c.requires.2.seat_of c.store.ensures.made c.params_word_at-at.ensures.value

@@ -1,7 +1,7 @@
 use Rattle.std.proofs.Common.{refl, sym, ◌∙◌, ap, ◌-◌, List, subst, arith}
 use Rattle.grub_wheel.specs.declared.timer.Timer.{Timer}
 use Rattle.grub_wheel.specs.declared.node.Node.{Node}
-use Rattle.grub_wheel.specs.Nodes.{timers_of, links, AreOthersKept}
+use Rattle.grub_wheel.specs.inside.Nodes.{timers_of, links, AreOthersKept}
 use Rattle.grub_wheel.proofs.NodeReads.{node_read, lent_back}
 use Rattle.grub_wheel.proofs.Apart.{bag_put}
 use Rattle.grub_wheel.proofs.FreePlaces.{free_head, some_free}

@@ -1,6 +1,6 @@
 use Rattle.std.proofs.Common.{◌≡◌, Some, sym, ◌∙◌, ap, ◌<◌, length}
 use Rattle.grub_wheel.specs.declared.node.Node.{Node}
-use Rattle.grub_wheel.specs.Nodes.{Armed, tasks, timers_of}
+use Rattle.grub_wheel.specs.inside.Nodes.{Armed, tasks, timers_of}
 use Rattle.grub_wheel.proofs.Apart.{look_is, look_not}
 use Rattle.grub_wheel.proofs.NodeReads.{node_read}
 use Rattle.grub_wheel.proofs.Views.{looks, is_armed}

@@ -1,6 +1,6 @@
 use Rattle.std.proofs.Common.{◌≡◌, Some, refl, sym, ◌∙◌, ap, ◌<◌, ◌+◌, List, length, subst, arith}
 use Rattle.grub_wheel.specs.declared.node.Node.{Node}
-use Rattle.grub_wheel.specs.Nodes.{Armed, tasks, timers_of, AreOthersKept}
+use Rattle.grub_wheel.specs.inside.Nodes.{Armed, tasks, timers_of, AreOthersKept}
 use Rattle.grub_wheel.proofs.Bags.{has_ticket, other_ticket, no_ticket}
 use Rattle.grub_wheel.proofs.NodeReads.{node_read, lent_back}
 use Rattle.grub_wheel.proofs.Apart.{look_is, look_not, bag_take}

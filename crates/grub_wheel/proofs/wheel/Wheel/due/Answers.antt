@@ -1,6 +1,6 @@
 use Rattle.std.proofs.Common.{◌≡◌, Some, refl, sym, ◌∙◌, ap, ◌<◌, ◌+◌, List, length, subst, arith}
 use Rattle.grub_wheel.specs.declared.node.Node.{Node}
-use Rattle.grub_wheel.specs.Nodes.{moments, timers_of, AreOthersKept}
+use Rattle.grub_wheel.specs.inside.Nodes.{moments, timers_of, AreOthersKept}
 use Rattle.grub_wheel.proofs.NodeReads.{node_read, lent_back}
 use Rattle.grub_wheel.proofs.Apart.{bag_take}
 use Rattle.grub_wheel.proofs.Scans.{armed_within}

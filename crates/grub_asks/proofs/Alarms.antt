@@ -1,0 +1,106 @@
+-- The timers of a worker, as its entries tell of them.
+use Rattle.std.proofs.Common.{◌≡◌, ℕ, ◌<◌, ◌≤◌, Bool, true, false, cond, nat_eq, List, Option, Some, None, refl, sym, ap, ◌∙◌, ◌-◌, subst, unwrap_or, arith, eq-eqb}
+use Rattle.std.specs.Prelude.{option_map, is_some, IsTrue, IsSomeAnd, IfSome}
+use mathlib.Core.Logic.{dite}
+use native.Mathlib.Decide.{ℕ_discrete}
+use Rattle.std.specs.Bool.{OnTrue}
+use Rattle.std.specs.Ordering.{nat_cmp, eq_by_cmp}
+use Rattle.std.specs.FinMap as map
+use Rattle.std.proofs.lemmas.Bool.Decides.{nat_tests}
+use Rattle.std.proofs.lemmas.Cmp.{nat_cmp_total}
+use Rattle.grub_wheel.specs.declared.timer.Timer.{Timer as WheelTimer}
+use Rattle.grub_wheel.specs.TimerBag.{TimerBag, WheelState, IsArmed, IsArmedWith, IsLeast, AreLater, after_taking}
+use Rattle.grub_book.specs.declared.op.Op.{Op}
+use Rattle.grub_book.specs.declared.op.Op.TheVariants as ops
+use Rattle.grub_book.specs.declared.reply.Reply.TheVariants as replies
+use Rattle.grub_trace.specs.declared.entry.Answer.TheVariants as answers
+use Rattle.grub_trace.specs.declared.entry.Entry.{Entry}
+use Rattle.grub_asks.specs.Timers.{Alarm, leaves, disarms, arms, alarm_after, alarm_at, armed, touch_of_call, IsNextDue, NoneDue}
+use Rattle.grub_asks.specs.Keeping.{IsBlockBefore, IsTouched, alarm_of}
+
+key_eq : (u t : ℕ) → eq_by_cmp nat_cmp u t ≡ nat_eq u t
+key_eq u t = grind (arith, nat_tests)
+
+abbrev pub alarm : ℕ × ℕ → Alarm
+alarm p = record { z = p.0; ticket = p.1 }
+
+touched_none : (b : Bool) (o : Option (ℕ × ℕ)) → option_map alarm (cond b None o) ≡ alarm_after (cond b disarms leaves) (option_map alarm o)
+touched_none true o = refl
+touched_none false o = refl
+
+touched_some : (b : Bool) (z k : ℕ) (o : Option (ℕ × ℕ)) → option_map alarm (cond b (Some (z, k)) o) ≡ alarm_after (cond b (arms (alarm_at z k)) leaves) (option_map alarm o)
+touched_some true z k o = refl
+touched_some false z k o = refl
+
+-- a timer was taken out
+pub touched_removed : (old new : TimerBag) (t : ℕ) → new ≡ map.remove old t → IsTouched old new t disarms
+touched_removed old new t is u =
+    ap (λ m. alarm_of m u) is
+    ∙ ap (option_map alarm) (map.get-remove nat_cmp_total old t u ∙ ap (λ b. cond b None (map.get old u)) (key_eq u t))
+    ∙ touched_none (nat_eq u t) (map.get old u)
+
+pub removed_none : (old new : TimerBag) (t : ℕ) → new ≡ map.remove old t → map.get new t ≡ None
+removed_none old new t is = ap (λ m. map.get m t) is ∙ map.get-remove nat_cmp_total old t t ∙ ap (λ b. cond b None (map.get old t)) (key_eq t t ∙ eq-eqb t t refl)
+
+both_touched : (b : Bool) (a : Option Alarm) (new : Alarm) → alarm_after (cond b (arms new) leaves) (alarm_after (cond b disarms leaves) a) ≡ alarm_after (cond b (arms new) leaves) a
+both_touched true a new = refl
+both_touched false a new = refl
+
+-- a timer was armed in place of another
+pub touched_armed : (old between new : TimerBag) (t z k : ℕ) → IsTouched old between t disarms → new ≡ map.insert between t (z, k) → IsTouched old new t (arms (alarm_at z k))
+touched_armed old between new t z k before is u =
+    ap (λ m. alarm_of m u) is
+    ∙ ap (option_map alarm) (map.get-insert nat_cmp_total between t (z, k) u ∙ ap (λ b. cond b (Some (z, k)) (map.get between u)) (key_eq u t))
+    ∙ touched_some (nat_eq u t) z k (map.get between u)
+    ∙ ap (alarm_after (cond (nat_eq u t) (arms (alarm_at z k)) leaves)) (before u)
+    ∙ both_touched (nat_eq u t) (alarm_of old u) (alarm_at z k)
+
+-- `cancel` took out a timer that was armed with its ticket
+pub cancelled : (old new : WheelState) (x : WheelTimer) (t : ℕ) (answer : Bool) → IsArmed old.timers x → x.t ≡ t → (IsArmedWith old.timers t x.ticket → IsTrue answer) → OnTrue answer (new ≡ after_taking old t) → new ≡ after_taking old t
+cancelled old new x t answer armed is if_armed taken =
+    let at : map.get old.timers t ≡ Some (x.z, x.ticket) = subst (λ u. map.get old.timers u ≡ Some (x.z, x.ticket)) is armed in
+    let same : IsArmedWith old.timers t x.ticket = subst (λ (o : Option (ℕ × ℕ)). IsSomeAnd o (λ p. p.1 ≡ x.ticket)) (sym at) refl in
+    go answer (if_armed same) taken
+  where
+    go : (b : Bool) → IsTrue b → OnTrue b (new ≡ after_taking old t) → new ≡ after_taking old t
+    go true on f = f
+    go false on f = absurd (cc)
+
+-- ---- a block that waits
+pub later_than : (last : Option ℕ) (z : ℕ) → ((m : ℕ) → last ≡ Some m → m < z) → IfSome last (λ m. m < z)
+later_than None z f = tt
+later_than (Some m) z f = f m refl
+
+pub touch_waits : (op : Op) (z ticket : ℕ) → IsBlockBefore z op → touch_of_call op (answers.Replied (replies.Waiting ticket z)) ≡ arms (alarm_at z ticket)
+touch_waits (ops.Block r m) z ticket h = refl
+touch_waits op z ticket h = absurd h
+
+-- ---- timers that are due
+len_some : (timers : TimerBag) (t : ℕ) (p : ℕ × ℕ) → map.get timers t ≡ Some p → 1 ≤ map.len timers
+len_some timers t p at = dite (ℕ_discrete (map.len timers) 0)
+    (λ none. let empty : map.get timers t ≡ None = ap (λ m. map.get m t) (map.empty_of_len timers none) ∙ map.get-empty nat_cmp t in absurd (cc))
+    (λ some. omega (arith, some))
+
+-- a wheel has one timer less where one was taken out
+pub len_taken : (old new : TimerBag) (x : WheelTimer) → IsArmed old x → new ≡ map.remove old x.t → map.len new < map.len old
+len_taken old new x armed is =
+    let some = len_some old x.t (x.z, x.ticket) armed in
+    let less : map.len new ≡ map.len old - 1 = ap map.len is ∙ map.len-remove nat_cmp_total old x.t ∙ ap (λ (o : Option (ℕ × ℕ)). cond (is_some o) (map.len old - 1) (map.len old)) armed in
+    omega (arith, less, some)
+
+from_alarm : (o : Option (ℕ × ℕ)) (z k : ℕ) → option_map alarm o ≡ Some (alarm_at z k) → o ≡ Some (z, k)
+from_alarm None z k is = absurd (cc)
+from_alarm (Some p) z k is =
+    let same : alarm p ≡ alarm_at z k = ap (λ o. unwrap_or o (alarm_at 0 0)) is in
+    λ i. Some ((same i).z, (same i).ticket)
+
+-- the timer that `due` took out is the next one that the entries leave
+pub next_due : (timers : TimerBag) (entries : List Entry) (m : ℕ) (x : WheelTimer) → ((t : ℕ) → alarm_of timers t ≡ armed entries t) → IsArmed timers x → x.z ≤ m → IsLeast timers x → IsNextDue (armed entries) m x.z x.t x.ticket
+next_due timers entries m x same at due least = record {
+  armed = sym (same x.t) ∙ ap (option_map alarm) at;
+  due = due;
+  least = λ z t k there low. least (record { z = z; t = t; ticket = k }) (from_alarm (map.get timers t) z k (same t ∙ there));
+}
+
+pub none_due : (timers : TimerBag) (entries : List Entry) (m : ℕ) → ((t : ℕ) → alarm_of timers t ≡ armed entries t) → AreLater timers m → NoneDue (armed entries) m
+none_due timers entries m same later z t k there = later (record { z = z; t = t; ticket = k }) (from_alarm (map.get timers t) z k (same t ∙ there))

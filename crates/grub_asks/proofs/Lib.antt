@@ -1,0 +1,6 @@
+pub mod Alarms
+pub mod Waits
+pub mod Kept
+pub mod Lines
+pub mod Starts
+pub mod Alike

@@ -1,0 +1,41 @@
+-- What one line asks.
+use Rattle.std.proofs.Common.{◌≡◌, ℕ, List, [], ◌∷◌, ◌++◌, refl, sym, ap, ◌∙◌}
+use Rattle.std.specs.Prelude.{Result, Ok, Err, IfOk}
+use Rattle.grub_book.specs.declared.op.Op.{Op}
+use Rattle.grub_trace.specs.declared.line.Line.{Line}
+use Rattle.grub_trace.specs.declared.line.Act.{Act}
+use Rattle.grub_trace.specs.declared.line.Act.TheVariants as acts
+use Rattle.grub_trace.specs.declared.entry.Ask.TheVariants.{Call, Read}
+use Rattle.grub_trace.specs.declared.entry.Answer.{Answer}
+use Rattle.grub_trace.specs.declared.entry.Entry.{Entry}
+use Rattle.grub_asks.specs.Asked.{AsksDue, AsksLine, Follows, GoesOn, ask_of, entry}
+
+pub if_ok_weaker : {X E : Type 0} (P Q : X → Type 0) (r : Result X E) → ((x : X) → P x → Q x) → IfOk r P → IfOk r Q
+if_ok_weaker P Q (Ok x) f h = f x h
+if_ok_weaker P Q (Err e) f h = tt
+
+-- a reading asks nothing more
+read_follows : (r m : ℕ) (act : Act) (answer : Answer) (es : List Entry) → ask_of r m act ≡ Read → Follows r m act answer es es
+read_follows r m acts.Read answer es is = refl
+read_follows r m act answer es is = absurd (cc)
+
+pub line_read : (r : ℕ) (line : Line) (before due after : List Entry) → AsksDue line.m before due → ask_of r line.m line.act ≡ Read → GoesOn line.m Read due after → AsksLine r before line after
+line_read r line before due after timers is goes_on = record {
+  due = due;
+  answer = goes_on.answer;
+  asked = after;
+  timers = timers;
+  line_asked = goes_on.list ∙ ap (λ ask. due ++ entry line.m ask goes_on.answer ∷ []) (sym is);
+  follows = read_follows r line.m line.act goes_on.answer after is;
+}
+
+pub line_called : (r : ℕ) (line : Line) (t : ℕ) (op : Op) (answer : Answer) (before due asked after : List Entry) → AsksDue line.m before due → ask_of r line.m line.act ≡ Call t op → asked ≡ due ++ entry line.m (Call t op) answer ∷ []
+    → Follows r line.m line.act answer asked after → AsksLine r before line after
+line_called r line t op answer before due asked after timers is list follows = record {
+  due = due;
+  answer = answer;
+  asked = asked;
+  timers = timers;
+  line_asked = list ∙ ap (λ ask. due ++ entry line.m ask answer ∷ []) (sym is);
+  follows = follows;
+}

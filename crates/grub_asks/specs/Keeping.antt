@@ -1,0 +1,50 @@
+-- What an answer does to a wheel, and the wheel that keeps the timers of a list of entries.
+use Rattle.std.specs.Prelude.{◌≡◌, ◌<◌, ℕ, Option, Some, option_map, nat_eq, if◌then◌else◌, List, length}
+use Rattle.std.specs.FinMap as map
+use Rattle.grub_book.specs.Machine.{Machine}
+use Rattle.grub_book.specs.declared.op.Op.{Op}
+use Rattle.grub_book.specs.declared.op.Op.TheVariants as ops
+use Rattle.grub_book.specs.declared.reply.Reply.TheVariants as replies
+use Rattle.grub_trace.specs.declared.entry.Answer.{Answer}
+use Rattle.grub_trace.specs.declared.entry.Answer.TheVariants as answers
+use Rattle.grub_trace.specs.declared.entry.Entry.{Entry}
+use Rattle.grub_wheel.specs.TimerBag.{TimerBag}
+use Rattle.grub_asks.specs.Timers.{Alarm, Touch, leaves, alarm_after, armed}
+
+-- the timer of a task, as entries tell of it
+abbrev pub alarm_of : TimerBag → ℕ → Option Alarm
+alarm_of timers t = option_map (λ (p : ℕ × ℕ). record { z = p.0; ticket = p.1 }) (map.get timers t)
+
+-- the wheel has the timers that the entries leave, all of tasks that are there
+pub record IsKept (s : Machine) (entries : List Entry) (timers : TimerBag) : Type 0 where
+  pub armed_are : (t : ℕ) → alarm_of timers t ≡ armed entries t
+  pub tasks : (t : ℕ) (a : Alarm) → armed entries t ≡ Some a → t < length s.tasks
+
+-- what an answer did to the timers: that of task t was touched so, and the others stay
+abbrev pub IsTouched : TimerBag → TimerBag → ℕ → Touch → Type 0
+IsTouched old new t touch = (u : ℕ) → alarm_of new u ≡ alarm_after (if nat_eq u t then touch else leaves) (alarm_of old u)
+
+abbrev pub IsBlock : Op → Type 0
+IsBlock (ops.Block r m) = Unit {0}
+IsBlock op = ⊥
+
+-- an op of a script, and not of a timer
+abbrev pub IsNoTimer : Op → Type 0
+IsNoTimer (ops.Timer ticket m) = ⊥
+IsNoTimer op = Unit {0}
+
+-- only a block waits, for a moment that is still to come
+abbrev pub IsBlockBefore : ℕ → Op → Type 0
+IsBlockBefore z (ops.Block r m) = m < z
+IsBlockBefore z op = ⊥
+
+abbrev pub WaitsRightly : Op → Answer → Type 0
+WaitsRightly op answer = (ticket z : ℕ) → answer ≡ answers.Replied (replies.Waiting ticket z) → IsBlockBefore z op
+
+-- an op that a line at moment m asks for
+abbrev pub IsLineOp : ℕ → Op → Type 0
+IsLineOp m (ops.Join r k) = k ≡ m
+IsLineOp m (ops.Wake r k) = k ≡ m
+IsLineOp m (ops.Block r k) = k ≡ m
+IsLineOp m (ops.Timer ticket k) = ⊥
+IsLineOp m op = Unit {0}

@@ -1,0 +1,4 @@
+pub mod Timers
+pub mod Asked
+pub mod Answers
+pub mod Keeping

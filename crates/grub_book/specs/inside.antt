@@ -1,0 +1,2 @@
+-- What the code of the book stands on, and no public contract cites.
+pub mod Standings

@@ -1,0 +1,125 @@
+//! Why a trace was not converted, and the program's status then.
+
+ghost use Rattle.std.specs.Prelude.{◌≡◌};
+ghost use Rattle.grub_convert.specs.Faults.{status_of};
+
+use grub_facts::{LineFault, Wrong};
+use std::io;
+use std::io::Write;
+
+/// The trace is at fault, or a file is there already.
+pub const STATUS_FILE: u8 = 1;
+
+/// The command line is wrong.
+pub const STATUS_USAGE: u8 = 2;
+
+/// Memory, a file or a writer failed.
+pub const STATUS_SYSTEM: u8 = 3;
+
+/// Why a trace was not converted.
+#[derive(Debug, Drop)]
+pub enum TraceFault<'a> {
+    /// 50 to 52, 54 and 55: the first line with a fault.
+    Line {
+        path: &'a str,
+        fault: LineFault,
+    },
+    /// 49: a task was given that the trace does not show.
+    NoSuchTask {
+        path: &'a str,
+        name: &'a str,
+    },
+    /// 53: no timer of any kind was recorded, so nothing can be compared.
+    NoTimers {
+        path: &'a str,
+    },
+    /// 57: the book has no room for what the trace tells; without a line for a server of fair tasks.
+    Overfull {
+        path: &'a str,
+        line: Option<u64>,
+        name: String,
+    },
+    /// 56: a file would be written over.
+    FileExists {
+        path: String,
+    },
+    /// 45: what is told could not be written.
+    Write,
+    /// 46: the trace cannot be read.
+    Unreadable {
+        path: &'a str,
+    },
+    /// 47: no memory for what the trace tells.
+    NoMemory,
+    /// 48: no memory for a text.
+    NoText,
+}
+
+impl TraceFault<'_> {
+    /// The program's status.
+    pub fn status(&self) -> u8
+        ensures { result ≡ status_of self.now }
+    {
+        match self {
+            TraceFault::Line { .. }
+            | TraceFault::NoSuchTask { .. }
+            | TraceFault::NoTimers { .. }
+            | TraceFault::Overfull { .. }
+            | TraceFault::FileExists { .. } => STATUS_FILE,
+            _ => STATUS_SYSTEM,
+        }
+    }
+
+    /// Writes the line that tells it.
+    pub fn tell<E: Write>(&self, to: &mut E) -> io::Result<()> {
+        match self {
+            TraceFault::Line { path, fault } => tell_line(to, path, fault),
+            TraceFault::NoSuchTask { path, name } => {
+                writeln!(to, "grubtrace: {path}: 49 NoSuchTask {name}")
+            }
+            TraceFault::NoTimers { path } => writeln!(to, "grubtrace: {path}: 53 NoTimers"),
+            TraceFault::Overfull { path, line, name } => {
+                tell_overfull(to, path, *line, name.as_str())
+            }
+            TraceFault::FileExists { path } => {
+                let path = path.as_str();
+                writeln!(to, "grubtrace: {path}: 56 FileExists")
+            }
+            TraceFault::Write => to.write_all(b"grubtrace: 45 WriteFault\n"),
+            TraceFault::Unreadable { path } => writeln!(to, "grubtrace: {path}: 46 ReadFault"),
+            TraceFault::NoMemory => to.write_all(b"grubtrace: 47 NoMemory\n"),
+            TraceFault::NoText => to.write_all(b"grubtrace: 48 NoMemory\n"),
+        }
+    }
+}
+
+/// Writes the line of a task that was not given; its comm may be no text.
+fn tell_unknown<E: Write>(to: &mut E, comm: &[u8], pid: u64) -> io::Result<()> {
+    to.write_all(b"50 UnknownTask ")?;
+    to.write_all(comm)?;
+    writeln!(to, " (pid {pid})")
+}
+
+fn tell_overfull<E: Write>(
+    to: &mut E,
+    path: &str,
+    line: Option<u64>,
+    name: &str,
+) -> io::Result<()> {
+    match line {
+        Some(line) => writeln!(to, "grubtrace: {path}:{line}: 57 Overfull {name}"),
+        None => writeln!(to, "grubtrace: {path}: 57 Overfull {name}"),
+    }
+}
+
+fn tell_line<E: Write>(to: &mut E, path: &str, fault: &LineFault) -> io::Result<()> {
+    let line = fault.line;
+    write!(to, "grubtrace: {path}:{line}: ")?;
+    match &fault.wrong {
+        Wrong::UnknownTask { comm, pid } => tell_unknown(to, comm, *pid),
+        Wrong::WrongClock => to.write_all(b"51 WrongClock\n"),
+        Wrong::LostEvents => to.write_all(b"52 LostEvents\n"),
+        Wrong::TooLong => to.write_all(b"54 TooLong\n"),
+        Wrong::BadTraceLine => to.write_all(b"55 BadTraceLine\n"),
+    }
+}

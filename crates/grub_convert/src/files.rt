@@ -1,0 +1,199 @@
+//! The event files of a trace.
+
+ghost use Rattle.std.specs.Prelude.{◌≡◌, ◌<◌, ◌↔◌, All, IsTrue, IfOk, IfErr, OnOk, length, map};
+ghost use Rattle.grub_trace.specs.Reading.{contents};
+ghost use Rattle.grub_events.specs.Order.{FirstBeyond, is_beyond};
+ghost use Rattle.grub_convert.specs.Files.{AreFiles, IsSetting, IsFault, IsSound, events_told, files_of, is_shown, missing_from, name_in, params_in, reservation_of, text_of};
+ghost use Rattle.std.specs.Prelude.{None, find, option_map};
+
+use crate::options::{Given, Options};
+use grub_bw::Params;
+use grub_events::{
+    Declared, OrderFault, Placed, Setting, event_file, names_of, place_facts, queue_of,
+};
+use grub_facts::{Fact, Facts, Found};
+use std::alloc::{AllocError, Global};
+
+/// Why a trace tells no event files.
+#[derive(Clone, Copy, Debug)]
+pub enum FilesFault<'a> {
+    /// 54: the event of this line passes the limits of event files, before any other fault.
+    TooLong { line: u64 },
+    /// The fault of the trace's own lines.
+    Line,
+    /// 49: the first given task that the trace does not show.
+    NoSuchTask { name: &'a str },
+    /// No memory for the events.
+    NoMemory,
+    /// No memory for the texts.
+    NoText,
+}
+
+/// Whether each fact is one of so many tasks.
+fn are_given(facts: &[Fact], tasks: usize) -> bool
+    ensures { IsTrue result ↔ All (λ f. f.task < tasks) facts.now }
+{
+    facts.iter().all(|fact| fact.task < tasks)
+}
+
+/// The events of a trace at their moments.
+fn place(alloc: Global, facts: &Facts) -> Result<Vec<Placed>, OrderFault>
+    ensures placed { IfOk result (λ v. v.items ≡ events_told facts.now) }
+    ensures within { IfOk result (λ v. find (is_beyond facts.now.runqueues) v.items ≡ None) }
+    ensures beyond { IfErr result (FirstBeyond facts.now.runqueues (events_told facts.now)) }
+{
+    let tasks = facts.found.len();
+    if !are_given(&facts.facts, tasks) {
+        return Err(OrderFault::NoMemory);
+    }
+    place_facts(alloc, facts.runqueues, tasks, &facts.facts)
+}
+
+/// Whether the trace shows the task of a number.
+fn is_shown(found: &[Option<Found>], i: usize) -> bool
+    ensures { result ≡ is_shown found.now i }
+{
+    matches!(found.get(i), Some(Some(_)))
+}
+
+/// The first given task that the trace does not show.
+fn missing<'a>(tasks: &[Given<'a>], found: &[Option<Found>]) -> Option<&'a str>
+    ensures { option_map text_of result ≡ missing_from found.now 0 tasks.now }
+{
+    for (i, task) in tasks.iter().enumerate() {
+        if !is_shown(found, i) {
+            return Some(task.name);
+        }
+    }
+    None
+}
+
+fn reservations(alloc: Global, tasks: &[Given<'_>]) -> Result<Vec<Params>, AllocError>
+    ensures { IfOk result (λ v. v.items ≡ map reservation_of tasks.now) }
+{
+    tasks.iter().map(|task| task.params).collect(alloc)
+}
+
+/// A task of the event files.
+fn declared(alloc: Global, name: &[u8], params: Params) -> Result<Declared, AllocError>
+    ensures name { IfOk result (λ d. name_in d ≡ name.now) }
+    ensures params { IfOk result (λ d. params_in d ≡ params) }
+{
+    let name = Vec::from_slice(alloc, name)?;
+    Ok(Declared { name, params })
+}
+
+/// The given tasks by their names.
+fn declarations(
+    alloc: Global,
+    names: &[Vec<u8>],
+    params: &[Params],
+) -> Result<Vec<Declared>, AllocError>
+    requires { length names.now ≡ length params.now }
+    ensures names { IfOk result (λ v. map name_in v.items ≡ contents names.now) }
+    ensures params { IfOk result (λ v. map params_in v.items ≡ params.now) }
+{
+    let mut tasks = Vec::new(alloc);
+    for i in 0..names.len() {
+        tasks.push(declared(alloc, &names[i], params[i])?)?;
+    }
+    Ok(tasks)
+}
+
+/// What the event files say beside the events. None of the numbers can pass the limits of a runqueue's constants, so
+/// want of memory is all that it is refused for.
+pub fn setting_of(
+    alloc: Global,
+    options: &Options<'_>,
+    facts: &Facts,
+) -> Result<Setting, AllocError>
+    ensures { IfOk result (IsSetting options.now facts.now) }
+{
+    let params = reservations(alloc, &options.tasks)?;
+    let names = names_of(alloc, facts.runqueues, &facts.found)?;
+    if facts.runqueues == 0 || params.len() > 4294967295 || names.len() != params.len() {
+        return Err(AllocError);
+    }
+    let tasks = declarations(alloc, &names, &params)?;
+    match queue_of(options.umax, options.fair, &params, facts.runqueues) {
+        Some(queue) => Ok(Setting {
+            queue,
+            fair: options.fair,
+            tasks,
+        }),
+        None => Err(AllocError),
+    }
+}
+
+/// The files of so many runqueues.
+fn texts(
+    alloc: Global,
+    setting: &Setting,
+    runqueues: u32,
+    placed: &[Placed],
+) -> Result<Vec<Vec<u8>>, AllocError>
+    ensures { IfOk result (λ v. contents v.items ≡ files_of setting.now placed.now runqueues) }
+{
+    let mut files = Vec::new(alloc);
+    for runqueue in 0..runqueues {
+        files.push(event_file(alloc, setting, runqueue, placed)?)?;
+    }
+    Ok(files)
+}
+
+/// The events that a trace tells, at their moments and in the order of its lines; or why there are none: the first fault
+/// of a line, and then the first given task that is not shown.
+pub fn events_told<'a>(
+    alloc: Global,
+    options: &Options<'a>,
+    facts: &Facts,
+) -> Result<Vec<Placed>, FilesFault<'a>>
+    ensures events { IfOk result (λ v. v.items ≡ events_told facts.now) }
+    ensures sound { OnOk result (IsSound options.now facts.now) }
+    ensures fault { IfErr result (IsFault options.now facts.now) }
+{
+    let placed = match place(alloc, facts) {
+        Ok(placed) => placed,
+        Err(OrderFault::TooLong { line }) => return Err(FilesFault::TooLong { line }),
+        Err(OrderFault::NoMemory) => return Err(FilesFault::NoMemory),
+    };
+    if facts.fault.is_some() {
+        return Err(FilesFault::Line);
+    }
+    if let Some(name) = missing(&options.tasks, &facts.found) {
+        return Err(FilesFault::NoSuchTask { name });
+    }
+    Ok(placed)
+}
+
+/// The files of these events.
+fn files_of_events(
+    alloc: Global,
+    options: &Options<'_>,
+    facts: &Facts,
+    placed: &[Placed],
+) -> Result<Vec<Vec<u8>>, AllocError>
+    requires { placed.now ≡ events_told facts.now }
+    ensures { IfOk result (λ v. AreFiles options.now facts.now (contents v.items)) }
+{
+    let setting = setting_of(alloc, options, facts)?;
+    let files = texts(alloc, &setting, facts.runqueues, placed)?;
+    Ok(files)
+}
+
+/// The event files of what a trace tells, one for each runqueue; or why there are none.
+pub fn event_files<'a>(
+    alloc: Global,
+    options: &Options<'a>,
+    facts: &Facts,
+) -> Result<Vec<Vec<u8>>, FilesFault<'a>>
+    ensures files { IfOk result (λ v. AreFiles options.now facts.now (contents v.items)) }
+    ensures sound { OnOk result (IsSound options.now facts.now) }
+    ensures fault { IfErr result (IsFault options.now facts.now) }
+{
+    let placed = events_told(alloc, options, facts)?;
+    match files_of_events(alloc, options, facts, &placed) {
+        Ok(files) => Ok(files),
+        Err(AllocError) => Err(FilesFault::NoText),
+    }
+}

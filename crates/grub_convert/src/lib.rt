@@ -1,0 +1,18 @@
+//! From a kernel trace to event files: what the words of the options say, a trace read in pieces, and its faults.
+#![tactic(auto)]
+
+mod census;
+mod fault;
+mod files;
+mod options;
+mod pieces;
+mod serving;
+
+pub use fault::{STATUS_FILE, STATUS_SYSTEM, STATUS_USAGE, TraceFault};
+pub use files::{FilesFault, event_files, events_told, setting_of};
+pub use options::{Given, Options, fair_of, options_of, params_of, task_of};
+pub use pieces::{Input, read_facts, read_tasks};
+pub use serving::{Target, explain, serve_events, serve_tasks, told_status};
+
+#[cfg(test)]
+mod tests;

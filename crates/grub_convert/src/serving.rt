@@ -1,0 +1,195 @@
+//! What the program does with a trace: it prints which tasks there are, or writes the event files.
+
+use crate::census::tasks_text;
+use crate::fault::TraceFault;
+use crate::files::{FilesFault, event_files};
+use crate::options::Options;
+use crate::pieces::{Input, read_facts, read_tasks};
+use grub_facts::{LineFault, Wrong};
+use std::alloc::{AllocError, Global};
+use std::io;
+use std::io::Write;
+
+/// How event files are written.
+#[derive(Drop)]
+pub struct Target<X, M> {
+    /// Whether there is something at a path.
+    pub exists: X,
+
+    /// Makes a file at a path with these bytes.
+    pub make: M,
+}
+
+/// The path of the event file of a runqueue.
+fn path_of(alloc: Global, prefix: &str, runqueue: usize) -> Result<String, AllocError> {
+    format!(in alloc; "{prefix}.cpu{runqueue}.grub")
+}
+
+fn paths_of(alloc: Global, prefix: &str, count: usize) -> Result<Vec<String>, AllocError> {
+    let mut paths = Vec::new(alloc);
+    for runqueue in 0..count {
+        paths.push(path_of(alloc, prefix, runqueue)?)?;
+    }
+    Ok(paths)
+}
+
+/// The first of these paths at which there is something.
+fn taken<'a, X: Fn(&str) -> bool>(
+    exists: &X,
+    paths: Vec<String>,
+) -> Result<Vec<String>, TraceFault<'a>>
+    requires { X.IsAlwaysCallable exists.now }
+{
+    let mut free = None;
+    for (i, path) in paths.iter().enumerate() {
+        if exists(path.as_str()) {
+            free = Some(i);
+            break;
+        }
+    }
+    let mut paths = paths;
+    match free {
+        Some(i) if i < paths.len() => Err(TraceFault::FileExists {
+            path: paths.remove(i),
+        }),
+        _ => Ok(paths),
+    }
+}
+
+fn write_files<'a, M: Fn(&str, &[u8]) -> io::Result<()>>(
+    make: &M,
+    paths: &[String],
+    files: &[Vec<u8>],
+) -> Result<(), TraceFault<'a>>
+    requires { M.IsAlwaysCallable make.now }
+{
+    for (path, bytes) in paths.iter().zip(files) {
+        if make(path.as_str(), bytes.as_slice()).is_err() {
+            return Err(TraceFault::Write);
+        }
+    }
+    Ok(())
+}
+
+/// The fault of the trace of a name that tells no event files, whose own lines have this one.
+pub fn explain<'a>(path: &'a str, fault: FilesFault<'a>, own: Option<LineFault>) -> TraceFault<'a> {
+    match (fault, own) {
+        (FilesFault::TooLong { line }, _) => TraceFault::Line {
+            path,
+            fault: LineFault {
+                line,
+                wrong: Wrong::TooLong,
+            },
+        },
+        (FilesFault::Line, Some(fault)) => TraceFault::Line { path, fault },
+        (FilesFault::NoSuchTask { name }, _) => TraceFault::NoSuchTask { path, name },
+        (FilesFault::NoText, _) => TraceFault::NoText,
+        (FilesFault::NoMemory, _) | (FilesFault::Line, None) => TraceFault::NoMemory,
+    }
+}
+
+/// Writes the event files of the trace of a name, none over a file that is there.
+fn write_events<
+    'a,
+    D: Drop,
+    O: Fn(&str) -> io::Result<D>,
+    N: Fn(&mut D, &mut [u8]) -> io::Result<usize>,
+    X: Fn(&str) -> bool,
+    M: Fn(&str, &[u8]) -> io::Result<()>,
+>(
+    alloc: Global,
+    input: &Input<O, N>,
+    target: &Target<X, M>,
+    path: &'a str,
+    prefix: &str,
+    options: &Options<'a>,
+) -> Result<(), TraceFault<'a>>
+    requires open { O.IsAlwaysCallable input.now.open }
+    requires read { N.IsAlwaysCallable input.now.read }
+    requires exists { X.IsAlwaysCallable target.now.exists }
+    requires make { M.IsAlwaysCallable target.now.make }
+{
+    let mut facts = read_facts(alloc, input, path, options)?;
+    let files = match event_files(alloc, options, &facts) {
+        Ok(files) => files,
+        Err(fault) => return Err(explain(path, fault, facts.fault.take())),
+    };
+    let Ok(paths) = paths_of(alloc, prefix, files.len()) else {
+        return Err(TraceFault::NoText);
+    };
+    let paths = taken(&target.exists, paths)?;
+    write_files(&target.make, &paths, &files)
+}
+
+/// Prints the tasks that the trace of a name shows.
+fn print_tasks<
+    'a,
+    D: Drop,
+    O: Fn(&str) -> io::Result<D>,
+    N: Fn(&mut D, &mut [u8]) -> io::Result<usize>,
+    W: Write,
+>(alloc: Global, input: &Input<O, N>, path: &'a str, out: &mut W) -> Result<(), TraceFault<'a>>
+    requires open { O.IsAlwaysCallable input.now.open }
+    requires read { N.IsAlwaysCallable input.now.read }
+{
+    let tasks = read_tasks(alloc, input, path)?;
+    let Ok(text) = tasks_text(alloc, &tasks) else {
+        return Err(TraceFault::NoText);
+    };
+    if out.write_all(&text).is_err() || out.flush().is_err() {
+        return Err(TraceFault::Write);
+    }
+    Ok(())
+}
+
+/// The status of a result, whose fault is told.
+pub fn told_status<E: Write>(done: Result<(), TraceFault<'_>>, faults: &mut E) -> u8 {
+    match done {
+        Ok(()) => 0,
+        Err(fault) => {
+            let _ = fault.tell(faults);
+            fault.status()
+        }
+    }
+}
+
+/// Prints the SCHED_DEADLINE tasks that the trace of a name shows, or the line of a fault, and gives the status.
+pub fn serve_tasks<
+    D: Drop,
+    O: Fn(&str) -> io::Result<D>,
+    N: Fn(&mut D, &mut [u8]) -> io::Result<usize>,
+    W: Write,
+    E: Write,
+>(alloc: Global, input: &Input<O, N>, path: &str, out: &mut W, faults: &mut E) -> u8
+    requires open { O.IsAlwaysCallable input.now.open }
+    requires read { N.IsAlwaysCallable input.now.read }
+{
+    let done = print_tasks(alloc, input, path, out);
+    told_status(done, faults)
+}
+
+/// Writes the event files of the trace of a name, or the line of a fault, and gives the status.
+pub fn serve_events<
+    D: Drop,
+    O: Fn(&str) -> io::Result<D>,
+    N: Fn(&mut D, &mut [u8]) -> io::Result<usize>,
+    X: Fn(&str) -> bool,
+    M: Fn(&str, &[u8]) -> io::Result<()>,
+    E: Write,
+>(
+    alloc: Global,
+    input: &Input<O, N>,
+    target: &Target<X, M>,
+    path: &str,
+    prefix: &str,
+    options: &Options<'_>,
+    faults: &mut E,
+) -> u8
+    requires open { O.IsAlwaysCallable input.now.open }
+    requires read { N.IsAlwaysCallable input.now.read }
+    requires exists { X.IsAlwaysCallable target.now.exists }
+    requires make { M.IsAlwaysCallable target.now.make }
+{
+    let done = write_events(alloc, input, target, path, prefix, options);
+    told_status(done, faults)
+}

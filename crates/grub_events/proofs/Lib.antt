@@ -1,0 +1,3 @@
+pub mod RuleLemmas
+pub mod OrderLemmas
+pub mod NameLemmas

@@ -1,0 +1,7 @@
+pub mod Convert
+pub mod Files
+pub mod Moved
+pub mod Names
+pub mod Order
+pub mod Rules
+pub mod Setting

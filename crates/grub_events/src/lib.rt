@@ -1,0 +1,26 @@
+//! From the facts of a kernel trace to event files: where each task woke, ran and blocked, by five rules.
+#![tactic(auto)]
+
+mod convert;
+mod event;
+mod files;
+mod landing;
+mod lists;
+mod moved;
+mod names;
+mod order;
+mod rules;
+mod setting;
+mod standing;
+
+pub use convert::place_facts;
+pub use event::{Act, Event, Placed, Source};
+pub use files::{Declared, Setting, event_file, file_events};
+pub use moved::{tasks_moved, wakes_moved};
+pub use names::{fair_name, names_of};
+pub use order::{OrderFault, Place};
+pub use setting::{queue_of, umax_of};
+pub use standing::Standing;
+
+#[cfg(test)]
+mod tests;

@@ -1,0 +1,157 @@
+//! From facts to events.
+
+ghost use Rattle.std.specs.Prelude.{◌≡◌, ◌<◌, ◌++◌, ◌∷◌, [], All, IfOk, OnOk, replicate};
+ghost use Rattle.grub_events.specs.Rules.{event_of, run_told, move_told, opening_told, told, told_all};
+ghost use Rattle.grub_events.specs.declared.standing.Standing.TheVariants.{Unseen};
+
+use crate::event::{Act, Event, Source};
+use crate::landing::destinations;
+use crate::lists::{at, put};
+use crate::standing::{Standing, whole_micros};
+use grub_facts::{Fact, Stop, What};
+use std::alloc::{AllocError, Global};
+
+/// What a fact tells of its task.
+fn event(fact: Fact, runqueue: u32, act: Act, source: Source) -> Event
+    ensures { result ≡ event_of fact runqueue act source }
+{
+    Event {
+        line: fact.line,
+        at: fact.at,
+        task: fact.task,
+        runqueue,
+        act,
+        source,
+    }
+}
+
+/// Puts what a run tells: nothing below a microsecond.
+fn put_run(
+    events: &mut Vec<Event>,
+    fact: Fact,
+    runqueue: u32,
+    micros: u64,
+) -> Result<(), AllocError>
+    ensures { OnOk result (events.new.items ≡ events.old.items ++ run_told fact runqueue micros) }
+{
+    if micros != 0 {
+        events.push(event(fact, runqueue, Act::Run { micros }, Source::Told))?;
+    }
+    Ok(())
+}
+
+/// Puts what the move of a ready task tells: it blocks where it was, and wakes where it is sent to.
+fn put_move(events: &mut Vec<Event>, fact: Fact, from: u32, to: u32) -> Result<(), AllocError>
+    ensures { OnOk result (events.new.items ≡ events.old.items ++ move_told fact from to) }
+{
+    if from != to {
+        events.push(event(fact, from, Act::Block, Source::Moving))?;
+        events.push(event(fact, to, Act::Wake, Source::Moving))?;
+    }
+    Ok(())
+}
+
+/// Puts a task that is first seen as it blocks.
+fn put_opening(events: &mut Vec<Event>, fact: Fact, runqueue: u32) -> Result<(), AllocError>
+    ensures { OnOk result (events.new.items ≡ events.old.items ++ opening_told fact runqueue) }
+{
+    events.push(event(fact, runqueue, Act::Join, Source::Opening))?;
+    events.push(event(fact, runqueue, Act::Block, Source::Opening))?;
+    Ok(())
+}
+
+/// Puts one event.
+fn put_one(
+    events: &mut Vec<Event>,
+    fact: Fact,
+    runqueue: u32,
+    act: Act,
+    source: Source,
+) -> Result<(), AllocError>
+    ensures { OnOk result (events.new.items ≡ events.old.items ++ event_of fact runqueue act source ∷ []) }
+{
+    events.push(event(fact, runqueue, act, source))?;
+    Ok(())
+}
+
+/// Puts what a fact tells of a task that stands so, and that is sent to this CPU before it runs or blocks.
+#[tactic(auto, unfolding(crate::specs::Rules::told))]
+fn put_told(
+    events: &mut Vec<Event>,
+    fact: Fact,
+    sent: Option<u32>,
+    standing: Standing,
+) -> Result<(), AllocError>
+    ensures { OnOk result (events.new.items ≡ events.old.items ++ told fact sent fact.what standing) }
+{
+    match (fact.what, standing) {
+        (What::Wakes { cpu }, Standing::Unseen) => {
+            put_one(events, fact, sent.unwrap_or(cpu), Act::Join, Source::Told)
+        }
+        (What::Wakes { cpu }, Standing::Asleep) => {
+            put_one(events, fact, sent.unwrap_or(cpu), Act::Wake, Source::Told)
+        }
+        (
+            What::Sent { cpu },
+            Standing::Awake {
+                runqueue,
+                ran: true,
+                rest: _,
+            },
+        ) => { put_move(events, fact, runqueue, cpu) }
+        (
+            What::Ran { nanos },
+            Standing::Awake {
+                runqueue,
+                ran: _,
+                rest,
+            },
+        ) => { put_run(events, fact, runqueue, whole_micros(rest, nanos).0) }
+        (
+            What::Stops {
+                cpu,
+                state: Stop::Blocks,
+            },
+            Standing::Unseen,
+        ) => { put_opening(events, fact, cpu) }
+        (
+            What::Stops {
+                cpu: _,
+                state: Stop::Blocks,
+            },
+            Standing::Awake {
+                runqueue,
+                ran: _,
+                rest: _,
+            },
+        ) => { put_one(events, fact, runqueue, Act::Block, Source::Told) }
+        (
+            What::Stops {
+                cpu: _,
+                state: Stop::Ends,
+            },
+            Standing::Awake {
+                runqueue,
+                ran: _,
+                rest: _,
+            },
+        ) => { put_one(events, fact, runqueue, Act::Block, Source::Ending) }
+        _ => Ok(()),
+    }
+}
+
+/// The events that the facts of so many tasks tell, in the order of the facts.
+pub fn events_of(alloc: Global, tasks: usize, facts: &[Fact]) -> Result<Vec<Event>, AllocError>
+    requires { All (λ f. f.task < tasks) facts.now }
+    ensures { IfOk result (λ v. v.items ≡ told_all (replicate tasks Unseen) facts.now) }
+{
+    let sent = destinations(alloc, tasks, facts)?;
+    let mut standings = Vec::from_elem(alloc, Standing::Unseen, tasks)?;
+    let mut events = Vec::new(alloc);
+    for (i, fact) in facts.iter().enumerate() {
+        let standing = at(&standings, fact.task, Standing::Unseen);
+        put_told(&mut events, *fact, at(&sent, i, None), standing)?;
+        put(&mut standings, fact.task, standing.after(fact.what));
+    }
+    Ok(events)
+}

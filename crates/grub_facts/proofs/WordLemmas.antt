@@ -1,0 +1,127 @@
+-- The words of a line.
+use Rattle.std.proofs.Common.{◌≡◌, ℕ, suc, ◌+◌, ◌-◌, ◌<◌, ◌≤◌, Bool, true, false, not, ◌&&◌, nat_eq, cond, ltb, List, [], ◌∷◌, length, take, drop, Option, Some, None, refl, sym, ◌∙◌, ap, arith, subst, unwrap_or}
+use Rattle.std.proofs.lemmas.List.Sums.{prefix_len-le-length}
+use Rattle.std.proofs.lemmas.List.{take_rest, length-drop}
+use Rattle.std.specs.List.{slice_split, onto_first, position, position_or_len, starts_with}
+use Rattle.std.proofs.lemmas.List.Splits.{slice_split_first}
+use Rattle.grub_facts.specs.Words.{is_space, place_from}
+use Rattle.std.proofs.lemmas.Bool.{ltb-true, ltb-false}
+
+-- a list has a first part
+pub has_part : {X : Type 0} (p : X → Bool) (xs : List X) → (y : List X) × (ys : List (List X)) × (slice_split p xs ≡ y ∷ ys)
+has_part p [] = ([], [], refl)
+has_part {X} p (x ∷ xs) =
+    let ih = has_part p xs in
+    elim (p x) as (λ b. (y : List X) × (ys : List (List X)) × (cond b ([] ∷ slice_split p xs) (onto_first x (slice_split p xs)) ≡ y ∷ ys)) [
+      | true ↦ ([], slice_split p xs, refl)
+      | false ↦ (x ∷ ih.0, ih.1, ap (onto_first x) ih.2)
+    ]
+
+none_passes : {X : Type 0} (p : X → Bool) (xs : List X) → length xs ≤ position_or_len p xs → slice_split p xs ≡ xs ∷ []
+none_passes p [] h = refl
+none_passes {X} p (x ∷ xs) h =
+    let go : (b : Bool) → p x ≡ b → cond b ([] ∷ slice_split p xs) (onto_first x (slice_split p xs)) ≡ (x ∷ xs) ∷ [] =
+    λ (b : Bool). elim b as (λ b. p x ≡ b → cond b ([] ∷ slice_split p xs) (onto_first x (slice_split p xs)) ≡ (x ∷ xs) ∷ []) [
+      | true ↦ λ e. absurd (let k : length (x ∷ xs) ≤ 0 = subst (λ (t : Bool). length (x ∷ xs) ≤ cond (not t) (1 + position_or_len p xs) 0) e h in omega arith)
+      | false ↦ λ e. ap (onto_first x) (none_passes p xs (let k : length (x ∷ xs) ≤ 1 + position_or_len p xs = subst (λ (t : Bool). length (x ∷ xs) ≤ cond (not t) (1 + position_or_len p xs) 0) e h in omega arith))
+    ] in
+    go (p x) refl
+
+pub rest_is : (xs : List ℕ) (k : ℕ) → take (length xs - k) (drop k xs) ≡ drop k xs
+rest_is xs k = take_rest xs k
+
+-- the parts, where the first element that passes is known
+pub split_none : (p : ℕ → Bool) (xs : List ℕ) → position p xs ≡ None → slice_split p xs ≡ xs ∷ []
+split_none p xs e = none_passes p xs (ltb-false _ _ (not_some (ltb (position_or_len p xs) (length xs)) (position_or_len p xs) e))
+  where
+    not_some : (b : Bool) (i : ℕ) → cond b (Some i) None ≡ None → b ≡ false
+    not_some true i e = absurd cc
+    not_some false i e = refl
+
+pub split_some : (p : ℕ → Bool) (xs : List ℕ) (i : ℕ) → position p xs ≡ Some i → slice_split p xs ≡ take i xs ∷ slice_split p (take (length xs - (i + 1)) (drop (i + 1) xs))
+split_some p xs i e =
+    let k = some_is (ltb (position_or_len p xs) (length xs)) (position_or_len p xs) i e in
+    let lt : position_or_len p xs < length xs = ltb-true _ _ k.0 in
+    let first : slice_split p xs ≡ take i xs ∷ slice_split p (drop (i + 1) xs) = subst (λ (j : ℕ). slice_split p xs ≡ take j xs ∷ slice_split p (drop (j + 1) xs)) k.1 (slice_split_first p xs 0 lt) in
+    rw (rest_is xs (i + 1)) first
+  where
+    some_is : (b : Bool) (i j : ℕ) → cond b (Some i) None ≡ Some j → (b ≡ true) × (i ≡ j)
+    some_is true i j e = (refl, cc)
+    some_is false i j e = absurd cc
+
+-- where nothing passes, all of a text does not
+pub none_len : (p : ℕ → Bool) (xs : List ℕ) → position p xs ≡ None → length xs ≤ position_or_len p xs
+none_len p xs e = ltb-false _ _ (not_some (ltb (position_or_len p xs) (length xs)) (position_or_len p xs) e)
+  where
+    not_some : (b : Bool) (i : ℕ) → cond b (Some i) None ≡ None → b ≡ false
+    not_some true i e = absurd cc
+    not_some false i e = refl
+
+-- the first place that passes
+pub some_len : (p : ℕ → Bool) (xs : List ℕ) (i : ℕ) → position p xs ≡ Some i → (i < length xs) × (i ≡ position_or_len p xs)
+some_len p xs i e =
+    let k = some_is (ltb (position_or_len p xs) (length xs)) (position_or_len p xs) i e in
+    let lt : position_or_len p xs < length xs = ltb-true _ _ k.0 in
+    let same : position_or_len p xs ≡ i = k.1 in
+    (omega arith, sym same)
+  where
+    some_is : (b : Bool) (i j : ℕ) → cond b (Some i) None ≡ Some j → (b ≡ true) × (i ≡ j)
+    some_is true i j e = (refl, cc)
+    some_is false i j e = absurd cc
+
+-- no space, no key
+pub place_none : (n : ℕ) (key xs : List ℕ) → length xs ≤ position_or_len is_space xs → place_from n key xs ≡ None
+place_none n key [] h = refl
+place_none n key (x ∷ xs) h =
+    let go : (b : Bool) → is_space x ≡ b → cond (b && starts_with nat_eq xs key) (Some n) (place_from (n + 1) key xs) ≡ None =
+    λ (b : Bool). elim b as (λ b. is_space x ≡ b → cond (b && starts_with nat_eq xs key) (Some n) (place_from (n + 1) key xs) ≡ None) [
+      | true ↦ λ e. absurd (let k : length (x ∷ xs) ≤ 0 = subst (λ (t : Bool). length (x ∷ xs) ≤ cond (not t) (1 + position_or_len is_space xs) 0) e h in omega arith)
+      | false ↦ λ e. place_none (n + 1) key xs (let k : length (x ∷ xs) ≤ 1 + position_or_len is_space xs = subst (λ (t : Bool). length (x ∷ xs) ≤ cond (not t) (1 + position_or_len is_space xs) 0) e h in omega arith)
+    ] in
+    go (is_space x) refl
+
+-- the key behind the first space, or behind a later one
+pub place_some : (n : ℕ) (key xs : List ℕ) (i m k : ℕ) → i ≡ position_or_len is_space xs → i < length xs → m ≡ n + i → k ≡ n + i + 1 → place_from n key xs ≡ cond (starts_with nat_eq (drop (suc i) xs) key) (Some m) (place_from k key (drop (suc i) xs))
+place_some n key [] i m k at lt em ek = absurd (omega arith)
+place_some n key (x ∷ xs) i m k at lt em ek =
+    let go : (b : Bool) → is_space x ≡ b → cond (b && starts_with nat_eq xs key) (Some n) (place_from (n + 1) key xs) ≡ cond (starts_with nat_eq (drop (suc i) (x ∷ xs)) key) (Some m) (place_from k key (drop (suc i) (x ∷ xs))) =
+    λ (b : Bool). elim b as (λ b. is_space x ≡ b → cond (b && starts_with nat_eq xs key) (Some n) (place_from (n + 1) key xs) ≡ cond (starts_with nat_eq (drop (suc i) (x ∷ xs)) key) (Some m) (place_from k key (drop (suc i) (x ∷ xs)))) [
+      | true ↦ λ e. (let here : i ≡ 0 = subst (λ (t : Bool). i ≡ cond (not t) (1 + position_or_len is_space xs) 0) e at in
+          let a : m ≡ n = omega arith in let b : k ≡ n + 1 = omega arith in rw (here, a, b) refl)
+      | false ↦ λ e. (let there : i ≡ 1 + position_or_len is_space xs = subst (λ (t : Bool). i ≡ cond (not t) (1 + position_or_len is_space xs) 0) e at in
+          let next : i ≡ suc (position_or_len is_space xs) = omega arith in
+          rw next (place_some (n + 1) key xs (position_or_len is_space xs) m k refl (omega arith) (omega arith) (omega arith)))
+    ] in
+    go (is_space x) refl
+
+-- one step of a search for a key
+pub place_step : (n : ℕ) (key xs : List ℕ) (i : ℕ) (b : Bool) → position is_space xs ≡ Some i → b ≡ starts_with nat_eq (take (length xs - (i + 1)) (drop (i + 1) xs)) key → place_from n key xs ≡ cond b (Some (n + i)) (place_from (n + (i + 1)) key (take (length xs - (i + 1)) (drop (i + 1) xs)))
+place_step n key xs i b at is =
+    let here = some_len is_space xs i at in
+    let same : suc i ≡ i + 1 = omega arith in
+    let step : place_from n key xs ≡ cond (starts_with nat_eq (drop (i + 1) xs) key) (Some (n + i)) (place_from (n + (i + 1)) key (drop (i + 1) xs)) =
+    subst (λ (j : ℕ). place_from n key xs ≡ cond (starts_with nat_eq (drop j xs) key) (Some (n + i)) (place_from (n + (i + 1)) key (drop j xs))) same (place_some n key xs i (n + i) (n + (i + 1)) here.1 here.0 refl (omega arith)) in
+    rw (is, rest_is xs (i + 1)) step
+
+-- no more elements than there are stand before the first that passes
+pub position_or_len-le : (p : ℕ → Bool) (xs : List ℕ) → position_or_len p xs ≤ length xs
+position_or_len-le p xs = prefix_len-le-length (λ x. not (p x)) xs
+
+-- the first place that passes, or the length where there is none
+pub unwrap_position : (p : ℕ → Bool) (xs : List ℕ) (n : ℕ) → n ≡ length xs → unwrap_or (position p xs) n ≡ position_or_len p xs
+unwrap_position p xs n all = go (ltb (position_or_len p xs) (length xs)) refl
+  where
+    go : (b : Bool) → ltb (position_or_len p xs) (length xs) ≡ b → unwrap_or (cond b (Some (position_or_len p xs)) None) n ≡ position_or_len p xs
+    go true e = refl
+    go false e = (let h : length xs ≤ position_or_len p xs = ltb-false _ _ e in let k : position_or_len p xs ≤ length xs = position_or_len-le p xs in omega arith)
+
+pub left_len : (xs : List ℕ) (k : ℕ) → length (take (length xs - k) (drop k xs)) ≡ length xs - k
+left_len xs k = ap length (rest_is xs k) ∙ length-drop k xs
+
+-- what is left of a text behind its first i bytes and one more
+pub left_sum : (n i t : ℕ) (xs : List ℕ) → i < length xs → n + length xs ≡ t → n + (i + 1) + length (take (length xs - (i + 1)) (drop (i + 1) xs)) ≡ t
+left_sum n i t xs lt all = (let k = left_len xs (i + 1) in omega arith)
+
+pub none_of : (o : Option ℕ) → ((x : ℕ) → o ≡ Some x → ⊥) → o ≡ None
+none_of None h = refl
+none_of (Some x) h = absurd (h x refl)

@@ -1,0 +1,11 @@
+pub mod Numbers
+pub mod Words
+pub mod Opening
+pub mod Head
+pub mod OpeningFits
+pub mod Events
+pub mod Lines
+pub mod Given
+pub mod Keeping
+pub mod Faults
+pub mod Reading

@@ -1,0 +1,227 @@
+//! The facts of the given tasks.
+
+ghost use Rattle.std.specs.Prelude.{◌≡◌, ◌++◌, IfOk, IsNone, IsSome, OnOk};
+ghost use Rattle.grub_facts.specs.Events.{event_text, said_text};
+ghost use Rattle.grub_facts.specs.Given.{fact_told, index_told, tasks_after, tasks_text, trouble_told, wake_trouble, move_trouble, what_told, kept_after, trouble_of};
+ghost use Rattle.grub_facts.specs.declared.keeper.Trouble.TheVariants.{Unknown};
+ghost use Rattle.grub_facts.specs.Keeping.{TellsTrouble, kept_text};
+
+use crate::event::{Event, Said, Shown};
+use crate::fact::{Fact, Found, What};
+use crate::fault::Wrong;
+use crate::given::{Tasks, is_sugov, stop_of};
+use std::alloc::{AllocError, Global};
+
+/// What is wrong with a line by the tasks that were given.
+#[derive(Clone, Copy, Debug, PartialEq, Eq)]
+pub enum Trouble {
+    /// Nothing.
+    NoTrouble,
+
+    /// A SCHED_DEADLINE task wakes that was not given.
+    Unknown,
+
+    /// A given one wakes on or is sent to a CPU that is no runqueue's.
+    TooLong,
+}
+
+/// The given tasks, and what was told of them so far.
+#[derive(Drop)]
+pub struct Keeper {
+    alloc: Global,
+    tasks: Tasks,
+    facts: Vec<Fact>,
+}
+
+fn what_told(own: u32, event: &Event<&[u8]>) -> Option<What>
+    ensures { result ≡ what_told own (event_text event.now) }
+{
+    match *event {
+        Event::Woken {
+            task: _,
+            is_deadline,
+            cpu,
+        } => if is_deadline {
+            Some(What::Wakes { cpu })
+        } else {
+            None
+        },
+        Event::Migrated {
+            task: _,
+            is_deadline,
+            cpu,
+        } => if is_deadline {
+            Some(What::Sent { cpu })
+        } else {
+            None
+        },
+        Event::Ran { task: _, nanos } => Some(What::Ran { nanos }),
+        Event::Switched {
+            task: _,
+            is_deadline,
+            state,
+        } => if is_deadline {
+            Some(What::Stops {
+                cpu: own,
+                state: stop_of(state),
+            })
+        } else {
+            None
+        },
+        Event::Armed {
+            timer: _,
+            pid: _,
+            expires,
+        } => Some(What::Armed { expires }),
+        Event::Started => None,
+        Event::Cancelled { timer: _ } => Some(What::Cancelled),
+        Event::Expired {
+            timer: _,
+            is_zero_lag: _,
+            now,
+        } => Some(What::Fired { now }),
+    }
+}
+
+fn wake_trouble(task: Option<usize>, cpu: u32, runqueues: u32) -> Trouble
+    ensures { result ≡ wake_trouble task cpu runqueues }
+{
+    match task {
+        None => Trouble::Unknown,
+        Some(_) => if runqueues <= cpu {
+            Trouble::TooLong
+        } else {
+            Trouble::NoTrouble
+        },
+    }
+}
+
+fn move_trouble(task: Option<usize>, cpu: u32, runqueues: u32) -> Trouble
+    ensures { result ≡ move_trouble task cpu runqueues }
+{
+    match task {
+        None => Trouble::NoTrouble,
+        Some(_) => if runqueues <= cpu {
+            Trouble::TooLong
+        } else {
+            Trouble::NoTrouble
+        },
+    }
+}
+
+fn trouble_told(event: &Event<&[u8]>, task: Option<usize>, runqueues: u32) -> Trouble
+    ensures { result ≡ trouble_told (event_text event.now) task runqueues }
+{
+    match *event {
+        Event::Woken {
+            task: shown,
+            is_deadline,
+            cpu,
+        } => if is_deadline && !is_sugov(shown.comm) {
+            wake_trouble(task, cpu, runqueues)
+        } else {
+            Trouble::NoTrouble
+        },
+        Event::Migrated {
+            task: _,
+            is_deadline,
+            cpu,
+        } => if is_deadline {
+            move_trouble(task, cpu, runqueues)
+        } else {
+            Trouble::NoTrouble
+        },
+        _ => Trouble::NoTrouble,
+    }
+}
+
+/// The task that an event shows, or none.
+fn shown_of<'a>(event: &Event<&'a [u8]>) -> Shown<&'a [u8]> {
+    match *event {
+        Event::Woken {
+            task,
+            is_deadline: _,
+            cpu: _,
+        } => task,
+        _ => Shown { comm: b"", pid: 0 },
+    }
+}
+
+/// The fault of a wake of a task that was not given.
+fn unknown(alloc: Global, event: &Event<&[u8]>) -> Result<Wrong, AllocError>
+    ensures { IfOk result (λ wrong. TellsTrouble (Some wrong) Unknown) }
+{
+    let task = shown_of(event);
+    let comm = Vec::from_slice(alloc, task.comm)?;
+    Ok(Wrong::UnknownTask {
+        comm,
+        pid: task.pid,
+    })
+}
+
+impl Keeper {
+    /// A keeper of the tasks with these names.
+    pub fn new(alloc: Global, names: &[&[u8]]) -> Result<Keeper, AllocError> {
+        let tasks = Tasks::new(alloc, names)?;
+        Ok(Keeper {
+            alloc,
+            tasks,
+            facts: Vec::new(alloc),
+        })
+    }
+
+    fn tell(
+        &mut self,
+        line: u64,
+        at: u64,
+        task: Option<usize>,
+        what: Option<What>,
+    ) -> Result<(), AllocError>
+        ensures facts { OnOk result (self.new.facts.items ≡ self.old.facts.items ++ fact_told line at task what) }
+        ensures tasks { tasks_text self.new.tasks ≡ tasks_text self.old.tasks }
+    {
+        if let Some(task) = task {
+            if let Some(what) = what {
+                self.facts.push(Fact {
+                    line,
+                    at,
+                    task,
+                    what,
+                })?;
+            }
+        }
+        Ok(())
+    }
+
+    /// Takes what a line says, and answers what is wrong with it.
+    pub fn take(
+        &mut self,
+        line: u64,
+        said: &Said<&[u8]>,
+        runqueues: u32,
+    ) -> Result<Option<Wrong>, AllocError>
+        ensures fault { IfOk result (λ wrong. TellsTrouble wrong (trouble_of (said_text said.now) (kept_text self.old).tasks runqueues)) }
+        ensures kept { IfOk result (λ wrong. IsNone wrong → kept_text self.new ≡ kept_after line (said_text said.now) (kept_text self.old)) }
+    {
+        let task = self.tasks.note(line, &said.event)?;
+        match trouble_told(&said.event, task, runqueues) {
+            Trouble::Unknown => Ok(Some(unknown(self.alloc, &said.event)?)),
+            Trouble::TooLong => Ok(Some(Wrong::TooLong)),
+            Trouble::NoTrouble => {
+                self.tell(line, said.at, task, what_told(said.cpu, &said.event))?;
+                Ok(None)
+            }
+        }
+    }
+
+    /// The facts, and where each given task was first shown.
+    pub fn finish(self) -> Result<(Vec<Fact>, Vec<Option<Found>>), AllocError> {
+        let Keeper {
+            alloc: _,
+            tasks,
+            facts,
+        } = self;
+        let found = tasks.finish()?;
+        Ok((facts, found))
+    }
+}

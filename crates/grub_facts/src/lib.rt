@@ -1,0 +1,26 @@
+//! What the text of a kernel trace tells of SCHED_DEADLINE tasks.
+#![tactic(auto)]
+
+mod census;
+mod event;
+mod fact;
+mod fact_lines;
+mod fault;
+mod field;
+mod given;
+mod head;
+mod keeper;
+mod line;
+mod number;
+mod opening;
+mod reader;
+#[cfg(test)]
+mod tests;
+mod words;
+
+pub use census::{Census, Counted};
+pub use event::{Event, Said, Shown};
+pub use fact::{Counts, Fact, Facts, Found, Stop, What};
+pub use fault::{Flaw, LineFault, Wrong};
+pub use line::{Line, line_of};
+pub use reader::{FactReader, TaskReader};

@@ -1,0 +1,9 @@
+//! Files that may have a bounded number of bytes, read by calls that the program hands over.
+#![tactic(auto)]
+
+mod input;
+
+pub use input::{FILE_BYTES_MAX, FileFault, Source, read_all, read_file};
+
+#[cfg(test)]
+mod tests;

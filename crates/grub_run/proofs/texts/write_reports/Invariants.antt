@@ -1,0 +1,11 @@
+use Rattle.std.proofs.Common.{◌≤◌, take, vec_capacity, []}
+use Rattle.grub_trace.specs.declared.pieces.TheConstants.{LINE_MAX}
+use Rattle.grub_trace.specs.Writing.{HandsOn}
+use Rattle.grub_run.specs.Written.{texts_from}
+use Rattle.grub_run.proofs.texts.write_reports.Given as goal
+
+abbrev pub invariant-loop-r : goal.invariant-loop-r
+invariant-loop-r g l = record {
+  room : LINE_MAX ≤ vec_capacity l.buffer;
+  so_far : HandsOn (g.W.Write.contents l.initial.out) (g.W.Write.contents l.out) [] (texts_from l.plan.names 0 (take l.r l.reports) (take l.r l.closing)) l.buffer.items;
+}

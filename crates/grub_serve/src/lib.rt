@@ -1,0 +1,15 @@
+//! From the names of event files to printed reports, or to the line of a fault and a status.
+#![tactic(auto)]
+
+mod fault;
+mod reports;
+mod serving;
+mod views;
+
+pub use fault::{ProgramFault, STATUS_FILE, STATUS_SYSTEM};
+pub use reports::print_reports;
+pub use serving::{serve_files, serve_view};
+pub use views::print_view;
+
+#[cfg(test)]
+mod tests;

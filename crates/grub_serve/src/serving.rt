@@ -1,0 +1,88 @@
+//! The reports of files, a view of them, or the line of a fault, and the program's status.
+
+ghost use Rattle.std.specs.Prelude.{◌≡◌, ◌≤◌, ◌⊎◌};
+ghost use Rattle.grub_serve.specs.Faults.{names_of, status_of};
+ghost use Rattle.grub_serve.specs.Printed.{HasFileFault, PrintsBeginning, PrintsReports, PrintsView, PrintsViewBeginning};
+
+use crate::fault::{ProgramFault, STATUS_FILE, STATUS_SYSTEM};
+use crate::reports::print_reports;
+use crate::views::print_view;
+use grub_files::Source;
+use grub_show::View;
+use std::alloc::Global;
+use std::io;
+use std::io::Write;
+use std::sync::Wait;
+use std::thread::Threads;
+
+/// Prints the reports of the files of these names to `out`, or the line of a fault to `faults`, and gives the status:
+/// 0 for reports, `STATUS_FILE` or `STATUS_SYSTEM` for a fault.
+pub fn serve_files<
+    R: Threads + Wait,
+    D: Drop,
+    O: Fn(&str) -> io::Result<D>,
+    N: Fn(&mut D, &mut [u8]) -> io::Result<usize>,
+    W: Write,
+    E: Write,
+>(
+    rt: &R,
+    alloc: Global,
+    tries: u8,
+    rounds: u16,
+    source: &Source<O, N>,
+    paths: &[&str],
+    out: &mut W,
+    faults: &mut E,
+) -> u8
+    requires rounds { 1 ≤ rounds }
+    requires open { O.IsAlwaysCallable source.now.open }
+    requires read { N.IsAlwaysCallable source.now.read }
+    ensures status { (result ≡ 0) ⊎ (result ≡ STATUS_FILE) ⊎ (result ≡ STATUS_SYSTEM) }
+    ensures done { result ≡ 0 → PrintsReports O.Fn N.Fn source.now tries (names_of paths.now) (W.contents out.old) (W.contents out.new) }
+    ensures file { result ≡ STATUS_FILE → HasFileFault O.Fn N.Fn source.now (names_of paths.now) }
+    ensures nothing { result ≡ STATUS_FILE → out.new ≡ out.old }
+    ensures failed { result ≡ STATUS_SYSTEM → (out.new ≡ out.old) ⊎ PrintsBeginning O.Fn N.Fn source.now tries (names_of paths.now) (W.contents out.old) (W.contents out.new) }
+{
+    match print_reports(rt, alloc, tries, rounds, source, paths, out) {
+        Ok(()) => 0,
+        Err(fault) => tell(&fault, faults),
+    }
+}
+
+/// Prints a view of the time line of the files of these names to `out`, or the line of a fault to `faults`, and gives the
+/// status: 0 for the view, `STATUS_FILE` or `STATUS_SYSTEM` for a fault.
+pub fn serve_view<
+    D: Drop,
+    O: Fn(&str) -> io::Result<D>,
+    N: Fn(&mut D, &mut [u8]) -> io::Result<usize>,
+    W: Write,
+    E: Write,
+>(
+    alloc: Global,
+    view: View,
+    source: &Source<O, N>,
+    paths: &[&str],
+    out: &mut W,
+    faults: &mut E,
+) -> u8
+    requires open { O.IsAlwaysCallable source.now.open }
+    requires read { N.IsAlwaysCallable source.now.read }
+    ensures status { (result ≡ 0) ⊎ (result ≡ STATUS_FILE) ⊎ (result ≡ STATUS_SYSTEM) }
+    ensures done { result ≡ 0 → PrintsView O.Fn N.Fn source.now view (names_of paths.now) (W.contents out.old) (W.contents out.new) }
+    ensures file { result ≡ STATUS_FILE → HasFileFault O.Fn N.Fn source.now (names_of paths.now) }
+    ensures nothing { result ≡ STATUS_FILE → out.new ≡ out.old }
+    ensures failed { result ≡ STATUS_SYSTEM → (out.new ≡ out.old) ⊎ PrintsViewBeginning O.Fn N.Fn source.now view (names_of paths.now) (W.contents out.old) (W.contents out.new) }
+{
+    match print_view(alloc, view, source, paths, out) {
+        Ok(()) => 0,
+        Err(fault) => tell(&fault, faults),
+    }
+}
+
+/// Prints the line of a fault, and gives its status.
+fn tell<E: Write>(fault: &ProgramFault<'_>, faults: &mut E) -> u8
+    ensures { result ≡ status_of fault.now }
+{
+    let _ = writeln!(faults, "grubrun: {fault}");
+    fault.status()
+}

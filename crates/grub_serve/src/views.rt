@@ -1,0 +1,52 @@
+//! From the names of event files to a view of their time line.
+
+ghost use Rattle.std.specs.Prelude.{◌≡◌, IfErr, OnOk};
+ghost use Rattle.grub_run.specs.declared.fault.GrubFault.TheVariants as run_faults;
+ghost use Rattle.grub_serve.specs.declared.fault.ProgramFault.TheVariants as faults;
+ghost use Rattle.grub_serve.specs.Faults.{Tells, names_of};
+ghost use Rattle.grub_serve.specs.Printed.{PrintsView, PrintsViewBeginning};
+
+use crate::fault::ProgramFault;
+use crate::reports::{FILES_MAX, placed, read_files, too_many};
+use grub_files::Source;
+use grub_show::{View, write_view};
+use std::alloc::Global;
+use std::io;
+use std::io::Write;
+
+/// Reads the files of these names, plays them on one time line, and prints a view of it.
+///
+/// The bytes of at most 64 files are kept at a time.
+pub fn print_view<
+    'a,
+    D: Drop,
+    O: Fn(&str) -> io::Result<D>,
+    N: Fn(&mut D, &mut [u8]) -> io::Result<usize>,
+    W: Write,
+>(
+    alloc: Global,
+    view: View,
+    source: &Source<O, N>,
+    paths: &[&'a str],
+    out: &mut W,
+) -> Result<(), ProgramFault<'a>>
+    requires open { O.IsAlwaysCallable source.now.open }
+    requires read { N.IsAlwaysCallable source.now.read }
+    ensures done { OnOk result (PrintsView O.Fn N.Fn source.now view (names_of paths.now) (W.contents out.old) (W.contents out.new)) }
+    ensures fault { IfErr result (Tells O.Fn N.Fn source.now (names_of paths.now)) }
+    // On every fault but that of the writer nothing was printed, and on that one a beginning of the view.
+    ensures nothing { IfErr result (λ e. (e ≡ faults.Run run_faults.WriteFault → ⊥) → out.new ≡ out.old) }
+    ensures beginning { IfErr result (λ e. e ≡ faults.Run run_faults.WriteFault → PrintsViewBeginning O.Fn N.Fn source.now view (names_of paths.now) (W.contents out.old) (W.contents out.new)) }
+{
+    if paths.len() > FILES_MAX {
+        return Err(too_many(alloc, source, paths));
+    }
+    let files = match read_files(alloc, source, paths) {
+        Ok(files) => files,
+        Err(fault) => return Err(fault),
+    };
+    match write_view(alloc, &files, view, out) {
+        Ok(()) => Ok(()),
+        Err(fault) => Err(placed(paths, fault)),
+    }
+}

@@ -1,0 +1,41 @@
+-- The text of a view of the time line of files, and what a writer took of it.
+use Rattle.std.specs.Prelude.{◌≡◌, ◌<◌, ◌^◌, ℕ, List, length, Option}
+use Rattle.std.specs.Io.KnownBytes.{Appends}
+use Rattle.grub_book.specs.declared.event.Reading.{Reading}
+use Rattle.grub_run.specs.Written.{AppendsPrefix}
+use Rattle.grub_timeline.specs.TimeLines.{IsTimeLine}
+use Rattle.grub_timeline.specs.declared.told.Told.{Told}
+use Rattle.grub_trace.specs.Meaning.{Reads}
+use Rattle.grub_trace.specs.Naming.{plan_of}
+use Rattle.grub_trace.specs.Plans.{PlanView}
+use Rattle.grub_trace.specs.Tree.{Tree}
+use Rattle.grub_views.specs.Lines.{timeline_lines}
+use Rattle.grub_views.specs.Replay.{steps_of}
+use Rattle.grub_views.specs.Rows.{step_rows}
+use Rattle.grub_views.specs.Summary.{summary_text}
+use Rattle.grub_show.specs.declared.view.View.{View}
+use Rattle.grub_show.specs.declared.view.View.TheVariants.{Timeline, Steps, Summary, Picture}
+
+-- The text is a view of these entries and closing readings. Of a picture this says its size alone.
+abbrev pub IsViewOf : View → PlanView → List Told → List Reading → List ℕ → Type 0
+IsViewOf Timeline plan told closing text = text ≡ timeline_lines plan.names told closing
+IsViewOf Steps plan told closing text = text ≡ step_rows plan.names (steps_of plan.setup told)
+IsViewOf Summary plan told closing text = text ≡ summary_text plan.setup plan.names (steps_of plan.setup told)
+IsViewOf Picture plan told closing text = length text < 2 ^ 22
+
+-- the text is that of a view of the time line of these files
+pub record IsShown (view : View) (files : List (List ℕ)) (text : List ℕ) : Type 0 where
+  pub trees : List Tree
+  pub read : Reads files trees
+  pub told : List Told
+  pub closing : List Reading
+  pub line : IsTimeLine (plan_of trees) told closing
+  pub whole : IsViewOf view (plan_of trees) told closing text
+
+-- what was written is such a text, and nothing else
+abbrev pub Shows : View → List (List ℕ) → Option (List ℕ) → Option (List ℕ) → Type 0
+Shows view files old new = (text : List ℕ) × IsShown view files text × Appends old new text
+
+-- what was written is a beginning of such a text
+abbrev pub ShowsBeginning : View → List (List ℕ) → Option (List ℕ) → Option (List ℕ) → Type 0
+ShowsBeginning view files old new = (text : List ℕ) × IsShown view files text × AppendsPrefix old new text

@@ -1,0 +1,129 @@
+-- How many accesses the steps of a call make together.
+use Rattle.std.proofs.Common.{◌≡◌, ◌≢◌, ◌⊎◌, ℕ, zero, suc, ◌+◌, ◌*◌, ◌<◌, ◌≤◌, Bool, true, false, cond, List, [], ◌∷◌, ◌++◌, length, Some, sym, refl, ap, ◌∙◌, subst, ⊎_elim, arith, append_assoc, append-nil, length-append, eqb, eq-eqb}
+use Rattle.std.proofs.lemmas.List.Sums.{sum_by-append}
+use Rattle.std.proofs.lemmas.Bool.{ne_eqb}
+use Rattle.grub_book.specs.declared.place.Record.{Record}
+use Rattle.grub_book.specs.declared.reply.Reply.{Reply}
+use Rattle.grub_table.specs.declared.pass.Claim.{Claim}
+use Rattle.grub_table.specs.declared.pass.Finished.{Finished}
+use Rattle.grub_table.specs.declared.pass.Shared.{Shared}
+use Rattle.grub_table.specs.declared.pass.Finished.TheVariants.{Done, Held}
+use Rattle.grub_table.specs.declared.view.Access.{Access}
+use Rattle.grub_table.specs.declared.view.Access.TheVariants.{Load, Store, Exchange}
+use Rattle.grub_table.specs.Accesses.{is_exchange_of, exchanges_of, lost_tries, FinishesBriefly, StartsBriefly}
+use Rattle.grub_table.specs.Brief.{StoresFew, TriesOnce}
+use Rattle.grub_table.specs.Calls.{claim_changes_sum, IsFinished, IsWithin}
+use Rattle.grub_table.proofs.Tries.{is_not}
+
+exchanges_more : (w : ℕ) (xs ys : List Access) → exchanges_of w (xs ++ ys) ≡ exchanges_of w xs + exchanges_of w ys
+exchanges_more w xs ys = sum_by-append (λ x. cond (is_exchange_of w x) 1 0) xs ys
+
+-- an access of the word itself counts, and one of another word does not
+counts_one : (w : ℕ) → ◌≡◌ {A = ℕ} (cond (eqb w w) 1 0) 1
+counts_one w = ap (λ b. cond b 1 0) (eq-eqb w w refl)
+
+counts_none : (v w : ℕ) → v ≢ w → ◌≡◌ {A = ℕ} (cond (eqb v w) 1 0) 0
+counts_none v w other = ap (λ b. cond b 1 0) (ne_eqb v w other)
+
+-- ---- stores
+pub stores_none : (before after : List Access) → after ≡ before → StoresFew 1 before after
+stores_none before after is = record { made = []; grown = is ∙ sym (append-nil before); stores = λ w. refl; few = omega arith }
+
+pub stores_one : (before after : List Access) (w : ℕ) → after ≡ before ++ Store w ∷ [] → StoresFew 1 before after
+stores_one before after w is = record { made = Store w ∷ []; grown = is; stores = λ v. refl; few = omega arith }
+
+pub stores_then : (most : ℕ) (before mid after : List Access) (w : ℕ) → StoresFew most before mid → after ≡ mid ++ Store w ∷ [] → StoresFew (most + 1) before after
+stores_then most before mid after w s is =
+    let few = s.few in record {
+      made = s.made ++ Store w ∷ [];
+      grown = is ∙ ap (λ l. l ++ Store w ∷ []) s.grown ∙ append_assoc before s.made (Store w ∷ []);
+      stores = λ v. let none = s.stores v in omega (arith, exchanges_more v s.made (Store w ∷ []), none);
+      few = omega (arith, few, length-append s.made (Store w ∷ []));
+    }
+
+-- ---- a call that is made
+-- with these accesses, and then at most two stores
+module _ (w v : ℕ) (before mid after : List Access) (first : List Access) (to_mid : mid ≡ before ++ first) (s : StoresFew 2 mid after) where
+  all_grown : after ≡ before ++ (first ++ s.made)
+  all_grown = s.grown ∙ ap (λ l. l ++ s.made) to_mid ∙ append_assoc before first s.made
+
+  pub made_briefly : (tries : ℕ) (sum : Bool) → exchanges_of w first ≤ tries → (sum ≡ false → exchanges_of w first ≡ 0) → length first ≤ 2 * exchanges_of w first + 2 → FinishesBriefly w tries sum before after
+  made_briefly tries sum tried quiet few =
+      let none = s.stores w in
+      let most = s.few in
+      let all : exchanges_of w (first ++ s.made) ≡ exchanges_of w first = omega (arith, exchanges_more w first s.made, none) in
+      record {
+        made = first ++ s.made;
+        grown = all_grown;
+        tried = omega (arith, all, tried);
+        quiet = λ is. all ∙ quiet is;
+        few = omega (arith, all, few, most, length-append first s.made);
+      }
+
+-- by a try
+pub made_by_try : (w v : ℕ) (sum : Bool) (p : Record × Reply) (before one two after : List Access) → TriesOnce w sum (Some p) before one → two ≡ one ++ Store v ∷ [] → StoresFew 2 two after → FinishesBriefly w 1 sum before after
+made_by_try w v sum p before one two after try to_two s = ⊎_elim
+    (λ (at_load : one ≡ before ++ Load w ∷ []).
+    let here : two ≡ before ++ (Load w ∷ Store v ∷ []) = to_two ∙ ap (λ l. l ++ Store v ∷ []) at_load ∙ append_assoc before (Load w ∷ []) (Store v ∷ []) in
+    made_briefly w v before two after (Load w ∷ Store v ∷ []) here s 1 sum (omega arith) (λ _. refl) (omega arith))
+    (λ (won : (one ≡ before ++ Load w ∷ Exchange w true ∷ []) × (sum ≡ true)).
+    let here : two ≡ before ++ (Load w ∷ Exchange w true ∷ Store v ∷ []) = to_two ∙ ap (λ l. l ++ Store v ∷ []) won.0 ∙ append_assoc before (Load w ∷ Exchange w true ∷ []) (Store v ∷ []) in
+    let count : exchanges_of w (Load w ∷ Exchange w true ∷ Store v ∷ []) ≡ 1 = omega (arith, counts_one w) in
+    made_briefly w v before two after (Load w ∷ Exchange w true ∷ Store v ∷ []) here s 1 sum (omega (arith, count)) (λ off. is_not won.1 off) (omega (arith, count)))
+    try
+
+-- by a store
+pub made_by_store : (w v tries : ℕ) (sum : Bool) (before mid after : List Access) → mid ≡ before ++ Store v ∷ [] → StoresFew 2 mid after → FinishesBriefly w tries sum before after
+made_by_store w v tries sum before mid after is s = made_briefly w v before mid after (Store v ∷ []) is s tries sum (omega arith) (λ _. refl) (omega arith)
+
+-- ---- lost tries
+lost_next : (w n : ℕ) → lost_tries w (suc n) ≡ lost_tries w n ++ Load w ∷ Exchange w false ∷ []
+lost_next w zero = refl
+lost_next w (suc n) = ap (λ l. Load w ∷ Exchange w false ∷ l) (lost_next w n)
+
+lost_exchanges : (w n : ℕ) → exchanges_of w (lost_tries w n) ≡ n
+lost_exchanges w zero = refl
+lost_exchanges w (suc n) = omega (arith, exchanges_more w (Load w ∷ Exchange w false ∷ []) (lost_tries w n), counts_one w, lost_exchanges w n)
+
+lost_length : (w n : ℕ) → length (lost_tries w n) ≡ 2 * n
+lost_length w zero = refl
+lost_length w (suc n) = let rest = lost_length w n in omega arith
+
+pub lost_more : (w v n : ℕ) (before mid after : List Access) → v ≡ w → mid ≡ before ++ lost_tries w n → after ≡ mid ++ lost_tries v 1 → after ≡ before ++ lost_tries w (n + 1)
+lost_more w v n before mid after same one two =
+    let next : n + 1 ≡ suc n = omega arith in
+    two ∙ ap (λ u. mid ++ lost_tries u 1) same ∙ ap (λ l. l ++ lost_tries w 1) one ∙ append_assoc before (lost_tries w n) (lost_tries w 1) ∙ ap (λ l. before ++ l) (sym (lost_next w n)) ∙ ap (λ m. before ++ lost_tries w m) (sym next)
+
+-- a call that is made after lost tries
+pub lost_then : (w v n tries : ℕ) (sum on : Bool) (before mid after : List Access) → v ≡ w → mid ≡ before ++ lost_tries w n → n < tries → sum ≡ true → FinishesBriefly v 1 on mid after → FinishesBriefly w tries sum before after
+lost_then w v n tries sum on before mid after same one lt is f' =
+    let f : FinishesBriefly w 1 on mid after = subst (λ u. FinishesBriefly u 1 on mid after) same f' in
+    let tried = f.tried in
+    let few = f.few in
+    let all : exchanges_of w (lost_tries w n ++ f.made) ≡ n + exchanges_of w f.made = omega (arith, exchanges_more w (lost_tries w n) f.made, lost_exchanges w n) in
+    record {
+      made = lost_tries w n ++ f.made;
+      grown = f.grown ∙ ap (λ l. l ++ f.made) one ∙ append_assoc before (lost_tries w n) f.made;
+      tried = omega (arith, all, tried, lt);
+      quiet = λ off. is_not is off;
+      few = omega (arith, all, few, length-append (lost_tries w n) f.made, lost_length w n);
+    }
+
+-- an op that changes no sum makes no exchange, and so needs no try
+pub quiet_soon : (s : Shared) (c : Claim) (n m : ℕ) (r : Finished) → claim_changes_sum c ≡ false → IsFinished s c n r → IsWithin c n r → IsWithin c m r
+quiet_soon s c n m (Done q reply) off is f = let none = f.quiet off in record { made = f.made; grown = f.grown; tried = omega (arith, none); quiet = f.quiet; few = f.few }
+quiet_soon s c n m (Held d) off is f = is_not is.sum off
+
+-- ---- the start of a call that is early
+pub starts_early : (w p s : ℕ) (won : Bool) (before one two three after : List Access) → one ≡ before ++ Load w ∷ [] → two ≡ one ++ Exchange w won ∷ [] → three ≡ two ++ Load p ∷ Load s ∷ [] → after ≡ three ++ Store w ∷ [] → p ≡ w + 2 → s ≡ w + 1 → StartsBriefly w before after
+starts_early w p s won before one two three after a b c d at_p at_s =
+    let not_p = counts_none p w (λ same. omega (arith, same, at_p)) in
+    let not_s = counts_none s w (λ same. omega (arith, same, at_s)) in
+    record {
+      made = Load w ∷ Exchange w won ∷ Load p ∷ Load s ∷ Store w ∷ [];
+      grown = d ∙ ap (λ l. l ++ Store w ∷ []) (c ∙ ap (λ l. l ++ Load p ∷ Load s ∷ []) (b ∙ ap (λ l. l ++ Exchange w won ∷ []) a ∙ append_assoc before (Load w ∷ []) (Exchange w won ∷ [])) ∙ append_assoc before (Load w ∷ Exchange w won ∷ []) (Load p ∷ Load s ∷ []))
+          ∙ append_assoc before (Load w ∷ Exchange w won ∷ Load p ∷ Load s ∷ []) (Store w ∷ []);
+      load = omega (arith, counts_one w, not_p, not_s);
+      exchange = omega (arith, counts_one w);
+      few = omega arith;
+    }

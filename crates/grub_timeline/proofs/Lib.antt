@@ -1,0 +1,14 @@
+pub mod Entries
+pub mod Arming
+pub mod GoesOn
+pub mod Beginning
+pub mod Lining
+pub mod Sooner
+pub mod Merging
+pub mod Ending
+pub mod OneOrder
+pub mod Answering
+pub mod Only
+pub mod Rising
+pub mod Moments
+pub mod OneFile

@@ -1,0 +1,175 @@
+-- One more line of all files.
+use Rattle.std.proofs.Common.{◌≡◌, ◌⊎◌, ℕ, zero, suc, ◌+◌, ◌<◌, ◌≤◌, ◌==◌, ◌^◌, Bool, true, false, cond, unwrap_or, List, [], ◌∷◌, ◌++◌, length, get_or, set, take, Some, None, refl, sym, ap, ◌∙◌, subst, ⊎_elim, inl, inr, arith, eq-eqb, ne_eqb, get_or-set_other, append-nil}
+use Rattle.std.specs.Prelude.{slice_get, map, filter}
+use Rattle.std.specs.List.{AllByRecursion}
+use Rattle.std.proofs.lemmas.Fn.{FoldsTo-push}
+use Rattle.std.proofs.lemmas.List.{get_or-set_same, length-set, take_more}
+use Rattle.std.proofs.lemmas.Option.{get_or_from_slice_get, slice_get_within}
+use mathlib.Core.Logic.{dite}
+use native.Mathlib.Decide.{ℕ_discrete}
+use Rattle.grub_trace.specs.declared.line.Line.{Line}
+use Rattle.grub_trace.specs.Limits.{ActFits, PlanFits, ScriptFits}
+use Rattle.grub_trace.specs.Plans.{PlanView}
+use Rattle.grub_timeline.specs.declared.order.Placed.{Placed}
+use Rattle.grub_timeline.specs.declared.player.Player.{Player}
+use Rattle.grub_timeline.specs.Order.{IsNotLater, IsSorted, lines_of, script_at}
+use Rattle.grub_timeline.specs.TimeLines.{AsksPlaced}
+use Rattle.grub_timeline.specs.InsidePlaying.{IsNotPast, IsPlayed, IsPlaying}
+use Rattle.grub_timeline.specs.InsideMerge.{IsFirst, IsMidway, NoHead, head_at, left, placed}
+use Rattle.grub_timeline.proofs.Sooner.{head_within, not_later-trans}
+
+-- ---- lists of lines in their order
+pub each_push : {X : Type 0} (P : X → Type 0) (xs : List X) (x : X) → AllByRecursion P xs → P x → AllByRecursion P (xs ++ x ∷ [])
+each_push P [] x a p = (p, tt)
+each_push P (y ∷ ys) x a p = (a.0, each_push P ys x a.1 p)
+
+pub each_weaker : {X : Type 0} (P Q : X → Type 0) → ((x : X) → P x → Q x) → (xs : List X) → AllByRecursion P xs → AllByRecursion Q xs
+each_weaker P Q f [] a = tt
+each_weaker P Q f (x ∷ xs) a = (f x a.0, each_weaker P Q f xs a.1)
+
+sorted_push : (order : List Placed) (x : Placed) → IsSorted order → AllByRecursion (λ q. IsNotLater q x) order → IsSorted (order ++ x ∷ [])
+sorted_push [] x s a = (tt, tt)
+sorted_push (p ∷ ps) x s a = (each_push (IsNotLater p) ps x s.0 a.0, sorted_push ps x s.1 a.1)
+
+lines_more : (r : ℕ) (order : List Placed) (x : Placed) → lines_of r (order ++ x ∷ []) ≡ lines_of r order ++ cond (x.r == r) (x.line ∷ []) []
+lines_more r [] x = go (x.r == r)
+  where
+    go : (b : Bool) → map (λ (p : Placed). p.line) (cond b (x ∷ []) []) ≡ cond b (x.line ∷ []) []
+    go true = refl
+    go false = refl
+lines_more r (p ∷ ps) x = go (p.r == r) (lines_more r ps x)
+  where
+    go : (b : Bool) → lines_of r (ps ++ x ∷ []) ≡ lines_of r ps ++ cond (x.r == r) (x.line ∷ []) []
+        → map (λ (p : Placed). p.line) (cond b (p ∷ filter (λ (q : Placed). q.r == r) (ps ++ x ∷ [])) (filter (λ (q : Placed). q.r == r) (ps ++ x ∷ [])))
+        ≡ map (λ (p : Placed). p.line) (cond b (p ∷ filter (λ (q : Placed). q.r == r) ps) (filter (λ (q : Placed). q.r == r) ps)) ++ cond (x.r == r) (x.line ∷ []) []
+    go true is = ap (λ l. p.line ∷ l) is
+    go false is = is
+
+-- ---- scripts
+pub each_at : {X : Type 0} (P : X → Type 0) (xs : List X) (k : ℕ) (d : X) → AllByRecursion P xs → k < length xs → P (get_or xs k d)
+each_at P [] k d a low = absurd (omega (arith, low))
+each_at P (x ∷ xs) zero d a low = a.0
+each_at P (x ∷ xs) (suc k) d a low = each_at P xs k d a.1 (omega (arith, low))
+
+-- a line of a script keeps the limits, and so does the one after it
+pub record LineFits (n : ℕ) (line : Line) : Type 0 where
+  pub moment : line.m < 2 ^ 31
+  pub act : ActFits n line.act
+
+line_fits : (n low : ℕ) (script : List Line) (k : ℕ) (line : Line) → ScriptFits n low script → slice_get script k ≡ Some line → LineFits n line
+line_fits n low [] k line fits at = absurd (cc)
+line_fits n low (l ∷ ls) zero line fits at = let same : l ≡ line = from_some at in subst (LineFits n) same (record { moment = fits.1; act = fits.2 })
+  where
+    from_some : Some l ≡ Some line → l ≡ line
+    from_some is = ap (λ o. unwrap_or o l) is
+line_fits n low (l ∷ ls) (suc k) line fits at = line_fits n l.m ls k line fits.3 at
+
+next_after : (n low : ℕ) (script : List Line) (k : ℕ) (a b : Line) → ScriptFits n low script → slice_get script k ≡ Some a → slice_get script (k + 1) ≡ Some b → a.m ≤ b.m
+next_after n low [] k a b fits at then = absurd (cc)
+next_after n low (l ∷ []) zero a b fits at then = absurd (cc)
+next_after n low (l ∷ (m ∷ ls)) zero a b fits at then =
+    let first : l.m ≡ a.m = ap (λ o. (unwrap_or o l).m) at in
+    let second : m.m ≡ b.m = ap (λ o. (unwrap_or o m).m) then in
+    let up = fits.3.0 in omega (arith, first, second, up)
+next_after n low (l ∷ ls) (suc k) a b fits at then = let next : suc k + 1 ≡ suc (k + 1) = omega arith in next_after n l.m ls k a b fits.3 at (subst (λ i. slice_get (l ∷ ls) i ≡ Some b) next then)
+
+-- ---- how many lines are left
+left_less : (scripts : List (List Line)) (done : List ℕ) (r : ℕ) → r < length scripts → length done ≡ length scripts → get_or done r 0 < length (script_at scripts r) → left scripts (set done r (get_or done r 0 + 1)) < left scripts done
+left_less [] done r low many some = absurd (omega (arith, low))
+left_less (s ∷ ss) [] r low many some = absurd (omega (arith, many))
+left_less (s ∷ ss) (n ∷ ns) zero low many some = omega (arith, some)
+left_less (s ∷ ss) (n ∷ ns) (suc r) low many some = let less = left_less ss ns r (omega (arith, low)) (omega (arith, many)) some in omega (arith, less)
+
+-- ---- before the first line, and after the last one
+pub midway_first : (plan : PlanView) (p : Player) (done : List ℕ) → IsPlaying p → p.book.setup ≡ plan.setup → length done ≡ length plan.scripts → ((r : ℕ) → get_or done r 0 ≡ 0) → p.told.items ≡ [] → p.wheel.last ≡ None → IsMidway plan p done
+midway_first plan p done playing setup many zeros empty fresh = record {
+  playing = playing;
+  setup = setup;
+  one_each = many;
+  order = [];
+  sorted = tt;
+  lines = λ r. sym (ap (λ n. take n (script_at plan.scripts r)) (zeros r));
+  asked = sym empty;
+  after = λ r line at. (tt, λ k last. let bad : None ≡ Some k = sym fresh ∙ last in absurd (cc));
+}
+
+pub whole : {X : Type 0} (xs : List X) (k : ℕ) → slice_get xs k ≡ None → take k xs ≡ xs
+whole [] zero none = refl
+whole [] (suc k) none = refl
+whole (x ∷ xs) zero none = absurd (cc)
+whole (x ∷ xs) (suc k) none = ap (λ l. x ∷ l) (whole xs k none)
+
+pub played_of : (plan : PlanView) (p : Player) (done : List ℕ) → IsMidway plan p done → NoHead plan.scripts done → IsPlayed plan p
+played_of plan p done mid none = record {
+  setup = mid.setup;
+  known = mid.playing.told;
+  order = mid.order;
+  sorted = record { lines = λ r. mid.lines r ∙ whole (script_at plan.scripts r) (get_or done r 0) (none r); sorted = mid.sorted };
+  asked = mid.asked;
+}
+
+-- ---- one more line
+module _ (plan : PlanView) (p : Player) (done : List ℕ) (x : Placed) (fits : PlanFits plan) (mid : IsMidway plan p done) (first : IsFirst plan.scripts done x) where
+  pub there : x.r < length plan.scripts
+  there = head_within plan.scripts done x.r x.line first.head
+
+  pub fits_here : LineFits (length plan.setup.tasks) x.line
+  fits_here = line_fits (length plan.setup.tasks) 0 (script_at plan.scripts x.r) (get_or done x.r 0) x.line (each_at (ScriptFits (length plan.setup.tasks) 0) plan.scripts x.r [] fits.scripts there) first.head
+
+  pub less : left plan.scripts (set done x.r (get_or done x.r 0 + 1)) < left plan.scripts done
+  less = left_less plan.scripts done x.r there mid.one_each (slice_get_within (script_at plan.scripts x.r) (get_or done x.r 0) x.line first.head)
+
+  now_at : get_or (set done x.r (get_or done x.r 0 + 1)) x.r 0 ≡ get_or done x.r 0 + 1
+  now_at = let many = mid.one_each in let low = there in get_or-set_same done x.r (get_or done x.r 0 + 1) 0 (omega (arith, many, low))
+
+  lines_now : (r : ℕ) → lines_of r (mid.order ++ x ∷ []) ≡ take (get_or (set done x.r (get_or done x.r 0 + 1)) r 0) (script_at plan.scripts r)
+  lines_now r = dite (ℕ_discrete r x.r)
+      (λ same. subst (λ k. lines_of k (mid.order ++ x ∷ []) ≡ take (get_or (set done x.r (get_or done x.r 0 + 1)) k 0) (script_at plan.scripts k)) (sym same) own)
+      (λ other. lines_more r mid.order x ∙ ap (λ b. lines_of r mid.order ++ cond b (x.line ∷ []) []) (ne_eqb x.r r (λ is. other (sym is))) ∙ append-nil (lines_of r mid.order) ∙ mid.lines r
+      ∙ ap (λ n. take n (script_at plan.scripts r)) (sym (get_or-set_other done x.r r (get_or done x.r 0 + 1) 0 other)))
+    where
+      own : lines_of x.r (mid.order ++ x ∷ []) ≡ take (get_or (set done x.r (get_or done x.r 0 + 1)) x.r 0) (script_at plan.scripts x.r)
+      own =
+          let s = script_at plan.scripts x.r in let k = get_or done x.r 0 in
+          lines_more x.r mid.order x ∙ ap (λ b. lines_of x.r mid.order ++ cond b (x.line ∷ []) []) (eq-eqb x.r x.r refl) ∙ ap (λ l. l ++ x.line ∷ []) (mid.lines x.r)
+          ∙ ap (λ l. take k s ++ l ∷ []) (sym (get_or_from_slice_get s k x.line x.line first.head)) ∙ sym (take_more s k x.line (slice_get_within s k x.line first.head))
+          ∙ ap (λ n. take n s) (sym now_at)
+
+  -- the next line of this file comes after it, and those of the others do
+  comes_after : (r : ℕ) (line : Line) → head_at plan.scripts (set done x.r (get_or done x.r 0 + 1)) r ≡ Some line → IsNotLater x (placed r line)
+  comes_after r line head = dite (ℕ_discrete r x.r)
+      (λ same. own r line same (subst (λ k. head_at plan.scripts (set done x.r (get_or done x.r 0 + 1)) k ≡ Some line) same head))
+      (λ other. first.least r line (ap (λ n. slice_get (script_at plan.scripts r) n) (sym (get_or-set_other done x.r r (get_or done x.r 0 + 1) 0 other)) ∙ head))
+    where
+      later : (m : ℕ) → x.line.m ≤ m → (x.line.m < m) ⊎ (x.line.m ≡ m)
+      later m le = dite (ℕ_discrete x.line.m m) (λ same. inr same) (λ other. inl (omega (arith, le, other)))
+
+      own : (r : ℕ) (line : Line) → r ≡ x.r → head_at plan.scripts (set done x.r (get_or done x.r 0 + 1)) x.r ≡ Some line → IsNotLater x (placed r line)
+      own r line same head =
+          let s = script_at plan.scripts x.r in let k = get_or done x.r 0 in let n = length plan.setup.tasks in
+          let up = next_after n 0 s k x.line line (each_at (ScriptFits n 0) plan.scripts x.r [] fits.scripts there) first.head (ap (λ i. slice_get s i) (sym now_at) ∙ head) in
+          ⊎_elim (λ lt. inl lt) (λ eq. inr (eq, omega (arith, same))) (later line.m up)
+
+  pub midway_next : (q : Player) (now : List ℕ) → now ≡ set done x.r (get_or done x.r 0 + 1) → IsPlaying q → q.book.setup ≡ p.book.setup → q.wheel.last ≡ Some x.line.m → AsksPlaced p.told.items x q.told.items → IsMidway plan q now
+  midway_next q now is playing setup last asked = record {
+    playing = playing;
+    setup = setup ∙ mid.setup;
+    one_each = ap length is ∙ length-set done x.r (get_or done x.r 0 + 1) ∙ mid.one_each;
+    order = mid.order ++ x ∷ [];
+    sorted = sorted_push mid.order x mid.sorted before;
+    lines = λ r. lines_now r ∙ ap (λ (l : List ℕ). take (get_or l r 0) (script_at plan.scripts r)) (sym is);
+    asked = FoldsTo-push AsksPlaced [] mid.order _ x _ mid.asked asked;
+    after = λ r line head.
+        let then = comes_after r line (ap (λ (l : List ℕ). head_at plan.scripts l r) (sym is) ∙ head) in (
+          each_push (λ y. IsNotLater y (placed r line)) mid.order x (each_weaker (λ y. IsNotLater y x) (λ y. IsNotLater y (placed r line)) (λ y h. not_later-trans y x (placed r line) h then) mid.order before) then,
+          λ k at. not_past r line then k at,
+        );
+  }
+    where
+      before : AllByRecursion (λ y. IsNotLater y x) mid.order
+      before = (mid.after x.r x.line first.head).0
+
+      not_past : (r : ℕ) (line : Line) → IsNotLater x (placed r line) → IsNotPast line.m q
+      not_past r line then k at =
+          let same : x.line.m ≡ k = ap (λ o. unwrap_or o k) (sym last ∙ at) in
+          ⊎_elim (λ (lt : x.line.m < line.m). omega (arith, same, lt)) (λ (h : (x.line.m ≡ line.m) × (x.r ≤ r)). let eq = h.0 in omega (arith, same, eq)) then

@@ -1,0 +1,19 @@
+use Rattle.std.proofs.Common.{◌≡◌, List}
+use Rattle.std.specs.List.{FoldsTo}
+use Rattle.std.specs.FinMap as map
+use Rattle.grub_asks.specs.Asked.{AsksTimer, Timer}
+use Rattle.grub_timeline.specs.TimeLines.{entries_of}
+use Rattle.grub_timeline.specs.InsidePlaying.{GoesOnAt, IsNotPast, IsPlaying}
+use Rattle.grub_timeline.proofs.due.ask_due.Given as goal
+
+-- the timers that were asked for so far
+abbrev pub invariant-loop-timer : goal.invariant-loop-timer
+invariant-loop-timer l =
+    IsPlaying l.player
+    × IsNotPast l.m l.player
+    × (l.player.book.setup ≡ l.fn.player.book.setup)
+    × ((timers : List Timer) × FoldsTo (AsksTimer l.m) (entries_of l.fn.player.told.items) timers (entries_of l.player.told.items))
+    × GoesOnAt l.fn.player.told.items l.player.told.items
+
+abbrev pub decreases-loop-timer : goal.decreases-loop-timer
+decreases-loop-timer l = map.len l.player.wheel.timers

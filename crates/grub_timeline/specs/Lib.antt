@@ -1,0 +1,5 @@
+pub mod Order
+pub mod TimeLines
+pub mod Messages
+pub mod InsidePlaying
+pub mod InsideMerge

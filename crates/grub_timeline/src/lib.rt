@@ -1,0 +1,19 @@
+//! Event files on one time line: one book and one thread play the lines of all files in the order of their moments.
+#![tactic(auto)]
+
+mod armers;
+mod closing;
+mod due;
+mod fault;
+mod line;
+mod order;
+mod player;
+mod playing;
+#[cfg(test)]
+mod tests;
+mod told;
+
+pub use fault::PlayFault;
+pub use order::Placed;
+pub use playing::play;
+pub use told::{TimeLine, Told};

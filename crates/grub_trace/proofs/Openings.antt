@@ -1,0 +1,113 @@
+-- Faults of the first two lines of the first file: no later fault is in their place.
+use Rattle.std.proofs.Common.{◌≡◌, ℕ, ◌+◌, ◌-◌, ◌<◌, ◌≤◌, ◌⊎◌, inl, inr, List, [], ◌∷◌, length, get_or, drop, Result, Ok, Err, refl, sym, ap, ◌∙◌, arith, subst}
+use Rattle.std.specs.Global.{Vec}
+use Rattle.grub_bw.specs.Bandwidth.{Capacity}
+use Rattle.grub_trace.specs.declared.version.Version.{Version}
+use Rattle.grub_trace.specs.declared.fault.Kind.{Kind}
+use Rattle.grub_trace.specs.declared.fault.Halt.{Halt}
+use Rattle.grub_trace.specs.declared.fault.TraceFault.TheVariants as fault
+use Rattle.grub_trace.specs.declared.fault.TraceFault.{TraceFault}
+use Rattle.grub_trace.specs.declared.fault.Halt.TheVariants as halt
+use Rattle.grub_trace.specs.Halts.{fault_of}
+use Rattle.grub_trace.specs.Tree.{Declaration}
+use Rattle.grub_trace.specs.FirstFault.{parts_of, HeaderFault, QueueFault, FileFault, OpeningFault}
+use Rattle.grub_trace.specs.Reading.{Read, FileRead, AllRead, with_file, in_file, file_from, opened, read_queue, read_lines, read_second, read_file, read_from, at_line, ◌>>=◌, contents, GivesOpening, AnswersOpening}
+use Rattle.grub_trace.proofs.LineLemmas.{second_step, queue_then}
+use Rattle.grub_trace.proofs.Runs.{broke}
+use Rattle.grub_trace.proofs.AllLemmas.{drop_item}
+use Rattle.grub_trace.proofs.FileLaws.{bind_err}
+use Rattle.grub_trace.proofs.PlanLaws.{bind_err as bind_file_err, in_file_err, files_fault}
+use Rattle.grub_trace.proofs.FaultAgain.{file_fault_again}
+
+-- ---- the first two lines
+
+same_pair : {X : Type 0} (x y : Kind × ℕ) → ◌≡◌ {A = Result X (Kind × ℕ)} (Err x) (Err y) → x ≡ y
+same_pair x y e = cc
+
+-- the fault that reading gives
+pub opening_is : {U X : Type 0} (k : Kind) (n : ℕ) (total : Result X (Kind × ℕ)) → total ≡ Err (k, n) → GivesOpening {U = U} {X = X} (Err (halt.At k n)) total
+opening_is k n total is = λ j m le e. let p = same_pair (k, n) (j, m) (sym is ∙ e) in ap (λ (x : Kind × ℕ). Err (halt.At x.0 x.1)) p
+
+-- where reading stops later, if at all, the opening says nothing
+pub opening_late : {U X : Type 0} (r : Result U Halt) (total : Result X (Kind × ℕ)) → ((k : Kind) (n : ℕ) → total ≡ Err (k, n) → 3 ≤ n) → GivesOpening r total
+opening_late r total late = λ k n le e. absurd (let l = late k n e in omega arith)
+
+-- below a right second line nothing stops before line 3
+pub second_late : (version : Version) (ds : List Declaration) (text line rest : List ℕ) (q : Capacity) (k : Kind) (n : ℕ) → parts_of text ≡ line ∷ parts_of rest → read_queue line ≡ Ok q → read_second version ds (parts_of text) ≡ Err (k, n) → 3 ≤ n
+unfolding queue_then
+second_late version ds text line rest q k n parts queue e =
+    let whole : queue_then version ds line (parts_of rest) ≡ Err (k, n) = sym (ap (read_second version ds) parts ∙ second_step version ds line rest) ∙ e in
+    let g = λ (p : Capacity). read_lines (opened version ds) 3 (parts_of rest) >>= λ r. Ok (file_from p (3 + (length r.declared - length ds)) r) in
+    let below : g q ≡ Err (k, n) = sym (ap (λ (r : Result Capacity Kind). at_line 2 r >>= g) queue) ∙ whole in
+    elim (bind_err (read_lines (opened version ds) 3 (parts_of rest)) (λ r. Ok (file_from q (3 + (length r.declared - length ds)) r)) (k, n) below) [
+      | inl x ↦ let b = broke (parts_of rest) (opened version ds) 3 n k x in omega (arith, b.number)
+      | inr x ↦ absurd (let y = x.2 in cc)
+    ]
+
+-- ---- files
+
+abbrev Wrong : {X : Type 0} → Kind → ℕ → ℕ → Result X (Kind × ℕ × ℕ)
+Wrong k f n = Err (k, f, n)
+
+-- from file f on nothing stops in a file before it
+from_late : (files : List (List ℕ)) (all : AllRead) (f g : ℕ) (k : Kind) (n : ℕ) → read_from all f files ≡ Err (k, g, n) → f ≤ g
+from_late files all f g k n e = let u = files_fault files all f k g n e in omega (arith, u.2)
+
+from_first : (all : AllRead) (f : ℕ) (k : Kind) (n : ℕ) (bytes : List ℕ) (more : List (List ℕ)) → read_from all f (bytes ∷ more) ≡ Err (k, 0, n) → (read_file all.declared bytes ≡ Err (k, n)) × (0 ≡ f)
+unfolding read_from
+from_first all f k n bytes more e =
+    elim (bind_file_err (in_file f (read_file all.declared bytes)) (λ r. read_from (with_file all r) (f + 1) more) (k, 0, n) e) [
+      | inl x ↦ in_file_err f (read_file all.declared bytes) k 0 n x
+      | inr x ↦ absurd (let late = from_late more (with_file all x.0) (f + 1) 0 k n x.2 in omega arith)
+    ]
+
+-- a file that stops
+pub opening_stop : {U X : Type 0} (h : Halt) (all : AllRead) (f : ℕ) (files : List (Vec ℕ)) (bytes : Vec ℕ) (total : Result AllRead (Kind × ℕ × ℕ)) → f < length files → bytes ≡ get_or files f bytes
+    → GivesOpening {U = U} {X = FileRead} (Err h) (read_file all.declared bytes.items) → read_from all f (contents (drop f files)) ≡ total → AnswersOpening {U = X} {X = AllRead} (Err (fault_of h f)) total
+opening_stop {U} {X} h all f files bytes total lt item opening so_far = λ k n le e.
+    let here : read_from all f (bytes.items ∷ contents (drop (f + 1) files)) ≡ Err (k, 0, n) = sym (ap (λ (vs : List (Vec ℕ)). read_from all f (contents vs)) (drop_item files f bytes lt item)) ∙ so_far ∙ e in
+    let x = from_first all f k n bytes.items (contents (drop (f + 1) files)) here in
+    let is : h ≡ halt.At k n = same h (halt.At k n) (opening k n le x.0) in
+    ap (λ (y : Halt). Err (fault_of y f)) is ∙ ap (λ (i : ℕ). Err (fault.At k i n)) (sym x.1)
+  where
+    same : (x y : Halt) → ◌≡◌ {A = Result U Halt} (Err x) (Err y) → x ≡ y
+    same x y e = cc
+
+-- after a file that is read, and after all of them, no opening is left
+pub opening_past : {X : Type 0} (all : AllRead) (r : FileRead) (f : ℕ) (files : List (Vec ℕ)) (bytes : Vec ℕ) (t : Result X TraceFault) (total : Result AllRead (Kind × ℕ × ℕ)) → f < length files → bytes ≡ get_or files f bytes
+    → read_file all.declared bytes.items ≡ Ok r → read_from all f (contents (drop f files)) ≡ total → AnswersOpening t total
+opening_past all r f files bytes t total lt item is so_far = λ k n le e.
+    let here : read_from all f (bytes.items ∷ contents (drop (f + 1) files)) ≡ Err (k, 0, n) = sym (ap (λ (vs : List (Vec ℕ)). read_from all f (contents vs)) (drop_item files f bytes lt item)) ∙ so_far ∙ e in
+    let x = from_first all f k n bytes.items (contents (drop (f + 1) files)) here in
+    let y : ◌≡◌ {A = Result FileRead (Kind × ℕ)} (Ok r) (Err (k, n)) = sym is ∙ x.0 in
+    absurd cc
+
+pub opening_none : {X Y : Type 0} (x : X) (t : Result Y TraceFault) (total : Result X (Kind × ℕ × ℕ)) → total ≡ Ok x → AnswersOpening t total
+opening_none x t total is = λ k n le e. absurd (let y = sym is ∙ e in cc)
+
+-- ---- the plan
+
+-- a fault of the opening is the one that reading gives
+opens_first : (files : List (List ℕ)) (k : Kind) (n : ℕ) → (h : OpeningFault files k n) → (n ≤ 2) × (read_from (record { declared = []; files = [] }) 0 files ≡ Err (k, 0, n))
+unfolding read_from
+opens_first files k n h =
+    let none : AllRead = record { declared = []; files = [] } in
+    let file : read_file [] h.bytes ≡ Err (k, n) = file_fault_again [] h.bytes k n (as_file h.bytes h.fault) in (
+      soon h.bytes h.fault,
+      ap (λ (fs : List (List ℕ)). read_from none 0 fs) h.files_are ∙ ap (λ (r : Result FileRead (Kind × ℕ)). in_file 0 r >>= λ r. read_from (with_file none r) (0 + 1) h.more) file,
+    )
+  where
+    as_file : (bytes : List ℕ) → HeaderFault bytes k n ⊎ QueueFault bytes k n → FileFault [] bytes k n
+    as_file bytes (inl h) = inl h
+    as_file bytes (inr h) = inr (inl h)
+
+    soon : (bytes : List ℕ) → HeaderFault bytes k n ⊎ QueueFault bytes k n → n ≤ 2
+    soon bytes (inl h) = omega (arith, h.0)
+    soon bytes (inr h) = omega (arith, h.number)
+
+pub opening_if : {X : Type 0} (files : List (List ℕ)) (r : Result X TraceFault) → (0 < length files → length files ≤ 64 → AnswersOpening r (read_from (record { declared = []; files = [] }) 0 files))
+    → (k : Kind) (n : ℕ) → OpeningFault files k n → r ≡ Err (fault.At k 0 n)
+opening_if files r answers k n h =
+    let first = opens_first files k n h in
+    let some : 0 < length files = omega (arith, ap length h.files_are) in
+    answers some h.few k n first.0 first.1

@@ -1,0 +1,5 @@
+pub mod Counting
+pub mod Rowing
+pub mod Stepping
+pub mod Viewing
+pub mod Charging

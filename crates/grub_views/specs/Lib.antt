@@ -1,0 +1,10 @@
+pub mod Fitting
+pub mod Lines
+pub mod Messages
+pub mod Picture
+pub mod Replay
+pub mod Rows
+pub mod Summary
+pub mod Tables
+pub mod Tallies
+pub mod Usage

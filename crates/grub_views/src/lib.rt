@@ -1,0 +1,27 @@
+//! Views of a time line: its text, its steps as a table of tab-separated fields, its summary, and a picture.
+#![tactic(auto)]
+
+mod bars;
+mod book_steps;
+mod drawing;
+mod fault;
+mod frame;
+mod laws;
+mod lines;
+mod picture;
+mod rows;
+mod summary;
+mod table;
+mod tally;
+mod usage;
+
+pub use book_steps::{Change, Step, played_steps};
+pub use fault::ViewFault;
+pub use laws::charged_is_at_most_executed;
+pub use lines::timeline_text;
+pub use picture::{end_of, picture_text};
+pub use rows::steps_text;
+pub use summary::summary_text;
+
+#[cfg(test)]
+mod tests;

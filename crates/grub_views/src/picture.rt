@@ -1,0 +1,111 @@
+//! A picture of a time line, as an SVG document.
+
+ghost use Rattle.std.specs.Prelude.{◌≡◌, ◌<◌, ◌^◌, max, IfOk, vec_len};
+ghost use Rattle.grub_timeline.specs.TimeLines.{AreWithin, IsTimeLine};
+ghost use Rattle.grub_views.specs.Fitting.{AreToldIn};
+ghost use Rattle.grub_views.specs.Picture.{last_moment};
+
+use crate::book_steps::{Step, replay};
+use crate::drawing::{Scene, put_axis, put_head, put_queue};
+use crate::fault::ViewFault;
+use crate::frame::Frame;
+use crate::tally::steps_of_task;
+use grub_timeline::{TimeLine, Told};
+use grub_trace::Plan;
+use std::alloc::{AllocError, Global};
+
+/// A picture is smaller than this, in bytes.
+const SIZE_LIMIT: usize = 4194304;
+
+/// The least widths of a bar, in pixels, of which the first is taken that keeps the picture within its limit.
+const UNITS: [u64; 11] = [1, 2, 4, 8, 16, 32, 64, 128, 256, 512, 1024];
+
+/// What is given where not even the widest unit served.
+const BLANK: &[u8] = b"<svg xmlns=\"http://www.w3.org/2000/svg\"/>\n";
+
+/// The last moment of a time line, where a picture ends: 1 where that is 0, or there is none.
+pub fn end_of(line: &TimeLine) -> u32
+    ensures { result ≡ max 1 (last_moment line.now.told.items) }
+{
+    last_moment(&line.told).max(1)
+}
+
+/// The moment of the last entry, or 0 where there is none.
+fn last_moment(told: &[Told]) -> u32
+    ensures { result ≡ last_moment told.now }
+{
+    match told.last() {
+        Some(x) => x.entry.m,
+        None => 0,
+    }
+}
+
+/// A picture of a time line of the plan, from one moment to a later one, as an SVG document of less than 4 MiB. Past the
+/// last entry the last state goes on. Bars and steps of curves that are narrower than a pixel are left out; where the
+/// document would be too long, than a greater power of two of pixels.
+/// It is refused with 48 where the allocator refused.
+pub fn picture_text(
+    alloc: Global,
+    plan: &Plan,
+    line: &TimeLine,
+    from: u32,
+    to: u32,
+) -> Result<Vec<u8>, ViewFault>
+    requires line { IsTimeLine plan.now line.now.told.items line.now.closing.items }
+    requires within { AreWithin plan.now.setup line.now.told.items }
+    requires span { from < to }
+    ensures { IfOk result (λ v. vec_len v < 2 ^ 22) }
+{
+    text_of(alloc, plan, line, from, to).map_err(|_| ViewFault::NoMemory)
+}
+
+fn text_of(
+    alloc: Global,
+    plan: &Plan,
+    line: &TimeLine,
+    from: u32,
+    to: u32,
+) -> Result<Vec<u8>, AllocError>
+    requires { AreToldIn plan.now.setup line.now.told.items }
+    ensures { IfOk result (λ v. vec_len v < 2 ^ 22) }
+{
+    let steps = replay(alloc, plan.setup(), &line.told)?;
+    let owns = own_steps(alloc, plan, &steps)?;
+    for unit in UNITS {
+        let scene = Scene {
+            plan,
+            steps: &steps,
+            owns: &owns,
+            frame: Frame { from, to, unit },
+        };
+        let text = drawn(alloc, &scene)?;
+        if text.len() < SIZE_LIMIT {
+            return Vec::from_slice(alloc, text.as_bytes());
+        }
+    }
+    Vec::from_slice(alloc, BLANK)
+}
+
+/// The steps of each task.
+fn own_steps(alloc: Global, plan: &Plan, steps: &[Step]) -> Result<Vec<Vec<Step>>, AllocError> {
+    let mut owns = Vec::new(alloc);
+    for t in 0..plan.setup().task_count() {
+        owns.push(steps_of_task(alloc, t, steps)?)?;
+    }
+    Ok(owns)
+}
+
+/// The whole document.
+fn drawn(alloc: Global, scene: &Scene) -> Result<String, AllocError> {
+    let mut body = String::new(alloc);
+    let mut y = 76;
+    for r in 0..scene.plan.setup().queue_count() {
+        y = put_queue(alloc, &mut body, scene, r, y)?;
+    }
+    let mut text = String::new(alloc);
+    put_head(&mut text, scene.frame, y)?;
+    put_axis(&mut text, scene.frame, y)?;
+    text.push_str(body.as_str())?;
+    text.push_str("</svg>\n")?;
+    Ok(text)
+}

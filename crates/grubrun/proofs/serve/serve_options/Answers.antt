@@ -1,0 +1,41 @@
+use Rattle.std.proofs.Common.{refl, subst, sym, ◌≡◌, ◌⊎◌}
+use Rattle.clap.specs.Words.{found_of, rows_of}
+use Rattle.grub_serve.specs.Printed.{HasFileFault, PrintsBeginning, PrintsReports, PrintsView, PrintsViewBeginning}
+use Rattle.grubrun.specs.CommandLine.{names_among}
+use Rattle.grubrun.specs.Statuses.{BeginsOf, PrintsOf}
+use Rattle.grubrun.proofs.CommandLemmas.{paths_are_names}
+use Rattle.grubrun.proofs.serve.serve_options.Goals as goal
+
+pub returns-in-Reports-clause-done : goal.returns-in-Reports-clause-done
+returns-in-Reports-clause-done g c is =
+    let named = paths_are_names (found_of c.args.options.now.matches) c.get_strs.result _ c.unwrap_or-paths.result c.unwrap_or-paths.ensures refl c.get_strs.ensures in
+    subst (λ w. PrintsOf g.O.Fn g.N.Fn c.args.source.now w c.args.options.now.tries (names_among (rows_of (found_of c.args.options.now.matches))) (g.W.Write.contents c.args.out.now) (g.W.Write.contents c.serve_files.new.out)) (sym c.in-Reports.is)
+    (subst (λ names. PrintsReports g.O.Fn g.N.Fn c.args.source.now c.args.options.now.tries names (g.W.Write.contents c.args.out.now) (g.W.Write.contents c.serve_files.new.out)) named (c.serve_files.ensures.done is))
+
+pub returns-in-Reports-clause-file : goal.returns-in-Reports-clause-file
+returns-in-Reports-clause-file g c is =
+    let named = paths_are_names (found_of c.args.options.now.matches) c.get_strs.result _ c.unwrap_or-paths.result c.unwrap_or-paths.ensures refl c.get_strs.ensures in
+    subst (HasFileFault g.O.Fn g.N.Fn c.args.source.now) named (c.serve_files.ensures.file is)
+
+pub returns-in-Reports-clause-failed : goal.returns-in-Reports-clause-failed
+returns-in-Reports-clause-failed g c is =
+    let named = paths_are_names (found_of c.args.options.now.matches) c.get_strs.result _ c.unwrap_or-paths.result c.unwrap_or-paths.ensures refl c.get_strs.ensures in
+    subst (λ w. (c.serve_files.new.out ≡ c.args.out.now) ⊎ BeginsOf g.O.Fn g.N.Fn c.args.source.now w c.args.options.now.tries (names_among (rows_of (found_of c.args.options.now.matches))) (g.W.Write.contents c.args.out.now) (g.W.Write.contents c.serve_files.new.out)) (sym c.in-Reports.is)
+    (subst (λ names. (c.serve_files.new.out ≡ c.args.out.now) ⊎ PrintsBeginning g.O.Fn g.N.Fn c.args.source.now c.args.options.now.tries names (g.W.Write.contents c.args.out.now) (g.W.Write.contents c.serve_files.new.out)) named (c.serve_files.ensures.failed is))
+
+pub returns-in-View-clause-done : goal.returns-in-View-clause-done
+returns-in-View-clause-done g c is =
+    let named = paths_are_names (found_of c.args.options.now.matches) c.get_strs.result _ c.unwrap_or-paths.result c.unwrap_or-paths.ensures refl c.get_strs.ensures in
+    subst (λ w. PrintsOf g.O.Fn g.N.Fn c.args.source.now w c.args.options.now.tries (names_among (rows_of (found_of c.args.options.now.matches))) (g.W.Write.contents c.args.out.now) (g.W.Write.contents c.serve_view.new.out)) (sym c.in-View.is)
+    (subst (λ names. PrintsView g.O.Fn g.N.Fn c.args.source.now c.in-View.view names (g.W.Write.contents c.args.out.now) (g.W.Write.contents c.serve_view.new.out)) named (c.serve_view.ensures.done is))
+
+pub returns-in-View-clause-file : goal.returns-in-View-clause-file
+returns-in-View-clause-file g c is =
+    let named = paths_are_names (found_of c.args.options.now.matches) c.get_strs.result _ c.unwrap_or-paths.result c.unwrap_or-paths.ensures refl c.get_strs.ensures in
+    subst (HasFileFault g.O.Fn g.N.Fn c.args.source.now) named (c.serve_view.ensures.file is)
+
+pub returns-in-View-clause-failed : goal.returns-in-View-clause-failed
+returns-in-View-clause-failed g c is =
+    let named = paths_are_names (found_of c.args.options.now.matches) c.get_strs.result _ c.unwrap_or-paths.result c.unwrap_or-paths.ensures refl c.get_strs.ensures in
+    subst (λ w. (c.serve_view.new.out ≡ c.args.out.now) ⊎ BeginsOf g.O.Fn g.N.Fn c.args.source.now w c.args.options.now.tries (names_among (rows_of (found_of c.args.options.now.matches))) (g.W.Write.contents c.args.out.now) (g.W.Write.contents c.serve_view.new.out)) (sym c.in-View.is)
+    (subst (λ names. (c.serve_view.new.out ≡ c.args.out.now) ⊎ PrintsViewBeginning g.O.Fn g.N.Fn c.args.source.now c.in-View.view names (g.W.Write.contents c.args.out.now) (g.W.Write.contents c.serve_view.new.out)) named (c.serve_view.ensures.failed is))

@@ -1,0 +1,102 @@
+//! The command line.
+
+use clap::{Arg, ArgAction, Command, value_parser};
+use std::alloc::{AllocError, Global};
+
+fn trace_arg<'a>(alloc: Global) -> Arg<'a> {
+    Arg::new(alloc, "TRACE")
+        .help("Text of a kernel trace, from tracefs or of perf script; - is standard input")
+        .required(true)
+        .action(ArgAction::Set)
+}
+
+fn task_arg<'a>(alloc: Global) -> Arg<'a> {
+    Arg::new(alloc, "task")
+        .long("task")
+        .value_name("NAME=RUNTIME:PERIOD")
+        .help("A task's comm or pid, and its reservation in microseconds; once for each task")
+        .required(true)
+        .action(ArgAction::Append)
+}
+
+fn cpus_arg<'a>(alloc: Global) -> Arg<'a> {
+    Arg::new(alloc, "cpus")
+        .long("cpus")
+        .value_name("N")
+        .help("How many runqueues there are, 1 to 64, where the trace does not tell it")
+        .value_parser(value_parser!(u32).range(1..65))
+}
+
+fn rt_arg<'a>(alloc: Global) -> Arg<'a> {
+    Arg::new(alloc, "rt")
+        .long("rt")
+        .value_name("RUNTIME:PERIOD")
+        .help("sched_rt_runtime_us and sched_rt_period_us")
+        .default_value("950000:1000000")
+}
+
+fn fair_arg<'a>(alloc: Global) -> Arg<'a> {
+    Arg::new(alloc, "fair-server")
+        .long("fair-server")
+        .value_name("RUNTIME:PERIOD")
+        .help("The deadline server of fair tasks on each runqueue, or none")
+        .default_value("50000:1000000")
+}
+
+fn out_arg<'a>(alloc: Global) -> Arg<'a> {
+    Arg::new(alloc, "out")
+        .long("out")
+        .value_name("PREFIX")
+        .help("Writes PREFIX.cpu0.grub and so on")
+        .required(true)
+        .action(ArgAction::Set)
+}
+
+fn within_arg<'a>(alloc: Global) -> Arg<'a> {
+    Arg::new(alloc, "within")
+        .long("within")
+        .value_name("US")
+        .help("How far a 0-lag moment may lie from the kernel's, in microseconds")
+        .value_parser(value_parser!(u32).range(0..2147483648))
+        .default_value("100")
+}
+
+fn tasks_command<'a>(alloc: Global) -> Result<Command<'a>, AllocError> {
+    Command::new(alloc, "tasks")
+        .about("Prints the SCHED_DEADLINE tasks that a trace shows")
+        .arg(trace_arg(alloc))
+}
+
+fn events_command<'a>(alloc: Global) -> Result<Command<'a>, AllocError> {
+    Command::new(alloc, "events")
+        .about("Writes the event files that a trace tells")
+        .arg(task_arg(alloc))?
+        .arg(cpus_arg(alloc))?
+        .arg(rt_arg(alloc))?
+        .arg(fair_arg(alloc))?
+        .arg(out_arg(alloc))?
+        .arg(trace_arg(alloc))
+}
+
+fn check_command<'a>(alloc: Global) -> Result<Command<'a>, AllocError> {
+    Command::new(alloc, "check")
+        .about(
+            "Says whether the kernel accounted as the book does; 0 where it agrees, 4 where it differs",
+        )
+        .arg(task_arg(alloc))?
+        .arg(cpus_arg(alloc))?
+        .arg(rt_arg(alloc))?
+        .arg(fair_arg(alloc))?
+        .arg(within_arg(alloc))?
+        .arg(trace_arg(alloc))
+}
+
+/// `grubtrace tasks TRACE`, `grubtrace events OPTIONS --out PREFIX TRACE` and `grubtrace check OPTIONS TRACE`.
+pub fn command<'a>(alloc: Global) -> Result<Command<'a>, AllocError> {
+    Command::new(alloc, "grubtrace")
+        .about("Reads kernel traces of SCHED_DEADLINE tasks")
+        .subcommand_required(true)
+        .subcommand(tasks_command(alloc)?)?
+        .subcommand(events_command(alloc)?)?
+        .subcommand(check_command(alloc)?)
+}

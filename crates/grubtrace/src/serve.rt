@@ -1,0 +1,157 @@
+//! The program over its words and two writers.
+
+use crate::command::command;
+use clap::error::ErrorKind;
+use clap::{ArgMatches, Error};
+use grub_convert::{
+    Input, Options, STATUS_SYSTEM, STATUS_USAGE, Target, options_of, serve_events, serve_tasks,
+};
+use grub_verdict::{Question, serve_check};
+use std::alloc::{AllocError, Global};
+use std::io;
+use std::io::Write;
+
+/// How far a 0-lag moment may lie from the kernel's, in microseconds, where the words do not say it.
+const WITHIN: u32 = 100;
+
+/// What the words ask for.
+fn matches_of<'a>(alloc: Global, words: &'a [String]) -> Result<ArgMatches<'a>, Error> {
+    command(alloc)?.try_get_matches_from(words)
+}
+
+/// Runs the program on its words, the first of which is its name, and gives its status.
+pub fn serve<
+    D: Drop,
+    O: Fn(&str) -> io::Result<D>,
+    N: Fn(&mut D, &mut [u8]) -> io::Result<usize>,
+    X: Fn(&str) -> bool,
+    M: Fn(&str, &[u8]) -> io::Result<()>,
+    W: Write,
+    E: Write,
+>(
+    alloc: Global,
+    words: &[String],
+    input: &Input<O, N>,
+    target: &Target<X, M>,
+    out: &mut W,
+    faults: &mut E,
+) -> u8
+    requires open { O.IsAlwaysCallable input.now.open }
+    requires read { N.IsAlwaysCallable input.now.read }
+    requires exists { X.IsAlwaysCallable target.now.exists }
+    requires make { M.IsAlwaysCallable target.now.make }
+{
+    match matches_of(alloc, words) {
+        Ok(matches) => match matches.subcommand() {
+            Some(("events", matches)) => events(alloc, matches, input, target, faults),
+            Some(("check", matches)) => check(alloc, matches, input, out, faults),
+            Some((_, matches)) => {
+                let path = matches.get_str("TRACE").unwrap_or("");
+                serve_tasks(alloc, input, path, out, faults)
+            }
+            None => STATUS_USAGE,
+        },
+        Err(error) => serve_error(&error, out, faults),
+    }
+}
+
+/// Writes the event files that the words of `events` ask for.
+fn events<
+    D: Drop,
+    O: Fn(&str) -> io::Result<D>,
+    N: Fn(&mut D, &mut [u8]) -> io::Result<usize>,
+    X: Fn(&str) -> bool,
+    M: Fn(&str, &[u8]) -> io::Result<()>,
+    E: Write,
+>(
+    alloc: Global,
+    matches: &ArgMatches<'_>,
+    input: &Input<O, N>,
+    target: &Target<X, M>,
+    faults: &mut E,
+) -> u8
+    requires open { O.IsAlwaysCallable input.now.open }
+    requires read { N.IsAlwaysCallable input.now.read }
+    requires exists { X.IsAlwaysCallable target.now.exists }
+    requires make { M.IsAlwaysCallable target.now.make }
+{
+    let path = matches.get_str("TRACE").unwrap_or("");
+    let prefix = matches.get_str("out").unwrap_or("");
+    match options_in(alloc, matches) {
+        Ok(Some(options)) => serve_events(alloc, input, target, path, prefix, &options, faults),
+        Ok(None) => no_options(faults),
+        Err(_) => no_memory(faults),
+    }
+}
+
+/// Prints the verdict that the words of `check` ask for.
+fn check<
+    D: Drop,
+    O: Fn(&str) -> io::Result<D>,
+    N: Fn(&mut D, &mut [u8]) -> io::Result<usize>,
+    W: Write,
+    E: Write,
+>(alloc: Global, matches: &ArgMatches<'_>, input: &Input<O, N>, out: &mut W, faults: &mut E) -> u8
+    requires open { O.IsAlwaysCallable input.now.open }
+    requires read { N.IsAlwaysCallable input.now.read }
+{
+    let question = Question {
+        path: matches.get_str("TRACE").unwrap_or(""),
+        within: matches.get_one::<u32>("within").unwrap_or(WITHIN),
+    };
+    match options_in(alloc, matches) {
+        Ok(Some(options)) => serve_check(alloc, input, question, &options, out, faults),
+        Ok(None) => no_options(faults),
+        Err(_) => no_memory(faults),
+    }
+}
+
+/// What the words say of the tasks and the runqueues; none where a number or a name of them is no such.
+fn options_in<'a>(
+    alloc: Global,
+    matches: &ArgMatches<'a>,
+) -> Result<Option<Options<'a>>, AllocError> {
+    let tasks = matches.get_strs("task").unwrap_or(&[]);
+    let rt = matches.get_str("rt").unwrap_or("");
+    let fair = matches.get_str("fair-server").unwrap_or("");
+    options_of(alloc, tasks, matches.get_one::<u32>("cpus"), rt, fair)
+}
+
+fn no_options<E: Write>(faults: &mut E) -> u8 {
+    let _ = faults.write_all(
+        b"error: a task, --rt or --fair-server says no reservation, or a task is given twice\n",
+    );
+    STATUS_USAGE
+}
+
+fn no_memory<E: Write>(faults: &mut E) -> u8 {
+    let _ = faults.write_all(b"grubtrace: 47 NoMemory\n");
+    STATUS_SYSTEM
+}
+
+/// The text of the command line's fault, or the text that the words ask for.
+fn serve_error<W: Write, E: Write>(error: &Error, out: &mut W, faults: &mut E) -> u8 {
+    match error.kind() {
+        ErrorKind::OutOfMemory => no_memory(faults),
+        ErrorKind::DisplayHelp | ErrorKind::DisplayVersion => {
+            if write!(out, "{error}").is_err() || out.flush().is_err() {
+                let _ = faults.write_all(b"grubtrace: 45 WriteFault\n");
+                return STATUS_SYSTEM;
+            }
+            0
+        }
+        _ => {
+            let _ = write!(faults, "{error}");
+            STATUS_USAGE
+        }
+    }
+}
+
+/// The line where the words could not be had: memory was refused, or they are no text.
+pub fn serve_no_words<E: Write>(error: &io::Error, faults: &mut E) -> u8 {
+    if error.kind() == io::ErrorKind::OutOfMemory {
+        return no_memory(faults);
+    }
+    let _ = faults.write_all(b"error: the arguments are no text\n");
+    STATUS_USAGE
+}
