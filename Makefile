@@ -5,8 +5,10 @@ TRACER := crates/grubtrace/out/grubtrace
 PREFIX ?= /usr/local
 FILES ?= examples/documentation.grub
 FLAGS ?=
+TRACE ?= examples/kernel/trace.txt
+WORDS ?= tasks
 
-.PHONY: build tracer run test growths program record-check install uninstall clean
+.PHONY: build tracer run try try-trace test growths program record-check install uninstall clean
 
 # Proves the program with all that it stands on, and links it.
 build:
@@ -19,6 +21,14 @@ tracer:
 # Plays the event files FILES, one runqueue each, and prints their reports.
 run: build
 	@$(PROGRAM) $(FLAGS) $(FILES)
+
+# The same with nothing proved: an answer in half a minute, with the toolchain's own checks while it runs.
+try:
+	@scripts/try.sh grubrun $(FLAGS) $(FILES)
+
+# `grubtrace WORDS TRACE` in the same way.
+try-trace:
+	@scripts/try.sh grubtrace $(WORDS) $(TRACE)
 
 # The gate: every proof from nothing, the must-fail edits, all tests and the stored run, each growth of memory refused in
 # turn, and the program's statuses and lines of faults.
