@@ -20,3 +20,6 @@ pub use judging::{Case, Judged, Overfull, judge};
 pub use observation::{Observation, Yardstick};
 pub use sign::{Sign, signs_of};
 pub use verdict::{Verdict, verdict_of};
+
+#[cfg(test)]
+mod tests;
