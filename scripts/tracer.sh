@@ -56,5 +56,76 @@ run 'a missing trace' 3 '' 'grubtrace: missing: 46 ReadFault' tasks missing
 head -c -10 trace > cut
 run 'a trace that is cut' 1 '' 'some text' tasks cut
 
+# Two tasks and the server of fair tasks on one runqueue, with the kernel's timers where the book's 0-lag moments are: b runs
+# 1000 us at the rate 367000 / 996147 from 2000 on, a 3000 us at 157285 / 996147 from 12000 on, b 1000 us at 262143 / 996147
+# from 22000 on, so that they wait for 3840, 16730 and 23315.
+cat > blocks << 'TRACE'
+# entries-in-buffer/entries-written: 15/15   #P:1
+ x-1 [000] d. 100.000000000: sched_wakeup: comm=x pid=1 prio=120 target_cpu=000
+ x-1 [000] d. 100.020000000: sched_wakeup: comm=b pid=8 prio=-1 target_cpu=000
+ b-8 [000] d. 100.021000000: sched_stat_runtime: comm=b pid=8 runtime=1000000 [ns]
+ b-8 [000] d. 100.021000100: hrtimer_start: hrtimer=b0 function=inactive_task_timer expires=100021840500
+ b-8 [000] d. 100.021000200: sched_switch: prev_comm=b prev_pid=8 prev_prio=-1 prev_state=S ==> next_comm=x
+ x-1 [000] d. 100.021841000: hrtimer_expire_entry: hrtimer=b0 function=inactive_task_timer now=100021840900
+ x-1 [000] d. 100.030000000: sched_wakeup: comm=a pid=7 prio=-1 target_cpu=000
+ a-7 [000] d. 100.033000000: sched_stat_runtime: comm=a pid=7 runtime=3000000 [ns]
+ a-7 [000] d. 100.033000100: hrtimer_start: hrtimer=a0 function=inactive_task_timer expires=100034723250
+ a-7 [000] d. 100.033000200: sched_switch: prev_comm=a prev_pid=7 prev_prio=-1 prev_state=S ==> next_comm=x
+ x-1 [000] d. 100.040000000: sched_wakeup: comm=b pid=8 prio=-1 target_cpu=000
+ b-8 [000] d. 100.041000000: sched_stat_runtime: comm=b pid=8 runtime=1000000 [ns]
+ b-8 [000] d. 100.041000100: hrtimer_start: hrtimer=b0 function=inactive_task_timer expires=100041314200
+ b-8 [000] d. 100.041000200: sched_switch: prev_comm=b prev_pid=8 prev_prio=-1 prev_state=S ==> next_comm=x
+TRACE
+
+# differs NAME END WORD..: a check with these words that differs, with these last lines.
+differs() {
+    local name=$1 end=$2
+    shift 2
+    run "$name" 4 'some text' '' check "$@"
+    sed -n '/^differs: /,$p' out > last
+    if is_text last "$end"; then
+        passed=$((passed + 1))
+    else
+        failed=$((failed + 1))
+        echo "tracer: $name: $(cat last)"
+    fi
+}
+
+pair=(--task a=1000:10000 --task b=2000:10000)
+run 'it agrees' 0 "trace blocks: 14 lines, 3 wakes, 3 runs, 3 blocks, 0 exits, 0 wakes moved, 0 ready tasks moved
+clock: the timers' now is within 0.100 us of the lines' moments
+runqueues: 1, umax=996147 uextra=629147
+task a: runtime=1000 period=10000 u=104857
+task b: runtime=2000 period=10000 u=209715
+covered: 0 charges by the task's own bandwidth, 3 by what is left; 0 wakes before the 0-lag moment; 0 recharges
+0-lag timers: 3 blocks, 3 armed by the kernel, 3 answered alike by the book, 0 left out
+0-lag moments: book - kernel in us: least -0.500, median 0.800, greatest 6.750; 0 of 3 beyond 100
+agrees: no block beyond 100 us" '' check "${pair[@]}" blocks
+differs 'a wrong reservation: the first block of its task' 'differs: first at line 11, 100.033000, block a
+  book:   waiting z=16912 with q=458 d=22000
+  kernel: waiting z=16723.250, book - kernel 188.750
+  since its wake at 12000: executed 3000, charged 442 by the book (14.73 %), 425.092 by the kernel (14.16 %)
+  runqueue 0 of the book: running=146799 this=356514' --task a=900:10000 --task b=2000:10000 blocks
+differs 'a wrong Umax: the first long run' 'differs: first at line 11, 100.033000, block a
+  book:   waiting z=16990 with q=501 d=22000
+  kernel: waiting z=16723.250, book - kernel 266.750
+  since its wake at 12000: executed 3000, charged 499 by the book (16.63 %), 472.325 by the kernel (15.74 %)
+  runqueue 0 of the book: running=157285 this=367000' "${pair[@]}" --rt 900000:1000000 blocks
+differs 'no fair server: the first block' 'differs: first at line 6, 100.021000, block b
+  book:   waiting z=3575 with q=1685 d=12000
+  kernel: waiting z=3840.500, book - kernel -265.500
+  since its wake at 2000: executed 1000, charged 315 by the book (31.50 %), 368.100 by the kernel (36.81 %)
+  runqueue 0 of the book: running=209715 this=209715' "${pair[@]}" --fair-server none blocks
+sed '/100.033000000: sched_stat_runtime/d' blocks > lost
+differs 'a runtime line taken out: the block behind it' 'differs: first at line 10, 100.033000, block a
+  book:   asleep with q=1000 d=22000
+  kernel: waiting z=16723.250
+  since its wake at 12000: executed 0, charged 0 by the book (0.00 %), 472.325 by the kernel (0.00 %)
+  runqueue 0 of the book: running=52428 this=367000' "${pair[@]}" lost
+grep -v hrtimer_start blocks > without
+run 'no timers' 1 '' 'grubtrace: without: 53 NoTimers' check "${pair[@]}" without
+run 'no room' 1 '' 'grubtrace: blocks:8: 57 Overfull a' check --task a=8000:10000 --task b=2000:10000 blocks
+run 'no room for the server of fair tasks' 1 '' 'grubtrace: blocks: 57 Overfull fair0' check "${pair[@]}" --fair-server 96:100 blocks
+
 echo "$passed passed, $failed failed"
 [[ $failed == 0 ]]
