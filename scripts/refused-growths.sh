@@ -133,7 +133,9 @@ if [[ ${1-} == --build ]]; then
     shift
 fi
 if [[ $# -eq 0 ]]; then
-    mapfile -t named < <(cd "$root/crates" && grep -rlE '^fn [a-z_]*refused' --include='*.rt' . | cut -d/ -f2 | sort -u)
+    # (a test's name stands on the line below its attribute)
+    mapfile -t named < <(cd "$root/crates" && grep -rA1 --include='*.rt' '#\[test\]' . | grep -E '[-:]fn [a-z_]*refused' |
+        cut -d/ -f2 | sort -u)
     set -- "${named[@]}"
 fi
 passed=0
@@ -145,11 +147,11 @@ count() {
 for crate in "$@"; do
     program="$root/crates/$crate/out/${crate}_tests"
     if [[ $build == yes ]] && ! (cd "$root/crates/$crate" && rt test -- refused > "$work/proved" 2>&1); then
-        tail -5 "$work/proved"
+        tail -5 "$work/proved" >&2
         exit 1
     fi
     if [[ ! -x $program ]]; then
-        echo "refused-growths: there is no $program; the gate makes it, or --build"
+        echo "refused-growths: there is no $program; the gate makes it, or --build" >&2
         exit 1
     fi
     mapfile -t tests < <("$program" --list | sed -n 's/: test$//p' | grep refused)

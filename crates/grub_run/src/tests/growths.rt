@@ -5,23 +5,32 @@ use super::files_of;
 use crate::{GrubFault, run_texts};
 use grub_trace::{TextFault, TraceFault};
 use grub_workers::RunFault;
-use std::alloc::Global;
+use std::alloc::{AllocError, Global};
 use std::process::Abort;
 use std::sync::Wait;
 use std::thread::Threads;
 
-/// Expects that a run of this file writes this text, or that it answers a refusal and writes nothing.
+/// The bytes of one file, and room for its report.
+fn input_of(alloc: Global, file: &str) -> Result<(Vec<Vec<u8>>, Vec<u8>), AllocError> {
+    let files = files_of(alloc, [file].as_slice())?;
+    let out = Vec::with_capacity(alloc, 1000)?;
+    Ok((files, out))
+}
+
+/// Expects that a run of this file writes this text, or that it answers a refusal and writes nothing. Its own input is
+/// made a second time where a growth of it was refused.
 fn expect_text_or_refusal<R: Abort + Threads + Wait>(
     rt: &R,
     alloc: Global,
     file: &str,
     text: &str,
 ) {
-    let Ok(files) = files_of(alloc, [file].as_slice()) else {
-        return;
+    let made = match input_of(alloc, file) {
+        Ok(made) => Ok(made),
+        Err(_) => input_of(alloc, file),
     };
-    let Ok(mut out) = Vec::with_capacity(alloc, 1000) else {
-        return;
+    let Ok((files, mut out)) = made else {
+        panic!(rt; "refused twice")
     };
     match run_texts(rt, alloc, &files, 8, 64, &mut out) {
         Ok(()) => assert_eq!(rt; out.as_slice(), text.as_bytes()),
