@@ -11,7 +11,8 @@ import sys
 
 ROOT = os.path.dirname(os.path.dirname(os.path.abspath(__file__)))
 WORD = re.compile(r"[^\W\d][\w'?]*")
-HEAD = re.compile(r"^(?:(?:abbrev|unfoldable|opaque|instance|pub)\s+)+(?:(?:record|data)\s+)?([^\s:{(]+)|^(?:record|data)\s+([^\s:{(]+)")
+HEAD = re.compile(r"^(?:(?:abbrev|unfoldable|opaque|instance|pub)\s+)+(?:(?:record|data)\s+)?([^\s:{(]+)|^(?:record|data|module)\s+([^\s:{(]+)")
+INNER = {"data": re.compile(r"\s+(?:pub\s+)?([\w']+)\s*:"), "module": re.compile(r"\s+(?:abbrev |unfoldable )?pub (?:record |data )?([\w']+)")}
 IMPORT = re.compile(r"\buse\s+Rattle\.(\w+)\.specs\.([\w.]+?)(?:\.\{([^}]*)\}|\s+as\s+(\w+))?\s*;?\s*$", re.M)
 PUBLIC_USE = re.compile(r"\bpub use ([\w:]+)(?:::\{([^}]*)\})?;", re.S)
 
@@ -27,7 +28,8 @@ class Definition:
         return self.module.split(".")[0] == "inside"
 
     def label(self):
-        return f"{self.crate}/specs/{self.module.replace('.', '/')}.antt: {self.name}"
+        name = self.name if self.name != "_" else " ".join(sorted(self.inner))
+        return f"{self.crate}/specs/{self.module.replace('.', '/')}.antt: {name}"
 
 
 def text_of(path):
@@ -73,7 +75,8 @@ def definitions_in(crate, module, text):
         head = None if line.startswith(("use ", "pub mod")) else HEAD.match(line)
         if head:
             current = Definition(crate, module, head.group(1) or head.group(2))
-            current.comments, current.is_data = comment, " data " in f" {line}"
+            current.comments = comment
+            kind = INNER.get(next((it for it in ("data", "module") if it in line.split()[:3]), None))
             found.append(current)
         if not line.strip():
             comment = 0
@@ -81,8 +84,8 @@ def definitions_in(crate, module, text):
             current.lines += 1
             current.comments += 0 if head else comment
             current.words |= set(WORD.findall(line.split(" -- ")[0]))
-            inner = re.match(r"\s+(?:pub\s+)?([\w']+)\s*:", line)
-            if current.is_data and inner:
+            inner = kind and kind.match(line)
+            if inner:
                 current.inner.add(inner.group(1))
         comment = 0 if head else comment
     return found
@@ -166,9 +169,8 @@ def read_specs():
     imports = {it: imports_of(text, files) for it, text in files.items()}
     for (crate, module), text in files.items():
         for it in definitions_in(crate, module, text):
-            found[crate, module, it.name] = it
-            for inner in it.inner:
-                found.setdefault((crate, module, inner), it)
+            for name in it.inner | {it.name} - {"_"}:
+                found.setdefault((crate, module, name), it)
     return found, imports, files
 
 

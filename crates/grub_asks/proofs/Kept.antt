@@ -14,7 +14,8 @@ use Rattle.grub_trace.specs.declared.entry.Answer.TheVariants.{Seen}
 use Rattle.grub_trace.specs.declared.entry.Entry.{Entry}
 use Rattle.grub_asks.specs.Asked.{entry}
 use Rattle.grub_asks.specs.Timers.{Alarm, alarm_after, armed, armed_from, leaves, touch, touch_of_call}
-use Rattle.grub_asks.specs.Keeping.{IsKept, IsTouched}
+use Rattle.grub_asks.specs.Keeping.{IsTouched}
+use Rattle.grub_asks.specs.inside.Keeping.{IsKept}
 use Rattle.grub_asks.proofs.Alarms.{alarm}
 
 armed_from-more : (t : ℕ) (a : Option Alarm) (es : List Entry) (e : Entry) → armed_from t a (es ++ e ∷ []) ≡ alarm_after (touch t e.ask e.answer) (armed_from t a es)

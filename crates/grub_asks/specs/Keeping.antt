@@ -15,11 +15,6 @@ use Rattle.grub_asks.specs.Timers.{Alarm, Touch, leaves, alarm_after, armed}
 abbrev pub alarm_of : TimerBag → ℕ → Option Alarm
 alarm_of timers t = option_map (λ (p : ℕ × ℕ). record { z = p.0; ticket = p.1 }) (map.get timers t)
 
--- the wheel has the timers that the entries leave, all of tasks that are there
-pub record IsKept (s : Machine) (entries : List Entry) (timers : TimerBag) : Type 0 where
-  pub armed_are : (t : ℕ) → alarm_of timers t ≡ armed entries t
-  pub tasks : (t : ℕ) (a : Alarm) → armed entries t ≡ Some a → t < length s.tasks
-
 -- what an answer did to the timers: that of task t was touched so, and the others stay
 abbrev pub IsTouched : TimerBag → TimerBag → ℕ → Touch → Type 0
 IsTouched old new t touch = (u : ℕ) → alarm_of new u ≡ alarm_after (if nat_eq u t then touch else leaves) (alarm_of old u)
@@ -40,11 +35,3 @@ IsBlockBefore z op = ⊥
 
 abbrev pub WaitsRightly : Op → Answer → Type 0
 WaitsRightly op answer = (ticket z : ℕ) → answer ≡ answers.Replied (replies.Waiting ticket z) → IsBlockBefore z op
-
--- an op that a line at moment m asks for
-abbrev pub IsLineOp : ℕ → Op → Type 0
-IsLineOp m (ops.Join r k) = k ≡ m
-IsLineOp m (ops.Wake r k) = k ≡ m
-IsLineOp m (ops.Block r k) = k ≡ m
-IsLineOp m (ops.Timer ticket k) = ⊥
-IsLineOp m op = Unit {0}

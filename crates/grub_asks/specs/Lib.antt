@@ -2,3 +2,4 @@ pub mod Timers
 pub mod Asked
 pub mod Answers
 pub mod Keeping
+pub mod inside

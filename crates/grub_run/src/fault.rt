@@ -31,7 +31,7 @@ struct Placeless<'a>(&'a TraceFault);
 
 impl fmt::Display for Placeless<'_> {
     ghost use Rattle.std.specs.Prelude.{Some};
-    ghost use Rattle.grub_run.specs.Messages.{placeless_text};
+    ghost use Rattle.grub_run.specs.inside.Messages.{placeless_text};
 
     ghost output = { λ p. Some (placeless_text p.0.now) };
 

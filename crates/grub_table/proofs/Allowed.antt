@@ -18,10 +18,11 @@ use Rattle.grub_table.specs.declared.view.Share.{Share}
 use Rattle.grub_table.specs.declared.view.Stored.{Stored}
 use Rattle.grub_table.specs.declared.view.Terms.{Terms}
 use Rattle.grub_table.specs.declared.view.View.{View}
-use Rattle.grub_table.specs.Layout.{queue_word_at, task_word_at, server_word_at, params_word_at, shown, stored_of}
-use Rattle.grub_table.specs.Rule.{Kept}
-use Rattle.grub_table.specs.Tellings.{Turns, OfQueue, outcome, LoadedTask, TookClaim, LoadedParams, LoadedServer, LoadedQueue, ChangedQueue, SettledServer, StoredServer, StoredParams, GaveClaim}
-use Rattle.grub_table.specs.Views.{alone, holding}
+use Rattle.grub_table.specs.Layout.{queue_word_at, task_word_at, shown}
+use Rattle.grub_table.specs.inside.Layout.{server_word_at, params_word_at, stored_of}
+use Rattle.grub_table.specs.inside.Rule.{Kept}
+use Rattle.grub_table.specs.inside.Tellings.{Turns, OfQueue, outcome, LoadedTask, TookClaim, LoadedParams, LoadedServer, LoadedQueue, ChangedQueue, SettledServer, StoredServer, StoredParams, GaveClaim}
+use Rattle.grub_table.specs.inside.Views.{alone, holding}
 use Rattle.grub_table.proofs.Turns.{Out}
 use Rattle.grub_table.proofs.TaskTurns.{load_task_out, take_claim_out}
 use Rattle.grub_table.proofs.ClaimTurns.{load_params_out, load_server_out, load_queue_out, change_queue_out, settle_server_out}

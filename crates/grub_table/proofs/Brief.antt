@@ -11,7 +11,7 @@ use Rattle.grub_table.specs.declared.pass.Finished.TheVariants.{Done, Held}
 use Rattle.grub_table.specs.declared.view.Access.{Access}
 use Rattle.grub_table.specs.declared.view.Access.TheVariants.{Load, Store, Exchange}
 use Rattle.grub_table.specs.Accesses.{is_exchange_of, exchanges_of, lost_tries, FinishesBriefly, StartsBriefly}
-use Rattle.grub_table.specs.Brief.{StoresFew, TriesOnce}
+use Rattle.grub_table.specs.inside.Brief.{StoresFew, TriesOnce}
 use Rattle.grub_table.specs.Calls.{claim_changes_sum, IsFinished, IsWithin}
 use Rattle.grub_table.proofs.Tries.{is_not}
 

@@ -34,11 +34,12 @@ use Rattle.grub_table.specs.declared.view.Share.{Share}
 use Rattle.grub_table.specs.declared.view.Stored.{Stored}
 use Rattle.grub_table.specs.declared.view.Terms.{Terms}
 use Rattle.grub_table.specs.declared.view.View.{View}
-use Rattle.grub_table.specs.Layout.{queue_word_at, server_word_at, params_word_at, stored_of}
+use Rattle.grub_table.specs.Layout.{queue_word_at}
+use Rattle.grub_table.specs.inside.Layout.{server_word_at, params_word_at, stored_of}
 use Rattle.grub_table.specs.Histories.{record_in, reading_in}
-use Rattle.grub_table.specs.Views.{alone, holding}
-use Rattle.grub_table.specs.Tellings.{is_decided_at_load, settled_quietly, outcome, Sees, Decides, DecidesIf, IsReadingFor, LoadedParams, LoadedServer, LoadedQueueAs, LoadedQueue, ChangedQueue, SettledServer}
-use Rattle.grub_table.specs.Rule.{Grip, Grips, grip, Kept, Written}
+use Rattle.grub_table.specs.inside.Views.{alone, holding}
+use Rattle.grub_table.specs.inside.Tellings.{is_decided_at_load, settled_quietly, outcome, Sees, Decides, DecidesIf, IsReadingFor, LoadedParams, LoadedServer, LoadedQueueAs, LoadedQueue, ChangedQueue, SettledServer}
+use Rattle.grub_table.specs.inside.Rule.{Grip, Grips, grip, Kept, Written}
 use Rattle.grub_table.proofs.Moves.{reading_fits}
 use Rattle.grub_table.proofs.Rows.{put, put_here, put_else, only_put, words_of, Shows, shows_held, set_server, written_same, written_queue, written_task}
 use Rattle.grub_table.proofs.Turns.{Out, book, is_sound, in_book, seen_told, stays_seen, under, holds, record_here, record_else, book_called, decided, decided_told}

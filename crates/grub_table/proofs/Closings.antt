@@ -21,8 +21,8 @@ use Rattle.grub_table.specs.Calls.{share_of, terms, IsPartOf, IsMarkPartOf, HasN
 use Rattle.grub_table.specs.Histories.{Every, reading_in}
 use Rattle.grub_table.specs.Layout.{queue_word_at}
 use Rattle.grub_table.specs.Marks.{marks_of}
-use Rattle.grub_table.specs.Rule.{Stands, Kept}
-use Rattle.grub_table.specs.Views.{ShareOf, MarkedBy}
+use Rattle.grub_table.specs.inside.Rule.{Stands, Kept}
+use Rattle.grub_table.specs.inside.Views.{ShareOf, MarkedBy}
 use Rattle.grub_table.proofs.Growths.{every_weaker}
 use Rattle.grub_table.proofs.Moves.{reading_fits}
 use Rattle.grub_table.proofs.Pigeons.{Among, all_there}

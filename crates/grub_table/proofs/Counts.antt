@@ -12,9 +12,10 @@ use Rattle.grub_table.specs.declared.view.Share.{Share}
 use Rattle.grub_table.specs.declared.view.Terms.{Terms}
 use Rattle.grub_table.specs.declared.view.Trail.{Trail}
 use Rattle.grub_table.specs.declared.view.View.{View}
-use Rattle.grub_table.specs.Rule.{Kept}
-use Rattle.grub_table.specs.Trails.{Accesses, KeptOf, each_after, head_made, joined, known, known_state, left_trail, only_made, right_trail, spent, tail_made, trail}
-use Rattle.grub_table.specs.Views.{behind, both_of, nothing, only_first, without_first}
+use Rattle.grub_table.specs.inside.Rule.{Kept}
+use Rattle.grub_table.specs.Trails.{Accesses, head_made}
+use Rattle.grub_table.specs.inside.Trails.{KeptOf, each_after, joined, known, known_state, left_trail, only_made, right_trail, spent, tail_made, trail}
+use Rattle.grub_table.specs.inside.Views.{behind, both_of, nothing, only_first, without_first}
 
 pub only_one : (made : List Accesses) → 0 < length made → only_made made ≡ head_made made ∷ []
 only_one [] lt = absurd (omega arith)

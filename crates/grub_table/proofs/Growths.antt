@@ -6,7 +6,7 @@ use Rattle.grub_book.proofs.Histories.{legal_push, calls_own, starts_whole, star
 use Rattle.grub_table.specs.declared.view.Share.{Share}
 use Rattle.grub_table.specs.declared.view.Terms.{Terms}
 use Rattle.grub_table.specs.Histories.{Every, IsHistory, Grows, Finishes}
-use Rattle.grub_table.specs.Views.{ShareOf}
+use Rattle.grub_table.specs.inside.Views.{ShareOf}
 
 pub every_append : {X : Type 0} (P : X → Type 0) (xs ys : List X) → Every P xs → Every P ys → Every P (xs ++ ys)
 every_append P [] ys a b = b

@@ -5,7 +5,7 @@ use Rattle.grub_book.proofs.Histories.{starts_after, starts_more, starts_whole}
 use Rattle.grub_table.specs.declared.view.Mark.{Mark}
 use Rattle.grub_table.specs.declared.view.Share.{Share}
 use Rattle.grub_table.specs.Marks.{Holders, nobody_holds, handed, IsLawfulMark, after_mark, held_from, AreLawfulFrom, AreLawful, holder_of, marker_of, marks_of, MarksGo}
-use Rattle.grub_table.specs.Views.{MarkedBy}
+use Rattle.grub_table.specs.inside.Views.{MarkedBy}
 
 held-append : (holders : Holders) (xs ys : List Mark) → held_from holders (xs ++ ys) ≡ held_from (held_from holders xs) ys
 held-append holders [] ys = refl

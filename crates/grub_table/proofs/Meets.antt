@@ -10,11 +10,12 @@ use Rattle.grub_table.specs.declared.view.Note.{Note}
 use Rattle.grub_table.specs.declared.view.Trail.{Trail}
 use Rattle.grub_table.specs.declared.view.View.{View}
 use Rattle.grub_table.specs.Accesses.{meeting_loads}
-use Rattle.grub_table.specs.Between.{TheSeat}
+use Rattle.grub_table.specs.inside.Between.{TheSeat}
 use Rattle.grub_table.specs.Calls.{IsBehind, IsMarkedBehind, accesses, share_of}
 use Rattle.grub_table.specs.Marks.{marks_of, marker_of}
-use Rattle.grub_table.specs.Trails.{Accesses, each_after, joined, known, left_trail, lone, right_trail, trail}
-use Rattle.grub_table.specs.Views.{StandTogether, view}
+use Rattle.grub_table.specs.Trails.{Accesses}
+use Rattle.grub_table.specs.inside.Trails.{each_after, joined, known, left_trail, lone, right_trail, trail}
+use Rattle.grub_table.specs.inside.Views.{StandTogether, view}
 use Rattle.atomic_table.specs.Table.{Me}
 
 head_or : {A : Type 0} → A → List A → A

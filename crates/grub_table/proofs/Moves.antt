@@ -24,9 +24,9 @@ use Rattle.grub_table.specs.declared.view.Terms.{Terms}
 use Rattle.grub_table.specs.declared.view.View.{View}
 use Rattle.grub_table.specs.Layout.{queue_word_at}
 use Rattle.grub_table.specs.Histories.{IsHistory, record_in}
-use Rattle.grub_table.specs.Views.{view, alone, nothing, without_first, only_first, both_of, holding, ShareOf, MarkedBy}
-use Rattle.grub_table.specs.Tellings.{Looked, looks, compares}
-use Rattle.grub_table.specs.Rule.{AreLimited, Stands, Known, Held, Grips, Grasps, Written, Kept, Marked, Since}
+use Rattle.grub_table.specs.inside.Views.{view, alone, nothing, without_first, only_first, both_of, holding, ShareOf, MarkedBy}
+use Rattle.grub_table.specs.inside.Tellings.{Looked, looks, compares}
+use Rattle.grub_table.specs.inside.Rule.{AreLimited, Stands, Known, Held, Grips, Grasps, Written, Kept, Marked, Since}
 use Rattle.grub_table.proofs.Growths.{every_weaker, history_more, finished}
 use Rattle.grub_table.proofs.Seats.{known_event, moved, taken, known_split, known_join, held_own, each_own, each_split, each_join}
 

@@ -18,11 +18,13 @@ use Rattle.grub_table.specs.declared.view.Hold.TheVariants.{Free}
 use Rattle.grub_table.specs.declared.view.Share.{Share}
 use Rattle.grub_table.specs.declared.view.Terms.{Terms}
 use Rattle.grub_table.specs.declared.view.View.{View}
-use Rattle.grub_table.specs.Layout.{word_count, queue_word_at, task_word_at, server_word_at, params_word_at}
+use Rattle.grub_table.specs.Layout.{queue_word_at, task_word_at}
+use Rattle.grub_table.specs.inside.Layout.{word_count, server_word_at, params_word_at}
 use Rattle.grub_table.specs.Histories.{Every}
-use Rattle.grub_table.specs.Views.{share, fresh, first_view, MarkedBy}
-use Rattle.grub_table.specs.FirstWords.{AreOpeningWords}
-use Rattle.grub_table.specs.Rule.{AreLimited, Stands, Apart, loose, Grasps, TaskShows, Written, Kept}
+use Rattle.grub_table.specs.Views.{share}
+use Rattle.grub_table.specs.inside.Views.{fresh, first_view, MarkedBy}
+use Rattle.grub_table.specs.inside.FirstWords.{AreOpeningWords}
+use Rattle.grub_table.specs.inside.Rule.{AreLimited, Stands, Apart, loose, Grasps, TaskShows, Written, Kept}
 use Rattle.grub_table.specs.Calls.{AreNew, IsNew}
 use Rattle.grub_table.proofs.Growths.{every_weaker}
 

@@ -4,7 +4,7 @@ use mathlib.Core.Logic.{dite}
 use native.Mathlib.Decide.{ℕ_discrete}
 use Rattle.grub_table.specs.declared.view.Share.{Share}
 use Rattle.grub_table.specs.Histories.{Every}
-use Rattle.grub_table.specs.Rule.{Apart}
+use Rattle.grub_table.specs.inside.Rule.{Apart}
 
 abbrev Mem : ℕ → List ℕ → Type 0
 Mem m [] = ⊥

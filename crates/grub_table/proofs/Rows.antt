@@ -8,8 +8,9 @@ use Rattle.grub_book.specs.declared.place.Record.{Record}
 use Rattle.grub_words.specs.Words.{queue_word}
 use Rattle.grub_table.specs.declared.view.Stored.{Stored}
 use Rattle.grub_table.specs.declared.view.Terms.{Terms}
-use Rattle.grub_table.specs.Layout.{word_count, queue_word_at, task_word_at, server_word_at, params_word_at}
-use Rattle.grub_table.specs.Rule.{Grip, Grips, loose, grip, IsOnly, TaskShows, Written}
+use Rattle.grub_table.specs.Layout.{queue_word_at, task_word_at}
+use Rattle.grub_table.specs.inside.Layout.{word_count, server_word_at, params_word_at}
+use Rattle.grub_table.specs.inside.Rule.{Grip, Grips, loose, grip, IsOnly, TaskShows, Written}
 
 -- ---- grips
 pub put : Grips → ℕ → Grip → Grips

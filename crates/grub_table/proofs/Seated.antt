@@ -17,11 +17,12 @@ use Rattle.grub_table.specs.declared.view.Note.{Note}
 use Rattle.grub_table.specs.declared.view.Share.{Share}
 use Rattle.grub_table.specs.declared.view.Stored.{Stored}
 use Rattle.grub_table.specs.declared.view.Terms.{Terms}
-use Rattle.grub_table.specs.Between.{TheSeat, share_on, hold_of, IsSeatOf, HoldsFor, HoldsMade}
-use Rattle.grub_table.specs.Layout.{queue_word_at, task_word_at, server_word_at, params_word_at, shown, stored_of}
-use Rattle.grub_table.specs.Rule.{Kept}
-use Rattle.grub_table.specs.Trails.{known}
-use Rattle.grub_table.specs.Tellings.{Turns, OfQueue, outcome, LoadedTask, TookClaim, LoadedParams, LoadedServer, LoadedQueue, ChangedQueue, SettledServer, StoredServer, StoredParams, GaveClaim}
+use Rattle.grub_table.specs.inside.Between.{TheSeat, share_on, hold_of, IsSeatOf, HoldsFor, HoldsMade}
+use Rattle.grub_table.specs.Layout.{queue_word_at, task_word_at, shown}
+use Rattle.grub_table.specs.inside.Layout.{server_word_at, params_word_at, stored_of}
+use Rattle.grub_table.specs.inside.Rule.{Kept}
+use Rattle.grub_table.specs.inside.Trails.{known}
+use Rattle.grub_table.specs.inside.Tellings.{Turns, OfQueue, outcome, LoadedTask, TookClaim, LoadedParams, LoadedServer, LoadedQueue, ChangedQueue, SettledServer, StoredServer, StoredParams, GaveClaim}
 use Rattle.grub_table.proofs.Allowed.{load_task_allowed, take_claim_allowed, load_params_allowed, load_server_allowed, load_queue_allowed, change_queue_allowed, settle_server_allowed, store_server_allowed, store_params_allowed, give_up_allowed, give_back_allowed}
 
 module _ (s : Shared) (seat : TheSeat) where

@@ -18,10 +18,10 @@ use Rattle.grub_table.specs.declared.view.Stored.{Stored}
 use Rattle.grub_table.specs.declared.view.Terms.{Terms}
 use Rattle.grub_table.specs.declared.view.View.{View}
 use Rattle.grub_table.specs.Marks.{marker_of}
-use Rattle.grub_table.specs.Layout.{stored_of}
+use Rattle.grub_table.specs.inside.Layout.{stored_of}
 use Rattle.grub_table.specs.Histories.{Every}
-use Rattle.grub_table.specs.Views.{view, alone, nothing, both_of, holding, ShareOf, MarkedBy}
-use Rattle.grub_table.specs.Rule.{Stands, Apart, Known, Grip, Grips, loose, grip, IsOnly, Grasps, Held, Marked}
+use Rattle.grub_table.specs.inside.Views.{view, alone, nothing, both_of, holding, ShareOf, MarkedBy}
+use Rattle.grub_table.specs.inside.Rule.{Stands, Apart, Known, Grip, Grips, loose, grip, IsOnly, Grasps, Held, Marked}
 use Rattle.grub_table.proofs.Growths.{every_append, every_weaker, every_both}
 use Rattle.grub_table.proofs.Marks.{marks-else}
 

@@ -27,12 +27,13 @@ use Rattle.grub_table.specs.declared.view.Mark.TheVariants.{Taken, Given}
 use Rattle.grub_table.specs.declared.view.Note.{Note}
 use Rattle.grub_table.specs.declared.view.Share.{Share}
 use Rattle.grub_table.specs.declared.view.Terms.{Terms}
-use Rattle.grub_table.specs.Between.{TheSeat, share_on, HoldsFor, HoldsMade, Tells, Leaves, SawTask, SawParams, SawServer, SawRecord, Concluded}
+use Rattle.grub_table.specs.inside.Between.{TheSeat, share_on, HoldsFor, HoldsMade, Tells, Leaves, SawTask, SawParams, SawServer, SawRecord, Concluded}
 use Rattle.grub_table.specs.Calls.{share_of, seen, marks, number_of, IsAnswered, IsTaken, IsBusy, IsSighting, IsEarly, marks_of_call}
 use Rattle.grub_table.specs.Histories.{IsHistory, Grows, Finishes, record_in}
-use Rattle.grub_table.specs.Layout.{shown, stored_of}
+use Rattle.grub_table.specs.Layout.{shown}
+use Rattle.grub_table.specs.inside.Layout.{stored_of}
 use Rattle.grub_table.specs.Marks.{AreLawful, MarksGo}
-use Rattle.grub_table.specs.Tellings.{Sees, Calls, CallsIf, DecidesIf, IsOthers, LoadedTask, TookClaim}
+use Rattle.grub_table.specs.inside.Tellings.{Sees, Calls, CallsIf, DecidesIf, IsOthers, LoadedTask, TookClaim}
 use Rattle.grub_table.proofs.Between.{tells_as}
 use Rattle.grub_table.proofs.Growths.{grows_grows, grows_finishes}
 use Rattle.grub_table.proofs.Marks.{marks_both}

@@ -19,10 +19,11 @@ use Rattle.grub_table.specs.declared.view.Stored.{Stored}
 use Rattle.grub_table.specs.declared.view.Terms.{Terms}
 use Rattle.grub_table.specs.declared.view.View.{View}
 use Rattle.grub_table.specs.Marks.{AreLawful, holder_of, handed}
-use Rattle.grub_table.specs.Layout.{task_word_at, server_word_at, params_word_at, shown, stored_of}
-use Rattle.grub_table.specs.Views.{alone, holding}
-use Rattle.grub_table.specs.Tellings.{Sees, Gave, GaveClaim, StoredServer, StoredParams}
-use Rattle.grub_table.specs.Rule.{Known, Grip, Grips, loose, grip, Grasps, IsOnly, holder_in, Kept}
+use Rattle.grub_table.specs.Layout.{task_word_at, shown}
+use Rattle.grub_table.specs.inside.Layout.{server_word_at, params_word_at, stored_of}
+use Rattle.grub_table.specs.inside.Views.{alone, holding}
+use Rattle.grub_table.specs.inside.Tellings.{Sees, Gave, GaveClaim, StoredServer, StoredParams}
+use Rattle.grub_table.specs.inside.Rule.{Known, Grip, Grips, loose, grip, Grasps, IsOnly, holder_in, Kept}
 use Rattle.grub_table.proofs.Marks.{lawful_more, holder_more, handed_here, handed_else, marks_gained}
 use Rattle.grub_table.proofs.Seats.{known_seen, known_kept, marked_more, IsMine}
 use Rattle.grub_table.proofs.Rows.{put, put_here, put_else, only_put, is_loose_not, IsWordOf, words_of, Shows, set_task, set_server, set_params, written_task}

@@ -30,11 +30,12 @@ use Rattle.grub_table.specs.declared.view.Stored.{Stored}
 use Rattle.grub_table.specs.declared.view.Terms.{Terms}
 use Rattle.grub_table.specs.declared.view.View.{View}
 use Rattle.grub_table.specs.Marks.{holder_of, handed}
-use Rattle.grub_table.specs.Layout.{task_word_at, shown, stored_of}
+use Rattle.grub_table.specs.Layout.{task_word_at, shown}
+use Rattle.grub_table.specs.inside.Layout.{stored_of}
 use Rattle.grub_table.specs.Histories.{record_in}
-use Rattle.grub_table.specs.Views.{alone, holding}
-use Rattle.grub_table.specs.Tellings.{CallsIf, IsOthers, LoadedTask, TookClaim}
-use Rattle.grub_table.specs.Rule.{holder_in, Grip, Grips, loose, grip, Grasps, TaskShows, Kept}
+use Rattle.grub_table.specs.inside.Views.{alone, holding}
+use Rattle.grub_table.specs.inside.Tellings.{CallsIf, IsOthers, LoadedTask, TookClaim}
+use Rattle.grub_table.specs.inside.Rule.{holder_in, Grip, Grips, loose, grip, Grasps, TaskShows, Kept}
 use Rattle.grub_table.proofs.Marks.{lawful_more, holder_more, handed_here, handed_else, marks_gained}
 use Rattle.grub_table.proofs.Seats.{known_seen, marked_more, IsMine}
 use Rattle.grub_table.proofs.Rows.{put, put_here, put_else, same_before, Words, words_of, Shows, set_task, written_task}

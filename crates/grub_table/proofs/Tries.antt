@@ -35,13 +35,13 @@ use Rattle.grub_table.specs.declared.view.Mark.TheVariants.{Given}
 use Rattle.grub_table.specs.declared.view.Share.{Share}
 use Rattle.grub_table.specs.declared.view.Stored.{Stored}
 use Rattle.grub_table.specs.declared.view.Terms.{Terms}
-use Rattle.grub_table.specs.Between.{TheSeat, share_on, IsSeatOf, HoldsFor, HoldsMade, Tells, Leaves, SawQueue, Exchanged, GivenUp, Concluded}
+use Rattle.grub_table.specs.inside.Between.{TheSeat, share_on, IsSeatOf, HoldsFor, HoldsMade, Tells, Leaves, SawQueue, Exchanged, GivenUp, Concluded}
 use Rattle.grub_table.specs.Calls.{seen, marks, claim_share, claim_seen, claim_queue, claim_changes_sum, IsClaimOf, IsDone, IsLost, IsFinished, IsCancelled}
 use Rattle.grub_table.specs.Histories.{IsHistory, Grows, Finishes, WasBefore, record_in, reading_in}
-use Rattle.grub_table.specs.Layout.{stored_of}
+use Rattle.grub_table.specs.inside.Layout.{stored_of}
 use Rattle.grub_table.specs.Marks.{AreLawful, MarksGo}
-use Rattle.grub_table.specs.Tellings.{is_decided_at_load, outcome, settled_quietly, Sees, Calls, Decides, IsReadingFor, LoadedQueueAs, SettledServer, StoredServer, StoredParams}
-use Rattle.grub_table.specs.Tries.{is_charge, half_stored, Knows, TriedAs, Tried}
+use Rattle.grub_table.specs.inside.Tellings.{is_decided_at_load, outcome, settled_quietly, Sees, Calls, Decides, IsReadingFor, LoadedQueueAs, SettledServer, StoredServer, StoredParams}
+use Rattle.grub_table.specs.inside.Tries.{is_charge, half_stored, Knows, TriedAs, Tried}
 use Rattle.grub_table.proofs.Growths.{grows_grows, grows_finishes, grows_none}
 use Rattle.grub_table.proofs.Moves.{sound}
 use Rattle.grub_table.proofs.Turns.{under}

@@ -28,11 +28,11 @@ use Rattle.grub_table.specs.declared.view.Stored.{Stored}
 use Rattle.grub_table.specs.declared.view.Terms.{Terms}
 use Rattle.grub_table.specs.declared.view.View.{View}
 use Rattle.grub_table.specs.Marks.{AreLawful, holder_of}
-use Rattle.grub_table.specs.Layout.{stored_of}
+use Rattle.grub_table.specs.inside.Layout.{stored_of}
 use Rattle.grub_table.specs.Histories.{IsHistory, record_in}
-use Rattle.grub_table.specs.Views.{alone, holding, ShareOf, MarkedBy}
-use Rattle.grub_table.specs.Tellings.{Sees, Calls, Adds}
-use Rattle.grub_table.specs.Rule.{Known, Held, Marked, holder_in, Grips, grip, IsOnly, Grasps, Written, Kept}
+use Rattle.grub_table.specs.inside.Views.{alone, holding, ShareOf, MarkedBy}
+use Rattle.grub_table.specs.inside.Tellings.{Sees, Calls, Adds}
+use Rattle.grub_table.specs.inside.Rule.{Known, Held, Marked, holder_in, Grips, grip, IsOnly, Grasps, Written, Kept}
 use Rattle.grub_table.proofs.Growths.{history_more, grown, finished}
 use Rattle.grub_table.proofs.Marks.{marks_seen}
 use Rattle.grub_table.proofs.Seats.{known_event, known_seen, held_turn, held_own, each_own, IsMine}

@@ -9,25 +9,12 @@ use Rattle.grub_table.specs.declared.view.Stored.{Stored}
 abbrev pub spacing : ℕ
 spacing = 16
 
-abbrev pub word_count : Machine → ℕ
-word_count s = spacing * (length s.queues + length s.tasks)
-
 abbrev pub queue_word_at : ℕ → ℕ
 queue_word_at r = spacing * r
 
 abbrev pub task_word_at : Machine → ℕ → ℕ
 task_word_at s t = spacing * (length s.queues + t)
 
-abbrev pub server_word_at : Machine → ℕ → ℕ
-server_word_at s t = task_word_at s t + 1
-
-abbrev pub params_word_at : Machine → ℕ → ℕ
-params_word_at s t = task_word_at s t + 2
-
 -- the task word of a task with this record, whether somebody holds it or not
 abbrev pub shown : Record → Bool → ℕ
 shown x claimed = task_word x.place x.count claimed
-
--- its server word and its parameter word
-abbrev pub stored_of : Record → Stored
-stored_of x = record { server = server_word x.server; params = params_word x.params }

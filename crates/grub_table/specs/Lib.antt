@@ -3,12 +3,8 @@ pub mod Layout
 pub mod Histories
 pub mod Views
 pub mod Tellings
-pub mod Rule
 pub mod Calls
-pub mod Between
-pub mod FirstWords
-pub mod Tries
 pub mod Messages
 pub mod Trails
 pub mod Accesses
-pub mod Brief
+pub mod inside

@@ -15,21 +15,6 @@ use Rattle.grub_table.specs.Histories.{Every, IsHistory}
 abbrev pub share : Terms → ℕ → List Event → Hold → List Mark → Share
 share T i seen hold marks = record { terms = T; number = i; seen = seen; hold = hold; marks = marks }
 
-abbrev pub view : List Share → View
-view xs = record { shares = xs }
-
--- the share of the same pass, with what it knows now
-abbrev pub holding : Share → List Event → Hold → List Mark → Share
-holding x seen hold marks = share x.terms x.number seen hold marks
-
--- the view of one pass
-abbrev pub alone : Share → View
-alone x = view (x ∷ [])
-
--- the view of a spent seat
-abbrev pub nothing : View
-nothing = view []
-
 abbrev pub no_share : Share
 no_share = share (record { setup = record { queues = []; tasks = [] }; passes = 0 }) 0 [] Free []
 
@@ -39,54 +24,3 @@ head_of (x ∷ xs) = x
 
 abbrev pub first_of : View → Share
 first_of v = head_of v.shares
-
-abbrev pub behind : List Share → List Share
-behind [] = []
-behind (x ∷ xs) = xs
-
-abbrev pub front : List Share → List Share
-front [] = []
-front (x ∷ xs) = x ∷ []
-
--- how a view is cut and joined
-abbrev pub without_first : View → View
-without_first v = view (behind v.shares)
-
-abbrev pub only_first : View → View
-only_first v = view (front v.shares)
-
-abbrev pub both_of : View → View → View
-both_of v w = view (w.shares ++ v.shares)
-
--- the shares of n new passes, from number k on
-abbrev pub fresh : Terms → ℕ → ℕ → List Share
-fresh T k zero = []
-fresh T k (suc n) = share T k [] Free [] ∷ fresh T (suc k) n
-
--- the view at the start, of all passes
-abbrev pub first_view : Terms → View
-first_view T = view (fresh T 0 T.passes)
-
--- what a pass has seen is a beginning of the history, which has of the pass just its own calls
-pub record ShareOf (T : Terms) (h : List Event) (x : Share) : Type 0 where
-  pub terms : x.terms ≡ T
-  pub number : x.number < T.passes
-  pub seen : StartsWith h x.seen
-  pub own : calls_of x.number h ≡ calls_of x.number x.seen
-
--- what a pass knows of the marks is a beginning of them, and they have of the pass just its own
-pub record MarkedBy (marks : List Mark) (x : Share) : Type 0 where
-  pub starts : StartsWith marks x.marks
-  pub own : marks_of x.number marks ≡ marks_of x.number x.marks
-
--- the shares stand in one history and in one list of marks
-pub record StandTogether (xs : List Share) : Type 0 where
-  pub terms : Terms
-  pub history : List Event
-  pub marks : List Mark
-  pub is_history : IsHistory terms history
-  pub known : Every (ShareOf terms history) xs
-  pub marked : Every (MarkedBy marks) xs
-
-abbrev pub Sat : Type 0 → Type 0
-Sat S = Me S View

@@ -4,9 +4,9 @@ ghost use mathlib.Core.Option.{none, some};
 ghost use prog.Atomic.{either};
 ghost use Rattle.atomic_table.specs.Table.{step, opening, Allows, Splits, Joins, Final, Seen};
 ghost use Rattle.std.specs.Mem.Slots.{slots_items, slots_len, IsFull};
-ghost use Rattle.grub_table.specs.Rule.{Kept};
-ghost use Rattle.grub_table.specs.Trails.{known, first_trail, left_trail, right_trail, joined, each_after};
-ghost use Rattle.grub_table.specs.Views.{first_view, without_first, only_first, both_of, nothing};
+ghost use Rattle.grub_table.specs.inside.Rule.{Kept};
+ghost use Rattle.grub_table.specs.inside.Trails.{known, first_trail, left_trail, right_trail, joined, each_after};
+ghost use Rattle.grub_table.specs.inside.Views.{first_view, without_first, only_first, both_of, nothing};
 ghost use Rattle.grub_table.specs.declared.view.Access.TheVariants.{Load, Store, Exchange};
 ghost use Rattle.grub_table.specs.declared.view.Note.{Note};
 

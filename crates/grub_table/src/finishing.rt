@@ -3,12 +3,13 @@ ghost use Rattle.std.specs.Prelude.{◌≡◌, ℕ, ◌<◌, ◌≤◌, ◌+◌,
 ghost use Rattle.grub_book.specs.Sound.{IsKept};
 ghost use Rattle.grub_book.specs.Step.{changes_sum, runqueue_of};
 ghost use Rattle.grub_table.specs.declared.view.Access.TheVariants.{Store};
-ghost use Rattle.grub_table.specs.Between.{Concluded, HoldsFor, HoldsMade, Leaves, Tells, made_on, share_on};
-ghost use Rattle.grub_table.specs.Brief.{StoresFew, TriesOnce};
+ghost use Rattle.grub_table.specs.inside.Between.{Concluded, HoldsFor, HoldsMade, Leaves, Tells, made_on, share_on};
+ghost use Rattle.grub_table.specs.inside.Brief.{StoresFew, TriesOnce};
 ghost use Rattle.grub_table.specs.Calls.{accesses, claim_accesses, claim_changes_sum, claim_number, claim_op, claim_task, number_of, terms, IsCancelled, IsClaimOf, IsFinished, IsWithin};
-ghost use Rattle.grub_table.specs.Layout.{queue_word_at, task_word_at, stored_of};
-ghost use Rattle.grub_table.specs.Tellings.{is_decided_at_load};
-ghost use Rattle.grub_table.specs.Tries.{half_stored, is_charge, Knows, Tried};
+ghost use Rattle.grub_table.specs.Layout.{queue_word_at, task_word_at};
+ghost use Rattle.grub_table.specs.inside.Layout.{stored_of};
+ghost use Rattle.grub_table.specs.inside.Tellings.{is_decided_at_load};
+ghost use Rattle.grub_table.specs.inside.Tries.{half_stored, is_charge, Knows, Tried};
 
 use crate::pass::{Claim, Finished, Pass, Shared};
 use crate::view::{Note, Trail};

@@ -3,9 +3,9 @@ ghost use Rattle.std.specs.Prelude.{◌≡◌, ℕ, ◌<◌, ◌≤◌, ◌+◌,
 ghost use Rattle.grub_book.specs.Machine.{IsMachine};
 ghost use Rattle.grub_book.specs.Op.{IsOp};
 ghost use Rattle.grub_table.specs.Calls.{terms, number_of, AreNew, IsOpened};
-ghost use Rattle.grub_table.specs.FirstWords.{AreOpeningWords};
-ghost use Rattle.grub_table.specs.Rule.{AreLimited};
-ghost use Rattle.grub_table.specs.Trails.{first_trail};
+ghost use Rattle.grub_table.specs.inside.FirstWords.{AreOpeningWords};
+ghost use Rattle.grub_table.specs.inside.Rule.{AreLimited};
+ghost use Rattle.grub_table.specs.inside.Trails.{first_trail};
 
 use crate::counted::CountedTable;
 use crate::pass::{OpenFault, Pass, Shared};

@@ -1,8 +1,9 @@
 //! The public types of a table.
 ghost use Rattle.std.specs.Prelude.{◌≡◌, ◌<◌, ◌≤◌, ◌+◌, ◌*◌, [], length, None};
-ghost use Rattle.grub_table.specs.Layout.{word_count};
-ghost use Rattle.grub_table.specs.Rule.{AreLimited};
-ghost use Rattle.grub_table.specs.Trails.{lone, first_made};
+ghost use Rattle.grub_table.specs.inside.Layout.{word_count};
+ghost use Rattle.grub_table.specs.inside.Rule.{AreLimited};
+ghost use Rattle.grub_table.specs.Trails.{first_made};
+ghost use Rattle.grub_table.specs.inside.Trails.{lone};
 ghost use Rattle.grub_table.specs.Views.{first_of};
 ghost use Rattle.grub_table.specs.declared.view.Hold.TheVariants.{Free, Undecided};
 

@@ -7,7 +7,8 @@ ghost use Rattle.grub_book.specs.Step.{count_most};
 ghost use Rattle.grub_book.specs.declared.event.Reading.{Reading};
 ghost use Rattle.grub_book.specs.declared.place.Place.{Place};
 ghost use Rattle.grub_words.specs.Words.{queue_word, server_word, params_word, task_word, PlaceFits, QueueFits, ServerFits, TaskFits};
-ghost use Rattle.grub_table.specs.Layout.{queue_word_at, task_word_at, server_word_at, params_word_at, shown};
+ghost use Rattle.grub_table.specs.Layout.{queue_word_at, task_word_at, shown};
+ghost use Rattle.grub_table.specs.inside.Layout.{server_word_at, params_word_at};
 
 use grub_book::{Reading, Record, Setup};
 use grub_bw::{Params, Server};

@@ -1,6 +1,6 @@
 //! The rule of the table, and what each step tells.
-ghost use Rattle.grub_table.specs.Trails.{left_trail, right_trail, joined, spent, counts_load, counts_store, counts_exchange};
-ghost use Rattle.grub_table.specs.Tellings.{looks, compares, loads_task, takes_claim, loads_params, loads_server, loads_queue, changes_queue, settles_server, stores_server, stores_params, gives_claim};
+ghost use Rattle.grub_table.specs.inside.Trails.{left_trail, right_trail, joined, spent, counts_load, counts_store, counts_exchange};
+ghost use Rattle.grub_table.specs.inside.Tellings.{looks, compares, loads_task, takes_claim, loads_params, loads_server, loads_queue, changes_queue, settles_server, stores_server, stores_params, gives_claim};
 
 use crate::view::{Note, Terms, Trail, View};
 use atomic_table::{Join, Play, Split, TableRule};
@@ -9,7 +9,7 @@ use std::marker::{Brand, PhantomData};
 pub struct OneHistory;
 
 impl TableRule<Note, Trail, Terms> for OneHistory {
-    ghost use Rattle.grub_table.specs.Trails.{KeptOf, first_trail};
+    ghost use Rattle.grub_table.specs.inside.Trails.{KeptOf, first_trail};
 
     ghost holds = { λ terms. KeptOf terms };
 
@@ -51,7 +51,7 @@ pub trait Asked {
 }
 
 impl Asked for Brand {
-    ghost use Rattle.grub_table.specs.Tellings.{no_note};
+    ghost use Rattle.grub_table.specs.inside.Tellings.{no_note};
 
     ghost note = { no_note };
 }

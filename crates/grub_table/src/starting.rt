@@ -7,8 +7,9 @@ ghost use Rattle.grub_book.specs.declared.place.Record.{Record};
 ghost use Rattle.grub_words.specs.Words.{TaskFits};
 ghost use Rattle.grub_table.specs.declared.view.Access.TheVariants.{Load};
 ghost use Rattle.grub_table.specs.Accesses.{StartsBriefly};
-ghost use Rattle.grub_table.specs.Layout.{task_word_at, server_word_at, params_word_at};
-ghost use Rattle.grub_table.specs.Between.{hold_of, made_on, IsSeatOf, HoldsFor, Tells, SawTask, SawRecord};
+ghost use Rattle.grub_table.specs.Layout.{task_word_at};
+ghost use Rattle.grub_table.specs.inside.Layout.{server_word_at, params_word_at};
+ghost use Rattle.grub_table.specs.inside.Between.{hold_of, made_on, IsSeatOf, HoldsFor, Tells, SawTask, SawRecord};
 ghost use Rattle.grub_table.specs.Calls.{terms, accesses, started_accesses, IsPassOf, IsStarted};
 ghost use Rattle.grub_table.specs.declared.view.Hold.TheVariants.{Free};
 

@@ -13,10 +13,11 @@ ghost use Rattle.grub_words.specs.Words.{queue_word, server_word, params_word, t
 ghost use Rattle.grub_table.specs.declared.view.Access.TheVariants.{Load, Store, Exchange};
 ghost use Rattle.grub_table.specs.declared.view.Hold.TheVariants.{Free};
 ghost use Rattle.grub_table.specs.declared.view.Stored.{Stored};
-ghost use Rattle.grub_table.specs.Between.{share_on, hold_of, made_on, IsSeatOf, HoldsFor, HoldsMade, Tells, Leaves, GivenUp, SawReading, SawParams, SawServer, SawQueue, Exchanged, Concluded};
+ghost use Rattle.grub_table.specs.inside.Between.{share_on, hold_of, made_on, IsSeatOf, HoldsFor, HoldsMade, Tells, Leaves, GivenUp, SawReading, SawParams, SawServer, SawQueue, Exchanged, Concluded};
 ghost use Rattle.grub_table.specs.Calls.{terms, number_of};
-ghost use Rattle.grub_table.specs.Layout.{stored_of, queue_word_at, task_word_at, server_word_at, params_word_at};
-ghost use Rattle.grub_table.specs.Tellings.{LoadedTask, TookClaim, SettledServer, StoredServer, StoredParams, outcome};
+ghost use Rattle.grub_table.specs.Layout.{queue_word_at, task_word_at};
+ghost use Rattle.grub_table.specs.inside.Layout.{stored_of, server_word_at, params_word_at};
+ghost use Rattle.grub_table.specs.inside.Tellings.{LoadedTask, TookClaim, SettledServer, StoredServer, StoredParams, outcome};
 
 use crate::pass::{Pass, Shared};
 use crate::row::{

@@ -14,7 +14,7 @@ use Rattle.grub_trace.specs.declared.entry.Entry.{Entry}
 use Rattle.grub_asks.specs.Asked.{entry}
 use Rattle.grub_asks.specs.Keeping.{WaitsRightly}
 use Rattle.grub_timeline.specs.TimeLines.{armer, armer_after, armer_from}
-use Rattle.grub_timeline.specs.InsidePlaying.{AreArmers, IsOfBlock, waits_of}
+use Rattle.grub_timeline.specs.inside.Playing.{AreArmers, IsOfBlock, waits_of}
 
 armer_from-more : (t r : ℕ) (es : List Entry) (e : Entry) → armer_from t r (es ++ e ∷ []) ≡ armer_after t (armer_from t r es) e.ask e.answer
 armer_from-more t r [] e = refl

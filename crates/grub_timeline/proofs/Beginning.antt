@@ -13,8 +13,8 @@ use Rattle.grub_asks.proofs.Kept.{kept_nothing}
 use Rattle.grub_timeline.specs.declared.told.Told.{Told}
 use Rattle.grub_timeline.specs.declared.player.Player.{Player}
 use Rattle.grub_timeline.specs.TimeLines.{armer, entries_of}
-use Rattle.grub_timeline.specs.InsideMerge.{AreNone}
-use Rattle.grub_timeline.specs.InsidePlaying.{AreArmers, IsKnown, IsPlaying}
+use Rattle.grub_timeline.specs.inside.Merge.{AreNone}
+use Rattle.grub_timeline.specs.inside.Playing.{AreArmers, IsKnown, IsPlaying}
 
 abbrev zeros : ℕ → List ℕ
 zeros k = replicate {A = ℕ} k 0

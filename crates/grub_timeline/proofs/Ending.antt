@@ -9,7 +9,7 @@ use Rattle.grub_book.specs.declared.event.Reading.{Reading}
 use Rattle.grub_trace.specs.Plans.{PlanView}
 use Rattle.grub_timeline.specs.declared.player.Player.{Player}
 use Rattle.grub_timeline.specs.TimeLines.{AreClosing, AreWithin, IsTimeLine, history_of}
-use Rattle.grub_timeline.specs.InsidePlaying.{AreReadings, IsPlayed}
+use Rattle.grub_timeline.specs.inside.Playing.{AreReadings, IsPlayed}
 
 closes : (s : Machine) (history : List Event) (records : Records) (closing : List Reading) → records ≡ book_of s history → AreReadings (length s.queues) records closing → AreClosing s history closing
 closes s history records closing is all = record {

@@ -18,8 +18,9 @@ use Rattle.grub_trace.specs.declared.entry.Answer.TheVariants.{Replied, Seen}
 use Rattle.grub_trace.specs.Texts.{IsAskOf}
 use Rattle.grub_asks.specs.Answers.{IsAnswered, event_told}
 use Rattle.grub_timeline.specs.declared.told.Told.{Told}
-use Rattle.grub_timeline.specs.TimeLines.{AreAnswered, AreWithin, entries_of, history_of, told_of}
-use Rattle.grub_timeline.specs.InsidePlaying.{IsKnown}
+use Rattle.grub_timeline.specs.TimeLines.{AreAnswered, AreWithin, entries_of, history_of}
+use Rattle.grub_timeline.specs.inside.TimeLines.{told_of}
+use Rattle.grub_timeline.specs.inside.Playing.{IsKnown}
 
 pub entries_more : (xs : List Told) (x : Told) → entries_of (xs ++ x ∷ []) ≡ entries_of xs ++ x.entry ∷ []
 entries_more xs x = grind (arith, common_steps)

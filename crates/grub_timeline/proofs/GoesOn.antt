@@ -2,7 +2,7 @@
 use Rattle.std.proofs.Common.{◌≡◌, ℕ, List, [], ◌∷◌, ◌++◌, sym, ap, ◌∙◌, subst, append_assoc, append-nil}
 use Rattle.grub_timeline.specs.declared.told.Told.{Told}
 use Rattle.grub_timeline.specs.TimeLines.{AreOf, asker, entries_of}
-use Rattle.grub_timeline.specs.InsidePlaying.{GoesOnOf}
+use Rattle.grub_timeline.specs.inside.Playing.{GoesOnOf}
 
 pub goes_nowhere : (r : ℕ) (before after : List Told) → after ≡ before → GoesOnOf r before after
 goes_nowhere r before after same = record { more = []; list = same ∙ sym (append-nil before); runqueues = tt }

@@ -12,8 +12,9 @@ use Rattle.grub_trace.specs.declared.entry.Entry.{Entry}
 use Rattle.grub_asks.specs.Asked.{AsksDue, Follows, ask_of, entry}
 use Rattle.grub_timeline.specs.declared.order.Placed.{Placed}
 use Rattle.grub_timeline.specs.declared.told.Told.{Told}
-use Rattle.grub_timeline.specs.TimeLines.{AsksPlaced, asker, entries_of, told_of}
-use Rattle.grub_timeline.specs.InsidePlaying.{GoesOnAt, GoesOnOf, IsLineAsked, IsLookedAt}
+use Rattle.grub_timeline.specs.TimeLines.{AsksPlaced, asker, entries_of}
+use Rattle.grub_timeline.specs.inside.TimeLines.{told_of}
+use Rattle.grub_timeline.specs.inside.Playing.{GoesOnAt, GoesOnOf, IsLineAsked, IsLookedAt}
 use Rattle.grub_timeline.proofs.Entries.{entries_more}
 use Rattle.grub_timeline.proofs.GoesOn.{goes_on, goes_twice}
 

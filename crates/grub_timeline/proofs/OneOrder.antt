@@ -6,7 +6,7 @@ use Rattle.std.proofs.lemmas.Bool.{eqb-true}
 use Rattle.grub_trace.specs.declared.line.Line.{Line}
 use Rattle.grub_timeline.specs.declared.order.Placed.{Placed}
 use Rattle.grub_timeline.specs.Order.{IsNotLater, IsOrder, IsSorted, lines_of}
-use Rattle.grub_timeline.specs.InsideMerge.{placed}
+use Rattle.grub_timeline.specs.inside.Merge.{placed}
 use Rattle.grub_timeline.proofs.Sooner.{not_later-refl}
 
 abbrev pub lines_with : Bool → Placed → List Line → List Line

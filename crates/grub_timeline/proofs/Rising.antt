@@ -19,7 +19,8 @@ use Rattle.grub_trace.specs.declared.entry.Answer.{Answer}
 use Rattle.grub_trace.specs.declared.entry.Answer.TheVariants.{Replied}
 use Rattle.grub_trace.specs.declared.entry.Entry.{Entry}
 use Rattle.grub_asks.specs.Asked.{AsksLine, AsksTimer, Follows, JoinsAfter, Timer, ask_of, entry}
-use Rattle.grub_asks.specs.Keeping.{IsLineOp, WaitsRightly}
+use Rattle.grub_asks.specs.Keeping.{WaitsRightly}
+use Rattle.grub_asks.specs.inside.Keeping.{IsLineOp}
 use Rattle.grub_asks.specs.Timers.{Alarm, IsNotAfter, NoneDue, Touch, alarm_after, alarm_at, armed, arms, disarms, leaves, touch, touch_of_answer, touch_of_call, touch_of_reply}
 use Rattle.grub_asks.proofs.Kept.{armed-more}
 use Rattle.grub_asks.proofs.Starts.{follows_start, joins_start}

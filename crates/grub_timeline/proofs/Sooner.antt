@@ -8,7 +8,7 @@ use native.Mathlib.Decide.{ℕ_discrete}
 use Rattle.grub_trace.specs.declared.line.Line.{Line}
 use Rattle.grub_timeline.specs.declared.order.Placed.{Placed}
 use Rattle.grub_timeline.specs.Order.{IsNotLater}
-use Rattle.grub_timeline.specs.InsideMerge.{IsFirst, IsSoonest, NoHead, head_at, placed, sooner_of}
+use Rattle.grub_timeline.specs.inside.Merge.{IsFirst, IsSoonest, NoHead, head_at, placed, sooner_of}
 
 some_same : {X : Type 0} (x y : X) → Some x ≡ Some y → x ≡ y
 some_same x y is = ap (λ o. unwrap_or o x) is

@@ -1,5 +1,4 @@
 pub mod Order
 pub mod TimeLines
 pub mod Messages
-pub mod InsidePlaying
-pub mod InsideMerge
+pub mod inside

@@ -26,9 +26,6 @@ use Rattle.grub_timeline.specs.Order.{IsOrder}
 abbrev pub entries_of : List Told → List Entry
 entries_of told = map (λ (x : Told). x.entry) told
 
-abbrev pub told_of : ℕ → ℕ → Ask → Answer → Told
-told_of r m ask answer = record { r = r; entry = entry m ask answer }
-
 -- the history that the entries tell: each call and reading under the number of its runqueue
 abbrev pub history_of : List Told → List Event
 history_of told = flat_map (λ (x : Told). event_told x.r x.entry.ask x.entry.answer) told

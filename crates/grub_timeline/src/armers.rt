@@ -1,6 +1,6 @@
 //! Which runqueue's block armed the timer of a task.
 ghost use Rattle.std.specs.Prelude.{◌≡◌, ◌<◌, length};
-ghost use Rattle.grub_timeline.specs.InsidePlaying.{waits_of};
+ghost use Rattle.grub_timeline.specs.inside.Playing.{waits_of};
 
 use grub_book::Reply;
 use grub_trace::Answer;

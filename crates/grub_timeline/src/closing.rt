@@ -1,6 +1,6 @@
 //! The closing readings.
 ghost use Rattle.std.specs.Prelude.{◌≡◌, ◌<◌, ℕ, IfOk, length, slice_index_or};
-ghost use Rattle.grub_timeline.specs.InsidePlaying.{AreReadings};
+ghost use Rattle.grub_timeline.specs.inside.Playing.{AreReadings};
 
 use grub_book::{Book, Reading};
 use std::alloc::{AllocError, Global};

@@ -2,7 +2,7 @@
 ghost use Rattle.std.specs.Prelude.{◌≡◌, ◌<◌, ◌^◌, Some, IfOk};
 ghost use Rattle.grub_asks.specs.Asked.{AsksDue};
 ghost use Rattle.grub_timeline.specs.TimeLines.{entries_of};
-ghost use Rattle.grub_timeline.specs.InsidePlaying.{GoesOnAt, IsNotPast, IsPlaying};
+ghost use Rattle.grub_timeline.specs.inside.Playing.{GoesOnAt, IsNotPast, IsPlaying};
 
 use crate::player::{Player, put};
 use grub_book::Op;

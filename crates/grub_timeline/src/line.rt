@@ -3,7 +3,7 @@ ghost use Rattle.std.specs.Prelude.{◌≡◌, ◌<◌, ◌^◌, Some, IfOk, len
 ghost use Rattle.grub_trace.specs.Limits.{ActFits};
 ghost use Rattle.grub_asks.specs.Asked.{Follows, JoinsAfter};
 ghost use Rattle.grub_timeline.specs.TimeLines.{AsksPlaced, entries_of};
-ghost use Rattle.grub_timeline.specs.InsidePlaying.{GoesOnOf, IsLineAsked, IsNotPast, IsPlaying};
+ghost use Rattle.grub_timeline.specs.inside.Playing.{GoesOnOf, IsLineAsked, IsNotPast, IsPlaying};
 
 use crate::due::ask_due;
 use crate::order::Placed;

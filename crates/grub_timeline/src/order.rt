@@ -1,6 +1,6 @@
 //! The line that is next of all files.
 ghost use Rattle.std.specs.Prelude.{◌≡◌, ◌<◌, ◌+◌, IsSome, MatchOption, length, slice_index_or, slice_set};
-ghost use Rattle.grub_timeline.specs.InsideMerge.{IsFirst, NoHead, head_at, sooner_of};
+ghost use Rattle.grub_timeline.specs.inside.Merge.{IsFirst, NoHead, head_at, sooner_of};
 
 use grub_trace::{Line, Plan};
 

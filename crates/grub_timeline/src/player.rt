@@ -2,9 +2,10 @@
 ghost use Rattle.std.specs.Prelude.{◌≡◌, ◌<◌, ◌++◌, ◌∷◌, [], Some, IfOk, length};
 ghost use Rattle.grub_book.specs.Op.{IsOp};
 ghost use Rattle.grub_trace.specs.declared.entry.Ask.TheVariants.{Call, Read};
-ghost use Rattle.grub_asks.specs.Keeping.{IsLineOp, WaitsRightly};
-ghost use Rattle.grub_timeline.specs.TimeLines.{told_of};
-ghost use Rattle.grub_timeline.specs.InsidePlaying.{IsLookedAt, IsOfBlock, IsPlaying, IsToldBy};
+ghost use Rattle.grub_asks.specs.Keeping.{WaitsRightly};
+ghost use Rattle.grub_asks.specs.inside.Keeping.{IsLineOp};
+ghost use Rattle.grub_timeline.specs.inside.TimeLines.{told_of};
+ghost use Rattle.grub_timeline.specs.inside.Playing.{IsLookedAt, IsOfBlock, IsPlaying, IsToldBy};
 
 use crate::armers::note;
 use crate::told::Told;

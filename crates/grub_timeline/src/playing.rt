@@ -3,8 +3,8 @@ ghost use Rattle.std.specs.Prelude.{◌≡◌, [], None, IfOk, length};
 ghost use Rattle.grub_trace.specs.Limits.{PlanFits};
 ghost use Rattle.grub_timeline.specs.Order.{script_at};
 ghost use Rattle.grub_timeline.specs.TimeLines.{AreWithin, DoNotGoBack, IsOneRun, IsOnlyTimeLine, IsTimeLine};
-ghost use Rattle.grub_timeline.specs.InsidePlaying.{IsPlaying, IsPlayed};
-ghost use Rattle.grub_timeline.specs.InsideMerge.{AreNone};
+ghost use Rattle.grub_timeline.specs.inside.Playing.{IsPlaying, IsPlayed};
+ghost use Rattle.grub_timeline.specs.inside.Merge.{AreNone};
 
 use crate::closing::readings_of;
 use crate::fault::PlayFault;

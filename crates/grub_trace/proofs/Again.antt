@@ -17,8 +17,8 @@ use Rattle.grub_trace.specs.Faults.{last_of}
 use Rattle.grub_trace.specs.Naming.{line_in, script_of, all_tasks, plan_of, plan_with}
 use Rattle.grub_trace.specs.Meaning.{GoOn, AreKnown, Reads}
 use Rattle.grub_trace.specs.FirstFault.{parts_of, AreDeclared, IsTree, AreTrees}
-use Rattle.grub_trace.specs.Tree.{declaration_line, happening_line}
-use Rattle.grub_trace.specs.Reading.{Read, FileRead, AllRead, Body, with_file, in_file, read_lines, read_file, opened, read_from, take_line, at_line, ◌>>=◌, times_of, script_from, scripts_from, option_or_err, unknown_in, plan_from, declares, says}
+use Rattle.grub_trace.specs.inside.Tree.{declaration_line, happening_line}
+use Rattle.grub_trace.specs.inside.Reading.{Read, FileRead, AllRead, Body, with_file, in_file, read_lines, read_file, opened, read_from, take_line, at_line, ◌>>=◌, times_of, script_from, scripts_from, option_or_err, unknown_in, plan_from, declares, says}
 use Rattle.grub_trace.proofs.LineLemmas.{lines_step, first_known, second_view}
 use Rattle.grub_trace.proofs.FormLemmas.{version_again}
 use Rattle.grub_trace.proofs.FileLaws.{small_queue}

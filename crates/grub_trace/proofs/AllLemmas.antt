@@ -14,11 +14,12 @@ use Rattle.grub_trace.specs.declared.fault.Kind.{Kind}
 use Rattle.grub_trace.specs.declared.fault.Halt.{Halt}
 use Rattle.grub_trace.specs.declared.fault.Halt.TheVariants as halt
 use Rattle.grub_trace.specs.declared.line.Line.{Line}
-use Rattle.grub_trace.specs.Halts.{fault_of}
+use Rattle.grub_trace.specs.inside.Halts.{fault_of}
 use Rattle.grub_trace.specs.Tree.{names_of, params_of}
 use Rattle.std.proofs.lemmas.Bool.{le-ltb}
 use Rattle.std.proofs.lemmas.Bool.Decides.{nat_tests}
-use Rattle.grub_trace.specs.Reading.{Halts, Faults, AllRead, FileRead, Body, with_file, read_file, read_from, script_from, scripts_from, ScriptHalts, happening_view, deed_view, body_view, contents, plan_from, all_view, declarations, task_view}
+use Rattle.grub_trace.specs.Reading.{contents}
+use Rattle.grub_trace.specs.inside.Reading.{Halts, Faults, AllRead, FileRead, Body, with_file, read_file, read_from, script_from, scripts_from, ScriptHalts, happening_view, deed_view, body_view, plan_from, all_view, declarations, task_view}
 use Rattle.grub_trace.specs.Naming.{act_in, plan_with}
 
 pub drop_item : {X : Type 0} (xs : List X) (i : ℕ) (x : X) → i < length xs → x ≡ get_or xs i x → drop i xs ≡ x ∷ drop (i + 1) xs

@@ -16,7 +16,7 @@ use Rattle.grub_trace.specs.Faults.{Form, form_of, words_of, line_fault, fault_o
 use Rattle.grub_trace.specs.Meaning.{AreKnown}
 use Rattle.grub_trace.specs.FirstFault.{parts_of, front_fault, LineFault, FileFault, IsTree, AreTrees, UnknownIn, UnknownFault, IsFault, too_many, no_file, first, unknown}
 use Rattle.grub_trace.specs.Naming.{all_tasks, line_in, script_of}
-use Rattle.grub_trace.specs.Reading.{Read, FileRead, AllRead, with_file, in_file, read_file, read_first, read_as, opened, file_from, read_second, read_lines, read_from, queue_of, take_option, unless, adds, at_line, ◌>>=◌, times_of, script_from, scripts_from, option_or_err, unknown_in, plan_from}
+use Rattle.grub_trace.specs.inside.Reading.{Read, FileRead, AllRead, with_file, in_file, read_file, read_first, read_as, opened, file_from, read_second, read_lines, read_from, queue_of, take_option, unless, adds, at_line, ◌>>=◌, times_of, script_from, scripts_from, option_or_err, unknown_in, plan_from}
 use Rattle.grub_trace.proofs.PlanLaws.{body_of_tree}
 use Rattle.grub_trace.proofs.WordLemmas.{has_part}
 use Rattle.grub_trace.proofs.LineLemmas.{first_known, second_halts}

@@ -3,7 +3,7 @@ use Rattle.std.proofs.Common.{◌≡◌, ℕ, ◌+◌, ◌-◌, ◌^◌, ◌<◌
 use Rattle.std.specs.Prelude.{codes, decimal}
 use Rattle.std.specs.List.{join_with_byte, flat_map, list_all}
 use Rattle.std.proofs.lemmas.List.{append-nil, length-append, length-map, map-append}
-use Rattle.grub_trace.specs.Reading.{times_of}
+use Rattle.grub_trace.specs.inside.Reading.{times_of}
 use Rattle.grub_trace.specs.Faults.{line_fault}
 use Rattle.grub_trace.proofs.WordLemmas.{has_part}
 use Rattle.std.proofs.lemmas.List.Splits.{join_with_byte-slice_split}
@@ -15,8 +15,8 @@ use Rattle.grub_trace.specs.declared.fault.Kind.TheVariants.{CutShort, BadHeader
 use Rattle.grub_trace.specs.Tree.{Declaration, Tree, text, line, header, head_text, queue_words, declaration_words, happening_words, names_of}
 use Rattle.grub_trace.specs.Faults.{Form, queue, task, does_at, runs_at, retunes_at, reads_at, form_of, words_of, queue_fault, queue_form_fault, begins_with_queue, version_of, is_number, value, capacity_fits, capacity_value}
 use Rattle.grub_trace.specs.FirstFault.{parts_of, front_fault, LineFault, QueueFault, FileFault, IsTree}
-use Rattle.grub_trace.specs.Tree.{declaration_line, happening_line}
-use Rattle.grub_trace.specs.Reading.{Read, FileRead, read_file, read_first, read_as, read_second, file_from, opened, read_lines, read_queue, queue_of, unless, at_line, ◌>>=◌}
+use Rattle.grub_trace.specs.inside.Tree.{declaration_line, happening_line}
+use Rattle.grub_trace.specs.inside.Reading.{Read, FileRead, read_file, read_first, read_as, read_second, file_from, opened, read_lines, read_queue, queue_of, unless, at_line, ◌>>=◌}
 use Rattle.grub_trace.proofs.FormLemmas.{form_is, number_is, version_is}
 use Rattle.grub_trace.proofs.LineLemmas.{bind_ok, at_line_ok, none_if}
 use Rattle.grub_trace.proofs.LineMeaning.{two}

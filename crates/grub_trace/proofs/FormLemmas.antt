@@ -12,7 +12,8 @@ use Rattle.grub_trace.specs.declared.version.Version.TheVariants.{One, Two}
 use Rattle.grub_trace.specs.declared.form.Verb.{Verb}
 use Rattle.grub_trace.specs.declared.form.Verb.TheVariants.{Join, Wake, Block, Leave, Exit}
 use Rattle.grub_trace.specs.Tree.{verb_word, header, is_name}
-use Rattle.grub_trace.specs.Faults.{Form, queue, task, does_at, runs_at, retunes_at, reads_at, form_of, shape_of, is_filled, verb_of, version_of, is_named, is_number, value}
+use Rattle.grub_trace.specs.Faults.{Form, queue, task, does_at, runs_at, retunes_at, reads_at, form_of, shape_of, is_filled, verb_of, version_of, is_number, value}
+use Rattle.grub_trace.specs.inside.Faults.{is_named}
 use Rattle.grub_trace.proofs.NumberLemmas.{numerals}
 
 pub both : (a b : Bool) → (a && b) ≡ true → (a ≡ true) × (b ≡ true)

@@ -6,8 +6,8 @@ use Rattle.grub_trace.specs.declared.fault.Kind.{Kind}
 use Rattle.grub_trace.specs.declared.fault.Kind.TheVariants.{CutShort, BadHeader, BadLine, BadNumber, OutOfRange, MomentGoesBack}
 use Rattle.grub_trace.specs.declared.fault.Stop.{Stop}
 use Rattle.grub_trace.specs.declared.fault.Stop.TheVariants as stop
-use Rattle.grub_trace.specs.Halts.{halt_of}
-use Rattle.grub_trace.specs.Reading.{Read, FileRead, Gives, read_queue, read_second, read_first, read_as, read_file, file_from, opened, unless, adds, take_option, times_of, read_lines, take_line, at_line, ◌>>=◌, Stops, Halts, two_fault, IsRun, IsRetune, take_form}
+use Rattle.grub_trace.specs.inside.Halts.{halt_of}
+use Rattle.grub_trace.specs.inside.Reading.{Read, FileRead, Gives, read_queue, read_second, read_first, read_as, read_file, file_from, opened, unless, adds, take_option, times_of, read_lines, take_line, at_line, ◌>>=◌, Stops, Halts, two_fault, IsRun, IsRetune, take_form}
 use Rattle.grub_trace.specs.FirstFault.{parts_of}
 use Rattle.std.proofs.Common.{◌-◌, Option, Some, None}
 use Rattle.std.proofs.lemmas.List.{length_push}

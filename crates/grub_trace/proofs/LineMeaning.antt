@@ -11,11 +11,12 @@ use Rattle.grub_trace.proofs.LimitTests.{reservation_is}
 use Rattle.grub_trace.specs.declared.version.Version.{Version}
 use Rattle.grub_trace.specs.declared.fault.Kind.TheVariants.{BadLine, BadNumber, OutOfRange, DuplicateTask, MomentGoesBack}
 use Rattle.grub_trace.specs.Tree.{Declaration, does, runs, retunes, reads, Happening, is_moment, is_span, names_of, verb_word}
-use Rattle.grub_trace.specs.Faults.{Form, queue, task, does_at, runs_at, retunes_at, reads_at, words_of, form_fault, is_named, is_number, value, task_of, last_of, is_allowed, is_in_range, is_fresh, is_timely, numbers_of, reservation_fits, reservation_value}
-use Rattle.grub_trace.specs.Reading.{Read, take_line, declares, says, adds, times_of}
+use Rattle.grub_trace.specs.Faults.{Form, queue, task, does_at, runs_at, retunes_at, reads_at, words_of, form_fault, is_number, value, task_of, last_of, is_allowed, is_in_range, is_fresh, is_timely, numbers_of, reservation_fits, reservation_value}
+use Rattle.grub_trace.specs.inside.Faults.{is_named}
+use Rattle.grub_trace.specs.inside.Reading.{Read, take_line, declares, says, adds, times_of}
 use Rattle.grub_trace.specs.Meaning.{IsHappeningFrom}
 use Rattle.grub_trace.specs.FirstFault.{IsDeclaration}
-use Rattle.grub_trace.specs.Tree.{declaration_line, happening_line}
+use Rattle.grub_trace.specs.inside.Tree.{declaration_line, happening_line}
 use Rattle.grub_trace.proofs.FormLemmas.{form_is, form_words, number_is, both}
 use Rattle.grub_trace.proofs.LineLemmas.{taken, none_if}
 

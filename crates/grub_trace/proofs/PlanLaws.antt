@@ -13,7 +13,7 @@ use Rattle.grub_trace.specs.Plans.{PlanView}
 use Rattle.grub_trace.specs.Naming.{line_in, script_of, all_tasks, plan_of, plan_with}
 use Rattle.grub_trace.specs.Meaning.{AreKnown, Reads}
 use Rattle.grub_trace.specs.FirstFault.{AreTrees, FileFault, UnknownIn, FirstFault, UnknownFault, IsFault, too_many, no_file, first, unknown}
-use Rattle.grub_trace.specs.Reading.{AllRead, FileRead, Body, body_of, with_file, in_file, read_file, read_from, ◌>>=◌, script_from, option_or_err, scripts_from, unknown_in, plan_from, plan_of_read}
+use Rattle.grub_trace.specs.inside.Reading.{AllRead, FileRead, Body, body_of, with_file, in_file, read_file, read_from, ◌>>=◌, script_from, option_or_err, scripts_from, unknown_in, plan_from, plan_of_read}
 use Rattle.grub_trace.proofs.LineLemmas.{bind_ok}
 use Rattle.grub_trace.proofs.Together.{together}
 use Rattle.grub_trace.proofs.FileLaws.{file_read, file_fault, FileIs}

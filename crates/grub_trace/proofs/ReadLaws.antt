@@ -9,7 +9,7 @@ use Rattle.grub_trace.specs.Naming.{plan_of}
 use Rattle.grub_trace.specs.Meaning.{Reads}
 use Rattle.grub_trace.specs.FirstFault.{IsTraceFault, IsFault, IsOnly}
 use Rattle.grub_trace.proofs.FaultAgain.{plan_fault_again}
-use Rattle.grub_trace.specs.Reading.{Answers, plan_from}
+use Rattle.grub_trace.specs.inside.Reading.{Answers, plan_from}
 use Rattle.grub_trace.specs.declared.fault.Kind.{Kind}
 use Rattle.grub_trace.proofs.PlanLaws.{plan_read, plan_fault}
 use Rattle.grub_trace.proofs.Again.{plan_again}

@@ -5,7 +5,7 @@ use Rattle.std.proofs.lemmas.List.{map_push, length-map}
 use Rattle.std.specs.Str.{bytes_eq, IsUtf8}
 use Rattle.std.proofs.lemmas.Str.{IsUtf8-string_bytes}
 use Rattle.grub_trace.specs.Tree.{Declaration, names_of}
-use Rattle.grub_trace.specs.Reading.{task_view}
+use Rattle.grub_trace.specs.inside.Reading.{task_view}
 use Rattle.grub_trace.specs.declared.tasks.Task.{Task}
 use Rattle.std.specs.Cmp.Lexicographic.{bytes_decides}
 use Rattle.grub_trace.specs.Faults.{task_of}

@@ -56,17 +56,6 @@ is_number (c ∷ cs) = list_all is_ascii_digit (c ∷ cs) && (not (c == 48) || l
 abbrev pub value : List ℕ → ℕ
 value digits = digits_value 10 digits
 
--- the name in a form is a name
-abbrev pub is_named : Form → Bool
-is_named (queue a b) = true
-is_named (task n q p) = is_name n
-is_named (does_at m v n) = is_name n
-is_named (runs_at m n d) = is_name n
-is_named (retunes_at m n q p) = is_name n
-is_named (reads_at m) = true
-
--- ---- the tests of a line below the second
-
 abbrev pub numbers_of : Form → List (List ℕ)
 numbers_of (queue a b) = a ∷ b ∷ []
 numbers_of (task n q p) = q ∷ p ∷ []

@@ -1,6 +1,5 @@
 pub mod Faults
 pub mod FirstFault
-pub mod Halts
 pub mod Limits
 pub mod Meaning
 pub mod Messages
@@ -10,3 +9,4 @@ pub mod Reading
 pub mod Texts
 pub mod Writing
 pub mod Tree
+pub mod inside

@@ -64,13 +64,6 @@ happening_words m = codes "at" ∷ decimal m.at ∷ deed_words m.deed
 abbrev pub line : List (List ℕ) → List ℕ
 line words = join_with_byte 32 words ++ 10 ∷ []
 
--- the same without that byte
-abbrev pub declaration_line : Declaration → List ℕ
-declaration_line d = join_with_byte 32 (declaration_words d)
-
-abbrev pub happening_line : Happening → List ℕ
-happening_line m = join_with_byte 32 (happening_words m)
-
 -- the first two lines
 abbrev pub head_text : Version → Capacity → List ℕ
 head_text v c = header v ++ 10 ∷ line (queue_words c)

@@ -1,8 +1,9 @@
 //! What the lines below the second say, with the names of tasks as the lines have them.
 
 ghost use Rattle.std.specs.Prelude.{◌≡◌, map, OnOk, IfOk, IfSome, is_some, List, length, Ok, Some, None, true};
-ghost use Rattle.grub_trace.specs.Reading.{read_view, take_line, take_form, declarations, IsIndexed, Takes, happening_view, times_of, says, deed_view, declares, Stops, Says, Declares, IsMoment, IsRun, IsRetune, form_view};
-ghost use Rattle.grub_trace.specs.Faults.{last_of, is_named, reservation_fits};
+ghost use Rattle.grub_trace.specs.inside.Reading.{read_view, take_line, take_form, declarations, IsIndexed, Takes, happening_view, times_of, says, deed_view, declares, Stops, Says, Declares, IsMoment, IsRun, IsRetune, form_view};
+ghost use Rattle.grub_trace.specs.Faults.{last_of, reservation_fits};
+ghost use Rattle.grub_trace.specs.inside.Faults.{is_named};
 ghost use Rattle.grub_trace.specs.Tree.{is_name};
 
 use crate::fault::{Kind, Stop};

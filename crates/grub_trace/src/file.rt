@@ -1,7 +1,7 @@
 //! One file: its version, its runqueue, and the lines below.
 
 ghost use Rattle.std.specs.Prelude.{◌≡◌, OnOk, IfSome, is_some};
-ghost use Rattle.grub_trace.specs.Reading.{opened, happening_view, declarations, IsIndexed, read_view, read_lines, read_queue, Gives, GivesOpening, GivesQueue, file_view, read_second, read_file};
+ghost use Rattle.grub_trace.specs.inside.Reading.{opened, happening_view, declarations, IsIndexed, read_view, read_lines, read_queue, Gives, GivesOpening, GivesQueue, file_view, read_second, read_file};
 ghost use Rattle.grub_trace.specs.FirstFault.{parts_of};
 ghost use Rattle.grub_trace.specs.Faults.{capacity_fits, version_of};
 
@@ -70,7 +70,7 @@ fn read_queue(line: &[u8]) -> Result<Queue, Kind>
     }
 }
 
-#[tactic(auto, unfolding(crate::specs::Reading::read_second))]
+#[tactic(auto, unfolding(crate::specs::inside::Reading::read_second))]
 /// Reads the second line and those below it.
 fn read_second<'a>(
     alloc: Global,
@@ -105,7 +105,7 @@ fn read_second<'a>(
     })
 }
 
-#[tactic(auto, unfolding(crate::specs::Reading::read_file, crate::specs::Reading::read_first))]
+#[tactic(auto, unfolding(crate::specs::inside::Reading::read_file, crate::specs::inside::Reading::read_first))]
 /// Reads a file, after the tasks of the files before it.
 pub fn read_file<'a>(alloc: Global, tasks: &mut Tasks, bytes: &'a [u8]) -> Result<RawFile<'a>, Halt>
     requires indexed { IsIndexed tasks.old }

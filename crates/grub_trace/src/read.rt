@@ -1,7 +1,8 @@
 //! All files, one after the other, and the names that they use.
 
 ghost use Rattle.std.specs.Prelude.{◌≡◌, ◌<◌, ◌≤◌, ℕ, List, MatchResult, IfOk, IfErr, [], length, map, string_bytes};
-ghost use Rattle.grub_trace.specs.Reading.{Answers, AnswersOpening, all_view, read_from, contents, IsIndexed, declarations, script_from, ScriptIs, happening_view, deed_view, body_view, scripts_from, plan_from};
+ghost use Rattle.grub_trace.specs.Reading.{contents};
+ghost use Rattle.grub_trace.specs.inside.Reading.{Answers, AnswersOpening, all_view, read_from, IsIndexed, declarations, script_from, ScriptIs, happening_view, deed_view, body_view, scripts_from, plan_from};
 ghost use Rattle.grub_trace.specs.Naming.{act_in, line_in};
 ghost use Rattle.grub_trace.specs.Tree.{Tree, names_of};
 ghost use Rattle.grub_trace.specs.Meaning.{Reads};
@@ -144,7 +145,7 @@ fn names(alloc: Global, tasks: Vec<Task>) -> Result<Vec<String>, TraceFault>
     Ok(names)
 }
 
-#[tactic(auto, unfolding(crate::specs::Reading::plan_from))]
+#[tactic(auto, unfolding(crate::specs::inside::Reading::plan_from))]
 /// The plan of event files, as the function on lists gives it.
 fn plan(alloc: Global, files: &[Vec<u8>]) -> Result<Plan, TraceFault>
     ensures answers { Answers result (λ p. p) (plan_from (contents files.now)) }

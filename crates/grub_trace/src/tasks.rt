@@ -3,7 +3,7 @@
 ghost use Rattle.std.specs.Prelude.{◌≡◌, ◌<◌, length, ◌∷◌, [], ◌++◌, OnOk, IfErr, None};
 ghost use Rattle.grub_trace.specs.Tree.{is_name, names_of};
 ghost use Rattle.grub_trace.specs.Faults.{task_of};
-ghost use Rattle.grub_trace.specs.Reading.{declarations, IsIndexed};
+ghost use Rattle.grub_trace.specs.inside.Reading.{declarations, IsIndexed};
 
 use crate::fault::Stop;
 use grub_bw::Params;

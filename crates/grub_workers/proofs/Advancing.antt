@@ -16,8 +16,9 @@ use Rattle.grub_trace.specs.declared.entry.Ask.TheVariants.{Call, Read}
 use Rattle.grub_trace.specs.declared.entry.Answer.{Answer}
 use Rattle.grub_trace.specs.declared.entry.Answer.TheVariants.{Replied, Seen, Busy, Lost}
 use Rattle.grub_trace.specs.declared.entry.Entry.{Entry}
-use Rattle.grub_workers.specs.Evidence.{AreBacked, CallsElse, IsBacked, IsOvertaken, ShowsHolder, TakesElse}
-use Rattle.grub_workers.specs.Working.{Advances}
+use Rattle.grub_workers.specs.Evidence.{IsOvertaken}
+use Rattle.grub_workers.specs.inside.Evidence.{AreBacked, CallsElse, IsBacked, ShowsHolder, TakesElse}
+use Rattle.grub_workers.specs.inside.Working.{Advances}
 use Rattle.grub_workers.proofs.Finding.{Somewhere, any_of, somewhere_of, somewhere_left}
 
 pub advances_grows : (T : Terms) (n i : ℕ) (a b : List Event) (k l more : List Mark) → Grows T i a b → MarksGo n i k l more → Advances i a b k l [] more

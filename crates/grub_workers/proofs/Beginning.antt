@@ -10,9 +10,9 @@ use Rattle.grub_table.specs.Calls.{marks, seen}
 use Rattle.grub_trace.specs.declared.entry.Entry.{Entry}
 use Rattle.grub_trace.specs.Texts.{IsAskOf}
 use Rattle.grub_workers.specs.declared.worker.Worker.{Worker}
-use Rattle.grub_workers.specs.Evidence.{IsBacked}
+use Rattle.grub_workers.specs.inside.Evidence.{IsBacked}
 use Rattle.grub_asks.proofs.Kept.{kept_nothing}
-use Rattle.grub_workers.specs.Working.{IsAtWork, IsFresh, IsToldBy, machine}
+use Rattle.grub_workers.specs.inside.Working.{IsAtWork, IsFresh, IsToldBy, machine}
 
 told_nothing : (s : Shared) (tries i : ℕ) (p : Pass) → IsFresh s i p → IsToldBy s tries i p []
 told_nothing s tries i p fresh = record {

@@ -17,9 +17,9 @@ use Rattle.grub_trace.specs.declared.entry.Entry.{Entry}
 use Rattle.grub_asks.specs.Asked.{entry}
 use Rattle.grub_trace.specs.Texts.{IsAskOf}
 use Rattle.grub_asks.specs.Answers.{AreAsksOf, event_told, events_told}
-use Rattle.grub_workers.specs.Entries.{mark_told, marks_told}
-use Rattle.grub_workers.specs.Evidence.{AreBacked, IsBacked}
-use Rattle.grub_workers.specs.Working.{Advances, IsAsked, IsToldBy, machine}
+use Rattle.grub_workers.specs.inside.Entries.{mark_told, marks_told}
+use Rattle.grub_workers.specs.inside.Evidence.{AreBacked, IsBacked}
+use Rattle.grub_workers.specs.inside.Working.{Advances, IsAsked, IsToldBy, machine}
 use Rattle.grub_asks.proofs.Starts.{events_more}
 use Rattle.grub_workers.proofs.Advancing.{all_backed_later}
 

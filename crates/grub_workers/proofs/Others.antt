@@ -18,7 +18,7 @@ use Rattle.grub_book.proofs.Claims.{outside_same}
 use Rattle.grub_table.specs.declared.view.Mark.{Mark}
 use Rattle.grub_table.specs.declared.view.Mark.TheVariants.{Taken, Given}
 use Rattle.grub_table.specs.Marks.{Holders, nobody_holds, handed, held_from, holder_of}
-use Rattle.grub_workers.specs.Evidence.{TakesElse, CallsElse}
+use Rattle.grub_workers.specs.inside.Evidence.{TakesElse, CallsElse}
 use Rattle.grub_workers.proofs.Finding.{Somewhere, any_of, append_none, filter_none, somewhere_left, somewhere_right, all_left, all_right}
 
 not_own : (i : ℕ) (e : Event) → (pass_of e == i) ≡ false → pass_of e ≢ i

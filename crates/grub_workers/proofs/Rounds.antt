@@ -24,9 +24,9 @@ use Rattle.grub_table.specs.Histories.{Grows, Finishes, record_in}
 use Rattle.grub_table.specs.Calls.{IsPassOf, IsAnswered, IsTaken, IsBusy, IsDone, IsLost, IsCancelled, IsSighting, IsClaimedSighting, number_of, claim_number, claim_task, claim_op, claim_record, claim_queue, claim_changes_sum, seen, marks, claim_seen, claim_marks, marks_of_call, terms}
 use Rattle.grub_trace.specs.declared.entry.Ask.TheVariants.{Call}
 use Rattle.grub_trace.specs.declared.entry.Answer.TheVariants.{Replied, Busy, Lost}
-use Rattle.grub_workers.specs.Evidence.{ShowsHolder}
+use Rattle.grub_workers.specs.inside.Evidence.{ShowsHolder}
 use Rattle.grub_asks.specs.Keeping.{IsBlockBefore, WaitsRightly}
-use Rattle.grub_workers.specs.Working.{Advances, IsAsked, machine}
+use Rattle.grub_workers.specs.inside.Working.{Advances, IsAsked, machine}
 use Rattle.grub_workers.proofs.Advancing.{advances_grows, advances_finishes, advances_twice, advances_none}
 use Rattle.grub_workers.proofs.Others.{calls_between, held_else}
 use Rattle.grub_workers.proofs.Turns.{IsFree, IsHolding, HasLost}

@@ -30,10 +30,12 @@ use Rattle.grub_trace.specs.declared.entry.Entry.{Entry}
 use Rattle.grub_trace.specs.declared.entry.Report.{Report}
 use Rattle.grub_trace.specs.Plans.{PlanView}
 use Rattle.grub_asks.specs.Answers.{event_told, events_told}
-use Rattle.grub_workers.specs.Entries.{HeldTask, has_held, mark_told, marks_told}
-use Rattle.grub_workers.specs.Evidence.{AreBacked, CallsElse, IsBacked, ShowsHolder, TakesElse}
-use Rattle.grub_workers.specs.Working.{IsFresh, machine}
-use Rattle.grub_workers.specs.Handles.{AllFresh, AllWorked, script_at}
+use Rattle.grub_workers.specs.Entries.{HeldTask, has_held}
+use Rattle.grub_workers.specs.inside.Entries.{mark_told, marks_told}
+use Rattle.grub_workers.specs.inside.Evidence.{AreBacked, CallsElse, IsBacked, ShowsHolder, TakesElse}
+use Rattle.grub_workers.specs.inside.Working.{IsFresh, machine}
+use Rattle.grub_workers.specs.Handles.{script_at}
+use Rattle.grub_workers.specs.inside.Handles.{AllFresh, AllWorked}
 use Rattle.grub_workers.specs.Runs.{HeldElsewhere, IsNotVain, IsReportOf, IsRun, entries_of}
 use Rattle.grub_workers.proofs.Finding.{Somewhere, any_of, found, somewhere_of, somewhere_filter, somewhere_flat, somewhere_weaker}
 use Rattle.grub_workers.proofs.Advancing.{all_backed_later}

@@ -10,8 +10,8 @@ use Rattle.grub_table.specs.declared.pass.Shared.{Shared}
 use Rattle.grub_table.specs.Calls.{IsPassOf, IsClaimOf, number_of, claim_number, claim_task, claim_op, claim_queue, claim_changes_sum, seen, marks, claim_seen, claim_marks}
 use Rattle.grub_workers.specs.declared.asking.Turn.{Turn}
 use Rattle.grub_workers.specs.declared.asking.Turn.TheVariants as turns
-use Rattle.grub_workers.specs.Evidence.{ShowsHolder}
-use Rattle.grub_workers.specs.Working.{Advances, machine}
+use Rattle.grub_workers.specs.inside.Evidence.{ShowsHolder}
+use Rattle.grub_workers.specs.inside.Working.{Advances, machine}
 
 -- the pass holds nothing, and after a round it knows who held the task
 pub record IsFree (s : Shared) (round : ℕ) (p : Pass) (t : ℕ) (now : Pass) : Type 0 where

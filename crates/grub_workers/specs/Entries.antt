@@ -17,14 +17,6 @@ has_held (Seen reading) = false
 has_held Busy = false
 has_held Lost = true
 
-abbrev pub mark_told : ℕ → Ask → Answer → List Mark
-mark_told i (Call t op) answer = if has_held answer then Taken i t ∷ Given i t ∷ [] else []
-mark_told i Read answer = []
-
--- a Taken and a Given for each entry that was answered Lost, or by a reply under a claim
-abbrev pub marks_told : ℕ → List Entry → List Mark
-marks_told i entries = flat_map (λ e. mark_told i e.ask e.answer) entries
-
 -- the ask is one on task t, whose worker held it
 abbrev pub HeldTask : ℕ → Ask → Answer → Type 0
 HeldTask t (Call u op) answer = (u ≡ t) × IsTrue (has_held answer)

@@ -17,20 +17,6 @@ use Rattle.grub_trace.specs.declared.entry.Answer.{Answer}
 use Rattle.grub_trace.specs.declared.entry.Answer.TheVariants.{Replied, Seen, Busy, Lost}
 use Rattle.grub_trace.specs.declared.entry.Entry.{Entry}
 
--- another pass than i took task t
-abbrev pub TakesElse : ℕ → ℕ → Mark → Type 0
-TakesElse i t (Taken j u) = (u ≡ t) × (j ≢ i)
-TakesElse i t (Given j u) = ⊥
-
--- another pass than i made a call on task t, and held it for that
-abbrev pub CallsElse : ℕ → ℕ → Event → Type 0
-CallsElse i t (events.Call j u op reply) = (u ≡ t) × (j ≢ i) × IsTrue (is_under_claim reply)
-CallsElse i t (events.Look j r reading) = ⊥
-
--- the history or the marks show that another pass than i held task t
-abbrev pub ShowsHolder : ℕ → ℕ → List Event → List Mark → Type 0
-ShowsHolder i t history marks = Any (CallsElse i t) history ⊎ Any (TakesElse i t) marks
-
 -- The op of pass i was to change a sum, and others were first: at some point of the history the task's record x let it change a sum of its runqueue,
 -- and from an earlier point on, with no event of pass i between, the reading of that runqueue became another at least once for each try.
 pub record IsOvertaken (s : Machine) (tries i t : ℕ) (op : Op) (history : List Event) : Type 0 where
@@ -43,17 +29,3 @@ pub record IsOvertaken (s : Machine) (tries i t : ℕ) (op : Op) (history : List
   pub earlier : List Event
   pub none_own : calls_of i point ≡ calls_of i earlier
   pub changes : HasChanged s (runqueue_of x.place op) earlier point tries
-
--- what stands behind an answer by which an ask was given up
-abbrev pub IsBacked : Machine → ℕ → ℕ → List Event → List Mark → Ask → Answer → Type 0
-IsBacked s tries i history marks (Call t op) Busy = ShowsHolder i t history marks
-IsBacked s tries i history marks (Call t op) Lost = IsOvertaken s tries i t op history
-IsBacked s tries i history marks (Call t op) (Replied reply) = Unit {0}
-IsBacked s tries i history marks (Call t op) (Seen reading) = ⊥
-IsBacked s tries i history marks Read (Seen reading) = Unit {0}
-IsBacked s tries i history marks Read (Replied reply) = ⊥
-IsBacked s tries i history marks Read Busy = ⊥
-IsBacked s tries i history marks Read Lost = ⊥
-
-abbrev pub AreBacked : Machine → ℕ → ℕ → List Event → List Mark → List Entry → Type 0
-AreBacked s tries i history marks entries = All (λ (e : Entry). IsBacked s tries i history marks e.ask e.answer) entries

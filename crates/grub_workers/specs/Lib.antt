@@ -1,7 +1,7 @@
 pub mod Entries
 pub mod Evidence
-pub mod Working
 pub mod Handles
 pub mod Runs
 pub mod Apart
 pub mod Messages
+pub mod inside

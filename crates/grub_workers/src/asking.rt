@@ -4,7 +4,7 @@ ghost use Rattle.grub_book.specs.Op.{IsOp};
 ghost use Rattle.grub_table.specs.Calls.{IsPassOf, terms};
 ghost use Rattle.grub_trace.specs.declared.entry.Ask.TheVariants.{Call};
 ghost use Rattle.grub_asks.specs.Keeping.{WaitsRightly};
-ghost use Rattle.grub_workers.specs.Working.{IsAsked};
+ghost use Rattle.grub_workers.specs.inside.Working.{IsAsked};
 
 use crate::desk::Desk;
 use crate::gate::Gate;

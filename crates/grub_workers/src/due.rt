@@ -2,7 +2,7 @@
 ghost use Rattle.std.specs.Prelude.{◌≡◌, ◌<◌, ◌≤◌, ◌^◌, Some, IfOk, length};
 ghost use Rattle.grub_table.specs.Calls.{terms};
 ghost use Rattle.grub_asks.specs.Asked.{AsksDue};
-ghost use Rattle.grub_workers.specs.Working.{IsAtWork, IsNotPast};
+ghost use Rattle.grub_workers.specs.inside.Working.{IsAtWork, IsNotPast};
 
 use crate::desk::Desk;
 use crate::gate::Gate;

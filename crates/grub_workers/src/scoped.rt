@@ -2,8 +2,8 @@
 ghost use Rattle.std.specs.Prelude.{◌≡◌, ℕ, ◌<◌, ◌≤◌, None, length, IfOk, vec_len, slice_index_or};
 ghost use Rattle.grub_table.specs.Calls.{terms};
 ghost use Rattle.grub_trace.specs.Limits.{ScriptFits};
-ghost use Rattle.grub_workers.specs.Working.{IsFresh, IsWorked};
-ghost use Rattle.grub_workers.specs.Handles.{AllFit, AllFresh, AllWorked, Handle, HasRoom, IsOf};
+ghost use Rattle.grub_workers.specs.inside.Working.{IsFresh, IsWorked};
+ghost use Rattle.grub_workers.specs.inside.Handles.{AllFit, AllFresh, AllWorked, Handle, HasRoom, IsOf};
 
 use crate::desk::Desk;
 use crate::gate::Gate;

@@ -3,7 +3,7 @@ ghost use Rattle.std.specs.Prelude.{◌≡◌, ◌<◌, ◌≤◌, ◌^◌, [], 
 ghost use Rattle.grub_table.specs.Calls.{terms};
 ghost use Rattle.grub_asks.specs.Asked.{Asked, AsksLine, Follows, JoinsAfter};
 ghost use Rattle.grub_trace.specs.Limits.{ActFits, ScriptFits};
-ghost use Rattle.grub_workers.specs.Working.{IsAtWork, IsNotPast};
+ghost use Rattle.grub_workers.specs.inside.Working.{IsAtWork, IsNotPast};
 
 use crate::desk::Desk;
 use crate::due::ask_due;

@@ -2,7 +2,7 @@
 ghost use Rattle.std.specs.Prelude.{◌≡◌, ◌<◌, ◌≤◌, IfOk, length};
 ghost use Rattle.grub_table.specs.Calls.{terms};
 ghost use Rattle.grub_trace.specs.Limits.{ScriptFits};
-ghost use Rattle.grub_workers.specs.Working.{IsFresh, IsWorked};
+ghost use Rattle.grub_workers.specs.inside.Working.{IsFresh, IsWorked};
 
 use crate::desk::Desk;
 use crate::gate::Gate;

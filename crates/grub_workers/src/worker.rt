@@ -4,8 +4,9 @@ ghost use Rattle.grub_book.specs.Op.{IsOp};
 ghost use Rattle.grub_table.specs.Calls.{terms};
 ghost use Rattle.grub_trace.specs.declared.entry.Ask.TheVariants.{Call, Read};
 ghost use Rattle.grub_asks.specs.Asked.{GoesOn, entry};
-ghost use Rattle.grub_asks.specs.Keeping.{IsLineOp, WaitsRightly};
-ghost use Rattle.grub_workers.specs.Working.{IsAtWork, IsToldBy};
+ghost use Rattle.grub_asks.specs.Keeping.{WaitsRightly};
+ghost use Rattle.grub_asks.specs.inside.Keeping.{IsLineOp};
+ghost use Rattle.grub_workers.specs.inside.Working.{IsAtWork, IsToldBy};
 
 use crate::asking::ask;
 use crate::desk::Desk;

@@ -5,8 +5,10 @@ use Rattle.grub_table.specs.Calls.{terms, AreNew}
 use Rattle.grub_table.specs.Histories.{IsHistory}
 use Rattle.grub_table.specs.Marks.{AreLawful}
 use Rattle.grub_table.specs.declared.view.Access.TheVariants.{Load}
-use Rattle.grub_table.specs.Trails.{each_after, head_made, known, trail}
-use Rattle.grub_table.specs.Views.{view, alone, first_of, only_first, without_first}
+use Rattle.grub_table.specs.Trails.{head_made}
+use Rattle.grub_table.specs.inside.Trails.{each_after, known, trail}
+use Rattle.grub_table.specs.Views.{first_of}
+use Rattle.grub_table.specs.inside.Views.{view, alone, only_first, without_first}
 use Rattle.grub_table.proofs.Moves.{split_allowed_as}
 use Rattle.grub_table.proofs.Counts.{length_tails, only_one}
 use Rattle.grub_table.proofs.Openings.{fresh_next, new_more}

@@ -1,7 +1,7 @@
 use Rattle.std.proofs.Common.{◌≡◌, ◌-◌, [], length}
 use Rattle.grub_table.specs.Calls.{terms, AreNew}
-use Rattle.grub_table.specs.Trails.{known}
-use Rattle.grub_table.specs.Views.{view, fresh}
+use Rattle.grub_table.specs.inside.Trails.{known}
+use Rattle.grub_table.specs.inside.Views.{view, fresh}
 use Rattle.grub_table.proofs.opening.dealt.Given as goal
 
 abbrev pub invariant-loop-number : goal.invariant-loop-number

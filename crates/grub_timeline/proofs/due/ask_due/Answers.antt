@@ -5,11 +5,12 @@ use Rattle.grub_book.specs.declared.op.Op.TheVariants as ops
 use Rattle.grub_wheel.specs.TimerBag.{WheelState}
 use Rattle.grub_trace.specs.declared.entry.Ask.TheVariants.{Call}
 use Rattle.grub_asks.specs.Asked.{AsksTimer}
-use Rattle.grub_asks.specs.Keeping.{IsKept}
+use Rattle.grub_asks.specs.inside.Keeping.{IsKept}
 use Rattle.grub_asks.proofs.Alarms.{len_taken, next_due, none_due, touched_removed}
 use Rattle.grub_asks.proofs.Kept.{kept_call}
-use Rattle.grub_timeline.specs.TimeLines.{armer, entries_of, told_of}
-use Rattle.grub_timeline.specs.InsidePlaying.{AreArmers}
+use Rattle.grub_timeline.specs.TimeLines.{armer, entries_of}
+use Rattle.grub_timeline.specs.inside.TimeLines.{told_of}
+use Rattle.grub_timeline.specs.inside.Playing.{AreArmers}
 use Rattle.grub_timeline.proofs.Arming.{armers_timer}
 use Rattle.grub_timeline.proofs.Entries.{entries_more}
 use Rattle.grub_timeline.proofs.GoesOn.{goes_nowhere, goes_on, goes_twice}

@@ -2,7 +2,7 @@ use Rattle.grub_asks.specs.Asked.{Follows}
 use Rattle.grub_asks.proofs.Lines.{if_ok_weaker}
 use Rattle.grub_timeline.specs.declared.player.Player.{Player}
 use Rattle.grub_timeline.specs.TimeLines.{entries_of}
-use Rattle.grub_timeline.specs.InsidePlaying.{GoesOnOf, IsLineAsked, IsLookedAt}
+use Rattle.grub_timeline.specs.inside.Playing.{GoesOnOf, IsLineAsked, IsLookedAt}
 use Rattle.grub_timeline.proofs.Lining.{called, called_of, looked, looked_of}
 use Rattle.grub_timeline.proofs.GoesOn.{goes_twice}
 use Rattle.grub_timeline.proofs.line.ask.Goals as goal

@@ -1,6 +1,6 @@
 use Rattle.grub_timeline.specs.declared.player.Player.{Player}
 use Rattle.grub_timeline.specs.TimeLines.{AsksPlaced, entries_of}
-use Rattle.grub_timeline.specs.InsidePlaying.{GoesOnOf, IsLineAsked}
+use Rattle.grub_timeline.specs.inside.Playing.{GoesOnOf, IsLineAsked}
 use Rattle.grub_timeline.proofs.Lining.{if_ok_both, placed_asked}
 use Rattle.grub_timeline.proofs.line.ask_line.Goals as goal
 

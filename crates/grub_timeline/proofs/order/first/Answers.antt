@@ -1,5 +1,5 @@
 use Rattle.std.proofs.Common.{◌+◌, ap, sym, ◌∙◌, subst, arith}
-use Rattle.grub_timeline.specs.InsideMerge.{IsSoonest, sooner_of}
+use Rattle.grub_timeline.specs.inside.Merge.{IsSoonest, sooner_of}
 use Rattle.grub_timeline.proofs.Sooner.{first_of, soonest_next}
 use Rattle.grub_timeline.proofs.order.first.Goals as goal
 

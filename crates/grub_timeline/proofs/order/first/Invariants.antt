@@ -1,4 +1,4 @@
-use Rattle.grub_timeline.specs.InsideMerge.{IsSoonest}
+use Rattle.grub_timeline.specs.inside.Merge.{IsSoonest}
 use Rattle.grub_timeline.proofs.order.first.Given as goal
 
 abbrev pub invariant-loop-r : goal.invariant-loop-r

@@ -3,10 +3,12 @@ use Rattle.grub_book.specs.Machine.{Machine}
 use Rattle.grub_wheel.specs.TimerBag.{TimerBag, WheelState}
 use Rattle.grub_trace.specs.declared.entry.Ask.TheVariants.{Call}
 use Rattle.grub_asks.specs.Timers.{touch_of_call}
-use Rattle.grub_asks.specs.Keeping.{IsKept, IsTouched}
+use Rattle.grub_asks.specs.Keeping.{IsTouched}
+use Rattle.grub_asks.specs.inside.Keeping.{IsKept}
 use Rattle.grub_asks.proofs.Kept.{kept_call}
-use Rattle.grub_timeline.specs.TimeLines.{entries_of, told_of}
-use Rattle.grub_timeline.specs.InsidePlaying.{AreArmers, waits_of}
+use Rattle.grub_timeline.specs.TimeLines.{entries_of}
+use Rattle.grub_timeline.specs.inside.TimeLines.{told_of}
+use Rattle.grub_timeline.specs.inside.Playing.{AreArmers, waits_of}
 use Rattle.grub_timeline.proofs.Arming.{armers_call}
 use Rattle.grub_timeline.proofs.Entries.{entries_more}
 use Rattle.grub_timeline.proofs.player.call.Goals as goal

@@ -2,7 +2,8 @@ use Rattle.std.proofs.Common.{◌≡◌, ◌++◌, ◌∷◌, [], rules, ap, ◌
 use Rattle.grub_trace.specs.declared.entry.Ask.TheVariants.{Read}
 use Rattle.grub_trace.specs.declared.entry.Answer.TheVariants.{Seen}
 use Rattle.grub_asks.proofs.Kept.{kept_look}
-use Rattle.grub_timeline.specs.TimeLines.{entries_of, told_of}
+use Rattle.grub_timeline.specs.TimeLines.{entries_of}
+use Rattle.grub_timeline.specs.inside.TimeLines.{told_of}
 use Rattle.grub_timeline.proofs.Arming.{armers_look}
 use Rattle.grub_timeline.proofs.Entries.{entries_more, known_look}
 use Rattle.grub_timeline.proofs.player.look.Goals as goal

@@ -1,6 +1,6 @@
 use Rattle.std.proofs.Common.{rules, sym, subst}
 use Rattle.grub_book.specs.Machine.{Machine}
-use Rattle.grub_timeline.specs.InsidePlaying.{IsKnown}
+use Rattle.grub_timeline.specs.inside.Playing.{IsKnown}
 use Rattle.grub_timeline.proofs.Entries.{known_call}
 use Rattle.grub_timeline.proofs.player.put.Goals as goal
 

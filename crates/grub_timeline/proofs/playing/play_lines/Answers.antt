@@ -2,7 +2,7 @@ use Rattle.std.proofs.Common.{◌<◌, List, ℕ, sym, subst}
 use Rattle.grub_trace.specs.Limits.{ActFits}
 use Rattle.grub_book.specs.Machine.{Machine}
 use Rattle.std.proofs.Common.{length}
-use Rattle.grub_timeline.specs.InsideMerge.{IsFirst, NoHead, left}
+use Rattle.grub_timeline.specs.inside.Merge.{IsFirst, NoHead, left}
 use Rattle.grub_timeline.proofs.Merging.{fits_here, less, midway_first, midway_next, played_of}
 use Rattle.grub_timeline.proofs.playing.play_lines.Goals as goal
 

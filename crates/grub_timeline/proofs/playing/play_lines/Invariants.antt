@@ -1,4 +1,4 @@
-use Rattle.grub_timeline.specs.InsideMerge.{IsMidway, left}
+use Rattle.grub_timeline.specs.inside.Merge.{IsMidway, left}
 use Rattle.grub_timeline.proofs.playing.play_lines.Given as goal
 
 -- the lines so far were asked, and those that are left come after them

@@ -1,6 +1,6 @@
 use Rattle.std.proofs.Common.{sym, ◌∙◌}
 use Rattle.std.proofs.lemmas.Result.{err_from_is_err_and}
-use Rattle.grub_trace.specs.Reading.{read_view}
+use Rattle.grub_trace.specs.inside.Reading.{read_view}
 use Rattle.grub_trace.proofs.LineLemmas.{run_stops, retune_stops}
 use Rattle.grub_trace.proofs.body.take_form.Goals as goal
 

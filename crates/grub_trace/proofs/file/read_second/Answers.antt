@@ -1,8 +1,8 @@
 use Rattle.std.proofs.Common.{sym, arith}
 use Rattle.std.proofs.lemmas.Result.{err_from_is_err_and}
 use Rattle.std.proofs.lemmas.List.{length-map}
-use Rattle.grub_trace.specs.Reading.{declarations}
-use Rattle.grub_trace.specs.Reading.{task_view}
+use Rattle.grub_trace.specs.inside.Reading.{declarations}
+use Rattle.grub_trace.specs.inside.Reading.{task_view}
 use Rattle.grub_trace.proofs.LineLemmas.{second_err, second_halts, second_view, lines_grow}
 use Rattle.grub_trace.proofs.Openings.{second_late, opening_is, opening_late}
 use Rattle.grub_trace.proofs.file.read_second.Goals as goal

@@ -3,7 +3,7 @@ use Rattle.std.proofs.lemmas.Fn.{FoldsTo-push}
 use Rattle.grub_book.specs.declared.op.Op.TheVariants as ops
 use Rattle.grub_wheel.specs.TimerBag.{WheelState}
 use Rattle.grub_asks.specs.Asked.{AsksTimer}
-use Rattle.grub_workers.specs.Working.{machine}
+use Rattle.grub_workers.specs.inside.Working.{machine}
 use Rattle.grub_asks.proofs.Alarms.{len_taken, next_due, none_due, touched_removed}
 use Rattle.grub_asks.proofs.Kept.{kept_call}
 use Rattle.grub_workers.proofs.due.ask_due.Goals as goal

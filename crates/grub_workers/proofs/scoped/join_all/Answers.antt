@@ -1,8 +1,9 @@
 use Rattle.std.proofs.Common.{◌≡◌, ℕ, ◌+◌, vec_len, rules, arith}
 use Rattle.grub_table.specs.declared.pass.Pass.{Pass}
 use Rattle.grub_trace.specs.declared.entry.Report.{Report}
-use Rattle.grub_workers.specs.Handles.{Handle, IsOf, script_at}
-use Rattle.grub_workers.specs.Working.{IsWorked}
+use Rattle.grub_workers.specs.Handles.{script_at}
+use Rattle.grub_workers.specs.inside.Handles.{Handle, IsOf}
+use Rattle.grub_workers.specs.inside.Working.{IsWorked}
 use Rattle.grub_workers.proofs.Steps.{shifted, taken, grown_both}
 use Rattle.grub_workers.proofs.scoped.join_all.Goals as goal
 

@@ -1,7 +1,8 @@
 use Rattle.std.proofs.Common.{◌≡◌, ℕ, ◌+◌, ◌<◌, ◌≤◌, length, get_or, vec_items, vec_len, vec_capacity, None}
 use Rattle.std.specs.Vec.Iter.{into_iter_items, into_iter_len}
-use Rattle.grub_workers.specs.Handles.{IsOf, script_at}
-use Rattle.grub_workers.specs.Working.{IsWorked}
+use Rattle.grub_workers.specs.Handles.{script_at}
+use Rattle.grub_workers.specs.inside.Handles.{IsOf}
+use Rattle.grub_workers.specs.inside.Working.{IsWorked}
 use Rattle.grub_workers.proofs.scoped.join_all.Given as goal
 
 -- as long as all went well, the results are those of the first workers, and the handles that are left are of the next ones

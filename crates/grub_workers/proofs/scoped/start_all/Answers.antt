@@ -1,9 +1,10 @@
 use Rattle.std.proofs.Common.{◌≡◌, ℕ, ◌+◌, [], vec_len, rules, arith, ap, sym, ◌∙◌}
 use Rattle.std.proofs.lemmas.Option.{get_or_from_slice_get}
 use Rattle.grub_table.specs.declared.pass.Pass.{Pass}
-use Rattle.grub_workers.specs.Working.{IsFresh}
+use Rattle.grub_workers.specs.inside.Working.{IsFresh}
 use Rattle.grub_workers.specs.declared.work.WorkOf.{WorkOf}
-use Rattle.grub_workers.specs.Handles.{Handle, IsOf, script_at}
+use Rattle.grub_workers.specs.Handles.{script_at}
+use Rattle.grub_workers.specs.inside.Handles.{Handle, IsOf}
 use Rattle.grub_workers.proofs.Steps.{shifted, taken, grown}
 use Rattle.grub_workers.proofs.scoped.start_all.Goals as goal
 

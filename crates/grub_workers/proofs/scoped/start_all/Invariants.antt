@@ -1,7 +1,7 @@
 use Rattle.std.proofs.Common.{◌≡◌, ℕ, ◌+◌, ◌<◌, ◌≤◌, length, get_or, vec_items, vec_len, vec_capacity, None}
 use Rattle.std.specs.Vec.Iter.{into_iter_items, into_iter_len}
-use Rattle.grub_workers.specs.Working.{IsFresh}
-use Rattle.grub_workers.specs.Handles.{IsOf}
+use Rattle.grub_workers.specs.inside.Working.{IsFresh}
+use Rattle.grub_workers.specs.inside.Handles.{IsOf}
 use Rattle.grub_workers.proofs.scoped.start_all.Given as goal
 
 -- the handles are those of the first workers, and the passes that are left are the next ones

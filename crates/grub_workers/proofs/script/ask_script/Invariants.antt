@@ -3,7 +3,7 @@ use Rattle.std.specs.List.{FoldsTo}
 use Rattle.grub_table.specs.Calls.{terms}
 use Rattle.grub_asks.specs.Asked.{AsksLine}
 use Rattle.grub_trace.specs.Limits.{ScriptFits}
-use Rattle.grub_workers.specs.Working.{IsAtWork, IsNotPast}
+use Rattle.grub_workers.specs.inside.Working.{IsAtWork, IsNotPast}
 use Rattle.grub_workers.proofs.script.ask_script.Given as goal
 
 -- the lines so far were asked, and those that are left begin no earlier than the wheel's latest moment

@@ -2,7 +2,7 @@ use Rattle.std.proofs.Common.{ap, ◌∙◌, subst}
 use Rattle.grub_wheel.specs.TimerBag.{TimerBag, WheelState}
 use Rattle.grub_asks.specs.Timers.{touch_of_call}
 use Rattle.grub_asks.specs.Keeping.{IsTouched}
-use Rattle.grub_workers.specs.Working.{machine}
+use Rattle.grub_workers.specs.inside.Working.{machine}
 use Rattle.grub_asks.proofs.Kept.{kept_call}
 use Rattle.grub_workers.proofs.worker.call.Goals as goal
 

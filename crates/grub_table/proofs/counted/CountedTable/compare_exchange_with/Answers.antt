@@ -3,7 +3,7 @@ use mathlib.Core.Option.{some}
 use prog.Atomic.{either}
 use Rattle.atomic_table.specs.Table.{step}
 use Rattle.grub_table.specs.declared.view.Access.TheVariants.{Exchange}
-use Rattle.grub_table.specs.Trails.{known}
+use Rattle.grub_table.specs.inside.Trails.{known}
 use Rattle.grub_table.proofs.Counts.{counted}
 use Rattle.grub_table.proofs.counted.CountedTable.compare_exchange_with.Goals as goal
 

@@ -1,7 +1,7 @@
 use mathlib.Core.Option.{none}
 use Rattle.atomic_table.specs.Table.{step}
 use Rattle.grub_table.specs.declared.view.Access.TheVariants.{Load}
-use Rattle.grub_table.specs.Trails.{known}
+use Rattle.grub_table.specs.inside.Trails.{known}
 use Rattle.grub_table.proofs.Counts.{counted}
 use Rattle.grub_table.proofs.counted.CountedTable.load.Goals as goal
 

@@ -5,7 +5,7 @@ use Rattle.grub_book.specs.declared.reply.Reply.{Reply}
 use Rattle.grub_words.proofs.Bounds.{ServerFits-kept}
 use Rattle.grub_table.specs.Calls.{claim_share}
 use Rattle.grub_table.specs.Histories.{Finishes, WasBefore}
-use Rattle.grub_table.specs.Layout.{stored_of}
+use Rattle.grub_table.specs.inside.Layout.{stored_of}
 use Rattle.grub_table.proofs.Brief.{made_by_try}
 use Rattle.grub_table.proofs.Tries.{done, lost, stored_server, tried_marks, tried_calls, tried_was, tried_made, tried_kept, tried_claimed}
 use Rattle.grub_table.proofs.pass.Shared.attempt.Goals as goal

@@ -4,8 +4,8 @@ use Rattle.grub_book.specs.Step.{settled}
 use Rattle.grub_book.specs.Totals.{shifted_of}
 use Rattle.grub_book.specs.declared.place.Record.{Record}
 use Rattle.grub_book.specs.declared.reply.Reply.{Reply}
-use Rattle.grub_table.specs.Between.{Tells, Exchanged}
-use Rattle.grub_table.specs.Tries.{Tried}
+use Rattle.grub_table.specs.inside.Between.{Tells, Exchanged}
+use Rattle.grub_table.specs.inside.Tries.{Tried}
 use Rattle.grub_table.proofs.Between.{reading_fits_for}
 use Rattle.grub_table.proofs.Seated.{about_there}
 use Rattle.grub_table.proofs.Tries.{reading_is, tried_at_load, holds_still, new_fits, tried_won, tried_lost}

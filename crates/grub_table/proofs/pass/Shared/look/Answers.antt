@@ -1,5 +1,5 @@
 use Rattle.std.proofs.Common.{◌<◌, length, ap, sym, subst, ◌∙◌, arith}
-use Rattle.grub_table.specs.Between.{share_on}
+use Rattle.grub_table.specs.inside.Between.{share_on}
 use Rattle.grub_table.specs.declared.view.Terms.{Terms}
 use Rattle.grub_table.proofs.Moves.{look_allowed}
 use Rattle.grub_table.specs.declared.view.Access.TheVariants.{Load}

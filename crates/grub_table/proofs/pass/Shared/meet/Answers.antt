@@ -1,8 +1,9 @@
 use Rattle.std.proofs.Common.{[], ◌∷◌, ap, sym, subst, ◌∙◌, arith}
 use Rattle.grub_table.specs.declared.view.View.{View}
 use Rattle.grub_table.specs.Calls.{share_of}
-use Rattle.grub_table.specs.Trails.{known}
-use Rattle.grub_table.specs.Views.{StandTogether, first_of}
+use Rattle.grub_table.specs.inside.Trails.{known}
+use Rattle.grub_table.specs.Views.{first_of}
+use Rattle.grub_table.specs.inside.Views.{StandTogether}
 use Rattle.grub_table.proofs.Moves.{join_allowed, compare_allowed, split_allowed_as}
 use Rattle.grub_table.proofs.Meets.{both_known, both_seen, left_is, met, marked_met, right_is}
 use Rattle.grub_table.proofs.pass.Shared.meet.Goals as goal

@@ -1,6 +1,6 @@
 use Rattle.std.proofs.Common.{subst, arith}
-use Rattle.grub_table.specs.Between.{Tells}
-use Rattle.grub_table.specs.Tellings.{StoredParams}
+use Rattle.grub_table.specs.inside.Between.{Tells}
+use Rattle.grub_table.specs.inside.Tellings.{StoredParams}
 use Rattle.grub_table.specs.declared.view.Access.TheVariants.{Store}
 use Rattle.grub_table.proofs.Between.{made_at, tells_of}
 use Rattle.grub_table.proofs.Seated.{word_within, on_store_params}

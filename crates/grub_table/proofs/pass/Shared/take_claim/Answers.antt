@@ -1,10 +1,10 @@
 use Rattle.std.proofs.Common.{◌==◌, [], ◌∷◌, ◌++◌, ap, subst, ◌∙◌, arith}
 use Rattle.grub_words.specs.Words.{task_word}
 use Rattle.grub_table.specs.declared.view.Access.TheVariants.{Exchange}
-use Rattle.grub_table.specs.Between.{Tells, made_on}
+use Rattle.grub_table.specs.inside.Between.{Tells, made_on}
 use Rattle.grub_table.specs.Calls.{terms}
 use Rattle.grub_table.specs.Layout.{task_word_at}
-use Rattle.grub_table.specs.Tellings.{TookClaim}
+use Rattle.grub_table.specs.inside.Tellings.{TookClaim}
 use Rattle.grub_table.proofs.Between.{made_at, tells_of}
 use Rattle.grub_table.proofs.Seated.{word_within, on_take_claim}
 use Rattle.grub_table.proofs.pass.Shared.take_claim.Goals as goal

@@ -13,8 +13,8 @@ use Rattle.grub_table.specs.declared.view.Share.{Share}
 use Rattle.grub_table.specs.declared.view.Stored.{Stored}
 use Rattle.grub_table.specs.declared.view.Terms.{Terms}
 use Rattle.grub_table.specs.Histories.{record_in}
-use Rattle.grub_table.specs.Layout.{stored_of}
-use Rattle.grub_table.specs.Tellings.{Sees, Decides}
+use Rattle.grub_table.specs.inside.Layout.{stored_of}
+use Rattle.grub_table.specs.inside.Tellings.{Sees, Decides}
 
 -- whether the op takes a run from a budget
 abbrev pub is_charge : Op → Bool

@@ -3,7 +3,8 @@ use Rattle.std.specs.Prelude.{◌≡◌, ℕ, ◌<◌, List, length, slice_index
 use Rattle.grub_bw.specs.Server.{fresh_of}
 use Rattle.grub_book.specs.Machine.{Machine, task_at}
 use Rattle.grub_words.specs.Words.{server_word, params_word}
-use Rattle.grub_table.specs.Layout.{word_count, queue_word_at, task_word_at, server_word_at, params_word_at}
+use Rattle.grub_table.specs.Layout.{queue_word_at, task_word_at}
+use Rattle.grub_table.specs.inside.Layout.{word_count, server_word_at, params_word_at}
 
 -- no bandwidth on the runqueues, the tasks away with block count 0, and the first n of them with a full budget
 pub record AreOpeningWords (s : Machine) (n : ℕ) (words : List ℕ) : Type 0 where

@@ -13,11 +13,11 @@ use Rattle.grub_trace.specs.declared.entry.Ask.{Ask}
 use Rattle.grub_trace.specs.declared.entry.Answer.{Answer}
 use Rattle.grub_trace.specs.declared.entry.Entry.{Entry}
 use Rattle.grub_asks.specs.Asked.{Asked}
-use Rattle.grub_asks.specs.Keeping.{IsKept}
+use Rattle.grub_asks.specs.inside.Keeping.{IsKept}
 use Rattle.grub_workers.specs.declared.worker.Worker.{Worker}
 use Rattle.grub_asks.specs.Answers.{AreAsksOf, event_told, events_told}
-use Rattle.grub_workers.specs.Entries.{mark_told, marks_told}
-use Rattle.grub_workers.specs.Evidence.{IsBacked, AreBacked}
+use Rattle.grub_workers.specs.inside.Entries.{mark_told, marks_told}
+use Rattle.grub_workers.specs.inside.Evidence.{IsBacked, AreBacked}
 
 abbrev pub machine : Shared → Machine
 machine s = (terms s).setup

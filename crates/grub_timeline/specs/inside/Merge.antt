@@ -7,7 +7,7 @@ use Rattle.grub_trace.specs.Plans.{PlanView}
 use Rattle.grub_timeline.specs.declared.player.Player.{Player}
 use Rattle.grub_timeline.specs.Order.{IsNotLater, IsSorted, lines_of, script_at}
 use Rattle.grub_timeline.specs.TimeLines.{AskedInOrder}
-use Rattle.grub_timeline.specs.InsidePlaying.{IsNotPast, IsPlaying}
+use Rattle.grub_timeline.specs.inside.Playing.{IsNotPast, IsPlaying}
 
 abbrev pub placed : ℕ → Line → Placed
 placed r line = record { r = r; line = line }

@@ -14,12 +14,13 @@ use Rattle.grub_trace.specs.declared.entry.Answer.TheVariants.{Replied, Seen}
 use Rattle.grub_trace.specs.declared.entry.Entry.{Entry}
 use Rattle.grub_trace.specs.Plans.{PlanView}
 use Rattle.grub_asks.specs.Asked.{Follows, ask_of, entry}
-use Rattle.grub_asks.specs.Keeping.{IsKept}
+use Rattle.grub_asks.specs.inside.Keeping.{IsKept}
 use Rattle.grub_timeline.specs.declared.order.Placed.{Placed}
 use Rattle.grub_timeline.specs.declared.told.Told.{Told}
 use Rattle.grub_timeline.specs.declared.player.Player.{Player}
 use Rattle.grub_timeline.specs.Order.{IsOrder}
-use Rattle.grub_timeline.specs.TimeLines.{AreAnswered, AreOf, AreWithin, AskedInOrder, armer, entries_of, history_of, told_of}
+use Rattle.grub_timeline.specs.TimeLines.{AreAnswered, AreOf, AreWithin, AskedInOrder, armer, entries_of, history_of}
+use Rattle.grub_timeline.specs.inside.TimeLines.{told_of}
 
 -- the book is the one after the history that the entries tell, which is legal and leaves out none of them
 pub record IsKnown (s : Machine) (records : Records) (told : List Told) : Type 0 where

@@ -19,9 +19,10 @@ use Rattle.grub_table.specs.declared.view.Hold.{Hold}
 use Rattle.grub_table.specs.declared.view.Hold.TheVariants.{Free, Undecided, Decided}
 use Rattle.grub_table.specs.declared.view.View.{View}
 use Rattle.grub_table.specs.Marks.{AreLawful, holder_of}
-use Rattle.grub_table.specs.Layout.{word_count, queue_word_at, task_word_at, server_word_at, params_word_at, shown, stored_of}
+use Rattle.grub_table.specs.Layout.{queue_word_at, task_word_at, shown}
+use Rattle.grub_table.specs.inside.Layout.{word_count, server_word_at, params_word_at, stored_of}
 use Rattle.grub_table.specs.Histories.{Every, IsHistory, record_in}
-use Rattle.grub_table.specs.Views.{ShareOf, MarkedBy}
+use Rattle.grub_table.specs.inside.Views.{ShareOf, MarkedBy}
 
 -- all numbers of a setup are within the limits
 abbrev pub AreLimited : Machine → Type 0

@@ -1,0 +1,9 @@
+pub mod Between
+pub mod Brief
+pub mod FirstWords
+pub mod Layout
+pub mod Rule
+pub mod Tellings
+pub mod Trails
+pub mod Tries
+pub mod Views

@@ -1,0 +1,209 @@
+-- What each single step tells the pass that makes it. x is its share before the step, and y after it.
+use Rattle.std.specs.Prelude.{◌≡◌, ◌≢◌, ◌⊎◌, ℕ, ◌≤◌, Bool, true, false, List, [], ◌∷◌, Option, Some, None}
+use mathlib.Core.Option.{Option as MOption, some, none}
+use Rattle.atomic_table.specs.Table.{Step}
+use Rattle.grub_book.specs.Machine.{queue_at}
+use Rattle.grub_book.specs.History.{StartsWith}
+use Rattle.grub_book.specs.Sound.{IsKept}
+use Rattle.grub_book.specs.Step.{early, refused, settled}
+use Rattle.grub_book.specs.Totals.{Counts}
+use Rattle.grub_book.specs.declared.event.Event.{Event}
+use Rattle.grub_book.specs.declared.event.Event.TheVariants.{Call, Look}
+use Rattle.grub_book.specs.declared.event.Reading.{Reading}
+use Rattle.grub_book.specs.declared.op.Op.{Op}
+use Rattle.grub_book.specs.declared.op.Op.TheVariants.{Leave}
+use Rattle.grub_book.specs.declared.place.Record.{Record}
+use Rattle.grub_book.specs.declared.reply.Reply.{Reply}
+use Rattle.grub_book.specs.declared.reply.Reply.TheVariants.{Charged, Full, DeadlineOverflow}
+use Rattle.grub_words.specs.Words.{queue_word, QueueFits}
+use Rattle.grub_table.specs.declared.view.Mark.{Mark}
+use Rattle.grub_table.specs.declared.view.Mark.TheVariants.{Taken, Given}
+use Rattle.grub_table.specs.declared.view.Note.{Note}
+use Rattle.grub_table.specs.declared.view.Stored.{Stored}
+use Rattle.grub_table.specs.declared.view.Terms.{Terms}
+use Rattle.grub_table.specs.declared.view.Share.{Share}
+use Rattle.grub_table.specs.declared.view.Hold.TheVariants.{Free, Undecided, Decided}
+use Rattle.grub_table.specs.Marks.{MarksGo, holder_of}
+use Rattle.grub_table.specs.Layout.{queue_word_at, shown}
+use Rattle.grub_table.specs.inside.Layout.{stored_of}
+use Rattle.grub_table.specs.Histories.{Grows, Finishes, WasBefore, record_in, reading_in}
+use Rattle.grub_table.specs.Views.{first_of}
+use Rattle.grub_table.specs.inside.Views.{alone, Sat, StandTogether}
+use Rattle.grub_table.specs.Tellings.{IsHeldByOther, WasClaimedWord}
+
+-- a reply that stands as soon as the runqueue's word is loaded
+abbrev pub is_decided_at_load : Reply → Bool
+is_decided_at_load (Charged dq k q d) = true
+is_decided_at_load Full = true
+is_decided_at_load DeadlineOverflow = true
+is_decided_at_load reply = false
+
+-- the new record and the reply of an op whose outcome hangs on no runqueue
+abbrev pub settled_quietly : Record → Op → Record × Reply
+settled_quietly x op = settled x (record { most = 1; extra = 0 }) (record { running = 0; this = 0 }) op
+
+-- the history went on, with no event of the pass
+abbrev pub Sees : Terms → Share → Share → Type 0
+Sees T x y = Grows T x.number x.seen y.seen
+
+-- the history went on and ends with this call of the pass
+abbrev pub Calls : Terms → Share → ℕ → Op → Reply → Share → Type 0
+Calls T x t op reply y = Finishes T x.number x.seen (Call x.number t op reply) y.seen
+
+-- the marks went on, and these are the pass's own
+abbrev pub Adds : Terms → Share → List Mark → Share → Type 0
+Adds T x more y = MarksGo T.passes x.number x.marks y.marks more
+
+-- where there is a reply, the call was made
+abbrev pub CallsIf : Option Reply → Terms → Share → ℕ → Op → Share → Type 0
+CallsIf None T x t op y = Sees T x y
+CallsIf (Some reply) T x t op y = Calls T x t op reply y
+
+-- the task word of a task that a pass other than i holds
+abbrev pub IsOthers : Terms → ℕ → ℕ → ℕ → Share → Type 0
+IsOthers T i t word y = WasClaimedWord T y.seen t word × IsHeldByOther i t y.marks
+
+-- a look: a runqueue's word was loaded
+abbrev pub Looked : ℕ → ℕ → Terms → Share → Share → Type 0
+Looked r found T x y =
+    (y.hold ≡ x.hold) × (y.marks ≡ x.marks)
+    × ((now : Reading) × (found ≡ queue_word now) × QueueFits now × Finishes T x.number x.seen (Look x.number r now) y.seen)
+    × ((t : ℕ) (op : Op) (rec : Record) → x.hold ≡ Undecided t op rec → record_in T y.seen t ≡ rec)
+
+-- load-task: the task word was loaded, which is the event where the place, the count or the ticket decides the reply
+abbrev pub LoadedTask : Note → ℕ → Terms → Share → Share → Type 0
+LoadedTask n found T x y =
+    (y.hold ≡ x.hold) × Adds T x [] y
+    × ((Sees T x y × IsOthers T x.number n.task found y)
+    ⊎ (let rec = record_in T y.seen n.task in (found ≡ shown rec false) × IsKept T.setup rec × CallsIf (refused rec.place rec.count n.op) T x n.task n.op y))
+
+-- take-claim: the task word was loaded, and its claim bit was set where the word was the old one
+abbrev pub TookClaim : Note → ℕ → ℕ → Terms → Share → Share → Type 0
+TookClaim n old found T x y =
+    Sees T x y
+    × (found ≡ old → (rec : Record) × (y.hold ≡ Undecided n.task n.op rec) × (old ≡ shown rec false) × IsKept T.setup rec × (record_in T y.seen n.task ≡ rec) × Adds T x (Taken x.number n.task ∷ []) y)
+    × (found ≢ old → (y.hold ≡ x.hold) × Adds T x [] y × (IsOthers T x.number n.task found y ⊎ (found ≡ shown (record_in T y.seen n.task) false)))
+
+-- load-params: the parameter word was loaded under a claim
+abbrev pub LoadedParams : ℕ → Terms → Share → Share → Type 0
+LoadedParams found T x y = (t : ℕ) (op : Op) (rec : Record) → x.hold ≡ Undecided t op rec
+    → (found ≡ (stored_of rec).params) × (y.hold ≡ x.hold) × (y.marks ≡ x.marks) × Sees T x y × (record_in T y.seen t ≡ rec)
+
+-- nothing is decided, or this reply is, which leaves the record
+abbrev pub DecidesIf : Option Reply → Terms → Share → ℕ → Op → Record → Share → Type 0
+DecidesIf None T x t op rec y = Sees T x y × (y.hold ≡ Undecided t op rec)
+DecidesIf (Some reply) T x t op rec y = Calls T x t op reply y × (y.hold ≡ Decided t rec rec (stored_of rec))
+
+-- load-server: the server word was loaded under a claim, which is the event where the server decides the reply
+abbrev pub LoadedServer : ℕ → Terms → Share → Share → Type 0
+LoadedServer found T x y = (t : ℕ) (op : Op) (rec : Record) → x.hold ≡ Undecided t op rec
+    → (found ≡ (stored_of rec).server) × (y.marks ≡ x.marks) × (record_in T y.seen t ≡ rec) × DecidesIf (early rec op) T x t op rec y
+
+-- the outcome of an op on a runqueue of the table with this reading
+abbrev pub outcome : Terms → ℕ → Reading → Record → Op → Record × Reply
+outcome T r now rec op = settled rec (queue_at T.setup r) now op
+
+-- the call was made with this outcome, on the record that the claim is held for, and nothing is stored yet
+abbrev pub Decides : Terms → Share → ℕ → Op → Record → Record × Reply → Stored → Share → Type 0
+Decides T x t op rec p stored y = Calls T x t op p.1 y × (y.hold ≡ Decided t rec p.0 stored) × WasBefore T t rec (Call x.number t op p.1) y.seen
+
+-- a runqueue that a claim is about has this reading
+pub record IsReadingFor (T : Terms) (r : ℕ) (rec : Record) (now : Reading) : Type 0 where
+  pub running : now.running ≤ now.this
+  pub this : now.this ≤ (queue_at T.setup r).most
+  pub counts : Counts now r rec
+
+abbrev pub LoadedQueueAs : Bool → Terms → Share → ℕ → ℕ → Op → Record → Reading → Share → Type 0
+LoadedQueueAs true T x r t op rec now y = Decides T x t op rec (outcome T r now rec op) (stored_of rec) y
+LoadedQueueAs false T x r t op rec now y = Sees T x y × (y.hold ≡ x.hold) × (now ≡ reading_in T y.seen r) × (record_in T y.seen t ≡ rec)
+
+-- load-queue: the runqueue's word was loaded under a claim, which is the event where it decides the reply
+abbrev pub LoadedQueue : ℕ → ℕ → Terms → Share → Share → Type 0
+LoadedQueue r found T x y = (t : ℕ) (op : Op) (rec : Record) → x.hold ≡ Undecided t op rec
+    → (y.marks ≡ x.marks) × ((now : Reading) × (found ≡ queue_word now) × IsReadingFor T r rec now × LoadedQueueAs (is_decided_at_load (outcome T r now rec op).1) T x r t op rec now y)
+
+-- change-queue: the runqueue's word was exchanged under a claim, which is the event, or it was not
+abbrev pub ChangedQueue : ℕ → ℕ → ℕ → Terms → Share → Share → Type 0
+ChangedQueue r old found T x y = (t : ℕ) (op : Op) (rec : Record) → x.hold ≡ Undecided t op rec
+    → (y.marks ≡ x.marks)
+    × (found ≡ old → (now : Reading) × (old ≡ queue_word now) × QueueFits now × Decides T x t op rec (outcome T r now rec op) (stored_of rec) y)
+    × (found ≢ old → Sees T x y × (y.hold ≡ x.hold) × (found ≡ queue_word (reading_in T y.seen r)) × (record_in T y.seen t ≡ rec))
+
+-- store-server, which is the event of an op that changes no sum
+abbrev pub SettledServer : ℕ → Terms → Share → Share → Type 0
+SettledServer stored T x y = (t : ℕ) (op : Op) (rec : Record) → x.hold ≡ Undecided t op rec
+    → (y.marks ≡ x.marks) × Decides T x t op rec (settled_quietly rec op) (record { server = stored; params = (stored_of rec).params }) y
+
+-- store-server and store-params, after the event
+abbrev pub StoredServer : ℕ → Terms → Share → Share → Type 0
+StoredServer n T x y = (t : ℕ) (before now : Record) (stored : Stored) → x.hold ≡ Decided t before now stored
+    → (y.seen ≡ x.seen) × (y.marks ≡ x.marks) × (y.hold ≡ Decided t before now (record { server = n; params = stored.params }))
+
+abbrev pub StoredParams : ℕ → Terms → Share → Share → Type 0
+StoredParams n T x y = (t : ℕ) (before now : Record) (stored : Stored) → x.hold ≡ Decided t before now stored
+    → (y.seen ≡ x.seen) × (y.marks ≡ x.marks) × (y.hold ≡ Decided t before now (record { server = stored.server; params = n }))
+
+-- give-claim, of a call that is given up or made
+abbrev pub Gave : Terms → Share → ℕ → Share → Type 0
+Gave T x t y = (y.hold ≡ Free) × Adds T x (Given x.number t ∷ []) y
+
+abbrev pub GaveClaim : Terms → Share → Share → Type 0
+GaveClaim T x y =
+    ((t : ℕ) (op : Op) (rec : Record) → x.hold ≡ Undecided t op rec → Sees T x y × Gave T x t y)
+    × ((t : ℕ) (before now : Record) (stored : Stored) → x.hold ≡ Decided t before now stored → (y.seen ≡ x.seen) × Gave T x t y)
+
+-- the view is one share before and after, of the same pass, and this is told of them
+pub record Turns {S : Type 0} (tells : Terms → Share → Share → Type 0) (m m' : Sat S) : Type 0 where
+  pub single : m' ≡ (alone (first_of m'.0), m.1)
+  pub terms : (first_of m'.0).terms ≡ (first_of m.0).terms
+  pub number : (first_of m'.0).number ≡ (first_of m.0).number
+  pub told : tells (first_of m.0).terms (first_of m.0) (first_of m'.0)
+
+abbrev pub no_note : Note
+no_note = record { task = 0; op = Leave }
+
+abbrev pub note_of : MOption Note → Note
+note_of (some n) = n
+note_of none = no_note
+
+-- what is told of the runqueue whose word was stepped on
+abbrev pub OfQueue : ℕ → (ℕ → Terms → Share → Share → Type 0) → Terms → Share → Share → Type 0
+OfQueue word tells T x y = (r : ℕ) → word ≡ queue_word_at r → tells r T x y
+
+-- what the steps tell
+module _ {S : Type 0} where
+  abbrev pub looks : Step S → Sat S → ℕ → Sat S → Type 0
+  looks st m found m' = Turns (OfQueue st.word (λ r. Looked r found)) m m'
+
+  abbrev pub compares : Step S → Sat S → ℕ → Sat S → Type 0
+  compares st m found m' = (m' ≡ m) × StandTogether m.0.shares
+
+  abbrev pub loads_task : Note → Step S → Sat S → ℕ → Sat S → Type 0
+  loads_task n st m found m' = Turns (LoadedTask n found) m m'
+
+  abbrev pub loads_params : Step S → Sat S → ℕ → Sat S → Type 0
+  loads_params st m found m' = Turns (LoadedParams found) m m'
+
+  abbrev pub loads_server : Step S → Sat S → ℕ → Sat S → Type 0
+  loads_server st m found m' = Turns (LoadedServer found) m m'
+
+  abbrev pub loads_queue : Step S → Sat S → ℕ → Sat S → Type 0
+  loads_queue st m found m' = Turns (OfQueue st.word (λ r. LoadedQueue r found)) m m'
+
+  abbrev pub changes_queue : Step S → Sat S → ℕ → Sat S → Type 0
+  changes_queue st m found m' = Turns (OfQueue st.word (λ r. ChangedQueue r st.first found)) m m'
+
+  abbrev pub settles_server : Step S → Sat S → ℕ → Sat S → Type 0
+  settles_server st m found m' = Turns (SettledServer found) m m'
+
+  abbrev pub stores_server : Step S → Sat S → ℕ → Sat S → Type 0
+  stores_server st m found m' = Turns (StoredServer found) m m'
+
+  abbrev pub stores_params : Step S → Sat S → ℕ → Sat S → Type 0
+  stores_params st m found m' = Turns (StoredParams found) m m'
+
+  abbrev pub gives_claim : Step S → Sat S → ℕ → Sat S → Type 0
+  gives_claim st m found m' = Turns GaveClaim m m'
+
+abbrev pub takes_claim : Step Note → Sat Note → ℕ → Sat Note → Type 0
+takes_claim st m found m' = Turns (TookClaim (note_of st.said) st.first found) m m'

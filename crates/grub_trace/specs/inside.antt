@@ -1,0 +1,4 @@
+pub mod Faults
+pub mod Halts
+pub mod Reading
+pub mod Tree

@@ -1,0 +1,328 @@
+-- The reader as a function of the bytes, and what the code holds of a file between its steps.
+use Rattle.std.specs.Prelude.{◌≡◌, ℕ, min, List, [], ◌∷◌, Option, Some, None, true, Result, Ok, Err, if◌then◌else◌}
+use Rattle.std.specs.Prelude.{◌++◌, map, string_bytes, false, ◌≤◌, nat_lt, Bool, not, ◌&&◌, ◌-◌, length, ◌==◌, ◌+◌}
+use Rattle.std.specs.List.{list_all}
+use Rattle.std.specs.HashMap.{get_by_text}
+use Rattle.grub_bw.specs.Bandwidth.{Capacity}
+use Rattle.grub_trace.specs.declared.version.Version.{Version}
+use Rattle.grub_trace.specs.declared.fault.Kind.{Kind}
+use Rattle.grub_trace.specs.declared.fault.Kind.TheVariants.{BadLine, MomentGoesBack, BadNumber, OutOfRange, CutShort, MissingQueue, BadHeader, UnknownTask}
+use Rattle.grub_trace.specs.declared.fault.TraceFault.{TraceFault}
+use Rattle.grub_trace.specs.declared.fault.TraceFault.TheVariants as fault
+use Rattle.grub_trace.specs.declared.line.Line.{Line}
+use Rattle.std.specs.Global.{Vec}
+use Rattle.grub_trace.specs.declared.fault.Halt.{Halt}
+use Rattle.grub_trace.specs.declared.fault.Halt.TheVariants as halt
+use Rattle.grub_trace.specs.declared.fault.Stop.{Stop}
+use Rattle.grub_trace.specs.declared.fault.Stop.TheVariants as stop
+use Rattle.grub_trace.specs.declared.tasks.Task.{Task}
+use Rattle.grub_trace.specs.declared.tasks.Tasks.{Tasks}
+use Rattle.grub_trace.specs.declared.body.RawDeed.{RawDeed}
+use Rattle.grub_trace.specs.declared.body.RawDeed.TheVariants as deed
+use Rattle.grub_trace.specs.declared.body.RawHappening.{RawHappening}
+use Rattle.grub_trace.specs.declared.raw.RawFile.{RawFile}
+use Rattle.grub_trace.specs.FirstFault.{parts_of}
+use Rattle.grub_trace.specs.Plans.{PlanView}
+use Rattle.grub_trace.specs.Naming.{line_in, plan_with}
+use Rattle.grub_trace.specs.Tree.{is_moment, is_span, Declaration, Deed, does, runs, retunes, reads, Happening, names_of}
+use Rattle.grub_trace.specs.Faults.{queue_fault, form_fault, task_of, last_of, version_of, reservation_fits}
+use Rattle.grub_trace.specs.declared.form.Form as coded
+use Rattle.grub_trace.specs.declared.form.Form.TheVariants as code
+use Rattle.grub_trace.specs.declared.words.Words.{Words}
+use Rattle.grub_trace.specs.declared.words.Words.TheVariants as words
+use Rattle.grub_trace.specs.Faults.{Form, queue, task, does_at, runs_at, retunes_at, reads_at, words_of, form_of, is_filled, is_number, value, reservation_value, capacity_value}
+
+-- these are the words
+abbrev pub AreWords : Words → List (List ℕ) → Type 0
+AreWords (words.Three k a b) ws = ws ≡ k.now ∷ a.now ∷ b.now ∷ []
+AreWords (words.Four k a b c) ws = ws ≡ k.now ∷ a.now ∷ b.now ∷ c.now ∷ []
+AreWords (words.Five k a b c d) ws = ws ≡ k.now ∷ a.now ∷ b.now ∷ c.now ∷ d.now ∷ []
+AreWords (words.Six k a b c d e) ws = ws ≡ k.now ∷ a.now ∷ b.now ∷ c.now ∷ d.now ∷ e.now ∷ []
+
+-- these are the words, and none of them is empty
+abbrev pub AreFilled : Words → List (List ℕ) → Type 0
+AreFilled words ws = AreWords words ws × (list_all is_filled ws ≡ true)
+
+abbrev pub form_view : coded.Form → Form
+form_view (code.Queue a b) = queue a.now b.now
+form_view (code.Task n q p) = task n.now q.now p.now
+form_view (code.Does m v n) = does_at m.now v n.now
+form_view (code.Run m n d) = runs_at m.now n.now d.now
+form_view (code.Retune m n q p) = retunes_at m.now n.now q.now p.now
+form_view (code.Read m) = reads_at m.now
+
+-- the number that the word spells, or the greatest of 32 bits where it is greater
+abbrev pub capped_number : List ℕ → Option ℕ
+capped_number w = if is_number w then Some (min (value w) 4294967295) else None
+
+abbrev pub IsNumber : Option ℕ → List ℕ → Type 0
+IsNumber None w = is_number w ≡ false
+IsNumber (Some n) w = (is_number w ≡ true) × (n ≡ min (value w) 4294967295)
+
+-- ---- the lines below the second
+
+-- what was read so far: this file's version, the tasks of all files, and what this one says that happens
+pub record Read : Type 0 where
+  pub version : Version
+  pub declared : List Declaration
+  pub happenings : List Happening
+
+-- a file, before its third line
+abbrev pub opened : Version → List Declaration → Read
+opened version ds = record { version = version; declared = ds; happenings = [] }
+
+abbrev pub declares : Declaration → Read → Read
+declares d r = record { version = r.version; declared = r.declared ++ d ∷ []; happenings = r.happenings }
+
+abbrev pub says : ℕ → Deed → Read → Read
+says at deed r = record { version = r.version; declared = r.declared; happenings = r.happenings ++ record { at = at; deed = deed } ∷ [] }
+
+-- what a form without a fault adds
+abbrev pub adds : Form → Read → Read
+adds (queue a b) r = r
+adds (task n q p) r = declares (record { name = n; params = reservation_value q p }) r
+adds (does_at m v n) r = says (value m) (does v n) r
+adds (runs_at m n d) r = says (value m) (runs n (value d)) r
+adds (retunes_at m n q p) r = says (value m) (retunes n (reservation_value q p)) r
+adds (reads_at m) r = says (value m) reads r
+
+abbrev pub times_of : List Happening → List ℕ
+times_of ms = map (λ m. m.at) ms
+
+abbrev pub unless : {X : Type 0} → Option Kind → X → Result X Kind
+unless None x = Ok x
+unless (Some k) x = Err k
+
+abbrev pub take_form : Read → Form → Result Read Kind
+take_form r f = unless (form_fault r.version (names_of r.declared) (times_of r.happenings) f) (adds f r)
+
+abbrev pub take_option : Read → Option Form → Result Read Kind
+take_option r None = Err BadLine
+take_option r (Some f) = take_form r f
+
+abbrev pub take_line : Read → List ℕ → Result Read Kind
+take_line r line = take_option r (form_of (words_of line))
+
+-- ---- what the code keeps
+
+abbrev pub task_view : Task → Declaration
+task_view t = record { name = string_bytes t.name; params = t.params }
+
+abbrev pub declarations : Tasks → List Declaration
+declarations t = map task_view t.list.items
+
+-- the index finds each task by its name
+pub record IsIndexed (t : Tasks) : Type 0 where
+  pub found : (q : List ℕ) → get_by_text t.index q ≡ task_of (names_of (declarations t)) q
+
+abbrev pub deed_view : RawDeed → Deed
+deed_view (deed.Does v n) = does v n.now
+deed_view (deed.Runs n d) = runs n.now d
+deed_view (deed.Retunes n q p) = retunes n.now (record { runtime = q; period = p })
+deed_view deed.Reads = reads
+
+abbrev pub happening_view : RawHappening → Happening
+happening_view m = record { at = m.at; deed = deed_view m.deed }
+
+abbrev pub read_view : Version → Tasks → List RawHappening → Read
+read_view version t ms = record { version = version; declared = declarations t; happenings = map happening_view ms }
+
+-- what a step returned, and what it left, are what reading gives, unless memory ran out
+abbrev pub Stops : {X : Type 0} → Stop → Result X Kind → Type 0
+Stops stop.Memory r = Unit {0}
+Stops (stop.Fault k) r = r ≡ Err k
+
+abbrev pub Takes : {U X : Type 0} → Result U Stop → X → Result X Kind → Type 0
+Takes (Ok u) new r = r ≡ Ok new
+Takes (Err e) new r = Stops e r
+
+-- what became of the happenings, where the next one is within its limits
+abbrev pub Says : {U : Type 0} → Result U Stop → List Happening → List Happening → ℕ → Deed → Type 0
+Says (Ok u) old new at deed = (last_of (times_of old) ≤ at) × (new ≡ old ++ record { at = at; deed = deed } ∷ [])
+Says (Err e) old new at deed = Stops e (if nat_lt at (last_of (times_of old)) then Err MomentGoesBack else Ok old)
+
+-- what became of the declarations, where a task line stands before the first moment
+abbrev pub Declares : {U : Type 0} → Result U Stop → List Declaration → List Declaration → List ℕ → List ℕ → List ℕ → Type 0
+Declares r old new n q p = (version : Version) → Takes r (opened version new) (take_form (opened version old) (task n q p))
+
+abbrev pub moment_fault : List ℕ → Option Kind
+moment_fault w = if not (is_number w) then Some BadNumber else (if is_moment (value w) then None else Some OutOfRange)
+
+abbrev pub IsMoment : Result ℕ Stop → List ℕ → Type 0
+IsMoment (Ok at) w = (is_number w ≡ true) × (value w ≡ at) × (at ≤ 2147483647)
+IsMoment (Err stop.Memory) w = ⊥
+IsMoment (Err (stop.Fault k)) w = moment_fault w ≡ Some k
+
+-- what is wrong with a number that is to be this, and within that limit
+abbrev pub two_fault : Bool → Bool → Option Kind
+two_fault spelled within = if not spelled then Some BadNumber else (if within then None else Some OutOfRange)
+
+-- the moment and the length of a run
+abbrev pub IsRun : Result (ℕ × ℕ) Stop → List ℕ → List ℕ → Type 0
+IsRun (Ok x) m d = (is_number m ≡ true) × (is_number d ≡ true) × (value m ≡ x.0) × (value d ≡ x.1) × (x.0 ≤ 2147483647) × (1 ≤ x.1) × (x.1 ≤ 16777216)
+IsRun (Err stop.Memory) m d = ⊥
+IsRun (Err (stop.Fault k)) m d = two_fault (is_number m && is_number d) (is_moment (value m) && is_span (value d)) ≡ Some k
+
+-- the moment and the new reservation of a retune
+abbrev pub IsRetune : Result (ℕ × ℕ × ℕ) Stop → List ℕ → List ℕ → List ℕ → Type 0
+IsRetune (Ok x) m q p = (is_number m ≡ true) × (is_number q ≡ true) × (is_number p ≡ true) × (value m ≡ x.0) × (value q ≡ x.1) × (value p ≡ x.2) × (x.0 ≤ 2147483647) × (reservation_fits (reservation_value q p) ≡ true)
+IsRetune (Err stop.Memory) m q p = ⊥
+IsRetune (Err (stop.Fault k)) m q p = two_fault (is_number m && is_number q && is_number p) (is_moment (value m) && reservation_fits (reservation_value q p)) ≡ Some k
+
+-- ---- a file
+
+abbrev pub at_line : {X : Type 0} → ℕ → Result X Kind → Result X (Kind × ℕ)
+at_line n (Ok x) = Ok x
+at_line n (Err k) = Err (k, n)
+
+infixl 10 ◌>>=◌
+abbrev pub ◌>>=◌ : {A B E : Type 0} → Result A E → (A → Result B E) → Result B E
+(Ok x) >>= f = f x
+(Err e) >>= f = Err e
+
+-- the lines from number n on, after what was read so far
+unfoldable pub read_lines : Read → ℕ → List (List ℕ) → Result Read (Kind × ℕ)
+read_lines r n [] = Ok r
+read_lines r n (line ∷ []) = if length line == 0 then Ok r else Err (CutShort, n)
+read_lines r n (line ∷ next ∷ more) = at_line n (take_line r line) >>= λ s. read_lines s (n + 1) (next ∷ more)
+
+abbrev pub queue_of : Option Form → Capacity
+queue_of (Some (queue a b)) = capacity_value a b
+queue_of form = record { most = 0; extra = 0 }
+
+abbrev pub read_queue : List ℕ → Result Capacity Kind
+read_queue line = unless (queue_fault line) (queue_of (form_of (words_of line)))
+
+-- a runqueue, what was read of the file, and the line of its first moment
+pub record FileRead : Type 0 where
+  pub queue : Capacity
+  pub first : ℕ
+  pub declared : List Declaration
+  pub happenings : List Happening
+
+abbrev pub file_from : Capacity → ℕ → Read → FileRead
+file_from q first r = record { queue = q; first = first; declared = r.declared; happenings = r.happenings }
+
+-- the second line, and all below it
+unfoldable pub read_second : Version → List Declaration → List (List ℕ) → Result FileRead (Kind × ℕ)
+read_second version ds [] = Err (MissingQueue, 2)
+read_second version ds (line ∷ []) = Err ((if length line == 0 then MissingQueue else CutShort), 2)
+read_second version ds (line ∷ next ∷ more) = do
+  q ← at_line 2 (read_queue line)
+  r ← read_lines (opened version ds) 3 (next ∷ more)
+  Ok (file_from q (3 + (length r.declared - length ds)) r)
+
+-- what follows the first line, as the version that it names
+abbrev pub read_as : Option Version → List Declaration → List (List ℕ) → Result FileRead (Kind × ℕ)
+read_as None ds parts = Err (BadHeader, 1)
+read_as (Some version) ds parts = read_second version ds parts
+
+-- a file, after the declarations of the files before it
+unfoldable pub read_first : List Declaration → List (List ℕ) → Result FileRead (Kind × ℕ)
+read_first ds [] = Err (BadHeader, 1)
+read_first ds (line ∷ []) = Err ((if length line == 0 then BadHeader else CutShort), 1)
+read_first ds (line ∷ next ∷ more) = read_as (version_of line) ds (next ∷ more)
+
+unfoldable pub read_file : List Declaration → List ℕ → Result FileRead (Kind × ℕ)
+read_file ds bytes = read_first ds (parts_of bytes)
+
+-- what a function returned is what reading gives, unless memory ran out
+abbrev pub Halts : {X : Type 0} → Halt → Result X (Kind × ℕ) → Type 0
+Halts halt.Memory r = Unit {0}
+Halts (halt.At k n) r = r ≡ Err (k, n)
+
+abbrev pub Gives : {U X : Type 0} → Result U Halt → (U → X) → Result X (Kind × ℕ) → Type 0
+Gives (Ok u) view r = r ≡ Ok (view u)
+Gives (Err e) view r = Halts e r
+
+-- a fault of the first two lines is answered, since nothing grows before it
+abbrev pub GivesOpening : {U X : Type 0} → Result U Halt → Result X (Kind × ℕ) → Type 0
+GivesOpening r total = (k : Kind) (n : ℕ) → n ≤ 2 → total ≡ Err (k, n) → r ≡ Err (halt.At k n)
+
+abbrev pub GivesQueue : Result Capacity Kind → List ℕ → Type 0
+GivesQueue r line = r ≡ read_queue line
+
+abbrev pub file_view : Tasks → RawFile → FileRead
+file_view t f = record { queue = f.queue; first = f.first; declared = declarations t; happenings = map happening_view f.happenings.items }
+
+-- ---- all files
+
+-- what was read of a file, without its declarations
+pub record Body : Type 0 where
+  pub queue : Capacity
+  pub first : ℕ
+  pub happenings : List Happening
+
+abbrev pub body_of : FileRead → Body
+body_of r = record { queue = r.queue; first = r.first; happenings = r.happenings }
+
+pub record AllRead : Type 0 where
+  pub declared : List Declaration
+  pub files : List Body
+
+abbrev pub in_file : {X : Type 0} → ℕ → Result X (Kind × ℕ) → Result X (Kind × ℕ × ℕ)
+in_file f (Ok x) = Ok x
+in_file f (Err e) = Err (e.0, f, e.1)
+
+abbrev pub with_file : AllRead → FileRead → AllRead
+with_file all r = record { declared = r.declared; files = all.files ++ body_of r ∷ [] }
+
+-- the files from number f on, after what was read of those before them
+unfoldable pub read_from : AllRead → ℕ → List (List ℕ) → Result AllRead (Kind × ℕ × ℕ)
+read_from all f [] = Ok all
+read_from all f (bytes ∷ more) = in_file f (read_file all.declared bytes) >>= λ r. read_from (with_file all r) (f + 1) more
+
+abbrev pub body_view : RawFile → Body
+body_view f = record { queue = f.queue; first = f.first; happenings = map happening_view f.happenings.items }
+
+abbrev pub all_view : Tasks → List RawFile → AllRead
+all_view t fs = record { declared = declarations t; files = map body_view fs }
+
+abbrev pub Faults : {X : Type 0} → TraceFault → Result X (Kind × ℕ × ℕ) → Type 0
+Faults fault.NoMemory r = Unit {0}
+Faults (fault.At k f n) r = r ≡ Err (k, f, n)
+
+abbrev pub Answers : {U X : Type 0} → Result U TraceFault → (U → X) → Result X (Kind × ℕ × ℕ) → Type 0
+Answers (Ok u) view r = r ≡ Ok (view u)
+Answers (Err e) view r = Faults e r
+
+-- the same of the first two lines of the first file
+abbrev pub AnswersOpening : {U X : Type 0} → Result U TraceFault → Result X (Kind × ℕ × ℕ) → Type 0
+AnswersOpening r total = (k : Kind) (n : ℕ) → n ≤ 2 → total ≡ Err (k, 0, n) → r ≡ Err (fault.At k 0 n)
+
+-- ---- names to numbers
+
+-- the lines of a script from line n on, after those before them; an error is the line whose name is unknown
+abbrev pub option_or_err : {X : Type 0} → ℕ → Option X → Result X ℕ
+option_or_err n None = Err n
+option_or_err n (Some x) = Ok x
+
+unfoldable pub script_from : List (List ℕ) → List Line → ℕ → List Happening → Result (List Line) ℕ
+script_from names done n [] = Ok done
+script_from names done n (m ∷ more) = option_or_err n (line_in names m) >>= λ l. script_from names (done ++ l ∷ []) (n + 1) more
+
+abbrev pub unknown_in : {X : Type 0} → ℕ → Result X ℕ → Result X (Kind × ℕ × ℕ)
+unknown_in f (Ok x) = Ok x
+unknown_in f (Err n) = Err (UnknownTask, f, n)
+
+unfoldable pub scripts_from : List (List ℕ) → List (List Line) → ℕ → List Body → Result (List (List Line)) (Kind × ℕ × ℕ)
+scripts_from names done f [] = Ok done
+scripts_from names done f (b ∷ more) = unknown_in f (script_from names [] b.first b.happenings) >>= λ s. scripts_from names (done ++ s ∷ []) (f + 1) more
+
+abbrev pub ScriptHalts : {X : Type 0} → Halt → Result X ℕ → Type 0
+ScriptHalts halt.Memory r = Unit {0}
+ScriptHalts (halt.At k n) r = (k ≡ UnknownTask) × (r ≡ Err n)
+
+abbrev pub ScriptIs : {U : Type 0} → Result U Halt → (U → List Line) → Result (List Line) ℕ → Type 0
+ScriptIs (Ok u) view r = r ≡ Ok (view u)
+ScriptIs (Err h) view r = ScriptHalts h r
+
+abbrev pub plan_of_read : AllRead → Result PlanView (Kind × ℕ × ℕ)
+plan_of_read all = do
+  scripts ← scripts_from (names_of all.declared) [] 0 all.files
+  Ok (plan_with (map (λ b. b.queue) all.files) all.declared scripts)
+
+-- the plan, or the first fault
+unfoldable pub plan_from : List (List ℕ) → Result PlanView (Kind × ℕ × ℕ)
+plan_from files = if nat_lt 64 (length files) then Err (OutOfRange, 64, 1) else (if length files == 0 then Err (MissingQueue, 0, 1)
+    else (read_from (record { declared = []; files = [] }) 0 files >>= λ all. plan_of_read all))

@@ -1,0 +1,4 @@
+pub mod Entries
+pub mod Evidence
+pub mod Handles
+pub mod Working
