@@ -35,18 +35,19 @@ impl<'a> Scene<'a> {
 const LANE: u64 = 16;
 
 const STYLE: &str = "\
-<style>text{font:11px sans-serif;fill:#222}.n{text-anchor:end}.q{font-weight:bold;font-size:13px}\
-.g{stroke:#ddd}.a{stroke:#222}.u{stroke:#b2182b;stroke-dasharray:6 3}\
-.t{fill:#bdd7ee}.r{fill:#1f4e79}.c{fill:#1b6e35}.w{fill:#f4b042}.i{fill:#999}.k{stroke:#000;stroke-width:2}</style>\n";
+<style>text{font:11px sans-serif;fill:#222}.n{font-family:monospace;text-anchor:end}\
+.q{font-weight:bold;font-size:13px}.g{stroke:#ddd}.a{stroke:#222}.u{stroke:#b2182b;stroke-dasharray:6 3}\
+.t{fill:#bdd7ee}.r{fill:#1f4e79}.c{fill:#2e8b57}.w{fill:#f4b042}.i{fill:#999}.k{stroke:#000;stroke-width:2}</style>\n";
 
 const LEGEND: &str = "\
 <rect class=\"t\" x=\"130\" y=\"30\" width=\"18\" height=\"12\"/><text x=\"154\" y=\"40\">this_bw: bandwidth of all tasks on the runqueue</text>\n\
-<rect class=\"r\" x=\"424\" y=\"30\" width=\"18\" height=\"12\"/><text x=\"448\" y=\"40\">running_bw: of its active tasks</text>\n\
-<path class=\"u\" d=\"M640 36h18\"/><text x=\"664\" y=\"40\">Umax: the most that is admitted</text>\n\
+<rect class=\"r\" x=\"450\" y=\"30\" width=\"18\" height=\"12\"/><text x=\"474\" y=\"40\">running_bw: of its active tasks</text>\n\
+<path class=\"u\" d=\"M714 36h18\"/><text x=\"738\" y=\"40\">Umax: the most that is admitted</text>\n\
+<text x=\"950\" y=\"40\">100 %: the whole processor</text>\n\
 <rect class=\"c\" x=\"130\" y=\"49\" width=\"18\" height=\"12\"/><text x=\"154\" y=\"60\">contending: ready or running</text>\n\
-<rect class=\"w\" x=\"424\" y=\"52\" width=\"18\" height=\"7\"/><text x=\"448\" y=\"60\">blocked, active until its 0-lag moment</text>\n\
-<rect class=\"i\" x=\"688\" y=\"55\" width=\"18\" height=\"2\"/><text x=\"712\" y=\"60\">inactive on this runqueue</text>\n\
-<path class=\"k\" d=\"M890 48v14\"/><text x=\"898\" y=\"60\">its deadline was postponed</text>\n";
+<rect class=\"w\" x=\"450\" y=\"52\" width=\"18\" height=\"7\"/><text x=\"474\" y=\"60\">blocked, active until its 0-lag moment</text>\n\
+<rect class=\"i\" x=\"714\" y=\"55\" width=\"18\" height=\"2\"/><text x=\"738\" y=\"60\">inactive on this runqueue</text>\n\
+<path class=\"k\" d=\"M932 48v14\"/><text x=\"950\" y=\"60\">its deadline was postponed</text>\n";
 
 /// The beginning of a document whose runqueues end at `y`, and its legend.
 pub fn put_head(out: &mut String, frame: Frame, y: u64) -> Result<(), AllocError> {
@@ -82,8 +83,12 @@ pub fn put_axis(out: &mut String, frame: Frame, y: u64) -> Result<(), AllocError
         }
     }
     write!(out, "<path class=\"a\" d=\"M{LEFT} {y}H{right}\"/>\n")?;
-    let label = y.saturating_add(32);
-    write!(out, "<text x=\"{LEFT}\" y=\"{label}\">moment</text>\n")
+    let label = y.saturating_add(33);
+    let unit = frame.unit;
+    write!(
+        out,
+        "<text x=\"{LEFT}\" y=\"{label}\">moment, in the unit of the files; what is narrower than {unit} px is left out</text>\n"
+    )
 }
 
 fn put_mark(out: &mut String, x: u64, y: u64, m: u32) -> Result<(), AllocError> {
@@ -112,7 +117,7 @@ pub fn put_queue(
     let steps = scene.steps;
     let frame = scene.frame;
     let base = y.saturating_add(20).saturating_add(CURVE);
-    let name = y.saturating_add(14);
+    let name = y.saturating_add(9);
     write!(
         out,
         "<text class=\"q\" x=\"8\" y=\"{name}\">runqueue {r}</text>\n"
@@ -158,10 +163,13 @@ fn put_umax(
 ) -> Result<(), AllocError> {
     let y = base.saturating_sub(height_of(umax));
     let right = frame.right();
+    let label = right.saturating_add(4);
+    let text = y.saturating_add(4);
     write!(
         out,
-        "<path class=\"u\" d=\"M{LEFT} {y}H{right}\"><title>runqueue {r}: Umax is {umax}</title></path>\n"
-    )
+        "<path class=\"u\" d=\"M{LEFT} {y}H{right}\"><title>runqueue {r}: Umax is {umax}</title></path>"
+    )?;
+    write!(out, "<text x=\"{label}\" y=\"{text}\">Umax</text>\n")
 }
 
 /// The step curve of a bandwidth of runqueue `r`: running_bw, or this_bw.
