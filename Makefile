@@ -8,18 +8,21 @@ FLAGS ?=
 TRACE ?= examples/kernel/trace.txt
 WORDS ?= tasks
 
-.PHONY: build tracer run try try-trace test growths program record-check install uninstall clean
+.PHONY: build runner tracer run try try-trace test growths program record-check install uninstall clean
 
-# Proves the program with all that it stands on, and links it.
+# Proves both programs with all that they stand on, and builds them. What is proved is told crate by crate.
 build:
-	@cd crates/grubrun && rt run -- --help > /dev/null
+	@scripts/build.sh
 
-# The same for the program that reads kernel traces.
+# grubrun alone, and grubtrace alone.
+runner:
+	@scripts/build.sh grubrun
+
 tracer:
-	@cd crates/grubtrace && rt run -- --help > /dev/null
+	@scripts/build.sh grubtrace
 
 # Plays the event files FILES, one runqueue each, and prints their reports.
-run: build
+run: runner
 	@$(PROGRAM) $(FLAGS) $(FILES)
 
 # The same with nothing proved: an answer in half a minute, with the toolchain's own checks while it runs.
@@ -36,18 +39,18 @@ test:
 	bash .ci/run
 
 # Each growth of memory refused in turn, in the tests that are made for it and in the program.
-growths: build
+growths: runner
 	bash scripts/refused-growths.sh --build
 
 # The program's statuses and lines of faults.
-program: build
+program: runner
 	bash scripts/program.sh
 
 # Records a load of two tasks on this machine, converts the trace and plays it; elsewhere it says why it cannot.
-record-check: build tracer
+record-check: build
 	scripts/record-check.sh
 
-install: build tracer
+install: build
 	install -D -m 755 $(PROGRAM) $(DESTDIR)$(PREFIX)/bin/grubrun
 	install -D -m 755 $(TRACER) $(DESTDIR)$(PREFIX)/bin/grubtrace
 
@@ -55,4 +58,4 @@ uninstall:
 	rm -f $(DESTDIR)$(PREFIX)/bin/grubrun $(DESTDIR)$(PREFIX)/bin/grubtrace
 
 clean:
-	rm -rf crates/*/out
+	rm -rf out crates/*/out
