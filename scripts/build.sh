@@ -8,7 +8,6 @@
 # stands in the crate's out/ meanwhile. Work that earlier runs kept is used, and kept again.
 set -u
 cd "$(dirname "$0")/.." || exit 1
-root=$PWD
 
 [[ $# -gt 0 ]] || set -- grubrun grubtrace
 for program in "$@"; do
@@ -29,31 +28,36 @@ while IFS= read -r line; do
 done < crates.txt
 
 find_below() {
-    local library
+    local library crate
     [[ -z ${below[$1]+known} ]] || return 0
     below[$1]=' '
     for library in ${uses[$1]}; do
-        [[ -n ${uses[$library]+ours} ]] || continue
+        # the others are the kit's
+        [[ -n ${uses[$library]+listed} ]] || continue
         find_below "$library"
-        for library in ${below[$library]} "$library"; do
-            [[ ${below[$1]} == *" $library "* ]] || below[$1]+="$library "
+        for crate in ${below[$library]} "$library"; do
+            [[ ${below[$1]} == *" $crate "* ]] || below[$1]+="$crate "
         done
     done
 }
 
-# One sum of all that a program is made from, and of the program.
+# One sum of all that a program is made from.
 sum_of() {
     local crate folders=()
     for crate in ${below[$1]} "$1"; do
         folders+=("crates/$crate/src" "crates/$crate/specs" "crates/$crate/proofs")
     done
-    { rt version; cat crates.txt HANDLES "crates/$1/out/$1"; find "${folders[@]}" -type f -print0 | sort -z | xargs -0 sha256sum; } 2> /dev/null | sha256sum
+    { rt version; cat crates.txt HANDLES; find "${folders[@]}" -type f -print0 | sort -z | xargs -0 sha256sum; } 2> /dev/null | sha256sum
 }
 
+declare -A made_from
 wanted=()
 for program in "$@"; do
     find_below "$program"
-    [[ -x crates/$program/out/$program && $(cat "out/build/$program.sum" 2> /dev/null) == "$(sum_of "$program")" ]] || wanted+=("$program")
+    made_from[$program]=$(sum_of "$program")
+    if ! sha256sum --status -c "out/build/$program.made" 2> /dev/null || [[ ${made_from[$program]} != "$(cat "out/build/$program.from")" ]]; then
+        wanted+=("$program")
+    fi
 done
 [[ ${#wanted[@]} -gt 0 ]] || exit 0
 
@@ -140,7 +144,7 @@ ready() {
     for crate in "${!state[@]}"; do
         [[ ${state[$crate]} == waits ]] || continue
         for library in ${below[$crate]}; do
-            [[ ${state[$library]} == done ]] || continue 2
+            [[ ${state[$library]} == proved ]] || continue 2
         done
         echo "$((behind[$crate] + lines[$crate])) $crate"
     done | sort -rn | cut -d ' ' -f 2
@@ -157,7 +161,7 @@ tell() {
         tail -n 12 "out/build/$crate.log" >&2
         return
     fi
-    state[$crate]=done
+    state[$crate]=proved
     [[ ! $stamp -nt out/build/start ]] || echo "proved $crate in $((SECONDS - began[$crate])) s" >&2
 }
 
@@ -189,5 +193,8 @@ while :; do
 done
 [[ -z $failed ]] || exit 1
 for program in "${wanted[@]}"; do
-    sum_of "$program" > "out/build/$program.sum"
+    # what was changed meanwhile is proved by the next build
+    [[ ${made_from[$program]} == "$(sum_of "$program")" ]] || continue
+    echo "${made_from[$program]}" > "out/build/$program.from"
+    sha256sum "crates/$program/out/$program" > "out/build/$program.made"
 done

@@ -1,11 +1,12 @@
 //! The command line.
 
+use crate::texts::{AFTER_CHECK, AFTER_EVENTS, AFTER_HELP, AFTER_TASKS, VERSION};
 use clap::{Arg, ArgAction, Command, value_parser};
 use std::alloc::{AllocError, Global};
 
 fn trace_arg<'a>(alloc: Global) -> Arg<'a> {
     Arg::new(alloc, "TRACE")
-        .help("Text of a kernel trace, from tracefs or of perf script; - is standard input")
+        .help("Text of a kernel's trace, of tracefs or perf script; - is standard input")
         .required(true)
         .action(ArgAction::Set)
 }
@@ -14,7 +15,7 @@ fn task_arg<'a>(alloc: Global) -> Arg<'a> {
     Arg::new(alloc, "task")
         .long("task")
         .value_name("NAME=RUNTIME:PERIOD")
-        .help("A task's comm or pid, and its reservation in microseconds; once for each task")
+        .help("A task's comm or pid, and what it reserves, in microseconds; once for each task")
         .required(true)
         .action(ArgAction::Append)
 }
@@ -23,7 +24,7 @@ fn cpus_arg<'a>(alloc: Global) -> Arg<'a> {
     Arg::new(alloc, "cpus")
         .long("cpus")
         .value_name("N")
-        .help("How many runqueues there are, 1 to 64, where the trace does not tell it")
+        .help("How many runqueues there are, 1 to 64, in place of what the trace says")
         .value_parser(value_parser!(u32).range(1..65))
 }
 
@@ -31,7 +32,7 @@ fn rt_arg<'a>(alloc: Global) -> Arg<'a> {
     Arg::new(alloc, "rt")
         .long("rt")
         .value_name("RUNTIME:PERIOD")
-        .help("sched_rt_runtime_us and sched_rt_period_us")
+        .help("The kernel's sched_rt_runtime_us and sched_rt_period_us")
         .default_value("950000:1000000")
 }
 
@@ -39,7 +40,7 @@ fn fair_arg<'a>(alloc: Global) -> Arg<'a> {
     Arg::new(alloc, "fair-server")
         .long("fair-server")
         .value_name("RUNTIME:PERIOD")
-        .help("The deadline server of fair tasks on each runqueue, or none")
+        .help("What each runqueue reserves for fair tasks, in microseconds, or none")
         .default_value("50000:1000000")
 }
 
@@ -47,7 +48,7 @@ fn out_arg<'a>(alloc: Global) -> Arg<'a> {
     Arg::new(alloc, "out")
         .long("out")
         .value_name("PREFIX")
-        .help("Writes PREFIX.cpu0.grub and so on")
+        .help("Where to write: PREFIX.cpu0.grub and so on, one file for each runqueue")
         .required(true)
         .action(ArgAction::Set)
 }
@@ -64,12 +65,14 @@ fn within_arg<'a>(alloc: Global) -> Arg<'a> {
 fn tasks_command<'a>(alloc: Global) -> Result<Command<'a>, AllocError> {
     Command::new(alloc, "tasks")
         .about("Prints the SCHED_DEADLINE tasks that a trace shows")
+        .after_help(AFTER_TASKS)
         .arg(trace_arg(alloc))
 }
 
 fn events_command<'a>(alloc: Global) -> Result<Command<'a>, AllocError> {
     Command::new(alloc, "events")
         .about("Writes the event files that a trace tells")
+        .after_help(AFTER_EVENTS)
         .arg(task_arg(alloc))?
         .arg(cpus_arg(alloc))?
         .arg(rt_arg(alloc))?
@@ -80,9 +83,8 @@ fn events_command<'a>(alloc: Global) -> Result<Command<'a>, AllocError> {
 
 fn check_command<'a>(alloc: Global) -> Result<Command<'a>, AllocError> {
     Command::new(alloc, "check")
-        .about(
-            "Says whether the kernel accounted as the book does; 0 where it agrees, 4 where it differs",
-        )
+        .about("Says whether the kernel accounted as the book does")
+        .after_help(AFTER_CHECK)
         .arg(task_arg(alloc))?
         .arg(cpus_arg(alloc))?
         .arg(rt_arg(alloc))?
@@ -94,7 +96,11 @@ fn check_command<'a>(alloc: Global) -> Result<Command<'a>, AllocError> {
 /// `grubtrace tasks TRACE`, `grubtrace events OPTIONS --out PREFIX TRACE` and `grubtrace check OPTIONS TRACE`.
 pub fn command<'a>(alloc: Global) -> Result<Command<'a>, AllocError> {
     Command::new(alloc, "grubtrace")
-        .about("Reads kernel traces of SCHED_DEADLINE tasks")
+        .version(VERSION)
+        .about(
+            "Reads kernel traces of SCHED_DEADLINE tasks, up to a verdict on the kernel's accounting",
+        )
+        .after_help(AFTER_HELP)
         .subcommand_required(true)
         .subcommand(tasks_command(alloc)?)?
         .subcommand(events_command(alloc)?)?

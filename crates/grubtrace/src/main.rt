@@ -3,6 +3,7 @@
 
 mod command;
 mod serve;
+mod texts;
 
 use crate::serve::{serve, serve_no_words};
 use grub_convert::{Input, Target};

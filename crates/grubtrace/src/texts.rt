@@ -1,0 +1,40 @@
+//! The texts of the command line's help.
+
+/// What `--version` prints after the program's name.
+pub const VERSION: &str = "0.1.0";
+
+/// What stands below the help of the program.
+pub const AFTER_HELP: &str = "\
+A TRACE is the text of a kernel's trace of the scheduler's and the timers' events, as
+scripts/record.sh makes it: the file `trace` of tracefs, or what perf script prints.
+
+    grubtrace tasks trace.txt
+    grubtrace events --task gr_0=5000:50000 --out run trace.txt
+    grubtrace check --task gr_0=5000:50000 trace.txt
+
+The first tells which tasks there are, the second writes run.cpu0.grub and so on, which
+grubrun plays, and the third prints a verdict.
+
+Status: 0 done, and the kernel agrees, 1 the trace is at fault or a file is there already,
+2 the command line is wrong, 3 a file cannot be read or written, or memory or the output
+was refused, 4 the kernel differs.";
+
+/// What stands below the help of `tasks`.
+pub const AFTER_TASKS: &str = "\
+A line tells of one task, in the order in which they are seen:
+
+    task gr_0 pid=12926 wakes=1 blocks=0 cpus=1 line=341";
+
+/// What stands below the help of `events`.
+pub const AFTER_EVENTS: &str = "\
+A file that is there already is never written over (status 1).
+
+    grubtrace events --task gr_0=5000:50000 --task gr_1=10000:40000 --out run trace.txt
+    grubrun --view summary run.cpu*.grub";
+
+/// What stands below the help of `check`.
+pub const AFTER_CHECK: &str = "\
+The last line says `agrees` (status 0), or the last five what is needed to find why the
+kernel `differs` (status 4). docs/KERNEL.md says what is compared and what is not.
+
+    grubtrace check --task gr_0=5000:50000 --task gr_1=10000:40000 trace.txt";
