@@ -8,7 +8,7 @@ FLAGS ?=
 TRACE ?= examples/kernel/trace.txt
 WORDS ?= tasks
 
-.PHONY: build runner tracer run try try-trace test growths program record-check install uninstall clean
+.PHONY: build runner tracer run try try-trace test growths program options record-check install uninstall clean
 
 # Proves both programs with all that they stand on, and builds them. What is proved is told crate by crate.
 build:
@@ -46,16 +46,32 @@ growths: runner
 program: runner
 	bash scripts/program.sh
 
+# Man pages and completions beside --help of the programs.
+options: build
+	bash scripts/options.sh
+
 # Records a load of two tasks on this machine, converts the trace and plays it; elsewhere it says why it cannot.
 record-check: build
 	scripts/record-check.sh
 
+# The programs, their man pages, and the completions of bash, zsh and fish, below PREFIX; DESTDIR goes in front of it.
+SHARE := $(DESTDIR)$(PREFIX)/share
+
 install: build
 	install -D -m 755 $(PROGRAM) $(DESTDIR)$(PREFIX)/bin/grubrun
 	install -D -m 755 $(TRACER) $(DESTDIR)$(PREFIX)/bin/grubtrace
+	for it in grubrun grubtrace; do \
+	    install -D -m 644 docs/$$it.1 $(SHARE)/man/man1/$$it.1 && \
+	    install -D -m 644 completions/$$it.bash $(SHARE)/bash-completion/completions/$$it && \
+	    install -D -m 644 completions/_$$it $(SHARE)/zsh/site-functions/_$$it && \
+	    install -D -m 644 completions/$$it.fish $(SHARE)/fish/vendor_completions.d/$$it.fish || exit 1; \
+	done
 
 uninstall:
-	rm -f $(DESTDIR)$(PREFIX)/bin/grubrun $(DESTDIR)$(PREFIX)/bin/grubtrace
+	for it in grubrun grubtrace; do \
+	    rm -f $(DESTDIR)$(PREFIX)/bin/$$it $(SHARE)/man/man1/$$it.1 $(SHARE)/bash-completion/completions/$$it \
+	        $(SHARE)/zsh/site-functions/_$$it $(SHARE)/fish/vendor_completions.d/$$it.fish; \
+	done
 
 clean:
 	rm -rf out crates/*/out

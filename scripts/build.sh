@@ -4,8 +4,8 @@
 # there are processors, and 2 GB of free memory for each. It says on standard error what it proved and how long that took; all else
 # is in out/build/CRATE.log, which is named where a proof fails.
 #
-# `rt` keeps other runs out of a crate and of all that it stands on. So each crate is proved in a tree of its own, of hard links, which
-# stands in the crate's out/ meanwhile. Work that earlier runs kept is used, and kept again.
+# `rt` keeps other runs out of a crate and of all that it stands on. So each crate is proved in a tree of its own, which stands in the
+# crate's out/ meanwhile: its text and that of all below it, and hard links to what was made of them. Kept work is used, and kept again.
 set -u
 cd "$(dirname "$0")/.." || exit 1
 
@@ -91,9 +91,10 @@ plant() {
     for crate in ${below[$1]} "$1"; do
         echo "${listed[$crate]}" >> "$tree/crates.txt"
         mkdir -p "$tree/crates/$crate/out"
-        for part in src specs proofs out/rlib; do
-            [[ ! -d crates/$crate/$part ]] || cp -al "crates/$crate/$part" "$tree/crates/$crate/$part"
+        for part in src specs proofs; do
+            [[ ! -d crates/$crate/$part ]] || cp -a "crates/$crate/$part" "$tree/crates/$crate/"
         done
+        [[ ! -d crates/$crate/out/rlib ]] || cp -al "crates/$crate/out/rlib" "$tree/crates/$crate/out/"
     done
     find "crates/$1/out" -mindepth 1 -maxdepth 1 ! -name tree ! -name rlib -exec cp -al {} "$tree/crates/$1/out/" \;
 }

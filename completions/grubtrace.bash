@@ -1,0 +1,34 @@
+# Completion of grubtrace for bash.
+_grubtrace() {
+    local current=${COMP_WORDS[COMP_CWORD]} command word words
+    for word in "${COMP_WORDS[@]:1:COMP_CWORD-1}"; do
+        case $word in
+            tasks | events | check | help)
+                command=$word
+                break
+                ;;
+        esac
+    done
+    case ${COMP_WORDS[COMP_CWORD - 1]} in
+        --task | --cpus | --rt | --within)
+            compopt +o default 2> /dev/null
+            return
+            ;;
+        --fair-server)
+            mapfile -t COMPREPLY < <(compgen -W none -- "$current")
+            return
+            ;;
+        --out) return ;;
+    esac
+    case ${command-} in
+        '') words='tasks events check help -h --help -V --version' ;;
+        help) words='tasks events check' ;;
+        tasks) words='-h --help' ;;
+        events) words='--task --cpus --rt --fair-server --out -h --help' ;;
+        check) words='--task --cpus --rt --fair-server --within -h --help' ;;
+    esac
+    if [[ $current == -* || -z ${command-} || $command == help ]]; then
+        mapfile -t COMPREPLY < <(compgen -W "$words" -- "$current")
+    fi
+}
+complete -o default -F _grubtrace grubtrace

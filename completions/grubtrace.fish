@@ -1,0 +1,15 @@
+# Completion of grubtrace for fish.
+set -l commands tasks events check help
+complete -c grubtrace -n "not __fish_seen_subcommand_from $commands" -f -a tasks -d 'Which tasks a trace shows'
+complete -c grubtrace -n "not __fish_seen_subcommand_from $commands" -f -a events -d 'Write event files'
+complete -c grubtrace -n "not __fish_seen_subcommand_from $commands" -f -a check -d 'A verdict on the kernel'
+complete -c grubtrace -n "not __fish_seen_subcommand_from $commands" -f -a help -d 'Print help'
+complete -c grubtrace -n '__fish_seen_subcommand_from help' -f -a 'tasks events check'
+complete -c grubtrace -s h -l help -d 'Print help'
+complete -c grubtrace -n "not __fish_seen_subcommand_from $commands" -s V -l version -d 'Print the version'
+complete -c grubtrace -n '__fish_seen_subcommand_from events check' -l task -x -d 'A task and what it reserves in microseconds'
+complete -c grubtrace -n '__fish_seen_subcommand_from events check' -l cpus -x -d 'How many runqueues there are'
+complete -c grubtrace -n '__fish_seen_subcommand_from events check' -l rt -x -d 'sched_rt_runtime_us and sched_rt_period_us'
+complete -c grubtrace -n '__fish_seen_subcommand_from events check' -l fair-server -x -a none -d 'What each runqueue reserves for fair tasks'
+complete -c grubtrace -n '__fish_seen_subcommand_from events' -l out -r -d 'Where to write the event files'
+complete -c grubtrace -n '__fish_seen_subcommand_from check' -l within -x -d 'How far a 0-lag moment may lie off, in microseconds'
