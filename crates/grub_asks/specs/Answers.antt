@@ -14,13 +14,8 @@ use Rattle.grub_trace.specs.Texts.{IsAskOf}
 -- the event of an ask for runqueue i, which is the one that is read: none where the ask was given up
 abbrev pub event_told : ℕ → Ask → Answer → List Event
 event_told i (Call t op) (Replied reply) = events.Call i t op reply ∷ []
-event_told i (Call t op) (Seen reading) = []
-event_told i (Call t op) Busy = []
-event_told i (Call t op) Lost = []
 event_told i Read (Seen reading) = events.Look i i reading ∷ []
-event_told i Read (Replied reply) = []
-event_told i Read Busy = []
-event_told i Read Lost = []
+event_told i ask answer = []
 
 -- the events of the entries that were answered Replied or Seen, in order
 abbrev pub events_told : ℕ → List Entry → List Event
@@ -29,13 +24,9 @@ events_told i entries = flat_map (λ e. event_told i e.ask e.answer) entries
 -- a reading is always seen, and nothing else is
 abbrev pub IsAnswerTo : Ask → Answer → Type 0
 IsAnswerTo (Call t op) (Seen reading) = ⊥
-IsAnswerTo (Call t op) (Replied reply) = Unit {0}
-IsAnswerTo (Call t op) Busy = Unit {0}
-IsAnswerTo (Call t op) Lost = Unit {0}
+IsAnswerTo (Call t op) answer = Unit {0}
 IsAnswerTo Read (Seen reading) = Unit {0}
-IsAnswerTo Read (Replied reply) = ⊥
-IsAnswerTo Read Busy = ⊥
-IsAnswerTo Read Lost = ⊥
+IsAnswerTo Read answer = ⊥
 
 -- the ask got neither a reply nor a reading
 abbrev pub IsGivenUp : Ask → Answer → Type 0

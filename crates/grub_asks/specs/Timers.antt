@@ -26,25 +26,7 @@ abbrev pub touch_of_reply : Reply → Touch
 touch_of_reply (Joined q d) = disarms
 touch_of_reply (Woken q d) = disarms
 touch_of_reply (Left r) = disarms
-touch_of_reply (Waiting ticket z) = leaves
-touch_of_reply Asleep = leaves
-touch_of_reply Retired = leaves
-touch_of_reply Ended = leaves
-touch_of_reply (Charged dq k q d) = leaves
-touch_of_reply Retuned = leaves
-touch_of_reply Gone = leaves
-touch_of_reply NotOn = leaves
-touch_of_reply (AlreadyOn r) = leaves
-touch_of_reply (Elsewhere r) = leaves
-touch_of_reply AlreadyContending = leaves
-touch_of_reply NotContending = leaves
-touch_of_reply StillContending = leaves
-touch_of_reply StillActive = leaves
-touch_of_reply Worn = leaves
-touch_of_reply Stale = leaves
-touch_of_reply (Early z) = leaves
-touch_of_reply Full = leaves
-touch_of_reply DeadlineOverflow = leaves
+touch_of_reply reply = leaves
 
 -- a block that waits arms a timer
 abbrev pub touch_of_block : Reply → Touch
@@ -54,20 +36,13 @@ touch_of_block reply = touch_of_reply reply
 -- an ask without a reply leaves the timer
 abbrev pub touch_of_answer : (Reply → Touch) → Answer → Touch
 touch_of_answer touch (Replied reply) = touch reply
-touch_of_answer touch (Seen reading) = leaves
-touch_of_answer touch Busy = leaves
-touch_of_answer touch Lost = leaves
+touch_of_answer touch answer = leaves
 
 -- a timer that was asked for is armed no longer, whatever the answer
 abbrev pub touch_of_call : Op → Answer → Touch
 touch_of_call (Timer ticket m) answer = disarms
 touch_of_call (Block r m) answer = touch_of_answer touch_of_block answer
-touch_of_call (Join r m) answer = touch_of_answer touch_of_reply answer
-touch_of_call (Wake r m) answer = touch_of_answer touch_of_reply answer
-touch_of_call Leave answer = touch_of_answer touch_of_reply answer
-touch_of_call Exit answer = touch_of_answer touch_of_reply answer
-touch_of_call (Charge r dt) answer = touch_of_answer touch_of_reply answer
-touch_of_call (Retune q p) answer = touch_of_answer touch_of_reply answer
+touch_of_call op answer = touch_of_answer touch_of_reply answer
 
 -- what an ask and its answer do to the timer of task t
 abbrev pub touch : ℕ → Ask → Answer → Touch
