@@ -2,8 +2,8 @@
 """Which definitions a reader must trust: those that public contracts reach, and how many lines they have, crate by crate.
 
 In each crate specs/ holds these and nothing else; definitions that only proofs and private functions need lie in
-specs/inside/. The last line is 'N passed, M failed': a definition at its place, or not. With --list it prints each
-trusted definition with its crate and module.
+specs/inside/; and docs/READING.md names each file of the former. The last line is 'N passed, M failed': a definition at
+its place, or not. With --list it prints each trusted definition with its crate and module.
 """
 import os
 import re
@@ -210,6 +210,15 @@ def trusted(found, imports, files):
     return reached
 
 
+def unread(reached):
+    """The files of trusted definitions, but for the texts of faults, that docs/READING.md does not name."""
+    named, crate = set(), ""
+    for path, short in re.findall(r"`(?:(\w+)/specs/)?([A-Z]\w*)`", text_of(f"{ROOT}/docs/READING.md")):
+        crate = path or crate
+        named.add((crate, short))
+    return sorted({(it.crate, it.module) for it in reached} - named - {(it, "Messages") for it in crates()})
+
+
 def main():
     found, imports, files = read_specs()
     definitions = list(dict.fromkeys(found.values()))
@@ -221,6 +230,9 @@ def main():
                 print(it.label())
     for it in wrong:
         print(f"trusted: {it.label()} {'is reached by a public contract' if it.is_inside() else 'belongs in specs/inside'}")
+    missing = unread(reached)
+    for crate, module in missing:
+        print(f"trusted: docs/READING.md does not name {crate}/specs/{module}")
     total = 0
     for crate in crates():
         mine = [it for it in reached if it.crate == crate]
@@ -229,8 +241,9 @@ def main():
         if mine:
             print(f"trusted: {crate}: {len(mine)} definitions, {lines} lines, {sum(it.comments for it in mine)} lines of comment")
     print(f"trusted: in all {len(reached)} definitions, {total} lines")
-    print(f"{len(definitions) - len(wrong)} passed, {len(wrong)} failed")
-    return 1 if wrong else 0
+    failed = len(wrong) + len(missing)
+    print(f"{len(definitions) - len(wrong)} passed, {failed} failed")
+    return 1 if failed else 0
 
 
 if __name__ == "__main__":
