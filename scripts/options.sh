@@ -1,7 +1,8 @@
 #!/usr/bin/env bash
 # Holds the man pages and the completions of bash, zsh and fish to the options, commands and version that --help and
-# --version of the built programs tell: none is forgotten, and none is there no more. Its last line is
-# 'N passed, M failed', and it ends with 0 where none failed.
+# --version of the built programs tell: none is forgotten, and none is there no more. README's lines of the library and what
+# they print are held to those of crates/grub_example. Its last line is 'N passed, M failed', and it ends with 0 where none
+# failed.
 set -u
 cd "$(dirname "$0")/.." || exit 1
 for program in grubrun grubtrace; do
@@ -117,6 +118,16 @@ for view in $views; do
         echo "options: there is no view $view"
     fi
 done
+
+# README shows the lines of the example, those between its two empty lines in main, and its output.
+shown=$(sed -n '/^\*\*The library\.\*\*/,/^## /{/^    /p}' README.md)
+wanted=$(sed -n '/^fn main/,$p' crates/grub_example/src/main.rt | awk 'NF == 0 { part++; next } part == 1'; sed 's/^/    /' crates/grub_example/stdout)
+if [[ -n $wanted && $shown == "$wanted" ]]; then
+    passed=$((passed + 1))
+else
+    failed=$((failed + 1))
+    diff <(echo "$wanted") <(echo "$shown") | sed 's/^/options: README and the example: /'
+fi
 
 echo "$passed passed, $failed failed"
 [[ $failed == 0 ]]
