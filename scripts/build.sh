@@ -116,7 +116,7 @@ harvest() {
     mv "$kept" "crates/$1/out.new" && rm -rf "crates/$1/out" && mv "crates/$1/out.new" "crates/$1/out"
 }
 
-declare -A pid began used
+declare -A pid began used jobs_of
 finish() {
     local crate
     trap '' HUP INT TERM
@@ -134,7 +134,7 @@ lanes=$(nproc)
 room=$(($(awk '/^MemAvailable/ { print $2 }' /proc/meminfo) / 2000000))
 ((room >= 1)) || room=1
 ((lanes <= room)) || lanes=$room
-idle=$lanes
+idle=$lanes busy=0
 failed=
 touch out/build/start
 echo "build: proving ${wanted[*]}: ${#state[@]} crates, $lanes at a time" >&2
@@ -149,6 +149,15 @@ ready() {
         done
         echo "$((behind[$crate] + lines[$crate])) $crate"
     done | sort -rn | cut -d ' ' -f 2
+}
+
+# Whether a file that is proved has changed since the build began.
+has_changed() {
+    local program
+    for program in "${wanted[@]}"; do
+        [[ ${made_from[$program]} == "$(sum_of "$program")" ]] || return 0
+    done
+    return 1
 }
 
 # Tells how one proof ended.
@@ -169,13 +178,20 @@ tell() {
 while :; do
     if [[ -z $failed ]] && ((idle > 0)); then
         mapfile -t now < <(ready)
+        if [[ ${#now[@]} -gt 0 ]] && has_changed; then
+            echo "build: a file was changed meanwhile: start it again" >&2
+            exit 1
+        fi
         for at in "${!now[@]}"; do
             ((idle > 0)) || break
             crate=${now[at]}
-            # what is free is shared out among those that can begin, the first ones getting more
-            jobs=$(((idle + ${#now[@]} - at - 1) / (${#now[@]} - at)))
-            state[$crate]=runs used[$crate]=$jobs began[$crate]=$SECONDS
-            idle=$((idle - jobs))
+            # The free processors are shared out among those that can begin. The first of them is what most others wait for:
+            # it gets a job for each processor, where there is memory for so many.
+            share=$(((idle + ${#now[@]} - at - 1) / (${#now[@]} - at)))
+            jobs=$share
+            ((at > 0 || busy + lanes > room)) || jobs=$lanes
+            state[$crate]=runs used[$crate]=$share jobs_of[$crate]=$jobs began[$crate]=$SECONDS
+            idle=$((idle - share)) busy=$((busy + jobs))
             (prove "$crate" "$jobs") > "out/build/$crate.log" 2>&1 < /dev/null &
             pid[$crate]=$!
         done
@@ -187,15 +203,13 @@ while :; do
         wait "${pid[$crate]}"
         status=$?
         unset "pid[$crate]"
-        idle=$((idle + used[$crate]))
+        idle=$((idle + used[$crate])) busy=$((busy - jobs_of[$crate]))
         harvest "$crate"
         tell "$crate" "$status"
     done
 done
 [[ -z $failed ]] || exit 1
 for program in "${wanted[@]}"; do
-    # what was changed meanwhile is proved by the next build
-    [[ ${made_from[$program]} == "$(sum_of "$program")" ]] || continue
     echo "${made_from[$program]}" > "out/build/$program.from"
     sha256sum "crates/$program/out/$program" > "out/build/$program.made"
 done

@@ -136,5 +136,9 @@ run 'no timers' 1 '' 'grubtrace: without: 53 NoTimers' check "${pair[@]}" withou
 run 'no room' 1 '' 'grubtrace: blocks:8: 57 Overfull a' check --task a=8000:10000 --task b=2000:10000 blocks
 run 'no room for the server of fair tasks' 1 '' 'grubtrace: blocks: 57 Overfull fair0' check "${pair[@]}" --fair-server 96:100 blocks
 
+# How much of a long trace was read is said on a terminal alone.
+for _ in {1..1200}; do cat trace; done > long
+run 'a long trace' 0 'some text' '' tasks long
+
 echo "$passed passed, $failed failed"
 [[ $failed == 0 ]]
