@@ -58,19 +58,20 @@ record-check: build
 SHARE := $(DESTDIR)$(PREFIX)/share
 
 install: build
-	install -D -m 755 $(PROGRAM) $(DESTDIR)$(PREFIX)/bin/grubrun
-	install -D -m 755 $(TRACER) $(DESTDIR)$(PREFIX)/bin/grubtrace
-	for it in grubrun grubtrace; do \
+	@install -D -m 755 $(PROGRAM) $(DESTDIR)$(PREFIX)/bin/grubrun
+	@install -D -m 755 $(TRACER) $(DESTDIR)$(PREFIX)/bin/grubtrace
+	@for it in grubrun grubtrace; do \
 	    install -D -m 644 docs/$$it.1 $(SHARE)/man/man1/$$it.1 && \
 	    install -D -m 644 completions/$$it.bash $(SHARE)/bash-completion/completions/$$it && \
 	    install -D -m 644 completions/_$$it $(SHARE)/zsh/site-functions/_$$it && \
 	    install -D -m 644 completions/$$it.fish $(SHARE)/fish/vendor_completions.d/$$it.fish || exit 1; \
 	done
+	@echo "installed grubrun and grubtrace below $(DESTDIR)$(PREFIX)"
 
 uninstall:
-	for it in grubrun grubtrace; do \
+	@for it in grubrun grubtrace; do \
 	    rm -f $(DESTDIR)$(PREFIX)/bin/$$it $(SHARE)/man/man1/$$it.1 $(SHARE)/bash-completion/completions/$$it \
-	        $(SHARE)/zsh/site-functions/_$$it $(SHARE)/fish/vendor_completions.d/$$it.fish; \
+	        $(SHARE)/zsh/site-functions/_$$it $(SHARE)/fish/vendor_completions.d/$$it.fish || exit 1; \
 	done
 
 clean:
