@@ -100,6 +100,9 @@ for program in grubrun grubtrace; do
     same "the version in docs/$program.1" "${version#* }" "$(sed -n 's/^\.Os Neddwyrol //p' "docs/$program.1")"
 done
 
+one=$(crates/grubrun/out/grubrun --version)
+same 'grubtrace --version' "${one#* }" "${version#* }"
+
 commands=$(commands_of grubtrace)
 same 'bash for commands' "$commands -h --help -V --version" "$(offered '' grubtrace)"
 same 'zsh for commands' "$commands" "$(grep -oE '[a-z]+\\:' completions/_grubtrace | tr -d '\\:' | grep -v RUNTIME | xargs)"
