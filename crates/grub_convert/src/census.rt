@@ -1,41 +1,54 @@
 //! The text that tells which SCHED_DEADLINE tasks a trace shows.
 
+ghost use Rattle.std.specs.Prelude.{◌≡◌, ◌++◌, IfOk, OnOk};
+ghost use Rattle.std.specs.List.{flat_map};
+ghost use Rattle.grub_facts.specs.Census.{tally_text};
+ghost use Rattle.grub_convert.specs.Census.{cpus_behind, cpus_text, task_line};
+
 use grub_facts::Counted;
 use grub_trace::put_number;
 use std::alloc::{AllocError, Global};
 
-/// Puts the numbers of the bits that are set, with commas.
-fn put_cpus(out: &mut Vec<u8>, cpus: u64) -> Result<(), AllocError> {
-    let mut is_first = true;
-    for cpu in 0..64u64 {
-        if cpus >> cpu & 1 == 1 {
-            let comma = if is_first {
-                b"".as_slice()
-            } else {
-                b",".as_slice()
-            };
-            put_number(out, comma, cpu)?;
-            is_first = false;
-        }
+/// Puts numbers, each behind a comma.
+fn put_cpus_behind(out: &mut Vec<u8>, cpus: &[u32]) -> Result<(), AllocError>
+    ensures { OnOk result (out.new.items ≡ out.old.items ++ flat_map cpus_behind cpus.now) }
+{
+    for cpu in cpus {
+        put_number(out, b",", u64::from(*cpu))?;
     }
     Ok(())
 }
 
-fn put_task(out: &mut Vec<u8>, task: &Counted) -> Result<(), AllocError> {
+/// Puts numbers with commas.
+fn put_cpus(out: &mut Vec<u8>, cpus: &[u32]) -> Result<(), AllocError>
+    ensures { OnOk result (out.new.items ≡ out.old.items ++ cpus_text cpus.now) }
+{
+    if let Some((cpu, cpus)) = cpus.split_first() {
+        put_number(out, b"", u64::from(*cpu))?;
+        put_cpus_behind(out, cpus)?;
+    }
+    Ok(())
+}
+
+fn put_task(out: &mut Vec<u8>, task: &Counted) -> Result<(), AllocError>
+    ensures { OnOk result (out.new.items ≡ out.old.items ++ task_line (tally_text task.now)) }
+{
     out.extend_from_slice(b"task ")?;
     out.extend_from_slice(&task.comm)?;
     put_number(out, b" pid=", task.pid)?;
     put_number(out, b" wakes=", task.wakes)?;
     put_number(out, b" blocks=", task.blocks)?;
     out.extend_from_slice(b" cpus=")?;
-    put_cpus(out, task.cpus)?;
+    put_cpus(out, &task.cpus)?;
     put_number(out, b" line=", task.line)?;
     out.extend_from_slice(b"\n")?;
     Ok(())
 }
 
 /// A line for each task.
-pub fn tasks_text(alloc: Global, tasks: &[Counted]) -> Result<Vec<u8>, AllocError> {
+pub fn tasks_text(alloc: Global, tasks: &[Counted]) -> Result<Vec<u8>, AllocError>
+    ensures { IfOk result (λ v. v.items ≡ flat_map (λ t. task_line (tally_text t)) tasks.now) }
+{
     let mut out = Vec::new(alloc);
     for task in tasks {
         put_task(&mut out, task)?;

@@ -10,8 +10,8 @@ mod serving;
 
 pub use fault::{STATUS_FILE, STATUS_SYSTEM, STATUS_USAGE, TraceFault};
 pub use files::{FilesFault, event_files, events_told, setting_of};
-pub use options::{Given, Options, fair_of, options_of, params_of, task_of};
-pub use pieces::{Input, read_facts, read_tasks};
+pub use options::{Given, Options, options_of};
+pub use pieces::{Input, read_facts};
 pub use serving::{Target, explain, serve_events, serve_tasks, told_status};
 
 #[cfg(test)]

@@ -132,6 +132,97 @@ at 3000 block pid7
     Ok(())
 }
 
+/// Two ready tasks that cross within one microsecond: the wake in the file before its own stands a microsecond later.
+#[test]
+fn two_tasks_cross(rt: HostRuntime) -> Result<(), Fail> {
+    let trace = "#           TASK-PID     CPU#  |||||  TIMESTAMP  FUNCTION  #P:2
+ x-1 [000] d. 1.000000: sched_wakeup: comm=a pid=7 prio=-1 target_cpu=000
+ x-1 [000] d. 1.000100: sched_wakeup: comm=b pid=8 prio=-1 target_cpu=001
+ a-7 [000] d. 1.001000: sched_stat_runtime: comm=a pid=7 runtime=1000000 [ns]
+ b-8 [001] d. 1.001100: sched_stat_runtime: comm=b pid=8 runtime=1000000 [ns]
+ x-1 [000] d. 1.002000100: sched_migrate_task: comm=a pid=7 prio=-1 orig_cpu=0 dest_cpu=1
+ x-1 [000] d. 1.002000900: sched_migrate_task: comm=b pid=8 prio=-1 orig_cpu=1 dest_cpu=0
+ a-7 [001] d. 1.003000: sched_switch: prev_comm=a prev_pid=7 prev_prio=-1 prev_state=S ==> next_comm=x
+ b-8 [000] d. 1.003000: sched_switch: prev_comm=b prev_pid=8 prev_prio=-1 prev_state=S ==> next_comm=x
+";
+    let files = [
+        "grub 1
+queue 996147 838862
+task fair0 50000 1000000
+task a 1000 10000
+at 0 join fair0
+at 2000 join a
+at 3000 run a 1000
+at 4000 block a
+at 4001 wake b
+at 5000 block b
+",
+        "grub 1
+queue 996147 838862
+task fair1 50000 1000000
+task b 1000 10000
+at 0 join fair1
+at 2100 join b
+at 3100 run b 1000
+at 4000 wake a
+at 4000 block b
+at 5000 block a
+",
+    ];
+    let tasks = ["a=1000:10000", "b=1000:10000"];
+    assert!(rt; tells(rt.alloc(), tasks.as_slice(), trace, files.as_slice())?);
+    Ok(())
+}
+
+/// A ready task that is moved twice before it runs again: each move takes it from the runqueue where it was.
+#[test]
+fn a_task_is_moved_twice(rt: HostRuntime) -> Result<(), Fail> {
+    let trace = "#           TASK-PID     CPU#  |||||  TIMESTAMP  FUNCTION  #P:3
+ x-1 [000] d. 1.000000: sched_wakeup: comm=a pid=7 prio=-1 target_cpu=000
+ a-7 [000] d. 1.001000: sched_stat_runtime: comm=a pid=7 runtime=1000000 [ns]
+ a-7 [000] d. 1.001500: sched_switch: prev_comm=a prev_pid=7 prev_prio=-1 prev_state=R ==> next_comm=x
+ x-1 [000] d. 1.002000: sched_migrate_task: comm=a pid=7 prio=-1 orig_cpu=0 dest_cpu=1
+ x-1 [001] d. 1.002100: sched_migrate_task: comm=a pid=7 prio=-1 orig_cpu=1 dest_cpu=2
+ a-7 [002] d. 1.002600: sched_stat_runtime: comm=a pid=7 runtime=500000 [ns]
+ a-7 [002] d. 1.003000: sched_switch: prev_comm=a prev_pid=7 prev_prio=-1 prev_state=S ==> next_comm=x
+";
+    let files = [
+        "grub 1
+queue 996147 908767
+task fair0 50000 1000000
+task a 1000 10000
+at 0 join fair0
+at 2000 join a
+at 3000 run a 1000
+at 4000 block a
+",
+        "grub 1
+queue 996147 908767
+task fair1 50000 1000000
+at 0 join fair1
+at 4000 wake a
+at 4100 block a
+",
+        "grub 1
+queue 996147 908767
+task fair2 50000 1000000
+at 0 join fair2
+at 4100 wake a
+at 4600 run a 500
+at 5000 block a
+",
+    ];
+    assert!(rt;
+        tells(
+            rt.alloc(),
+            ["a=1000:10000"].as_slice(),
+            trace,
+            files.as_slice()
+        )?
+    );
+    Ok(())
+}
+
 /// Whether a trace is refused with this status and this line, where there is a file at one path already.
 fn refuses(
     alloc: Global,
@@ -161,6 +252,9 @@ fn faults(rt: HostRuntime) -> Result<(), Fail> {
         " a-7 [001] d. 3000.000000: sched_switch: prev_comm=a prev_pid=7 prev_prio=-1 prev_state=S\n";
     let run =
         " a-7 [000] d. 1.5: x\n a-7 [000] d. 1.500000: sched_stat_runtime: comm=a pid=7 runtime=16777217000 [ns]\n";
+    let fires =
+        " a-7 [000] d. 1.500000: hrtimer_expire_entry: hrtimer=1 function=inactive_task_timer now=1\n";
+    let lost = "CPU:0 [LOST 3 EVENTS]\n";
     let other = " x-1 [000] d. 2.000000: sched_wakeup: comm=b c pid=8 prio=-1 target_cpu=000\n";
     let cut = " x-1 [000] d. 1.000000: sched_wakeup: comm=a pid=7 prio=-1\n";
     let alloc = rt.alloc();
@@ -170,6 +264,8 @@ fn faults(rt: HostRuntime) -> Result<(), Fail> {
         (wake, sleep, cut, "grubtrace: t:2: 54 TooLong\n"),
         (wake, run, other, "grubtrace: t:3: 54 TooLong\n"),
         (wake, cut, sleep, "grubtrace: t:2: 55 BadTraceLine\n"),
+        (wake, fires, cut, "grubtrace: t:2: 51 WrongClock\n"),
+        (wake, lost, cut, "grubtrace: t:2: 52 LostEvents\n"),
         (
             wake,
             other,

@@ -1,3 +1,5 @@
 mod NumberLemmas
 mod WordLemmas
 mod GivenLemmas
+mod TextLemmas
+mod CensusLemmas

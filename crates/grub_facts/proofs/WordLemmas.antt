@@ -125,3 +125,24 @@ left_sum n i t xs lt all = (let k = left_len xs (i + 1) in omega arith)
 pub none_of : (o : Option ℕ) → ((x : ℕ) → o ≡ Some x → ⊥) → o ≡ None
 none_of None h = refl
 none_of (Some x) h = absurd (h x refl)
+
+-- the same for any list: nowhere, and somewhere
+
+pub none_at : {X : Type 0} (p : X → Bool) (xs : List X) → position p xs ≡ None → length xs ≡ position_or_len p xs
+none_at p xs e = (let h : length xs ≤ position_or_len p xs = ltb-false _ _ (not_some (ltb (position_or_len p xs) (length xs)) (position_or_len p xs) e) in
+    let k : position_or_len p xs ≤ length xs = prefix_len-le-length (λ x. not (p x)) xs in omega arith)
+  where
+    not_some : (b : Bool) (i : ℕ) → cond b (Some i) None ≡ None → b ≡ false
+    not_some true i e = absurd cc
+    not_some false i e = refl
+
+pub some_at : {X : Type 0} (p : X → Bool) (xs : List X) (i : ℕ) → position p xs ≡ Some i → (i < length xs) × (i ≡ position_or_len p xs)
+some_at p xs i e =
+    let k = some_is (ltb (position_or_len p xs) (length xs)) (position_or_len p xs) i e in
+    let lt : position_or_len p xs < length xs = ltb-true _ _ k.0 in
+    let same : position_or_len p xs ≡ i = k.1 in
+    (omega arith, sym same)
+  where
+    some_is : (b : Bool) (i j : ℕ) → cond b (Some i) None ≡ Some j → (b ≡ true) × (i ≡ j)
+    some_is true i j e = (refl, cc)
+    some_is false i j e = absurd cc

@@ -1,9 +1,12 @@
 -- The facts of given tasks, line by line. A task is told by its pid: that of its option, or the first that a line shows
 -- with its comm; of two options with one pid the later has none.
-use Rattle.std.specs.Prelude.{ℕ, zero, suc, Bool, false, not, ◌&&◌, ◌||◌, ◌==◌, nat_le, nat_eq, List, [], ◌∷◌, ◌++◌, codes, map, position, Option, Some, None, if◌then◌else◌, option_map}
+use Rattle.std.specs.Prelude.{ℕ, zero, suc, Bool, false, not, ◌&&◌, ◌||◌, ◌==◌, nat_le, nat_eq, List, [], ◌∷◌, ◌++◌, codes, map, position, Option, Some, None, is_some, if◌then◌else◌, option_map}
 use Rattle.std.specs.Option.{option_or}
 use Rattle.std.specs.List.{starts_with}
 use Rattle.std.specs.Str.{bytes_eq}
+use Rattle.grub_facts.specs.Numbers.{number}
+use Rattle.grub_facts.specs.Faults.{Problem, flawed, unknown_task}
+use Rattle.grub_facts.specs.declared.fault.Flaw.TheVariants as flaw
 use Rattle.grub_facts.specs.declared.event.Shown.{Shown}
 use Rattle.grub_facts.specs.declared.event.Event.{Event}
 use Rattle.grub_facts.specs.declared.event.Event.TheVariants.{Woken, Migrated, Ran, Switched, Armed, Started, Cancelled, Expired}
@@ -68,6 +71,20 @@ index_of_comm tasks comm = position (seeks comm) tasks
 
 abbrev pub index_of_timer : List Task → List ℕ → Option ℕ
 index_of_timer tasks timer = position (has_timer timer) tasks
+
+-- a task that is given by a name behind these: digits are its pid, unless one of these has it; else it is looked for
+abbrev pub given_by : Option ℕ → List ℕ → List Task → Task
+given_by None name tasks = record { sought = Some name; pid = None; found = None; timer = [] }
+given_by (Some n) name tasks = record { sought = None; pid = if is_some (index_of tasks n) then None else Some n; found = None; timer = [] }
+
+-- the tasks with these names, behind others
+abbrev pub tasks_behind : List Task → List (List ℕ) → List Task
+tasks_behind tasks [] = tasks
+tasks_behind tasks (name ∷ names) = tasks_behind (tasks ++ given_by (number name) name tasks ∷ []) names
+
+-- the tasks with these names, before the first line
+abbrev pub tasks_given : List (List ℕ) → List Task
+tasks_given names = tasks_behind [] names
 
 -- a list with one element changed
 abbrev pub changed_at : {X : Type 0} → ℕ → (X → X) → List X → List X
@@ -185,6 +202,22 @@ told_of line said tasks = fact_told line said.at (index_told said.event tasks) (
 abbrev pub trouble_of : Said (List ℕ) → List Task → ℕ → Trouble
 trouble_of said tasks runqueues = trouble_told said.event (index_told said.event tasks) runqueues
 
+-- the task of a wake
+abbrev pub woken_by : Event (List ℕ) → Shown (List ℕ)
+woken_by (Woken shown deadline cpu) = shown
+woken_by event = record { comm = []; pid = 0 }
+
+-- what is wrong with the line of an event by the tasks that were given
+abbrev pub problem_of_trouble : Event (List ℕ) → Trouble → Option Problem
+problem_of_trouble event NoTrouble = None
+problem_of_trouble event TooLong = Some (flawed flaw.TooLong)
+problem_of_trouble event Unknown = Some (unknown_task (woken_by event).comm (woken_by event).pid)
+
 -- after a line that says this and has no fault
 abbrev pub kept_after : ℕ → Said (List ℕ) → Kept → Kept
 kept_after line said kept = record { tasks = tasks_after line said.event kept.tasks; facts = kept.facts ++ told_of line said kept.tasks }
+
+-- after a line that says this: one with a fault tells no fact
+abbrev pub kept_by : ℕ → Said (List ℕ) → Kept → Trouble → Kept
+kept_by line said kept NoTrouble = kept_after line said kept
+kept_by line said kept other = record kept { tasks = tasks_after line said.event kept.tasks }

@@ -1,18 +1,25 @@
--- What the keeper of the given tasks holds, and the faults that it answers.
-use Rattle.std.specs.Prelude.{◌≡◌, Option, Some, None}
+-- What the code holds of a trace, in the words of the definitions.
+use Rattle.std.specs.Prelude.{Option, option_map}
+use Rattle.grub_facts.specs.Faults.{fault_text, problem_of}
 use Rattle.grub_facts.specs.Given.{Kept, tasks_text}
-use Rattle.grub_facts.specs.declared.keeper.Keeper.{Keeper}
-use Rattle.grub_facts.specs.declared.keeper.Trouble.{Trouble}
-use Rattle.grub_facts.specs.declared.keeper.Trouble.TheVariants.{NoTrouble, Unknown, TooLong}
+use Rattle.grub_facts.specs.Reading.{Told}
+use Rattle.grub_facts.specs.Texts.{After, Progress}
+use Rattle.grub_facts.specs.declared.fact_lines.FactLines.{FactLines}
 use Rattle.grub_facts.specs.declared.fault.Wrong.{Wrong}
-use Rattle.grub_facts.specs.declared.fault.Wrong.TheVariants as wrong
+use Rattle.grub_facts.specs.declared.keeper.Keeper.{Keeper}
+use Rattle.grub_facts.specs.declared.text.Text.{Text}
 
 abbrev pub kept_text : Keeper → Kept
 kept_text keeper = record { tasks = tasks_text keeper.tasks; facts = keeper.facts.items }
 
--- the fault that is answered is this one, and none where there is none
-abbrev pub TellsTrouble : Option Wrong → Trouble → Type 0
-TellsTrouble None wanted = wanted ≡ NoTrouble
-TellsTrouble (Some (wrong.UnknownTask comm pid)) wanted = wanted ≡ Unknown
-TellsTrouble (Some wrong.TooLong) wanted = wanted ≡ TooLong
-TellsTrouble (Some other) wanted = ⊥
+abbrev pub told_text : FactLines → Told
+told_text lines = record { cpus = lines.cpus; counts = lines.counts; kept = kept_text lines.keeper }
+
+-- a line's answer, and what is told with it
+abbrev pub after_of : {S : Type 0} → Option Wrong → S → After S
+after_of wrong told = record { wrong = option_map problem_of wrong; told = told }
+
+-- how far a text was read that stands so, and whose lines tell this
+abbrev pub progress : {S : Type 0} → Text → S → Progress S
+progress text told =
+    record { fault = option_map fault_text text.fault; line = text.line; rest = text.carry.items; told = told }

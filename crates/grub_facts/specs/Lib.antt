@@ -2,10 +2,13 @@ pub mod Numbers
 pub mod Words
 pub mod Opening
 pub mod Head
-pub mod OpeningFits
+pub mod inside
 pub mod Events
 pub mod Lines
 pub mod Given
 pub mod Keeping
 pub mod Faults
+pub mod Texts
 pub mod Reading
+pub mod Told
+pub mod Census

@@ -1,25 +1,41 @@
--- What the lines of a trace give, one after another.
-use Rattle.std.specs.Prelude.{◌≡◌, ℕ, Bool, true, false, ◌&&◌, ◌||◌, ◌==◌, nat_lt, ◌+◌, min, max, List, length, Option, Some, None, IsNone, is_none, unwrap_or, if◌then◌else◌}
+-- What the lines of a trace tell of given tasks and beside them, one after another.
+use Rattle.std.specs.Prelude.{ℕ, Bool, true, false, ◌&&◌, ◌||◌, ◌==◌, nat_lt, ◌+◌, min, max, List, [], length, Option, Some, None, is_none, option_map, unwrap_or, if◌then◌else◌}
 use Rattle.std.specs.Option.{option_or}
-use Rattle.std.specs.Bool.{MatchBool}
 use Rattle.grub_facts.specs.Head.{is_comment, processors}
 use Rattle.grub_facts.specs.Lines.{drift, line_of, other_cpu}
-use Rattle.grub_facts.specs.Faults.{wrong_of}
-use Rattle.grub_facts.specs.Given.{kept_after, trouble_of}
-use Rattle.grub_facts.specs.Keeping.{TellsTrouble, kept_text}
+use Rattle.grub_facts.specs.Faults.{Problem, flawed}
+use Rattle.grub_facts.specs.Given.{Kept, kept_by, problem_of_trouble, tasks_given, trouble_of}
+use Rattle.grub_facts.specs.Texts.{After}
 use Rattle.grub_facts.specs.declared.event.Event.{Event}
 use Rattle.grub_facts.specs.declared.event.Event.TheVariants.{Armed, Started}
 use Rattle.grub_facts.specs.declared.event.Said.{Said}
 use Rattle.grub_facts.specs.declared.fact.Counts.{Counts}
-use Rattle.grub_facts.specs.declared.fact_lines.FactLines.{FactLines}
-use Rattle.grub_facts.specs.declared.fault.Wrong.{Wrong}
-use Rattle.grub_facts.specs.declared.fault.Wrong.TheVariants as wrong
+use Rattle.grub_facts.specs.declared.fault.Flaw.TheVariants.{TooLong}
 use Rattle.grub_facts.specs.declared.line.Line.{Line}
 use Rattle.grub_facts.specs.declared.line.Line.TheVariants as line
+
+-- what lines told, and how many runqueues there are, where that was given
+pub record Told : Type 0 where
+  pub cpus : Option ℕ
+  pub counts : Counts
+  pub kept : Kept
+
+-- the counts of no lines
+abbrev pub no_counts : Counts
+no_counts = record { lines = 0; processors = None; first = None; greatest_cpu = None; has_timers = false; clock = 0 }
+
+-- what is told before the first line, where tasks with these names were given
+abbrev pub told_first : List (List ℕ) → Option ℕ → Told
+told_first names cpus = record { cpus = cpus; counts = no_counts; kept = record { tasks = tasks_given names; facts = [] } }
 
 -- how many runqueues the option or the head tell of
 abbrev pub runqueues_told : Option ℕ → Counts → Option ℕ
 runqueues_told cpus counts = option_or cpus counts.processors
+
+-- how many runqueues there are: else one more than the greatest CPU of a line, at least one
+abbrev pub runqueues_of : Told → ℕ
+runqueues_of told =
+    unwrap_or (runqueues_told told.cpus told.counts) (unwrap_or (option_map (λ cpu. min (cpu + 1) 4294967295) told.counts.greatest_cpu) 1)
 
 abbrev pub is_start : {T : Type 0} → Event T → Bool
 is_start (Armed timer pid expires) = true
@@ -54,28 +70,35 @@ abbrev pub is_bad_count : Option ℕ → Bool
 is_bad_count None = false
 is_bad_count (Some n) = n == 0 || nat_lt 64 n
 
--- a line with no fault that begins with #
-abbrev pub TakesHead : List ℕ → FactLines → Option Wrong → FactLines → Type 0
-TakesHead text old fault new =
-    (new ≡ record old { counts = head_counts text old.counts })
-    × (fault ≡ (if is_head old.counts && is_bad_count (runqueues_told old.cpus (head_counts text old.counts)) then Some wrong.TooLong else None))
+-- what is wrong with a line that begins with #: it tells of a number of runqueues that is none
+abbrev pub head_problem : List ℕ → Told → Option Problem
+head_problem text told =
+    if is_head told.counts && is_bad_count (runqueues_told told.cpus (head_counts text told.counts)) then Some (flawed TooLong) else None
 
--- a line that tells nothing
-abbrev pub TakesNothing : List ℕ → FactLines → Option Wrong → FactLines → Type 0
-TakesNothing text old fault new = (new ≡ record old { counts = line_counts text old.counts }) × (fault ≡ None)
+-- a line that begins with #
+abbrev pub head_line : List ℕ → Told → After Told
+head_line text told =
+    record { wrong = head_problem text told; told = record told { counts = head_counts text told.counts } }
+
+-- another line that tells nothing
+abbrev pub other_line : List ℕ → Told → After Told
+other_line text told = record { wrong = None; told = record told { counts = line_counts text told.counts } }
 
 -- a line of an event
-pub record TakesSaid (line : ℕ) (text : List ℕ) (said : Said (List ℕ)) (old : FactLines) (fault : Option Wrong) (new : FactLines) : Type 0 where
-  pub trouble : TellsTrouble fault (trouble_of said (kept_text old.keeper).tasks (unwrap_or (runqueues_told old.cpus old.counts) 64))
-  pub kept : IsNone fault → kept_text new.keeper ≡ kept_after line said (kept_text old.keeper)
-  pub counts : new.counts ≡ counted said (line_counts text old.counts)
-  pub cpus : new.cpus ≡ old.cpus
+abbrev pub event_line : ℕ → Said (List ℕ) → Told → After Told
+event_line n said told =
+    let trouble = trouble_of said told.kept.tasks (unwrap_or (runqueues_told told.cpus told.counts) 64) in
+    record {
+      wrong = problem_of_trouble said.event trouble;
+      told = record { cpus = told.cpus; counts = counted said told.counts; kept = kept_by n said told.kept trouble };
+    }
 
--- what a line gives that tells this: the fault that is answered, and what is held after it where there is none
-abbrev pub TakesTold : ℕ → List ℕ → Line (List ℕ) → FactLines → Option Wrong → FactLines → Type 0
-TakesTold n text (line.Wrong flaw) old fault new = fault ≡ Some (wrong_of flaw)
-TakesTold n text line.Nothing old fault new = MatchBool (is_comment text) (TakesHead text old fault new) (TakesNothing text old fault new)
-TakesTold n text (line.Says said) old fault new = TakesSaid n text said old fault new
+-- a line that tells this
+abbrev pub line_told : ℕ → List ℕ → Told → Line (List ℕ) → After Told
+line_told n text told (line.Wrong flaw) = record { wrong = Some (flawed flaw); told = told }
+line_told n text told line.Nothing = if is_comment text then head_line text told else other_line text told
+line_told n text told (line.Says said) = event_line n said (record told { counts = line_counts text told.counts })
 
-abbrev pub TakesLine : ℕ → List ℕ → FactLines → Option Wrong → FactLines → Type 0
-TakesLine n text old fault new = TakesTold n text (line_of text) old fault new
+-- what a line comes to, whose number and text these are
+abbrev pub fact_step : ℕ → List ℕ → Told → After Told
+fact_step n text told = line_told n text told (line_of text)

@@ -3,7 +3,7 @@
 ghost use Rattle.std.specs.Prelude.{◌≡◌, ◌≤◌, length, option_map};
 ghost use Rattle.grub_facts.specs.Events.{armed, bare, cancelled, event_of, event_text, expired, is_zero_lag, migrated, migrated_of, migrated_with, ran, said_of, said_text, shown_at, shown_by, shown_text, shown_with_text, started, switched, switched_of, switched_with, verb_named, verb_of, woken, woken_of, woken_with};
 ghost use Rattle.grub_facts.specs.Words.{text_of};
-ghost use Rattle.grub_facts.specs.OpeningFits.{StartsWithin};
+ghost use Rattle.grub_facts.specs.inside.OpeningFits.{StartsWithin};
 
 use crate::field::{behind, cpu_field, deadline_field, number_field, place_of, value_of};
 use crate::number::{after, before_end};

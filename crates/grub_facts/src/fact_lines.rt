@@ -1,13 +1,11 @@
 //! The facts of given tasks and what is counted beside them, line by line.
 
-ghost use Rattle.std.specs.Prelude.{◌≡◌, ◌&&◌, IfOk, IsNone, Some, None, if◌then◌else◌, unwrap_or};
-ghost use Rattle.std.specs.Bool.{MatchBool};
+ghost use Rattle.std.specs.Prelude.{◌≡◌, IfOk, map};
 ghost use Rattle.grub_facts.specs.Head.{is_comment};
-ghost use Rattle.grub_facts.specs.Given.{kept_after, trouble_of};
-ghost use Rattle.grub_facts.specs.Keeping.{TellsTrouble, kept_text};
 ghost use Rattle.grub_facts.specs.Events.{said_text};
-ghost use Rattle.grub_facts.specs.Reading.{counted, head_counts, is_bad_count, is_head, is_start, line_counts, runqueues_told, TakesHead, TakesLine, TakesNothing};
-ghost use Rattle.grub_facts.specs.declared.fault.Wrong.TheVariants.{TooLong};
+ghost use Rattle.grub_facts.specs.Keeping.{after_of, told_text};
+ghost use Rattle.grub_facts.specs.Reading.{counted, event_line, fact_step, head_counts, head_line, is_bad_count, is_head, is_start, line_counts, no_counts, other_line, runqueues_of, runqueues_told, told_first};
+ghost use Rattle.grub_facts.specs.Words.{text_of};
 
 use crate::event::{Event, Said};
 use crate::fact::Counts;
@@ -15,7 +13,7 @@ use crate::fault::Wrong;
 use crate::head::{is_comment, processors};
 use crate::keeper::Keeper;
 use crate::line::{Line, drift, line_of, other_cpu};
-use std::alloc::AllocError;
+use std::alloc::{AllocError, Global};
 
 /// The facts of given tasks, as lines are read.
 #[derive(Drop)]
@@ -28,7 +26,9 @@ pub struct FactLines {
 }
 
 /// The counts of no lines.
-pub fn no_counts() -> Counts {
+fn no_counts() -> Counts
+    ensures { result ≡ no_counts }
+{
     Counts {
         lines: 0,
         processors: None,
@@ -117,8 +117,20 @@ fn line_counts(text: &[u8], counts: Counts) -> Counts
 }
 
 impl FactLines {
+    /// Lines of which none is read yet, for the tasks with these names.
+    pub fn new(alloc: Global, names: &[&[u8]], cpus: Option<u32>) -> Result<FactLines, AllocError>
+        ensures { IfOk result (λ lines. told_text lines ≡ told_first (map text_of names.now) cpus) }
+    {
+        let keeper = Keeper::new(alloc, names)?;
+        Ok(FactLines {
+            keeper,
+            counts: no_counts(),
+            cpus,
+        })
+    }
+
     /// How many runqueues the options or the head tell of.
-    pub fn runqueues_told(&self) -> Option<u32>
+    fn runqueues_told(&self) -> Option<u32>
         ensures { result ≡ runqueues_told self.now.cpus self.now.counts }
     {
         match self.cpus {
@@ -127,10 +139,22 @@ impl FactLines {
         }
     }
 
+    /// How many runqueues there are: else one more than the greatest CPU of a line, at least one.
+    pub fn runqueues(&self) -> u32
+        ensures { result ≡ runqueues_of (told_text self.now) }
+    {
+        match self.runqueues_told() {
+            Some(n) => n,
+            None => match self.counts.greatest_cpu {
+                None => 1,
+                Some(cpu) => cpu.saturating_add(1),
+            },
+        }
+    }
+
     /// Takes a line that begins with `#` and tells of no lost events.
     fn take_head(&mut self, text: &[u8]) -> Option<Wrong>
-        ensures lines { self.new ≡ record self.old { counts = head_counts text.now self.old.counts } }
-        ensures fault { result ≡ (if is_head self.old.counts && is_bad_count (runqueues_told self.old.cpus (head_counts text.now self.old.counts)) then Some TooLong else None) }
+        ensures { after_of result (told_text self.new) ≡ head_line text.now (told_text self.old) }
     {
         let was_head = is_head(self.counts);
         self.counts = head_counts(text, self.counts);
@@ -143,35 +167,34 @@ impl FactLines {
 
     /// Takes what a line of an event says.
     fn take_said(&mut self, line: u64, said: &Said<&[u8]>) -> Result<Option<Wrong>, AllocError>
-        ensures fault { IfOk result (λ wrong. TellsTrouble wrong (trouble_of (said_text said.now) (kept_text self.old.keeper).tasks (unwrap_or (runqueues_told self.old.cpus self.old.counts) 64))) }
-        ensures kept { IfOk result (λ wrong. IsNone wrong → kept_text self.new.keeper ≡ kept_after line (said_text said.now) (kept_text self.old.keeper)) }
-        ensures counts { self.new.counts ≡ counted (said_text said.now) self.old.counts }
-        ensures cpus { self.new.cpus ≡ self.old.cpus }
+        ensures { IfOk result (λ wrong. after_of wrong (told_text self.new) ≡ event_line line (said_text said.now) (told_text self.old)) }
     {
         self.counts = counted(said, self.counts);
         let runqueues = self.runqueues_told().unwrap_or(64);
         self.keeper.take(line, said, runqueues)
     }
 
-    /// Takes a line that tells nothing of an event.
-    fn take_other(&mut self, text: &[u8]) -> Option<Wrong>
-        ensures { MatchBool (is_comment text.now) (TakesHead text.now self.old result self.new) (TakesNothing text.now self.old result self.new) }
+    /// Takes another line that tells nothing.
+    fn take_other(&mut self, text: &[u8])
+        ensures { told_text self.new ≡ (other_line text.now (told_text self.old)).told }
     {
-        if is_comment(text) {
-            self.take_head(text)
-        } else {
-            self.counts = line_counts(text, self.counts);
-            None
-        }
+        self.counts = line_counts(text, self.counts);
     }
 
     /// Takes a line, without the byte that ends it, and answers what is wrong with it.
     pub fn take(&mut self, line: u64, text: &[u8]) -> Result<Option<Wrong>, AllocError>
-        ensures { IfOk result (λ fault. TakesLine line text.now self.old fault self.new) }
+        ensures { IfOk result (λ wrong. after_of wrong (told_text self.new) ≡ fact_step line text.now (told_text self.old)) }
     {
         match line_of(text) {
             Line::Wrong(flaw) => Ok(Some(Wrong::of_flaw(flaw))),
-            Line::Nothing => Ok(self.take_other(text)),
+            Line::Nothing => {
+                if is_comment(text) {
+                    Ok(self.take_head(text))
+                } else {
+                    self.take_other(text);
+                    Ok(None)
+                }
+            }
             Line::Says(said) => {
                 self.counts = line_counts(text, self.counts);
                 self.take_said(line, &said)

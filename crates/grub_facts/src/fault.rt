@@ -47,11 +47,11 @@ pub struct LineFault {
 }
 
 impl Wrong {
-    ghost use Rattle.grub_facts.specs.Faults.{wrong_of};
+    ghost use Rattle.grub_facts.specs.Faults.{flawed, problem_of};
 
     /// The fault of a line that has a flaw.
     pub fn of_flaw(flaw: Flaw) -> Wrong
-        ensures { result ≡ wrong_of flaw }
+        ensures { problem_of result ≡ flawed flaw }
     {
         match flaw {
             Flaw::WrongClock => Wrong::WrongClock,

@@ -1,8 +1,10 @@
 //! The tasks that were given, and what lines show of them.
 
-ghost use Rattle.std.specs.Prelude.{◌≡◌, ◌<◌, IfOk, IfSome, OnOk, if◌then◌else◌, position, vec_len};
+ghost use Rattle.std.specs.Prelude.{◌≡◌, ◌<◌, ◌++◌, ◌∷◌, [], IfOk, IfSome, OnOk, if◌then◌else◌, map, option_map, position, vec_len};
 ghost use Rattle.grub_facts.specs.Events.{event_text, shown_text};
-ghost use Rattle.grub_facts.specs.Given.{arming, disowned, given_text, has_pid, has_timer, index_of, index_of_comm, index_of_timer, index_shown, index_told, is_sugov, seeks, settled, showing, shown_index, stop_of, tasks_after, tasks_text};
+ghost use Rattle.grub_facts.specs.Given.{Task, arming, disowned, finding_text, given_by, given_text, has_pid, has_timer, index_of, index_of_comm, index_of_timer, index_shown, index_told, is_sugov, seeks, settled, showing, shown_index, stop_of, tasks_after, tasks_given, tasks_text};
+ghost use Rattle.grub_facts.specs.Numbers.{number};
+ghost use Rattle.grub_facts.specs.Words.{text_of};
 
 use crate::event::{Event, Shown};
 use crate::fact::{Found, Stop};
@@ -97,7 +99,9 @@ fn place_of_timer(given: &[Given], timer: &[u8]) -> Option<usize>
 
 impl Tasks {
     /// The tasks with these names.
-    pub fn new(alloc: Global, names: &[&[u8]]) -> Result<Tasks, AllocError> {
+    pub fn new(alloc: Global, names: &[&[u8]]) -> Result<Tasks, AllocError>
+        ensures { IfOk result (λ tasks. tasks_text tasks ≡ tasks_given (map text_of names.now)) }
+    {
         let mut tasks = Tasks {
             alloc,
             given: Vec::new(alloc),
@@ -109,23 +113,35 @@ impl Tasks {
     }
 
     /// One more task. Of two tasks with one pid the second is none that the trace shows.
-    fn give(&mut self, name: &[u8]) -> Result<(), AllocError> {
-        let pid = number(name);
-        let sought = match pid {
-            None => Some(Vec::from_slice(self.alloc, name)?),
-            Some(_) => None,
-        };
-        let pid = match pid {
-            Some(pid) if self.index_of(pid).is_none() => Some(pid),
-            _ => None,
-        };
-        self.given.push(Given {
-            sought,
-            pid,
-            found: None,
-            timer: Vec::new(self.alloc),
-        })?;
+    fn give(&mut self, name: &[u8]) -> Result<(), AllocError>
+        ensures { OnOk result (tasks_text self.new ≡ tasks_text self.old ++ given_by (number name.now) name.now (tasks_text self.old) ∷ []) }
+    {
+        let given = self.given_by(name)?;
+        self.given.push(given)?;
         Ok(())
+    }
+
+    /// The task of this name, behind these.
+    fn given_by(&self, name: &[u8]) -> Result<Given, AllocError>
+        ensures { IfOk result (λ given. given_text given ≡ given_by (number name.now) name.now (tasks_text self.now)) }
+    {
+        match number(name) {
+            None => Ok(Given {
+                sought: Some(Vec::from_slice(self.alloc, name)?),
+                pid: None,
+                found: None,
+                timer: Vec::new(self.alloc),
+            }),
+            Some(pid) => {
+                let is_taken = self.index_of(pid).is_some();
+                Ok(Given {
+                    sought: None,
+                    pid: if is_taken { None } else { Some(pid) },
+                    found: None,
+                    timer: Vec::new(self.alloc),
+                })
+            }
+        }
     }
 
     /// The index of the task with this pid.
@@ -265,7 +281,9 @@ impl Tasks {
     }
 
     /// Where each task was first shown.
-    pub fn finish(self) -> Result<Vec<Option<Found>>, AllocError> {
+    pub fn finish(self) -> Result<Vec<Option<Found>>, AllocError>
+        ensures { IfOk result (λ found. map (option_map finding_text) found.items ≡ map (λ (t : Task). t.found) (tasks_text self)) }
+    {
         let Tasks { alloc, given } = self;
         let mut found = Vec::with_capacity(alloc, given.len())?;
         for task in given {

@@ -1,10 +1,13 @@
 //! The facts of the given tasks.
 
-ghost use Rattle.std.specs.Prelude.{◌≡◌, ◌++◌, IfOk, IsNone, IsSome, OnOk};
+ghost use Rattle.std.specs.Prelude.{◌≡◌, ◌++◌, [], IfOk, OnOk, Some, map, option_map};
 ghost use Rattle.grub_facts.specs.Events.{event_text, said_text};
-ghost use Rattle.grub_facts.specs.Given.{fact_told, index_told, tasks_after, tasks_text, trouble_told, wake_trouble, move_trouble, what_told, kept_after, trouble_of};
+ghost use Rattle.grub_facts.specs.Faults.{problem_of};
+ghost use Rattle.grub_facts.specs.Given.{Task, fact_told, finding_text, kept_by, move_trouble, problem_of_trouble, tasks_given, tasks_text, trouble_of, trouble_told, wake_trouble, what_told, woken_by};
+ghost use Rattle.grub_facts.specs.Events.{shown_text};
+ghost use Rattle.grub_facts.specs.Keeping.{kept_text};
+ghost use Rattle.grub_facts.specs.Words.{text_of};
 ghost use Rattle.grub_facts.specs.declared.keeper.Trouble.TheVariants.{Unknown};
-ghost use Rattle.grub_facts.specs.Keeping.{TellsTrouble, kept_text};
 
 use crate::event::{Event, Said, Shown};
 use crate::fact::{Fact, Found, What};
@@ -135,8 +138,10 @@ fn trouble_told(event: &Event<&[u8]>, task: Option<usize>, runqueues: u32) -> Tr
     }
 }
 
-/// The task that an event shows, or none.
-fn shown_of<'a>(event: &Event<&'a [u8]>) -> Shown<&'a [u8]> {
+/// The task of a wake, or none.
+fn woken_by<'a>(event: &Event<&'a [u8]>) -> Shown<&'a [u8]>
+    ensures { shown_text result ≡ woken_by (event_text event.now) }
+{
     match *event {
         Event::Woken {
             task,
@@ -149,9 +154,9 @@ fn shown_of<'a>(event: &Event<&'a [u8]>) -> Shown<&'a [u8]> {
 
 /// The fault of a wake of a task that was not given.
 fn unknown(alloc: Global, event: &Event<&[u8]>) -> Result<Wrong, AllocError>
-    ensures { IfOk result (λ wrong. TellsTrouble (Some wrong) Unknown) }
+    ensures { IfOk result (λ wrong. Some (problem_of wrong) ≡ problem_of_trouble (event_text event.now) Unknown) }
 {
-    let task = shown_of(event);
+    let task = woken_by(event);
     let comm = Vec::from_slice(alloc, task.comm)?;
     Ok(Wrong::UnknownTask {
         comm,
@@ -161,7 +166,10 @@ fn unknown(alloc: Global, event: &Event<&[u8]>) -> Result<Wrong, AllocError>
 
 impl Keeper {
     /// A keeper of the tasks with these names.
-    pub fn new(alloc: Global, names: &[&[u8]]) -> Result<Keeper, AllocError> {
+    pub fn new(alloc: Global, names: &[&[u8]]) -> Result<Keeper, AllocError>
+        ensures tasks { IfOk result (λ keeper. (kept_text keeper).tasks ≡ tasks_given (map text_of names.now)) }
+        ensures facts { IfOk result (λ keeper. (kept_text keeper).facts ≡ []) }
+    {
         let tasks = Tasks::new(alloc, names)?;
         Ok(Keeper {
             alloc,
@@ -200,8 +208,8 @@ impl Keeper {
         said: &Said<&[u8]>,
         runqueues: u32,
     ) -> Result<Option<Wrong>, AllocError>
-        ensures fault { IfOk result (λ wrong. TellsTrouble wrong (trouble_of (said_text said.now) (kept_text self.old).tasks runqueues)) }
-        ensures kept { IfOk result (λ wrong. IsNone wrong → kept_text self.new ≡ kept_after line (said_text said.now) (kept_text self.old)) }
+        ensures fault { IfOk result (λ wrong. option_map problem_of wrong ≡ problem_of_trouble (event_text said.now.event) (trouble_of (said_text said.now) (kept_text self.old).tasks runqueues)) }
+        ensures kept { IfOk result (λ wrong. kept_text self.new ≡ kept_by line (said_text said.now) (kept_text self.old) (trouble_of (said_text said.now) (kept_text self.old).tasks runqueues)) }
     {
         let task = self.tasks.note(line, &said.event)?;
         match trouble_told(&said.event, task, runqueues) {
@@ -215,7 +223,10 @@ impl Keeper {
     }
 
     /// The facts, and where each given task was first shown.
-    pub fn finish(self) -> Result<(Vec<Fact>, Vec<Option<Found>>), AllocError> {
+    pub fn finish(self) -> Result<(Vec<Fact>, Vec<Option<Found>>), AllocError>
+        ensures facts { IfOk result (λ r. r.0.items ≡ (kept_text self).facts) }
+        ensures found { IfOk result (λ r. map (option_map finding_text) r.1.items ≡ map (λ (t : Task). t.found) (kept_text self).tasks) }
+    {
         let Keeper {
             alloc: _,
             tasks,

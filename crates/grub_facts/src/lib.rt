@@ -14,8 +14,10 @@ mod line;
 mod number;
 mod opening;
 mod reader;
+mod task_reader;
 #[cfg(test)]
 mod tests;
+mod text;
 mod words;
 
 pub use census::{Census, Counted};
@@ -23,4 +25,5 @@ pub use event::{Event, Said, Shown};
 pub use fact::{Counts, Fact, Facts, Found, Stop, What};
 pub use fault::{Flaw, LineFault, Wrong};
 pub use line::{Line, line_of};
-pub use reader::{FactReader, TaskReader};
+pub use reader::FactReader;
+pub use task_reader::TaskReader;

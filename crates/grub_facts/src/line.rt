@@ -5,7 +5,7 @@ ghost use Rattle.grub_facts.specs.Events.{said_text};
 ghost use Rattle.grub_facts.specs.Opening.{opening_of};
 ghost use Rattle.grub_facts.specs.Lines.{checked, drift, event_line, has_cpu_above, line_behind, line_of, line_text, other_cpu};
 ghost use Rattle.std.specs.Prelude.{length, ◌≤◌, slice_range};
-ghost use Rattle.grub_facts.specs.OpeningFits.{StartsWithin};
+ghost use Rattle.grub_facts.specs.inside.OpeningFits.{StartsWithin};
 
 use crate::event::{Event, Said, said_of, verb_of};
 use crate::fault::Flaw;

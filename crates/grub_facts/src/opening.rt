@@ -4,7 +4,7 @@ ghost use Rattle.std.specs.Prelude.{◌≡◌, ◌==◌, ◌≤◌, IfSome, leng
 ghost use Rattle.std.specs.Char.{is_ascii_digit};
 ghost use Rattle.grub_facts.specs.Words.{is_space};
 ghost use Rattle.grub_facts.specs.Opening.{before_brackets, last_digits, later_cpu, opening_of, running, trimmed};
-ghost use Rattle.grub_facts.specs.OpeningFits.{StartsWithin};
+ghost use Rattle.grub_facts.specs.inside.OpeningFits.{StartsWithin};
 
 use crate::number::{bracketed, moment, number};
 use crate::words::first_word;

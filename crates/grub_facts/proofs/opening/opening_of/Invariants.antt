@@ -1,6 +1,6 @@
 use Rattle.std.proofs.Common.{◌≡◌, ◌+◌, length}
 use Rattle.grub_facts.specs.Opening.{opening_from, opening_of}
-use Rattle.grub_facts.specs.OpeningFits.{StartsWithin}
+use Rattle.grub_facts.specs.inside.OpeningFits.{StartsWithin}
 use Rattle.grub_facts.specs.Words.{words_of}
 use Rattle.grub_facts.proofs.opening.opening_of.Given as goal
 

@@ -1,0 +1,2 @@
+pub mod OpeningFits
+pub mod Sightings
