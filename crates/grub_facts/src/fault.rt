@@ -50,7 +50,7 @@ impl Wrong {
     ghost use Rattle.grub_facts.specs.Faults.{flawed, problem_of};
 
     /// The fault of a line that has a flaw.
-    pub fn of_flaw(flaw: Flaw) -> Wrong
+    pub(crate) fn of_flaw(flaw: Flaw) -> Wrong
         ensures { problem_of result ≡ flawed flaw }
     {
         match flaw {

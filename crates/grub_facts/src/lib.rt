@@ -20,10 +20,8 @@ mod tests;
 mod text;
 mod words;
 
-pub use census::{Census, Counted};
-pub use event::{Event, Said, Shown};
+pub use census::Counted;
 pub use fact::{Counts, Fact, Facts, Found, Stop, What};
-pub use fault::{Flaw, LineFault, Wrong};
-pub use line::{Line, line_of};
+pub use fault::{LineFault, Wrong};
 pub use reader::FactReader;
 pub use task_reader::TaskReader;
