@@ -192,6 +192,23 @@ run 'a picture' 0 'some text' '' --view picture documentation
 run 'a view of a file at fault' 1 '' "grubrun: first:1: 31 OutOfRange$newline" --view steps $(for _ in {1..64}; do echo two_lines; done) first
 run 'an unknown view' 2 '' 'some text' --view news documentation
 
+# The span of a picture. The last moment of these files is 8, and 0 of an empty script, whose picture ends at 1.
+empty_span() {
+    printf 'error: a picture from %s to %s is empty: it has to begin before it ends\n' "$1" "$2"
+}
+run 'a part of a picture' 0 'some text' '' --view picture --from 2 --to 6 documentation
+run 'a picture past the last moment' 0 'some text' '' --view picture --from 20 --to 30 documentation
+run 'a picture of an empty script' 0 'some text' '' --view picture two_lines
+run 'a picture from the last moment' 2 '' "$(empty_span 8 8)$newline" --view picture --from 8 documentation
+run 'a picture from 1 of an empty script' 2 '' "$(empty_span 1 1)$newline" --view picture --from 1 two_lines
+run 'a picture to 0' 2 '' "$(empty_span 0 0)$newline" --view picture --to 0 documentation
+run 'a turned span before a missing file' 2 '' "$(empty_span 6 2)$newline" --view picture --from 6 --to 2 missing
+run 'a missing file before a span that ends with it' 3 '' "grubrun: missing: 46 ReadFault$newline" --view picture --from 6 missing
+for words in '--from 0' '--to 1' '--view steps --from 0' '--view summary --to 9' '--view timeline --from 1 --to 2' '--view picture --to x'; do
+    # shellcheck disable=SC2086
+    run "$words" 2 '' 'some text' $words documentation
+done
+
 # ---- 2: the command line
 
 run 'no file' 2 '' 'some text'

@@ -8,15 +8,18 @@ use Rattle.grub_trace.specs.FirstFault.{IsFault}
 use Rattle.grub_run.specs.Written.{IsNoFileFault}
 use Rattle.grub_run.specs.declared.fault.GrubFault.{GrubFault}
 use Rattle.grub_run.specs.declared.fault.GrubFault.TheVariants as run
+use Rattle.grub_show.specs.Faults.{HasEmptySpan}
+use Rattle.grub_show.specs.declared.view.View.{View}
 use Rattle.grub_files.specs.declared.input.Source.{Source}
 use Rattle.grub_files.specs.Source.{Holds, IsLonger, IsOpened, IsUnreadable, Opener, Reader}
 use Rattle.grub_serve.specs.declared.fault.ProgramFault.{ProgramFault}
 use Rattle.grub_serve.specs.declared.fault.ProgramFault.TheVariants as faults
 
--- 1 where a file is at fault, and 3 where the system is
+-- 1 where a file is at fault, 2 where the command line is, and 3 where the system is
 abbrev pub status_of : ProgramFault → ℕ
 status_of (faults.TooLong path) = 1
 status_of (faults.Line path line fault) = 1
+status_of (faults.EmptySpan first end) = 2
 status_of (faults.Unreadable path) = 3
 status_of (faults.Run fault) = 3
 status_of faults.NoMemory = 3
@@ -48,10 +51,22 @@ module _ {O N D : Type 0} (o : Opener O D) (g : Reader N D) (source : Source O N
     pub told : fault ≡ run.Trace (trace.At kind file line)
     pub named : name ≡ slice_index_or names file []
 
+  -- all files may be read whole, and the picture of their time line would go from this moment to this one, not after it
+  pub record EmptySpanIn (view : View) (names : List (List ℕ)) (first end : ℕ) : Type 0 where
+    pub files : List (List ℕ)
+    pub hold : HoldAll names files
+    pub empty : HasEmptySpan view files first end
+
   -- what a fault tells of the files of these names
   abbrev pub Tells : List (List ℕ) → ProgramFault → Type 0
   Tells names (faults.TooLong path) = First (IsLonger o g source) names path.now
   Tells names (faults.Unreadable path) = First (IsUnreadable o g source) names path.now
   Tells names (faults.Line path line fault) = FaultInLine names path.now line fault
   Tells names (faults.Run fault) = IsNoFileFault fault
+  Tells names (faults.EmptySpan first end) = ⊥
   Tells names faults.NoMemory = (name : List ℕ) × First (IsOpened o g source) names name
+
+  -- and what one of a view of their time line tells
+  abbrev pub TellsOfView : View → List (List ℕ) → ProgramFault → Type 0
+  TellsOfView view names (faults.EmptySpan first end) = EmptySpanIn view names first end
+  TellsOfView view names fault = Tells names fault

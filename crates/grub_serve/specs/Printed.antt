@@ -6,7 +6,7 @@ use Rattle.grub_show.specs.declared.view.View.{View}
 use Rattle.grub_files.specs.declared.input.Source.{Source}
 use Rattle.grub_files.specs.Source.{Opener, Reader}
 use Rattle.grub_serve.specs.declared.fault.ProgramFault.{ProgramFault}
-use Rattle.grub_serve.specs.Faults.{HoldAll, Tells, status_of}
+use Rattle.grub_serve.specs.Faults.{EmptySpanIn, HoldAll, Tells, status_of}
 
 module _ {O N D : Type 0} (o : Opener O D) (g : Reader N D) (source : Source O N) where
   -- what was printed are the reports of a run of what the files of these names may be read as, and nothing else
@@ -36,3 +36,7 @@ module _ {O N D : Type 0} (o : Opener O D) (g : Reader N D) (source : Source O N
   -- one of these files may be at fault
   abbrev pub HasFileFault : List (List ℕ) → Type 0
   HasFileFault names = (fault : ProgramFault) × (status_of fault ≡ 1) × Tells o g source names fault
+
+  -- a picture of the time line of what these files may be read as would not begin before it ends
+  abbrev pub HasEmptySpan : View → List (List ℕ) → Type 0
+  HasEmptySpan view names = (first end : ℕ) × EmptySpanIn o g source view names first end

@@ -1,4 +1,4 @@
-//! Why a run printed no reports, or not all, and the program's status then.
+//! Why reports or a view were not printed, or not all of them, and the program's status then.
 
 ghost use Rattle.std.specs.Prelude.{◌≡◌};
 ghost use Rattle.grub_serve.specs.Faults.{status_of};
@@ -9,10 +9,13 @@ use thiserror::Error;
 /// A file, or all files, could not be used: the reports are not there.
 pub const STATUS_FILE: u8 = 1;
 
+/// The command line is wrong.
+pub const STATUS_USAGE: u8 = 2;
+
 /// Memory, a thread, a file or a writer failed.
 pub const STATUS_SYSTEM: u8 = 3;
 
-/// Why not all reports were printed. Its text is what the line on standard error tells.
+/// Why not all reports were printed, or not the whole view. Its text is what the line on standard error tells.
 #[derive(Clone, Copy, Debug, PartialEq, Eq, Error)]
 pub enum ProgramFault<'a> {
     #[error("{path}: 44 FileTooLong")]
@@ -30,9 +33,15 @@ pub enum ProgramFault<'a> {
         line: usize,
         fault: GrubFault,
     },
-    /// Any other fault of a run.
+    /// Any other fault of a run, or of a view.
     #[error("{0}")]
     Run(GrubFault),
+    /// A picture that was to begin at this moment and to end at this one.
+    #[error("a picture from {from} to {to} is empty: it has to begin before it ends")]
+    EmptySpan {
+        from: u32,
+        to: u32,
+    },
     /// No memory for the command line, or for the bytes of files.
     #[error("47 NoMemory")]
     NoMemory,
@@ -45,6 +54,7 @@ impl ProgramFault<'_> {
     {
         match self {
             ProgramFault::TooLong { .. } | ProgramFault::Line { .. } => STATUS_FILE,
+            ProgramFault::EmptySpan { .. } => STATUS_USAGE,
             ProgramFault::Unreadable { .. } | ProgramFault::Run(_) | ProgramFault::NoMemory => {
                 STATUS_SYSTEM
             }

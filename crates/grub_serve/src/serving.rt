@@ -2,9 +2,9 @@
 
 ghost use Rattle.std.specs.Prelude.{◌≡◌, ◌≤◌, ◌⊎◌};
 ghost use Rattle.grub_serve.specs.Faults.{names_of, status_of};
-ghost use Rattle.grub_serve.specs.Printed.{HasFileFault, PrintsBeginning, PrintsReports, PrintsView, PrintsViewBeginning};
+ghost use Rattle.grub_serve.specs.Printed.{HasEmptySpan, HasFileFault, PrintsBeginning, PrintsReports, PrintsView, PrintsViewBeginning};
 
-use crate::fault::{ProgramFault, STATUS_FILE, STATUS_SYSTEM};
+use crate::fault::{ProgramFault, STATUS_FILE, STATUS_SYSTEM, STATUS_USAGE};
 use crate::reports::print_reports;
 use crate::views::print_view;
 use grub_files::Source;
@@ -50,7 +50,8 @@ pub fn serve_files<
 }
 
 /// Prints a view of the time line of the files of these names to `out`, or the line of a fault to `faults`, and gives the
-/// status: 0 for the view, `STATUS_FILE` or `STATUS_SYSTEM` for a fault.
+/// status: 0 for the view, `STATUS_FILE` or `STATUS_SYSTEM` for a fault, and `STATUS_USAGE` where the span of a picture
+/// is empty.
 pub fn serve_view<
     D: Drop,
     O: Fn(&str) -> io::Result<D>,
@@ -67,10 +68,11 @@ pub fn serve_view<
 ) -> u8
     requires open { O.IsAlwaysCallable source.now.open }
     requires read { N.IsAlwaysCallable source.now.read }
-    ensures status { (result ≡ 0) ⊎ (result ≡ STATUS_FILE) ⊎ (result ≡ STATUS_SYSTEM) }
+    ensures status { (result ≡ 0) ⊎ (result ≡ STATUS_FILE) ⊎ (result ≡ STATUS_USAGE) ⊎ (result ≡ STATUS_SYSTEM) }
     ensures done { result ≡ 0 → PrintsView O.Fn N.Fn source.now view (names_of paths.now) (W.contents out.old) (W.contents out.new) }
     ensures file { result ≡ STATUS_FILE → HasFileFault O.Fn N.Fn source.now (names_of paths.now) }
-    ensures nothing { result ≡ STATUS_FILE → out.new ≡ out.old }
+    ensures usage { result ≡ STATUS_USAGE → HasEmptySpan O.Fn N.Fn source.now view (names_of paths.now) }
+    ensures nothing { (result ≡ STATUS_FILE) ⊎ (result ≡ STATUS_USAGE) → out.new ≡ out.old }
     ensures failed { result ≡ STATUS_SYSTEM → (out.new ≡ out.old) ⊎ PrintsViewBeginning O.Fn N.Fn source.now view (names_of paths.now) (W.contents out.old) (W.contents out.new) }
 {
     match print_view(alloc, view, source, paths, out) {
@@ -83,6 +85,9 @@ pub fn serve_view<
 fn tell<E: Write>(fault: &ProgramFault<'_>, faults: &mut E) -> u8
     ensures { result ≡ status_of fault.now }
 {
-    let _ = writeln!(faults, "grubrun: {fault}");
+    let _ = match fault {
+        ProgramFault::EmptySpan { .. } => writeln!(faults, "error: {fault}"),
+        _ => writeln!(faults, "grubrun: {fault}"),
+    };
     fault.status()
 }

@@ -3,13 +3,13 @@
 ghost use Rattle.std.specs.Prelude.{◌≡◌, IfErr, OnOk};
 ghost use Rattle.grub_run.specs.declared.fault.GrubFault.TheVariants as run_faults;
 ghost use Rattle.grub_serve.specs.declared.fault.ProgramFault.TheVariants as faults;
-ghost use Rattle.grub_serve.specs.Faults.{Tells, names_of};
+ghost use Rattle.grub_serve.specs.Faults.{TellsOfView, names_of};
 ghost use Rattle.grub_serve.specs.Printed.{PrintsView, PrintsViewBeginning};
 
 use crate::fault::ProgramFault;
 use crate::reports::{FILES_MAX, placed, read_files, too_many};
 use grub_files::Source;
-use grub_show::{View, write_view};
+use grub_show::{ShowFault, View, write_view};
 use std::alloc::Global;
 use std::io;
 use std::io::Write;
@@ -33,7 +33,7 @@ pub fn print_view<
     requires open { O.IsAlwaysCallable source.now.open }
     requires read { N.IsAlwaysCallable source.now.read }
     ensures done { OnOk result (PrintsView O.Fn N.Fn source.now view (names_of paths.now) (W.contents out.old) (W.contents out.new)) }
-    ensures fault { IfErr result (Tells O.Fn N.Fn source.now (names_of paths.now)) }
+    ensures fault { IfErr result (TellsOfView O.Fn N.Fn source.now view (names_of paths.now)) }
     // On every fault but that of the writer nothing was printed, and on that one a beginning of the view.
     ensures nothing { IfErr result (λ e. (e ≡ faults.Run run_faults.WriteFault → ⊥) → out.new ≡ out.old) }
     ensures beginning { IfErr result (λ e. e ≡ faults.Run run_faults.WriteFault → PrintsViewBeginning O.Fn N.Fn source.now view (names_of paths.now) (W.contents out.old) (W.contents out.new)) }
@@ -47,6 +47,7 @@ pub fn print_view<
     };
     match write_view(alloc, &files, view, out) {
         Ok(()) => Ok(()),
-        Err(fault) => Err(placed(paths, fault)),
+        Err(ShowFault::Grub(fault)) => Err(placed(paths, fault)),
+        Err(ShowFault::EmptySpan { from, to }) => Err(ProgramFault::EmptySpan { from, to }),
     }
 }

@@ -1,9 +1,15 @@
 -- The files that the words name.
-use Rattle.std.proofs.Common.{◌≡◌, ◌∙◌, ℕ, List, [], codes, map, unwrap_or, Option, Some, None, Ok, Err, option_map, ap, subst, Bor, refl}
+use Rattle.std.proofs.Common.{◌≡◌, ◌∙◌, ℕ, List, [], false, codes, map, unwrap_or, Option, Some, None, Ok, Err, option_map, ap, sym, subst, Bor, refl}
 use Rattle.std.specs.Str.Parse.{ParsesUnsigned}
 use Rattle.std.specs.declared.result.Result.{Result}
 use Rattle.clap.proofs.WalkLemmas.{one_text-rows, raw_values-rows}
-use Rattle.clap.specs.Words.{ReadsOne, matched_of, one_of, one_text, raw_values, rows_of}
+use Rattle.std.specs.Result.{IsErrAnd}
+use Rattle.clap.specs.Built.{AddsArg}
+use Rattle.clap.specs.Kinds.{FailsBy, HasKind, Kinds}
+use Rattle.clap.specs.declared.error.Error.{Error}
+use Rattle.clap.specs.Words.{App, ReadsOne, Rule, app_of, matched_of, one_of, one_text, raw_values, rows_of, rule_of, with_rule}
+use Rattle.clap.specs.declared.builder.arg.Arg.{Arg}
+use Rattle.clap.specs.declared.builder.command.Command.{Command}
 use Rattle.clap.specs.declared.parser.matches.Found.{Found}
 use Rattle.grub_serve.specs.Faults.{names_of}
 use Rattle.grubrun.specs.CommandLine.{ReadsNumber, names_among}
@@ -39,3 +45,13 @@ word_read f id r none value = subst (λ o. r ≡ option_map view_word o) (one_te
     go None is r none value = none is
     go (Some t) is (Some w) none value = ap Some (value t is)
     go (Some t) is None none value = absurd (value t is).1
+
+-- ---- the command line, argument by argument
+
+pub line_more : (old new : Command) (a : Arg) (app : App) (rule : Rule) → AddsArg old a new → a.global ≡ false → app_of old ≡ app → rule_of a ≡ rule → app_of new ≡ with_rule app rule
+line_more old new a app rule added local is ruled = added.shape local ∙ (ap (λ x. with_rule x (rule_of a)) is ∙ ap (with_rule app) ruled)
+
+-- an error that is handed on has the kind that it had
+pub fails_again : {T : Type 0} (kinds : Kinds) (e : Error) (r : Result T Error) → HasKind kinds e → IsErrAnd r (λ x. x ≡ e) → FailsBy kinds r
+fails_again kinds e (Ok x) has same = absurd same
+fails_again kinds e (Err x) has same = subst (HasKind kinds) (sym same) has

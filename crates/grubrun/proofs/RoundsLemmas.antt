@@ -78,16 +78,18 @@ takes_more old new id a added takes is parses = record {
 other_parses : (id : List ℕ) (a : Arg) → IsOf id a → bytes_eq id rounds_id ≡ false → Parses a
 other_parses id a is differs = λ same. let bad : bytes_eq id rounds_id ≡ true = rw is.id_is at same in let no : false ≡ true = sym differs ∙ bad in cc
 
--- the command of the four arguments
-pub takes_rounds : (start one two three four : Command) (tries rounds view files : Arg) → args_of start ≡ [] → groups_of start ≡ [] → (out-Command start).has_globals ≡ false
-    → IsOf (codes "tries") tries → IsOf rounds_id rounds → IsOf (codes "view") view → IsOf (codes "FILE") files → rounds.value_parser ≡ Some rounds_parser
-    → AddsArg start tries one → AddsArg one rounds two → AddsArg two view three → AddsArg three files four → TakesRounds four
-takes_rounds start one two three four tries rounds view files args groups local is_tries is_rounds is_view is_files parser first second third fourth =
+-- the command of the six arguments
+pub takes_rounds : (start one two three four five six : Command) (tries rounds view from to files : Arg) → args_of start ≡ [] → groups_of start ≡ [] → (out-Command start).has_globals ≡ false
+    → IsOf (codes "tries") tries → IsOf rounds_id rounds → IsOf (codes "view") view → IsOf (codes "from") from → IsOf (codes "to") to → IsOf (codes "FILE") files → rounds.value_parser ≡ Some rounds_parser
+    → AddsArg start tries one → AddsArg one rounds two → AddsArg two view three → AddsArg three from four → AddsArg four to five → AddsArg five files six → TakesRounds six
+takes_rounds start one two three four five six tries rounds view from to files args groups local is_tries is_rounds is_view is_from is_to is_files parser first second third fourth fifth sixth =
     let none = takes_none start args groups local in
     let with_tries = takes_more start one _ tries first none is_tries (other_parses _ tries is_tries refl) in
     let with_rounds = takes_more one two _ rounds second with_tries is_rounds (λ same. parser) in
     let with_view = takes_more two three _ view third with_rounds is_view (other_parses _ view is_view refl) in
-    takes_more three four _ files fourth with_view is_files (other_parses _ files is_files refl)
+    let with_from = takes_more three four _ from fourth with_view is_from (other_parses _ from is_from refl) in
+    let with_to = takes_more four five _ to fifth with_from is_to (other_parses _ to is_to refl) in
+    takes_more five six _ files sixth with_to is_files (other_parses _ files is_files refl)
 
 -- ---- what is read after a parse
 

@@ -1,5 +1,5 @@
--- The command line: `grubrun [--tries N] [--rounds N] [--view V] FILE...`, or `--help` or `--version`.
-use Rattle.std.specs.Prelude.{◌≡◌, ◌⊎◌, ◌<◌, ◌^◌, ℕ, codes, pos, List, [], ◌∷◌, map, Option, None, Some, true, option_map, unwrap_or}
+-- The command line: `grubrun [--tries N] [--rounds N] [--view V] [--from M] [--to M] FILE...`, or `--help` or `--version`.
+use Rattle.std.specs.Prelude.{◌≡◌, ◌⊎◌, ◌<◌, ◌^◌, ℕ, codes, pos, List, [], ◌∷◌, Option, None, Some, true, option_map, unwrap_or}
 use Rattle.std.specs.Str.Parse.{IsNumeral, digits_value, without_leading_plus}
 use Rattle.clap.specs.Simple.{on_top}
 use Rattle.clap.specs.Words.{App, Row, Rule, Text, all_of, one_of, fault_of, matches_of, new_app, new_rule, with_rule}
@@ -8,10 +8,10 @@ use Rattle.clap.specs.Lexer.{usize_max}
 use Rattle.clap.specs.declared.error.kind.ErrorKind.TheVariants as kinds
 use Rattle.clap.specs.declared.builder.action.ArgAction.TheVariants.{Append}
 use Rattle.clap.specs.declared.builder.value_parser.ValueParser.TheVariants as parsers
+use Rattle.grubrun.specs.declared.view.ViewWord.{ViewWord}
 use Rattle.grubrun.specs.declared.view.Wanted.{Wanted}
-use Rattle.grubrun.specs.declared.view.Wanted.TheVariants.{NoView}
 use Rattle.grubrun.specs.Rounds.{rounds_id, rounds_parser}
-use Rattle.grubrun.specs.Views.{view_word, wanted_of}
+use Rattle.grubrun.specs.Views.{IsMistake, view_word, wanted_of}
 
 -- a number from 0 to 255, 8 where it is not given
 abbrev pub tries_rule : Rule
@@ -25,6 +25,13 @@ rounds_rule = record (new_rule rounds_id) { long = Some (codes "rounds"); value_
 abbrev pub view_rule : Rule
 view_rule = record (new_rule (codes "view")) { long = Some (codes "view"); value_names = 1 }
 
+-- the moments at which a picture begins and ends, each a number of 32 bits
+abbrev pub from_rule : Rule
+from_rule = record (new_rule (codes "from")) { long = Some (codes "from"); value_names = 1; parser = Some (parsers.Signed (pos 0) (pos 4294967295)) }
+
+abbrev pub to_rule : Rule
+to_rule = record (new_rule (codes "to")) { long = Some (codes "to"); value_names = 1; parser = Some (parsers.Signed (pos 0) (pos 4294967295)) }
+
 -- one file or more
 abbrev pub files_rule : Rule
 files_rule = record (new_rule (codes "FILE")) { action = Some Append; range = Some (record { start_inclusive = 1; end_inclusive = usize_max }); required = true }
@@ -34,7 +41,7 @@ abbrev pub with_version : App → App
 with_version app = on_top (λ s. record s { has_version = true }) app
 
 abbrev pub command_line : App
-command_line = with_rule (with_rule (with_rule (with_rule (with_version (new_app (codes "grubrun"))) tries_rule) rounds_rule) view_rule) files_rule
+command_line = with_rule (with_rule (with_rule (with_rule (with_rule (with_rule (with_version (new_app (codes "grubrun"))) tries_rule) rounds_rule) view_rule) from_rule) to_rule) files_rule
 
 -- the values of the argument for files, among those of all arguments
 abbrev pub names_among : List Row → List Text
@@ -66,13 +73,25 @@ TriesNamed words n = SpellsOr 8 8 (codes "tries") (matches_of command_line words
 abbrev pub RoundsNamed : List Text → ℕ → Type 0
 RoundsNamed words n = SpellsOr 64 16 rounds_id (matches_of command_line words) n
 
--- these words ask for this to be printed
-abbrev pub wanted_in : List Text → Wanted
-wanted_in words = wanted_of (option_map view_word (one_of (codes "view") (matches_of command_line words)))
+-- these words name this view
+abbrev pub view_named : List Text → Option ViewWord
+view_named words = option_map view_word (one_of (codes "view") (matches_of command_line words))
 
--- the command line does not take these words, or they name no view
+-- the moment that these words name by this option, if there is one
+abbrev pub MomentNamed : Text → List Text → Option ℕ → Type 0
+MomentNamed id words m = ReadsNumber 32 (one_of id (matches_of command_line words)) m
+
+-- these words ask for this to be printed
+pub record Wants (words : List Text) (wanted : Wanted) : Type 0 where
+  pub from : Option ℕ
+  pub begins : MomentNamed (codes "from") words from
+  pub to : Option ℕ
+  pub ends : MomentNamed (codes "to") words to
+  pub is : wanted ≡ wanted_of (view_named words) from to
+
+-- the command line does not take these words, or they ask for what there is nothing of
 abbrev pub IsRefused : List Text → Type 0
-IsRefused words = (fault_of command_line words ≡ [] → ⊥) ⊎ (wanted_in words ≡ NoView)
+IsRefused words = (fault_of command_line words ≡ [] → ⊥) ⊎ ((wanted : Wanted) × Wants words wanted × IsMistake wanted)
 
 -- these words ask for the help, or for the version
 abbrev pub AsksForHelp : List Text → Type 0

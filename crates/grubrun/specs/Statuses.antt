@@ -5,11 +5,11 @@ use Rattle.clap.specs.declared.error.kind.ErrorKind.{ErrorKind}
 use Rattle.clap.specs.declared.error.kind.ErrorKind.TheVariants as kinds
 use Rattle.grub_files.specs.declared.input.Source.{Source}
 use Rattle.grub_files.specs.Source.{Opener, Reader}
-use Rattle.grub_serve.specs.Printed.{PrintsBeginning, PrintsReports, PrintsView, PrintsViewBeginning}
+use Rattle.grub_serve.specs.Printed.{HasEmptySpan, PrintsBeginning, PrintsReports, PrintsView, PrintsViewBeginning}
 use Rattle.grubrun.specs.declared.texts.TheConstants.{HELP, VERSION}
-use Rattle.grubrun.specs.CommandLine.{AsksForHelp, AsksForVersion, TriesNamed, files_named, wanted_in}
+use Rattle.grubrun.specs.CommandLine.{AsksForHelp, AsksForVersion, TriesNamed, Wants, files_named}
 use Rattle.grubrun.specs.declared.view.Wanted.{Wanted}
-use Rattle.grubrun.specs.declared.view.Wanted.TheVariants.{NoView, Reports, View}
+use Rattle.grubrun.specs.declared.view.Wanted.TheVariants as wishes
 
 -- the text that the words ask for was printed, and nothing else
 abbrev pub PrintsAsked : List (List ℕ) → Option (List ℕ) → Option (List ℕ) → Type 0
@@ -22,20 +22,39 @@ PrintsKind kind old new = ((kind ≡ kinds.DisplayHelp) × Appends old new HELP.
 module _ {O N D : Type 0} (o : Opener O D) (g : Reader N D) (source : Source O N) where
   -- what is asked for was printed of these files: the reports of a run, or a view of their time line
   abbrev pub PrintsOf : Wanted → ℕ → List (List ℕ) → Option (List ℕ) → Option (List ℕ) → Type 0
-  PrintsOf Reports tries names old new = PrintsReports o g source tries names old new
-  PrintsOf (View view) tries names old new = PrintsView o g source view names old new
-  PrintsOf NoView tries names old new = ⊥
+  PrintsOf wishes.Reports tries names old new = PrintsReports o g source tries names old new
+  PrintsOf (wishes.View view) tries names old new = PrintsView o g source view names old new
+  PrintsOf nothing tries names old new = ⊥
 
   -- a beginning of it was printed
   abbrev pub BeginsOf : Wanted → ℕ → List (List ℕ) → Option (List ℕ) → Option (List ℕ) → Type 0
-  BeginsOf Reports tries names old new = PrintsBeginning o g source tries names old new
-  BeginsOf (View view) tries names old new = PrintsViewBeginning o g source view names old new
-  BeginsOf NoView tries names old new = ⊥
+  BeginsOf wishes.Reports tries names old new = PrintsBeginning o g source tries names old new
+  BeginsOf (wishes.View view) tries names old new = PrintsViewBeginning o g source view names old new
+  BeginsOf nothing tries names old new = ⊥
 
   -- what these words ask for was printed
-  abbrev pub PrintsRun : List (List ℕ) → Option (List ℕ) → Option (List ℕ) → Type 0
-  PrintsRun words old new = (tries : ℕ) × TriesNamed words tries × PrintsOf (wanted_in words) tries (files_named words) old new
+  pub record PrintsRun (words : List (List ℕ)) (old new : Option (List ℕ)) : Type 0 where
+    pub wanted : Wanted
+    pub wants : Wants words wanted
+    pub tries : ℕ
+    pub named : TriesNamed words tries
+    pub printed : PrintsOf wanted tries (files_named words) old new
 
   -- a beginning of it was printed
-  abbrev pub PrintsSome : List (List ℕ) → Option (List ℕ) → Option (List ℕ) → Type 0
-  PrintsSome words old new = (tries : ℕ) × TriesNamed words tries × BeginsOf (wanted_in words) tries (files_named words) old new
+  pub record PrintsSome (words : List (List ℕ)) (old new : Option (List ℕ)) : Type 0 where
+    pub wanted : Wanted
+    pub wants : Wants words wanted
+    pub tries : ℕ
+    pub named : TriesNamed words tries
+    pub begun : BeginsOf wanted tries (files_named words) old new
+
+  -- this is a picture of these files that would not begin before it ends
+  abbrev pub HasNoSpan : Wanted → List (List ℕ) → Type 0
+  HasNoSpan (wishes.View view) names = HasEmptySpan o g source view names
+  HasNoSpan nothing names = ⊥
+
+  -- these words ask for such a picture
+  pub record AsksForNoSpan (words : List (List ℕ)) : Type 0 where
+    pub wanted : Wanted
+    pub wants : Wants words wanted
+    pub empty : HasNoSpan wanted (files_named words)

@@ -1,12 +1,12 @@
 -- What the words ask to be printed: reports, or a view of the time line.
-use Rattle.std.specs.Prelude.{◌≡◌, ℕ, List, Option, None, Some, Result, Ok, Err, codes, if◌then◌else◌}
+use Rattle.std.specs.Prelude.{◌≡◌, ℕ, List, Option, None, Some, Result, Ok, Err, codes, nat_le, unwrap_or, ⊤, if◌then◌else◌}
 use Rattle.std.specs.Str.{bytes_eq}
 use Rattle.std.specs.declared.convert.Infallible.{Infallible}
 use Rattle.grub_show.specs.declared.view.View.TheVariants as views
 use Rattle.grubrun.specs.declared.view.ViewWord.{ViewWord}
 use Rattle.grubrun.specs.declared.view.ViewWord.TheVariants.{Timeline, Steps, Summary, Picture, Unknown}
 use Rattle.grubrun.specs.declared.view.Wanted.{Wanted}
-use Rattle.grubrun.specs.declared.view.Wanted.TheVariants.{Reports, View, NoView}
+use Rattle.grubrun.specs.declared.view.Wanted.TheVariants.{Reports, View, NoView, NoPicture, EmptySpan}
 
 -- the view that a word names
 abbrev pub view_word : List ℕ → ViewWord
@@ -17,11 +17,30 @@ abbrev pub ReadsViewWord : List ℕ → Result ViewWord Infallible → Type 0
 ReadsViewWord text (Ok word) = word ≡ view_word text
 ReadsViewWord text (Err e) = ⊥
 
--- what is asked for
-abbrev pub wanted_of : Option ViewWord → Wanted
-wanted_of None = Reports
-wanted_of (Some Timeline) = View views.Timeline
-wanted_of (Some Steps) = View views.Steps
-wanted_of (Some Summary) = View views.Summary
-wanted_of (Some Picture) = View views.Picture
-wanted_of (Some Unknown) = NoView
+-- a picture, unless it is known that it does not begin before it ends
+abbrev pub wanted_picture : Option ℕ → Option ℕ → Wanted
+wanted_picture from None = View (views.Picture from None)
+wanted_picture from (Some end) = if nat_le end (unwrap_or from 0) then EmptySpan (unwrap_or from 0) end else View (views.Picture from (Some end))
+
+-- what is asked for where no span is given
+abbrev pub view_of : Option ViewWord → Wanted
+view_of None = Reports
+view_of (Some Timeline) = View views.Timeline
+view_of (Some Steps) = View views.Steps
+view_of (Some Summary) = View views.Summary
+view_of (Some Picture) = wanted_picture None None
+view_of (Some Unknown) = NoView
+
+-- what is asked for; a span is of a picture alone
+abbrev pub wanted_of : Option ViewWord → Option ℕ → Option ℕ → Wanted
+wanted_of (Some Picture) from to = wanted_picture from to
+wanted_of (Some Unknown) from to = NoView
+wanted_of view None None = view_of view
+wanted_of view from to = NoPicture
+
+-- what there is nothing of
+abbrev pub IsMistake : Wanted → Type 0
+IsMistake NoView = ⊤
+IsMistake NoPicture = ⊤
+IsMistake (EmptySpan first end) = ⊤
+IsMistake wanted = ⊥

@@ -3,7 +3,7 @@
 ghost use Rattle.std.specs.Prelude.{◌≡◌, ◌≤◌, IfOk, IfSome, codes, pos, Some, map, string_bytes};
 ghost use Rattle.clap.specs.declared.builder.value_parser.ValueParser.TheVariants as parsers;
 ghost use Rattle.clap.specs.Words.{app_of, one_of, rule_of, rows_of, found_of, matches_of, fault_of, FailsBy};
-ghost use Rattle.grubrun.specs.CommandLine.{ReadsNumber, RoundsNamed, TriesNamed, tries_rule, rounds_rule, view_rule, files_rule, command_line, wanted_in};
+ghost use Rattle.grubrun.specs.CommandLine.{ReadsNumber, RoundsNamed, TriesNamed, Wants, tries_rule, rounds_rule, view_rule, from_rule, to_rule, files_rule, command_line};
 ghost use Rattle.grubrun.specs.Rounds.{IsOf, TakesRounds, rounds_id};
 
 use crate::texts::VERSION;
@@ -56,6 +56,26 @@ fn view_arg<'a>(alloc: Global) -> Arg<'a>
     Arg::new(alloc, "view").long("view").value_name("V")
 }
 
+fn from_arg<'a>(alloc: Global) -> Arg<'a>
+    ensures is { IsOf (codes "from") result }
+    ensures rule { rule_of result ≡ from_rule }
+{
+    Arg::new(alloc, "from")
+        .long("from")
+        .value_name("M")
+        .value_parser(value_parser!(u32))
+}
+
+fn to_arg<'a>(alloc: Global) -> Arg<'a>
+    ensures is { IsOf (codes "to") result }
+    ensures rule { rule_of result ≡ to_rule }
+{
+    Arg::new(alloc, "to")
+        .long("to")
+        .value_name("M")
+        .value_parser(value_parser!(u32))
+}
+
 fn files_arg<'a>(alloc: Global) -> Arg<'a>
     ensures is { IsOf (codes "FILE") result }
     ensures rule { rule_of result ≡ files_rule }
@@ -66,8 +86,8 @@ fn files_arg<'a>(alloc: Global) -> Arg<'a>
         .action(ArgAction::Append)
 }
 
-/// `grubrun [--tries N] [--rounds N] [--view V] FILE...`: two numbers in their ranges, a word, and at least one file; or
-/// `--help` or `--version`.
+/// `grubrun [--tries N] [--rounds N] [--view V] [--from M] [--to M] FILE...`: numbers in their ranges, a word, and at
+/// least one file; or `--help` or `--version`.
 fn command<'a>(alloc: Global) -> Result<Command<'a>, AllocError>
     ensures rounds { IfOk result TakesRounds }
     ensures line { IfOk result (λ c. app_of c ≡ command_line) }
@@ -77,6 +97,8 @@ fn command<'a>(alloc: Global) -> Result<Command<'a>, AllocError>
         .arg(tries_arg(alloc))?
         .arg(rounds_arg(alloc))?
         .arg(view_arg(alloc))?
+        .arg(from_arg(alloc))?
+        .arg(to_arg(alloc))?
         .arg(files_arg(alloc))
 }
 
@@ -96,17 +118,19 @@ fn parse<'a>(alloc: Global, words: &'a [String]) -> Result<(ArgMatches<'a>, Opti
 pub fn options_of<'a>(alloc: Global, words: &'a [String]) -> Result<Options<'a>, Error>
     ensures tries { IfOk result (λ o. TriesNamed (map string_bytes words.now) o.tries) }
     ensures rounds { IfOk result (λ o. RoundsNamed (map string_bytes words.now) o.rounds) }
-    ensures wanted { IfOk result (λ o. o.wanted ≡ wanted_in (map string_bytes words.now)) }
+    ensures wanted { IfOk result (λ o. Wants (map string_bytes words.now) o.wanted) }
     ensures matches { IfOk result (λ o. rows_of (found_of o.matches) ≡ matches_of command_line (map string_bytes words.now)) }
     ensures faults { FailsBy (fault_of command_line (map string_bytes words.now)) result }
 {
     let (matches, rounds) = parse(alloc, words)?;
     let tries = matches.get_one::<u8>("tries").unwrap_or(TRIES_DEFAULT);
-    let wanted = wanted_by(matches.get_one::<ViewWord>("view"));
+    let view = matches.get_one::<ViewWord>("view");
+    let from = matches.get_one::<u32>("from");
+    let to = matches.get_one::<u32>("to");
     Ok(Options {
         matches,
         tries,
         rounds: rounds.unwrap_or(ROUNDS_DEFAULT),
-        wanted,
+        wanted: wanted_by(view, from, to),
     })
 }

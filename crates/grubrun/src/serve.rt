@@ -9,7 +9,8 @@ ghost use Rattle.clap.specs.declared.error.kind.ErrorKind.TheVariants as kinds;
 ghost use Rattle.std.specs.declared.io.ErrorKind.TheVariants as io_kinds;
 ghost use Rattle.grub_serve.specs.Printed.{HasFileFault};
 ghost use Rattle.grubrun.specs.CommandLine.{IsRefused, files_named, names_among};
-ghost use Rattle.grubrun.specs.Statuses.{BeginsOf, PrintsAsked, PrintsKind, PrintsOf, PrintsRun, PrintsSome};
+ghost use Rattle.grubrun.specs.Statuses.{AsksForNoSpan, BeginsOf, HasNoSpan, PrintsAsked, PrintsKind, PrintsOf, PrintsRun, PrintsSome};
+ghost use Rattle.grubrun.specs.Views.{IsMistake};
 
 use crate::command::{Options, options_of};
 use crate::texts::{HELP, VERSION};
@@ -18,15 +19,13 @@ use clap::Error;
 use clap::error::ErrorKind;
 use grub_files::Source;
 use grub_run::GrubFault;
-use grub_serve::{ProgramFault, STATUS_FILE, STATUS_SYSTEM, serve_files, serve_view};
+use grub_serve::{ProgramFault, STATUS_FILE, STATUS_SYSTEM, STATUS_USAGE, serve_files, serve_view};
 use std::alloc::Global;
+use std::fmt::Display;
 use std::io;
 use std::io::Write;
 use std::sync::Wait;
 use std::thread::Threads;
-
-/// The command line is wrong.
-const STATUS_USAGE: u8 = 2;
 
 /// Runs the program on its words, the first of which is its name, and gives its status. Files are opened and read by
 /// `source`. Reports and the help go to `out`, and the line of a fault to `faults`.
@@ -46,7 +45,7 @@ pub fn serve<
     // The status of a file's fault comes only where, by what the calls of `source` may answer, a file that the words name is at fault.
     ensures file { result ≡ STATUS_FILE → HasFileFault O.Fn N.Fn source.now (files_named (map string_bytes words.now)) }
     // Right words are not answered as wrong, and are done once what they ask for is printed of the files that they name.
-    ensures usage { result ≡ STATUS_USAGE → IsRefused (map string_bytes words.now) }
+    ensures usage { result ≡ STATUS_USAGE → IsRefused (map string_bytes words.now) ⊎ AsksForNoSpan O.Fn N.Fn source.now (map string_bytes words.now) }
     ensures done { result ≡ 0 → IsRefused (map string_bytes words.now) ⊎ PrintsRun O.Fn N.Fn source.now (map string_bytes words.now) (W.contents out.old) (W.contents out.new) }
     // Where the system failed on right words, nothing or a beginning of this was printed.
     ensures failed { result ≡ STATUS_SYSTEM → IsRefused (map string_bytes words.now) ⊎ (out.new ≡ out.old) ⊎ PrintsSome O.Fn N.Fn source.now (map string_bytes words.now) (W.contents out.old) (W.contents out.new) }
@@ -80,7 +79,7 @@ fn serve_options<
     ensures status { (result ≡ 0) ⊎ (result ≡ STATUS_FILE) ⊎ (result ≡ STATUS_USAGE) ⊎ (result ≡ STATUS_SYSTEM) }
     ensures done { result ≡ 0 → PrintsOf O.Fn N.Fn source.now options.now.wanted options.now.tries (names_among (rows_of (found_of options.now.matches))) (W.contents out.old) (W.contents out.new) }
     ensures file { result ≡ STATUS_FILE → HasFileFault O.Fn N.Fn source.now (names_among (rows_of (found_of options.now.matches))) }
-    ensures usage { result ≡ STATUS_USAGE → options.now.wanted ≡ Wanted.NoView }
+    ensures usage { result ≡ STATUS_USAGE → IsMistake options.now.wanted ⊎ HasNoSpan O.Fn N.Fn source.now options.now.wanted (names_among (rows_of (found_of options.now.matches))) }
     ensures nothing { (result ≡ STATUS_FILE) ⊎ (result ≡ STATUS_USAGE) → out.new ≡ out.old }
     ensures failed { result ≡ STATUS_SYSTEM → (out.new ≡ out.old) ⊎ BeginsOf O.Fn N.Fn source.now options.now.wanted options.now.tries (names_among (rows_of (found_of options.now.matches))) (W.contents out.old) (W.contents out.new) }
 {
@@ -97,14 +96,24 @@ fn serve_options<
             faults,
         ),
         Wanted::View(view) => serve_view(alloc, view, source, paths, out, faults),
-        Wanted::NoView => {
-            let _ = writeln!(
-                faults,
-                "error: the views are 'timeline', 'steps', 'summary' and 'picture'"
-            );
-            STATUS_USAGE
-        }
+        Wanted::NoView => mistake(
+            "the views are 'timeline', 'steps', 'summary' and 'picture'",
+            faults,
+        ),
+        Wanted::NoPicture => mistake(
+            "'--from' and '--to' are the span of '--view picture'",
+            faults,
+        ),
+        Wanted::EmptySpan { from, to } => mistake(ProgramFault::EmptySpan { from, to }, faults),
     }
+}
+
+/// The line of a command line that is wrong.
+fn mistake<T: Display + Copy, E: Write>(text: T, faults: &mut E) -> u8
+    ensures { result ≡ STATUS_USAGE }
+{
+    let _ = writeln!(faults, "error: {text}");
+    STATUS_USAGE
 }
 
 /// Prints a text that the words ask for.

@@ -122,6 +122,77 @@ fn wrong_words(rt: HostRuntime) -> Result<(), Fail> {
     Ok(())
 }
 
+/// The last moment of this file is 3, and of the empty script it is 0, where a picture ends at 1.
+#[test]
+fn spans(rt: HostRuntime) -> Result<(), Fail> {
+    let alloc = rt.alloc();
+    fs::write(&rt, "span.grub", FIRST.as_bytes())?;
+    fs::write(&rt, "still.grub", b"grub 1\nqueue 1 0\n")?;
+    for (words, status, line) in [
+        (["--from", "2", "span.grub"].as_slice(), 0, ""),
+        (["--to", "9", "span.grub"].as_slice(), 0, ""),
+        (["--from", "8", "--to", "9", "span.grub"].as_slice(), 0, ""),
+        (["still.grub"].as_slice(), 0, ""),
+        (
+            ["--from", "3", "span.grub"].as_slice(),
+            2,
+            "error: a picture from 3 to 3 is empty: it has to begin before it ends\n",
+        ),
+        (
+            ["--from", "1", "still.grub"].as_slice(),
+            2,
+            "error: a picture from 1 to 1 is empty: it has to begin before it ends\n",
+        ),
+        (
+            ["--from", "7", "--to", "5", "not there"].as_slice(),
+            2,
+            "error: a picture from 7 to 5 is empty: it has to begin before it ends\n",
+        ),
+        (
+            ["--to", "0", "span.grub"].as_slice(),
+            2,
+            "error: a picture from 0 to 0 is empty: it has to begin before it ends\n",
+        ),
+        (
+            ["--from", "9", "not there"].as_slice(),
+            3,
+            "grubrun: not there: 46 ReadFault\n",
+        ),
+    ] {
+        let mut all = words_of(alloc, ["--view", "picture"].as_slice())?;
+        for word in words {
+            all.push(String::from_str(alloc, word)?)?;
+        }
+        let mut out: Vec<u8> = Vec::new(alloc);
+        let mut faults: Vec<u8> = Vec::new(alloc);
+        assert_eq!(rt; served(&rt, alloc, &all, &mut out, &mut faults), status);
+        assert_eq!(rt; faults.as_slice(), line.as_bytes());
+        assert_eq!(rt; out.is_empty(), status != 0);
+    }
+    fs::remove_file(&rt, "span.grub")?;
+    fs::remove_file(&rt, "still.grub")?;
+    Ok(())
+}
+
+/// A span is of a picture alone.
+#[test]
+fn spans_of_no_picture(rt: HostRuntime) -> Result<(), Fail> {
+    let alloc = rt.alloc();
+    assert!(rt; refuses(&rt, alloc, ["--from", "0", "x"].as_slice())?);
+    assert!(rt; refuses(&rt, alloc, ["--to", "1", "x"].as_slice())?);
+    for view in ["timeline", "steps", "summary", "news"] {
+        assert!(rt; refuses(&rt, alloc, ["--view", view, "--to", "1", "x"].as_slice())?);
+    }
+    for words in [
+        ["--view", "picture", "--from", "x", "x"],
+        ["--view", "picture", "--to", "-1", "x"],
+        ["--view", "picture", "--to", "4294967296", "x"],
+    ] {
+        assert!(rt; refuses(&rt, alloc, words.as_slice())?);
+    }
+    Ok(())
+}
+
 #[test]
 fn no_words(rt: HostRuntime) -> Result<(), Fail> {
     let alloc = rt.alloc();
@@ -172,6 +243,9 @@ fn help(rt: HostRuntime) -> Result<(), Fail> {
             "0 to 255 [default: 8]",
             "--rounds <N>",
             "1 to 65535 [default: 64]",
+            "--view <V>",
+            "--from <M>",
+            "--to <M>",
             "-h, --help",
             "-V, --version",
         ] {

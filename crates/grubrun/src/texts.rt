@@ -18,6 +18,8 @@ Options:
       --rounds <N>  Rounds until an ask is given up, 1 to 65535 [default: 64]
       --view <V>    Play the files on one time line, in the order of their moments,
                     and print a view: timeline, steps, summary or picture
+      --from <M>    Begin the picture at this moment [default: 0]
+      --to <M>      End the picture at this moment [default: the last]
   -h, --help        Print this help
   -V, --version     Print the version
 

@@ -65,3 +65,12 @@ fn faults_of_a_file(rt: HostRuntime) -> Result<(), Fail> {
     }
     Ok(())
 }
+
+#[test]
+fn an_empty_span(rt: HostRuntime) -> Result<(), Fail> {
+    let fault = ProgramFault::EmptySpan { from: 20, to: 10 };
+    let text = "a picture from 20 to 10 is empty: it has to begin before it ends";
+    assert_eq!(rt; fault.status(), 2);
+    assert_eq!(rt; format!(in rt.alloc(); "{fault}")?.as_str(), text);
+    Ok(())
+}

@@ -1,4 +1,3 @@
-use Rattle.std.proofs.Common.{[], ◌++◌, ◌∷◌}
 use Rattle.grub_files.specs.Source.{Holds}
 use Rattle.grub_serve.proofs.FilesLemmas.{first_told, held_more, of_reading}
 use Rattle.grub_serve.proofs.reports.read_each.Goals as goal

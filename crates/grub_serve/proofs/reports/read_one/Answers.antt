@@ -1,4 +1,4 @@
-use Rattle.std.proofs.Common.{rules, length, ◌≤◌}
+use Rattle.std.proofs.Common.{rules}
 use Rattle.grub_serve.proofs.FilesLemmas.{opened_whole}
 use Rattle.grub_serve.proofs.reports.read_one.Goals as goal
 

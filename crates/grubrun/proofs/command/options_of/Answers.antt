@@ -1,6 +1,7 @@
-use Rattle.std.proofs.Common.{codes, subst, ap, ◌∙◌, option_map}
+use Rattle.std.proofs.Common.{◌≡◌, ℕ, List, Option, None, Some, codes, subst, ap, ◌∙◌, option_map}
 use Rattle.std.specs.Str.Parse.{ParsesUnsigned, ExplainsUnsignedError, HasUnsignedDigitsIfOk}
-use Rattle.clap.specs.Words.{found_of, one_of}
+use Rattle.clap.specs.Words.{ReadsOne, Row, found_of, one_of, one_text, rows_of}
+use Rattle.clap.specs.declared.parser.matches.Found.{Found}
 use Rattle.grubrun.proofs.CommandLemmas.{number_read, word_read}
 use Rattle.grubrun.specs.CommandLine.{ReadsNumber}
 use Rattle.grubrun.specs.Views.{view_word, wanted_of}
@@ -11,7 +12,20 @@ returns-clause-tries c =
     let read = number_read _ (λ bs r. ParsesUnsigned 8 10 bs r × ExplainsUnsignedError 10 bs r × HasUnsignedDigitsIfOk bs r) 8 (found_of c.in_ok-matches.matches) (codes "tries") c.get_one.result c.get_one.ensures.none c.get_one.ensures.value (λ u x g. g.0) in
     (c.get_one.result, subst (λ rows. ReadsNumber 8 (one_of (codes "tries") rows) c.get_one.result) c.in_ok-matches.ensures.matches read, c.unwrap_or-tries.ensures)
 
+-- the moment after an option
+moment : (id : List ℕ) → (r : Option ℕ) (f : Found) (rows : List Row) → rows_of f ≡ rows → (one_text f id ≡ None → r ≡ None) → ((t : List ℕ) → one_text f id ≡ Some t → ReadsOne (λ bs x. ParsesUnsigned 32 10 bs x × ExplainsUnsignedError 10 bs x × HasUnsignedDigitsIfOk bs x) t r)
+    → ReadsNumber 32 (one_of id rows) r
+moment id r f rows are none value =
+    subst (λ w. ReadsNumber 32 (one_of id w) r) are (number_read _ (λ bs x. ParsesUnsigned 32 10 bs x × ExplainsUnsignedError 10 bs x × HasUnsignedDigitsIfOk bs x) 32 f id r none value (λ u x g. g.0))
+
 pub returns-clause-wanted : goal.returns-clause-wanted
 returns-clause-wanted c =
-    let read = word_read (found_of c.in_ok-matches.matches) (codes "view") c.get_one-2.result c.get_one-2.ensures.none c.get_one-2.ensures.value in
-    c.wanted_by-wanted.ensures ∙ ap wanted_of (read ∙ ap (λ rows. option_map view_word (one_of (codes "view") rows)) c.in_ok-matches.ensures.matches)
+    let read = word_read (found_of c.in_ok-matches.matches) (codes "view") c.get_one-view.result c.get_one-view.ensures.none c.get_one-view.ensures.value in
+    let view = read ∙ ap (λ rows. option_map view_word (one_of (codes "view") rows)) c.in_ok-matches.ensures.matches in
+    record {
+      from = c.get_one-from.result;
+      begins = moment (codes "from") c.get_one-from.result (found_of c.in_ok-matches.matches) _ c.in_ok-matches.ensures.matches c.get_one-from.ensures.none c.get_one-from.ensures.value;
+      to = c.get_one-to.result;
+      ends = moment (codes "to") c.get_one-to.result (found_of c.in_ok-matches.matches) _ c.in_ok-matches.ensures.matches c.get_one-to.ensures.none c.get_one-to.ensures.value;
+      is = c.wanted_by.ensures ∙ ap (λ v. wanted_of v c.get_one-from.result c.get_one-to.result) view;
+    }

@@ -1,9 +1,11 @@
-use Rattle.std.proofs.Common.{◌≡◌, ◌≤◌, ℕ, List, Option, Some, None, IfSome, arith, refl}
+use Rattle.std.proofs.Common.{◌≡◌, ◌≤◌, ◌∙◌, ap, subst, map, string_bytes, true, ℕ, List, Option, Some, None, IfSome, arith, refl}
 use Rattle.std.specs.Str.Parse.{ParsesUnsigned, ExplainsUnsignedError, HasUnsignedDigitsIfOk}
 use Rattle.clap.specs.Matches.{found_of, one_text}
+use Rattle.clap.specs.Words.{app_of, fault_of, is_simple, is_simple_and_free, matches_of}
+use Rattle.clap.specs.Kinds.{HasKind}
 use Rattle.clap.proofs.CallerReads.{signed_reads}
 use Rattle.grubrun.specs.Rounds.{rounds_id}
-use Rattle.grubrun.proofs.CommandLemmas.{number_read}
+use Rattle.grubrun.proofs.CommandLemmas.{fails_again, number_read}
 use Rattle.grubrun.proofs.RoundsLemmas.{rounds_read}
 use Rattle.grubrun.proofs.command.parse.Goals as goal
 
@@ -25,3 +27,15 @@ pub returns-clause-number : goal.returns-clause-number
 returns-clause-number c =
     number_read _ (λ bs r. ParsesUnsigned 16 10 bs r × ExplainsUnsignedError 10 bs r × HasUnsignedDigitsIfOk bs r) 16 (found_of c.in_ok-matches.matches) rounds_id c.get_one-rounds.result
     c.get_one-rounds.ensures.none c.get_one-rounds.ensures.value (λ u x g. g.0)
+
+pub returns-clause-matches : goal.returns-clause-matches
+returns-clause-matches c =
+    let line = c.in_ok-command.ensures.line in
+    let simple : is_simple (app_of c.in_ok-command.field-0) ≡ true = ap is_simple line in
+    (c.in_ok-matches.ensures.matches simple).0 ∙ ap (λ a. matches_of a (map string_bytes c.args.words.now)) line
+
+pub returns-in_err-matches-clause-faults : goal.returns-in_err-matches-clause-faults
+returns-in_err-matches-clause-faults c =
+    let line = c.in_ok-command.ensures.line in
+    let kinds = c.in_err-matches.ensures.kinds (ap is_simple_and_free line) in
+    fails_again _ c.in_err-matches.field-0.0 _ (subst (λ a. HasKind (fault_of a (map string_bytes c.args.words.now)) c.in_err-matches.field-0.0) line kinds) c.from_residual-in_err-matches.ensures.1

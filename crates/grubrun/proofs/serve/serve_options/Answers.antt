@@ -1,8 +1,8 @@
-use Rattle.std.proofs.Common.{refl, subst, sym, ◌≡◌, ◌⊎◌}
+use Rattle.std.proofs.Common.{inr, refl, subst, sym, ◌≡◌, ◌⊎◌}
 use Rattle.clap.specs.Words.{found_of, rows_of}
-use Rattle.grub_serve.specs.Printed.{HasFileFault, PrintsBeginning, PrintsReports, PrintsView, PrintsViewBeginning}
+use Rattle.grub_serve.specs.Printed.{HasEmptySpan, HasFileFault, PrintsBeginning, PrintsReports, PrintsView, PrintsViewBeginning}
 use Rattle.grubrun.specs.CommandLine.{names_among}
-use Rattle.grubrun.specs.Statuses.{BeginsOf, PrintsOf}
+use Rattle.grubrun.specs.Statuses.{BeginsOf, HasNoSpan, PrintsOf}
 use Rattle.grubrun.proofs.CommandLemmas.{paths_are_names}
 use Rattle.grubrun.proofs.serve.serve_options.Goals as goal
 
@@ -39,3 +39,9 @@ returns-in-View-clause-failed g c is =
     let named = paths_are_names (found_of c.args.options.now.matches) c.get_strs.result _ c.unwrap_or-paths.result c.unwrap_or-paths.ensures refl c.get_strs.ensures in
     subst (λ w. (c.serve_view.new.out ≡ c.args.out.now) ⊎ BeginsOf g.O.Fn g.N.Fn c.args.source.now w c.args.options.now.tries (names_among (rows_of (found_of c.args.options.now.matches))) (g.W.Write.contents c.args.out.now) (g.W.Write.contents c.serve_view.new.out)) (sym c.in-View.is)
     (subst (λ names. (c.serve_view.new.out ≡ c.args.out.now) ⊎ PrintsViewBeginning g.O.Fn g.N.Fn c.args.source.now c.in-View.view names (g.W.Write.contents c.args.out.now) (g.W.Write.contents c.serve_view.new.out)) named (c.serve_view.ensures.failed is))
+
+pub returns-in-View-clause-usage : goal.returns-in-View-clause-usage
+returns-in-View-clause-usage g c is =
+    let named = paths_are_names (found_of c.args.options.now.matches) c.get_strs.result _ c.unwrap_or-paths.result c.unwrap_or-paths.ensures refl c.get_strs.ensures in
+    inr (subst (λ w. HasNoSpan g.O.Fn g.N.Fn c.args.source.now w (names_among (rows_of (found_of c.args.options.now.matches)))) (sym c.in-View.is)
+    (subst (HasEmptySpan g.O.Fn g.N.Fn c.args.source.now c.in-View.view) named (c.serve_view.ensures.usage is)))
