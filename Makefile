@@ -8,7 +8,7 @@ FLAGS ?=
 TRACE ?= examples/kernel/trace.txt
 WORDS ?= tasks
 
-.PHONY: build runner tracer run try try-trace test growths program options record-check install uninstall clean
+.PHONY: build runner tracer run try try-trace test growths program options bench record-check install uninstall clean
 
 # Proves both programs with all that they stand on, and builds them. What is proved is told crate by crate.
 build:
@@ -49,6 +49,10 @@ program: runner
 # Man pages and completions beside --help of the programs.
 options: build
 	bash scripts/options.sh
+
+# A time line beside a run by threads of the same files: time and memory, and their ratios.
+bench: runner
+	@python3 scripts/bench-timeline.py
 
 # Records a load of two tasks on this machine, converts the trace and plays it; elsewhere it says why it cannot.
 record-check: build

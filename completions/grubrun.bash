@@ -2,7 +2,7 @@
 _grubrun() {
     local current=${COMP_WORDS[COMP_CWORD]}
     case ${COMP_WORDS[COMP_CWORD - 1]} in
-        --tries | --rounds)
+        --tries | --rounds | --from | --to)
             compopt +o default 2> /dev/null
             return
             ;;
@@ -12,6 +12,6 @@ _grubrun() {
             ;;
     esac
     [[ $current != -* ]] ||
-        mapfile -t COMPREPLY < <(compgen -W '--tries --rounds --view -h --help -V --version' -- "$current")
+        mapfile -t COMPREPLY < <(compgen -W '--tries --rounds --view --from --to -h --help -V --version' -- "$current")
 }
 complete -o default -F _grubrun grubrun
