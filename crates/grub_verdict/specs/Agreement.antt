@@ -1,5 +1,5 @@
 -- When the book and the kernel account alike at a block: the 0-lag timer, and its moment.
-use Rattle.std.specs.Prelude.{◌≡◌, ℕ, ◌+◌, ◌-◌, ◌*◌, ◌^◌, ◌&&◌, Bool, true, false, nat_le, nat_lt, not, is_some, Option, Some, None}
+use Rattle.std.specs.Prelude.{ℕ, ◌+◌, ◌-◌, ◌*◌, ◌^◌, ◌&&◌, Bool, true, false, nat_lt, not, Option, Some, None}
 use Rattle.grub_verdict.specs.declared.observation.Observation.{Observation}
 use Rattle.grub_verdict.specs.declared.observation.Yardstick.{Yardstick}
 

@@ -3,3 +3,7 @@ pub mod Verdicts
 pub mod Numbers
 pub mod Texts
 pub mod Signs
+pub mod Counting
+pub mod Answered
+pub mod Observed
+pub mod Judging

@@ -1,5 +1,5 @@
 -- How the numbers of a verdict are written.
-use Rattle.std.specs.Prelude.{ℕ, ◌+◌, ◌-◌, ◌*◌, ◌/◌, ◌%◌, ◌^◌, ◌==◌, ◌&&◌, Bool, List, [], ◌∷◌, ◌++◌, nat_lt, if◌then◌else◌, codes, decimal}
+use Rattle.std.specs.Prelude.{ℕ, ◌+◌, ◌-◌, ◌*◌, ◌/◌, ◌%◌, ◌==◌, ◌&&◌, Bool, List, [], ◌∷◌, ◌++◌, nat_lt, if◌then◌else◌, codes, decimal}
 use Rattle.grub_verdict.specs.declared.difference.Difference.{Difference}
 
 abbrev pub digit : ℕ → ℕ

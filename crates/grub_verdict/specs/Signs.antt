@@ -1,5 +1,5 @@
 -- What the kernel does with the 0-lag timer of a task, by the facts of a trace.
-use Rattle.std.specs.Prelude.{ℕ, Bool, true, false, List, [], ◌∷◌, Option, Some, None, slice_index_or, slice_set}
+use Rattle.std.specs.Prelude.{ℕ, true, false, List, [], ◌∷◌, Some, None, nat_lt, if◌then◌else◌}
 use Rattle.grub_facts.specs.declared.fact.Fact.{Fact}
 use Rattle.grub_facts.specs.declared.fact.What.{What}
 use Rattle.grub_facts.specs.declared.fact.What.TheVariants.{Wakes, Sent, Ran, Stops, Armed, Cancelled, Fired}
@@ -21,9 +21,7 @@ sign_after (Sent cpu) s = s
 sign_after (Ran nanos) s = s
 sign_after (Fired now) s = s
 
--- for each fact, what was done with its task's timer before it
-abbrev pub signs_of : List Sign → List Fact → List Sign
-signs_of states [] = []
-signs_of states (f ∷ facts) =
-    let before = slice_index_or states f.task no_sign in
-    before ∷ signs_of (slice_set states f.task (sign_after f.what before)) facts
+-- what was done with a task's timer before a line of the trace, by the facts of the task in the order of their lines
+abbrev pub sign_before : ℕ → Sign → List Fact → Sign
+sign_before line s [] = s
+sign_before line s (f ∷ facts) = if nat_lt f.line line then sign_before line (sign_after f.what s) facts else s

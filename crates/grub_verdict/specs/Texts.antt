@@ -1,13 +1,11 @@
 -- The text of a verdict, line by line.
-use Rattle.std.specs.Prelude.{ℕ, ◌+◌, ◌-◌, ◌*◌, ◌/◌, ◌^◌, ◌≤◌, nat_le, ◌==◌, if◌then◌else◌, List, [], ◌∷◌, ◌++◌, length, Option, Some, None, codes, decimal, slice_index_or}
-use Rattle.std.specs.List.{flat_map}
+use Rattle.std.specs.Prelude.{ℕ, ◌+◌, ◌-◌, ◌*◌, ◌/◌, ◌^◌, nat_le, ◌==◌, if◌then◌else◌, List, [], ◌++◌, length, Option, Some, None, codes, decimal, slice_index_or}
 use Rattle.grub_book.specs.declared.event.Reading.{Reading}
 use Rattle.grub_bw.specs.Bandwidth.{Reservation, bandwidth_of}
 use Rattle.grub_trace.specs.Texts.{reading_text}
 use Rattle.grub_verdict.specs.declared.difference.Difference.{Difference}
 use Rattle.grub_verdict.specs.declared.heading.Heading.{Heading}
 use Rattle.grub_verdict.specs.declared.observation.Observation.{Observation}
-use Rattle.grub_verdict.specs.declared.observation.Yardstick.{Yardstick}
 use Rattle.grub_verdict.specs.Agreement.{moment_of_book, moment_of_kernel}
 use Rattle.grub_verdict.specs.Numbers.{difference, micros, rate, seconds, thousandths}
 

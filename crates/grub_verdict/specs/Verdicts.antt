@@ -1,11 +1,11 @@
 -- The verdict over all observations.
-use Rattle.std.specs.Prelude.{◌≡◌, ℕ, ◌≤◌, ◌&&◌, Bool, List, [], filter, Option, MatchOption, All, Contains, IsPermutation, IsSorted, length, count_by, is_some, not}
+use Rattle.std.specs.Prelude.{◌≡◌, ◌≤◌, ◌&&◌, Bool, List, [], filter, Option, MatchOption, All, Contains, IsPermutation, IsSorted, length, count_by, is_some, not}
 use Rattle.std.specs.List.{filter_map}
 use Rattle.std.specs.Ordering.{nat_cmp}
 use Rattle.grub_verdict.specs.declared.observation.Observation.{Observation}
 use Rattle.grub_verdict.specs.declared.observation.Yardstick.{Yardstick}
 use Rattle.grub_verdict.specs.declared.verdict.Verdict.{Verdict}
-use Rattle.grub_verdict.specs.Agreement.{agree, are_alike, deviates, is_beyond, lead_of}
+use Rattle.grub_verdict.specs.Agreement.{are_alike, deviates, lead_of}
 
 -- the bound lies between the moments of a block that is not left out
 abbrev pub is_counted_beyond : Yardstick → Observation → Bool

@@ -1,6 +1,7 @@
 //! The verdict on the trace of a name, printed.
 
-use crate::judging::{Case, Judged, Overfull, judge};
+use crate::case::{Case, Judged, Overfull};
+use crate::judging::judge;
 use grub_convert::{
     Input, Options, TraceFault, event_files, events_told, explain, read_facts, setting_of,
     told_status,

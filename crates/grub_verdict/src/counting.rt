@@ -1,111 +1,189 @@
 //! What a verdict counts of the facts, the events and the answers of a trace.
 
-use grub_book::{Op, Reply};
-use grub_bw::Queue;
+ghost use Rattle.std.specs.Prelude.{◌≡◌, ◌&&◌, not, IfOk, count_by, sum_by, replicate, slice_index_or, slice_set, if◌then◌else◌};
+ghost use Rattle.grub_events.specs.declared.standing.Standing.TheVariants.{Unseen};
+ghost use Rattle.grub_verdict.specs.Counting.{by_left, by_own, cancelled_from, cancels, charged_at, charged_in, is_exit, is_left_charge, is_own_charge, is_run, is_told_wake, is_unseen, what_is_left};
+ghost use Rattle.grub_views.specs.Tallies.{recharges_in};
+
+use grub_book::{Op, Reading, Reply, Setup};
+use grub_bw::{Params, Queue};
 use grub_events::{Act, Placed, Source, Standing};
 use grub_facts::{Fact, What};
-use grub_trace::{Answer, Ask, Plan};
+use grub_trace::{Answer, Ask};
 use grub_views::Step;
 use std::alloc::{AllocError, Global};
 
-fn is_cancelled(what: What, standing: Standing) -> bool {
-    matches!(what, What::Cancelled) && !matches!(standing, Standing::Unseen)
+/// 1 where a fact is that the kernel cancelled the timer of a task that was seen before, else 0.
+fn cancelled_now(what: What, standing: Standing) -> usize
+    ensures { result ≡ (if cancels what && not (is_unseen standing) then 1 else 0) }
+{
+    match (what, standing) {
+        (What::Cancelled, Standing::Asleep | Standing::Awake { .. }) => 1,
+        _ => 0,
+    }
 }
 
 /// How many 0-lag timers the kernel cancelled, of tasks that were seen before. It is refused where the allocator refused.
-pub fn count_cancelled(alloc: Global, tasks: usize, facts: &[Fact]) -> Result<u64, AllocError> {
+pub fn count_cancelled(alloc: Global, tasks: usize, facts: &[Fact]) -> Result<usize, AllocError>
+    ensures { IfOk result (λ n. n ≡ cancelled_from (replicate tasks Unseen) facts.now) }
+{
     let mut standings = Vec::from_elem(alloc, Standing::Unseen, tasks)?;
-    let mut cancelled: u64 = 0;
+    let mut count = 0;
     for fact in facts {
-        let standing = standings
-            .get(fact.task)
-            .copied()
-            .unwrap_or(Standing::Unseen);
-        cancelled = cancelled.saturating_add(u64::from(is_cancelled(fact.what, standing)));
-        put(&mut standings, fact.task, standing.after(fact.what));
+        let standing = standing_at(&standings, fact.task);
+        count += cancelled_now(fact.what, standing);
+        put_standing(&mut standings, fact.task, standing.after(fact.what));
     }
-    Ok(cancelled)
+    Ok(count)
 }
 
-fn put(standings: &mut Vec<Standing>, task: usize, standing: Standing) {
+fn standing_at(standings: &[Standing], task: usize) -> Standing
+    ensures { result ≡ slice_index_or standings.now task Unseen }
+{
+    standings.get(task).copied().unwrap_or(Standing::Unseen)
+}
+
+fn put_standing(standings: &mut Vec<Standing>, task: usize, standing: Standing)
+    ensures { standings.new.items ≡ slice_set standings.old.items task standing }
+{
     if task < standings.len() {
         standings[task] = standing;
     }
 }
 
-/// How many events pass a test.
-pub fn count_wakes(placed: &[Placed]) -> usize {
-    placed
-        .iter()
-        .filter(|p| {
-            matches!(p.event.act, Act::Join | Act::Wake) && matches!(p.event.source, Source::Told)
-        })
-        .count()
+fn is_told_wake(placed: &Placed) -> bool
+    ensures { result ≡ is_told_wake placed.now }
+{
+    matches!(placed.event.act, Act::Join | Act::Wake) && matches!(placed.event.source, Source::Told)
 }
 
-pub fn count_runs(placed: &[Placed]) -> usize {
-    placed
-        .iter()
-        .filter(|p| matches!(p.event.act, Act::Run { .. }))
-        .count()
+fn is_run(placed: &Placed) -> bool
+    ensures { result ≡ is_run placed.now }
+{
+    matches!(placed.event.act, Act::Run { .. })
 }
 
-pub fn count_exits(placed: &[Placed]) -> usize {
-    placed
-        .iter()
-        .filter(|p| matches!(p.event.source, Source::Ending))
-        .count()
+fn is_exit(placed: &Placed) -> bool
+    ensures { result ≡ is_exit placed.now }
+{
+    matches!(placed.event.source, Source::Ending)
 }
 
-/// Which way the charges of a time line went.
-#[derive(Clone, Copy, Debug, PartialEq, Eq)]
-pub struct Coverage {
-    /// At the rate of the task's own bandwidth.
-    pub own: u64,
-
-    /// At the rate of what reclaiming leaves.
-    pub left: u64,
-    pub recharges: u64,
+/// How many wakes the trace shows.
+pub fn count_wakes(placed: &[Placed]) -> usize
+    ensures { result ≡ count_by is_told_wake placed.now }
+{
+    placed.iter().filter(|p| is_told_wake(p)).count()
 }
 
-/// A charge of a task: by which rate it went, and how often the budget was recharged.
-fn charge_of(plan: &Plan, queue: Queue, step: &Step) -> Option<(bool, u32)> {
-    let Ask::Call {
-        t,
-        op: Op::Charge { .. },
-    } = step.told.entry.ask
-    else {
-        return None;
-    };
-    let Answer::Replied(Reply::Charged { k, .. }) = step.told.entry.answer else {
-        return None;
-    };
-    if !plan.setup().has_task(t) {
-        return None;
+pub fn count_runs(placed: &[Placed]) -> usize
+    ensures { result ≡ count_by is_run placed.now }
+{
+    placed.iter().filter(|p| is_run(p)).count()
+}
+
+/// How many blocks are of tasks that end.
+pub fn count_exits(placed: &[Placed]) -> usize
+    ensures { result ≡ count_by is_exit placed.now }
+{
+    placed.iter().filter(|p| is_exit(p)).count()
+}
+
+/// The reservation of the task that a step charges, if it does.
+fn charged_in(setup: &Setup, step: &Step) -> Option<Params>
+    ensures { result ≡ charged_in setup.now.tasks step.now }
+{
+    match (step.told.entry.ask, step.told.entry.answer) {
+        (
+            Ask::Call {
+                t,
+                op: Op::Charge { r: _, dt: _ },
+            },
+            Answer::Replied(
+                Reply::Charged {
+                    dq: _,
+                    k: _,
+                    q: _,
+                    d: _,
+                },
+            ),
+        ) if setup.has_task(t) => Some(setup.params(t)),
+        _ => None,
     }
-    let inactive = step.reading.this.saturating_sub(step.reading.running);
-    let left = queue
+}
+
+/// What reclaiming leaves: Umax - Uinact - Uextra.
+fn what_is_left(queue: Queue, reading: Reading) -> u32
+    ensures { result ≡ what_is_left queue reading }
+{
+    let inactive = reading.this.saturating_sub(reading.running);
+    queue
         .umax()
         .saturating_sub(inactive)
-        .saturating_sub(queue.uextra());
-    Some((left <= plan.setup().params(t).bw(), k))
+        .saturating_sub(queue.uextra())
 }
 
-/// Which way the charges of these steps went, on runqueues of these constants.
-pub fn coverage_of(plan: &Plan, queue: Queue, steps: &[Step]) -> Coverage {
-    let mut own: u64 = 0;
-    let mut left: u64 = 0;
-    let mut recharges: u64 = 0;
-    for step in steps {
-        if let Some((is_own, k)) = charge_of(plan, queue, step) {
-            own = own.saturating_add(u64::from(is_own));
-            left = left.saturating_add(u64::from(!is_own));
-            recharges = recharges.saturating_add(u64::from(k));
-        }
+fn is_own_charge(setup: &Setup, queue: Queue, step: &Step) -> bool
+    ensures { result ≡ is_own_charge setup.now.tasks queue step.now }
+{
+    match charged_in(setup, step) {
+        Some(params) => what_is_left(queue, step.reading) <= params.bw(),
+        None => false,
     }
-    Coverage {
-        own,
-        left,
-        recharges,
+}
+
+fn is_left_charge(setup: &Setup, queue: Queue, step: &Step) -> bool
+    ensures { result ≡ is_left_charge setup.now.tasks queue step.now }
+{
+    match charged_in(setup, step) {
+        Some(params) => what_is_left(queue, step.reading) > params.bw(),
+        None => false,
     }
+}
+
+/// How many charges went by the task's own bandwidth, on runqueues of these constants.
+pub fn count_own_charges(setup: &Setup, queue: Queue, steps: &[Step]) -> usize
+    ensures { result ≡ count_by (is_own_charge setup.now.tasks queue) steps.now }
+{
+    steps
+        .iter()
+        .filter(|x| is_own_charge(setup, queue, x))
+        .count()
+}
+
+/// How many charges went by what reclaiming leaves.
+pub fn count_left_charges(setup: &Setup, queue: Queue, steps: &[Step]) -> usize
+    ensures { result ≡ count_by (is_left_charge setup.now.tasks queue) steps.now }
+{
+    steps
+        .iter()
+        .filter(|x| is_left_charge(setup, queue, x))
+        .count()
+}
+
+fn recharges_in(answer: Answer) -> u32
+    ensures { result ≡ recharges_in answer }
+{
+    match answer {
+        Answer::Replied(
+            Reply::Charged {
+                dq: _,
+                k,
+                q: _,
+                d: _,
+            },
+        ) => k,
+        _ => 0,
+    }
+}
+
+/// How often budgets were recharged.
+pub fn count_recharges(steps: &[Step]) -> u128
+    ensures { result ≡ sum_by (λ x. recharges_in x.told.entry.answer) steps.now }
+{
+    let mut recharges: u128 = 0;
+    for x in steps {
+        recharges += u128::from(recharges_in(x.told.entry.answer));
+    }
+    recharges
 }

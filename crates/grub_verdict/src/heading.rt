@@ -33,5 +33,5 @@ pub struct Heading {
     pub cancelled: u64,
 
     /// How often budgets were recharged.
-    pub recharges: u64,
+    pub recharges: u128,
 }

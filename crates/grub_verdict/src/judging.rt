@@ -1,177 +1,145 @@
 //! From a trace's facts, its event files and their time line to a verdict.
 
+ghost use Rattle.std.specs.Prelude.{◌≡◌, ◌++◌, ◌/◌, IfOk, OnOk};
+ghost use Rattle.std.specs.List.{flat_map};
+ghost use Rattle.grub_events.specs.Convert.{first_wake, is_wake};
+ghost use Rattle.grub_verdict.specs.Judging.{IsJudged, answered_by, declared_line, deviation, first_line, head_text, heading_of, number_from, number_of, observations, observed_from, refused_by, refused_from, yardstick};
+ghost use Rattle.grub_verdict.specs.Observed.{no_watch, observed};
+ghost use Rattle.grub_verdict.specs.Texts.{agrees_line};
+
+use crate::answered::answered_of;
+use crate::case::{Case, Judged};
 use crate::counting::{
-    Coverage, count_cancelled, count_exits, count_runs, count_wakes, coverage_of,
+    count_cancelled, count_exits, count_left_charges, count_own_charges, count_recharges,
+    count_runs, count_wakes,
 };
-use crate::follow::Follower;
 use crate::heading::Heading;
 use crate::observation::{Observation, Yardstick};
-use crate::sign::{Sign, signs_of};
+use crate::refusal::{Refusal, no_room, put_refusals};
 use crate::text::{
     put_agrees, put_clock, put_covered, put_deviation, put_moments, put_runqueues, put_task,
     put_timers, put_trace,
 };
 use crate::verdict::{Verdict, verdict_of};
-use grub_book::Reply;
-use grub_events::{Declared, Placed, Setting, tasks_moved, wakes_moved};
-use grub_facts::{Fact, Facts, What};
-use grub_trace::{Answer, Ask, Plan};
-use grub_views::Step;
+use crate::watch::put_observed;
+use grub_events::{Declared, tasks_moved, wakes_moved};
+use grub_facts::{Fact, What};
+use grub_trace::Plan;
 use std::alloc::{AllocError, Global};
 
-/// A trace, its events, and the event files made of them as they were played.
-#[derive(Clone, Copy)]
-pub struct Case<'a> {
-    /// The word that named the trace.
-    pub trace: &'a str,
-    pub facts: &'a Facts,
-    pub setting: &'a Setting,
-    pub placed: &'a [Placed],
-    pub plan: &'a Plan,
-    pub steps: &'a [Step],
-
-    /// How far the book's 0-lag moment may lie from the kernel's, in microseconds.
-    pub within: u32,
-}
-
-/// An answer of the book by which the event files cannot be what the kernel did: more bandwidth than a runqueue lets in,
-/// or a deadline that passes its limit.
-#[derive(Clone, Copy, Debug, PartialEq, Eq)]
-pub struct Overfull {
-    /// The line of the trace; none for a server of fair tasks.
-    pub line: Option<u64>,
-
-    /// The number of the task in the plan.
-    pub t: u32,
-}
-
-/// What a case comes to.
-#[derive(Drop)]
-pub enum Judged {
-    Agrees(Vec<u8>),
-    Differs(Vec<u8>),
-    Overfull(Overfull),
-}
-
-/// What the book answered to the events of a case.
+/// What the book answered to the events of the given tasks.
 #[derive(Drop)]
 struct Answers {
     observations: Vec<Observation>,
-    overfull: Option<Overfull>,
+
+    /// The events for which there was no room.
+    refusals: Vec<Refusal>,
 }
 
-/// The sign of the fact of each event. Events are in the order of their facts, and a line has one fact.
-fn signs_of_events(
+/// The number of a name in the plan.
+fn number_in(plan: &Plan, name: &[u8]) -> Option<u32>
+    ensures { result ≡ number_from 0 name.now plan.now.names }
+{
+    for t in 0..plan.setup().task_count() {
+        if name == plan.name(t).as_bytes() {
+            return Some(t);
+        }
+    }
+    None
+}
+
+/// Puts what the events of a given task observe, and those for which there was no room.
+fn put_answers(
     alloc: Global,
-    facts: &[Fact],
-    signs: &[Sign],
-    placed: &[Placed],
-) -> Result<Vec<Sign>, AllocError> {
-    let mut found = Vec::new(alloc);
-    let mut from = 0;
-    for p in placed {
-        from = index_of(facts, from, p.event.line);
-        found.push(signs.get(from).copied().unwrap_or(Sign::none()))?;
-    }
-    Ok(found)
-}
-
-/// The first fact of a line, from this one on.
-fn index_of(facts: &[Fact], from: usize, line: u64) -> usize {
-    for i in from..facts.len() {
-        if facts[i].line == line {
-            return i;
-        }
-    }
-    from
-}
-
-/// The one that is answered: a server of fair tasks, or else the earlier line of the trace.
-fn earlier(found: Option<Overfull>, next: Overfull) -> Option<Overfull> {
-    match (found, next.line) {
-        (Some(Overfull { line: None, t: _ }), _) => found,
-        (
-            Some(
-                Overfull {
-                    line: Some(line),
-                    t: _,
-                },
-            ),
-            Some(after),
-        ) if line <= after => found,
-        _ => Some(next),
-    }
-}
-
-/// The task that a step was refused for want of room.
-fn refused(step: &Step) -> Option<u32> {
-    match (step.told.entry.ask, step.told.entry.answer) {
-        (Ask::Call { t, op: _ }, Answer::Replied(Reply::Full | Reply::DeadlineOverflow)) => Some(t),
-        _ => None,
-    }
-}
-
-/// The observations of a case, and what was refused for want of room.
-fn answers_of(alloc: Global, case: &Case<'_>) -> Result<Answers, AllocError> {
-    let tasks = case.setting.tasks.as_slice();
-    let signs = signs_of(alloc, tasks.len(), &case.facts.facts)?;
-    let signs = signs_of_events(alloc, &case.facts.facts, &signs, case.placed)?;
+    answers: &mut Answers,
+    case: &Case<'_>,
+    i: usize,
+    task: &Declared,
+) -> Result<(), AllocError>
+    ensures observations { OnOk result (answers.new.observations.items ≡ answers.old.observations.items ++ observed task.now.params (first_line case.now) no_watch (answered_by case.now i (number_of case.now task.now))) }
+    ensures refusals { OnOk result (answers.new.refusals.items ≡ answers.old.refusals.items ++ refused_by case.now i (number_of case.now task.now)) }
+{
+    let Some(t) = number_in(case.plan, &task.name) else {
+        return Ok(());
+    };
+    let answered = answered_of(alloc, i, t, &case.facts.facts, case.placed, case.steps)?;
     let first = case.facts.counts.first.unwrap_or(0);
-    let mut follower = Follower::new(alloc, case.plan, tasks, case.placed, &signs, first)?;
-    let mut observations = Vec::new(alloc);
-    let mut overfull = None;
-    for step in case.steps {
-        let told = follower.told(step);
-        if let Some(t) = refused(step) {
-            let line = told.map(|x| x.event.line);
-            overfull = earlier(overfull, Overfull { line, t });
-        }
-        if let Some(observation) = told.and_then(|x| follower.observe(&x)) {
-            observations.push(observation)?;
-        }
-    }
-    Ok(Answers {
-        observations,
-        overfull,
-    })
+    put_observed(&mut answers.observations, task.params, first, &answered)?;
+    put_refusals(&mut answers.refusals, t, &answered)?;
+    Ok(())
 }
 
-/// The moment of the first wake, in microseconds of the trace's clock.
-fn first_wake(facts: &[Fact]) -> u64 {
+/// The observations of a case, and the events for which there was no room.
+fn answers_of(alloc: Global, case: &Case<'_>) -> Result<Answers, AllocError>
+    ensures observations { IfOk result (λ a. a.observations.items ≡ observations case.now) }
+    ensures refusals { IfOk result (λ a. a.refusals.items ≡ refused_from case.now 0 case.now.setting.now.tasks.items) }
+{
+    let mut answers = Answers {
+        observations: Vec::new(alloc),
+        refusals: Vec::new(alloc),
+    };
+    for (i, task) in case.setting.tasks.iter().enumerate() {
+        put_answers(alloc, &mut answers, case, i, task)?;
+    }
+    Ok(answers)
+}
+
+fn is_wake(what: What) -> bool
+    ensures { result ≡ is_wake what }
+{
+    matches!(what, What::Wakes { .. })
+}
+
+/// The moment of the first wake, in nanoseconds of the trace's clock.
+fn first_wake(facts: &[Fact]) -> u64
+    ensures { result ≡ first_wake facts.now }
+{
     for fact in facts {
-        if matches!(fact.what, What::Wakes { .. }) {
-            return fact.at / 1000;
+        if is_wake(fact.what) {
+            return fact.at;
         }
     }
     0
 }
 
-fn heading_of(alloc: Global, case: &Case<'_>) -> Result<Heading, AllocError> {
-    let tasks = case.setting.tasks.len();
-    let Coverage {
-        own,
-        left,
-        recharges,
-    } = coverage_of(case.plan, case.setting.queue, case.steps);
+fn yardstick(case: &Case<'_>) -> Yardstick
+    ensures { result ≡ yardstick case.now }
+{
+    Yardstick {
+        first: first_wake(&case.facts.facts) / 1000,
+        within: case.within,
+    }
+}
+
+fn heading_of(alloc: Global, case: &Case<'_>) -> Result<Heading, AllocError>
+    ensures { IfOk result (λ h. h ≡ heading_of case.now) }
+{
+    let tasks = case.setting.tasks.as_slice().len();
+    let queue = case.setting.queue;
+    let setup = case.plan.setup();
+    let wakes_moved = wakes_moved(alloc, tasks, &case.facts.facts)?;
+    let cancelled = count_cancelled(alloc, tasks, &case.facts.facts)?;
     Ok(Heading {
         lines: case.facts.counts.lines,
         wakes: count_wakes(case.placed) as u64,
-        wakes_moved: wakes_moved(alloc, tasks, &case.facts.facts)? as u64,
+        wakes_moved: wakes_moved as u64,
         runs: count_runs(case.placed) as u64,
         exits: count_exits(case.placed) as u64,
         tasks_moved: tasks_moved(case.placed) as u64,
         clock: case.facts.counts.clock,
         runqueues: case.facts.runqueues,
-        umax: case.setting.queue.umax(),
-        uextra: case.setting.queue.uextra(),
-        own_charges: own,
-        left_charges: left,
-        cancelled: count_cancelled(alloc, tasks, &case.facts.facts)?,
-        recharges,
+        umax: queue.umax(),
+        uextra: queue.uextra(),
+        own_charges: count_own_charges(setup, queue, case.steps) as u64,
+        left_charges: count_left_charges(setup, queue, case.steps) as u64,
+        cancelled: cancelled as u64,
+        recharges: count_recharges(case.steps),
     })
 }
 
-fn put_tasks(out: &mut Vec<u8>, tasks: &[Declared]) -> Result<(), AllocError> {
+fn put_tasks(out: &mut Vec<u8>, tasks: &[Declared]) -> Result<(), AllocError>
+    ensures { OnOk result (out.new.items ≡ out.old.items ++ flat_map declared_line tasks.now) }
+{
     for task in tasks {
         put_task(out, &task.name, task.params)?;
     }
@@ -179,57 +147,55 @@ fn put_tasks(out: &mut Vec<u8>, tasks: &[Declared]) -> Result<(), AllocError> {
 }
 
 /// Appends all lines of a verdict but the last part.
+#[tactic(auto, unfolding(crate::specs::Judging::head_text))]
 fn put_head(
+    alloc: Global,
     out: &mut Vec<u8>,
     case: &Case<'_>,
-    h: &Heading,
     v: &Verdict,
-) -> Result<(), AllocError> {
-    put_trace(out, case.trace.as_bytes(), h, v.blocks as u64)?;
-    put_clock(out, h.clock)?;
-    put_runqueues(out, h)?;
+) -> Result<(), AllocError>
+    ensures { OnOk result (out.new.items ≡ out.old.items ++ head_text case.now v.now) }
+{
+    let h = heading_of(alloc, case)?;
+    put_trace(out, case.trace.as_bytes(), &h, v.blocks as u64)?;
+    put_clock(out, case.facts.counts.clock)?;
+    put_runqueues(out, &h)?;
     put_tasks(out, &case.setting.tasks)?;
-    put_covered(out, h)?;
+    put_covered(out, &h)?;
     put_timers(out, v.blocks, v.armed, v.alike, v.left_out)?;
-    put_moments(out, &v.leads, v.beyond, case.within)
+    put_moments(out, &v.leads, v.beyond, case.within)?;
+    Ok(())
 }
 
 /// Appends what the first deviation tells.
-fn put_first(
-    out: &mut Vec<u8>,
-    case: &Case<'_>,
-    first: u64,
-    o: &Observation,
-) -> Result<(), AllocError> {
+fn put_first(out: &mut Vec<u8>, case: &Case<'_>, o: &Observation) -> Result<(), AllocError>
+    ensures { OnOk result (out.new.items ≡ out.old.items ++ deviation case.now o.now) }
+{
     match case.setting.tasks.get(o.task) {
-        Some(task) => put_deviation(out, first, o, &task.name, task.params),
+        Some(task) => put_deviation(out, yardstick(case).first, o, &task.name, task.params),
         None => Ok(()),
     }
 }
 
 /// The verdict on a case: whether each block that is not left out agrees, with the text that tells it; or the answer by
 /// which there is none. It is refused where the allocator refused.
-pub fn judge(alloc: Global, case: &Case<'_>) -> Result<Judged, AllocError> {
+pub fn judge(alloc: Global, case: &Case<'_>) -> Result<Judged, AllocError>
+    ensures { IfOk result (IsJudged case.now) }
+{
     let answers = answers_of(alloc, case)?;
-    if let Some(overfull) = answers.overfull {
+    if let Some(overfull) = no_room(case, &answers.refusals) {
         return Ok(Judged::Overfull(overfull));
     }
-    let heading = heading_of(alloc, case)?;
-    let first = first_wake(&case.facts.facts);
-    let by = Yardstick {
-        first,
-        within: case.within,
-    };
-    let verdict = verdict_of(alloc, &answers.observations, by)?;
+    let verdict = verdict_of(alloc, &answers.observations, yardstick(case))?;
     let mut out = Vec::new(alloc);
-    put_head(&mut out, case, &heading, &verdict)?;
+    put_head(alloc, &mut out, case, &verdict)?;
     match verdict.first {
         None => {
             put_agrees(&mut out, case.within)?;
             Ok(Judged::Agrees(out))
         }
         Some(o) => {
-            put_first(&mut out, case, first, &o)?;
+            put_first(&mut out, case, &o)?;
             Ok(Judged::Differs(out))
         }
     }

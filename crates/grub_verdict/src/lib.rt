@@ -1,24 +1,27 @@
 //! The verdict on a kernel's trace: does it account as the book does?
 #![tactic(auto)]
 
+mod answered;
+mod case;
 mod check;
 mod counting;
 mod difference;
-mod follow;
 mod heading;
 mod judging;
 mod observation;
+mod refusal;
 mod sign;
 mod text;
 mod verdict;
 mod watch;
 
+pub use case::{Case, Judged, Overfull};
 pub use check::{Question, STATUS_DIFFERS, serve_check};
 pub use difference::Difference;
 pub use heading::Heading;
-pub use judging::{Case, Judged, Overfull, judge};
+pub use judging::judge;
 pub use observation::{Observation, Yardstick};
-pub use sign::{Sign, signs_of};
+pub use sign::Sign;
 pub use verdict::{Verdict, verdict_of};
 
 #[cfg(test)]

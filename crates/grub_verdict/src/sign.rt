@@ -1,8 +1,9 @@
 //! What the kernel does with the 0-lag timer of a task.
 
-ghost use Rattle.std.specs.Prelude.{◌≡◌, IfOk, replicate, slice_index_or, slice_set};
-ghost use Rattle.grub_verdict.specs.Signs.{no_sign, sign_after, signs_of};
+ghost use Rattle.std.specs.Prelude.{◌≡◌, ◌≤◌, IfOk, length, drop, map, ℕ};
+ghost use Rattle.grub_verdict.specs.Signs.{no_sign, sign_after, sign_before};
 
+use grub_events::Placed;
 use grub_facts::{Fact, Stop, What};
 use std::alloc::{AllocError, Global};
 
@@ -53,30 +54,44 @@ impl Sign {
     }
 }
 
-/// For each fact, what the kernel did with its task's 0-lag timer before it.
-pub fn signs_of(alloc: Global, tasks: usize, facts: &[Fact]) -> Result<Vec<Sign>, AllocError>
-    ensures { IfOk result (λ v. v.items ≡ signs_of (replicate tasks no_sign) facts.now) }
+/// What was done with a timer by the facts of its task from a place on that come before a line, and the place behind them.
+fn go_to(facts: &[Fact], from: usize, sign: Sign, line: u64) -> (usize, Sign)
+    requires { from ≤ length facts.now }
+    ensures place { result.0 ≤ length facts.now }
+    ensures sign { sign_before line sign (drop from facts.now) ≡ result.1 }
+    ensures later { (l : ℕ) → line ≤ l → sign_before l sign (drop from facts.now) ≡ sign_before l result.1 (drop result.0 facts.now) }
 {
-    let mut states = Vec::from_elem(alloc, Sign::none(), tasks)?;
+    let mut next = from;
+    let mut sign = sign;
+    while next < facts.len() && facts[next].line < line {
+        sign = sign.after(facts[next].what);
+        next += 1;
+    }
+    (next, sign)
+}
+
+/// What the kernel did with a task's timer before the line of each of its events. The facts are those of the task; they
+/// are gone through once, where the events stand in the order of their lines.
+pub fn signs_before(
+    alloc: Global,
+    facts: &[Fact],
+    events: &[Placed],
+) -> Result<Vec<Sign>, AllocError>
+    ensures { IfOk result (λ v. v.items ≡ map (λ p. sign_before p.event.line no_sign facts.now) events.now) }
+{
     let mut signs = Vec::new(alloc);
-    for fact in facts {
-        let before = sign_at(&states, fact.task);
-        signs.push(before)?;
-        put_sign(&mut states, fact.task, before.after(fact.what));
+    let mut last = 0;
+    let mut next = 0;
+    let mut sign = Sign::none();
+    for placed in events {
+        let line = placed.event.line;
+        if line < last {
+            next = 0;
+            sign = Sign::none();
+        }
+        (next, sign) = go_to(facts, next, sign, line);
+        signs.push(sign)?;
+        last = line;
     }
     Ok(signs)
-}
-
-fn sign_at(signs: &[Sign], task: usize) -> Sign
-    ensures { result ≡ slice_index_or signs.now task no_sign }
-{
-    signs.get(task).copied().unwrap_or(Sign::none())
-}
-
-fn put_sign(signs: &mut Vec<Sign>, task: usize, sign: Sign)
-    ensures { signs.new.items ≡ slice_set signs.old.items task sign }
-{
-    if task < signs.len() {
-        signs[task] = sign;
-    }
 }

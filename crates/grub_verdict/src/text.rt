@@ -98,7 +98,7 @@ pub fn put_covered(out: &mut Vec<u8>, h: &Heading) -> Result<(), AllocError>
         h.left_charges,
     )?;
     put_count(out, b" by what is left; ", h.cancelled)?;
-    put_count(out, b" wakes before the 0-lag moment; ", h.recharges)?;
+    put_number(out, b" wakes before the 0-lag moment; ", h.recharges)?;
     put(out, b" recharges\n")?;
     Ok(())
 }

@@ -1,6 +1,5 @@
 use Rattle.std.proofs.Common.{subst, arith}
 use Rattle.std.proofs.lemmas.Grind.{common_steps}
-use Rattle.std.specs.Prelude.{Some}
 use Rattle.grub_verdict.specs.Verdicts.{IsFirst}
 use Rattle.grub_verdict.proofs.Earliest.{first_more}
 use Rattle.grub_verdict.proofs.verdict.first_with.Goals as goal
