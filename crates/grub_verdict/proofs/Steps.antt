@@ -1,11 +1,10 @@
 -- One element more, from the front.
-use Rattle.std.proofs.Common.{◌≡◌, ◌<◌, ◌≤◌, ◌+◌, ◌++◌, ◌&&◌, not, ℕ, suc, List, [], ◌∷◌, ◌⊎◌, inl, inr, true, false, Option, Some, length, drop, get_or, set, map, min, refl, sym, ◌∙◌, arith, append_assoc, add_assoc, add-one, if◌then◌else◌}
+use Rattle.std.proofs.Common.{◌≡◌, ◌<◌, ◌≤◌, ◌+◌, ◌++◌, ◌&&◌, not, ℕ, suc, List, [], ◌∷◌, ◌⊎◌, inl, inr, true, false, Option, Some, length, drop, get_or, set, map, min, refl, sym, ◌∙◌, arith, add_assoc, add-one, if◌then◌else◌}
 use Rattle.std.proofs.Math.Seq.{drop-cons}
 use Rattle.std.proofs.lemmas.List.{append-nil, drop_all, length-map}
 use Rattle.std.proofs.lemmas.Option.{slice_get_within, get_or_from_slice_get}
 use Rattle.std.specs.Prelude.{slice_get}
 use Rattle.std.specs.Str.{bytes_eq}
-use Rattle.grub_bw.specs.Bandwidth.{Reservation}
 use Rattle.grub_events.specs.declared.standing.Standing.{Standing}
 use Rattle.grub_events.specs.declared.standing.Standing.TheVariants.{Unseen}
 use Rattle.grub_events.specs.declared.event.Placed.{Placed}
