@@ -7,3 +7,4 @@ pub mod Counting
 pub mod Answered
 pub mod Observed
 pub mod Judging
+pub mod Checking

@@ -4,6 +4,7 @@
 mod answered;
 mod case;
 mod check;
+mod checking;
 mod counting;
 mod difference;
 mod heading;
@@ -16,7 +17,8 @@ mod verdict;
 mod watch;
 
 pub use case::{Case, Judged, Overfull};
-pub use check::{Question, STATUS_DIFFERS, serve_check};
+pub use check::{STATUS_DIFFERS, serve_check};
+pub use checking::{CheckFault, Question, check_facts};
 pub use difference::Difference;
 pub use heading::Heading;
 pub use judging::judge;

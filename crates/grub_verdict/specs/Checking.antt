@@ -1,0 +1,84 @@
+-- The verdict on what the facts of a trace tell: their event files, and these played on one time line.
+use Rattle.std.specs.Prelude.{◌≡◌, ℕ, Bool, true, false, List, Option}
+use Rattle.std.specs.Io.KnownBytes.{Appends}
+use Rattle.grub_facts.specs.declared.fact.Facts.{Facts}
+use Rattle.grub_timeline.specs.declared.told.TimeLine.{TimeLine}
+use Rattle.grub_timeline.specs.TimeLines.{IsTimeLine}
+use Rattle.grub_trace.specs.Meaning.{Reads}
+use Rattle.grub_trace.specs.Naming.{plan_of}
+use Rattle.grub_trace.specs.Plans.{PlanView}
+use Rattle.grub_trace.specs.Tree.{Tree}
+use Rattle.grub_convert.specs.Files.{AreFiles, IsFault, IsSetting, IsSound, events_told}
+use Rattle.grub_convert.specs.declared.options.Options.{Options}
+use Rattle.grub_views.specs.Replay.{steps_of}
+use Rattle.grub_verdict.specs.Judging.{IsJudged}
+use Rattle.grub_verdict.specs.declared.case.Case.{Case}
+use Rattle.grub_verdict.specs.declared.case.Judged.{Judged}
+use Rattle.grub_verdict.specs.declared.case.Judged.TheVariants.{Agrees, Differs, Overfull}
+use Rattle.grub_verdict.specs.declared.checking.CheckFault.{CheckFault}
+use Rattle.grub_verdict.specs.declared.checking.CheckFault.TheVariants as faults
+use Rattle.grub_verdict.specs.declared.checking.Question.{Question}
+
+-- files that are read as this plan
+pub record AreReadAs (files : List (List ℕ)) (plan : PlanView) : Type 0 where
+  pub trees : List Tree
+  pub reads : Reads files trees
+  pub plan_of_trees : plan ≡ plan_of trees
+
+-- the case that the facts of a trace make, whose event files are read as this plan: its events, and the steps of its time line
+pub record IsPlayed (q : Question) (o : Options) (facts : Facts) (plan : PlanView) (c : Case) : Type 0 where
+  pub trace : c.trace.now ≡ q.path.now
+  pub within : c.within ≡ q.within
+  pub facts_told : c.facts.now ≡ facts
+  pub placed : c.placed.now ≡ events_told facts
+  pub setting : IsSetting o facts c.setting.now
+  pub plan_read : c.plan.now ≡ plan
+  pub line : TimeLine
+  pub played : IsTimeLine plan line.told.items line.closing.items
+  pub steps : c.steps.now ≡ steps_of plan.setup line.told.items
+
+-- what the facts come to, whose event files are read as this plan
+pub record IsJudgedOf (q : Question) (o : Options) (facts : Facts) (plan : PlanView) (judged : Judged) : Type 0 where
+  pub made : Case
+  pub played : IsPlayed q o facts plan made
+  pub judged_so : IsJudged made judged
+
+-- what the facts come to: nothing is wrong with them, a timer was recorded, and their event files are played
+pub record IsVerdictOn (q : Question) (o : Options) (facts : Facts) (judged : Judged) : Type 0 where
+  pub sound : IsSound o facts
+  pub timers : facts.counts.has_timers ≡ true
+  pub files : List (List ℕ)
+  pub are : AreFiles o facts files
+  pub plan : PlanView
+  pub read : AreReadAs files plan
+  pub comes_to : IsJudgedOf q o facts plan judged
+
+-- a verdict, and no answer by which there is none
+abbrev pub HasText : Judged → Type 0
+HasText (Agrees text) = Unit {0}
+HasText (Differs text) = Unit {0}
+HasText (Overfull found) = ⊥
+
+-- why there is no verdict: a fault of the trace, no timer of any kind, or no room for what it tells; or want of memory
+abbrev pub IsFaultOn : Question → Options → Facts → CheckFault → Type 0
+IsFaultOn q o facts (faults.Files fault) = IsFault o facts fault
+IsFaultOn q o facts faults.NoTimers = IsSound o facts × (facts.counts.has_timers ≡ false)
+IsFaultOn q o facts (faults.Overfull found name) = IsVerdictOn q o facts (Overfull found)
+IsFaultOn q o facts faults.NoText = Unit {0}
+
+-- the verdict says that it agrees, or that it differs, and this is its text
+abbrev pub Says : Judged → Bool → List ℕ → Type 0
+Says (Agrees v) agrees text = (agrees ≡ true) × (text ≡ v.items)
+Says (Differs v) agrees text = (agrees ≡ false) × (text ≡ v.items)
+Says (Overfull found) agrees text = ⊥
+
+-- the verdict on some facts
+pub record IsSaid (q : Question) (o : Options) (agrees : Bool) (text : List ℕ) : Type 0 where
+  pub facts : Facts
+  pub judged : Judged
+  pub is : IsVerdictOn q o facts judged
+  pub says : Says judged agrees text
+
+-- and that text was printed and nothing else
+abbrev pub Prints : Question → Options → Bool → Option (List ℕ) → Option (List ℕ) → Type 0
+Prints q o agrees old new = (text : List ℕ) × IsSaid q o agrees text × Appends old new text
