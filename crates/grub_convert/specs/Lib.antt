@@ -1,3 +1,5 @@
 pub mod Faults
 pub mod Files
 pub mod Census
+pub mod Read
+pub mod inside

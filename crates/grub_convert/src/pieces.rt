@@ -1,8 +1,17 @@
 //! A trace, read in pieces.
 
+ghost use Rattle.std.specs.Prelude.{◌≡◌, ◌<◌, ◌⊎◌, ℕ, List, [], false, IfErr, IfOk, IsTrue, OnOk, length, map};
+ghost use Rattle.grub_files.specs.Source.{Gives};
+ghost use Rattle.grub_facts.specs.Census.{CountsOn, NeedsNoMore as CountsEnough};
+ghost use Rattle.grub_facts.specs.Told.{HasRead, NeedsNoMore, ReadsOn};
+ghost use Rattle.grub_convert.specs.Files.{text_of};
+ghost use Rattle.grub_convert.specs.Read.{IsToldOf, names_in};
+ghost use Rattle.grub_convert.specs.inside.Taking.{TookAll, TookEnough, TookFrom};
+
 use crate::fault::TraceFault;
 use crate::options::Options;
 use grub_facts::{Counted, FactReader, Facts, TaskReader};
+use grub_files::read_once;
 use std::alloc::{AllocError, Global};
 use std::io;
 
@@ -21,13 +30,25 @@ pub struct Input<O, N> {
 
 /// What takes the pieces of a text.
 trait Takes {
-    fn take(&mut self, piece: &[u8]) -> Result<(), AllocError>;
+    // It was given this piece.
+    ghost takes: { Self → List ℕ → Self → Type 0 };
+
+    // It needs no more pieces.
+    ghost is_done: { Self → Type 0 };
+
+    fn take(&mut self, piece: &[u8]) -> Result<(), AllocError>
+        ensures { OnOk result (takes self.old piece.now self.new) };
 
     /// Whether it takes no more.
-    fn is_full(&self) -> bool;
+    fn is_full(&self) -> bool
+        ensures { IsTrue result → is_done self.now };
 }
 
 impl Takes for FactReader {
+    ghost takes = { λ old piece new. ReadsOn piece old new };
+
+    ghost is_done = { NeedsNoMore };
+
     fn take(&mut self, piece: &[u8]) -> Result<(), AllocError> {
         self.feed(piece)
     }
@@ -38,6 +59,10 @@ impl Takes for FactReader {
 }
 
 impl Takes for TaskReader {
+    ghost takes = { λ old piece new. CountsOn piece old new };
+
+    ghost is_done = { CountsEnough };
+
     fn take(&mut self, piece: &[u8]) -> Result<(), AllocError> {
         self.feed(piece)
     }
@@ -55,16 +80,38 @@ fn read_piece<'a, D, N: Fn(&mut D, &mut [u8]) -> io::Result<usize>, T: Takes>(
     room: &mut [u8],
     taker: &mut T,
 ) -> Result<bool, TraceFault<'a>>
-    requires { N.IsAlwaysCallable read.now }
+    requires callable { N.IsAlwaysCallable read.now }
+    requires has_room { 0 < length room.old }
+    ensures room { length room.new ≡ length room.old }
+    ensures piece { IfOk result (λ more. (piece : List ℕ) × Gives N.Fn read.now file.old piece file.new × T.takes taker.old piece taker.new × (more ≡ false → (piece ≡ []) ⊎ T.is_done taker.new)) }
 {
-    let count = match read(file, room) {
-        Ok(count) if count <= room.len() => count,
-        _ => return Err(TraceFault::Unreadable { path }),
+    let Ok(count) = read_once(read, file, room) else {
+        return Err(TraceFault::Unreadable { path });
     };
     if taker.take(&room[..count]).is_err() {
         return Err(TraceFault::NoMemory);
     }
     Ok(count > 0 && !taker.is_full())
+}
+
+/// Takes the pieces of an opened trace up to its end, or until no more is taken.
+fn take_pieces<'a, D, N: Fn(&mut D, &mut [u8]) -> io::Result<usize>, T: Takes>(
+    read: &N,
+    path: &'a str,
+    file: &mut D,
+    room: &mut [u8],
+    taker: &mut T,
+) -> Result<(), TraceFault<'a>>
+    requires callable { N.IsAlwaysCallable read.now }
+    requires has_room { 0 < length room.old }
+    ensures { OnOk result (TookAll N.Fn read.now T.takes file.old taker.old taker.new ⊎ TookEnough N.Fn read.now T.takes T.is_done file.old taker.old taker.new) }
+{
+    for _ in 0..u64::MAX {
+        if !read_piece(read, path, file, room, taker)? {
+            return Ok(());
+        }
+    }
+    Err(TraceFault::Unreadable { path })
 }
 
 /// Reads the trace of a name up to its end, or until no more is taken.
@@ -77,6 +124,7 @@ fn read_pieces<
 >(alloc: Global, input: &Input<O, N>, path: &'a str, taker: &mut T) -> Result<(), TraceFault<'a>>
     requires open { O.IsAlwaysCallable input.now.open }
     requires read { N.IsAlwaysCallable input.now.read }
+    ensures { OnOk result (TookFrom O.Fn N.Fn input.now T.takes T.is_done path.now taker.old taker.new) }
 {
     let Ok(mut room) = Vec::from_elem(alloc, 0u8, PIECE_BYTES) else {
         return Err(TraceFault::NoMemory);
@@ -85,16 +133,14 @@ fn read_pieces<
         Ok(file) => file,
         Err(_) => return Err(TraceFault::Unreadable { path }),
     };
-    for _ in 0..u64::MAX {
-        if !read_piece(&input.read, path, &mut file, &mut room, taker)? {
-            break;
-        }
-    }
+    take_pieces(&input.read, path, &mut file, &mut room, taker)?;
     Ok(())
 }
 
 /// The names of the given tasks.
-fn names_of<'a>(alloc: Global, options: &Options<'a>) -> Result<Vec<&'a [u8]>, AllocError> {
+fn names_of<'a>(alloc: Global, options: &Options<'a>) -> Result<Vec<&'a [u8]>, AllocError>
+    ensures { IfOk result (λ names. map text_of names.items ≡ names_in options.now) }
+{
     let mut names = Vec::new(alloc);
     for task in &options.tasks {
         names.push(task.name.as_bytes())?;
@@ -102,9 +148,12 @@ fn names_of<'a>(alloc: Global, options: &Options<'a>) -> Result<Vec<&'a [u8]>, A
     Ok(names)
 }
 
-fn fact_reader(alloc: Global, options: &Options<'_>) -> Result<FactReader, AllocError> {
+fn fact_reader(alloc: Global, options: &Options<'_>) -> Result<FactReader, AllocError>
+    ensures { IfOk result (HasRead (names_in options.now) options.now.cpus []) }
+{
     let names = names_of(alloc, options)?;
-    FactReader::new(alloc, &names, options.cpus)
+    let reader = FactReader::new(alloc, &names, options.cpus)?;
+    Ok(reader)
 }
 
 /// What the trace of a name tells of the given tasks.
@@ -121,6 +170,7 @@ pub fn read_facts<
 ) -> Result<Facts, TraceFault<'a>>
     requires open { O.IsAlwaysCallable input.now.open }
     requires read { N.IsAlwaysCallable input.now.read }
+    ensures { IfOk result (IsToldOf O.Fn N.Fn input.now path.now options.now) }
 {
     let Ok(mut reader) = fact_reader(alloc, options) else {
         return Err(TraceFault::NoMemory);

@@ -56,7 +56,7 @@ pub fn read_file<
 }
 
 /// One read of an opened file into this room: how many bytes it gave.
-fn read_once<D, N: Fn(&mut D, &mut [u8]) -> io::Result<usize>>(
+pub fn read_once<D, N: Fn(&mut D, &mut [u8]) -> io::Result<usize>>(
     read: &N,
     file: &mut D,
     room: &mut [u8],

@@ -3,7 +3,7 @@
 
 mod input;
 
-pub use input::{FILE_BYTES_MAX, FileFault, Source, read_all, read_file};
+pub use input::{FILE_BYTES_MAX, FileFault, Source, read_all, read_file, read_once};
 
 #[cfg(test)]
 mod tests;
