@@ -9,7 +9,7 @@ use Rattle.grub_table.specs.declared.pass.Shared.{Shared}
 use Rattle.grub_table.specs.Calls.{marks, seen}
 use Rattle.grub_trace.specs.declared.entry.Entry.{Entry}
 use Rattle.grub_trace.specs.Texts.{IsAskOf}
-use Rattle.grub_workers.specs.declared.worker.Worker.{Worker}
+use Rattle.grub_workers.specs.declared.worker.Progress.{Progress}
 use Rattle.grub_workers.specs.inside.Evidence.{IsBacked}
 use Rattle.grub_asks.proofs.Kept.{kept_nothing}
 use Rattle.grub_workers.specs.inside.Working.{IsAtWork, IsFresh, IsToldBy, machine}
@@ -24,8 +24,8 @@ told_nothing s tries i p fresh = record {
   backed = All-nil (λ (e : Entry). IsBacked (machine s) tries i (seen p) (marks p) e.ask e.answer);
 }
 
-pub at_work_first : (s : Shared) (tries i : ℕ) (w : Worker) → IsFresh s i w.pass → w.entries.items ≡ [] → w.wheel.timers ≡ map.empty → IsAtWork s tries i w
-at_work_first s tries i w fresh none empty = record {
-  told = subst (IsToldBy s tries i w.pass) (sym none) (told_nothing s tries i w.pass fresh);
+pub at_work_first : (s : Shared) (tries i : ℕ) (p : Pass) (w : Progress) → IsFresh s i p → w.entries.items ≡ [] → w.wheel.timers ≡ map.empty → IsAtWork s tries i p w
+at_work_first s tries i p w fresh none empty = record {
+  told = subst (IsToldBy s tries i p) (sym none) (told_nothing s tries i p fresh);
   kept = kept_nothing (machine s) w.entries.items w.wheel.timers none empty;
 }

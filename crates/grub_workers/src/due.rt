@@ -6,28 +6,34 @@ ghost use Rattle.grub_workers.specs.inside.Working.{IsAtWork, IsNotPast};
 
 use crate::desk::Desk;
 use crate::gate::Gate;
-use crate::worker::{Worker, put};
+use crate::worker::{Progress, put};
 use grub_book::Op;
+use grub_table::Pass;
 use std::alloc::AllocError;
 
 /// Asks for each timer of the worker that is due by this moment.
-pub fn ask_due<G: Gate>(desk: &Desk<'_, G>, worker: Worker, m: u32) -> Result<Worker, AllocError>
-    requires at_work { IsAtWork desk.now.table.now desk.now.tries desk.now.number worker }
+pub fn ask_due<G: Gate>(
+    desk: &Desk<'_, G>,
+    pass: Pass,
+    progress: &mut Progress,
+    m: u32,
+) -> Result<Pass, AllocError>
+    requires at_work { IsAtWork desk.now.table.now desk.now.tries desk.now.number pass progress.old }
     requires moment { m < 2 ^ 31 }
-    requires not_past { IsNotPast m worker }
+    requires not_past { IsNotPast m progress.old }
     requires rounds { 1 ≤ desk.now.rounds }
-    ensures at_work { IfOk result (λ w. IsAtWork desk.now.table.now desk.now.tries desk.now.number w) }
-    ensures last { IfOk result (λ w. w.wheel.last ≡ Some m) }
-    ensures asked { IfOk result (λ w. AsksDue m worker.entries.items w.entries.items) }
+    ensures at_work { IfOk result (λ p. IsAtWork desk.now.table.now desk.now.tries desk.now.number p progress.new) }
+    ensures last { IfOk result (λ p. progress.new.wheel.last ≡ Some m) }
+    ensures asked { IfOk result (λ p. AsksDue m progress.old.entries.items progress.new.entries.items) }
 {
-    let mut worker = worker;
-    while let Some(timer) = worker.wheel.due(m) {
+    let mut pass = pass;
+    while let Some(timer) = progress.wheel.due(m) {
         let op = Op::Timer {
             ticket: timer.ticket,
             m: timer.z,
         };
-        let (next, _) = put(desk, worker, timer.z, timer.t, op)?;
-        worker = next;
+        let (next, _) = put(desk, pass, progress, timer.z, timer.t, op)?;
+        pass = next;
     }
-    Ok(worker)
+    Ok(pass)
 }

@@ -7,7 +7,7 @@ ghost use Rattle.grub_workers.specs.inside.Working.{IsFresh, IsWorked};
 use crate::desk::Desk;
 use crate::gate::Gate;
 use crate::script::ask_script;
-use crate::worker::Worker;
+use crate::worker::Progress;
 use grub_table::{Pass, Shared};
 use grub_trace::{Line, Report};
 use grub_wheel::Wheel;
@@ -50,21 +50,17 @@ pub fn work_through<G: Gate>(
     let Ok(wheel) = Wheel::new(alloc) else {
         return Err(AllocError);
     };
-    let worker = Worker {
-        pass,
-        entries: Vec::new(alloc),
+    let entries = Vec::with_capacity(alloc, script.len())?;
+    let mut progress = Progress {
+        entries,
         wheel,
         calls: 0,
     };
-    let worker = ask_script(desk, worker, script)?;
-    let Worker {
-        pass,
-        entries,
-        wheel: _,
-        calls: _,
-    } = worker;
+    let pass = ask_script(desk, pass, &mut progress, script)?;
     Ok(Worked {
         pass,
-        report: Report { entries },
+        report: Report {
+            entries: progress.entries,
+        },
     })
 }

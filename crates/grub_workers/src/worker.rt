@@ -1,4 +1,4 @@
-//! One worker, and one entry more.
+//! What a worker keeps between its asks, and one entry more.
 ghost use Rattle.std.specs.Prelude.{◌≡◌, ◌<◌, ◌≤◌, ◌++◌, ◌∷◌, [], Some, IfOk, length};
 ghost use Rattle.grub_book.specs.Op.{IsOp};
 ghost use Rattle.grub_table.specs.Calls.{terms};
@@ -18,10 +18,10 @@ use grub_trace::{Answer, Ask, Entry};
 use grub_wheel::Wheel;
 use std::alloc::AllocError;
 
-/// What a worker keeps between its asks: its pass, the entries so far, the timers that it armed, and how many calls it made.
+/// What a worker keeps between its asks beside its pass, which goes from hand to hand: the entries so far, the timers
+/// that it armed, and how many calls it made.
 #[derive(Drop)]
-pub struct Worker {
-    pub pass: Pass,
+pub struct Progress {
     pub entries: Vec<Entry>,
     pub wheel: Wheel,
     pub calls: u64,
@@ -30,83 +30,76 @@ pub struct Worker {
 /// Asks, and makes the entry of it.
 pub fn put<G: Gate>(
     desk: &Desk<'_, G>,
-    worker: Worker,
+    pass: Pass,
+    progress: &mut Progress,
     m: u32,
     t: u32,
     op: Op,
-) -> Result<(Worker, Answer), AllocError>
-    requires told { IsToldBy desk.now.table.now desk.now.tries desk.now.number worker.pass worker.entries.items }
+) -> Result<(Pass, Answer), AllocError>
+    requires told { IsToldBy desk.now.table.now desk.now.tries desk.now.number pass progress.old.entries.items }
     requires task { t < length (terms desk.now.table.now).setup.tasks }
     requires op { IsOp (terms desk.now.table.now).setup op }
     requires rounds { 1 ≤ desk.now.rounds }
-    ensures told { IfOk result (λ r. IsToldBy desk.now.table.now desk.now.tries desk.now.number r.0.pass r.0.entries.items) }
-    ensures list { IfOk result (λ r. r.0.entries.items ≡ worker.entries.items ++ entry m (Call t op) r.1 ∷ []) }
+    ensures told { IfOk result (λ r. IsToldBy desk.now.table.now desk.now.tries desk.now.number r.0 progress.new.entries.items) }
+    ensures list { IfOk result (λ r. progress.new.entries.items ≡ progress.old.entries.items ++ entry m (Call t op) r.1 ∷ []) }
     ensures waits { IfOk result (λ r. WaitsRightly op r.1) }
-    ensures wheel { IfOk result (λ r. r.0.wheel ≡ worker.wheel) }
+    ensures wheel { progress.new.wheel ≡ progress.old.wheel }
 {
-    let Worker {
-        pass,
-        mut entries,
-        wheel,
-        mut calls,
-    } = worker;
-    entries.reserve(1)?;
-    let (pass, answer) = ask(desk, &mut calls, pass, t, op);
-    entries.push_reserved(Entry {
+    progress.entries.reserve(1)?;
+    let (pass, answer) = ask(desk, &mut progress.calls, pass, t, op);
+    progress.entries.push_reserved(Entry {
         m,
         ask: Ask::Call { t, op },
         answer,
     });
-    let worker = Worker {
-        pass,
-        entries,
-        wheel,
-        calls,
-    };
-    Ok((worker, answer))
+    Ok((pass, answer))
 }
 
 /// Asks for a line of the script at this moment, and keeps the wheel.
 pub fn call<G: Gate>(
     desk: &Desk<'_, G>,
-    worker: Worker,
+    pass: Pass,
+    progress: &mut Progress,
     m: u32,
     t: u32,
     op: Op,
-) -> Result<(Worker, Answer), AllocError>
-    requires at_work { IsAtWork desk.now.table.now desk.now.tries desk.now.number worker }
+) -> Result<(Pass, Answer), AllocError>
+    requires at_work { IsAtWork desk.now.table.now desk.now.tries desk.now.number pass progress.old }
     requires task { t < length (terms desk.now.table.now).setup.tasks }
     requires op { IsOp (terms desk.now.table.now).setup op }
     requires line { IsLineOp m op }
     requires rounds { 1 ≤ desk.now.rounds }
-    requires last { worker.wheel.last ≡ Some m }
-    ensures at_work { IfOk result (λ r. IsAtWork desk.now.table.now desk.now.tries desk.now.number r.0) }
-    ensures last { IfOk result (λ r. r.0.wheel.last ≡ Some m) }
-    ensures list { IfOk result (λ r. r.0.entries.items ≡ worker.entries.items ++ entry m (Call t op) r.1 ∷ []) }
+    requires last { progress.old.wheel.last ≡ Some m }
+    ensures at_work { IfOk result (λ r. IsAtWork desk.now.table.now desk.now.tries desk.now.number r.0 progress.new) }
+    ensures last { IfOk result (λ r. progress.new.wheel.last ≡ Some m) }
+    ensures list { IfOk result (λ r. progress.new.entries.items ≡ progress.old.entries.items ++ entry m (Call t op) r.1 ∷ []) }
 {
-    let mut worker = worker;
-    make_room(&mut worker.wheel, op)?;
-    let (next, answer) = put(desk, worker, m, t, op)?;
-    let mut next = next;
-    keep(&mut next.wheel, t, op, answer);
-    Ok((next, answer))
+    make_room(&mut progress.wheel, op)?;
+    let (pass, answer) = put(desk, pass, progress, m, t, op)?;
+    keep(&mut progress.wheel, t, op, answer);
+    Ok((pass, answer))
 }
 
 /// Reads the runqueue, and makes the entry of it.
-pub fn look<G: Gate>(desk: &Desk<'_, G>, worker: Worker, m: u32) -> Result<Worker, AllocError>
-    requires at_work { IsAtWork desk.now.table.now desk.now.tries desk.now.number worker }
+pub fn look<G: Gate>(
+    desk: &Desk<'_, G>,
+    pass: Pass,
+    progress: &mut Progress,
+    m: u32,
+) -> Result<Pass, AllocError>
+    requires at_work { IsAtWork desk.now.table.now desk.now.tries desk.now.number pass progress.old }
     requires queue { desk.now.number < length (terms desk.now.table.now).setup.queues }
-    ensures at_work { IfOk result (λ w. IsAtWork desk.now.table.now desk.now.tries desk.now.number w) }
-    ensures last { IfOk result (λ w. w.wheel.last ≡ worker.wheel.last) }
-    ensures goes_on { IfOk result (λ w. GoesOn m Read worker.entries.items w.entries.items) }
+    ensures at_work { IfOk result (λ p. IsAtWork desk.now.table.now desk.now.tries desk.now.number p progress.new) }
+    ensures last { IfOk result (λ p. progress.new.wheel.last ≡ progress.old.wheel.last) }
+    ensures goes_on { IfOk result (λ p. GoesOn m Read progress.old.entries.items progress.new.entries.items) }
 {
-    let mut worker = worker;
-    worker.entries.reserve(1)?;
-    let reading = desk.read(&mut worker.calls, &mut worker.pass);
-    worker.entries.push_reserved(Entry {
+    let mut pass = pass;
+    progress.entries.reserve(1)?;
+    let reading = desk.read(&mut progress.calls, &mut pass);
+    progress.entries.push_reserved(Entry {
         m,
         ask: Ask::Read,
         answer: Answer::Seen(reading),
     });
-    Ok(worker)
+    Ok(pass)
 }

@@ -14,7 +14,7 @@ use Rattle.grub_trace.specs.declared.entry.Answer.{Answer}
 use Rattle.grub_trace.specs.declared.entry.Entry.{Entry}
 use Rattle.grub_asks.specs.Asked.{Asked}
 use Rattle.grub_asks.specs.inside.Keeping.{IsKept}
-use Rattle.grub_workers.specs.declared.worker.Worker.{Worker}
+use Rattle.grub_workers.specs.declared.worker.Progress.{Progress}
 use Rattle.grub_asks.specs.Answers.{AreAsksOf, event_told, events_told}
 use Rattle.grub_workers.specs.inside.Entries.{mark_told, marks_told}
 use Rattle.grub_workers.specs.inside.Evidence.{IsBacked, AreBacked}
@@ -58,10 +58,10 @@ pub record IsWorked (s : Shared) (tries i : ℕ) (script : List Line) (p : Pass)
   pub asked : Asked i script entries
 
 -- where a worker stands between two asks
-pub record IsAtWork (s : Shared) (tries i : ℕ) (w : Worker) : Type 0 where
-  pub told : IsToldBy s tries i w.pass w.entries.items
+pub record IsAtWork (s : Shared) (tries i : ℕ) (p : Pass) (w : Progress) : Type 0 where
+  pub told : IsToldBy s tries i p w.entries.items
   pub kept : IsKept (machine s) w.entries.items w.wheel.timers
 
 -- no `due` of the wheel was later
-abbrev pub IsNotPast : ℕ → Worker → Type 0
+abbrev pub IsNotPast : ℕ → Progress → Type 0
 IsNotPast m w = (k : ℕ) → w.wheel.last ≡ Some k → k ≤ m

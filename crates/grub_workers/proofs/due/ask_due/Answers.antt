@@ -10,15 +10,15 @@ use Rattle.grub_workers.proofs.due.ask_due.Goals as goal
 
 pub loop-timer-smaller : goal.loop-timer-smaller
 loop-timer-smaller g c =
-    let some = c.in-Some.ensures in let old = c.loop-timer.worker.wheel.timers in
+    let some = c.in-Some.ensures in let old = c.loop-timer.progress.wheel.timers in
     let is = ap (λ (w : WheelState). w.timers) (c.in_ok-next.ensures.wheel ∙ some.taken) in
-    len_taken old c.in_ok-next.next.wheel.timers c.in-Some.timer some.armed is
+    len_taken old c.put.new.progress.wheel.timers c.in-Some.timer some.armed is
 
 -- The timer that was taken out is the next one of those that the entries leave.
 pub loop-timer-preserved : goal.loop-timer-preserved
 loop-timer-preserved g c =
     let inv = c.loop-timer.invariant in let d = c.args.desk.now in let some = c.in-Some.ensures in let x = c.in-Some.timer in
-    let before = c.loop-timer.worker in let next = c.in_ok-next.next in let put = c.in_ok-next.ensures in let kept = inv.0.kept in
+    let before = c.loop-timer.progress in let next = c.put.new.progress in let put = c.in_ok-next.ensures in let kept = inv.0.kept in
     let is = ap (λ (w : WheelState). w.timers) (put.wheel ∙ some.taken) in
     let last : next.wheel.last ≡ Some c.args.m = ap (λ (w : WheelState). w.last) (put.wheel ∙ some.taken) in
     let due = next_due before.wheel.timers before.entries.items c.args.m x kept.armed_are some.armed some.due some.least in (
@@ -36,7 +36,7 @@ loop-timer-preserved g c =
 
 pub returns-clause-asked : goal.returns-clause-asked
 returns-clause-asked g c =
-    let inv = c.loop-timer.invariant in let before = c.loop-timer.worker in
+    let inv = c.loop-timer.invariant in let before = c.loop-timer.progress in
     record {
       timers = inv.2.0;
       each = inv.2.1;

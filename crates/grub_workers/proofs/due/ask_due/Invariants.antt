@@ -8,9 +8,9 @@ use Rattle.grub_workers.proofs.due.ask_due.Given as goal
 -- the timers that were asked for so far
 abbrev pub invariant-loop-timer : goal.invariant-loop-timer
 invariant-loop-timer g l =
-    IsAtWork l.desk.table.now l.desk.tries l.desk.number l.worker
-    × IsNotPast l.m l.worker
-    × ((timers : List Timer) × FoldsTo (AsksTimer l.m) l.fn.worker.entries.items timers l.worker.entries.items)
+    IsAtWork l.desk.table.now l.desk.tries l.desk.number l.pass l.progress
+    × IsNotPast l.m l.progress
+    × ((timers : List Timer) × FoldsTo (AsksTimer l.m) l.fn.progress.entries.items timers l.progress.entries.items)
 
 abbrev pub decreases-loop-timer : goal.decreases-loop-timer
-decreases-loop-timer g l = map.len l.worker.wheel.timers
+decreases-loop-timer g l = map.len l.progress.wheel.timers

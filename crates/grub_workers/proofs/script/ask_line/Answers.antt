@@ -1,4 +1,4 @@
-use Rattle.grub_workers.specs.declared.worker.Worker.{Worker}
+use Rattle.grub_table.specs.declared.pass.Pass.{Pass}
 use Rattle.grub_trace.specs.declared.entry.Ask.TheVariants.{Read}
 use Rattle.grub_asks.specs.Asked.{AsksLine, GoesOn}
 use Rattle.grub_asks.proofs.Lines.{if_ok_weaker, line_read}
@@ -6,6 +6,6 @@ use Rattle.grub_workers.proofs.script.ask_line.Goals as goal
 
 pub returns-in-None-clause-asked : goal.returns-in-None-clause-asked
 returns-in-None-clause-asked g c =
-    let a = c.args in let due = c.in_ok-worker.worker.entries.items in let r = a.desk.now.number in
-    if_ok_weaker (λ (w : Worker). GoesOn a.line.m Read due w.entries.items) (λ (w : Worker). AsksLine r a.worker.entries.items a.line w.entries.items) c.look.result
-    (λ w h. line_read r a.line a.worker.entries.items due w.entries.items c.in_ok-worker.ensures.asked c.in-None.ensures h) c.look.ensures.goes_on
+    let a = c.args in let due = c.ask_due.new.progress.entries.items in let r = a.desk.now.number in
+    if_ok_weaker (λ (p : Pass). GoesOn a.line.m Read due c.look.new.progress.entries.items) (λ (p : Pass). AsksLine r a.progress.now.entries.items a.line c.look.new.progress.entries.items) c.look.result
+    (λ p h. line_read r a.line a.progress.now.entries.items due c.look.new.progress.entries.items c.in_ok-pass.ensures.asked c.in-None.ensures h) c.look.ensures.goes_on

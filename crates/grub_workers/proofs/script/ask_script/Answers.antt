@@ -11,7 +11,7 @@ use Rattle.grub_workers.proofs.script.ask_script.Goals as goal
 -- One more line of the script was asked, and no later line goes back before it.
 pub loop-line-preserved : goal.loop-line-preserved
 loop-line-preserved g c =
-    let inv = c.loop-line.invariant in let done = c.in_ok-worker.ensures in let i = c.loop-line.line-index in let script = c.args.script.now in
+    let inv = c.loop-line.invariant in let done = c.in_ok-pass.ensures in let i = c.loop-line.line-index in let script = c.args.script.now in
     let low = c.loop-line-test.true in let n = length (terms c.args.desk.now.table.now).setup.tasks in
     let first : Line = record { m = 0; act = acts.Join 0 } in
     let here : Line = get_or script i first in

@@ -9,6 +9,6 @@ use Rattle.grub_workers.proofs.script.ask_script.Given as goal
 -- the lines so far were asked, and those that are left begin no earlier than the wheel's latest moment
 abbrev pub invariant-loop-line : goal.invariant-loop-line
 invariant-loop-line g l =
-    IsAtWork l.desk.table.now l.desk.tries l.desk.number l.worker
-    × FoldsTo (AsksLine l.desk.number) [] (take l.line-index l.script) l.worker.entries.items
-    × ((low : ℕ) × IsNotPast low l.worker × ScriptFits (length (terms l.desk.table.now).setup.tasks) low (drop l.line-index l.script))
+    IsAtWork l.desk.table.now l.desk.tries l.desk.number l.pass l.progress
+    × FoldsTo (AsksLine l.desk.number) [] (take l.line-index l.script) l.progress.entries.items
+    × ((low : ℕ) × IsNotPast low l.progress × ScriptFits (length (terms l.desk.table.now).setup.tasks) low (drop l.line-index l.script))
