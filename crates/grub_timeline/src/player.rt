@@ -26,34 +26,22 @@ pub struct Player<'a> {
 }
 
 /// Asks the book, and makes the entry of it, which is of runqueue `r`.
-pub fn put<'a>(
-    player: Player<'a>,
-    r: u32,
-    m: u32,
-    t: u32,
-    op: Op,
-) -> Result<(Player<'a>, Answer), AllocError>
-    requires told { IsToldBy player }
-    requires task { t < length player.book.setup.tasks }
-    requires queue { r < length player.book.setup.queues }
-    requires op { IsOp player.book.setup op }
-    ensures told { IfOk result (λ x. IsToldBy x.0) }
-    ensures setup { IfOk result (λ x. x.0.book.setup ≡ player.entry.book.setup) }
-    ensures list { IfOk result (λ x. x.0.told.items ≡ player.entry.told.items ++ told_of r m (Call t op) x.1 ∷ []) }
-    ensures waits { IfOk result (λ x. WaitsRightly op x.1) }
-    ensures wheel { IfOk result (λ x. x.0.wheel ≡ player.entry.wheel) }
-    ensures armers { IfOk result (λ x. x.0.armers.items ≡ player.entry.armers.items) }
+pub fn put(player: &mut Player<'_>, r: u32, m: u32, t: u32, op: Op) -> Result<Answer, AllocError>
+    requires told { IsToldBy player.old }
+    requires task { t < length player.old.book.setup.tasks }
+    requires queue { r < length player.old.book.setup.queues }
+    requires op { IsOp player.old.book.setup op }
+    ensures told { IfOk result (λ a. IsToldBy player.new) }
+    ensures setup { IfOk result (λ a. player.new.book.setup ≡ player.old.book.setup) }
+    ensures list { IfOk result (λ a. player.new.told.items ≡ player.old.told.items ++ told_of r m (Call t op) a ∷ []) }
+    ensures waits { IfOk result (λ a. WaitsRightly op a) }
+    ensures wheel { player.new.wheel ≡ player.old.wheel }
+    ensures armers { player.new.armers.items ≡ player.old.armers.items }
 {
-    let Player {
-        mut book,
-        mut told,
-        wheel,
-        armers,
-    } = player;
-    told.reserve(1)?;
-    let reply = book.apply(t, op);
+    player.told.reserve(1)?;
+    let reply = player.book.apply(t, op);
     let answer = Answer::Replied(reply);
-    told.push_reserved(Told {
+    player.told.push_reserved(Told {
         r,
         entry: Entry {
             m,
@@ -61,54 +49,39 @@ pub fn put<'a>(
             answer,
         },
     });
-    let player = Player {
-        book,
-        told,
-        wheel,
-        armers,
-    };
-    Ok((player, answer))
+    Ok(answer)
 }
 
 /// Asks for a line of runqueue `r` at this moment, and keeps the timers.
-pub fn call<'a>(
-    player: Player<'a>,
-    r: u32,
-    m: u32,
-    t: u32,
-    op: Op,
-) -> Result<(Player<'a>, Answer), AllocError>
-    requires playing { IsPlaying player }
-    requires task { t < length player.book.setup.tasks }
-    requires queue { r < length player.book.setup.queues }
-    requires op { IsOp player.book.setup op }
+pub fn call(player: &mut Player<'_>, r: u32, m: u32, t: u32, op: Op) -> Result<Answer, AllocError>
+    requires playing { IsPlaying player.old }
+    requires task { t < length player.old.book.setup.tasks }
+    requires queue { r < length player.old.book.setup.queues }
+    requires op { IsOp player.old.book.setup op }
     requires line { IsLineOp m op }
     requires block { IsOfBlock r op }
-    requires last { player.wheel.last ≡ Some m }
-    ensures playing { IfOk result (λ x. IsPlaying x.0) }
-    ensures setup { IfOk result (λ x. x.0.book.setup ≡ player.entry.book.setup) }
-    ensures last { IfOk result (λ x. x.0.wheel.last ≡ Some m) }
-    ensures list { IfOk result (λ x. x.0.told.items ≡ player.entry.told.items ++ told_of r m (Call t op) x.1 ∷ []) }
+    requires last { player.old.wheel.last ≡ Some m }
+    ensures playing { IfOk result (λ a. IsPlaying player.new) }
+    ensures setup { IfOk result (λ a. player.new.book.setup ≡ player.old.book.setup) }
+    ensures last { IfOk result (λ a. player.new.wheel.last ≡ Some m) }
+    ensures list { IfOk result (λ a. player.new.told.items ≡ player.old.told.items ++ told_of r m (Call t op) a ∷ []) }
 {
-    let mut player = player;
     make_room(&mut player.wheel, op)?;
-    let (next, answer) = put(player, r, m, t, op)?;
-    let mut next = next;
-    keep(&mut next.wheel, t, op, answer);
-    note(&mut next.armers, t, r, answer);
-    Ok((next, answer))
+    let answer = put(player, r, m, t, op)?;
+    keep(&mut player.wheel, t, op, answer);
+    note(&mut player.armers, t, r, answer);
+    Ok(answer)
 }
 
 /// Reads runqueue `r`, and makes the entry of it.
-pub fn look<'a>(player: Player<'a>, r: u32, m: u32) -> Result<Player<'a>, AllocError>
-    requires playing { IsPlaying player }
-    requires queue { r < length player.book.setup.queues }
-    ensures playing { IfOk result IsPlaying }
-    ensures setup { IfOk result (λ x. x.book.setup ≡ player.entry.book.setup) }
-    ensures last { IfOk result (λ x. x.wheel.last ≡ player.entry.wheel.last) }
-    ensures looked { IfOk result (λ x. IsLookedAt r m player.entry.told.items x.told.items) }
+pub fn look(player: &mut Player<'_>, r: u32, m: u32) -> Result<(), AllocError>
+    requires playing { IsPlaying player.old }
+    requires queue { r < length player.old.book.setup.queues }
+    ensures playing { IfOk result (λ x. IsPlaying player.new) }
+    ensures setup { IfOk result (λ x. player.new.book.setup ≡ player.old.book.setup) }
+    ensures last { IfOk result (λ x. player.new.wheel.last ≡ player.old.wheel.last) }
+    ensures looked { IfOk result (λ x. IsLookedAt r m player.old.told.items player.new.told.items) }
 {
-    let mut player = player;
     player.told.reserve(1)?;
     let reading = player.book.read(r);
     player.told.push_reserved(Told {
@@ -119,5 +92,5 @@ pub fn look<'a>(player: Player<'a>, r: u32, m: u32) -> Result<Player<'a>, AllocE
             answer: Answer::Seen(reading),
         },
     });
-    Ok(player)
+    Ok(())
 }

@@ -36,16 +36,14 @@ fn time_line(alloc: Global, plan: &Plan) -> Result<TimeLine, AllocError>
     ensures one_file { IfOk result (λ t. length plan.now.scripts ≡ 1 → IsOneRun plan.now.setup (script_at plan.now.scripts 0) t.told.items) }
     ensures within { IfOk result (λ t. AreWithin plan.now.setup t.told.items) }
 {
-    let player = player_of(alloc, plan)?;
+    let mut player = player_of(alloc, plan)?;
     let done = vec![in alloc; 0; plan.files() as usize]?;
-    let Player {
-        book,
-        told,
-        wheel: _,
-        armers: _,
-    } = play_lines(player, plan, done)?;
-    let closing = readings_of(alloc, &book, plan.files())?;
-    Ok(TimeLine { told, closing })
+    play_lines(&mut player, plan, done)?;
+    let closing = readings_of(alloc, &player.book, plan.files())?;
+    Ok(TimeLine {
+        told: player.told,
+        closing,
+    })
 }
 
 /// A player that has asked nothing yet.
@@ -72,24 +70,19 @@ fn player_of<'a>(alloc: Global, plan: &'a Plan) -> Result<Player<'a>, AllocError
 }
 
 /// Asks for the lines of all files, of which none is done yet.
-fn play_lines<'a>(
-    player: Player<'a>,
-    plan: &Plan,
-    done: Vec<usize>,
-) -> Result<Player<'a>, AllocError>
-    requires playing { IsPlaying player }
-    requires setup { player.book.setup ≡ plan.now.setup }
-    requires empty { player.told.items ≡ [] }
-    requires last { player.wheel.last ≡ None }
+fn play_lines(player: &mut Player<'_>, plan: &Plan, done: Vec<usize>) -> Result<(), AllocError>
+    requires playing { IsPlaying player.old }
+    requires setup { player.old.book.setup ≡ plan.now.setup }
+    requires empty { player.old.told.items ≡ [] }
+    requires last { player.old.wheel.last ≡ None }
     requires none { AreNone (length plan.now.scripts) done.items }
     requires fits { PlanFits plan.now }
-    ensures { IfOk result (λ x. IsPlayed plan.now x) }
+    ensures { IfOk result (λ x. IsPlayed plan.now player.new) }
 {
-    let mut player = player;
     let mut done = done;
     while let Some(placed) = first(plan, &done) {
         pass(plan, &mut done, placed.r);
-        player = ask_line(player, placed)?;
+        ask_line(player, placed)?;
     }
-    Ok(player)
+    Ok(())
 }

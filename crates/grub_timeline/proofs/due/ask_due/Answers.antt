@@ -19,8 +19,8 @@ use Rattle.grub_timeline.proofs.due.ask_due.Goals as goal
 pub loop-timer-smaller : goal.loop-timer-smaller
 loop-timer-smaller c =
     let some = c.in-Some.ensures in let old = c.loop-timer.player.wheel.timers in
-    let is = ap (λ (w : WheelState). w.timers) (c.in_ok-next.ensures.wheel ∙ some.taken) in
-    len_taken old c.in_ok-next.next.wheel.timers c.in-Some.timer some.armed is
+    let is = ap (λ (w : WheelState). w.timers) (c.put.ensures.wheel ∙ some.taken) in
+    len_taken old c.put.new.player.wheel.timers c.in-Some.timer some.armed is
 
 pub loop-timer-init : goal.loop-timer-init
 loop-timer-init c = (c.requires.playing, c.requires.not_past, refl, ([], refl), (λ r. goes_nowhere r _ _ refl))
@@ -29,13 +29,13 @@ loop-timer-init c = (c.requires.playing, c.requires.not_past, refl, ([], refl), 
 pub loop-timer-preserved : goal.loop-timer-preserved
 loop-timer-preserved c =
     let inv = c.loop-timer.invariant in let some = c.in-Some.ensures in let x = c.in-Some.timer in
-    let before = c.loop-timer.player in let next = c.in_ok-next.next in let put = c.in_ok-next.ensures in let kept = inv.0.kept in
-    let op = ops.Timer x.ticket x.z in let answer = c.in_ok-next.field-0-1 in
+    let before = c.loop-timer.player in let next = c.put.new.player in let put = c.in_ok-put.ensures in let kept = inv.0.kept in
+    let op = ops.Timer x.ticket x.z in let answer = c.in_ok-put.field-0 in
     let old = entries_of before.told.items in let new = entries_of next.told.items in
     let told = told_of c.index-r.result.now x.z (Call x.t op) answer in
     let list = ap entries_of put.list ∙ entries_more before.told.items told in
-    let is = ap (λ (w : WheelState). w.timers) (put.wheel ∙ some.taken) in
-    let last : next.wheel.last ≡ Some c.args.m = ap (λ (w : WheelState). w.last) (put.wheel ∙ some.taken) in
+    let is = ap (λ (w : WheelState). w.timers) (c.put.ensures.wheel ∙ some.taken) in
+    let last : next.wheel.last ≡ Some c.args.m = ap (λ (w : WheelState). w.last) (c.put.ensures.wheel ∙ some.taken) in
     let due = next_due before.wheel.timers old c.args.m x kept.armed_are some.armed some.due some.least in
     let low = kept.tasks x.t _ due.armed in
     let armed_by : told.r ≡ armer old x.t = c.index-r.ensures ∙ inv.0.armers.each x.t c.index-r.result.now low in (
@@ -43,7 +43,7 @@ loop-timer-preserved c =
         told = put.told;
         kept = subst (λ (s : Machine). IsKept s new next.wheel.timers) (sym put.setup)
             (kept_call before.book.setup x.z x.t op answer old new before.wheel.timers next.wheel.timers kept low list (touched_removed before.wheel.timers next.wheel.timers x.t is));
-        armers = subst (λ (k : List ℕ). AreArmers next.book.setup new k) (sym put.armers)
+        armers = subst (λ (k : List ℕ). AreArmers next.book.setup new k) (sym c.put.ensures.armers)
             (subst (λ (s : Machine). AreArmers s new before.armers.items) (sym put.setup) (armers_timer before.book.setup x.z x.t x.ticket x.z answer old new before.armers.items inv.0.armers list));
       },
       (λ k at. let same : Some c.args.m ≡ Some k = sym last ∙ at in grind rules),
@@ -52,7 +52,7 @@ loop-timer-preserved c =
         inv.3.0 ++ record { z = x.z; t = x.t; ticket = x.ticket } ∷ [],
         FoldsTo-push (AsksTimer c.args.m) _ inv.3.0 old (record { z = x.z; t = x.t; ticket = x.ticket }) _ inv.3.1 (record { next = due; goes_on = record { answer = _; list = list } }),
       ),
-      (λ r. goes_twice r c.args.player.told.items before.told.items next.told.items (inv.4 r) (goes_on r before.told.items next.told.items told armed_by put.list)),
+      (λ r. goes_twice r c.args.player.now.told.items before.told.items next.told.items (inv.4 r) (goes_on r before.told.items next.told.items told armed_by put.list)),
     )
 
 pub returns-clause-asked : goal.returns-clause-asked

@@ -10,12 +10,12 @@ use Rattle.grub_timeline.proofs.player.look.Goals as goal
 
 pub returns-clause-playing : goal.returns-clause-playing
 returns-clause-playing c =
-    let a = c.args in let was = c.requires.playing in let reading = c.read-reading.result in let old = a.player.told.items in let new = c.push_reserved.new.self.items in
+    let a = c.args in let was = c.requires.playing in let reading = c.read-reading.result in let old = a.player.now.told.items in let new = c.push_reserved.new.self.items in
     let told : new ≡ old ++ told_of a.r a.m Read (Seen reading) ∷ [] = search rules in
     let list = ap entries_of told ∙ entries_more old (told_of a.r a.m Read (Seen reading)) in record {
-      told = known_look a.player.book.setup a.player.book.records old new a.r a.m reading was.told c.requires.queue c.read-reading.ensures.value told;
-      kept = kept_look a.player.book.setup a.m reading (entries_of old) (entries_of new) a.player.wheel.timers was.kept list;
-      armers = armers_look a.player.book.setup a.m (Seen reading) (entries_of old) (entries_of new) a.player.armers.items was.armers list;
+      told = known_look a.player.now.book.setup a.player.now.book.records old new a.r a.m reading was.told c.requires.queue c.read-reading.ensures.value told;
+      kept = kept_look a.player.now.book.setup a.m reading (entries_of old) (entries_of new) a.player.now.wheel.timers was.kept list;
+      armers = armers_look a.player.now.book.setup a.m (Seen reading) (entries_of old) (entries_of new) a.player.now.armers.items was.armers list;
     }
 
 pub returns-clause-looked : goal.returns-clause-looked

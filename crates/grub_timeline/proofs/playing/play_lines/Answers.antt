@@ -7,7 +7,7 @@ use Rattle.grub_timeline.proofs.Merging.{fits_here, less, midway_first, midway_n
 use Rattle.grub_timeline.proofs.playing.play_lines.Goals as goal
 
 pub loop-placed-init : goal.loop-placed-init
-loop-placed-init c = let r = c.requires in midway_first c.args.plan.now c.args.player c.args.done.items r.playing r.setup r.none.one_each r.none.none r.empty r.last
+loop-placed-init c = let r = c.requires in midway_first c.args.plan.now c.args.player.now c.args.done.items r.playing r.setup r.none.one_each r.none.none r.empty r.last
 
 pub ask_line-requires-clause-act : goal.ask_line-requires-clause-act
 ask_line-requires-clause-act c =
@@ -23,9 +23,9 @@ ask_line-requires-clause-moment c =
 
 pub loop-placed-preserved : goal.loop-placed-preserved
 loop-placed-preserved c =
-    let l = c.loop-placed in let plan = c.args.plan.now in let x = c.in-Some.placed in let next = c.in_ok-player in
+    let l = c.loop-placed in let plan = c.args.plan.now in let x = c.in-Some.placed in let next = c.in_ok-ask_line in
     let first = subst (λ (d : List ℕ). IsFirst plan.scripts d x) c.deref.ensures.value c.in-Some.ensures in
-    midway_next plan l.player l.done.items x c.requires.fits l.invariant first next.player c.pass.new.done.items c.pass.ensures next.ensures.playing next.ensures.setup next.ensures.last next.ensures.asked
+    midway_next plan l.player l.done.items x c.requires.fits l.invariant first c.ask_line.new.player c.pass.new.done.items c.pass.ensures next.ensures.playing next.ensures.setup next.ensures.last next.ensures.asked
 
 pub loop-placed-smaller : goal.loop-placed-smaller
 loop-placed-smaller c =
