@@ -12,7 +12,7 @@ import sys
 ROOT = os.path.dirname(os.path.dirname(os.path.abspath(__file__)))
 WORD = re.compile(r"[^\W\d][\w'?]*")
 HEAD = re.compile(r"^(?:(?:abbrev|unfoldable|opaque|instance|pub)\s+)+(?:(?:record|data)\s+)?([^\s:{(]+)|^(?:record|data|module)\s+([^\s:{(]+)")
-INNER = {"data": re.compile(r"\s+(?:pub\s+)?([\w']+)\s*:"), "module": re.compile(r"\s+(?:abbrev |unfoldable )?pub (?:record |data )?([\w']+)")}
+INNER = {"data": re.compile(r"\s+(?:pub\s+)?([\w']+)\s*:"), "module": re.compile(r"  (?:abbrev |unfoldable )?pub (?:record |data )?([\w']+)")}
 IMPORT = re.compile(r"\buse\s+Rattle\.(\w+)\.specs\.([\w.]+?)(?:\.\{([^}]*)\}|\s+as\s+(\w+))?\s*;?\s*$", re.M)
 PUBLIC_USE = re.compile(r"\bpub use ([\w:]+)(?:::\{([^}]*)\})?;", re.S)
 

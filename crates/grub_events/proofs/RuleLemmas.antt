@@ -4,7 +4,8 @@ use Rattle.std.proofs.lemmas.Grind.{common_steps}
 use Rattle.std.proofs.Math.Seq.{drop-cons}
 use Rattle.grub_facts.specs.declared.fact.Fact.{Fact}
 use Rattle.grub_events.specs.Moved.{wakes_moved, is_moved_wake}
-use Rattle.grub_events.specs.Rules.{sent_to, destinations_of, told, told_all, standing_after}
+use Rattle.grub_events.specs.Rules.{sent_to, told, told_all, standing_after}
+use Rattle.grub_events.specs.inside.Rules.{destinations_of}
 use Rattle.grub_events.specs.declared.event.Event.{Event}
 use Rattle.grub_events.specs.declared.standing.Standing.{Standing}
 use Rattle.grub_events.specs.declared.standing.Standing.TheVariants.{Unseen}

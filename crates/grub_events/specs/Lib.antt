@@ -5,3 +5,4 @@ pub mod Names
 pub mod Order
 pub mod Rules
 pub mod Setting
+pub mod inside

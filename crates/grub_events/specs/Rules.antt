@@ -43,11 +43,6 @@ abbrev pub sent_to : ℕ → List Fact → Option ℕ
 sent_to task [] = None
 sent_to task (f ∷ later) = if f.task == task then sent_before f.what (sent_to task later) else sent_to task later
 
--- for each fact, the CPU that its task is sent to after it
-abbrev pub destinations_of : List Fact → List (Option ℕ)
-destinations_of [] = []
-destinations_of (f ∷ later) = sent_to f.task later ∷ destinations_of later
-
 -- ---- the events that a fact tells
 
 abbrev pub event_of : Fact → ℕ → Act → Source → Event

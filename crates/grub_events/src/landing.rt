@@ -1,7 +1,8 @@
 //! Where a wake takes place: on the CPU that its task is sent to before it runs.
 
 ghost use Rattle.std.specs.Prelude.{◌≡◌, ◌<◌, All, IfOk, reverse};
-ghost use Rattle.grub_events.specs.Rules.{sent_before, destinations_of};
+ghost use Rattle.grub_events.specs.Rules.{sent_before};
+ghost use Rattle.grub_events.specs.inside.Rules.{destinations_of};
 
 use crate::lists::{at, put};
 use grub_facts::{Fact, Stop, What};

@@ -15,10 +15,6 @@ kept_text keeper = record { tasks = tasks_text keeper.tasks; facts = keeper.fact
 abbrev pub told_text : FactLines → Told
 told_text lines = record { cpus = lines.cpus; counts = lines.counts; kept = kept_text lines.keeper }
 
--- a line's answer, and what is told with it
-abbrev pub after_of : {S : Type 0} → Option Wrong → S → After S
-after_of wrong told = record { wrong = option_map problem_of wrong; told = told }
-
 -- how far a text was read that stands so, and whose lines tell this
 abbrev pub progress : {S : Type 0} → Text → S → Progress S
 progress text told =

@@ -4,7 +4,8 @@ use Rattle.std.specs.Borrow.{Bor}
 use Rattle.grub_facts.specs.Words.{word_of, without_spaces}
 use Rattle.grub_facts.specs.Opening.{opening_of}
 use Rattle.grub_facts.specs.Head.{is_comment, is_lost}
-use Rattle.grub_facts.specs.Events.{verb_of, said_of, said_text}
+use Rattle.grub_facts.specs.Events.{verb_of, said_of}
+use Rattle.grub_facts.specs.inside.Events.{said_text}
 use Rattle.grub_facts.specs.declared.event.Event.{Event}
 use Rattle.grub_facts.specs.declared.event.Event.TheVariants.{Woken, Migrated, Expired}
 use Rattle.grub_facts.specs.declared.event.Said.{Said}
@@ -55,9 +56,3 @@ event_line line (Some opening) = line_behind line opening (without_spaces (slice
 -- what a line tells, without the byte that ends it
 abbrev pub line_of : List ℕ → Line (List ℕ)
 line_of line = if is_lost line then Wrong LostEvents else (if is_comment line then Nothing else event_line line (opening_of line))
-
--- the texts that the slices of the code point to
-abbrev pub line_text : Line (Bor (List ℕ)) → Line (List ℕ)
-line_text Nothing = Nothing
-line_text (Says said) = Says (said_text said)
-line_text (Wrong flaw) = Wrong flaw

@@ -1,2 +1,5 @@
+pub mod Events
+pub mod Keeping
+pub mod Lines
 pub mod OpeningFits
 pub mod Sightings

@@ -2,7 +2,7 @@
 
 ghost use Rattle.std.specs.Prelude.{◌≡◌, ◌==◌, ◌++◌, ◌∷◌, [], List, nat_le, IfOk, OnOk, map, option_map, position};
 ghost use Rattle.grub_facts.specs.Census.{Tally, blocks_of, census_text, seen, sighting_of, tallied, tally_first, tally_step, tally_text, tally_with, with_number};
-ghost use Rattle.grub_facts.specs.Events.{event_text, shown_text};
+ghost use Rattle.grub_facts.specs.inside.Events.{event_text, shown_text};
 ghost use Rattle.grub_facts.specs.inside.Sightings.{sighting_text};
 
 use crate::event::{Event, Said, Shown};

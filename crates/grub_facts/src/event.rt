@@ -1,7 +1,8 @@
 //! What the events of a trace say.
 
 ghost use Rattle.std.specs.Prelude.{◌≡◌, ◌≤◌, length, option_map};
-ghost use Rattle.grub_facts.specs.Events.{armed, bare, cancelled, event_of, event_text, expired, is_zero_lag, migrated, migrated_of, migrated_with, ran, said_of, said_text, shown_at, shown_by, shown_text, shown_with_text, started, switched, switched_of, switched_with, verb_named, verb_of, woken, woken_of, woken_with};
+ghost use Rattle.grub_facts.specs.Events.{armed, bare, cancelled, event_of, expired, is_zero_lag, migrated, migrated_of, migrated_with, ran, said_of, shown_at, shown_by, started, switched, switched_of, switched_with, verb_named, verb_of, woken, woken_of, woken_with};
+ghost use Rattle.grub_facts.specs.inside.Events.{event_text, said_text, shown_text, shown_with_text};
 ghost use Rattle.grub_facts.specs.Words.{text_of};
 ghost use Rattle.grub_facts.specs.inside.OpeningFits.{StartsWithin};
 

@@ -2,8 +2,9 @@
 
 ghost use Rattle.std.specs.Prelude.{◌≡◌, IfOk, map};
 ghost use Rattle.grub_facts.specs.Head.{is_comment};
-ghost use Rattle.grub_facts.specs.Events.{said_text};
-ghost use Rattle.grub_facts.specs.Keeping.{after_of, told_text};
+ghost use Rattle.grub_facts.specs.inside.Events.{said_text};
+ghost use Rattle.grub_facts.specs.Keeping.{told_text};
+ghost use Rattle.grub_facts.specs.inside.Keeping.{after_of};
 ghost use Rattle.grub_facts.specs.Reading.{counted, event_line, fact_step, head_counts, head_line, is_bad_count, is_head, is_start, line_counts, no_counts, other_line, runqueues_of, runqueues_told, told_first};
 ghost use Rattle.grub_facts.specs.Words.{text_of};
 

@@ -1,10 +1,10 @@
 //! The facts of the given tasks.
 
 ghost use Rattle.std.specs.Prelude.{◌≡◌, ◌++◌, [], IfOk, OnOk, Some, map, option_map};
-ghost use Rattle.grub_facts.specs.Events.{event_text, said_text};
+ghost use Rattle.grub_facts.specs.inside.Events.{event_text, said_text};
 ghost use Rattle.grub_facts.specs.Faults.{problem_of};
 ghost use Rattle.grub_facts.specs.Given.{Task, fact_told, finding_text, kept_by, move_trouble, problem_of_trouble, tasks_given, tasks_text, trouble_of, trouble_told, wake_trouble, what_told, woken_by};
-ghost use Rattle.grub_facts.specs.Events.{shown_text};
+ghost use Rattle.grub_facts.specs.inside.Events.{shown_text};
 ghost use Rattle.grub_facts.specs.Keeping.{kept_text};
 ghost use Rattle.grub_facts.specs.Words.{text_of};
 ghost use Rattle.grub_facts.specs.declared.keeper.Trouble.TheVariants.{Unknown};

@@ -2,7 +2,8 @@
 
 ghost use Rattle.std.specs.Prelude.{◌≡◌, ℕ, List, ◌++◌, [], IfOk, OnOk, None, option_map, is_some};
 ghost use Rattle.grub_facts.specs.Faults.{fault_text, problem_of};
-ghost use Rattle.grub_facts.specs.Keeping.{after_of, progress};
+ghost use Rattle.grub_facts.specs.Keeping.{progress};
+ghost use Rattle.grub_facts.specs.inside.Keeping.{after_of};
 ghost use Rattle.grub_facts.specs.Texts.{After, cut_problem, fault_at_end, further, line_ended, without_return};
 
 use crate::fault::{LineFault, Wrong};

@@ -64,6 +64,8 @@ numbers_of (runs_at m n d) = m ∷ d ∷ []
 numbers_of (retunes_at m n q p) = m ∷ q ∷ p ∷ []
 numbers_of (reads_at m) = m ∷ []
 
+-- ---- the tests of a line below the second
+
 -- a queue line stands in the second line alone, a task line before the first moment, and a retune line in a file of version 2
 abbrev pub is_allowed : Version → List ℕ → Form → Bool
 is_allowed version moments (queue a b) = false

@@ -11,7 +11,7 @@ use Rattle.grub_trace.specs.declared.entry.Ask.TheVariants.{Call}
 use Rattle.grub_timeline.specs.declared.told.Told.{Told}
 use Rattle.std.proofs.lemmas.List.Elements.{All-head, All-tail, All-cons, All-from_recursion}
 use Rattle.std.specs.List.{All}
-use Rattle.grub_views.specs.Fitting.{AreStepsIn, AreToldIn, IsToldIn}
+use Rattle.grub_views.specs.inside.Fitting.{AreStepsIn, AreToldIn, IsToldIn}
 use Rattle.grub_views.specs.Replay.{book_after, queue_or, step_of, steps_from, steps_of}
 use Rattle.grub_views.specs.declared.book_steps.Step.{Step}
 

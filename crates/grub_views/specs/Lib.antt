@@ -1,4 +1,3 @@
-pub mod Fitting
 pub mod Lines
 pub mod Messages
 pub mod Picture
@@ -8,3 +7,4 @@ pub mod Summary
 pub mod Tables
 pub mod Tallies
 pub mod Usage
+pub mod inside

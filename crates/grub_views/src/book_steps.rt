@@ -2,7 +2,7 @@
 
 ghost use Rattle.std.specs.Prelude.{◌≡◌, IfOk};
 ghost use Rattle.grub_timeline.specs.TimeLines.{AreWithin, IsTimeLine};
-ghost use Rattle.grub_views.specs.Fitting.{AreStepsIn, AreToldIn, IsToldIn};
+ghost use Rattle.grub_views.specs.inside.Fitting.{AreStepsIn, AreToldIn, IsToldIn};
 ghost use Rattle.grub_views.specs.Replay.{book_after, queue_or, step_of, steps_of};
 
 use grub_book::{Book, Place, Reading, Setup};

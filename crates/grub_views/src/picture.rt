@@ -2,7 +2,7 @@
 
 ghost use Rattle.std.specs.Prelude.{◌≡◌, ◌<◌, ◌^◌, max, IfOk, vec_len};
 ghost use Rattle.grub_timeline.specs.TimeLines.{AreWithin, IsTimeLine};
-ghost use Rattle.grub_views.specs.Fitting.{AreToldIn};
+ghost use Rattle.grub_views.specs.inside.Fitting.{AreToldIn};
 ghost use Rattle.grub_views.specs.Picture.{last_moment};
 
 use crate::book_steps::{Step, replay};

@@ -4,7 +4,7 @@ ghost use Rattle.std.specs.Prelude.{◌≡◌, ◌++◌, ◌∷◌, [], IfOk, On
 ghost use Rattle.std.specs.List.{flat_map, join_with_byte};
 ghost use Rattle.grub_trace.specs.Texts.{IsAskOf};
 ghost use Rattle.grub_timeline.specs.TimeLines.{AreWithin, IsTimeLine};
-ghost use Rattle.grub_views.specs.Fitting.{AreStepsIn, AreToldIn, IsToldIn};
+ghost use Rattle.grub_views.specs.inside.Fitting.{AreStepsIn, AreToldIn, IsToldIn};
 ghost use Rattle.grub_views.specs.Replay.{steps_of};
 ghost use Rattle.grub_views.specs.Rows.{answer_numbers, answer_word, arg_field, ask_word, asked_fields, number_field, number_fields, reply_numbers, reply_word, step_row, step_rows, task_field};
 

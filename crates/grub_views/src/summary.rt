@@ -2,7 +2,7 @@
 
 ghost use Rattle.std.specs.Prelude.{◌≡◌, ◌++◌, ◌+◌, ◌<◌, ◌^◌, map, IfOk};
 ghost use Rattle.grub_timeline.specs.TimeLines.{AreWithin, IsTimeLine};
-ghost use Rattle.grub_views.specs.Fitting.{AreToldIn};
+ghost use Rattle.grub_views.specs.inside.Fitting.{AreToldIn};
 ghost use Rattle.grub_views.specs.Replay.{steps_of};
 ghost use Rattle.grub_views.specs.Summary.{count_up, mean_of, percent_of, queue_cells, queue_row, span_of, summary_text, task_cells, task_row};
 ghost use Rattle.grub_views.specs.declared.table.Cell.TheVariants.{Head};

@@ -13,7 +13,8 @@ use Rattle.clap.specs.declared.builder.command.Command.{Command}
 use Rattle.clap.specs.declared.parser.matches.Found.{Found}
 use Rattle.grub_serve.specs.Faults.{names_of}
 use Rattle.grubrun.specs.CommandLine.{ReadsNumber, names_among}
-use Rattle.grubrun.specs.Views.{ReadsViewWord, view_word}
+use Rattle.grubrun.specs.Views.{view_word}
+use Rattle.grubrun.specs.inside.Views.{ReadsViewWord}
 use Rattle.grubrun.specs.declared.view.ViewWord.{ViewWord}
 
 -- the values that were found, or none

@@ -69,10 +69,6 @@ SpellsOr other bits id rows n = (r : Option ℕ) × ReadsNumber bits (one_of id 
 abbrev pub TriesNamed : List Text → ℕ → Type 0
 TriesNamed words n = SpellsOr 8 8 (codes "tries") (matches_of command_line words) n
 
--- and for so many rounds
-abbrev pub RoundsNamed : List Text → ℕ → Type 0
-RoundsNamed words n = SpellsOr 64 16 rounds_id (matches_of command_line words) n
-
 -- these words name this view
 abbrev pub view_named : List Text → Option ViewWord
 view_named words = option_map view_word (one_of (codes "view") (matches_of command_line words))

@@ -2,3 +2,4 @@ pub mod CommandLine
 pub mod Rounds
 pub mod Statuses
 pub mod Views
+pub mod inside

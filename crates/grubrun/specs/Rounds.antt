@@ -10,20 +10,8 @@ use Rattle.clap.specs.declared.builder.command.Command.TheViews.{out-Command}
 use Rattle.clap.specs.declared.builder.value_parser.ValueParser.{ValueParser}
 use Rattle.clap.specs.declared.builder.value_parser.ValueParser.TheVariants as parsers
 
--- an argument with this id, which excludes no other
-pub record IsOf (id : List ℕ) (a : Arg) : Type 0 where
-  pub id_is : a.id.now ≡ id
-  pub plain : IsPlainArg a
-  pub local : a.global ≡ false
-
 abbrev pub rounds_id : List ℕ
 rounds_id = codes "rounds"
 
 abbrev pub rounds_parser : ValueParser
 rounds_parser = parsers.Signed (pos 1) (pos 65535)
-
--- the rounds are a number from 1 to 65535
-pub record TakesRounds (c : Command) : Type 0 where
-  pub plain : IsPlain c
-  pub local : (out-Command c).has_globals ≡ false
-  pub parser : All (λ a. bytes_eq a.id.now rounds_id ≡ true → a.value_parser ≡ Some rounds_parser) (args_of c)

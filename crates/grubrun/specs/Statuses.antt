@@ -15,10 +15,6 @@ use Rattle.grubrun.specs.declared.view.Wanted.TheVariants as wishes
 abbrev pub PrintsAsked : List (List ℕ) → Option (List ℕ) → Option (List ℕ) → Type 0
 PrintsAsked words old new = (AsksForHelp words × Appends old new HELP.now) ⊎ (AsksForVersion words × Appends old new VERSION.now)
 
--- the text of what a parse answered was printed
-abbrev pub PrintsKind : ErrorKind → Option (List ℕ) → Option (List ℕ) → Type 0
-PrintsKind kind old new = ((kind ≡ kinds.DisplayHelp) × Appends old new HELP.now) ⊎ ((kind ≡ kinds.DisplayVersion) × Appends old new VERSION.now)
-
 module _ {O N D : Type 0} (o : Opener O D) (g : Reader N D) (source : Source O N) where
   -- what is asked for was printed of these files: the reports of a run, or a view of their time line
   abbrev pub PrintsOf : Wanted → ℕ → List (List ℕ) → Option (List ℕ) → Option (List ℕ) → Type 0

@@ -12,11 +12,6 @@ use Rattle.grubrun.specs.declared.view.Wanted.TheVariants.{Reports, View, NoView
 abbrev pub view_word : List ℕ → ViewWord
 view_word text = if bytes_eq text (codes "timeline") then Timeline else if bytes_eq text (codes "steps") then Steps else if bytes_eq text (codes "summary") then Summary else if bytes_eq text (codes "picture") then Picture else Unknown
 
--- that is what is read of it
-abbrev pub ReadsViewWord : List ℕ → Result ViewWord Infallible → Type 0
-ReadsViewWord text (Ok word) = word ≡ view_word text
-ReadsViewWord text (Err e) = ⊥
-
 -- a picture, unless it is known that it does not begin before it ends
 abbrev pub wanted_picture : Option ℕ → Option ℕ → Wanted
 wanted_picture from None = View (views.Picture from None)

@@ -3,8 +3,10 @@
 ghost use Rattle.std.specs.Prelude.{◌≡◌, ◌≤◌, IfOk, IfSome, codes, pos, Some, map, string_bytes};
 ghost use Rattle.clap.specs.declared.builder.value_parser.ValueParser.TheVariants as parsers;
 ghost use Rattle.clap.specs.Words.{app_of, one_of, rule_of, rows_of, found_of, matches_of, fault_of, FailsBy};
-ghost use Rattle.grubrun.specs.CommandLine.{ReadsNumber, RoundsNamed, TriesNamed, Wants, tries_rule, rounds_rule, view_rule, from_rule, to_rule, files_rule, command_line};
-ghost use Rattle.grubrun.specs.Rounds.{IsOf, TakesRounds, rounds_id};
+ghost use Rattle.grubrun.specs.CommandLine.{ReadsNumber, TriesNamed, Wants, tries_rule, rounds_rule, view_rule, from_rule, to_rule, files_rule, command_line};
+ghost use Rattle.grubrun.specs.inside.CommandLine.{RoundsNamed};
+ghost use Rattle.grubrun.specs.Rounds.{rounds_id};
+ghost use Rattle.grubrun.specs.inside.Rounds.{IsOf, TakesRounds};
 
 use crate::texts::VERSION;
 use crate::view::{ViewWord, Wanted, wanted_by};

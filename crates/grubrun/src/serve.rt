@@ -9,7 +9,8 @@ ghost use Rattle.clap.specs.declared.error.kind.ErrorKind.TheVariants as kinds;
 ghost use Rattle.std.specs.declared.io.ErrorKind.TheVariants as io_kinds;
 ghost use Rattle.grub_serve.specs.Printed.{HasFileFault};
 ghost use Rattle.grubrun.specs.CommandLine.{IsRefused, files_named, names_among};
-ghost use Rattle.grubrun.specs.Statuses.{AsksForNoSpan, BeginsOf, HasNoSpan, PrintsAsked, PrintsKind, PrintsOf, PrintsRun, PrintsSome};
+ghost use Rattle.grubrun.specs.Statuses.{AsksForNoSpan, BeginsOf, HasNoSpan, PrintsAsked, PrintsOf, PrintsRun, PrintsSome};
+ghost use Rattle.grubrun.specs.inside.Statuses.{PrintsKind};
 ghost use Rattle.grubrun.specs.Views.{IsMistake};
 
 use crate::command::{Options, options_of};

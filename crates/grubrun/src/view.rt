@@ -1,7 +1,8 @@
 //! What the words ask to be printed: reports, or a view of the time line.
 
 ghost use Rattle.std.specs.Prelude.{◌≡◌};
-ghost use Rattle.grubrun.specs.Views.{ReadsViewWord, view_of, wanted_of, wanted_picture};
+ghost use Rattle.grubrun.specs.Views.{view_of, wanted_of, wanted_picture};
+ghost use Rattle.grubrun.specs.inside.Views.{ReadsViewWord};
 
 use grub_show::View;
 use std::convert::Infallible;

@@ -22,5 +22,3 @@ is_named (does_at m v n) = is_name n
 is_named (runs_at m n d) = is_name n
 is_named (retunes_at m n q p) = is_name n
 is_named (reads_at m) = true
-
--- ---- the tests of a line below the second

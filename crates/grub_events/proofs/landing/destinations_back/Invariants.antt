@@ -1,5 +1,6 @@
 use Rattle.std.proofs.Common.{◌≡◌, ◌<◌, ◌≤◌, reverse, ℕ, Option, None, length, drop, get_or}
-use Rattle.grub_events.specs.Rules.{sent_to, destinations_of}
+use Rattle.grub_events.specs.Rules.{sent_to}
+use Rattle.grub_events.specs.inside.Rules.{destinations_of}
 use Rattle.grub_events.proofs.landing.destinations_back.Given as goal
 
 -- what is found is right for the facts from here on, and so is where each task is sent to

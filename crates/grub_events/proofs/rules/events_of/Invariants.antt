@@ -1,5 +1,6 @@
 use Rattle.std.proofs.Common.{◌≡◌, ◌++◌, drop, length, replicate}
-use Rattle.grub_events.specs.Rules.{told_all, destinations_of}
+use Rattle.grub_events.specs.Rules.{told_all}
+use Rattle.grub_events.specs.inside.Rules.{destinations_of}
 use Rattle.grub_events.specs.declared.standing.Standing.TheVariants.{Unseen}
 use Rattle.grub_events.proofs.rules.events_of.Given as goal
 

@@ -1,0 +1,4 @@
+pub mod CommandLine
+pub mod Rounds
+pub mod Statuses
+pub mod Views
