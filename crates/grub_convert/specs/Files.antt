@@ -50,9 +50,6 @@ AreFiles options facts files =
     (setting : Setting) × IsSetting options facts setting
     × (files ≡ files_of setting (events_told facts) facts.runqueues)
 
-abbrev pub text_of : Bor (List ℕ) → List ℕ
-text_of name = name.now
-
 abbrev pub shown : Option (Option Found) → Bool
 shown None = false
 shown (Some None) = false

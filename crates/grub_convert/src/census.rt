@@ -3,7 +3,7 @@
 ghost use Rattle.std.specs.Prelude.{◌≡◌, ◌++◌, IfOk, OnOk};
 ghost use Rattle.std.specs.List.{flat_map};
 ghost use Rattle.grub_facts.specs.Census.{tally_text};
-ghost use Rattle.grub_convert.specs.Census.{cpus_behind, cpus_text, task_line};
+ghost use Rattle.grub_convert.specs.inside.Census.{cpus_behind, cpus_text, task_line};
 
 use grub_facts::Counted;
 use grub_trace::put_number;
