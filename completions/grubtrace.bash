@@ -25,7 +25,7 @@ _grubtrace() {
         help) words='tasks events check' ;;
         tasks) words='-h --help' ;;
         events) words='--task --cpus --rt --fair-server --out -h --help' ;;
-        check) words='--task --cpus --rt --fair-server --within -h --help' ;;
+        check) words='--task --cpus --rt --fair-server --within --picture -h --help' ;;
     esac
     if [[ $current == -* || -z ${command-} || $command == help ]]; then
         mapfile -t COMPREPLY < <(compgen -W "$words" -- "$current")

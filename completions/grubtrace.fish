@@ -13,3 +13,4 @@ complete -c grubtrace -n '__fish_seen_subcommand_from events check' -l rt -x -d 
 complete -c grubtrace -n '__fish_seen_subcommand_from events check' -l fair-server -x -a none -d 'What each runqueue reserves for fair tasks'
 complete -c grubtrace -n '__fish_seen_subcommand_from events' -l out -r -d 'Where to write the event files'
 complete -c grubtrace -n '__fish_seen_subcommand_from check' -l within -x -d 'How far a 0-lag moment may lie off, in microseconds'
+complete -c grubtrace -n '__fish_seen_subcommand_from check' -l picture -r -d 'A picture of the time line with the timers of the kernel'

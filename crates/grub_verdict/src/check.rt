@@ -5,8 +5,9 @@ ghost use Rattle.grub_verdict.specs.Checking.{IsSaid, Prints};
 
 use crate::case::Judged;
 use crate::checking::{CheckFault, Question, check_facts};
-use grub_convert::{Input, Options, STATUS_SYSTEM, TraceFault, explain, read_facts};
-use grub_facts::LineFault;
+use crate::picture::picture_facts;
+use grub_convert::{Input, Options, STATUS_SYSTEM, Target, TraceFault, explain, read_facts};
+use grub_facts::{Facts, LineFault};
 use std::alloc::Global;
 use std::io;
 use std::io::Write;
@@ -28,42 +29,86 @@ fn fault_of<'a>(path: &'a str, fault: CheckFault<'a>, own: Option<LineFault>) ->
     }
 }
 
-/// Whether the kernel accounts as the book does, by the trace of a name, and the text that tells it.
+/// Writes the picture that a question wants, over no file that is there.
+fn write_picture<'a, X: Fn(&str) -> bool, M: Fn(&str, &[u8]) -> io::Result<()>>(
+    alloc: Global,
+    target: &Target<X, M>,
+    question: Question<'a>,
+    options: &Options<'_>,
+    facts: &Facts,
+) -> Result<(), TraceFault<'a>>
+    requires exists { X.IsAlwaysCallable target.now.exists }
+    requires make { M.IsAlwaysCallable target.now.make }
+{
+    let Some(path) = question.picture else {
+        return Ok(());
+    };
+    let Ok(text) = picture_facts(alloc, options, facts, question.within) else {
+        return Err(TraceFault::NoText);
+    };
+    if (target.exists)(path) {
+        return match String::from_str(alloc, path) {
+            Ok(path) => Err(TraceFault::FileExists { path }),
+            Err(_) => Err(TraceFault::NoText),
+        };
+    }
+    match (target.make)(path, text.as_slice()) {
+        Ok(()) => Ok(()),
+        Err(_) => Err(TraceFault::Write),
+    }
+}
+
+/// Whether the kernel accounts as the book does, by the trace of a name, and the text that tells it. The picture that is
+/// wanted was written.
 fn read_verdict<
     'a,
     D: Drop,
     O: Fn(&str) -> io::Result<D>,
     N: Fn(&mut D, &mut [u8]) -> io::Result<usize>,
+    X: Fn(&str) -> bool,
+    M: Fn(&str, &[u8]) -> io::Result<()>,
 >(
     alloc: Global,
     input: &Input<O, N>,
+    target: &Target<X, M>,
     question: Question<'a>,
     options: &Options<'a>,
 ) -> Result<(bool, Vec<u8>), TraceFault<'a>>
     requires open { O.IsAlwaysCallable input.now.open }
     requires read { N.IsAlwaysCallable input.now.read }
+    requires exists { X.IsAlwaysCallable target.now.exists }
+    requires make { M.IsAlwaysCallable target.now.make }
     ensures { IfOk result (λ said. IsSaid question.entry options.now said.0 said.1.items) }
 {
     let mut facts = read_facts(alloc, input, question.path, options)?;
     match check_facts(alloc, question, options, &facts) {
-        Ok(Judged::Agrees(text)) => Ok((true, text)),
-        Ok(Judged::Differs(text)) => Ok((false, text)),
+        Ok(Judged::Agrees(text)) => {
+            write_picture(alloc, target, question, options, &facts)?;
+            Ok((true, text))
+        }
+        Ok(Judged::Differs(text)) => {
+            write_picture(alloc, target, question, options, &facts)?;
+            Ok((false, text))
+        }
         Ok(Judged::Overfull(_)) => Err(TraceFault::NoText),
         Err(fault) => Err(fault_of(question.path, fault, facts.fault.take())),
     }
 }
 
 /// Prints the verdict on the trace of a name, or the line of a fault, and gives the status: 0 where the kernel accounts as
-/// the book does, and 4 where it differs.
+/// the book does, and 4 where it differs. A picture that is wanted is written before that.
 pub fn serve_check<
     D: Drop,
     O: Fn(&str) -> io::Result<D>,
     N: Fn(&mut D, &mut [u8]) -> io::Result<usize>,
+    X: Fn(&str) -> bool,
+    M: Fn(&str, &[u8]) -> io::Result<()>,
     W: Write,
     E: Write,
 >(
     alloc: Global,
     input: &Input<O, N>,
+    target: &Target<X, M>,
     question: Question<'_>,
     options: &Options<'_>,
     out: &mut W,
@@ -71,13 +116,15 @@ pub fn serve_check<
 ) -> u8
     requires open { O.IsAlwaysCallable input.now.open }
     requires read { N.IsAlwaysCallable input.now.read }
+    requires exists { X.IsAlwaysCallable target.now.exists }
+    requires make { M.IsAlwaysCallable target.now.make }
     // 0 where the verdict that was printed says that it agrees, and 4 where it says that it differs.
     ensures agrees { result ≡ 0 → Prints question.entry options.now true (W.contents out.old) (W.contents out.new) }
     ensures differs { result ≡ 4 → Prints question.entry options.now false (W.contents out.old) (W.contents out.new) }
     // Where the trace is at fault, nothing was printed.
     ensures nothing { result ≡ 1 → out.new ≡ out.old }
 {
-    let (agrees, text) = match read_verdict(alloc, input, question, options) {
+    let (agrees, text) = match read_verdict(alloc, input, target, question, options) {
         Ok(said) => said,
         Err(fault) => {
             let _ = fault.tell(faults);

@@ -13,11 +13,16 @@ use grub_trace::{Plan, read_files};
 use grub_views::played_steps;
 use std::alloc::{AllocError, Global};
 
-/// What is checked: the trace of a name, and how far a 0-lag moment of the book may lie from the kernel's, in microseconds.
+/// What is checked: the trace of a name.
 #[derive(Clone, Copy)]
 pub struct Question<'a> {
     pub path: &'a str,
+
+    /// How far a 0-lag moment of the book may lie from the kernel's, in microseconds.
     pub within: u32,
+
+    /// The file for the picture, where one is wanted.
+    pub picture: Option<&'a str>,
 }
 
 /// Why there is no verdict on the facts of a trace.

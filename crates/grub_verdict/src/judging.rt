@@ -37,7 +37,7 @@ struct Answers {
 }
 
 /// The number of a name in the plan.
-fn number_in(plan: &Plan, name: &[u8]) -> Option<u32>
+pub fn number_in(plan: &Plan, name: &[u8]) -> Option<u32>
     ensures { result ≡ number_from 0 name.now plan.now.names }
 {
     for t in 0..plan.setup().task_count() {
@@ -84,6 +84,17 @@ fn answers_of(alloc: Global, case: &Case<'_>) -> Result<Answers, AllocError>
     Ok(answers)
 }
 
+/// The observations of a case. It is refused where the allocator refused.
+pub fn observations_of(alloc: Global, case: &Case<'_>) -> Result<Vec<Observation>, AllocError>
+    ensures { IfOk result (λ v. v.items ≡ observations case.now) }
+{
+    let Answers {
+        observations,
+        refusals: _,
+    } = answers_of(alloc, case)?;
+    Ok(observations)
+}
+
 fn is_wake(what: What) -> bool
     ensures { result ≡ is_wake what }
 {
@@ -102,7 +113,7 @@ fn first_wake(facts: &[Fact]) -> u64
     0
 }
 
-fn yardstick(case: &Case<'_>) -> Yardstick
+pub fn yardstick(case: &Case<'_>) -> Yardstick
     ensures { result ≡ yardstick case.now }
 {
     Yardstick {

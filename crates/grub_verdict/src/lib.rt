@@ -10,6 +10,7 @@ mod difference;
 mod heading;
 mod judging;
 mod observation;
+mod picture;
 mod refusal;
 mod sign;
 mod text;

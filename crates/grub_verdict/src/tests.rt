@@ -1,7 +1,7 @@
 //! Verdicts on small traces, worked out by hand.
 
 use crate::{Question, serve_check};
-use grub_convert::{Input, STATUS_USAGE, options_of};
+use grub_convert::{Input, STATUS_USAGE, Target, options_of};
 use std::alloc::{AllocError, Global};
 use std::io;
 use std::test::Fail;
@@ -37,11 +37,27 @@ fn check(
         open: |_path: &str| Ok(0usize),
         read: |at: &mut usize, room: &mut [u8]| read_text(text.as_bytes(), at, room),
     };
-    let question = Question { path: "t", within };
+    let target = Target {
+        exists: |_path: &str| true,
+        make: |_path: &str, _bytes: &[u8]| Ok(()),
+    };
+    let question = Question {
+        path: "t",
+        within,
+        picture: None,
+    };
     let mut out: Vec<u8> = Vec::new(alloc);
     let mut faults: Vec<u8> = Vec::new(alloc);
     let status = match options_of(alloc, tasks, None, "950000:1000000", fair)? {
-        Some(options) => serve_check(alloc, &input, question, &options, &mut out, &mut faults),
+        Some(options) => serve_check(
+            alloc,
+            &input,
+            &target,
+            question,
+            &options,
+            &mut out,
+            &mut faults,
+        ),
         None => STATUS_USAGE,
     };
     Ok(Checked {

@@ -5,6 +5,7 @@ ghost use Rattle.std.specs.Prelude.{◌<◌, length};
 use crate::bars::{Bar, bars_of, is_seen, postponed};
 use crate::book_steps::Step;
 use crate::frame::{CURVE, Frame, LEFT, height_of};
+use crate::mark::{Mark, put_marks};
 use grub_book::{Reading, State};
 use grub_trace::Plan;
 use std::alloc::{AllocError, Global};
@@ -17,6 +18,9 @@ pub struct Scene<'a> {
 
     /// The steps of each task.
     pub owns: &'a [Vec<Step>],
+
+    /// The marks in the lanes of tasks.
+    pub marks: &'a [Mark],
 
     pub frame: Frame,
 }
@@ -133,6 +137,7 @@ pub fn put_queue(
         if bars.iter().any(|bar| is_seen(bar, frame)) {
             put_lane(out, frame, r, plan.name(t), &bars, y)?;
             put_ticks(out, frame, r, plan.name(t), own, y)?;
+            put_marks(out, frame, scene.marks, (r, t), plan.name(t), y)?;
             y = y.saturating_add(LANE);
         }
     }

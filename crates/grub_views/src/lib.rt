@@ -8,6 +8,7 @@ mod fault;
 mod frame;
 mod laws;
 mod lines;
+mod mark;
 mod picture;
 mod rows;
 mod summary;
@@ -19,7 +20,8 @@ pub use book_steps::{Change, Step, played_steps};
 pub use fault::ViewFault;
 pub use laws::charged_is_at_most_executed;
 pub use lines::timeline_text;
-pub use picture::{end_of, picture_text};
+pub use mark::Mark;
+pub use picture::{end_of, marked_picture_text, picture_text};
 pub use rows::steps_text;
 pub use summary::summary_text;
 

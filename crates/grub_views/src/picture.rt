@@ -9,6 +9,7 @@ use crate::book_steps::{Step, replay};
 use crate::drawing::{Scene, put_axis, put_head, put_queue};
 use crate::fault::ViewFault;
 use crate::frame::Frame;
+use crate::mark::{Mark, put_legend};
 use crate::tally::steps_of_task;
 use grub_timeline::{TimeLine, Told};
 use grub_trace::Plan;
@@ -56,7 +57,24 @@ pub fn picture_text(
     requires span { from < to }
     ensures { IfOk result (λ v. vec_len v < 2 ^ 22) }
 {
-    text_of(alloc, plan, line, from, to).map_err(|_| ViewFault::NoMemory)
+    text_of(alloc, plan, line, from, to, &[]).map_err(|_| ViewFault::NoMemory)
+}
+
+/// The same picture, with marks in the lanes of the tasks.
+pub fn marked_picture_text(
+    alloc: Global,
+    plan: &Plan,
+    line: &TimeLine,
+    from: u32,
+    to: u32,
+    marks: &[Mark],
+) -> Result<Vec<u8>, ViewFault>
+    requires line { IsTimeLine plan.now line.now.told.items line.now.closing.items }
+    requires within { AreWithin plan.now.setup line.now.told.items }
+    requires span { from < to }
+    ensures { IfOk result (λ v. vec_len v < 2 ^ 22) }
+{
+    text_of(alloc, plan, line, from, to, marks).map_err(|_| ViewFault::NoMemory)
 }
 
 fn text_of(
@@ -65,6 +83,7 @@ fn text_of(
     line: &TimeLine,
     from: u32,
     to: u32,
+    marks: &[Mark],
 ) -> Result<Vec<u8>, AllocError>
     requires { AreToldIn plan.now.setup line.now.told.items }
     ensures { IfOk result (λ v. vec_len v < 2 ^ 22) }
@@ -76,6 +95,7 @@ fn text_of(
             plan,
             steps: &steps,
             owns: &owns,
+            marks,
             frame: Frame { from, to, unit },
         };
         let text = drawn(alloc, &scene)?;
@@ -104,6 +124,7 @@ fn drawn(alloc: Global, scene: &Scene) -> Result<String, AllocError> {
     }
     let mut text = String::new(alloc);
     put_head(&mut text, scene.frame, y)?;
+    put_legend(&mut text, scene.marks)?;
     put_axis(&mut text, scene.frame, y)?;
     text.push_str(body.as_str())?;
     text.push_str("</svg>\n")?;

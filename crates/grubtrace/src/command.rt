@@ -62,6 +62,13 @@ fn within_arg<'a>(alloc: Global) -> Arg<'a> {
         .default_value("100")
 }
 
+fn picture_arg<'a>(alloc: Global) -> Arg<'a> {
+    Arg::new(alloc, "picture")
+        .long("picture")
+        .value_name("FILE.svg")
+        .help("Writes a picture of the time line, with a mark at each 0-lag timer of the kernel")
+}
+
 fn tasks_command<'a>(alloc: Global) -> Result<Command<'a>, AllocError> {
     Command::new(alloc, "tasks")
         .about("Prints the SCHED_DEADLINE tasks that a trace shows")
@@ -90,6 +97,7 @@ fn check_command<'a>(alloc: Global) -> Result<Command<'a>, AllocError> {
         .arg(rt_arg(alloc))?
         .arg(fair_arg(alloc))?
         .arg(within_arg(alloc))?
+        .arg(picture_arg(alloc))?
         .arg(trace_arg(alloc))
 }
 

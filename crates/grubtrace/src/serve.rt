@@ -44,7 +44,7 @@ pub fn serve<
     match matches_of(alloc, words) {
         Ok(matches) => match matches.subcommand() {
             Some(("events", matches)) => events(alloc, matches, input, target, faults),
-            Some(("check", matches)) => check(alloc, matches, input, out, faults),
+            Some(("check", matches)) => check(alloc, matches, input, target, out, faults),
             Some((_, matches)) => {
                 let path = matches.get_str("TRACE").unwrap_or("");
                 serve_tasks(alloc, input, path, out, faults)
@@ -89,18 +89,30 @@ fn check<
     D: Drop,
     O: Fn(&str) -> io::Result<D>,
     N: Fn(&mut D, &mut [u8]) -> io::Result<usize>,
+    X: Fn(&str) -> bool,
+    M: Fn(&str, &[u8]) -> io::Result<()>,
     W: Write,
     E: Write,
->(alloc: Global, matches: &ArgMatches<'_>, input: &Input<O, N>, out: &mut W, faults: &mut E) -> u8
+>(
+    alloc: Global,
+    matches: &ArgMatches<'_>,
+    input: &Input<O, N>,
+    target: &Target<X, M>,
+    out: &mut W,
+    faults: &mut E,
+) -> u8
     requires open { O.IsAlwaysCallable input.now.open }
     requires read { N.IsAlwaysCallable input.now.read }
+    requires exists { X.IsAlwaysCallable target.now.exists }
+    requires make { M.IsAlwaysCallable target.now.make }
 {
     let question = Question {
         path: matches.get_str("TRACE").unwrap_or(""),
         within: matches.get_one::<u32>("within").unwrap_or(WITHIN),
+        picture: matches.get_str("picture"),
     };
     match options_in(alloc, matches) {
-        Ok(Some(options)) => serve_check(alloc, input, question, &options, out, faults),
+        Ok(Some(options)) => serve_check(alloc, input, target, question, &options, out, faults),
         Ok(None) => no_options(faults),
         Err(_) => no_memory(faults),
     }
