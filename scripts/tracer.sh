@@ -136,6 +136,15 @@ run 'no timers' 1 '' 'grubtrace: without: 53 NoTimers' check "${pair[@]}" withou
 run 'no room' 1 '' 'grubtrace: blocks:8: 57 Overfull a' check --task a=8000:10000 --task b=2000:10000 blocks
 run 'no room for the server of fair tasks' 1 '' 'grubtrace: blocks: 57 Overfull fair0' check "${pair[@]}" --fair-server 96:100 blocks
 
+# The picture beside a verdict has a mark for each of the two timers within its span, of another kind where it deviates.
+run 'a picture of what agrees' 0 'some text' '' check "${pair[@]}" --picture alike.svg blocks
+run 'a picture of what differs' 4 'some text' '' check --task a=900:10000 --task b=2000:10000 --picture unlike.svg blocks
+marks() { grep -c "<path class=\"$2\" .*<title>" "$1"; }
+drawn="$(marks alike.svg m) $(marks alike.svg x) $(marks unlike.svg m) $(marks unlike.svg x)"
+is_text out 'some text' && [[ $drawn == '2 0 1 1' ]] && passed=$((passed + 1)) || { failed=$((failed + 1)); echo "tracer: marks: $drawn"; }
+run 'a picture over a file' 1 '' 'grubtrace: alike.svg: 56 FileExists' check "${pair[@]}" --picture alike.svg blocks
+run 'a picture nowhere' 3 '' 'grubtrace: 45 WriteFault' check "${pair[@]}" --picture nowhere/a.svg blocks
+
 # How much of a long trace was read is said on a terminal alone.
 for _ in {1..1200}; do cat trace; done > long
 run 'a long trace' 0 'some text' '' tasks long
