@@ -1,10 +1,12 @@
 -- The table at the end.
-use Rattle.std.proofs.Common.{◌≡◌, ℕ, zero, suc, ◌<◌, ◌+◌, List, [], ◌∷◌, ◌++◌, length, map, get_or, refl, set, sym, ap, ◌∙◌, subst, arith, append_assoc, get_or-set_other, get_or-set_same, ⊎_elim, inl, inr, ◌≤◌}
+use Rattle.std.proofs.Common.{◌≡◌, ℕ, zero, suc, ◌<◌, ◌+◌, List, [], ◌∷◌, ◌++◌, length, map, get_or, refl, set, sym, ap, ◌∙◌, subst, arith, append_assoc, get_or-set_other, get_or-set_same, ⊎_elim, ◌≤◌}
 use mathlib.Core.Logic.{dite}
 use native.Mathlib.Decide.{ℕ_discrete}
 use mathlib.Core.List.{map-append}
 use mathlib.Core.Option.{some, some-injective, some-ne-none}
 use lib.ListN.{get_elem?}
+use Rattle.std.specs.List.{AllByRecursion, Any}
+use Rattle.std.proofs.lemmas.List.Elements.{All-from_recursion}
 use Rattle.atomic_table.specs.Table.{State}
 use Rattle.grub_book.specs.History.{calls_of}
 use Rattle.grub_book.specs.declared.event.Event.{Event}
@@ -17,26 +19,15 @@ use Rattle.grub_table.specs.declared.view.Mark.{Mark}
 use Rattle.grub_table.specs.declared.view.Share.{Share}
 use Rattle.grub_table.specs.declared.view.Terms.{Terms}
 use Rattle.grub_table.specs.declared.view.View.{View}
-use Rattle.grub_table.specs.Calls.{share_of, terms, IsPartOf, IsMarkPartOf, HasNumber, IsClosed}
-use Rattle.grub_table.specs.Histories.{Every, reading_in}
+use Rattle.grub_table.specs.Calls.{share_of, terms, number_of, IsPartOf, IsMarkPartOf, IsClosed}
+use Rattle.grub_table.specs.Histories.{reading_in}
 use Rattle.grub_table.specs.Layout.{queue_word_at}
 use Rattle.grub_table.specs.Marks.{marks_of}
 use Rattle.grub_table.specs.inside.Rule.{Stands, Kept}
 use Rattle.grub_table.specs.inside.Views.{ShareOf, MarkedBy}
-use Rattle.grub_table.proofs.Growths.{every_weaker}
+use Rattle.grub_table.proofs.Growths.{all_weaker}
 use Rattle.grub_table.proofs.Moves.{reading_fits}
 use Rattle.grub_table.proofs.Pigeons.{Among, all_there}
-
-every_start : {X : Type 0} (P : X → Type 0) (xs ys : List X) → Every P (xs ++ ys) → Every P xs
-every_start P [] ys a = tt
-every_start P (x ∷ xs) ys a = (a.0, every_start P xs ys a.1)
-
-every_last : {X : Type 0} (P : X → Type 0) (xs : List X) (y : X) → Every P (xs ++ y ∷ []) → P y
-every_last P [] y a = a.0
-every_last P (x ∷ xs) y a = every_last P xs y a.1
-
-pub every_popped : {X : Type 0} (P : X → Type 0) (old new : List X) (y : X) → old ≡ new ++ y ∷ [] → Every P old → Every P new × P y
-every_popped P old new y is a = let b = subst (Every P) is a in (every_start P new (y ∷ []) b, every_last P new y b)
 
 pub shares_popped : (old new : List Pass) (p : Pass) (ss : List Share) → old ≡ new ++ p ∷ [] → map share_of new ++ share_of p ∷ ss ≡ map share_of old ++ ss
 shares_popped old new p ss is = sym (append_assoc (map share_of new) (share_of p ∷ []) ss) ∙ ap (λ l. l ++ ss) (sym (map-append share_of new (p ∷ [])) ∙ ap (map share_of) (sym is))
@@ -45,17 +36,17 @@ pub shares_left : (xs ys : List Share) (ps : List Pass) → length ps ≡ 0 → 
 shares_left xs ys [] none is = is
 shares_left xs ys (p ∷ ps) none is = absurd (omega arith)
 
-parts : (T : Terms) (h : List Event) (ps : List Pass) → Every (ShareOf T h) (map share_of ps) → Every (IsPartOf h) ps
+parts : (T : Terms) (h : List Event) (ps : List Pass) → AllByRecursion (ShareOf T h) (map share_of ps) → AllByRecursion (IsPartOf h) ps
 parts T h [] a = tt
 parts T h (p ∷ ps) a = (record { starts = a.0.seen; own = subst (λ n. calls_of n h ≡ calls_of n (share_of p).seen) p.numbered a.0.own }, parts T h ps a.1)
 
-mark_parts : (ms : List Mark) (ps : List Pass) → Every (MarkedBy ms) (map share_of ps) → Every (IsMarkPartOf ms) ps
+mark_parts : (ms : List Mark) (ps : List Pass) → AllByRecursion (MarkedBy ms) (map share_of ps) → AllByRecursion (IsMarkPartOf ms) ps
 mark_parts ms [] a = tt
 mark_parts ms (p ∷ ps) a = (record { starts = a.0.starts; own = subst (λ n. marks_of n ms ≡ marks_of n (share_of p).marks) p.numbered a.0.own }, mark_parts ms ps a.1)
 
-has_number : (i : ℕ) (ps : List Pass) → Among i (map share_of ps) → HasNumber i ps
-has_number i [] a = a
-has_number i (p ∷ ps) a = ⊎_elim (λ is. inl (sym p.numbered ∙ is)) (λ t. inr (has_number i ps t)) a
+has_number : (i : ℕ) (ps : List Pass) → Among i (map share_of ps) → Any (λ p. number_of p ≡ i) ps
+has_number i [] a = absurd a
+has_number i (p ∷ ps) a = ⊎_elim (λ is. (0, p, omega arith, refl, sym p.numbered ∙ is)) (λ t. let k = has_number i ps t in (suc k.0, k.1, omega (arith, k.2), k.3, k.4)) a
 
 length_shares : (ps : List Pass) → length (map share_of ps) ≡ length ps
 length_shares [] = refl
@@ -93,10 +84,10 @@ module _ {S : Type 0} (self : Shared) (s : State S View) (id : ℕ) (v : View) (
       record {
         history = k.history;
         is_history = k.is_history;
-        parts = parts T k.history ps (subst (Every (ShareOf T k.history)) shares (every_weaker (Stands T k.history k.owner id) (ShareOf T k.history) (λ x t. t.0) v.shares mine.0));
+        parts = All-from_recursion (IsPartOf k.history) ps (parts T k.history ps (subst (AllByRecursion (ShareOf T k.history)) shares (all_weaker (Stands T k.history k.owner id) (ShareOf T k.history) (λ x t. t.0) v.shares mine.0)));
         marks = k.marks;
         lawful = k.lawful;
-        mark_parts = mark_parts k.marks ps (subst (Every (MarkedBy k.marks)) shares (k.marked id v at));
+        mark_parts = All-from_recursion (IsMarkPartOf k.marks) ps (mark_parts k.marks ps (subst (AllByRecursion (MarkedBy k.marks)) shares (k.marked id v at)));
         readings = record {
           one_each = room;
           value = λ r d lt.
@@ -104,7 +95,7 @@ module _ {S : Type 0} (self : Shared) (s : State S View) (id : ℕ) (v : View) (
               same_queue _ _ one.fits (reading_fits T k.history r k.limited k.is_history lt) (sym one.word ∙ ap (λ l. get_or l (queue_word_at r) 0) (sym same) ∙ k.written.queues r lt);
         };
         whole = λ i lt. has_number i ps (subst (Among i) shares (all_there T.passes v.shares mine.1
-            (every_weaker (Stands T k.history k.owner id) (λ (x : Share). x.number < T.passes) (λ x t. t.0.number) v.shares mine.0) (omega (arith, ap length shares, length_shares ps, all)) i lt));
+            (all_weaker (Stands T k.history k.owner id) (λ (x : Share). x.number < T.passes) (λ x t. t.0.number) v.shares mine.0) (omega (arith, ap length shares, length_shares ps, all)) i lt));
       }
 
 pub read_more : (readings : List Reading) (words : List ℕ) (r : ℕ) (now : Reading) → r < length readings → IsReadingOf words r now → ((k : ℕ) (d : Reading) → k < r → IsReadingOf words k (get_or readings k d))

@@ -1,30 +1,32 @@
 -- Histories that go on.
 use Rattle.std.proofs.Common.{◌≡◌, ℕ, ◌<◌, List, [], ◌∷◌, ◌++◌, refl, ap, ◌∙◌, subst, append_assoc}
+use Rattle.std.specs.List.{AllByRecursion}
+use Rattle.std.proofs.lemmas.List.Elements.{All-push}
 use Rattle.grub_book.specs.History.{IsTrueOf, book_of, calls_of, pass_of}
 use Rattle.grub_book.specs.declared.event.Event.{Event}
 use Rattle.grub_book.proofs.Histories.{legal_push, calls_own, starts_whole, starts_after, starts_more}
 use Rattle.grub_table.specs.declared.view.Share.{Share}
 use Rattle.grub_table.specs.declared.view.Terms.{Terms}
-use Rattle.grub_table.specs.Histories.{Every, IsHistory, Grows, Finishes}
+use Rattle.grub_table.specs.Histories.{IsHistory, Grows, Finishes}
 use Rattle.grub_table.specs.inside.Views.{ShareOf}
 
-pub every_append : {X : Type 0} (P : X → Type 0) (xs ys : List X) → Every P xs → Every P ys → Every P (xs ++ ys)
-every_append P [] ys a b = b
-every_append P (x ∷ xs) ys a b = (a.0, every_append P xs ys a.1 b)
+pub all_append : {X : Type 0} (P : X → Type 0) (xs ys : List X) → AllByRecursion P xs → AllByRecursion P ys → AllByRecursion P (xs ++ ys)
+all_append P [] ys a b = b
+all_append P (x ∷ xs) ys a b = (a.0, all_append P xs ys a.1 b)
 
-pub every_weaker : {X : Type 0} (P Q : X → Type 0) → ((x : X) → P x → Q x) → (xs : List X) → Every P xs → Every Q xs
-every_weaker P Q f [] a = tt
-every_weaker P Q f (x ∷ xs) a = (f x a.0, every_weaker P Q f xs a.1)
+pub all_weaker : {X : Type 0} (P Q : X → Type 0) → ((x : X) → P x → Q x) → (xs : List X) → AllByRecursion P xs → AllByRecursion Q xs
+all_weaker P Q f [] a = tt
+all_weaker P Q f (x ∷ xs) a = (f x a.0, all_weaker P Q f xs a.1)
 
-pub every_both : {X : Type 0} (P Q R : X → Type 0) → ((x : X) → P x → Q x → R x) → (xs : List X) → Every P xs → Every Q xs → Every R xs
-every_both P Q R f [] a b = tt
-every_both P Q R f (x ∷ xs) a b = (f x a.0 b.0, every_both P Q R f xs a.1 b.1)
+pub all_both : {X : Type 0} (P Q R : X → Type 0) → ((x : X) → P x → Q x → R x) → (xs : List X) → AllByRecursion P xs → AllByRecursion Q xs → AllByRecursion R xs
+all_both P Q R f [] a b = tt
+all_both P Q R f (x ∷ xs) a b = (f x a.0 b.0, all_both P Q R f xs a.1 b.1)
 
 -- one event more
 pub history_more : (T : Terms) (h : List Event) (e : Event) → IsHistory T h → IsTrueOf T.setup (book_of T.setup h) e → pass_of e < T.passes → IsHistory T (h ++ e ∷ [])
 history_more T h e is so below = record {
   legal = legal_push T.setup h e is.legal so;
-  numbers = every_append (λ (f : Event). pass_of f < T.passes) h (e ∷ []) is.numbers (below, tt);
+  numbers = All-push (λ (f : Event). pass_of f < T.passes) h e is.numbers below;
 }
 
 pub calls_mine : (i : ℕ) (h : List Event) (e : Event) → pass_of e ≡ i → calls_of i (h ++ e ∷ []) ≡ calls_of i h ++ e ∷ []

@@ -27,7 +27,7 @@ use Rattle.grub_table.specs.Histories.{IsHistory, record_in}
 use Rattle.grub_table.specs.inside.Views.{view, alone, nothing, without_first, only_first, both_of, holding, ShareOf, MarkedBy}
 use Rattle.grub_table.specs.inside.Tellings.{Looked, looks, compares}
 use Rattle.grub_table.specs.inside.Rule.{AreLimited, Stands, Known, Held, Grips, Grasps, Written, Kept, Marked, Since}
-use Rattle.grub_table.proofs.Growths.{every_weaker, history_more, finished}
+use Rattle.grub_table.proofs.Growths.{all_weaker, history_more, finished}
 use Rattle.grub_table.proofs.Seats.{known_event, moved, taken, known_split, known_join, held_own, each_own, each_split, each_join}
 
 pub since_more : (T : Terms) (h h' : List Event) (grips : Grips) → StartsWith h' h → Since T h grips → Since T h' grips
@@ -110,7 +110,7 @@ module _ {S : Type 0} where
             history = k.history;
             marks = k.marks;
             is_history = k.is_history;
-            known = every_weaker (Stands T k.history k.owner id) (ShareOf T k.history) (λ x t. t.0) me.0.shares (k.known id me.0 at).0;
+            known = all_weaker (Stands T k.history k.owner id) (ShareOf T k.history) (λ x t. t.0) me.0.shares (k.known id me.0 at).0;
             marked = k.marked id me.0 at;
           },
         ),

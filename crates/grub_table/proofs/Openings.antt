@@ -4,12 +4,15 @@ use mathlib.Core.Logic.{dite}
 use mathlib.Core.Option.{some, some-injective, some-ne-none}
 use native.Mathlib.Decide.{ℕ_discrete}
 use lib.ListN.{get_elem?}
-use Rattle.std.proofs.lemmas.List.{take_more, get_or-map}
+use Rattle.std.proofs.lemmas.List.{take_more, get_or-map, get_or_push, get_or_append_left, length_push}
+use Rattle.std.proofs.lemmas.List.Elements.{All-nil}
+use Rattle.std.specs.List.{AllByRecursion}
 use Rattle.atomic_table.specs.Table.{opening}
 use Rattle.grub_bw.specs.Server.{fresh_of}
 use Rattle.grub_book.specs.Machine.{Machine, task_at}
 use Rattle.grub_book.specs.Sums.{opening_record, opening_book, record_at}
 use Rattle.grub_book.specs.declared.place.Place.TheVariants.{Away}
+use Rattle.grub_book.specs.History.{pass_of}
 use Rattle.grub_book.proofs.Totals.{opening_totals}
 use Rattle.grub_words.specs.Words.{queue_word, server_word, params_word, task_word}
 use Rattle.grub_table.specs.declared.pass.Pass.{Pass}
@@ -20,13 +23,12 @@ use Rattle.grub_table.specs.declared.view.Terms.{Terms}
 use Rattle.grub_table.specs.declared.view.View.{View}
 use Rattle.grub_table.specs.Layout.{queue_word_at, task_word_at}
 use Rattle.grub_table.specs.inside.Layout.{word_count, server_word_at, params_word_at}
-use Rattle.grub_table.specs.Histories.{Every}
 use Rattle.grub_table.specs.Views.{share}
 use Rattle.grub_table.specs.inside.Views.{fresh, first_view, MarkedBy}
 use Rattle.grub_table.specs.inside.FirstWords.{AreOpeningWords}
 use Rattle.grub_table.specs.inside.Rule.{AreLimited, Stands, Apart, loose, Grasps, TaskShows, Written, Kept}
 use Rattle.grub_table.specs.Calls.{AreNew, IsNew}
-use Rattle.grub_table.proofs.Growths.{every_weaker}
+use Rattle.grub_table.proofs.Growths.{all_weaker}
 
 -- ---- copies
 -- one element more of a copy
@@ -74,23 +76,23 @@ opening_written T words w = record {
 }
 
 -- ---- the first view
-numbers_from : (T : Terms) (k n : ℕ) → Every (λ (x : Share). k ≤ x.number) (fresh T k n)
+numbers_from : (T : Terms) (k n : ℕ) → AllByRecursion (λ (x : Share). k ≤ x.number) (fresh T k n)
 numbers_from T k zero = tt
-numbers_from T k (suc n) = (omega arith, every_weaker (λ (x : Share). suc k ≤ x.number) (λ (x : Share). k ≤ x.number) (λ x le. omega arith) (fresh T (suc k) n) (numbers_from T (suc k) n))
+numbers_from T k (suc n) = (omega arith, all_weaker (λ (x : Share). suc k ≤ x.number) (λ (x : Share). k ≤ x.number) (λ x le. omega arith) (fresh T (suc k) n) (numbers_from T (suc k) n))
 
 fresh_apart : (T : Terms) (k n : ℕ) → Apart (fresh T k n)
 fresh_apart T k zero = tt
-fresh_apart T k (suc n) = (every_weaker (λ (x : Share). suc k ≤ x.number) (λ (x : Share). x.number ≢ k) (λ x le is. omega arith) (fresh T (suc k) n) (numbers_from T (suc k) n), fresh_apart T (suc k) n)
+fresh_apart T k (suc n) = (all_weaker (λ (x : Share). suc k ≤ x.number) (λ (x : Share). x.number ≢ k) (λ x le is. omega arith) (fresh T (suc k) n) (numbers_from T (suc k) n), fresh_apart T (suc k) n)
 
-fresh_stand : (T : Terms) (k n : ℕ) → k + n ≡ T.passes → Every (Stands T [] (λ _. 0) 0) (fresh T k n)
+fresh_stand : (T : Terms) (k n : ℕ) → k + n ≡ T.passes → AllByRecursion (Stands T [] (λ _. 0) 0) (fresh T k n)
 fresh_stand T k zero is = tt
 fresh_stand T k (suc n) is = ((record { terms = refl; number = omega arith; seen = ([], refl); own = refl }, refl), fresh_stand T (suc k) n (omega arith))
 
-fresh_free : (T : Terms) (k n : ℕ) → Every (λ (x : Share). Grasps T (λ _. loose) (opening_book T.setup) x.number x.hold) (fresh T k n)
+fresh_free : (T : Terms) (k n : ℕ) → AllByRecursion (λ (x : Share). Grasps T (λ _. loose) (opening_book T.setup) x.number x.hold) (fresh T k n)
 fresh_free T k zero = tt
 fresh_free T k (suc n) = ((λ u before stored is. cc), fresh_free T (suc k) n)
 
-fresh_unmarked : (T : Terms) (k n : ℕ) → Every (MarkedBy []) (fresh T k n)
+fresh_unmarked : (T : Terms) (k n : ℕ) → AllByRecursion (MarkedBy []) (fresh T k n)
 fresh_unmarked T k zero = tt
 fresh_unmarked T k (suc n) = (record { starts = ([], refl); own = refl }, fresh_unmarked T (suc k) n)
 
@@ -101,7 +103,7 @@ opens T words limited are = record {
   grips = λ _. loose;
   marks = [];
   limited = limited;
-  is_history = record { legal = tt; numbers = tt };
+  is_history = record { legal = tt; numbers = All-nil (λ e. pass_of e < T.passes) };
   known = λ id v e. (one id v e).0;
   held = λ id v e. (one id v e).1;
   written = opening_written T words are;
@@ -112,8 +114,8 @@ opens T words limited are = record {
 }
   where
     one : (id : ℕ) (v : View) → get_elem? (first_view T ∷ []) id ≡ some v
-        → (Every (Stands T [] (λ _. 0) id) v.shares × Apart v.shares) × Every (λ (x : Share). Grasps T (λ _. loose) (opening_book T.setup) x.number x.hold) v.shares × Every (MarkedBy []) v.shares
-    one zero v e = subst (λ (u : View). (Every (Stands T [] (λ _. 0) 0) u.shares × Apart u.shares) × Every (λ (x : Share). Grasps T (λ _. loose) (opening_book T.setup) x.number x.hold) u.shares × Every (MarkedBy []) u.shares)
+        → (AllByRecursion (Stands T [] (λ _. 0) id) v.shares × Apart v.shares) × AllByRecursion (λ (x : Share). Grasps T (λ _. loose) (opening_book T.setup) x.number x.hold) v.shares × AllByRecursion (MarkedBy []) v.shares
+    one zero v e = subst (λ (u : View). (AllByRecursion (Stands T [] (λ _. 0) 0) u.shares × Apart u.shares) × AllByRecursion (λ (x : Share). Grasps T (λ _. loose) (opening_book T.setup) x.number x.hold) u.shares × AllByRecursion (MarkedBy []) u.shares)
         (some-injective (first_view T) v e) ((fresh_stand T 0 T.passes (omega arith), fresh_apart T 0 T.passes), fresh_free T 0 T.passes, fresh_unmarked T 0 T.passes)
     one (suc id) v e = absurd (some-ne-none v (sym e))
 
@@ -125,6 +127,7 @@ pub fresh_next : (T : Terms) (k n : ℕ) → k < n → fresh T k (n - k) ≡ sha
 fresh_next T k n lt = let more : n - k ≡ suc (n - (k + 1)) = omega arith in let next : suc k ≡ k + 1 = omega arith in
     ap (fresh T k) more ∙ ap (λ m. share T k [] Free [] ∷ fresh T m (n - (k + 1))) next
 
-pub new_more : (s : Shared) (k : ℕ) (ps : List Pass) (p : Pass) → AreNew s k ps → IsNew s (k + length ps) p → AreNew s k (ps ++ p ∷ [])
-new_more s k [] p a b = (subst (λ n. IsNew s n p) (omega arith) b, tt)
-new_more s k (q ∷ ps) p a b = (a.0, new_more s (suc k) ps p a.1 (subst (λ n. IsNew s n p) (omega arith) b))
+pub new_more : (s : Shared) (ps : List Pass) (p : Pass) → AreNew s ps → IsNew s (length ps) p → AreNew s (ps ++ p ∷ [])
+new_more s ps p new one i d low = dite (ℕ_discrete i (length ps))
+    (λ last. subst (λ (k : ℕ × Pass). IsNew s k.0 k.1) (λ j. (sym last j, sym (get_or_push ps p d i (sym last)) j)) one)
+    (λ other. let before : i < length ps = omega (arith, low, other, length_push ps p) in subst (IsNew s i) (sym (get_or_append_left ps (p ∷ []) d i before)) (new i d before))

@@ -1,5 +1,6 @@
 -- What the calls of a table promise, in terms of its passes and claims.
-use Rattle.std.specs.Prelude.{Bool, true, false, IsTrue, ◌≡◌, ◌≢◌, ℕ, suc, ◌-◌, ◌<◌, ◌≤◌, List, [], ◌∷◌, ◌++◌, length, slice_index_or, ◌⊎◌, None, if◌then◌else◌}
+use Rattle.std.specs.Prelude.{Bool, true, false, IsTrue, ◌≡◌, ◌≢◌, ℕ, ◌-◌, ◌<◌, ◌≤◌, List, [], ◌∷◌, ◌++◌, length, slice_index_or, ◌⊎◌, None, if◌then◌else◌}
+use Rattle.std.specs.List.{All, Any}
 use Rattle.grub_book.specs.Machine.{Machine}
 use Rattle.grub_book.specs.Op.{IsOp}
 use Rattle.grub_book.specs.History.{calls_of, StartsWith, HasChanged}
@@ -33,7 +34,7 @@ use Rattle.grub_table.specs.declared.pass.CloseWhy.TheVariants.{Missing, NoMemor
 use Rattle.grub_table.specs.Marks.{AreLawful, MarksGo, marks_of}
 use Rattle.grub_table.specs.Accesses.{FinishesBriefly, lost_tries}
 use Rattle.grub_table.specs.Layout.{queue_word_at, shown}
-use Rattle.grub_table.specs.Histories.{Every, IsHistory, Grows, Finishes, WasBefore, record_in, reading_in}
+use Rattle.grub_table.specs.Histories.{IsHistory, Grows, Finishes, WasBefore, record_in, reading_in}
 use Rattle.grub_table.specs.Trails.{first_made}
 use Rattle.grub_table.specs.Views.{first_of}
 use Rattle.grub_table.specs.Tellings.{IsHeldByOther, WasClaimedWord}
@@ -112,23 +113,24 @@ pub record IsClaimOf (s : Shared) (c : Claim) : Type 0 where
   pub timely : early (claim_record c) (claim_op c) ≡ None
 
 -- ---- opening
--- new passes, from number k on, which have seen nothing
+-- a new pass of this number, which has seen nothing
 pub record IsNew (s : Shared) (k : ℕ) (p : Pass) : Type 0 where
   pub of : IsPassOf s p
   pub number : number_of p ≡ k
   pub seen : seen p ≡ []
   pub marks : marks p ≡ []
 
-abbrev pub AreNew : Shared → ℕ → List Pass → Type 0
-AreNew s k [] = Unit {0}
-AreNew s k (p ∷ ps) = IsNew s k p × AreNew s (suc k) ps
+-- new passes, in the order of their numbers
+abbrev pub AreNew : Shared → List Pass → Type 0
+AreNew s ps = (i : ℕ) (d : Pass) → i < length ps → IsNew s i (slice_index_or ps i d)
 
 -- a table and its passes, for these runqueues and tasks
 pub record IsOpened (s : Shared) (ps : List Pass) (machine : Machine) (n : ℕ) : Type 0 where
   pub setup : (terms s).setup ≡ machine
   pub passes : (terms s).passes ≡ n
   pub count : length ps ≡ n
-  pub new : AreNew s 0 ps
+  pub of : All (IsPassOf s) ps
+  pub new : AreNew s ps
 
 -- ---- meeting
 -- the same pass: it knows what it knew
@@ -159,11 +161,6 @@ pub record IsMarkPartOf (ms : List Mark) (p : Pass) : Type 0 where
   pub starts : StartsWith ms (marks p)
   pub own : marks_of (number_of p) ms ≡ marks_of (number_of p) (marks p)
 
--- one of the passes has this number
-abbrev pub HasNumber : ℕ → List Pass → Type 0
-HasNumber i [] = ⊥
-HasNumber i (p ∷ ps) = (number_of p ≡ i) ⊎ HasNumber i ps
-
 -- one reading for each runqueue, of the book after the history
 pub record AreReadings (T : Terms) (h : List Event) (readings : List Reading) : Type 0 where
   pub one_each : length readings ≡ length T.setup.queues
@@ -173,12 +170,12 @@ pub record AreReadings (T : Terms) (h : List Event) (readings : List Reading) : 
 pub record IsClosed (s : Shared) (ps : List Pass) (last : List Reading) : Type 0 where
   pub history : List Event
   pub is_history : IsHistory (terms s) history
-  pub parts : Every (IsPartOf history) ps
+  pub parts : All (IsPartOf history) ps
   pub marks : List Mark
   pub lawful : AreLawful (terms s).passes marks
-  pub mark_parts : Every (IsMarkPartOf marks) ps
+  pub mark_parts : All (IsMarkPartOf marks) ps
   pub readings : AreReadings (terms s) history last
-  pub whole : (i : ℕ) → i < (terms s).passes → HasNumber i ps
+  pub whole : (i : ℕ) → i < (terms s).passes → Any (λ p. number_of p ≡ i) ps
 
 abbrev pub IsReason : Shared → List Pass → CloseWhy → Type 0
 IsReason s ps (Missing n) = (length ps < (terms s).passes) × (n ≡ (terms s).passes - length ps)

@@ -1,5 +1,6 @@
 -- Histories of a table, and how they grow.
 use Rattle.std.specs.Prelude.{◌≡◌, ℕ, ◌<◌, List, [], ◌∷◌, ◌++◌}
+use Rattle.std.specs.List.{All}
 use Rattle.grub_book.specs.Sums.{record_at, reading_of}
 use Rattle.grub_book.specs.History.{IsLegal, book_of, calls_of, pass_of, StartsWith}
 use Rattle.grub_book.specs.declared.event.Event.{Event}
@@ -7,15 +8,10 @@ use Rattle.grub_book.specs.declared.event.Reading.{Reading}
 use Rattle.grub_book.specs.declared.place.Record.{Record}
 use Rattle.grub_table.specs.declared.view.Terms.{Terms}
 
--- P holds of each element
-abbrev pub Every : {X : Type 0} → (X → Type 0) → List X → Type 0
-Every P [] = Unit {0}
-Every P (x ∷ xs) = P x × Every P xs
-
 -- a history of the table: a one-thread book could have made it, and only passes of the table are in it
 pub record IsHistory (T : Terms) (h : List Event) : Type 0 where
   pub legal : IsLegal T.setup h
-  pub numbers : Every (λ e. pass_of e < T.passes) h
+  pub numbers : All (λ e. pass_of e < T.passes) h
 
 -- the record of a task, and the reading of a runqueue, in the book after a history
 abbrev pub record_in : Terms → List Event → ℕ → Record

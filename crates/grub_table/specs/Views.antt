@@ -1,7 +1,5 @@
 -- The views of seats: each is a list of shares, mostly of one pass's.
-use Rattle.std.specs.Prelude.{◌≡◌, ℕ, zero, suc, ◌<◌, List, [], ◌∷◌, ◌++◌}
-use Rattle.atomic_table.specs.Table.{Me}
-use Rattle.grub_book.specs.History.{calls_of, StartsWith}
+use Rattle.std.specs.Prelude.{ℕ, List, [], ◌∷◌}
 use Rattle.grub_book.specs.declared.event.Event.{Event}
 use Rattle.grub_table.specs.declared.view.Mark.{Mark}
 use Rattle.grub_table.specs.declared.view.Terms.{Terms}
@@ -9,8 +7,6 @@ use Rattle.grub_table.specs.declared.view.Share.{Share}
 use Rattle.grub_table.specs.declared.view.Hold.{Hold}
 use Rattle.grub_table.specs.declared.view.Hold.TheVariants.{Free}
 use Rattle.grub_table.specs.declared.view.View.{View}
-use Rattle.grub_table.specs.Marks.{marks_of}
-use Rattle.grub_table.specs.Histories.{Every, IsHistory}
 
 abbrev pub share : Terms → ℕ → List Event → Hold → List Mark → Share
 share T i seen hold marks = record { terms = T; number = i; seen = seen; hold = hold; marks = marks }

@@ -1,6 +1,6 @@
 //! A table is closed: its last readings.
 ghost use Rattle.std.specs.Prelude.{◌≡◌, ◌<◌, ◌≤◌, ◌+◌, IfOk, IfErr, OnOk, length};
-ghost use Rattle.grub_table.specs.Histories.{Every};
+ghost use Rattle.std.specs.List.{All};
 ghost use Rattle.grub_table.specs.Calls.{terms, IsPassOf, IsClosed, IsRefusal};
 
 use crate::pass::{CloseFault, CloseWhy, Pass, Shared};
@@ -12,7 +12,7 @@ impl Shared {
     /// The reading of each runqueue at the end, in order, in 1/2^20.
     /// `Missing` (26) is answered where passes of the table are not there, and `NoMemory` (42) where a growth was refused. Both give all back.
     pub fn close(self, alloc: Global, passes: Vec<Pass>) -> Result<Vec<Reading>, CloseFault>
-        requires { Every (IsPassOf self) passes.items }
+        requires { All (IsPassOf self) passes.items }
         ensures closed { IfOk result (λ readings. IsClosed self passes.items readings.items) }
         ensures all { OnOk result ((terms self).passes ≤ length passes.items) }
         ensures refused { IfErr result (λ f. IsRefusal self passes.items f) }
@@ -46,7 +46,7 @@ impl Shared {
 
     /// The last pass takes in all others, and the table ends with it.
     fn end(self, mut passes: Vec<Pass>, mut readings: Vec<Reading>) -> Vec<Reading>
-        requires of { Every (IsPassOf self) passes.items }
+        requires of { All (IsPassOf self) passes.items }
         requires all { (terms self).passes ≤ length passes.items }
         requires some { 0 < length passes.items }
         requires room { length readings.items ≡ length (terms self).setup.queues }

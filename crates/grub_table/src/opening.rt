@@ -77,7 +77,7 @@ fn dealt(
     requires of { seat.table_id ≡ shared.now.table.inner.shared.table_id }
     requires whole { seat.me ≡ (first_trail (terms shared.now), []) }
     ensures count { IfOk result (λ passes. length passes.items ≡ (terms shared.now).passes) }
-    ensures new { IfOk result (λ passes. AreNew shared.now 0 passes.items) }
+    ensures new { IfOk result (λ passes. AreNew shared.now passes.items) }
 {
     let mut passes = Vec::new(alloc);
     for number in 0..shared.terms.passes {

@@ -6,25 +6,25 @@ use Rattle.grub_book.specs.History.{calls_of}
 use Rattle.grub_table.specs.Marks.{marks_of}
 use Rattle.grub_table.specs.declared.pass.Pass.{Pass}
 use Rattle.grub_table.specs.declared.pass.Shared.{Shared}
-use Rattle.grub_table.specs.Calls.{marks, seen}
+use Rattle.grub_table.specs.Calls.{IsNew, marks, seen}
 use Rattle.grub_trace.specs.declared.entry.Entry.{Entry}
 use Rattle.grub_trace.specs.Texts.{IsAskOf}
 use Rattle.grub_workers.specs.declared.worker.Progress.{Progress}
 use Rattle.grub_workers.specs.inside.Evidence.{IsBacked}
 use Rattle.grub_asks.proofs.Kept.{kept_nothing}
-use Rattle.grub_workers.specs.inside.Working.{IsAtWork, IsFresh, IsToldBy, machine}
+use Rattle.grub_workers.specs.inside.Working.{IsAtWork, IsToldBy, machine}
 
-told_nothing : (s : Shared) (tries i : ℕ) (p : Pass) → IsFresh s i p → IsToldBy s tries i p []
+told_nothing : (s : Shared) (tries i : ℕ) (p : Pass) → IsNew s i p → IsToldBy s tries i p []
 told_nothing s tries i p fresh = record {
   of = fresh.of;
   number = fresh.number;
-  calls = ap (calls_of i) fresh.unseen;
-  own_marks = ap (marks_of i) fresh.unmarked;
+  calls = ap (calls_of i) fresh.seen;
+  own_marks = ap (marks_of i) fresh.marks;
   tasks = All-nil (λ (e : Entry). IsAskOf (length (machine s).tasks) e.ask);
   backed = All-nil (λ (e : Entry). IsBacked (machine s) tries i (seen p) (marks p) e.ask e.answer);
 }
 
-pub at_work_first : (s : Shared) (tries i : ℕ) (p : Pass) (w : Progress) → IsFresh s i p → w.entries.items ≡ [] → w.wheel.timers ≡ map.empty → IsAtWork s tries i p w
+pub at_work_first : (s : Shared) (tries i : ℕ) (p : Pass) (w : Progress) → IsNew s i p → w.entries.items ≡ [] → w.wheel.timers ≡ map.empty → IsAtWork s tries i p w
 at_work_first s tries i p w fresh none empty = record {
   told = subst (IsToldBy s tries i p) (sym none) (told_nothing s tries i p fresh);
   kept = kept_nothing (machine s) w.entries.items w.wheel.timers none empty;

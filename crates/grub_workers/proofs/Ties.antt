@@ -1,5 +1,5 @@
 -- What the closing of the table ties together: whose each event and each mark is.
-use Rattle.std.proofs.Common.{◌≡◌, ◌≢◌, ℕ, zero, suc, ◌+◌, ◌<◌, cond, Bool, true, false, IsTrue, ◌==◌, List, [], ◌∷◌, length, get_or, refl, sym, ap, ◌∙◌, subst, ⊎_elim, arith, eq-eqb, Some}
+use Rattle.std.proofs.Common.{◌≡◌, ◌≢◌, ℕ, ◌<◌, cond, Bool, true, false, IsTrue, ◌==◌, List, [], ◌∷◌, length, get_or, refl, sym, ap, ◌∙◌, subst, ⊎_elim, arith, eq-eqb, Some}
 use Rattle.std.specs.Prelude.{slice_get}
 use Rattle.std.specs.List.{All}
 use Rattle.std.proofs.lemmas.List.Elements.{All-nil, All-cons, All-weaker}
@@ -19,8 +19,7 @@ use Rattle.grub_table.specs.declared.view.Mark.TheVariants.{Taken, Given}
 use Rattle.grub_table.specs.declared.pass.Pass.{Pass}
 use Rattle.grub_table.specs.declared.pass.Shared.{Shared}
 use Rattle.grub_table.specs.Marks.{AreLawful, AreLawfulFrom, Holders, after_mark, nobody_holds, marker_of, marks_of}
-use Rattle.grub_table.specs.Histories.{Every}
-use Rattle.grub_table.specs.Calls.{AreNew, IsClosed, IsMarkPartOf, IsPartOf, IsPassOf, marks, seen, terms}
+use Rattle.grub_table.specs.Calls.{IsClosed, IsPassOf, marks, seen, terms}
 use Rattle.grub_trace.specs.declared.line.Line.{Line}
 use Rattle.grub_trace.specs.declared.entry.Ask.{Ask}
 use Rattle.grub_trace.specs.declared.entry.Ask.TheVariants.{Call, Read}
@@ -33,28 +32,15 @@ use Rattle.grub_asks.specs.Answers.{event_told, events_told}
 use Rattle.grub_workers.specs.Entries.{HeldTask, has_held}
 use Rattle.grub_workers.specs.inside.Entries.{mark_told, marks_told}
 use Rattle.grub_workers.specs.inside.Evidence.{AreBacked, CallsElse, IsBacked, ShowsHolder, TakesElse}
-use Rattle.grub_workers.specs.inside.Working.{IsFresh, machine}
+use Rattle.grub_workers.specs.inside.Working.{machine}
 use Rattle.grub_workers.specs.Handles.{script_at}
-use Rattle.grub_workers.specs.inside.Handles.{AllFresh, AllWorked}
+use Rattle.grub_workers.specs.inside.Handles.{AllWorked}
 use Rattle.grub_workers.specs.Runs.{HeldElsewhere, IsNotVain, IsReportOf, IsRun, entries_of}
 use Rattle.grub_workers.proofs.Finding.{Somewhere, any_of, found, somewhere_of, somewhere_filter, somewhere_flat, somewhere_weaker}
 use Rattle.grub_workers.proofs.Advancing.{all_backed_later}
 use Rattle.grub_workers.proofs.Steps.{some_of}
 
 -- ---- lists
-every_at : {X : Type 0} (P : X → Type 0) (xs : List X) (i : ℕ) (d : X) → i < length xs → Every P xs → P (get_or xs i d)
-every_at P [] i d low all = absurd (omega arith)
-every_at P (x ∷ xs) zero d low all = all.0
-every_at P (x ∷ xs) (suc i) d low all = every_at P xs i d (omega arith) all.1
-
-every_from : {X : Type 0} (P : X → Type 0) (xs : List X) → ((i : ℕ) (d : X) → i < length xs → P (get_or xs i d)) → Every P xs
-every_from P [] f = tt
-every_from P (x ∷ xs) f = (f 0 x (omega arith), every_from P xs (λ i d low. f (suc i) d (omega arith)))
-
-all_from_every : {X : Type 0} (P : X → Type 0) (xs : List X) → Every P xs → All P xs
-all_from_every P [] all = All-nil P
-all_from_every P (x ∷ xs) all = All-cons P x xs all.0 (all_from_every P xs all.1)
-
 markers_below : (n : ℕ) (g : Holders) (ms : List Mark) → AreLawfulFrom n g ms → All (λ m. marker_of m < n) ms
 markers_below n g [] lawful = All-nil (λ m. marker_of m < n)
 markers_below n g (Taken i t ∷ ms) lawful = All-cons (λ m. marker_of m < n) (Taken i t) ms lawful.0.0 (markers_below n (after_mark g (Taken i t)) ms lawful.1)
@@ -91,18 +77,9 @@ held_by_mark i j t u same (Call v o) answer a = go (has_held answer) refl a
     go true on k = ⊎_elim (λ (is : Taken i v ≡ Taken j u). (ap mark_task is ∙ same, on)) (λ l. ⊎_elim (λ (is : Given i v ≡ Taken j u). absurd (cc)) (λ z. absurd z) l) k
     go false off k = absurd k
 
--- ---- the new passes
-new_fresh : (s : Shared) (k : ℕ) (ps : List Pass) → AreNew s k ps → (i : ℕ) (d : Pass) → i < length ps → IsFresh s (k + i) (get_or ps i d)
-new_fresh s k [] new i d low = absurd (omega arith)
-new_fresh s k (p ∷ ps) new zero d low = record { of = new.0.of; number = new.0.number ∙ omega arith; unseen = new.0.seen; unmarked = new.0.marks }
-new_fresh s k (p ∷ ps) new (suc i) d low = let at : suc k + i ≡ k + suc i = omega arith in subst (λ n. IsFresh s n (get_or ps i d)) at (new_fresh s (suc k) ps new.1 i d (omega arith))
-
-pub all_fresh : (s : Shared) (ps : List Pass) (n : ℕ) → n ≡ length ps → AreNew s 0 ps → AllFresh s n ps
-all_fresh s ps n is new = λ i d low. let at : 0 + i ≡ i = omega arith in subst (λ k. IsFresh s k (get_or ps i d)) at (new_fresh s 0 ps new i d (omega (arith, is, low)))
-
 module _ (s : Shared) (tries : ℕ) (scripts : List (List Line)) (ps : List Pass) (rs : List Report) (all : AllWorked s tries scripts ps rs) where
-  pub all_of : Every (IsPassOf s) ps
-  all_of = every_from (IsPassOf s) ps (λ i d low. (all.each i d (some_of rs i (omega (arith, all.reports_len, all.passes_len, low))) (omega (arith, all.passes_len, low))).told.of)
+  pub all_of : All (IsPassOf s) ps
+  all_of = λ i d low. (all.each i d (some_of rs i (omega (arith, all.reports_len, all.passes_len, low))) (omega (arith, all.passes_len, low))).told.of
 
   module _ (last : List Reading) (closed : IsClosed s ps last) (many : (terms s).passes ≡ length scripts) where
     calls_at : (i : ℕ) (r : Report) → i < length scripts → calls_of i closed.history ≡ events_told i (entries_of (get_or rs i r))
@@ -110,7 +87,7 @@ module _ (s : Shared) (tries : ℕ) (scripts : List (List Line)) (ps : List Pass
         let there : i < length ps = omega (arith, all.passes_len, low) in
         let d : Pass = some_of ps i there in
         let w = (all.each i d r low).told in
-        let part = every_at (IsPartOf closed.history) ps i d there closed.parts in
+        let part = closed.parts i d there in
         subst (λ n. calls_of n closed.history ≡ calls_of n (seen (get_or ps i d))) w.number part.own ∙ w.calls
 
     marks_at : (i : ℕ) (r : Report) → i < length scripts → marks_of i closed.marks ≡ marks_told i (entries_of (get_or rs i r))
@@ -118,19 +95,19 @@ module _ (s : Shared) (tries : ℕ) (scripts : List (List Line)) (ps : List Pass
         let there : i < length ps = omega (arith, all.passes_len, low) in
         let d : Pass = some_of ps i there in
         let w = (all.each i d r low).told in
-        let part = every_at (IsMarkPartOf closed.marks) ps i d there closed.mark_parts in
+        let part = closed.mark_parts i d there in
         subst (λ n. marks_of n closed.marks ≡ marks_of n (marks (get_or ps i d))) w.number part.own ∙ w.own_marks
 
     backed_at : (i : ℕ) (r : Report) → i < length scripts → AreBacked (machine s) tries i closed.history closed.marks (entries_of (get_or rs i r))
     backed_at i r low =
         let there : i < length ps = omega (arith, all.passes_len, low) in
         let d : Pass = some_of ps i there in
-        let part = every_at (IsPartOf closed.history) ps i d there closed.parts in
-        let mark = every_at (IsMarkPartOf closed.marks) ps i d there closed.mark_parts in
+        let part = closed.parts i d there in
+        let mark = closed.mark_parts i d there in
         all_backed_later (machine s) tries i (seen (get_or ps i d)) closed.history (marks (get_or ps i d)) closed.marks (entries_of (get_or rs i r)) part.starts mark.starts (all.each i d r low).told.backed
 
     numbers_at : All (λ e. pass_of e < length scripts) closed.history
-    numbers_at = all_from_every (λ e. pass_of e < length scripts) closed.history (subst (λ n. Every (λ e. pass_of e < n) closed.history) many closed.is_history.numbers)
+    numbers_at = subst (λ n. All (λ e. pass_of e < n) closed.history) many closed.is_history.numbers
 
     -- the report of a worker that held the task
     held_in : (i j t : ℕ) → j ≢ i → j < length scripts → ((r : Report) → Somewhere (λ (e : Entry). HeldTask t e.ask e.answer) (entries_of (get_or rs j r))) → HeldElsewhere rs i t

@@ -1,21 +1,12 @@
 -- What one pass knows of the others where an ask was given up.
-use Rattle.std.specs.Prelude.{◌≡◌, ◌≢◌, ◌⊎◌, ◌≤◌, ℕ, IsTrue, true, None, List, [], ◌∷◌, ◌++◌}
-use Rattle.std.specs.List.{All, Any}
+use Rattle.std.specs.Prelude.{◌≡◌, ℕ, true, None, List}
 use Rattle.grub_book.specs.Machine.{Machine}
 use Rattle.grub_book.specs.Sums.{record_at}
-use Rattle.grub_book.specs.Step.{changes_sum, is_under_claim, refused, runqueue_of}
+use Rattle.grub_book.specs.Step.{changes_sum, refused, runqueue_of}
 use Rattle.grub_book.specs.History.{HasChanged, StartsWith, book_of, calls_of}
 use Rattle.grub_book.specs.declared.op.Op.{Op}
 use Rattle.grub_book.specs.declared.place.Record.{Record}
 use Rattle.grub_book.specs.declared.event.Event.{Event}
-use Rattle.grub_book.specs.declared.event.Event.TheVariants as events
-use Rattle.grub_table.specs.declared.view.Mark.{Mark}
-use Rattle.grub_table.specs.declared.view.Mark.TheVariants.{Taken, Given}
-use Rattle.grub_trace.specs.declared.entry.Ask.{Ask}
-use Rattle.grub_trace.specs.declared.entry.Ask.TheVariants.{Call, Read}
-use Rattle.grub_trace.specs.declared.entry.Answer.{Answer}
-use Rattle.grub_trace.specs.declared.entry.Answer.TheVariants.{Replied, Seen, Busy, Lost}
-use Rattle.grub_trace.specs.declared.entry.Entry.{Entry}
 
 -- The op of pass i was to change a sum, and others were first: at some point of the history the task's record x let it change a sum of its runqueue,
 -- and from an earlier point on, with no event of pass i between, the reading of that runqueue became another at least once for each try.

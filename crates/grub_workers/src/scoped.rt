@@ -1,9 +1,9 @@
 //! A thread for each file.
 ghost use Rattle.std.specs.Prelude.{◌≡◌, ℕ, ◌<◌, ◌≤◌, None, length, IfOk, vec_len, slice_index_or};
-ghost use Rattle.grub_table.specs.Calls.{terms};
+ghost use Rattle.grub_table.specs.Calls.{AreNew, IsNew, terms};
 ghost use Rattle.grub_trace.specs.Limits.{ScriptFits};
-ghost use Rattle.grub_workers.specs.inside.Working.{IsFresh, IsWorked};
-ghost use Rattle.grub_workers.specs.inside.Handles.{AllFit, AllFresh, AllWorked, Handle, HasRoom, IsOf};
+ghost use Rattle.grub_workers.specs.inside.Working.{IsWorked};
+ghost use Rattle.grub_workers.specs.inside.Handles.{AllFit, AllWorked, Handle, HasRoom, IsOf};
 
 use crate::desk::Desk;
 use crate::gate::Gate;
@@ -44,7 +44,7 @@ pub fn run_scoped<R: Threads + Wait, G: Gate>(
     gate: &G,
 ) -> Result<Done, RunFault>
     requires len { vec_len passes ≡ length plan.now.scripts }
-    requires fresh { AllFresh table.now (length plan.now.scripts) passes.items }
+    requires fresh { AreNew table.now passes.items }
     requires fits { AllFit table.now plan.now }
     requires rounds { 1 ≤ rounds }
     ensures { IfOk result (λ d. AllWorked table.now tries plan.now.scripts d.passes.items d.reports.items) }
@@ -57,7 +57,7 @@ pub fn run_scoped<R: Threads + Wait, G: Gate>(
         thread::scope_env(),
         rt,
         |scope| -> Result<Done, RunFault>
-            requires { (vec_len passes ≡ length plan.now.scripts) × AllFresh table.now (length plan.now.scripts) passes.items × AllFit table.now plan.now × HasRoom (length plan.now.scripts) done.passes done.reports × (1 ≤ rounds) }
+            requires { (vec_len passes ≡ length plan.now.scripts) × AreNew table.now passes.items × AllFit table.now plan.now × HasRoom (length plan.now.scripts) done.passes done.reports × (1 ≤ rounds) }
             ensures { IfOk result (λ d. AllWorked table.entry.now tries plan.entry.now.scripts d.passes.items d.reports.items) }
         {
             let started = start_all(scope, alloc, table, plan, passes, tries, rounds, gate);
@@ -78,7 +78,7 @@ fn start_all<'s, 'e, G: Gate>(
     gate: &'s G,
 ) -> Started<'s>
     requires len { vec_len passes ≡ length plan.now.scripts }
-    requires fresh { AllFresh table.now (length plan.now.scripts) passes.items }
+    requires fresh { AreNew table.now passes.items }
     requires fits { AllFit table.now plan.now }
     requires rounds { 1 ≤ rounds }
     ensures len { vec_len result.handles ≤ length plan.now.scripts }
@@ -105,7 +105,7 @@ fn start_all<'s, 'e, G: Gate>(
         let handle = scope.spawn_with(
             promise,
             move || -> Result<Worked, AllocError>
-                requires { IsFresh table.now number pass × ScriptFits (length (terms table.now).setup.tasks) 0 script.now × (number < length (terms table.now).setup.queues) × (1 ≤ rounds) }
+                requires { IsNew table.now number pass × ScriptFits (length (terms table.now).setup.tasks) 0 script.now × (number < length (terms table.now).setup.queues) × (1 ≤ rounds) }
                 ensures { IfOk result (λ w. IsWorked table.entry.now tries number script.entry.now w.pass w.report.entries.items) }
             {
                 let desk = Desk {

@@ -1,8 +1,8 @@
 //! The work of one thread, and what its join promises.
 ghost use Rattle.std.specs.Prelude.{◌≡◌, ◌<◌, ◌≤◌, IfOk, length};
-ghost use Rattle.grub_table.specs.Calls.{terms};
+ghost use Rattle.grub_table.specs.Calls.{IsNew, terms};
 ghost use Rattle.grub_trace.specs.Limits.{ScriptFits};
-ghost use Rattle.grub_workers.specs.inside.Working.{IsFresh, IsWorked};
+ghost use Rattle.grub_workers.specs.inside.Working.{IsWorked};
 
 use crate::desk::Desk;
 use crate::gate::Gate;
@@ -41,7 +41,7 @@ pub fn work_through<G: Gate>(
     script: &[Line],
     pass: Pass,
 ) -> Result<Worked, AllocError>
-    requires fresh { IsFresh desk.now.table.now desk.now.number pass }
+    requires fresh { IsNew desk.now.table.now desk.now.number pass }
     requires fits { ScriptFits (length (terms desk.now.table.now).setup.tasks) 0 script.now }
     requires queue { desk.now.number < length (terms desk.now.table.now).setup.queues }
     requires rounds { 1 ≤ desk.now.rounds }

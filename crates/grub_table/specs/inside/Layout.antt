@@ -1,8 +1,8 @@
 -- Where the server word and the parameter word of a task lie, and what they are.
-use Rattle.std.specs.Prelude.{ℕ, ◌+◌, ◌*◌, length, Bool}
+use Rattle.std.specs.Prelude.{ℕ, ◌+◌, ◌*◌, length}
 use Rattle.grub_book.specs.Machine.{Machine}
 use Rattle.grub_book.specs.declared.place.Record.{Record}
-use Rattle.grub_words.specs.Words.{task_word, server_word, params_word}
+use Rattle.grub_words.specs.Words.{server_word, params_word}
 use Rattle.grub_table.specs.declared.view.Stored.{Stored}
 use Rattle.grub_table.specs.Layout.{spacing, task_word_at}
 

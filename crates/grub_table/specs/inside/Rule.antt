@@ -2,6 +2,7 @@
 -- There is one history. What each pass has seen is a beginning of it, and it has of each pass just the calls that the pass made.
 -- Each runqueue's word is its reading in the book after that history, and a task's three words are its record, but for a task whose holder has decided and not stored yet.
 use Rattle.std.specs.Prelude.{◌≡◌, ◌≢◌, ℕ, ◌<◌, true, false, List, [], ◌∷◌, length, slice_index, Option, Some, None}
+use Rattle.std.specs.List.{AllByRecursion}
 use mathlib.Core.Option.{some}
 use lib.ListN.{get_elem?}
 use Rattle.atomic_table.specs.Table.{State}
@@ -21,7 +22,7 @@ use Rattle.grub_table.specs.declared.view.View.{View}
 use Rattle.grub_table.specs.Marks.{AreLawful, holder_of}
 use Rattle.grub_table.specs.Layout.{queue_word_at, task_word_at, shown}
 use Rattle.grub_table.specs.inside.Layout.{word_count, server_word_at, params_word_at, stored_of}
-use Rattle.grub_table.specs.Histories.{Every, IsHistory, record_in}
+use Rattle.grub_table.specs.Histories.{IsHistory, record_in}
 use Rattle.grub_table.specs.inside.Views.{ShareOf, MarkedBy}
 
 -- all numbers of a setup are within the limits
@@ -35,13 +36,13 @@ Stands T h owner id x = ShareOf T h x × (owner x.number ≡ id)
 -- no two have one number
 abbrev pub Apart : List Share → Type 0
 Apart [] = Unit {0}
-Apart (x ∷ xs) = Every (λ (y : Share). y.number ≢ x.number) xs × Apart xs
+Apart (x ∷ xs) = AllByRecursion (λ (y : Share). y.number ≢ x.number) xs × Apart xs
 
 abbrev pub EachView : (ℕ → List Share → Type 0) → List View → Type 0
 EachView P views = (id : ℕ) (v : View) → get_elem? views id ≡ some v → P id v.shares
 
 abbrev pub Known : Terms → List Event → (ℕ → ℕ) → List View → Type 0
-Known T h owner views = EachView (λ id xs. Every (Stands T h owner id) xs × Apart xs) views
+Known T h owner views = EachView (λ id xs. AllByRecursion (Stands T h owner id) xs × Apart xs) views
 
 -- whether a task is held: by which pass, the record that its task word shows, and its other words
 pub data Grip : Type 0 where
@@ -66,7 +67,7 @@ Grasps T grips book i (Undecided t op rec) = (t < length T.setup.tasks) × (grip
 Grasps T grips book i (Decided t before rec stored) = (t < length T.setup.tasks) × (grips t ≡ grip i before stored) × (record_at book t ≡ rec) × IsOnly grips i t
 
 abbrev pub Held : Terms → Grips → Records → List View → Type 0
-Held T grips book views = EachView (λ id xs. Every (λ (x : Share). Grasps T grips book x.number x.hold) xs) views
+Held T grips book views = EachView (λ id xs. AllByRecursion (λ (x : Share). Grasps T grips book x.number x.hold) xs) views
 
 pub record Written (T : Terms) (book : Records) (grips : Grips) (words : List ℕ) : Type 0 where
   pub long : length words ≡ word_count T.setup
@@ -80,7 +81,7 @@ holder_in loose = None
 holder_in (grip i before stored) = Some i
 
 abbrev pub Marked : List Mark → List View → Type 0
-Marked marks views = EachView (λ id xs. Every (MarkedBy marks) xs) views
+Marked marks views = EachView (λ id xs. AllByRecursion (MarkedBy marks) xs) views
 
 -- the record that a held task's word shows was the task's at some point
 abbrev pub Since : Terms → List Event → Grips → Type 0

@@ -3,11 +3,9 @@ use Rattle.std.specs.Prelude.{◌≡◌, ◌≢◌, ◌⊎◌, ℕ, ◌≤◌, B
 use mathlib.Core.Option.{Option as MOption, some, none}
 use Rattle.atomic_table.specs.Table.{Step}
 use Rattle.grub_book.specs.Machine.{queue_at}
-use Rattle.grub_book.specs.History.{StartsWith}
 use Rattle.grub_book.specs.Sound.{IsKept}
 use Rattle.grub_book.specs.Step.{early, refused, settled}
 use Rattle.grub_book.specs.Totals.{Counts}
-use Rattle.grub_book.specs.declared.event.Event.{Event}
 use Rattle.grub_book.specs.declared.event.Event.TheVariants.{Call, Look}
 use Rattle.grub_book.specs.declared.event.Reading.{Reading}
 use Rattle.grub_book.specs.declared.op.Op.{Op}
@@ -23,7 +21,7 @@ use Rattle.grub_table.specs.declared.view.Stored.{Stored}
 use Rattle.grub_table.specs.declared.view.Terms.{Terms}
 use Rattle.grub_table.specs.declared.view.Share.{Share}
 use Rattle.grub_table.specs.declared.view.Hold.TheVariants.{Free, Undecided, Decided}
-use Rattle.grub_table.specs.Marks.{MarksGo, holder_of}
+use Rattle.grub_table.specs.Marks.{MarksGo}
 use Rattle.grub_table.specs.Layout.{queue_word_at, shown}
 use Rattle.grub_table.specs.inside.Layout.{stored_of}
 use Rattle.grub_table.specs.Histories.{Grows, Finishes, WasBefore, record_in, reading_in}

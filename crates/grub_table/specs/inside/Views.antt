@@ -1,5 +1,6 @@
 -- What the passes of a seat know, and how this is cut and joined with it.
 use Rattle.std.specs.Prelude.{◌≡◌, ℕ, zero, suc, ◌<◌, List, [], ◌∷◌, ◌++◌}
+use Rattle.std.specs.List.{AllByRecursion}
 use Rattle.atomic_table.specs.Table.{Me}
 use Rattle.grub_book.specs.History.{calls_of, StartsWith}
 use Rattle.grub_book.specs.declared.event.Event.{Event}
@@ -10,7 +11,7 @@ use Rattle.grub_table.specs.declared.view.Hold.{Hold}
 use Rattle.grub_table.specs.declared.view.Hold.TheVariants.{Free}
 use Rattle.grub_table.specs.declared.view.View.{View}
 use Rattle.grub_table.specs.Marks.{marks_of}
-use Rattle.grub_table.specs.Histories.{Every, IsHistory}
+use Rattle.grub_table.specs.Histories.{IsHistory}
 use Rattle.grub_table.specs.Views.{share}
 
 abbrev pub view : List Share → View
@@ -73,8 +74,8 @@ pub record StandTogether (xs : List Share) : Type 0 where
   pub history : List Event
   pub marks : List Mark
   pub is_history : IsHistory terms history
-  pub known : Every (ShareOf terms history) xs
-  pub marked : Every (MarkedBy marks) xs
+  pub known : AllByRecursion (ShareOf terms history) xs
+  pub marked : AllByRecursion (MarkedBy marks) xs
 
 abbrev pub Sat : Type 0 → Type 0
 Sat S = Me S View

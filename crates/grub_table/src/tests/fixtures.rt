@@ -1,6 +1,6 @@
 //! Tables and calls for the tests.
 ghost use Rattle.std.specs.Prelude.{◌≡◌, ◌<◌, length};
-ghost use Rattle.grub_table.specs.Histories.{Every};
+ghost use Rattle.std.specs.List.{All};
 ghost use Rattle.grub_table.specs.Calls.{IsPassOf, IsClaimOf, IsRefusal};
 
 use crate::{Claim, CloseFault, Finished, Pass, Shared, Sighting, Started};
@@ -184,7 +184,7 @@ pub(crate) fn refuse(
     shared: Shared,
     passes: Vec<Pass>,
 ) -> CloseFault
-    requires { Every (IsPassOf shared) passes.items }
+    requires { All (IsPassOf shared) passes.items }
     ensures { IsRefusal shared passes.items result }
 {
     match shared.close(alloc, passes) {

@@ -1,7 +1,7 @@
 //! Memory that is refused.
 ghost use Rattle.std.specs.Prelude.{IfOk};
 ghost use Rattle.grub_table.specs.Calls.{IsPassOf};
-ghost use Rattle.grub_table.specs.Histories.{Every};
+ghost use Rattle.std.specs.List.{All};
 
 use crate::tests::fixtures::{A, ask_all, look};
 use crate::{CloseWhy, OpenFault, Pass, Shared};
@@ -26,15 +26,15 @@ fn many_setup(alloc: Global) -> Option<Setup> {
 }
 
 fn open_many(alloc: Global, setup: &Setup) -> Result<(Shared, Vec<Pass>), OpenFault>
-    ensures { IfOk result (λ r. Every (IsPassOf r.0) r.1.items) }
+    ensures { IfOk result (λ r. All (IsPassOf r.0) r.1.items) }
 {
     Shared::open(alloc, setup, MANY)
 }
 
 /// The last pass puts a task on the first runqueue.
 fn join_one(rt: &impl Abort, shared: &Shared, passes: &mut Vec<Pass>)
-    requires { Every (IsPassOf shared.now) passes.old.items }
-    ensures { Every (IsPassOf shared.now) passes.new.items }
+    requires { All (IsPassOf shared.now) passes.old.items }
+    ensures { All (IsPassOf shared.now) passes.new.items }
 {
     let Some(pass) = passes.pop() else {
         panic!(rt; "no pass")
@@ -48,8 +48,8 @@ fn join_one(rt: &impl Abort, shared: &Shared, passes: &mut Vec<Pass>)
 
 /// All passes are there, in order, and read as before the refusal.
 fn look_all(rt: &impl Abort, shared: &Shared, passes: &mut Vec<Pass>)
-    requires { Every (IsPassOf shared.now) passes.old.items }
-    ensures { Every (IsPassOf shared.now) passes.new.items }
+    requires { All (IsPassOf shared.now) passes.old.items }
+    ensures { All (IsPassOf shared.now) passes.new.items }
 {
     assert!(rt; passes.len() == MANY as usize);
     for i in 0..passes.len() {
@@ -60,7 +60,7 @@ fn look_all(rt: &impl Abort, shared: &Shared, passes: &mut Vec<Pass>)
 
 /// Closes with all passes. Where that is refused, they read as before, and a second close succeeds.
 fn close_twice(rt: &impl Abort, alloc: Global, shared: Shared, passes: Vec<Pass>) -> Vec<Reading>
-    requires { Every (IsPassOf shared) passes.items }
+    requires { All (IsPassOf shared) passes.items }
 {
     let fault = match shared.close(alloc, passes) {
         Ok(readings) => return readings,

@@ -1,13 +1,11 @@
 -- The takings and givings that an entry shows.
-use Rattle.std.specs.Prelude.{◌≡◌, ℕ, Bool, true, false, IsTrue, if◌then◌else◌, List, [], ◌∷◌}
+use Rattle.std.specs.Prelude.{ℕ, if◌then◌else◌, List, [], ◌∷◌}
 use Rattle.std.specs.List.{flat_map}
-use Rattle.grub_book.specs.Step.{is_under_claim}
 use Rattle.grub_table.specs.declared.view.Mark.{Mark}
 use Rattle.grub_table.specs.declared.view.Mark.TheVariants.{Taken, Given}
 use Rattle.grub_trace.specs.declared.entry.Ask.{Ask}
 use Rattle.grub_trace.specs.declared.entry.Ask.TheVariants.{Call, Read}
 use Rattle.grub_trace.specs.declared.entry.Answer.{Answer}
-use Rattle.grub_trace.specs.declared.entry.Answer.TheVariants.{Replied, Seen, Busy, Lost}
 use Rattle.grub_trace.specs.declared.entry.Entry.{Entry}
 use Rattle.grub_workers.specs.Entries.{has_held}
 

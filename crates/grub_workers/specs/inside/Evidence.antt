@@ -1,12 +1,8 @@
 -- What of the history and the marks stands behind an ask that was given up.
-use Rattle.std.specs.Prelude.{◌≡◌, ◌≢◌, ◌⊎◌, ◌≤◌, ℕ, IsTrue, true, None, List, [], ◌∷◌, ◌++◌}
+use Rattle.std.specs.Prelude.{◌≡◌, ◌≢◌, ◌⊎◌, ℕ, IsTrue, List}
 use Rattle.std.specs.List.{All, Any}
 use Rattle.grub_book.specs.Machine.{Machine}
-use Rattle.grub_book.specs.Sums.{record_at}
-use Rattle.grub_book.specs.Step.{changes_sum, is_under_claim, refused, runqueue_of}
-use Rattle.grub_book.specs.History.{HasChanged, StartsWith, book_of, calls_of}
-use Rattle.grub_book.specs.declared.op.Op.{Op}
-use Rattle.grub_book.specs.declared.place.Record.{Record}
+use Rattle.grub_book.specs.Step.{is_under_claim}
 use Rattle.grub_book.specs.declared.event.Event.{Event}
 use Rattle.grub_book.specs.declared.event.Event.TheVariants as events
 use Rattle.grub_table.specs.declared.view.Mark.{Mark}

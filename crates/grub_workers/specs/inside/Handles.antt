@@ -11,7 +11,7 @@ use Rattle.grub_trace.specs.declared.line.Line.{Line}
 use Rattle.grub_trace.specs.Plans.{PlanView}
 use Rattle.grub_workers.specs.declared.work.WorkOf.{WorkOf}
 use Rattle.grub_workers.specs.declared.work.Worked.{Worked}
-use Rattle.grub_workers.specs.inside.Working.{IsFresh, IsWorked}
+use Rattle.grub_workers.specs.inside.Working.{IsWorked}
 use Rattle.grub_workers.specs.Handles.{script_at}
 
 abbrev pub Handle : Type 0
@@ -28,10 +28,6 @@ pub record IsOf (s : Shared) (tries : ℕ) (scripts : List (List Line)) (i : ℕ
 pub record AllFit (s : Shared) (plan : PlanView) : Type 0 where
   pub setup : (terms s).setup ≡ plan.setup
   pub queues : length plan.scripts ≡ length plan.setup.queues
-
--- the passes are those of the workers, in order, and have done nothing
-abbrev pub AllFresh : Shared → ℕ → List Pass → Type 0
-AllFresh s n passes = (i : ℕ) (d : Pass) → i < n → IsFresh s i (slice_index_or passes i d)
 
 -- two empty lists that take n without growing
 pub record HasRoom {Z : Type 0} (n : ℕ) (passes : Vec Pass Z) (reports : Vec Report Z) : Type 0 where

@@ -1,5 +1,5 @@
 -- What a worker keeps between its asks, and promises at its end.
-use Rattle.std.specs.Prelude.{◌≡◌, ◌≤◌, ℕ, Some, List, [], ◌++◌}
+use Rattle.std.specs.Prelude.{◌≡◌, ◌≤◌, ℕ, Some, List, ◌++◌}
 use Rattle.grub_book.specs.Machine.{Machine}
 use Rattle.grub_book.specs.History.{StartsWith, calls_of}
 use Rattle.grub_book.specs.declared.event.Event.{Event}
@@ -35,13 +35,6 @@ pub record IsAsked (s : Shared) (tries : ℕ) (p : Pass) (ask : Ask) (q : Pass) 
   pub number : number_of q ≡ number_of p
   pub advances : Advances (number_of p) (seen p) (seen q) (marks p) (marks q) (event_told (number_of p) ask answer) (mark_told (number_of p) ask answer)
   pub backed : IsBacked (machine s) tries (number_of p) (seen q) (marks q) ask answer
-
--- a pass of this number that has done nothing
-pub record IsFresh (s : Shared) (i : ℕ) (p : Pass) : Type 0 where
-  pub of : IsPassOf s p
-  pub number : number_of p ≡ i
-  pub unseen : seen p ≡ []
-  pub unmarked : marks p ≡ []
 
 -- the pass made the calls and marks of the entries, and knows what stands behind each ask that was given up
 pub record IsToldBy (s : Shared) (tries i : ℕ) (p : Pass) (entries : List Entry) : Type 0 where

@@ -1,5 +1,7 @@
-use Rattle.std.proofs.Common.{◌+◌, [], ◌∷◌, ap, sym, subst, ◌∙◌, arith, length}
+use Rattle.std.proofs.Common.{◌+◌, [], ◌∷◌, ap, sym, subst, ◌∙◌, ◌<◌, arith, length}
 use Rattle.std.proofs.lemmas.List.{length_push}
+use Rattle.std.proofs.lemmas.List.Elements.{All-nil}
+use Rattle.grub_book.specs.History.{pass_of}
 use Rattle.grub_table.specs.declared.view.View.{View}
 use Rattle.grub_table.specs.Calls.{terms, AreNew}
 use Rattle.grub_table.specs.Histories.{IsHistory}
@@ -50,12 +52,12 @@ loop-number-preserved c =
       left = ap known c.split_seat-one.ensures.left ∙ (λ k. (without_first (whole k), (i.left k).1));
       each = ap (λ m. length m.0.made) c.split_seat-one.ensures.left ∙ length_tails _ _ i.each ∙ sym (ap (λ m. length m.0.view.shares) c.split_seat-one.ensures.left);
       count = ap length c.in_ok-push.ensures.items ∙ length_push _ _ ∙ ap (λ n. n + 1) i.count;
-      new = subst (AreNew s 0) (sym c.in_ok-push.ensures.items)
-          (new_more s 0 c.loop-number.passes.items _ i.new (record {
+      new = subst (AreNew s) (sym c.in_ok-push.ensures.items)
+          (new_more s c.loop-number.passes.items _ i.new (record {
             of = record {
               home = c.split_seat-one.ensures.other ∙ i.table;
               terms = ap (λ m. (first_of m.0).terms) one;
-              history = subst (IsHistory T) (sym no_event) (record { legal = tt; numbers = tt });
+              history = subst (IsHistory T) (sym no_event) (record { legal = tt; numbers = All-nil (λ e. pass_of e < T.passes) });
               lawful = subst (AreLawful T.passes) (sym no_mark) tt;
             };
             number = omega (arith, count);

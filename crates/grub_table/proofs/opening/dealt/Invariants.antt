@@ -10,5 +10,5 @@ invariant-loop-number l = record {
   left : known l.seat.me ≡ (view (fresh (terms l.shared) l.number ((terms l.shared).passes - l.number)), []);
   each : length l.seat.me.0.made ≡ length l.seat.me.0.view.shares;
   count : length l.passes.items ≡ l.number;
-  new : AreNew l.shared 0 l.passes.items;
+  new : AreNew l.shared l.passes.items;
 }

@@ -1,13 +1,11 @@
 use Rattle.std.proofs.Common.{length, sym, ap, refl, ◌∙◌}
-use Rattle.grub_workers.proofs.Ties.{all_fresh, all_of, run_of}
+use Rattle.grub_workers.proofs.Ties.{all_of, run_of}
 use Rattle.grub_workers.proofs.OneFile.{alone_of_run, charges_of_run, only_run, tasks_of_run}
 use Rattle.grub_workers.proofs.OwnReports.{answered_own, only_own, whole_own}
 use Rattle.grub_workers.proofs.outcome.run.Goals as goal
 
 pub run_scoped-requires-clause-fresh : goal.run_scoped-requires-clause-fresh
-run_scoped-requires-clause-fresh g c κs κ =
-    let o = c.in-Ok.ensures.opened in
-    all_fresh c.in-Ok.shared c.in-Ok.passes.items (length c.args.plan.now.scripts) (sym (o.count ∙ c.files.ensures.count)) o.new
+run_scoped-requires-clause-fresh g c κs κ = c.in-Ok.ensures.opened.new
 
 pub close-requires : goal.close-requires
 close-requires g c = all_of c.in-Ok.shared c.args.tries c.args.plan.now.scripts c.in_ok-done.done.passes.items c.in_ok-done.done.reports.items c.in_ok-done.ensures

@@ -1,7 +1,7 @@
 use Rattle.std.proofs.Common.{◌≡◌, ℕ, ◌+◌, [], vec_len, rules, arith, ap, sym, ◌∙◌}
 use Rattle.std.proofs.lemmas.Option.{get_or_from_slice_get}
 use Rattle.grub_table.specs.declared.pass.Pass.{Pass}
-use Rattle.grub_workers.specs.inside.Working.{IsFresh}
+use Rattle.grub_table.specs.Calls.{IsNew}
 use Rattle.grub_workers.specs.declared.work.WorkOf.{WorkOf}
 use Rattle.grub_workers.specs.Handles.{script_at}
 use Rattle.grub_workers.specs.inside.Handles.{Handle, IsOf}
@@ -14,9 +14,9 @@ loop-pass-preserved g c =
     let inv = c.loop-pass.invariant in let step = c.in-Some.ensures.steps in let done = vec_len c.loop-pass.handles in
     let pushed = c.push in let e = c.push.ensures in
     let scripts = c.args.plan.now.scripts in let s = c.args.table.now in
-    let Fresh : ℕ → Pass → Type 0 = λ i p. IsFresh s i p in
+    let Fresh : ℕ → Pass → Type 0 = λ i p. IsNew s i p in
     let Of : ℕ → Handle → Type 0 = λ i h. IsOf s c.args.tries scripts i h.promise in
-    let mine : IsFresh s done c.in-Some.pass = taken Fresh _ _ _ done step.0 (inv.3 0 c.in-Some.pass (omega (arith, step.1))) in
+    let mine : IsNew s done c.in-Some.pass = taken Fresh _ _ _ done step.0 (inv.3 0 c.in-Some.pass (omega (arith, step.1))) in
     let len : vec_len pushed.new.self ≡ done + 1 = search rules in
     let number = c.number-number.ensures ∙ mine.number in let promise = c.in-Ok-handle.ensures.ok in
     let script : c.script-script.result.now ≡ script_at scripts done = sym (get_or_from_slice_get scripts c.number-number.result c.script-script.result.now [] c.script-script.ensures.script) ∙ ap (script_at scripts) number in

@@ -1,6 +1,6 @@
 use Rattle.std.proofs.Common.{◌≡◌, ℕ, ◌+◌, ◌<◌, ◌≤◌, length, get_or, vec_items, vec_len, vec_capacity, None}
 use Rattle.std.specs.Vec.Iter.{into_iter_items, into_iter_len}
-use Rattle.grub_workers.specs.inside.Working.{IsFresh}
+use Rattle.grub_table.specs.Calls.{IsNew}
 use Rattle.grub_workers.specs.inside.Handles.{IsOf}
 use Rattle.grub_workers.proofs.scoped.start_all.Given as goal
 
@@ -11,5 +11,5 @@ invariant-loop-pass g l =
     (done + into_iter_len rest ≡ length l.plan.scripts)
     × (length l.plan.scripts ≤ vec_capacity l.handles)
     × (l.refusal ≡ None)
-    × ((k : ℕ) (d : _) → k < into_iter_len rest → IsFresh l.table (done + k) (get_or (into_iter_items rest) k d))
+    × ((k : ℕ) (d : _) → k < into_iter_len rest → IsNew l.table (done + k) (get_or (into_iter_items rest) k d))
     × ((k : ℕ) (d : _) → k < done → IsOf l.table l.tries l.plan.scripts k (get_or (vec_items l.handles) k d).promise)

@@ -1,14 +1,15 @@
-use Rattle.std.proofs.Common.{rules, ◌≡◌, ◌<◌, ◌++◌, [], length, map, ap, sym, ◌∙◌, arith, length-set, append-nil}
+use Rattle.std.proofs.Common.{rules, ◌≡◌, ◌<◌, ◌++◌, [], length, map, ap, sym, ◌∙◌, arith, length-set, append-nil, Some}
+use Rattle.std.proofs.lemmas.List.Elements.{All-pop}
 use Rattle.grub_table.specs.Calls.{IsPassOf, share_of}
 use Rattle.grub_table.specs.Layout.{queue_word_at}
 use Rattle.grub_table.proofs.Moves.{join_allowed}
-use Rattle.grub_table.proofs.Closings.{every_popped, shares_popped, shares_left, get_at, is_reading_of, read_more, word_fits, closes}
+use Rattle.grub_table.proofs.Closings.{shares_popped, shares_left, get_at, is_reading_of, read_more, word_fits, closes}
 use Rattle.grub_table.proofs.pass.Shared.end.Goals as goal
 
 pub loop-pass-init : goal.loop-pass-init
 loop-pass-init c =
     let p = c.in-Some.last in
-    let popped = every_popped (IsPassOf c.args.self) c.args.passes.items c.pop.new.self.items p c.in-Some.ensures.items c.requires.of in record {
+    let popped = All-pop (IsPassOf c.args.self) c.args.passes.items c.pop.new.self.items (Some p) c.in-Some.ensures.items c.requires.of in record {
       table = popped.1.home;
       empty = ap (λ m. m.1) p.single;
       of = popped.0;
@@ -21,8 +22,22 @@ join_seat-requires c =
     let i = c.loop-pass.invariant in
     let words = c.args.self.words in
     let some = c.args.self.limited.queues_some in
-    let popped = every_popped (IsPassOf c.args.self) c.loop-pass.passes.items c.pop-in-loop-pass.new.self.items p c.in-Some-pop.ensures.items i.of in
+    let popped = All-pop (IsPassOf c.args.self) c.loop-pass.passes.items c.pop-in-loop-pass.new.self.items (Some p) c.in-Some-pop.ensures.items i.of in
     (i.table, popped.1.home, ap (λ m. m.1) p.single, omega (arith, words, some), join_allowed _ _ _ _ _)
+
+pub loop-pass-preserved : goal.loop-pass-preserved
+loop-pass-preserved c =
+    let p = c.in-Some-pop.pass in
+    let i = c.loop-pass.invariant in
+    let rest = c.pop-in-loop-pass.new.self.items in
+    let popped = All-pop (IsPassOf c.args.self) c.loop-pass.passes.items rest (Some p) c.in-Some-pop.ensures.items i.of in
+    record {
+      table = c.join_seat.ensures.home ∙ i.table;
+      empty = ap (λ m. m.1) c.join_seat.ensures.both ∙ i.empty;
+      of = popped.0;
+      all = ap (λ m. map share_of rest ++ m.0.view.shares) c.join_seat.ensures.both ∙ ap (λ m. map share_of rest ++ (m.0.view.shares ++ c.loop-pass.seat.me.0.view.shares)) p.single
+          ∙ shares_popped c.loop-pass.passes.items rest p c.loop-pass.seat.me.0.view.shares c.in-Some-pop.ensures.items ∙ i.all;
+    }
 
 pub reading_in-requires : goal.reading_in-requires
 reading_in-requires c =

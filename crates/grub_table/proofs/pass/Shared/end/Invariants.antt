@@ -1,7 +1,7 @@
 use Rattle.std.proofs.Common.{◌≡◌, ℕ, ◌<◌, ◌++◌, [], length, map, get_or}
+use Rattle.std.specs.List.{All}
 use Rattle.grub_book.specs.declared.event.Reading.{Reading}
 use Rattle.grub_table.specs.Calls.{IsPassOf, share_of}
-use Rattle.grub_table.specs.Histories.{Every}
 use Rattle.grub_table.proofs.Closings.{IsReadingOf}
 use Rattle.grub_table.proofs.pass.Shared.end.Given as goal
 
@@ -9,7 +9,7 @@ abbrev pub invariant-loop-pass : goal.invariant-loop-pass
 invariant-loop-pass l = record {
   table : l.seat.table_id ≡ l.self.table.inner.shared.table_id;
   empty : l.seat.me.1 ≡ [];
-  of : Every (IsPassOf l.self) l.passes.items;
+  of : All (IsPassOf l.self) l.passes.items;
   all : map share_of l.passes.items ++ l.seat.me.0.view.shares ≡ map share_of l.fn.passes.items;
 }
 
