@@ -4,6 +4,7 @@
 mod closing;
 mod counted;
 mod finishing;
+mod laws;
 mod opening;
 mod pass;
 mod reading;
@@ -15,4 +16,5 @@ mod steps;
 mod tests;
 mod view;
 
+pub use laws::{closing_readings_are_sound, one_pass_makes_all};
 pub use pass::{Claim, CloseFault, CloseWhy, Finished, OpenFault, Pass, Shared, Sighting, Started};
