@@ -4,7 +4,7 @@ use Rattle.std.specs.Global.{Vec}
 use Rattle.std.proofs.lemmas.List.{drop_all}
 use Rattle.grub_trace.specs.declared.fault.Kind.TheVariants.{UnknownTask}
 use Rattle.grub_trace.specs.declared.line.Act.{Act}
-use Rattle.grub_trace.specs.declared.body.RawHappening.{RawHappening}
+use Rattle.grub_trace.specs.declared.raw.RawHappening.{RawHappening}
 use Rattle.grub_trace.specs.declared.raw.RawFile.{RawFile}
 use Rattle.grub_bw.specs.Bandwidth.{Capacity, Reservation}
 use Rattle.std.specs.Prelude.{string_bytes}
@@ -30,7 +30,7 @@ drop_rest xs i le = drop_all i xs le
 
 -- ---- a script
 
-pub script_next : (names : List (List ℕ)) (done : List Line) (n k i : ℕ) (ms : List RawHappening) (d : RawHappening) (a : Act) (total : Result (List Line) ℕ) → i < length ms → Some a ≡ act_in names (deed_view (get_or ms i d).deed) → k ≡ n + 1
+pub script_next : (names : List (List ℕ)) (done : List Line) (n k i : ℕ) (ms : List RawHappening) (d : RawHappening) (a : Act) (total : Result (List Line) ℕ) → i < length ms → Some a ≡ act_in names (deed_view (λ n. n) (get_or ms i d).deed) → k ≡ n + 1
     → script_from names done n (map happening_view (drop i ms)) ≡ total → script_from names (done ++ record { m = (get_or ms i d).at; act = a } ∷ []) k (map happening_view (drop (i + 1) ms)) ≡ total
 unfolding script_from
 script_next names done n k i ms d a total lt is next so_far =
@@ -38,7 +38,7 @@ script_next names done n k i ms d a total lt is next so_far =
     let m : script_from names done n (map happening_view (drop i ms)) ≡ script_from names (done ++ record { m = (get_or ms i d).at; act = a } ∷ []) (n + 1) (map happening_view (drop (i + 1) ms)) = rw (e, ← is) refl in
     rw next (sym m ∙ so_far)
 
-pub script_unknown : (names : List (List ℕ)) (done : List Line) (n i : ℕ) (ms : List RawHappening) (d : RawHappening) (total : Result (List Line) ℕ) → i < length ms → None ≡ act_in names (deed_view (get_or ms i d).deed)
+pub script_unknown : (names : List (List ℕ)) (done : List Line) (n i : ℕ) (ms : List RawHappening) (d : RawHappening) (total : Result (List Line) ℕ) → i < length ms → None ≡ act_in names (deed_view (λ n. n) (get_or ms i d).deed)
     → script_from names done n (map happening_view (drop i ms)) ≡ total → total ≡ Err n
 unfolding script_from
 script_unknown names done n i ms d total lt is so_far =

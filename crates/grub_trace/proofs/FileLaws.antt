@@ -13,7 +13,7 @@ use Rattle.grub_trace.specs.declared.version.Version.{Version}
 use Rattle.grub_trace.specs.declared.fault.Kind.{Kind}
 use Rattle.grub_trace.specs.declared.fault.Kind.TheVariants.{CutShort, BadHeader, MissingQueue, BadNumber, OutOfRange}
 use Rattle.grub_trace.specs.Tree.{Declaration, Tree, text, line, header, head_text, queue_words, declaration_words, happening_words, names_of}
-use Rattle.grub_trace.specs.Faults.{Form, queue, task, does_at, runs_at, retunes_at, reads_at, form_of, words_of, queue_fault, queue_form_fault, begins_with_queue, version_of, is_number, value, capacity_fits, capacity_value}
+use Rattle.grub_trace.specs.Faults.{Form, queue, task, at_moment, form_of, words_of, queue_fault, queue_form_fault, begins_with_queue, version_of, is_number, value, capacity_fits, capacity_value}
 use Rattle.grub_trace.specs.FirstFault.{parts_of, front_fault, LineFault, QueueFault, FileFault, IsTree}
 use Rattle.grub_trace.specs.inside.Tree.{declaration_line, happening_line}
 use Rattle.grub_trace.specs.inside.Reading.{Read, FileRead, read_file, read_first, read_as, read_second, file_from, opened, read_lines, read_queue, queue_of, unless, at_line, ◌>>=◌}
@@ -43,10 +43,7 @@ small_queue c is = (omega (arith, is.most_most), omega (arith, is.most_most, is.
 queue_form : (l : List ℕ) (o : Option Form) (q : Capacity) → form_of (words_of l) ≡ o → queue_form_fault o ≡ None → queue_of o ≡ q → IsQueueLine l q
 queue_form l None q is none e = absurd cc
 queue_form l (Some (task n r p)) q is none e = absurd cc
-queue_form l (Some (does_at m v n)) q is none e = absurd cc
-queue_form l (Some (runs_at m n d)) q is none e = absurd cc
-queue_form l (Some (retunes_at m n r p)) q is none e = absurd cc
-queue_form l (Some (reads_at m)) q is none e = absurd cc
+queue_form l (Some (at_moment m deed)) q is none e = absurd cc
 queue_form l (Some (queue a b)) q is none e =
     let x = none_if (list_all is_number (a ∷ b ∷ [])) BadNumber _ none in
     let y = none_if (capacity_fits (capacity_value a b)) OutOfRange _ x.1 in

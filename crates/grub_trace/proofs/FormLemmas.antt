@@ -11,8 +11,8 @@ use Rattle.grub_trace.specs.declared.version.Version.{Version}
 use Rattle.grub_trace.specs.declared.version.Version.TheVariants.{One, Two}
 use Rattle.grub_trace.specs.declared.form.Verb.{Verb}
 use Rattle.grub_trace.specs.declared.form.Verb.TheVariants.{Join, Wake, Block, Leave, Exit}
-use Rattle.grub_trace.specs.Tree.{verb_word, header, is_name}
-use Rattle.grub_trace.specs.Faults.{Form, queue, task, does_at, runs_at, retunes_at, reads_at, form_of, shape_of, is_filled, verb_of, version_of, is_number, value}
+use Rattle.grub_trace.specs.Tree.{does, runs, retunes, reads, verb_word, header, is_name}
+use Rattle.grub_trace.specs.Faults.{Form, queue, task, at_moment, form_of, shape_of, is_filled, verb_of, version_of, is_number, value}
 use Rattle.grub_trace.specs.inside.Faults.{is_named}
 use Rattle.grub_trace.proofs.NumberLemmas.{numerals}
 
@@ -23,10 +23,10 @@ both false b h = absurd cc
 abbrev pub form_words : Form → List (List ℕ)
 form_words (queue a b) = codes "queue" ∷ a ∷ b ∷ []
 form_words (task n q p) = codes "task" ∷ n ∷ q ∷ p ∷ []
-form_words (does_at m v n) = codes "at" ∷ m ∷ verb_word v ∷ n ∷ []
-form_words (runs_at m n d) = codes "at" ∷ m ∷ codes "run" ∷ n ∷ d ∷ []
-form_words (retunes_at m n q p) = codes "at" ∷ m ∷ codes "retune" ∷ n ∷ q ∷ p ∷ []
-form_words (reads_at m) = codes "at" ∷ m ∷ codes "read" ∷ []
+form_words (at_moment m (does v n)) = codes "at" ∷ m ∷ verb_word v ∷ n ∷ []
+form_words (at_moment m (runs n d)) = codes "at" ∷ m ∷ codes "run" ∷ n ∷ d ∷ []
+form_words (at_moment m (retunes n q p)) = codes "at" ∷ m ∷ codes "retune" ∷ n ∷ q ∷ p ∷ []
+form_words (at_moment m reads) = codes "at" ∷ m ∷ codes "read" ∷ []
 
 abbrev pub IsForm : List (List ℕ) → Form → Type 0
 IsForm ws f = (ws ≡ form_words f) × (is_named f ≡ true)
@@ -89,29 +89,29 @@ shape_is [] f e = absurd cc
 shape_is (k ∷ []) f e = absurd cc
 shape_is (k ∷ a ∷ []) f e = absurd cc
 shape_is (k ∷ a ∷ b ∷ []) f e =
-    elim (three (bytes_eq k (codes "queue")) (bytes_eq k (codes "at") && bytes_eq b (codes "read")) (queue a b) (reads_at a) f e) [
+    elim (three (bytes_eq k (codes "queue")) (bytes_eq k (codes "at") && bytes_eq b (codes "read")) (queue a b) (at_moment a reads) f e) [
       | inl h ↦ subst (IsForm (k ∷ a ∷ b ∷ [])) h.1 (ap (λ (w : List ℕ). w ∷ a ∷ b ∷ []) (text_is k (codes "queue") h.0), refl)
       | inr h ↦ let p = both (bytes_eq k (codes "at")) (bytes_eq b (codes "read")) h.0 in
           subst (IsForm (k ∷ a ∷ b ∷ [])) h.1
           (ap (λ (w : List ℕ). w ∷ a ∷ b ∷ []) (text_is k (codes "at") p.0) ∙ ap (λ (w : List ℕ). codes "at" ∷ a ∷ w ∷ []) (text_is b (codes "read") p.1), refl)
     ]
 shape_is (k ∷ a ∷ b ∷ c ∷ []) f e =
-    elim (four (bytes_eq k (codes "task") && is_name a) (bytes_eq k (codes "at") && is_name c) (task a b c) (option_map (λ v. does_at a v c) (verb_of b)) f e) [
+    elim (four (bytes_eq k (codes "task") && is_name a) (bytes_eq k (codes "at") && is_name c) (task a b c) (option_map (λ v. at_moment a (does v c)) (verb_of b)) f e) [
       | inl h ↦ let p = both (bytes_eq k (codes "task")) (is_name a) h.0 in
           subst (IsForm (k ∷ a ∷ b ∷ c ∷ [])) h.1 (ap (λ (w : List ℕ). w ∷ a ∷ b ∷ c ∷ []) (text_is k (codes "task") p.0), p.1)
       | inr h ↦ let p = both (bytes_eq k (codes "at")) (is_name c) h.0 in
-          let v = mapped (λ v. does_at a v c) (verb_of b) f h.1 in
+          let v = mapped (λ v. at_moment a (does v c)) (verb_of b) f h.1 in
           subst (IsForm (k ∷ a ∷ b ∷ c ∷ [])) v.2
           (ap (λ (w : List ℕ). w ∷ a ∷ b ∷ c ∷ []) (text_is k (codes "at") p.0) ∙ ap (λ (w : List ℕ). codes "at" ∷ a ∷ w ∷ c ∷ []) (verb_is b v.0 v.1), p.1)
     ]
 shape_is (k ∷ a ∷ b ∷ c ∷ d ∷ []) f e =
-    let h = five (bytes_eq k (codes "at") && bytes_eq b (codes "run") && is_name c) (runs_at a c d) f e in
+    let h = five (bytes_eq k (codes "at") && bytes_eq b (codes "run") && is_name c) (at_moment a (runs c d)) f e in
     let p = both (bytes_eq k (codes "at") && bytes_eq b (codes "run")) (is_name c) h.0 in
     let q = both (bytes_eq k (codes "at")) (bytes_eq b (codes "run")) p.0 in
     subst (IsForm (k ∷ a ∷ b ∷ c ∷ d ∷ [])) h.1
     (ap (λ (w : List ℕ). w ∷ a ∷ b ∷ c ∷ d ∷ []) (text_is k (codes "at") q.0) ∙ ap (λ (w : List ℕ). codes "at" ∷ a ∷ w ∷ c ∷ d ∷ []) (text_is b (codes "run") q.1), p.1)
 shape_is (k ∷ a ∷ b ∷ c ∷ d ∷ x ∷ []) f e =
-    let h = five (bytes_eq k (codes "at") && bytes_eq b (codes "retune") && is_name c) (retunes_at a c d x) f e in
+    let h = five (bytes_eq k (codes "at") && bytes_eq b (codes "retune") && is_name c) (at_moment a (retunes c d x)) f e in
     let p = both (bytes_eq k (codes "at") && bytes_eq b (codes "retune")) (is_name c) h.0 in
     let q = both (bytes_eq k (codes "at")) (bytes_eq b (codes "retune")) p.0 in
     subst (IsForm (k ∷ a ∷ b ∷ c ∷ d ∷ x ∷ [])) h.1

@@ -52,10 +52,10 @@ span_is d h = (grind (arith, nat_tests), grind (arith, nat_tests))
 moment_is : (m : ℕ) → is_moment m ≡ true → m < 2 ^ 31
 moment_is m h = grind (arith, nat_tests)
 
-deed_fits : (version : Version) (names : List (List ℕ)) (d : Deed) (a : Act) → IsDeed version d → act_in names d ≡ Some a → ActFits (length names) a
+deed_fits : (version : Version) (names : List (List ℕ)) (d : Deed ℕ) (a : Act) → IsDeed version d → act_in names d ≡ Some a → ActFits (length names) a
 deed_fits version names (does v n) a is e = let m = mapped (act_of v) (task_of names n) a e in subst (ActFits (length names)) m.2 (act_fits v (length names) m.0 (place_below names n m.0 m.1))
 deed_fits version names (runs n s) a is e = let m = mapped (λ t. act.Run t s) (task_of names n) a e in subst (ActFits (length names)) m.2 (let s = span_is s is.1 in (place_below names n m.0 m.1, s.0, s.1))
-deed_fits version names (retunes n p) a is e = let m = mapped (λ t. act.Retune t p.runtime p.period) (task_of names n) a e in subst (ActFits (length names)) m.2 (place_below names n m.0 m.1, is.1)
+deed_fits version names (retunes n q p) a is e = let m = mapped (λ t. act.Retune t q p) (task_of names n) a e in subst (ActFits (length names)) m.2 (place_below names n m.0 m.1, is.1)
 deed_fits version names reads a is e = let h : act.Read ≡ a = cc in subst (ActFits (length names)) h tt
 
 abbrev at_moment : Happening → Act → Line

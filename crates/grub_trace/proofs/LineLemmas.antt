@@ -16,7 +16,7 @@ use Rattle.std.proofs.lemmas.List.Sums.{count_by-le-length}
 use Rattle.grub_trace.specs.declared.fault.Halt.{Halt}
 use Rattle.grub_trace.specs.declared.fault.Halt.TheVariants as halt
 use Rattle.grub_trace.specs.Tree.{Declaration, does, runs, retunes, reads, names_of, is_moment, is_span, may_retune}
-use Rattle.grub_trace.specs.Faults.{Form, queue, task, does_at, runs_at, retunes_at, reads_at, words_of, form_of, form_fault, is_allowed, is_number, is_timely, version_of, reservation_fits, value, reservation_value}
+use Rattle.grub_trace.specs.Faults.{Form, queue, task, at_moment, words_of, form_of, form_fault, is_allowed, is_number, is_timely, version_of, reservation_fits, value, reservation_value}
 use Rattle.grub_trace.proofs.WordLemmas.{has_part}
 
 pub lines_step : (r : Read) (n : ℕ) (line rest : List ℕ) → read_lines r n (line ∷ parts_of rest) ≡ (at_line n (take_line r line) >>= λ s. read_lines s (n + 1) (parts_of rest))
@@ -60,10 +60,10 @@ taken r s line e = go (form_of (words_of line)) refl e
 adds_grows : (f : Form) (r : Read) → length r.declared ≤ length (adds f r).declared
 adds_grows (queue a b) r = omega arith
 adds_grows (task n q p) r = omega (arith, length_push r.declared (record { name = n; params = reservation_value q p }))
-adds_grows (does_at m v n) r = omega arith
-adds_grows (runs_at m n d) r = omega arith
-adds_grows (retunes_at m n q p) r = omega arith
-adds_grows (reads_at m) r = omega arith
+adds_grows (at_moment m (does v n)) r = omega arith
+adds_grows (at_moment m (runs n d)) r = omega arith
+adds_grows (at_moment m (retunes n q p)) r = omega arith
+adds_grows (at_moment m reads) r = omega arith
 
 pub bind_ok : {A B E : Type 0} (r : Result A E) (f : A → Result B E) (y : B) → (r >>= f) ≡ Ok y → (x : A) × (r ≡ Ok x) × (f x ≡ Ok y)
 bind_ok (Ok x) f y e = (x, refl, e)
@@ -133,10 +133,10 @@ second_view version ds text line rest q r k parts is h e = second_ok version ds 
 adds_one : (f : Form) (r : Read) (moments : List ℕ) → is_allowed r.version moments f ≡ true → length (adds f r).declared + length (adds f r).happenings ≡ length r.declared + length r.happenings + 1
 adds_one (queue a b) r moments h = absurd cc
 adds_one (task n q p) r moments h = omega (arith, length_push r.declared (record { name = n; params = reservation_value q p }))
-adds_one (does_at m v n) r moments h = omega (arith, length_push r.happenings (record { at = value m; deed = does v n }))
-adds_one (runs_at m n d) r moments h = omega (arith, length_push r.happenings (record { at = value m; deed = runs n (value d) }))
-adds_one (retunes_at m n q p) r moments h = omega (arith, length_push r.happenings (record { at = value m; deed = retunes n (reservation_value q p) }))
-adds_one (reads_at m) r moments h = omega (arith, length_push r.happenings (record { at = value m; deed = reads }))
+adds_one (at_moment m (does v n)) r moments h = omega (arith, length_push r.happenings (record { at = value m; deed = does v n }))
+adds_one (at_moment m (runs n d)) r moments h = omega (arith, length_push r.happenings (record { at = value m; deed = runs n (value d) }))
+adds_one (at_moment m (retunes n q p)) r moments h = omega (arith, length_push r.happenings (record { at = value m; deed = retunes n (value q) (value p) }))
+adds_one (at_moment m reads) r moments h = omega (arith, length_push r.happenings (record { at = value m; deed = reads }))
 
 pub none_if : (b : Bool) (k : Kind) (o : Option Kind) → cond (not b) (Some k) o ≡ None → (b ≡ true) × (o ≡ None)
 none_if true k o e = (refl, e)
@@ -180,20 +180,20 @@ all_three : (a b c : Bool) → (a && (b && (c && true))) ≡ (a && b && c)
 all_three true b c = all_two b c
 all_three false b c = refl
 
-pub run_stops : (e : Stop) (r : Read) (m n d : List ℕ) → IsRun (Err e) m d → Stops e (take_form r (runs_at m n d))
+pub run_stops : (e : Stop) (r : Read) (m n d : List ℕ) → IsRun (Err e) m d → Stops e (take_form r (at_moment m (runs n d)))
 run_stops stop.Memory r m n d h = tt
 run_stops (stop.Fault k) r m n d h =
-    let f = runs_at m n d in
+    let f = at_moment m (runs n d) in
     let late = cond (not (is_timely (times_of r.happenings) f)) (Some MomentGoesBack) None in
     let within = is_moment (value m) && is_span (value d) in
     let fault : form_fault r.version (names_of r.declared) (times_of r.happenings) f ≡ Some k =
     ap (λ (s : Bool). cond (not s) (Some BadNumber) (cond (not within) (Some OutOfRange) late)) (all_two (is_number m) (is_number d)) ∙ fault_from (is_number m && is_number d) within late k h in
     ap (λ (o : Option Kind). unless o (adds f r)) fault
 
-pub retune_stops : (e : Stop) (r : Read) (m n q p : List ℕ) → may_retune r.version ≡ true → IsRetune (Err e) m q p → Stops e (take_form r (retunes_at m n q p))
+pub retune_stops : (e : Stop) (r : Read) (m n q p : List ℕ) → may_retune r.version ≡ true → IsRetune (Err e) m q p → Stops e (take_form r (at_moment m (retunes n q p)))
 retune_stops stop.Memory r m n q p may h = tt
 retune_stops (stop.Fault k) r m n q p may h =
-    let f = retunes_at m n q p in
+    let f = at_moment m (retunes n q p) in
     let late = cond (not (is_timely (times_of r.happenings) f)) (Some MomentGoesBack) None in
     let within = is_moment (value m) && reservation_fits (reservation_value q p) in
     let fault : form_fault r.version (names_of r.declared) (times_of r.happenings) f ≡ Some k =

@@ -11,7 +11,7 @@ use Rattle.grub_trace.proofs.LimitTests.{reservation_is}
 use Rattle.grub_trace.specs.declared.version.Version.{Version}
 use Rattle.grub_trace.specs.declared.fault.Kind.TheVariants.{BadLine, BadNumber, OutOfRange, DuplicateTask, MomentGoesBack}
 use Rattle.grub_trace.specs.Tree.{Declaration, does, runs, retunes, reads, Happening, is_moment, is_span, names_of, verb_word}
-use Rattle.grub_trace.specs.Faults.{Form, queue, task, does_at, runs_at, retunes_at, reads_at, words_of, form_fault, is_number, value, task_of, last_of, is_allowed, is_in_range, is_fresh, is_timely, numbers_of, reservation_fits, reservation_value}
+use Rattle.grub_trace.specs.Faults.{Form, queue, task, at_moment, words_of, form_fault, is_number, value, task_of, last_of, is_allowed, is_in_range, is_fresh, is_timely, numbers_of, reservation_fits, reservation_value}
 use Rattle.grub_trace.specs.inside.Faults.{is_named}
 use Rattle.grub_trace.specs.inside.Reading.{Read, take_line, declares, says, adds, times_of}
 use Rattle.grub_trace.specs.Meaning.{IsHappeningFrom}
@@ -90,14 +90,14 @@ form_means r s line (task n q p) is name t e =
       first = sym (length-map r.happenings (λ m. m.at)) ∙ eqb-true _ _ t.allowed;
       added = e;
     })
-form_means r s line (does_at m v n) is name t e =
+form_means r s line (at_moment m (does v n)) is name t e =
     inr (record {
       happening = record { at = value m; deed = does v n };
       is = record { after = le_test _ _ t.timely; within = t.in_range; deed = name };
       spelled = is ∙ ap (λ (u : List ℕ). join_with_byte 32 (codes "at" ∷ u ∷ verb_word v ∷ n ∷ [])) (sym (number_is m (one m t.spelled) (small_moment (value m) t.in_range)));
       added = e;
     })
-form_means r s line (runs_at m n d) is name t e =
+form_means r s line (at_moment m (runs n d)) is name t e =
     let w = two m d t.spelled in
     let x = both (is_moment (value m)) (is_span (value d)) t.in_range in
     inr (record {
@@ -107,20 +107,20 @@ form_means r s line (runs_at m n d) is name t e =
           ∙ ap (λ (u : List ℕ). join_with_byte 32 (codes "at" ∷ decimal (value m) ∷ codes "run" ∷ n ∷ u ∷ [])) (sym (number_is d w.1 (small_span (value d) x.1)));
       added = e;
     })
-form_means r s line (retunes_at m n q p) is name t e =
+form_means r s line (at_moment m (retunes n q p)) is name t e =
     let w = three m q p t.spelled in
     let x = both (is_moment (value m)) (reservation_fits (reservation_value q p)) t.in_range in
     let fits = reservation_is (reservation_value q p) x.1 in
     let small = small_period (reservation_value q p) fits in
     inr (record {
-      happening = record { at = value m; deed = retunes n (reservation_value q p) };
+      happening = record { at = value m; deed = retunes n (value q) (value p) };
       is = record { after = le_test _ _ t.timely; within = x.0; deed = (name, fits, t.allowed) };
       spelled = is ∙ ap (λ (u : List ℕ). join_with_byte 32 (codes "at" ∷ u ∷ codes "retune" ∷ n ∷ q ∷ p ∷ [])) (sym (number_is m w.0 (small_moment (value m) x.0)))
           ∙ ap (λ (u : List ℕ). join_with_byte 32 (codes "at" ∷ decimal (value m) ∷ codes "retune" ∷ n ∷ u ∷ p ∷ [])) (sym (number_is q w.1 small.0))
           ∙ ap (λ (u : List ℕ). join_with_byte 32 (codes "at" ∷ decimal (value m) ∷ codes "retune" ∷ n ∷ decimal (value q) ∷ u ∷ [])) (sym (number_is p w.2 small.1));
       added = e;
     })
-form_means r s line (reads_at m) is name t e =
+form_means r s line (at_moment m reads) is name t e =
     inr (record {
       happening = record { at = value m; deed = reads };
       is = record { after = le_test _ _ t.timely; within = t.in_range; deed = tt };

@@ -9,7 +9,7 @@ use Rattle.std.proofs.lemmas.List.{length-map}
 use Rattle.std.proofs.lemmas.Bool.Decides.{nat_tests}
 use Rattle.std.proofs.lemmas.Bool.{lt-ltb, eqb-true}
 use Rattle.std.proofs.lemmas.Fmt.{digits_decimal, digits_value-decimal, decimal_nonempty, first_decimal, decimal_digit}
-use Rattle.grub_bw.specs.Bandwidth.{Capacity, IsCapacity}
+use Rattle.grub_bw.specs.Bandwidth.{Reservation, Capacity, IsCapacity}
 use Rattle.grub_trace.proofs.LimitTests.{reservation_test, capacity_test}
 use Rattle.grub_trace.specs.declared.version.Version.{Version}
 use Rattle.grub_trace.specs.declared.fault.Kind.{Kind}
@@ -17,7 +17,7 @@ use Rattle.grub_trace.specs.declared.fault.Kind.TheVariants.{MissingQueue}
 use Rattle.grub_trace.specs.declared.form.Verb.{Verb}
 use Rattle.grub_trace.specs.declared.form.Verb.TheVariants.{Join, Wake, Block, Leave, Exit}
 use Rattle.grub_trace.specs.Tree.{Declaration, Deed, does, runs, retunes, reads, Happening, queue_words, verb_word, is_name, is_name_byte, is_moment, names_of}
-use Rattle.grub_trace.specs.Faults.{Form, queue, task, does_at, runs_at, retunes_at, reads_at, words_of, form_of, is_filled, verb_of, form_fault, is_number, value, last_of, queue_fault, queue_form_fault, begins_with_queue, reservation_value, is_allowed, numbers_of, is_in_range, is_fresh, is_timely}
+use Rattle.grub_trace.specs.Faults.{Form, queue, task, at_moment, words_of, form_of, is_filled, verb_of, form_fault, is_number, value, last_of, queue_fault, queue_form_fault, begins_with_queue, reservation_value, is_allowed, numbers_of, is_in_range, is_fresh, is_timely}
 use Rattle.grub_trace.specs.inside.Reading.{Read, take_line, take_option, unless, adds, declares, says, times_of, read_queue, queue_of}
 use Rattle.grub_trace.specs.Meaning.{IsHappeningFrom, IsDeed}
 use Rattle.grub_trace.specs.FirstFault.{IsDeclaration}
@@ -174,7 +174,7 @@ decimal_filled n h = number_filled (decimal n) (number_again n h)
 task_form : (n q p : List ℕ) → is_name n ≡ true → is_filled q ≡ true → is_filled p ≡ true → form_of (codes "task" ∷ n ∷ q ∷ p ∷ []) ≡ Some (task n q p)
 task_form n q p h fq fp =
     form_again (codes "task" ∷ n ∷ q ∷ p ∷ []) (rw (name_filled n h, fq, fp) refl)
-    ∙ ap (λ (b : Bool). cond b (Some (task n q p)) (cond false (option_map (λ v. does_at n v p) (verb_of q)) None)) h
+    ∙ ap (λ (b : Bool). cond b (Some (task n q p)) (cond false (option_map (λ v. at_moment n (does v p)) (verb_of q)) None)) h
 
 verb_filled : (v : Verb) → is_filled (verb_word v) ≡ true
 verb_filled Join = refl
@@ -183,22 +183,22 @@ verb_filled Block = refl
 verb_filled Leave = refl
 verb_filled Exit = refl
 
-does_form : (m n : List ℕ) (v : Verb) → is_filled m ≡ true → is_name n ≡ true → form_of (codes "at" ∷ m ∷ verb_word v ∷ n ∷ []) ≡ Some (does_at m v n)
+does_form : (m n : List ℕ) (v : Verb) → is_filled m ≡ true → is_name n ≡ true → form_of (codes "at" ∷ m ∷ verb_word v ∷ n ∷ []) ≡ Some (at_moment m (does v n))
 does_form m n v fm h =
     form_again (codes "at" ∷ m ∷ verb_word v ∷ n ∷ []) (rw (fm, verb_filled v, name_filled n h) refl)
-    ∙ ap (λ (b : Bool). cond b (option_map (λ v. does_at m v n) (verb_of (verb_word v))) None) h ∙ ap (option_map (λ v. does_at m v n)) (verb_again v)
+    ∙ ap (λ (b : Bool). cond b (option_map (λ v. at_moment m (does v n)) (verb_of (verb_word v))) None) h ∙ ap (option_map (λ v. at_moment m (does v n))) (verb_again v)
 
-runs_form : (m n d : List ℕ) → is_filled m ≡ true → is_name n ≡ true → is_filled d ≡ true → form_of (codes "at" ∷ m ∷ codes "run" ∷ n ∷ d ∷ []) ≡ Some (runs_at m n d)
+runs_form : (m n d : List ℕ) → is_filled m ≡ true → is_name n ≡ true → is_filled d ≡ true → form_of (codes "at" ∷ m ∷ codes "run" ∷ n ∷ d ∷ []) ≡ Some (at_moment m (runs n d))
 runs_form m n d fm h fd =
     form_again (codes "at" ∷ m ∷ codes "run" ∷ n ∷ d ∷ []) (rw (fm, name_filled n h, fd) refl)
-    ∙ ap (λ (b : Bool). cond b (Some (runs_at m n d)) None) h
+    ∙ ap (λ (b : Bool). cond b (Some (at_moment m (runs n d))) None) h
 
-retunes_form : (m n q p : List ℕ) → is_filled m ≡ true → is_name n ≡ true → is_filled q ≡ true → is_filled p ≡ true → form_of (codes "at" ∷ m ∷ codes "retune" ∷ n ∷ q ∷ p ∷ []) ≡ Some (retunes_at m n q p)
+retunes_form : (m n q p : List ℕ) → is_filled m ≡ true → is_name n ≡ true → is_filled q ≡ true → is_filled p ≡ true → form_of (codes "at" ∷ m ∷ codes "retune" ∷ n ∷ q ∷ p ∷ []) ≡ Some (at_moment m (retunes n q p))
 retunes_form m n q p fm h fq fp =
     form_again (codes "at" ∷ m ∷ codes "retune" ∷ n ∷ q ∷ p ∷ []) (rw (fm, name_filled n h, fq, fp) refl)
-    ∙ ap (λ (b : Bool). cond b (Some (retunes_at m n q p)) None) h
+    ∙ ap (λ (b : Bool). cond b (Some (at_moment m (retunes n q p))) None) h
 
-reads_form : (m : List ℕ) → is_filled m ≡ true → form_of (codes "at" ∷ m ∷ codes "read" ∷ []) ≡ Some (reads_at m)
+reads_form : (m : List ℕ) → is_filled m ≡ true → form_of (codes "at" ∷ m ∷ codes "read" ∷ []) ≡ Some (at_moment m reads)
 reads_form m fm = form_again (codes "at" ∷ m ∷ codes "read" ∷ []) (rw fm refl)
 
 queue_form : (u x : List ℕ) → is_filled u ≡ true → is_filled x ≡ true → form_of (codes "queue" ∷ u ∷ x ∷ []) ≡ Some (queue u x)
@@ -217,10 +217,10 @@ declaration_again r d is first =
     ∙ ap (λ (q : ℕ). Ok (declares (record { name = d.name; params = record { runtime = q; period = value (decimal d.params.period) } }) r)) (value_again d.params.runtime small.0)
     ∙ ap (λ (p : ℕ). Ok (declares (record { name = d.name; params = record { runtime = d.params.runtime; period = p } }) r)) (value_again d.params.period small.1)
 
-happening_form : (r : Read) (at : ℕ) (deed : Deed) → last_of (times_of r.happenings) ≤ at → is_moment at ≡ true → IsDeed r.version deed → take_line r (happening_line (record { at = at; deed = deed })) ≡ Ok (says at deed r)
+happening_form : (r : Read) (at : ℕ) (deed : Deed ℕ) → last_of (times_of r.happenings) ≤ at → is_moment at ≡ true → IsDeed r.version deed → take_line r (happening_line (record { at = at; deed = deed })) ≡ Ok (says at deed r)
 happening_form r at (does v n) after within is =
     let small = small_moment at within in
-    let f : Form = does_at (decimal at) v n in
+    let f : Form = at_moment (decimal at) (does v n) in
     let words = words_again (codes "at") (decimal at ∷ verb_word v ∷ n ∷ []) keyword_at (decimal_plain at small, (verb_plain v, (name_plain n is, tt))) in
     taken_form r (happening_line (record { at = at; deed = does v n })) f (ap form_of words ∙ does_form (decimal at) n v (decimal_filled at small) is)
     (no_fault r.version (names_of r.declared) (times_of r.happenings) f refl (one_number at small) (rw (value_again at small) within) refl (rw (value_again at small) (le_true (last_of (times_of r.happenings)) at after)))
@@ -228,29 +228,30 @@ happening_form r at (does v n) after within is =
 happening_form r at (runs n d) after within is =
     let small = small_moment at within in
     let short = small_span d is.1 in
-    let f : Form = runs_at (decimal at) n (decimal d) in
+    let f : Form = at_moment (decimal at) (runs n (decimal d)) in
     let words = words_again (codes "at") (decimal at ∷ codes "run" ∷ n ∷ decimal d ∷ []) keyword_at (decimal_plain at small, (keyword_run, (name_plain n is.0, (decimal_plain d short, tt)))) in
     let range : is_in_range (length (names_of r.declared)) f ≡ true = rw (value_again at small, value_again d short, within) is.1 in
     taken_form r (happening_line (record { at = at; deed = runs n d })) f (ap form_of words ∙ runs_form (decimal at) n (decimal d) (decimal_filled at small) is.0 (decimal_filled d short))
     (no_fault r.version (names_of r.declared) (times_of r.happenings) f refl (both_numbers at d small short) range refl (rw (value_again at small) (le_true (last_of (times_of r.happenings)) at after)))
     ∙ ap (λ (m : ℕ). Ok (says m (runs n (value (decimal d))) r)) (value_again at small)
     ∙ ap (λ (s : ℕ). Ok (says at (runs n s) r)) (value_again d short)
-happening_form r at (retunes n p) after within is =
+happening_form r at (retunes n x y) after within is =
+    let p : Reservation = record { runtime = x; period = y } in
     let small = small_moment at within in
     let fits = small_period p is.1 in
-    let q = decimal p.runtime in
-    let d = decimal p.period in
-    let f : Form = retunes_at (decimal at) n q d in
-    let words = words_again (codes "at") (decimal at ∷ codes "retune" ∷ n ∷ q ∷ d ∷ []) keyword_at (decimal_plain at small, (keyword_retune, (name_plain n is.0, (decimal_plain p.runtime fits.0, (decimal_plain p.period fits.1, tt))))) in
-    let range : is_in_range (length (names_of r.declared)) f ≡ true = rw (value_again at small, value_again p.runtime fits.0, value_again p.period fits.1, within) (reservation_test p is.1) in
-    taken_form r (happening_line (record { at = at; deed = retunes n p })) f (ap form_of words ∙ retunes_form (decimal at) n q d (decimal_filled at small) is.0 (decimal_filled p.runtime fits.0) (decimal_filled p.period fits.1))
-    (no_fault r.version (names_of r.declared) (times_of r.happenings) f is.2 (three_numbers at p.runtime p.period small fits.0 fits.1) range refl (rw (value_again at small) (le_true (last_of (times_of r.happenings)) at after)))
-    ∙ ap (λ (m : ℕ). Ok (says m (retunes n (reservation_value q d)) r)) (value_again at small)
-    ∙ ap (λ (u : ℕ). Ok (says at (retunes n (record { runtime = u; period = value d })) r)) (value_again p.runtime fits.0)
-    ∙ ap (λ (u : ℕ). Ok (says at (retunes n (record { runtime = p.runtime; period = u })) r)) (value_again p.period fits.1)
+    let q = decimal x in
+    let d = decimal y in
+    let f : Form = at_moment (decimal at) (retunes n q d) in
+    let words = words_again (codes "at") (decimal at ∷ codes "retune" ∷ n ∷ q ∷ d ∷ []) keyword_at (decimal_plain at small, (keyword_retune, (name_plain n is.0, (decimal_plain x fits.0, (decimal_plain y fits.1, tt))))) in
+    let range : is_in_range (length (names_of r.declared)) f ≡ true = rw (value_again at small, value_again x fits.0, value_again y fits.1, within) (reservation_test p is.1) in
+    taken_form r (happening_line (record { at = at; deed = retunes n x y })) f (ap form_of words ∙ retunes_form (decimal at) n q d (decimal_filled at small) is.0 (decimal_filled x fits.0) (decimal_filled y fits.1))
+    (no_fault r.version (names_of r.declared) (times_of r.happenings) f is.2 (three_numbers at x y small fits.0 fits.1) range refl (rw (value_again at small) (le_true (last_of (times_of r.happenings)) at after)))
+    ∙ ap (λ (m : ℕ). Ok (says m (retunes n (value q) (value d)) r)) (value_again at small)
+    ∙ ap (λ (u : ℕ). Ok (says at (retunes n u (value d)) r)) (value_again x fits.0)
+    ∙ ap (λ (u : ℕ). Ok (says at (retunes n x u) r)) (value_again y fits.1)
 happening_form r at reads after within is =
     let small = small_moment at within in
-    let f : Form = reads_at (decimal at) in
+    let f : Form = at_moment (decimal at) reads in
     let words = words_again (codes "at") (decimal at ∷ codes "read" ∷ []) keyword_at (decimal_plain at small, (keyword_read, tt)) in
     taken_form r (happening_line (record { at = at; deed = reads })) f (ap form_of words ∙ reads_form (decimal at) (decimal_filled at small))
     (no_fault r.version (names_of r.declared) (times_of r.happenings) f refl (one_number at small) (rw (value_again at small) within) refl (rw (value_again at small) (le_true (last_of (times_of r.happenings)) at after)))
@@ -279,12 +280,12 @@ declaration_one_line names d is =
     let small = small_period d.params is.fits in
     join_line (codes "task") (d.name ∷ decimal d.params.runtime ∷ decimal d.params.period ∷ []) keyword_task (name_plain d.name is.name, (decimal_plain d.params.runtime small.0, (decimal_plain d.params.period small.1, tt)))
 
-deed_one_line : (version : Version) (at : ℕ) (deed : Deed) → is_moment at ≡ true → IsDeed version deed → IsOneLine (happening_line (record { at = at; deed = deed }))
+deed_one_line : (version : Version) (at : ℕ) (deed : Deed ℕ) → is_moment at ≡ true → IsDeed version deed → IsOneLine (happening_line (record { at = at; deed = deed }))
 deed_one_line version at (does v n) within is = join_line (codes "at") (decimal at ∷ verb_word v ∷ n ∷ []) keyword_at (decimal_plain at (small_moment at within), (verb_plain v, (name_plain n is, tt)))
 deed_one_line version at (runs n d) within is = join_line (codes "at") (decimal at ∷ codes "run" ∷ n ∷ decimal d ∷ []) keyword_at (decimal_plain at (small_moment at within), (keyword_run, (name_plain n is.0, (decimal_plain d (small_span d is.1), tt))))
-deed_one_line version at (retunes n p) within is =
-    let small = small_period p is.1 in
-    join_line (codes "at") (decimal at ∷ codes "retune" ∷ n ∷ decimal p.runtime ∷ decimal p.period ∷ []) keyword_at (decimal_plain at (small_moment at within), (keyword_retune, (name_plain n is.0, (decimal_plain p.runtime small.0, (decimal_plain p.period small.1, tt)))))
+deed_one_line version at (retunes n q p) within is =
+    let small = small_period (record { runtime = q; period = p }) is.1 in
+    join_line (codes "at") (decimal at ∷ codes "retune" ∷ n ∷ decimal q ∷ decimal p ∷ []) keyword_at (decimal_plain at (small_moment at within), (keyword_retune, (name_plain n is.0, (decimal_plain q small.0, (decimal_plain p small.1, tt)))))
 deed_one_line version at reads within is = join_line (codes "at") (decimal at ∷ codes "read" ∷ []) keyword_at (decimal_plain at (small_moment at within), (keyword_read, tt))
 
 pub happening_one_line : (version : Version) (low : ℕ) (m : Happening) → IsHappeningFrom version low m → IsOneLine (happening_line m)

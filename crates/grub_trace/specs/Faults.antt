@@ -11,20 +11,17 @@ use Rattle.grub_trace.specs.declared.version.Version.{Version}
 use Rattle.grub_trace.specs.declared.version.Version.TheVariants.{One, Two}
 use Rattle.grub_trace.specs.declared.fault.Kind.{Kind}
 use Rattle.grub_trace.specs.declared.fault.Kind.TheVariants.{BadHeader, BadLine, BadNumber, OutOfRange, DuplicateTask, MomentGoesBack, MissingQueue}
-use Rattle.grub_trace.specs.Tree.{is_name, is_moment, is_span, header, may_retune}
+use Rattle.grub_trace.specs.Tree.{Deed, does, runs, retunes, reads, is_name, is_moment, is_span, header, may_retune}
 
 -- the words of a line: its parts between single spaces
 abbrev pub words_of : List ℕ → List (List ℕ)
 words_of line = slice_split (λ b. b == 32) line
 
--- A form of a line, with its numbers unread.
+-- a form of a line, with its numbers unread
 pub data Form : Type 0 where
   queue : List ℕ → List ℕ → Form
   task : List ℕ → List ℕ → List ℕ → Form
-  does_at : List ℕ → Verb → List ℕ → Form
-  runs_at : List ℕ → List ℕ → List ℕ → Form
-  retunes_at : List ℕ → List ℕ → List ℕ → List ℕ → Form
-  reads_at : List ℕ → Form
+  at_moment : List ℕ → Deed (List ℕ) → Form
 
 abbrev pub verb_of : List ℕ → Option Verb
 verb_of w = if bytes_eq w (codes "join") then Some Join else (if bytes_eq w (codes "wake") then Some Wake else (if bytes_eq w (codes "block") then Some Block
@@ -32,10 +29,10 @@ verb_of w = if bytes_eq w (codes "join") then Some Join else (if bytes_eq w (cod
 
 -- the form that the keywords, the number of words and the name among them make
 abbrev pub shape_of : List (List ℕ) → Option Form
-shape_of (k ∷ a ∷ b ∷ []) = if bytes_eq k (codes "queue") then Some (queue a b) else (if bytes_eq k (codes "at") && bytes_eq b (codes "read") then Some (reads_at a) else None)
-shape_of (k ∷ a ∷ b ∷ c ∷ []) = if bytes_eq k (codes "task") && is_name a then Some (task a b c) else (if bytes_eq k (codes "at") && is_name c then option_map (λ v. does_at a v c) (verb_of b) else None)
-shape_of (k ∷ a ∷ b ∷ c ∷ d ∷ []) = if bytes_eq k (codes "at") && bytes_eq b (codes "run") && is_name c then Some (runs_at a c d) else None
-shape_of (k ∷ a ∷ b ∷ c ∷ d ∷ e ∷ []) = if bytes_eq k (codes "at") && bytes_eq b (codes "retune") && is_name c then Some (retunes_at a c d e) else None
+shape_of (k ∷ a ∷ b ∷ []) = if bytes_eq k (codes "queue") then Some (queue a b) else (if bytes_eq k (codes "at") && bytes_eq b (codes "read") then Some (at_moment a reads) else None)
+shape_of (k ∷ a ∷ b ∷ c ∷ []) = if bytes_eq k (codes "task") && is_name a then Some (task a b c) else (if bytes_eq k (codes "at") && is_name c then option_map (λ v. at_moment a (does v c)) (verb_of b) else None)
+shape_of (k ∷ a ∷ b ∷ c ∷ d ∷ []) = if bytes_eq k (codes "at") && bytes_eq b (codes "run") && is_name c then Some (at_moment a (runs c d)) else None
+shape_of (k ∷ a ∷ b ∷ c ∷ d ∷ e ∷ []) = if bytes_eq k (codes "at") && bytes_eq b (codes "retune") && is_name c then Some (at_moment a (retunes c d e)) else None
 shape_of _ = None
 
 abbrev pub is_filled : List ℕ → Bool
@@ -59,10 +56,9 @@ value digits = digits_value 10 digits
 abbrev pub numbers_of : Form → List (List ℕ)
 numbers_of (queue a b) = a ∷ b ∷ []
 numbers_of (task n q p) = q ∷ p ∷ []
-numbers_of (does_at m v n) = m ∷ []
-numbers_of (runs_at m n d) = m ∷ d ∷ []
-numbers_of (retunes_at m n q p) = m ∷ q ∷ p ∷ []
-numbers_of (reads_at m) = m ∷ []
+numbers_of (at_moment m (runs n d)) = m ∷ d ∷ []
+numbers_of (at_moment m (retunes n q p)) = m ∷ q ∷ p ∷ []
+numbers_of (at_moment m deed) = m ∷ []
 
 -- ---- the tests of a line below the second
 
@@ -70,10 +66,8 @@ numbers_of (reads_at m) = m ∷ []
 abbrev pub is_allowed : Version → List ℕ → Form → Bool
 is_allowed version moments (queue a b) = false
 is_allowed version moments (task n q p) = length moments == 0
-is_allowed version moments (does_at m v n) = true
-is_allowed version moments (runs_at m n d) = true
-is_allowed version moments (retunes_at m n q p) = may_retune version
-is_allowed version moments (reads_at m) = true
+is_allowed version moments (at_moment m (retunes n q p)) = may_retune version
+is_allowed version moments (at_moment m deed) = true
 
 -- the tests of IsReservation and IsCapacity
 abbrev pub reservation_fits : Reservation → Bool
@@ -93,10 +87,9 @@ capacity_value u x = record { most = value u; extra = value x }
 abbrev pub is_in_range : ℕ → Form → Bool
 is_in_range declared (queue a b) = capacity_fits (capacity_value a b)
 is_in_range declared (task n q p) = nat_lt declared 256 && reservation_fits (reservation_value q p)
-is_in_range declared (does_at m v n) = is_moment (value m)
-is_in_range declared (runs_at m n d) = is_moment (value m) && is_span (value d)
-is_in_range declared (retunes_at m n q p) = is_moment (value m) && reservation_fits (reservation_value q p)
-is_in_range declared (reads_at m) = is_moment (value m)
+is_in_range declared (at_moment m (runs n d)) = is_moment (value m) && is_span (value d)
+is_in_range declared (at_moment m (retunes n q p)) = is_moment (value m) && reservation_fits (reservation_value q p)
+is_in_range declared (at_moment m deed) = is_moment (value m)
 
 -- the number of the task with this name, where one was declared
 abbrev pub task_of : List (List ℕ) → List ℕ → Option ℕ
@@ -112,12 +105,8 @@ abbrev pub last_of : List ℕ → ℕ
 last_of moments = slice_index moments (length moments - 1)
 
 abbrev pub is_timely : List ℕ → Form → Bool
-is_timely moments (queue a b) = true
-is_timely moments (task n q p) = true
-is_timely moments (does_at m v n) = nat_le (last_of moments) (value m)
-is_timely moments (runs_at m n d) = nat_le (last_of moments) (value m)
-is_timely moments (retunes_at m n q p) = nat_le (last_of moments) (value m)
-is_timely moments (reads_at m) = nat_le (last_of moments) (value m)
+is_timely moments (at_moment m deed) = nat_le (last_of moments) (value m)
+is_timely moments form = true
 
 -- The first test that a form fails, after the names declared so far, in any file, and the moments so far, in this one.
 abbrev pub form_fault : Version → List (List ℕ) → List ℕ → Form → Option Kind

@@ -8,10 +8,10 @@ use Rattle.grub_trace.specs.Faults.{task_of}
 use Rattle.grub_trace.specs.Naming.{line_in, all_tasks}
 
 -- what may be said in a file of this version
-abbrev pub IsDeed : Version → Deed → Type 0
+abbrev pub IsDeed : Version → Deed ℕ → Type 0
 IsDeed version (does v n) = is_name n ≡ true
 IsDeed version (runs n s) = (is_name n ≡ true) × (is_span s ≡ true)
-IsDeed version (retunes n p) = (is_name n ≡ true) × IsReservation p × (may_retune version ≡ true)
+IsDeed version (retunes n q p) = (is_name n ≡ true) × IsReservation (record { runtime = q; period = p }) × (may_retune version ≡ true)
 IsDeed version reads = Unit {0}
 
 -- a happening that may stand after a moment, in a file of this version

@@ -20,10 +20,10 @@ act_of Block t = act.Block t
 act_of Leave t = act.Leave t
 act_of Exit t = act.Exit t
 
-abbrev pub act_in : List (List ℕ) → Deed → Option Act
+abbrev pub act_in : List (List ℕ) → Deed ℕ → Option Act
 act_in names (does v n) = option_map (act_of v) (task_of names n)
 act_in names (runs n d) = option_map (λ t. act.Run t d) (task_of names n)
-act_in names (retunes n p) = option_map (λ t. act.Retune t p.runtime p.period) (task_of names n)
+act_in names (retunes n q p) = option_map (λ t. act.Retune t q p) (task_of names n)
 act_in names reads = Some act.Read
 
 abbrev pub line_in : List (List ℕ) → Happening → Option Line

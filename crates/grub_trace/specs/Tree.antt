@@ -12,17 +12,17 @@ pub record Declaration : Type 0 where
   pub name : List ℕ
   pub params : Reservation
 
--- what is said to happen, with the names of tasks: a task does this, ran for so long or has a new reservation, or the runqueue is read
-pub data Deed : Type 0 where
-  does : Verb → List ℕ → Deed
-  runs : List ℕ → ℕ → Deed
-  retunes : List ℕ → Reservation → Deed
-  reads : Deed
+-- what is said to happen, with the names of tasks and with such numbers: a task does this, ran for so long or has a new runtime and period, or the runqueue is read
+pub data Deed (N : Type 0) : Type 0 where
+  does : Verb → List ℕ → Deed N
+  runs : List ℕ → N → Deed N
+  retunes : List ℕ → N → N → Deed N
+  reads : Deed N
 
 -- a deed and its moment
 pub record Happening : Type 0 where
   pub at : ℕ
-  pub deed : Deed
+  pub deed : Deed ℕ
 
 -- what a file says
 pub record Tree : Type 0 where
@@ -51,10 +51,10 @@ queue_words c = codes "queue" ∷ decimal c.most ∷ decimal c.extra ∷ []
 abbrev pub declaration_words : Declaration → List (List ℕ)
 declaration_words d = codes "task" ∷ d.name ∷ decimal d.params.runtime ∷ decimal d.params.period ∷ []
 
-abbrev pub deed_words : Deed → List (List ℕ)
+abbrev pub deed_words : Deed ℕ → List (List ℕ)
 deed_words (does v name) = verb_word v ∷ name ∷ []
 deed_words (runs name span) = codes "run" ∷ name ∷ decimal span ∷ []
-deed_words (retunes name p) = codes "retune" ∷ name ∷ decimal p.runtime ∷ decimal p.period ∷ []
+deed_words (retunes name q p) = codes "retune" ∷ name ∷ decimal q ∷ decimal p ∷ []
 deed_words reads = codes "read" ∷ []
 
 abbrev pub happening_words : Happening → List (List ℕ)

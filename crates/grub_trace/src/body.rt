@@ -1,34 +1,19 @@
 //! What the lines below the second say, with the names of tasks as the lines have them.
 
 ghost use Rattle.std.specs.Prelude.{◌≡◌, map, OnOk, IfOk, IfSome, is_some, List, length, Ok, Some, None, true};
-ghost use Rattle.grub_trace.specs.inside.Reading.{read_view, take_line, take_form, declarations, IsIndexed, Takes, happening_view, times_of, says, deed_view, declares, Stops, Says, Declares, IsMoment, IsRun, IsRetune, form_view};
+ghost use Rattle.grub_trace.specs.inside.Reading.{read_view, take_line, take_form, declarations, IsIndexed, Takes, TakesDeed, happening_view, times_of, says, deed_view, declares, Stops, Says, Declares, IsMoment, IsRun, IsRetune, form_view};
 ghost use Rattle.grub_trace.specs.Faults.{last_of, reservation_fits};
 ghost use Rattle.grub_trace.specs.inside.Faults.{is_named};
 ghost use Rattle.grub_trace.specs.Tree.{is_name};
 
 use crate::fault::{Kind, Stop};
-use crate::form::{Form, Verb, form_of};
+use crate::form::{Deed, Form, form_of};
 use crate::number::number;
+use crate::raw::RawHappening;
 use crate::tasks::Tasks;
 use crate::version::Version;
 use grub_bw::Params;
 use std::alloc::Global;
-
-/// What a line says that happens, with the name of the task as the line has it.
-#[derive(Clone, Copy)]
-pub enum RawDeed<'a> {
-    Does(Verb, &'a [u8]),
-    Runs(&'a [u8], u32),
-    Retunes(&'a [u8], u32, u32),
-    Reads,
-}
-
-/// What happens at a moment.
-#[derive(Clone, Copy)]
-pub struct RawHappening<'a> {
-    pub at: u32,
-    pub deed: RawDeed<'a>,
-}
 
 /// The moment of the last happening so far, or 0.
 fn last(happenings: &[RawHappening]) -> u32
@@ -41,8 +26,8 @@ fn last(happenings: &[RawHappening]) -> u32
 }
 
 /// Adds a happening that is within its limits.
-fn say<'a>(happenings: &mut Vec<RawHappening<'a>>, at: u32, deed: RawDeed<'a>) -> Result<(), Stop>
-    ensures { Says result (map happening_view happenings.old.items) (map happening_view happenings.new.items) at (deed_view deed.entry) }
+fn say<'a>(happenings: &mut Vec<RawHappening<'a>>, at: u32, deed: Deed<'a, u32>) -> Result<(), Stop>
+    ensures { Says result (map happening_view happenings.old.items) (map happening_view happenings.new.items) at (deed_view (λ n. n) deed.entry) }
 {
     if at < last(happenings) {
         return Err(Stop::Fault(Kind::MomentGoesBack));
@@ -111,24 +96,38 @@ fn take_form<'a>(
             }
             declare(alloc, tasks, name, runtime, period)
         }
-        Form::Does(at, verb, name) => {
+        Form::At(at, deed) => take_deed(version, happenings, at, deed),
+    }
+}
+
+/// Takes what is said to happen at a moment.
+fn take_deed<'a>(
+    version: Version,
+    happenings: &mut Vec<RawHappening<'a>>,
+    at: &[u8],
+    deed: Deed<'a, &'a [u8]>,
+) -> Result<(), Stop>
+    ensures { TakesDeed result version (map happening_view happenings.old.items) (map happening_view happenings.new.items) at.now (deed_view (λ w. w.now) deed.entry) }
+{
+    match deed {
+        Deed::Does(verb, name) => {
             let at = moment(at)?;
-            say(happenings, at, RawDeed::Does(verb, name))
+            say(happenings, at, Deed::Does(verb, name))
         }
-        Form::Run(at, name, span) => {
+        Deed::Runs(name, span) => {
             let (at, span) = run(at, span)?;
-            say(happenings, at, RawDeed::Runs(name, span))
+            say(happenings, at, Deed::Runs(name, span))
         }
-        Form::Retune(at, name, runtime, period) => {
+        Deed::Retunes(name, runtime, period) => {
             if !version.may_retune() {
                 return Err(Stop::Fault(Kind::BadLine));
             }
             let (at, runtime, period) = retune(at, runtime, period)?;
-            say(happenings, at, RawDeed::Retunes(name, runtime, period))
+            say(happenings, at, Deed::Retunes(name, runtime, period))
         }
-        Form::Read(at) => {
+        Deed::Reads => {
             let at = moment(at)?;
-            say(happenings, at, RawDeed::Reads)
+            say(happenings, at, Deed::Reads)
         }
     }
 }

@@ -5,11 +5,11 @@ ghost use Rattle.grub_trace.specs.inside.Reading.{opened, happening_view, declar
 ghost use Rattle.grub_trace.specs.FirstFault.{parts_of};
 ghost use Rattle.grub_trace.specs.Faults.{capacity_fits, version_of};
 
-use crate::body::{RawHappening, take_line};
+use crate::body::take_line;
 use crate::fault::{Halt, Kind};
 use crate::form::{Form, form_of};
 use crate::number::number;
-use crate::raw::RawFile;
+use crate::raw::{RawFile, RawHappening};
 use crate::tasks::Tasks;
 use crate::version::Version;
 use crate::words::{first_line, first_word};

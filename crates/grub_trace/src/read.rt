@@ -11,10 +11,9 @@ ghost use Rattle.grub_trace.specs.declared.fault.Kind.{Kind};
 ghost use Rattle.grub_trace.specs.Naming.{plan_of};
 ghost use Rattle.grub_trace.specs.Limits.{PlanFits};
 
-use crate::body::RawDeed;
 use crate::fault::{Halt, Kind, TraceFault};
 use crate::file::read_file;
-use crate::form::Verb;
+use crate::form::{Deed, Verb};
 use crate::line::{Act, Line};
 use crate::plan::Plan;
 use crate::raw::RawFile;
@@ -47,12 +46,12 @@ fn read_all(alloc: Global, files: &[Vec<u8>]) -> Result<AllRead<'_>, TraceFault>
 }
 
 /// The act of a deed, where its task is declared.
-fn act(tasks: &Tasks, deed: RawDeed) -> Option<Act>
+fn act(tasks: &Tasks, deed: Deed<u32>) -> Option<Act>
     requires { IsIndexed tasks.now }
-    ensures { result ≡ act_in (names_of (declarations tasks.now)) (deed_view deed.entry) }
+    ensures { result ≡ act_in (names_of (declarations tasks.now)) (deed_view (λ n. n) deed.entry) }
 {
     match deed {
-        RawDeed::Does(verb, name) => {
+        Deed::Does(verb, name) => {
             let task = tasks.find(name)?;
             Some(match verb {
                 Verb::Join => Act::Join(task),
@@ -62,15 +61,15 @@ fn act(tasks: &Tasks, deed: RawDeed) -> Option<Act>
                 Verb::Exit => Act::Exit(task),
             })
         }
-        RawDeed::Runs(name, span) => {
+        Deed::Runs(name, span) => {
             let task = tasks.find(name)?;
             Some(Act::Run(task, span))
         }
-        RawDeed::Retunes(name, runtime, period) => {
+        Deed::Retunes(name, runtime, period) => {
             let task = tasks.find(name)?;
             Some(Act::Retune(task, runtime, period))
         }
-        RawDeed::Reads => Some(Act::Read),
+        Deed::Reads => Some(Act::Read),
     }
 }
 

@@ -2,6 +2,7 @@
 use Rattle.std.specs.Prelude.{◌≡◌, ℕ, min, List, [], ◌∷◌, Option, Some, None, true, Result, Ok, Err, if◌then◌else◌}
 use Rattle.std.specs.Prelude.{◌++◌, map, string_bytes, false, ◌≤◌, nat_lt, Bool, not, ◌&&◌, ◌-◌, length, ◌==◌, ◌+◌}
 use Rattle.std.specs.List.{list_all}
+use Rattle.std.specs.Char.{is_ascii_digit}
 use Rattle.std.specs.HashMap.{get_by_text}
 use Rattle.grub_bw.specs.Bandwidth.{Capacity}
 use Rattle.grub_trace.specs.declared.version.Version.{Version}
@@ -17,9 +18,9 @@ use Rattle.grub_trace.specs.declared.fault.Stop.{Stop}
 use Rattle.grub_trace.specs.declared.fault.Stop.TheVariants as stop
 use Rattle.grub_trace.specs.declared.tasks.Task.{Task}
 use Rattle.grub_trace.specs.declared.tasks.Tasks.{Tasks}
-use Rattle.grub_trace.specs.declared.body.RawDeed.{RawDeed}
-use Rattle.grub_trace.specs.declared.body.RawDeed.TheVariants as deed
-use Rattle.grub_trace.specs.declared.body.RawHappening.{RawHappening}
+use Rattle.grub_trace.specs.declared.form.Deed as raw
+use Rattle.grub_trace.specs.declared.form.Deed.TheVariants as deed
+use Rattle.grub_trace.specs.declared.raw.RawHappening.{RawHappening}
 use Rattle.grub_trace.specs.declared.raw.RawFile.{RawFile}
 use Rattle.grub_trace.specs.FirstFault.{parts_of}
 use Rattle.grub_trace.specs.Plans.{PlanView}
@@ -30,7 +31,7 @@ use Rattle.grub_trace.specs.declared.form.Form as coded
 use Rattle.grub_trace.specs.declared.form.Form.TheVariants as code
 use Rattle.grub_trace.specs.declared.words.Words.{Words}
 use Rattle.grub_trace.specs.declared.words.Words.TheVariants as words
-use Rattle.grub_trace.specs.Faults.{Form, queue, task, does_at, runs_at, retunes_at, reads_at, words_of, form_of, is_filled, is_number, value, reservation_value, capacity_value}
+use Rattle.grub_trace.specs.Faults.{Form, queue, task, at_moment, words_of, form_of, is_filled, is_number, value, reservation_value, capacity_value}
 
 -- these are the words
 abbrev pub AreWords : Words → List (List ℕ) → Type 0
@@ -43,21 +44,27 @@ AreWords (words.Six k a b c d e) ws = ws ≡ k.now ∷ a.now ∷ b.now ∷ c.now
 abbrev pub AreFilled : Words → List (List ℕ) → Type 0
 AreFilled words ws = AreWords words ws × (list_all is_filled ws ≡ true)
 
+-- what is said, with numbers in another form
+abbrev pub deed_view : {X Y : Type 0} → (X → Y) → raw.Deed X → Deed Y
+deed_view number (deed.Does v n) = does v n.now
+deed_view number (deed.Runs n d) = runs n.now (number d)
+deed_view number (deed.Retunes n q p) = retunes n.now (number q) (number p)
+deed_view number deed.Reads = reads
+
 abbrev pub form_view : coded.Form → Form
 form_view (code.Queue a b) = queue a.now b.now
 form_view (code.Task n q p) = task n.now q.now p.now
-form_view (code.Does m v n) = does_at m.now v n.now
-form_view (code.Run m n d) = runs_at m.now n.now d.now
-form_view (code.Retune m n q p) = retunes_at m.now n.now q.now p.now
-form_view (code.Read m) = reads_at m.now
+form_view (code.At m d) = at_moment m.now (deed_view (λ w. w.now) d)
 
 -- the number that the word spells, or the greatest of 32 bits where it is greater
-abbrev pub capped_number : List ℕ → Option ℕ
-capped_number w = if is_number w then Some (min (value w) 4294967295) else None
-
 abbrev pub IsNumber : Option ℕ → List ℕ → Type 0
 IsNumber None w = is_number w ≡ false
 IsNumber (Some n) w = (is_number w ≡ true) × (n ≡ min (value w) 4294967295)
+
+-- the same of digits, whatever the first
+abbrev pub IsDigits : Option ℕ → List ℕ → Type 0
+IsDigits None w = list_all is_ascii_digit w ≡ false
+IsDigits (Some n) w = (list_all is_ascii_digit w ≡ true) × (n ≡ min (value w) 4294967295)
 
 -- ---- the lines below the second
 
@@ -74,17 +81,17 @@ opened version ds = record { version = version; declared = ds; happenings = [] }
 abbrev pub declares : Declaration → Read → Read
 declares d r = record { version = r.version; declared = r.declared ++ d ∷ []; happenings = r.happenings }
 
-abbrev pub says : ℕ → Deed → Read → Read
+abbrev pub says : ℕ → Deed ℕ → Read → Read
 says at deed r = record { version = r.version; declared = r.declared; happenings = r.happenings ++ record { at = at; deed = deed } ∷ [] }
 
 -- what a form without a fault adds
 abbrev pub adds : Form → Read → Read
 adds (queue a b) r = r
 adds (task n q p) r = declares (record { name = n; params = reservation_value q p }) r
-adds (does_at m v n) r = says (value m) (does v n) r
-adds (runs_at m n d) r = says (value m) (runs n (value d)) r
-adds (retunes_at m n q p) r = says (value m) (retunes n (reservation_value q p)) r
-adds (reads_at m) r = says (value m) reads r
+adds (at_moment m (does v n)) r = says (value m) (does v n) r
+adds (at_moment m (runs n d)) r = says (value m) (runs n (value d)) r
+adds (at_moment m (retunes n q p)) r = says (value m) (retunes n (value q) (value p)) r
+adds (at_moment m reads) r = says (value m) reads r
 
 abbrev pub times_of : List Happening → List ℕ
 times_of ms = map (λ m. m.at) ms
@@ -115,14 +122,8 @@ declarations t = map task_view t.list.items
 pub record IsIndexed (t : Tasks) : Type 0 where
   pub found : (q : List ℕ) → get_by_text t.index q ≡ task_of (names_of (declarations t)) q
 
-abbrev pub deed_view : RawDeed → Deed
-deed_view (deed.Does v n) = does v n.now
-deed_view (deed.Runs n d) = runs n.now d
-deed_view (deed.Retunes n q p) = retunes n.now (record { runtime = q; period = p })
-deed_view deed.Reads = reads
-
 abbrev pub happening_view : RawHappening → Happening
-happening_view m = record { at = m.at; deed = deed_view m.deed }
+happening_view m = record { at = m.at; deed = deed_view (λ n. n) m.deed }
 
 abbrev pub read_view : Version → Tasks → List RawHappening → Read
 read_view version t ms = record { version = version; declared = declarations t; happenings = map happening_view ms }
@@ -137,13 +138,17 @@ Takes (Ok u) new r = r ≡ Ok new
 Takes (Err e) new r = Stops e r
 
 -- what became of the happenings, where the next one is within its limits
-abbrev pub Says : {U : Type 0} → Result U Stop → List Happening → List Happening → ℕ → Deed → Type 0
+abbrev pub Says : {U : Type 0} → Result U Stop → List Happening → List Happening → ℕ → Deed ℕ → Type 0
 Says (Ok u) old new at deed = (last_of (times_of old) ≤ at) × (new ≡ old ++ record { at = at; deed = deed } ∷ [])
 Says (Err e) old new at deed = Stops e (if nat_lt at (last_of (times_of old)) then Err MomentGoesBack else Ok old)
 
 -- what became of the declarations, where a task line stands before the first moment
 abbrev pub Declares : {U : Type 0} → Result U Stop → List Declaration → List Declaration → List ℕ → List ℕ → List ℕ → Type 0
 Declares r old new n q p = (version : Version) → Takes r (opened version new) (take_form (opened version old) (task n q p))
+
+-- what became of the happenings of a file, whatever was declared
+abbrev pub TakesDeed : {U : Type 0} → Result U Stop → Version → List Happening → List Happening → List ℕ → Deed (List ℕ) → Type 0
+TakesDeed r version old new at deed = (ds : List Declaration) → Takes r (record { version = version; declared = ds; happenings = new }) (take_form (record { version = version; declared = ds; happenings = old }) (at_moment at deed))
 
 abbrev pub moment_fault : List ℕ → Option Kind
 moment_fault w = if not (is_number w) then Some BadNumber else (if is_moment (value w) then None else Some OutOfRange)
