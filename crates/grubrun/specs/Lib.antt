@@ -1,5 +1,3 @@
-pub mod CommandLine
-pub mod Rounds
 pub mod Statuses
 pub mod Views
 pub mod inside

@@ -1,16 +1,12 @@
 -- What the words ask to be printed: reports, or a view of the time line.
-use Rattle.std.specs.Prelude.{◌≡◌, ℕ, List, Option, None, Some, Result, Ok, Err, codes, nat_le, unwrap_or, ⊤, if◌then◌else◌}
-use Rattle.std.specs.Str.{bytes_eq}
-use Rattle.std.specs.declared.convert.Infallible.{Infallible}
+use Rattle.std.specs.Prelude.{◌≡◌, ◌⊎◌, ℕ, List, [], Option, None, Some, codes, nat_le, unwrap_or, ⊤, if◌then◌else◌}
+use Rattle.clap.specs.Words.{Text, fault_of}
+use Rattle.grub_command.specs.CommandLine.{MomentNamed, command_line, view_named}
+use Rattle.grub_command.specs.declared.view_word.ViewWord.{ViewWord}
+use Rattle.grub_command.specs.declared.view_word.ViewWord.TheVariants.{Timeline, Steps, Summary, Picture, Unknown}
 use Rattle.grub_show.specs.declared.view.View.TheVariants as views
-use Rattle.grubrun.specs.declared.view.ViewWord.{ViewWord}
-use Rattle.grubrun.specs.declared.view.ViewWord.TheVariants.{Timeline, Steps, Summary, Picture, Unknown}
 use Rattle.grubrun.specs.declared.view.Wanted.{Wanted}
 use Rattle.grubrun.specs.declared.view.Wanted.TheVariants.{Reports, View, NoView, NoPicture, EmptySpan}
-
--- the view that a word names
-abbrev pub view_word : List ℕ → ViewWord
-view_word text = if bytes_eq text (codes "timeline") then Timeline else if bytes_eq text (codes "steps") then Steps else if bytes_eq text (codes "summary") then Summary else if bytes_eq text (codes "picture") then Picture else Unknown
 
 -- a picture, unless it is known that it does not begin before it ends
 abbrev pub wanted_picture : Option ℕ → Option ℕ → Wanted
@@ -39,3 +35,15 @@ IsMistake NoView = ⊤
 IsMistake NoPicture = ⊤
 IsMistake (EmptySpan first end) = ⊤
 IsMistake wanted = ⊥
+
+-- these words ask for this to be printed
+pub record Wants (words : List Text) (wanted : Wanted) : Type 0 where
+  pub from : Option ℕ
+  pub begins : MomentNamed (codes "from") words from
+  pub to : Option ℕ
+  pub ends : MomentNamed (codes "to") words to
+  pub is : wanted ≡ wanted_of (view_named words) from to
+
+-- the command line does not take these words, or they ask for what there is nothing of
+abbrev pub IsRefused : List Text → Type 0
+IsRefused words = (fault_of command_line words ≡ [] → ⊥) ⊎ ((wanted : Wanted) × Wants words wanted × IsMistake wanted)

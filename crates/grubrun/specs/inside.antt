@@ -1,4 +1,1 @@
-pub mod CommandLine
-pub mod Rounds
 pub mod Statuses
-pub mod Views

@@ -1,9 +1,7 @@
 //! The program `grubrun`: plays event files against the reference book-keeper, and prints their reports.
 #![tactic(auto)]
 
-mod command;
 mod serve;
-mod texts;
 mod view;
 
 use crate::serve::{serve, serve_no_words};

@@ -1,23 +1,22 @@
 //! The program over its words and two writers.
 
-ghost use Rattle.std.specs.Prelude.{◌≡◌, ◌≢◌, ◌≤◌, ◌⊎◌, map, string_bytes};
+ghost use Rattle.std.specs.Prelude.{◌≡◌, ◌≢◌, ◌≤◌, ◌⊎◌, IfOk, map, string_bytes};
 ghost use Rattle.std.specs.IoError.{error_kind};
 ghost use Rattle.std.specs.Io.KnownBytes.{Appends};
 ghost use Rattle.clap.specs.Values.{kind_of};
-ghost use Rattle.clap.specs.Words.{found_of, rows_of};
+ghost use Rattle.clap.specs.Words.{FailsBy, fault_of, found_of, matches_of, rows_of};
 ghost use Rattle.clap.specs.declared.error.kind.ErrorKind.TheVariants as kinds;
 ghost use Rattle.std.specs.declared.io.ErrorKind.TheVariants as io_kinds;
 ghost use Rattle.grub_serve.specs.Printed.{HasFileFault};
-ghost use Rattle.grubrun.specs.CommandLine.{IsRefused, files_named, names_among};
+ghost use Rattle.grub_command.specs.CommandLine.{TriesNamed, command_line, files_named, names_among};
 ghost use Rattle.grubrun.specs.Statuses.{AsksForNoSpan, BeginsOf, HasNoSpan, PrintsAsked, PrintsOf, PrintsRun, PrintsSome};
 ghost use Rattle.grubrun.specs.inside.Statuses.{PrintsKind};
-ghost use Rattle.grubrun.specs.Views.{IsMistake};
+ghost use Rattle.grubrun.specs.Views.{IsMistake, IsRefused, Wants};
 
-use crate::command::{Options, options_of};
-use crate::texts::{HELP, VERSION};
-use crate::view::Wanted;
+use crate::view::{Wanted, wanted_by};
 use clap::Error;
 use clap::error::ErrorKind;
+use grub_command::{HELP, Options, VERSION, options_of};
 use grub_files::Source;
 use grub_run::GrubFault;
 use grub_serve::{ProgramFault, STATUS_FILE, STATUS_SYSTEM, STATUS_USAGE, serve_files, serve_view};
@@ -53,10 +52,22 @@ pub fn serve<
     // Of the words that are refused, only those that ask for the help or the version are done, and it was printed.
     ensures help { IsRefused (map string_bytes words.now) → result ≡ 0 → PrintsAsked (map string_bytes words.now) (W.contents out.old) (W.contents out.new) }
 {
-    match options_of(alloc, words) {
-        Ok(options) => serve_options(rt, alloc, &options, source, out, faults),
+    match read_words(alloc, words) {
+        Ok((options, wanted)) => serve_options(rt, alloc, &options, wanted, source, out, faults),
         Err(error) => serve_error(&error, out, faults),
     }
+}
+
+/// What the words say, and what they ask to be printed.
+fn read_words<'a>(alloc: Global, words: &'a [String]) -> Result<(Options<'a>, Wanted), Error>
+    ensures tries { IfOk result (λ r. TriesNamed (map string_bytes words.now) r.0.tries) }
+    ensures wanted { IfOk result (λ r. Wants (map string_bytes words.now) r.1) }
+    ensures matches { IfOk result (λ r. rows_of (found_of r.0.matches) ≡ matches_of command_line (map string_bytes words.now)) }
+    ensures faults { FailsBy (fault_of command_line (map string_bytes words.now)) result }
+{
+    let options = options_of(alloc, words)?;
+    let wanted = wanted_by(options.view, options.from, options.to);
+    Ok((options, wanted))
 }
 
 /// Prints what right words ask for of the files that they name.
@@ -71,6 +82,7 @@ fn serve_options<
     rt: &R,
     alloc: Global,
     options: &Options<'_>,
+    wanted: Wanted,
     source: &Source<O, N>,
     out: &mut W,
     faults: &mut E,
@@ -78,14 +90,14 @@ fn serve_options<
     requires open { O.IsAlwaysCallable source.now.open }
     requires read { N.IsAlwaysCallable source.now.read }
     ensures status { (result ≡ 0) ⊎ (result ≡ STATUS_FILE) ⊎ (result ≡ STATUS_USAGE) ⊎ (result ≡ STATUS_SYSTEM) }
-    ensures done { result ≡ 0 → PrintsOf O.Fn N.Fn source.now options.now.wanted options.now.tries (names_among (rows_of (found_of options.now.matches))) (W.contents out.old) (W.contents out.new) }
+    ensures done { result ≡ 0 → PrintsOf O.Fn N.Fn source.now wanted options.now.tries (names_among (rows_of (found_of options.now.matches))) (W.contents out.old) (W.contents out.new) }
     ensures file { result ≡ STATUS_FILE → HasFileFault O.Fn N.Fn source.now (names_among (rows_of (found_of options.now.matches))) }
-    ensures usage { result ≡ STATUS_USAGE → IsMistake options.now.wanted ⊎ HasNoSpan O.Fn N.Fn source.now options.now.wanted (names_among (rows_of (found_of options.now.matches))) }
+    ensures usage { result ≡ STATUS_USAGE → IsMistake wanted ⊎ HasNoSpan O.Fn N.Fn source.now wanted (names_among (rows_of (found_of options.now.matches))) }
     ensures nothing { (result ≡ STATUS_FILE) ⊎ (result ≡ STATUS_USAGE) → out.new ≡ out.old }
-    ensures failed { result ≡ STATUS_SYSTEM → (out.new ≡ out.old) ⊎ BeginsOf O.Fn N.Fn source.now options.now.wanted options.now.tries (names_among (rows_of (found_of options.now.matches))) (W.contents out.old) (W.contents out.new) }
+    ensures failed { result ≡ STATUS_SYSTEM → (out.new ≡ out.old) ⊎ BeginsOf O.Fn N.Fn source.now wanted options.now.tries (names_among (rows_of (found_of options.now.matches))) (W.contents out.old) (W.contents out.new) }
 {
     let paths = options.matches.get_strs("FILE").unwrap_or(&[]);
-    match options.wanted {
+    match wanted {
         Wanted::Reports => serve_files(
             rt,
             alloc,

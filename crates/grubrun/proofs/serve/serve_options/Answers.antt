@@ -1,9 +1,9 @@
 use Rattle.std.proofs.Common.{inr, refl, subst, sym, ◌≡◌, ◌⊎◌}
 use Rattle.clap.specs.Words.{found_of, rows_of}
 use Rattle.grub_serve.specs.Printed.{HasEmptySpan, HasFileFault, PrintsBeginning, PrintsReports, PrintsView, PrintsViewBeginning}
-use Rattle.grubrun.specs.CommandLine.{names_among}
+use Rattle.grub_command.specs.CommandLine.{names_among}
 use Rattle.grubrun.specs.Statuses.{BeginsOf, HasNoSpan, PrintsOf}
-use Rattle.grubrun.proofs.CommandLemmas.{paths_are_names}
+use Rattle.grubrun.proofs.Paths.{paths_are_names}
 use Rattle.grubrun.proofs.serve.serve_options.Goals as goal
 
 pub returns-in-Reports-clause-done : goal.returns-in-Reports-clause-done

@@ -1,32 +1,20 @@
--- The files that the words name.
-use Rattle.std.proofs.Common.{◌≡◌, ◌∙◌, ℕ, List, [], false, codes, map, unwrap_or, Option, Some, None, Ok, Err, option_map, ap, sym, subst, Bor, refl}
+-- What is read of the words, argument by argument.
+use Rattle.std.proofs.Common.{◌≡◌, ◌∙◌, ℕ, List, false, Option, Some, None, Ok, Err, option_map, ap, sym, subst, refl}
 use Rattle.std.specs.Str.Parse.{ParsesUnsigned}
 use Rattle.std.specs.declared.result.Result.{Result}
-use Rattle.clap.proofs.WalkLemmas.{one_text-rows, raw_values-rows}
+use Rattle.clap.proofs.WalkLemmas.{one_text-rows}
 use Rattle.std.specs.Result.{IsErrAnd}
 use Rattle.clap.specs.Built.{AddsArg}
 use Rattle.clap.specs.Kinds.{FailsBy, HasKind, Kinds}
 use Rattle.clap.specs.declared.error.Error.{Error}
-use Rattle.clap.specs.Words.{App, ReadsOne, Rule, app_of, matched_of, one_of, one_text, raw_values, rows_of, rule_of, with_rule}
+use Rattle.clap.specs.Words.{App, ReadsOne, Rule, app_of, one_of, one_text, rows_of, rule_of, with_rule}
 use Rattle.clap.specs.declared.builder.arg.Arg.{Arg}
 use Rattle.clap.specs.declared.builder.command.Command.{Command}
 use Rattle.clap.specs.declared.parser.matches.Found.{Found}
-use Rattle.grub_serve.specs.Faults.{names_of}
-use Rattle.grubrun.specs.CommandLine.{ReadsNumber, names_among}
-use Rattle.grubrun.specs.Views.{view_word}
-use Rattle.grubrun.specs.inside.Views.{ReadsViewWord}
-use Rattle.grubrun.specs.declared.view.ViewWord.{ViewWord}
-
--- the values that were found, or none
-pub names_found : (o : Option (Bor (List (Bor (List ℕ))))) (d r : Bor (List (Bor (List ℕ)))) (named : Option (List (List ℕ))) → r ≡ unwrap_or o d → d.now ≡ []
-    → option_map (λ s. map (λ v. v.now) s.now) o ≡ named → map (λ v. v.now) r.now ≡ unwrap_or named []
-names_found None d r named is empty found = rw (← found) (rw is (rw empty refl))
-names_found (Some s) d r named is empty found = rw (← found) (rw is refl)
-
--- the values of the argument for files are the names among the values of all arguments
-pub paths_are_names : (f : Found) (o : Option (Bor (List (Bor (List ℕ))))) (d r : Bor (List (Bor (List ℕ)))) → r ≡ unwrap_or o d → d.now ≡ []
-    → option_map (λ s. map (λ v. v.now) s.now) o ≡ option_map raw_values (matched_of f (codes "FILE")) → names_of r.now ≡ names_among (rows_of f)
-paths_are_names f o d r is empty found = names_found o d r _ is empty (found ∙ raw_values-rows f (codes "FILE"))
+use Rattle.grub_command.specs.CommandLine.{ReadsNumber}
+use Rattle.grub_command.specs.Views.{view_word}
+use Rattle.grub_command.specs.inside.Views.{ReadsViewWord}
+use Rattle.grub_command.specs.declared.view_word.ViewWord.{ViewWord}
 
 -- what `get_one` reads of an argument's value
 pub number_read : (E : Type 0) (G : List ℕ → Result ℕ E → Type 0) (bits : ℕ) (f : Found) (id : List ℕ) (r : Option ℕ) → (one_text f id ≡ None → r ≡ None) → ((t : List ℕ) → one_text f id ≡ Some t → ReadsOne G t r)

@@ -3,13 +3,12 @@
 ghost use Rattle.std.specs.Prelude.{◌≡◌, ◌≤◌, IfOk, IfSome, codes, pos, Some, map, string_bytes};
 ghost use Rattle.clap.specs.declared.builder.value_parser.ValueParser.TheVariants as parsers;
 ghost use Rattle.clap.specs.Words.{app_of, one_of, rule_of, rows_of, found_of, matches_of, fault_of, FailsBy};
-ghost use Rattle.grubrun.specs.CommandLine.{ReadsNumber, TriesNamed, Wants, tries_rule, rounds_rule, view_rule, from_rule, to_rule, files_rule, command_line};
-ghost use Rattle.grubrun.specs.inside.CommandLine.{RoundsNamed};
-ghost use Rattle.grubrun.specs.Rounds.{rounds_id};
-ghost use Rattle.grubrun.specs.inside.Rounds.{IsOf, TakesRounds};
+ghost use Rattle.grub_command.specs.CommandLine.{MomentNamed, ReadsNumber, RoundsNamed, TriesNamed, tries_rule, rounds_rule, view_rule, from_rule, to_rule, files_rule, command_line, view_named};
+ghost use Rattle.grub_command.specs.Rounds.{rounds_id};
+ghost use Rattle.grub_command.specs.inside.Rounds.{IsOf, TakesRounds};
 
 use crate::texts::VERSION;
-use crate::view::{ViewWord, Wanted, wanted_by};
+use crate::view_word::ViewWord;
 use clap::{Arg, ArgAction, ArgMatches, Command, Error, value_parser};
 use std::alloc::{AllocError, Global};
 
@@ -24,7 +23,11 @@ pub struct Options<'a> {
     pub matches: ArgMatches<'a>,
     pub tries: u8,
     pub rounds: u16,
-    pub wanted: Wanted,
+    /// The word after `--view`.
+    pub view: Option<ViewWord>,
+    /// The moments after `--from` and `--to`.
+    pub from: Option<u32>,
+    pub to: Option<u32>,
     ghost some_rounds: { 1 ≤ rounds },
 }
 
@@ -120,7 +123,9 @@ fn parse<'a>(alloc: Global, words: &'a [String]) -> Result<(ArgMatches<'a>, Opti
 pub fn options_of<'a>(alloc: Global, words: &'a [String]) -> Result<Options<'a>, Error>
     ensures tries { IfOk result (λ o. TriesNamed (map string_bytes words.now) o.tries) }
     ensures rounds { IfOk result (λ o. RoundsNamed (map string_bytes words.now) o.rounds) }
-    ensures wanted { IfOk result (λ o. Wants (map string_bytes words.now) o.wanted) }
+    ensures view { IfOk result (λ o. o.view ≡ view_named (map string_bytes words.now)) }
+    ensures from { IfOk result (λ o. MomentNamed (codes "from") (map string_bytes words.now) o.from) }
+    ensures to { IfOk result (λ o. MomentNamed (codes "to") (map string_bytes words.now) o.to) }
     ensures matches { IfOk result (λ o. rows_of (found_of o.matches) ≡ matches_of command_line (map string_bytes words.now)) }
     ensures faults { FailsBy (fault_of command_line (map string_bytes words.now)) result }
 {
@@ -133,6 +138,8 @@ pub fn options_of<'a>(alloc: Global, words: &'a [String]) -> Result<Options<'a>,
         matches,
         tries,
         rounds: rounds.unwrap_or(ROUNDS_DEFAULT),
-        wanted: wanted_by(view, from, to),
+        view,
+        from,
+        to,
     })
 }

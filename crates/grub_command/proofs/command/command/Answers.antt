@@ -2,10 +2,10 @@ use Rattle.std.proofs.Common.{◌≡◌, ◌∙◌, ap, codes}
 use Rattle.std.proofs.lemmas.Result.{IfOk-weaker}
 use Rattle.clap.specs.Simple.{app_of_fields}
 use Rattle.clap.specs.Words.{app_of, new_app}
-use Rattle.grubrun.specs.CommandLine.{with_version}
-use Rattle.grubrun.proofs.CommandLemmas.{line_more}
-use Rattle.grubrun.proofs.RoundsLemmas.{takes_rounds}
-use Rattle.grubrun.proofs.command.command.Goals as goal
+use Rattle.grub_command.specs.CommandLine.{with_version}
+use Rattle.grub_command.proofs.CommandLemmas.{line_more}
+use Rattle.grub_command.proofs.RoundsLemmas.{takes_rounds}
+use Rattle.grub_command.proofs.command.command.Goals as goal
 
 pub returns-clause-rounds : goal.returns-clause-rounds
 returns-clause-rounds c =

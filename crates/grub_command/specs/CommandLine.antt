@@ -1,5 +1,5 @@
 -- The command line: `grubrun [--tries N] [--rounds N] [--view V] [--from M] [--to M] FILE...`, or `--help` or `--version`.
-use Rattle.std.specs.Prelude.{◌≡◌, ◌⊎◌, ◌<◌, ◌^◌, ℕ, codes, pos, List, [], ◌∷◌, Option, None, Some, true, option_map, unwrap_or}
+use Rattle.std.specs.Prelude.{◌≡◌, ◌<◌, ◌^◌, ℕ, codes, pos, List, [], ◌∷◌, Option, None, Some, true, option_map, unwrap_or}
 use Rattle.std.specs.Str.Parse.{IsNumeral, digits_value, without_leading_plus}
 use Rattle.clap.specs.Simple.{on_top}
 use Rattle.clap.specs.Words.{App, Row, Rule, Text, all_of, one_of, fault_of, matches_of, new_app, new_rule, with_rule}
@@ -8,10 +8,9 @@ use Rattle.clap.specs.Lexer.{usize_max}
 use Rattle.clap.specs.declared.error.kind.ErrorKind.TheVariants as kinds
 use Rattle.clap.specs.declared.builder.action.ArgAction.TheVariants.{Append}
 use Rattle.clap.specs.declared.builder.value_parser.ValueParser.TheVariants as parsers
-use Rattle.grubrun.specs.declared.view.ViewWord.{ViewWord}
-use Rattle.grubrun.specs.declared.view.Wanted.{Wanted}
-use Rattle.grubrun.specs.Rounds.{rounds_id, rounds_parser}
-use Rattle.grubrun.specs.Views.{IsMistake, view_word, wanted_of}
+use Rattle.grub_command.specs.declared.view_word.ViewWord.{ViewWord}
+use Rattle.grub_command.specs.Rounds.{rounds_id, rounds_parser}
+use Rattle.grub_command.specs.Views.{view_word}
 
 -- a number from 0 to 255, 8 where it is not given
 abbrev pub tries_rule : Rule
@@ -69,6 +68,10 @@ SpellsOr other bits id rows n = (r : Option ℕ) × ReadsNumber bits (one_of id 
 abbrev pub TriesNamed : List Text → ℕ → Type 0
 TriesNamed words n = SpellsOr 8 8 (codes "tries") (matches_of command_line words) n
 
+-- and for so many rounds
+abbrev pub RoundsNamed : List Text → ℕ → Type 0
+RoundsNamed words n = SpellsOr 64 16 rounds_id (matches_of command_line words) n
+
 -- these words name this view
 abbrev pub view_named : List Text → Option ViewWord
 view_named words = option_map view_word (one_of (codes "view") (matches_of command_line words))
@@ -76,18 +79,6 @@ view_named words = option_map view_word (one_of (codes "view") (matches_of comma
 -- the moment that these words name by this option, if there is one
 abbrev pub MomentNamed : Text → List Text → Option ℕ → Type 0
 MomentNamed id words m = ReadsNumber 32 (one_of id (matches_of command_line words)) m
-
--- these words ask for this to be printed
-pub record Wants (words : List Text) (wanted : Wanted) : Type 0 where
-  pub from : Option ℕ
-  pub begins : MomentNamed (codes "from") words from
-  pub to : Option ℕ
-  pub ends : MomentNamed (codes "to") words to
-  pub is : wanted ≡ wanted_of (view_named words) from to
-
--- the command line does not take these words, or they ask for what there is nothing of
-abbrev pub IsRefused : List Text → Type 0
-IsRefused words = (fault_of command_line words ≡ [] → ⊥) ⊎ ((wanted : Wanted) × Wants words wanted × IsMistake wanted)
 
 -- these words ask for the help, or for the version
 abbrev pub AsksForHelp : List Text → Type 0

@@ -2,10 +2,10 @@ use Rattle.std.proofs.Common.{◌≡◌, ℕ, List, Option, None, Some, codes, s
 use Rattle.std.specs.Str.Parse.{ParsesUnsigned, ExplainsUnsignedError, HasUnsignedDigitsIfOk}
 use Rattle.clap.specs.Words.{ReadsOne, Row, found_of, one_of, one_text, rows_of}
 use Rattle.clap.specs.declared.parser.matches.Found.{Found}
-use Rattle.grubrun.proofs.CommandLemmas.{number_read, word_read}
-use Rattle.grubrun.specs.CommandLine.{ReadsNumber}
-use Rattle.grubrun.specs.Views.{view_word, wanted_of}
-use Rattle.grubrun.proofs.command.options_of.Goals as goal
+use Rattle.grub_command.proofs.CommandLemmas.{number_read, word_read}
+use Rattle.grub_command.specs.CommandLine.{ReadsNumber}
+use Rattle.grub_command.specs.Views.{view_word}
+use Rattle.grub_command.proofs.command.options_of.Goals as goal
 
 pub returns-clause-tries : goal.returns-clause-tries
 returns-clause-tries c =
@@ -18,14 +18,13 @@ moment : (id : List ℕ) → (r : Option ℕ) (f : Found) (rows : List Row) → 
 moment id r f rows are none value =
     subst (λ w. ReadsNumber 32 (one_of id w) r) are (number_read _ (λ bs x. ParsesUnsigned 32 10 bs x × ExplainsUnsignedError 10 bs x × HasUnsignedDigitsIfOk bs x) 32 f id r none value (λ u x g. g.0))
 
-pub returns-clause-wanted : goal.returns-clause-wanted
-returns-clause-wanted c =
+pub returns-clause-view : goal.returns-clause-view
+returns-clause-view c =
     let read = word_read (found_of c.in_ok-matches.matches) (codes "view") c.get_one-view.result c.get_one-view.ensures.none c.get_one-view.ensures.value in
-    let view = read ∙ ap (λ rows. option_map view_word (one_of (codes "view") rows)) c.in_ok-matches.ensures.matches in
-    record {
-      from = c.get_one-from.result;
-      begins = moment (codes "from") c.get_one-from.result (found_of c.in_ok-matches.matches) _ c.in_ok-matches.ensures.matches c.get_one-from.ensures.none c.get_one-from.ensures.value;
-      to = c.get_one-to.result;
-      ends = moment (codes "to") c.get_one-to.result (found_of c.in_ok-matches.matches) _ c.in_ok-matches.ensures.matches c.get_one-to.ensures.none c.get_one-to.ensures.value;
-      is = c.wanted_by.ensures ∙ ap (λ v. wanted_of v c.get_one-from.result c.get_one-to.result) view;
-    }
+    read ∙ ap (λ rows. option_map view_word (one_of (codes "view") rows)) c.in_ok-matches.ensures.matches
+
+pub returns-clause-from : goal.returns-clause-from
+returns-clause-from c = moment (codes "from") c.get_one-from.result (found_of c.in_ok-matches.matches) _ c.in_ok-matches.ensures.matches c.get_one-from.ensures.none c.get_one-from.ensures.value
+
+pub returns-clause-to : goal.returns-clause-to
+returns-clause-to c = moment (codes "to") c.get_one-to.result (found_of c.in_ok-matches.matches) _ c.in_ok-matches.ensures.matches c.get_one-to.ensures.none c.get_one-to.ensures.value

@@ -1,0 +1,4 @@
+pub mod CommandLine
+pub mod Rounds
+pub mod Views
+pub mod inside
