@@ -1,5 +1,5 @@
 -- The words of a form, and the line that they make.
-use Rattle.std.proofs.Common.{◌≡◌, ℕ, ◌^◌, ◌<◌, Bool, true, false, not, ◌&&◌, ◌||◌, cond, eqb, ◌⊎◌, inl, inr, List, [], ◌∷◌, length, get_or, Option, Some, None, option_map, refl, ap, ◌∙◌, arith, subst}
+use Rattle.std.proofs.Common.{map, ◌≤◌, ◌≡◌, ℕ, ◌^◌, ◌<◌, Bool, true, false, not, ◌&&◌, ◌||◌, cond, eqb, ◌⊎◌, inl, inr, List, [], ◌∷◌, length, get_or, Option, Some, None, option_map, refl, ap, ◌∙◌, arith, subst}
 use Rattle.std.specs.Prelude.{codes, decimal}
 use Rattle.std.specs.Str.{bytes_eq}
 use Rattle.std.specs.Char.{is_ascii_digit}
@@ -139,6 +139,58 @@ no_shape ws h = go (list_all is_filled ws) (shape_of ws) h
     go : (b : Bool) (o : Option Form) → o ≡ None → cond b o None ≡ None
     go true o h = h
     go false o h = refl
+
+-- ---- words of no shape, as slices have them
+
+pub few_words : {X : Type 0} (f : X → List ℕ) (ws : List X) → length ws < 3 → shape_of (map f ws) ≡ None
+few_words f [] h = refl
+few_words f (a ∷ []) h = refl
+few_words f (a ∷ b ∷ []) h = refl
+few_words f (a ∷ b ∷ c ∷ ws) h = absurd (omega arith)
+
+pub many_words : {X : Type 0} (f : X → List ℕ) (ws : List X) → 6 < length ws → shape_of (map f ws) ≡ None
+many_words f [] h = absurd (omega arith)
+many_words f (a ∷ []) h = absurd (omega arith)
+many_words f (a ∷ b ∷ []) h = absurd (omega arith)
+many_words f (a ∷ b ∷ c ∷ []) h = absurd (omega arith)
+many_words f (a ∷ b ∷ c ∷ d ∷ []) h = absurd (omega arith)
+many_words f (a ∷ b ∷ c ∷ d ∷ e ∷ []) h = absurd (omega arith)
+many_words f (a ∷ b ∷ c ∷ d ∷ e ∷ g ∷ []) h = absurd (omega arith)
+many_words f (a ∷ b ∷ c ∷ d ∷ e ∷ g ∷ i ∷ ws) h = refl
+
+pub three_words : {X : Type 0} (f : X → List ℕ) (ws : List X) (d : X) → 3 ≤ length ws → length ws < 4 → bytes_eq (f (get_or ws 0 d)) (codes "queue") ≡ false → (bytes_eq (f (get_or ws 0 d)) (codes "at") && bytes_eq (f (get_or ws 2 d)) (codes "read")) ≡ false → shape_of (map f ws) ≡ None
+three_words f [] d m l x y = absurd (omega arith)
+three_words f (a ∷ []) d m l x y = absurd (omega arith)
+three_words f (a ∷ b ∷ []) d m l x y = absurd (omega arith)
+three_words f (a ∷ b ∷ c ∷ []) d m l x y = rw (x, y) refl
+three_words f (a ∷ b ∷ c ∷ e ∷ ws) d m l x y = absurd (omega arith)
+
+pub four_words : {X : Type 0} (f : X → List ℕ) (ws : List X) (d : X) → 4 ≤ length ws → length ws < 5 → (bytes_eq (f (get_or ws 0 d)) (codes "task") && is_name (f (get_or ws 1 d))) ≡ false → (bytes_eq (f (get_or ws 0 d)) (codes "at") && is_name (f (get_or ws 3 d))) ≡ false → shape_of (map f ws) ≡ None
+four_words f [] d m l x y = absurd (omega arith)
+four_words f (a ∷ []) d m l x y = absurd (omega arith)
+four_words f (a ∷ b ∷ []) d m l x y = absurd (omega arith)
+four_words f (a ∷ b ∷ c ∷ []) d m l x y = absurd (omega arith)
+four_words f (a ∷ b ∷ c ∷ e ∷ []) d m l x y = rw (x, y) refl
+four_words f (a ∷ b ∷ c ∷ e ∷ g ∷ ws) d m l x y = absurd (omega arith)
+
+pub five_words : {X : Type 0} (f : X → List ℕ) (ws : List X) (d : X) → 5 ≤ length ws → length ws < 6 → (bytes_eq (f (get_or ws 0 d)) (codes "at") && bytes_eq (f (get_or ws 2 d)) (codes "run") && is_name (f (get_or ws 3 d))) ≡ false → shape_of (map f ws) ≡ None
+five_words f [] d m l x = absurd (omega arith)
+five_words f (a ∷ []) d m l x = absurd (omega arith)
+five_words f (a ∷ b ∷ []) d m l x = absurd (omega arith)
+five_words f (a ∷ b ∷ c ∷ []) d m l x = absurd (omega arith)
+five_words f (a ∷ b ∷ c ∷ e ∷ []) d m l x = absurd (omega arith)
+five_words f (a ∷ b ∷ c ∷ e ∷ g ∷ []) d m l x = rw (x) refl
+five_words f (a ∷ b ∷ c ∷ e ∷ g ∷ i ∷ ws) d m l x = absurd (omega arith)
+
+pub six_words : {X : Type 0} (f : X → List ℕ) (ws : List X) (d : X) → 6 ≤ length ws → length ws < 7 → (bytes_eq (f (get_or ws 0 d)) (codes "at") && bytes_eq (f (get_or ws 2 d)) (codes "retune") && is_name (f (get_or ws 3 d))) ≡ false → shape_of (map f ws) ≡ None
+six_words f [] d m l x = absurd (omega arith)
+six_words f (a ∷ []) d m l x = absurd (omega arith)
+six_words f (a ∷ b ∷ []) d m l x = absurd (omega arith)
+six_words f (a ∷ b ∷ c ∷ []) d m l x = absurd (omega arith)
+six_words f (a ∷ b ∷ c ∷ e ∷ []) d m l x = absurd (omega arith)
+six_words f (a ∷ b ∷ c ∷ e ∷ g ∷ []) d m l x = absurd (omega arith)
+six_words f (a ∷ b ∷ c ∷ e ∷ g ∷ i ∷ []) d m l x = rw (x) refl
+six_words f (a ∷ b ∷ c ∷ e ∷ g ∷ i ∷ j ∷ ws) d m l x = absurd (omega arith)
 
 -- ---- the first line
 

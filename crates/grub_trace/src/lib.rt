@@ -17,6 +17,7 @@ mod tasks;
 mod tests;
 mod text;
 mod version;
+mod word_list;
 mod words;
 mod writing;
 

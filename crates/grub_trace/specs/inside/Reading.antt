@@ -1,6 +1,7 @@
 -- The reader as a function of the bytes, and what the code holds of a file between its steps.
-use Rattle.std.specs.Prelude.{◌≡◌, ℕ, min, List, [], ◌∷◌, Option, Some, None, true, Result, Ok, Err, if◌then◌else◌}
+use Rattle.std.specs.Prelude.{take, ◌≡◌, ℕ, min, List, [], ◌∷◌, Option, Some, None, true, Result, Ok, Err, if◌then◌else◌}
 use Rattle.std.specs.Prelude.{◌++◌, map, string_bytes, false, ◌≤◌, nat_lt, Bool, not, ◌&&◌, ◌-◌, length, ◌==◌, ◌+◌}
+use Rattle.std.specs.Borrow.{Bor}
 use Rattle.std.specs.List.{list_all}
 use Rattle.std.specs.Char.{is_ascii_digit}
 use Rattle.std.specs.HashMap.{get_by_text}
@@ -29,20 +30,16 @@ use Rattle.grub_trace.specs.Tree.{is_moment, is_span, Declaration, Deed, does, r
 use Rattle.grub_trace.specs.Faults.{queue_fault, form_fault, task_of, last_of, version_of, reservation_fits}
 use Rattle.grub_trace.specs.declared.form.Form as coded
 use Rattle.grub_trace.specs.declared.form.Form.TheVariants as code
-use Rattle.grub_trace.specs.declared.words.Words.{Words}
-use Rattle.grub_trace.specs.declared.words.Words.TheVariants as words
+use Rattle.grub_trace.specs.declared.word_list.WordList.{WordList}
 use Rattle.grub_trace.specs.Faults.{Form, queue, task, at_moment, words_of, form_of, is_filled, is_number, value, reservation_value, capacity_value}
 
--- these are the words
-abbrev pub AreWords : Words → List (List ℕ) → Type 0
-AreWords (words.Three k a b) ws = ws ≡ k.now ∷ a.now ∷ b.now ∷ []
-AreWords (words.Four k a b c) ws = ws ≡ k.now ∷ a.now ∷ b.now ∷ c.now ∷ []
-AreWords (words.Five k a b c d) ws = ws ≡ k.now ∷ a.now ∷ b.now ∷ c.now ∷ d.now ∷ []
-AreWords (words.Six k a b c d e) ws = ws ≡ k.now ∷ a.now ∷ b.now ∷ c.now ∷ d.now ∷ e.now ∷ []
+-- the words that were found
+abbrev pub words_in : WordList → List (Bor (List ℕ))
+words_in words = take words.count words.list
 
 -- these are the words, and none of them is empty
-abbrev pub AreFilled : Words → List (List ℕ) → Type 0
-AreFilled words ws = AreWords words ws × (list_all is_filled ws ≡ true)
+abbrev pub AreFilled : WordList → List (List ℕ) → Type 0
+AreFilled words ws = (map (λ w. w.now) (words_in words) ≡ ws) × (list_all is_filled ws ≡ true)
 
 -- what is said, with numbers in another form
 abbrev pub deed_view : {X Y : Type 0} → (X → Y) → raw.Deed X → Deed Y
