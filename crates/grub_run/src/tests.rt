@@ -38,7 +38,7 @@ fn prints<R: Threads + Wait>(
 {
     let files = files_of(alloc, files)?;
     let mut out: Vec<u8> = Vec::new(alloc);
-    let result = run_texts(rt, alloc, &files, tries, rounds, &mut out);
+    let result = run_texts(rt, alloc, files, tries, rounds, &mut out);
     Ok(result == Ok(()) && out.as_slice() == text.as_bytes())
 }
 
@@ -159,7 +159,7 @@ fn faults_before_anything_is_written(rt: HostRuntime) -> Result<(), Fail> {
             files.push(b"grub 1\nqueue 1 0\n".to_vec(alloc)?)?;
         }
         let mut out: Vec<u8> = Vec::new(alloc);
-        let result = run_texts(&rt, alloc, &files, 8, 64, &mut out);
+        let result = run_texts(&rt, alloc, files, 8, 64, &mut out);
         let fault = TraceFault::At {
             kind,
             file,

@@ -21,7 +21,8 @@ use std::io::Write;
 use std::sync::Wait;
 use std::thread::Threads;
 
-/// Reads event files, runs them with a thread for each, and writes the texts of their reports in file order.
+/// Reads event files, runs them with a thread for each, and writes the texts of their reports in file order. The files'
+/// bytes are dropped before the run, so their memory is free for the entries.
 ///
 /// `Trace` (28 to 37) is the reader's fault. `WriteFault` (45) comes where a write or the flush failed, or a write took
 /// nothing; a beginning of the text was written then. On every other fault nothing was written: the text goes through a
@@ -29,26 +30,27 @@ use std::thread::Threads;
 pub fn run_texts<R: Threads + Wait, W: Write>(
     rt: &R,
     alloc: Global,
-    files: &[Vec<u8>],
+    files: Vec<Vec<u8>>,
     tries: u8,
     rounds: u16,
     out: &mut W,
 ) -> Result<(), GrubFault>
     requires { 1 ≤ rounds }
 
-    ensures text { OnOk result (WritesText tries (contents files.now) (W.contents out.old) (W.contents out.new)) }
-    ensures prefix { IfErr result (λ e. e ≡ faults.WriteFault → WritesPrefix tries (contents files.now) (W.contents out.old) (W.contents out.new)) }
+    ensures text { OnOk result (WritesText tries (contents files.items) (W.contents out.old) (W.contents out.new)) }
+    ensures prefix { IfErr result (λ e. e ≡ faults.WriteFault → WritesPrefix tries (contents files.items) (W.contents out.old) (W.contents out.new)) }
     ensures nothing { IfErr result (λ e. (e ≡ faults.WriteFault → ⊥) → out.new ≡ out.old) }
 
     // A fault of the files is the reader's, and where there is one it is answered, memory aside.
-    ensures fault { IfErr result (IsFaultOf (contents files.now)) }
-    ensures answered { (k : Kind) (f n : ℕ) → IsFault (contents files.now) k f n → MatchResult result (λ _. ⊥) (λ e. IsOnlyFault e k f n) }
-    ensures readable { (trees : List Tree) → Reads (contents files.now) trees → IfErr result IsNoFileFault }
+    ensures fault { IfErr result (IsFaultOf (contents files.items)) }
+    ensures answered { (k : Kind) (f n : ℕ) → IsFault (contents files.items) k f n → MatchResult result (λ _. ⊥) (λ e. IsOnlyFault e k f n) }
+    ensures readable { (trees : List Tree) → Reads (contents files.items) trees → IfErr result IsNoFileFault }
 {
-    let plan = match read_files(alloc, files) {
+    let plan = match read_files(alloc, &files) {
         Ok(plan) => plan,
         Err(fault) => return Err(GrubFault::Trace(fault)),
     };
+    drop(files);
     let outcome = match run(rt, alloc, &plan, tries, rounds, &NoGate) {
         Ok(outcome) => outcome,
         Err(fault) => return Err(GrubFault::Run(fault)),

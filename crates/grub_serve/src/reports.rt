@@ -166,7 +166,7 @@ pub fn print_reports<
         Ok(files) => files,
         Err(fault) => return Err(fault),
     };
-    match run_texts(rt, alloc, &files, tries, rounds, out) {
+    match run_texts(rt, alloc, files, tries, rounds, out) {
         Ok(()) => Ok(()),
         Err(fault) => Err(placed(paths, fault)),
     }

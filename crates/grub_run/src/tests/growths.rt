@@ -32,7 +32,7 @@ fn expect_text_or_refusal<R: Abort + Threads + Wait>(
     let Ok((files, mut out)) = made else {
         panic!(rt; "refused twice")
     };
-    match run_texts(rt, alloc, &files, 8, 64, &mut out) {
+    match run_texts(rt, alloc, files, 8, 64, &mut out) {
         Ok(()) => assert_eq!(rt; out.as_slice(), text.as_bytes()),
         Err(fault) => {
             assert!(rt; is_refusal(fault));

@@ -61,19 +61,20 @@ impl Write for Narrow {
 #[test]
 fn writers_that_fail(rt: HostRuntime) -> Result<(), Fail> {
     let alloc = rt.alloc();
-    let files = files_of(alloc, [DOCUMENTATION].as_slice())?;
     let whole = DOCUMENTATION_REPORT.as_bytes();
     let whole_calls = whole.len().div_ceil(7);
     for then in [Then::Fails, Then::TakesNothing, Then::FailsInFlush] {
         for calls in 0..whole_calls {
             let mut out = Narrow::new(alloc, 7, calls, then);
-            let result = run_texts(&rt, alloc, &files, 8, 64, &mut out);
+            let files = files_of(alloc, [DOCUMENTATION].as_slice())?;
+            let result = run_texts(&rt, alloc, files, 8, 64, &mut out);
             assert!(rt; result == Err(GrubFault::WriteFault));
             assert_eq!(rt; out.text.as_slice(), &whole[..calls * 7]);
         }
     }
     let mut out = Narrow::new(alloc, 10, 1, Then::Fails);
-    let result = run_texts(&rt, alloc, &files, 8, 64, &mut out);
+    let files = files_of(alloc, [DOCUMENTATION].as_slice())?;
+    let result = run_texts(&rt, alloc, files, 8, 64, &mut out);
     assert!(rt; result == Err(GrubFault::WriteFault));
     assert_eq!(rt; out.text.as_slice(), b"runqueue 0".as_slice());
     Ok(())
@@ -82,14 +83,14 @@ fn writers_that_fail(rt: HostRuntime) -> Result<(), Fail> {
 #[test]
 fn writers_that_take_all(rt: HostRuntime) -> Result<(), Fail> {
     let alloc = rt.alloc();
-    let files = files_of(alloc, [DOCUMENTATION].as_slice())?;
     for (each, then, want) in [
         (1, Then::Fails, Ok(())),
         (1000, Then::TakesNothing, Ok(())),
         (1000, Then::FailsInFlush, Err(GrubFault::WriteFault)),
     ] {
         let mut out = Narrow::new(alloc, each, 1000, then);
-        let result = run_texts(&rt, alloc, &files, 8, 64, &mut out);
+        let files = files_of(alloc, [DOCUMENTATION].as_slice())?;
+        let result = run_texts(&rt, alloc, files, 8, 64, &mut out);
         assert!(rt; result == want);
         assert_eq!(rt; out.text.as_slice(), DOCUMENTATION_REPORT.as_bytes());
     }
