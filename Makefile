@@ -50,8 +50,10 @@ program: runner
 options: build
 	bash scripts/options.sh
 
-# A time line beside a run by threads of the same files: time and memory, and their ratios.
+# A run over files whose sizes double, and a time line beside a run by threads of the same files: time and memory, and their
+# ratios.
 bench: runner
+	@python3 scripts/bench-sizes.py
 	@python3 scripts/bench-timeline.py
 
 # Records a load of two tasks on this machine, converts the trace and plays it; elsewhere it says why it cannot.
