@@ -19,11 +19,11 @@ use Rattle.grub_table.specs.declared.view.Share.{Share}
 use Rattle.grub_table.specs.declared.view.Terms.{Terms}
 use Rattle.grub_table.specs.inside.Between.{TheSeat, share_on, made_on, IsSeatOf, HoldsFor, HoldsMade, Tells, Leaves, GivenUp, SawReading, SawParams, SawServer, SawQueue, Exchanged, Concluded}
 use Rattle.grub_table.specs.declared.view.Stored.{Stored}
-use Rattle.grub_table.specs.Histories.{Finishes, record_in, reading_in}
+use Rattle.grub_table.specs.Histories.{record_in, reading_in}
 use Rattle.grub_table.specs.Layout.{queue_word_at}
 use Rattle.grub_table.specs.inside.Layout.{stored_of}
 use Rattle.grub_book.specs.Step.{early}
-use Rattle.grub_table.specs.inside.Tellings.{Turns, OfQueue, outcome, is_decided_at_load, DecidesIf, Decides, Looked, LoadedParams, LoadedServer, LoadedQueue, LoadedQueueAs, ChangedQueue, GaveClaim, Sees, IsReadingFor}
+use Rattle.grub_table.specs.inside.Tellings.{Finishes, Turns, OfQueue, outcome, is_decided_at_load, DecidesIf, Decides, Looked, LoadedParams, LoadedServer, LoadedQueue, LoadedQueueAs, ChangedQueue, GaveClaim, Sees, IsReadingFor}
 use Rattle.grub_table.specs.Trails.{head_made}
 use Rattle.grub_table.specs.inside.Trails.{each_after, known, lone, trail}
 use Rattle.grub_table.specs.inside.Views.{alone}

@@ -8,7 +8,6 @@ use lib.ListN.{get_elem?}
 use Rattle.std.specs.List.{AllByRecursion, Any}
 use Rattle.std.proofs.lemmas.List.Elements.{All-from_recursion}
 use Rattle.atomic_table.specs.Table.{State}
-use Rattle.grub_book.specs.History.{calls_of}
 use Rattle.grub_book.specs.declared.event.Event.{Event}
 use Rattle.grub_book.specs.declared.event.Reading.{Reading}
 use Rattle.grub_words.specs.Words.{queue_word, QueueFits}
@@ -19,10 +18,10 @@ use Rattle.grub_table.specs.declared.view.Mark.{Mark}
 use Rattle.grub_table.specs.declared.view.Share.{Share}
 use Rattle.grub_table.specs.declared.view.Terms.{Terms}
 use Rattle.grub_table.specs.declared.view.View.{View}
-use Rattle.grub_table.specs.Calls.{share_of, terms, number_of, IsPartOf, IsMarkPartOf, IsClosed}
+use Rattle.grub_table.specs.Calls.{share_of, terms, number_of, IsClosed}
+use Rattle.grub_table.specs.Knowing.{Knows}
 use Rattle.grub_table.specs.Histories.{reading_in}
 use Rattle.grub_table.specs.Layout.{queue_word_at}
-use Rattle.grub_table.specs.Marks.{marks_of}
 use Rattle.grub_table.specs.inside.Rule.{Stands, Kept}
 use Rattle.grub_table.specs.inside.Views.{ShareOf, MarkedBy}
 use Rattle.grub_table.proofs.Growths.{all_weaker}
@@ -36,17 +35,13 @@ pub shares_left : (xs ys : List Share) (ps : List Pass) → length ps ≡ 0 → 
 shares_left xs ys [] none is = is
 shares_left xs ys (p ∷ ps) none is = absurd (omega arith)
 
-parts : (T : Terms) (h : List Event) (ps : List Pass) → AllByRecursion (ShareOf T h) (map share_of ps) → AllByRecursion (IsPartOf h) ps
-parts T h [] a = tt
-parts T h (p ∷ ps) a = (record { starts = a.0.seen; own = subst (λ n. calls_of n h ≡ calls_of n (share_of p).seen) p.numbered a.0.own }, parts T h ps a.1)
-
-mark_parts : (ms : List Mark) (ps : List Pass) → AllByRecursion (MarkedBy ms) (map share_of ps) → AllByRecursion (IsMarkPartOf ms) ps
-mark_parts ms [] a = tt
-mark_parts ms (p ∷ ps) a = (record { starts = a.0.starts; own = subst (λ n. marks_of n ms ≡ marks_of n (share_of p).marks) p.numbered a.0.own }, mark_parts ms ps a.1)
+known_by : (T : Terms) (h : List Event) (ms : List Mark) (ps : List Pass) → AllByRecursion (ShareOf T h) (map share_of ps) → AllByRecursion (MarkedBy ms) (map share_of ps) → AllByRecursion (λ p. Knows (share_of p) h ms) ps
+known_by T h ms [] a b = tt
+known_by T h ms (p ∷ ps) a b = (record { seen = a.0.seen; marked = b.0 }, known_by T h ms ps a.1 b.1)
 
 has_number : (i : ℕ) (ps : List Pass) → Among i (map share_of ps) → Any (λ p. number_of p ≡ i) ps
 has_number i [] a = absurd a
-has_number i (p ∷ ps) a = ⊎_elim (λ is. (0, p, omega arith, refl, sym p.numbered ∙ is)) (λ t. let k = has_number i ps t in (suc k.0, k.1, omega (arith, k.2), k.3, k.4)) a
+has_number i (p ∷ ps) a = ⊎_elim (λ is. (0, p, omega arith, refl, is)) (λ t. let k = has_number i ps t in (suc k.0, k.1, omega (arith, k.2), k.3, k.4)) a
 
 length_shares : (ps : List Pass) → length (map share_of ps) ≡ length ps
 length_shares [] = refl
@@ -84,10 +79,11 @@ module _ {S : Type 0} (self : Shared) (s : State S View) (id : ℕ) (v : View) (
       record {
         history = k.history;
         is_history = k.is_history;
-        parts = All-from_recursion (IsPartOf k.history) ps (parts T k.history ps (subst (AllByRecursion (ShareOf T k.history)) shares (all_weaker (Stands T k.history k.owner id) (ShareOf T k.history) (λ x t. t.0) v.shares mine.0)));
         marks = k.marks;
         lawful = k.lawful;
-        mark_parts = All-from_recursion (IsMarkPartOf k.marks) ps (mark_parts k.marks ps (subst (AllByRecursion (MarkedBy k.marks)) shares (k.marked id v at)));
+        knows = All-from_recursion (λ p. Knows (share_of p) k.history k.marks) ps
+            (known_by T k.history k.marks ps (subst (AllByRecursion (ShareOf T k.history)) shares (all_weaker (Stands T k.history k.owner id) (ShareOf T k.history) (λ x t. t.0) v.shares mine.0))
+            (subst (AllByRecursion (MarkedBy k.marks)) shares (k.marked id v at)));
         readings = record {
           one_each = room;
           value = λ r d lt.

@@ -1,13 +1,17 @@
 -- Histories that go on.
-use Rattle.std.proofs.Common.{◌≡◌, ℕ, ◌<◌, List, [], ◌∷◌, ◌++◌, refl, ap, ◌∙◌, subst, append_assoc}
+use Rattle.std.proofs.Common.{◌≡◌, ◌≢◌, ◌==◌, ℕ, ◌<◌, cond, filter, List, [], ◌∷◌, ◌++◌, refl, sym, ap, ◌∙◌, subst, append_assoc, append-nil, eq-eqb, ne_eqb}
 use Rattle.std.specs.List.{AllByRecursion}
-use Rattle.std.proofs.lemmas.List.Elements.{All-push}
-use Rattle.grub_book.specs.History.{IsTrueOf, book_of, calls_of, pass_of}
+use Rattle.std.proofs.lemmas.List.Elements.{All-push, filter-append}
+use Rattle.grub_book.specs.History.{IsTrueOf, book_of, pass_of}
 use Rattle.grub_book.specs.declared.event.Event.{Event}
-use Rattle.grub_book.proofs.Histories.{legal_push, calls_own, starts_whole, starts_after, starts_more}
+use Rattle.grub_book.proofs.Histories.{legal_push, starts_whole, starts_after}
+use Rattle.grub_table.specs.declared.view.Mark.{Mark}
 use Rattle.grub_table.specs.declared.view.Share.{Share}
 use Rattle.grub_table.specs.declared.view.Terms.{Terms}
-use Rattle.grub_table.specs.Histories.{IsHistory, Grows, Finishes}
+use Rattle.grub_table.specs.Histories.{IsHistory}
+use Rattle.grub_table.specs.Knowing.{GoesOn, Knows, Learns}
+use Rattle.grub_table.specs.Marks.{marker_of}
+use Rattle.grub_table.specs.inside.Tellings.{Grows, Finishes, MarksGo}
 use Rattle.grub_table.specs.inside.Views.{ShareOf}
 
 pub all_append : {X : Type 0} (P : X → Type 0) (xs ys : List X) → AllByRecursion P xs → AllByRecursion P ys → AllByRecursion P (xs ++ ys)
@@ -29,32 +33,51 @@ history_more T h e is so below = record {
   numbers = All-push (λ (f : Event). pass_of f < T.passes) h e is.numbers below;
 }
 
-pub calls_mine : (i : ℕ) (h : List Event) (e : Event) → pass_of e ≡ i → calls_of i (h ++ e ∷ []) ≡ calls_of i h ++ e ∷ []
-calls_mine i h e by = subst (λ n. calls_of n (h ++ e ∷ []) ≡ calls_of n h ++ e ∷ []) by (calls_own h e)
+-- ---- lists that go on
+module _ {X : Type 0} (by : X → ℕ) (i : ℕ) where
+  abbrev own : List X → List X
+  own xs = filter (λ x. by x == i) xs
 
--- what a pass is told that has seen the whole history
-pub grown : (T : Terms) (h : List Event) (x : Share) → IsHistory T h → ShareOf T h x → Grows T x.number x.seen h
-grown T h x is k = record { history = is; starts = k.seen; own = k.own }
+  pub goes_none : (a : List X) → GoesOn by i a a []
+  goes_none a = record { starts = starts_whole a; own = sym (append-nil (own a)) }
+
+  pub goes_twice : (a b c xs ys : List X) → GoesOn by i a b xs → GoesOn by i b c ys → GoesOn by i a c (xs ++ ys)
+  goes_twice a b c xs ys g h = record { starts = starts_after c b a h.starts g.starts; own = h.own ∙ ap (λ l. l ++ ys) g.own ∙ append_assoc (own a) xs ys }
+
+  -- one item more, of i or not
+  pub goes_own : (a b : List X) (x : X) → by x ≡ i → GoesOn by i a b [] → GoesOn by i a (b ++ x ∷ []) (x ∷ [])
+  goes_own a b x is g = goes_twice a b (b ++ x ∷ []) [] (x ∷ []) g
+      (record { starts = (x ∷ [], refl); own = filter-append (λ y. by y == i) b (x ∷ []) ∙ ap (λ l. own b ++ l) (ap (λ t. cond t (x ∷ []) []) (eq-eqb (by x) i is)) })
+
+  pub goes_else : (a b : List X) (x : X) → by x ≢ i → GoesOn by i a b [] → GoesOn by i a (b ++ x ∷ []) []
+  goes_else a b x not g = goes_twice a b (b ++ x ∷ []) [] [] g
+      (record { starts = (x ∷ [], refl); own = filter-append (λ y. by y == i) b (x ∷ []) ∙ ap (λ l. own b ++ l) (ap (λ t. cond t (x ∷ []) []) (ne_eqb (by x) i not)) })
 
 -- what a pass is told whose event is the next of the history
 pub finished : (T : Terms) (h : List Event) (x : Share) (e : Event) → IsHistory T (h ++ e ∷ []) → ShareOf T h x → pass_of e ≡ x.number → Finishes T x.number x.seen e (h ++ e ∷ [])
-finished T h x e is k by = record {
-  history = is;
-  starts = starts_more h x.seen e k.seen;
-  last = (k.seen.0, ap (λ l. l ++ e ∷ []) k.seen.1);
-  own = calls_mine x.number h e by ∙ ap (λ l. l ++ e ∷ []) k.own;
-}
+finished T h x e is k by = (is, goes_own pass_of x.number x.seen h e by k.seen, (h, refl))
 
 pub grows_grows : (T : Terms) (i : ℕ) (a b c : List Event) → Grows T i a b → Grows T i b c → Grows T i a c
-grows_grows T i a b c g h = record { history = h.history; starts = starts_after c b a h.starts g.starts; own = h.own ∙ g.own }
+grows_grows T i a b c g h = (h.0, goes_twice pass_of i a b c [] [] g.1 h.1)
 
 pub grows_finishes : (T : Terms) (i : ℕ) (a b : List Event) (e : Event) (c : List Event) → Grows T i a b → Finishes T i b e c → Finishes T i a e c
-grows_finishes T i a b e c g f = record {
-  history = f.history;
-  starts = starts_after c b a f.starts g.starts;
-  last = (g.starts.0 ++ f.last.0, f.last.1 ∙ ap (λ l. (l ++ f.last.0) ++ e ∷ []) g.starts.1 ∙ ap (λ l. l ++ e ∷ []) (append_assoc a g.starts.0 f.last.0));
-  own = f.own ∙ ap (λ l. l ++ e ∷ []) g.own;
+grows_finishes T i a b e c g f = (f.0, goes_twice pass_of i a b c [] (e ∷ []) g.1 f.1, f.2)
+
+pub marks_both : (n i : ℕ) (a b c xs ys : List Mark) → MarksGo n i a b xs → MarksGo n i b c ys → MarksGo n i a c (xs ++ ys)
+marks_both n i a b c xs ys g h = (h.0, goes_twice marker_of i a b c xs ys g.1 h.1)
+
+-- ---- a pass that learns more
+pub learns_none : (x : Share) → Learns x x [] []
+learns_none x = record { number = refl; seen = goes_none pass_of x.number x.seen; marked = goes_none marker_of x.number x.marks }
+
+pub learns_twice : (x y z : Share) (a b : List Event) (m n : List Mark) → Learns x y a m → Learns y z b n → Learns x z (a ++ b) (m ++ n)
+learns_twice x y z a b m n g h = record {
+  number = h.number ∙ g.number;
+  seen = goes_twice pass_of x.number x.seen y.seen z.seen a b g.seen (subst (λ i. GoesOn pass_of i y.seen z.seen b) g.number h.seen);
+  marked = goes_twice marker_of x.number x.marks y.marks z.marks m n g.marked (subst (λ i. GoesOn marker_of i y.marks z.marks n) g.number h.marked);
 }
 
-pub grows_none : (T : Terms) (i : ℕ) (h : List Event) → IsHistory T h → Grows T i h h
-grows_none T i h is = record { history = is; starts = starts_whole h; own = refl }
+pub learns_known : (x y : Share) (h : List Event) (ms : List Mark) (a : List Event) (m : List Mark) → Learns x y a m → Knows y h ms → GoesOn pass_of x.number x.seen h a × GoesOn marker_of x.number x.marks ms m
+learns_known x y h ms a m g k =
+    let whole = learns_twice x y (record { terms = y.terms; number = y.number; seen = h; hold = y.hold; marks = ms }) a [] m [] g (record { number = refl; seen = k.seen; marked = k.marked }) in
+    (subst (λ l. GoesOn pass_of x.number x.seen h l) (append-nil a) whole.seen, subst (λ l. GoesOn marker_of x.number x.marks ms l) (append-nil m) whole.marked)

@@ -1,8 +1,8 @@
 -- Two beginnings of one history, or of one list of marks.
-use Rattle.std.proofs.Common.{◌≡◌, ◌⊎◌, Bool, List, [], ◌∷◌, ◌++◌, length, drop, filter, sym, refl, ap, ◌∙◌, subst, ⊎_elim, inl, inr, arith, append-nil, append_assoc, length-append, ◌==◌}
+use Rattle.std.proofs.Common.{◌≡◌, ◌⊎◌, ℕ, List, [], ◌∷◌, ◌++◌, length, drop, filter, sym, refl, ap, ◌∙◌, ⊎_elim, inl, inr, arith, append-nil, append_assoc, length-append, ◌==◌}
 use Rattle.std.proofs.lemmas.List.{nil_from_length}
 use Rattle.std.proofs.lemmas.List.Elements.{filter-append}
-use Rattle.grub_book.specs.History.{StartsWith, calls_of, pass_of}
+use Rattle.grub_book.specs.History.{StartsWith, pass_of}
 use Rattle.grub_table.specs.declared.pass.Pass.{Pass}
 use Rattle.grub_table.specs.declared.view.Share.{Share}
 use Rattle.grub_table.specs.declared.view.Access.TheVariants.{Load}
@@ -11,8 +11,9 @@ use Rattle.grub_table.specs.declared.view.Trail.{Trail}
 use Rattle.grub_table.specs.declared.view.View.{View}
 use Rattle.grub_table.specs.Accesses.{meeting_loads}
 use Rattle.grub_table.specs.inside.Between.{TheSeat}
-use Rattle.grub_table.specs.Calls.{IsBehind, IsMarkedBehind, accesses, share_of}
-use Rattle.grub_table.specs.Marks.{marks_of, marker_of}
+use Rattle.grub_table.specs.Calls.{accesses, share_of}
+use Rattle.grub_table.specs.Knowing.{GoesOn}
+use Rattle.grub_table.specs.Marks.{marker_of}
 use Rattle.grub_table.specs.Trails.{Accesses}
 use Rattle.grub_table.specs.inside.Trails.{each_after, joined, known, left_trail, lone, right_trail, trail}
 use Rattle.grub_table.specs.inside.Views.{StandTogether, view}
@@ -41,37 +42,30 @@ compared {A} (x ∷ a) (y ∷ b) r s e = let same = head_is x y (a ++ r) (b ++ s
 pub either_first : {A : Type 0} (h a b : List A) → StartsWith h a → StartsWith h b → StartsWith b a ⊎ StartsWith a b
 either_first h a b s t = compared a b s.0 t.0 (sym s.1 ∙ t.1)
 
--- what passes the test in the whole list and in a beginning is the same in each beginning between
-none_between : {A : Type 0} (p : A → Bool) (h a b : List A) → StartsWith h b → StartsWith b a → filter p h ≡ filter p a → filter p b ≡ filter p a
-none_between p h a b hb ba own =
-    let whole : filter p h ≡ filter p b ++ filter p hb.0 = ap (filter p) hb.1 ∙ filter-append p b hb.0 in
-    let part : filter p b ≡ filter p a ++ filter p ba.0 = ap (filter p) ba.1 ∙ filter-append p a ba.0 in
-    let none : length (filter p ba.0) ≡ 0 = omega (arith, ap length whole, ap length part, ap length own, length-append (filter p b) (filter p hb.0), length-append (filter p a) (filter p ba.0)) in
-    part ∙ ap (λ l. filter p a ++ l) (nil_from_length (filter p ba.0) none) ∙ append-nil (filter p a)
+-- what goes on to the whole list with nothing of i does so to each list between
+between : {A : Type 0} (by : A → ℕ) (i : ℕ) (h a b : List A) → StartsWith h b → StartsWith b a → GoesOn by i a h [] → GoesOn by i a b []
+between {A} by i h a b hb ba g =
+    let own : List A → List A = filter (λ x. by x == i) in
+    let whole : own h ≡ own b ++ own hb.0 = ap own hb.1 ∙ filter-append (λ x. by x == i) b hb.0 in
+    let part : own b ≡ own a ++ own ba.0 = ap own ba.1 ∙ filter-append (λ x. by x == i) a ba.0 in
+    let same : own h ≡ own a = g.own ∙ append-nil (own a) in
+    let none : length (own ba.0) ≡ 0 = omega (arith, ap length whole, ap length part, ap length same, length-append (own b) (own hb.0), length-append (own a) (own ba.0)) in
+    record { starts = ba; own = part ∙ ap (λ l. own a ++ l) (nil_from_length (own ba.0) none) }
+
+-- of two beginnings of one list, one goes on to the other
+met_in : {A : Type 0} (by : A → ℕ) (i j : ℕ) (h a b : List A) → GoesOn by i a h [] → GoesOn by j b h [] → GoesOn by i a b [] ⊎ GoesOn by j b a []
+met_in by i j h a b f g = ⊎_elim
+    (λ (s : StartsWith b a). inl (between by i h a b g.starts s f))
+    (λ (s : StartsWith a b). inr (between by j h b a f.starts s g))
+    (either_first h a b f.starts g.starts)
 
 -- two passes that stand together
-module _ (p q : Pass) (t : StandTogether (share_of p ∷ share_of q ∷ [])) where
-  pub met : IsBehind p q ⊎ IsBehind q p
-  met =
-      let h = t.history in
-      let a = t.known.0 in
-      let b = t.known.1.0 in
-      let x : Share = share_of p in
-      let y : Share = share_of q in ⊎_elim
-      (λ (s : StartsWith y.seen x.seen). inl (record { starts = s; own = subst (λ n. calls_of n y.seen ≡ calls_of n x.seen) p.numbered (none_between (λ e. pass_of e == x.number) h x.seen y.seen b.seen s a.own) }))
-      (λ (s : StartsWith x.seen y.seen). inr (record { starts = s; own = subst (λ n. calls_of n x.seen ≡ calls_of n y.seen) q.numbered (none_between (λ e. pass_of e == y.number) h y.seen x.seen a.seen s b.own) }))
-      (either_first h x.seen y.seen a.seen b.seen)
+module _ (x y : Share) (t : StandTogether (x ∷ y ∷ [])) where
+  pub met : GoesOn pass_of x.number x.seen y.seen [] ⊎ GoesOn pass_of y.number y.seen x.seen []
+  met = met_in pass_of x.number y.number t.history x.seen y.seen t.known.0.seen t.known.1.0.seen
 
-  pub marked_met : IsMarkedBehind p q ⊎ IsMarkedBehind q p
-  marked_met =
-      let h = t.marks in
-      let a = t.marked.0 in
-      let b = t.marked.1.0 in
-      let x : Share = share_of p in
-      let y : Share = share_of q in ⊎_elim
-      (λ (s : StartsWith y.marks x.marks). inl (record { starts = s; own = subst (λ n. marks_of n y.marks ≡ marks_of n x.marks) p.numbered (none_between (λ m. marker_of m == x.number) h x.marks y.marks b.starts s a.own) }))
-      (λ (s : StartsWith x.marks y.marks). inr (record { starts = s; own = subst (λ n. marks_of n x.marks ≡ marks_of n y.marks) q.numbered (none_between (λ m. marker_of m == y.number) h y.marks x.marks a.starts s b.own) }))
-      (either_first h x.marks y.marks a.starts b.starts)
+  pub marked_met : GoesOn marker_of x.number x.marks y.marks [] ⊎ GoesOn marker_of y.number y.marks x.marks []
+  marked_met = met_in marker_of x.number y.number t.marks x.marks y.marks t.marked.0 t.marked.1.0
 
 -- the trails of two passes that meet: joined, looking, and each with a seat of its own again
 module _ (p q : Pass) (j : TheSeat) (joins : j.me ≡ (joined q.seat.me.0 p.seat.me.0, q.seat.me.1)) where

@@ -88,7 +88,7 @@ module _ {S : Type 0} where
         tt,
         unmoved T s i id me.1 w h k (starts_next k.history e) history (known_event T k.history k.owner s.views id x e x.hold x.marks k.known here refl)
             (subst (λ b. Held T k.grips b (set s.views id w)) same (held_own T k.grips (book_of T.setup k.history) s.views id x h x.hold x.marks k.held (k.held id (alone x) here).0)) (subst (λ b. Written T b k.grips s.words) same k.written)
-            (each_own (MarkedBy k.marks) s.views id y k.marked (record { starts = (k.marked id (alone x) here).0.starts; own = (k.marked id (alone x) here).0.own })),
+            (each_own (MarkedBy k.marks) s.views id y k.marked (k.marked id (alone x) here).0),
         subst (λ (v : View). looks (step slots i 0 0 none) (v, me.1) (get_or s.words i 0) (w, me.1)) (sym is)
             (record { single = refl; terms = refl; number = refl; told = λ q eq. subst (λ m. Looked m (get_or s.words i 0) x.terms x y) (same_queue r q (sym place ∙ eq)) (subst (λ (U : Terms). Looked r (get_or s.words i 0) U x y) (sym of) told) }),
       )

@@ -23,12 +23,13 @@ use Rattle.grub_table.specs.declared.view.Terms.{Terms}
 use Rattle.grub_table.specs.declared.view.View.{View}
 use Rattle.grub_table.specs.Layout.{queue_word_at, task_word_at}
 use Rattle.grub_table.specs.inside.Layout.{word_count, server_word_at, params_word_at}
+use Rattle.grub_table.specs.Marks.{marker_of}
 use Rattle.grub_table.specs.Views.{share}
 use Rattle.grub_table.specs.inside.Views.{fresh, first_view, MarkedBy}
 use Rattle.grub_table.specs.inside.FirstWords.{AreOpeningWords}
 use Rattle.grub_table.specs.inside.Rule.{AreLimited, Stands, Apart, loose, Grasps, TaskShows, Written, Kept}
 use Rattle.grub_table.specs.Calls.{AreNew, IsNew}
-use Rattle.grub_table.proofs.Growths.{all_weaker}
+use Rattle.grub_table.proofs.Growths.{all_weaker, goes_none}
 
 -- ---- copies
 -- one element more of a copy
@@ -86,7 +87,7 @@ fresh_apart T k (suc n) = (all_weaker (λ (x : Share). suc k ≤ x.number) (λ (
 
 fresh_stand : (T : Terms) (k n : ℕ) → k + n ≡ T.passes → AllByRecursion (Stands T [] (λ _. 0) 0) (fresh T k n)
 fresh_stand T k zero is = tt
-fresh_stand T k (suc n) is = ((record { terms = refl; number = omega arith; seen = ([], refl); own = refl }, refl), fresh_stand T (suc k) n (omega arith))
+fresh_stand T k (suc n) is = ((record { terms = refl; number = omega arith; seen = goes_none pass_of k [] }, refl), fresh_stand T (suc k) n (omega arith))
 
 fresh_free : (T : Terms) (k n : ℕ) → AllByRecursion (λ (x : Share). Grasps T (λ _. loose) (opening_book T.setup) x.number x.hold) (fresh T k n)
 fresh_free T k zero = tt
@@ -94,7 +95,7 @@ fresh_free T k (suc n) = ((λ u before stored is. cc), fresh_free T (suc k) n)
 
 fresh_unmarked : (T : Terms) (k n : ℕ) → AllByRecursion (MarkedBy []) (fresh T k n)
 fresh_unmarked T k zero = tt
-fresh_unmarked T k (suc n) = (record { starts = ([], refl); own = refl }, fresh_unmarked T (suc k) n)
+fresh_unmarked T k (suc n) = (goes_none marker_of k [], fresh_unmarked T (suc k) n)
 
 opens : {S : Type 0} (T : Terms) (words : List ℕ) → AreLimited T.setup → AreOpeningWords T.setup (length T.setup.tasks) words → Kept T {S = S} (opening words [] (first_view T))
 opens T words limited are = record {

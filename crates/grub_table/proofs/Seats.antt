@@ -10,7 +10,6 @@ use Rattle.grub_book.specs.Sums.{Records, record_at}
 use Rattle.grub_book.specs.History.{pass_of}
 use Rattle.grub_book.specs.declared.event.Event.{Event}
 use Rattle.grub_book.specs.declared.place.Record.{Record}
-use Rattle.grub_book.proofs.Histories.{calls_other, starts_whole, starts_more}
 use Rattle.grub_table.specs.declared.view.Hold.{Hold}
 use Rattle.grub_table.specs.declared.view.Hold.TheVariants.{Free, Undecided, Decided}
 use Rattle.grub_table.specs.declared.view.Mark.{Mark}
@@ -22,16 +21,14 @@ use Rattle.grub_table.specs.Marks.{marker_of}
 use Rattle.grub_table.specs.inside.Layout.{stored_of}
 use Rattle.grub_table.specs.inside.Views.{view, alone, nothing, both_of, holding, ShareOf, MarkedBy}
 use Rattle.grub_table.specs.inside.Rule.{Stands, Apart, Known, Grip, Grips, loose, grip, IsOnly, Grasps, Held, Marked}
-use Rattle.grub_table.proofs.Growths.{all_append, all_weaker, all_both}
-use Rattle.grub_table.proofs.Marks.{marks-else}
+use Rattle.grub_table.proofs.Growths.{all_append, all_weaker, all_both, goes_else, goes_none}
 
 -- the events of others change nothing that is known of a pass
 share_more : (T : Terms) (h : List Event) (e : Event) (x : Share) → pass_of e ≢ x.number → ShareOf T h x → ShareOf T (h ++ e ∷ []) x
 share_more T h e x other is = record {
   terms = is.terms;
   number = is.number;
-  seen = starts_more h x.seen e is.seen;
-  own = calls_other x.number h e other ∙ is.own;
+  seen = goes_else pass_of x.number x.seen h e other is.seen;
 }
 
 -- all views of the other seats, and the new one, are known
@@ -48,18 +45,18 @@ pub known_event : (T : Terms) (h : List Event) (owner : ℕ → ℕ) (views : Li
 known_event T h owner views id x e hold marks known at by = let mine = (known id (alone x) at).0.0 in
     known_set T h (h ++ e ∷ []) owner views id (alone (holding x (h ++ e ∷ []) hold marks)) known
     (λ j y other s. (share_more T h e y (λ same. other (sym s.1 ∙ ap owner (sym same ∙ by) ∙ mine.1)) s.0, s.1))
-    ((record { terms = mine.0.terms; number = mine.0.number; seen = starts_whole (h ++ e ∷ []); own = refl }, mine.1), tt)
+    ((record { terms = mine.0.terms; number = mine.0.number; seen = goes_none pass_of x.number (h ++ e ∷ []) }, mine.1), tt)
     (tt, tt)
 
 -- a pass sees all of the history
 pub known_seen : (T : Terms) (h : List Event) (owner : ℕ → ℕ) (views : List View) (id : ℕ) (x : Share) (hold : Hold) (marks : List Mark) → Known T h owner views → get_elem? views id ≡ some (alone x) → Known T h owner (set views id (alone (holding x h hold marks)))
 known_seen T h owner views id x hold marks known at = let mine = (known id (alone x) at).0.0 in
-    known_set T h h owner views id (alone (holding x h hold marks)) known (λ j y other s. s) ((record { terms = mine.0.terms; number = mine.0.number; seen = starts_whole h; own = refl }, mine.1), tt) (tt, tt)
+    known_set T h h owner views id (alone (holding x h hold marks)) known (λ j y other s. s) ((record { terms = mine.0.terms; number = mine.0.number; seen = goes_none pass_of x.number h }, mine.1), tt) (tt, tt)
 
 -- a pass sees nothing new
 pub known_kept : (T : Terms) (h : List Event) (owner : ℕ → ℕ) (views : List View) (id : ℕ) (x : Share) (hold : Hold) (marks : List Mark) → Known T h owner views → get_elem? views id ≡ some (alone x) → Known T h owner (set views id (alone (holding x x.seen hold marks)))
 known_kept T h owner views id x hold marks known at = let mine = (known id (alone x) at).0.0 in
-    known_set T h h owner views id (alone (holding x x.seen hold marks)) known (λ j y other s. s) ((record { terms = mine.0.terms; number = mine.0.number; seen = mine.0.seen; own = mine.0.own }, mine.1), tt) (tt, tt)
+    known_set T h h owner views id (alone (holding x x.seen hold marks)) known (λ j y other s. s) ((record { terms = mine.0.terms; number = mine.0.number; seen = mine.0.seen }, mine.1), tt) (tt, tt)
 
 -- ---- cutting and joining views
 at_snoc_else : {A : Type 0} (l : List A) (a b : A) (j : ℕ) → get_elem? (l ++ a ∷ []) j ≡ some b → (get_elem? l j ≡ some b) ⊎ ((j ≡ length l) × (a ≡ b))
@@ -194,9 +191,9 @@ pub marked_more : (T : Terms) (h : List Event) (owner : ℕ → ℕ) (ms : List 
 marked_more T h owner ms views id x m seen hold known marked at by j v there =
     let here = (known id (alone x) at).0.0 in
     let y : Share = holding x seen hold (ms ++ m ∷ []) in ⊎_elim
-    (λ (c : (j ≡ id) × (alone y ≡ v)). subst (λ (w : View). AllByRecursion (MarkedBy (ms ++ m ∷ [])) w.shares) c.1 (record { starts = starts_whole (ms ++ m ∷ []); own = refl }, tt))
+    (λ (c : (j ≡ id) × (alone y ≡ v)). subst (λ (w : View). AllByRecursion (MarkedBy (ms ++ m ∷ [])) w.shares) c.1 (goes_none marker_of x.number (ms ++ m ∷ []), tt))
     (λ (c : (j ≢ id) × (get_elem? views j ≡ some v)). all_both (Stands T h owner j) (MarkedBy ms) (MarkedBy (ms ++ m ∷ []))
-    (λ z s k. record { starts = starts_more ms z.marks m k.starts; own = marks-else z.number ms m (λ is. c.0 (sym s.1 ∙ ap owner (sym is ∙ by) ∙ here.1)) ∙ k.own }) v.shares (known j v c.1).0 (marked j v c.1))
+    (λ z s k. goes_else marker_of z.number z.marks ms m (λ is. c.0 (sym s.1 ∙ ap owner (sym is ∙ by) ∙ here.1)) k) v.shares (known j v c.1).0 (marked j v c.1))
     (at_set views id j (alone y) v there)
 
 -- views are cut and joined

@@ -28,15 +28,15 @@ use Rattle.grub_table.specs.declared.view.Note.{Note}
 use Rattle.grub_table.specs.declared.view.Share.{Share}
 use Rattle.grub_table.specs.declared.view.Terms.{Terms}
 use Rattle.grub_table.specs.inside.Between.{TheSeat, share_on, HoldsFor, HoldsMade, Tells, Leaves, SawTask, SawParams, SawServer, SawRecord, Concluded}
-use Rattle.grub_table.specs.Calls.{share_of, seen, marks, number_of, IsAnswered, IsTaken, IsBusy, IsSighting, IsEarly, marks_of_call}
-use Rattle.grub_table.specs.Histories.{IsHistory, Grows, Finishes, record_in}
+use Rattle.grub_table.specs.Calls.{share_of, marks, number_of, IsAnswered, IsTaken, IsBusy, IsSighting, IsEarly, marks_of_call}
+use Rattle.grub_table.specs.Histories.{IsHistory, record_in}
+use Rattle.grub_table.specs.Knowing.{GoesOn, Learns}
 use Rattle.grub_table.specs.Layout.{shown}
 use Rattle.grub_table.specs.inside.Layout.{stored_of}
-use Rattle.grub_table.specs.Marks.{AreLawful, MarksGo}
-use Rattle.grub_table.specs.inside.Tellings.{Sees, Calls, CallsIf, DecidesIf, IsOthers, LoadedTask, TookClaim}
+use Rattle.grub_table.specs.Marks.{AreLawful, marker_of}
+use Rattle.grub_table.specs.inside.Tellings.{Grows, Finishes, MarksGo, Sees, Calls, CallsIf, DecidesIf, IsOthers, LoadedTask, TookClaim}
 use Rattle.grub_table.proofs.Between.{tells_as}
-use Rattle.grub_table.proofs.Growths.{grows_grows, grows_finishes}
-use Rattle.grub_table.proofs.Marks.{marks_both}
+use Rattle.grub_table.proofs.Growths.{grows_grows, grows_finishes, marks_both}
 use Rattle.grub_table.proofs.Turns.{under}
 
 -- ---- replies
@@ -136,32 +136,22 @@ module _ (s : Shared) (p : Pass) (t : ℕ) (op : Op) where
   x = share_of p
 
   -- the task is another's
-  pub busy_claimed : (q : Pass) (word : ℕ) → Tells s (SawTask t op (Err word)) p.seat q.seat → number_of q ≡ i → IsBusy s p t q (Claimed word)
-  busy_claimed q word told by =
-      let y : Share = share_of q in
-      let grows = subst (λ n. Grows T n (seen p) (seen q)) p.numbered told.of.2 in
-      let marked = subst (λ n. MarksGo T.passes n (marks p) (marks q) []) p.numbered told.of.1 in
-      let others = subst (λ n. IsOthers T n t word y) p.numbered told.of.3 in
-      record {
-        of = record { home = told.seat.home; terms = told.seat.terms; history = grows.history; lawful = marked.lawful };
-        number = by;
-        grows = grows;
-        marked = marked;
-        sight = record { was = others.0; held = others.1 };
-      }
+  pub busy_claimed : (q : Pass) (word : ℕ) → Tells s (SawTask t op (Err word)) p.seat q.seat → IsBusy s p t q (Claimed word)
+  busy_claimed q word told = record {
+    of = record { home = told.seat.home; terms = told.seat.terms; history = told.of.2.0; lawful = told.of.1.0 };
+    learns = record { number = told.number; seen = told.of.2.1; marked = told.of.1.1 };
+    sight = record { was = told.of.3.0; held = told.of.3.1 };
+  }
 
   -- what the task's word says decides the call
-  pub answered : (q : Pass) (w : TaskWord) (reply : Reply) → Tells s (SawTask t op (Ok w)) p.seat q.seat → number_of q ≡ i → refused w.place w.count op ≡ Some reply → IsAnswered s p t op q reply
-  answered q w reply told by is =
-      let y : Share = share_of q in
+  pub answered : (q : Pass) (w : TaskWord) (reply : Reply) → Tells s (SawTask t op (Ok w)) p.seat q.seat → refused w.place w.count op ≡ Some reply → IsAnswered s p t op q reply
+  answered q w reply told is =
       let outside = refused_outside w.place w.count op reply is in
-      let finishes = subst (λ n. Finishes T n (seen p) (Call n t op reply) (seen q)) p.numbered (subst (λ o. CallsIf o T x t op y) is told.of.2.3) in
-      let marked = subst (λ n. MarksGo T.passes n (marks p) (marks q) []) p.numbered told.of.1 in
+      let f : Calls T x t op reply (share_of q) = subst (λ o. CallsIf o T x t op (share_of q)) is told.of.2.3 in
       record {
-        of = record { home = told.seat.home; terms = told.seat.terms; history = finishes.history; lawful = marked.lawful };
-        number = by;
-        finishes = finishes;
-        marked = subst (λ l. MarksGo T.passes i (marks p) (marks q) l) (sym (outside_marks i t reply outside)) marked;
+        of = record { home = told.seat.home; terms = told.seat.terms; history = f.0; lawful = told.of.1.0 };
+        learns = record { number = told.number; seen = f.1; marked = subst (λ l. GoesOn marker_of i (marks p) (marks q) l) (sym (outside_marks i t reply outside)) told.of.1.1 };
+        last = f.2;
         soon = outside_soon reply outside;
       }
 
@@ -174,10 +164,10 @@ module _ (s : Shared) (p : Pass) (t : ℕ) (op : Op) where
     x2 = share_on two
 
     grows1 : Grows T i x.seen x1.seen
-    grows1 = subst (λ n. Grows T n x.seen x1.seen) p.numbered (subst (λ o. CallsIf o T x t op x1) free looked.of.2.3)
+    grows1 = subst (λ o. CallsIf o T x t op x1) free looked.of.2.3
 
     number1 : x1.number ≡ i
-    number1 = looked.number ∙ p.numbered
+    number1 = looked.number
 
     grows2 : Grows T i x1.seen x2.seen
     grows2 = subst (λ n. Grows T n x1.seen x2.seen) number1 took.of.0
@@ -186,7 +176,7 @@ module _ (s : Shared) (p : Pass) (t : ℕ) (op : Op) where
     grows = grows_grows T i x.seen x1.seen x2.seen grows1 grows2
 
     marked1 : MarksGo T.passes i x.marks x1.marks []
-    marked1 = subst (λ n. MarksGo T.passes n x.marks x1.marks []) p.numbered looked.of.1
+    marked1 = looked.of.1
 
     loaded_is : old ≡ shown (record_in T x1.seen t) false
     loaded_is = was ∙ (λ k. task_word (looked.of.2.0 k) (looked.of.2.1 k) false)
@@ -195,32 +185,30 @@ module _ (s : Shared) (p : Pass) (t : ℕ) (op : Op) where
     number2 = took.number ∙ number1
 
     -- the word had changed
-    pub busy_changed : (q : Pass) → q.seat ≡ two → number_of q ≡ i → found ≢ old → IsBusy s p t q (Changed old found)
-    busy_changed q seat by other =
+    pub busy_changed : (q : Pass) → q.seat ≡ two → found ≢ old → IsBusy s p t q (Changed old found)
+    busy_changed q seat other =
         let miss = took.of.2 (λ e. other (e ∙ sym was)) in
         let marked2 = subst (λ n. MarksGo T.passes n x1.marks x2.marks []) number1 miss.1 in
         let marked = marks_both T.passes i x.marks x1.marks x2.marks [] [] marked1 marked2 in
         let sight : IsSighting T i t x.seen x2.seen x2.marks (Changed old found) = record {
           differ = other;
           at_load = x1.seen;
-          not_before = grows1.starts;
-          known_then = grows2.starts;
+          not_before = grows1.1.starts;
+          known_then = grows2.1.starts;
           loaded_word = loaded_is;
           found_word = ⊎_elim
               (λ (o : IsOthers T x1.number t found x2). let c = subst (λ n. IsOthers T n t found x2) number1 o in inl (record { was = c.0; held = c.1 }))
-              (λ (f : found ≡ shown (record_in T x2.seen t) false). inr (x2.seen, grows2.starts, starts_whole x2.seen, f))
+              (λ (f : found ≡ shown (record_in T x2.seen t) false). inr (x2.seen, grows2.1.starts, starts_whole x2.seen, f))
               miss.2;
         } in
         record {
           of = record {
             home = ap (λ (z : TheSeat). z.table_id) seat ∙ took.seat.home;
             terms = ap (λ (z : TheSeat). (share_on z).terms) seat ∙ took.seat.terms;
-            history = subst (λ (z : TheSeat). IsHistory T (share_on z).seen) (sym seat) grows.history;
-            lawful = subst (λ (z : TheSeat). AreLawful T.passes (share_on z).marks) (sym seat) marked.lawful;
+            history = subst (λ (z : TheSeat). IsHistory T (share_on z).seen) (sym seat) grows.0;
+            lawful = subst (λ (z : TheSeat). AreLawful T.passes (share_on z).marks) (sym seat) marked.0;
           };
-          number = by;
-          grows = subst (λ (z : TheSeat). Grows T i x.seen (share_on z).seen) (sym seat) grows;
-          marked = subst (λ (z : TheSeat). MarksGo T.passes i x.marks (share_on z).marks []) (sym seat) marked;
+          learns = subst (λ (z : TheSeat). Learns x (share_on z) [] []) (sym seat) (record { number = number2; seen = grows.1; marked = marked.1 });
           sight = subst (λ (z : TheSeat). IsSighting T i t x.seen (share_on z).seen (share_on z).marks (Changed old found)) (sym seat) sight;
         }
 
@@ -270,15 +258,15 @@ module _ (s : Shared) (p : Pass) (t : ℕ) (op : Op) where
         pub claim_holds : early held op ≡ None → x3.hold ≡ Undecided t op held
         claim_holds late = (undecided late).1 ∙ ap (Undecided t op) (sym known.0)
 
-        pub is_taken : (c : Claim) → c.seat ≡ three → c.number ≡ i → c.task ≡ t → c.op ≡ op → c.held ≡ held → early held op ≡ None → IsTaken s p t op c
-        is_taken c seat by at asked has late =
+        pub is_taken : (c : Claim) → c.seat ≡ three → c.task ≡ t → c.op ≡ op → c.held ≡ held → early held op ≡ None → IsTaken s p t op c
+        is_taken c seat at asked has late =
             let grows' = grows_grows T i x.seen x2.seen x3.seen grows (subst (λ n. Grows T n x2.seen x3.seen) number2 (undecided late).0) in
             record {
               of = record {
                 home = ap (λ (z : TheSeat). z.table_id) seat ∙ saw.seat.home;
                 terms = ap (λ (z : TheSeat). (share_on z).terms) seat ∙ saw.seat.terms;
-                history = subst (λ (z : TheSeat). IsHistory T (share_on z).seen) (sym seat) grows'.history;
-                lawful = subst (λ (z : TheSeat). AreLawful T.passes (share_on z).marks) (sym seat) marked3.lawful;
+                history = subst (λ (z : TheSeat). IsHistory T (share_on z).seen) (sym seat) grows'.0;
+                lawful = subst (λ (z : TheSeat). AreLawful T.passes (share_on z).marks) (sym seat) marked3.0;
                 task = subst (λ u. u < length T.setup.tasks) (sym at) lt;
                 op = subst (IsOp T.setup) (sym asked) is_op;
                 held = (λ k. record_in T (share_on (seat k)).seen (at k)) ∙ known.2 ∙ sym known.0 ∙ sym has;
@@ -286,11 +274,9 @@ module _ (s : Shared) (p : Pass) (t : ℕ) (op : Op) where
                 unrefused = (λ k. let r : Record = (has ∙ known.0) k in refused r.place r.count (asked k)) ∙ unrefused;
                 timely = (λ k. early (has k) (asked k)) ∙ late;
               };
-              number = by;
               task = at;
               op = asked;
-              grows = subst (λ (z : TheSeat). Grows T i x.seen (share_on z).seen) (sym seat) grows';
-              marked = subst (λ (z : TheSeat). MarksGo T.passes i x.marks (share_on z).marks (Taken i t ∷ [])) (sym seat) marked3;
+              learns = subst (λ (z : TheSeat). Learns x (share_on z) [] (Taken i t ∷ [])) (sym seat) (record { number = number3; seen = grows'.1; marked = marked3.1 });
             }
 
         pub made_early : (reply : Reply) → early held op ≡ Some reply → HoldsMade s three t held (stored_of held)
@@ -300,17 +286,16 @@ module _ (s : Shared) (p : Pass) (t : ℕ) (op : Op) where
           hold = (taken, (decided reply is).1 ∙ ap (λ z. Decided t taken z (stored_of z)) (sym known.0));
         }
 
-        pub answered_early : (reply : Reply) → early held op ≡ Some reply → (q : Pass) → Leaves s (Concluded t) three q → number_of q ≡ i → IsAnswered s p t op q reply
-        answered_early reply is q l by =
+        pub answered_early : (reply : Reply) → early held op ≡ Some reply → (q : Pass) → Leaves s (Concluded t) three q → IsAnswered s p t op q reply
+        answered_early reply is q l =
             let z = early_is held op reply is in
             let called = subst (λ n. Finishes T n x2.seen (Call n t op reply) x3.seen) number2 (decided reply is).0 in
-            let finishes = subst (λ h. Finishes T i x.seen (Call i t op reply) h) (sym l.of.0) (grows_finishes T i x.seen x2.seen (Call i t op reply) x3.seen grows called) in
+            let f = subst (λ h. Finishes T i x.seen (Call i t op reply) h) (sym l.of.0) (grows_finishes T i x.seen x2.seen (Call i t op reply) x3.seen grows called) in
             let gave = subst (λ n. MarksGo T.passes n x3.marks (marks q) (Given n t ∷ [])) number3 l.of.1.1 in
             let marked = marks_both T.passes i x.marks x3.marks (marks q) (Taken i t ∷ []) (Given i t ∷ []) marked3 gave in
             record {
-              of = record { home = l.home; terms = l.terms; history = finishes.history; lawful = marked.lawful };
-              number = by;
-              finishes = finishes;
-              marked = subst (λ r. MarksGo T.passes i x.marks (marks q) (marks_of_call i t r)) (sym z.1) marked;
+              of = record { home = l.home; terms = l.terms; history = f.0; lawful = marked.0 };
+              learns = record { number = l.number ∙ number3; seen = f.1; marked = subst (λ r. GoesOn marker_of i x.marks (marks q) (marks_of_call i t r)) (sym z.1) marked.1 };
+              last = f.2;
               soon = λ _. subst IsEarly (sym z.1) tt;
             }

@@ -18,13 +18,14 @@ use Rattle.grub_table.specs.declared.view.Share.{Share}
 use Rattle.grub_table.specs.declared.view.Stored.{Stored}
 use Rattle.grub_table.specs.declared.view.Terms.{Terms}
 use Rattle.grub_table.specs.declared.view.View.{View}
-use Rattle.grub_table.specs.Marks.{AreLawful, holder_of, handed}
+use Rattle.grub_table.specs.Marks.{AreLawful, holder_of, handed, marker_of}
 use Rattle.grub_table.specs.Layout.{task_word_at, shown}
 use Rattle.grub_table.specs.inside.Layout.{server_word_at, params_word_at, stored_of}
 use Rattle.grub_table.specs.inside.Views.{alone, holding}
 use Rattle.grub_table.specs.inside.Tellings.{Sees, Gave, GaveClaim, StoredServer, StoredParams}
 use Rattle.grub_table.specs.inside.Rule.{Known, Grip, Grips, loose, grip, Grasps, IsOnly, holder_in, Kept}
-use Rattle.grub_table.proofs.Marks.{lawful_more, holder_more, handed_here, handed_else, marks_gained}
+use Rattle.grub_table.proofs.Marks.{lawful_more, holder_more, handed_here, handed_else}
+use Rattle.grub_table.proofs.Growths.{goes_own}
 use Rattle.grub_table.proofs.Seats.{known_seen, known_kept, marked_more, IsMine}
 use Rattle.grub_table.proofs.Rows.{put, put_here, put_else, only_put, is_loose_not, IsWordOf, words_of, Shows, set_task, set_server, set_params, written_task}
 use Rattle.grub_table.proofs.Turns.{Out, book, own, grasp, marked, seen_told, turned, turned_held, under, decided_as}
@@ -96,7 +97,7 @@ module _ {S : Type 0} (x : Share) (s : State S View) (id : ℕ) (c : List (ℕ �
   given_lawful t before stored held = lawful_more T.passes k.marks (Given x.number t) k.lawful ((own x s id c k at).number, k.tied t ∙ ap holder_in held)
 
   gave : (t : ℕ) (before : Record) (stored : Stored) (seen : List Event) → k.grips t ≡ grip x.number before stored → Gave T x t (holding x seen Free (given t))
-  gave t before stored seen held = (refl, marks_gained T.passes k.marks (Given x.number t) x (given_lawful t before stored held) (marked x s id c k at) refl)
+  gave t before stored seen held = (refl, (given_lawful t before stored held, goes_own marker_of x.number x.marks k.marks (Given x.number t) refl (marked x s id c k at)))
 
   -- the task is nobody's, and its words are its record
   freed : (t : ℕ) (before rec : Record) (stored : Stored) (seen : List Event) (n : ℕ) → t < length T.setup.tasks → k.grips t ≡ grip x.number before stored → record_at b t ≡ rec → stored ≡ stored_of rec → IsOnly k.grips x.number t → n ≡ shown rec false

@@ -29,14 +29,15 @@ use Rattle.grub_table.specs.declared.view.Share.{Share}
 use Rattle.grub_table.specs.declared.view.Stored.{Stored}
 use Rattle.grub_table.specs.declared.view.Terms.{Terms}
 use Rattle.grub_table.specs.declared.view.View.{View}
-use Rattle.grub_table.specs.Marks.{holder_of, handed}
+use Rattle.grub_table.specs.Marks.{holder_of, handed, marker_of}
 use Rattle.grub_table.specs.Layout.{task_word_at, shown}
 use Rattle.grub_table.specs.inside.Layout.{stored_of}
 use Rattle.grub_table.specs.Histories.{record_in}
 use Rattle.grub_table.specs.inside.Views.{alone, holding}
 use Rattle.grub_table.specs.inside.Tellings.{CallsIf, IsOthers, LoadedTask, TookClaim}
 use Rattle.grub_table.specs.inside.Rule.{holder_in, Grip, Grips, loose, grip, Grasps, TaskShows, Kept}
-use Rattle.grub_table.proofs.Marks.{lawful_more, holder_more, handed_here, handed_else, marks_gained}
+use Rattle.grub_table.proofs.Marks.{lawful_more, holder_more, handed_here, handed_else}
+use Rattle.grub_table.proofs.Growths.{goes_own}
 use Rattle.grub_table.proofs.Seats.{known_seen, marked_more, IsMine}
 use Rattle.grub_table.proofs.Rows.{put, put_here, put_else, same_before, Words, words_of, Shows, set_task, written_task}
 use Rattle.grub_table.proofs.Turns.{Out, book, own, grasp, marked, is_sound, seen_told, marks_told, call_told, stays_all, stays_called, turned}
@@ -133,7 +134,7 @@ module _ {S : Type 0} (x : Share) (s : State S View) (id : ℕ) (c : List (ℕ �
             (λ i before st is. (k.history, starts_whole k.history, same_before x.number i rec before stored st (sym here ∙ is))),
         (
           seen_told x s id c k at,
-          (λ _. (rec, refl, was ∙ sym was ∙ sym found ∙ l.1.0, (is_sound x s id c k at).kept t lt, refl, marks_gained T.passes k.marks mark x lawful (marked x s id c k at) refl)),
+          (λ _. (rec, refl, was ∙ sym was ∙ sym found ∙ l.1.0, (is_sound x s id c k at).kept t lt, refl, (lawful, goes_own marker_of x.number x.marks k.marks mark refl (marked x s id c k at)))),
           (λ not. absurd (not found)),
         ),
       )

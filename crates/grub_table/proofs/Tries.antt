@@ -6,11 +6,10 @@ use Rattle.grub_bw.specs.declared.server.Server.{Server}
 use Rattle.grub_book.specs.Machine.{queue_at}
 use Rattle.grub_book.specs.Op.{IsOp}
 use Rattle.grub_book.specs.Sums.{Records, record_at, reading_of}
-use Rattle.grub_book.specs.History.{HasChanged, book_of}
+use Rattle.grub_book.specs.History.{HasChanged, book_of, pass_of}
 use Rattle.grub_book.specs.Sound.{IsKept, IsSound}
 use Rattle.grub_book.specs.Step.{early, refused, settled, step, charged, changes_sum, is_under_claim, runqueue_of, LooksAtQueue}
 use Rattle.grub_book.specs.Totals.{shifted_of}
-use Rattle.grub_book.specs.declared.event.Event.{Event}
 use Rattle.grub_book.specs.declared.event.Event.TheVariants.{Call}
 use Rattle.grub_book.specs.declared.event.Reading.{Reading}
 use Rattle.grub_book.specs.declared.op.Op.{Op}
@@ -36,13 +35,14 @@ use Rattle.grub_table.specs.declared.view.Share.{Share}
 use Rattle.grub_table.specs.declared.view.Stored.{Stored}
 use Rattle.grub_table.specs.declared.view.Terms.{Terms}
 use Rattle.grub_table.specs.inside.Between.{TheSeat, share_on, IsSeatOf, HoldsFor, HoldsMade, Tells, Leaves, SawQueue, Exchanged, GivenUp, Concluded}
-use Rattle.grub_table.specs.Calls.{seen, marks, claim_share, claim_seen, claim_queue, claim_changes_sum, IsClaimOf, IsDone, IsLost, IsFinished, IsCancelled}
-use Rattle.grub_table.specs.Histories.{IsHistory, Grows, Finishes, WasBefore, record_in, reading_in}
+use Rattle.grub_table.specs.Calls.{seen, marks, share_of, claim_number, claim_share, claim_seen, claim_queue, claim_changes_sum, IsClaimOf, IsDone, IsLost, IsFinished, IsCancelled}
+use Rattle.grub_table.specs.Histories.{IsHistory, WasBefore, record_in, reading_in}
+use Rattle.grub_table.specs.Knowing.{GoesOn, Learns}
 use Rattle.grub_table.specs.inside.Layout.{stored_of}
-use Rattle.grub_table.specs.Marks.{AreLawful, MarksGo}
-use Rattle.grub_table.specs.inside.Tellings.{is_decided_at_load, outcome, settled_quietly, Sees, Calls, Decides, IsReadingFor, LoadedQueueAs, SettledServer, StoredServer, StoredParams}
+use Rattle.grub_table.specs.Marks.{AreLawful, marker_of}
+use Rattle.grub_table.specs.inside.Tellings.{is_decided_at_load, outcome, settled_quietly, Grows, Finishes, MarksGo, Sees, Calls, Decides, IsReadingFor, LoadedQueueAs, SettledServer, StoredServer, StoredParams}
 use Rattle.grub_table.specs.inside.Tries.{is_charge, half_stored, Knows, TriedAs, Tried}
-use Rattle.grub_table.proofs.Growths.{grows_grows, grows_finishes, grows_none}
+use Rattle.grub_table.proofs.Growths.{goes_none, grows_grows, grows_finishes, learns_none, learns_twice}
 use Rattle.grub_table.proofs.Moves.{sound}
 use Rattle.grub_table.proofs.Turns.{under}
 
@@ -151,7 +151,7 @@ module _ (s : Shared) (t : ℕ) (op : Op) (rec : Record) (r : ℕ) (now : Readin
 
     pub new_fits : (new : Reading) → new ≡ shifted_of now r rec q.0 → QueueFits new
     new_fits new moves =
-        let is_sound : IsSound T.setup b = sound T m.seen s.limited still.0.history in
+        let is_sound : IsSound T.setup b = sound T m.seen s.limited still.0.0 in
         let one = is_sound.one_each in
         let lt = h.task in
         let below : t < length b = omega (arith, one, lt) in
@@ -174,7 +174,7 @@ module _ (s : Shared) (t : ℕ) (op : Op) (rec : Record) (r : ℕ) (now : Readin
       pub tried_lost : (changes_sum rec op ≡ false → is_charge op ≡ true) → Tells s (Exchanged r now false) mid new → Tells s (Tried r None) old new
       tried_lost sums lost =
           let l = lost.of t op rec holds_still.hold in
-          let changed : HasChanged T.setup r x.seen y.seen 1 = changed_more T.setup r x.seen m.seen y.seen 0 1 (changed_none T.setup r x.seen m.seen still.0.starts) (changed_once T.setup r m.seen y.seen l.1.starts (λ same. l.3 (still.2 ∙ same))) in
+          let changed : HasChanged T.setup r x.seen y.seen 1 = changed_more T.setup r x.seen m.seen y.seen 0 1 (changed_none T.setup r x.seen m.seen still.0.1.starts) (changed_once T.setup r m.seen y.seen l.1.1.starts (λ same. l.3 (still.2 ∙ same))) in
           record {
             seat = lost.seat;
             number = lost.number ∙ saw.number;
@@ -208,43 +208,40 @@ module _ (s : Shared) (c : Claim) (is : IsClaimOf s c) where
   mine = claim_share c
 
   -- the call is made, and then the task is given back
-  pub done : (mid : TheSeat) (reply : Reply) (tries : ℕ) (q : Pass) → q.number ≡ c.number → (share_on mid).number ≡ mine.number → (share_on mid).marks ≡ mine.marks → Calls s.terms mine c.task c.op reply (share_on mid)
+  pub done : (mid : TheSeat) (reply : Reply) (tries : ℕ) (q : Pass) → (share_on mid).number ≡ mine.number → (share_on mid).marks ≡ mine.marks → Calls s.terms mine c.task c.op reply (share_on mid)
       → WasBefore s.terms c.task c.held (Call mine.number c.task c.op reply) (share_on mid).seen → Leaves s (Concluded c.task) mid q → is_under_claim reply ≡ true → (claim_changes_sum c ≡ true → 1 ≤ tries) → IsDone s c tries q reply
-  done mid reply tries q number_is number known calls was leaves claimed tried =
-      let f : Finishes s.terms c.number mine.seen (Call c.number c.task c.op reply) (seen q) =
-      subst (λ (p : ℕ × List Event). Finishes s.terms p.0 mine.seen (Call p.0 c.task c.op reply) p.1) (λ i. (c.numbered i, sym leaves.of.0 i)) calls in
-      let g : MarksGo s.terms.passes c.number mine.marks (marks q) (Given c.number c.task ∷ []) =
-      subst (λ (p : ℕ × List Mark). MarksGo s.terms.passes p.0 p.1 (marks q) (Given p.0 c.task ∷ [])) (λ i. ((number ∙ c.numbered) i, known i)) leaves.of.1.1 in
+  done mid reply tries q number known calls was leaves claimed tried =
+      let f : Finishes s.terms mine.number mine.seen (Call mine.number c.task c.op reply) (seen q) = subst (λ h. Finishes s.terms mine.number mine.seen (Call mine.number c.task c.op reply) h) (sym leaves.of.0) calls in
+      let g : MarksGo s.terms.passes mine.number mine.marks (marks q) (Given mine.number c.task ∷ []) =
+      subst (λ (p : ℕ × List Mark). MarksGo s.terms.passes p.0 p.1 (marks q) (Given p.0 c.task ∷ [])) (λ i. (number i, known i)) leaves.of.1.1 in
       record {
-        of = record { home = leaves.home; terms = leaves.terms; history = f.history; lawful = g.lawful };
-        number = number_is;
-        finishes = f;
-        before = subst (λ (p : ℕ × List Event). WasBefore s.terms c.task c.held (Call p.0 c.task c.op reply) p.1) (λ i. (c.numbered i, sym leaves.of.0 i)) was;
-        marked = g;
+        of = record { home = leaves.home; terms = leaves.terms; history = f.0; lawful = g.0 };
+        learns = record { number = leaves.number ∙ number; seen = f.1; marked = g.1 };
+        before = subst (λ h. WasBefore s.terms c.task c.held (Call mine.number c.task c.op reply) h) (sym leaves.of.0) was;
         claimed = claimed;
         tried = tried;
       }
 
   -- the call is not made, and the task is given back
-  pub cancelled : (q : Pass) → q.number ≡ c.number → Leaves s (GivenUp c.task) c.seat q → IsCancelled s c q
-  cancelled q number_is leaves =
-      let f : Grows s.terms c.number mine.seen (seen q) = subst (λ n. Grows s.terms n mine.seen (seen q)) c.numbered leaves.of.0 in
-      let g : MarksGo s.terms.passes c.number mine.marks (marks q) (Given c.number c.task ∷ []) = subst (λ n. MarksGo s.terms.passes n mine.marks (marks q) (Given n c.task ∷ [])) c.numbered leaves.of.1.1 in
-      record { of = record { home = leaves.home; terms = leaves.terms; history = f.history; lawful = g.lawful }; number = number_is; grows = f; marked = g }
+  pub cancelled : (q : Pass) → Leaves s (GivenUp c.task) c.seat q → IsCancelled s c q
+  cancelled q leaves = record {
+    of = record { home = leaves.home; terms = leaves.terms; history = leaves.of.0.0; lawful = leaves.of.1.1.0 };
+    learns = record { number = leaves.number; seen = leaves.of.0.1; marked = leaves.of.1.1.1 };
+  }
 
   -- an exchange was lost
-  pub lost : (mid : TheSeat) (d : Claim) → d.seat ≡ mid → d.number ≡ c.number → d.task ≡ c.task → d.op ≡ c.op → d.held ≡ c.held → Tells s (Tried (claim_queue c) None) c.seat mid → IsLost s c 1 d
-  lost mid d seat_is number_is task_is op_is held_is tells =
+  pub lost : (mid : TheSeat) (d : Claim) → d.seat ≡ mid → d.task ≡ c.task → d.op ≡ c.op → d.held ≡ c.held → Tells s (Tried (claim_queue c) None) c.seat mid → IsLost s c 1 d
+  lost mid d seat_is task_is op_is held_is tells =
       let y : Share = share_on mid in
       let w = tells.of c.task c.op c.held c.holds in
       let same : (share_on d.seat).marks ≡ mine.marks = ap (λ (u : TheSeat). (share_on u).marks) seat_is ∙ w.0 in
-      let grows : Grows s.terms c.number mine.seen y.seen = subst (λ n. Grows s.terms n mine.seen y.seen) c.numbered w.1.0 in
+      let number : (share_on d.seat).number ≡ mine.number = ap (λ (u : TheSeat). (share_on u).number) seat_is ∙ tells.number in
       record {
         still = record {
           of = record {
             home = ap (λ (u : TheSeat). u.table_id) seat_is ∙ tells.seat.home;
             terms = ap (λ (u : TheSeat). (share_on u).terms) seat_is ∙ tells.seat.terms;
-            history = subst (λ (u : TheSeat). IsHistory s.terms (share_on u).seen) (sym seat_is) grows.history;
+            history = subst (λ (u : TheSeat). IsHistory s.terms (share_on u).seen) (sym seat_is) w.1.0.0;
             lawful = subst (AreLawful s.terms.passes) (sym same) is.lawful;
             task = subst (λ t. t < length s.terms.setup.tasks) (sym task_is) is.task;
             op = subst (IsOp s.terms.setup) (sym op_is) is.op;
@@ -253,13 +250,17 @@ module _ (s : Shared) (c : Claim) (is : IsClaimOf s c) where
             unrefused = ap (λ (p : Record × Op). refused p.0.place p.0.count p.1) (λ i. (held_is i, op_is i)) ∙ is.unrefused;
             timely = ap (λ (p : Record × Op). early p.0 p.1) (λ i. (held_is i, op_is i)) ∙ is.timely;
           };
-          number = number_is;
+          number = number;
           task = task_is;
           op = op_is;
           held = held_is;
           marks = same;
         };
-        grows = subst (λ (u : TheSeat). Grows s.terms c.number mine.seen (share_on u).seen) (sym seat_is) grows;
+        learns = record {
+          number = number;
+          seen = subst (λ (u : TheSeat). GoesOn pass_of mine.number mine.seen (share_on u).seen []) (sym seat_is) w.1.0.1;
+          marked = subst (λ ms. GoesOn marker_of mine.number mine.marks ms []) (sym same) (goes_none marker_of mine.number mine.marks);
+        };
         sum = w.1.4;
         changes = subst (λ (u : TheSeat). HasChanged s.terms.setup (claim_queue c) mine.seen (share_on u).seen 1) (sym seat_is) w.1.3;
       }
@@ -267,7 +268,7 @@ module _ (s : Shared) (c : Claim) (is : IsClaimOf s c) where
   pub lost_none : claim_changes_sum c ≡ true → IsLost s c 0 c
   lost_none sum = record {
     still = record { of = is; number = refl; task = refl; op = refl; held = refl; marks = refl };
-    grows = grows_none s.terms c.number mine.seen is.history;
+    learns = learns_none mine;
     sum = sum;
     changes = changed_none s.terms.setup (claim_queue c) mine.seen mine.seen (starts_whole mine.seen);
   }
@@ -331,11 +332,9 @@ lost_done : (s : Shared) (c d : Claim) (n m : ℕ) (q : Pass) (reply : Reply) �
 lost_done s c d n m q reply a b =
     let same = a.still in record {
       of = b.of;
-      number = b.number ∙ same.number;
-      finishes = grows_finishes s.terms c.number (claim_seen c) (claim_seen d) (Call c.number c.task c.op reply) (seen q) a.grows
-          (subst (λ (p : ℕ × ℕ × Op). Finishes s.terms p.0 (claim_seen d) (Call p.0 p.1 p.2 reply) (seen q)) (λ i. (same.number i, same.task i, same.op i)) b.finishes);
+      learns = learns_twice (claim_share c) (claim_share d) (share_of q) [] (Call (claim_number c) c.task c.op reply ∷ []) [] (Given (claim_number c) c.task ∷ []) a.learns
+          (subst (λ (p : ℕ × ℕ × Op). Learns (claim_share d) (share_of q) (Call p.0 p.1 p.2 reply ∷ []) (Given p.0 p.1 ∷ [])) (λ i. (same.number i, same.task i, same.op i)) b.learns);
       before = subst (λ (p : ℕ × ℕ × Op × Record). WasBefore s.terms p.1 p.3 (Call p.0 p.1 p.2 reply) (seen q)) (λ i. (same.number i, same.task i, same.op i, same.held i)) b.before;
-      marked = subst (λ (p : ℕ × ℕ × List Mark). MarksGo s.terms.passes p.0 p.2 (marks q) (Given p.0 p.1 ∷ [])) (λ i. (same.number i, same.task i, same.marks i)) b.marked;
       claimed = b.claimed;
       tried = λ sum. let one = b.tried (ap (λ (p : Record × Op). changes_sum p.0 p.1) (λ i. (same.held i, same.op i)) ∙ sum) in omega (arith, one);
     }
@@ -345,7 +344,7 @@ lost_lost s c d e n m a b =
     let x = a.still in
     let y = b.still in record {
       still = record { of = y.of; number = y.number ∙ x.number; task = y.task ∙ x.task; op = y.op ∙ x.op; held = y.held ∙ x.held; marks = y.marks ∙ x.marks };
-      grows = grows_grows s.terms c.number (claim_seen c) (claim_seen d) (claim_seen e) a.grows (subst (λ n. Grows s.terms n (claim_seen d) (claim_seen e)) x.number b.grows);
+      learns = learns_twice (claim_share c) (claim_share d) (claim_share e) [] [] [] [] a.learns b.learns;
       sum = a.sum;
       changes = changed_more s.terms.setup (claim_queue c) (claim_seen c) (claim_seen d) (claim_seen e) n m a.changes
           (subst (λ (p : Record × Op). HasChanged s.terms.setup (runqueue_of p.0.place p.1) (claim_seen d) (claim_seen e) m) (λ i. (x.held i, x.op i)) b.changes);
@@ -357,9 +356,9 @@ tried_more s c d n m (Held e) a b = lost_lost s c d e n m a b
 
 -- a call that was made was made within any more tries
 pub done_within : (s : Shared) (c : Claim) (n m : ℕ) (q : Pass) (reply : Reply) → n ≤ m → IsDone s c n q reply → IsDone s c m q reply
-done_within s c n m q reply le d = record { of = d.of; number = d.number; finishes = d.finishes; before = d.before; marked = d.marked; claimed = d.claimed; tried = λ sum. let one = d.tried sum in omega (arith, one, le) }
+done_within s c n m q reply le d = record { of = d.of; learns = d.learns; before = d.before; claimed = d.claimed; tried = λ sum. let one = d.tried sum in omega (arith, one, le) }
 
 -- an op that changes no sum needs no try
 pub quiet_within : (s : Shared) (c : Claim) (n m : ℕ) (r : Finished) → claim_changes_sum c ≡ false → IsFinished s c n r → IsFinished s c m r
-quiet_within s c n m (Done q reply) quiet d = record { of = d.of; number = d.number; finishes = d.finishes; before = d.before; marked = d.marked; claimed = d.claimed; tried = λ sum. is_not sum quiet }
+quiet_within s c n m (Done q reply) quiet d = record { of = d.of; learns = d.learns; before = d.before; claimed = d.claimed; tried = λ sum. is_not sum quiet }
 quiet_within s c n m (Held e) quiet l = is_not l.sum quiet

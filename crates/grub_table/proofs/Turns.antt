@@ -27,14 +27,13 @@ use Rattle.grub_table.specs.declared.view.Share.{Share}
 use Rattle.grub_table.specs.declared.view.Stored.{Stored}
 use Rattle.grub_table.specs.declared.view.Terms.{Terms}
 use Rattle.grub_table.specs.declared.view.View.{View}
-use Rattle.grub_table.specs.Marks.{AreLawful, holder_of}
+use Rattle.grub_table.specs.Marks.{AreLawful, holder_of, marker_of}
 use Rattle.grub_table.specs.inside.Layout.{stored_of}
 use Rattle.grub_table.specs.Histories.{IsHistory, record_in}
 use Rattle.grub_table.specs.inside.Views.{alone, holding, ShareOf, MarkedBy}
 use Rattle.grub_table.specs.inside.Tellings.{Sees, Calls, Adds}
 use Rattle.grub_table.specs.inside.Rule.{Known, Held, Marked, holder_in, Grips, grip, IsOnly, Grasps, Written, Kept}
-use Rattle.grub_table.proofs.Growths.{history_more, grown, finished}
-use Rattle.grub_table.proofs.Marks.{marks_seen}
+use Rattle.grub_table.proofs.Growths.{goes_none, history_more, finished}
 use Rattle.grub_table.proofs.Seats.{known_event, known_seen, held_turn, held_own, each_own, IsMine}
 use Rattle.grub_table.proofs.Rows.{same_before}
 use Rattle.grub_table.proofs.Moves.{unmoved, since_more, sound}
@@ -113,10 +112,10 @@ module _ {S : Type 0} (x : Share) (s : State S View) (id : ℕ) (c : List (ℕ �
 
     -- ---- what is told
     pub seen_told : Sees x.terms x (holding x k.history x.hold k.marks)
-    seen_told = grown x.terms k.history x k.is_history own
+    seen_told = (k.is_history, own.seen)
 
     pub marks_told : Adds x.terms x [] (holding x k.history x.hold k.marks)
-    marks_told = marks_seen x.terms.passes k.marks x k.lawful marked
+    marks_told = (k.lawful, marked)
 
     pub history_called : (t : ℕ) (op : Op) (reply : Reply) → t < length machine.tasks → IsOp machine op → (step machine book t op).1 ≡ reply → IsHistory x.terms (k.history ++ Call x.number t op reply ∷ [])
     history_called t op reply lt fits is =
@@ -129,10 +128,10 @@ module _ {S : Type 0} (x : Share) (s : State S View) (id : ℕ) (c : List (ℕ �
 
     -- ---- no word and no grip changes
     pub same_marks : (seen : List Event) (hold : Hold) → MarkedBy k.marks (holding x seen hold x.marks)
-    same_marks seen hold = record { starts = marked.starts; own = marked.own }
+    same_marks seen hold = marked
 
     pub all_marks : (seen : List Event) (hold : Hold) → MarkedBy k.marks (holding x seen hold k.marks)
-    all_marks seen hold = record { starts = starts_whole k.marks; own = refl }
+    all_marks seen hold = goes_none marker_of x.number k.marks
 
     stays : (i : ℕ) (h seen : List Event) (hold : Hold) (marks : List Mark) → StartsWith h k.history → IsHistory x.terms h → Known x.terms h k.owner (set s.views id (alone (holding x seen hold marks))) → book_of machine h ≡ book
         → Grasps x.terms k.grips book x.number hold → MarkedBy k.marks (holding x seen hold marks) → Kept x.terms (stepped s i (get_or s.words i 0) id c (alone (holding x seen hold marks)) keeps)

@@ -3,7 +3,7 @@ use Rattle.std.specs.Prelude.{Bool, true, false, IsTrue, ◌≡◌, ◌≢◌, �
 use Rattle.std.specs.List.{All, Any}
 use Rattle.grub_book.specs.Machine.{Machine}
 use Rattle.grub_book.specs.Op.{IsOp}
-use Rattle.grub_book.specs.History.{calls_of, StartsWith, HasChanged}
+use Rattle.grub_book.specs.History.{StartsWith, HasChanged, pass_of}
 use Rattle.grub_book.specs.Sound.{IsKept}
 use Rattle.grub_book.specs.Step.{early, refused, runqueue_of, changes_sum, is_under_claim}
 use Rattle.grub_book.specs.declared.event.Event.{Event}
@@ -31,10 +31,11 @@ use Rattle.grub_table.specs.declared.pass.Finished.TheVariants.{Done, Held}
 use Rattle.grub_table.specs.declared.pass.CloseFault.{CloseFault}
 use Rattle.grub_table.specs.declared.pass.CloseWhy.{CloseWhy}
 use Rattle.grub_table.specs.declared.pass.CloseWhy.TheVariants.{Missing, NoMemory}
-use Rattle.grub_table.specs.Marks.{AreLawful, MarksGo, marks_of}
+use Rattle.grub_table.specs.Marks.{AreLawful, marker_of}
+use Rattle.grub_table.specs.Knowing.{GoesOn, Knows, Learns}
 use Rattle.grub_table.specs.Accesses.{FinishesBriefly, lost_tries}
 use Rattle.grub_table.specs.Layout.{queue_word_at, shown}
-use Rattle.grub_table.specs.Histories.{IsHistory, Grows, Finishes, WasBefore, record_in, reading_in}
+use Rattle.grub_table.specs.Histories.{IsHistory, EndsWith, WasBefore, record_in, reading_in}
 use Rattle.grub_table.specs.Trails.{first_made}
 use Rattle.grub_table.specs.Views.{first_of}
 use Rattle.grub_table.specs.Tellings.{IsHeldByOther, WasClaimedWord}
@@ -44,7 +45,7 @@ abbrev pub share_of : Pass → Share
 share_of p = first_of p.seat.me.0.view
 
 abbrev pub number_of : Pass → ℕ
-number_of p = p.number
+number_of p = (share_of p).number
 
 -- the history that the pass has seen
 abbrev pub seen : Pass → List Event
@@ -62,7 +63,7 @@ abbrev pub claim_share : Claim → Share
 claim_share c = first_of c.seat.me.0.view
 
 abbrev pub claim_number : Claim → ℕ
-claim_number c = c.number
+claim_number c = (claim_share c).number
 
 abbrev pub claim_task : Claim → ℕ
 claim_task c = c.task
@@ -140,27 +141,14 @@ pub record IsSame (s : Shared) (p q : Pass) : Type 0 where
   pub seen : seen q ≡ seen p
   pub marks : marks q ≡ marks p
 
--- what p has seen is a beginning of what q has, which has of p just the events that p has seen
-pub record IsBehind (p q : Pass) : Type 0 where
-  pub starts : StartsWith (seen q) (seen p)
-  pub own : calls_of (number_of p) (seen q) ≡ calls_of (number_of p) (seen p)
+-- q has seen what p has, and of p no other events; and the same of the marks
+abbrev pub IsBehind : Pass → Pass → Type 0
+IsBehind p q = GoesOn pass_of (number_of p) (seen p) (seen q) []
 
--- the same of the marks
-pub record IsMarkedBehind (p q : Pass) : Type 0 where
-  pub starts : StartsWith (marks q) (marks p)
-  pub own : marks_of (number_of p) (marks q) ≡ marks_of (number_of p) (marks p)
+abbrev pub IsMarkedBehind : Pass → Pass → Type 0
+IsMarkedBehind p q = GoesOn marker_of (number_of p) (marks p) (marks q) []
 
 -- ---- closing
--- what the pass has seen is a beginning of this history, which has of it just the calls that it made
-pub record IsPartOf (h : List Event) (p : Pass) : Type 0 where
-  pub starts : StartsWith h (seen p)
-  pub own : calls_of (number_of p) h ≡ calls_of (number_of p) (seen p)
-
--- what the pass knows of the marks is a beginning of these, which have of it just its own
-pub record IsMarkPartOf (ms : List Mark) (p : Pass) : Type 0 where
-  pub starts : StartsWith ms (marks p)
-  pub own : marks_of (number_of p) ms ≡ marks_of (number_of p) (marks p)
-
 -- one reading for each runqueue, of the book after the history
 pub record AreReadings (T : Terms) (h : List Event) (readings : List Reading) : Type 0 where
   pub one_each : length readings ≡ length T.setup.queues
@@ -170,10 +158,9 @@ pub record AreReadings (T : Terms) (h : List Event) (readings : List Reading) : 
 pub record IsClosed (s : Shared) (ps : List Pass) (last : List Reading) : Type 0 where
   pub history : List Event
   pub is_history : IsHistory (terms s) history
-  pub parts : All (IsPartOf history) ps
   pub marks : List Mark
   pub lawful : AreLawful (terms s).passes marks
-  pub mark_parts : All (IsMarkPartOf marks) ps
+  pub knows : All (λ p. Knows (share_of p) history marks) ps
   pub readings : AreReadings (terms s) history last
   pub whole : (i : ℕ) → i < (terms s).passes → Any (λ p. number_of p ≡ i) ps
 
@@ -200,19 +187,16 @@ marks_of_call i t reply = if is_under_claim reply then Taken i t ∷ Given i t �
 -- `start` made the call
 pub record IsAnswered (s : Shared) (p : Pass) (t : ℕ) (op : Op) (q : Pass) (reply : Reply) : Type 0 where
   pub of : IsPassOf s q
-  pub number : number_of q ≡ number_of p
-  pub finishes : Finishes (terms s) (number_of p) (seen p) (Call (number_of p) t op reply) (seen q)
-  pub marked : MarksGo (terms s).passes (number_of p) (marks p) (marks q) (marks_of_call (number_of p) t reply)
+  pub learns : Learns (share_of p) (share_of q) (Call (number_of p) t op reply ∷ []) (marks_of_call (number_of p) t reply)
+  pub last : EndsWith (seen q) (Call (number_of p) t op reply)
   pub soon : IsTrue (is_under_claim reply) → IsEarly reply
 
 -- `start` took the task
 pub record IsTaken (s : Shared) (p : Pass) (t : ℕ) (asked : Op) (c : Claim) : Type 0 where
   pub of : IsClaimOf s c
-  pub number : claim_number c ≡ number_of p
   pub task : claim_task c ≡ t
   pub op : claim_op c ≡ asked
-  pub grows : Grows (terms s) (number_of p) (seen p) (claim_seen c)
-  pub marked : MarksGo (terms s).passes (number_of p) (marks p) (claim_marks c) (Taken (number_of p) t ∷ [])
+  pub learns : Learns (share_of p) (claim_share c) [] (Taken (number_of p) t ∷ [])
 
 -- the task word of t was seen with its claim bit, and another pass has t
 pub record IsClaimedSighting (T : Terms) (i t : ℕ) (after : List Event) (known : List Mark) (word : ℕ) : Type 0 where
@@ -235,9 +219,7 @@ IsSighting T i t before after known (Changed loaded found) = IsChangedSighting T
 -- `start` found the task busy
 pub record IsBusy (s : Shared) (p : Pass) (t : ℕ) (q : Pass) (sighting : Sighting) : Type 0 where
   pub of : IsPassOf s q
-  pub number : number_of q ≡ number_of p
-  pub grows : Grows (terms s) (number_of p) (seen p) (seen q)
-  pub marked : MarksGo (terms s).passes (number_of p) (marks p) (marks q) []
+  pub learns : Learns (share_of p) (share_of q) [] []
   pub sight : IsSighting (terms s) (number_of p) t (seen p) (seen q) (marks q) sighting
 
 abbrev pub IsStarted : Shared → Pass → ℕ → Op → Started → Type 0
@@ -258,10 +240,8 @@ claim_changes_sum c = changes_sum (claim_record c) (claim_op c)
 -- `finish` made the call on the record that the claim names; with no try it makes only one that changes no sum
 pub record IsDone (s : Shared) (c : Claim) (tries : ℕ) (q : Pass) (reply : Reply) : Type 0 where
   pub of : IsPassOf s q
-  pub number : number_of q ≡ claim_number c
-  pub finishes : Finishes (terms s) (claim_number c) (claim_seen c) (Call (claim_number c) (claim_task c) (claim_op c) reply) (seen q)
+  pub learns : Learns (claim_share c) (share_of q) (Call (claim_number c) (claim_task c) (claim_op c) reply ∷ []) (Given (claim_number c) (claim_task c) ∷ [])
   pub before : WasBefore (terms s) (claim_task c) (claim_record c) (Call (claim_number c) (claim_task c) (claim_op c) reply) (seen q)
-  pub marked : MarksGo (terms s).passes (claim_number c) (claim_marks c) (marks q) (Given (claim_number c) (claim_task c) ∷ [])
   pub claimed : is_under_claim reply ≡ true
   pub tried : claim_changes_sum c ≡ true → 1 ≤ tries
 
@@ -277,7 +257,7 @@ pub record IsStill (s : Shared) (c d : Claim) : Type 0 where
 -- `finish` gave the claim back, after so many tries, each lost to a change of the runqueue's reading
 pub record IsLost (s : Shared) (c : Claim) (tries : ℕ) (d : Claim) : Type 0 where
   pub still : IsStill s c d
-  pub grows : Grows (terms s) (claim_number c) (claim_seen c) (claim_seen d)
+  pub learns : Learns (claim_share c) (claim_share d) [] []
   pub sum : claim_changes_sum c ≡ true
   pub changes : HasChanged (terms s).setup (claim_queue c) (claim_seen c) (claim_seen d) tries
 
@@ -293,6 +273,4 @@ IsWithin c tries (Held d) = claim_accesses d ≡ claim_accesses c ++ lost_tries 
 -- `cancel` gave the task back
 pub record IsCancelled (s : Shared) (c : Claim) (q : Pass) : Type 0 where
   pub of : IsPassOf s q
-  pub number : number_of q ≡ claim_number c
-  pub grows : Grows (terms s) (claim_number c) (claim_seen c) (seen q)
-  pub marked : MarksGo (terms s).passes (claim_number c) (claim_marks c) (marks q) (Given (claim_number c) (claim_task c) ∷ [])
+  pub learns : Learns (claim_share c) (share_of q) [] (Given (claim_number c) (claim_task c) ∷ [])

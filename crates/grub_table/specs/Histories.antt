@@ -2,7 +2,7 @@
 use Rattle.std.specs.Prelude.{◌≡◌, ℕ, ◌<◌, List, [], ◌∷◌, ◌++◌}
 use Rattle.std.specs.List.{All}
 use Rattle.grub_book.specs.Sums.{record_at, reading_of}
-use Rattle.grub_book.specs.History.{IsLegal, book_of, calls_of, pass_of, StartsWith}
+use Rattle.grub_book.specs.History.{IsLegal, book_of, pass_of}
 use Rattle.grub_book.specs.declared.event.Event.{Event}
 use Rattle.grub_book.specs.declared.event.Reading.{Reading}
 use Rattle.grub_book.specs.declared.place.Record.{Record}
@@ -24,15 +24,6 @@ reading_in T h r = reading_of (book_of T.setup h) r
 abbrev pub WasBefore : Terms → ℕ → Record → Event → List Event → Type 0
 WasBefore T t x e h = (before : List Event) × (h ≡ before ++ e ∷ []) × (record_in T before t ≡ x)
 
--- the history went on, with no event of the pass i
-pub record Grows (T : Terms) (i : ℕ) (before after : List Event) : Type 0 where
-  pub history : IsHistory T after
-  pub starts : StartsWith after before
-  pub own : calls_of i after ≡ calls_of i before
-
--- the history went on and ends with this event, the only new one of the pass i
-pub record Finishes (T : Terms) (i : ℕ) (before : List Event) (e : Event) (after : List Event) : Type 0 where
-  pub history : IsHistory T after
-  pub starts : StartsWith after before
-  pub last : (others : List Event) × (after ≡ (before ++ others) ++ e ∷ [])
-  pub own : calls_of i after ≡ calls_of i before ++ e ∷ []
+-- the history ends with this event
+abbrev pub EndsWith : List Event → Event → Type 0
+EndsWith h e = (before : List Event) × (h ≡ before ++ e ∷ [])

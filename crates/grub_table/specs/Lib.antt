@@ -1,6 +1,7 @@
 pub mod Marks
 pub mod Layout
 pub mod Histories
+pub mod Knowing
 pub mod Views
 pub mod Tellings
 pub mod Calls

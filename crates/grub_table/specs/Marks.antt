@@ -1,6 +1,5 @@
 -- Who holds which task, by the list of takings and givings.
-use Rattle.std.specs.Prelude.{◌≡◌, ℕ, ◌<◌, if◌then◌else◌, ◌==◌, List, [], ◌∷◌, ◌++◌, Option, Some, None, filter}
-use Rattle.grub_book.specs.History.{StartsWith}
+use Rattle.std.specs.Prelude.{◌≡◌, ℕ, ◌<◌, if◌then◌else◌, ◌==◌, List, [], ◌∷◌, Option, Some, None}
 use Rattle.grub_table.specs.declared.view.Mark.{Mark}
 use Rattle.grub_table.specs.declared.view.Mark.TheVariants.{Taken, Given}
 
@@ -41,13 +40,3 @@ holder_of marks = held_from nobody_holds marks
 abbrev pub marker_of : Mark → ℕ
 marker_of (Taken i t) = i
 marker_of (Given i t) = i
-
--- the marks of one pass, in order
-abbrev pub marks_of : ℕ → List Mark → List Mark
-marks_of i marks = filter (λ m. marker_of m == i) marks
-
--- the marks go on, and of the pass they have these new ones
-pub record MarksGo (n i : ℕ) (before after more : List Mark) : Type 0 where
-  pub lawful : AreLawful n after
-  pub starts : StartsWith after before
-  pub own : marks_of i after ≡ marks_of i before ++ more

@@ -1,14 +1,18 @@
 //! Laws of a table, over all tables and all passes.
 
-ghost use Rattle.std.specs.Prelude.{◌≡◌, ◌<◌, ◌≤◌, ℕ, List, [], ◌∷◌, length, slice_index_or};
+ghost use Rattle.std.specs.Prelude.{◌≡◌, ◌<◌, ◌≤◌, ◌++◌, ℕ, List, [], length, slice_index_or};
 ghost use Rattle.grub_book.specs.Machine.{queue_at};
-ghost use Rattle.grub_book.specs.History.{calls_of};
+ghost use Rattle.grub_book.specs.History.{calls_of, pass_of};
 ghost use Rattle.grub_book.specs.declared.event.Event.{Event};
 ghost use Rattle.grub_book.specs.declared.event.Reading.{Reading};
 ghost use Rattle.grub_table.specs.Histories.{IsHistory};
+ghost use Rattle.grub_table.specs.Knowing.{GoesOn, Knows, Learns};
+ghost use Rattle.grub_table.specs.Marks.{marker_of};
 ghost use Rattle.grub_table.specs.Calls.{terms, IsClosed};
 ghost use Rattle.grub_table.specs.declared.pass.Pass.{Pass};
 ghost use Rattle.grub_table.specs.declared.pass.Shared.{Shared};
+ghost use Rattle.grub_table.specs.declared.view.Mark.{Mark};
+ghost use Rattle.grub_table.specs.declared.view.Share.{Share};
 ghost use Rattle.grub_table.specs.declared.view.Terms.{Terms};
 
 /// The readings of a closed table are sound: on each runqueue running_bw is at most this_bw, and this_bw at most what the
@@ -18,6 +22,18 @@ pub fn closing_readings_are_sound()
         → r < length last → let x = slice_index_or last r d in x.running ≤ x.this }
     ensures admitted { (s : Shared) (ps : List Pass) (last : List Reading) (r : ℕ) (d : Reading) → IsClosed s ps last
         → r < length last → let x = slice_index_or last r d in x.this ≤ (queue_at (terms s).setup r).most }
+{}
+
+/// Calls one after another: what a pass learns by the first and then by the next it learns by both together, and what it
+/// has learned at last stands in each history and in all marks that it knows then, so in those of a closed table.
+pub fn passes_learn_on()
+    ensures nothing { (x : Share) → Learns x x [] [] }
+    ensures twice { (x y z : Share) (a b : List Event) (m n : List Mark) → Learns x y a m → Learns y z b n
+        → Learns x z (a ++ b) (m ++ n) }
+    ensures events { (x y : Share) (h : List Event) (ms : List Mark) (a : List Event) (m : List Mark) → Learns x y a m
+        → Knows y h ms → GoesOn pass_of x.number x.seen h a }
+    ensures marks { (x y : Share) (h : List Event) (ms : List Mark) (a : List Event) (m : List Mark) → Learns x y a m
+        → Knows y h ms → GoesOn marker_of x.number x.marks ms m }
 {}
 
 /// With one pass a table is the book of one thread: the whole history is what that pass has done.

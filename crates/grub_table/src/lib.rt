@@ -16,5 +16,5 @@ mod steps;
 mod tests;
 mod view;
 
-pub use laws::{closing_readings_are_sound, one_pass_makes_all};
+pub use laws::{closing_readings_are_sound, one_pass_makes_all, passes_learn_on};
 pub use pass::{Claim, CloseFault, CloseWhy, Finished, OpenFault, Pass, Shared, Sighting, Started};

@@ -1,11 +1,12 @@
 //! Readings of runqueues, and the meeting of two passes.
 ghost use Rattle.std.specs.Prelude.{◌≡◌, ◌<◌, ◌≤◌, ◌+◌, ◌⊎◌, [], ◌∷◌, ◌++◌, length};
 ghost use Rattle.grub_book.specs.declared.event.Event.TheVariants.{Look};
-ghost use Rattle.grub_table.specs.Histories.{Finishes};
+ghost use Rattle.grub_table.specs.Histories.{EndsWith};
+ghost use Rattle.grub_table.specs.Knowing.{Learns};
 ghost use Rattle.grub_table.specs.declared.view.Access.TheVariants.{Load};
 ghost use Rattle.grub_table.specs.Accesses.{meeting_loads};
 ghost use Rattle.grub_table.specs.Layout.{queue_word_at};
-ghost use Rattle.grub_table.specs.Calls.{terms, number_of, seen, marks, accesses, claim_accesses, claim_number, claim_seen, IsPassOf, IsClaimOf, IsStill, IsSame, IsBehind, IsMarkedBehind};
+ghost use Rattle.grub_table.specs.Calls.{terms, number_of, share_of, claim_share, seen, marks, accesses, claim_accesses, claim_number, claim_seen, IsPassOf, IsClaimOf, IsStill, IsSame, IsBehind, IsMarkedBehind};
 
 use crate::pass::{Claim, Pass, Shared};
 use crate::rule::Compare;
@@ -17,8 +18,8 @@ impl Shared {
         requires of { IsPassOf self.now pass.old }
         requires queue { r < length (terms self.now).setup.queues }
         ensures of { IsPassOf self.now pass.new }
-        ensures number { number_of pass.new ≡ number_of pass.old }
-        ensures finishes { Finishes (terms self.now) (number_of pass.old) (seen pass.old) (Look (number_of pass.old) r result) (seen pass.new) }
+        ensures learns { Learns (share_of pass.old) (share_of pass.new) (Look (number_of pass.old) r result ∷ []) [] }
+        ensures last { EndsWith (seen pass.new) (Look (number_of pass.old) r result) }
         ensures marks { marks pass.new ≡ marks pass.old }
         ensures made { accesses pass.new ≡ accesses pass.old ++ Load (queue_word_at r) ∷ [] }
     {
@@ -30,7 +31,8 @@ impl Shared {
         requires of { IsClaimOf self.now claim.old }
         requires queue { r < length (terms self.now).setup.queues }
         ensures still { IsStill self.now claim.old claim.new }
-        ensures finishes { Finishes (terms self.now) (claim_number claim.old) (claim_seen claim.old) (Look (claim_number claim.old) r result) (claim_seen claim.new) }
+        ensures learns { Learns (claim_share claim.old) (claim_share claim.new) (Look (claim_number claim.old) r result ∷ []) [] }
+        ensures last { EndsWith (claim_seen claim.new) (Look (claim_number claim.old) r result) }
         ensures made { claim_accesses claim.new ≡ claim_accesses claim.old ++ Load (queue_word_at r) ∷ [] }
     {
         self.look(&mut claim.seat, r)

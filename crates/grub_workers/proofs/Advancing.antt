@@ -1,16 +1,13 @@
 -- What a pass knows goes on.
-use Rattle.std.proofs.Common.{ℕ, List, [], ◌∷◌, ◌++◌, sym, ap, ◌∙◌, subst, ⊎_elim, inl, inr, append_assoc, append-nil}
+use Rattle.std.proofs.Common.{ℕ, List, sym, subst, ⊎_elim, inl, inr}
 use Rattle.std.specs.List.{Any}
 use Rattle.std.proofs.lemmas.List.Elements.{All-weaker}
 use Rattle.grub_book.specs.Machine.{Machine}
-use Rattle.grub_book.specs.History.{StartsWith, calls_of}
+use Rattle.grub_book.specs.History.{StartsWith}
 use Rattle.grub_book.specs.declared.op.Op.{Op}
 use Rattle.grub_book.specs.declared.event.Event.{Event}
 use Rattle.grub_book.proofs.Histories.{starts_after}
 use Rattle.grub_table.specs.declared.view.Mark.{Mark}
-use Rattle.grub_table.specs.declared.view.Terms.{Terms}
-use Rattle.grub_table.specs.Histories.{Grows, Finishes}
-use Rattle.grub_table.specs.Marks.{MarksGo, marks_of}
 use Rattle.grub_trace.specs.declared.entry.Ask.{Ask}
 use Rattle.grub_trace.specs.declared.entry.Ask.TheVariants.{Call, Read}
 use Rattle.grub_trace.specs.declared.entry.Answer.{Answer}
@@ -18,30 +15,7 @@ use Rattle.grub_trace.specs.declared.entry.Answer.TheVariants.{Replied, Seen, Bu
 use Rattle.grub_trace.specs.declared.entry.Entry.{Entry}
 use Rattle.grub_workers.specs.Evidence.{IsOvertaken}
 use Rattle.grub_workers.specs.inside.Evidence.{AreBacked, CallsElse, IsBacked, ShowsHolder, TakesElse}
-use Rattle.grub_workers.specs.inside.Working.{Advances}
 use Rattle.grub_workers.proofs.Finding.{Somewhere, any_of, somewhere_of, somewhere_left}
-
-pub advances_grows : (T : Terms) (n i : ℕ) (a b : List Event) (k l more : List Mark) → Grows T i a b → MarksGo n i k l more → Advances i a b k l [] more
-advances_grows T n i a b k l more g m = record { starts = g.starts; calls = g.own ∙ sym (append-nil (calls_of i a)); marks_start = m.starts; marks_more = m.own }
-
-pub advances_finishes : (T : Terms) (n i : ℕ) (a b : List Event) (e : Event) (k l more : List Mark) → Finishes T i a e b → MarksGo n i k l more → Advances i a b k l (e ∷ []) more
-advances_finishes T n i a b e k l more g m = record { starts = g.starts; calls = g.own; marks_start = m.starts; marks_more = m.own }
-
-pub advances_twice : (i : ℕ) (a b c : List Event) (k l n : List Mark) (xs ys : List Event) (ms ns : List Mark) → Advances i a b k l xs ms → Advances i b c l n ys ns → Advances i a c k n (xs ++ ys) (ms ++ ns)
-advances_twice i a b c k l n xs ys ms ns g h = record {
-  starts = starts_after c b a h.starts g.starts;
-  calls = h.calls ∙ ap (λ z. z ++ ys) g.calls ∙ append_assoc (calls_of i a) xs ys;
-  marks_start = starts_after n l k h.marks_start g.marks_start;
-  marks_more = h.marks_more ∙ ap (λ z. z ++ ns) g.marks_more ∙ append_assoc (marks_of i k) ms ns;
-}
-
-pub advances_none : (i : ℕ) (a : List Event) (k : List Mark) → Advances i a a k k [] []
-advances_none i a k = record {
-  starts = ([], sym (append-nil a));
-  calls = sym (append-nil (calls_of i a));
-  marks_start = ([], sym (append-nil k));
-  marks_more = sym (append-nil (marks_of i k));
-}
 
 any_later : {X : Type 0} (P : X → Type 0) (xs ys : List X) → StartsWith ys xs → Any P xs → Any P ys
 any_later P xs ys starts a = any_of P ys (subst (λ l. Somewhere P l) (sym starts.1) (somewhere_left P xs starts.0 (somewhere_of P xs a)))

@@ -3,13 +3,13 @@ use Rattle.std.proofs.Common.{◌≡◌, ℕ, [], length, sym, ap, subst}
 use Rattle.std.proofs.lemmas.List.Elements.{All-nil}
 use Rattle.std.specs.FinMap as map
 use Rattle.grub_book.specs.History.{calls_of}
-use Rattle.grub_table.specs.Marks.{marks_of}
 use Rattle.grub_table.specs.declared.pass.Pass.{Pass}
 use Rattle.grub_table.specs.declared.pass.Shared.{Shared}
 use Rattle.grub_table.specs.Calls.{IsNew, marks, seen}
 use Rattle.grub_trace.specs.declared.entry.Entry.{Entry}
 use Rattle.grub_trace.specs.Texts.{IsAskOf}
 use Rattle.grub_workers.specs.declared.worker.Progress.{Progress}
+use Rattle.grub_workers.specs.inside.Entries.{marks_of}
 use Rattle.grub_workers.specs.inside.Evidence.{IsBacked}
 use Rattle.grub_asks.proofs.Kept.{kept_nothing}
 use Rattle.grub_workers.specs.inside.Working.{IsAtWork, IsToldBy, machine}

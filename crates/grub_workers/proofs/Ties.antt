@@ -1,5 +1,5 @@
 -- What the closing of the table ties together: whose each event and each mark is.
-use Rattle.std.proofs.Common.{◌≡◌, ◌≢◌, ℕ, ◌<◌, cond, Bool, true, false, IsTrue, ◌==◌, List, [], ◌∷◌, length, get_or, refl, sym, ap, ◌∙◌, subst, ⊎_elim, arith, eq-eqb, Some}
+use Rattle.std.proofs.Common.{◌≡◌, ◌≢◌, ℕ, ◌<◌, cond, Bool, true, false, IsTrue, ◌==◌, List, [], ◌∷◌, length, get_or, refl, sym, ap, ◌∙◌, subst, ⊎_elim, arith, append-nil, eq-eqb, Some}
 use Rattle.std.specs.Prelude.{slice_get}
 use Rattle.std.specs.List.{All}
 use Rattle.std.proofs.lemmas.List.Elements.{All-nil, All-cons, All-weaker}
@@ -18,8 +18,8 @@ use Rattle.grub_table.specs.declared.view.Mark.{Mark}
 use Rattle.grub_table.specs.declared.view.Mark.TheVariants.{Taken, Given}
 use Rattle.grub_table.specs.declared.pass.Pass.{Pass}
 use Rattle.grub_table.specs.declared.pass.Shared.{Shared}
-use Rattle.grub_table.specs.Marks.{AreLawful, AreLawfulFrom, Holders, after_mark, nobody_holds, marker_of, marks_of}
-use Rattle.grub_table.specs.Calls.{IsClosed, IsPassOf, marks, seen, terms}
+use Rattle.grub_table.specs.Marks.{AreLawful, AreLawfulFrom, Holders, after_mark, nobody_holds, marker_of}
+use Rattle.grub_table.specs.Calls.{IsClosed, IsPassOf, number_of, marks, seen, terms}
 use Rattle.grub_trace.specs.declared.line.Line.{Line}
 use Rattle.grub_trace.specs.declared.entry.Ask.{Ask}
 use Rattle.grub_trace.specs.declared.entry.Ask.TheVariants.{Call, Read}
@@ -30,7 +30,7 @@ use Rattle.grub_trace.specs.declared.entry.Report.{Report}
 use Rattle.grub_trace.specs.Plans.{PlanView}
 use Rattle.grub_asks.specs.Answers.{event_told, events_told}
 use Rattle.grub_workers.specs.Entries.{HeldTask, has_held}
-use Rattle.grub_workers.specs.inside.Entries.{mark_told, marks_told}
+use Rattle.grub_workers.specs.inside.Entries.{mark_told, marks_of, marks_told}
 use Rattle.grub_workers.specs.inside.Evidence.{AreBacked, CallsElse, IsBacked, ShowsHolder, TakesElse}
 use Rattle.grub_workers.specs.inside.Working.{machine}
 use Rattle.grub_workers.specs.Handles.{script_at}
@@ -87,24 +87,25 @@ module _ (s : Shared) (tries : ℕ) (scripts : List (List Line)) (ps : List Pass
         let there : i < length ps = omega (arith, all.passes_len, low) in
         let d : Pass = some_of ps i there in
         let w = (all.each i d r low).told in
-        let part = closed.parts i d there in
-        subst (λ n. calls_of n closed.history ≡ calls_of n (seen (get_or ps i d))) w.number part.own ∙ w.calls
+        let k = closed.knows i d there in
+        let p : Pass = get_or ps i d in
+        subst (λ n. calls_of n closed.history ≡ calls_of n (seen p)) w.number (k.seen.own ∙ append-nil (calls_of (number_of p) (seen p))) ∙ w.calls
 
     marks_at : (i : ℕ) (r : Report) → i < length scripts → marks_of i closed.marks ≡ marks_told i (entries_of (get_or rs i r))
     marks_at i r low =
         let there : i < length ps = omega (arith, all.passes_len, low) in
         let d : Pass = some_of ps i there in
         let w = (all.each i d r low).told in
-        let part = closed.mark_parts i d there in
-        subst (λ n. marks_of n closed.marks ≡ marks_of n (marks (get_or ps i d))) w.number part.own ∙ w.own_marks
+        let k = closed.knows i d there in
+        let p : Pass = get_or ps i d in
+        subst (λ n. marks_of n closed.marks ≡ marks_of n (marks p)) w.number (k.marked.own ∙ append-nil (marks_of (number_of p) (marks p))) ∙ w.own_marks
 
     backed_at : (i : ℕ) (r : Report) → i < length scripts → AreBacked (machine s) tries i closed.history closed.marks (entries_of (get_or rs i r))
     backed_at i r low =
         let there : i < length ps = omega (arith, all.passes_len, low) in
         let d : Pass = some_of ps i there in
-        let part = closed.parts i d there in
-        let mark = closed.mark_parts i d there in
-        all_backed_later (machine s) tries i (seen (get_or ps i d)) closed.history (marks (get_or ps i d)) closed.marks (entries_of (get_or rs i r)) part.starts mark.starts (all.each i d r low).told.backed
+        let k = closed.knows i d there in
+        all_backed_later (machine s) tries i (seen (get_or ps i d)) closed.history (marks (get_or ps i d)) closed.marks (entries_of (get_or rs i r)) k.seen.starts k.marked.starts (all.each i d r low).told.backed
 
     numbers_at : All (λ e. pass_of e < length scripts) closed.history
     numbers_at = subst (λ n. All (λ e. pass_of e < n) closed.history) many closed.is_history.numbers

@@ -7,26 +7,25 @@ use Rattle.grub_table.specs.declared.view.Mark.TheVariants.{Taken}
 use Rattle.grub_table.specs.declared.pass.Pass.{Pass}
 use Rattle.grub_table.specs.declared.pass.Claim.{Claim}
 use Rattle.grub_table.specs.declared.pass.Shared.{Shared}
-use Rattle.grub_table.specs.Calls.{IsPassOf, IsClaimOf, number_of, claim_number, claim_task, claim_op, claim_queue, claim_changes_sum, seen, marks, claim_seen, claim_marks}
+use Rattle.grub_table.specs.Knowing.{Learns}
+use Rattle.grub_table.specs.Calls.{IsPassOf, IsClaimOf, number_of, share_of, claim_share, claim_task, claim_op, claim_queue, claim_changes_sum, seen, marks, claim_seen}
 use Rattle.grub_workers.specs.declared.asking.Turn.{Turn}
 use Rattle.grub_workers.specs.declared.asking.Turn.TheVariants as turns
 use Rattle.grub_workers.specs.inside.Evidence.{ShowsHolder}
-use Rattle.grub_workers.specs.inside.Working.{Advances, machine}
+use Rattle.grub_workers.specs.inside.Working.{machine}
 
 -- the pass holds nothing, and after a round it knows who held the task
 pub record IsFree (s : Shared) (round : ℕ) (p : Pass) (t : ℕ) (now : Pass) : Type 0 where
   pub of : IsPassOf s now
-  pub number : number_of now ≡ number_of p
-  pub advances : Advances (number_of p) (seen p) (seen now) (marks p) (marks now) [] []
+  pub learns : Learns (share_of p) (share_of now) [] []
   pub busy : 1 ≤ round → ShowsHolder (number_of p) t (seen now) (marks now)
 
 -- the pass holds the task for this ask, and nothing of it is in the history
 pub record IsHolding (s : Shared) (p : Pass) (t : ℕ) (asked : Op) (c : Claim) : Type 0 where
   pub of : IsClaimOf s c
-  pub number : claim_number c ≡ number_of p
   pub task : claim_task c ≡ t
   pub op : claim_op c ≡ asked
-  pub advances : Advances (number_of p) (seen p) (claim_seen c) (marks p) (claim_marks c) [] (Taken (number_of p) t ∷ [])
+  pub learns : Learns (share_of p) (claim_share c) [] (Taken (number_of p) t ∷ [])
 
 -- the same, and all tries of the last round were lost
 pub record HasLost (s : Shared) (tries : ℕ) (p : Pass) (t : ℕ) (asked : Op) (c : Claim) : Type 0 where

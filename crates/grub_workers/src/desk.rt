@@ -1,9 +1,9 @@
 //! What a worker has for all its asks, and the calls of the table with the gate around them.
-ghost use Rattle.std.specs.Prelude.{◌≡◌, ◌<◌, length};
+ghost use Rattle.std.specs.Prelude.{◌<◌, [], ◌∷◌, length};
 ghost use Rattle.grub_book.specs.Op.{IsOp};
 ghost use Rattle.grub_book.specs.declared.event.Event.TheVariants.{Look};
-ghost use Rattle.grub_table.specs.Histories.{Finishes};
-ghost use Rattle.grub_table.specs.Calls.{IsCancelled, IsClaimOf, IsFinished, IsPassOf, IsStarted, marks, number_of, seen, terms};
+ghost use Rattle.grub_table.specs.Knowing.{Learns};
+ghost use Rattle.grub_table.specs.Calls.{IsCancelled, IsClaimOf, IsFinished, IsPassOf, IsStarted, number_of, share_of, terms};
 
 use crate::gate::Gate;
 use grub_book::{Op, Reading};
@@ -60,9 +60,7 @@ impl<G: Gate> Desk<'_, G> {
         requires of { IsPassOf self.now.table.now pass.old }
         requires queue { self.now.number < length (terms self.now.table.now).setup.queues }
         ensures of { IsPassOf self.now.table.now pass.new }
-        ensures number { number_of pass.new ≡ number_of pass.old }
-        ensures finishes { Finishes (terms self.now.table.now) (number_of pass.old) (seen pass.old) (Look (number_of pass.old) self.now.number result) (seen pass.new) }
-        ensures marks { marks pass.new ≡ marks pass.old }
+        ensures learns { Learns (share_of pass.old) (share_of pass.new) (Look (number_of pass.old) self.now.number result ∷ []) [] }
     {
         self.before(calls);
         let reading = self.table.read(pass, self.number);

@@ -21,9 +21,9 @@ use Rattle.grub_table.specs.declared.view.Terms.{Terms}
 use Rattle.grub_table.specs.declared.view.Access.{Access}
 use Rattle.grub_table.specs.declared.view.Trail.{Trail}
 use Rattle.grub_words.specs.declared.task.TaskWord.{TaskWord}
-use Rattle.grub_table.specs.Histories.{Finishes, record_in, reading_in}
+use Rattle.grub_table.specs.Histories.{record_in, reading_in}
 use Rattle.grub_table.specs.inside.Layout.{stored_of}
-use Rattle.grub_table.specs.inside.Tellings.{Adds, CallsIf, Decides, DecidesIf, Gave, IsOthers, IsReadingFor, LoadedQueueAs, Sees, is_decided_at_load, outcome}
+use Rattle.grub_table.specs.inside.Tellings.{Adds, Finishes, CallsIf, Decides, DecidesIf, Gave, IsOthers, IsReadingFor, LoadedQueueAs, Sees, is_decided_at_load, outcome}
 use Rattle.grub_table.specs.Trails.{first_made}
 use Rattle.grub_table.specs.inside.Trails.{lone}
 use Rattle.grub_table.specs.Views.{first_of}

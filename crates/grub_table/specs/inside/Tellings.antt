@@ -3,9 +3,11 @@ use Rattle.std.specs.Prelude.{◌≡◌, ◌≢◌, ◌⊎◌, ℕ, ◌≤◌, B
 use mathlib.Core.Option.{Option as MOption, some, none}
 use Rattle.atomic_table.specs.Table.{Step}
 use Rattle.grub_book.specs.Machine.{queue_at}
+use Rattle.grub_book.specs.History.{pass_of}
 use Rattle.grub_book.specs.Sound.{IsKept}
 use Rattle.grub_book.specs.Step.{early, refused, settled}
 use Rattle.grub_book.specs.Totals.{Counts}
+use Rattle.grub_book.specs.declared.event.Event.{Event}
 use Rattle.grub_book.specs.declared.event.Event.TheVariants.{Call, Look}
 use Rattle.grub_book.specs.declared.event.Reading.{Reading}
 use Rattle.grub_book.specs.declared.op.Op.{Op}
@@ -21,10 +23,11 @@ use Rattle.grub_table.specs.declared.view.Stored.{Stored}
 use Rattle.grub_table.specs.declared.view.Terms.{Terms}
 use Rattle.grub_table.specs.declared.view.Share.{Share}
 use Rattle.grub_table.specs.declared.view.Hold.TheVariants.{Free, Undecided, Decided}
-use Rattle.grub_table.specs.Marks.{MarksGo}
+use Rattle.grub_table.specs.Marks.{AreLawful, marker_of}
 use Rattle.grub_table.specs.Layout.{queue_word_at, shown}
 use Rattle.grub_table.specs.inside.Layout.{stored_of}
-use Rattle.grub_table.specs.Histories.{Grows, Finishes, WasBefore, record_in, reading_in}
+use Rattle.grub_table.specs.Histories.{IsHistory, EndsWith, WasBefore, record_in, reading_in}
+use Rattle.grub_table.specs.Knowing.{GoesOn}
 use Rattle.grub_table.specs.Views.{first_of}
 use Rattle.grub_table.specs.inside.Views.{alone, Sat, StandTogether}
 use Rattle.grub_table.specs.Tellings.{IsHeldByOther, WasClaimedWord}
@@ -39,6 +42,18 @@ is_decided_at_load reply = false
 -- the new record and the reply of an op whose outcome hangs on no runqueue
 abbrev pub settled_quietly : Record → Op → Record × Reply
 settled_quietly x op = settled x (record { most = 1; extra = 0 }) (record { running = 0; this = 0 }) op
+
+-- the history went on, with no event of pass i
+abbrev pub Grows : Terms → ℕ → List Event → List Event → Type 0
+Grows T i before after = IsHistory T after × GoesOn pass_of i before after []
+
+-- the history went on and ends with this event, the only new one of pass i
+abbrev pub Finishes : Terms → ℕ → List Event → Event → List Event → Type 0
+Finishes T i before e after = IsHistory T after × GoesOn pass_of i before after (e ∷ []) × EndsWith after e
+
+-- the marks of n passes went on, and these are the new ones of pass i
+abbrev pub MarksGo : ℕ → ℕ → List Mark → List Mark → List Mark → Type 0
+MarksGo n i before after more = AreLawful n after × GoesOn marker_of i before after more
 
 -- the history went on, with no event of the pass
 abbrev pub Sees : Terms → Share → Share → Type 0

@@ -2,7 +2,7 @@
 use Rattle.std.specs.Prelude.{◌≡◌, ℕ, zero, suc, ◌<◌, List, [], ◌∷◌, ◌++◌}
 use Rattle.std.specs.List.{AllByRecursion}
 use Rattle.atomic_table.specs.Table.{Me}
-use Rattle.grub_book.specs.History.{calls_of, StartsWith}
+use Rattle.grub_book.specs.History.{pass_of}
 use Rattle.grub_book.specs.declared.event.Event.{Event}
 use Rattle.grub_table.specs.declared.view.Mark.{Mark}
 use Rattle.grub_table.specs.declared.view.Terms.{Terms}
@@ -10,7 +10,8 @@ use Rattle.grub_table.specs.declared.view.Share.{Share}
 use Rattle.grub_table.specs.declared.view.Hold.{Hold}
 use Rattle.grub_table.specs.declared.view.Hold.TheVariants.{Free}
 use Rattle.grub_table.specs.declared.view.View.{View}
-use Rattle.grub_table.specs.Marks.{marks_of}
+use Rattle.grub_table.specs.Marks.{marker_of}
+use Rattle.grub_table.specs.Knowing.{GoesOn}
 use Rattle.grub_table.specs.Histories.{IsHistory}
 use Rattle.grub_table.specs.Views.{share}
 
@@ -56,17 +57,15 @@ fresh T k (suc n) = share T k [] Free [] ∷ fresh T (suc k) n
 abbrev pub first_view : Terms → View
 first_view T = view (fresh T 0 T.passes)
 
--- what a pass has seen is a beginning of the history, which has of the pass just its own calls
+-- the share is of a pass of the table, which has seen a beginning of the history
 pub record ShareOf (T : Terms) (h : List Event) (x : Share) : Type 0 where
   pub terms : x.terms ≡ T
   pub number : x.number < T.passes
-  pub seen : StartsWith h x.seen
-  pub own : calls_of x.number h ≡ calls_of x.number x.seen
+  pub seen : GoesOn pass_of x.number x.seen h []
 
--- what a pass knows of the marks is a beginning of them, and they have of the pass just its own
-pub record MarkedBy (marks : List Mark) (x : Share) : Type 0 where
-  pub starts : StartsWith marks x.marks
-  pub own : marks_of x.number marks ≡ marks_of x.number x.marks
+-- the pass knows a beginning of the marks
+abbrev pub MarkedBy : List Mark → Share → Type 0
+MarkedBy marks x = GoesOn marker_of x.number x.marks marks []
 
 -- the shares stand in one history and in one list of marks
 pub record StandTogether (xs : List Share) : Type 0 where

@@ -1,13 +1,18 @@
 -- The takings and givings that an entry shows.
-use Rattle.std.specs.Prelude.{ℕ, if◌then◌else◌, List, [], ◌∷◌}
+use Rattle.std.specs.Prelude.{◌==◌, ℕ, if◌then◌else◌, List, [], ◌∷◌, filter}
 use Rattle.std.specs.List.{flat_map}
 use Rattle.grub_table.specs.declared.view.Mark.{Mark}
 use Rattle.grub_table.specs.declared.view.Mark.TheVariants.{Taken, Given}
+use Rattle.grub_table.specs.Marks.{marker_of}
 use Rattle.grub_trace.specs.declared.entry.Ask.{Ask}
 use Rattle.grub_trace.specs.declared.entry.Ask.TheVariants.{Call, Read}
 use Rattle.grub_trace.specs.declared.entry.Answer.{Answer}
 use Rattle.grub_trace.specs.declared.entry.Entry.{Entry}
 use Rattle.grub_workers.specs.Entries.{has_held}
+
+-- the marks of one pass, in order
+abbrev pub marks_of : ℕ → List Mark → List Mark
+marks_of i marks = filter (λ m. marker_of m == i) marks
 
 abbrev pub mark_told : ℕ → Ask → Answer → List Mark
 mark_told i (Call t op) answer = if has_held answer then Taken i t ∷ Given i t ∷ [] else []

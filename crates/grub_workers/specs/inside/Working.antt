@@ -1,13 +1,11 @@
 -- What a worker keeps between its asks, and promises at its end.
-use Rattle.std.specs.Prelude.{◌≡◌, ◌≤◌, ℕ, Some, List, ◌++◌}
+use Rattle.std.specs.Prelude.{◌≡◌, ◌≤◌, ℕ, Some, List}
 use Rattle.grub_book.specs.Machine.{Machine}
-use Rattle.grub_book.specs.History.{StartsWith, calls_of}
-use Rattle.grub_book.specs.declared.event.Event.{Event}
-use Rattle.grub_table.specs.declared.view.Mark.{Mark}
+use Rattle.grub_book.specs.History.{calls_of}
 use Rattle.grub_table.specs.declared.pass.Pass.{Pass}
 use Rattle.grub_table.specs.declared.pass.Shared.{Shared}
-use Rattle.grub_table.specs.Marks.{marks_of}
-use Rattle.grub_table.specs.Calls.{IsPassOf, number_of, seen, marks, terms}
+use Rattle.grub_table.specs.Knowing.{Learns}
+use Rattle.grub_table.specs.Calls.{IsPassOf, number_of, share_of, seen, marks, terms}
 use Rattle.grub_trace.specs.declared.line.Line.{Line}
 use Rattle.grub_trace.specs.declared.entry.Ask.{Ask}
 use Rattle.grub_trace.specs.declared.entry.Answer.{Answer}
@@ -16,24 +14,16 @@ use Rattle.grub_asks.specs.Asked.{Asked}
 use Rattle.grub_asks.specs.inside.Keeping.{IsKept}
 use Rattle.grub_workers.specs.declared.worker.Progress.{Progress}
 use Rattle.grub_asks.specs.Answers.{AreAsksOf, event_told, events_told}
-use Rattle.grub_workers.specs.inside.Entries.{mark_told, marks_told}
+use Rattle.grub_workers.specs.inside.Entries.{mark_told, marks_of, marks_told}
 use Rattle.grub_workers.specs.inside.Evidence.{IsBacked, AreBacked}
 
 abbrev pub machine : Shared → Machine
 machine s = (terms s).setup
 
--- the history and the marks that pass i knows went on, and these are its own new events and marks
-pub record Advances (i : ℕ) (before after : List Event) (known now : List Mark) (events : List Event) (more : List Mark) : Type 0 where
-  pub starts : StartsWith after before
-  pub calls : calls_of i after ≡ calls_of i before ++ events
-  pub marks_start : StartsWith now known
-  pub marks_more : marks_of i now ≡ marks_of i known ++ more
-
 -- one ask of the pass was answered so
 pub record IsAsked (s : Shared) (tries : ℕ) (p : Pass) (ask : Ask) (q : Pass) (answer : Answer) : Type 0 where
   pub of : IsPassOf s q
-  pub number : number_of q ≡ number_of p
-  pub advances : Advances (number_of p) (seen p) (seen q) (marks p) (marks q) (event_told (number_of p) ask answer) (mark_told (number_of p) ask answer)
+  pub learns : Learns (share_of p) (share_of q) (event_told (number_of p) ask answer) (mark_told (number_of p) ask answer)
   pub backed : IsBacked (machine s) tries (number_of p) (seen q) (marks q) ask answer
 
 -- the pass made the calls and marks of the entries, and knows what stands behind each ask that was given up

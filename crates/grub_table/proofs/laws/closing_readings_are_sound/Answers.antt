@@ -1,10 +1,9 @@
-use Rattle.std.proofs.Common.{◌≡◌, ◌<◌, ◌≤◌, length, slice_index_or, sym, subst, arith}
+use Rattle.std.proofs.Common.{◌<◌, ◌≤◌, length, sym, subst, arith}
 use Rattle.grub_book.specs.History.{book_of}
 use Rattle.grub_book.specs.Machine.{queue_at}
 use Rattle.grub_book.specs.declared.event.Reading.{Reading}
 use Rattle.grub_book.proofs.Tallies.{running_le_this}
 use Rattle.grub_table.specs.Calls.{terms}
-use Rattle.grub_table.specs.Histories.{reading_in}
 use Rattle.grub_table.proofs.Moves.{sound}
 use Rattle.grub_table.proofs.laws.closing_readings_are_sound.Goals as goal
 

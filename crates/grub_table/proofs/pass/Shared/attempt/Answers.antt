@@ -4,7 +4,8 @@ use Rattle.grub_book.specs.declared.event.Event.TheVariants.{Call}
 use Rattle.grub_book.specs.declared.reply.Reply.{Reply}
 use Rattle.grub_words.proofs.Bounds.{ServerFits-kept}
 use Rattle.grub_table.specs.Calls.{claim_share}
-use Rattle.grub_table.specs.Histories.{Finishes, WasBefore}
+use Rattle.grub_table.specs.Histories.{WasBefore}
+use Rattle.grub_table.specs.inside.Tellings.{Finishes}
 use Rattle.grub_table.specs.inside.Layout.{stored_of}
 use Rattle.grub_table.proofs.Brief.{made_by_try}
 use Rattle.grub_table.proofs.Tries.{done, lost, stored_server, tried_marks, tried_calls, tried_was, tried_made, tried_kept, tried_claimed}
@@ -17,7 +18,7 @@ invariant_of-result c =
     record { single = tells.seat.single; numbered = tells.number ∙ q.numbered; holds = (tells.of q.task q.op q.held q.holds).1.1 ∙ q.holds }
 
 pub returns-in_default-clause-finished : goal.returns-in_default-clause-finished
-returns-in_default-clause-finished c = lost c.args.self.now c.args.claim c.requires.of c.decide.new.seat _ refl refl refl refl refl c.in_default.ensures.told
+returns-in_default-clause-finished c = lost c.args.self.now c.args.claim c.requires.of c.decide.new.seat _ refl refl refl refl c.in_default.ensures.told
 
 pub store_server-requires-clause-held : goal.store_server-requires-clause-held
 store_server-requires-clause-held c =
@@ -42,7 +43,7 @@ returns-clause-finished c =
     let p : Record × Reply = (c.in-Some.next, c.in-Some.reply) in
     let tried = c.in-Some.ensures.told in
     let k = stored_server s q.task c.in-Some.next (stored_of q.held) c.decide.new.seat c.store_server.new.seat (tried_made s q of c.decide.new.seat p tried) _ c.store_server.ensures.told in
-    done s q of c.store_server.new.seat c.in-Some.reply 1 _ c.hand_back-pass.ensures.number (c.store_server.ensures.told.number ∙ tried.number) (k.1 ∙ tried_marks s q of c.decide.new.seat p tried)
+    done s q of c.store_server.new.seat c.in-Some.reply 1 _ (c.store_server.ensures.told.number ∙ tried.number) (k.1 ∙ tried_marks s q of c.decide.new.seat p tried)
     (subst (λ h. Finishes s.terms (claim_share q).number (claim_share q).seen (Call (claim_share q).number q.task q.op c.in-Some.reply) h) (sym k.0) (tried_calls s q of c.decide.new.seat p tried))
     (subst (λ h. WasBefore s.terms q.task q.held (Call (claim_share q).number q.task q.op c.in-Some.reply) h) (sym k.0) (tried_was s q of c.decide.new.seat p tried))
     c.hand_back-pass.ensures.leaves (tried_claimed s q of c.decide.new.seat p tried) (λ _. one)

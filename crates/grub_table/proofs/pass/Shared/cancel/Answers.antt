@@ -5,4 +5,4 @@ pub give_up-requires-clause-held : goal.give_up-requires-clause-held
 give_up-requires-clause-held c = (c.args.claim.op, claim_holds c.args.self.now c.args.claim c.requires)
 
 pub returns-clause-cancelled : goal.returns-clause-cancelled
-returns-clause-cancelled c = cancelled c.args.self.now c.args.claim c.requires _ c.give_up.ensures.number c.give_up.ensures.leaves
+returns-clause-cancelled c = cancelled c.args.self.now c.args.claim c.requires _ c.give_up.ensures.leaves

@@ -18,7 +18,7 @@ returns-clause-finished c tries =
     let s = c.args.self.now in
     let q = c.args.claim in
     let of = c.requires.of in
-    done s q of c.settle_server.new.seat _ tries _ c.hand_back-pass.ensures.number c.settle_server.ensures.told.number
+    done s q of c.settle_server.new.seat _ tries _ c.settle_server.ensures.told.number
     (quiet_marks s q of c.settle_server.new.seat c.queue.result unseen c.settle-reply.result c.settle-reply.ensures c.requires.sum c.requires.charge c.settle_server.ensures.told)
     (quiet_calls s q of c.settle_server.new.seat c.queue.result unseen c.settle-reply.result c.settle-reply.ensures c.requires.sum c.requires.charge c.settle_server.ensures.told)
     (quiet_was s q of c.settle_server.new.seat c.queue.result unseen c.settle-reply.result c.settle-reply.ensures c.requires.sum c.requires.charge c.settle_server.ensures.told)
