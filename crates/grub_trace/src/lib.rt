@@ -25,8 +25,11 @@ pub use entry::{Answer, Ask, Entry, Report};
 pub use fault::{Kind, TraceFault};
 pub use form::is_name;
 pub use line::{Act, Line};
-pub use pieces::LINE_MAX;
+pub use pieces::{
+    ANSWER_MAX, ASK_MAX, DIGITS_MAX, LINE_MAX, READING_MAX, append, append_answer, append_ask,
+    append_number, append_reading,
+};
 pub use plan::Plan;
 pub use read::read_files;
-pub use text::{TextFault, line_of, put_answer, put_ask, put_number, put_reading};
-pub use writing::{report_buffer, report_of, write_buffer, write_report};
+pub use text::{TextFault, line_of, put_number, put_reading};
+pub use writing::{make_room, report_buffer, report_of, write_buffer, write_report};

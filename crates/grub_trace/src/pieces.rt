@@ -21,10 +21,11 @@ pub const ANSWER_MAX: usize = 100;
 /// The text of no ask is longer.
 pub const ASK_MAX: usize = 65;
 
-/// No line of a report is longer.
-pub const LINE_MAX: usize = 192;
+/// No line of a report, of a time line or of its steps is longer.
+pub const LINE_MAX: usize = 320;
 
-fn append(out: &mut Vec<u8>, piece: &[u8])
+/// Appends a piece as it is.
+pub fn append(out: &mut Vec<u8>, piece: &[u8])
     requires { vec_len out.old + length piece.now ≤ vec_capacity out.old }
     ensures text { out.new.items ≡ out.old.items ++ piece.now }
     ensures len { vec_len out.new ≡ vec_len out.old + length piece.now }
@@ -35,6 +36,7 @@ fn append(out: &mut Vec<u8>, piece: &[u8])
     };
 }
 
+/// Appends a piece and then a number, in plain decimal.
 pub fn append_number(out: &mut Vec<u8>, piece: &[u8], n: u64)
     requires { vec_len out.old + length piece.now + DIGITS_MAX ≤ vec_capacity out.old }
     ensures text { out.new.items ≡ out.old.items ++ (piece.now ++ decimal n) }
@@ -56,6 +58,7 @@ fn append_pair(out: &mut Vec<u8>, first: &[u8], x: u32, second: &[u8], y: u32)
     append_number(out, second, u64::from(y));
 }
 
+/// Appends the text of a reading.
 pub fn append_reading(out: &mut Vec<u8>, reading: Reading)
     requires { vec_len out.old + READING_MAX ≤ vec_capacity out.old }
     ensures text { out.new.items ≡ out.old.items ++ reading_text reading }
@@ -109,6 +112,7 @@ fn append_reply(out: &mut Vec<u8>, reply: Reply)
     }
 }
 
+/// Appends the text of an answer.
 #[tactic(auto, unfolding(crate::specs::Texts::answer_text))]
 pub fn append_answer(out: &mut Vec<u8>, answer: Answer)
     requires { vec_len out.old + ANSWER_MAX ≤ vec_capacity out.old }
@@ -174,6 +178,7 @@ fn append_op(out: &mut Vec<u8>, name: &str, op: Op)
     }
 }
 
+/// Appends the text of an ask, whose task is to be one of the plan's.
 #[tactic(auto, unfolding(crate::specs::Texts::ask_text))]
 pub fn append_ask(out: &mut Vec<u8>, plan: &Plan, ask: Ask)
     requires task { IsAskOf (length plan.now.setup.tasks) ask }

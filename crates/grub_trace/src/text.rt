@@ -1,12 +1,11 @@
 //! The texts of entries and reports.
 
 ghost use Rattle.std.specs.Prelude.{◌≡◌, ◌++◌, length, decimal, OnOk, IfOk};
-ghost use Rattle.grub_trace.specs.Texts.{reading_text, answer_text, ask_text, entry_line, IsAskOf};
+ghost use Rattle.grub_trace.specs.Texts.{reading_text, entry_line, IsAskOf};
 
-use crate::entry::{Answer, Ask, Entry};
+use crate::entry::Entry;
 use crate::pieces::{
-    ANSWER_MAX, ASK_MAX, DIGITS_MAX, LINE_MAX, READING_MAX, append_answer, append_ask,
-    append_entry, append_number, append_reading,
+    DIGITS_MAX, LINE_MAX, READING_MAX, append_entry, append_number, append_reading,
 };
 use crate::plan::Plan;
 use grub_book::Reading;
@@ -57,25 +56,6 @@ pub fn put_reading(out: &mut Vec<u8>, reading: Reading) -> Result<(), AllocError
 {
     out.reserve(READING_MAX)?;
     append_reading(out, reading);
-    Ok(())
-}
-
-/// Appends the text of an answer. It is refused where the allocator refused.
-pub fn put_answer(out: &mut Vec<u8>, answer: Answer) -> Result<(), AllocError>
-    ensures { OnOk result (out.new.items ≡ out.old.items ++ answer_text answer) }
-{
-    out.reserve(ANSWER_MAX)?;
-    append_answer(out, answer);
-    Ok(())
-}
-
-/// Appends the text of an ask, whose task is to be one of the plan's. It is refused where the allocator refused.
-pub fn put_ask(out: &mut Vec<u8>, plan: &Plan, ask: Ask) -> Result<(), AllocError>
-    requires { IsAskOf (length plan.now.setup.tasks) ask }
-    ensures { OnOk result (out.new.items ≡ out.old.items ++ ask_text plan.now.names ask) }
-{
-    out.reserve(ASK_MAX)?;
-    append_ask(out, plan, ask);
     Ok(())
 }
 

@@ -17,7 +17,7 @@ use std::io::{ErrorKind, Write};
 /// How many bytes a buffer has room for.
 const BUFFER_ROOM: usize = 65536;
 
-/// A buffer for reports. It is refused with 43 where the allocator refused.
+/// A buffer for lines. It is refused with 43 where the allocator refused.
 pub fn report_buffer(alloc: Global) -> Result<Vec<u8>, TextFault>
     ensures empty { IfOk result (λ v. v.items ≡ []) }
     ensures room { IfOk result (λ v. LINE_MAX ≤ vec_capacity v) }
@@ -45,8 +45,9 @@ pub fn write_buffer<W: Write>(buffer: &mut Vec<u8>, out: &mut W) -> io::Result<(
     Ok(())
 }
 
-/// Makes room for a line.
-fn make_room<W: Write>(buffer: &mut Vec<u8>, out: &mut W) -> io::Result<()>
+/// Makes room for a line, where there is none: the buffer is written then. After a failing write, or one that took nothing,
+/// a beginning of its bytes was written.
+pub fn make_room<W: Write>(buffer: &mut Vec<u8>, out: &mut W) -> io::Result<()>
     requires { LINE_MAX ≤ vec_capacity buffer.old }
     ensures whole { OnOk result (HandsOn (W.contents out.old) (W.contents out.new) buffer.old.items [] buffer.new.items) }
     ensures line { OnOk result (vec_len buffer.new + LINE_MAX ≤ vec_capacity buffer.new) }
