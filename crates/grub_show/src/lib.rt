@@ -6,3 +6,6 @@ mod view;
 
 pub use fault::ShowFault;
 pub use view::{View, write_view};
+
+#[cfg(test)]
+mod tests;

@@ -1,6 +1,8 @@
 //! From the bytes of event files to the bytes of a view.
 
-ghost use Rattle.std.specs.Prelude.{◌≡◌, ℕ, List, MatchResult, OnOk, OnErr, IfOk, IfErr};
+ghost use Rattle.std.specs.Prelude.{◌≡◌, ◌≤◌, ℕ, List, [], MatchResult, OnOk, OnErr, IfErr, vec_capacity};
+ghost use Rattle.grub_book.specs.Sums.{opening_book};
+ghost use Rattle.grub_timeline.specs.TimeLines.{AreWithin, IsTimeLine};
 ghost use Rattle.grub_trace.specs.Meaning.{Reads};
 ghost use Rattle.grub_trace.specs.FirstFault.{IsFault};
 ghost use Rattle.grub_trace.specs.Reading.{contents};
@@ -9,13 +11,18 @@ ghost use Rattle.grub_trace.specs.declared.fault.Kind.{Kind};
 ghost use Rattle.std.specs.Io.KnownBytes.{Appends};
 ghost use Rattle.grub_run.specs.Written.{AppendsPrefix};
 ghost use Rattle.grub_show.specs.Faults.{IsFaultOfView, IsNoFaultOfFile, IsOnlyFaultOfFile, write_fault};
-ghost use Rattle.grub_show.specs.Shown.{IsShown, Shows, ShowsBeginning};
+ghost use Rattle.grub_show.specs.Shown.{Shows, ShowsBeginning};
+ghost use Rattle.grub_show.specs.inside.Showing.{BeginsView, IsFaultOfLine, WritesView};
+ghost use Rattle.grub_views.specs.Lines.{timeline_lines};
+ghost use Rattle.grub_views.specs.Replay.{steps_of};
+ghost use Rattle.grub_views.specs.Rows.{step_rows};
 
 use crate::fault::ShowFault;
+use grub_book::Book;
 use grub_run::GrubFault;
-use grub_timeline::play;
-use grub_trace::{read_files, write_buffer};
-use grub_views::{end_of, picture_text, steps_text, summary_text, timeline_text};
+use grub_timeline::{TimeLine, play};
+use grub_trace::{LINE_MAX, Plan, read_files, report_buffer, write_buffer};
+use grub_views::{end_of, picture_text, summary_text, write_steps, write_timeline};
 use std::alloc::Global;
 use std::io;
 use std::io::Write;
@@ -41,7 +48,8 @@ pub enum View {
 ///
 /// `Trace` (28 to 37) is the reader's fault, and `View` (48) is want of memory for the time line or the view's text.
 /// `EmptySpan` comes where a picture would not begin before it ends. `WriteFault` (45) comes where the writer failed or
-/// took nothing; a beginning of the text was written then. On every other fault nothing was written.
+/// took nothing; a beginning of the text was written then. On every other fault nothing was written: lines go through a
+/// buffer of fixed size, which is the last thing that memory is taken for.
 pub fn write_view<W: Write>(
     alloc: Global,
     files: &[Vec<u8>],
@@ -58,33 +66,6 @@ pub fn write_view<W: Write>(
     ensures answered { (k : Kind) (f n : ℕ) → IsFault (contents files.now) k f n → MatchResult result (λ _. ⊥) (λ e. IsOnlyFaultOfFile e k f n) }
     ensures readable { (trees : List Tree) → Reads (contents files.now) trees → IfErr result IsNoFaultOfFile }
 {
-    let mut text = match text_of_view(alloc, files, view) {
-        Ok(text) => text,
-        Err(fault) => return Err(fault),
-    };
-    match write_text(&mut text, out) {
-        Ok(()) => Ok(()),
-        Err(_) => Err(ShowFault::Grub(GrubFault::WriteFault)),
-    }
-}
-
-/// Writes a whole text, and flushes.
-fn write_text<W: Write>(text: &mut Vec<u8>, out: &mut W) -> io::Result<()>
-    ensures whole { OnOk result (Appends (W.contents out.old) (W.contents out.new) text.old.items) }
-    ensures part { OnErr result (AppendsPrefix (W.contents out.old) (W.contents out.new) text.old.items) }
-{
-    write_buffer(text, out)?;
-    out.flush()
-}
-
-/// The whole text of a view of the files' time line.
-fn text_of_view(alloc: Global, files: &[Vec<u8>], view: View) -> Result<Vec<u8>, ShowFault>
-    ensures text { IfOk result (λ v. IsShown view (contents files.now) v.items) }
-    ensures unwritten { IfErr result (λ e. e ≡ write_fault → ⊥) }
-    ensures fault { IfErr result (IsFaultOfView view (contents files.now)) }
-    ensures answered { (k : Kind) (f n : ℕ) → IsFault (contents files.now) k f n → MatchResult result (λ _. ⊥) (λ e. IsOnlyFaultOfFile e k f n) }
-    ensures readable { (trees : List Tree) → Reads (contents files.now) trees → IfErr result IsNoFaultOfFile }
-{
     let plan = match read_files(alloc, files) {
         Ok(plan) => plan,
         Err(fault) => return Err(ShowFault::Grub(GrubFault::Trace(fault))),
@@ -92,18 +73,185 @@ fn text_of_view(alloc: Global, files: &[Vec<u8>], view: View) -> Result<Vec<u8>,
     let Ok(line) = play(alloc, &plan) else {
         return Err(ShowFault::Grub(GrubFault::View));
     };
-    let text = match view {
-        View::Timeline => timeline_text(alloc, &plan, &line),
-        View::Steps => steps_text(alloc, &plan, &line),
-        View::Summary => summary_text(alloc, &plan, &line),
-        View::Picture { from, to } => {
-            let from = from.unwrap_or(0);
-            let to = to.unwrap_or(end_of(&line));
-            if from >= to {
-                return Err(ShowFault::EmptySpan { from, to });
-            }
-            picture_text(alloc, &plan, &line, from, to)
-        }
+    write_played(alloc, &plan, &line, view, out)
+}
+
+/// Writes a view of a time line of the plan.
+fn write_played<W: Write>(
+    alloc: Global,
+    plan: &Plan,
+    line: &TimeLine,
+    view: View,
+    out: &mut W,
+) -> Result<(), ShowFault>
+    requires line { IsTimeLine plan.now line.now.told.items line.now.closing.items }
+    requires within { AreWithin plan.now.setup line.now.told.items }
+    ensures text { OnOk result (WritesView view plan.now line.now.told.items line.now.closing.items (W.contents out.old) (W.contents out.new)) }
+    ensures prefix { IfErr result (λ e. e ≡ write_fault → BeginsView view plan.now line.now.told.items line.now.closing.items (W.contents out.old) (W.contents out.new)) }
+    ensures nothing { IfErr result (λ e. (e ≡ write_fault → ⊥) → out.new ≡ out.old) }
+    ensures fault { IfErr result (IsFaultOfLine view line.now.told.items) }
+{
+    match view {
+        View::Timeline => write_lines(alloc, plan, line, out),
+        View::Steps => write_rows(alloc, plan, line, out),
+        View::Summary => write_summary(alloc, plan, line, out),
+        View::Picture { from, to } => write_picture(alloc, plan, line, from, to, out),
+    }
+}
+
+/// Writes the lines of a time line.
+fn write_lines<W: Write>(
+    alloc: Global,
+    plan: &Plan,
+    line: &TimeLine,
+    out: &mut W,
+) -> Result<(), ShowFault>
+    requires { AreWithin plan.now.setup line.now.told.items }
+    ensures text { OnOk result (Appends (W.contents out.old) (W.contents out.new) (timeline_lines plan.now.names line.now.told.items line.now.closing.items)) }
+    ensures prefix { IfErr result (λ e. e ≡ write_fault → AppendsPrefix (W.contents out.old) (W.contents out.new) (timeline_lines plan.now.names line.now.told.items line.now.closing.items)) }
+    ensures nothing { IfErr result (λ e. (e ≡ write_fault → ⊥) → out.new ≡ out.old) }
+    ensures fault { IfErr result (IsFaultOfLine View.Timeline line.now.told.items) }
+{
+    let Ok(buffer) = report_buffer(alloc) else {
+        return Err(ShowFault::Grub(GrubFault::View));
     };
-    text.map_err(|_| ShowFault::Grub(GrubFault::View))
+    match lines_through(buffer, plan, line, out) {
+        Ok(()) => Ok(()),
+        Err(_) => Err(ShowFault::Grub(GrubFault::WriteFault)),
+    }
+}
+
+/// Writes the lines of a time line through a buffer, and flushes.
+fn lines_through<W: Write>(
+    buffer: Vec<u8>,
+    plan: &Plan,
+    line: &TimeLine,
+    out: &mut W,
+) -> io::Result<()>
+    requires within { AreWithin plan.now.setup line.now.told.items }
+    requires empty { buffer.items ≡ [] }
+    requires room { LINE_MAX ≤ vec_capacity buffer }
+    ensures whole { OnOk result (Appends (W.contents out.old) (W.contents out.new) (timeline_lines plan.now.names line.now.told.items line.now.closing.items)) }
+    ensures part { OnErr result (AppendsPrefix (W.contents out.old) (W.contents out.new) (timeline_lines plan.now.names line.now.told.items line.now.closing.items)) }
+{
+    let mut buffer = buffer;
+    write_timeline(&mut buffer, out, plan, line)?;
+    write_buffer(&mut buffer, out)?;
+    out.flush()
+}
+
+/// Writes the steps of a time line.
+fn write_rows<W: Write>(
+    alloc: Global,
+    plan: &Plan,
+    line: &TimeLine,
+    out: &mut W,
+) -> Result<(), ShowFault>
+    requires line { IsTimeLine plan.now line.now.told.items line.now.closing.items }
+    requires within { AreWithin plan.now.setup line.now.told.items }
+    ensures text { OnOk result (Appends (W.contents out.old) (W.contents out.new) (step_rows plan.now.names (steps_of plan.now.setup line.now.told.items))) }
+    ensures prefix { IfErr result (λ e. e ≡ write_fault → AppendsPrefix (W.contents out.old) (W.contents out.new) (step_rows plan.now.names (steps_of plan.now.setup line.now.told.items))) }
+    ensures nothing { IfErr result (λ e. (e ≡ write_fault → ⊥) → out.new ≡ out.old) }
+    ensures fault { IfErr result (IsFaultOfLine View.Steps line.now.told.items) }
+{
+    let Ok(book) = Book::new(alloc, plan.setup()) else {
+        return Err(ShowFault::Grub(GrubFault::View));
+    };
+    let Ok(buffer) = report_buffer(alloc) else {
+        return Err(ShowFault::Grub(GrubFault::View));
+    };
+    match rows_through(buffer, book, plan, line, out) {
+        Ok(()) => Ok(()),
+        Err(_) => Err(ShowFault::Grub(GrubFault::WriteFault)),
+    }
+}
+
+/// Writes the steps of a time line, by a book that was asked nothing yet, through a buffer, and flushes.
+fn rows_through<W: Write>(
+    buffer: Vec<u8>,
+    book: Book<'_>,
+    plan: &Plan,
+    line: &TimeLine,
+    out: &mut W,
+) -> io::Result<()>
+    requires line { IsTimeLine plan.now line.now.told.items line.now.closing.items }
+    requires within { AreWithin plan.now.setup line.now.told.items }
+    requires setup { book.setup ≡ plan.now.setup }
+    requires book { book.records ≡ opening_book plan.now.setup }
+    requires empty { buffer.items ≡ [] }
+    requires room { LINE_MAX ≤ vec_capacity buffer }
+    ensures whole { OnOk result (Appends (W.contents out.old) (W.contents out.new) (step_rows plan.now.names (steps_of plan.now.setup line.now.told.items))) }
+    ensures part { OnErr result (AppendsPrefix (W.contents out.old) (W.contents out.new) (step_rows plan.now.names (steps_of plan.now.setup line.now.told.items))) }
+{
+    let mut buffer = buffer;
+    let mut book = book;
+    write_steps(&mut buffer, out, plan, &mut book, line)?;
+    write_buffer(&mut buffer, out)?;
+    out.flush()
+}
+
+/// Writes the summary of a time line.
+fn write_summary<W: Write>(
+    alloc: Global,
+    plan: &Plan,
+    line: &TimeLine,
+    out: &mut W,
+) -> Result<(), ShowFault>
+    requires line { IsTimeLine plan.now line.now.told.items line.now.closing.items }
+    requires within { AreWithin plan.now.setup line.now.told.items }
+    ensures text { OnOk result (WritesView View.Summary plan.now line.now.told.items line.now.closing.items (W.contents out.old) (W.contents out.new)) }
+    ensures prefix { IfErr result (λ e. e ≡ write_fault → BeginsView View.Summary plan.now line.now.told.items line.now.closing.items (W.contents out.old) (W.contents out.new)) }
+    ensures nothing { IfErr result (λ e. (e ≡ write_fault → ⊥) → out.new ≡ out.old) }
+    ensures fault { IfErr result (IsFaultOfLine View.Summary line.now.told.items) }
+{
+    let Ok(text) = summary_text(alloc, plan, line) else {
+        return Err(ShowFault::Grub(GrubFault::View));
+    };
+    match write_text(text, out) {
+        Ok(()) => Ok(()),
+        Err(_) => Err(ShowFault::Grub(GrubFault::WriteFault)),
+    }
+}
+
+/// Writes a picture of a time line.
+fn write_picture<W: Write>(
+    alloc: Global,
+    plan: &Plan,
+    line: &TimeLine,
+    from: Option<u32>,
+    to: Option<u32>,
+    out: &mut W,
+) -> Result<(), ShowFault>
+    requires line { IsTimeLine plan.now line.now.told.items line.now.closing.items }
+    requires within { AreWithin plan.now.setup line.now.told.items }
+    ensures text { OnOk result (WritesView (View.Picture from to) plan.now line.now.told.items line.now.closing.items (W.contents out.old) (W.contents out.new)) }
+    ensures prefix { IfErr result (λ e. e ≡ write_fault → BeginsView (View.Picture from to) plan.now line.now.told.items line.now.closing.items (W.contents out.old) (W.contents out.new)) }
+    ensures nothing { IfErr result (λ e. (e ≡ write_fault → ⊥) → out.new ≡ out.old) }
+    ensures fault { IfErr result (IsFaultOfLine (View.Picture from to) line.now.told.items) }
+{
+    let first = from.unwrap_or(0);
+    let end = to.unwrap_or(end_of(line));
+    if first >= end {
+        return Err(ShowFault::EmptySpan {
+            from: first,
+            to: end,
+        });
+    }
+    let Ok(text) = picture_text(alloc, plan, line, first, end) else {
+        return Err(ShowFault::Grub(GrubFault::View));
+    };
+    match write_text(text, out) {
+        Ok(()) => Ok(()),
+        Err(_) => Err(ShowFault::Grub(GrubFault::WriteFault)),
+    }
+}
+
+/// Writes a whole text, and flushes.
+fn write_text<W: Write>(text: Vec<u8>, out: &mut W) -> io::Result<()>
+    ensures whole { OnOk result (Appends (W.contents out.old) (W.contents out.new) text.items) }
+    ensures part { OnErr result (AppendsPrefix (W.contents out.old) (W.contents out.new) text.items) }
+{
+    let mut text = text;
+    write_buffer(&mut text, out)?;
+    out.flush()
 }

@@ -74,11 +74,12 @@ fn steps_in(alloc: Global, plan: &Plan, line: &TimeLine) -> Result<Vec<Step>, Al
 }
 
 /// Asks the book what the entry asked it.
-fn step_after(book: &mut Book, x: &Told) -> Step
+pub(crate) fn step_after(book: &mut Book, x: &Told) -> Step
     requires { IsToldIn book.old.setup x.now }
     ensures setup { book.new.setup ≡ book.old.setup }
     ensures records { book.new.records ≡ book_after book.old.setup book.old.records x.now.entry.ask }
     ensures value { result ≡ step_of book.old.setup book.old.records x.now }
+    ensures told { result.told ≡ x.now }
 {
     let Ask::Call { t, op } = x.entry.ask else {
         return Step {

@@ -19,10 +19,10 @@ mod usage;
 pub use book_steps::{Change, Step, played_steps};
 pub use fault::ViewFault;
 pub use laws::charged_is_at_most_executed;
-pub use lines::timeline_text;
+pub use lines::write_timeline;
 pub use mark::Mark;
 pub use picture::{end_of, marked_picture_text, picture_text};
-pub use rows::steps_text;
+pub use rows::write_steps;
 pub use summary::summary_text;
 
 #[cfg(test)]

@@ -1,73 +1,123 @@
-//! The text of a time line.
+//! The text of a time line, through a buffer that never grows.
 
-ghost use Rattle.std.specs.Prelude.{◌≡◌, ◌++◌, IfOk, OnOk, length};
+ghost use Rattle.std.specs.Prelude.{◌≡◌, ◌+◌, ◌≤◌, ◌++◌, OnOk, OnErr, length, vec_len, vec_capacity};
+ghost use Rattle.std.specs.List.{flat_map};
 ghost use Rattle.grub_trace.specs.Texts.{IsAskOf};
+ghost use Rattle.grub_trace.specs.Writing.{HandsOn, HandsPart};
 ghost use Rattle.grub_timeline.specs.TimeLines.{AreWithin};
 ghost use Rattle.grub_views.specs.Lines.{close_line, close_lines, timeline_lines, told_line};
 
-use crate::fault::ViewFault;
 use grub_book::Reading;
 use grub_timeline::{TimeLine, Told};
-use grub_trace::{Plan, put_answer, put_ask, put_number, put_reading};
-use std::alloc::{AllocError, Global};
+use grub_trace::{
+    LINE_MAX, Plan, append, append_answer, append_ask, append_number, append_reading, make_room,
+};
+use std::io;
+use std::io::Write;
 
-/// The text of a time line of the plan: a line for each entry, and then the closing reading of each runqueue.
-/// It is refused with 48 where the allocator refused.
-pub fn timeline_text(alloc: Global, plan: &Plan, line: &TimeLine) -> Result<Vec<u8>, ViewFault>
-    requires { AreWithin plan.now.setup line.now.told.items }
-    ensures { IfOk result (λ v. v.items ≡ timeline_lines plan.now.names line.now.told.items line.now.closing.items) }
+/// Puts the text of a time line of the plan into the buffer, and writes what it keeps as often as it is full: a line for
+/// each entry, and then the closing reading of each runqueue. It takes no memory. After a failing write, or one that took
+/// nothing, a beginning of the buffer's bytes and the text was written.
+pub fn write_timeline<W: Write>(
+    buffer: &mut Vec<u8>,
+    out: &mut W,
+    plan: &Plan,
+    line: &TimeLine,
+) -> io::Result<()>
+    requires within { AreWithin plan.now.setup line.now.told.items }
+    requires room { LINE_MAX ≤ vec_capacity buffer.old }
+    ensures whole { OnOk result (HandsOn (W.contents out.old) (W.contents out.new) buffer.old.items (timeline_lines plan.now.names line.now.told.items line.now.closing.items) buffer.new.items) }
+    ensures part { OnErr result (HandsPart (W.contents out.old) (W.contents out.new) buffer.old.items (timeline_lines plan.now.names line.now.told.items line.now.closing.items)) }
+    ensures room { LINE_MAX ≤ vec_capacity buffer.new }
 {
-    text_of(alloc, plan, &line.told, &line.closing).map_err(|_| ViewFault::NoMemory)
+    write_entries(buffer, out, plan, &line.told)?;
+    write_closing(buffer, out, &line.closing)?;
+    Ok(())
 }
 
-fn text_of(
-    alloc: Global,
+/// A line for each entry.
+fn write_entries<W: Write>(
+    buffer: &mut Vec<u8>,
+    out: &mut W,
     plan: &Plan,
     told: &[Told],
-    closing: &[Reading],
-) -> Result<Vec<u8>, AllocError>
-    requires { AreWithin plan.now.setup told.now }
-    ensures { IfOk result (λ v. v.items ≡ timeline_lines plan.now.names told.now closing.now) }
+) -> io::Result<()>
+    requires within { AreWithin plan.now.setup told.now }
+    requires room { LINE_MAX ≤ vec_capacity buffer.old }
+    ensures whole { OnOk result (HandsOn (W.contents out.old) (W.contents out.new) buffer.old.items (flat_map (told_line plan.now.names) told.now) buffer.new.items) }
+    ensures part { OnErr result (HandsPart (W.contents out.old) (W.contents out.new) buffer.old.items (flat_map (told_line plan.now.names) told.now)) }
+    ensures room { LINE_MAX ≤ vec_capacity buffer.new }
 {
-    let mut out = Vec::new(alloc);
     for x in told {
-        put_told(&mut out, plan, x)?;
+        write_told(buffer, out, plan, x)?;
     }
-    put_closing(&mut out, closing)?;
-    Ok(out)
+    Ok(())
+}
+
+fn write_told<W: Write>(buffer: &mut Vec<u8>, out: &mut W, plan: &Plan, x: &Told) -> io::Result<()>
+    requires task { IsAskOf (length plan.now.setup.tasks) x.now.entry.ask }
+    requires room { LINE_MAX ≤ vec_capacity buffer.old }
+    ensures whole { OnOk result (HandsOn (W.contents out.old) (W.contents out.new) buffer.old.items (told_line plan.now.names x.now) buffer.new.items) }
+    ensures part { OnErr result (HandsPart (W.contents out.old) (W.contents out.new) buffer.old.items (told_line plan.now.names x.now)) }
+    ensures room { LINE_MAX ≤ vec_capacity buffer.new }
+{
+    make_room(buffer, out)?;
+    append_told(buffer, plan, x);
+    Ok(())
 }
 
 #[tactic(auto, unfolding(crate::specs::Lines::told_line))]
-fn put_told(out: &mut Vec<u8>, plan: &Plan, x: &Told) -> Result<(), AllocError>
-    requires { IsAskOf (length plan.now.setup.tasks) x.now.entry.ask }
-    ensures { OnOk result (out.new.items ≡ out.old.items ++ told_line plan.now.names x.now) }
+fn append_told(out: &mut Vec<u8>, plan: &Plan, x: &Told)
+    requires task { IsAskOf (length plan.now.setup.tasks) x.now.entry.ask }
+    requires room { vec_len out.old + LINE_MAX ≤ vec_capacity out.old }
+    ensures text { out.new.items ≡ out.old.items ++ told_line plan.now.names x.now }
+    ensures room { vec_capacity out.old ≤ vec_capacity out.new }
 {
-    put_number(out, b"at ", u64::from(x.entry.m))?;
-    put_number(out, b" on ", u64::from(x.r))?;
-    out.extend_from_slice(b" ")?;
-    put_ask(out, plan, x.entry.ask)?;
-    out.extend_from_slice(b": ")?;
-    put_answer(out, x.entry.answer)?;
-    out.extend_from_slice(b"\n")?;
-    Ok(())
+    append_number(out, b"at ", u64::from(x.entry.m));
+    append_number(out, b" on ", u64::from(x.r));
+    append(out, b" ");
+    append_ask(out, plan, x.entry.ask);
+    append(out, b": ");
+    append_answer(out, x.entry.answer);
+    append(out, b"\n");
 }
 
 /// A line for each closing reading, from runqueue 0 on.
-fn put_closing(out: &mut Vec<u8>, closing: &[Reading]) -> Result<(), AllocError>
-    ensures { OnOk result (out.new.items ≡ out.old.items ++ close_lines 0 closing.now) }
+fn write_closing<W: Write>(buffer: &mut Vec<u8>, out: &mut W, closing: &[Reading]) -> io::Result<()>
+    requires { LINE_MAX ≤ vec_capacity buffer.old }
+    ensures whole { OnOk result (HandsOn (W.contents out.old) (W.contents out.new) buffer.old.items (close_lines 0 closing.now) buffer.new.items) }
+    ensures part { OnErr result (HandsPart (W.contents out.old) (W.contents out.new) buffer.old.items (close_lines 0 closing.now)) }
+    ensures room { LINE_MAX ≤ vec_capacity buffer.new }
 {
     for (r, reading) in closing.iter().enumerate() {
-        put_close(out, r as u64, *reading)?;
+        write_close(buffer, out, r as u64, *reading)?;
     }
     Ok(())
 }
 
-fn put_close(out: &mut Vec<u8>, r: u64, closing: Reading) -> Result<(), AllocError>
-    ensures { OnOk result (out.new.items ≡ out.old.items ++ close_line r closing) }
+fn write_close<W: Write>(
+    buffer: &mut Vec<u8>,
+    out: &mut W,
+    r: u64,
+    closing: Reading,
+) -> io::Result<()>
+    requires { LINE_MAX ≤ vec_capacity buffer.old }
+    ensures whole { OnOk result (HandsOn (W.contents out.old) (W.contents out.new) buffer.old.items (close_line r closing) buffer.new.items) }
+    ensures part { OnErr result (HandsPart (W.contents out.old) (W.contents out.new) buffer.old.items (close_line r closing)) }
+    ensures room { LINE_MAX ≤ vec_capacity buffer.new }
 {
-    put_number(out, b"close ", r)?;
-    out.extend_from_slice(b" ")?;
-    put_reading(out, closing)?;
-    out.extend_from_slice(b"\n")?;
+    make_room(buffer, out)?;
+    append_close(buffer, r, closing);
     Ok(())
+}
+
+fn append_close(out: &mut Vec<u8>, r: u64, closing: Reading)
+    requires { vec_len out.old + LINE_MAX ≤ vec_capacity out.old }
+    ensures text { out.new.items ≡ out.old.items ++ close_line r closing }
+    ensures room { vec_capacity out.old ≤ vec_capacity out.new }
+{
+    append_number(out, b"close ", r);
+    append(out, b" ");
+    append_reading(out, closing);
+    append(out, b"\n");
 }

@@ -1,32 +1,98 @@
-//! The steps of a time line as a table of fields with tabs between them.
+//! The steps of a time line as a table of fields with tabs between them, through a buffer that never grows.
 
-ghost use Rattle.std.specs.Prelude.{◌≡◌, ◌++◌, ◌∷◌, [], IfOk, OnOk, length, decimal, codes, All};
+ghost use Rattle.std.specs.Prelude.{◌≡◌, ◌+◌, ◌≤◌, ◌++◌, ◌∷◌, [], OnOk, OnErr, length, decimal, codes, All, vec_len, vec_capacity};
 ghost use Rattle.std.specs.List.{flat_map, join_with_byte};
+ghost use Rattle.grub_book.specs.Sums.{opening_book};
 ghost use Rattle.grub_trace.specs.Texts.{IsAskOf};
+ghost use Rattle.grub_trace.specs.Writing.{HandsOn, HandsPart};
 ghost use Rattle.grub_timeline.specs.TimeLines.{AreWithin, IsTimeLine};
-ghost use Rattle.grub_views.specs.inside.Fitting.{AreStepsIn, AreToldIn, IsToldIn};
-ghost use Rattle.grub_views.specs.Replay.{steps_of};
-ghost use Rattle.grub_views.specs.Rows.{answer_numbers, answer_word, arg_field, ask_word, asked_fields, number_field, number_fields, reply_numbers, reply_word, step_row, step_rows, task_field};
+ghost use Rattle.grub_views.specs.inside.Fitting.{AreToldIn, IsToldIn};
+ghost use Rattle.grub_views.specs.Replay.{steps_from, steps_of};
+ghost use Rattle.grub_views.specs.Rows.{answer_numbers, answer_word, arg_field, ask_word, asked_fields, header, number_field, number_fields, reply_numbers, reply_word, step_row, step_rows, task_field};
 
-use crate::book_steps::{Step, replay};
-use crate::fault::ViewFault;
-use grub_book::{Op, Reply};
-use grub_timeline::TimeLine;
-use grub_trace::{Answer, Ask, Plan, put_number};
-use std::alloc::{AllocError, Global};
+use crate::book_steps::{Step, step_after};
+use grub_book::{Book, Op, Reply};
+use grub_timeline::{TimeLine, Told};
+use grub_trace::{Answer, Ask, LINE_MAX, Plan, append, append_number, make_room};
+use std::io;
+use std::io::Write;
 
 /// The names of the columns.
 const HEADER: &[u8] = b"moment\trunqueue\task\ttask\targ\tanswer\tdq\tk\tq\td\tz\trunning\tthis\n";
 
-/// The steps of a time line of the plan, for programs that read tables: the names of the columns, and then for each
-/// entry a line of fields with a tab between each two. A field that there is none of is empty.
-/// It is refused with 48 where the allocator refused.
-pub fn steps_text(alloc: Global, plan: &Plan, line: &TimeLine) -> Result<Vec<u8>, ViewFault>
+/// Puts the steps of a time line of the plan into the buffer, for programs that read tables, and writes what it keeps as
+/// often as it is full: the names of the columns, and then for each entry a line of fields with a tab between each two. A
+/// field that there is none of is empty. The steps are those of the book, of which nothing was asked yet. It takes no memory.
+/// After a failing write, or one that took nothing, a beginning of the buffer's bytes and the text was written.
+pub fn write_steps<W: Write>(
+    buffer: &mut Vec<u8>,
+    out: &mut W,
+    plan: &Plan,
+    book: &mut Book<'_>,
+    line: &TimeLine,
+) -> io::Result<()>
     requires line { IsTimeLine plan.now line.now.told.items line.now.closing.items }
     requires within { AreWithin plan.now.setup line.now.told.items }
-    ensures { IfOk result (λ v. v.items ≡ step_rows plan.now.names (steps_of plan.now.setup line.now.told.items)) }
+    requires setup { book.old.setup ≡ plan.now.setup }
+    requires book { book.old.records ≡ opening_book plan.now.setup }
+    requires room { LINE_MAX ≤ vec_capacity buffer.old }
+    ensures whole { OnOk result (HandsOn (W.contents out.old) (W.contents out.new) buffer.old.items (step_rows plan.now.names (steps_of plan.now.setup line.now.told.items)) buffer.new.items) }
+    ensures part { OnErr result (HandsPart (W.contents out.old) (W.contents out.new) buffer.old.items (step_rows plan.now.names (steps_of plan.now.setup line.now.told.items))) }
+    ensures room { LINE_MAX ≤ vec_capacity buffer.new }
 {
-    text_of(alloc, plan, line).map_err(|_| ViewFault::NoMemory)
+    write_header(buffer, out)?;
+    write_rows(buffer, out, plan, book, &line.told)?;
+    Ok(())
+}
+
+fn write_header<W: Write>(buffer: &mut Vec<u8>, out: &mut W) -> io::Result<()>
+    requires { LINE_MAX ≤ vec_capacity buffer.old }
+    ensures whole { OnOk result (HandsOn (W.contents out.old) (W.contents out.new) buffer.old.items header buffer.new.items) }
+    ensures part { OnErr result (HandsPart (W.contents out.old) (W.contents out.new) buffer.old.items header) }
+    ensures room { LINE_MAX ≤ vec_capacity buffer.new }
+{
+    make_room(buffer, out)?;
+    append(buffer, HEADER);
+    Ok(())
+}
+
+/// A row for each entry, from this book on.
+fn write_rows<W: Write>(
+    buffer: &mut Vec<u8>,
+    out: &mut W,
+    plan: &Plan,
+    book: &mut Book<'_>,
+    told: &[Told],
+) -> io::Result<()>
+    requires setup { book.old.setup ≡ plan.now.setup }
+    requires told { AreToldIn plan.now.setup told.now }
+    requires room { LINE_MAX ≤ vec_capacity buffer.old }
+    ensures whole { OnOk result (HandsOn (W.contents out.old) (W.contents out.new) buffer.old.items (flat_map (step_row plan.now.names) (steps_from plan.now.setup book.old.records told.now)) buffer.new.items) }
+    ensures part { OnErr result (HandsPart (W.contents out.old) (W.contents out.new) buffer.old.items (flat_map (step_row plan.now.names) (steps_from plan.now.setup book.old.records told.now))) }
+    ensures room { LINE_MAX ≤ vec_capacity buffer.new }
+{
+    for x in told {
+        let step = step_after(book, x);
+        write_step(buffer, out, plan, &step)?;
+    }
+    Ok(())
+}
+
+fn write_step<W: Write>(
+    buffer: &mut Vec<u8>,
+    out: &mut W,
+    plan: &Plan,
+    step: &Step,
+) -> io::Result<()>
+    requires told { IsToldIn plan.now.setup step.now.told }
+    requires room { LINE_MAX ≤ vec_capacity buffer.old }
+    ensures whole { OnOk result (HandsOn (W.contents out.old) (W.contents out.new) buffer.old.items (step_row plan.now.names step.now) buffer.new.items) }
+    ensures part { OnErr result (HandsPart (W.contents out.old) (W.contents out.new) buffer.old.items (step_row plan.now.names step.now)) }
+    ensures room { LINE_MAX ≤ vec_capacity buffer.new }
+{
+    make_room(buffer, out)?;
+    append_step(buffer, plan, step);
+    Ok(())
 }
 
 /// The numbers of an answer, where it has them.
@@ -56,114 +122,119 @@ const NO_NUMBERS: Numbers = Numbers {
     z: None,
 };
 
-fn text_of(alloc: Global, plan: &Plan, line: &TimeLine) -> Result<Vec<u8>, AllocError>
-    requires { AreToldIn plan.now.setup line.now.told.items }
-    ensures { IfOk result (λ v. v.items ≡ step_rows plan.now.names (steps_of plan.now.setup line.now.told.items)) }
-{
-    let steps = replay(alloc, plan.setup(), &line.told)?;
-    rows_of(alloc, plan, &steps)
-}
+/// No piece of a row is longer: what was asked with the word of the answer, the numbers, one number of them, and an argument.
+const ASKED_MAX: usize = 138;
 
-fn rows_of(alloc: Global, plan: &Plan, steps: &[Step]) -> Result<Vec<u8>, AllocError>
-    requires { AreStepsIn plan.now.setup steps.now }
-    ensures { IfOk result (λ v. v.items ≡ step_rows plan.now.names steps.now) }
-{
-    let mut out = Vec::new(alloc);
-    out.extend_from_slice(HEADER)?;
-    for step in steps {
-        put_step(&mut out, plan, step)?;
-    }
-    Ok(out)
-}
+const NUMBERS_MAX: usize = 105;
+
+const OPTIONAL_MAX: usize = 21;
+
+const ARG_MAX: usize = 41;
 
 #[tactic(auto, unfolding(crate::specs::Rows::step_row))]
-fn put_step(out: &mut Vec<u8>, plan: &Plan, step: &Step) -> Result<(), AllocError>
-    requires { IsToldIn plan.now.setup step.now.told }
-    ensures { OnOk result (out.new.items ≡ out.old.items ++ step_row plan.now.names step.now) }
+fn append_step(out: &mut Vec<u8>, plan: &Plan, step: &Step)
+    requires told { IsToldIn plan.now.setup step.now.told }
+    requires room { vec_len out.old + LINE_MAX ≤ vec_capacity out.old }
+    ensures text { out.new.items ≡ out.old.items ++ step_row plan.now.names step.now }
+    ensures room { vec_capacity out.old ≤ vec_capacity out.new }
 {
-    put_asked(out, plan, step)?;
-    put_numbers(out, numbers_of(step.told.entry.answer))?;
-    put_number(out, b"\t", u64::from(step.reading.running))?;
-    put_number(out, b"\t", u64::from(step.reading.this))?;
-    out.extend_from_slice(b"\n")?;
-    Ok(())
+    append_asked(out, plan, step);
+    append_numbers(out, numbers_of(step.told.entry.answer));
+    append_number(out, b"\t", u64::from(step.reading.running));
+    append_number(out, b"\t", u64::from(step.reading.this));
+    append(out, b"\n");
 }
 
 /// The moment, the runqueue, what was asked, and the word of the answer.
-fn put_asked(out: &mut Vec<u8>, plan: &Plan, step: &Step) -> Result<(), AllocError>
-    requires { IsToldIn plan.now.setup step.now.told }
-    ensures { OnOk result (out.new.items ≡ out.old.items ++ join_with_byte 9 (asked_fields plan.now.names step.now)) }
+fn append_asked(out: &mut Vec<u8>, plan: &Plan, step: &Step)
+    requires told { IsToldIn plan.now.setup step.now.told }
+    requires room { vec_len out.old + ASKED_MAX ≤ vec_capacity out.old }
+    ensures text { out.new.items ≡ out.old.items ++ join_with_byte 9 (asked_fields plan.now.names step.now) }
+    ensures len { vec_len out.new ≤ vec_len out.old + ASKED_MAX }
+    ensures room { vec_capacity out.old ≤ vec_capacity out.new }
 {
     let entry = step.told.entry;
-    put_number(out, b"", u64::from(entry.m))?;
-    put_number(out, b"\t", u64::from(step.queue))?;
-    put_field(out, ask_word(entry.ask))?;
-    put_field(out, task_name(plan, entry.ask))?;
-    out.extend_from_slice(b"\t")?;
-    put_arg(out, entry.ask)?;
-    put_field(out, answer_word(entry.answer))?;
-    Ok(())
+    append_number(out, b"", u64::from(entry.m));
+    append_number(out, b"\t", u64::from(step.queue));
+    append_field(out, ask_word(entry.ask));
+    append_field(out, task_name(plan, entry.ask));
+    append(out, b"\t");
+    append_arg(out, entry.ask);
+    append_field(out, answer_word(entry.answer));
 }
 
-fn put_field(out: &mut Vec<u8>, text: &str) -> Result<(), AllocError>
-    ensures { OnOk result (out.new.items ≡ out.old.items ++ (9 ∷ text.now)) }
+fn append_field(out: &mut Vec<u8>, text: &str)
+    requires { vec_len out.old + length text.now + 1 ≤ vec_capacity out.old }
+    ensures text { out.new.items ≡ out.old.items ++ (9 ∷ text.now) }
+    ensures len { vec_len out.new ≡ vec_len out.old + length text.now + 1 }
+    ensures room { vec_capacity out.old ≤ vec_capacity out.new }
 {
-    out.extend_from_slice(b"\t")?;
-    out.extend_from_slice(text.as_bytes())?;
-    Ok(())
+    append(out, b"\t");
+    append(out, text.as_bytes());
 }
 
-fn put_arg(out: &mut Vec<u8>, ask: Ask) -> Result<(), AllocError>
-    ensures { OnOk result (out.new.items ≡ out.old.items ++ arg_field ask) }
+fn append_arg(out: &mut Vec<u8>, ask: Ask)
+    requires { vec_len out.old + ARG_MAX ≤ vec_capacity out.old }
+    ensures text { out.new.items ≡ out.old.items ++ arg_field ask }
+    ensures len { vec_len out.new ≤ vec_len out.old + ARG_MAX }
+    ensures room { vec_capacity out.old ≤ vec_capacity out.new }
 {
     match ask {
         Ask::Call {
             t: _,
             op: Op::Charge { r: _, dt },
-        } => put_number(out, b"", u64::from(dt)),
+        } => append_number(out, b"", u64::from(dt)),
         Ask::Call {
             t: _,
             op: Op::Timer { ticket, m: _ },
-        } => put_number(out, b"", u64::from(ticket)),
+        } => append_number(out, b"", u64::from(ticket)),
         Ask::Call {
             t: _,
             op: Op::Retune { q, p },
-        } => put_reservation(out, q, p),
-        _ => Ok(()),
+        } => append_reservation(out, q, p),
+        _ => {}
     }
 }
 
-fn put_reservation(out: &mut Vec<u8>, q: u32, p: u32) -> Result<(), AllocError>
-    ensures { OnOk result (out.new.items ≡ out.old.items ++ (decimal q ++ codes "/" ++ decimal p)) }
+fn append_reservation(out: &mut Vec<u8>, q: u32, p: u32)
+    requires { vec_len out.old + ARG_MAX ≤ vec_capacity out.old }
+    ensures text { out.new.items ≡ out.old.items ++ (decimal q ++ codes "/" ++ decimal p) }
+    ensures len { vec_len out.new ≤ vec_len out.old + ARG_MAX }
+    ensures room { vec_capacity out.old ≤ vec_capacity out.new }
 {
-    put_number(out, b"", u64::from(q))?;
-    put_number(out, b"/", u64::from(p))?;
-    Ok(())
+    append_number(out, b"", u64::from(q));
+    append_number(out, b"/", u64::from(p));
 }
 
-fn put_numbers(out: &mut Vec<u8>, numbers: Numbers) -> Result<(), AllocError>
-    ensures { OnOk result (out.new.items ≡ out.old.items ++ flat_map (λ f. 9 ∷ f) (number_fields numbers)) }
+fn append_numbers(out: &mut Vec<u8>, numbers: Numbers)
+    requires { vec_len out.old + NUMBERS_MAX ≤ vec_capacity out.old }
+    ensures text { out.new.items ≡ out.old.items ++ flat_map (λ f. 9 ∷ f) (number_fields numbers) }
+    ensures len { vec_len out.new ≤ vec_len out.old + NUMBERS_MAX }
+    ensures room { vec_capacity out.old ≤ vec_capacity out.new }
 {
-    put_optional(out, numbers.dq)?;
-    put_optional(out, numbers.k.map(u64::from))?;
-    put_optional(out, numbers.q.map(u64::from))?;
-    put_optional(out, numbers.d.map(u64::from))?;
-    put_optional(out, numbers.z.map(u64::from))?;
-    Ok(())
+    append_optional(out, numbers.dq);
+    append_optional(out, numbers.k.map(u64::from));
+    append_optional(out, numbers.q.map(u64::from));
+    append_optional(out, numbers.d.map(u64::from));
+    append_optional(out, numbers.z.map(u64::from));
 }
 
-fn put_optional(out: &mut Vec<u8>, number: Option<u64>) -> Result<(), AllocError>
-    ensures { OnOk result (out.new.items ≡ out.old.items ++ (9 ∷ number_field number)) }
+fn append_optional(out: &mut Vec<u8>, number: Option<u64>)
+    requires { vec_len out.old + OPTIONAL_MAX ≤ vec_capacity out.old }
+    ensures text { out.new.items ≡ out.old.items ++ (9 ∷ number_field number) }
+    ensures len { vec_len out.new ≤ vec_len out.old + OPTIONAL_MAX }
+    ensures room { vec_capacity out.old ≤ vec_capacity out.new }
 {
     match number {
-        Some(n) => put_number(out, b"\t", n),
-        None => out.extend_from_slice(b"\t"),
+        Some(n) => append_number(out, b"\t", n),
+        None => append(out, b"\t"),
     }
 }
 
 fn task_name(plan: &Plan, ask: Ask) -> &str
     requires { IsAskOf (length plan.now.setup.tasks) ask }
-    ensures { result.now ≡ task_field plan.now.names ask }
+    ensures name { result.now ≡ task_field plan.now.names ask }
+    ensures short { length result.now ≤ 16 }
 {
     match ask {
         Ask::Call { t, op: _ } => plan.name(t),
@@ -173,7 +244,8 @@ fn task_name(plan: &Plan, ask: Ask) -> &str
 
 #[tactic(auto, unfolding(grub_trace::specs::Texts::ask_text, grub_trace::specs::Texts::op_text))]
 fn ask_word(ask: Ask) -> &'static str
-    ensures { result.now ≡ ask_word ask }
+    ensures word { result.now ≡ ask_word ask }
+    ensures short { length result.now ≤ 18 }
 {
     let Ask::Call { t: _, op } = ask else {
         return "read";
@@ -191,7 +263,8 @@ fn ask_word(ask: Ask) -> &'static str
 }
 
 fn answer_word(answer: Answer) -> &'static str
-    ensures { result.now ≡ answer_word answer }
+    ensures word { result.now ≡ answer_word answer }
+    ensures short { length result.now ≤ 18 }
 {
     match answer {
         Answer::Replied(reply) => reply_word(reply),
@@ -203,7 +276,8 @@ fn answer_word(answer: Answer) -> &'static str
 
 #[tactic(auto, unfolding(grub_trace::specs::Texts::reply_text))]
 fn reply_word(reply: Reply) -> &'static str
-    ensures { result.now ≡ reply_word reply }
+    ensures word { result.now ≡ reply_word reply }
+    ensures short { length result.now ≤ 18 }
 {
     match reply {
         Reply::Joined { q: _, d: _ } => "joined",

@@ -1,8 +1,11 @@
 //! Views of worked examples, and refused growths.
 
+ghost use Rattle.grub_timeline.specs.TimeLines.{AreWithin, IsTimeLine};
+
 use super::*;
-use grub_timeline::play;
-use grub_trace::read_files;
+use grub_book::Book;
+use grub_timeline::{TimeLine, play};
+use grub_trace::{Plan, read_files, report_buffer, write_buffer};
 use std::alloc::{AllocError, Global};
 use std::process::Abort;
 use std::test::Fail;
@@ -130,11 +133,41 @@ fn view_of(alloc: Global, texts: &[&str], view: View) -> Result<Vec<u8>, ViewFau
         return Err(ViewFault::NoMemory);
     };
     match view {
-        View::Lines => timeline_text(alloc, &plan, &line),
-        View::Steps => steps_text(alloc, &plan, &line),
+        View::Lines => lines_of(alloc, &plan, &line),
+        View::Steps => steps_of(alloc, &plan, &line),
         View::Summary => summary_text(alloc, &plan, &line),
         View::Picture => picture_text(alloc, &plan, &line, 0, end_of(&line)),
     }
+}
+
+/// The lines of a time line.
+fn lines_of(alloc: Global, plan: &Plan, line: &TimeLine) -> Result<Vec<u8>, ViewFault>
+    requires { AreWithin plan.now.setup line.now.told.items }
+{
+    let Ok(mut buffer) = report_buffer(alloc) else {
+        return Err(ViewFault::NoMemory);
+    };
+    let mut text = Vec::new(alloc);
+    write_timeline(&mut buffer, &mut text, plan, line).map_err(|_| ViewFault::NoMemory)?;
+    write_buffer(&mut buffer, &mut text).map_err(|_| ViewFault::NoMemory)?;
+    Ok(text)
+}
+
+/// The steps of a time line.
+fn steps_of(alloc: Global, plan: &Plan, line: &TimeLine) -> Result<Vec<u8>, ViewFault>
+    requires line { IsTimeLine plan.now line.now.told.items line.now.closing.items }
+    requires within { AreWithin plan.now.setup line.now.told.items }
+{
+    let Ok(mut book) = Book::new(alloc, plan.setup()) else {
+        return Err(ViewFault::NoMemory);
+    };
+    let Ok(mut buffer) = report_buffer(alloc) else {
+        return Err(ViewFault::NoMemory);
+    };
+    let mut text = Vec::new(alloc);
+    write_steps(&mut buffer, &mut text, plan, &mut book, line).map_err(|_| ViewFault::NoMemory)?;
+    write_buffer(&mut buffer, &mut text).map_err(|_| ViewFault::NoMemory)?;
+    Ok(text)
 }
 
 fn files_of(alloc: Global, texts: &[&str]) -> Result<Vec<Vec<u8>>, AllocError> {

@@ -1,0 +1,33 @@
+-- What a view of a played time line comes to.
+use Rattle.std.specs.Prelude.{◌≡◌, ⊤, ℕ, List, Option}
+use Rattle.std.specs.Io.KnownBytes.{Appends}
+use Rattle.grub_book.specs.declared.event.Reading.{Reading}
+use Rattle.grub_run.specs.Written.{AppendsPrefix}
+use Rattle.grub_run.specs.declared.fault.GrubFault.{GrubFault}
+use Rattle.grub_run.specs.declared.fault.GrubFault.TheVariants as run
+use Rattle.grub_timeline.specs.declared.told.Told.{Told}
+use Rattle.grub_trace.specs.Plans.{PlanView}
+use Rattle.grub_show.specs.Faults.{IsEmptySpan}
+use Rattle.grub_show.specs.Shown.{IsViewOf}
+use Rattle.grub_show.specs.declared.fault.ShowFault.{ShowFault}
+use Rattle.grub_show.specs.declared.fault.ShowFault.TheVariants.{Grub, EmptySpan}
+use Rattle.grub_show.specs.declared.view.View.{View}
+
+-- a view of these entries was written, and nothing else
+abbrev pub WritesView : View → PlanView → List Told → List Reading → Option (List ℕ) → Option (List ℕ) → Type 0
+WritesView view plan told closing old new = (text : List ℕ) × IsViewOf view plan told closing text × Appends old new text
+
+-- a beginning of one was written
+abbrev pub BeginsView : View → PlanView → List Told → List Reading → Option (List ℕ) → Option (List ℕ) → Type 0
+BeginsView view plan told closing old new = (text : List ℕ) × IsViewOf view plan told closing text × AppendsPrefix old new text
+
+-- want of memory, or of the writer
+abbrev pub IsFaultOfText : GrubFault → Type 0
+IsFaultOfText run.View = ⊤
+IsFaultOfText run.WriteFault = ⊤
+IsFaultOfText fault = ⊥
+
+-- no fault of a file; an empty span is that of these entries
+abbrev pub IsFaultOfLine : View → List Told → ShowFault → Type 0
+IsFaultOfLine view told (Grub fault) = IsFaultOfText fault
+IsFaultOfLine view told (EmptySpan first end) = IsEmptySpan view told first end
