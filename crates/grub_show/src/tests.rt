@@ -170,7 +170,7 @@ fn a_writer_that_fails(rt: HostRuntime) -> Result<(), Fail> {
         (View::Steps, STEPS),
         (View::Summary, SUMMARY),
     ] {
-        for room in [0usize, 1, 100, text.len() - 1] {
+        for room in [0usize, 1, 100, text.len().saturating_sub(1)] {
             let (files, _) = input_of(alloc)?;
             let mut out = Short {
                 taken: Vec::new(alloc),
@@ -178,7 +178,8 @@ fn a_writer_that_fails(rt: HostRuntime) -> Result<(), Fail> {
             };
             let result = write_view(alloc, &files, view, &mut out);
             assert!(rt; result == Err(ShowFault::Grub(GrubFault::WriteFault)));
-            assert!(rt; out.taken.as_slice() == &text.as_bytes()[..room]);
+            assert_eq!(rt; out.taken.len(), room);
+            assert!(rt; text.as_bytes().starts_with(out.taken.as_slice()));
         }
     }
     Ok(())
