@@ -45,7 +45,7 @@ pub fn print_view<
         Ok(files) => files,
         Err(fault) => return Err(fault),
     };
-    match write_view(alloc, &files, view, out) {
+    match write_view(alloc, files, view, out) {
         Ok(()) => Ok(()),
         Err(ShowFault::Grub(fault)) => Err(placed(paths, fault)),
         Err(ShowFault::EmptySpan { from, to }) => Err(ProgramFault::EmptySpan { from, to }),

@@ -81,7 +81,7 @@ fn shown<R: Abort>(rt: &R, alloc: Global, view: View) -> Option<Vec<u8>> {
     let Ok((files, mut out)) = made else {
         panic!(rt; "refused twice")
     };
-    match write_view(alloc, &files, view, &mut out) {
+    match write_view(alloc, files, view, &mut out) {
         Ok(()) => Some(out),
         Err(fault) => {
             assert!(rt; is_refusal(fault));
@@ -176,7 +176,7 @@ fn a_writer_that_fails(rt: HostRuntime) -> Result<(), Fail> {
                 taken: Vec::new(alloc),
                 room,
             };
-            let result = write_view(alloc, &files, view, &mut out);
+            let result = write_view(alloc, files, view, &mut out);
             assert!(rt; result == Err(ShowFault::Grub(GrubFault::WriteFault)));
             assert_eq!(rt; out.taken.len(), room);
             assert!(rt; text.as_bytes().starts_with(out.taken.as_slice()));

@@ -44,7 +44,8 @@ pub enum View {
     Picture { from: Option<u32>, to: Option<u32> },
 }
 
-/// Reads event files, plays them on one time line, and writes a view of it.
+/// Reads event files, plays them on one time line, and writes a view of it. The files' bytes are dropped before they are
+/// played, so their memory is free for the entries.
 ///
 /// `Trace` (28 to 37) is the reader's fault, and `View` (48) is want of memory for the time line or the view's text.
 /// `EmptySpan` comes where a picture would not begin before it ends. `WriteFault` (45) comes where the writer failed or
@@ -52,24 +53,25 @@ pub enum View {
 /// buffer of fixed size, which is the last thing that memory is taken for.
 pub fn write_view<W: Write>(
     alloc: Global,
-    files: &[Vec<u8>],
+    files: Vec<Vec<u8>>,
     view: View,
     out: &mut W,
 ) -> Result<(), ShowFault>
-    ensures text { OnOk result (Shows view (contents files.now) (W.contents out.old) (W.contents out.new)) }
-    ensures prefix { IfErr result (λ e. e ≡ write_fault → ShowsBeginning view (contents files.now) (W.contents out.old) (W.contents out.new)) }
+    ensures text { OnOk result (Shows view (contents files.items) (W.contents out.old) (W.contents out.new)) }
+    ensures prefix { IfErr result (λ e. e ≡ write_fault → ShowsBeginning view (contents files.items) (W.contents out.old) (W.contents out.new)) }
     ensures nothing { IfErr result (λ e. (e ≡ write_fault → ⊥) → out.new ≡ out.old) }
 
     // A fault of the files is the reader's, and where there is one it is answered, memory aside. An empty span is told
     // where the span of a picture is empty.
-    ensures fault { IfErr result (IsFaultOfView view (contents files.now)) }
-    ensures answered { (k : Kind) (f n : ℕ) → IsFault (contents files.now) k f n → MatchResult result (λ _. ⊥) (λ e. IsOnlyFaultOfFile e k f n) }
-    ensures readable { (trees : List Tree) → Reads (contents files.now) trees → IfErr result IsNoFaultOfFile }
+    ensures fault { IfErr result (IsFaultOfView view (contents files.items)) }
+    ensures answered { (k : Kind) (f n : ℕ) → IsFault (contents files.items) k f n → MatchResult result (λ _. ⊥) (λ e. IsOnlyFaultOfFile e k f n) }
+    ensures readable { (trees : List Tree) → Reads (contents files.items) trees → IfErr result IsNoFaultOfFile }
 {
-    let plan = match read_files(alloc, files) {
+    let plan = match read_files(alloc, &files) {
         Ok(plan) => plan,
         Err(fault) => return Err(ShowFault::Grub(GrubFault::Trace(fault))),
     };
+    drop(files);
     let Ok(line) = play(alloc, &plan) else {
         return Err(ShowFault::Grub(GrubFault::View));
     };

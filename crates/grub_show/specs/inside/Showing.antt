@@ -1,5 +1,5 @@
 -- What a view of a played time line comes to.
-use Rattle.std.specs.Prelude.{◌≡◌, ⊤, ℕ, List, Option}
+use Rattle.std.specs.Prelude.{⊤, ℕ, List, Option}
 use Rattle.std.specs.Io.KnownBytes.{Appends}
 use Rattle.grub_book.specs.declared.event.Reading.{Reading}
 use Rattle.grub_run.specs.Written.{AppendsPrefix}
