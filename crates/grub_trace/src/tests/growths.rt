@@ -94,23 +94,37 @@ fn refused_growths_of_a_report(rt: HostRuntime) -> Result<(), Fail> {
 /// The most pieces of memory that are held back.
 const PIECES: usize = 131072;
 
-/// All memory that is left, so that every growth is refused until it is dropped; none of it is written. None where the
+/// All memory that is left, so that every growth is refused until it is dropped; none of it is written. An allocator may
+/// keep a piece that was given back for the next of its very size, so each small size is asked for. None where the
 /// allocator gives memory without end, as that of `rt try` does.
 fn all_memory(alloc: Global) -> Result<Option<Vec<Vec<u8>>>, Fail> {
     let mut pieces = Vec::with_capacity(alloc, PIECES)?;
     let mut size = usize::MAX / 65536;
-    for _halving in 0..48 {
-        for _piece in 0..PIECES {
-            let Ok(piece) = Vec::with_capacity(alloc, size) else {
-                break;
-            };
-            if pieces.push(piece).is_err() {
-                return Ok(None);
-            }
+    for _halving in 0..37 {
+        if !hold(alloc, &mut pieces, size) {
+            return Ok(None);
         }
         size /= 2;
     }
+    for smaller in 0..2048 {
+        if !hold(alloc, &mut pieces, 2048 - smaller) {
+            return Ok(None);
+        }
+    }
     Ok(Some(pieces))
+}
+
+/// Holds pieces of this size until no more is given. Whether they could be held.
+fn hold(alloc: Global, pieces: &mut Vec<Vec<u8>>, size: usize) -> bool {
+    for _piece in 0..PIECES {
+        let Ok(piece) = Vec::with_capacity(alloc, size) else {
+            return true;
+        };
+        if pieces.push(piece).is_err() {
+            return false;
+        }
+    }
+    true
 }
 
 /// 37 and 43 are answered where nothing is left, and the faults of the first two lines of the first file all the same.
