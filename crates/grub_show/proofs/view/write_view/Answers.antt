@@ -27,5 +27,8 @@ shown view files plan told closing text trees read is line whole = record {
 pub returns-clause-text : goal.returns-clause-text
 returns-clause-text g c =
     let read = rw c.deref.ensures.value at c.in-Ok.ensures.read in
-    on_ok_weaker c.write_played.result (λ w. (w.0,
-        shown c.args.view (contents c.args.files.items) c.in-Ok.plan c.in-Ok-play.line.told.items c.in-Ok-play.line.closing.items w.0 read.0 read.1 read.2 c.in-Ok-play.ensures.time_line w.1, w.2)) c.write_played.ensures.text
+    on_ok_weaker c.write_played.result (λ w. (
+      w.0,
+      shown c.args.view (contents c.args.files.items) c.in-Ok.plan c.in-Ok-play.line.told.items c.in-Ok-play.line.closing.items w.0 read.0 read.1 read.2 c.in-Ok-play.ensures.time_line w.1,
+      w.2,
+    )) c.write_played.ensures.text
