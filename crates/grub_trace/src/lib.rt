@@ -32,4 +32,4 @@ pub use pieces::{
 pub use plan::Plan;
 pub use read::read_files;
 pub use text::{TextFault, line_of, put_number, put_reading};
-pub use writing::{make_room, report_buffer, report_of, write_buffer, write_report};
+pub use writing::{make_room, report_buffer, report_of, write_buffer, write_bytes, write_report};

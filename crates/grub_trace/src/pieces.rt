@@ -199,6 +199,7 @@ pub fn append_entry(out: &mut Vec<u8>, plan: &Plan, entry: Entry)
     requires task { IsAskOf (length plan.now.setup.tasks) entry.ask }
     requires room { vec_len out.old + LINE_MAX ≤ vec_capacity out.old }
     ensures text { out.new.items ≡ out.old.items ++ entry_line plan.now.names entry }
+    ensures len { vec_len out.new ≤ vec_len out.old + LINE_MAX }
     ensures room { vec_capacity out.old ≤ vec_capacity out.new }
 {
     append_number(out, b"at ", u64::from(entry.m));

@@ -26,6 +26,22 @@ pub fn report_buffer(alloc: Global) -> Result<Vec<u8>, TextFault>
     Ok(buffer)
 }
 
+/// Writes the bytes. After a failing write, or one that took nothing, a beginning of them was written.
+pub fn write_bytes<W: Write>(bytes: &[u8], out: &mut W) -> io::Result<()>
+    ensures whole { OnOk result (HandsOn (W.contents out.old) (W.contents out.new) bytes.now [] []) }
+    ensures part { OnErr result (HandsPart (W.contents out.old) (W.contents out.new) bytes.now []) }
+{
+    let mut at = 0;
+    while at < bytes.len() {
+        match out.write(&bytes[at..]) {
+            Ok(0) => return Err(io::Error::from(ErrorKind::WriteZero)),
+            Ok(count) => at += count,
+            Err(error) => return Err(error),
+        }
+    }
+    Ok(())
+}
+
 /// Writes what the buffer keeps. After a failing write, or one that took nothing, a beginning of it was written.
 pub fn write_buffer<W: Write>(buffer: &mut Vec<u8>, out: &mut W) -> io::Result<()>
     ensures whole { OnOk result (HandsOn (W.contents out.old) (W.contents out.new) buffer.old.items [] []) }
@@ -33,14 +49,7 @@ pub fn write_buffer<W: Write>(buffer: &mut Vec<u8>, out: &mut W) -> io::Result<(
     ensures part { OnErr result (HandsPart (W.contents out.old) (W.contents out.new) buffer.old.items []) }
     ensures room { vec_capacity buffer.new ≡ vec_capacity buffer.old }
 {
-    let mut at = 0;
-    while at < buffer.len() {
-        match out.write(&buffer[at..]) {
-            Ok(0) => return Err(io::Error::from(ErrorKind::WriteZero)),
-            Ok(count) => at += count,
-            Err(error) => return Err(error),
-        }
-    }
+    write_bytes(buffer, out)?;
     buffer.clear();
     Ok(())
 }
