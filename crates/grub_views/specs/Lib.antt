@@ -1,3 +1,4 @@
+pub mod ActiveTimes
 pub mod Lines
 pub mod Messages
 pub mod Picture

@@ -18,7 +18,7 @@ mod usage;
 
 pub use book_steps::{Change, Step, played_steps};
 pub use fault::ViewFault;
-pub use laws::charged_is_at_most_executed;
+pub use laws::{charged_is_at_most_executed, running_is_of_active_tasks};
 pub use lines::write_timeline;
 pub use mark::Mark;
 pub use picture::{end_of, marked_picture_text, picture_text};
