@@ -1,4 +1,4 @@
--- The verdict on what the facts of a trace tell: their event files, and these played on one time line.
+-- The verdict on what a trace tells: its facts, their event files, and these played on one time line.
 use Rattle.std.specs.Prelude.{◌≡◌, ℕ, Bool, true, false, List, Option}
 use Rattle.std.specs.Io.KnownBytes.{Appends}
 use Rattle.grub_facts.specs.declared.fact.Facts.{Facts}
@@ -9,7 +9,10 @@ use Rattle.grub_trace.specs.Naming.{plan_of}
 use Rattle.grub_trace.specs.Plans.{PlanView}
 use Rattle.grub_trace.specs.Tree.{Tree}
 use Rattle.grub_convert.specs.Files.{AreFiles, IsFault, IsSetting, IsSound, events_told}
+use Rattle.grub_convert.specs.Read.{IsToldOf}
 use Rattle.grub_convert.specs.declared.options.Options.{Options}
+use Rattle.grub_convert.specs.declared.pieces.Input.{Input}
+use Rattle.grub_files.specs.Source.{Opener, Reader}
 use Rattle.grub_views.specs.Replay.{steps_of}
 use Rattle.grub_verdict.specs.Judging.{IsJudged}
 use Rattle.grub_verdict.specs.declared.case.Case.{Case}
@@ -72,13 +75,15 @@ Says (Agrees v) agrees text = (agrees ≡ true) × (text ≡ v.items)
 Says (Differs v) agrees text = (agrees ≡ false) × (text ≡ v.items)
 Says (Overfull found) agrees text = ⊥
 
--- the verdict on some facts
-pub record IsSaid (q : Question) (o : Options) (agrees : Bool) (text : List ℕ) : Type 0 where
-  pub facts : Facts
-  pub judged : Judged
-  pub is : IsVerdictOn q o facts judged
-  pub says : Says judged agrees text
+module _ {O N D : Type 0} (o : Opener O D) (g : Reader N D) (input : Input O N) where
+  -- the verdict on what the trace of the question's name tells, which may be opened and read so
+  pub record IsSaid (q : Question) (options : Options) (agrees : Bool) (text : List ℕ) : Type 0 where
+    pub facts : Facts
+    pub told : IsToldOf o g input q.path.now options facts
+    pub judged : Judged
+    pub is : IsVerdictOn q options facts judged
+    pub says : Says judged agrees text
 
--- and that text was printed and nothing else
-abbrev pub Prints : Question → Options → Bool → Option (List ℕ) → Option (List ℕ) → Type 0
-Prints q o agrees old new = (text : List ℕ) × IsSaid q o agrees text × Appends old new text
+  -- and that text was printed and nothing else
+  abbrev pub Prints : Question → Options → Bool → Option (List ℕ) → Option (List ℕ) → Type 0
+  Prints q options agrees old new = (text : List ℕ) × IsSaid q options agrees text × Appends old new text

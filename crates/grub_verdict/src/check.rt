@@ -78,7 +78,7 @@ fn read_verdict<
     requires read { N.IsAlwaysCallable input.now.read }
     requires exists { X.IsAlwaysCallable target.now.exists }
     requires make { M.IsAlwaysCallable target.now.make }
-    ensures { IfOk result (λ said. IsSaid question.entry options.now said.0 said.1.items) }
+    ensures { IfOk result (λ said. IsSaid O.Fn N.Fn input.now question.entry options.now said.0 said.1.items) }
 {
     let mut facts = read_facts(alloc, input, question.path, options)?;
     match check_facts(alloc, question, options, &facts) {
@@ -118,9 +118,9 @@ pub fn serve_check<
     requires read { N.IsAlwaysCallable input.now.read }
     requires exists { X.IsAlwaysCallable target.now.exists }
     requires make { M.IsAlwaysCallable target.now.make }
-    // 0 where the verdict that was printed says that it agrees, and 4 where it says that it differs.
-    ensures agrees { result ≡ 0 → Prints question.entry options.now true (W.contents out.old) (W.contents out.new) }
-    ensures differs { result ≡ 4 → Prints question.entry options.now false (W.contents out.old) (W.contents out.new) }
+    // The verdict on what the trace tells was printed: at 0 it says that it agrees, and at 4 that it differs.
+    ensures agrees { result ≡ 0 → Prints O.Fn N.Fn input.now question.entry options.now true (W.contents out.old) (W.contents out.new) }
+    ensures differs { result ≡ 4 → Prints O.Fn N.Fn input.now question.entry options.now false (W.contents out.old) (W.contents out.new) }
     // Where the trace is at fault, nothing was printed.
     ensures nothing { result ≡ 1 → out.new ≡ out.old }
 {
