@@ -6,6 +6,7 @@ pub mod NumberLemmas
 pub mod TaskLemmas
 pub mod NameLemmas
 pub mod LineLemmas
+pub mod Placing
 pub mod Loops
 pub mod AllLemmas
 pub mod FormLemmas

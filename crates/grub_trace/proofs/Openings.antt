@@ -1,5 +1,5 @@
 -- Faults of the first two lines of the first file: no later fault is in their place.
-use Rattle.std.proofs.Common.{◌≡◌, ℕ, ◌+◌, ◌-◌, ◌<◌, ◌≤◌, ◌⊎◌, inl, inr, List, [], ◌∷◌, length, get_or, drop, Result, Ok, Err, refl, sym, ap, ◌∙◌, arith, subst}
+use Rattle.std.proofs.Common.{◌≡◌, ℕ, ◌+◌, ◌-◌, ◌<◌, ◌≤◌, ◌⊎◌, inl, inr, List, [], ◌∷◌, length, get_or, drop, Result, Ok, Err, sym, ap, ◌∙◌, arith}
 use Rattle.std.specs.Global.{Vec}
 use Rattle.grub_bw.specs.Bandwidth.{Capacity}
 use Rattle.grub_trace.specs.declared.version.Version.{Version}
@@ -12,7 +12,7 @@ use Rattle.grub_trace.specs.inside.Halts.{fault_of}
 use Rattle.grub_trace.specs.Tree.{Declaration}
 use Rattle.grub_trace.specs.FirstFault.{parts_of, HeaderFault, QueueFault, FileFault, OpeningFault}
 use Rattle.grub_trace.specs.Reading.{contents}
-use Rattle.grub_trace.specs.inside.Reading.{Read, FileRead, AllRead, with_file, in_file, file_from, opened, read_queue, read_lines, read_second, read_file, read_from, at_line, ◌>>=◌, GivesOpening, AnswersOpening}
+use Rattle.grub_trace.specs.inside.Reading.{FileRead, AllRead, with_file, in_file, file_from, opened, read_queue, read_lines, read_second, read_file, read_from, at_line, ◌>>=◌, GivesOpening, AnswersOpening}
 use Rattle.grub_trace.proofs.LineLemmas.{second_step, queue_then}
 use Rattle.grub_trace.proofs.Runs.{broke}
 use Rattle.grub_trace.proofs.AllLemmas.{drop_item}

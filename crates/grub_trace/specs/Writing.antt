@@ -1,5 +1,5 @@
 -- The way of a text to a writer, through a buffer.
-use Rattle.std.specs.Prelude.{◌≡◌, ℕ, List, [], ◌++◌, ⊤, Option, Some, None}
+use Rattle.std.specs.Prelude.{◌≡◌, ℕ, List, ◌++◌, ⊤, Option, Some, None}
 
 -- The writer was handed what the buffer had kept and then the text, all but what is left. What a writer holds may not be known.
 abbrev pub HandsOn : Option (List ℕ) → Option (List ℕ) → List ℕ → List ℕ → List ℕ → Type 0

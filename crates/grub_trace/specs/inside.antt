@@ -1,4 +1,5 @@
 pub mod Faults
 pub mod Halts
+pub mod Pending
 pub mod Reading
 pub mod Tree

@@ -1,38 +1,49 @@
-//! What the lines below the second say, with the names of tasks as the lines have them.
+//! What the lines below the second say.
 
 ghost use Rattle.std.specs.Prelude.{◌≡◌, map, OnOk, IfOk, IfSome, is_some, List, length, Ok, Some, None, true};
-ghost use Rattle.grub_trace.specs.inside.Reading.{read_view, take_line, take_form, declarations, IsIndexed, Takes, TakesDeed, happening_view, times_of, says, deed_view, declares, Stops, Says, Declares, IsMoment, IsRun, IsRetune, form_view};
+ghost use Rattle.grub_trace.specs.inside.Reading.{read_view, take_line, take_form, declarations, IsIndexed, Takes, TakesDeed, said, IsSaid, times_of, says, deed_view, declares, Stops, Says, Declares, IsMoment, IsRun, IsRetune, form_view};
 ghost use Rattle.grub_trace.specs.Faults.{last_of, reservation_fits};
 ghost use Rattle.grub_trace.specs.inside.Faults.{is_named};
 ghost use Rattle.grub_trace.specs.Tree.{is_name};
 
 use crate::fault::{Kind, Stop};
 use crate::form::{Deed, Form, form_of};
+use crate::line::Line;
 use crate::number::number;
-use crate::raw::RawHappening;
+use crate::pending::act;
+use crate::raw::RawScript;
 use crate::tasks::Tasks;
 use crate::version::Version;
 use grub_bw::Params;
 use std::alloc::Global;
 
-/// The moment of the last happening so far, or 0.
-fn last(happenings: &[RawHappening]) -> u32
-    ensures { result ≡ last_of (times_of (map happening_view happenings.now)) }
+/// The moment of the last line so far, or 0.
+fn last(lines: &[Line]) -> u32
+    ensures { result ≡ last_of (map (λ l. l.m) lines.now) }
 {
-    match happenings.last() {
+    match lines.last() {
         None => 0,
-        Some(m) => m.at,
+        Some(line) => line.m,
     }
 }
 
-/// Adds a happening that is within its limits.
-fn say<'a>(happenings: &mut Vec<RawHappening<'a>>, at: u32, deed: Deed<'a, u32>) -> Result<(), Stop>
-    ensures { Says result (map happening_view happenings.old.items) (map happening_view happenings.new.items) at (deed_view (λ n. n) deed.entry) }
+/// Adds what happens within its limits.
+fn say<'a>(
+    tasks: &Tasks,
+    script: &mut RawScript<'a>,
+    at: u32,
+    deed: Deed<'a, u32>,
+) -> Result<(), Stop>
+    requires indexed { IsIndexed tasks.now }
+    requires placed { IsSaid tasks.now script.old }
+    ensures says { Says result (said tasks.now script.old) (said tasks.now script.new) at (deed_view (λ n. n) deed.entry) }
+    ensures placed { OnOk result (IsSaid tasks.now script.new) }
 {
-    if at < last(happenings) {
+    if at < last(&script.lines) {
         return Err(Stop::Fault(Kind::MomentGoesBack));
     }
-    happenings.push(RawHappening { at, deed })?;
+    let act = act(tasks, &mut script.pending, deed)?;
+    script.lines.push(Line { m: at, act })?;
     Ok(())
 }
 
@@ -80,54 +91,60 @@ fn take_form<'a>(
     alloc: Global,
     version: Version,
     tasks: &mut Tasks,
-    happenings: &mut Vec<RawHappening<'a>>,
+    script: &mut RawScript<'a>,
     form: Form<'a>,
 ) -> Result<(), Stop>
     requires indexed { IsIndexed tasks.old }
+    requires placed { IsSaid tasks.old script.old }
     requires names { is_named (form_view form) ≡ true }
-    ensures takes { Takes result (read_view version tasks.new happenings.new.items) (take_form (read_view version tasks.old happenings.old.items) (form_view form.entry)) }
+    ensures takes { Takes result (read_view version tasks.new script.new) (take_form (read_view version tasks.old script.old) (form_view form.entry)) }
     ensures indexed { OnOk result (IsIndexed tasks.new) }
+    ensures placed { OnOk result (IsSaid tasks.new script.new) }
 {
     match form {
         Form::Queue(..) => Err(Stop::Fault(Kind::BadLine)),
         Form::Task(name, runtime, period) => {
-            if !happenings.is_empty() {
+            if !script.lines.is_empty() {
                 return Err(Stop::Fault(Kind::BadLine));
             }
             declare(alloc, tasks, name, runtime, period)
         }
-        Form::At(at, deed) => take_deed(version, happenings, at, deed),
+        Form::At(at, deed) => take_deed(version, tasks, script, at, deed),
     }
 }
 
 /// Takes what is said to happen at a moment.
 fn take_deed<'a>(
     version: Version,
-    happenings: &mut Vec<RawHappening<'a>>,
+    tasks: &Tasks,
+    script: &mut RawScript<'a>,
     at: &[u8],
     deed: Deed<'a, &'a [u8]>,
 ) -> Result<(), Stop>
-    ensures { TakesDeed result version (map happening_view happenings.old.items) (map happening_view happenings.new.items) at.now (deed_view (λ w. w.now) deed.entry) }
+    requires indexed { IsIndexed tasks.now }
+    requires placed { IsSaid tasks.now script.old }
+    ensures takes { TakesDeed result version (said tasks.now script.old) (said tasks.now script.new) at.now (deed_view (λ w. w.now) deed.entry) }
+    ensures placed { OnOk result (IsSaid tasks.now script.new) }
 {
     match deed {
         Deed::Does(verb, name) => {
             let at = moment(at)?;
-            say(happenings, at, Deed::Does(verb, name))
+            say(tasks, script, at, Deed::Does(verb, name))
         }
         Deed::Runs(name, span) => {
             let (at, span) = run(at, span)?;
-            say(happenings, at, Deed::Runs(name, span))
+            say(tasks, script, at, Deed::Runs(name, span))
         }
         Deed::Retunes(name, runtime, period) => {
             if !version.may_retune() {
                 return Err(Stop::Fault(Kind::BadLine));
             }
             let (at, runtime, period) = retune(at, runtime, period)?;
-            say(happenings, at, Deed::Retunes(name, runtime, period))
+            say(tasks, script, at, Deed::Retunes(name, runtime, period))
         }
         Deed::Reads => {
             let at = moment(at)?;
-            say(happenings, at, Deed::Reads)
+            say(tasks, script, at, Deed::Reads)
         }
     }
 }
@@ -179,15 +196,17 @@ pub fn take_line<'a>(
     alloc: Global,
     version: Version,
     tasks: &mut Tasks,
-    happenings: &mut Vec<RawHappening<'a>>,
+    script: &mut RawScript<'a>,
     line: &'a [u8],
 ) -> Result<(), Stop>
     requires indexed { IsIndexed tasks.old }
-    ensures takes { Takes result (read_view version tasks.new happenings.new.items) (take_line (read_view version tasks.old happenings.old.items) line.now) }
+    requires placed { IsSaid tasks.old script.old }
+    ensures takes { Takes result (read_view version tasks.new script.new) (take_line (read_view version tasks.old script.old) line.now) }
     ensures indexed { OnOk result (IsIndexed tasks.new) }
+    ensures placed { OnOk result (IsSaid tasks.new script.new) }
 {
     match form_of(line) {
         None => Err(Stop::Fault(Kind::BadLine)),
-        Some(form) => take_form(alloc, version, tasks, happenings, form),
+        Some(form) => take_form(alloc, version, tasks, script, form),
     }
 }

@@ -1,7 +1,7 @@
 //! One file: its version, its runqueue, and the lines below.
 
-ghost use Rattle.std.specs.Prelude.{◌≡◌, OnOk, IfSome, is_some};
-ghost use Rattle.grub_trace.specs.inside.Reading.{opened, happening_view, declarations, IsIndexed, read_view, read_lines, read_queue, Gives, GivesOpening, GivesQueue, file_view, read_second, read_file};
+ghost use Rattle.std.specs.Prelude.{◌≡◌, OnOk, IfOk, IfSome, is_some};
+ghost use Rattle.grub_trace.specs.inside.Reading.{opened, declarations, IsIndexed, IsSaid, read_view, read_lines, read_queue, Gives, GivesOpening, GivesQueue, file_view, read_second, read_file};
 ghost use Rattle.grub_trace.specs.FirstFault.{parts_of};
 ghost use Rattle.grub_trace.specs.Faults.{capacity_fits, version_of};
 
@@ -9,29 +9,36 @@ use crate::body::take_line;
 use crate::fault::{Halt, Kind};
 use crate::form::{Form, form_of};
 use crate::number::number;
-use crate::raw::{RawFile, RawHappening};
+use crate::raw::{RawFile, RawScript};
 use crate::tasks::Tasks;
 use crate::version::Version;
 use crate::words::{first_line, first_word};
 use grub_bw::Queue;
 use std::alloc::Global;
 
-/// Reads the lines below the second.
+/// The fewest bytes of a line that says what happens: `at 0 read`, and the byte that ends it.
+const LINE_MIN: usize = 10;
+
+/// Reads the lines below the second. The room for all of them is taken at once, so that they are never copied.
 fn read_lines<'a>(
     alloc: Global,
     version: Version,
     tasks: &mut Tasks,
     text: &'a [u8],
-) -> Result<Vec<RawHappening<'a>>, Halt>
+) -> Result<RawScript<'a>, Halt>
     requires indexed { IsIndexed tasks.old }
-    ensures gives { Gives result (λ v. read_view version tasks.new v.items) (read_lines (opened version (declarations tasks.old)) 3 (parts_of text.now)) }
+    ensures gives { Gives result (λ v. read_view version tasks.new v) (read_lines (opened version (declarations tasks.old)) 3 (parts_of text.now)) }
     ensures indexed { OnOk result (IsIndexed tasks.new) }
+    ensures placed { IfOk result (λ v. IsSaid tasks.new v) }
 {
-    let mut happenings = Vec::new(alloc);
+    let mut script = RawScript {
+        lines: Vec::with_capacity(alloc, text.len() / LINE_MIN)?,
+        pending: Vec::new(alloc),
+    };
     let mut rest = text;
     let mut number = 3;
     while let Some((line, after)) = first_line(rest) {
-        if let Err(stop) = take_line(alloc, version, tasks, &mut happenings, line) {
+        if let Err(stop) = take_line(alloc, version, tasks, &mut script, line) {
             return Err(stop.at_line(number));
         }
         rest = after;
@@ -40,7 +47,7 @@ fn read_lines<'a>(
     if !rest.is_empty() {
         return Err(Halt::At(Kind::CutShort, number));
     }
-    Ok(happenings)
+    Ok(script)
 }
 
 /// The constants of a runqueue, where they are ones.
@@ -82,6 +89,7 @@ fn read_second<'a>(
     ensures gives { Gives result (λ v. file_view tasks.new v) (read_second version (declarations tasks.old) (parts_of text.now)) }
     ensures opening { GivesOpening result (read_second version (declarations tasks.old) (parts_of text.now)) }
     ensures indexed { OnOk result (IsIndexed tasks.new) }
+    ensures placed { IfOk result (λ v. IsSaid tasks.new v.script) }
 {
     let Some((line, rest)) = first_line(text) else {
         let kind = if text.is_empty() {
@@ -96,12 +104,12 @@ fn read_second<'a>(
         Err(kind) => return Err(Halt::At(kind, 2)),
     };
     let before = tasks.list.len();
-    let happenings = read_lines(alloc, version, tasks, rest)?;
+    let script = read_lines(alloc, version, tasks, rest)?;
     let first = 3 + (tasks.list.len() - before);
     Ok(RawFile {
         queue,
         first,
-        happenings,
+        script,
     })
 }
 
@@ -112,6 +120,7 @@ pub fn read_file<'a>(alloc: Global, tasks: &mut Tasks, bytes: &'a [u8]) -> Resul
     ensures gives { Gives result (λ v. file_view tasks.new v) (read_file (declarations tasks.old) bytes.now) }
     ensures opening { GivesOpening result (read_file (declarations tasks.old) bytes.now) }
     ensures indexed { OnOk result (IsIndexed tasks.new) }
+    ensures placed { IfOk result (λ v. IsSaid tasks.new v.script) }
 {
     let Some((line, rest)) = first_line(bytes) else {
         let kind = if bytes.is_empty() {

@@ -8,6 +8,7 @@ mod file;
 mod form;
 mod line;
 mod number;
+mod pending;
 mod pieces;
 mod plan;
 mod raw;

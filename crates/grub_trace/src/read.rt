@@ -2,8 +2,8 @@
 
 ghost use Rattle.std.specs.Prelude.{◌≡◌, ◌<◌, ◌≤◌, ℕ, List, MatchResult, IfOk, IfErr, [], length, map, string_bytes};
 ghost use Rattle.grub_trace.specs.Reading.{contents};
-ghost use Rattle.grub_trace.specs.inside.Reading.{Answers, AnswersOpening, all_view, read_from, IsIndexed, declarations, script_from, ScriptIs, happening_view, deed_view, body_view, scripts_from, plan_from};
-ghost use Rattle.grub_trace.specs.Naming.{act_in, line_in};
+ghost use Rattle.grub_trace.specs.inside.Reading.{Answers, AnswersOpening, all_view, read_from, IsIndexed, IsSaid, declarations, body_view, scripts_from, plan_from};
+ghost use Rattle.std.specs.List.{AllByRecursion};
 ghost use Rattle.grub_trace.specs.Tree.{Tree, names_of};
 ghost use Rattle.grub_trace.specs.Meaning.{Reads};
 ghost use Rattle.grub_trace.specs.FirstFault.{IsTraceFault, IsFault, IsOnly, OpeningFault};
@@ -11,10 +11,10 @@ ghost use Rattle.grub_trace.specs.declared.fault.Kind.{Kind};
 ghost use Rattle.grub_trace.specs.Naming.{plan_of};
 ghost use Rattle.grub_trace.specs.Limits.{PlanFits};
 
-use crate::fault::{Halt, Kind, TraceFault};
+use crate::fault::{Kind, TraceFault};
 use crate::file::read_file;
-use crate::form::{Deed, Verb};
-use crate::line::{Act, Line};
+use crate::line::Line;
+use crate::pending::script;
 use crate::plan::Plan;
 use crate::raw::RawFile;
 use crate::tasks::{Task, Tasks};
@@ -27,11 +27,12 @@ struct AllRead<'a> {
     files: Vec<RawFile<'a>>,
 }
 
-/// Reads all files, without a look at the names that are used.
+/// Reads all files. A name that is used before its task is declared is not looked up yet.
 fn read_all(alloc: Global, files: &[Vec<u8>]) -> Result<AllRead<'_>, TraceFault>
     ensures gives { Answers result (λ a. all_view a.tasks a.files.items) (read_from (record { declared = []; files = [] }) 0 (contents files.now)) }
     ensures opening { AnswersOpening result (read_from (record { declared = []; files = [] }) 0 (contents files.now)) }
     ensures indexed { IfOk result (λ a. IsIndexed a.tasks) }
+    ensures placed { IfOk result (λ a. AllByRecursion (λ f. IsSaid a.tasks f.script) a.files.items) }
 {
     let mut tasks = Tasks::new(alloc);
     let mut raw = Vec::new(alloc);
@@ -45,62 +46,21 @@ fn read_all(alloc: Global, files: &[Vec<u8>]) -> Result<AllRead<'_>, TraceFault>
     Ok(AllRead { tasks, files: raw })
 }
 
-/// The act of a deed, where its task is declared.
-fn act(tasks: &Tasks, deed: Deed<u32>) -> Option<Act>
-    requires { IsIndexed tasks.now }
-    ensures { result ≡ act_in (names_of (declarations tasks.now)) (deed_view (λ n. n) deed.entry) }
-{
-    match deed {
-        Deed::Does(verb, name) => {
-            let task = tasks.find(name)?;
-            Some(match verb {
-                Verb::Join => Act::Join(task),
-                Verb::Wake => Act::Wake(task),
-                Verb::Block => Act::Block(task),
-                Verb::Leave => Act::Leave(task),
-                Verb::Exit => Act::Exit(task),
-            })
-        }
-        Deed::Runs(name, span) => {
-            let task = tasks.find(name)?;
-            Some(Act::Run(task, span))
-        }
-        Deed::Retunes(name, runtime, period) => {
-            let task = tasks.find(name)?;
-            Some(Act::Retune(task, runtime, period))
-        }
-        Deed::Reads => Some(Act::Read),
-    }
-}
-
-/// The script of a file.
-fn script(alloc: Global, tasks: &Tasks, file: &RawFile) -> Result<Vec<Line>, Halt>
-    requires { IsIndexed tasks.now }
-    ensures { ScriptIs result (λ v. v.items) (script_from (names_of (declarations tasks.now)) [] file.now.first (map happening_view file.now.happenings.items)) }
-{
-    let mut lines = Vec::with_capacity(alloc, file.happenings.len())?;
-    for (i, happening) in file.happenings.iter().enumerate() {
-        let Some(act) = act(tasks, happening.deed) else {
-            return Err(Halt::At(Kind::UnknownTask, file.first + i));
-        };
-        lines.push(Line {
-            m: happening.at,
-            act,
-        })?;
-    }
-    Ok(lines)
-}
-
-/// The scripts of all files.
-fn scripts(alloc: Global, tasks: &Tasks, files: &[RawFile]) -> Result<Vec<Vec<Line>>, TraceFault>
-    requires { IsIndexed tasks.now }
-    ensures { Answers result (λ v. map (λ s. s.items) v.items) (scripts_from (names_of (declarations tasks.now)) [] 0 (map body_view files.now)) }
+/// The scripts of all files. Their lines are kept where they are.
+fn scripts(
+    alloc: Global,
+    tasks: &Tasks,
+    files: Vec<RawFile<'_>>,
+) -> Result<Vec<Vec<Line>>, TraceFault>
+    requires indexed { IsIndexed tasks.now }
+    requires placed { AllByRecursion (λ f. IsSaid tasks.now f.script) files.items }
+    ensures { Answers result (λ v. map (λ s. s.items) v.items) (scripts_from (names_of (declarations tasks.now)) [] 0 (map (body_view tasks.now) files.entry.items)) }
 {
     let mut scripts = Vec::with_capacity(alloc, files.len())?;
-    for (i, file) in files.iter().enumerate() {
-        let lines = match script(alloc, tasks, file) {
+    for file in files {
+        let lines = match script(tasks, file) {
             Ok(lines) => lines,
-            Err(halt) => return Err(halt.in_file(i)),
+            Err(halt) => return Err(halt.in_file(scripts.len())),
         };
         scripts.push(lines)?;
     }
@@ -167,10 +127,10 @@ fn plan(alloc: Global, files: &[Vec<u8>]) -> Result<Plan, TraceFault>
         });
     }
     let all = read_all(alloc, files)?;
-    let scripts = scripts(alloc, &all.tasks, &all.files)?;
     let queues = queues(alloc, &all.files)?;
     let params = params(alloc, &all.tasks.list)?;
-    let AllRead { tasks, files: _ } = all;
+    let AllRead { tasks, files } = all;
+    let scripts = scripts(alloc, &tasks, files)?;
     let Tasks { list, index: _ } = tasks;
     let names = names(alloc, list)?;
     Ok(Plan::new(queues, params, names, scripts))
@@ -192,7 +152,7 @@ pub fn read_files(alloc: Global, files: &[Vec<u8>]) -> Result<Plan, TraceFault>
     // Where there is a fault, it is answered and no other, unless memory runs out.
     ensures answered { (k : Kind) (f n : ℕ) → IsFault (contents files.now) k f n → MatchResult result (λ _. ⊥) (λ e. IsOnly e k f n) }
 
-    // Nothing grows before the first line of a task or of a moment, so these faults are answered, whatever memory there is.
+    // Nothing grows before the first two lines were read, so these faults are answered, whatever memory there is.
     ensures many { 64 < length files.now → result ≡ Err (TraceFault.At Kind.OutOfRange 64 1) }
     ensures nothing { length files.now ≡ 0 → result ≡ Err (TraceFault.At Kind.MissingQueue 0 1) }
     ensures opening { (k : Kind) (n : ℕ) → OpeningFault (contents files.now) k n → result ≡ Err (TraceFault.At k 0 n) }

@@ -12,7 +12,6 @@ use Rattle.grub_trace.specs.declared.fault.Kind.TheVariants.{BadLine, MomentGoes
 use Rattle.grub_trace.specs.declared.fault.TraceFault.{TraceFault}
 use Rattle.grub_trace.specs.declared.fault.TraceFault.TheVariants as fault
 use Rattle.grub_trace.specs.declared.line.Line.{Line}
-use Rattle.std.specs.Global.{Vec}
 use Rattle.grub_trace.specs.declared.fault.Halt.{Halt}
 use Rattle.grub_trace.specs.declared.fault.Halt.TheVariants as halt
 use Rattle.grub_trace.specs.declared.fault.Stop.{Stop}
@@ -21,9 +20,10 @@ use Rattle.grub_trace.specs.declared.tasks.Task.{Task}
 use Rattle.grub_trace.specs.declared.tasks.Tasks.{Tasks}
 use Rattle.grub_trace.specs.declared.form.Deed as raw
 use Rattle.grub_trace.specs.declared.form.Deed.TheVariants as deed
-use Rattle.grub_trace.specs.declared.raw.RawHappening.{RawHappening}
+use Rattle.grub_trace.specs.declared.raw.RawScript.{RawScript}
 use Rattle.grub_trace.specs.declared.raw.RawFile.{RawFile}
 use Rattle.grub_trace.specs.FirstFault.{parts_of}
+use Rattle.grub_trace.specs.inside.Pending.{happenings_of, ArePlaced}
 use Rattle.grub_trace.specs.Plans.{PlanView}
 use Rattle.grub_trace.specs.Naming.{line_in, plan_with}
 use Rattle.grub_trace.specs.Tree.{is_moment, is_span, Declaration, Deed, does, runs, retunes, reads, Happening, names_of}
@@ -115,15 +115,21 @@ task_view t = record { name = string_bytes t.name; params = t.params }
 abbrev pub declarations : Tasks → List Declaration
 declarations t = map task_view t.list.items
 
--- the index finds each task by its name
+-- the index finds each task by its name, and there are few enough
 pub record IsIndexed (t : Tasks) : Type 0 where
+  pub few : length (declarations t) ≤ 256
   pub found : (q : List ℕ) → get_by_text t.index q ≡ task_of (names_of (declarations t)) q
 
-abbrev pub happening_view : RawHappening → Happening
-happening_view m = record { at = m.at; deed = deed_view (λ n. n) m.deed }
+-- what a script says, where these tasks are declared
+abbrev pub said : Tasks → RawScript → List Happening
+said t s = happenings_of (names_of (declarations t)) (map (λ n. n.now) s.pending.items) s.lines.items
 
-abbrev pub read_view : Version → Tasks → List RawHappening → Read
-read_view version t ms = record { version = version; declared = declarations t; happenings = map happening_view ms }
+-- each of its lines has its task's number or a pending name
+abbrev pub IsSaid : Tasks → RawScript → Type 0
+IsSaid t s = ArePlaced (names_of (declarations t)) (map (λ n. n.now) s.pending.items) s.lines.items
+
+abbrev pub read_view : Version → Tasks → RawScript → Read
+read_view version t s = record { version = version; declared = declarations t; happenings = said t s }
 
 -- what a step returned, and what it left, are what reading gives, unless memory ran out
 abbrev pub Stops : {X : Type 0} → Stop → Result X Kind → Type 0
@@ -245,7 +251,7 @@ abbrev pub GivesQueue : Result Capacity Kind → List ℕ → Type 0
 GivesQueue r line = r ≡ read_queue line
 
 abbrev pub file_view : Tasks → RawFile → FileRead
-file_view t f = record { queue = f.queue; first = f.first; declared = declarations t; happenings = map happening_view f.happenings.items }
+file_view t f = record { queue = f.queue; first = f.first; declared = declarations t; happenings = said t f.script }
 
 -- ---- all files
 
@@ -274,11 +280,11 @@ unfoldable pub read_from : AllRead → ℕ → List (List ℕ) → Result AllRea
 read_from all f [] = Ok all
 read_from all f (bytes ∷ more) = in_file f (read_file all.declared bytes) >>= λ r. read_from (with_file all r) (f + 1) more
 
-abbrev pub body_view : RawFile → Body
-body_view f = record { queue = f.queue; first = f.first; happenings = map happening_view f.happenings.items }
+abbrev pub body_view : Tasks → RawFile → Body
+body_view t f = record { queue = f.queue; first = f.first; happenings = said t f.script }
 
 abbrev pub all_view : Tasks → List RawFile → AllRead
-all_view t fs = record { declared = declarations t; files = map body_view fs }
+all_view t fs = record { declared = declarations t; files = map (body_view t) fs }
 
 abbrev pub Faults : {X : Type 0} → TraceFault → Result X (Kind × ℕ × ℕ) → Type 0
 Faults fault.NoMemory r = Unit {0}

@@ -1,11 +1,6 @@
 -- The lines of a tree without the byte that ends each.
-use Rattle.std.specs.Prelude.{ℕ, Bool, true, false, not, ◌==◌, ◌&&◌, ◌||◌, nat_le, List, [], ◌∷◌, ◌++◌, length, map, codes, decimal}
-use Rattle.std.specs.List.{flat_map, join_with_byte, list_all}
-use Rattle.grub_bw.specs.Bandwidth.{Reservation, Capacity}
-use Rattle.grub_trace.specs.declared.form.Verb.{Verb}
-use Rattle.grub_trace.specs.declared.form.Verb.TheVariants.{Join, Wake, Block, Leave, Exit}
-use Rattle.grub_trace.specs.declared.version.Version.{Version}
-use Rattle.grub_trace.specs.declared.version.Version.TheVariants.{One, Two}
+use Rattle.std.specs.Prelude.{ℕ, List}
+use Rattle.std.specs.List.{join_with_byte}
 use Rattle.grub_trace.specs.Tree.{Declaration, Happening, declaration_words, happening_words}
 
 -- the same without that byte

@@ -59,6 +59,47 @@ fn setup_of_the_example(rt: HostRuntime) -> Result<(), Fail> {
     Ok(())
 }
 
+const LATE_SCRIPT: [Line; 5] = [
+    Line {
+        m: 0,
+        act: Act::Join(2),
+    },
+    Line {
+        m: 1,
+        act: Act::Join(0),
+    },
+    Line {
+        m: 2,
+        act: Act::Run(1, 5),
+    },
+    Line {
+        m: 3,
+        act: Act::Read,
+    },
+    Line {
+        m: 4,
+        act: Act::Leave(2),
+    },
+];
+
+/// Names that a later file declares stand among those that are declared, and one stands twice.
+#[test]
+fn names_of_a_later_file(rt: HostRuntime) -> Result<(), Fail> {
+    let alloc = rt.alloc();
+    let files = files_of(
+        alloc,
+        &[
+            b"grub 1\nqueue 1 0\ntask A 1 2\nat 0 join B\nat 1 join A\nat 2 run C 5\nat 3 read\nat 4 leave B\n",
+            b"grub 1\nqueue 1 0\ntask C 1 2\ntask B 1 2\n",
+        ],
+    )?;
+    let plan = read_files(alloc, &files)?;
+    assert_eq!(rt; plan.files(), 2);
+    assert_eq!(rt; plan.script(0), LATE_SCRIPT.as_slice());
+    assert!(rt; plan.script(1).is_empty());
+    Ok(())
+}
+
 const RETUNED_SCRIPT: [Line; 3] = [
     Line {
         m: 0,

@@ -10,22 +10,20 @@ pub new-requires : goal.new-requires
 new-requires c =
     let len = length-map c.args.files.now (λ v. v.items) in
     let some : 0 < length c.args.files.now = grind (arith, nat_tests) in
-    let all = c.in_ok-all.all in
     plan_from_fits (contents c.args.files.now) _
-    (plan_made (contents c.args.files.now) all.tasks all.files.items _ _ _ _ (omega (arith, len)) (omega (arith, len)) c.in_ok-all.ensures.gives
-    (rw c.deref.ensures.value at c.in_ok-scripts.ensures)
-    (c.in_ok-queues.ensures.queues ∙ ap (λ fs. map (λ f. f.queue) fs) c.deref-2.ensures.value)
-    (c.in_ok-params.ensures.params ∙ ap (λ ts. map (λ t. t.params) ts) c.deref-3.ensures.value)
+    (plan_made (contents c.args.files.now) c.in_ok-all.all.tasks c.in_ok-all.all.files.items _ _ _ _ (omega (arith, len)) (omega (arith, len)) c.in_ok-all.ensures.gives
+    c.in_ok-scripts.ensures
+    (c.in_ok-queues.ensures.queues ∙ ap (λ fs. map (λ f. f.queue) fs) c.deref.ensures.value)
+    (c.in_ok-params.ensures.params ∙ ap (λ ts. map (λ t. t.params) ts) c.deref-2.ensures.value)
     c.in_ok-names.ensures.names)
 
 pub returns-clause-answers : goal.returns-clause-answers
 returns-clause-answers c =
     let len = length-map c.args.files.now (λ v. v.items) in
     let some : 0 < length c.args.files.now = grind (arith, nat_tests) in
-    let all = c.in_ok-all.all in
     rw c.new.ensures
-    (plan_made (contents c.args.files.now) all.tasks all.files.items _ _ _ _ (omega (arith, len)) (omega (arith, len)) c.in_ok-all.ensures.gives
-    (rw c.deref.ensures.value at c.in_ok-scripts.ensures)
-    (c.in_ok-queues.ensures.queues ∙ ap (λ fs. map (λ f. f.queue) fs) c.deref-2.ensures.value)
-    (c.in_ok-params.ensures.params ∙ ap (λ ts. map (λ t. t.params) ts) c.deref-3.ensures.value)
+    (plan_made (contents c.args.files.now) c.in_ok-all.all.tasks c.in_ok-all.all.files.items _ _ _ _ (omega (arith, len)) (omega (arith, len)) c.in_ok-all.ensures.gives
+    c.in_ok-scripts.ensures
+    (c.in_ok-queues.ensures.queues ∙ ap (λ fs. map (λ f. f.queue) fs) c.deref.ensures.value)
+    (c.in_ok-params.ensures.params ∙ ap (λ ts. map (λ t. t.params) ts) c.deref-2.ensures.value)
     c.in_ok-names.ensures.names)

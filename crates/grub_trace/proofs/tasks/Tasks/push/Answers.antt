@@ -1,11 +1,13 @@
 use Rattle.std.proofs.Common.{arith}
 use Rattle.std.specs.Prelude.{string_bytes}
+use Rattle.std.proofs.lemmas.List.{map_push, length_push}
 use Rattle.std.proofs.lemmas.Map.Text.{hash_map_updates_text}
 use Rattle.grub_trace.proofs.TaskLemmas.{index_push}
 use Rattle.grub_trace.proofs.tasks.Tasks.push.Goals as goal
 
 pub returns-clause-indexed : goal.returns-clause-indexed
 returns-clause-indexed c = record {
+  few = rw (c.in_ok-push.ensures.items, map_push, length_push) (omega (arith, c.requires.room));
   found = λ q.
       let u = hash_map_updates_text (string_bytes c.in_ok-key.key) c.args.self.now.index c.insert.new.self _ c.in_ok-insert.ensures.updates q in
       let k = c.in_ok-key.ensures.ok in
