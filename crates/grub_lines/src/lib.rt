@@ -3,6 +3,7 @@
 
 mod block;
 mod blocks;
+mod entries;
 mod line;
 mod writing;
 

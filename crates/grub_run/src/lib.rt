@@ -2,6 +2,7 @@
 #![tactic(auto)]
 
 mod fault;
+mod report;
 mod texts;
 
 pub use fault::GrubFault;

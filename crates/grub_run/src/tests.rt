@@ -26,7 +26,7 @@ fn files_of(alloc: Global, texts: &[&str]) -> Result<Vec<Vec<u8>>, AllocError> {
 }
 
 /// Whether a run of these files writes this text.
-fn prints<R: Threads + Wait>(
+fn prints<R: Threads + Wait + Sync>(
     rt: &R,
     alloc: Global,
     files: &[&str],
@@ -147,6 +147,42 @@ at 3 read: running=524288 this=524288
 close running=524288 this=524288
 ";
     assert!(rt; prints(&rt, alloc, [DOCUMENTATION, FIRST].as_slice(), 8, 64, text)?);
+    Ok(())
+}
+
+/// A text with so many lines between a head and an end.
+fn lengthened(
+    alloc: Global,
+    head: &str,
+    line: &str,
+    lines: usize,
+    end: &str,
+) -> Result<String, AllocError> {
+    let mut text = String::from_str(alloc, head)?;
+    for _ in 0..lines {
+        text.push_str(line)?;
+    }
+    text.push_str(end)?;
+    Ok(text)
+}
+
+/// Reports that are so long that several threads make their lines, with one between them that none is started for.
+#[test]
+fn long_reports(rt: HostRuntime) -> Result<(), Fail> {
+    let alloc = rt.alloc();
+    let (head, ask, answer) = (
+        "grub 1\nqueue 1 0\n",
+        "at 0 read\n",
+        "at 0 read: running=0 this=0\n",
+    );
+    let close = "close running=0 this=0\n";
+    let long = lengthened(alloc, head, ask, 33_000, "")?;
+    let short = lengthened(alloc, head, ask, 1023, "")?;
+    let mut text = lengthened(alloc, "runqueue 0\n", answer, 33_000, close)?;
+    text.push_str(&lengthened(alloc, "runqueue 1\n", answer, 1023, close)?)?;
+    text.push_str(&lengthened(alloc, "runqueue 2\n", answer, 33_000, close)?)?;
+    let files = [long.as_str(), short.as_str(), long.as_str()];
+    assert!(rt; prints(&rt, alloc, files.as_slice(), 8, 64, &text)?);
     Ok(())
 }
 

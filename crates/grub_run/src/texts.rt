@@ -12,8 +12,10 @@ ghost use Rattle.grub_run.specs.Written.{IsFaultOf, IsNoFileFault, IsOnlyFault, 
 ghost use Rattle.grub_run.specs.declared.fault.GrubFault.TheVariants as faults;
 
 use crate::fault::GrubFault;
+use crate::report::write_report;
 use grub_book::Reading;
-use grub_trace::{LINE_MAX, Plan, Report, read_files, report_buffer, write_buffer, write_report};
+use grub_lines::Blocks;
+use grub_trace::{LINE_MAX, Plan, Report, TextFault, read_files, report_buffer, write_buffer};
 use grub_workers::{NoGate, run};
 use std::alloc::Global;
 use std::io;
@@ -25,9 +27,9 @@ use std::thread::Threads;
 /// bytes are dropped before the run, so their memory is free for the entries.
 ///
 /// `Trace` (28 to 37) is the reader's fault. `WriteFault` (45) comes where a write or the flush failed, or a write took
-/// nothing; a beginning of the text was written then. On every other fault nothing was written: the text goes through a
-/// buffer of fixed size, which is the last thing that memory is taken for.
-pub fn run_texts<R: Threads + Wait, W: Write>(
+/// nothing; a beginning of the text was written then. On every other fault nothing was written: the text goes through
+/// buffers of fixed size, which are the last thing that memory is taken for.
+pub fn run_texts<R: Threads + Wait + Sync, W: Write>(
     rt: &R,
     alloc: Global,
     files: Vec<Vec<u8>>,
@@ -59,14 +61,27 @@ pub fn run_texts<R: Threads + Wait, W: Write>(
         Ok(buffer) => buffer,
         Err(fault) => return Err(GrubFault::Text(fault)),
     };
-    match write_reports(buffer, out, &plan, &outcome.reports, &outcome.closing) {
+    let Ok(blocks) = Blocks::new(alloc) else {
+        return Err(GrubFault::Text(TextFault::NoMemory));
+    };
+    match write_reports(
+        rt,
+        blocks,
+        buffer,
+        out,
+        &plan,
+        &outcome.reports,
+        &outcome.closing,
+    ) {
         Ok(()) => Ok(()),
         Err(_) => Err(GrubFault::WriteFault),
     }
 }
 
 /// Writes the texts of the reports, in file order, and flushes.
-fn write_reports<W: Write>(
+fn write_reports<R: Threads + Sync, W: Write>(
+    rt: &R,
+    blocks: Blocks,
     buffer: Vec<u8>,
     out: &mut W,
     plan: &Plan,
@@ -81,9 +96,19 @@ fn write_reports<W: Write>(
     ensures whole { OnOk result (Appends (W.contents out.old) (W.contents out.new) (texts_from plan.now.names 0 reports.now closing.now)) }
     ensures part { OnErr result (AppendsPrefix (W.contents out.old) (W.contents out.new) (texts_from plan.now.names 0 reports.now closing.now)) }
 {
+    let mut blocks = blocks;
     let mut buffer = buffer;
     for (r, report) in reports.iter().enumerate() {
-        write_report(&mut buffer, out, plan, r as u32, report, closing[r])?;
+        write_report(
+            rt,
+            &mut blocks,
+            &mut buffer,
+            out,
+            plan,
+            r as u32,
+            report,
+            closing[r],
+        )?;
     }
     write_buffer(&mut buffer, out)?;
     out.flush()

@@ -136,7 +136,7 @@ pub(crate) fn too_many<
 /// The bytes of at most 64 files are kept at a time.
 pub fn print_reports<
     'a,
-    R: Threads + Wait,
+    R: Threads + Wait + Sync,
     D: Drop,
     O: Fn(&str) -> io::Result<D>,
     N: Fn(&mut D, &mut [u8]) -> io::Result<usize>,

@@ -18,7 +18,7 @@ use std::thread::Threads;
 /// Prints the reports of the files of these names to `out`, or the line of a fault to `faults`, and gives the status:
 /// 0 for reports, `STATUS_FILE` or `STATUS_SYSTEM` for a fault.
 pub fn serve_files<
-    R: Threads + Wait,
+    R: Threads + Wait + Sync,
     D: Drop,
     O: Fn(&str) -> io::Result<D>,
     N: Fn(&mut D, &mut [u8]) -> io::Result<usize>,

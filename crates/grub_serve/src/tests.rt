@@ -34,7 +34,7 @@ close running=524288 this=524288
 ";
 
 /// The status on the files of these names in the folder that the test runs in.
-fn served<R: Files + Threads + Wait, W: Write, E: Write>(
+fn served<R: Files + Threads + Wait + Sync, W: Write, E: Write>(
     rt: &R,
     alloc: Global,
     paths: &[&str],
@@ -49,7 +49,7 @@ fn served<R: Files + Threads + Wait, W: Write, E: Write>(
 }
 
 /// Whether these files are answered by this status, output and line of a fault.
-fn serves<R: Files + Threads + Wait>(
+fn serves<R: Files + Threads + Wait + Sync>(
     rt: &R,
     alloc: Global,
     paths: &[&str],

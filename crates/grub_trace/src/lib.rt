@@ -28,9 +28,9 @@ pub use form::is_name;
 pub use line::{Act, Line};
 pub use pieces::{
     ANSWER_MAX, ASK_MAX, DIGITS_MAX, LINE_MAX, READING_MAX, append, append_answer, append_ask,
-    append_number, append_reading,
+    append_close, append_entry, append_head, append_number, append_reading,
 };
 pub use plan::Plan;
 pub use read::read_files;
-pub use text::{TextFault, line_of, put_number, put_reading};
-pub use writing::{make_room, report_buffer, report_of, write_buffer, write_bytes, write_report};
+pub use text::{TextFault, line_of, put_number, put_reading, report_of};
+pub use writing::{make_room, report_buffer, write_buffer, write_bytes};

@@ -1,11 +1,12 @@
 //! The texts of entries and reports.
 
-ghost use Rattle.std.specs.Prelude.{◌≡◌, ◌++◌, length, decimal, OnOk, IfOk};
-ghost use Rattle.grub_trace.specs.Texts.{reading_text, entry_line, IsAskOf};
+ghost use Rattle.std.specs.Prelude.{◌≡◌, ◌++◌, All, length, decimal, OnOk, IfOk};
+ghost use Rattle.grub_trace.specs.Texts.{reading_text, entry_line, report_text, IsAskOf};
 
-use crate::entry::Entry;
+use crate::entry::{Entry, Report};
 use crate::pieces::{
-    DIGITS_MAX, LINE_MAX, READING_MAX, append_entry, append_number, append_reading,
+    DIGITS_MAX, LINE_MAX, READING_MAX, append_close, append_entry, append_head, append_number,
+    append_reading,
 };
 use crate::plan::Plan;
 use grub_book::Reading;
@@ -68,4 +69,28 @@ pub fn line_of(alloc: Global, plan: &Plan, entry: &Entry) -> Result<Vec<u8>, Tex
     let mut line = Vec::with_capacity(alloc, LINE_MAX)?;
     append_entry(&mut line, plan, *entry);
     Ok(line)
+}
+
+/// The text of the report of runqueue `r`: its number, a line for each entry, and the closing reading.
+/// The entries' tasks are to be the plan's. It is refused with 43 where the allocator refused.
+#[tactic(auto, unfolding(crate::specs::Texts::report_text))]
+pub fn report_of(
+    alloc: Global,
+    plan: &Plan,
+    r: u32,
+    report: &Report,
+    closing: Reading,
+) -> Result<Vec<u8>, TextFault>
+    requires { All (λ e. IsAskOf (length plan.now.setup.tasks) e.ask) report.now.entries.items }
+    ensures { IfOk result (λ v. v.items ≡ report_text plan.now.names r report.now.entries.items closing) }
+{
+    let mut text = Vec::with_capacity(alloc, LINE_MAX)?;
+    append_head(&mut text, r);
+    for entry in &report.entries {
+        text.reserve(LINE_MAX)?;
+        append_entry(&mut text, plan, *entry);
+    }
+    text.reserve(LINE_MAX)?;
+    append_close(&mut text, closing);
+    Ok(text)
 }

@@ -30,7 +30,7 @@ use std::thread::Threads;
 /// Runs the program on its words, the first of which is its name, and gives its status. Files are opened and read by
 /// `source`. Reports and the help go to `out`, and the line of a fault to `faults`.
 pub fn serve<
-    R: Threads + Wait,
+    R: Threads + Wait + Sync,
     D: Drop,
     O: Fn(&str) -> io::Result<D>,
     N: Fn(&mut D, &mut [u8]) -> io::Result<usize>,
@@ -72,7 +72,7 @@ fn read_words<'a>(alloc: Global, words: &'a [String]) -> Result<(Options<'a>, Wa
 
 /// Prints what right words ask for of the files that they name.
 fn serve_options<
-    R: Threads + Wait,
+    R: Threads + Wait + Sync,
     D: Drop,
     O: Fn(&str) -> io::Result<D>,
     N: Fn(&mut D, &mut [u8]) -> io::Result<usize>,

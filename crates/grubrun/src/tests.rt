@@ -41,7 +41,7 @@ fn words_of(alloc: Global, words: &[&str]) -> Result<Vec<String>, AllocError> {
 }
 
 /// The status of the program on these words, with the files of the folder that the test runs in.
-fn served<R: Files + Threads + Wait, W: Write, E: Write>(
+fn served<R: Files + Threads + Wait + Sync, W: Write, E: Write>(
     rt: &R,
     alloc: Global,
     words: &[String],
@@ -56,7 +56,7 @@ fn served<R: Files + Threads + Wait, W: Write, E: Write>(
 }
 
 /// Whether the program answers these words by this status, output and line of a fault.
-fn serves<R: Files + Threads + Wait>(
+fn serves<R: Files + Threads + Wait + Sync>(
     rt: &R,
     alloc: Global,
     words: &[&str],
@@ -98,7 +98,7 @@ fn files_at_fault(rt: HostRuntime) -> Result<(), Fail> {
 }
 
 /// Whether the program refuses these words by status 2 and a text of the fault.
-fn refuses<R: Files + Threads + Wait>(
+fn refuses<R: Files + Threads + Wait + Sync>(
     rt: &R,
     alloc: Global,
     words: &[&str],
@@ -213,7 +213,7 @@ fn no_words(rt: HostRuntime) -> Result<(), Fail> {
 }
 
 /// What the program prints on these words, which ask for a text.
-fn asked<R: Files + Threads + Wait>(
+fn asked<R: Files + Threads + Wait + Sync>(
     rt: &R,
     alloc: Global,
     words: &[&str],

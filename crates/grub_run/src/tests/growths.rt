@@ -19,7 +19,7 @@ fn input_of(alloc: Global, file: &str) -> Result<(Vec<Vec<u8>>, Vec<u8>), AllocE
 
 /// Expects that a run of this file writes this text, or that it answers a refusal and writes nothing. Its own input is
 /// made a second time where a growth of it was refused.
-fn expect_text_or_refusal<R: Abort + Threads + Wait>(
+fn expect_text_or_refusal<R: Abort + Threads + Wait + Sync>(
     rt: &R,
     alloc: Global,
     file: &str,

@@ -1,0 +1,18 @@
+//! The lines of a report's entries.
+
+ghost use Rattle.std.specs.Prelude.{length};
+ghost use Rattle.grub_trace.specs.Texts.{entry_line, IsAskOf};
+
+use crate::line::Line;
+use grub_trace::{Entry, Plan, append_entry};
+
+/// An entry is told with the plan's names. Its task is to be one of the plan's.
+impl Line<Entry> for Plan {
+    ghost fits = { λ plan entry. IsAskOf (length plan.setup.tasks) entry.ask };
+
+    ghost line = { λ plan entry. entry_line plan.names entry };
+
+    fn append(&self, out: &mut Vec<u8>, item: &Entry) {
+        append_entry(out, self, *item);
+    }
+}

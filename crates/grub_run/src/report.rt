@@ -1,0 +1,59 @@
+//! The report of a runqueue, on its way to a writer.
+
+ghost use Rattle.std.specs.Prelude.{◌≤◌, All, length, OnOk, OnErr, vec_capacity};
+ghost use Rattle.grub_trace.specs.Texts.{head_line, close_line, report_text, IsAskOf};
+ghost use Rattle.grub_trace.specs.Writing.{HandsOn, HandsPart};
+
+use grub_book::Reading;
+use grub_lines::{Blocks, write_lines};
+use grub_trace::{LINE_MAX, Plan, Report, append_close, append_head, make_room};
+use std::io;
+use std::io::Write;
+use std::thread::Threads;
+
+/// Writes the report of runqueue `r` after what the buffer keeps, but for what it keeps then: the runqueue's number, a line
+/// for each entry, and the closing reading. The entries' tasks are to be the plan's. It takes no memory.
+/// After a failing write, or one that took nothing, a beginning of the buffer's bytes and the report was written.
+pub fn write_report<R: Threads + Sync, W: Write>(
+    rt: &R,
+    blocks: &mut Blocks,
+    buffer: &mut Vec<u8>,
+    out: &mut W,
+    plan: &Plan,
+    r: u32,
+    report: &Report,
+    closing: Reading,
+) -> io::Result<()>
+    requires tasks { All (λ e. IsAskOf (length plan.now.setup.tasks) e.ask) report.now.entries.items }
+    requires room { LINE_MAX ≤ vec_capacity buffer.old }
+    ensures whole { OnOk result (HandsOn (W.contents out.old) (W.contents out.new) buffer.old.items (report_text plan.now.names r report.now.entries.items closing) buffer.new.items) }
+    ensures part { OnErr result (HandsPart (W.contents out.old) (W.contents out.new) buffer.old.items (report_text plan.now.names r report.now.entries.items closing)) }
+    ensures room { LINE_MAX ≤ vec_capacity buffer.new }
+{
+    write_head(buffer, out, r)?;
+    write_lines(rt, blocks, buffer, out, &report.entries, plan)?;
+    write_close(buffer, out, closing)?;
+    Ok(())
+}
+
+fn write_head<W: Write>(buffer: &mut Vec<u8>, out: &mut W, r: u32) -> io::Result<()>
+    requires { LINE_MAX ≤ vec_capacity buffer.old }
+    ensures whole { OnOk result (HandsOn (W.contents out.old) (W.contents out.new) buffer.old.items (head_line r) buffer.new.items) }
+    ensures part { OnErr result (HandsPart (W.contents out.old) (W.contents out.new) buffer.old.items (head_line r)) }
+    ensures room { LINE_MAX ≤ vec_capacity buffer.new }
+{
+    make_room(buffer, out)?;
+    append_head(buffer, r);
+    Ok(())
+}
+
+fn write_close<W: Write>(buffer: &mut Vec<u8>, out: &mut W, closing: Reading) -> io::Result<()>
+    requires { LINE_MAX ≤ vec_capacity buffer.old }
+    ensures whole { OnOk result (HandsOn (W.contents out.old) (W.contents out.new) buffer.old.items (close_line closing) buffer.new.items) }
+    ensures part { OnErr result (HandsPart (W.contents out.old) (W.contents out.new) buffer.old.items (close_line closing)) }
+    ensures room { LINE_MAX ≤ vec_capacity buffer.new }
+{
+    make_room(buffer, out)?;
+    append_close(buffer, closing);
+    Ok(())
+}
