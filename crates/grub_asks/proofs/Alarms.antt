@@ -1,5 +1,5 @@
 -- The timers of a worker, as its entries tell of them.
-use Rattle.std.proofs.Common.{◌≡◌, ℕ, ◌<◌, ◌≤◌, Bool, true, false, cond, nat_eq, List, Option, Some, None, refl, sym, ap, ◌∙◌, ◌-◌, subst, unwrap_or, arith, eq-eqb}
+use Rattle.std.proofs.Common.{◌≡◌, ℕ, zero, suc, ◌+◌, ◌<◌, ◌≤◌, Bool, true, false, cond, nat_eq, List, Option, Some, None, refl, sym, ap, ◌∙◌, ◌-◌, subst, unwrap_or, arith, eq-eqb}
 use Rattle.std.specs.Prelude.{option_map, is_some, IsTrue, IsSomeAnd, IfSome}
 use mathlib.Core.Logic.{dite}
 use native.Mathlib.Decide.{ℕ_discrete}
@@ -9,14 +9,14 @@ use Rattle.std.specs.FinMap as map
 use Rattle.std.proofs.lemmas.Bool.Decides.{nat_tests}
 use Rattle.std.proofs.lemmas.Cmp.{nat_cmp_total}
 use Rattle.grub_wheel.specs.declared.timer.Timer.{Timer as WheelTimer}
-use Rattle.grub_wheel.specs.TimerBag.{TimerBag, WheelState, IsArmed, IsArmedWith, IsLeast, AreLater, after_taking}
+use Rattle.grub_wheel.specs.TimerBag.{TimerBag, WheelState, IsArmed, IsArmedWith, IsLeast, AreLater, after_arming, after_taking}
 use Rattle.grub_book.specs.declared.op.Op.{Op}
 use Rattle.grub_book.specs.declared.op.Op.TheVariants as ops
 use Rattle.grub_book.specs.declared.reply.Reply.TheVariants as replies
 use Rattle.grub_trace.specs.declared.entry.Answer.TheVariants as answers
 use Rattle.grub_trace.specs.declared.entry.Entry.{Entry}
 use Rattle.grub_asks.specs.Timers.{Alarm, leaves, disarms, arms, alarm_after, alarm_at, armed, touch_of_call, IsNextDue, NoneDue}
-use Rattle.grub_asks.specs.Keeping.{IsBlockBefore, IsTouched, alarm_of}
+use Rattle.grub_asks.specs.Keeping.{IsBlock, IsBlockBefore, IsTouched, alarm_of, places_of}
 
 key_eq : (u t : ℕ) → eq_by_cmp nat_cmp u t ≡ nat_eq u t
 key_eq u t = grind (arith, nat_tests)
@@ -41,6 +41,10 @@ touched_removed old new t is u =
 
 pub removed_none : (old new : TimerBag) (t : ℕ) → new ≡ map.remove old t → map.get new t ≡ None
 removed_none old new t is = ap (λ m. map.get m t) is ∙ map.get-remove nat_cmp_total old t t ∙ ap (λ b. cond b None (map.get old t)) (key_eq t t ∙ eq-eqb t t refl)
+
+none_both : (b : Bool) (o : Option (ℕ × ℕ)) → o ≡ None → cond b None o ≡ None
+none_both true o is = refl
+none_both false o is = is
 
 both_touched : (b : Bool) (a : Option Alarm) (new : Alarm) → alarm_after (cond b (arms new) leaves) (alarm_after (cond b disarms leaves) a) ≡ alarm_after (cond b (arms new) leaves) a
 both_touched true a new = refl
@@ -75,8 +79,12 @@ pub touch_waits : (op : Op) (z ticket : ℕ) → IsBlockBefore z op → touch_of
 touch_waits (ops.Block r m) z ticket h = refl
 touch_waits op z ticket h = absurd h
 
+pub is_block : (op : Op) (z : ℕ) → IsBlockBefore z op → IsBlock op
+is_block (ops.Block r m) z h = tt
+is_block op z h = absurd h
+
 -- ---- timers that are due
-len_some : (timers : TimerBag) (t : ℕ) (p : ℕ × ℕ) → map.get timers t ≡ Some p → 1 ≤ map.len timers
+pub len_some : (timers : TimerBag) (t : ℕ) (p : ℕ × ℕ) → map.get timers t ≡ Some p → 1 ≤ map.len timers
 len_some timers t p at = dite (ℕ_discrete (map.len timers) 0)
     (λ none. let empty : map.get timers t ≡ None = ap (λ m. map.get m t) (map.empty_of_len timers none) ∙ map.get-empty nat_cmp t in absurd (cc))
     (λ some. omega (arith, some))
@@ -87,6 +95,48 @@ len_taken old new x armed is =
     let some = len_some old x.t (x.z, x.ticket) armed in
     let less : map.len new ≡ map.len old - 1 = ap map.len is ∙ map.len-remove nat_cmp_total old x.t ∙ ap (λ (o : Option (ℕ × ℕ)). cond (is_some o) (map.len old - 1) (map.len old)) armed in
     omega (arith, less, some)
+
+-- ---- places
+places_taken : (old new : WheelState) (x : WheelTimer) → IsArmed old.timers x → new ≡ after_taking old x.t → places_of new ≡ places_of old
+places_taken old new x armed is =
+    let some = len_some old.timers x.t (x.z, x.ticket) armed in
+    let less : map.len new.timers ≡ map.len old.timers - 1 =
+    ap (λ (w : WheelState). map.len w.timers) is ∙ map.len-remove nat_cmp_total old.timers x.t ∙ ap (λ (o : Option (ℕ × ℕ)). cond (is_some o) (map.len old.timers - 1) (map.len old.timers)) armed in
+    let more : new.spare ≡ old.spare + 1 = ap (λ (w : WheelState). w.spare) is in
+    omega (arith, less, some, more)
+
+pub places_disarmed : (old new : WheelState) (x : WheelTimer) (t : ℕ) → IsArmed old.timers x → x.t ≡ t → new ≡ after_taking old t → places_of new ≡ places_of old
+places_disarmed old new x t armed same is = places_taken old new x armed (is ∙ ap (after_taking old) (sym same))
+
+pub places_armed : (old new : WheelState) (x : WheelTimer) → 1 ≤ old.spare → map.get old.timers x.t ≡ None → new ≡ after_arming old x → places_of new ≡ places_of old
+places_armed old new x some free is =
+    let more : map.len new.timers ≡ map.len old.timers + 1 =
+    ap (λ (w : WheelState). map.len w.timers) is ∙ map.len-insert nat_cmp_total old.timers x.t (x.z, x.ticket) ∙ ap (λ (o : Option (ℕ × ℕ)). cond (is_some o) (map.len old.timers) (map.len old.timers + 1)) free in
+    let less : new.spare ≡ old.spare - 1 = ap (λ (w : WheelState). w.spare) is in
+    omega (arith, less, some, more)
+
+pub places_due : (old new : WheelState) (last : Option ℕ) (x : WheelTimer) → IsArmed old.timers x → new ≡ record (after_taking old x.t) { last = last } → places_of new ≡ places_of old
+places_due old new last x armed is = ap (λ (w : WheelState). places_of w) is ∙ places_taken old (after_taking old x.t) x armed refl
+
+-- where only the first n tasks have a timer, there are at most n
+pub few_timers : (n : ℕ) (timers : TimerBag) → ((t : ℕ) → n ≤ t → map.get timers t ≡ None) → map.len timers ≤ n
+few_timers zero timers none =
+    let empty : timers ≡ map.empty = map.same_map nat_cmp_total map.nat_cmp-IsAntisymmetric timers map.empty (λ t. none t (omega arith) ∙ sym (map.get-empty nat_cmp t)) in
+    let all : map.len timers ≡ 0 = ap map.len empty ∙ map.len-empty nat_cmp (ℕ × ℕ) in
+    omega (arith, all)
+few_timers (suc n) timers none =
+    let less = few_timers n (map.remove timers n) (λ t at. map.get-remove nat_cmp_total timers n t ∙ gone t at (ℕ_discrete t n)) in
+    let count = map.len-remove nat_cmp_total timers n in
+    at (is_some (map.get timers n)) (map.len timers) (map.len (map.remove timers n)) count less
+  where
+    gone : (t : ℕ) → n ≤ t → Dec (t ≡ n) → cond (eq_by_cmp nat_cmp t n) None (map.get timers t) ≡ None
+    gone t at d = dite d
+        (λ same. ap (λ b. cond b None (map.get timers t)) (key_eq t n ∙ eq-eqb t n same))
+        (λ other. none_both (eq_by_cmp nat_cmp t n) (map.get timers t) (none t (omega (arith, at, other))))
+
+    at : (b : Bool) (k l : ℕ) → l ≡ cond b (k - 1) k → l ≤ n → k ≤ suc n
+    at true k l is low = omega (arith, is, low)
+    at false k l is low = omega (arith, is, low)
 
 from_alarm : (o : Option (ℕ × ℕ)) (z k : ℕ) → option_map alarm o ≡ Some (alarm_at z k) → o ≡ Some (z, k)
 from_alarm None z k is = absurd (cc)

@@ -1,15 +1,13 @@
 -- What an answer does to a wheel, and the wheel that keeps the timers of a list of entries.
-use Rattle.std.specs.Prelude.{◌≡◌, ◌<◌, ℕ, Option, Some, option_map, nat_eq, if◌then◌else◌, List, length}
+use Rattle.std.specs.Prelude.{◌≡◌, ◌<◌, ◌+◌, ℕ, Option, option_map, nat_eq, if◌then◌else◌}
 use Rattle.std.specs.FinMap as map
-use Rattle.grub_book.specs.Machine.{Machine}
 use Rattle.grub_book.specs.declared.op.Op.{Op}
 use Rattle.grub_book.specs.declared.op.Op.TheVariants as ops
 use Rattle.grub_book.specs.declared.reply.Reply.TheVariants as replies
 use Rattle.grub_trace.specs.declared.entry.Answer.{Answer}
 use Rattle.grub_trace.specs.declared.entry.Answer.TheVariants as answers
-use Rattle.grub_trace.specs.declared.entry.Entry.{Entry}
-use Rattle.grub_wheel.specs.TimerBag.{TimerBag}
-use Rattle.grub_asks.specs.Timers.{Alarm, Touch, leaves, alarm_after, armed}
+use Rattle.grub_wheel.specs.TimerBag.{TimerBag, WheelState}
+use Rattle.grub_asks.specs.Timers.{Alarm, Touch, leaves, alarm_after}
 
 -- the timer of a task, as entries tell of it
 abbrev pub alarm_of : TimerBag → ℕ → Option Alarm
@@ -18,6 +16,10 @@ alarm_of timers t = option_map (λ (p : ℕ × ℕ). record { z = p.0; ticket = 
 -- what an answer did to the timers: that of task t was touched so, and the others stay
 abbrev pub IsTouched : TimerBag → TimerBag → ℕ → Touch → Type 0
 IsTouched old new t touch = (u : ℕ) → alarm_of new u ≡ alarm_after (if nat_eq u t then touch else leaves) (alarm_of old u)
+
+-- how many timers have a place, armed or not
+abbrev pub places_of : WheelState → ℕ
+places_of w = w.spare + map.len w.timers
 
 abbrev pub IsBlock : Op → Type 0
 IsBlock (ops.Block r m) = Unit {0}

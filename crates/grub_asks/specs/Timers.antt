@@ -1,13 +1,13 @@
 -- Which timers are armed after a list of entries, and which of them is due next.
 use Rattle.std.specs.Prelude.{◌≡◌, ℕ, ◌<◌, ◌≤◌, ◌⊎◌, Option, Some, None, nat_eq, if◌then◌else◌, List, [], ◌∷◌}
 use Rattle.grub_book.specs.declared.op.Op.{Op}
-use Rattle.grub_book.specs.declared.op.Op.TheVariants.{Join, Wake, Block, Leave, Timer, Exit, Charge, Retune}
+use Rattle.grub_book.specs.declared.op.Op.TheVariants.{Block, Timer}
 use Rattle.grub_book.specs.declared.reply.Reply.{Reply}
-use Rattle.grub_book.specs.declared.reply.Reply.TheVariants.{Joined, Woken, Waiting, Asleep, Left, Retired, Ended, Charged, Retuned, Gone, NotOn, AlreadyOn, Elsewhere, AlreadyContending, NotContending, StillContending, StillActive, Worn, Stale, Early, Full, DeadlineOverflow}
+use Rattle.grub_book.specs.declared.reply.Reply.TheVariants.{Joined, Woken, Waiting, Left}
 use Rattle.grub_trace.specs.declared.entry.Ask.{Ask}
 use Rattle.grub_trace.specs.declared.entry.Ask.TheVariants.{Call, Read}
 use Rattle.grub_trace.specs.declared.entry.Answer.{Answer}
-use Rattle.grub_trace.specs.declared.entry.Answer.TheVariants.{Replied, Seen, Busy, Lost}
+use Rattle.grub_trace.specs.declared.entry.Answer.TheVariants.{Replied}
 use Rattle.grub_trace.specs.declared.entry.Entry.{Entry}
 
 -- when a timer is due, and its ticket

@@ -3,7 +3,7 @@ ghost use Rattle.std.specs.Prelude.{◌≡◌, ◌<◌, ◌≤◌, ℕ, Some, No
 ghost use Rattle.std.specs.FinMap as map;
 ghost use Rattle.grub_asks.specs.Timers.{touch_of_call};
 ghost use Rattle.grub_asks.specs.Timers.Touch.{disarms};
-ghost use Rattle.grub_asks.specs.Keeping.{IsBlock, IsBlockBefore, IsNoTimer, IsTouched, WaitsRightly};
+ghost use Rattle.grub_asks.specs.Keeping.{IsBlock, IsBlockBefore, IsNoTimer, IsTouched, WaitsRightly, places_of};
 
 use grub_book::{Op, Reply};
 use grub_trace::Answer;
@@ -32,6 +32,7 @@ pub fn keep(wheel: &mut Wheel, t: u32, op: Op, answer: Answer)
     requires later { (z m : ℕ) → wheel.old.last ≡ Some m → IsBlockBefore z op → m < z }
     ensures touched { IsTouched wheel.old.timers wheel.new.timers t (touch_of_call op answer) }
     ensures last { wheel.new.last ≡ wheel.old.last }
+    ensures places { places_of wheel.new ≡ places_of wheel.old }
 {
     match answer {
         Answer::Replied(Reply::Waiting { ticket, z }) => {
@@ -53,6 +54,7 @@ fn disarm(wheel: &mut Wheel, t: u32)
     ensures free { map.get wheel.new.timers t ≡ None }
     ensures spare { wheel.old.spare ≤ wheel.new.spare }
     ensures last { wheel.new.last ≡ wheel.old.last }
+    ensures places { places_of wheel.new ≡ places_of wheel.old }
 {
     if let Some(timer) = wheel.armed(t) {
         wheel.cancel(t, timer.ticket);

@@ -1,5 +1,5 @@
 -- A player that has asked nothing yet.
-use Rattle.std.proofs.Common.{◌≡◌, ℕ, ◌<◌, ◌≤◌, [], Bool, true, false, nat_lt, length, get_or, List, replicate, refl, sym, ap, ◌∙◌, subst, arith}
+use Rattle.std.proofs.Common.{◌≡◌, ℕ, ◌+◌, ◌<◌, ◌≤◌, [], Bool, true, false, nat_lt, length, get_or, List, replicate, refl, sym, ap, ◌∙◌, subst, arith}
 use Rattle.std.proofs.lemmas.List.Elements.{All-nil}
 use Rattle.std.proofs.lemmas.Bool.{ltb-true, ltb-false}
 use Rattle.std.proofs.lemmas.List.{get_or-replicate, get_or_past, length-replicate}
@@ -9,12 +9,13 @@ use Rattle.grub_book.specs.Sums.{opening_book}
 use Rattle.grub_book.specs.Sound.{Standing}
 use Rattle.grub_trace.specs.Texts.{IsAskOf}
 use Rattle.grub_asks.specs.Answers.{IsAnswered}
+use Rattle.grub_asks.specs.Keeping.{places_of}
 use Rattle.grub_asks.proofs.Kept.{kept_nothing}
 use Rattle.grub_timeline.specs.declared.told.Told.{Told}
 use Rattle.grub_timeline.specs.declared.player.Player.{Player}
 use Rattle.grub_timeline.specs.TimeLines.{armer, entries_of}
 use Rattle.grub_timeline.specs.inside.Merge.{AreNone}
-use Rattle.grub_timeline.specs.inside.Playing.{AreArmers, IsKnown, IsPlaying}
+use Rattle.grub_timeline.specs.inside.Playing.{AreArmers, IsChunk, IsKnown, IsPlaying}
 
 abbrev zeros : ℕ → List ℕ
 zeros k = replicate {A = ℕ} k 0
@@ -34,10 +35,12 @@ known_nothing s = record {
   within = All-nil (λ (k : Told). (k.r < length s.queues) × IsAskOf (length s.tasks) k.entry.ask);
 }
 
-pub playing_first : (p : Player) (s : Machine) → p.book ≡ record { setup = s; records = opening_book s } → p.told.items ≡ [] → p.wheel.timers ≡ map.empty → 1 ≤ length s.queues → length p.armers.items ≡ length s.tasks
+pub playing_first : (p : Player) (s : Machine) → IsChunk p → length s.tasks + 1 ≤ places_of p.wheel → p.book ≡ record { setup = s; records = opening_book s } → p.told.items ≡ [] → p.wheel.timers ≡ map.empty → 1 ≤ length s.queues → length p.armers.items ≡ length s.tasks
     → ((t d : ℕ) → t < length s.tasks → get_or p.armers.items t d ≡ 0) → IsPlaying p
-playing_first p s opens none empty some many zeros =
+playing_first p s chunk places opens none empty some many zeros =
     let setup : p.book.setup ≡ s = ap (λ (b : Standing). b.setup) opens in record {
+      chunk = chunk;
+      places = let same = ap (λ (k : Machine). length k.tasks) setup in omega (arith, places, same);
       told = subst (λ (told : List Told). IsKnown p.book.setup p.book.records told) (sym none) (subst (λ (b : Standing). IsKnown b.setup b.records []) (sym opens) (known_nothing s));
       kept = kept_nothing p.book.setup (entries_of p.told.items) p.wheel.timers (ap entries_of none) empty;
       armers = subst (λ (k : Machine). AreArmers k (entries_of p.told.items) p.armers.items) (sym setup) (record {

@@ -1,14 +1,19 @@
 -- All lines were asked.
-use Rattle.std.proofs.Common.{◌≡◌, List, length, sym, ap, ◌∙◌, subst, arith}
+use Rattle.std.proofs.Common.{◌≡◌, ℕ, ◌<◌, List, [], ◌∷◌, ◌++◌, length, sym, ap, ◌∙◌, subst, arith}
 use Rattle.std.proofs.lemmas.Option.{get_or_from_slice_get, slice_get_within}
 use Rattle.grub_book.specs.Machine.{Machine}
 use Rattle.grub_book.specs.Sums.{Records, reading_of}
 use Rattle.grub_book.specs.History.{IsLegal, book_of}
 use Rattle.grub_book.specs.declared.event.Event.{Event}
 use Rattle.grub_book.specs.declared.event.Reading.{Reading}
+use Rattle.std.specs.List.{All}
+use Rattle.std.proofs.lemmas.List.Elements.{All-tail}
 use Rattle.grub_trace.specs.Plans.{PlanView}
+use Rattle.grub_trace.specs.Texts.{IsAskOf}
+use Rattle.grub_timeline.specs.declared.told.Told.{Told}
 use Rattle.grub_timeline.specs.declared.player.Player.{Player}
 use Rattle.grub_timeline.specs.TimeLines.{AreClosing, AreWithin, IsTimeLine, history_of}
+use Rattle.grub_timeline.specs.inside.Merge.{IsMidway}
 use Rattle.grub_timeline.specs.inside.Playing.{AreReadings, IsPlayed}
 
 closes : (s : Machine) (history : List Event) (records : Records) (closing : List Reading) → records ≡ book_of s history → AreReadings (length s.queues) records closing → AreClosing s history closing
@@ -31,3 +36,13 @@ time_line_of plan p closing played all = record {
 
 pub within_of : (plan : PlanView) (p : Player) → IsPlayed plan p → AreWithin plan.setup p.told.items
 within_of plan p played = subst (λ (s : Machine). AreWithin s p.told.items) played.setup played.known.within
+
+all_end : {X : Type 0} (P : X → Type 0) (xs ys : List X) → All P (xs ++ ys) → All P ys
+all_end P [] ys h = h
+all_end P (x ∷ xs) ys h = all_end P xs ys (All-tail P x (xs ++ ys) h)
+
+-- the latest entries are of runqueues and tasks that are there
+pub within_chunk : (plan : PlanView) (p : Player) (done : List ℕ) → IsMidway plan p done → AreWithin plan.setup p.chunk.items
+within_chunk plan p done mid =
+    all_end (λ (x : Told). (x.r < length plan.setup.queues) × IsAskOf (length plan.setup.tasks) x.entry.ask) p.start.value.items p.chunk.items
+    (subst (λ (told : List Told). AreWithin plan.setup told) mid.playing.chunk (subst (λ (s : Machine). AreWithin s p.told.items) mid.setup mid.playing.told.within))

@@ -1,5 +1,7 @@
 -- One more entry of a player.
-use Rattle.std.proofs.Common.{◌≡◌, ℕ, ◌<◌, List, [], ◌∷◌, ◌++◌, length, refl, sym, ap, ◌∙◌, subst, arith}
+use Rattle.std.proofs.Common.{◌≡◌, ℕ, ◌+◌, ◌<◌, ◌≤◌, List, [], ◌∷◌, ◌++◌, Option, Some, None, length, refl, sym, ap, ◌∙◌, subst, arith, append_assoc}
+use Rattle.std.specs.Prelude.{option_map}
+use Rattle.std.specs.FinMap as map
 use Rattle.std.proofs.lemmas.Grind.{common_steps}
 use Rattle.std.proofs.lemmas.List.Elements.{All-push}
 use Rattle.grub_book.specs.Machine.{Machine}
@@ -17,6 +19,11 @@ use Rattle.grub_trace.specs.declared.entry.Ask.TheVariants.{Call, Read}
 use Rattle.grub_trace.specs.declared.entry.Answer.TheVariants.{Replied, Seen}
 use Rattle.grub_trace.specs.Texts.{IsAskOf}
 use Rattle.grub_asks.specs.Answers.{IsAnswered, event_told}
+use Rattle.grub_trace.specs.declared.entry.Entry.{Entry}
+use Rattle.grub_wheel.specs.TimerBag.{TimerBag, WheelState}
+use Rattle.grub_asks.specs.Keeping.{places_of}
+use Rattle.grub_asks.specs.inside.Keeping.{IsKept}
+use Rattle.grub_asks.proofs.Alarms.{few_timers}
 use Rattle.grub_timeline.specs.declared.told.Told.{Told}
 use Rattle.grub_timeline.specs.TimeLines.{AreAnswered, AreWithin, entries_of, history_of}
 use Rattle.grub_timeline.specs.inside.TimeLines.{told_of}
@@ -56,3 +63,22 @@ known_look s book old new r m reading known queue is list =
     known_event s book book old new (told_of r m Read (Seen reading)) (events.Look r r reading) known list refl (tt, λ k. k) queue tt
     (λ legal. legal_push s h (events.Look r r reading) legal (queue, sym (is ∙ ap (λ b. reading_of b r) known.book)))
     (known.book ∙ sym (book_push s h (events.Look r r reading)))
+
+-- one more of the latest entries
+pub chunk_more : (start then was old now new : List Told) (x : Told) → then ≡ start → old ≡ start ++ was → now ≡ was ++ x ∷ [] → new ≡ old ++ x ∷ [] → new ≡ then ++ now
+chunk_more start then was old now new x same tied more list = list ∙ ap (λ l. l ++ x ∷ []) tied ∙ append_assoc start was (x ∷ []) ∙ ap (λ l. start ++ l) (sym more) ∙ ap (λ l. l ++ now) (sym same)
+
+-- ---- the places of the timers
+pub few_armed : (s : Machine) (entries : List Entry) (timers : TimerBag) → IsKept s entries timers → map.len timers ≤ length s.tasks
+few_armed s entries timers kept = few_timers (length s.tasks) timers (λ t past. none t past (map.get timers t) refl)
+  where
+    none : (t : ℕ) → length s.tasks ≤ t → (o : Option (ℕ × ℕ)) → map.get timers t ≡ o → map.get timers t ≡ None
+    none t past None is = is
+    none t past (Some p) is =
+        let low = kept.tasks t _ (sym (kept.armed_are t) ∙ ap (λ (o : Option (ℕ × ℕ)). option_map (λ (p : ℕ × ℕ). record { z = p.0; ticket = p.1 }) o) is) in
+        absurd (omega (arith, past, low))
+
+pub room_for_one : (s : Machine) (entries : List Entry) (w : WheelState) → IsKept s entries w.timers → length s.tasks + 1 ≤ places_of w → (now : WheelState) → now ≡ w → 1 ≤ now.spare
+room_for_one s entries w kept places now same =
+    let few = few_armed s entries w.timers kept in let spare = ap (λ (v : WheelState). v.spare) same in
+    omega (arith, few, places, spare)

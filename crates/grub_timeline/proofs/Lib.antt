@@ -5,6 +5,7 @@ pub mod Beginning
 pub mod Lining
 pub mod Sooner
 pub mod Merging
+pub mod Left
 pub mod Ending
 pub mod OneOrder
 pub mod Answering

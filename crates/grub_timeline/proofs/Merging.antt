@@ -12,10 +12,10 @@ use Rattle.grub_trace.specs.Limits.{ActFits, PlanFits, ScriptFits}
 use Rattle.grub_trace.specs.Plans.{PlanView}
 use Rattle.grub_timeline.specs.declared.order.Placed.{Placed}
 use Rattle.grub_timeline.specs.declared.player.Player.{Player}
-use Rattle.grub_timeline.specs.Order.{IsNotLater, IsSorted, lines_of, script_at}
+use Rattle.grub_timeline.specs.Order.{IsNotLater, IsSorted, left, lines_of, script_at}
 use Rattle.grub_timeline.specs.TimeLines.{AsksPlaced}
 use Rattle.grub_timeline.specs.inside.Playing.{IsNotPast, IsPlayed, IsPlaying}
-use Rattle.grub_timeline.specs.inside.Merge.{IsFirst, IsMidway, NoHead, head_at, left, placed}
+use Rattle.grub_timeline.specs.inside.Merge.{IsFirst, IsMidway, NoHead, head_at, placed}
 use Rattle.grub_timeline.proofs.Sooner.{head_within, not_later-trans}
 
 -- ---- lists of lines in their order

@@ -1,5 +1,5 @@
 -- The one order of the lines of several scripts.
-use Rattle.std.specs.Prelude.{◌≡◌, ℕ, ◌<◌, ◌≤◌, ◌⊎◌, ◌==◌, List, [], ◌∷◌, filter, map, slice_index_or}
+use Rattle.std.specs.Prelude.{◌≡◌, ℕ, ◌+◌, ◌-◌, ◌<◌, ◌≤◌, ◌⊎◌, ◌==◌, List, [], ◌∷◌, filter, length, map, slice_index_or}
 use Rattle.std.specs.List.{AllByRecursion}
 use Rattle.grub_trace.specs.declared.line.Line.{Line}
 use Rattle.grub_timeline.specs.declared.order.Placed.{Placed}
@@ -26,3 +26,9 @@ IsSorted (p ∷ ps) = AllByRecursion (IsNotLater p) ps × IsSorted ps
 pub record IsOrder (scripts : List (List Line)) (order : List Placed) : Type 0 where
   pub lines : (r : ℕ) → lines_of r order ≡ script_at scripts r
   pub sorted : IsSorted order
+
+-- how many lines are left, where so many of each file are done
+abbrev pub left : List (List Line) → List ℕ → ℕ
+left [] done = 0
+left (script ∷ scripts) [] = 0
+left (script ∷ scripts) (n ∷ done) = (length script - n) + left scripts done

@@ -18,7 +18,7 @@ use Rattle.grub_trace.specs.declared.entry.Entry.{Entry}
 use Rattle.grub_trace.specs.Plans.{PlanView}
 use Rattle.grub_trace.specs.Texts.{IsAskOf}
 use Rattle.grub_asks.specs.Answers.{IsAnswered, event_told, events_told}
-use Rattle.grub_asks.specs.Asked.{Asked, AsksLine, entry}
+use Rattle.grub_asks.specs.Asked.{Asked, AsksLine}
 use Rattle.grub_timeline.specs.declared.order.Placed.{Placed}
 use Rattle.grub_timeline.specs.declared.told.Told.{Told}
 use Rattle.grub_timeline.specs.Order.{IsOrder}
@@ -91,6 +91,13 @@ DoNotGoBack told = IsNonDecreasingBy (λ (e : Entry). e.m) (entries_of told)
 -- each entry is of a runqueue that is there, and on a task that is
 abbrev pub AreWithin : Machine → List Told → Type 0
 AreWithin s told = All (λ (x : Told). (x.r < length s.queues) × IsAskOf (length s.tasks) x.entry.ask) told
+
+-- what playing is to its callers: the plan, the entries so far, the latest of them, and how many lines are left
+pub record PlayState : Type 0 where
+  pub plan : PlanView
+  pub told : List Told
+  pub chunk : List Told
+  pub left : ℕ
 
 -- no other entries and readings than these are the time line of the plan
 pub record IsOnlyTimeLine (plan : PlanView) (told : List Told) (closing : List Reading) : Type 0 where

@@ -1,18 +1,17 @@
 //! The closing readings.
-ghost use Rattle.std.specs.Prelude.{◌≡◌, ◌<◌, ℕ, IfOk, length, slice_index_or};
+ghost use Rattle.std.specs.Prelude.{◌≡◌, ◌<◌, ◌≤◌, ℕ, [], length, slice_index_or, vec_capacity};
 ghost use Rattle.grub_timeline.specs.inside.Playing.{AreReadings};
 
 use grub_book::{Book, Reading};
-use std::alloc::{AllocError, Global};
 
-/// The reading of each runqueue, in order.
-pub fn readings_of(alloc: Global, book: &Book<'_>, queues: u32) -> Result<Vec<Reading>, AllocError>
-    requires { queues ≡ length book.now.setup.queues }
-    ensures { IfOk result (λ v. AreReadings (length book.now.setup.queues) book.now.records v.items) }
+/// Puts the reading of each runqueue, in order, into a vector that has room for them.
+pub fn fill_readings(readings: &mut Vec<Reading>, book: &Book<'_>, queues: u32)
+    requires queues { queues ≡ length book.now.setup.queues }
+    requires empty { readings.old.items ≡ [] }
+    requires room { queues ≤ vec_capacity readings.old }
+    ensures { AreReadings (length book.now.setup.queues) book.now.records readings.new.items }
 {
-    let mut readings = Vec::new(alloc);
     for r in 0..queues {
-        readings.push(book.read(r))?;
+        readings.push_reserved(book.read(r));
     }
-    Ok(readings)
 }

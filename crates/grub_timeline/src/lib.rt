@@ -6,14 +6,19 @@ mod closing;
 mod due;
 mod fault;
 mod line;
+mod lines;
+mod log;
+mod opening;
 mod order;
 mod player;
 mod playing;
 #[cfg(test)]
 mod tests;
 mod told;
+mod whole;
 
 pub use fault::PlayFault;
 pub use order::Placed;
-pub use playing::play;
+pub use playing::Playing;
 pub use told::{TimeLine, Told};
+pub use whole::play;

@@ -1,5 +1,5 @@
 //! One line of a file, and what follows from its answer.
-ghost use Rattle.std.specs.Prelude.{◌≡◌, ◌<◌, ◌^◌, Some, IfOk, length};
+ghost use Rattle.std.specs.Prelude.{◌≡◌, ◌<◌, ◌^◌, ◌≤◌, ◌+◌, Some, length, vec_len, vec_capacity};
 ghost use Rattle.grub_trace.specs.Limits.{ActFits};
 ghost use Rattle.grub_asks.specs.Asked.{Follows, JoinsAfter};
 ghost use Rattle.grub_timeline.specs.TimeLines.{AsksPlaced, entries_of};
@@ -11,99 +11,100 @@ use crate::player::{Player, call, look};
 use grub_asks::call_of;
 use grub_book::{Op, Reply};
 use grub_trace::{Act, Answer, Line};
-use std::alloc::AllocError;
 
 /// Where a task has left, it joins here.
-fn join_here(
-    player: &mut Player<'_>,
-    r: u32,
-    m: u32,
-    t: u32,
-    answer: Answer,
-) -> Result<(), AllocError>
+fn join_here(player: &mut Player<'_>, r: u32, m: u32, t: u32, answer: Answer)
     requires playing { IsPlaying player.old }
     requires task { t < length player.old.book.setup.tasks }
     requires queue { r < length player.old.book.setup.queues }
     requires moment { m < 2 ^ 31 }
     requires last { player.old.wheel.last ≡ Some m }
-    ensures playing { IfOk result (λ x. IsPlaying player.new) }
-    ensures setup { IfOk result (λ x. player.new.book.setup ≡ player.old.book.setup) }
-    ensures last { IfOk result (λ x. player.new.wheel.last ≡ Some m) }
-    ensures joins { IfOk result (λ x. JoinsAfter r m t answer (entries_of player.old.told.items) (entries_of player.new.told.items)) }
-    ensures goes_on { IfOk result (λ x. GoesOnOf r player.old.told.items player.new.told.items) }
+    requires room { vec_len player.old.chunk + 1 ≤ vec_capacity player.old.chunk }
+    ensures playing { IsPlaying player.new }
+    ensures setup { player.new.book.setup ≡ player.old.book.setup }
+    ensures last { player.new.wheel.last ≡ Some m }
+    ensures joins { JoinsAfter r m t answer (entries_of player.old.told.items) (entries_of player.new.told.items) }
+    ensures goes_on { GoesOnOf r player.old.told.items player.new.told.items }
+    ensures start { player.new.start.value.items ≡ player.old.start.value.items }
+    ensures most { vec_len player.new.chunk ≤ vec_len player.old.chunk + 1 }
+    ensures room { vec_capacity player.new.chunk ≡ vec_capacity player.old.chunk }
 {
     match answer {
         Answer::Replied(Reply::Left { r: _ }) => {
-            call(player, r, m, t, Op::Join { r, m })?;
-            Ok(())
+            call(player, r, m, t, Op::Join { r, m });
         }
-        _ => Ok(()),
+        _ => {}
     }
 }
 
 /// Where a wake was answered that the task is on another runqueue, the task moves here.
-fn follow(
-    player: &mut Player<'_>,
-    r: u32,
-    m: u32,
-    act: Act,
-    answer: Answer,
-) -> Result<(), AllocError>
+fn follow(player: &mut Player<'_>, r: u32, m: u32, act: Act, answer: Answer)
     requires playing { IsPlaying player.old }
     requires act { ActFits (length player.old.book.setup.tasks) act }
     requires queue { r < length player.old.book.setup.queues }
     requires moment { m < 2 ^ 31 }
     requires last { player.old.wheel.last ≡ Some m }
-    ensures playing { IfOk result (λ x. IsPlaying player.new) }
-    ensures setup { IfOk result (λ x. player.new.book.setup ≡ player.old.book.setup) }
-    ensures last { IfOk result (λ x. player.new.wheel.last ≡ Some m) }
-    ensures follows { IfOk result (λ x. Follows r m act answer (entries_of player.old.told.items) (entries_of player.new.told.items)) }
-    ensures goes_on { IfOk result (λ x. GoesOnOf r player.old.told.items player.new.told.items) }
+    requires room { vec_len player.old.chunk + 2 ≤ vec_capacity player.old.chunk }
+    ensures playing { IsPlaying player.new }
+    ensures setup { player.new.book.setup ≡ player.old.book.setup }
+    ensures last { player.new.wheel.last ≡ Some m }
+    ensures follows { Follows r m act answer (entries_of player.old.told.items) (entries_of player.new.told.items) }
+    ensures goes_on { GoesOnOf r player.old.told.items player.new.told.items }
+    ensures start { player.new.start.value.items ≡ player.old.start.value.items }
+    ensures most { vec_len player.new.chunk ≤ vec_len player.old.chunk + 2 }
+    ensures room { vec_capacity player.new.chunk ≡ vec_capacity player.old.chunk }
 {
     match (act, answer) {
         (Act::Wake(t), Answer::Replied(Reply::Elsewhere(_))) => {
-            let left = call(player, r, m, t, Op::Leave)?;
-            join_here(player, r, m, t, left)
+            let left = call(player, r, m, t, Op::Leave);
+            join_here(player, r, m, t, left);
         }
-        _ => Ok(()),
+        _ => {}
     }
 }
 
 /// Asks for a line, and for what follows from its answer.
-fn ask(player: &mut Player<'_>, r: u32, line: Line) -> Result<(), AllocError>
+fn ask(player: &mut Player<'_>, r: u32, line: Line)
     requires playing { IsPlaying player.old }
     requires act { ActFits (length player.old.book.setup.tasks) line.act }
     requires queue { r < length player.old.book.setup.queues }
     requires moment { line.m < 2 ^ 31 }
     requires last { player.old.wheel.last ≡ Some line.m }
-    ensures playing { IfOk result (λ x. IsPlaying player.new) }
-    ensures setup { IfOk result (λ x. player.new.book.setup ≡ player.old.book.setup) }
-    ensures last { IfOk result (λ x. player.new.wheel.last ≡ Some line.m) }
-    ensures line { IfOk result (λ x. IsLineAsked r line (entries_of player.old.told.items) (entries_of player.new.told.items)) }
-    ensures goes_on { IfOk result (λ x. GoesOnOf r player.old.told.items player.new.told.items) }
+    requires room { vec_len player.old.chunk + 3 ≤ vec_capacity player.old.chunk }
+    ensures playing { IsPlaying player.new }
+    ensures setup { player.new.book.setup ≡ player.old.book.setup }
+    ensures last { player.new.wheel.last ≡ Some line.m }
+    ensures line { IsLineAsked r line (entries_of player.old.told.items) (entries_of player.new.told.items) }
+    ensures goes_on { GoesOnOf r player.old.told.items player.new.told.items }
+    ensures start { player.new.start.value.items ≡ player.old.start.value.items }
+    ensures most { vec_len player.new.chunk ≤ vec_len player.old.chunk + 3 }
+    ensures room { vec_capacity player.new.chunk ≡ vec_capacity player.old.chunk }
 {
     let Line { m, act } = line;
     match call_of(r, m, act) {
         None => look(player, r, m),
         Some((t, op)) => {
-            let answer = call(player, r, m, t, op)?;
-            follow(player, r, m, act, answer)
+            let answer = call(player, r, m, t, op);
+            follow(player, r, m, act, answer);
         }
     }
 }
 
 /// Asks for the timers that are due before a line, for the line, and for what follows from its answer.
-pub fn ask_line(player: &mut Player<'_>, placed: Placed) -> Result<(), AllocError>
+pub fn ask_line(player: &mut Player<'_>, placed: Placed)
     requires playing { IsPlaying player.old }
     requires act { ActFits (length player.old.book.setup.tasks) placed.line.act }
     requires queue { placed.r < length player.old.book.setup.queues }
     requires moment { placed.line.m < 2 ^ 31 }
     requires not_past { IsNotPast placed.line.m player.old }
-    ensures playing { IfOk result (λ x. IsPlaying player.new) }
-    ensures setup { IfOk result (λ x. player.new.book.setup ≡ player.old.book.setup) }
-    ensures last { IfOk result (λ x. player.new.wheel.last ≡ Some placed.line.m) }
-    ensures asked { IfOk result (λ x. AsksPlaced player.old.told.items placed player.new.told.items) }
+    requires room { vec_len player.old.chunk + (length player.old.book.setup.tasks + 3) ≤ vec_capacity player.old.chunk }
+    ensures playing { IsPlaying player.new }
+    ensures setup { player.new.book.setup ≡ player.old.book.setup }
+    ensures last { player.new.wheel.last ≡ Some placed.line.m }
+    ensures asked { AsksPlaced player.old.told.items placed player.new.told.items }
+    ensures start { player.new.start.value.items ≡ player.old.start.value.items }
+    ensures room { vec_capacity player.new.chunk ≡ vec_capacity player.old.chunk }
 {
-    ask_due(player, placed.line.m)?;
-    ask(player, placed.r, placed.line)
+    ask_due(player, placed.line.m);
+    ask(player, placed.r, placed.line);
 }

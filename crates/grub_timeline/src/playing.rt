@@ -1,88 +1,113 @@
-//! All lines, in their order.
-ghost use Rattle.std.specs.Prelude.{◌≡◌, [], None, IfOk, length};
-ghost use Rattle.grub_trace.specs.Limits.{PlanFits};
+//! A time line that is played, some lines at a time.
+ghost use Rattle.std.specs.Prelude.{◌≡◌, ◌++◌, ◌<◌, [], IfOk, length};
+ghost use Rattle.std.specs.Bool.{OnFalse, OnTrue};
+ghost use Rattle.grub_book.specs.History.{IsLegal};
 ghost use Rattle.grub_timeline.specs.Order.{script_at};
-ghost use Rattle.grub_timeline.specs.TimeLines.{AreWithin, DoNotGoBack, IsOneRun, IsOnlyTimeLine, IsTimeLine};
-ghost use Rattle.grub_timeline.specs.inside.Playing.{IsPlaying, IsPlayed};
-ghost use Rattle.grub_timeline.specs.inside.Merge.{AreNone};
+ghost use Rattle.grub_timeline.specs.TimeLines.{AreWithin, DoNotGoBack, IsOneRun, IsOnlyTimeLine, IsTimeLine, history_of};
 
-use crate::closing::readings_of;
+use crate::closing::fill_readings;
 use crate::fault::PlayFault;
-use crate::line::ask_line;
-use crate::order::{first, pass};
+use crate::lines::ask_lines;
+use crate::opening::player_of;
 use crate::player::Player;
-use crate::told::TimeLine;
-use grub_book::Book;
+use crate::told::Told;
+use grub_book::Reading;
 use grub_trace::Plan;
-use grub_wheel::Wheel;
 use std::alloc::{AllocError, Global};
+use std::marker::Model;
+use std::snapshot::Snapshot;
 
-/// Plays the scripts of a plan in the order of their moments, by one book. `NoMemory` (48) is meant for a refused growth.
-pub fn play(alloc: Global, plan: &Plan) -> Result<TimeLine, PlayFault>
-    ensures time_line { IfOk result (λ t. IsTimeLine plan.now t.told.items t.closing.items) }
-    ensures only { IfOk result (λ t. IsOnlyTimeLine plan.now t.told.items t.closing.items) }
-    ensures moments { IfOk result (λ t. DoNotGoBack t.told.items) }
-    ensures one_file { IfOk result (λ t. length plan.now.scripts ≡ 1 → IsOneRun plan.now.setup (script_at plan.now.scripts 0) t.told.items) }
-    ensures within { IfOk result (λ t. AreWithin plan.now.setup t.told.items) }
-{
-    time_line(alloc, plan).map_err(|_| PlayFault::NoMemory)
+/// The scripts of a plan while they are played in the order of their moments, by one book. All memory is taken before the
+/// first line, so nothing is refused while it goes on.
+#[derive(Drop)]
+pub struct Playing<'a> {
+    plan: &'a Plan,
+    player: Player<'a>,
+
+    /// How many lines of each file were asked.
+    done: Vec<usize>,
+
+    /// Room for the closing readings.
+    closing: Vec<Reading>,
 }
 
-/// `play`, with the allocator's own refusal.
-fn time_line(alloc: Global, plan: &Plan) -> Result<TimeLine, AllocError>
-    ensures time_line { IfOk result (λ t. IsTimeLine plan.now t.told.items t.closing.items) }
-    ensures only { IfOk result (λ t. IsOnlyTimeLine plan.now t.told.items t.closing.items) }
-    ensures moments { IfOk result (λ t. DoNotGoBack t.told.items) }
-    ensures one_file { IfOk result (λ t. length plan.now.scripts ≡ 1 → IsOneRun plan.now.setup (script_at plan.now.scripts 0) t.told.items) }
-    ensures within { IfOk result (λ t. AreWithin plan.now.setup t.told.items) }
+impl<'a> Model for Playing<'a> {
+    ghost use Rattle.grub_timeline.specs.Order.{left};
+    ghost use Rattle.grub_timeline.specs.TimeLines.{PlayState};
+    ghost use Rattle.grub_timeline.specs.inside.Merge.{IsUnderWay};
+
+    ghost Value = { PlayState };
+
+    ghost view = { λ x. record { plan = x.plan.now; told = x.player.told.items; chunk = x.player.chunk.items; left = left x.plan.now.scripts x.done.items } };
+
+    ghost invariant = { λ x. IsUnderWay x.plan.now x.player x.done.items x.closing };
+}
+
+impl<'a> Playing<'a> {
+    /// Nothing was asked yet. A refused growth gives `NoMemory` (48).
+    pub fn new(alloc: Global, plan: &'a Plan) -> Result<Playing<'a>, PlayFault>
+        ensures plan { IfOk result (λ x. x.plan ≡ plan.now) }
+        ensures nothing { IfOk result (λ x. x.told ≡ []) }
+    {
+        playing_of(alloc, plan).map_err(|_| PlayFault::NoMemory)
+    }
+
+    /// Asks for the lines that come next, some thousand entries, and tells whether there was a line.
+    pub fn play_on(&mut self) -> bool
+        ensures plan { self.new.plan ≡ self.old.plan }
+        ensures told { self.new.told ≡ self.old.told ++ self.new.chunk }
+        ensures fewer { OnTrue result (self.new.left < self.old.left) }
+        ensures over { OnFalse result (self.new.left ≡ 0) }
+        ensures none { OnFalse result (self.new.chunk ≡ []) }
+        ensures within { AreWithin self.new.plan.setup self.new.chunk }
+        ensures legal { IsLegal self.new.plan.setup (history_of self.new.told) }
+    {
+        let Playing {
+            plan,
+            player,
+            done,
+            closing: _,
+        } = self;
+        player.chunk.clear();
+        player.start = Snapshot::of(&player.told);
+        ask_lines(player, plan, done)
+    }
+
+    /// The entries of the lines that were asked for last.
+    pub fn chunk(&self) -> &[Told]
+        ensures { result.now ≡ self.now.chunk }
+    {
+        &self.player.chunk
+    }
+
+    /// The closing readings, where no line is left.
+    pub fn close(self) -> Vec<Reading>
+        requires over { self.left ≡ 0 }
+        ensures time_line { IsTimeLine self.entry.plan self.entry.told result.items }
+        ensures only { IsOnlyTimeLine self.entry.plan self.entry.told result.items }
+        ensures moments { DoNotGoBack self.entry.told }
+        ensures one_file { length self.entry.plan.scripts ≡ 1 → IsOneRun self.entry.plan.setup (script_at self.entry.plan.scripts 0) self.entry.told }
+        ensures within { AreWithin self.entry.plan.setup self.entry.told }
+    {
+        let mut closing = self.closing;
+        fill_readings(&mut closing, &self.player.book, self.plan.files());
+        closing
+    }
+}
+
+/// `Playing::new`, with the allocator's own refusal.
+fn playing_of<'a>(alloc: Global, plan: &'a Plan) -> Result<Playing<'a>, AllocError>
+    ensures plan { IfOk result (λ x. x.plan ≡ plan.now) }
+    ensures nothing { IfOk result (λ x. x.told ≡ []) }
 {
-    let mut player = player_of(alloc, plan)?;
-    let done = vec![in alloc; 0; plan.files() as usize]?;
-    play_lines(&mut player, plan, done)?;
-    let closing = readings_of(alloc, &player.book, plan.files())?;
-    Ok(TimeLine {
-        told: player.told,
+    let files = plan.files() as usize;
+    let player = player_of(alloc, plan)?;
+    let done = vec![in alloc; 0; files]?;
+    let closing = Vec::with_capacity(alloc, files)?;
+    Ok(Playing {
+        plan,
+        player,
+        done,
         closing,
     })
-}
-
-/// A player that has asked nothing yet.
-fn player_of<'a>(alloc: Global, plan: &'a Plan) -> Result<Player<'a>, AllocError>
-    ensures playing { IfOk result IsPlaying }
-    ensures setup { IfOk result (λ x. x.book.setup ≡ plan.now.setup) }
-    ensures empty { IfOk result (λ x. x.told.items ≡ []) }
-    ensures last { IfOk result (λ x. x.wheel.last ≡ None) }
-{
-    let setup = plan.setup();
-    let Ok(book) = Book::new(alloc, setup) else {
-        return Err(AllocError);
-    };
-    let Ok(wheel) = Wheel::new(alloc) else {
-        return Err(AllocError);
-    };
-    let armers = vec![in alloc; 0; setup.task_count() as usize]?;
-    Ok(Player {
-        book,
-        told: Vec::new(alloc),
-        wheel,
-        armers,
-    })
-}
-
-/// Asks for the lines of all files, of which none is done yet.
-fn play_lines(player: &mut Player<'_>, plan: &Plan, done: Vec<usize>) -> Result<(), AllocError>
-    requires playing { IsPlaying player.old }
-    requires setup { player.old.book.setup ≡ plan.now.setup }
-    requires empty { player.old.told.items ≡ [] }
-    requires last { player.old.wheel.last ≡ None }
-    requires none { AreNone (length plan.now.scripts) done.items }
-    requires fits { PlanFits plan.now }
-    ensures { IfOk result (λ x. IsPlayed plan.now player.new) }
-{
-    let mut done = done;
-    while let Some(placed) = first(plan, &done) {
-        pass(plan, &mut done, placed.r);
-        ask_line(player, placed)?;
-    }
-    Ok(())
 }

@@ -1,6 +1,7 @@
 -- What the fields of a hashed wheel become.
 use Rattle.std.proofs.Common.{◌≡◌, ◌≢◌, ℕ, ◌+◌, ◌-◌, ◌<◌, ◌≤◌, ◌⊎◌, inl, inr, false, List, [], ◌∷◌, ◌++◌, length, Option, Some, None, refl, ap, ◌∙◌, sym, arith, subst}
 use Rattle.std.specs.Prelude.{sum_by, replicate}
+use Rattle.std.specs.List.{AllByRecursion}
 use Rattle.std.proofs.lemmas.List.Sums.{sum_by-cons, sum_by-append}
 use Rattle.std.proofs.Math.ListN.{get_or-append}
 use Rattle.std.proofs.Math.Seq.{get_or-append_seam}
@@ -157,17 +158,34 @@ module _ (ns : List Node) (n : Node) (off : n.armed ≡ false) where
     narrow = λ i a. let p = armed_was i a in let l = h.narrow i p in let t = task_is i p in omega arith;
   }
 
-  more_hashed : (hs : List (Option ℕ)) (free : Option ℕ) (from : ℕ) → IsHashed ns hs free 0 from → n.next ≡ None → IsHashed More hs (Some (length ns)) 1 from
-  more_hashed hs free from h end = record {
+  -- the free places stand as they did
+  more_free : (places : List ℕ) (at : Option ℕ) → AreFree ns places at → AreFree More places at
+  more_free [] at f = f
+  more_free (j ∷ js) at f =
+      let w = f.1 in let k = more_length in
+      (f.0, omega (arith, w, k), ap (λ (m : Node). m.armed) (more_at j w) ∙ f.2, f.3, subst (AreFree More js) (sym (ap (λ (m : Node). m.next) (more_at j w))) (more_free js (links ns j) f.4))
+
+  none_at_end : (places : List ℕ) (at : Option ℕ) → AreFree ns places at → AllByRecursion (λ j. j ≢ length ns) places
+  none_at_end [] at f = tt
+  none_at_end (j ∷ js) at f = (λ e. let w = f.1 in absurd (omega (arith, w, e)), none_at_end js (links ns j) f.4)
+
+  more_hashed : (hs : List (Option ℕ)) (free : Option ℕ) (spare from : ℕ) → IsHashed ns hs free spare from → n.next ≡ free → IsHashed More hs (Some (length ns)) (spare + 1) from
+  more_hashed hs free spare from h end = record {
     sound = more_sound hs h.sound;
-    places = length ns ∷ [];
-    linked = (refl, let k = more_length in omega arith, ap (λ (m : Node). m.armed) more_end ∙ off, tt, ap (λ (m : Node). m.next) more_end ∙ end);
-    room = refl;
+    places = length ns ∷ h.places;
+    linked = (
+      refl,
+      let k = more_length in omega (arith, k),
+      ap (λ (m : Node). m.armed) more_end ∙ off,
+      none_at_end h.places free h.linked,
+      subst (AreFree More h.places) (sym (ap (λ (m : Node). m.next) more_end ∙ end)) (more_free h.places free h.linked),
+    );
+    room = let r = h.room in omega (arith, r);
     count = counted;
     after = λ i a. let p = armed_was i a in let l = h.after i p in let t = ap (λ (x : Timer). x.z) (timer_is i p) in omega arith;
   }
     where
-      counted : 1 + armed_count More ≡ length More
+      counted : spare + 1 + armed_count More ≡ length More
       counted =
           let a = sum_by-append one_if_armed ns (n ∷ []) in
           let b = sum_by-cons one_if_armed n [] in
@@ -181,13 +199,17 @@ module _ (ns : List Node) (n : Node) (off : n.armed ≡ false) where
       (λ j a t. (armed_is j a, task_is j a ∙ t))
       (λ j a t. let p = armed_was j a in (p, timer_is j p)))
 
-pub free_more : (ns ms : List Node) (hs : List (Option ℕ)) (free : Option ℕ) (spare place from : ℕ) → IsHashed ns hs free spare from → spare ≡ 0 → ms ≡ ns ++ free_node ∷ [] → place ≡ length ns → IsHashed ms hs (Some place) 1 from
-free_more ns ms hs free spare place from h z e p =
-    let m = more_hashed ns free_node refl hs free from (subst (λ (s : ℕ). IsHashed ns hs free s from) z h) refl in
-    subst (λ (k : ℕ). IsHashed ms hs (Some k) 1 from) (sym p) (subst (λ (xs : List Node). IsHashed xs hs (Some (length ns)) 1 from) (sym e) m)
+-- a free place before the others
+abbrev pub free_before : Option ℕ → Node
+free_before free = record free_node { next = free }
 
-pub bag-free_more : (ns ms : List Node) → Apart ns → ms ≡ ns ++ free_node ∷ [] → bag_of (timers_of ms) ≡ bag_of (timers_of ns)
-bag-free_more ns ms apart e = ap (λ (xs : List Node). bag_of (timers_of xs)) e ∙ more_bag ns free_node refl apart
+pub free_more : (ns ms : List Node) (hs : List (Option ℕ)) (free : Option ℕ) (spare place from : ℕ) → IsHashed ns hs free spare from → ms ≡ ns ++ free_before free ∷ [] → place ≡ length ns → IsHashed ms hs (Some place) (spare + 1) from
+free_more ns ms hs free spare place from h e p =
+    let m = more_hashed ns (free_before free) refl hs free spare from h refl in
+    subst (λ (k : ℕ). IsHashed ms hs (Some k) (spare + 1) from) (sym p) (subst (λ (xs : List Node). IsHashed xs hs (Some (length ns)) (spare + 1) from) (sym e) m)
+
+pub bag-free_more : (ns ms : List Node) (free : Option ℕ) → Apart ns → ms ≡ ns ++ free_before free ∷ [] → bag_of (timers_of ms) ≡ bag_of (timers_of ns)
+bag-free_more ns ms free apart e = ap (λ (xs : List Node). bag_of (timers_of xs)) e ∙ more_bag ns (free_before free) refl apart
 
 -- ---- the fields as the code leaves them
 

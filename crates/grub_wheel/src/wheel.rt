@@ -1,5 +1,5 @@
 //! Timers in slots by their moments.
-ghost use Rattle.std.specs.Prelude.{◌≡◌, ◌≢◌, ◌<◌, ◌≤◌, ◌↔◌, ℕ, Some, None, IfOk, IsOk, OnOk, OnErr, IfSome, IfNone, IsTrue, length};
+ghost use Rattle.std.specs.Prelude.{◌≡◌, ◌≢◌, ◌+◌, ◌<◌, ◌≤◌, ◌↔◌, ℕ, Some, None, IfOk, IsOk, OnOk, OnErr, IfSome, IfNone, IsTrue, length};
 ghost use Rattle.std.specs.Bool.{OnTrue, OnFalse};
 ghost use Rattle.std.specs.FinMap as map;
 ghost use Rattle.grub_wheel.specs.TimerBag.{IsArmed, IsArmedWith, IsLeast, AreLater, fresh, after_arming, after_taking};
@@ -94,13 +94,24 @@ impl Wheel {
         ensures kept { 1 ≤ self.old.spare → self.new ≡ self.old }
     {
         if self.spare == 0 {
-            if self.nodes.reserve(1).is_err() {
-                return Err(WheelFault::NoMemory);
-            }
-            self.free = Some(self.nodes.len());
-            self.nodes.push_reserved(free_node());
-            self.spare = 1;
+            self.add_place()
+        } else {
+            Ok(())
         }
+    }
+
+    /// Makes one place more for a timer. A refused growth gives 27, `NoMemory`, and then nothing changed.
+    pub fn add_place(&mut self) -> Result<(), WheelFault>
+        ensures place { OnOk result (self.new ≡ record self.old { spare = self.old.spare + 1 }) }
+        ensures err { OnErr result (self.new ≡ self.old) }
+    {
+        if self.nodes.reserve(1).is_err() {
+            return Err(WheelFault::NoMemory);
+        }
+        let place = self.nodes.len();
+        self.nodes.push_reserved(free_node(self.free));
+        self.free = Some(place);
+        self.spare += 1;
         Ok(())
     }
 
@@ -195,9 +206,9 @@ impl Wheel {
     }
 }
 
-/// A free place with none behind it.
-fn free_node() -> Node
-    ensures { result ≡ free_node }
+/// A free place before the other free ones.
+fn free_node(next: Option<usize>) -> Node
+    ensures { result ≡ record free_node { next = next } }
 {
     Node {
         timer: Timer {
@@ -206,7 +217,7 @@ fn free_node() -> Node
             ticket: 0,
         },
         armed: false,
-        next: None,
+        next,
     }
 }
 

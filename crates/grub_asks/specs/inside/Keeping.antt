@@ -1,15 +1,11 @@
 -- A wheel that has the timers which the entries leave, and the ops that a line asks for.
-use Rattle.std.specs.Prelude.{◌≡◌, ◌<◌, ℕ, Option, Some, option_map, nat_eq, if◌then◌else◌, List, length}
-use Rattle.std.specs.FinMap as map
+use Rattle.std.specs.Prelude.{◌≡◌, ◌<◌, ℕ, Some, List, length}
 use Rattle.grub_book.specs.Machine.{Machine}
 use Rattle.grub_book.specs.declared.op.Op.{Op}
 use Rattle.grub_book.specs.declared.op.Op.TheVariants as ops
-use Rattle.grub_book.specs.declared.reply.Reply.TheVariants as replies
-use Rattle.grub_trace.specs.declared.entry.Answer.{Answer}
-use Rattle.grub_trace.specs.declared.entry.Answer.TheVariants as answers
 use Rattle.grub_trace.specs.declared.entry.Entry.{Entry}
 use Rattle.grub_wheel.specs.TimerBag.{TimerBag}
-use Rattle.grub_asks.specs.Timers.{Alarm, Touch, leaves, alarm_after, armed}
+use Rattle.grub_asks.specs.Timers.{Alarm, armed}
 use Rattle.grub_asks.specs.Keeping.{alarm_of}
 
 -- the wheel has the timers that the entries leave, all of tasks that are there

@@ -1,6 +1,9 @@
 -- The lines that come first in what is left of each file.
-use Rattle.std.specs.Prelude.{◌≡◌, ℕ, ◌+◌, ◌-◌, ◌<◌, nat_lt, Option, Some, None, if◌then◌else◌, List, [], ◌∷◌, length, slice_get, slice_index_or, take}
+use Rattle.std.specs.Prelude.{◌≡◌, ℕ, ◌+◌, ◌<◌, ◌≤◌, nat_lt, Option, Some, None, if◌then◌else◌, List, [], length, slice_get, slice_index_or, take, vec_capacity}
 use Rattle.std.specs.List.{AllByRecursion}
+use Rattle.std.specs.Global.{Vec}
+use Rattle.grub_book.specs.declared.event.Reading.{Reading}
+use Rattle.grub_trace.specs.Limits.{PlanFits}
 use Rattle.grub_trace.specs.declared.line.Line.{Line}
 use Rattle.grub_timeline.specs.declared.order.Placed.{Placed}
 use Rattle.grub_trace.specs.Plans.{PlanView}
@@ -52,8 +55,10 @@ pub record IsMidway (plan : PlanView) (p : Player) (done : List ℕ) : Type 0 wh
   pub asked : AskedInOrder order p.told.items
   pub after : (r : ℕ) (line : Line) → head_at plan.scripts done r ≡ Some line → AllByRecursion (λ q. IsNotLater q (placed r line)) order × IsNotPast line.m p
 
--- how many lines are left
-abbrev pub left : List (List Line) → List ℕ → ℕ
-left [] done = 0
-left (script ∷ scripts) [] = 0
-left (script ∷ scripts) (n ∷ done) = (length script - n) + left scripts done
+-- the lines so far were asked, and there is room for what the next one asks, and for the closing readings
+pub record IsUnderWay (plan : PlanView) (p : Player) (done : List ℕ) (closing : Vec Reading) : Type 0 where
+  pub midway : IsMidway plan p done
+  pub fits : PlanFits plan
+  pub room : length plan.setup.tasks + 3 ≤ vec_capacity p.chunk
+  pub closing_empty : closing.items ≡ []
+  pub closing_room : length plan.scripts ≤ vec_capacity closing

@@ -1,5 +1,5 @@
 -- What a player keeps between two asks.
-use Rattle.std.specs.Prelude.{◌≡◌, ℕ, ◌<◌, ◌≤◌, Some, List, [], ◌∷◌, ◌++◌, length, slice_set, slice_index_or}
+use Rattle.std.specs.Prelude.{◌≡◌, ℕ, ◌<◌, ◌≤◌, ◌+◌, Some, List, [], ◌∷◌, ◌++◌, length, slice_set, slice_index_or}
 use Rattle.grub_book.specs.Machine.{Machine}
 use Rattle.grub_book.specs.Sums.{Records, reading_of}
 use Rattle.grub_book.specs.History.{IsLegal, book_of}
@@ -14,6 +14,7 @@ use Rattle.grub_trace.specs.declared.entry.Answer.TheVariants.{Replied, Seen}
 use Rattle.grub_trace.specs.declared.entry.Entry.{Entry}
 use Rattle.grub_trace.specs.Plans.{PlanView}
 use Rattle.grub_asks.specs.Asked.{Follows, ask_of, entry}
+use Rattle.grub_asks.specs.Keeping.{places_of}
 use Rattle.grub_asks.specs.inside.Keeping.{IsKept}
 use Rattle.grub_timeline.specs.declared.order.Placed.{Placed}
 use Rattle.grub_timeline.specs.declared.told.Told.{Told}
@@ -38,8 +39,14 @@ pub record AreArmers (s : Machine) (entries : List Entry) (armers : List ℕ) : 
   pub each : (t d : ℕ) → t < length s.tasks → slice_index_or armers t d ≡ armer entries t
   pub there : (t : ℕ) → armer entries t < length s.queues
 
--- and the wheel has the timers that they leave
+-- the latest entries stand behind those before them
+abbrev pub IsChunk : Player → Type 0
+IsChunk p = p.told.items ≡ p.start.value.items ++ p.chunk.items
+
+-- and the wheel has the timers that they leave, and a place for one more than there are tasks
 pub record IsPlaying (p : Player) : Type 0 where
+  pub chunk : IsChunk p
+  pub places : length p.book.setup.tasks + 1 ≤ places_of p.wheel
   pub told : IsToldBy p
   pub kept : IsKept p.book.setup (entries_of p.told.items) p.wheel.timers
   pub armers : AreArmers p.book.setup (entries_of p.told.items) p.armers.items

@@ -1,10 +1,22 @@
-use Rattle.grub_timeline.specs.TimeLines.{AsksPlaced, entries_of}
-use Rattle.grub_timeline.specs.inside.Playing.{GoesOnOf, IsLineAsked}
-use Rattle.grub_timeline.proofs.Lining.{if_ok_both, placed_asked}
+use Rattle.std.proofs.Common.{arith}
+use Rattle.grub_timeline.specs.TimeLines.{entries_of}
+use Rattle.grub_timeline.proofs.Entries.{few_armed}
+use Rattle.grub_timeline.proofs.Lining.{placed_asked}
 use Rattle.grub_timeline.proofs.line.ask_line.Goals as goal
+
+-- at most one timer a task is due
+pub ask_due-requires-clause-room : goal.ask_due-requires-clause-room
+ask_due-requires-clause-room c =
+    let few = few_armed _ (entries_of c.args.player.now.told.items) _ c.requires.playing.kept in let room = c.requires.room in
+    omega (arith, few, room)
+
+pub ask-requires-clause-room : goal.ask-requires-clause-room
+ask-requires-clause-room c =
+    let few = few_armed _ (entries_of c.args.player.now.told.items) _ c.requires.playing.kept in let room = c.requires.room in
+    let most = c.ask_due.ensures.most in let same = c.ask_due.ensures.room in
+    omega (arith, few, room, most, same)
 
 pub returns-clause-asked : goal.returns-clause-asked
 returns-clause-asked c =
-    let a = c.args in let p = a.placed in let old = a.player.now.told.items in let due = c.in_ok-ask_due in let asked = c.ask_due.new.player.told.items in
-    if_ok_both (λ (x : Unit {0}). IsLineAsked p.r p.line (entries_of asked) (entries_of c.ask.new.player.told.items)) (λ (x : Unit {0}). GoesOnOf p.r asked c.ask.new.player.told.items) (λ (x : Unit {0}). AsksPlaced old p c.ask.new.player.told.items) c.ask.result
-    (λ x h k. placed_asked p old asked c.ask.new.player.told.items due.ensures.asked due.ensures.goes_on h k) c.ask.ensures.line c.ask.ensures.goes_on
+    let p = c.args.placed in
+    placed_asked p c.args.player.now.told.items c.ask_due.new.player.told.items c.ask.new.player.told.items c.ask_due.ensures.asked c.ask_due.ensures.goes_on c.ask.ensures.line c.ask.ensures.goes_on
