@@ -1,6 +1,6 @@
 //! From the bytes of event files to the bytes of a view.
 
-ghost use Rattle.std.specs.Prelude.{◌≡◌, ◌≤◌, ℕ, List, [], MatchResult, OnOk, OnErr, IfErr, vec_capacity};
+ghost use Rattle.std.specs.Prelude.{◌≡◌, ◌≢◌, ◌≤◌, ℕ, List, [], MatchResult, OnOk, OnErr, IfErr, vec_capacity};
 ghost use Rattle.grub_book.specs.Sums.{opening_book};
 ghost use Rattle.grub_timeline.specs.TimeLines.{AreWithin, IsTimeLine};
 ghost use Rattle.grub_trace.specs.Meaning.{Reads};
@@ -12,15 +12,14 @@ ghost use Rattle.std.specs.Io.KnownBytes.{Appends};
 ghost use Rattle.grub_run.specs.Written.{AppendsPrefix};
 ghost use Rattle.grub_show.specs.Faults.{IsFaultOfView, IsNoFaultOfFile, IsOnlyFaultOfFile, write_fault};
 ghost use Rattle.grub_show.specs.Shown.{Shows, ShowsBeginning};
-ghost use Rattle.grub_show.specs.inside.Showing.{BeginsView, IsFaultOfLine, WritesView};
-ghost use Rattle.grub_views.specs.Lines.{timeline_lines};
+ghost use Rattle.grub_show.specs.inside.Showing.{BeginsLine, BeginsView, IsFaultOfLine, WritesLine, WritesView};
 ghost use Rattle.grub_views.specs.Replay.{steps_of};
 ghost use Rattle.grub_views.specs.Rows.{step_rows};
 
 use crate::fault::ShowFault;
 use grub_book::Book;
 use grub_run::GrubFault;
-use grub_timeline::{TimeLine, play};
+use grub_timeline::{Playing, TimeLine, play};
 use grub_trace::{LINE_MAX, Plan, read_files, report_buffer, write_buffer};
 use grub_views::{end_of, picture_text, summary_text, write_steps, write_timeline};
 use std::alloc::Global;
@@ -45,7 +44,7 @@ pub enum View {
 }
 
 /// Reads event files, plays them on one time line, and writes a view of it. The files' bytes are dropped before they are
-/// played, so their memory is free for the entries.
+/// played, so their memory is free for the entries. Lines are written while they are played, and their entries not kept.
 ///
 /// `Trace` (28 to 37) is the reader's fault, and `View` (48) is want of memory for the time line or the view's text.
 /// `EmptySpan` comes where a picture would not begin before it ends. `WriteFault` (45) comes where the writer failed or
@@ -72,13 +71,16 @@ pub fn write_view<W: Write>(
         Err(fault) => return Err(ShowFault::Grub(GrubFault::Trace(fault))),
     };
     drop(files);
+    if let View::Timeline = view {
+        return write_lines(alloc, &plan, out);
+    }
     let Ok(line) = play(alloc, &plan) else {
         return Err(ShowFault::Grub(GrubFault::View));
     };
     write_played(alloc, &plan, &line, view, out)
 }
 
-/// Writes a view of a time line of the plan.
+/// Writes a view of a time line of the plan, other than its lines.
 fn write_played<W: Write>(
     alloc: Global,
     plan: &Plan,
@@ -88,56 +90,55 @@ fn write_played<W: Write>(
 ) -> Result<(), ShowFault>
     requires line { IsTimeLine plan.now line.now.told.items line.now.closing.items }
     requires within { AreWithin plan.now.setup line.now.told.items }
+    requires listed { view ≢ View.Timeline }
     ensures text { OnOk result (WritesView view plan.now line.now.told.items line.now.closing.items (W.contents out.old) (W.contents out.new)) }
     ensures prefix { IfErr result (λ e. e ≡ write_fault → BeginsView view plan.now line.now.told.items line.now.closing.items (W.contents out.old) (W.contents out.new)) }
     ensures nothing { IfErr result (λ e. (e ≡ write_fault → ⊥) → out.new ≡ out.old) }
     ensures fault { IfErr result (IsFaultOfLine view line.now.told.items) }
 {
     match view {
-        View::Timeline => write_lines(alloc, plan, line, out),
+        View::Timeline => unreachable!(),
         View::Steps => write_rows(alloc, plan, line, out),
         View::Summary => write_summary(alloc, plan, line, out),
         View::Picture { from, to } => write_picture(alloc, plan, line, from, to, out),
     }
 }
 
-/// Writes the lines of a time line.
-fn write_lines<W: Write>(
-    alloc: Global,
-    plan: &Plan,
-    line: &TimeLine,
-    out: &mut W,
-) -> Result<(), ShowFault>
-    requires { AreWithin plan.now.setup line.now.told.items }
-    ensures text { OnOk result (Appends (W.contents out.old) (W.contents out.new) (timeline_lines plan.now.names line.now.told.items line.now.closing.items)) }
-    ensures prefix { IfErr result (λ e. e ≡ write_fault → AppendsPrefix (W.contents out.old) (W.contents out.new) (timeline_lines plan.now.names line.now.told.items line.now.closing.items)) }
+/// Plays the plan, and writes the lines of its time line.
+fn write_lines<W: Write>(alloc: Global, plan: &Plan, out: &mut W) -> Result<(), ShowFault>
+    ensures text { OnOk result (WritesLine View.Timeline plan.now (W.contents out.old) (W.contents out.new)) }
+    ensures prefix { IfErr result (λ e. e ≡ write_fault → BeginsLine View.Timeline plan.now (W.contents out.old) (W.contents out.new)) }
     ensures nothing { IfErr result (λ e. (e ≡ write_fault → ⊥) → out.new ≡ out.old) }
-    ensures fault { IfErr result (IsFaultOfLine View.Timeline line.now.told.items) }
+    ensures fault { IfErr result (IsFaultOfLine View.Timeline []) }
 {
+    let Ok(playing) = Playing::new(alloc, plan) else {
+        return Err(ShowFault::Grub(GrubFault::View));
+    };
     let Ok(buffer) = report_buffer(alloc) else {
         return Err(ShowFault::Grub(GrubFault::View));
     };
-    match lines_through(buffer, plan, line, out) {
+    match lines_through(buffer, plan, playing, out) {
         Ok(()) => Ok(()),
         Err(_) => Err(ShowFault::Grub(GrubFault::WriteFault)),
     }
 }
 
-/// Writes the lines of a time line through a buffer, and flushes.
+/// Plays a time line of which nothing was played yet, writes its lines through a buffer, and flushes.
 fn lines_through<W: Write>(
     buffer: Vec<u8>,
     plan: &Plan,
-    line: &TimeLine,
+    playing: Playing<'_>,
     out: &mut W,
 ) -> io::Result<()>
-    requires within { AreWithin plan.now.setup line.now.told.items }
+    requires plan { playing.plan ≡ plan.now }
+    requires nothing { playing.told ≡ [] }
     requires empty { buffer.items ≡ [] }
     requires room { LINE_MAX ≤ vec_capacity buffer }
-    ensures whole { OnOk result (Appends (W.contents out.old) (W.contents out.new) (timeline_lines plan.now.names line.now.told.items line.now.closing.items)) }
-    ensures part { OnErr result (AppendsPrefix (W.contents out.old) (W.contents out.new) (timeline_lines plan.now.names line.now.told.items line.now.closing.items)) }
+    ensures whole { OnOk result (WritesLine View.Timeline plan.now (W.contents out.old) (W.contents out.new)) }
+    ensures part { OnErr result (BeginsLine View.Timeline plan.now (W.contents out.old) (W.contents out.new)) }
 {
     let mut buffer = buffer;
-    write_timeline(&mut buffer, out, plan, line)?;
+    write_timeline(&mut buffer, out, plan, playing)?;
     write_buffer(&mut buffer, out)?;
     out.flush()
 }

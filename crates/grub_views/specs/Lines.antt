@@ -1,8 +1,11 @@
 -- The text of a time line.
-use Rattle.std.specs.Prelude.{ℕ, ◌+◌, List, [], ◌∷◌, ◌++◌, codes, decimal}
+use Rattle.std.specs.Prelude.{ℕ, ◌+◌, List, [], ◌∷◌, ◌++◌, Option, codes, decimal}
 use Rattle.std.specs.List.{flat_map}
 use Rattle.grub_book.specs.declared.event.Reading.{Reading}
 use Rattle.grub_trace.specs.Texts.{ask_text, answer_text, reading_text}
+use Rattle.grub_trace.specs.Plans.{PlanView}
+use Rattle.grub_trace.specs.Writing.{HandsOn, HandsPart}
+use Rattle.grub_timeline.specs.TimeLines.{IsTimeLine}
 use Rattle.grub_timeline.specs.declared.told.Told.{Told}
 
 -- the line of an entry, where the tasks have these names
@@ -22,3 +25,17 @@ close_lines r (c ∷ closing) = close_line r c ++ close_lines (r + 1) closing
 -- a line for each entry, and then one for each closing reading
 unfoldable pub timeline_lines : List (List ℕ) → List Told → List Reading → List ℕ
 timeline_lines names told closing = flat_map (told_line names) told ++ close_lines 0 closing
+
+-- the lines of the time line of the plan were handed on, behind what was kept
+pub record HandsOnTimeline (plan : PlanView) (a b : Option (List ℕ)) (kept left : List ℕ) : Type 0 where
+  pub told : List Told
+  pub closing : List Reading
+  pub line : IsTimeLine plan told closing
+  pub handed : HandsOn a b kept (timeline_lines plan.names told closing) left
+
+-- or a part of them
+pub record HandsPartOfTimeline (plan : PlanView) (a b : Option (List ℕ)) (kept : List ℕ) : Type 0 where
+  pub told : List Told
+  pub closing : List Reading
+  pub line : IsTimeLine plan told closing
+  pub handed : HandsPart a b kept (timeline_lines plan.names told closing)

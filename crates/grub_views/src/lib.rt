@@ -10,6 +10,7 @@ mod laws;
 mod lines;
 mod mark;
 mod picture;
+mod rest;
 mod rows;
 mod summary;
 mod table;

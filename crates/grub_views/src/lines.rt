@@ -1,37 +1,66 @@
 //! The text of a time line, through a buffer that never grows.
 
-ghost use Rattle.std.specs.Prelude.{◌≡◌, ◌+◌, ◌≤◌, ◌++◌, OnOk, OnErr, length, vec_len, vec_capacity};
+ghost use Rattle.std.specs.Prelude.{◌≡◌, ◌+◌, ◌≤◌, ◌++◌, [], OnOk, OnErr, length, vec_len, vec_capacity};
 ghost use Rattle.std.specs.List.{flat_map};
 ghost use Rattle.grub_trace.specs.Texts.{IsAskOf};
 ghost use Rattle.grub_trace.specs.Writing.{HandsOn, HandsPart};
 ghost use Rattle.grub_timeline.specs.TimeLines.{AreWithin};
-ghost use Rattle.grub_views.specs.Lines.{close_line, close_lines, timeline_lines, told_line};
+ghost use Rattle.grub_views.specs.Lines.{HandsOnTimeline, HandsPartOfTimeline, close_line, close_lines, told_line};
 
+use crate::rest::play_out;
 use grub_book::Reading;
-use grub_timeline::{TimeLine, Told};
+use grub_timeline::{Playing, Told};
 use grub_trace::{
     LINE_MAX, Plan, append, append_answer, append_ask, append_number, append_reading, make_room,
 };
 use std::io;
 use std::io::Write;
 
-/// Puts the text of a time line of the plan into the buffer, and writes what it keeps as often as it is full: a line for
-/// each entry, and then the closing reading of each runqueue. It takes no memory. After a failing write, or one that took
-/// nothing, a beginning of the buffer's bytes and the text was written.
+/// Plays what is left of a time line of the plan, of which nothing was played yet, and puts its text into the buffer, which is
+/// written as often as it is full: a line for each entry, and then the closing reading of each runqueue. It takes no memory.
+/// After a failing write, or one that took nothing, a beginning of the buffer's bytes and the text was written.
 pub fn write_timeline<W: Write>(
     buffer: &mut Vec<u8>,
     out: &mut W,
     plan: &Plan,
-    line: &TimeLine,
+    playing: Playing<'_>,
 ) -> io::Result<()>
-    requires within { AreWithin plan.now.setup line.now.told.items }
+    requires plan { playing.plan ≡ plan.now }
+    requires nothing { playing.told ≡ [] }
     requires room { LINE_MAX ≤ vec_capacity buffer.old }
-    ensures whole { OnOk result (HandsOn (W.contents out.old) (W.contents out.new) buffer.old.items (timeline_lines plan.now.names line.now.told.items line.now.closing.items) buffer.new.items) }
-    ensures part { OnErr result (HandsPart (W.contents out.old) (W.contents out.new) buffer.old.items (timeline_lines plan.now.names line.now.told.items line.now.closing.items)) }
+    ensures whole { OnOk result (HandsOnTimeline plan.now (W.contents out.old) (W.contents out.new) buffer.old.items buffer.new.items) }
+    ensures part { OnErr result (HandsPartOfTimeline plan.now (W.contents out.old) (W.contents out.new) buffer.old.items) }
     ensures room { LINE_MAX ≤ vec_capacity buffer.new }
 {
-    write_entries(buffer, out, plan, &line.told)?;
-    write_closing(buffer, out, &line.closing)?;
+    let mut playing = playing;
+    let written = write_played(buffer, out, plan, &mut playing);
+    let closing = playing.close();
+    written?;
+    write_closing(buffer, out, &closing)
+}
+
+/// Plays all lines, and puts a line for each entry into the buffer.
+fn write_played<W: Write>(
+    buffer: &mut Vec<u8>,
+    out: &mut W,
+    plan: &Plan,
+    playing: &mut Playing<'_>,
+) -> io::Result<()>
+    requires plan { playing.old.plan ≡ plan.now }
+    requires nothing { playing.old.told ≡ [] }
+    requires room { LINE_MAX ≤ vec_capacity buffer.old }
+    ensures plan { playing.new.plan ≡ plan.now }
+    ensures over { playing.new.left ≡ 0 }
+    ensures whole { OnOk result (HandsOn (W.contents out.old) (W.contents out.new) buffer.old.items (flat_map (told_line plan.now.names) playing.new.told) buffer.new.items) }
+    ensures part { OnErr result (HandsPart (W.contents out.old) (W.contents out.new) buffer.old.items (flat_map (told_line plan.now.names) playing.new.told)) }
+    ensures room { LINE_MAX ≤ vec_capacity buffer.new }
+{
+    while playing.play_on() {
+        if let Err(fault) = write_entries(buffer, out, plan, playing.chunk()) {
+            play_out(playing);
+            return Err(fault);
+        }
+    }
     Ok(())
 }
 

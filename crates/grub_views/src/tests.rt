@@ -4,7 +4,7 @@ ghost use Rattle.grub_timeline.specs.TimeLines.{AreWithin, IsTimeLine};
 
 use super::*;
 use grub_book::Book;
-use grub_timeline::{TimeLine, play};
+use grub_timeline::{Playing, TimeLine, play};
 use grub_trace::{Plan, read_files, report_buffer, write_buffer};
 use std::alloc::{AllocError, Global};
 use std::process::Abort;
@@ -133,22 +133,23 @@ fn view_of(alloc: Global, texts: &[&str], view: View) -> Result<Vec<u8>, ViewFau
         return Err(ViewFault::NoMemory);
     };
     match view {
-        View::Lines => lines_of(alloc, &plan, &line),
+        View::Lines => lines_of(alloc, &plan),
         View::Steps => steps_of(alloc, &plan, &line),
         View::Summary => summary_text(alloc, &plan, &line),
         View::Picture => picture_text(alloc, &plan, &line, 0, end_of(&line)),
     }
 }
 
-/// The lines of a time line.
-fn lines_of(alloc: Global, plan: &Plan, line: &TimeLine) -> Result<Vec<u8>, ViewFault>
-    requires { AreWithin plan.now.setup line.now.told.items }
-{
+/// The lines of the time line.
+fn lines_of(alloc: Global, plan: &Plan) -> Result<Vec<u8>, ViewFault> {
+    let Ok(playing) = Playing::new(alloc, plan) else {
+        return Err(ViewFault::NoMemory);
+    };
     let Ok(mut buffer) = report_buffer(alloc) else {
         return Err(ViewFault::NoMemory);
     };
     let mut text = Vec::new(alloc);
-    write_timeline(&mut buffer, &mut text, plan, line).map_err(|_| ViewFault::NoMemory)?;
+    write_timeline(&mut buffer, &mut text, plan, playing).map_err(|_| ViewFault::NoMemory)?;
     write_buffer(&mut buffer, &mut text).map_err(|_| ViewFault::NoMemory)?;
     Ok(text)
 }

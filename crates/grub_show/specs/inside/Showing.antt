@@ -5,6 +5,7 @@ use Rattle.grub_book.specs.declared.event.Reading.{Reading}
 use Rattle.grub_run.specs.Written.{AppendsPrefix}
 use Rattle.grub_run.specs.declared.fault.GrubFault.{GrubFault}
 use Rattle.grub_run.specs.declared.fault.GrubFault.TheVariants as run
+use Rattle.grub_timeline.specs.TimeLines.{IsTimeLine}
 use Rattle.grub_timeline.specs.declared.told.Told.{Told}
 use Rattle.grub_trace.specs.Plans.{PlanView}
 use Rattle.grub_show.specs.Faults.{IsEmptySpan}
@@ -20,6 +21,20 @@ WritesView view plan told closing old new = (text : List ℕ) × IsViewOf view p
 -- a beginning of one was written
 abbrev pub BeginsView : View → PlanView → List Told → List Reading → Option (List ℕ) → Option (List ℕ) → Type 0
 BeginsView view plan told closing old new = (text : List ℕ) × IsViewOf view plan told closing text × AppendsPrefix old new text
+
+-- a view of the time line of the plan was written, and nothing else
+pub record WritesLine (view : View) (plan : PlanView) (old new : Option (List ℕ)) : Type 0 where
+  pub told : List Told
+  pub closing : List Reading
+  pub line : IsTimeLine plan told closing
+  pub written : WritesView view plan told closing old new
+
+-- a beginning of one was written
+pub record BeginsLine (view : View) (plan : PlanView) (old new : Option (List ℕ)) : Type 0 where
+  pub told : List Told
+  pub closing : List Reading
+  pub line : IsTimeLine plan told closing
+  pub begun : BeginsView view plan told closing old new
 
 -- want of memory, or of the writer
 abbrev pub IsFaultOfText : GrubFault → Type 0

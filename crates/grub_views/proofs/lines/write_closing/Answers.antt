@@ -1,8 +1,7 @@
-use Rattle.std.proofs.Common.{◌++◌, ◌+◌, [], refl, drop, get_or, ap, length, ◌≤◌}
+use Rattle.std.proofs.Common.{[], refl, ap}
 use Rattle.std.proofs.lemmas.List.{drop_all}
-use Rattle.grub_book.specs.declared.event.Reading.{Reading}
 use Rattle.grub_trace.proofs.Handing.{hands_none, hands_both, on_err}
-use Rattle.grub_views.specs.Lines.{close_line, close_lines}
+use Rattle.grub_views.specs.Lines.{close_lines}
 use Rattle.grub_views.proofs.Closing.{close_left}
 use Rattle.grub_views.proofs.Handing.{piece_left, part_piece, hands_end}
 use Rattle.grub_views.proofs.lines.write_closing.Goals as goal

@@ -1,4 +1,4 @@
-use Rattle.std.proofs.Common.{◌++◌, ◌∙◌, [], refl, drop, ap, List}
+use Rattle.std.proofs.Common.{◌++◌, ◌∙◌, [], refl, ap, List}
 use Rattle.std.specs.List.{flat_map}
 use Rattle.std.proofs.lemmas.List.{drop_all}
 use Rattle.grub_timeline.specs.declared.told.Told.{Told}

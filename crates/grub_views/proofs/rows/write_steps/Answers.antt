@@ -1,7 +1,6 @@
-use Rattle.std.specs.List.{flat_map}
 use Rattle.grub_trace.proofs.Handing.{hands_both, part_after, part_longer, on_err}
 use Rattle.grub_views.specs.Replay.{steps_of}
-use Rattle.grub_views.specs.Rows.{header, step_row, step_rows}
+use Rattle.grub_views.specs.Rows.{header, step_rows}
 use Rattle.grub_views.proofs.Viewing.{viewable}
 use Rattle.grub_views.proofs.rows.write_steps.Goals as goal
 
