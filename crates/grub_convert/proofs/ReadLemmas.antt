@@ -1,15 +1,17 @@
 -- Pieces of a file that are taken one after another, and what a reader tells that was given them.
-use Rattle.std.proofs.Common.{◌≡◌, ◌⊎◌, inl, inr, ℕ, List, [], ◌∷◌, ◌++◌, Option, refl, sym, ap, subst, append-nil, append_assoc}
+use Rattle.std.proofs.Common.{◌≡◌, ◌⊎◌, inl, inr, ℕ, List, [], ◌∷◌, ◌++◌, Option, refl, subst, append-nil, append_assoc}
 use Rattle.std.proofs.lemmas.Fn.{FoldsTo-push}
 use Rattle.std.specs.List.{FoldsTo, concat}
-use Rattle.grub_files.specs.Source.{Gives, Opener, Reader, Reads, ReadsWhole}
-use Rattle.grub_facts.specs.Told.{HasRead, IsTold, NeedsNoMore, ReadsOn, TellsAll}
-use Rattle.grub_facts.specs.declared.fact.Facts.{Facts}
+use Rattle.grub_files.specs.Source.{Gives, Opener, Reader}
+use Rattle.grub_facts.specs.Census.{CountsOn, HasCounted, NeedsNoMore as CountsEnough}
+use Rattle.grub_facts.specs.Told.{HasRead, NeedsNoMore, ReadsOn}
 use Rattle.grub_facts.specs.declared.reader.FactReader.{FactReader}
-use Rattle.grub_convert.specs.Read.{IsToldIn, IsToldOf, names_in}
-use Rattle.grub_convert.specs.declared.options.Options.{Options}
+use Rattle.grub_facts.specs.declared.task_reader.TaskReader.{TaskReader}
+use Rattle.grub_convert.specs.Read.{IsFaultIn, IsSoIn, IsSoOf}
+use Rattle.grub_convert.specs.declared.fault.TraceFault.{TraceFault}
+use Rattle.grub_convert.specs.declared.fault.TraceFault.TheVariants as faults
 use Rattle.grub_convert.specs.declared.pieces.Input.{Input}
-use Rattle.grub_convert.specs.inside.Taking.{Took, TookAll, TookEnough, TookFrom}
+use Rattle.grub_convert.specs.inside.Taking.{IsNoLine, Took, TookAll, TookEnough, TookFrom}
 
 module _ {N D T : Type 0} (g : Reader N D) (read : N) (takes : T → List ℕ → T → Type 0) where
   -- no piece yet
@@ -27,32 +29,64 @@ module _ {N D T : Type 0} (g : Reader N D) (read : N) (takes : T → List ℕ �
   took_last is_done file old mid before piece after new took gives taken (inr done) =
       inr (record { after = after; took = took_more file old mid before piece after new took gives taken; done = done })
 
--- a reader that was given pieces behind a text was given all of it
-given_pieces : (names : List (List ℕ)) (cpus : Option ℕ) (text : List ℕ) (pieces : List (List ℕ)) (old new : FactReader) → FoldsTo (λ old piece new. ReadsOn piece old new) old pieces new → HasRead names cpus text old → HasRead names cpus (text ++ concat pieces) new
-given_pieces names cpus text [] old new same has = rw append-nil (subst (λ (r : FactReader). HasRead names cpus text r) same has)
-given_pieces names cpus text (piece ∷ pieces) old new taken has =
-    subst (λ (t : List ℕ). HasRead names cpus t new) (append_assoc text piece (concat pieces)) (given_pieces names cpus (text ++ piece) pieces taken.0 new taken.2 (taken.1 names cpus text has))
+-- what takes pieces, and what it was given: each piece stands behind the text before it, and what is done needs no more
+pub record Given {T : Type 0} (takes : T → List ℕ → T → Type 0) (is_done : T → Type 0) (Has : List ℕ → T → Type 0) : Type 0 where
+  pub on : (text piece : List ℕ) (old new : T) → takes old piece new → Has text old → Has (text ++ piece) new
+  pub enough : (text more : List ℕ) (taker : T) → is_done taker → Has text taker → Has (text ++ more) taker
 
-module _ {O N D : Type 0} (o : Opener O D) (g : Reader N D) (input : Input O N) where
-  -- what a reader tells of all pieces of a file
-  told_by_all : (options : Options) (file : D) (old new : FactReader) (facts : Facts) → HasRead (names_in options) options.cpus [] old → TookAll g input.read (λ old piece new. ReadsOn piece old new) file old new → TellsAll new facts → IsToldIn o g input file options facts
-  told_by_all options file old new facts has all tells =
+-- pieces behind a text
+given_pieces : {T : Type 0} (takes : T → List ℕ → T → Type 0) (is_done : T → Type 0) (Has : List ℕ → T → Type 0) → Given takes is_done Has
+    → (text : List ℕ) (pieces : List (List ℕ)) (old new : T) → FoldsTo takes old pieces new → Has text old → Has (text ++ concat pieces) new
+given_pieces takes is_done Has is text [] old new same has = rw append-nil (subst (Has text) same has)
+given_pieces {T} takes is_done Has is text (piece ∷ pieces) old new taken has =
+    subst (λ (t : List ℕ). Has t new) (append_assoc text piece (concat pieces))
+    (given_pieces takes is_done Has is (text ++ piece) pieces taken.0 new taken.2 (is.on text piece old taken.0 taken.1 has))
+
+module _ {O N D T : Type 0} (o : Opener O D) (g : Reader N D) (input : Input O N) (takes : T → List ℕ → T → Type 0) (is_done : T → Type 0) (Has : List ℕ → T → Type 0) where
+  -- what is told of all pieces of a file
+  so_by_all : Given takes is_done Has → (P : List ℕ → Type 0) (file : D) (old new : T) → Has [] old → TookAll g input.read takes file old new → ((text : List ℕ) → Has text new → P text) → IsSoIn o g input file P
+  so_by_all is P file old new has all tells =
       let text : List ℕ = concat all.took.pieces in
-      let before : HasRead (names_in options) options.cpus text all.before = given_pieces (names_in options) options.cpus [] all.took.pieces old all.before all.took.taken has in
-      let whole : HasRead (names_in options) options.cpus text new = subst (λ (t : List ℕ). HasRead (names_in options) options.cpus t new) (append-nil text) (all.taken (names_in options) options.cpus text before) in
-      (text, all.after, inl ((all.last, record { pieces = all.took.pieces; each = all.took.given; whole = refl }, all.ended), tells (names_in options) options.cpus text whole))
+      let before : Has text all.before = given_pieces takes is_done Has is [] all.took.pieces old all.before all.took.taken has in
+      let whole : Has text new = subst (λ (t : List ℕ). Has t new) (append-nil text) (is.on text [] all.before new all.taken before) in
+      (text, all.after, inl ((all.last, record { pieces = all.took.pieces; each = all.took.given; whole = refl }, all.ended), tells text whole))
 
-  -- what a reader tells of the first pieces of a file, which needs no more
-  told_by_enough : (options : Options) (file : D) (old new : FactReader) (facts : Facts) → HasRead (names_in options) options.cpus [] old → TookEnough g input.read (λ old piece new. ReadsOn piece old new) NeedsNoMore file old new → TellsAll new facts → IsToldIn o g input file options facts
-  told_by_enough options file old new facts has enough tells =
+  -- what is told of the first pieces of a file, of which no more is needed
+  so_by_enough : Given takes is_done Has → (P : List ℕ → Type 0) (file : D) (old new : T) → Has [] old → TookEnough g input.read takes is_done file old new → ((text : List ℕ) → Has text new → P text) → IsSoIn o g input file P
+  so_by_enough is P file old new has enough tells =
       let text : List ℕ = concat enough.took.pieces in
-      let part : HasRead (names_in options) options.cpus text new = given_pieces (names_in options) options.cpus [] enough.took.pieces old new enough.took.taken has in
-      (text, enough.after, inr (record { pieces = enough.took.pieces; each = enough.took.given; whole = refl }, λ more. tells (names_in options) options.cpus (text ++ more) (enough.done (names_in options) options.cpus text more part)))
+      let part : Has text new = given_pieces takes is_done Has is [] enough.took.pieces old new enough.took.taken has in
+      (text, enough.after, inr (record { pieces = enough.took.pieces; each = enough.took.given; whole = refl }, λ more. tells (text ++ more) (is.enough text more new enough.done part)))
 
-  told_in : (options : Options) (file : D) (old new : FactReader) (facts : Facts) → HasRead (names_in options) options.cpus [] old → TookAll g input.read (λ old piece new. ReadsOn piece old new) file old new ⊎ TookEnough g input.read (λ old piece new. ReadsOn piece old new) NeedsNoMore file old new → TellsAll new facts → IsToldIn o g input file options facts
-  told_in options file old new facts has (inl all) tells = told_by_all options file old new facts has all tells
-  told_in options file old new facts has (inr enough) tells = told_by_enough options file old new facts has enough tells
+  so_in : Given takes is_done Has → (P : List ℕ → Type 0) (file : D) (old new : T) → Has [] old → TookAll g input.read takes file old new ⊎ TookEnough g input.read takes is_done file old new → ((text : List ℕ) → Has text new → P text) → IsSoIn o g input file P
+  so_in is P file old new has (inl all) tells = so_by_all is P file old new has all tells
+  so_in is P file old new has (inr enough) tells = so_by_enough is P file old new has enough tells
 
-  -- what a reader tells of a file
-  pub told_from : (name : List ℕ) (options : Options) (old new : FactReader) (facts : Facts) → HasRead (names_in options) options.cpus [] old → TookFrom o g input (λ old piece new. ReadsOn piece old new) NeedsNoMore name old new → TellsAll new facts → IsToldOf o g input name options facts
-  told_from name options old new facts has took tells = (took.0, took.1, told_in options took.0 old new facts has took.2 tells)
+  -- what is told of the trace of a name
+  pub so_from : Given takes is_done Has → (P : List ℕ → Type 0) (name : List ℕ) (old new : T) → Has [] old → TookFrom o g input takes is_done name old new → ((text : List ℕ) → Has text new → P text) → IsSoOf o g input name P
+  so_from is P name old new has took tells = (took.0, took.1, so_in is P took.0 old new has took.2 tells)
+
+-- readers of facts, and of tasks
+pub facts_given : (names : List (List ℕ)) (cpus : Option ℕ) → Given (λ (old : FactReader) piece new. ReadsOn piece old new) NeedsNoMore (HasRead names cpus)
+facts_given names cpus = record {
+  on = λ text piece old new taken has. taken names cpus text has;
+  enough = λ text more taker done has. done names cpus text more has;
+}
+
+pub tasks_given : Given (λ (old : TaskReader) piece new. CountsOn piece old new) CountsEnough HasCounted
+tasks_given = record {
+  on = λ text piece old new taken has. taken text has;
+  enough = λ text more taker done has. done text more has;
+}
+
+-- a fault that is of no line says nothing of the text
+pub no_line : {O N D : Type 0} (o : Opener O D) (g : Reader N D) (input : Input O N) (name : List ℕ) (e : TraceFault) → IsNoLine e → IsFaultIn o g input name e
+no_line o g input name (faults.Line path fault) none = absurd none
+no_line o g input name (faults.NoSuchTask path task) none = tt
+no_line o g input name (faults.NoTimers path) none = tt
+no_line o g input name (faults.Overfull path line task) none = tt
+no_line o g input name (faults.FileExists path) none = tt
+no_line o g input name faults.Write none = tt
+no_line o g input name (faults.Unreadable path) none = tt
+no_line o g input name faults.NoMemory none = tt
+no_line o g input name faults.NoText none = tt

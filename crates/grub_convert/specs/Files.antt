@@ -1,6 +1,5 @@
 -- The event files of what a trace tells.
 use Rattle.std.specs.Prelude.{◌≡◌, ℕ, zero, suc, ◌+◌, Bool, true, false, List, [], ◌∷◌, ◌++◌, map, find, slice_get, if◌then◌else◌, length, Option, Some, None, IsSome, IsNone}
-use Rattle.std.specs.Borrow.{Bor}
 use Rattle.grub_bw.specs.Bandwidth.{Reservation}
 use Rattle.grub_facts.specs.declared.fact.Facts.{Facts}
 use Rattle.grub_facts.specs.declared.fact.Found.{Found}

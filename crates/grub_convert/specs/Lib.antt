@@ -1,3 +1,4 @@
+pub mod Census
 pub mod Faults
 pub mod Files
 pub mod Read

@@ -1,9 +1,16 @@
 -- What a trace that is read in pieces tells, by what the calls that open and read it may answer.
-use Rattle.std.specs.Prelude.{◌≡◌, ◌⊎◌, ℕ, List, ◌++◌, Ok, map}
+use Rattle.std.specs.Prelude.{◌≡◌, ◌⊎◌, ℕ, List, ◌++◌, Ok, Option, None, Some, map}
 use Rattle.std.specs.Fn.{FnReturnsAt}
 use Rattle.grub_files.specs.Source.{Opener, Reader, Reads, ReadsWhole}
+use Rattle.std.specs.Io.KnownBytes.{Appends}
+use Rattle.grub_facts.specs.Census.{fault_counted, tallies_reading, tally_text}
+use Rattle.grub_facts.specs.Faults.{fault_text}
 use Rattle.grub_facts.specs.Told.{IsTold}
+use Rattle.grub_facts.specs.declared.census.Counted.{Counted}
 use Rattle.grub_facts.specs.declared.fact.Facts.{Facts}
+use Rattle.grub_convert.specs.Census.{tasks_text}
+use Rattle.grub_convert.specs.declared.fault.TraceFault.{TraceFault}
+use Rattle.grub_convert.specs.declared.fault.TraceFault.TheVariants as faults
 use Rattle.grub_convert.specs.declared.options.Given.{Given}
 use Rattle.grub_convert.specs.declared.options.Options.{Options}
 use Rattle.grub_convert.specs.declared.pieces.Input.{Input}
@@ -18,14 +25,35 @@ names_in options = map name_of options.tasks.items
 abbrev pub IsToldBy : Options → List ℕ → Facts → Type 0
 IsToldBy options text facts = IsTold (names_in options) options.cpus text facts
 
-module _ {O N D : Type 0} (o : Opener O D) (g : Reader N D) (input : Input O N) where
-  -- these facts are told by all bytes of an opened trace, or by its first ones, whatever follows them
-  abbrev pub IsToldIn : D → Options → Facts → Type 0
-  IsToldIn file options facts =
-      (text : List ℕ) × (after : D)
-      × ((ReadsWhole g input.read file text after × IsToldBy options text facts)
-      ⊎ (Reads g input.read file text after × ((more : List ℕ) → IsToldBy options (text ++ more) facts)))
+-- these are the tasks that a text shows, in which nothing is wrong
+abbrev pub IsShownBy : List ℕ → List Counted → Type 0
+IsShownBy text tasks = (map tally_text tasks ≡ (tallies_reading text).told) × (fault_counted text ≡ None)
 
-  -- these facts are told by a trace that may be opened under this name
+module _ {O N D : Type 0} (o : Opener O D) (g : Reader N D) (input : Input O N) where
+  -- it is so of all bytes of an opened trace, or of its first ones, whatever follows them
+  abbrev pub IsSoIn : D → (List ℕ → Type 0) → Type 0
+  IsSoIn file P =
+      (text : List ℕ) × (after : D)
+      × ((ReadsWhole g input.read file text after × P text)
+      ⊎ (Reads g input.read file text after × ((more : List ℕ) → P (text ++ more))))
+
+  -- it is so of a trace that may be opened under this name
+  abbrev pub IsSoOf : List ℕ → (List ℕ → Type 0) → Type 0
+  IsSoOf name P = (file : D) × FnReturnsAt o input.open name (Ok file) × IsSoIn file P
+
+  -- these facts are told by the trace of this name
   abbrev pub IsToldOf : List ℕ → Options → Facts → Type 0
-  IsToldOf name options facts = (file : D) × FnReturnsAt o input.open name (Ok file) × IsToldIn file options facts
+  IsToldOf name options facts = IsSoOf name (λ text. IsToldBy options text facts)
+
+  -- these tasks are shown by it
+  abbrev pub IsShownOf : List ℕ → List Counted → Type 0
+  IsShownOf name tasks = IsSoOf name (λ text. IsShownBy text tasks)
+
+  -- the text of such tasks was printed and nothing else
+  abbrev pub PrintsTasks : List ℕ → Option (List ℕ) → Option (List ℕ) → Type 0
+  PrintsTasks name old new = (tasks : List Counted) × IsShownOf name tasks × Appends old new (tasks_text tasks)
+
+  -- this fault of a line is the first in it; of another fault nothing is said
+  abbrev pub IsFaultIn : List ℕ → TraceFault → Type 0
+  IsFaultIn name (faults.Line path fault) = IsSoOf name (λ text. fault_counted text ≡ Some (fault_text fault))
+  IsFaultIn name fault = Unit {0}

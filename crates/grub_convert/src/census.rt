@@ -3,7 +3,7 @@
 ghost use Rattle.std.specs.Prelude.{◌≡◌, ◌++◌, IfOk, OnOk};
 ghost use Rattle.std.specs.List.{flat_map};
 ghost use Rattle.grub_facts.specs.Census.{tally_text};
-ghost use Rattle.grub_convert.specs.inside.Census.{cpus_behind, cpus_text, task_line};
+ghost use Rattle.grub_convert.specs.Census.{cpus_behind, cpus_text, task_line, tasks_text};
 
 use grub_facts::Counted;
 use grub_trace::put_number;
@@ -47,7 +47,7 @@ fn put_task(out: &mut Vec<u8>, task: &Counted) -> Result<(), AllocError>
 
 /// A line for each task.
 pub fn tasks_text(alloc: Global, tasks: &[Counted]) -> Result<Vec<u8>, AllocError>
-    ensures { IfOk result (λ v. v.items ≡ flat_map (λ t. task_line (tally_text t)) tasks.now) }
+    ensures { IfOk result (λ v. v.items ≡ tasks_text tasks.now) }
 {
     let mut out = Vec::new(alloc);
     for task in tasks {

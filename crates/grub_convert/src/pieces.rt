@@ -5,8 +5,8 @@ ghost use Rattle.grub_files.specs.Source.{Gives};
 ghost use Rattle.grub_facts.specs.Census.{CountsOn, NeedsNoMore as CountsEnough};
 ghost use Rattle.grub_facts.specs.Told.{HasRead, NeedsNoMore, ReadsOn};
 ghost use Rattle.grub_convert.specs.inside.Files.{text_of};
-ghost use Rattle.grub_convert.specs.Read.{IsToldOf, names_in};
-ghost use Rattle.grub_convert.specs.inside.Taking.{TookAll, TookEnough, TookFrom};
+ghost use Rattle.grub_convert.specs.Read.{IsFaultIn, IsShownOf, IsToldOf, names_in};
+ghost use Rattle.grub_convert.specs.inside.Taking.{IsNoLine, TookAll, TookEnough, TookFrom};
 
 use crate::fault::TraceFault;
 use crate::options::Options;
@@ -84,6 +84,7 @@ fn read_piece<'a, D, N: Fn(&mut D, &mut [u8]) -> io::Result<usize>, T: Takes>(
     requires has_room { 0 < length room.old }
     ensures room { length room.new ≡ length room.old }
     ensures piece { IfOk result (λ more. (piece : List ℕ) × Gives N.Fn read.now file.old piece file.new × T.takes taker.old piece taker.new × (more ≡ false → (piece ≡ []) ⊎ T.is_done taker.new)) }
+    ensures other { IfErr result IsNoLine }
 {
     let Ok(count) = read_once(read, file, room) else {
         return Err(TraceFault::Unreadable { path });
@@ -104,7 +105,8 @@ fn take_pieces<'a, D, N: Fn(&mut D, &mut [u8]) -> io::Result<usize>, T: Takes>(
 ) -> Result<(), TraceFault<'a>>
     requires callable { N.IsAlwaysCallable read.now }
     requires has_room { 0 < length room.old }
-    ensures { OnOk result (TookAll N.Fn read.now T.takes file.old taker.old taker.new ⊎ TookEnough N.Fn read.now T.takes T.is_done file.old taker.old taker.new) }
+    ensures taken { OnOk result (TookAll N.Fn read.now T.takes file.old taker.old taker.new ⊎ TookEnough N.Fn read.now T.takes T.is_done file.old taker.old taker.new) }
+    ensures other { IfErr result IsNoLine }
 {
     for _ in 0..u64::MAX {
         if !read_piece(read, path, file, room, taker)? {
@@ -124,7 +126,8 @@ fn read_pieces<
 >(alloc: Global, input: &Input<O, N>, path: &'a str, taker: &mut T) -> Result<(), TraceFault<'a>>
     requires open { O.IsAlwaysCallable input.now.open }
     requires read { N.IsAlwaysCallable input.now.read }
-    ensures { OnOk result (TookFrom O.Fn N.Fn input.now T.takes T.is_done path.now taker.old taker.new) }
+    ensures taken { OnOk result (TookFrom O.Fn N.Fn input.now T.takes T.is_done path.now taker.old taker.new) }
+    ensures other { IfErr result IsNoLine }
 {
     let Ok(mut room) = Vec::from_elem(alloc, 0u8, PIECE_BYTES) else {
         return Err(TraceFault::NoMemory);
@@ -182,7 +185,7 @@ pub fn read_facts<
     }
 }
 
-/// The tasks that the trace of a name shows.
+/// The tasks that the trace of a name shows, or its first fault.
 pub fn read_tasks<
     'a,
     D: Drop,
@@ -191,9 +194,13 @@ pub fn read_tasks<
 >(alloc: Global, input: &Input<O, N>, path: &'a str) -> Result<Vec<Counted>, TraceFault<'a>>
     requires open { O.IsAlwaysCallable input.now.open }
     requires read { N.IsAlwaysCallable input.now.read }
+    ensures shown { IfOk result (λ tasks. IsShownOf O.Fn N.Fn input.now path.now tasks.items) }
+    ensures fault { IfErr result (IsFaultIn O.Fn N.Fn input.now path.now) }
 {
     let mut reader = TaskReader::new(alloc);
-    read_pieces(alloc, input, path, &mut reader)?;
+    if let Err(fault) = read_pieces(alloc, input, path, &mut reader) {
+        return Err(fault);
+    }
     match reader.end() {
         Ok(tasks) => Ok(tasks),
         Err(fault) => Err(TraceFault::Line { path, fault }),

@@ -1,5 +1,9 @@
 //! What the program does with a trace: it prints which tasks there are, or writes the event files.
 
+ghost use Rattle.std.specs.Prelude.{◌≡◌, IfErr, MatchResult, OnOk};
+ghost use Rattle.grub_convert.specs.Faults.{status_of};
+ghost use Rattle.grub_convert.specs.Read.{PrintsTasks};
+
 use crate::census::tasks_text;
 use crate::fault::TraceFault;
 use crate::files::{FilesFault, event_files};
@@ -131,6 +135,8 @@ fn print_tasks<
 >(alloc: Global, input: &Input<O, N>, path: &'a str, out: &mut W) -> Result<(), TraceFault<'a>>
     requires open { O.IsAlwaysCallable input.now.open }
     requires read { N.IsAlwaysCallable input.now.read }
+    ensures done { OnOk result (PrintsTasks O.Fn N.Fn input.now path.now (W.contents out.old) (W.contents out.new)) }
+    ensures nothing { IfErr result (λ e. status_of e ≡ 1 → out.new ≡ out.old) }
 {
     let tasks = read_tasks(alloc, input, path)?;
     let Ok(text) = tasks_text(alloc, &tasks) else {
@@ -143,7 +149,9 @@ fn print_tasks<
 }
 
 /// The status of a result, whose fault is told.
-pub fn told_status<E: Write>(done: Result<(), TraceFault<'_>>, faults: &mut E) -> u8 {
+pub fn told_status<E: Write>(done: Result<(), TraceFault<'_>>, faults: &mut E) -> u8
+    ensures { MatchResult done.entry (λ _. result ≡ 0) (λ e. result ≡ status_of e) }
+{
     match done {
         Ok(()) => 0,
         Err(fault) => {
@@ -163,6 +171,9 @@ pub fn serve_tasks<
 >(alloc: Global, input: &Input<O, N>, path: &str, out: &mut W, faults: &mut E) -> u8
     requires open { O.IsAlwaysCallable input.now.open }
     requires read { N.IsAlwaysCallable input.now.read }
+    // At 0 the text of the tasks that the trace shows was printed, and where the trace is at fault nothing was.
+    ensures done { result ≡ 0 → PrintsTasks O.Fn N.Fn input.now path.now (W.contents out.old) (W.contents out.new) }
+    ensures nothing { result ≡ 1 → out.new ≡ out.old }
 {
     let done = print_tasks(alloc, input, path, out);
     told_status(done, faults)

@@ -1,6 +1,6 @@
 use Rattle.std.proofs.Common.{◌≡◌, ◌++◌, take}
 use Rattle.std.specs.List.{flat_map}
-use Rattle.grub_convert.specs.inside.Census.{cpus_behind}
+use Rattle.grub_convert.specs.Census.{cpus_behind}
 use Rattle.grub_convert.proofs.census.put_cpus_behind.Given as goal
 
 abbrev pub invariant-loop-cpu : goal.invariant-loop-cpu

@@ -1,5 +1,5 @@
 use Rattle.std.proofs.Common.{append_assoc}
-use Rattle.grub_convert.specs.inside.Census.{task_line}
+use Rattle.grub_convert.specs.Census.{task_line}
 use Rattle.grub_convert.proofs.census.put_task.Goals as goal
 
 pub returns : goal.returns

@@ -1,7 +1,7 @@
 use Rattle.std.proofs.Common.{◌≡◌, take}
 use Rattle.std.specs.List.{flat_map}
 use Rattle.grub_facts.specs.Census.{tally_text}
-use Rattle.grub_convert.specs.inside.Census.{task_line}
+use Rattle.grub_convert.specs.Census.{task_line}
 use Rattle.grub_convert.proofs.census.tasks_text.Given as goal
 
 abbrev pub invariant-loop-task : goal.invariant-loop-task

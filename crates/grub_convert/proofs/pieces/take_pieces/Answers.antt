@@ -1,8 +1,8 @@
 use Rattle.grub_convert.proofs.ReadLemmas.{took_last, took_more}
 use Rattle.grub_convert.proofs.pieces.take_pieces.Goals as goal
 
-pub returns-then-not-branch : goal.returns-then-not-branch
-returns-then-not-branch g c =
+pub returns-then-not-branch-clause-taken : goal.returns-then-not-branch-clause-taken
+returns-then-not-branch-clause-taken g c =
     let piece = c.in_ok-read_piece.ensures.piece in
     took_last g.N.Fn c.args.read.now g.T.Takes.takes g.T.Takes.is_done c.args.file.now c.args.taker.now c.loop.file c.loop.taker piece.0 c.read_piece.new.file c.read_piece.new.taker c.loop.invariant.took piece.1 piece.2 (piece.3 c.if-not-branch.true)
 

@@ -1,7 +1,8 @@
 -- The text that tells which SCHED_DEADLINE tasks a trace shows.
 use Rattle.std.specs.Prelude.{ℕ, List, [], ◌∷◌, ◌++◌, codes, decimal}
 use Rattle.std.specs.List.{flat_map}
-use Rattle.grub_facts.specs.Census.{Tally}
+use Rattle.grub_facts.specs.Census.{Tally, tally_text}
+use Rattle.grub_facts.specs.declared.census.Counted.{Counted}
 
 abbrev pub cpus_behind : ℕ → List ℕ
 cpus_behind cpu = codes "," ++ decimal cpu
@@ -21,3 +22,7 @@ task_line task =
     ++ codes " cpus=" ++ cpus_text task.cpus
     ++ codes " line=" ++ decimal task.line
     ++ codes "\n"
+
+-- a line for each task that a trace shows
+abbrev pub tasks_text : List Counted → List ℕ
+tasks_text tasks = flat_map (λ t. task_line (tally_text t)) tasks

@@ -1,0 +1,20 @@
+use Rattle.std.proofs.Common.{◌≡◌, Some}
+use Rattle.grub_convert.specs.Read.{IsShownBy}
+use Rattle.grub_facts.specs.Census.{CountsOn, HasCounted, NeedsNoMore, fault_counted}
+use Rattle.grub_facts.specs.Faults.{fault_text}
+use Rattle.grub_facts.specs.declared.task_reader.TaskReader.{TaskReader}
+use Rattle.grub_convert.proofs.ReadLemmas.{no_line, so_from, tasks_given}
+use Rattle.grub_convert.proofs.pieces.read_tasks.Goals as goal
+
+pub returns-in-Ok-clause-shown : goal.returns-in-Ok-clause-shown
+returns-in-Ok-clause-shown g c =
+    so_from g.O.Fn g.N.Fn c.args.input.now (λ (old : TaskReader) piece new. CountsOn piece old new) NeedsNoMore HasCounted tasks_given
+    (λ text. IsShownBy text c.in-Ok.tasks.items) c.args.path.now c.new-reader.result c.read_pieces.new.taker c.new-reader.ensures c.in_default.ensures.taken c.in-Ok.ensures.tasks
+
+pub returns-in-Err-end-clause-fault : goal.returns-in-Err-end-clause-fault
+returns-in-Err-end-clause-fault g c =
+    so_from g.O.Fn g.N.Fn c.args.input.now (λ (old : TaskReader) piece new. CountsOn piece old new) NeedsNoMore HasCounted tasks_given
+    (λ text. fault_counted text ≡ Some (fault_text c.in-Err-end.fault)) c.args.path.now c.new-reader.result c.read_pieces.new.taker c.new-reader.ensures c.in_default.ensures.taken c.in-Err-end.ensures.fault
+
+pub returns-in-Err-clause-fault : goal.returns-in-Err-clause-fault
+returns-in-Err-clause-fault g c = no_line g.O.Fn g.N.Fn c.args.input.now c.args.path.now c.in-Err.fault c.in-Err.ensures.other
