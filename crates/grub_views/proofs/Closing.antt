@@ -11,7 +11,7 @@ use Rattle.grub_views.specs.Replay.{book_after, step_of, steps_from}
 use Rattle.grub_views.specs.Rows.{step_row}
 use Rattle.grub_views.specs.declared.book_steps.Step.{Step}
 
-next_left : {X : Type 0} (xs : List X) (i : ℕ) (d : X) → i < length xs → drop i xs ≡ get_or xs i d ∷ drop (i + 1) xs
+pub next_left : {X : Type 0} (xs : List X) (i : ℕ) (d : X) → i < length xs → drop i xs ≡ get_or xs i d ∷ drop (i + 1) xs
 next_left xs i d below = drop-cons xs i d below ∙ rw add-one refl
 
 pub close_left : (k i : ℕ) (xs : List Reading) (d : Reading) → i < length xs → close_lines k (drop i xs) ≡ close_line k (get_or xs i d) ++ close_lines (k + 1) (drop (i + 1) xs)

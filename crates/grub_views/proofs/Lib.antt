@@ -6,3 +6,8 @@ pub mod ActiveTimes
 pub mod Charging
 pub mod Handing
 pub mod Closing
+pub mod Pieces
+pub mod Showing
+pub mod Barring
+pub mod Laning
+pub mod Finding

@@ -1,5 +1,11 @@
 pub mod ActiveTimes
+pub mod Bars
+pub mod Curves
+pub mod Elements
+pub mod Frames
+pub mod Lanes
 pub mod Lines
+pub mod Marks
 pub mod Messages
 pub mod Picture
 pub mod Replay

@@ -1,1 +1,3 @@
 pub mod Fitting
+pub mod Scenes
+pub mod Begun

@@ -1,12 +1,22 @@
-//! The elements of a picture.
+//! The lanes of a picture, and its runqueues.
 
-ghost use Rattle.std.specs.Prelude.{◌<◌, length};
+ghost use Rattle.std.specs.Prelude.{◌≡◌, ◌+◌, ◌*◌, ◌<◌, ◌≤◌, ◌^◌, ◌++◌, OnOk, IfOk, Some, length, map, slice_get};
+ghost use Rattle.std.specs.List.{flat_map};
+ghost use Rattle.grub_trace.specs.Plans.{name_at};
+ghost use Rattle.grub_views.specs.Bars.{bars_of, width_of};
+ghost use Rattle.grub_views.specs.Lanes.{bar_text, bars_text, is_tick, lane_text, look_of, rect_text, shape_text, tick_text, ticks_text, title_text};
+ghost use Rattle.grub_views.specs.Picture.{lanes_of, lanes_text, queue_end, queue_text};
+ghost use Rattle.grub_views.specs.Tallies.{own_steps};
+ghost use Rattle.grub_views.specs.inside.Scenes.{drawn_of, owns_of};
 
-use crate::bars::{Bar, bars_of, is_seen, postponed};
+use crate::bars::{Bar, are_seen, bars_of, postponed};
 use crate::book_steps::Step;
-use crate::frame::{CURVE, Frame, LEFT, height_of};
+use crate::curve::put_curve;
+use crate::frame::{Frame, is_next};
+use crate::head::{put_scale, put_umax};
 use crate::mark::{Mark, put_marks};
-use grub_book::{Reading, State};
+use grub_book::State;
+use crate::text::{put_number, put_text};
 use grub_trace::Plan;
 use std::alloc::{AllocError, Global};
 
@@ -25,300 +35,300 @@ pub struct Scene<'a> {
     pub frame: Frame,
 }
 
+/// How high a lane is.
+const LANE: u32 = 16;
+
 impl<'a> Scene<'a> {
     /// The steps of task `t`.
-    fn own(&self, t: u32) -> &'a [Step] {
-        match self.owns.get(t as usize) {
-            Some(own) => own.as_slice(),
-            None => &[],
-        }
+    fn own(&self, t: u32) -> &'a [Step]
+        requires there { t < length self.now.plan.now.setup.tasks }
+        requires owns { map (λ v. v.items) self.now.owns.now ≡ owns_of (length self.now.plan.now.setup.tasks) self.now.steps.now }
+        ensures { result.now ≡ own_steps t self.now.steps.now }
+    {
+        own_of(self.owns, t)
     }
 }
 
-/// How high a lane is.
-const LANE: u64 = 16;
-
-const STYLE: &str = "\
-<style>text{font:11px sans-serif;fill:#222}.n{font-family:monospace;text-anchor:end}\
-.q{font-weight:bold;font-size:13px}.g{stroke:#ddd}.a{stroke:#222}.u{stroke:#b2182b;stroke-dasharray:6 3}\
-.t{fill:#bdd7ee}.r{fill:#1f4e79}.c{fill:#2e8b57}.w{fill:#f4b042}.i{fill:#999}.k{stroke:#000;stroke-width:2}</style>\n";
-
-const LEGEND: &str = "\
-<rect class=\"t\" x=\"130\" y=\"30\" width=\"18\" height=\"12\"/><text x=\"154\" y=\"40\">this_bw: bandwidth of all tasks on the runqueue</text>\n\
-<rect class=\"r\" x=\"450\" y=\"30\" width=\"18\" height=\"12\"/><text x=\"474\" y=\"40\">running_bw: of its active tasks</text>\n\
-<path class=\"u\" d=\"M714 36h18\"/><text x=\"738\" y=\"40\">Umax: the most that is admitted</text>\n\
-<text x=\"950\" y=\"40\">100 %: the whole processor</text>\n\
-<rect class=\"c\" x=\"130\" y=\"49\" width=\"18\" height=\"12\"/><text x=\"154\" y=\"60\">contending: ready or running</text>\n\
-<rect class=\"w\" x=\"450\" y=\"52\" width=\"18\" height=\"7\"/><text x=\"474\" y=\"60\">blocked, active until its 0-lag moment</text>\n\
-<rect class=\"i\" x=\"714\" y=\"55\" width=\"18\" height=\"2\"/><text x=\"738\" y=\"60\">inactive on this runqueue</text>\n\
-<path class=\"k\" d=\"M932 48v14\"/><text x=\"950\" y=\"60\">its deadline was postponed</text>\n";
-
-/// The beginning of a document whose runqueues end at `y`, and its legend.
-pub fn put_head(out: &mut String, frame: Frame, y: u64) -> Result<(), AllocError> {
-    let height = y.saturating_add(40);
-    let from = frame.from;
-    let to = frame.to;
-    write!(
-        out,
-        "<svg xmlns=\"http://www.w3.org/2000/svg\" width=\"1190\" height=\"{height}\" viewBox=\"0 0 1190 {height}\">\n"
-    )?;
-    write!(out, "<title>Time line from {from} to {to}</title>\n")?;
-    out.push_str(STYLE)?;
-    write!(
-        out,
-        "<rect width=\"1190\" height=\"{height}\" fill=\"#fff\"/>\n"
-    )?;
-    write!(
-        out,
-        "<text class=\"q\" x=\"130\" y=\"18\">Time line from {from} to {to}</text>\n"
-    )?;
-    out.push_str(LEGEND)
-}
-
-/// The marks of the time axis, which stands at `y`, and a pale line up from each.
-pub fn put_axis(out: &mut String, frame: Frame, y: u64) -> Result<(), AllocError> {
-    let step = frame.mark_step().max(1);
-    let right = frame.right();
-    let first = frame.from / step;
-    for k in 0..14u32 {
-        let m = first.saturating_add(k).saturating_mul(step);
-        if frame.from <= m && m <= frame.to {
-            put_mark(out, frame.x(m), y, m)?;
-        }
-    }
-    write!(out, "<path class=\"a\" d=\"M{LEFT} {y}H{right}\"/>\n")?;
-    let label = y.saturating_add(33);
-    let unit = frame.unit;
-    write!(
-        out,
-        "<text x=\"{LEFT}\" y=\"{label}\">moment, in the unit of the files; what is narrower than {unit} px is left out</text>\n"
-    )
-}
-
-fn put_mark(out: &mut String, x: u64, y: u64, m: u32) -> Result<(), AllocError> {
-    let label = y.saturating_add(17);
-    write!(
-        out,
-        "<path class=\"g\" d=\"M{x} 70V{y}\"/><path class=\"a\" d=\"M{x} {y}v5\"/>"
-    )?;
-    write!(
-        out,
-        "<text x=\"{x}\" y=\"{label}\" text-anchor=\"middle\">{m}</text>\n"
-    )
-}
-
-/// One runqueue: its name, its curves and the lanes of its tasks, from `y` down. The answer is where it ends.
+/// The runqueue `r` from `y` down: its name, its scale, its curves, its Umax and the lanes of its tasks. The answer is
+/// where it ends.
+#[tactic(auto, unfolding(crate::specs::Picture::queue_text, crate::specs::Picture::queue_end))]
 pub fn put_queue(
     alloc: Global,
-    out: &mut String,
+    out: &mut Vec<u8>,
     scene: &Scene,
     r: u32,
-    y: u64,
-) -> Result<u64, AllocError>
-    requires { r < length scene.now.plan.now.setup.queues }
+    y: u32,
+) -> Result<u32, AllocError>
+    requires there { r < length scene.now.plan.now.setup.queues }
+    requires room { y + 4194 < 2 ^ 32 }
+    requires owns { map (λ v. v.items) scene.now.owns.now ≡ owns_of (length scene.now.plan.now.setup.tasks) scene.now.steps.now }
+    ensures text { OnOk result (out.new.items ≡ out.old.items ++ queue_text (drawn_of scene.now) r y) }
+    ensures end { IfOk result (λ e. e ≡ queue_end (drawn_of scene.now) r y) }
+    ensures most { IfOk result (λ e. e ≤ y + 4194) }
 {
-    let plan = scene.plan;
-    let steps = scene.steps;
     let frame = scene.frame;
-    let base = y.saturating_add(20).saturating_add(CURVE);
-    let name = y.saturating_add(9);
-    write!(
-        out,
-        "<text class=\"q\" x=\"8\" y=\"{name}\">runqueue {r}</text>\n"
-    )?;
+    let base = y + 84;
+    put_number(out, b"<text class=\"q\" x=\"8\" y=\"", u64::from(y) + 9)?;
+    put_number(out, b"\">runqueue ", u64::from(r))?;
+    out.extend_from_slice(b"</text>\n")?;
     put_scale(out, frame, base)?;
-    put_curve(out, frame, r, steps, base, false)?;
-    put_curve(out, frame, r, steps, base, true)?;
-    put_umax(out, frame, base, plan.setup().queue(r).umax(), r)?;
-    let mut y = base.saturating_add(4);
-    for t in 0..plan.setup().task_count() {
-        let own = scene.own(t);
-        let bars = bars_of(alloc, r, own, frame)?;
-        if bars.iter().any(|bar| is_seen(bar, frame)) {
-            put_lane(out, frame, r, plan.name(t), &bars, y)?;
-            put_ticks(out, frame, r, plan.name(t), own, y)?;
-            put_marks(out, frame, scene.marks, (r, t), plan.name(t), y)?;
-            y = y.saturating_add(LANE);
-        }
-    }
-    Ok(y.saturating_add(10))
+    put_curve(out, frame, r, scene.steps, base, false)?;
+    put_curve(out, frame, r, scene.steps, base, true)?;
+    put_umax(out, frame, base, scene.plan.setup().queue(r).umax(), r)?;
+    let end = put_lanes(alloc, out, scene, r, y + 88)?;
+    Ok(end + 10)
 }
 
-/// The marks of the scale.
-fn put_scale(out: &mut String, frame: Frame, base: u64) -> Result<(), AllocError> {
-    let right = frame.right();
-    for (height, percent) in [(0u64, "0 %"), (CURVE / 2, "50 %"), (CURVE, "100 %")] {
-        let y = base.saturating_sub(height);
-        let text = y.saturating_add(4);
-        write!(
-            out,
-            "<path class=\"g\" d=\"M{LEFT} {y}H{right}\"/><text class=\"n\" x=\"126\" y=\"{text}\">{percent}</text>\n"
-        )?;
+/// The lanes of runqueue `r` from `y` down. The answer is where they end.
+fn put_lanes(
+    alloc: Global,
+    out: &mut Vec<u8>,
+    scene: &Scene,
+    r: u32,
+    y: u32,
+) -> Result<u32, AllocError>
+    requires room { y + 4096 < 2 ^ 32 }
+    requires owns { map (λ v. v.items) scene.now.owns.now ≡ owns_of (length scene.now.plan.now.setup.tasks) scene.now.steps.now }
+    ensures text { OnOk result (out.new.items ≡ out.old.items ++ lanes_text (drawn_of scene.now) r y (lanes_of (drawn_of scene.now) r)) }
+    ensures end { IfOk result (λ e. e ≡ y + 16 * length (lanes_of (drawn_of scene.now) r)) }
+    ensures most { IfOk result (λ e. e ≤ y + 4096) }
+{
+    let mut at = y;
+    for t in 0..scene.plan.setup().task_count() {
+        let bars = bars_of(alloc, r, scene.own(t), scene.frame)?;
+        if are_seen(scene.frame, &bars) {
+            put_lane(out, scene, (r, t), &bars, at)?;
+            at += LANE;
+        }
     }
+    Ok(at)
+}
+
+/// The lane on a runqueue of a task, where these are its bars.
+#[tactic(auto, unfolding(crate::specs::Lanes::lane_text))]
+fn put_lane(
+    out: &mut Vec<u8>,
+    scene: &Scene,
+    of: (u32, u32),
+    bars: &[Bar],
+    y: u32,
+) -> Result<(), AllocError>
+    requires there { of.1 < length scene.now.plan.now.setup.tasks }
+    requires owns { map (λ v. v.items) scene.now.owns.now ≡ owns_of (length scene.now.plan.now.setup.tasks) scene.now.steps.now }
+    requires bars { bars.now ≡ bars_of of.0 scene.now.frame.to (own_steps of.1 scene.now.steps.now) }
+    ensures { OnOk result (out.new.items ≡ out.old.items ++ lane_text scene.now.frame scene.now.marks.now of.0 of.1 (name_at scene.now.plan.now.names of.1) (own_steps of.1 scene.now.steps.now) y) }
+{
+    let (r, t) = of;
+    let name = scene.plan.name(t);
+    put_bars(out, scene.frame, r, name, bars, y)?;
+    put_ticks(out, scene.frame, r, name, scene.own(t), y)?;
+    put_marks(out, scene.frame, scene.marks, of, name, y)?;
     Ok(())
 }
 
-/// A line at the most bandwidth that is admitted.
-fn put_umax(
-    out: &mut String,
-    frame: Frame,
-    base: u64,
-    umax: u32,
-    r: u32,
-) -> Result<(), AllocError> {
-    let y = base.saturating_sub(height_of(umax));
-    let right = frame.right();
-    let label = right.saturating_add(4);
-    let text = y.saturating_add(4);
-    write!(
-        out,
-        "<path class=\"u\" d=\"M{LEFT} {y}H{right}\"><title>runqueue {r}: Umax is {umax}</title></path>"
-    )?;
-    write!(out, "<text x=\"{label}\" y=\"{text}\">Umax</text>\n")
+/// The steps of task `t`, of those of each task.
+fn own_of(owns: &[Vec<Step>], t: u32) -> &[Step]
+    requires { t < length owns.now }
+    ensures { slice_get (map (λ v. v.items) owns.now) t ≡ Some result.now }
+{
+    owns[t as usize].as_slice()
 }
 
-/// The step curve of a bandwidth of runqueue `r`: running_bw, or this_bw.
-fn put_curve(
-    out: &mut String,
-    frame: Frame,
-    r: u32,
-    steps: &[Step],
-    base: u64,
-    running: bool,
-) -> Result<(), AllocError> {
-    let class = if running { "r" } else { "t" };
-    write!(out, "<path class=\"{class}\" d=\"M{LEFT} {base}")?;
-    let mut column = LEFT;
-    let mut now = 0;
-    let mut shown = 0;
-    for x in steps {
-        if x.queue == r && x.told.entry.m <= frame.to {
-            let next = frame.x(x.told.entry.m);
-            if next > column {
-                put_point(out, column, base, shown, now)?;
-                shown = now;
-                column = next;
-            }
-            now = bandwidth_in(x.reading, running);
-        }
-    }
-    put_point(out, column, base, shown, now)?;
-    let right = frame.right();
-    let name = if running { "running_bw" } else { "this_bw" };
-    write!(
-        out,
-        "H{right}V{base}Z\"><title>runqueue {r}: {name}</title></path>\n"
-    )
-}
-
-fn bandwidth_in(reading: Reading, running: bool) -> u32 {
-    if running {
-        reading.running
-    } else {
-        reading.this
-    }
-}
-
-/// A step of a curve, where it changes.
-fn put_point(out: &mut String, x: u64, base: u64, shown: u32, now: u32) -> Result<(), AllocError> {
-    if shown == now {
-        return Ok(());
-    }
-    let y = base.saturating_sub(height_of(now));
-    write!(out, "H{x}V{y}")
-}
-
-/// The lane of a task: its name and its bars.
-fn put_lane(
-    out: &mut String,
+/// The name of a task, and its bars.
+#[tactic(auto, unfolding(crate::specs::Lanes::bars_text))]
+fn put_bars(
+    out: &mut Vec<u8>,
     frame: Frame,
     r: u32,
     name: &str,
     bars: &[Bar],
-    y: u64,
-) -> Result<(), AllocError> {
-    let text = y.saturating_add(12);
-    write!(
-        out,
-        "<text class=\"n\" x=\"126\" y=\"{text}\">{name}</text>\n"
-    )?;
+    y: u32,
+) -> Result<(), AllocError>
+    ensures { OnOk result (out.new.items ≡ out.old.items ++ bars_text frame r name.now y bars.now) }
+{
+    put_number(out, b"<text class=\"n\" x=\"126\" y=\"", u64::from(y) + 12)?;
+    out.extend_from_slice(b"\">")?;
+    put_text(out, name)?;
+    out.extend_from_slice(b"</text>\n")?;
+    put_each_bar(out, frame, r, name, bars, y)?;
+    Ok(())
+}
+
+fn put_each_bar(
+    out: &mut Vec<u8>,
+    frame: Frame,
+    r: u32,
+    name: &str,
+    bars: &[Bar],
+    y: u32,
+) -> Result<(), AllocError>
+    ensures { OnOk result (out.new.items ≡ out.old.items ++ flat_map (bar_text frame r name.now y) bars.now) }
+{
     for bar in bars {
-        if is_seen(bar, frame) {
-            put_bar(out, frame, r, name, bar, y)?;
-        }
+        put_bar(out, frame, r, name, *bar, y)?;
     }
     Ok(())
 }
 
 /// A bar, where it is a unit wide or more.
+#[tactic(auto, unfolding(crate::specs::Lanes::bar_text))]
 fn put_bar(
-    out: &mut String,
+    out: &mut Vec<u8>,
     frame: Frame,
     r: u32,
     name: &str,
-    bar: &Bar,
-    y: u64,
-) -> Result<(), AllocError> {
-    let x = frame.x(bar.from);
-    let width = frame.x(bar.to).saturating_sub(x);
-    if width == 0 {
-        return Ok(());
+    bar: Bar,
+    y: u32,
+) -> Result<(), AllocError>
+    ensures { OnOk result (out.new.items ≡ out.old.items ++ bar_text frame r name.now y bar) }
+{
+    if width_of(frame, bar) == 0 {
+        Ok(())
+    } else {
+        put_rect(out, frame, r, name, bar, y)
     }
-    let (class, top, height, word) = look_of(bar.state);
-    let top = y.saturating_add(top);
-    let from = bar.from;
-    let to = bar.to;
-    write!(
-        out,
-        "<rect class=\"{class}\" x=\"{x}\" y=\"{top}\" width=\"{width}\" height=\"{height}\">"
-    )?;
-    write!(
-        out,
-        "<title>{name} {word} on runqueue {r}, from {from} to {to}</title></rect>\n"
-    )
 }
 
-/// How a state is drawn: its class, how far below the lane's top, how high, and the word for it.
-fn look_of(state: State) -> (&'static str, u64, u64, &'static str) {
+fn width_of(frame: Frame, bar: Bar) -> u64
+    ensures { result ≡ width_of frame bar }
+{
+    let left = frame.x(u64::from(bar.from));
+    frame.x(u64::from(bar.to)).saturating_sub(left)
+}
+
+fn put_rect(
+    out: &mut Vec<u8>,
+    frame: Frame,
+    r: u32,
+    name: &str,
+    bar: Bar,
+    y: u32,
+) -> Result<(), AllocError>
+    ensures { OnOk result (out.new.items ≡ out.old.items ++ rect_text frame r name.now y bar) }
+{
+    put_shape(out, frame, bar, y)?;
+    put_title(out, r, name, bar)?;
+    Ok(())
+}
+
+fn put_shape(out: &mut Vec<u8>, frame: Frame, bar: Bar, y: u32) -> Result<(), AllocError>
+    ensures { OnOk result (out.new.items ≡ out.old.items ++ shape_text frame y bar) }
+{
+    let look = look_of(bar.state);
+    out.extend_from_slice(b"<rect class=\"")?;
+    out.extend_from_slice(look.class)?;
+    put_number(out, b"\" x=\"", frame.x(u64::from(bar.from)))?;
+    put_number(out, b"\" y=\"", u64::from(y) + u64::from(look.top))?;
+    put_number(out, b"\" width=\"", width_of(frame, bar))?;
+    put_number(out, b"\" height=\"", u64::from(look.height))?;
+    out.extend_from_slice(b"\">")?;
+    Ok(())
+}
+
+/// What a bar is, from when to when.
+fn put_title(out: &mut Vec<u8>, r: u32, name: &str, bar: Bar) -> Result<(), AllocError>
+    ensures { OnOk result (out.new.items ≡ out.old.items ++ title_text r name.now bar) }
+{
+    out.extend_from_slice(b"<title>")?;
+    put_text(out, name)?;
+    out.extend_from_slice(b" ")?;
+    out.extend_from_slice(look_of(bar.state).word)?;
+    put_number(out, b" on runqueue ", u64::from(r))?;
+    put_number(out, b", from ", u64::from(bar.from))?;
+    put_number(out, b" to ", u64::from(bar.to))?;
+    out.extend_from_slice(b"</title></rect>\n")?;
+    Ok(())
+}
+
+/// How a state is drawn.
+#[derive(Clone, Copy)]
+struct Look {
+    class: &'static [u8],
+
+    /// How far below the lane's top.
+    top: u32,
+
+    height: u32,
+
+    word: &'static [u8],
+}
+
+fn look_of(state: State) -> Look
+    ensures class { result.class.now ≡ (look_of state).class }
+    ensures top { result.top ≡ (look_of state).top }
+    ensures height { result.height ≡ (look_of state).height }
+    ensures word { result.word.now ≡ (look_of state).word }
+{
     match state {
-        State::Contending => ("c", 2, 12, "contending"),
-        State::NonContending => ("w", 5, 7, "waiting for its 0-lag moment"),
-        State::Inactive => ("i", 8, 2, "inactive"),
+        State::Contending => Look {
+            class: b"c",
+            top: 2,
+            height: 12,
+            word: b"contending",
+        },
+        State::NonContending => Look {
+            class: b"w",
+            top: 5,
+            height: 7,
+            word: b"waiting for its 0-lag moment",
+        },
+        State::Inactive => Look {
+            class: b"i",
+            top: 8,
+            height: 2,
+            word: b"inactive",
+        },
     }
 }
 
 /// A tick where the deadline of a task was postponed, one a unit at most.
+#[tactic(auto, unfolding(crate::specs::Lanes::ticks_text))]
 fn put_ticks(
-    out: &mut String,
+    out: &mut Vec<u8>,
     frame: Frame,
     r: u32,
     name: &str,
     own: &[Step],
-    y: u64,
-) -> Result<(), AllocError> {
+    y: u32,
+) -> Result<(), AllocError>
+    ensures { OnOk result (out.new.items ≡ out.old.items ++ ticks_text frame r name.now y own.now) }
+{
     let mut last = 0;
     for step in own {
-        let m = step.told.entry.m;
-        if let Some(d) = postponed(r, step) {
-            if frame.from <= m && m <= frame.to && frame.x(m) > last {
-                last = frame.x(m);
-                put_tick(out, last, y, name, m, d)?;
-            }
+        let x = frame.x(u64::from(step.told.entry.m));
+        if is_next(is_tick(frame, r, step), last, x) {
+            put_tick(out, frame, r, name, step, y)?;
+            last = x;
         }
     }
     Ok(())
 }
 
+/// Whether a step of runqueue `r` postponed a deadline in the span.
+fn is_tick(frame: Frame, r: u32, step: &Step) -> bool
+    ensures { result ≡ is_tick frame r step.now }
+{
+    postponed(r, step).is_some() && frame.is_in(step.told.entry.m)
+}
+
+#[tactic(auto, unfolding(crate::specs::Lanes::tick_text))]
 fn put_tick(
-    out: &mut String,
-    x: u64,
-    y: u64,
+    out: &mut Vec<u8>,
+    frame: Frame,
+    r: u32,
     name: &str,
-    m: u32,
-    d: u32,
-) -> Result<(), AllocError> {
-    write!(
-        out,
-        "<path class=\"k\" d=\"M{x} {y}v16\"><title>{name}: at {m} its deadline was postponed to {d}</title></path>\n"
-    )
+    step: &Step,
+    y: u32,
+) -> Result<(), AllocError>
+    ensures { OnOk result (out.new.items ≡ out.old.items ++ tick_text frame r name.now y step.now) }
+{
+    let m = step.told.entry.m;
+    put_number(out, b"<path class=\"k\" d=\"M", frame.x(u64::from(m)))?;
+    put_number(out, b" ", u64::from(y))?;
+    out.extend_from_slice(b"v16\"><title>")?;
+    put_text(out, name)?;
+    put_number(out, b": at ", u64::from(m))?;
+    put_number(out, b" its deadline was postponed to ", u64::from(postponed(r, step).unwrap_or(0)))?;
+    out.extend_from_slice(b"</title></path>\n")?;
+    Ok(())
 }

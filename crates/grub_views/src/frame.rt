@@ -1,5 +1,9 @@
 //! Where moments and bandwidths lie in a picture.
 
+ghost use Rattle.std.specs.Prelude.{◌≡◌, ◌<◌, ◌^◌, ◌&&◌, nat_lt};
+ghost use Rattle.grub_views.specs.Elements.{first_multiple, mark_step, multiples};
+ghost use Rattle.grub_views.specs.Frames.{height_of, is_in, x_of};
+
 /// How many pixels wide the part is that has the time.
 const PLOT: u64 = 1024;
 
@@ -7,7 +11,7 @@ const PLOT: u64 = 1024;
 pub const LEFT: u64 = 130;
 
 /// How high a curve of the whole processor is.
-pub const CURVE: u64 = 64;
+const CURVE: u64 = 64;
 
 /// The span of a picture, and the width in pixels below which a bar is left out.
 #[derive(Clone, Copy)]
@@ -19,38 +23,62 @@ pub struct Frame {
     pub to: u32,
 
     /// The least width of a bar, 1 to 1024 pixels.
-    pub unit: u64,
+    pub unit: u16,
 }
 
 impl Frame {
     /// Where a moment lies, to whole units. What is outside of the span lies at its ends.
-    pub fn x(self, m: u32) -> u64 {
+    #[tactic(auto, unfolding(crate::specs::Frames::x_of))]
+    pub fn x(self, m: u64) -> u64
+        ensures value { result ≡ x_of self m }
+        ensures most { result < 2 ^ 60 }
+    {
         let span = u64::from(self.to.saturating_sub(self.from)).max(1);
-        let into = u64::from(m.min(self.to).saturating_sub(self.from));
-        let units = PLOT / self.unit.max(1);
-        LEFT.saturating_add((into.saturating_mul(units) / span).saturating_mul(self.unit))
+        let into = m.min(u64::from(self.to)).saturating_sub(u64::from(self.from));
+        let units = PLOT / u64::from(self.unit.max(1));
+        LEFT + into * units / span * u64::from(self.unit)
     }
 
     /// Where the span ends.
-    pub fn right(self) -> u64 {
-        self.x(self.to)
+    pub fn right(self) -> u64
+        ensures value { result ≡ x_of self self.to }
+        ensures most { result < 2 ^ 60 }
+    {
+        self.x(u64::from(self.to))
+    }
+
+    /// Whether a moment is in the span.
+    pub fn is_in(self, m: u32) -> bool
+        ensures { result ≡ is_in self m }
+    {
+        self.from <= m && m <= self.to
     }
 
     /// How far apart the marks of the time axis are: 1, 2 or 5 times a power of ten, such that there are at most 12.
-    pub fn mark_step(self) -> u32 {
+    pub fn mark_step(self) -> u32
+        ensures { result ≡ mark_step self }
+    {
         for step in MARK_STEPS {
-            if self.marks(step) <= 12 {
+            if self.multiples(step) <= 12 {
                 return step;
             }
         }
         1000000000
     }
 
+    /// By which a step is multiplied for the first multiple in the span or after it.
+    pub fn first_multiple(self, step: u32) -> u64
+        ensures { result ≡ first_multiple self step }
+    {
+        (u64::from(self.from) + u64::from(step)).saturating_sub(1) / u64::from(step.max(1))
+    }
+
     /// How many multiples of a step lie in the span.
-    fn marks(self, step: u32) -> u32 {
-        let step = step.max(1);
-        let before = self.from.saturating_add(step - 1) / step;
-        (self.to / step).saturating_add(1).saturating_sub(before)
+    pub fn multiples(self, step: u32) -> u64
+        ensures value { result ≡ multiples self step }
+    {
+        let last = u64::from(self.to / step.max(1));
+        (last + 1).saturating_sub(self.first_multiple(step))
     }
 }
 
@@ -62,6 +90,16 @@ const MARK_STEPS: [u32; 28] = [
 ];
 
 /// How high a bandwidth is drawn.
-pub fn height_of(bandwidth: u32) -> u64 {
+#[tactic(auto, unfolding(crate::specs::Frames::height_of))]
+pub fn height_of(bandwidth: u32) -> u64
+    ensures { result ≡ height_of bandwidth }
+{
     u64::from(bandwidth) * CURVE / 1048576
+}
+
+/// Whether something stands to the right of the last column, and is to be drawn at all.
+pub fn is_next(is_drawn: bool, last: u64, x: u64) -> bool
+    ensures { result ≡ (is_drawn && nat_lt last x) }
+{
+    is_drawn && last < x
 }

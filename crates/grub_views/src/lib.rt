@@ -3,9 +3,11 @@
 
 mod bars;
 mod book_steps;
+mod curve;
 mod drawing;
 mod fault;
 mod frame;
+mod head;
 mod laws;
 mod lines;
 mod mark;
@@ -15,6 +17,7 @@ mod rows;
 mod summary;
 mod table;
 mod tally;
+mod text;
 mod usage;
 
 pub use book_steps::{Change, Step, played_steps};

@@ -1,14 +1,17 @@
 //! A picture of a time line, as an SVG document.
 
-ghost use Rattle.std.specs.Prelude.{◌≡◌, ◌<◌, ◌^◌, max, IfOk, vec_len};
+ghost use Rattle.std.specs.Prelude.{◌≡◌, ◌<◌, ◌≤◌, ◌^◌, ◌++◌, [], max, map, length, OnOk, IfOk, vec_len};
 ghost use Rattle.grub_timeline.specs.TimeLines.{AreWithin, IsTimeLine};
 ghost use Rattle.grub_views.specs.inside.Fitting.{AreToldIn};
-ghost use Rattle.grub_views.specs.Picture.{last_moment};
+ghost use Rattle.grub_views.specs.inside.Scenes.{drawn_of, owns_of};
+ghost use Rattle.grub_views.specs.Picture.{drawing, last_moment, picture_of, queues_end, queues_of, queues_text};
+ghost use Rattle.grub_views.specs.Replay.{steps_of};
 
 use crate::book_steps::{Step, replay};
-use crate::drawing::{Scene, put_axis, put_head, put_queue};
+use crate::drawing::{Scene, put_queue};
 use crate::fault::ViewFault;
 use crate::frame::Frame;
+use crate::head::{put_axis, put_head};
 use crate::mark::{Mark, put_legend};
 use crate::tally::steps_of_task;
 use grub_timeline::{TimeLine, Told};
@@ -19,7 +22,7 @@ use std::alloc::{AllocError, Global};
 const SIZE_LIMIT: usize = 4194304;
 
 /// The least widths of a bar, in pixels, of which the first is taken that keeps the picture within its limit.
-const UNITS: [u64; 11] = [1, 2, 4, 8, 16, 32, 64, 128, 256, 512, 1024];
+const UNITS: [u16; 11] = [1, 2, 4, 8, 16, 32, 64, 128, 256, 512, 1024];
 
 /// What is given where not even the widest unit served.
 const BLANK: &[u8] = b"<svg xmlns=\"http://www.w3.org/2000/svg\"/>\n";
@@ -55,7 +58,8 @@ pub fn picture_text(
     requires line { IsTimeLine plan.now line.now.told.items line.now.closing.items }
     requires within { AreWithin plan.now.setup line.now.told.items }
     requires span { from < to }
-    ensures { IfOk result (λ v. vec_len v < 2 ^ 22) }
+    ensures text { IfOk result (λ v. v.items ≡ picture_of plan.now.setup plan.now.names (steps_of plan.now.setup line.now.told.items) [] from to) }
+    ensures short { IfOk result (λ v. vec_len v < 2 ^ 22) }
 {
     text_of(alloc, plan, line, from, to, &[]).map_err(|_| ViewFault::NoMemory)
 }
@@ -72,7 +76,8 @@ pub fn marked_picture_text(
     requires line { IsTimeLine plan.now line.now.told.items line.now.closing.items }
     requires within { AreWithin plan.now.setup line.now.told.items }
     requires span { from < to }
-    ensures { IfOk result (λ v. vec_len v < 2 ^ 22) }
+    ensures text { IfOk result (λ v. v.items ≡ picture_of plan.now.setup plan.now.names (steps_of plan.now.setup line.now.told.items) marks.now from to) }
+    ensures short { IfOk result (λ v. vec_len v < 2 ^ 22) }
 {
     text_of(alloc, plan, line, from, to, marks).map_err(|_| ViewFault::NoMemory)
 }
@@ -86,7 +91,8 @@ fn text_of(
     marks: &[Mark],
 ) -> Result<Vec<u8>, AllocError>
     requires { AreToldIn plan.now.setup line.now.told.items }
-    ensures { IfOk result (λ v. vec_len v < 2 ^ 22) }
+    ensures text { IfOk result (λ v. v.items ≡ picture_of plan.now.setup plan.now.names (steps_of plan.now.setup line.now.told.items) marks.now from to) }
+    ensures short { IfOk result (λ v. vec_len v < 2 ^ 22) }
 {
     let steps = replay(alloc, plan.setup(), &line.told)?;
     let owns = own_steps(alloc, plan, &steps)?;
@@ -100,14 +106,16 @@ fn text_of(
         };
         let text = drawn(alloc, &scene)?;
         if text.len() < SIZE_LIMIT {
-            return Vec::from_slice(alloc, text.as_bytes());
+            return Ok(text);
         }
     }
     Vec::from_slice(alloc, BLANK)
 }
 
 /// The steps of each task.
-fn own_steps(alloc: Global, plan: &Plan, steps: &[Step]) -> Result<Vec<Vec<Step>>, AllocError> {
+fn own_steps(alloc: Global, plan: &Plan, steps: &[Step]) -> Result<Vec<Vec<Step>>, AllocError>
+    ensures { IfOk result (λ v. map (λ own. own.items) v.items ≡ owns_of (length plan.now.setup.tasks) steps.now) }
+{
     let mut owns = Vec::new(alloc);
     for t in 0..plan.setup().task_count() {
         owns.push(steps_of_task(alloc, t, steps)?)?;
@@ -116,17 +124,31 @@ fn own_steps(alloc: Global, plan: &Plan, steps: &[Step]) -> Result<Vec<Vec<Step>
 }
 
 /// The whole document.
-fn drawn(alloc: Global, scene: &Scene) -> Result<String, AllocError> {
-    let mut body = String::new(alloc);
-    let mut y = 76;
-    for r in 0..scene.plan.setup().queue_count() {
-        y = put_queue(alloc, &mut body, scene, r, y)?;
-    }
-    let mut text = String::new(alloc);
+#[tactic(auto, unfolding(crate::specs::Picture::drawing))]
+fn drawn(alloc: Global, scene: &Scene) -> Result<Vec<u8>, AllocError>
+    requires { map (λ v. v.items) scene.now.owns.now ≡ owns_of (length scene.now.plan.now.setup.tasks) scene.now.steps.now }
+    ensures { IfOk result (λ v. v.items ≡ drawing (drawn_of scene.now)) }
+{
+    let mut queues = Vec::new(alloc);
+    let y = put_queues(alloc, &mut queues, scene)?;
+    let mut text = Vec::new(alloc);
     put_head(&mut text, scene.frame, y)?;
     put_legend(&mut text, scene.marks)?;
     put_axis(&mut text, scene.frame, y)?;
-    text.push_str(body.as_str())?;
-    text.push_str("</svg>\n")?;
+    text.extend_from_slice(&queues)?;
+    text.extend_from_slice(b"</svg>\n")?;
     Ok(text)
+}
+
+/// The runqueues, one below the other. The answer is where the last of them ends.
+fn put_queues(alloc: Global, out: &mut Vec<u8>, scene: &Scene) -> Result<u32, AllocError>
+    requires { map (λ v. v.items) scene.now.owns.now ≡ owns_of (length scene.now.plan.now.setup.tasks) scene.now.steps.now }
+    ensures text { OnOk result (out.new.items ≡ out.old.items ++ queues_text (drawn_of scene.now) 76 (queues_of (drawn_of scene.now))) }
+    ensures end { IfOk result (λ e. e ≡ queues_end (drawn_of scene.now) 76 (queues_of (drawn_of scene.now))) }
+{
+    let mut y = 76;
+    for r in 0..scene.plan.setup().queue_count() {
+        y = put_queue(alloc, out, scene, r, y)?;
+    }
+    Ok(y)
 }

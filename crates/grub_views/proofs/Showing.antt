@@ -1,0 +1,92 @@
+-- One more of what is drawn.
+use Rattle.std.proofs.Common.{◌≡◌, ℕ, zero, suc, ◌+◌, ◌-◌, ◌<◌, ◌≤◌, Bool, true, false, List, [], ◌∷◌, ◌++◌, length, get_or, drop, refl, ap, ◌∙◌, sym, add-one, append_assoc, arith}
+use Rattle.std.specs.Prelude.{filter, nat_lt, ◌&&◌, Option, Some, None, find, map, slice_get}
+use Rattle.std.specs.List.{flat_map}
+use Rattle.grub_views.specs.Frames.{firsts}
+use Rattle.grub_views.specs.Summary.{count_up}
+use Rattle.grub_views.proofs.Closing.{next_left}
+use Rattle.grub_views.specs.Tallies.{own_steps}
+use Rattle.grub_views.specs.declared.book_steps.Step.{Step}
+use Rattle.grub_views.specs.inside.Scenes.{owns_of}
+use Rattle.grub_views.proofs.Counting.{count_more, map_more}
+use Rattle.std.proofs.lemmas.Grind.{flat_map-append}
+use Rattle.std.proofs.lemmas.List.{map-append, append-nil, length-map}
+
+-- the first of these is drawn, and the last column is its own
+first_drawn : {X : Type 0} (g : X → List ℕ) (column : X → ℕ) (p : X → Bool) (last : ℕ) (x : X) (xs : List X) (here : Bool) → p x ≡ here → (here && nat_lt last (column x)) ≡ true
+    → flat_map g (firsts column last (filter p (x ∷ xs))) ≡ g x ++ flat_map g (firsts column (column x) (filter p xs))
+first_drawn g column p last x xs true is right = rw (is, right) refl
+first_drawn g column p last x xs false is right = cc
+
+-- it is not drawn
+first_left : {X : Type 0} (g : X → List ℕ) (column : X → ℕ) (p : X → Bool) (last : ℕ) (x : X) (xs : List X) (here : Bool) → p x ≡ here → (here && nat_lt last (column x)) ≡ false
+    → flat_map g (firsts column last (filter p (x ∷ xs))) ≡ flat_map g (firsts column last (filter p xs))
+first_left g column p last x xs true is right = rw (is, right) refl
+first_left g column p last x xs false is right = rw is refl
+
+pub one_drawn : {X : Type 0} (g : X → List ℕ) (column : X → ℕ) (p : X → Bool) (o new whole : List ℕ) (last at i : ℕ) (xs : List X) (x : X) → i < length xs → get_or xs i x ≡ x
+    → at ≡ column x → (p x && nat_lt last at) ≡ true → new ≡ o ++ g x
+    → o ++ flat_map g (firsts column last (filter p (drop i xs))) ≡ whole
+    → new ++ flat_map g (firsts column at (filter p (drop (i + 1) xs))) ≡ whole
+one_drawn {X = X} g column p o new whole last at i xs x below item at_is right new_is is =
+    let whole_left : drop i xs ≡ x ∷ drop (i + 1) xs = next_left xs i x below ∙ rw item refl in
+    let fits : (p x && nat_lt last (column x)) ≡ true = rw at_is at right in
+    rw (new_is, at_is)
+    (append_assoc o (g x) (flat_map g (firsts column (column x) (filter p (drop (i + 1) xs))))
+    ∙ ap (λ (t : List ℕ). o ++ t) (sym (first_drawn g column p last x (drop (i + 1) xs) (p x) refl fits))
+    ∙ ap (λ (ys : List X). o ++ flat_map g (firsts column last (filter p ys))) (sym whole_left) ∙ is)
+
+pub one_left : {X : Type 0} (g : X → List ℕ) (column : X → ℕ) (p : X → Bool) (o whole : List ℕ) (last at i : ℕ) (xs : List X) (x : X) → i < length xs → get_or xs i x ≡ x
+    → at ≡ column x → (p x && nat_lt last at) ≡ false
+    → o ++ flat_map g (firsts column last (filter p (drop i xs))) ≡ whole
+    → o ++ flat_map g (firsts column last (filter p (drop (i + 1) xs))) ≡ whole
+one_left {X = X} g column p o whole last at i xs x below item at_is right is =
+    let whole_left : drop i xs ≡ x ∷ drop (i + 1) xs = next_left xs i x below ∙ rw item refl in
+    let fits : (p x && nat_lt last (column x)) ≡ false = rw at_is at right in
+    ap (λ (t : List ℕ). o ++ t) (sym (first_left g column p last x (drop (i + 1) xs) (p x) refl fits))
+    ∙ ap (λ (ys : List X). o ++ flat_map g (firsts column last (filter p ys))) (sym whole_left) ∙ is
+
+-- the numbers that are left, less one
+pub count_left : (k n : ℕ) → k < n → count_up k (n - k) ≡ k ∷ count_up (k + 1) (n - (k + 1))
+count_left k n below = let one : n - k ≡ suc (n - (k + 1)) = omega arith in rw one refl
+
+-- and what is made of them, with one more
+pub marks_more : (o : List ℕ) (g : ℕ → List ℕ) (f : ℕ → ℕ) (n : ℕ) → (o ++ flat_map g (map f (count_up 0 n))) ++ g (f n) ≡ o ++ flat_map g (map f (count_up 0 (n + 1)))
+marks_more o g f n =
+    let zero_add : 0 + n ≡ n = omega arith in
+    rw (count_more 0 n, map-append f (count_up 0 n) ((0 + n) ∷ []), zero_add, flat_map-append g (map f (count_up 0 n)) (f n ∷ []), append-nil (g (f n))) (append_assoc o (flat_map g (map f (count_up 0 n))) (g (f n)))
+
+count_length : (k n : ℕ) → length (count_up k n) ≡ n
+count_length k zero = refl
+count_length k (suc n) = ap suc (count_length (k + 1) n)
+
+-- the steps of a task, among those of each task
+pub own_there : {A : Type 0} (owns : List A) (f : A → List Step) (n t : ℕ) (steps : List Step) → map f owns ≡ owns_of n steps → t < n → t < length owns
+unfolding owns_of
+own_there owns f n t steps is below =
+    let as_many : length owns ≡ n = sym (length-map owns f) ∙ ap length is ∙ length-map (count_up 0 n) (λ (k : ℕ). own_steps k steps) ∙ count_length 0 n in
+    omega arith
+
+count_at : {A : Type 0} (g : ℕ → A) (k n i : ℕ) → i < n → slice_get (map g (count_up k n)) i ≡ Some (g (k + i))
+count_at g k zero i below = absurd (omega arith)
+count_at g k (suc n) zero below = let none : k + 0 ≡ k = omega arith in rw none refl
+count_at g k (suc n) (suc i) below =
+    let less : i < n = omega arith in
+    let same : (k + 1) + i ≡ k + suc i = omega arith in
+    count_at g (k + 1) n i less ∙ ap (λ (m : ℕ). Some (g m)) same
+
+pub own_at : {A : Type 0} (owns : List A) (f : A → List Step) (n t : ℕ) (steps own : List Step) → map f owns ≡ owns_of n steps → t < n → slice_get (map f owns) t ≡ Some own → own ≡ own_steps t steps
+unfolding owns_of
+own_at owns f n t steps own is below got =
+    let zero_add : 0 + t ≡ t = omega arith in
+    let at : slice_get (map f owns) t ≡ Some (own_steps t steps) =
+      ap (λ (xs : List (List Step)). slice_get xs t) is ∙ count_at (λ (k : ℕ). own_steps k steps) 0 n t below ∙ ap (λ (k : ℕ). Some (own_steps k steps)) zero_add in
+    cc
+
+-- the steps of one task more
+pub owns_more : {A : Type 0} (owns : List A) (f : A → List Step) (own : A) (n : ℕ) (steps : List Step) → map f owns ≡ owns_of n steps → f own ≡ own_steps n steps → map f (owns ++ own ∷ []) ≡ owns_of (n + 1) steps
+unfolding owns_of
+owns_more owns f own n steps is own_is =
+    let zero_add : 0 + n ≡ n = omega arith in
+    map-append f owns (own ∷ []) ∙ ap (λ (xs : List (List Step)). xs ++ f own ∷ []) is
+    ∙ ap (λ (x : List Step). map (λ (k : ℕ). own_steps k steps) (count_up 0 n) ++ x ∷ []) (own_is ∙ ap (λ (k : ℕ). own_steps k steps) (sym zero_add)) ∙ map_more (λ (k : ℕ). own_steps k steps) 0 n
