@@ -1,5 +1,5 @@
 -- The text of a view of the time line of files, and what a writer took of it.
-use Rattle.std.specs.Prelude.{◌≡◌, ◌<◌, ◌^◌, ℕ, List, length, Option, max, unwrap_or}
+use Rattle.std.specs.Prelude.{◌≡◌, ◌<◌, ◌^◌, ℕ, List, [], length, Option, max, unwrap_or}
 use Rattle.std.specs.Io.KnownBytes.{Appends}
 use Rattle.grub_book.specs.declared.event.Reading.{Reading}
 use Rattle.grub_run.specs.Written.{AppendsPrefix}
@@ -10,7 +10,7 @@ use Rattle.grub_trace.specs.Naming.{plan_of}
 use Rattle.grub_trace.specs.Plans.{PlanView}
 use Rattle.grub_trace.specs.Tree.{Tree}
 use Rattle.grub_views.specs.Lines.{timeline_lines}
-use Rattle.grub_views.specs.Picture.{last_moment}
+use Rattle.grub_views.specs.Picture.{last_moment, picture_of}
 use Rattle.grub_views.specs.Replay.{steps_of}
 use Rattle.grub_views.specs.Rows.{step_rows}
 use Rattle.grub_views.specs.Summary.{summary_text}
@@ -25,12 +25,13 @@ first_of from = unwrap_or from 0
 abbrev pub end_of : Option ℕ → List Told → ℕ
 end_of to told = unwrap_or to (max 1 (last_moment told))
 
--- The text is a view of these entries and closing readings. Of a picture this says its span and its size alone.
+-- The text is a view of these entries and closing readings. A picture begins before it ends, and is shorter than 4 MiB.
 abbrev pub IsViewOf : View → PlanView → List Told → List Reading → List ℕ → Type 0
 IsViewOf Timeline plan told closing text = text ≡ timeline_lines plan.names told closing
 IsViewOf Steps plan told closing text = text ≡ step_rows plan.names (steps_of plan.setup told)
 IsViewOf Summary plan told closing text = text ≡ summary_text plan.setup plan.names (steps_of plan.setup told)
-IsViewOf (Picture from to) plan told closing text = (first_of from < end_of to told) × (length text < 2 ^ 22)
+IsViewOf (Picture from to) plan told closing text =
+    (first_of from < end_of to told) × (length text < 2 ^ 22) × (text ≡ picture_of plan.setup plan.names (steps_of plan.setup told) [] (first_of from) (end_of to told))
 
 -- the text is that of a view of the time line of these files
 pub record IsShown (view : View) (files : List (List ℕ)) (text : List ℕ) : Type 0 where

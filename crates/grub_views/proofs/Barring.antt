@@ -1,12 +1,12 @@
 -- One step more of the bars of a task.
-use Rattle.std.proofs.Common.{◌≡◌, ℕ, ◌+◌, ◌<◌, Bool, true, false, List, [], ◌∷◌, ◌++◌, length, get_or, drop, refl, ap, ◌∙◌, sym, append_assoc, append-nil, Option, Some, None}
+use Rattle.std.proofs.Common.{◌≡◌, ℕ, ◌+◌, ◌<◌, Bool, true, false, List, [], ◌∷◌, ◌++◌, length, get_or, drop, refl, ap, ◌∙◌, sym, append_assoc, Option, Some, None}
 use Rattle.grub_book.specs.declared.place.State.{State}
 use Rattle.grub_book.specs.declared.place.State.TheVariants.{Contending, NonContending, Inactive}
 use Rattle.grub_views.specs.declared.bars.Bar.{Bar}
 use Rattle.grub_views.specs.declared.bars.Begun.{Begun}
 use Rattle.grub_views.specs.declared.book_steps.Step.{Step}
-use Rattle.grub_views.specs.Bars.{bars_from, bars_of, is_state, is_still, state_on, until}
-use Rattle.grub_views.specs.inside.Begun.{begun_after, ended_bar, last_bar, opened_bar}
+use Rattle.grub_views.specs.Bars.{bars_from, is_state, state_on, until}
+use Rattle.grub_views.specs.inside.Begun.{begun_after, ended_bar, last_bar}
 use Rattle.grub_views.proofs.Closing.{next_left}
 
 -- the bars that are left, with the one that has begun

@@ -1,6 +1,6 @@
 -- One more of what is drawn.
-use Rattle.std.proofs.Common.{◌≡◌, ℕ, zero, suc, ◌+◌, ◌-◌, ◌<◌, ◌≤◌, Bool, true, false, List, [], ◌∷◌, ◌++◌, length, get_or, drop, refl, ap, ◌∙◌, sym, add-one, append_assoc, arith}
-use Rattle.std.specs.Prelude.{filter, nat_lt, ◌&&◌, Option, Some, None, find, map, slice_get}
+use Rattle.std.proofs.Common.{◌≡◌, ℕ, zero, suc, ◌+◌, ◌-◌, ◌<◌, Bool, true, false, List, [], ◌∷◌, ◌++◌, length, get_or, drop, refl, ap, ◌∙◌, sym, append_assoc, arith}
+use Rattle.std.specs.Prelude.{filter, nat_lt, ◌&&◌, Some, map, slice_get}
 use Rattle.std.specs.List.{flat_map}
 use Rattle.grub_views.specs.Frames.{firsts}
 use Rattle.grub_views.specs.Summary.{count_up}
@@ -80,7 +80,7 @@ unfolding owns_of
 own_at owns f n t steps own is below got =
     let zero_add : 0 + t ≡ t = omega arith in
     let at : slice_get (map f owns) t ≡ Some (own_steps t steps) =
-      ap (λ (xs : List (List Step)). slice_get xs t) is ∙ count_at (λ (k : ℕ). own_steps k steps) 0 n t below ∙ ap (λ (k : ℕ). Some (own_steps k steps)) zero_add in
+    ap (λ (xs : List (List Step)). slice_get xs t) is ∙ count_at (λ (k : ℕ). own_steps k steps) 0 n t below ∙ ap (λ (k : ℕ). Some (own_steps k steps)) zero_add in
     cc
 
 -- the steps of one task more

@@ -11,7 +11,7 @@ use Rattle.grub_views.specs.declared.bars.Bar.{Bar}
 use Rattle.grub_views.specs.declared.book_steps.Change.{Change}
 use Rattle.grub_views.specs.declared.book_steps.Step.{Step}
 use Rattle.grub_views.specs.declared.frame.Frame.{Frame}
-use Rattle.grub_views.specs.Frames.{x_of, is_in}
+use Rattle.grub_views.specs.Frames.{x_of}
 
 abbrev pub state_at : ℕ → Place → Option State
 state_at r (On s state) = if s == r then Some state else None

@@ -1,9 +1,8 @@
 -- The lane of a task on a runqueue: its name, its bars, its ticks and its marks.
-use Rattle.std.specs.Prelude.{ℕ, ◌+◌, ◌-◌, ◌==◌, ◌&&◌, Bool, List, [], ◌∷◌, ◌++◌, codes, decimal, is_some, unwrap_or, filter, if◌then◌else◌}
+use Rattle.std.specs.Prelude.{ℕ, ◌+◌, ◌==◌, ◌&&◌, Bool, List, [], ◌++◌, codes, decimal, is_some, unwrap_or, filter, if◌then◌else◌}
 use Rattle.std.specs.List.{flat_map, list_any}
 use Rattle.grub_book.specs.declared.place.State.{State}
 use Rattle.grub_book.specs.declared.place.State.TheVariants.{Contending, NonContending, Inactive}
-use Rattle.grub_trace.specs.Plans.{name_at}
 use Rattle.grub_views.specs.declared.bars.Bar.{Bar}
 use Rattle.grub_views.specs.declared.book_steps.Step.{Step}
 use Rattle.grub_views.specs.declared.frame.Frame.{Frame}

@@ -142,13 +142,7 @@ fn state_at(r: u32, place: Place) -> Option<State>
     ensures { result ≡ state_at r place }
 {
     match place {
-        Place::On(s, state) => {
-            if s == r {
-                Some(state)
-            } else {
-                None
-            }
-        }
+        Place::On(s, state) => { if s == r { Some(state) } else { None } }
         Place::Away | Place::Gone => None,
     }
 }
@@ -180,11 +174,7 @@ pub fn postponed(r: u32, x: &Step) -> Option<u32>
     }
     match x.told.entry.answer {
         Answer::Replied(Reply::Charged { dq: _, k, q: _, d }) => {
-            if k > 0 {
-                Some(d)
-            } else {
-                None
-            }
+            if k > 0 { Some(d) } else { None }
         }
         _ => None,
     }

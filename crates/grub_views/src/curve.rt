@@ -5,8 +5,8 @@ ghost use Rattle.grub_views.specs.Curves.{bandwidth_in, class_of, curve_text, is
 
 use crate::book_steps::Step;
 use crate::frame::{Frame, LEFT, height_of};
-use grub_book::Reading;
 use crate::text::put_number;
+use grub_book::Reading;
 use std::alloc::AllocError;
 
 /// The step curve of a bandwidth of runqueue `r` on the base at `base`: running_bw, or this_bw.

@@ -15,8 +15,8 @@ use crate::curve::put_curve;
 use crate::frame::{Frame, is_next};
 use crate::head::{put_scale, put_umax};
 use crate::mark::{Mark, put_marks};
-use grub_book::State;
 use crate::text::{put_number, put_text};
+use grub_book::State;
 use grub_trace::Plan;
 use std::alloc::{AllocError, Global};
 
@@ -328,7 +328,11 @@ fn put_tick(
     out.extend_from_slice(b"v16\"><title>")?;
     put_text(out, name)?;
     put_number(out, b": at ", u64::from(m))?;
-    put_number(out, b" its deadline was postponed to ", u64::from(postponed(r, step).unwrap_or(0)))?;
+    put_number(
+        out,
+        b" its deadline was postponed to ",
+        u64::from(postponed(r, step).unwrap_or(0)),
+    )?;
     out.extend_from_slice(b"</title></path>\n")?;
     Ok(())
 }

@@ -34,7 +34,9 @@ impl Frame {
         ensures most { result < 2 ^ 60 }
     {
         let span = u64::from(self.to.saturating_sub(self.from)).max(1);
-        let into = m.min(u64::from(self.to)).saturating_sub(u64::from(self.from));
+        let into = m
+            .min(u64::from(self.to))
+            .saturating_sub(u64::from(self.from));
         let units = PLOT / u64::from(self.unit.max(1));
         LEFT + into * units / span * u64::from(self.unit)
     }

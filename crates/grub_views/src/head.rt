@@ -14,7 +14,11 @@ pub fn put_head(out: &mut Vec<u8>, frame: Frame, y: u32) -> Result<(), AllocErro
     ensures { OnOk result (out.new.items ≡ out.old.items ++ head_text frame y) }
 {
     let height = u64::from(y) + 40;
-    put_number(out, b"<svg xmlns=\"http://www.w3.org/2000/svg\" width=\"1190\" height=\"", height)?;
+    put_number(
+        out,
+        b"<svg xmlns=\"http://www.w3.org/2000/svg\" width=\"1190\" height=\"",
+        height,
+    )?;
     put_number(out, b"\" viewBox=\"0 0 1190 ", height)?;
     out.extend_from_slice(b"\">\n<title>")?;
     put_span(out, frame)?;
@@ -40,9 +44,15 @@ fn put_span(out: &mut Vec<u8>, frame: Frame) -> Result<(), AllocError>
 fn put_style(out: &mut Vec<u8>) -> Result<(), AllocError>
     ensures { OnOk result (out.new.items ≡ out.old.items ++ style) }
 {
-    out.extend_from_slice(b"<style>text{font:11px sans-serif;fill:#222}.n{font-family:monospace;text-anchor:end}")?;
-    out.extend_from_slice(b".q{font-weight:bold;font-size:13px}.g{stroke:#ddd}.a{stroke:#222}.u{stroke:#b2182b;stroke-dasharray:6 3}")?;
-    out.extend_from_slice(b".t{fill:#bdd7ee}.r{fill:#1f4e79}.c{fill:#2e8b57}.w{fill:#f4b042}.i{fill:#999}.k{stroke:#000;stroke-width:2}</style>\n")?;
+    out.extend_from_slice(
+        b"<style>text{font:11px sans-serif;fill:#222}.n{font-family:monospace;text-anchor:end}",
+    )?;
+    out.extend_from_slice(
+        b".q{font-weight:bold;font-size:13px}.g{stroke:#ddd}.a{stroke:#222}.u{stroke:#b2182b;stroke-dasharray:6 3}",
+    )?;
+    out.extend_from_slice(
+        b".t{fill:#bdd7ee}.r{fill:#1f4e79}.c{fill:#2e8b57}.w{fill:#f4b042}.i{fill:#999}.k{stroke:#000;stroke-width:2}</style>\n",
+    )?;
     Ok(())
 }
 
@@ -51,14 +61,28 @@ fn put_style(out: &mut Vec<u8>) -> Result<(), AllocError>
 fn put_key(out: &mut Vec<u8>) -> Result<(), AllocError>
     ensures { OnOk result (out.new.items ≡ out.old.items ++ legend) }
 {
-    out.extend_from_slice(b"<rect class=\"t\" x=\"130\" y=\"30\" width=\"18\" height=\"12\"/><text x=\"154\" y=\"40\">this_bw: bandwidth of all tasks on the runqueue</text>\n")?;
-    out.extend_from_slice(b"<rect class=\"r\" x=\"450\" y=\"30\" width=\"18\" height=\"12\"/><text x=\"474\" y=\"40\">running_bw: of its active tasks</text>\n")?;
-    out.extend_from_slice(b"<path class=\"u\" d=\"M714 36h18\"/><text x=\"738\" y=\"40\">Umax: the most that is admitted</text>\n")?;
+    out.extend_from_slice(
+        b"<rect class=\"t\" x=\"130\" y=\"30\" width=\"18\" height=\"12\"/><text x=\"154\" y=\"40\">this_bw: bandwidth of all tasks on the runqueue</text>\n",
+    )?;
+    out.extend_from_slice(
+        b"<rect class=\"r\" x=\"450\" y=\"30\" width=\"18\" height=\"12\"/><text x=\"474\" y=\"40\">running_bw: of its active tasks</text>\n",
+    )?;
+    out.extend_from_slice(
+        b"<path class=\"u\" d=\"M714 36h18\"/><text x=\"738\" y=\"40\">Umax: the most that is admitted</text>\n",
+    )?;
     out.extend_from_slice(b"<text x=\"950\" y=\"40\">100 %: the whole processor</text>\n")?;
-    out.extend_from_slice(b"<rect class=\"c\" x=\"130\" y=\"49\" width=\"18\" height=\"12\"/><text x=\"154\" y=\"60\">contending: ready or running</text>\n")?;
-    out.extend_from_slice(b"<rect class=\"w\" x=\"450\" y=\"52\" width=\"18\" height=\"7\"/><text x=\"474\" y=\"60\">blocked, active until its 0-lag moment</text>\n")?;
-    out.extend_from_slice(b"<rect class=\"i\" x=\"714\" y=\"55\" width=\"18\" height=\"2\"/><text x=\"738\" y=\"60\">inactive on this runqueue</text>\n")?;
-    out.extend_from_slice(b"<path class=\"k\" d=\"M932 48v14\"/><text x=\"950\" y=\"60\">its deadline was postponed</text>\n")?;
+    out.extend_from_slice(
+        b"<rect class=\"c\" x=\"130\" y=\"49\" width=\"18\" height=\"12\"/><text x=\"154\" y=\"60\">contending: ready or running</text>\n",
+    )?;
+    out.extend_from_slice(
+        b"<rect class=\"w\" x=\"450\" y=\"52\" width=\"18\" height=\"7\"/><text x=\"474\" y=\"60\">blocked, active until its 0-lag moment</text>\n",
+    )?;
+    out.extend_from_slice(
+        b"<rect class=\"i\" x=\"714\" y=\"55\" width=\"18\" height=\"2\"/><text x=\"738\" y=\"60\">inactive on this runqueue</text>\n",
+    )?;
+    out.extend_from_slice(
+        b"<path class=\"k\" d=\"M932 48v14\"/><text x=\"950\" y=\"60\">its deadline was postponed</text>\n",
+    )?;
     Ok(())
 }
 
@@ -71,7 +95,11 @@ pub fn put_axis(out: &mut Vec<u8>, frame: Frame, y: u32) -> Result<(), AllocErro
     put_number(out, b"<path class=\"a\" d=\"M130 ", u64::from(y))?;
     put_number(out, b"H", frame.right())?;
     put_number(out, b"\"/>\n<text x=\"130\" y=\"", u64::from(y) + 33)?;
-    put_number(out, b"\">moment, in the unit of the files; what is narrower than ", u64::from(frame.unit))?;
+    put_number(
+        out,
+        b"\">moment, in the unit of the files; what is narrower than ",
+        u64::from(frame.unit),
+    )?;
     out.extend_from_slice(b" px is left out</text>\n")?;
     Ok(())
 }

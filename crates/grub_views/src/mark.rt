@@ -54,8 +54,12 @@ fn put_marks_legend(out: &mut Vec<u8>) -> Result<(), AllocError>
     ensures { OnOk result (out.new.items ≡ out.old.items ++ marks_legend) }
 {
     out.extend_from_slice(b"<style>.m{fill:#6a3d9a}.x{fill:#e31a1c}</style>\n")?;
-    out.extend_from_slice(b"<path class=\"m\" d=\"M450 9h8l-4 8z\"/><text x=\"466\" y=\"18\">kernel's 0-lag timer, like the book's</text>\n")?;
-    out.extend_from_slice(b"<path class=\"x\" d=\"M730 9h8l-4 8z\"/><text x=\"746\" y=\"18\">kernel's 0-lag timer, or a block without one, that deviates</text>\n")?;
+    out.extend_from_slice(
+        b"<path class=\"m\" d=\"M450 9h8l-4 8z\"/><text x=\"466\" y=\"18\">kernel's 0-lag timer, like the book's</text>\n",
+    )?;
+    out.extend_from_slice(
+        b"<path class=\"x\" d=\"M730 9h8l-4 8z\"/><text x=\"746\" y=\"18\">kernel's 0-lag timer, or a block without one, that deviates</text>\n",
+    )?;
     Ok(())
 }
 

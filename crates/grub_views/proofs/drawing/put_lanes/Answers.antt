@@ -1,9 +1,7 @@
-use Rattle.std.proofs.Common.{◌≡◌, ◌+◌, ◌*◌, ◌-◌, ◌<◌, ◌++◌, [], ℕ, List, length, ap, sym, ◌∙◌, arith, true, false, append-nil}
-use Rattle.std.specs.Prelude.{filter}
-use Rattle.grub_views.specs.Picture.{has_lane, lanes_of, lanes_text}
-use Rattle.grub_views.specs.Summary.{count_up}
+use Rattle.std.proofs.Common.{◌≡◌, ◌+◌, ◌*◌, ◌<◌, ◌++◌, ℕ, List, length, ap, sym, ◌∙◌, arith, true, false}
+use Rattle.grub_views.specs.Picture.{has_lane, lanes_text}
 use Rattle.grub_views.specs.inside.Scenes.{drawn_of}
-use Rattle.grub_views.proofs.Laning.{lane_counted, lane_drawn, lane_left, lane_same, lanes_begin, none_left}
+use Rattle.grub_views.proofs.Laning.{lane_counted, lane_drawn, lane_left, lane_same, lanes_begin}
 use Rattle.grub_views.proofs.drawing.put_lanes.Goals as goal
 use Rattle.grub_views.proofs.drawing.put_lanes.Goals.{then-are_seen+in_ok-put_lane, else-are_seen}
 
@@ -24,18 +22,18 @@ loop-t-preserved c =
     let below : c.loop-t.t < n = omega (arith, c.loop-t-test.true, c.task_count-t-end.ensures.value, ap (λ s. length s.tasks) c.setup.ensures.setup) in
     let seen = rw (c.deref.ensures.value, c.in_ok-bars.ensures, c.own.ensures) at c.are_seen.ensures in
     elim c.if-are_seen.branch [
-      then-are_seen+in_ok-put_lane w ↦
-        let shown : has_lane d c.args.r c.loop-t.t ≡ true = sym seen ∙ w.if-are_seen.true in
-        record {
-          text = rw (w.out-is, w.at-is) (lane_drawn d c.args.r c.loop-t.at n c.loop-t.t (has_lane d c.args.r) c.loop-t.out.items w.put_lane.new.out.items _ below shown w.in_ok-put_lane.ensures c.loop-t.invariant.text);
-          down = rw w.at-is (lane_counted c.loop-t.at _ n c.loop-t.t (has_lane d c.args.r) below shown c.loop-t.invariant.down);
-          most = omega (arith, w.at-is, c.loop-t.invariant.most);
-        }
-    | else-are_seen w ↦
-        let shown : has_lane d c.args.r c.loop-t.t ≡ false = sym seen ∙ w.if-are_seen.false in
-        record {
-          text = rw (w.out-is, w.at-is) (lane_left d c.args.r c.loop-t.at n c.loop-t.t (has_lane d c.args.r) c.loop-t.out.items _ below shown c.loop-t.invariant.text);
-          down = rw w.at-is (lane_same c.loop-t.at _ n c.loop-t.t (has_lane d c.args.r) below shown c.loop-t.invariant.down);
-          most = omega (arith, w.at-is, c.loop-t.invariant.most);
-        }
+      | then-are_seen+in_ok-put_lane w ↦
+          let shown : has_lane d c.args.r c.loop-t.t ≡ true = sym seen ∙ w.if-are_seen.true in
+          record {
+            text = rw (w.out-is, w.at-is) (lane_drawn d c.args.r c.loop-t.at n c.loop-t.t (has_lane d c.args.r) c.loop-t.out.items w.put_lane.new.out.items _ below shown w.in_ok-put_lane.ensures c.loop-t.invariant.text);
+            down = rw w.at-is (lane_counted c.loop-t.at _ n c.loop-t.t (has_lane d c.args.r) below shown c.loop-t.invariant.down);
+            most = omega (arith, w.at-is, c.loop-t.invariant.most);
+          }
+      | else-are_seen w ↦
+          let shown : has_lane d c.args.r c.loop-t.t ≡ false = sym seen ∙ w.if-are_seen.false in
+          record {
+            text = rw (w.out-is, w.at-is) (lane_left d c.args.r c.loop-t.at n c.loop-t.t (has_lane d c.args.r) c.loop-t.out.items _ below shown c.loop-t.invariant.text);
+            down = rw w.at-is (lane_same c.loop-t.at _ n c.loop-t.t (has_lane d c.args.r) below shown c.loop-t.invariant.down);
+            most = omega (arith, w.at-is, c.loop-t.invariant.most);
+          }
     ]

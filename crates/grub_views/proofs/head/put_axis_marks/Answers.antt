@@ -1,7 +1,5 @@
-use Rattle.std.proofs.Common.{◌≡◌, ◌++◌, ◌+◌, ◌*◌, ℕ, List, [], ◌∷◌, map, refl, ap, ◌∙◌, rules}
-use Rattle.std.specs.List.{flat_map}
+use Rattle.std.proofs.Common.{◌+◌, ◌*◌, ℕ}
 use Rattle.grub_views.specs.Elements.{axis_mark_text, first_multiple}
-use Rattle.grub_views.specs.Summary.{count_up}
 use Rattle.grub_views.proofs.Showing.{marks_more}
 use Rattle.grub_views.proofs.head.put_axis_marks.Goals as goal
 

@@ -1,6 +1,5 @@
-use Rattle.std.proofs.Common.{◌≡◌, ◌+◌, ◌*◌, ◌-◌, ◌<◌, ◌++◌, [], ℕ, List, length, ap, sym, ◌∙◌, arith}
-use Rattle.grub_views.specs.Picture.{queues_end, queues_of, queues_text}
-use Rattle.grub_views.specs.Summary.{count_up}
+use Rattle.std.proofs.Common.{◌<◌, ◌++◌, ℕ, List, length, ap, arith}
+use Rattle.grub_views.specs.Picture.{queues_end, queues_text}
 use Rattle.grub_views.specs.inside.Scenes.{drawn_of}
 use Rattle.grub_views.proofs.Laning.{all_left, queue_drawn, queue_ended}
 use Rattle.grub_views.proofs.picture.put_queues.Goals as goal

@@ -1,9 +1,8 @@
-use Rattle.std.proofs.Common.{◌≡◌, ℕ, List, true, false, Option, ap, sym, ◌∙◌, ◌<◌, ◌≤◌, length, arith, get_or}
+use Rattle.std.proofs.Common.{◌≡◌, ℕ, List, Option, ap, sym, ◌∙◌, ◌<◌, ◌≤◌, length, arith}
 use Rattle.std.specs.Prelude.{unwrap_or}
 use Rattle.std.proofs.lemmas.List.{drop_all}
 use Rattle.std.proofs.lemmas.Result.{IfOk-weaker}
 use Rattle.grub_views.specs.Picture.{blank, drawing_at, is_small, picture_of}
-use Rattle.grub_views.specs.Replay.{steps_of}
 use Rattle.grub_views.specs.declared.picture.TheConstants.{UNITS}
 use Rattle.grub_views.proofs.Finding.{made_here, made_later, not_small, small}
 use Rattle.grub_views.proofs.picture.text_of.Goals as goal

@@ -1,5 +1,5 @@
-use Rattle.std.proofs.Common.{◌≡◌, ℕ, List, true, false, Option, ap, sym, ◌∙◌, get_or}
-use Rattle.std.specs.Prelude.{find, nat_le, unwrap_or}
+use Rattle.std.proofs.Common.{ℕ, Option, ap, sym}
+use Rattle.std.specs.Prelude.{nat_le, unwrap_or}
 use Rattle.std.proofs.lemmas.List.{drop_all}
 use Rattle.grub_views.specs.Elements.{mark_step, multiples}
 use Rattle.grub_views.specs.declared.frame.TheConstants.{MARK_STEPS}
