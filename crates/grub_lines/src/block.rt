@@ -6,6 +6,7 @@ ghost use Rattle.std.specs.List.{flat_map};
 
 use crate::line::Line;
 use grub_trace::LINE_MAX;
+use std::mem;
 
 /// Appends the lines of the items to a vector that has room for them.
 fn append_lines<X, L: Line<X>>(block: &mut Vec<u8>, items: &[X], lines: &L)
@@ -43,6 +44,11 @@ pub fn make_block<X, L: Line<X>>(
     ensures text { block.new.items ≡ flat_map (L.line lines.now) (slice_chunk items.now size number) }
     ensures room { vec_capacity block.old ≤ vec_capacity block.new }
 {
-    block.clear();
-    append_lines(block, part_at(items, size, number), lines);
+    // The vectors of a round stand side by side. Each is filled out of its place, since a thread that counted its bytes there
+    // would take the cache line from the others at each piece.
+    let alloc = *block.allocator();
+    let mut own = mem::replace(block, Vec::new(alloc));
+    own.clear();
+    append_lines(&mut own, part_at(items, size, number), lines);
+    *block = own;
 }
