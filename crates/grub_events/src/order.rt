@@ -5,13 +5,8 @@ ghost use Rattle.grub_events.specs.Order.{after_place, own_moment, moment_of, is
 
 use crate::event::{Act, Event, Placed, Source};
 use crate::lists::{at, put};
+use grub_book::{MOMENT_MAX, RUN_MAX};
 use std::alloc::{AllocError, Global};
-
-/// The last moment that an event file may have, in microseconds.
-const MOMENT_MAX: u64 = 2147483647;
-
-/// The longest run of an event file, in microseconds.
-const RUN_MAX: u64 = 16777216;
 
 /// The moment of the first wake in the event files, in microseconds.
 const FIRST_WAKE: u64 = 2000;
@@ -84,10 +79,10 @@ fn is_beyond(runqueues: u32, moment: u64, event: &Event) -> bool
     ensures { result ≡ is_beyond runqueues (record { moment = moment; event = event.now }) }
 {
     let is_long = match event.act {
-        Act::Run { micros } => RUN_MAX < micros,
+        Act::Run { micros } => u64::from(RUN_MAX) < micros,
         _ => false,
     };
-    runqueues <= event.runqueue || MOMENT_MAX < moment || is_long
+    runqueues <= event.runqueue || u64::from(MOMENT_MAX) < moment || is_long
 }
 
 /// Puts an event at its moment.

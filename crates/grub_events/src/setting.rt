@@ -4,10 +4,7 @@ ghost use Rattle.std.specs.Prelude.{◌≡◌, ◌<◌, ◌≤◌, ◌^◌, ◌-
 ghost use Rattle.grub_bw.specs.Bandwidth.{IsMost};
 ghost use Rattle.grub_events.specs.Setting.{total_of, extra_of};
 
-use grub_bw::{Params, Queue};
-
-/// The bandwidth of a whole processor.
-const UNIT: u64 = 1048576;
+use grub_bw::{BW_UNIT, Params, Queue};
 
 /// The most bandwidth of deadline tasks on a runqueue, in 1/2^20 of a processor, where the kernel's
 /// `sched_rt_runtime_us` and `sched_rt_period_us` are these; none where it is not 1 to 2^20.
@@ -18,8 +15,8 @@ pub fn umax_of(runtime: u64, period: u64) -> Option<u32>
     if period == 0 {
         return None;
     }
-    let most = u128::from(runtime) * u128::from(UNIT) / u128::from(period);
-    if most == 0 || most > u128::from(UNIT) {
+    let most = u128::from(runtime) * u128::from(BW_UNIT) / u128::from(period);
+    if most == 0 || most > u128::from(BW_UNIT) {
         return None;
     }
     Some(most as u32)

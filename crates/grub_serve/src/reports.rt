@@ -12,15 +12,12 @@ ghost use Rattle.grub_serve.specs.inside.Telling.{IsOfReading, IsPlaced, TellsOf
 use crate::fault::ProgramFault;
 use grub_files::{FileFault, Source, read_file};
 use grub_run::{GrubFault, run_texts};
-use grub_trace::{Kind, TraceFault};
+use grub_trace::{FILES_MAX, Kind, TraceFault};
 use std::alloc::Global;
 use std::io;
 use std::io::Write;
 use std::sync::Wait;
 use std::thread::Threads;
-
-/// The most files that a run can have.
-pub(crate) const FILES_MAX: usize = 64;
 
 /// The bytes of the file at this path.
 fn read_one<

@@ -7,9 +7,10 @@ ghost use Rattle.grub_serve.specs.Faults.{TellsOfView, names_of};
 ghost use Rattle.grub_serve.specs.Printed.{PrintsView, PrintsViewBeginning};
 
 use crate::fault::ProgramFault;
-use crate::reports::{FILES_MAX, placed, read_files, too_many};
+use crate::reports::{placed, read_files, too_many};
 use grub_files::Source;
 use grub_show::{ShowFault, View, write_view};
+use grub_trace::FILES_MAX;
 use std::alloc::Global;
 use std::io;
 use std::io::Write;

@@ -43,7 +43,7 @@ reply_text reply.Asleep = codes "asleep"
 reply_text (reply.Left r) = codes "left " ++ decimal r
 reply_text reply.Retired = codes "retired"
 reply_text reply.Ended = codes "ended"
-reply_text (reply.Charged dq k q d) = server_text (codes "charged dq=" ++ decimal dq ++ codes " k=" ++ decimal k ++ codes " ") q d
+reply_text (reply.Charged k q d dq) = server_text (codes "charged dq=" ++ decimal dq ++ codes " k=" ++ decimal k ++ codes " ") q d
 reply_text reply.Retuned = codes "retuned"
 reply_text reply.Gone = codes "gone"
 reply_text reply.NotOn = codes "not-on"

@@ -14,6 +14,7 @@ use crate::pending::act;
 use crate::raw::RawScript;
 use crate::tasks::Tasks;
 use crate::version::Version;
+use grub_book::{MOMENT_MAX, RUN_MAX, TASKS_MAX};
 use grub_bw::Params;
 use std::alloc::Global;
 
@@ -71,7 +72,7 @@ fn declare(
     let (Some(runtime), Some(period)) = (number(runtime), number(period)) else {
         return Err(Stop::Fault(Kind::BadNumber));
     };
-    if tasks.list.len() >= 256 {
+    if tasks.list.len() >= TASKS_MAX {
         return Err(Stop::Fault(Kind::OutOfRange));
     }
     let Some(params) = reservation(runtime, period) else {
@@ -149,17 +150,13 @@ fn take_deed<'a>(
     }
 }
 
-const MAX_MOMENT: u32 = 2147483647;
-
-const MAX_SPAN: u32 = 16777216;
-
 /// The moment that a word spells.
 fn moment(word: &[u8]) -> Result<u32, Stop>
     ensures { IsMoment result word.now }
 {
     match number(word) {
         None => Err(Stop::Fault(Kind::BadNumber)),
-        Some(at) if at > MAX_MOMENT => Err(Stop::Fault(Kind::OutOfRange)),
+        Some(at) if at > MOMENT_MAX => Err(Stop::Fault(Kind::OutOfRange)),
         Some(at) => Ok(at),
     }
 }
@@ -171,7 +168,7 @@ fn run(at: &[u8], span: &[u8]) -> Result<(u32, u32), Stop>
     let (Some(at), Some(span)) = (number(at), number(span)) else {
         return Err(Stop::Fault(Kind::BadNumber));
     };
-    if at > MAX_MOMENT || span < 1 || span > MAX_SPAN {
+    if at > MOMENT_MAX || span < 1 || span > RUN_MAX {
         return Err(Stop::Fault(Kind::OutOfRange));
     }
     Ok((at, span))
@@ -185,7 +182,7 @@ fn retune(at: &[u8], runtime: &[u8], period: &[u8]) -> Result<(u32, u32, u32), S
     else {
         return Err(Stop::Fault(Kind::BadNumber));
     };
-    if at > MAX_MOMENT || reservation(runtime, period).is_none() {
+    if at > MOMENT_MAX || reservation(runtime, period).is_none() {
         return Err(Stop::Fault(Kind::OutOfRange));
     }
     Ok((at, runtime, period))

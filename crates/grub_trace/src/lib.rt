@@ -31,6 +31,6 @@ pub use pieces::{
     append_close, append_entry, append_head, append_number, append_reading,
 };
 pub use plan::Plan;
-pub use read::read_files;
+pub use read::{FILES_MAX, read_files};
 pub use text::{TextFault, line_of, put_number, put_reading, report_of};
 pub use writing::{make_room, report_buffer, write_buffer, write_bytes};

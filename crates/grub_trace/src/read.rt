@@ -18,8 +18,12 @@ use crate::pending::script;
 use crate::plan::Plan;
 use crate::raw::RawFile;
 use crate::tasks::{Task, Tasks};
+use grub_book::QUEUES_MAX;
 use grub_bw::{Params, Queue};
 use std::alloc::Global;
+
+/// The most files: each is of a runqueue.
+pub const FILES_MAX: usize = QUEUES_MAX;
 
 #[derive(Drop)]
 struct AllRead<'a> {
@@ -112,10 +116,10 @@ fn plan(alloc: Global, files: &[Vec<u8>]) -> Result<Plan, TraceFault>
     ensures nothing { length files.now ≡ 0 → result ≡ Err (TraceFault.At Kind.MissingQueue 0 1) }
     ensures opening { 0 < length files.now → length files.now ≤ 64 → AnswersOpening result (read_from (record { declared = []; files = [] }) 0 (contents files.now)) }
 {
-    if files.len() > 64 {
+    if files.len() > FILES_MAX {
         return Err(TraceFault::At {
             kind: Kind::OutOfRange,
-            file: 64,
+            file: FILES_MAX,
             line: 1,
         });
     }

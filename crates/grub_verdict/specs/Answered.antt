@@ -56,7 +56,7 @@ facts_of task facts = filter (is_fact_of task) facts
 abbrev pub server_after : Answer → Server → Server
 server_after (Replied (Joined q d)) before = record { q = q; d = d }
 server_after (Replied (Woken q d)) before = record { q = q; d = d }
-server_after (Replied (Charged dq k q d)) before = record { q = q; d = d }
+server_after (Replied (Charged k q d dq)) before = record { q = q; d = d }
 server_after answer before = before
 
 -- the 0-lag moment for which a block waits

@@ -80,7 +80,7 @@ cancelled_from standings (f ∷ later) =
 
 -- the reservation of the task that is charged
 abbrev pub charged_at : List Reservation → Ask → Answer → Option Reservation
-charged_at tasks (Call t (Charge r dt)) (Replied (Charged dq k q d)) = slice_get tasks t
+charged_at tasks (Call t (Charge r dt)) (Replied (Charged k q d dq)) = slice_get tasks t
 charged_at tasks ask answer = None
 
 abbrev pub charged_in : List Reservation → Step → Option Reservation

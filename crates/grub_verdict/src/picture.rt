@@ -3,6 +3,7 @@
 use crate::case::Case;
 use crate::judging::{number_in, observations_of, yardstick};
 use crate::observation::{Observation, Yardstick, moment_of_book, moment_of_kernel};
+use grub_book::MOMENT_MAX;
 use grub_convert::{Options, event_files, events_told, setting_of};
 use grub_events::Declared;
 use grub_facts::Facts;
@@ -11,18 +12,15 @@ use grub_trace::{Plan, read_files};
 use grub_views::{Mark, end_of, marked_picture_text, played_steps};
 use std::alloc::{AllocError, Global};
 
-/// The last moment of event files.
-const MOMENT_MAX: u64 = 2147483647;
-
 /// A moment of the event files, in which an event file may have a line.
 fn moment_of(micros: u64) -> u32 {
-    micros.min(MOMENT_MAX) as u32
+    micros.min(u64::from(MOMENT_MAX)) as u32
 }
 
 /// A moment for which the kernel armed a timer, in microseconds of the event files.
 fn kernel_moment(first: u64, armed: u64) -> u32 {
     let nanos = moment_of_kernel(armed).saturating_sub(moment_of_book(first, 0));
-    moment_of(u64::try_from(nanos / 1000).unwrap_or(MOMENT_MAX))
+    moment_of(u64::try_from(nanos / 1000).unwrap_or(u64::from(MOMENT_MAX)))
 }
 
 /// The mark of a block: where the kernel armed a timer, or where the block deviates.

@@ -41,7 +41,7 @@ charge_most dt u running this c within =
     div-le_of_le-mul c.most whole
 
 -- the reply of a charge tells what was charged
-told_charge : (x : Record) (was dq k q d : ℕ) (o : Option (ℕ × Server)) → (charged x was o).1 ≡ Charged dq k q d → was ≡ dq
+told_charge : (x : Record) (was dq k q d : ℕ) (o : Option (ℕ × Server)) → (charged x was o).1 ≡ Charged k q d dq → was ≡ dq
 told_charge x was dq k q d None h = absurd cc
 told_charge x was dq k q d (Some (n, server)) h = cc
 
@@ -57,7 +57,7 @@ share_most s book t r sound here there on =
     omega (arith, below, admitted)
 
 charge_free : (s : Machine) (book : Records) (t r dt dq k q d : ℕ) → IsSound s book → t < length s.tasks → r < length s.queues
-    → refused (record_at book t).place (record_at book t).count (Charge r dt) ≡ None → (step s book t (Charge r dt)).1 ≡ Charged dq k q d → dq ≤ dt
+    → refused (record_at book t).place (record_at book t).count (Charge r dt) ≡ None → (step s book t (Charge r dt)).1 ≡ Charged k q d dq → dq ≤ dt
 charge_free s book t r dt dq k q d sound here there free told =
     let x = record_at book t in
     let on = on_it r x.place refused_charge free in
@@ -70,17 +70,17 @@ charge_free s book t r dt dq k q d sound here there free told =
     subst (λ n. n ≤ dt) same (charge_most dt u now.running now.this (queue_at s r) (share_most s book t r sound here there is))
 
 charge_within : (s : Machine) (book : Records) (t r dt dq k q d : ℕ) (o : Option Reply) → IsSound s book → t < length s.tasks → r < length s.queues
-    → refused (record_at book t).place (record_at book t).count (Charge r dt) ≡ o → (step s book t (Charge r dt)).1 ≡ Charged dq k q d → dq ≤ dt
+    → refused (record_at book t).place (record_at book t).count (Charge r dt) ≡ o → (step s book t (Charge r dt)).1 ≡ Charged k q d dq → dq ≤ dt
 charge_within s book t r dt dq k q d None sound here there is told = charge_free s book t r dt dq k q d sound here there is told
 charge_within s book t r dt dq k q d (Some reply) sound here there is told =
     let outside = refused_outside (record_at book t).place (record_at book t).count (Charge r dt) reply is in
     let replied : (step s book t (Charge r dt)).1 ≡ reply = rw is refl in
-    let same : reply ≡ Charged dq k q d = sym replied ∙ told in
+    let same : reply ≡ Charged k q d dq = sym replied ∙ told in
     absurd (let false_is = rw same at outside in cc)
 
 told_within : (s : Machine) (book : Records) (t : ℕ) (op : Op) (reply : Reply) → IsSound s book → t < length s.tasks → IsOp s op → (step s book t op).1 ≡ reply
     → charge_in (Call t op) (Replied reply) ≤ run_of (Call t op) (Replied reply)
-told_within s book t (Charge r dt) (Charged dq k q d) sound here fits told =
+told_within s book t (Charge r dt) (Charged k q d dq) sound here fits told =
     charge_within s book t r dt dq k q d (refused (record_at book t).place (record_at book t).count (Charge r dt)) sound here fits.0 refl told
 told_within s book t op reply sound here fits told = omega arith
 

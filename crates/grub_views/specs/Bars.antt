@@ -69,7 +69,7 @@ width_of f bar = x_of f bar.to - x_of f bar.from
 
 -- the deadline to which an answer postpones that of a task: a recharge does
 abbrev pub deadline_postponed : Answer → Option ℕ
-deadline_postponed (Replied (Charged dq k q d)) = if nat_lt 0 k then Some d else None
+deadline_postponed (Replied (Charged k q d dq)) = if nat_lt 0 k then Some d else None
 deadline_postponed answer = None
 
 -- a step of runqueue r that postponed a deadline

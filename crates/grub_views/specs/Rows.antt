@@ -57,7 +57,7 @@ no_numbers = record { dq = None; k = None; q = None; d = None; z = None }
 abbrev pub reply_numbers : Reply → Numbers
 reply_numbers (Joined q d) = record { dq = None; k = None; q = Some q; d = Some d; z = None }
 reply_numbers (Woken q d) = record { dq = None; k = None; q = Some q; d = Some d; z = None }
-reply_numbers (Charged dq k q d) = record { dq = Some dq; k = Some k; q = Some q; d = Some d; z = None }
+reply_numbers (Charged k q d dq) = record { dq = Some dq; k = Some k; q = Some q; d = Some d; z = None }
 reply_numbers (Waiting ticket z) = record { dq = None; k = None; q = None; d = None; z = Some z }
 reply_numbers reply = no_numbers
 

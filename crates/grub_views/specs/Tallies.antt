@@ -22,17 +22,17 @@ own_steps t steps = filter (λ x. is_change_of t x.change) steps
 
 -- how long the task ran, where the run was charged
 abbrev pub run_of : Ask → Answer → ℕ
-run_of (Call t (Charge r dt)) (Replied (Charged dq k q d)) = dt
+run_of (Call t (Charge r dt)) (Replied (Charged k q d dq)) = dt
 run_of ask answer = 0
 
 -- what was charged for a run
 abbrev pub charge_in : Ask → Answer → ℕ
-charge_in (Call t (Charge r dt)) (Replied (Charged dq k q d)) = dq
+charge_in (Call t (Charge r dt)) (Replied (Charged k q d dq)) = dq
 charge_in ask answer = 0
 
 -- how often the budget was recharged
 abbrev pub recharges_in : Answer → ℕ
-recharges_in (Replied (Charged dq k q d)) = k
+recharges_in (Replied (Charged k q d dq)) = k
 recharges_in answer = 0
 
 abbrev pub is_joined : Answer → Bool
@@ -83,7 +83,7 @@ lateness_in x = lateness (server_before x.change).d x.told.entry.m x.told.entry.
 abbrev pub least_after : ℕ → Answer → ℕ
 least_after q (Replied (Joined p d)) = min q p
 least_after q (Replied (Woken p d)) = min q p
-least_after q (Replied (Charged dq k p d)) = min q p
+least_after q (Replied (Charged k p d dq)) = min q p
 least_after q answer = q
 
 abbrev pub is_refusing_reply : Reply → Bool
@@ -94,7 +94,7 @@ is_refusing_reply Asleep = false
 is_refusing_reply (Left r) = false
 is_refusing_reply Retired = false
 is_refusing_reply Ended = false
-is_refusing_reply (Charged dq k q d) = false
+is_refusing_reply (Charged k q d dq) = false
 is_refusing_reply Retuned = false
 is_refusing_reply reply = true
 

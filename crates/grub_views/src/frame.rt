@@ -4,6 +4,8 @@ ghost use Rattle.std.specs.Prelude.{◌≡◌, ◌<◌, ◌^◌, ◌&&◌, nat_l
 ghost use Rattle.grub_views.specs.Elements.{first_multiple, mark_step, multiples};
 ghost use Rattle.grub_views.specs.Frames.{height_of, is_in, x_of};
 
+use grub_bw::BW_UNIT;
+
 /// How many pixels wide the part is that has the time.
 const PLOT: u64 = 1024;
 
@@ -96,7 +98,7 @@ const MARK_STEPS: [u32; 28] = [
 pub fn height_of(bandwidth: u32) -> u64
     ensures { result ≡ height_of bandwidth }
 {
-    u64::from(bandwidth) * CURVE / 1048576
+    u64::from(bandwidth) * CURVE / u64::from(BW_UNIT)
 }
 
 /// Whether something stands to the right of the last column, and is to be drawn at all.

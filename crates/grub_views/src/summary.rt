@@ -12,7 +12,7 @@ use crate::fault::ViewFault;
 use crate::table::{Cell, put_table};
 use crate::tally::{Tally, steps_of_task, task_tally};
 use crate::usage::{Usage, queue_usage};
-use grub_bw::{Params, Queue};
+use grub_bw::{BW_UNIT, Params, Queue};
 use grub_timeline::TimeLine;
 use grub_trace::Plan;
 use std::alloc::{AllocError, Global};
@@ -144,7 +144,8 @@ fn percent_of(bandwidth: u128) -> u128
     ensures { result ≡ percent_of bandwidth }
 {
     // Whole processors first, so that no product is too great.
-    bandwidth / 1048576 * 10000 + bandwidth % 1048576 * 10000 / 1048576
+    let unit = u128::from(BW_UNIT);
+    bandwidth / unit * 10000 + bandwidth % unit * 10000 / unit
 }
 
 fn mean_of(area: u128, span: u32) -> u128

@@ -6,15 +6,13 @@ ghost use Rattle.grub_words.specs.Words.{queue_word, QueueFits};
 
 use crate::bits::{halves, join_halves};
 use grub_book::Reading;
-
-/// A bandwidth of one, in 1/2^20.
-const UNIT: u32 = 1048576;
+use grub_bw::BW_UNIT;
 
 /// Whether the reading has a word: running_bw is at most this_bw, and this_bw at most one.
 pub fn queue_fits(reading: Reading) -> bool
     ensures { IsTrue result ↔ QueueFits reading }
 {
-    reading.running <= reading.this && reading.this <= UNIT
+    reading.running <= reading.this && reading.this <= BW_UNIT
 }
 
 /// The word of the reading.

@@ -5,16 +5,13 @@ ghost use Rattle.grub_bw.specs.declared.server.Server.{Server};
 ghost use Rattle.grub_words.specs.Words.{server_word, ServerFits};
 
 use crate::bits::{halves, join_halves};
-use grub_bw::Server;
-
-/// The longest runtime, in the files' unit.
-const RUNTIME_MOST: u32 = 16777216;
+use grub_bw::{PERIOD_MAX, Server};
 
 /// Whether the server has a word: its budget is 1 to 16777216.
 pub fn server_fits(server: Server) -> bool
     ensures { IsTrue result ↔ ServerFits server }
 {
-    1 <= server.q && server.q <= RUNTIME_MOST
+    1 <= server.q && server.q <= PERIOD_MAX
 }
 
 /// The word of the server.

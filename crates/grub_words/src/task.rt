@@ -13,13 +13,7 @@ ghost use Rattle.grub_words.specs.declared.task.TaskWord.{TaskWord};
 ghost use Rattle.grub_words.specs.Words.{state_code, queue_code, task_word, PlaceFits, TaskFits};
 
 use crate::bits::{field, join};
-use grub_book::{Place, State};
-
-/// The highest number of a runqueue.
-const QUEUE_MOST: u64 = 63;
-
-/// The highest block count.
-const COUNT_MOST: u64 = 16777215;
+use grub_book::{COUNT_MAX, Place, QUEUES_MAX, State};
 
 /// What the word of a task says.
 #[derive(Clone, Copy, Debug, PartialEq, Eq)]
@@ -40,9 +34,9 @@ pub fn task_fits(task: TaskWord) -> bool
 {
     let there = match task.place {
         Place::Away | Place::Gone => true,
-        Place::On(r, _) => u64::from(r) <= QUEUE_MOST,
+        Place::On(r, _) => (r as usize) < QUEUES_MAX,
     };
-    there && u64::from(task.count) <= COUNT_MOST
+    there && task.count <= COUNT_MAX
 }
 
 /// The word of the task.
@@ -62,7 +56,7 @@ pub fn unpack_task(word: u64) -> Option<TaskWord>
     ensures none { IsNone result ↔ ((t : TaskWord) → TaskFits t → task_word t.place t.count t.claimed ≢ word) }
 {
     let count = word >> 12;
-    if count > COUNT_MOST {
+    if count > u64::from(COUNT_MAX) {
         return None;
     }
     let place = place_of(field(word, 0, 3), field(word, 4, 8))?;
@@ -99,7 +93,7 @@ fn place_of(code: u64, r: u64) -> Option<Place>
         4 if r == 0 => return Some(Place::Gone),
         _ => return None,
     };
-    if r > QUEUE_MOST {
+    if r >= QUEUES_MAX as u64 {
         return None;
     }
     Some(Place::On(r as u32, state))

@@ -34,7 +34,7 @@ use Rattle.grub_table.specs.Tellings.{IsHeldByOther, WasClaimedWord}
 
 -- a reply that stands as soon as the runqueue's word is loaded
 abbrev pub is_decided_at_load : Reply → Bool
-is_decided_at_load (Charged dq k q d) = true
+is_decided_at_load (Charged k q d dq) = true
 is_decided_at_load Full = true
 is_decided_at_load DeadlineOverflow = true
 is_decided_at_load reply = false

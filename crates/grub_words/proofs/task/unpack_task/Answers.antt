@@ -4,12 +4,12 @@ use Rattle.grub_words.proofs.Found.{none_from_found}
 use Rattle.grub_words.proofs.Tasks.{word_of, task_not_counted, task_not_placed, task_found}
 use Rattle.grub_words.proofs.task.unpack_task.Goals as goal
 
-pub returns-then-count-gt-COUNT_MOST-clause-found : goal.returns-then-count-gt-COUNT_MOST-clause-found
-returns-then-count-gt-COUNT_MOST-clause-found c = task_not_counted c.args.word (omega arith)
+pub returns-then-count-from-clause-found : goal.returns-then-count-from-clause-found
+returns-then-count-from-clause-found c = task_not_counted c.args.word (omega arith)
 
-pub returns-then-count-gt-COUNT_MOST-clause-none : goal.returns-then-count-gt-COUNT_MOST-clause-none
-returns-then-count-gt-COUNT_MOST-clause-none c =
-    none_from_found TaskFits word_of c.args.word _ (returns-then-count-gt-COUNT_MOST-clause-found c)
+pub returns-then-count-from-clause-none : goal.returns-then-count-from-clause-none
+returns-then-count-from-clause-none c =
+    none_from_found TaskFits word_of c.args.word _ (returns-then-count-from-clause-found c)
 
 pub returns-in_err-place-clause-found : goal.returns-in_err-place-clause-found
 returns-in_err-place-clause-found c =
