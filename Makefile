@@ -8,7 +8,7 @@ FLAGS ?=
 TRACE ?= examples/kernel/trace.txt
 WORDS ?= tasks
 
-.PHONY: build runner tracer run try try-trace test growths program options bench record-check install uninstall clean
+.PHONY: build runner tracer run try try-trace test growths program options bench bench-plain record-check install uninstall clean
 
 # Proves both programs with all that they stand on, and builds them. What is proved is told crate by crate.
 build:
@@ -56,6 +56,10 @@ bench: runner
 	@python3 scripts/bench-sizes.py
 	@python3 scripts/bench-timeline.py
 
+# grubrun beside plain Rust without proofs (bench/, which wants cargo): ratios of time, and of memory to input.
+bench-plain: runner
+	@python3 scripts/bench-plain.py
+
 # Records a load of two tasks on this machine, converts the trace and plays it; elsewhere it says why it cannot.
 record-check: build
 	scripts/record-check.sh
@@ -81,4 +85,4 @@ uninstall:
 	done
 
 clean:
-	rm -rf out crates/*/out
+	rm -rf out crates/*/out bench/target
