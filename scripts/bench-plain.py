@@ -108,7 +108,10 @@ def time_ratio(program, plain, repeats, folder):
 def memory_ratio(program, paths, repeats, folder):
     """The greatest memory of the program to the bytes of its files."""
     size = sum(os.path.getsize(path) for path in paths)
-    return max(peak([program, *paths], f"{folder}/out")[0] for _ in range(repeats)) / size
+    runs = [peak([program, *paths], f"{folder}/out") for _ in range(repeats)]
+    if any(status != 0 for _, status in runs):
+        sys.exit(f"bench: {program} {paths[0]} .. did not end well")
+    return max(memory for memory, _ in runs) / size
 
 
 def measure(program, repeats, folder):
@@ -133,7 +136,9 @@ def tell(row, figure):
 
 
 def main():
-    repeats = int(sys.argv[1]) if len(sys.argv) > 1 else 5
+    repeats = sys.argv[1] if len(sys.argv) > 1 else "5"
+    if not repeats.isdecimal() or int(repeats) == 0:
+        sys.exit("usage: bench-plain.py [REPEATS [PROGRAM]]")
     program = sys.argv[2] if len(sys.argv) > 2 else f"{ROOT}/crates/grubrun/out/grubrun"
     if not os.path.isfile(program):
         sys.exit(f"bench: there is no {program}, which `make runner` proves and builds")
@@ -141,7 +146,7 @@ def main():
     if ctypes.CDLL(None).prctl(PR_SET_CHILD_SUBREAPER, 1) != 0:
         sys.exit("bench: this system does not hand over the processes of a shell that has ended")
     with tempfile.TemporaryDirectory() as folder:
-        measure(program, repeats, folder)
+        measure(program, int(repeats), folder)
 
 
 main()
