@@ -1,5 +1,6 @@
 pub mod Census
 pub mod Faults
 pub mod Files
+pub mod Options
 pub mod Read
 pub mod inside

@@ -4,7 +4,7 @@ ghost use Rattle.std.specs.Prelude.{◌≡◌, ◌<◌, ◌↔◌, All, IsTrue, 
 ghost use Rattle.grub_trace.specs.Reading.{contents};
 ghost use Rattle.grub_events.specs.Order.{FirstBeyond, is_beyond};
 ghost use Rattle.grub_convert.specs.Files.{AreFiles, IsSetting, IsFault, IsSound, events_told, files_of, is_shown, missing_from, name_in, params_in, reservation_of};
-ghost use Rattle.grub_convert.specs.inside.Files.{text_of};
+ghost use Rattle.grub_convert.specs.Options.{text_of};
 ghost use Rattle.std.specs.Prelude.{None, find, option_map};
 
 use crate::options::{Given, Options};

@@ -1,5 +1,12 @@
 //! What the words of options say.
 
+ghost use Rattle.std.specs.Prelude.{◌≡◌, ◌<◌, ◌==◌, [], Some, IfOk, length, map, option_map};
+ghost use Rattle.std.specs.Char.{is_ascii_digit};
+ghost use Rattle.std.specs.List.{list_all, list_any};
+ghost use Rattle.std.specs.Path.{rsplit_once};
+ghost use Rattle.grub_convert.specs.Options.{fair_in, text_of, given_task, has_name, most_in, number_in, pair_in, reservation_in, said_by, said_in, task_in, tasks_in};
+ghost use Rattle.grub_convert.specs.inside.Words.{is_named, texts_of};
+
 use grub_bw::Params;
 use grub_events::umax_of;
 use std::alloc::{AllocError, Global};
@@ -26,18 +33,35 @@ pub struct Options<'a> {
     pub fair: Option<Params>,
 }
 
+fn are_digits(text: &str) -> bool
+    ensures { result ≡ list_all is_ascii_digit text.now }
+{
+    text.as_bytes().iter().all(|b| b.is_ascii_digit())
+}
+
 /// The number that digits spell; none where there are others, or where it is above 2^64 - 1.
-fn number_of(text: &str) -> Option<u64> {
-    if text.as_bytes().iter().all(|b| b.is_ascii_digit()) {
-        text.parse::<u64>().ok()
-    } else {
-        None
+fn number_of(text: &str) -> Option<u64>
+    ensures { result ≡ number_in text.now }
+{
+    if !are_digits(text) {
+        return None;
     }
+    text.parse::<u64>().ok()
+}
+
+/// What stands before the last one of an ASCII character, and behind it.
+fn parts_of(text: &str, at: char) -> Option<(&str, &str)>
+    requires { at < 128 }
+    ensures { option_map texts_of result ≡ rsplit_once at text.now }
+{
+    text.rsplit_once(at)
 }
 
 /// The numbers of `RUNTIME:PERIOD`.
-fn pair_of(text: &str) -> Option<(u64, u64)> {
-    let (runtime, period) = text.split_once(':')?;
+fn pair_of(text: &str) -> Option<(u64, u64)>
+    ensures { result ≡ pair_in text.now }
+{
+    let (runtime, period) = parts_of(text, ':')?;
     match (number_of(runtime), number_of(period)) {
         (Some(runtime), Some(period)) => Some((runtime, period)),
         _ => None,
@@ -45,7 +69,9 @@ fn pair_of(text: &str) -> Option<(u64, u64)> {
 }
 
 /// The reservation of `RUNTIME:PERIOD`, in microseconds.
-pub fn params_of(text: &str) -> Option<Params> {
+fn params_of(text: &str) -> Option<Params>
+    ensures { result ≡ reservation_in text.now }
+{
     let (runtime, period) = pair_of(text)?;
     match (u32::try_from(runtime), u32::try_from(period)) {
         (Ok(runtime), Ok(period)) => Params::new(runtime, period).ok(),
@@ -54,14 +80,18 @@ pub fn params_of(text: &str) -> Option<Params> {
 }
 
 /// The task of `NAME=RUNTIME:PERIOD`, whose name ends at the last `=`.
-pub fn task_of(text: &str) -> Option<Given<'_>> {
-    let (name, reservation) = text.rsplit_once('=')?;
+fn task_of(text: &str) -> Option<Given<'_>>
+    ensures { option_map given_task result ≡ task_in text.now }
+{
+    let (name, reservation) = parts_of(text, '=')?;
     let params = params_of(reservation)?;
     Some(Given { name, params })
 }
 
 /// The server of fair tasks of `RUNTIME:PERIOD` or `none`.
-pub fn fair_of(text: &str) -> Option<Option<Params>> {
+fn fair_of(text: &str) -> Option<Option<Params>>
+    ensures { result ≡ fair_in text.now }
+{
     if text == "none" {
         return Some(None);
     }
@@ -72,12 +102,19 @@ pub fn fair_of(text: &str) -> Option<Option<Params>> {
 }
 
 /// Whether a name is among these tasks.
-fn names(tasks: &[Given<'_>], name: &str) -> bool {
+fn names(tasks: &[Given<'_>], name: &str) -> bool
+    ensures { result ≡ list_any (is_named name.now) tasks.now }
+{
     tasks.iter().any(|task| task.name == name)
 }
 
 /// The tasks of these words; none where one of them says no task, or one name comes twice, or there are none.
-fn tasks_of<'a>(alloc: Global, words: &[&'a str]) -> Result<Option<Vec<Given<'a>>>, AllocError> {
+fn tasks_of<'a>(alloc: Global, words: &[&'a str]) -> Result<Option<Vec<Given<'a>>>, AllocError>
+    ensures { IfOk result (λ made. option_map (λ v. map given_task v.items) made ≡ tasks_in (map text_of words.now)) }
+{
+    if words.is_empty() {
+        return Ok(None);
+    }
     let mut tasks = Vec::new(alloc);
     for word in words {
         let Some(task) = task_of(word) else {
@@ -90,10 +127,15 @@ fn tasks_of<'a>(alloc: Global, words: &[&'a str]) -> Result<Option<Vec<Given<'a>
             return Err(AllocError);
         }
     }
-    if tasks.is_empty() {
-        return Ok(None);
-    }
     Ok(Some(tasks))
+}
+
+/// The most bandwidth of deadline tasks on a runqueue, of `RUNTIME:PERIOD`.
+fn most_of(text: &str) -> Option<u32>
+    ensures { result ≡ most_in text.now }
+{
+    let (runtime, period) = pair_of(text)?;
+    umax_of(runtime, period)
 }
 
 /// What the values of the options say: each `--task`, `--cpus`, `--rt` and `--fair-server`; none where one of them says
@@ -104,15 +146,13 @@ pub fn options_of<'a>(
     cpus: Option<u32>,
     rt: &str,
     fair: &str,
-) -> Result<Option<Options<'a>>, AllocError> {
+) -> Result<Option<Options<'a>>, AllocError>
+    ensures { IfOk result (λ made. option_map said_by made ≡ said_in (map text_of tasks.now) cpus rt.now fair.now) }
+{
     let Some(tasks) = tasks_of(alloc, tasks)? else {
         return Ok(None);
     };
-    let umax = match pair_of(rt) {
-        Some((runtime, period)) => umax_of(runtime, period),
-        None => None,
-    };
-    match (umax, fair_of(fair)) {
+    match (most_of(rt), fair_of(fair)) {
         (Some(umax), Some(fair)) => Ok(Some(Options {
             tasks,
             cpus,

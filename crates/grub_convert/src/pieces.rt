@@ -4,7 +4,7 @@ ghost use Rattle.std.specs.Prelude.{◌≡◌, ◌<◌, ◌⊎◌, ℕ, List, []
 ghost use Rattle.grub_files.specs.Source.{Gives};
 ghost use Rattle.grub_facts.specs.Census.{CountsOn, NeedsNoMore as CountsEnough};
 ghost use Rattle.grub_facts.specs.Told.{HasRead, NeedsNoMore, ReadsOn};
-ghost use Rattle.grub_convert.specs.inside.Files.{text_of};
+ghost use Rattle.grub_convert.specs.Options.{text_of};
 ghost use Rattle.grub_convert.specs.Read.{IsFaultIn, IsShownOf, IsToldOf, names_in};
 ghost use Rattle.grub_convert.specs.inside.Taking.{IsNoLine, TookAll, TookEnough, TookFrom};
 

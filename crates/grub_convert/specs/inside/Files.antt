@@ -1,6 +1,0 @@
--- The text that a name points to.
-use Rattle.std.specs.Prelude.{ℕ, List}
-use Rattle.std.specs.Borrow.{Bor}
-
-abbrev pub text_of : Bor (List ℕ) → List ℕ
-text_of name = name.now
