@@ -3,6 +3,7 @@ pub mod Rowing
 pub mod Stepping
 pub mod Viewing
 pub mod ActiveTimes
+pub mod Adding
 pub mod Charging
 pub mod Handing
 pub mod Closing

@@ -1,3 +1,4 @@
 pub mod Fitting
 pub mod Scenes
 pub mod Begun
+pub mod Adding

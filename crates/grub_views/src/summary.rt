@@ -1,17 +1,19 @@
 //! The summary of a time line: a table of its tasks and one of its runqueues.
 
-ghost use Rattle.std.specs.Prelude.{◌≡◌, ◌++◌, ◌+◌, ◌<◌, ◌^◌, map, IfOk};
+ghost use Rattle.std.specs.Prelude.{◌≡◌, ◌+◌, ◌<◌, ◌^◌, List, map, length, IfOk};
 ghost use Rattle.grub_timeline.specs.TimeLines.{AreWithin, IsTimeLine};
+ghost use Rattle.grub_views.specs.declared.book_steps.Step.{Step};
+ghost use Rattle.grub_views.specs.inside.Adding.{meters_of, tallies_of};
 ghost use Rattle.grub_views.specs.inside.Fitting.{AreToldIn};
 ghost use Rattle.grub_views.specs.Replay.{steps_of};
-ghost use Rattle.grub_views.specs.Summary.{count_up, mean_of, percent_of, queue_cells, queue_row, span_of, summary_text, task_cells, task_row};
+ghost use Rattle.grub_views.specs.Summary.{count_up, mean_of, percent_of, queue_cells, queue_row, summary_text, task_cells, task_row};
 ghost use Rattle.grub_views.specs.declared.table.Cell.TheVariants.{Head};
 
-use crate::book_steps::{Step, replay};
 use crate::fault::ViewFault;
+use crate::sums::sums_of;
 use crate::table::{Cell, put_table};
-use crate::tally::{Tally, steps_of_task, task_tally};
-use crate::usage::{Usage, queue_usage};
+use crate::tally::Tally;
+use crate::usage::{Meter, Usage};
 use grub_bw::{BW_UNIT, Params, Queue};
 use grub_timeline::TimeLine;
 use grub_trace::Plan;
@@ -36,9 +38,9 @@ fn text_of(alloc: Global, plan: &Plan, line: &TimeLine) -> Result<Vec<u8>, Alloc
     requires { AreToldIn plan.now.setup line.now.told.items }
     ensures { IfOk result (λ v. v.items ≡ summary_text plan.now.setup plan.now.names (steps_of plan.now.setup line.now.told.items)) }
 {
-    let steps = replay(alloc, plan.setup(), &line.told)?;
-    let tasks = task_cells(alloc, plan, &steps)?;
-    let queues = queue_cells(alloc, plan, &steps)?;
+    let sums = sums_of(alloc, plan.setup(), &line.told)?;
+    let tasks = task_cells(alloc, plan, &sums.tallies)?;
+    let queues = queue_cells(alloc, plan, &sums.meters)?;
     let mut out = Vec::new(alloc);
     put_table(alloc, &mut out, plan, true, TASK_COLUMNS, &tasks)?;
     out.extend_from_slice(b"\n")?;
@@ -59,15 +61,14 @@ fn heads_of(alloc: Global, from: u32, count: u32) -> Result<Vec<Cell>, AllocErro
 }
 
 /// The names of the columns, and a row for each task.
-fn task_cells(alloc: Global, plan: &Plan, steps: &[Step]) -> Result<Vec<Cell>, AllocError>
-    ensures { IfOk result (λ v. v.items ≡ task_cells plan.now.setup steps.now) }
+fn task_cells(alloc: Global, plan: &Plan, tallies: &[Tally]) -> Result<Vec<Cell>, AllocError>
+    requires { length tallies.now ≡ length plan.now.setup.tasks }
+    ensures { (steps : List Step) → tallies.now ≡ tallies_of plan.now.setup steps → IfOk result (λ v. v.items ≡ task_cells plan.now.setup steps) }
 {
     let setup = plan.setup();
     let mut cells = heads_of(alloc, 0, 19)?;
     for t in 0..setup.task_count() {
-        let params = setup.params(t);
-        let own = steps_of_task(alloc, t, steps)?;
-        let row = task_row(t, params, task_tally(params.runtime(), &own));
+        let row = task_row(t, setup.params(t), tallies[t as usize]);
         cells.extend_from_slice(&row)?;
     }
     Ok(cells)
@@ -100,14 +101,15 @@ fn task_row(t: u32, params: Params, x: Tally) -> [Cell; 19]
 }
 
 /// The names of the columns, and a row for each runqueue.
-fn queue_cells(alloc: Global, plan: &Plan, steps: &[Step]) -> Result<Vec<Cell>, AllocError>
-    ensures { IfOk result (λ v. v.items ≡ queue_cells plan.now.setup steps.now) }
+fn queue_cells(alloc: Global, plan: &Plan, meters: &[Meter]) -> Result<Vec<Cell>, AllocError>
+    requires { length meters.now ≡ length plan.now.setup.queues }
+    ensures { (steps : List Step) → meters.now ≡ meters_of plan.now.setup steps → IfOk result (λ v. v.items ≡ queue_cells plan.now.setup steps) }
 {
     let setup = plan.setup();
-    let span = span_of(steps);
     let mut cells = heads_of(alloc, 19, 9)?;
     for r in 0..setup.queue_count() {
-        let row = queue_row(r, setup.queue(r), span, queue_usage(r, steps));
+        let meter = meters[r as usize];
+        let row = queue_row(r, setup.queue(r), meter.from, meter.usage);
         cells.extend_from_slice(&row)?;
     }
     Ok(cells)
@@ -127,16 +129,6 @@ fn queue_row(r: u32, queue: Queue, span: u32, x: Usage) -> [Cell; 9]
         Cell::Percent(percent_of(mean_of(x.this, span))),
         Cell::Percent(percent_of(u128::from(x.most.this))),
     ]
-}
-
-/// The moment of the last entry, or 0 where there is none.
-fn span_of(steps: &[Step]) -> u32
-    ensures { result ≡ span_of steps.now }
-{
-    match steps.last() {
-        Some(step) => step.told.entry.m,
-        None => 0,
-    }
 }
 
 /// A bandwidth of 1/2^20 in hundredths of a percent of the processor, rounded down.

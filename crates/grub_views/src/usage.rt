@@ -1,8 +1,9 @@
 //! What is counted of a runqueue over a time line.
 
-ghost use Rattle.std.specs.Prelude.{◌≡◌, ◌≤◌, ◌*◌, ◌+◌, ◌^◌, max, if◌then◌else◌};
+ghost use Rattle.std.specs.Prelude.{◌≡◌, ◌<◌, ◌≤◌, ◌*◌, ◌+◌, ◌^◌, ℕ, [], max, if◌then◌else◌};
 ghost use Rattle.grub_book.specs.History.{is_reading};
-ghost use Rattle.grub_views.specs.Usage.{changes_from, no_reading, reading_after, running_from, running_most_from, this_from, this_most_from, usage_of};
+ghost use Rattle.grub_views.specs.Usage.{reading_after};
+ghost use Rattle.grub_views.specs.inside.Adding.{IsMeterWithin, meter_after, meter_of};
 
 use crate::book_steps::Step;
 use grub_book::Reading;
@@ -28,16 +29,58 @@ const NO_READING: Reading = Reading {
     this: 0,
 };
 
-/// The numbers of runqueue `r`.
-pub fn queue_usage(r: u32, steps: &[Step]) -> Usage
-    ensures { result ≡ usage_of r steps.now }
-{
-    let (running, this) = areas_of(r, steps);
-    Usage {
-        changes: changes_of(r, steps),
-        running,
-        this,
-        most: most_of(r, steps),
+/// What is counted of a runqueue over the steps so far, and where it stands.
+#[derive(Clone, Copy, Debug, PartialEq, Eq)]
+pub struct Meter {
+    queue: u32,
+
+    /// The reading after the last step.
+    now: Reading,
+
+    /// The moment of the last step.
+    pub from: u32,
+
+    pub usage: Usage,
+}
+
+impl Meter {
+    /// Of no step yet.
+    pub fn new(queue: u32) -> Meter
+        ensures { result ≡ meter_of queue [] }
+    {
+        Meter {
+            queue,
+            now: NO_READING,
+            from: 0,
+            usage: Usage {
+                changes: 0,
+                running: 0,
+                this: 0,
+                most: NO_READING,
+            },
+        }
+    }
+
+    /// With one step more, of whichever runqueue.
+    pub fn and(self, x: &Step) -> Meter
+        requires { (n : ℕ) × (n + 1 < 2 ^ 64) × IsMeterWithin n self }
+        ensures value { result ≡ meter_after self x.now }
+        ensures within { (n : ℕ) → IsMeterWithin n self → IsMeterWithin (n + 1) result }
+    {
+        let m = x.told.entry.m;
+        let width = m.saturating_sub(self.from);
+        let next = reading_after(self.queue, self.now, x);
+        Meter {
+            queue: self.queue,
+            now: next,
+            from: m,
+            usage: Usage {
+                changes: self.usage.changes + change_count(self.now, next),
+                running: self.usage.running + area(self.now.running, width),
+                this: self.usage.this + area(self.now.this, width),
+                most: greater(self.usage.most, next),
+            },
+        }
     }
 }
 
@@ -46,19 +89,6 @@ fn reading_after(r: u32, now: Reading, x: &Step) -> Reading
     ensures { result ≡ reading_after r now x.now }
 {
     if x.queue == r { x.reading } else { now }
-}
-
-fn changes_of(r: u32, steps: &[Step]) -> usize
-    ensures { result ≡ changes_from r no_reading steps.now }
-{
-    let mut changes: usize = 0;
-    let mut now = NO_READING;
-    for x in steps {
-        let next = reading_after(r, now, x);
-        changes += change_count(now, next);
-        now = next;
-    }
-    changes
 }
 
 /// One where the reading is another.
@@ -73,43 +103,11 @@ fn change_count(now: Reading, next: Reading) -> usize
     }
 }
 
-/// running_bw and this_bw over time.
-fn areas_of(r: u32, steps: &[Step]) -> (u128, u128)
-    ensures running { result.0 ≡ running_from r no_reading 0 steps.now }
-    ensures this { result.1 ≡ this_from r no_reading 0 steps.now }
-{
-    let mut running: u128 = 0;
-    let mut this: u128 = 0;
-    let mut now = NO_READING;
-    let mut from = 0;
-    for x in steps {
-        let m = x.told.entry.m;
-        running += area(now.running, m.saturating_sub(from));
-        this += area(now.this, m.saturating_sub(from));
-        now = reading_after(r, now, x);
-        from = m;
-    }
-    (running, this)
-}
-
 fn area(height: u32, width: u32) -> u128
     ensures value { result ≡ height * width }
     ensures most { result ≤ 18446744073709551616 }
 {
     u128::from(u64::from(height) * u64::from(width))
-}
-
-/// The greatest running_bw and this_bw after a step.
-fn most_of(r: u32, steps: &[Step]) -> Reading
-    ensures { result ≡ record { running = running_most_from r no_reading steps.now; this = this_most_from r no_reading steps.now } }
-{
-    let mut most = NO_READING;
-    let mut now = NO_READING;
-    for x in steps {
-        now = reading_after(r, now, x);
-        most = greater(most, now);
-    }
-    most
 }
 
 fn greater(a: Reading, b: Reading) -> Reading
