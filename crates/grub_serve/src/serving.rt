@@ -53,12 +53,14 @@ pub fn serve_files<
 /// status: 0 for the view, `STATUS_FILE` or `STATUS_SYSTEM` for a fault, and `STATUS_USAGE` where the span of a picture
 /// is empty.
 pub fn serve_view<
+    R: Threads + Sync,
     D: Drop,
     O: Fn(&str) -> io::Result<D>,
     N: Fn(&mut D, &mut [u8]) -> io::Result<usize>,
     W: Write,
     E: Write,
 >(
+    rt: &R,
     alloc: Global,
     view: View,
     source: &Source<O, N>,
@@ -75,7 +77,7 @@ pub fn serve_view<
     ensures nothing { (result ≡ STATUS_FILE) ⊎ (result ≡ STATUS_USAGE) → out.new ≡ out.old }
     ensures failed { result ≡ STATUS_SYSTEM → (out.new ≡ out.old) ⊎ PrintsViewBeginning O.Fn N.Fn source.now view (names_of paths.now) (W.contents out.old) (W.contents out.new) }
 {
-    match print_view(alloc, view, source, paths, out) {
+    match print_view(rt, alloc, view, source, paths, out) {
         Ok(()) => 0,
         Err(fault) => tell(&fault, faults),
     }

@@ -14,17 +14,20 @@ use grub_trace::FILES_MAX;
 use std::alloc::Global;
 use std::io;
 use std::io::Write;
+use std::thread::Threads;
 
 /// Reads the files of these names, plays them on one time line, and prints a view of it.
 ///
 /// The bytes of at most 64 files are kept at a time.
 pub fn print_view<
     'a,
+    R: Threads + Sync,
     D: Drop,
     O: Fn(&str) -> io::Result<D>,
     N: Fn(&mut D, &mut [u8]) -> io::Result<usize>,
     W: Write,
 >(
+    rt: &R,
     alloc: Global,
     view: View,
     source: &Source<O, N>,
@@ -46,7 +49,7 @@ pub fn print_view<
         Ok(files) => files,
         Err(fault) => return Err(fault),
     };
-    match write_view(alloc, files, view, out) {
+    match write_view(rt, alloc, files, view, out) {
         Ok(()) => Ok(()),
         Err(ShowFault::Grub(fault)) => Err(placed(paths, fault)),
         Err(ShowFault::EmptySpan { from, to }) => Err(ProgramFault::EmptySpan { from, to }),

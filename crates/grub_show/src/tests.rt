@@ -8,6 +8,7 @@ use std::io;
 use std::io::{ErrorKind, Write};
 use std::process::Abort;
 use std::test::Fail;
+use std::thread::Threads;
 
 /// A task that moves from one runqueue to another while it waits for its 0-lag moment.
 const MOVES_FROM: &str = "\
@@ -73,7 +74,7 @@ fn input_of(alloc: Global) -> Result<(Vec<Vec<u8>>, Vec<u8>), AllocError> {
 
 /// What a view of the two files wrote, or the refusal that stopped it, which wrote nothing. The test's own input is made
 /// a second time where a growth of it was refused.
-fn shown<R: Abort>(rt: &R, alloc: Global, view: View) -> Option<Vec<u8>> {
+fn shown<R: Abort + Threads + Sync>(rt: &R, alloc: Global, view: View) -> Option<Vec<u8>> {
     let made = match input_of(alloc) {
         Ok(made) => Ok(made),
         Err(_) => input_of(alloc),
@@ -81,7 +82,7 @@ fn shown<R: Abort>(rt: &R, alloc: Global, view: View) -> Option<Vec<u8>> {
     let Ok((files, mut out)) = made else {
         panic!(rt; "refused twice")
     };
-    match write_view(alloc, files, view, &mut out) {
+    match write_view(rt, alloc, files, view, &mut out) {
         Ok(()) => Some(out),
         Err(fault) => {
             assert!(rt; is_refusal(fault));
@@ -176,7 +177,7 @@ fn a_writer_that_fails(rt: HostRuntime) -> Result<(), Fail> {
                 taken: Vec::new(alloc),
                 room,
             };
-            let result = write_view(alloc, files, view, &mut out);
+            let result = write_view(&rt, alloc, files, view, &mut out);
             assert!(rt; result == Err(ShowFault::Grub(GrubFault::WriteFault)));
             assert_eq!(rt; out.taken.len(), room);
             assert!(rt; text.as_bytes().starts_with(out.taken.as_slice()));

@@ -18,6 +18,7 @@ ghost use Rattle.grub_views.specs.Rows.{step_rows};
 
 use crate::fault::ShowFault;
 use grub_book::Book;
+use grub_lines::Blocks;
 use grub_run::GrubFault;
 use grub_timeline::{Playing, TimeLine, play};
 use grub_trace::{LINE_MAX, Plan, read_files, report_buffer, write_buffer};
@@ -25,6 +26,7 @@ use grub_views::{end_of, picture_text, summary_text, write_steps, write_timeline
 use std::alloc::Global;
 use std::io;
 use std::io::Write;
+use std::thread::Threads;
 
 /// A view of the time line of files.
 #[derive(Clone, Copy, Debug, PartialEq, Eq)]
@@ -48,9 +50,10 @@ pub enum View {
 ///
 /// `Trace` (28 to 37) is the reader's fault, and `View` (48) is want of memory for the time line or the view's text.
 /// `EmptySpan` comes where a picture would not begin before it ends. `WriteFault` (45) comes where the writer failed or
-/// took nothing; a beginning of the text was written then. On every other fault nothing was written: lines go through a
-/// buffer of fixed size, which is the last thing that memory is taken for.
-pub fn write_view<W: Write>(
+/// took nothing; a beginning of the text was written then. On every other fault nothing was written: lines go through
+/// buffers of fixed size, which are the last thing that memory is taken for.
+pub fn write_view<R: Threads + Sync, W: Write>(
+    rt: &R,
     alloc: Global,
     files: Vec<Vec<u8>>,
     view: View,
@@ -72,7 +75,7 @@ pub fn write_view<W: Write>(
     };
     drop(files);
     if let View::Timeline = view {
-        return write_lines(alloc, &plan, out);
+        return write_lines(rt, alloc, &plan, out);
     }
     let Ok(line) = play(alloc, &plan) else {
         return Err(ShowFault::Grub(GrubFault::View));
@@ -105,7 +108,12 @@ fn write_played<W: Write>(
 }
 
 /// Plays the plan, and writes the lines of its time line.
-fn write_lines<W: Write>(alloc: Global, plan: &Plan, out: &mut W) -> Result<(), ShowFault>
+fn write_lines<R: Threads + Sync, W: Write>(
+    rt: &R,
+    alloc: Global,
+    plan: &Plan,
+    out: &mut W,
+) -> Result<(), ShowFault>
     ensures text { OnOk result (WritesLine View.Timeline plan.now (W.contents out.old) (W.contents out.new)) }
     ensures prefix { IfErr result (λ e. e ≡ write_fault → BeginsLine View.Timeline plan.now (W.contents out.old) (W.contents out.new)) }
     ensures nothing { IfErr result (λ e. (e ≡ write_fault → ⊥) → out.new ≡ out.old) }
@@ -117,14 +125,19 @@ fn write_lines<W: Write>(alloc: Global, plan: &Plan, out: &mut W) -> Result<(), 
     let Ok(buffer) = report_buffer(alloc) else {
         return Err(ShowFault::Grub(GrubFault::View));
     };
-    match lines_through(buffer, plan, playing, out) {
+    let Ok(blocks) = Blocks::new(alloc) else {
+        return Err(ShowFault::Grub(GrubFault::View));
+    };
+    match lines_through(rt, blocks, buffer, plan, playing, out) {
         Ok(()) => Ok(()),
         Err(_) => Err(ShowFault::Grub(GrubFault::WriteFault)),
     }
 }
 
 /// Plays a time line of which nothing was played yet, writes its lines through a buffer, and flushes.
-fn lines_through<W: Write>(
+fn lines_through<R: Threads + Sync, W: Write>(
+    rt: &R,
+    blocks: Blocks,
     buffer: Vec<u8>,
     plan: &Plan,
     playing: Playing<'_>,
@@ -137,8 +150,9 @@ fn lines_through<W: Write>(
     ensures whole { OnOk result (WritesLine View.Timeline plan.now (W.contents out.old) (W.contents out.new)) }
     ensures part { OnErr result (BeginsLine View.Timeline plan.now (W.contents out.old) (W.contents out.new)) }
 {
+    let mut blocks = blocks;
     let mut buffer = buffer;
-    write_timeline(&mut buffer, out, plan, playing)?;
+    write_timeline(rt, &mut blocks, &mut buffer, out, plan, playing)?;
     write_buffer(&mut buffer, out)?;
     out.flush()
 }

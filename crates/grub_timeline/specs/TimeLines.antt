@@ -92,11 +92,12 @@ DoNotGoBack told = IsNonDecreasingBy (λ (e : Entry). e.m) (entries_of told)
 abbrev pub AreWithin : Machine → List Told → Type 0
 AreWithin s told = All (λ (x : Told). (x.r < length s.queues) × IsAskOf (length s.tasks) x.entry.ask) told
 
--- what playing is to its callers: the plan, the entries so far, the latest of them, and how many lines are left
+-- what playing is to its callers: the plan, the entries so far, the latest of them and how many those are at most, and how many lines are left
 pub record PlayState : Type 0 where
   pub plan : PlanView
   pub told : List Told
   pub chunk : List Told
+  pub most : ℕ
   pub left : ℕ
 
 -- no other entries and readings than these are the time line of the plan

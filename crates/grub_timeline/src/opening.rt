@@ -11,8 +11,8 @@ use grub_wheel::Wheel;
 use std::alloc::{AllocError, Global};
 use std::snapshot::Snapshot;
 
-/// How many entries are told at a time, and those of one line more.
-const CHUNK: usize = 4096;
+/// How many entries are told at a time at most, where a line cannot ask for half as many.
+const CHUNK: usize = 32_768;
 
 /// A player that has asked nothing yet.
 pub fn player_of<'a>(alloc: Global, plan: &'a Plan) -> Result<Player<'a>, AllocError>
@@ -29,7 +29,7 @@ pub fn player_of<'a>(alloc: Global, plan: &'a Plan) -> Result<Player<'a>, AllocE
     };
     let wheel = wheel_of(alloc, tasks)?;
     let armers = vec![in alloc; 0; tasks as usize]?;
-    let chunk = Vec::with_capacity(alloc, CHUNK + tasks as usize + 3)?;
+    let chunk = Vec::with_capacity(alloc, CHUNK.max(2 * (tasks as usize + 3)))?;
     let told = Log::new();
     let start = Snapshot::of(&told);
     Ok(Player {

@@ -1,9 +1,9 @@
 //! A time line that is played, some lines at a time.
-ghost use Rattle.std.specs.Prelude.{◌≡◌, ◌++◌, ◌<◌, [], IfOk, length};
+ghost use Rattle.std.specs.Prelude.{◌≡◌, ◌++◌, ◌<◌, ◌≤◌, [], IfOk, length};
 ghost use Rattle.std.specs.Bool.{OnFalse, OnTrue};
 ghost use Rattle.grub_book.specs.History.{IsLegal};
 ghost use Rattle.grub_timeline.specs.Order.{script_at};
-ghost use Rattle.grub_timeline.specs.TimeLines.{AreWithin, DoNotGoBack, IsOneRun, IsOnlyTimeLine, IsTimeLine, history_of};
+ghost use Rattle.grub_timeline.specs.TimeLines.{AreAnswered, AreWithin, DoNotGoBack, IsOneRun, IsOnlyTimeLine, IsTimeLine, history_of};
 
 use crate::closing::fill_readings;
 use crate::fault::PlayFault;
@@ -32,13 +32,14 @@ pub struct Playing<'a> {
 }
 
 impl<'a> Model for Playing<'a> {
+    ghost use Rattle.std.specs.Prelude.{vec_capacity};
     ghost use Rattle.grub_timeline.specs.Order.{left};
     ghost use Rattle.grub_timeline.specs.TimeLines.{PlayState};
     ghost use Rattle.grub_timeline.specs.inside.Merge.{IsUnderWay};
 
     ghost Value = { PlayState };
 
-    ghost view = { λ x. record { plan = x.plan.now; told = x.player.told.items; chunk = x.player.chunk.items; left = left x.plan.now.scripts x.done.items } };
+    ghost view = { λ x. record { plan = x.plan.now; told = x.player.told.items; chunk = x.player.chunk.items; most = vec_capacity x.player.chunk; left = left x.plan.now.scripts x.done.items } };
 
     ghost invariant = { λ x. IsUnderWay x.plan.now x.player x.done.items x.closing };
 }
@@ -61,6 +62,9 @@ impl<'a> Playing<'a> {
         ensures none { OnFalse result (self.new.chunk ≡ []) }
         ensures within { AreWithin self.new.plan.setup self.new.chunk }
         ensures legal { IsLegal self.new.plan.setup (history_of self.new.told) }
+        ensures answered { AreAnswered self.new.told }
+        ensures most { self.new.most ≡ self.old.most }
+        ensures few { length self.new.chunk ≤ self.new.most }
     {
         let Playing {
             plan,
@@ -78,6 +82,13 @@ impl<'a> Playing<'a> {
         ensures { result.now ≡ self.now.chunk }
     {
         &self.player.chunk
+    }
+
+    /// How many entries are asked for at a time at most.
+    pub fn most(&self) -> usize
+        ensures { result ≡ self.now.most }
+    {
+        self.player.chunk.capacity()
     }
 
     /// The closing readings, where no line is left.

@@ -4,22 +4,25 @@ ghost use Rattle.std.specs.Prelude.{◌≡◌, ◌+◌, ◌≤◌, ◌++◌, [],
 ghost use Rattle.std.specs.List.{flat_map};
 ghost use Rattle.grub_trace.specs.Texts.{IsAskOf};
 ghost use Rattle.grub_trace.specs.Writing.{HandsOn, HandsPart};
-ghost use Rattle.grub_timeline.specs.TimeLines.{AreWithin};
 ghost use Rattle.grub_views.specs.Lines.{HandsOnTimeline, HandsPartOfTimeline, close_line, close_lines, told_line};
 
 use crate::rest::play_out;
 use grub_book::Reading;
+use grub_lines::{Blocks, Line, write_lines};
 use grub_timeline::{Playing, Told};
 use grub_trace::{
     LINE_MAX, Plan, append, append_answer, append_ask, append_number, append_reading, make_room,
 };
 use std::io;
 use std::io::Write;
+use std::thread::Threads;
 
 /// Plays what is left of a time line of the plan, of which nothing was played yet, and puts its text into the buffer, which is
 /// written as often as it is full: a line for each entry, and then the closing reading of each runqueue. It takes no memory.
 /// After a failing write, or one that took nothing, a beginning of the buffer's bytes and the text was written.
-pub fn write_timeline<W: Write>(
+pub fn write_timeline<R: Threads + Sync, W: Write>(
+    rt: &R,
+    blocks: &mut Blocks,
     buffer: &mut Vec<u8>,
     out: &mut W,
     plan: &Plan,
@@ -33,14 +36,16 @@ pub fn write_timeline<W: Write>(
     ensures room { LINE_MAX ≤ vec_capacity buffer.new }
 {
     let mut playing = playing;
-    let written = write_played(buffer, out, plan, &mut playing);
+    let written = write_played(rt, blocks, buffer, out, plan, &mut playing);
     let closing = playing.close();
     written?;
     write_closing(buffer, out, &closing)
 }
 
 /// Plays all lines, and puts a line for each entry into the buffer.
-fn write_played<W: Write>(
+fn write_played<R: Threads + Sync, W: Write>(
+    rt: &R,
+    blocks: &mut Blocks,
     buffer: &mut Vec<u8>,
     out: &mut W,
     plan: &Plan,
@@ -55,8 +60,9 @@ fn write_played<W: Write>(
     ensures part { OnErr result (HandsPart (W.contents out.old) (W.contents out.new) buffer.old.items (flat_map (told_line plan.now.names) playing.new.told)) }
     ensures room { LINE_MAX ≤ vec_capacity buffer.new }
 {
+    let lines = PlanLines { plan };
     while playing.play_on() {
-        if let Err(fault) = write_entries(buffer, out, plan, playing.chunk()) {
+        if let Err(fault) = write_lines(rt, blocks, buffer, out, playing.chunk(), &lines) {
             play_out(playing);
             return Err(fault);
         }
@@ -64,35 +70,20 @@ fn write_played<W: Write>(
     Ok(())
 }
 
-/// A line for each entry.
-fn write_entries<W: Write>(
-    buffer: &mut Vec<u8>,
-    out: &mut W,
-    plan: &Plan,
-    told: &[Told],
-) -> io::Result<()>
-    requires within { AreWithin plan.now.setup told.now }
-    requires room { LINE_MAX ≤ vec_capacity buffer.old }
-    ensures whole { OnOk result (HandsOn (W.contents out.old) (W.contents out.new) buffer.old.items (flat_map (told_line plan.now.names) told.now) buffer.new.items) }
-    ensures part { OnErr result (HandsPart (W.contents out.old) (W.contents out.new) buffer.old.items (flat_map (told_line plan.now.names) told.now)) }
-    ensures room { LINE_MAX ≤ vec_capacity buffer.new }
-{
-    for x in told {
-        write_told(buffer, out, plan, x)?;
-    }
-    Ok(())
+/// How the entries of a plan are told.
+#[derive(Clone, Copy)]
+struct PlanLines<'a> {
+    plan: &'a Plan,
 }
 
-fn write_told<W: Write>(buffer: &mut Vec<u8>, out: &mut W, plan: &Plan, x: &Told) -> io::Result<()>
-    requires task { IsAskOf (length plan.now.setup.tasks) x.now.entry.ask }
-    requires room { LINE_MAX ≤ vec_capacity buffer.old }
-    ensures whole { OnOk result (HandsOn (W.contents out.old) (W.contents out.new) buffer.old.items (told_line plan.now.names x.now) buffer.new.items) }
-    ensures part { OnErr result (HandsPart (W.contents out.old) (W.contents out.new) buffer.old.items (told_line plan.now.names x.now)) }
-    ensures room { LINE_MAX ≤ vec_capacity buffer.new }
-{
-    make_room(buffer, out)?;
-    append_told(buffer, plan, x);
-    Ok(())
+impl<'a> Line<Told> for PlanLines<'a> {
+    ghost fits = { λ lines x. IsAskOf (length lines.plan.now.setup.tasks) x.entry.ask };
+
+    ghost line = { λ lines x. told_line lines.plan.now.names x };
+
+    fn append(&self, out: &mut Vec<u8>, item: &Told) {
+        append_told(out, self.plan, item);
+    }
 }
 
 #[tactic(auto, unfolding(crate::specs::Lines::told_line))]
@@ -100,6 +91,7 @@ fn append_told(out: &mut Vec<u8>, plan: &Plan, x: &Told)
     requires task { IsAskOf (length plan.now.setup.tasks) x.now.entry.ask }
     requires room { vec_len out.old + LINE_MAX ≤ vec_capacity out.old }
     ensures text { out.new.items ≡ out.old.items ++ told_line plan.now.names x.now }
+    ensures len { vec_len out.new ≤ vec_len out.old + LINE_MAX }
     ensures room { vec_capacity out.old ≤ vec_capacity out.new }
 {
     append_number(out, b"at ", u64::from(x.entry.m));

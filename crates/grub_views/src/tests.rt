@@ -4,11 +4,13 @@ ghost use Rattle.grub_timeline.specs.TimeLines.{AreWithin, IsTimeLine};
 
 use super::*;
 use grub_book::Book;
+use grub_lines::Blocks;
 use grub_timeline::{Playing, TimeLine, play};
 use grub_trace::{Plan, read_files, report_buffer, write_buffer};
 use std::alloc::{AllocError, Global};
 use std::process::Abort;
 use std::test::Fail;
+use std::thread::Threads;
 
 /// The kernel documentation's example of GRUB, in one file.
 const DOCUMENTATION: &str = "\
@@ -122,7 +124,12 @@ enum View {
 }
 
 /// A view of these files. Each refusal of memory is answered as the view's own.
-fn view_of(alloc: Global, texts: &[&str], view: View) -> Result<Vec<u8>, ViewFault> {
+fn view_of<R: Threads + Sync>(
+    rt: &R,
+    alloc: Global,
+    texts: &[&str],
+    view: View,
+) -> Result<Vec<u8>, ViewFault> {
     let Ok(files) = files_of(alloc, texts) else {
         return Err(ViewFault::NoMemory);
     };
@@ -133,7 +140,7 @@ fn view_of(alloc: Global, texts: &[&str], view: View) -> Result<Vec<u8>, ViewFau
         return Err(ViewFault::NoMemory);
     };
     match view {
-        View::Lines => lines_of(alloc, &plan),
+        View::Lines => lines_of(rt, alloc, &plan),
         View::Steps => steps_of(alloc, &plan, &line),
         View::Summary => summary_text(alloc, &plan, &line),
         View::Picture => picture_text(alloc, &plan, &line, 0, end_of(&line)),
@@ -141,15 +148,20 @@ fn view_of(alloc: Global, texts: &[&str], view: View) -> Result<Vec<u8>, ViewFau
 }
 
 /// The lines of the time line.
-fn lines_of(alloc: Global, plan: &Plan) -> Result<Vec<u8>, ViewFault> {
+fn lines_of<R: Threads + Sync>(rt: &R, alloc: Global, plan: &Plan) -> Result<Vec<u8>, ViewFault> {
     let Ok(playing) = Playing::new(alloc, plan) else {
         return Err(ViewFault::NoMemory);
     };
     let Ok(mut buffer) = report_buffer(alloc) else {
         return Err(ViewFault::NoMemory);
     };
+    let Ok(mut blocks) = Blocks::new(alloc) else {
+        return Err(ViewFault::NoMemory);
+    };
     let mut text = Vec::new(alloc);
-    write_timeline(&mut buffer, &mut text, plan, playing).map_err(|_| ViewFault::NoMemory)?;
+    write_timeline(rt, &mut blocks, &mut buffer, &mut text, plan, playing).map_err(
+        |_| ViewFault::NoMemory,
+    )?;
     write_buffer(&mut buffer, &mut text).map_err(|_| ViewFault::NoMemory)?;
     Ok(text)
 }
@@ -193,33 +205,38 @@ fn expect_view(rt: &impl Abort, view: Result<Vec<u8>, ViewFault>, text: &str) {
 #[test]
 fn refused_growths_of_lines(rt: HostRuntime) {
     let alloc = rt.alloc();
-    let one = view_of(alloc, [DOCUMENTATION].as_slice(), View::Lines);
+    let one = view_of(&rt, alloc, [DOCUMENTATION].as_slice(), View::Lines);
     expect_view(&rt, one, DOCUMENTATION_LINES);
-    let two = view_of(alloc, [MOVES_FROM, MOVES_TO].as_slice(), View::Lines);
+    let two = view_of(&rt, alloc, [MOVES_FROM, MOVES_TO].as_slice(), View::Lines);
     expect_view(&rt, two, MOVING_LINES);
 }
 
 #[test]
 fn refused_growths_of_steps(rt: HostRuntime) {
     let alloc = rt.alloc();
-    let one = view_of(alloc, [DOCUMENTATION].as_slice(), View::Steps);
+    let one = view_of(&rt, alloc, [DOCUMENTATION].as_slice(), View::Steps);
     expect_view(&rt, one, DOCUMENTATION_STEPS);
-    let two = view_of(alloc, [MOVES_FROM, MOVES_TO].as_slice(), View::Steps);
+    let two = view_of(&rt, alloc, [MOVES_FROM, MOVES_TO].as_slice(), View::Steps);
     expect_view(&rt, two, MOVING_STEPS);
 }
 
 #[test]
 fn refused_growths_of_the_summary(rt: HostRuntime) {
     let alloc = rt.alloc();
-    let one = view_of(alloc, [DOCUMENTATION].as_slice(), View::Summary);
+    let one = view_of(&rt, alloc, [DOCUMENTATION].as_slice(), View::Summary);
     expect_view(&rt, one, DOCUMENTATION_SUMMARY);
-    let two = view_of(alloc, [MOVES_FROM, MOVES_TO].as_slice(), View::Summary);
+    let two = view_of(&rt, alloc, [MOVES_FROM, MOVES_TO].as_slice(), View::Summary);
     expect_view(&rt, two, MOVING_SUMMARY);
 }
 
 #[test]
 fn refused_growths_of_the_picture(rt: HostRuntime) {
-    match view_of(rt.alloc(), [MOVES_FROM, MOVES_TO].as_slice(), View::Picture) {
+    match view_of(
+        &rt,
+        rt.alloc(),
+        [MOVES_FROM, MOVES_TO].as_slice(),
+        View::Picture,
+    ) {
         Ok(view) => assert!(rt; view.starts_with(b"<svg ")),
         Err(fault) => assert!(rt; fault == ViewFault::NoMemory),
     }
@@ -230,10 +247,10 @@ fn refused_growths_of_the_picture(rt: HostRuntime) {
 fn views_are_made(rt: HostRuntime) -> Result<(), Fail> {
     let alloc = rt.alloc();
     let files = [MOVES_FROM, MOVES_TO];
-    assert!(rt; view_of(alloc, files.as_slice(), View::Lines).is_ok());
-    assert!(rt; view_of(alloc, files.as_slice(), View::Steps).is_ok());
-    assert!(rt; view_of(alloc, files.as_slice(), View::Summary).is_ok());
-    assert!(rt; view_of(alloc, files.as_slice(), View::Picture).is_ok());
+    assert!(rt; view_of(&rt, alloc, files.as_slice(), View::Lines).is_ok());
+    assert!(rt; view_of(&rt, alloc, files.as_slice(), View::Steps).is_ok());
+    assert!(rt; view_of(&rt, alloc, files.as_slice(), View::Summary).is_ok());
+    assert!(rt; view_of(&rt, alloc, files.as_slice(), View::Picture).is_ok());
     assert_eq!(rt;
         format!(in alloc; "{}", ViewFault::NoMemory)?.as_str(),
         "48 NoMemory"

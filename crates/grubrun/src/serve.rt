@@ -108,7 +108,7 @@ fn serve_options<
             out,
             faults,
         ),
-        Wanted::View(view) => serve_view(alloc, view, source, paths, out, faults),
+        Wanted::View(view) => serve_view(rt, alloc, view, source, paths, out, faults),
         Wanted::NoView => mistake(
             "the views are 'timeline', 'steps', 'summary' and 'picture'",
             faults,
