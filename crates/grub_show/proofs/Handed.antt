@@ -1,5 +1,6 @@
 -- What a writer holds after a text was handed to it.
-use Rattle.std.proofs.Common.{◌≡◌, ℕ, ◌++◌, List, [], take, ap, ◌∙◌, sym, Option, Some, None, length, append-nil}
+use Rattle.std.proofs.Common.{◌≡◌, ℕ, ◌++◌, List, [], take, ap, ◌∙◌, sym, Option, Some, None, Result, Ok, Err, length, append-nil}
+use Rattle.std.specs.Prelude.{OnOk}
 use Rattle.std.proofs.Math.Seq.{take-append_seam}
 use Rattle.std.specs.Io.KnownBytes.{Appends}
 use Rattle.grub_trace.specs.Writing.{HandsOn, HandsPart}
@@ -19,3 +20,8 @@ handed_part (Some xs) (Some ys) text h =
     let told = h.1.0 in
     let all : text ≡ told ++ h.0 = sym (append-nil text) ∙ h.1.2 in
     (length told, h.1.1 ∙ ap (λ l. xs ++ l) (sym (ap (take (length told)) all ∙ take-append_seam told h.0)))
+
+-- what holds, holds of a success
+pub on_ok : {U E P : Type 0} (r : Result U E) → P → OnOk r P
+on_ok (Ok u) p = p
+on_ok (Err e) p = tt

@@ -1,7 +1,8 @@
 use Rattle.std.proofs.Common.{[], ◌++◌, ◌∙◌, ap, refl, sym, append-nil, List, ℕ}
 use Rattle.grub_trace.proofs.Handing.{hands_through, part_after, on_err}
-use Rattle.grub_run.proofs.Known.{prefix_flushed, prefix_of}
+use Rattle.grub_run.proofs.Known.{appends_flushed, prefix_flushed, prefix_of}
 use Rattle.grub_views.specs.Lines.{timeline_lines}
+use Rattle.grub_show.proofs.Handed.{on_ok}
 use Rattle.grub_show.proofs.view.lines_through.Goals as goal
 
 pub returns-in_err-write_timeline-clause-part : goal.returns-in_err-write_timeline-clause-part
@@ -41,4 +42,19 @@ returns-clause-part g c =
       closing = x.closing;
       line = x.line;
       begun = (text, refl, prefix_flushed a d e text (hands_through a b d text c.write_timeline.new.buffer.items told c.in_ok-write_buffer.ensures.whole) c.flush.ensures.bytes);
+    })
+
+pub returns-clause-whole : goal.returns-clause-whole
+returns-clause-whole g c =
+    let x = c.in_ok-write_timeline.ensures.whole in let text = timeline_lines c.args.plan.now.names x.told x.closing in
+    let a = g.W.Write.contents c.args.out.now in
+    let b = g.W.Write.contents c.write_timeline.new.out in
+    let d = g.W.Write.contents c.write_buffer.new.out in
+    let e = g.W.Write.contents c.flush.new.self in
+    let told = rw c.requires.empty at x.handed in
+    on_ok c.flush.result (record {
+      told = x.told;
+      closing = x.closing;
+      line = x.line;
+      written = (text, refl, appends_flushed a d e text (hands_through a b d text c.write_timeline.new.buffer.items told c.in_ok-write_buffer.ensures.whole) c.flush.ensures.bytes);
     })
