@@ -185,3 +185,54 @@ fn a_writer_that_fails(rt: HostRuntime) -> Result<(), Fail> {
     }
     Ok(())
 }
+
+/// A file of so many readings, and the text of this view of its time line.
+fn readings(alloc: Global, count: u32, view: View) -> Result<(Vec<u8>, Vec<u8>), AllocError> {
+    let mut file = b"grub 1\nqueue 1048576 0\n".to_vec(alloc)?;
+    let mut text = Vec::new(alloc);
+    if view == View::Steps {
+        text.extend_from_slice(
+            b"moment\trunqueue\task\ttask\targ\tanswer\tdq\tk\tq\td\tz\trunning\tthis\n",
+        )?;
+    }
+    for m in 0..count {
+        let line = match view {
+            View::Steps => format!(in alloc; "{m}\t0\tread\t\t\tread\t\t\t\t\t\t0\t0\n")?,
+            _ => format!(in alloc; "at {m} on 0 read: running=0 this=0\n")?,
+        };
+        text.extend_from_slice(line.as_bytes())?;
+        file.extend_from_slice(format!(in alloc; "at {m} read\n")?.as_bytes())?;
+    }
+    if view == View::Timeline {
+        text.extend_from_slice(b"close 0 running=0 this=0\n")?;
+    }
+    Ok((file, text))
+}
+
+/// More entries than are played at a time, to a writer that takes all of them, and to writers that fail among the first,
+/// between the first and the next, and after those.
+#[test]
+fn a_view_of_many_entries(rt: HostRuntime) -> Result<(), Fail> {
+    let alloc = rt.alloc();
+    for view in [View::Timeline, View::Steps] {
+        let (file, text) = readings(alloc, 70_000, view)?;
+        for room in [
+            usize::MAX,
+            500_000,
+            1_201_232,
+            2_000_000,
+            text.len().saturating_sub(1),
+        ] {
+            let mut files = Vec::with_capacity(alloc, 1)?;
+            files.push(file.clone()?)?;
+            let mut out = Short {
+                taken: Vec::new(alloc),
+                room,
+            };
+            let result = write_view(&rt, alloc, files, view, &mut out);
+            assert_eq!(rt; result.is_ok(), room >= text.len());
+            assert!(rt; text.get(..room.min(text.len())) == Some(out.taken.as_slice()));
+        }
+    }
+    Ok(())
+}
