@@ -14,9 +14,10 @@ use Rattle.grub_trace.specs.declared.fault.Kind.{Kind}
 use Rattle.grub_trace.specs.declared.line.Line.{Line}
 use Rattle.grub_trace.specs.Tree.{Declaration, Happening, Tree, text, line, header, queue_words, declaration_words, happening_words, names_of}
 use Rattle.grub_trace.specs.Faults.{last_of}
+use Rattle.grub_trace.specs.Forms.{parts_of}
 use Rattle.grub_trace.specs.Naming.{line_in, script_of, all_tasks, plan_of, plan_with}
 use Rattle.grub_trace.specs.Meaning.{GoOn, AreKnown, Reads}
-use Rattle.grub_trace.specs.FirstFault.{parts_of, AreDeclared, IsTree, AreTrees}
+use Rattle.grub_trace.specs.FirstFault.{AreDeclared, IsTree, AreTrees}
 use Rattle.grub_trace.specs.inside.Tree.{declaration_line, happening_line}
 use Rattle.grub_trace.specs.inside.Reading.{Read, FileRead, AllRead, Body, with_file, in_file, read_lines, read_file, opened, read_from, take_line, at_line, ◌>>=◌, times_of, script_from, scripts_from, option_or_err, unknown_in, plan_from, declares, says}
 use Rattle.grub_trace.proofs.LineLemmas.{lines_step, first_known, second_view}

@@ -12,9 +12,10 @@ use Rattle.grub_trace.specs.declared.fault.Kind.{Kind}
 use Rattle.grub_trace.specs.declared.fault.Halt.TheVariants as halt
 use Rattle.grub_trace.specs.declared.fault.Kind.TheVariants.{CutShort, BadHeader, MissingQueue, BadLine, UnknownTask}
 use Rattle.grub_trace.specs.Tree.{Declaration, Happening, Tree, text, line, header, head_text, queue_words, declaration_words, happening_words, names_of}
-use Rattle.grub_trace.specs.Faults.{Form, form_of, words_of, line_fault, fault_of_form, header_fault, version_of, queue_fault}
+use Rattle.grub_trace.specs.Faults.{line_fault, fault_of_form, header_fault, queue_fault}
+use Rattle.grub_trace.specs.Forms.{Form, form_of, words_of, version_of, parts_of}
 use Rattle.grub_trace.specs.Meaning.{AreKnown}
-use Rattle.grub_trace.specs.FirstFault.{parts_of, front_fault, LineFault, FileFault, IsTree, AreTrees, UnknownIn, UnknownFault, IsFault, too_many, no_file, first, unknown}
+use Rattle.grub_trace.specs.FirstFault.{front_fault, LineFault, FileFault, IsTree, AreTrees, UnknownIn, UnknownFault, IsFault, too_many, no_file, first, unknown}
 use Rattle.grub_trace.specs.Naming.{all_tasks, line_in, script_of}
 use Rattle.grub_trace.specs.inside.Reading.{Read, FileRead, AllRead, with_file, in_file, read_file, read_first, read_as, opened, file_from, read_second, read_lines, read_from, queue_of, take_option, unless, adds, at_line, ◌>>=◌, times_of, script_from, scripts_from, option_or_err, unknown_in, plan_from}
 use Rattle.grub_trace.proofs.PlanLaws.{body_of_tree}

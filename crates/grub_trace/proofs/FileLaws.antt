@@ -4,7 +4,8 @@ use Rattle.std.specs.Prelude.{codes, decimal}
 use Rattle.std.specs.List.{join_with_byte, flat_map, list_all}
 use Rattle.std.proofs.lemmas.List.{append-nil, length-append, length-map, map-append}
 use Rattle.grub_trace.specs.inside.Reading.{times_of}
-use Rattle.grub_trace.specs.Faults.{line_fault}
+use Rattle.grub_trace.specs.Faults.{line_fault, queue_fault, queue_form_fault, begins_with_queue, capacity_fits}
+use Rattle.grub_trace.specs.Forms.{Form, queue, task, at_moment, form_of, words_of, version_of, is_number, value, capacity_value, parts_of}
 use Rattle.grub_trace.proofs.WordLemmas.{has_part}
 use Rattle.std.proofs.lemmas.List.Splits.{join_with_byte-slice_split}
 use Rattle.grub_bw.specs.Bandwidth.{Capacity, IsCapacity}
@@ -13,8 +14,7 @@ use Rattle.grub_trace.specs.declared.version.Version.{Version}
 use Rattle.grub_trace.specs.declared.fault.Kind.{Kind}
 use Rattle.grub_trace.specs.declared.fault.Kind.TheVariants.{CutShort, BadHeader, MissingQueue, BadNumber, OutOfRange}
 use Rattle.grub_trace.specs.Tree.{Declaration, Tree, text, line, header, head_text, queue_words, declaration_words, happening_words, names_of}
-use Rattle.grub_trace.specs.Faults.{Form, queue, task, at_moment, form_of, words_of, queue_fault, queue_form_fault, begins_with_queue, version_of, is_number, value, capacity_fits, capacity_value}
-use Rattle.grub_trace.specs.FirstFault.{parts_of, front_fault, LineFault, QueueFault, FileFault, IsTree}
+use Rattle.grub_trace.specs.FirstFault.{front_fault, LineFault, QueueFault, FileFault, IsTree}
 use Rattle.grub_trace.specs.inside.Tree.{declaration_line, happening_line}
 use Rattle.grub_trace.specs.inside.Reading.{Read, FileRead, read_file, read_first, read_as, read_second, file_from, opened, read_lines, read_queue, queue_of, unless, at_line, ◌>>=◌}
 use Rattle.grub_trace.proofs.FormLemmas.{form_is, number_is, version_is}

@@ -12,7 +12,7 @@ use Rattle.grub_trace.specs.declared.version.Version.TheVariants.{One, Two}
 use Rattle.grub_trace.specs.declared.form.Verb.{Verb}
 use Rattle.grub_trace.specs.declared.form.Verb.TheVariants.{Join, Wake, Block, Leave, Exit}
 use Rattle.grub_trace.specs.Tree.{does, runs, retunes, reads, verb_word, header, is_name}
-use Rattle.grub_trace.specs.Faults.{Form, queue, task, at_moment, form_of, shape_of, is_filled, verb_of, version_of, is_number, value}
+use Rattle.grub_trace.specs.Forms.{Form, queue, task, at_moment, form_of, shape_of, is_filled, verb_of, version_of, is_number, value}
 use Rattle.grub_trace.specs.inside.Faults.{is_named}
 use Rattle.grub_trace.proofs.NumberLemmas.{numerals}
 

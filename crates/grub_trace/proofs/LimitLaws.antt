@@ -16,9 +16,8 @@ use Rattle.grub_trace.specs.declared.line.Line.{Line}
 use Rattle.grub_trace.specs.declared.line.Act.{Act}
 use Rattle.grub_trace.specs.declared.line.Act.TheVariants as act
 use Rattle.grub_trace.specs.Tree.{Declaration, Deed, does, runs, retunes, reads, Happening, Tree, names_of, params_of, is_name, is_span, is_moment, text}
-use Rattle.grub_trace.specs.Faults.{task_of}
 use Rattle.grub_trace.specs.Plans.{PlanView}
-use Rattle.grub_trace.specs.Naming.{line_in, act_in, act_of, script_of, all_tasks, plan_of}
+use Rattle.grub_trace.specs.Naming.{task_of, line_in, act_in, act_of, script_of, all_tasks, plan_of}
 use Rattle.grub_trace.specs.Meaning.{GoOn, IsDeed, AreKnown, Reads}
 use Rattle.grub_trace.specs.FirstFault.{AreDeclared, AreTrees}
 use Rattle.grub_trace.specs.Limits.{ActFits, ScriptFits, PlanFits}

@@ -8,7 +8,7 @@ use Rattle.grub_trace.specs.declared.fault.Stop.{Stop}
 use Rattle.grub_trace.specs.declared.fault.Stop.TheVariants as stop
 use Rattle.grub_trace.specs.inside.Halts.{halt_of}
 use Rattle.grub_trace.specs.inside.Reading.{Read, FileRead, Gives, read_queue, read_second, read_first, read_as, read_file, file_from, opened, unless, adds, take_option, times_of, read_lines, take_line, at_line, ◌>>=◌, Stops, Halts, two_fault, IsRun, IsRetune, take_form}
-use Rattle.grub_trace.specs.FirstFault.{parts_of}
+use Rattle.grub_trace.specs.Forms.{parts_of, Form, queue, task, at_moment, words_of, form_of, is_number, version_of, value, reservation_value}
 use Rattle.std.proofs.Common.{◌-◌, Option, Some, None}
 use Rattle.std.proofs.lemmas.List.{length_push}
 use Rattle.std.proofs.lemmas.List.Splits.{length-slice_split}
@@ -16,7 +16,7 @@ use Rattle.std.proofs.lemmas.List.Sums.{count_by-le-length}
 use Rattle.grub_trace.specs.declared.fault.Halt.{Halt}
 use Rattle.grub_trace.specs.declared.fault.Halt.TheVariants as halt
 use Rattle.grub_trace.specs.Tree.{Declaration, does, runs, retunes, reads, names_of, is_moment, is_span, may_retune}
-use Rattle.grub_trace.specs.Faults.{Form, queue, task, at_moment, words_of, form_of, form_fault, is_allowed, is_number, is_timely, version_of, reservation_fits, value, reservation_value}
+use Rattle.grub_trace.specs.Faults.{form_fault, is_allowed, is_timely, reservation_fits}
 use Rattle.grub_trace.proofs.WordLemmas.{has_part}
 
 pub lines_step : (r : Read) (n : ℕ) (line rest : List ℕ) → read_lines r n (line ∷ parts_of rest) ≡ (at_line n (take_line r line) >>= λ s. read_lines s (n + 1) (parts_of rest))

@@ -11,7 +11,9 @@ use Rattle.grub_trace.proofs.LimitTests.{reservation_is}
 use Rattle.grub_trace.specs.declared.version.Version.{Version}
 use Rattle.grub_trace.specs.declared.fault.Kind.TheVariants.{BadLine, BadNumber, OutOfRange, DuplicateTask, MomentGoesBack}
 use Rattle.grub_trace.specs.Tree.{Declaration, does, runs, retunes, reads, Happening, is_moment, is_span, names_of, verb_word}
-use Rattle.grub_trace.specs.Faults.{Form, queue, task, at_moment, words_of, form_fault, is_number, value, task_of, last_of, is_allowed, is_in_range, is_fresh, is_timely, numbers_of, reservation_fits, reservation_value}
+use Rattle.grub_trace.specs.Faults.{form_fault, last_of, is_allowed, is_in_range, is_fresh, is_timely, reservation_fits}
+use Rattle.grub_trace.specs.Forms.{Form, queue, task, at_moment, words_of, is_number, value, numbers_of, reservation_value}
+use Rattle.grub_trace.specs.Naming.{task_of}
 use Rattle.grub_trace.specs.inside.Faults.{is_named}
 use Rattle.grub_trace.specs.inside.Reading.{Read, take_line, declares, says, adds, times_of}
 use Rattle.grub_trace.specs.Meaning.{IsHappeningFrom}

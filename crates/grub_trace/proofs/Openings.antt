@@ -10,7 +10,8 @@ use Rattle.grub_trace.specs.declared.fault.TraceFault.{TraceFault}
 use Rattle.grub_trace.specs.declared.fault.Halt.TheVariants as halt
 use Rattle.grub_trace.specs.inside.Halts.{fault_of}
 use Rattle.grub_trace.specs.Tree.{Declaration}
-use Rattle.grub_trace.specs.FirstFault.{parts_of, HeaderFault, QueueFault, FileFault, OpeningFault}
+use Rattle.grub_trace.specs.FirstFault.{HeaderFault, QueueFault, FileFault, OpeningFault}
+use Rattle.grub_trace.specs.Forms.{parts_of}
 use Rattle.grub_trace.specs.Reading.{contents}
 use Rattle.grub_trace.specs.inside.Reading.{FileRead, AllRead, with_file, in_file, file_from, opened, read_queue, read_lines, read_second, read_file, read_from, at_line, ◌>>=◌, GivesOpening, AnswersOpening}
 use Rattle.grub_trace.proofs.LineLemmas.{second_step, queue_then}

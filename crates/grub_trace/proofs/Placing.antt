@@ -8,8 +8,9 @@ use Rattle.grub_trace.specs.declared.line.Act.TheVariants as act
 use Rattle.grub_trace.specs.declared.line.Line.{Line}
 use Rattle.grub_trace.specs.declared.form.Verb.{Verb}
 use Rattle.grub_trace.specs.declared.form.Verb.TheVariants.{Join, Wake, Block, Leave, Exit}
-use Rattle.grub_trace.specs.Faults.{task, task_of, last_of}
-use Rattle.grub_trace.specs.Naming.{act_of, act_in, line_in}
+use Rattle.grub_trace.specs.Faults.{last_of}
+use Rattle.grub_trace.specs.Forms.{task}
+use Rattle.grub_trace.specs.Naming.{task_of, act_of, act_in, line_in}
 use Rattle.grub_trace.specs.Tree.{Declaration, Deed, does, runs, retunes, reads, Happening, names_of}
 use Rattle.grub_trace.specs.inside.Pending.{number_in, is_pending, of_task, deed_of, happening_of, name_of, left, happenings_of, IsPlaced, ArePlaced, Places}
 use Rattle.std.specs.Prelude.{nat_lt}

@@ -17,7 +17,8 @@ use Rattle.grub_trace.specs.declared.fault.Kind.TheVariants.{MissingQueue}
 use Rattle.grub_trace.specs.declared.form.Verb.{Verb}
 use Rattle.grub_trace.specs.declared.form.Verb.TheVariants.{Join, Wake, Block, Leave, Exit}
 use Rattle.grub_trace.specs.Tree.{Declaration, Deed, does, runs, retunes, reads, Happening, queue_words, verb_word, is_name, is_name_byte, is_moment, names_of}
-use Rattle.grub_trace.specs.Faults.{Form, queue, task, at_moment, words_of, form_of, is_filled, verb_of, form_fault, is_number, value, last_of, queue_fault, queue_form_fault, begins_with_queue, is_allowed, numbers_of, is_in_range, is_fresh, is_timely}
+use Rattle.grub_trace.specs.Faults.{form_fault, last_of, queue_fault, queue_form_fault, begins_with_queue, is_allowed, is_in_range, is_fresh, is_timely}
+use Rattle.grub_trace.specs.Forms.{Form, queue, task, at_moment, words_of, form_of, is_filled, verb_of, is_number, value, numbers_of}
 use Rattle.grub_trace.specs.inside.Reading.{Read, take_line, take_option, unless, adds, declares, says, times_of, read_queue, queue_of}
 use Rattle.grub_trace.specs.Meaning.{IsHappeningFrom, IsDeed}
 use Rattle.grub_trace.specs.FirstFault.{IsDeclaration}

@@ -8,7 +8,7 @@ use Rattle.grub_trace.specs.Tree.{Declaration, names_of}
 use Rattle.grub_trace.specs.inside.Reading.{task_view}
 use Rattle.grub_trace.specs.declared.tasks.Task.{Task}
 use Rattle.std.specs.Cmp.Lexicographic.{bytes_decides}
-use Rattle.grub_trace.specs.Faults.{task_of}
+use Rattle.grub_trace.specs.Naming.{task_of}
 
 abbrev next : ℕ → ℕ
 next i = i + 1

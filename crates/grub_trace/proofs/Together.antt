@@ -5,8 +5,7 @@ use Rattle.std.specs.List.{AllByRecursion}
 use Rattle.std.specs.Cmp.Lexicographic.{nat_list_eq_equiv}
 use Rattle.std.proofs.lemmas.List.{append-nil, length-append, length-map}
 use Rattle.grub_trace.specs.Tree.{Declaration, Tree, names_of}
-use Rattle.grub_trace.specs.Faults.{task_of}
-use Rattle.grub_trace.specs.Naming.{all_tasks}
+use Rattle.grub_trace.specs.Naming.{task_of, all_tasks}
 use Rattle.grub_trace.specs.Meaning.{AreDistinct, IsGood, IsAlone, AreTogether}
 use Rattle.grub_trace.specs.FirstFault.{AreDeclared, AreTrees}
 

@@ -1,6 +1,6 @@
 -- Which fault of event files is answered: the first one.
 use Rattle.std.specs.Prelude.{◌≡◌, ℕ, ◌≤◌, ◌<◌, true, List, [], ◌∷◌, ◌++◌, length, map, None, Option, Some, ◌==◌, ◌+◌, ◌⊎◌, if◌then◌else◌}
-use Rattle.std.specs.List.{slice_split, AllByRecursion}
+use Rattle.std.specs.List.{AllByRecursion}
 use Rattle.grub_bw.specs.Bandwidth.{IsReservation, IsCapacity}
 use Rattle.grub_trace.specs.declared.version.Version.{Version}
 use Rattle.grub_trace.specs.declared.fault.Kind.{Kind}
@@ -8,8 +8,9 @@ use Rattle.grub_trace.specs.declared.fault.Kind.TheVariants.{BadHeader, MissingQ
 use Rattle.grub_trace.specs.declared.fault.TraceFault.{TraceFault}
 use Rattle.grub_trace.specs.declared.fault.TraceFault.TheVariants as trace
 use Rattle.grub_trace.specs.Tree.{Declaration, Happening, header, Tree, text, is_name, names_of}
-use Rattle.grub_trace.specs.Faults.{task_of, line_fault, header_fault, queue_fault}
-use Rattle.grub_trace.specs.Naming.{line_in, all_tasks}
+use Rattle.grub_trace.specs.Forms.{parts_of}
+use Rattle.grub_trace.specs.Faults.{line_fault, header_fault, queue_fault}
+use Rattle.grub_trace.specs.Naming.{task_of, line_in, all_tasks}
 use Rattle.grub_trace.specs.Meaning.{GoOn, AreKnown}
 
 -- ---- trees after the names that were declared before them
@@ -38,10 +39,6 @@ AreTrees names [] = Unit {0}
 AreTrees names (t ∷ ts) = IsTree names t × AreTrees (names ++ names_of t.tasks) ts
 
 -- ---- the first fault of a file
-
--- the parts of a text between the bytes that end lines; the last one is no whole line
-abbrev pub parts_of : List ℕ → List (List ℕ)
-parts_of bytes = slice_split (λ b. b == 10) bytes
 
 -- what is wrong with the line in front, given what is wrong where there is none, and with a whole line
 abbrev pub front_fault : Kind → (List ℕ → Option Kind) → List (List ℕ) → Option Kind

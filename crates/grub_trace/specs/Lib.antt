@@ -1,5 +1,6 @@
 pub mod Faults
 pub mod FirstFault
+pub mod Forms
 pub mod Limits
 pub mod Meaning
 pub mod Messages

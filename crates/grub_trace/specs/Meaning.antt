@@ -4,8 +4,7 @@ use Rattle.std.specs.List.{AllByRecursion}
 use Rattle.grub_bw.specs.Bandwidth.{IsReservation, IsCapacity}
 use Rattle.grub_trace.specs.declared.version.Version.{Version}
 use Rattle.grub_trace.specs.Tree.{Declaration, Deed, does, runs, retunes, reads, Happening, may_retune, Tree, text, is_name, is_span, is_moment, names_of}
-use Rattle.grub_trace.specs.Faults.{task_of}
-use Rattle.grub_trace.specs.Naming.{line_in, all_tasks}
+use Rattle.grub_trace.specs.Naming.{task_of, line_in, all_tasks}
 
 -- what may be said in a file of this version
 abbrev pub IsDeed : Version → Deed ℕ → Type 0

@@ -1,17 +1,22 @@
 -- From names to numbers, and the plan of trees.
 use Rattle.grub_bw.specs.Bandwidth.{Capacity}
 use Rattle.grub_trace.specs.Plans.{PlanView}
-use Rattle.std.specs.Prelude.{ℕ, List, map, Option, Some, option_map}
+use Rattle.std.specs.Prelude.{ℕ, ◌+◌, List, [], ◌∷◌, map, Option, Some, None, if◌then◌else◌, option_map}
 use Rattle.std.specs.List.{filter_map, flat_map}
+use Rattle.std.specs.Str.{bytes_eq}
 use Rattle.grub_trace.specs.declared.form.Verb.{Verb}
 use Rattle.grub_trace.specs.declared.form.Verb.TheVariants.{Join, Wake, Block, Leave, Exit}
 use Rattle.grub_trace.specs.declared.line.Act.{Act}
 use Rattle.grub_trace.specs.declared.line.Act.TheVariants as act
-use Rattle.grub_trace.specs.Faults.{task_of}
 use Rattle.grub_trace.specs.declared.line.Line.{Line}
 use Rattle.grub_trace.specs.Tree.{Declaration, Deed, does, runs, retunes, reads, Happening, Tree, names_of, params_of}
 
 -- ---- names to numbers
+
+-- the number of the task with this name, where one was declared
+abbrev pub task_of : List (List ℕ) → List ℕ → Option ℕ
+task_of [] name = None
+task_of (n ∷ names) name = if bytes_eq n name then Some 0 else option_map (λ i. i + 1) (task_of names name)
 
 abbrev pub act_of : Verb → ℕ → Act
 act_of Join t = act.Join t

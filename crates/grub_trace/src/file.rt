@@ -2,8 +2,8 @@
 
 ghost use Rattle.std.specs.Prelude.{◌≡◌, OnOk, IfOk, IfSome, is_some};
 ghost use Rattle.grub_trace.specs.inside.Reading.{opened, declarations, IsIndexed, IsSaid, read_view, read_lines, read_queue, Gives, GivesOpening, GivesQueue, file_view, read_second, read_file};
-ghost use Rattle.grub_trace.specs.FirstFault.{parts_of};
-ghost use Rattle.grub_trace.specs.Faults.{capacity_fits, version_of};
+ghost use Rattle.grub_trace.specs.Forms.{parts_of, version_of};
+ghost use Rattle.grub_trace.specs.Faults.{capacity_fits};
 
 use crate::body::take_line;
 use crate::fault::{Halt, Kind};

@@ -2,7 +2,7 @@
 
 ghost use Rattle.std.specs.Prelude.{◌≡◌, ◌<◌, length, ◌∷◌, [], ◌++◌, OnOk, IfErr, None};
 ghost use Rattle.grub_trace.specs.Tree.{is_name, names_of};
-ghost use Rattle.grub_trace.specs.Faults.{task_of};
+ghost use Rattle.grub_trace.specs.Naming.{task_of};
 ghost use Rattle.grub_trace.specs.inside.Reading.{declarations, IsIndexed};
 
 use crate::fault::Stop;

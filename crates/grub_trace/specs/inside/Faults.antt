@@ -1,7 +1,7 @@
 -- Whether the name in a line is a name.
 use Rattle.std.specs.Prelude.{Bool, true}
 use Rattle.grub_trace.specs.Tree.{does, runs, retunes, reads, is_name}
-use Rattle.grub_trace.specs.Faults.{Form, at_moment, queue, task}
+use Rattle.grub_trace.specs.Forms.{Form, at_moment, queue, task}
 
 -- the name in a form is a name
 abbrev pub is_named : Form → Bool

@@ -6,8 +6,7 @@ use Rattle.grub_trace.specs.declared.line.Line.{Line}
 use Rattle.grub_trace.specs.declared.fault.Stop.{Stop}
 use Rattle.grub_trace.specs.declared.fault.Stop.TheVariants as stop
 use Rattle.grub_trace.specs.declared.form.Verb.TheVariants.{Join, Wake, Block, Leave, Exit}
-use Rattle.grub_trace.specs.Faults.{task_of}
-use Rattle.grub_trace.specs.Naming.{line_in, act_in}
+use Rattle.grub_trace.specs.Naming.{task_of, line_in, act_in}
 use Rattle.grub_trace.specs.Tree.{Deed, does, runs, retunes, reads, Happening}
 
 -- the number in the pending lines

@@ -22,16 +22,15 @@ use Rattle.grub_trace.specs.declared.form.Deed as raw
 use Rattle.grub_trace.specs.declared.form.Deed.TheVariants as deed
 use Rattle.grub_trace.specs.declared.raw.RawScript.{RawScript}
 use Rattle.grub_trace.specs.declared.raw.RawFile.{RawFile}
-use Rattle.grub_trace.specs.FirstFault.{parts_of}
+use Rattle.grub_trace.specs.Forms.{parts_of, version_of, Form, queue, task, at_moment, words_of, form_of, is_filled, is_number, value, reservation_value, capacity_value}
 use Rattle.grub_trace.specs.inside.Pending.{happenings_of, ArePlaced}
 use Rattle.grub_trace.specs.Plans.{PlanView}
-use Rattle.grub_trace.specs.Naming.{line_in, plan_with}
+use Rattle.grub_trace.specs.Naming.{line_in, plan_with, task_of}
 use Rattle.grub_trace.specs.Tree.{is_moment, is_span, Declaration, Deed, does, runs, retunes, reads, Happening, names_of}
-use Rattle.grub_trace.specs.Faults.{queue_fault, form_fault, task_of, last_of, version_of, reservation_fits}
+use Rattle.grub_trace.specs.Faults.{queue_fault, form_fault, last_of, reservation_fits}
 use Rattle.grub_trace.specs.declared.form.Form as coded
 use Rattle.grub_trace.specs.declared.form.Form.TheVariants as code
 use Rattle.grub_trace.specs.declared.word_list.WordList.{WordList}
-use Rattle.grub_trace.specs.Faults.{Form, queue, task, at_moment, words_of, form_of, is_filled, is_number, value, reservation_value, capacity_value}
 
 -- the words that were found
 abbrev pub words_in : WordList → List (Bor (List ℕ))
