@@ -9,6 +9,7 @@ pub mod LineLemmas
 pub mod Placing
 pub mod Loops
 pub mod AllLemmas
+pub mod Finding
 pub mod FormLemmas
 pub mod LineMeaning
 pub mod Runs
