@@ -14,7 +14,7 @@ use Rattle.std.proofs.lemmas.Bool.{cases_eq, cond-true, cond-false}
 use Rattle.std.proofs.lemmas.Str.{len_utf8_ascii}
 use Rattle.std.proofs.lemmas.Str.Pattern.{NoCharPasses-char}
 use Rattle.std.proofs.lemmas.Str.Parse.{IsDigitsTest, IsNumeralModel, numerals_by_value, parse_digits}
-use Rattle.grub_trace.specs.Faults.{value}
+use Rattle.grub_trace.specs.Forms.{value}
 use Rattle.grub_convert.specs.Options.{Task, given_task, has_name, number_in, task_in, tasks_in, tasks_on, text_of}
 use Rattle.grub_convert.specs.declared.options.Given.{Given}
 use Rattle.grub_convert.specs.inside.Words.{is_named, texts_of}

@@ -6,7 +6,8 @@ use Rattle.std.specs.List.{list_all, list_any}
 use Rattle.std.specs.Path.{rsplit_once}
 use Rattle.std.specs.Str.{bytes_eq}
 use Rattle.grub_bw.specs.Bandwidth.{Reservation}
-use Rattle.grub_trace.specs.Faults.{reservation_fits, value}
+use Rattle.grub_trace.specs.Forms.{value}
+use Rattle.grub_trace.specs.Faults.{reservation_fits}
 use Rattle.grub_convert.specs.declared.options.Given.{Given}
 use Rattle.grub_convert.specs.declared.options.Options.{Options}
 
