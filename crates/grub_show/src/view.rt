@@ -1,8 +1,7 @@
 //! From the bytes of event files to the bytes of a view.
 
-ghost use Rattle.std.specs.Prelude.{◌≡◌, ◌≢◌, ◌≤◌, ℕ, List, [], MatchResult, OnOk, OnErr, IfErr, vec_capacity};
+ghost use Rattle.std.specs.Prelude.{◌≡◌, ◌≤◌, ℕ, List, [], MatchResult, OnOk, OnErr, IfErr, vec_capacity};
 ghost use Rattle.grub_book.specs.Sums.{opening_book};
-ghost use Rattle.grub_timeline.specs.TimeLines.{AreWithin, IsTimeLine};
 ghost use Rattle.grub_trace.specs.Meaning.{Reads};
 ghost use Rattle.grub_trace.specs.FirstFault.{IsFault};
 ghost use Rattle.grub_trace.specs.Reading.{contents};
@@ -12,17 +11,15 @@ ghost use Rattle.std.specs.Io.KnownBytes.{Appends};
 ghost use Rattle.grub_run.specs.Written.{AppendsPrefix};
 ghost use Rattle.grub_show.specs.Faults.{IsFaultOfView, IsNoFaultOfFile, IsOnlyFaultOfFile, write_fault};
 ghost use Rattle.grub_show.specs.Shown.{Shows, ShowsBeginning};
-ghost use Rattle.grub_show.specs.inside.Showing.{BeginsLine, BeginsView, IsFaultOfLine, WritesLine, WritesView};
-ghost use Rattle.grub_views.specs.Replay.{steps_of};
-ghost use Rattle.grub_views.specs.Rows.{step_rows};
+ghost use Rattle.grub_show.specs.inside.Showing.{BeginsLine, IsFaultOfLine, WritesLine};
 
 use crate::fault::ShowFault;
 use grub_book::Book;
 use grub_lines::Blocks;
 use grub_run::GrubFault;
-use grub_timeline::{Playing, TimeLine, play};
+use grub_timeline::{Playing, play};
 use grub_trace::{LINE_MAX, Plan, read_files, report_buffer, write_buffer};
-use grub_views::{end_of, picture_text, summary_text, write_steps, write_timeline};
+use grub_views::{Step, end_of, picture_text, summary_text, write_steps, write_timeline};
 use std::alloc::Global;
 use std::io;
 use std::io::Write;
@@ -46,7 +43,7 @@ pub enum View {
 }
 
 /// Reads event files, plays them on one time line, and writes a view of it. The files' bytes are dropped before they are
-/// played, so their memory is free for the entries. Lines are written while they are played, and their entries not kept.
+/// played, so their memory is free for the entries. Lines and steps are written while they are played, and no entry is kept.
 ///
 /// `Trace` (28 to 37) is the reader's fault, and `View` (48) is want of memory for the time line or the view's text.
 /// `EmptySpan` comes where a picture would not begin before it ends. `WriteFault` (45) comes where the writer failed or
@@ -74,36 +71,27 @@ pub fn write_view<R: Threads + Sync, W: Write>(
         Err(fault) => return Err(ShowFault::Grub(GrubFault::Trace(fault))),
     };
     drop(files);
-    if let View::Timeline = view {
-        return write_lines(rt, alloc, &plan, out);
-    }
-    let Ok(line) = play(alloc, &plan) else {
-        return Err(ShowFault::Grub(GrubFault::View));
-    };
-    write_played(alloc, &plan, &line, view, out)
+    write_played(rt, alloc, &plan, view, out)
 }
 
-/// Writes a view of a time line of the plan, other than its lines.
-fn write_played<W: Write>(
+/// Plays the plan, and writes a view of its time line.
+fn write_played<R: Threads + Sync, W: Write>(
+    rt: &R,
     alloc: Global,
     plan: &Plan,
-    line: &TimeLine,
     view: View,
     out: &mut W,
 ) -> Result<(), ShowFault>
-    requires line { IsTimeLine plan.now line.now.told.items line.now.closing.items }
-    requires within { AreWithin plan.now.setup line.now.told.items }
-    requires listed { view ≢ View.Timeline }
-    ensures text { OnOk result (WritesView view plan.now line.now.told.items line.now.closing.items (W.contents out.old) (W.contents out.new)) }
-    ensures prefix { IfErr result (λ e. e ≡ write_fault → BeginsView view plan.now line.now.told.items line.now.closing.items (W.contents out.old) (W.contents out.new)) }
+    ensures text { OnOk result (WritesLine view plan.now (W.contents out.old) (W.contents out.new)) }
+    ensures prefix { IfErr result (λ e. e ≡ write_fault → BeginsLine view plan.now (W.contents out.old) (W.contents out.new)) }
     ensures nothing { IfErr result (λ e. (e ≡ write_fault → ⊥) → out.new ≡ out.old) }
-    ensures fault { IfErr result (IsFaultOfLine view line.now.told.items) }
+    ensures fault { IfErr result (IsFaultOfLine view plan.now) }
 {
     match view {
-        View::Timeline => unreachable!(),
-        View::Steps => write_rows(alloc, plan, line, out),
-        View::Summary => write_summary(alloc, plan, line, out),
-        View::Picture { from, to } => write_picture(alloc, plan, line, from, to, out),
+        View::Timeline => write_lines(rt, alloc, plan, out),
+        View::Steps => write_rows(rt, alloc, plan, out),
+        View::Summary => write_summary(alloc, plan, out),
+        View::Picture { from, to } => write_picture(alloc, plan, from, to, out),
     }
 }
 
@@ -117,7 +105,7 @@ fn write_lines<R: Threads + Sync, W: Write>(
     ensures text { OnOk result (WritesLine View.Timeline plan.now (W.contents out.old) (W.contents out.new)) }
     ensures prefix { IfErr result (λ e. e ≡ write_fault → BeginsLine View.Timeline plan.now (W.contents out.old) (W.contents out.new)) }
     ensures nothing { IfErr result (λ e. (e ≡ write_fault → ⊥) → out.new ≡ out.old) }
-    ensures fault { IfErr result (IsFaultOfLine View.Timeline []) }
+    ensures fault { IfErr result (IsFaultOfLine View.Timeline plan.now) }
 {
     let Ok(playing) = Playing::new(alloc, plan) else {
         return Err(ShowFault::Grub(GrubFault::View));
@@ -157,71 +145,90 @@ fn lines_through<R: Threads + Sync, W: Write>(
     out.flush()
 }
 
-/// Writes the steps of a time line.
-fn write_rows<W: Write>(
+/// Plays the plan, and writes the steps of its time line.
+fn write_rows<R: Threads + Sync, W: Write>(
+    rt: &R,
     alloc: Global,
     plan: &Plan,
-    line: &TimeLine,
     out: &mut W,
 ) -> Result<(), ShowFault>
-    requires line { IsTimeLine plan.now line.now.told.items line.now.closing.items }
-    requires within { AreWithin plan.now.setup line.now.told.items }
-    ensures text { OnOk result (Appends (W.contents out.old) (W.contents out.new) (step_rows plan.now.names (steps_of plan.now.setup line.now.told.items))) }
-    ensures prefix { IfErr result (λ e. e ≡ write_fault → AppendsPrefix (W.contents out.old) (W.contents out.new) (step_rows plan.now.names (steps_of plan.now.setup line.now.told.items))) }
+    ensures text { OnOk result (WritesLine View.Steps plan.now (W.contents out.old) (W.contents out.new)) }
+    ensures prefix { IfErr result (λ e. e ≡ write_fault → BeginsLine View.Steps plan.now (W.contents out.old) (W.contents out.new)) }
     ensures nothing { IfErr result (λ e. (e ≡ write_fault → ⊥) → out.new ≡ out.old) }
-    ensures fault { IfErr result (IsFaultOfLine View.Steps line.now.told.items) }
+    ensures fault { IfErr result (IsFaultOfLine View.Steps plan.now) }
 {
+    let Ok(playing) = Playing::new(alloc, plan) else {
+        return Err(ShowFault::Grub(GrubFault::View));
+    };
+    let Ok(steps) = Vec::with_capacity(alloc, playing.most()) else {
+        return Err(ShowFault::Grub(GrubFault::View));
+    };
     let Ok(book) = Book::new(alloc, plan.setup()) else {
         return Err(ShowFault::Grub(GrubFault::View));
     };
     let Ok(buffer) = report_buffer(alloc) else {
         return Err(ShowFault::Grub(GrubFault::View));
     };
-    match rows_through(buffer, book, plan, line, out) {
+    let Ok(blocks) = Blocks::new(alloc) else {
+        return Err(ShowFault::Grub(GrubFault::View));
+    };
+    match rows_through(rt, blocks, buffer, plan, book, steps, playing, out) {
         Ok(()) => Ok(()),
         Err(_) => Err(ShowFault::Grub(GrubFault::WriteFault)),
     }
 }
 
-/// Writes the steps of a time line, by a book that was asked nothing yet, through a buffer, and flushes.
-fn rows_through<W: Write>(
+/// Plays a time line of which nothing was played yet, writes its steps, by a book that was asked nothing yet, through a
+/// buffer, and flushes.
+fn rows_through<R: Threads + Sync, W: Write>(
+    rt: &R,
+    blocks: Blocks,
     buffer: Vec<u8>,
-    book: Book<'_>,
     plan: &Plan,
-    line: &TimeLine,
+    book: Book<'_>,
+    steps: Vec<Step>,
+    playing: Playing<'_>,
     out: &mut W,
 ) -> io::Result<()>
-    requires line { IsTimeLine plan.now line.now.told.items line.now.closing.items }
-    requires within { AreWithin plan.now.setup line.now.told.items }
+    requires plan { playing.plan ≡ plan.now }
+    requires nothing { playing.told ≡ [] }
     requires setup { book.setup ≡ plan.now.setup }
     requires book { book.records ≡ opening_book plan.now.setup }
+    requires steps { playing.most ≤ vec_capacity steps }
     requires empty { buffer.items ≡ [] }
     requires room { LINE_MAX ≤ vec_capacity buffer }
-    ensures whole { OnOk result (Appends (W.contents out.old) (W.contents out.new) (step_rows plan.now.names (steps_of plan.now.setup line.now.told.items))) }
-    ensures part { OnErr result (AppendsPrefix (W.contents out.old) (W.contents out.new) (step_rows plan.now.names (steps_of plan.now.setup line.now.told.items))) }
+    ensures whole { OnOk result (WritesLine View.Steps plan.now (W.contents out.old) (W.contents out.new)) }
+    ensures part { OnErr result (BeginsLine View.Steps plan.now (W.contents out.old) (W.contents out.new)) }
 {
+    let mut blocks = blocks;
     let mut buffer = buffer;
     let mut book = book;
-    write_steps(&mut buffer, out, plan, &mut book, line)?;
+    let mut steps = steps;
+    write_steps(
+        rt,
+        &mut blocks,
+        &mut buffer,
+        out,
+        plan,
+        &mut book,
+        &mut steps,
+        playing,
+    )?;
     write_buffer(&mut buffer, out)?;
     out.flush()
 }
 
-/// Writes the summary of a time line.
-fn write_summary<W: Write>(
-    alloc: Global,
-    plan: &Plan,
-    line: &TimeLine,
-    out: &mut W,
-) -> Result<(), ShowFault>
-    requires line { IsTimeLine plan.now line.now.told.items line.now.closing.items }
-    requires within { AreWithin plan.now.setup line.now.told.items }
-    ensures text { OnOk result (WritesView View.Summary plan.now line.now.told.items line.now.closing.items (W.contents out.old) (W.contents out.new)) }
-    ensures prefix { IfErr result (λ e. e ≡ write_fault → BeginsView View.Summary plan.now line.now.told.items line.now.closing.items (W.contents out.old) (W.contents out.new)) }
+/// Plays the plan, and writes the summary of its time line.
+fn write_summary<W: Write>(alloc: Global, plan: &Plan, out: &mut W) -> Result<(), ShowFault>
+    ensures text { OnOk result (WritesLine View.Summary plan.now (W.contents out.old) (W.contents out.new)) }
+    ensures prefix { IfErr result (λ e. e ≡ write_fault → BeginsLine View.Summary plan.now (W.contents out.old) (W.contents out.new)) }
     ensures nothing { IfErr result (λ e. (e ≡ write_fault → ⊥) → out.new ≡ out.old) }
-    ensures fault { IfErr result (IsFaultOfLine View.Summary line.now.told.items) }
+    ensures fault { IfErr result (IsFaultOfLine View.Summary plan.now) }
 {
-    let Ok(text) = summary_text(alloc, plan, line) else {
+    let Ok(line) = play(alloc, plan) else {
+        return Err(ShowFault::Grub(GrubFault::View));
+    };
+    let Ok(text) = summary_text(alloc, plan, &line) else {
         return Err(ShowFault::Grub(GrubFault::View));
     };
     match write_text(text, out) {
@@ -230,31 +237,31 @@ fn write_summary<W: Write>(
     }
 }
 
-/// Writes a picture of a time line.
+/// Plays the plan, and writes a picture of its time line.
 fn write_picture<W: Write>(
     alloc: Global,
     plan: &Plan,
-    line: &TimeLine,
     from: Option<u32>,
     to: Option<u32>,
     out: &mut W,
 ) -> Result<(), ShowFault>
-    requires line { IsTimeLine plan.now line.now.told.items line.now.closing.items }
-    requires within { AreWithin plan.now.setup line.now.told.items }
-    ensures text { OnOk result (WritesView (View.Picture from to) plan.now line.now.told.items line.now.closing.items (W.contents out.old) (W.contents out.new)) }
-    ensures prefix { IfErr result (λ e. e ≡ write_fault → BeginsView (View.Picture from to) plan.now line.now.told.items line.now.closing.items (W.contents out.old) (W.contents out.new)) }
+    ensures text { OnOk result (WritesLine (View.Picture from to) plan.now (W.contents out.old) (W.contents out.new)) }
+    ensures prefix { IfErr result (λ e. e ≡ write_fault → BeginsLine (View.Picture from to) plan.now (W.contents out.old) (W.contents out.new)) }
     ensures nothing { IfErr result (λ e. (e ≡ write_fault → ⊥) → out.new ≡ out.old) }
-    ensures fault { IfErr result (IsFaultOfLine (View.Picture from to) line.now.told.items) }
+    ensures fault { IfErr result (IsFaultOfLine (View.Picture from to) plan.now) }
 {
+    let Ok(line) = play(alloc, plan) else {
+        return Err(ShowFault::Grub(GrubFault::View));
+    };
     let first = from.unwrap_or(0);
-    let end = to.unwrap_or(end_of(line));
+    let end = to.unwrap_or(end_of(&line));
     if first >= end {
         return Err(ShowFault::EmptySpan {
             from: first,
             to: end,
         });
     }
-    let Ok(text) = picture_text(alloc, plan, line, first, end) else {
+    let Ok(text) = picture_text(alloc, plan, &line, first, end) else {
         return Err(ShowFault::Grub(GrubFault::View));
     };
     match write_text(text, out) {

@@ -12,3 +12,4 @@ pub mod Showing
 pub mod Barring
 pub mod Laning
 pub mod Finding
+pub mod Chunking

@@ -32,7 +32,7 @@ next_step s book then told i x done made below item made_is then_is =
     rw (whole, made_is, then_is) (append_assoc done (step_of s book x ∷ []) (steps_from s (book_after s book x.entry.ask) (drop (i + 1) told)))
 
 -- what holds of each entry holds of each step's
-steps_hold : (P : Told → Type 0) (s : Machine) (book : Records) (told : List Told) → All P told → All (λ (x : Step). P x.told) (steps_from s book told)
+pub steps_hold : (P : Told → Type 0) (s : Machine) (book : Records) (told : List Told) → All P told → All (λ (x : Step). P x.told) (steps_from s book told)
 steps_hold P s book [] all = All-from_recursion (λ (x : Step). P x.told) [] tt
 steps_hold P s book (x ∷ told) all =
     All-cons (λ (x : Step). P x.told) (step_of s book x) (steps_from s (book_after s book x.entry.ask) told) (All-head P x told all)

@@ -34,7 +34,7 @@ goes s book r Read (Replied reply) rest legal answered = absurd answered.0
 goes s book r Read Busy rest legal answered = absurd answered.0
 goes s book r Read Lost rest legal answered = absurd answered.0
 
-legal_within : (s : Machine) (book : Records) (told : List Told) → IsLegalFrom s book (history_of told) → AreAnswered told → AreWithin s told → AreToldIn s told
+pub legal_within : (s : Machine) (book : Records) (told : List Told) → IsLegalFrom s book (history_of told) → AreAnswered told → AreWithin s told → AreToldIn s told
 legal_within s book [] legal answered within = All-from_recursion (IsToldIn s) [] tt
 legal_within s book (x ∷ told) legal answered within =
     let AnsweredAt = λ (y : Told). IsAnswered y.entry.ask y.entry.answer in

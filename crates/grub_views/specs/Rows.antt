@@ -1,6 +1,7 @@
 -- The steps as a table: rows of fields, with a tab between each two.
 use Rattle.std.specs.Prelude.{ℕ, List, [], ◌∷◌, ◌++◌, ◌==◌, codes, decimal, Option, Some, None}
 use Rattle.std.specs.List.{flat_map, before_first, join_with_byte}
+use Rattle.grub_book.specs.declared.event.Reading.{Reading}
 use Rattle.grub_book.specs.declared.op.Op.{Op}
 use Rattle.grub_book.specs.declared.op.Op.TheVariants.{Join, Wake, Block, Leave, Timer, Exit, Charge, Retune}
 use Rattle.grub_book.specs.declared.reply.Reply.{Reply}
@@ -9,8 +10,12 @@ use Rattle.grub_trace.specs.declared.entry.Ask.{Ask}
 use Rattle.grub_trace.specs.declared.entry.Ask.TheVariants.{Call, Read}
 use Rattle.grub_trace.specs.declared.entry.Answer.{Answer}
 use Rattle.grub_trace.specs.declared.entry.Answer.TheVariants.{Replied, Seen, Busy, Lost}
-use Rattle.grub_trace.specs.Plans.{name_at}
+use Rattle.grub_trace.specs.Plans.{PlanView, name_at}
 use Rattle.grub_trace.specs.Texts.{ask_text, reply_text}
+use Rattle.grub_trace.specs.Writing.{HandsOn, HandsPart}
+use Rattle.grub_timeline.specs.TimeLines.{IsTimeLine}
+use Rattle.grub_timeline.specs.declared.told.Told.{Told}
+use Rattle.grub_views.specs.Replay.{steps_of}
 use Rattle.grub_views.specs.declared.book_steps.Step.{Step}
 use Rattle.grub_views.specs.declared.rows.Numbers.{Numbers}
 
@@ -93,3 +98,17 @@ step_row names x = row (asked_fields names x ++ number_fields (answer_numbers x.
 -- the names of the columns, and a row for each step
 unfoldable pub step_rows : List (List ℕ) → List Step → List ℕ
 step_rows names steps = header ++ flat_map (step_row names) steps
+
+-- the rows of the time line of the plan were handed on, behind what was kept
+pub record HandsOnSteps (plan : PlanView) (a b : Option (List ℕ)) (kept left : List ℕ) : Type 0 where
+  pub told : List Told
+  pub closing : List Reading
+  pub line : IsTimeLine plan told closing
+  pub handed : HandsOn a b kept (step_rows plan.names (steps_of plan.setup told)) left
+
+-- or a part of them
+pub record HandsPartOfSteps (plan : PlanView) (a b : Option (List ℕ)) (kept : List ℕ) : Type 0 where
+  pub told : List Told
+  pub closing : List Reading
+  pub line : IsTimeLine plan told closing
+  pub handed : HandsPart a b kept (step_rows plan.names (steps_of plan.setup told))

@@ -1,9 +1,10 @@
 //! The entries of a time line, each with what it made of the book.
 
-ghost use Rattle.std.specs.Prelude.{◌≡◌, IfOk};
+ghost use Rattle.std.specs.Prelude.{◌≡◌, ◌≤◌, IfOk, length, vec_capacity};
 ghost use Rattle.grub_timeline.specs.TimeLines.{AreWithin, IsTimeLine};
 ghost use Rattle.grub_views.specs.inside.Fitting.{AreStepsIn, AreToldIn, IsToldIn};
-ghost use Rattle.grub_views.specs.Replay.{book_after, queue_or, step_of, steps_of};
+ghost use Rattle.grub_views.specs.inside.Past.{book_past};
+ghost use Rattle.grub_views.specs.Replay.{book_after, queue_or, step_of, steps_from, steps_of};
 
 use grub_book::{Book, Place, Reading, Setup};
 use grub_bw::Server;
@@ -114,5 +115,20 @@ fn queue_or(place: Place, r: u32) -> u32
     match place {
         Place::On(s, _) => s,
         Place::Away | Place::Gone => r,
+    }
+}
+
+/// Puts the steps of these entries into a vector that has room for them, by a book that goes on with them.
+pub(crate) fn fill_steps(steps: &mut Vec<Step>, book: &mut Book<'_>, told: &[Told])
+    requires told { AreToldIn book.old.setup told.now }
+    requires room { length told.now ≤ vec_capacity steps.old }
+    ensures steps { steps.new.items ≡ steps_from book.old.setup book.old.records told.now }
+    ensures setup { book.new.setup ≡ book.old.setup }
+    ensures records { book.new.records ≡ book_past book.old.setup book.old.records told.now }
+    ensures room { vec_capacity steps.new ≡ vec_capacity steps.old }
+{
+    steps.clear();
+    for x in told {
+        steps.push_reserved(step_after(book, x));
     }
 }

@@ -1,48 +1,86 @@
 //! The steps of a time line as a table of fields with tabs between them, through a buffer that never grows.
 
-ghost use Rattle.std.specs.Prelude.{◌≡◌, ◌+◌, ◌≤◌, ◌++◌, ◌∷◌, [], OnOk, OnErr, length, decimal, codes, All, vec_len, vec_capacity};
+ghost use Rattle.std.specs.Prelude.{◌≡◌, ◌+◌, ◌≤◌, ◌++◌, ◌∷◌, [], OnOk, OnErr, length, decimal, codes, vec_len, vec_capacity};
 ghost use Rattle.std.specs.List.{flat_map, join_with_byte};
 ghost use Rattle.grub_book.specs.Sums.{opening_book};
 ghost use Rattle.grub_trace.specs.Texts.{IsAskOf};
 ghost use Rattle.grub_trace.specs.Writing.{HandsOn, HandsPart};
-ghost use Rattle.grub_timeline.specs.TimeLines.{AreWithin, IsTimeLine};
-ghost use Rattle.grub_views.specs.inside.Fitting.{AreToldIn, IsToldIn};
-ghost use Rattle.grub_views.specs.Replay.{steps_from, steps_of};
-ghost use Rattle.grub_views.specs.Rows.{answer_numbers, answer_word, arg_field, ask_word, asked_fields, header, number_field, number_fields, reply_numbers, reply_word, step_row, step_rows, task_field};
+ghost use Rattle.grub_views.specs.inside.Fitting.{IsToldIn};
+ghost use Rattle.grub_views.specs.Replay.{steps_of};
+ghost use Rattle.grub_views.specs.Rows.{HandsOnSteps, HandsPartOfSteps, answer_numbers, answer_word, arg_field, ask_word, asked_fields, header, number_field, number_fields, reply_numbers, reply_word, step_row, step_rows, task_field};
 
-use crate::book_steps::{Step, step_after};
+use crate::book_steps::{Step, fill_steps};
+use crate::rest::play_out;
 use grub_book::{Book, Op, Reply};
-use grub_timeline::{TimeLine, Told};
+use grub_lines::{Blocks, Line, write_lines};
+use grub_timeline::Playing;
 use grub_trace::{Answer, Ask, LINE_MAX, Plan, append, append_number, make_room};
 use std::io;
 use std::io::Write;
+use std::thread::Threads;
 
 /// The names of the columns.
 const HEADER: &[u8] = b"moment\trunqueue\task\ttask\targ\tanswer\tdq\tk\tq\td\tz\trunning\tthis\n";
 
-/// Puts the steps of a time line of the plan into the buffer, for programs that read tables, and writes what it keeps as
-/// often as it is full: the names of the columns, and then for each entry a line of fields with a tab between each two. A
-/// field that there is none of is empty. The steps are those of the book, of which nothing was asked yet. It takes no memory.
+/// Plays what is left of a time line of the plan, of which nothing was played yet, and puts its steps into the buffer, which is
+/// written as often as it is full, for programs that read tables: the names of the columns, and then for each entry a line of
+/// fields with a tab between each two. A field that there is none of is empty. The steps are those of the book, of which
+/// nothing was asked yet, and the vector has room for those that are played at a time. It takes no memory.
 /// After a failing write, or one that took nothing, a beginning of the buffer's bytes and the text was written.
-pub fn write_steps<W: Write>(
+pub fn write_steps<R: Threads + Sync, W: Write>(
+    rt: &R,
+    blocks: &mut Blocks,
     buffer: &mut Vec<u8>,
     out: &mut W,
     plan: &Plan,
     book: &mut Book<'_>,
-    line: &TimeLine,
+    steps: &mut Vec<Step>,
+    playing: Playing<'_>,
 ) -> io::Result<()>
-    requires line { IsTimeLine plan.now line.now.told.items line.now.closing.items }
-    requires within { AreWithin plan.now.setup line.now.told.items }
+    requires plan { playing.plan ≡ plan.now }
+    requires nothing { playing.told ≡ [] }
     requires setup { book.old.setup ≡ plan.now.setup }
     requires book { book.old.records ≡ opening_book plan.now.setup }
+    requires steps { playing.most ≤ vec_capacity steps.old }
     requires room { LINE_MAX ≤ vec_capacity buffer.old }
-    ensures whole { OnOk result (HandsOn (W.contents out.old) (W.contents out.new) buffer.old.items (step_rows plan.now.names (steps_of plan.now.setup line.now.told.items)) buffer.new.items) }
-    ensures part { OnErr result (HandsPart (W.contents out.old) (W.contents out.new) buffer.old.items (step_rows plan.now.names (steps_of plan.now.setup line.now.told.items))) }
+    ensures whole { OnOk result (HandsOnSteps plan.now (W.contents out.old) (W.contents out.new) buffer.old.items buffer.new.items) }
+    ensures part { OnErr result (HandsPartOfSteps plan.now (W.contents out.old) (W.contents out.new) buffer.old.items) }
     ensures room { LINE_MAX ≤ vec_capacity buffer.new }
 {
-    write_header(buffer, out)?;
-    write_rows(buffer, out, plan, book, &line.told)?;
-    Ok(())
+    let mut playing = playing;
+    let written = write_table(rt, blocks, buffer, out, plan, book, steps, &mut playing);
+    playing.close();
+    written
+}
+
+/// Plays all lines, and puts the names of the columns and a row for each entry into the buffer.
+fn write_table<R: Threads + Sync, W: Write>(
+    rt: &R,
+    blocks: &mut Blocks,
+    buffer: &mut Vec<u8>,
+    out: &mut W,
+    plan: &Plan,
+    book: &mut Book<'_>,
+    steps: &mut Vec<Step>,
+    playing: &mut Playing<'_>,
+) -> io::Result<()>
+    requires plan { playing.old.plan ≡ plan.now }
+    requires nothing { playing.old.told ≡ [] }
+    requires setup { book.old.setup ≡ plan.now.setup }
+    requires book { book.old.records ≡ opening_book plan.now.setup }
+    requires steps { playing.old.most ≤ vec_capacity steps.old }
+    requires room { LINE_MAX ≤ vec_capacity buffer.old }
+    ensures plan { playing.new.plan ≡ plan.now }
+    ensures over { playing.new.left ≡ 0 }
+    ensures whole { OnOk result (HandsOn (W.contents out.old) (W.contents out.new) buffer.old.items (step_rows plan.now.names (steps_of plan.now.setup playing.new.told)) buffer.new.items) }
+    ensures part { OnErr result (HandsPart (W.contents out.old) (W.contents out.new) buffer.old.items (step_rows plan.now.names (steps_of plan.now.setup playing.new.told))) }
+    ensures room { LINE_MAX ≤ vec_capacity buffer.new }
+{
+    if let Err(fault) = write_header(buffer, out) {
+        play_out(playing);
+        return Err(fault);
+    }
+    write_rows(rt, blocks, buffer, out, plan, book, steps, playing)
 }
 
 fn write_header<W: Write>(buffer: &mut Vec<u8>, out: &mut W) -> io::Result<()>
@@ -56,43 +94,54 @@ fn write_header<W: Write>(buffer: &mut Vec<u8>, out: &mut W) -> io::Result<()>
     Ok(())
 }
 
-/// A row for each entry, from this book on.
-fn write_rows<W: Write>(
+/// Plays all lines, and puts a row for each entry into the buffer.
+fn write_rows<R: Threads + Sync, W: Write>(
+    rt: &R,
+    blocks: &mut Blocks,
     buffer: &mut Vec<u8>,
     out: &mut W,
     plan: &Plan,
     book: &mut Book<'_>,
-    told: &[Told],
+    steps: &mut Vec<Step>,
+    playing: &mut Playing<'_>,
 ) -> io::Result<()>
+    requires plan { playing.old.plan ≡ plan.now }
+    requires nothing { playing.old.told ≡ [] }
     requires setup { book.old.setup ≡ plan.now.setup }
-    requires told { AreToldIn plan.now.setup told.now }
+    requires book { book.old.records ≡ opening_book plan.now.setup }
+    requires steps { playing.old.most ≤ vec_capacity steps.old }
     requires room { LINE_MAX ≤ vec_capacity buffer.old }
-    ensures whole { OnOk result (HandsOn (W.contents out.old) (W.contents out.new) buffer.old.items (flat_map (step_row plan.now.names) (steps_from plan.now.setup book.old.records told.now)) buffer.new.items) }
-    ensures part { OnErr result (HandsPart (W.contents out.old) (W.contents out.new) buffer.old.items (flat_map (step_row plan.now.names) (steps_from plan.now.setup book.old.records told.now))) }
+    ensures plan { playing.new.plan ≡ plan.now }
+    ensures over { playing.new.left ≡ 0 }
+    ensures whole { OnOk result (HandsOn (W.contents out.old) (W.contents out.new) buffer.old.items (flat_map (step_row plan.now.names) (steps_of plan.now.setup playing.new.told)) buffer.new.items) }
+    ensures part { OnErr result (HandsPart (W.contents out.old) (W.contents out.new) buffer.old.items (flat_map (step_row plan.now.names) (steps_of plan.now.setup playing.new.told))) }
     ensures room { LINE_MAX ≤ vec_capacity buffer.new }
 {
-    for x in told {
-        let step = step_after(book, x);
-        write_step(buffer, out, plan, &step)?;
+    let rows = PlanRows { plan };
+    while playing.play_on() {
+        fill_steps(steps, book, playing.chunk());
+        if let Err(fault) = write_lines(rt, blocks, buffer, out, steps, &rows) {
+            play_out(playing);
+            return Err(fault);
+        }
     }
     Ok(())
 }
 
-fn write_step<W: Write>(
-    buffer: &mut Vec<u8>,
-    out: &mut W,
-    plan: &Plan,
-    step: &Step,
-) -> io::Result<()>
-    requires told { IsToldIn plan.now.setup step.now.told }
-    requires room { LINE_MAX ≤ vec_capacity buffer.old }
-    ensures whole { OnOk result (HandsOn (W.contents out.old) (W.contents out.new) buffer.old.items (step_row plan.now.names step.now) buffer.new.items) }
-    ensures part { OnErr result (HandsPart (W.contents out.old) (W.contents out.new) buffer.old.items (step_row plan.now.names step.now)) }
-    ensures room { LINE_MAX ≤ vec_capacity buffer.new }
-{
-    make_room(buffer, out)?;
-    append_step(buffer, plan, step);
-    Ok(())
+/// How the steps of a plan's entries are told.
+#[derive(Clone, Copy)]
+struct PlanRows<'a> {
+    plan: &'a Plan,
+}
+
+impl<'a> Line<Step> for PlanRows<'a> {
+    ghost fits = { λ rows x. IsToldIn rows.plan.now.setup x.told };
+
+    ghost line = { λ rows x. step_row rows.plan.now.names x };
+
+    fn append(&self, out: &mut Vec<u8>, item: &Step) {
+        append_step(out, self.plan, item);
+    }
 }
 
 /// The numbers of an answer, where it has them.
@@ -136,6 +185,7 @@ fn append_step(out: &mut Vec<u8>, plan: &Plan, step: &Step)
     requires told { IsToldIn plan.now.setup step.now.told }
     requires room { vec_len out.old + LINE_MAX ≤ vec_capacity out.old }
     ensures text { out.new.items ≡ out.old.items ++ step_row plan.now.names step.now }
+    ensures len { vec_len out.new ≤ vec_len out.old + LINE_MAX }
     ensures room { vec_capacity out.old ≤ vec_capacity out.new }
 {
     append_asked(out, plan, step);

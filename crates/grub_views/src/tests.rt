@@ -1,11 +1,9 @@
 //! Views of worked examples, and refused growths.
 
-ghost use Rattle.grub_timeline.specs.TimeLines.{AreWithin, IsTimeLine};
-
 use super::*;
 use grub_book::Book;
 use grub_lines::Blocks;
-use grub_timeline::{Playing, TimeLine, play};
+use grub_timeline::{Playing, play};
 use grub_trace::{Plan, read_files, report_buffer, write_buffer};
 use std::alloc::{AllocError, Global};
 use std::process::Abort;
@@ -141,7 +139,7 @@ fn view_of<R: Threads + Sync>(
     };
     match view {
         View::Lines => lines_of(rt, alloc, &plan),
-        View::Steps => steps_of(alloc, &plan, &line),
+        View::Steps => rows_of(rt, alloc, &plan),
         View::Summary => summary_text(alloc, &plan, &line),
         View::Picture => picture_text(alloc, &plan, &line, 0, end_of(&line)),
     }
@@ -166,19 +164,35 @@ fn lines_of<R: Threads + Sync>(rt: &R, alloc: Global, plan: &Plan) -> Result<Vec
     Ok(text)
 }
 
-/// The steps of a time line.
-fn steps_of(alloc: Global, plan: &Plan, line: &TimeLine) -> Result<Vec<u8>, ViewFault>
-    requires line { IsTimeLine plan.now line.now.told.items line.now.closing.items }
-    requires within { AreWithin plan.now.setup line.now.told.items }
-{
+/// The steps of the time line.
+fn rows_of<R: Threads + Sync>(rt: &R, alloc: Global, plan: &Plan) -> Result<Vec<u8>, ViewFault> {
+    let Ok(playing) = Playing::new(alloc, plan) else {
+        return Err(ViewFault::NoMemory);
+    };
+    let Ok(mut steps) = Vec::with_capacity(alloc, playing.most()) else {
+        return Err(ViewFault::NoMemory);
+    };
     let Ok(mut book) = Book::new(alloc, plan.setup()) else {
         return Err(ViewFault::NoMemory);
     };
     let Ok(mut buffer) = report_buffer(alloc) else {
         return Err(ViewFault::NoMemory);
     };
+    let Ok(mut blocks) = Blocks::new(alloc) else {
+        return Err(ViewFault::NoMemory);
+    };
     let mut text = Vec::new(alloc);
-    write_steps(&mut buffer, &mut text, plan, &mut book, line).map_err(|_| ViewFault::NoMemory)?;
+    write_steps(
+        rt,
+        &mut blocks,
+        &mut buffer,
+        &mut text,
+        plan,
+        &mut book,
+        &mut steps,
+        playing,
+    )
+    .map_err(|_| ViewFault::NoMemory)?;
     write_buffer(&mut buffer, &mut text).map_err(|_| ViewFault::NoMemory)?;
     Ok(text)
 }

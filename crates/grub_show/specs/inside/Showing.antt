@@ -42,7 +42,14 @@ IsFaultOfText run.View = ⊤
 IsFaultOfText run.WriteFault = ⊤
 IsFaultOfText fault = ⊥
 
--- no fault of a file; an empty span is that of these entries
-abbrev pub IsFaultOfLine : View → List Told → ShowFault → Type 0
-IsFaultOfLine view told (Grub fault) = IsFaultOfText fault
-IsFaultOfLine view told (EmptySpan first end) = IsEmptySpan view told first end
+-- a picture of the time line of the plan would go from this moment to this one, which is not after it
+pub record HasEmptyLine (view : View) (plan : PlanView) (first end : ℕ) : Type 0 where
+  pub told : List Told
+  pub closing : List Reading
+  pub line : IsTimeLine plan told closing
+  pub empty : IsEmptySpan view told first end
+
+-- no fault of a file; an empty span is that of a time line of the plan
+abbrev pub IsFaultOfLine : View → PlanView → ShowFault → Type 0
+IsFaultOfLine view plan (Grub fault) = IsFaultOfText fault
+IsFaultOfLine view plan (EmptySpan first end) = HasEmptyLine view plan first end

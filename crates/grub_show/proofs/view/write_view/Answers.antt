@@ -1,4 +1,4 @@
-use Rattle.std.proofs.Common.{◌≡◌, ℕ, List, rules, subst, sym}
+use Rattle.std.proofs.Common.{◌≡◌, ℕ, List, subst}
 use Rattle.std.proofs.lemmas.Result.{on_ok_weaker}
 use Rattle.grub_book.specs.declared.event.Reading.{Reading}
 use Rattle.grub_timeline.specs.TimeLines.{IsTimeLine}
@@ -10,7 +10,6 @@ use Rattle.grub_trace.specs.Reading.{contents}
 use Rattle.grub_trace.specs.Tree.{Tree}
 use Rattle.grub_show.specs.Shown.{IsShown, IsViewOf}
 use Rattle.grub_show.specs.declared.view.View.{View}
-use Rattle.grub_show.specs.declared.view.View.TheVariants.{Timeline}
 use Rattle.grub_show.proofs.view.write_view.Goals as goal
 
 -- a view of the time line of the plan of these files
@@ -28,19 +27,8 @@ shown view files plan told closing text trees read is line whole = record {
 pub returns-clause-text : goal.returns-clause-text
 returns-clause-text g c =
     let read = rw c.deref.ensures.value at c.in-Ok.ensures.read in
-    on_ok_weaker c.write_played.result (λ w. (
-      w.0,
-      shown c.args.view (contents c.args.files.items) c.in-Ok.plan c.in-Ok-play.line.told.items c.in-Ok-play.line.closing.items w.0 read.0 read.1 read.2 c.in-Ok-play.ensures.time_line w.1,
-      w.2,
-    )) c.write_played.ensures.text
-
-pub returns-in-Timeline-clause-text : goal.returns-in-Timeline-clause-text
-returns-in-Timeline-clause-text g c =
-    let read = rw c.deref.ensures.value at c.in-Ok.ensures.read in
-    let is : c.args.view ≡ Timeline = search rules in
-    on_ok_weaker c.write_lines.result (λ x. (
+    on_ok_weaker c.write_played.result (λ x. (
       x.written.0,
-      shown c.args.view (contents c.args.files.items) c.in-Ok.plan x.told x.closing x.written.0 read.0 read.1 read.2 x.line
-          (subst (λ (v : View). IsViewOf v c.in-Ok.plan x.told x.closing x.written.0) (sym is) x.written.1),
+      shown c.args.view (contents c.args.files.items) c.in-Ok.plan x.told x.closing x.written.0 read.0 read.1 read.2 x.line x.written.1,
       x.written.2,
-    )) c.write_lines.ensures.text
+    )) c.write_played.ensures.text

@@ -1,42 +1,79 @@
-use Rattle.std.proofs.Common.{◌++◌, ◌∙◌, [], refl, ap, List}
+use Rattle.std.proofs.Common.{◌≡◌, ◌<◌, ◌++◌, ◌∙◌, List, ℕ, length, ap, sym, subst}
 use Rattle.std.specs.List.{flat_map}
-use Rattle.std.proofs.lemmas.List.{drop_all}
+use Rattle.std.proofs.lemmas.List.Elements.{All-nil}
+use Rattle.grub_book.specs.Sums.{opening_book}
+use Rattle.grub_trace.specs.Plans.{PlanView}
+use Rattle.grub_trace.specs.Texts.{IsAskOf}
+use Rattle.grub_trace.specs.Writing.{HandsPart}
+use Rattle.grub_trace.proofs.Handing.{hands_both, hands_none, part_after, part_longer}
+use Rattle.grub_timeline.specs.TimeLines.{AreWithin}
 use Rattle.grub_timeline.specs.declared.told.Told.{Told}
-use Rattle.grub_trace.proofs.Handing.{hands_none, hands_both, on_err}
-use Rattle.grub_views.specs.Replay.{steps_from}
+use Rattle.grub_views.specs.Replay.{steps_from, steps_of}
 use Rattle.grub_views.specs.Rows.{step_row}
-use Rattle.grub_views.proofs.Closing.{rows_left}
-use Rattle.grub_views.proofs.Handing.{piece_left, part_piece, hands_end}
+use Rattle.grub_views.specs.inside.Fitting.{IsToldIn}
+use Rattle.grub_views.specs.inside.Past.{book_past}
+use Rattle.grub_views.proofs.Chunking.{chunk_viewable, past_more, rows_more, within_more}
+use Rattle.grub_views.proofs.Stepping.{steps_hold}
 use Rattle.grub_views.proofs.rows.write_rows.Goals as goal
 
-pub loop-x-init : goal.loop-x-init
-loop-x-init g c = record { room = c.requires.room; setup = c.requires.setup; done = []; left = refl; so_far = hands_none (g.W.Write.contents c.args.out.now) c.args.buffer.now.items }
+pub loop-rows-init : goal.loop-rows-init
+unfolding steps_of
+loop-rows-init g c = record {
+  plan = c.requires.plan;
+  room = c.requires.room;
+  steps = c.requires.steps;
+  setup = c.requires.setup;
+  book = rw c.requires.nothing c.requires.book;
+  within = rw c.requires.nothing (All-nil (λ (x : Told). (x.r < length c.args.plan.now.setup.queues) × IsAskOf (length c.args.plan.now.setup.tasks) x.entry.ask));
+  so_far = rw c.requires.nothing (hands_none (g.W.Write.contents c.args.out.now) c.args.buffer.now.items);
+}
 
-pub returns-in_err-write_step-clause-part : goal.returns-in_err-write_step-clause-part
-returns-in_err-write_step-clause-part g c =
-    let made = rw c.loop-x.invariant.setup at c.step_after-step.ensures.value in
-    let then = rw c.loop-x.invariant.setup at c.step_after-step.ensures.records in
-    on_err c.from_residual.result
-    (part_piece (g.W.Write.contents c.args.out.now) (g.W.Write.contents c.loop-x.out) (g.W.Write.contents c.write_step.new.out) c.args.buffer.now.items c.loop-x.invariant.done c.loop-x.buffer.items _ _ _ _
-    c.loop-x.invariant.so_far c.in_err-write_step.ensures.part c.loop-x.invariant.left
-    (rows_left c.args.plan.now.names c.args.plan.now.setup c.loop-x.book.records c.step_after-step.new.book.records c.loop-x.x-index c.args.told.now _ c.step_after-step.result c.loop-x-test.true made then))
+pub fill_steps-requires-clause-told : goal.fill_steps-requires-clause-told
+fill_steps-requires-clause-told g c =
+    let e = c.play_on.ensures in let inv = c.loop-rows.invariant in
+    rw (inv.setup, c.chunk.ensures)
+    (chunk_viewable c.args.plan.now c.play_on.new.self.plan c.loop-rows.playing.told c.play_on.new.self.chunk c.play_on.new.self.told (e.plan ∙ inv.plan) e.told e.legal e.answered inv.within e.within)
 
-pub loop-x-preserved : goal.loop-x-preserved
-loop-x-preserved g c =
-    let made = rw c.loop-x.invariant.setup at c.step_after-step.ensures.value in
-    let then = rw c.loop-x.invariant.setup at c.step_after-step.ensures.records in
+pub write_lines-requires-clause-fits : goal.write_lines-requires-clause-fits
+write_lines-requires-clause-fits g c = λ κs lives.
+    let e = c.play_on.ensures in let inv = c.loop-rows.invariant in let s = c.args.plan.now.setup in let chunk = c.play_on.new.self.chunk in
+    rw (c.deref.ensures.value, c.fill_steps.ensures.steps, inv.setup, c.chunk.ensures)
+    (steps_hold (IsToldIn s) s c.loop-rows.book.records chunk
+    (chunk_viewable c.args.plan.now c.play_on.new.self.plan c.loop-rows.playing.told chunk c.play_on.new.self.told (e.plan ∙ inv.plan) e.told e.legal e.answered inv.within e.within))
+
+-- the rows of a chunk follow those of the entries before it
+pub loop-rows-preserved : goal.loop-rows-preserved
+loop-rows-preserved g c =
+    let inv = c.loop-rows.invariant in let s = c.args.plan.now.setup in let names = c.args.plan.now.names in
+    let was = c.loop-rows.playing.told in let chunk = c.play_on.new.self.chunk in
+    let is = c.play_on.ensures.plan ∙ inv.plan in let told = c.play_on.ensures.told in
+    let within : AreWithin s chunk = subst (λ (p : PlanView). AreWithin p.setup chunk) is c.play_on.ensures.within in
+    let begun = book_past s (opening_book s) was in
     record {
-      room = c.in_ok-write_step.ensures.room;
-      setup = c.step_after-step.ensures.setup ∙ c.loop-x.invariant.setup;
-      done = c.loop-x.invariant.done ++ step_row c.args.plan.now.names c.step_after-step.result;
-      left = piece_left c.loop-x.invariant.done _ _ _ _ c.loop-x.invariant.left
-          (rows_left c.args.plan.now.names c.args.plan.now.setup c.loop-x.book.records c.step_after-step.new.book.records c.loop-x.x-index c.args.told.now _ c.step_after-step.result c.loop-x-test.true made then);
-      so_far = hands_both (g.W.Write.contents c.args.out.now) (g.W.Write.contents c.loop-x.out) (g.W.Write.contents c.write_step.new.out) c.args.buffer.now.items c.loop-x.invariant.done c.loop-x.buffer.items _ c.write_step.new.buffer.items
-          c.loop-x.invariant.so_far c.in_ok-write_step.ensures.whole;
+      plan = is;
+      room = c.in_default.ensures.room;
+      steps = rw (c.play_on.ensures.most, c.fill_steps.ensures.room) inv.steps;
+      setup = c.fill_steps.ensures.setup ∙ inv.setup;
+      book = rw (told, past_more s (opening_book s) was chunk) (rw (inv.setup, inv.book, c.chunk.ensures) at c.fill_steps.ensures.records);
+      within = rw told (within_more s was chunk inv.within within);
+      so_far = rw (told, rows_more names s was chunk)
+          (hands_both (g.W.Write.contents c.args.out.now) (g.W.Write.contents c.loop-rows.out) (g.W.Write.contents c.write_lines.new.out) c.args.buffer.now.items
+          (flat_map (step_row names) (steps_of s was)) c.loop-rows.buffer.items (flat_map (step_row names) (steps_from s begun chunk)) c.write_lines.new.buffer.items inv.so_far
+          (rw (c.deref.ensures.value, c.fill_steps.ensures.steps, inv.setup, inv.book, c.chunk.ensures) at c.in_default.ensures.whole));
     }
 
-pub returns-clause-whole : goal.returns-clause-whole
-returns-clause-whole g c =
-    hands_end (g.W.Write.contents c.args.out.now) (g.W.Write.contents c.loop-x.out) c.args.buffer.now.items c.loop-x.invariant.done c.loop-x.buffer.items _ _
-    c.loop-x.invariant.so_far c.loop-x.invariant.left
-    (ap (λ (xs : List Told). flat_map (step_row c.args.plan.now.names) (steps_from c.args.plan.now.setup c.loop-x.book.records xs)) (drop_all c.loop-x.x-index c.args.told.now c.loop-x-test.false))
+-- a part of the rows of the latest entries, which the rest of the time line follows
+pub returns-in-Err-clause-part : goal.returns-in-Err-clause-part
+returns-in-Err-clause-part g c =
+    let inv = c.loop-rows.invariant in let s = c.args.plan.now.setup in let names = c.args.plan.now.names in let row = step_row names in let more = c.play_out.ensures.told.0 in
+    let a = g.W.Write.contents c.args.out.now in
+    let b = g.W.Write.contents c.loop-rows.out in
+    let d = g.W.Write.contents c.write_lines.new.out in
+    let was = c.loop-rows.playing.told in let chunk = c.play_on.new.self.chunk in let then = c.play_on.new.self.told in
+    let latest = flat_map row (steps_from s (book_past s (opening_book s) was) chunk) in
+    let after = flat_map row (steps_from s (book_past s (opening_book s) then) more) in
+    let texts : flat_map row (steps_of s then) ≡ flat_map row (steps_of s was) ++ latest = ap (λ (xs : List Told). flat_map row (steps_of s xs)) c.play_on.ensures.told ∙ rows_more names s was chunk in
+    let all = ap (λ (xs : List Told). flat_map row (steps_of s xs)) c.play_out.ensures.told.1 ∙ rows_more names s then more ∙ ap (λ (l : List ℕ). l ++ after) texts in
+    let part : HandsPart b d c.loop-rows.buffer.items latest = rw (c.deref.ensures.value, c.fill_steps.ensures.steps, inv.setup, inv.book, c.chunk.ensures) at c.in-Err.ensures.part in
+    subst (λ (t : List ℕ). HandsPart a d c.args.buffer.now.items t) (sym all)
+    (part_longer a d c.args.buffer.now.items (flat_map row (steps_of s was) ++ latest) after (part_after a b d c.args.buffer.now.items (flat_map row (steps_of s was)) c.loop-rows.buffer.items latest inv.so_far part))

@@ -1,0 +1,59 @@
+-- The steps of entries that are played some at a time.
+use Rattle.std.proofs.Common.{◌≡◌, ℕ, ◌+◌, ◌<◌, List, [], ◌∷◌, ◌++◌, ◌∙◌, length, get_or, drop, refl, ap, subst, add-one}
+use Rattle.std.proofs.Math.Seq.{drop-cons}
+use Rattle.std.proofs.lemmas.Grind.{flat_map-append}
+use Rattle.std.proofs.lemmas.List.Elements.{All-append, All-tail}
+use Rattle.std.specs.List.{All, flat_map}
+use Rattle.grub_book.specs.Machine.{Machine}
+use Rattle.grub_book.specs.Sums.{Records, opening_book}
+use Rattle.grub_book.specs.History.{IsLegal}
+use Rattle.grub_trace.specs.Plans.{PlanView}
+use Rattle.grub_trace.specs.Texts.{IsAskOf}
+use Rattle.grub_timeline.specs.TimeLines.{AreAnswered, AreWithin, history_of}
+use Rattle.grub_timeline.specs.declared.told.Told.{Told}
+use Rattle.grub_views.specs.inside.Fitting.{AreToldIn, IsToldIn}
+use Rattle.grub_views.specs.inside.Past.{book_past}
+use Rattle.grub_views.specs.Replay.{book_after, step_of, steps_from, steps_of}
+use Rattle.grub_views.specs.Rows.{step_row}
+use Rattle.grub_views.proofs.Viewing.{legal_within}
+
+-- the steps of what is left, less one
+pub past_left : (s : Machine) (book then : Records) (i : ℕ) (told : List Told) (d : Told) → i < length told
+    → then ≡ book_after s book (get_or told i d).entry.ask
+    → book_past s then (drop (i + 1) told) ≡ book_past s book (drop i told)
+past_left s book then i told d below then_is =
+    let whole : drop i told ≡ get_or told i d ∷ drop (i + 1) told = drop-cons told i d below ∙ rw add-one refl in
+    rw (whole, then_is) refl
+
+pub steps_more : (s : Machine) (book : Records) (xs ys : List Told) → steps_from s book (xs ++ ys) ≡ steps_from s book xs ++ steps_from s (book_past s book xs) ys
+steps_more s book [] ys = refl
+steps_more s book (x ∷ xs) ys = ap (λ l. step_of s book x ∷ l) (steps_more s (book_after s book x.entry.ask) xs ys)
+
+pub past_more : (s : Machine) (book : Records) (xs ys : List Told) → book_past s book (xs ++ ys) ≡ book_past s (book_past s book xs) ys
+past_more s book [] ys = refl
+past_more s book (x ∷ xs) ys = past_more s (book_after s book x.entry.ask) xs ys
+
+-- the rows of the entries so far, and those of the next
+pub rows_more : (names : List (List ℕ)) (s : Machine) (was chunk : List Told)
+    → flat_map (step_row names) (steps_of s (was ++ chunk)) ≡ flat_map (step_row names) (steps_of s was) ++ flat_map (step_row names) (steps_from s (book_past s (opening_book s) was) chunk)
+unfolding steps_of
+rows_more names s was chunk =
+    ap (flat_map (step_row names)) (steps_more s (opening_book s) was chunk) ∙ flat_map-append (step_row names) (steps_from s (opening_book s) was) (steps_from s (book_past s (opening_book s) was) chunk)
+
+behind : (P : Told → Type 0) (xs ys : List Told) → All P (xs ++ ys) → All P ys
+behind P [] ys all = all
+behind P (x ∷ xs) ys all = behind P xs ys (All-tail P x (xs ++ ys) all)
+
+-- what is within, and what is within behind it
+pub within_more : (s : Machine) (was chunk : List Told) → AreWithin s was → AreWithin s chunk → AreWithin s (was ++ chunk)
+within_more s was chunk before after = All-append (λ (x : Told). (x.r < length s.queues) × IsAskOf (length s.tasks) x.entry.ask) was chunk before after
+
+-- the latest entries may be viewed
+pub chunk_viewable : (plan then : PlanView) (was chunk told : List Told) → then ≡ plan → told ≡ was ++ chunk → IsLegal then.setup (history_of told) → AreAnswered told
+    → AreWithin plan.setup was → AreWithin then.setup chunk → AreToldIn plan.setup chunk
+chunk_viewable plan then was chunk told is list legal answered before within =
+    let s = plan.setup in
+    let chunk_within : AreWithin s chunk = subst (λ (p : PlanView). AreWithin p.setup chunk) is within in
+    let all_legal : IsLegal s (history_of (was ++ chunk)) = subst (λ (xs : List Told). IsLegal s (history_of xs)) list (subst (λ (p : PlanView). IsLegal p.setup (history_of told)) is legal) in
+    let all_answered : AreAnswered (was ++ chunk) = subst (λ (xs : List Told). AreAnswered xs) list answered in
+    behind (IsToldIn s) was chunk (legal_within s (opening_book s) (was ++ chunk) all_legal all_answered (within_more s was chunk before chunk_within))

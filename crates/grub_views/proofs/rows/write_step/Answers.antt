@@ -1,5 +1,0 @@
-use Rattle.grub_trace.proofs.Handing.{hands_soon, on_err}
-use Rattle.grub_views.proofs.rows.write_step.Goals as goal
-
-pub returns-in_err-make_room-clause-part : goal.returns-in_err-make_room-clause-part
-returns-in_err-make_room-clause-part g c = on_err c.from_residual.result (hands_soon (g.W.Write.contents c.args.out.now) _ c.args.buffer.now.items _ c.in_err-make_room.ensures.part)

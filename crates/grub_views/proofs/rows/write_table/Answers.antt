@@ -1,0 +1,26 @@
+use Rattle.std.specs.List.{flat_map}
+use Rattle.std.proofs.lemmas.Result.{on_err_weaker, on_ok_weaker}
+use Rattle.grub_trace.proofs.Handing.{hands_both, part_after, part_longer}
+use Rattle.grub_views.specs.Replay.{steps_of}
+use Rattle.grub_views.specs.Rows.{header, step_row, step_rows}
+use Rattle.grub_views.proofs.rows.write_table.Goals as goal
+
+pub returns-in-Err-clause-part : goal.returns-in-Err-clause-part
+unfolding step_rows
+returns-in-Err-clause-part g c =
+    part_longer (g.W.Write.contents c.args.out.now) (g.W.Write.contents c.write_header.new.out) c.args.buffer.now.items header
+    (flat_map (step_row c.args.plan.now.names) (steps_of c.args.plan.now.setup c.play_out.new.playing.told)) c.in-Err.ensures.part
+
+pub returns-clause-whole : goal.returns-clause-whole
+unfolding step_rows
+returns-clause-whole g c =
+    let w = c.write_rows in let rows = flat_map (step_row c.args.plan.now.names) (steps_of c.args.plan.now.setup w.new.playing.told) in
+    on_ok_weaker w.result
+    (hands_both (g.W.Write.contents c.args.out.now) (g.W.Write.contents c.write_header.new.out) (g.W.Write.contents w.new.out) c.args.buffer.now.items header c.write_header.new.buffer.items rows w.new.buffer.items c.in_default.ensures.whole) w.ensures.whole
+
+pub returns-clause-part : goal.returns-clause-part
+unfolding step_rows
+returns-clause-part g c =
+    let w = c.write_rows in let rows = flat_map (step_row c.args.plan.now.names) (steps_of c.args.plan.now.setup w.new.playing.told) in
+    on_err_weaker w.result
+    (part_after (g.W.Write.contents c.args.out.now) (g.W.Write.contents c.write_header.new.out) (g.W.Write.contents w.new.out) c.args.buffer.now.items header c.write_header.new.buffer.items rows c.in_default.ensures.whole) w.ensures.part
