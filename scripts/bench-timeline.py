@@ -48,11 +48,12 @@ def main():
     with tempfile.TemporaryDirectory() as folder:
         paths = [f"{folder}/cpu{r}.grub" for r in range(FILES)]
         lines = 0
+        # Line by line, so that this process stays small: what it held would count as memory of those that it starts.
         for r, path in enumerate(paths):
-            text = list(lines_of(r))
-            lines += len(text)
             with open(path, "w", encoding="ascii") as out:
-                out.write("\n".join(text) + "\n")
+                for line in lines_of(r):
+                    out.write(f"{line}\n")
+                    lines += 1
         print(f"{lines} lines, {sum(os.path.getsize(path) for path in paths)} bytes in {FILES} files")
         ways = {"run by threads": []}
         ways |= {view: ["--view", view] for view in ("timeline", "steps", "summary", "picture")}

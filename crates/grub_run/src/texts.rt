@@ -15,7 +15,9 @@ use crate::fault::GrubFault;
 use crate::report::write_report;
 use grub_book::Reading;
 use grub_lines::Blocks;
-use grub_trace::{LINE_MAX, Plan, Report, TextFault, read_files, report_buffer, write_buffer};
+use grub_trace::{
+    LINE_MAX, Plan, Report, TextFault, read_files_by_threads, report_buffer, write_buffer,
+};
 use grub_workers::{NoGate, run};
 use std::alloc::Global;
 use std::io;
@@ -48,7 +50,7 @@ pub fn run_texts<R: Threads + Wait + Sync, W: Write>(
     ensures answered { (k : Kind) (f n : ℕ) → IsFault (contents files.items) k f n → MatchResult result (λ _. ⊥) (λ e. IsOnlyFault e k f n) }
     ensures readable { (trees : List Tree) → Reads (contents files.items) trees → IfErr result IsNoFileFault }
 {
-    let plan = match read_files(alloc, &files) {
+    let plan = match read_files_by_threads(rt, alloc, &files) {
         Ok(plan) => plan,
         Err(fault) => return Err(GrubFault::Trace(fault)),
     };

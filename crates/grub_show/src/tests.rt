@@ -209,6 +209,24 @@ fn readings(alloc: Global, count: u32, view: View) -> Result<(Vec<u8>, Vec<u8>),
     Ok((file, text))
 }
 
+/// What a writer that takes so many bytes got of a view of the file, and whether that was all of it.
+fn taken<R: Threads + Sync>(
+    rt: &R,
+    alloc: Global,
+    file: &[u8],
+    view: View,
+    room: usize,
+) -> Result<(Vec<u8>, bool), AllocError> {
+    let mut files = Vec::with_capacity(alloc, 1)?;
+    files.push(file.to_vec(alloc)?)?;
+    let mut out = Short {
+        taken: Vec::new(alloc),
+        room,
+    };
+    let result = write_view(rt, alloc, files, view, &mut out);
+    Ok((out.taken, result.is_ok()))
+}
+
 /// More entries than are played at a time, to a writer that takes all of them, and to writers that fail among the first,
 /// between the first and the next, and after those.
 #[test]
@@ -223,15 +241,24 @@ fn a_view_of_many_entries(rt: HostRuntime) -> Result<(), Fail> {
             2_000_000,
             text.len().saturating_sub(1),
         ] {
-            let mut files = Vec::with_capacity(alloc, 1)?;
-            files.push(file.clone()?)?;
-            let mut out = Short {
-                taken: Vec::new(alloc),
-                room,
-            };
-            let result = write_view(&rt, alloc, files, view, &mut out);
-            assert_eq!(rt; result.is_ok(), room >= text.len());
-            assert!(rt; text.get(..room.min(text.len())) == Some(out.taken.as_slice()));
+            let (out, whole) = taken(&rt, alloc, &file, view, room)?;
+            assert_eq!(rt; whole, room >= text.len());
+            assert!(rt; text.get(..room.min(text.len())) == Some(out.as_slice()));
+        }
+    }
+    Ok(())
+}
+
+/// As many entries as are worth a thread, as many as are played at a time, and one fewer and one more.
+#[test]
+fn a_view_of_a_chunk_of_entries(rt: HostRuntime) -> Result<(), Fail> {
+    let alloc = rt.alloc();
+    for view in [View::Timeline, View::Steps] {
+        for count in [1023, 1024, 32_765, 32_766, 32_767] {
+            let (file, text) = readings(alloc, count, view)?;
+            let (out, whole) = taken(&rt, alloc, &file, view, usize::MAX)?;
+            assert!(rt; whole);
+            assert!(rt; out == text, "{count}");
         }
     }
     Ok(())

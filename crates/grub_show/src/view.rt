@@ -1,6 +1,6 @@
 //! From the bytes of event files to the bytes of a view.
 
-ghost use Rattle.std.specs.Prelude.{◌≡◌, ◌≤◌, ℕ, List, [], MatchResult, OnOk, OnErr, IfErr, vec_capacity};
+ghost use Rattle.std.specs.Prelude.{◌≡◌, ◌+◌, ◌≤◌, ℕ, List, [], MatchResult, OnOk, OnErr, IfErr, length, vec_capacity};
 ghost use Rattle.grub_book.specs.Sums.{opening_book};
 ghost use Rattle.grub_trace.specs.Meaning.{Reads};
 ghost use Rattle.grub_trace.specs.FirstFault.{IsFault};
@@ -17,8 +17,8 @@ use crate::fault::ShowFault;
 use grub_book::Book;
 use grub_lines::Blocks;
 use grub_run::GrubFault;
-use grub_timeline::{Playing, play};
-use grub_trace::{LINE_MAX, Plan, read_files, report_buffer, write_buffer};
+use grub_timeline::{Playing, Told, play};
+use grub_trace::{LINE_MAX, Plan, read_files_by_threads, report_buffer, write_buffer};
 use grub_views::{Step, end_of, picture_text, summary_text, write_steps, write_timeline};
 use std::alloc::Global;
 use std::io;
@@ -66,7 +66,7 @@ pub fn write_view<R: Threads + Sync, W: Write>(
     ensures answered { (k : Kind) (f n : ℕ) → IsFault (contents files.items) k f n → MatchResult result (λ _. ⊥) (λ e. IsOnlyFaultOfFile e k f n) }
     ensures readable { (trees : List Tree) → Reads (contents files.items) trees → IfErr result IsNoFaultOfFile }
 {
-    let plan = match read_files(alloc, &files) {
+    let plan = match read_files_by_threads(rt, alloc, &files) {
         Ok(plan) => plan,
         Err(fault) => return Err(ShowFault::Grub(GrubFault::Trace(fault))),
     };
@@ -110,13 +110,16 @@ fn write_lines<R: Threads + Sync, W: Write>(
     let Ok(playing) = Playing::new(alloc, plan) else {
         return Err(ShowFault::Grub(GrubFault::View));
     };
+    let Ok(latest) = Vec::with_capacity(alloc, playing.most()) else {
+        return Err(ShowFault::Grub(GrubFault::View));
+    };
     let Ok(buffer) = report_buffer(alloc) else {
         return Err(ShowFault::Grub(GrubFault::View));
     };
     let Ok(blocks) = Blocks::new(alloc) else {
         return Err(ShowFault::Grub(GrubFault::View));
     };
-    match lines_through(rt, blocks, buffer, plan, playing, out) {
+    match lines_through(rt, blocks, buffer, plan, latest, playing, out) {
         Ok(()) => Ok(()),
         Err(_) => Err(ShowFault::Grub(GrubFault::WriteFault)),
     }
@@ -128,11 +131,13 @@ fn lines_through<R: Threads + Sync, W: Write>(
     blocks: Blocks,
     buffer: Vec<u8>,
     plan: &Plan,
+    latest: Vec<Told>,
     playing: Playing<'_>,
     out: &mut W,
 ) -> io::Result<()>
     requires plan { playing.plan ≡ plan.now }
     requires nothing { playing.told ≡ [] }
+    requires latest { length plan.now.setup.tasks + 3 ≤ vec_capacity latest }
     requires empty { buffer.items ≡ [] }
     requires room { LINE_MAX ≤ vec_capacity buffer }
     ensures whole { OnOk result (WritesLine View.Timeline plan.now (W.contents out.old) (W.contents out.new)) }
@@ -140,7 +145,16 @@ fn lines_through<R: Threads + Sync, W: Write>(
 {
     let mut blocks = blocks;
     let mut buffer = buffer;
-    write_timeline(rt, &mut blocks, &mut buffer, out, plan, playing)?;
+    let mut latest = latest;
+    write_timeline(
+        rt,
+        &mut blocks,
+        &mut buffer,
+        out,
+        plan,
+        &mut latest,
+        playing,
+    )?;
     write_buffer(&mut buffer, out)?;
     out.flush()
 }
@@ -160,7 +174,10 @@ fn write_rows<R: Threads + Sync, W: Write>(
     let Ok(playing) = Playing::new(alloc, plan) else {
         return Err(ShowFault::Grub(GrubFault::View));
     };
-    let Ok(steps) = Vec::with_capacity(alloc, playing.most()) else {
+    let Ok(latest) = Vec::with_capacity(alloc, playing.most()) else {
+        return Err(ShowFault::Grub(GrubFault::View));
+    };
+    let Ok(steps) = Vec::with_capacity(alloc, latest.capacity()) else {
         return Err(ShowFault::Grub(GrubFault::View));
     };
     let Ok(book) = Book::new(alloc, plan.setup()) else {
@@ -172,7 +189,7 @@ fn write_rows<R: Threads + Sync, W: Write>(
     let Ok(blocks) = Blocks::new(alloc) else {
         return Err(ShowFault::Grub(GrubFault::View));
     };
-    match rows_through(rt, blocks, buffer, plan, book, steps, playing, out) {
+    match rows_through(rt, blocks, buffer, plan, book, latest, steps, playing, out) {
         Ok(()) => Ok(()),
         Err(_) => Err(ShowFault::Grub(GrubFault::WriteFault)),
     }
@@ -186,6 +203,7 @@ fn rows_through<R: Threads + Sync, W: Write>(
     buffer: Vec<u8>,
     plan: &Plan,
     book: Book<'_>,
+    latest: Vec<Told>,
     steps: Vec<Step>,
     playing: Playing<'_>,
     out: &mut W,
@@ -194,7 +212,9 @@ fn rows_through<R: Threads + Sync, W: Write>(
     requires nothing { playing.told ≡ [] }
     requires setup { book.setup ≡ plan.now.setup }
     requires book { book.records ≡ opening_book plan.now.setup }
+    requires latest { length plan.now.setup.tasks + 3 ≤ vec_capacity latest }
     requires steps { playing.most ≤ vec_capacity steps }
+    requires waiting { vec_capacity latest ≤ vec_capacity steps }
     requires empty { buffer.items ≡ [] }
     requires room { LINE_MAX ≤ vec_capacity buffer }
     ensures whole { OnOk result (WritesLine View.Steps plan.now (W.contents out.old) (W.contents out.new)) }
@@ -203,6 +223,7 @@ fn rows_through<R: Threads + Sync, W: Write>(
     let mut blocks = blocks;
     let mut buffer = buffer;
     let mut book = book;
+    let mut latest = latest;
     let mut steps = steps;
     write_steps(
         rt,
@@ -211,6 +232,7 @@ fn rows_through<R: Threads + Sync, W: Write>(
         out,
         plan,
         &mut book,
+        &mut latest,
         &mut steps,
         playing,
     )?;

@@ -13,3 +13,4 @@ pub mod Only
 pub mod Rising
 pub mod Moments
 pub mod OneFile
+pub mod Sending

@@ -1,14 +1,16 @@
--- The line that is next of all files.
-use Rattle.std.proofs.Common.{◌≡◌, ℕ, ◌+◌, ◌<◌, ◌≤◌, Bool, true, false, cond, nat_lt, List, [], length, get_or, Option, Some, None, unwrap_or, refl, sym, ap, ◌∙◌, subst, ⊎_elim, inl, inr, arith}
-use Rattle.std.specs.Prelude.{MatchOption, slice_get}
+-- The file whose line is next of all files.
+use Rattle.std.proofs.Common.{◌≡◌, ◌≢◌, ℕ, ◌+◌, ◌<◌, ◌≤◌, Bool, true, false, cond, min, nat_lt, List, [], length, get_or, set, Option, Some, None, unwrap_or, refl, sym, ap, ◌∙◌, subst, ⊎_elim, inl, inr, arith, get_or-set_other}
+use Rattle.std.specs.Prelude.{IfSome, MatchOption, slice_get}
+use Rattle.std.specs.Option.{IsSomeAnd}
 use Rattle.std.proofs.lemmas.Bool.{ltb-true, ltb-false}
 use Rattle.std.proofs.lemmas.List.{get_or_past}
 use mathlib.Core.Logic.{dite}
 use native.Mathlib.Decide.{ℕ_discrete}
 use Rattle.grub_trace.specs.declared.line.Line.{Line}
+use Rattle.grub_timeline.specs.declared.order.Lead.{Lead}
 use Rattle.grub_timeline.specs.declared.order.Placed.{Placed}
-use Rattle.grub_timeline.specs.Order.{IsNotLater}
-use Rattle.grub_timeline.specs.inside.Merge.{IsFirst, IsSoonest, NoHead, head_at, placed, sooner_of}
+use Rattle.grub_timeline.specs.Order.{IsNotLater, script_at}
+use Rattle.grub_timeline.specs.inside.Merge.{IsAhead, IsBefore, IsBehind, IsFirst, IsLeader, IsNext, NoHead, head_at, leader_of, placed}
 
 some_same : {X : Type 0} (x y : X) → Some x ≡ Some y → x ≡ y
 some_same x y is = ap (λ o. unwrap_or o x) is
@@ -27,46 +29,75 @@ not_later-trans p q x a b = ⊎_elim
 below_next : (P : ℕ → Type 0) (n : ℕ) → ((r : ℕ) → r < n → P r) → P n → (r : ℕ) → r < n + 1 → P r
 below_next P n f last r low = dite (ℕ_discrete r n) (λ same. subst P (sym same) last) (λ other. f r (omega (arith, low, other)))
 
-module _ (scripts : List (List Line)) (done : List ℕ) where
-  with_head : (n : ℕ) (best : Option Placed) (o : Option Line) → head_at scripts done n ≡ o → IsSoonest scripts done n best → IsSoonest scripts done (n + 1) (sooner_of best n o)
-  with_head n None None is s = below_next (λ r. head_at scripts done r ≡ None) n s is
-  with_head n (Some p) None is s =
-      let low = s.0 in (
-        omega (arith, low),
-        s.1,
-        λ r line below at. below_next (λ r. (line : Line) → head_at scripts done r ≡ Some line → IsNotLater p (placed r line)) n (λ r low line at. s.2 r line low at) (λ line at. let bad : None ≡ Some line = sym is ∙ at in absurd (cc)) r below line at,
-      )
-  with_head n None (Some first) is s = (
-    omega arith,
-    is,
-    λ r line below at. below_next (λ r. (line : Line) → head_at scripts done r ≡ Some line → IsNotLater (placed n first) (placed r line)) n
-        (λ r low line at. let bad : None ≡ Some line = sym (s r low) ∙ at in absurd (cc))
-        (λ line at. subst (λ l. IsNotLater (placed n first) (placed n l)) (some_same first line (sym is ∙ at)) (not_later-refl (placed n first))) r below line at,
-  )
-  with_head n (Some p) (Some first) is s = go (nat_lt first.m p.line.m) refl
-    where
-      go : (b : Bool) → nat_lt first.m p.line.m ≡ b → IsSoonest scripts done (n + 1) (cond b (Some (placed n first)) (Some p))
-      go true lt = (
-        omega arith,
-        is,
-        λ r line below at. below_next (λ r. (line : Line) → head_at scripts done r ≡ Some line → IsNotLater (placed n first) (placed r line)) n
-            (λ r low line at. not_later-trans (placed n first) p (placed r line) (inl (ltb-true first.m p.line.m lt)) (s.2 r line low at))
-            (λ line at. subst (λ l. IsNotLater (placed n first) (placed n l)) (some_same first line (sym is ∙ at)) (not_later-refl (placed n first))) r below line at,
-      )
-      go false ge =
-          let low = s.0 in (
-            omega (arith, low),
-            s.1,
-            λ r line below at. below_next (λ r. (line : Line) → head_at scripts done r ≡ Some line → IsNotLater p (placed r line)) n
-                (λ r low line at. s.2 r line low at)
-                (λ line at. subst (λ l. IsNotLater p (placed n l)) (some_same first line (sym is ∙ at)) (at_most p n first low (ltb-false first.m p.line.m ge))) r below line at,
-          )
-        where
-          at_most : (p : Placed) (n : ℕ) (first : Line) → p.r < n → p.line.m ≤ first.m → IsNotLater p (placed n first)
-          at_most p n first low le = dite (ℕ_discrete p.line.m first.m) (λ same. inr (same, omega (arith, low))) (λ other. inl (omega (arith, le, other)))
+-- ---- which lines come behind
+-- a file leads until an earlier moment
+behind_less : (lead : Lead) (until r m : ℕ) → until ≤ lead.until → IsBehind lead r m → IsBehind (record lead { until = until }) r m
+behind_less lead until r m less behind = ⊎_elim
+    (λ (h : lead.until ≤ m). inl (omega (arith, h, less)))
+    (λ (h : (lead.until ≤ m + 1) × (lead.r < r)). let late = h.0 in inr (omega (arith, late, less), h.1))
+    behind
 
-  pub soonest_next : (n : ℕ) (best : Option Placed) → IsSoonest scripts done n best → IsSoonest scripts done (n + 1) (sooner_of best n (head_at scripts done n))
-  soonest_next n best s = with_head n best (head_at scripts done n) refl s
+-- what comes behind all lines of a file comes behind those of one that is sooner
+behind_sooner : (lead : Lead) (n k r m : ℕ) → IsBefore lead → IsBehind lead r m → IsBehind (record { r = n; m = k; until = lead.m }) r m
+behind_sooner lead n k r m before behind = ⊎_elim
+    (λ (h : lead.until ≤ m). inl (omega (arith, h, before)))
+    (λ (h : (lead.until ≤ m + 1) × (lead.r < r)). let late = h.0 in inl (omega (arith, late, before)))
+    behind
+
+behind_not_later : (lead : Lead) (first line : Line) (r : ℕ) → first.m < lead.until → IsBehind lead r line.m → IsNotLater (placed lead.r first) (placed r line)
+behind_not_later lead first line r soon behind = ⊎_elim
+    (λ (h : lead.until ≤ line.m). inl (omega (arith, h, soon)))
+    (λ (h : (lead.until ≤ line.m + 1) × (lead.r < r)). let late = h.0 in let low = h.1 in dite (ℕ_discrete first.m line.m) (λ same. inr (same, omega (arith, low))) (λ other. inl (omega (arith, late, soon, other))))
+    behind
+
+module _ (scripts : List (List Line)) (done : List ℕ) where
+  abbrev Behind : Lead → ℕ → Type 0
+  Behind lead r = (line : Line) → r ≢ lead.r → head_at scripts done r ≡ Some line → IsBehind lead r line.m
+
+  with_head : (n : ℕ) (lead : Option Lead) (o : Option Line) → head_at scripts done n ≡ o → IfSome lead IsBefore → IsLeader scripts done n lead → IsLeader scripts done (n + 1) (leader_of lead n o)
+  with_head n None None is before l = below_next (λ r. head_at scripts done r ≡ None) n l is
+  with_head n (Some lead) None is before l = let low = l.within in record {
+    within = omega (arith, low);
+    line = l.line;
+    head = l.head;
+    moment = l.moment;
+    others = below_next (Behind lead) n l.others (λ line ne at. let bad : None ≡ Some line = sym is ∙ at in absurd (cc));
+  }
+  with_head n None (Some first) is before l = record {
+    within = omega arith;
+    line = first;
+    head = is;
+    moment = refl;
+    others = below_next (Behind (record { r = n; m = first.m; until = 18446744073709551615 })) n
+        (λ r low line ne at. let bad : None ≡ Some line = sym (l r low) ∙ at in absurd (cc)) (λ line ne at. absurd (ne refl));
+  }
+  with_head n (Some lead) (Some first) is before l = go (nat_lt first.m lead.m) refl
+    where
+      go : (b : Bool) → nat_lt first.m lead.m ≡ b
+          → IsLeader scripts done (n + 1) (cond b (Some (record { r = n; m = first.m; until = lead.m })) (Some (record lead { until = min lead.until (first.m + 1) })))
+      go true lt = record {
+        within = omega arith;
+        line = first;
+        head = is;
+        moment = refl;
+        others = below_next (Behind (record { r = n; m = first.m; until = lead.m })) n
+            (λ r low line ne at. dite (ℕ_discrete r lead.r)
+            (λ same. let own : l.line ≡ line = some_same l.line line (sym l.head ∙ ap (λ k. head_at scripts done k) (sym same) ∙ at) in inl (subst (λ (x : Line). lead.m ≤ x.m) own (let m = l.moment in omega (arith, m))))
+            (λ other. behind_sooner lead n first.m r line.m before (l.others r low line other at)))
+            (λ line ne at. absurd (ne refl));
+      }
+      go false ge = let low = l.within in record {
+        within = omega (arith, low);
+        line = l.line;
+        head = l.head;
+        moment = l.moment;
+        others = below_next (Behind (record lead { until = min lead.until (first.m + 1) })) n
+            (λ r below line ne at. behind_less lead (min lead.until (first.m + 1)) r line.m (omega arith) (l.others r below line ne at))
+            (λ line ne at. subst (λ (x : Line). IsBehind (record lead { until = min lead.until (first.m + 1) }) n x.m) (some_same first line (sym is ∙ at)) (inr (omega arith, l.within)));
+      }
+
+  pub leader_next : (n : ℕ) (lead : Option Lead) → IfSome lead IsBefore → IsLeader scripts done n lead → IsLeader scripts done (n + 1) (leader_of lead n (head_at scripts done n))
+  leader_next n lead before l = with_head n lead (head_at scripts done n) refl before l
 
   -- a file that is not there has no line
   pub head_within : (r : ℕ) (line : Line) → head_at scripts done r ≡ Some line → r < length scripts
@@ -85,6 +116,26 @@ module _ (scripts : List (List Line)) (done : List ℕ) where
       go None is = is
       go (Some line) is = f r (subst (λ k. r < k) (sym all) (head_within r line is))
 
-  pub first_of : (n : ℕ) (best : Option Placed) → n ≡ length scripts → IsSoonest scripts done n best → MatchOption best (NoHead scripts done) (IsFirst scripts done)
-  first_of n None all s = no_head n all s
-  first_of n (Some p) all s = record { head = s.1; least = λ r line at. s.2 r line (subst (λ k. r < k) (sym all) (head_within r line at)) at }
+  pub leads_all : (n : ℕ) (lead : Option Lead) → n ≡ length scripts → IsLeader scripts done n lead → MatchOption lead (NoHead scripts done) (IsAhead scripts done)
+  leads_all n None all l = no_head n all l
+  leads_all n (Some lead) all l = λ r line ne at. l.others r (subst (λ k. r < k) (sym all) (head_within r line at)) line ne at
+
+  pub leads_now : (n : ℕ) (lead : Option Lead) → IfSome lead IsBefore → IsLeader scripts done n lead → IfSome lead (IsNext scripts done)
+  leads_now n None before l = tt
+  leads_now n (Some lead) before l = let m = l.moment in subst (λ o. IsSomeAnd o (λ (x : Line). x.m < lead.until)) (sym l.head) (omega (arith, m, before))
+
+  -- the next line of the file that leads is the next of all files
+  pub first_of : (lead : Lead) (line : Line) → IsAhead scripts done lead → head_at scripts done lead.r ≡ Some line → IsNext scripts done lead → IsFirst scripts done (placed lead.r line)
+  first_of lead line ahead at next = record {
+    head = at;
+    least = λ r other there. dite (ℕ_discrete r lead.r)
+        (λ same. let own : line ≡ other = some_same line other (sym at ∙ ap (λ k. head_at scripts done k) (sym same) ∙ there) in subst (λ x. IsNotLater (placed lead.r line) (placed r x)) own (inr (refl, omega (arith, same))))
+        (λ ne. behind_not_later lead line other r soon (ahead r other ne there));
+  }
+    where
+      soon : line.m < lead.until
+      soon = subst (λ o. IsSomeAnd o (λ (x : Line). x.m < lead.until)) at next
+
+  -- it leads on when a line of it is done
+  pub ahead_next : (lead : Lead) (k : ℕ) → IsAhead scripts done lead → IsAhead scripts (set done lead.r k) lead
+  ahead_next lead k ahead r line ne at = ahead r line ne (ap (λ n. slice_get (script_at scripts r) n) (sym (get_or-set_other done lead.r r k 0 ne)) ∙ at)

@@ -2,11 +2,11 @@
 ghost use Rattle.std.specs.Prelude.{◌≡◌, ◌<◌, ◌≤◌, ◌+◌, [], length, vec_len, vec_capacity};
 ghost use Rattle.std.specs.Bool.{OnFalse, OnTrue};
 ghost use Rattle.grub_trace.specs.Limits.{PlanFits};
-ghost use Rattle.grub_timeline.specs.inside.Merge.{IsMidway, NoHead};
+ghost use Rattle.grub_timeline.specs.inside.Merge.{IsAhead, IsMidway, IsNext, NoHead};
 ghost use Rattle.grub_timeline.specs.Order.{left};
 
 use crate::line::ask_line;
-use crate::order::{first, pass};
+use crate::order::{Lead, Placed, first, leads, take};
 use crate::player::Player;
 use grub_trace::Plan;
 
@@ -23,13 +23,15 @@ pub fn ask_lines(player: &mut Player<'_>, plan: &Plan, done: &mut Vec<usize>) ->
     ensures same { OnFalse result (player.new ≡ player.old) }
     ensures undone { OnFalse result (done.new ≡ done.old) }
 {
-    if !ask_next(player, plan, done) {
+    let Some(lead) = first(plan, done) else {
         return false;
-    }
+    };
+    ask_while_led(player, plan, done, lead);
     while has_room(player) {
-        if !ask_next(player, plan, done) {
+        let Some(lead) = first(plan, done) else {
             return true;
-        }
+        };
+        ask_while_led(player, plan, done, lead);
     }
     true
 }
@@ -41,23 +43,37 @@ fn has_room(player: &Player<'_>) -> bool
     player.chunk.capacity() - player.chunk.len() >= player.armers.len() + 3
 }
 
-/// Asks for the next line, where one is left, which it tells.
-fn ask_next(player: &mut Player<'_>, plan: &Plan, done: &mut Vec<usize>) -> bool
-    requires midway { IsMidway plan.now player.old done.old.items }
+/// Asks for the next line of the file that leads, and for those after it while it leads and there is room.
+fn ask_while_led(player: &mut Player<'_>, plan: &Plan, done: &mut [usize], lead: Lead)
+    requires midway { IsMidway plan.now player.old done.old }
     requires fits { PlanFits plan.now }
     requires room { vec_len player.old.chunk + (length plan.now.setup.tasks + 3) ≤ vec_capacity player.old.chunk }
-    ensures midway { IsMidway plan.now player.new done.new.items }
+    requires ahead { IsAhead plan.now.scripts done.old lead }
+    requires next { IsNext plan.now.scripts done.old lead }
+    ensures midway { IsMidway plan.now player.new done.new }
     ensures start { player.new.start.value.items ≡ player.old.start.value.items }
     ensures room { vec_capacity player.new.chunk ≡ vec_capacity player.old.chunk }
-    ensures fewer { OnTrue result (left plan.now.scripts done.new.items < left plan.now.scripts done.old.items) }
-    ensures over { OnFalse result (NoHead plan.now.scripts done.new.items) }
-    ensures same { OnFalse result (player.new ≡ player.old) }
-    ensures undone { OnFalse result (done.new ≡ done.old) }
+    ensures fewer { left plan.now.scripts done.new < left plan.now.scripts done.old }
 {
-    let Some(placed) = first(plan, done) else {
-        return false;
-    };
-    pass(plan, done, placed.r);
-    ask_line(player, placed);
-    true
+    ask_next(player, plan, done, lead);
+    while has_room(player) && leads(plan, done, lead) {
+        ask_next(player, plan, done, lead);
+    }
+}
+
+/// Asks for the next line of the file that leads.
+fn ask_next(player: &mut Player<'_>, plan: &Plan, done: &mut [usize], lead: Lead)
+    requires midway { IsMidway plan.now player.old done.old }
+    requires fits { PlanFits plan.now }
+    requires room { vec_len player.old.chunk + (length plan.now.setup.tasks + 3) ≤ vec_capacity player.old.chunk }
+    requires ahead { IsAhead plan.now.scripts done.old lead }
+    requires next { IsNext plan.now.scripts done.old lead }
+    ensures midway { IsMidway plan.now player.new done.new }
+    ensures ahead { IsAhead plan.now.scripts done.new lead }
+    ensures start { player.new.start.value.items ≡ player.old.start.value.items }
+    ensures room { vec_capacity player.new.chunk ≡ vec_capacity player.old.chunk }
+    ensures fewer { left plan.now.scripts done.new < left plan.now.scripts done.old }
+{
+    let line = take(plan, done, lead.r);
+    ask_line(player, Placed { r: lead.r, line });
 }

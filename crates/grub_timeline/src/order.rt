@@ -1,6 +1,6 @@
-//! The line that is next of all files.
-ghost use Rattle.std.specs.Prelude.{◌≡◌, ◌<◌, ◌+◌, IsSome, MatchOption, length, slice_index_or, slice_set};
-ghost use Rattle.grub_timeline.specs.inside.Merge.{IsFirst, NoHead, head_at, sooner_of};
+//! The file whose line is next of all files.
+ghost use Rattle.std.specs.Prelude.{◌≡◌, ◌<◌, ◌+◌, ◌↔◌, IsSome, IsTrue, IfSome, MatchOption, Some, length, slice_index_or, slice_set};
+ghost use Rattle.grub_timeline.specs.inside.Merge.{IsAhead, IsBefore, IsNext, NoHead, head_at, leader_of};
 
 use grub_trace::{Line, Plan};
 
@@ -11,29 +11,52 @@ pub struct Placed {
     pub line: Line,
 }
 
-/// Of the lines that come first in what is left of each file, the one that is next: the earliest, and of those at one moment
-/// that of the first file.
-pub fn first(plan: &Plan, done: &[usize]) -> Option<Placed>
-    requires { length done.now ≡ length plan.now.scripts }
-    ensures { MatchOption result (NoHead plan.now.scripts done.now) (IsFirst plan.now.scripts done.now) }
-{
-    let mut best = None;
-    for r in 0..plan.files() {
-        best = sooner(best, r, head(plan, done, r));
-    }
-    best
+/// A file whose lines come next while they are before `until`: then they come before those that are left of all others.
+#[derive(Clone, Copy)]
+pub struct Lead {
+    pub r: u32,
+
+    /// The moment of its first line that is not done.
+    pub m: u64,
+    pub until: u64,
 }
 
-/// One line more of file `r` is done, which has one left.
-pub fn pass(plan: &Plan, done: &mut Vec<usize>, r: u32)
-    requires len { length done.old.items ≡ length plan.now.scripts }
-    requires left { IsSome (head_at plan.now.scripts done.old.items r) }
-    ensures { done.new.items ≡ slice_set done.old.items r (slice_index_or done.old.items r 0 + 1) }
+/// The file whose line is next: the earliest, and of those at one moment that of the first file.
+pub fn first(plan: &Plan, done: &[usize]) -> Option<Lead>
+    requires { length done.now ≡ length plan.now.scripts }
+    ensures none { MatchOption result (NoHead plan.now.scripts done.now) (IsAhead plan.now.scripts done.now) }
+    ensures next { IfSome result (IsNext plan.now.scripts done.now) }
+{
+    let mut lead = None;
+    for r in 0..plan.files() {
+        lead = leader(lead, r, head(plan, done, r));
+    }
+    lead
+}
+
+/// Whether the next line of the file that led comes before those of the others still.
+pub fn leads(plan: &Plan, done: &[usize], lead: Lead) -> bool
+    requires len { length done.now ≡ length plan.now.scripts }
+    requires file { lead.r < length plan.now.scripts }
+    ensures { IsTrue result ↔ IsNext plan.now.scripts done.now lead }
+{
+    match head(plan, done, lead.r) {
+        Some(line) => u64::from(line.m) < lead.until,
+        None => false,
+    }
+}
+
+/// The next line of file `r`, which has one left. It is done then.
+pub fn take(plan: &Plan, done: &mut [usize], r: u32) -> Line
+    requires len { length done.old ≡ length plan.now.scripts }
+    requires left { IsSome (head_at plan.now.scripts done.old r) }
+    ensures line { head_at plan.now.scripts done.old r ≡ Some result }
+    ensures done { done.new ≡ slice_set done.old r (slice_index_or done.old r 0 + 1) }
 {
     let at = done[r as usize];
-    if at < plan.script(r).len() {
-        done[r as usize] = at + 1;
-    }
+    let line = plan.script(r)[at];
+    done[r as usize] = at + 1;
+    line
 }
 
 /// The first line of file `r` that is not done, where one is left.
@@ -45,15 +68,30 @@ fn head(plan: &Plan, done: &[usize], r: u32) -> Option<Line>
     plan.script(r).get(done[r as usize]).copied()
 }
 
-/// The sooner of the best line of the files before `r` and the line of file `r`.
-fn sooner(best: Option<Placed>, r: u32, head: Option<Line>) -> Option<Placed>
-    ensures { result ≡ sooner_of best r head }
+/// Which file leads: the one that led those before `r`, or `r`, whose first line is this.
+fn leader(lead: Option<Lead>, r: u32, head: Option<Line>) -> Option<Lead>
+    requires before { IfSome lead IsBefore }
+    ensures value { result ≡ leader_of lead r head }
+    ensures before { IfSome result IsBefore }
 {
     let Some(line) = head else {
-        return best;
+        return lead;
     };
-    match best {
-        Some(placed) if placed.line.m <= line.m => Some(placed),
-        _ => Some(Placed { r, line }),
+    let m = u64::from(line.m);
+    match lead {
+        Some(ahead) if ahead.m <= m => Some(Lead {
+            until: ahead.until.min(m + 1),
+            ..ahead
+        }),
+        Some(ahead) => Some(Lead {
+            r,
+            m,
+            until: ahead.m,
+        }),
+        None => Some(Lead {
+            r,
+            m,
+            until: u64::MAX,
+        }),
     }
 }

@@ -1,5 +1,5 @@
 //! A time line that is played, some lines at a time.
-ghost use Rattle.std.specs.Prelude.{◌≡◌, ◌++◌, ◌<◌, ◌≤◌, [], IfOk, length};
+ghost use Rattle.std.specs.Prelude.{◌≡◌, ◌+◌, ◌++◌, ◌<◌, ◌≤◌, [], IfOk, length, vec_capacity};
 ghost use Rattle.std.specs.Bool.{OnFalse, OnTrue};
 ghost use Rattle.grub_book.specs.History.{IsLegal};
 ghost use Rattle.grub_timeline.specs.Order.{script_at};
@@ -15,6 +15,7 @@ use grub_book::Reading;
 use grub_trace::Plan;
 use std::alloc::{AllocError, Global};
 use std::marker::Model;
+use std::mem;
 use std::snapshot::Snapshot;
 
 /// The scripts of a plan while they are played in the order of their moments, by one book. All memory is taken before the
@@ -84,11 +85,31 @@ impl<'a> Playing<'a> {
         &self.player.chunk
     }
 
-    /// How many entries are asked for at a time at most.
+    /// How many entries are asked for at a time at most. There is room for those of any line.
     pub fn most(&self) -> usize
-        ensures { result ≡ self.now.most }
+        ensures most { result ≡ self.now.most }
+        ensures room { length self.now.plan.setup.tasks + 3 ≤ result }
     {
         self.player.chunk.capacity()
+    }
+
+    /// Exchanges the vector of the entries of the lines that were asked for last with another, so that these may be read while
+    /// the next lines are asked for. The other's entries are dropped. It has to have room for those of a line: a timer of each
+    /// task, and three asks.
+    pub fn exchange(&mut self, other: &mut Vec<Told>)
+        requires room { length self.old.plan.setup.tasks + 3 ≤ vec_capacity other.old }
+        ensures chunk { other.new.items ≡ self.old.chunk }
+        ensures none { self.new.chunk ≡ [] }
+        ensures plan { self.new.plan ≡ self.old.plan }
+        ensures told { self.new.told ≡ self.old.told }
+        ensures left { self.new.left ≡ self.old.left }
+        ensures most { self.new.most ≡ vec_capacity other.old }
+        ensures other { vec_capacity other.new ≡ self.old.most }
+        ensures room { length self.new.plan.setup.tasks + 3 ≤ vec_capacity other.new }
+    {
+        mem::swap(&mut self.player.chunk, other);
+        self.player.chunk.clear();
+        self.player.start = Snapshot::of(&self.player.told);
     }
 
     /// The closing readings, where no line is left.

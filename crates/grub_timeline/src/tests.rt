@@ -1,7 +1,7 @@
 //! Time lines of event files against worked examples, and with refused growths.
 ghost use Rattle.grub_timeline.specs.TimeLines.{AreWithin};
 
-use crate::{PlayFault, TimeLine, play};
+use crate::{PlayFault, Playing, TimeLine, play};
 use grub_trace::{Plan, TextFault, TraceFault, line_of, read_files};
 use std::alloc::{AllocError, Global};
 use std::test::Fail;
@@ -117,6 +117,23 @@ fn lines_of_one_moment(rt: HostRuntime) -> Result<(), Fail> {
         text.as_slice(),
         b"1 at 0 join T: joined q=4 d=8\n1 at 0 run T 2: charged dq=2 k=0 q=2 d=8\n2 at 1 read: running=0 this=0\n0 at 2 read: running=0 this=0\n1 at 2 block T: waiting ticket=1 z=4\n1 at 2 read: running=524288 this=524288\n2 at 2 read: running=0 this=0\nclose 0 0\nclose 524288 524288\nclose 0 0\n".as_slice()
     );
+    Ok(())
+}
+
+/// Entries that were exchanged stay as they are while the rest is played.
+#[test]
+fn the_latest_entries_are_exchanged(rt: HostRuntime) -> Result<(), Fail> {
+    let alloc = rt.alloc();
+    let files = files(alloc, &[DOCUMENTATION])?;
+    let plan = read_files(alloc, &files)?;
+    let line = play(alloc, &plan)?;
+    let mut playing = Playing::new(alloc, &plan)?;
+    let mut latest = Vec::with_capacity(alloc, playing.most())?;
+    assert!(rt; playing.play_on());
+    playing.exchange(&mut latest);
+    assert!(rt; playing.chunk().is_empty());
+    assert!(rt; !playing.play_on());
+    assert!(rt; latest == line.told);
     Ok(())
 }
 

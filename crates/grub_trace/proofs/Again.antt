@@ -1,11 +1,10 @@
 -- Texts of trees are read.
-use Rattle.std.proofs.Common.{◌≡◌, ℕ, ◌+◌, ◌≤◌, false, eqb, List, [], ◌∷◌, ◌++◌, length, map, Option, Some, None, Result, Ok, refl, ap, ◌∙◌, sym, arith, rules, subst, append_assoc}
+use Rattle.std.proofs.Common.{◌≡◌, ℕ, ◌+◌, false, eqb, List, [], ◌∷◌, ◌++◌, length, map, Option, Some, None, Result, Ok, refl, ap, ◌∙◌, sym, arith, rules, subst, append_assoc}
 use Rattle.std.specs.Prelude.{IsSome}
 use Rattle.std.specs.List.{join_with_byte, flat_map, filter_map, cons_option, AllByRecursion}
 use Rattle.std.proofs.lemmas.List.{append-nil, length-append, map-append, map_push}
 use Rattle.std.proofs.lemmas.List.Splits.{slice_split_at}
 use Rattle.std.proofs.lemmas.List.Elements.{All-from_recursion}
-use Rattle.std.proofs.lemmas.Bool.Decides.{nat_tests}
 use Rattle.std.proofs.lemmas.Bool.{le-ltb}
 use Rattle.grub_bw.specs.Bandwidth.{Capacity}
 use Rattle.grub_trace.specs.declared.version.Version.{Version}
@@ -20,6 +19,7 @@ use Rattle.grub_trace.specs.Meaning.{GoOn, AreKnown, Reads}
 use Rattle.grub_trace.specs.FirstFault.{AreDeclared, IsTree, AreTrees}
 use Rattle.grub_trace.specs.inside.Tree.{declaration_line, happening_line}
 use Rattle.grub_trace.specs.inside.Reading.{Read, FileRead, AllRead, Body, with_file, in_file, read_lines, read_file, opened, read_from, take_line, at_line, ◌>>=◌, times_of, script_from, scripts_from, option_or_err, unknown_in, plan_from, declares, says}
+use Rattle.grub_trace.proofs.Elsewhere.{not_zero}
 use Rattle.grub_trace.proofs.LineLemmas.{lines_step, first_known, second_view}
 use Rattle.grub_trace.proofs.FormLemmas.{version_again}
 use Rattle.grub_trace.proofs.FileLaws.{small_queue}
@@ -126,9 +126,6 @@ scripts_again names (t ∷ ts) done f known =
     ap (λ (r : Result (List Line) ℕ). unknown_in f r >>= λ s. scripts_from names (done ++ s ∷ []) (f + 1) (map body_of_tree ts)) (script_again names t.happenings [] (3 + length t.tasks) known.0)
     ∙ scripts_again names ts (done ++ script_of names t ∷ []) (f + 1) known.1
     ∙ ap (λ (ls : List (List Line)). Ok ls) (append_assoc done (script_of names t ∷ []) (map (script_of names) ts))
-
-not_zero : (n : ℕ) → 1 ≤ n → eqb n 0 ≡ false
-not_zero n h = grind (arith, nat_tests)
 
 -- texts of trees are read as their plan
 pub plan_again : (files : List (List ℕ)) (ts : List Tree) → Reads files ts → plan_from files ≡ Ok (plan_of ts)

@@ -6,9 +6,11 @@ pub mod NumberLemmas
 pub mod TaskLemmas
 pub mod NameLemmas
 pub mod LineLemmas
-pub mod Placing
+pub mod ScriptLaws
+pub mod Elsewhere
 pub mod Loops
 pub mod AllLemmas
+pub mod HeadLaws
 pub mod Finding
 pub mod FormLemmas
 pub mod LineMeaning
@@ -24,3 +26,4 @@ pub mod FaultAgain
 pub mod Together
 pub mod Openings
 pub mod Handing
+pub mod Planned

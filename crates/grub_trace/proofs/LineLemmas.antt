@@ -7,7 +7,7 @@ use Rattle.grub_trace.specs.declared.fault.Kind.TheVariants.{CutShort, BadHeader
 use Rattle.grub_trace.specs.declared.fault.Stop.{Stop}
 use Rattle.grub_trace.specs.declared.fault.Stop.TheVariants as stop
 use Rattle.grub_trace.specs.inside.Halts.{halt_of}
-use Rattle.grub_trace.specs.inside.Reading.{Read, FileRead, Gives, read_queue, read_second, read_first, read_as, read_file, file_from, opened, unless, adds, take_option, times_of, read_lines, take_line, at_line, ◌>>=◌, Stops, Halts, two_fault, IsRun, IsRetune, take_form}
+use Rattle.grub_trace.specs.inside.Reading.{Read, FileRead, read_queue, read_second, read_first, read_as, read_file, file_from, opened, unless, adds, take_option, times_of, read_lines, take_line, at_line, ◌>>=◌, Stops, Halts, two_fault, IsRun, IsRetune, take_form}
 use Rattle.grub_trace.specs.Forms.{parts_of, Form, queue, task, at_moment, words_of, form_of, is_number, version_of, value, reservation_value}
 use Rattle.std.proofs.Common.{◌-◌, Option, Some, None}
 use Rattle.std.proofs.lemmas.List.{length_push}
@@ -46,7 +46,7 @@ ends_whole r n text total parts none so_far = last_line r n text total parts so_
 
 -- ---- what is read is only added to
 
-unless_ok : {X : Type 0} (o : Option Kind) (x y : X) → unless o x ≡ Ok y → (o ≡ None) × (x ≡ y)
+pub unless_ok : {X : Type 0} (o : Option Kind) (x y : X) → unless o x ≡ Ok y → (o ≡ None) × (x ≡ y)
 unless_ok None x y e = (refl, cc)
 unless_ok (Some k) x y e = absurd cc
 
@@ -118,9 +118,6 @@ first_step ds text line rest parts = let h = has_part (λ b. eqb b 10) rest in a
 pub first_known : (version : Version) (ds : List Declaration) (text line rest : List ℕ) → parts_of text ≡ line ∷ parts_of rest → version_of line ≡ Some version → read_file ds text ≡ read_second version ds (parts_of rest)
 first_known version ds text line rest parts known = first_step ds text line rest parts ∙ ap (λ (o : Option Version). read_as o ds (parts_of rest)) known
 
-pub gives_first : {U : Type 0} (r : Result U Halt) (view : U → FileRead) (version : Version) (ds : List Declaration) (text line rest : List ℕ) → parts_of text ≡ line ∷ parts_of rest → version_of line ≡ Some version → Gives r view (read_second version ds (parts_of rest)) → Gives r view (read_file ds text)
-gives_first r view version ds text line rest parts known h = subst (λ (x : Result FileRead (Kind × ℕ)). Gives r view x) (sym (first_known version ds text line rest parts known)) h
-
 pub header_err : (ds : List Declaration) (text line rest : List ℕ) → parts_of text ≡ line ∷ parts_of rest → version_of line ≡ None → read_file ds text ≡ Err (BadHeader, 1)
 header_err ds text line rest parts unknown = first_step ds text line rest parts ∙ ap (λ (o : Option Version). read_as o ds (parts_of rest)) unknown
 
@@ -180,9 +177,8 @@ all_three : (a b c : Bool) → (a && (b && (c && true))) ≡ (a && b && c)
 all_three true b c = all_two b c
 all_three false b c = refl
 
-pub run_stops : (e : Stop) (r : Read) (m n d : List ℕ) → IsRun (Err e) m d → Stops e (take_form r (at_moment m (runs n d)))
-run_stops stop.Memory r m n d h = tt
-run_stops (stop.Fault k) r m n d h =
+pub run_stops : (k : Kind) (r : Read) (m n d : List ℕ) → IsRun (Err k) m d → take_form r (at_moment m (runs n d)) ≡ Err k
+run_stops k r m n d h =
     let f = at_moment m (runs n d) in
     let late = cond (not (is_timely (times_of r.happenings) f)) (Some MomentGoesBack) None in
     let within = is_moment (value m) && is_span (value d) in
@@ -190,9 +186,8 @@ run_stops (stop.Fault k) r m n d h =
     ap (λ (s : Bool). cond (not s) (Some BadNumber) (cond (not within) (Some OutOfRange) late)) (all_two (is_number m) (is_number d)) ∙ fault_from (is_number m && is_number d) within late k h in
     ap (λ (o : Option Kind). unless o (adds f r)) fault
 
-pub retune_stops : (e : Stop) (r : Read) (m n q p : List ℕ) → may_retune r.version ≡ true → IsRetune (Err e) m q p → Stops e (take_form r (at_moment m (retunes n q p)))
-retune_stops stop.Memory r m n q p may h = tt
-retune_stops (stop.Fault k) r m n q p may h =
+pub retune_stops : (k : Kind) (r : Read) (m n q p : List ℕ) → may_retune r.version ≡ true → IsRetune (Err k) m q p → take_form r (at_moment m (retunes n q p)) ≡ Err k
+retune_stops k r m n q p may h =
     let f = at_moment m (retunes n q p) in
     let late = cond (not (is_timely (times_of r.happenings) f)) (Some MomentGoesBack) None in
     let within = is_moment (value m) && reservation_fits (reservation_value q p) in

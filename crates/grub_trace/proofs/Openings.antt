@@ -1,6 +1,7 @@
 -- Faults of the first two lines of the first file: no later fault is in their place.
-use Rattle.std.proofs.Common.{◌≡◌, ℕ, ◌+◌, ◌-◌, ◌<◌, ◌≤◌, ◌⊎◌, inl, inr, List, [], ◌∷◌, length, get_or, drop, Result, Ok, Err, sym, ap, ◌∙◌, arith}
+use Rattle.std.proofs.Common.{◌≡◌, ℕ, zero, suc, All, ◌++◌, refl, ◌+◌, ◌-◌, ◌<◌, ◌≤◌, ◌⊎◌, inl, inr, List, [], ◌∷◌, length, get_or, drop, Result, Ok, Err, sym, ap, ◌∙◌, arith}
 use Rattle.std.specs.Global.{Vec}
+use Rattle.std.proofs.lemmas.List.Elements.{All-head, All-tail}
 use Rattle.grub_bw.specs.Bandwidth.{Capacity}
 use Rattle.grub_trace.specs.declared.version.Version.{Version}
 use Rattle.grub_trace.specs.declared.fault.Kind.{Kind}
@@ -8,15 +9,19 @@ use Rattle.grub_trace.specs.declared.fault.Halt.{Halt}
 use Rattle.grub_trace.specs.declared.fault.TraceFault.TheVariants as fault
 use Rattle.grub_trace.specs.declared.fault.TraceFault.{TraceFault}
 use Rattle.grub_trace.specs.declared.fault.Halt.TheVariants as halt
+use Rattle.grub_trace.specs.declared.raw.Head.{Head}
+use Rattle.grub_trace.specs.declared.tasks.Tasks.{Tasks}
 use Rattle.grub_trace.specs.inside.Halts.{fault_of}
+use Rattle.grub_trace.specs.inside.Heads.{IsHead, bodies_from, body_from, read_body}
 use Rattle.grub_trace.specs.Tree.{Declaration}
 use Rattle.grub_trace.specs.FirstFault.{HeaderFault, QueueFault, FileFault, OpeningFault}
 use Rattle.grub_trace.specs.Forms.{parts_of}
 use Rattle.grub_trace.specs.Reading.{contents}
-use Rattle.grub_trace.specs.inside.Reading.{FileRead, AllRead, with_file, in_file, file_from, opened, read_queue, read_lines, read_second, read_file, read_from, at_line, ◌>>=◌, GivesOpening, AnswersOpening}
+use Rattle.grub_trace.specs.inside.Reading.{Body, FileRead, AllRead, declarations, with_file, in_file, file_from, opened, read_queue, read_lines, read_second, read_file, read_from, at_line, ◌>>=◌, GivesOpening, AnswersOpening}
 use Rattle.grub_trace.proofs.LineLemmas.{second_step, queue_then}
 use Rattle.grub_trace.proofs.Runs.{broke}
-use Rattle.grub_trace.proofs.AllLemmas.{drop_item}
+use Rattle.grub_trace.proofs.AllLemmas.{drop_item, files_done}
+use Rattle.grub_trace.proofs.HeadLaws.{HeadsOn, none_before}
 use Rattle.grub_trace.proofs.FileLaws.{bind_err}
 use Rattle.grub_trace.proofs.PlanLaws.{bind_err as bind_file_err, in_file_err, files_fault}
 use Rattle.grub_trace.proofs.FaultAgain.{file_fault_again}
@@ -75,17 +80,48 @@ opening_stop {U} {X} h all f files bytes total lt item opening so_far = λ k n l
     same : (x y : Halt) → ◌≡◌ {A = Result U Halt} (Err x) (Err y) → x ≡ y
     same x y e = cc
 
--- after a file that is read, and after all of them, no opening is left
-pub opening_past : {X : Type 0} (all : AllRead) (r : FileRead) (f : ℕ) (files : List (Vec ℕ)) (bytes : Vec ℕ) (t : Result X TraceFault) (total : Result AllRead (Kind × ℕ × ℕ)) → f < length files → bytes ≡ get_or files f bytes
-    → read_file all.declared bytes.items ≡ Ok r → read_from all f (contents (drop f files)) ≡ total → AnswersOpening t total
-opening_past all r f files bytes t total lt item is so_far = λ k n le e.
-    let here : read_from all f (bytes.items ∷ contents (drop (f + 1) files)) ≡ Err (k, 0, n) = sym (ap (λ (vs : List (Vec ℕ)). read_from all f (contents vs)) (drop_item files f bytes lt item)) ∙ so_far ∙ e in
-    let x = from_first all f k n bytes.items (contents (drop (f + 1) files)) here in
-    let y : ◌≡◌ {A = Result FileRead (Kind × ℕ)} (Ok r) (Err (k, n)) = sym is ∙ x.0 in
-    absurd cc
-
+-- where all is read, there is none
 pub opening_none : {X Y : Type 0} (x : X) (t : Result Y TraceFault) (total : Result X (Kind × ℕ × ℕ)) → total ≡ Ok x → AnswersOpening t total
 opening_none x t total is = λ k n le e. absurd (let y = sym is ∙ e in cc)
+
+-- ---- heads
+
+-- below a head nothing stops before line 3
+body_late : (h : Head) (k : Kind) (n : ℕ) → IsHead h → read_body [] h ≡ Err (k, n) → 3 ≤ n
+body_late h k n is e =
+    elim (bind_err (read_lines (opened h.version []) h.first (parts_of h.below.now)) (λ r. Ok (body_from h r)) (k, n) e) [
+      | inl x ↦ let b = broke (parts_of h.below.now) (opened h.version []) h.first n k x in omega (arith, b.number, is.third)
+      | inr x ↦ absurd (let y = x.2 in cc)
+    ]
+
+bodies_late : (hs : List Head) (done : List Body) (f : ℕ) (k : Kind) (g n : ℕ) → All IsHead hs → bodies_from done f hs ≡ Err (k, g, n) → 3 ≤ n
+unfolding bodies_from
+bodies_late [] done f k g n are e = absurd cc
+bodies_late (h ∷ hs) done f k g n are e =
+    elim (bind_file_err (in_file f (read_body [] h)) (λ b. bodies_from (done ++ b ∷ []) (f + 1) hs) (k, g, n) e) [
+      | inl x ↦ body_late h k n (All-head IsHead h hs are) (in_file_err f (read_body [] h) k g n x).0
+      | inr x ↦ bodies_late hs (done ++ x.0 ∷ []) (f + 1) k g n (All-tail IsHead h hs are) x.2
+    ]
+
+-- behind the first head no opening is left
+pub heads_past : {X : Type 0} (a : Tasks) (hs : List Head) (f : ℕ) (files : List (Vec ℕ)) (t : Result X TraceFault) → 0 < f → HeadsOn a hs f files → AnswersOpening t (read_from (record { declared = []; files = [] }) 0 (contents files))
+heads_past a hs f files t later on = λ k n le e.
+    let end = λ (bs : List Body). read_from (record { declared = declarations a; files = bs }) f (contents (drop f files)) in
+    absurd (elim (bind_file_err (bodies_from [] 0 hs) end (k, 0, n) (sym on.so_far ∙ e)) [
+      | inl x ↦ let late = bodies_late hs [] 0 k 0 n on.heads x in omega (arith, late, le)
+      | inr x ↦ let late = from_late (contents (drop f files)) (record { declared = declarations a; files = x.0 }) f 0 k n x.2 in omega (arith, late, later)
+    ])
+
+-- a head that is wrong
+pub heads_opening : {U X : Type 0} (e : Halt) (a : Tasks) (hs : List Head) (f : ℕ) (files : List (Vec ℕ)) (bytes : Vec ℕ) → f < length files → bytes ≡ get_or files f bytes
+    → GivesOpening {U = U} {X = FileRead} (Err e) (read_file (declarations a) bytes.items) → HeadsOn a hs f files → AnswersOpening {U = X} {X = AllRead} (Err (fault_of e f)) (read_from (record { declared = []; files = [] }) 0 (contents files))
+heads_opening e a hs zero files bytes lt item opening on = opening_stop e (record { declared = declarations a; files = [] }) zero files bytes _ lt item opening (sym (none_before hs _ on.count) ∙ sym on.so_far)
+heads_opening e a hs (suc f) files bytes lt item opening on = heads_past a hs (suc f) files _ (omega arith) on
+
+-- all heads
+pub heads_over : {X : Type 0} (a : Tasks) (hs : List Head) (f : ℕ) (files : List (Vec ℕ)) (t : Result X TraceFault) → length files ≤ f → HeadsOn a hs f files → AnswersOpening t (read_from (record { declared = []; files = [] }) 0 (contents files))
+heads_over a hs zero files t le on = opening_none _ t _ (sym (sym (none_before hs _ on.count) ∙ sym on.so_far) ∙ files_done (record { declared = declarations a; files = [] }) zero files _ le refl)
+heads_over a hs (suc f) files t le on = heads_past a hs (suc f) files t (omega arith) on
 
 -- ---- the plan
 

@@ -130,10 +130,10 @@ in_file_ok : {X : Type 0} (f : ℕ) (r : Result X (Kind × ℕ)) (x : X) → in_
 in_file_ok f (Ok y) x e = let h : y ≡ x = cc in ap Ok h
 in_file_ok f (Err n) x e = absurd cc
 
-pub in_file_err : (f : ℕ) (r : Result FileRead (Kind × ℕ)) (k : Kind) (g n : ℕ) → in_file f r ≡ Err (k, g, n) → (r ≡ Err (k, n)) × (g ≡ f)
+pub in_file_err : {X : Type 0} (f : ℕ) (r : Result X (Kind × ℕ)) (k : Kind) (g n : ℕ) → in_file f r ≡ Err (k, g, n) → (r ≡ Err (k, n)) × (g ≡ f)
 in_file_err f (Ok x) k g n e = absurd cc
-in_file_err f (Err m) k g n e =
-    let p = same_where FileRead (m.0, f, m.1) (k, g, n) e in
+in_file_err {X} f (Err m) k g n e =
+    let p = same_where X (m.0, f, m.1) (k, g, n) e in
     (ap (λ (x : Where). Err (x.0, x.2)) p, sym (ap (λ (x : Where). x.1) p))
 
 body_is : (ds : List Declaration) (bytes : List ℕ) (r : FileRead) (h : FileIs ds bytes r) → body_of r ≡ body_of_tree h.tree

@@ -1,5 +1,9 @@
+pub mod Bodies
 pub mod Faults
+pub mod Forms
 pub mod Halts
-pub mod Pending
+pub mod Heads
+pub mod Lines
+pub mod Planning
 pub mod Reading
 pub mod Tree

@@ -1,22 +1,28 @@
-//! What the lines below the second say.
+//! What stands below a head: what each line says, and the script that the lines are.
 
-ghost use Rattle.std.specs.Prelude.{◌≡◌, map, OnOk, IfOk, IfSome, is_some, List, length, Ok, Some, None, true};
-ghost use Rattle.grub_trace.specs.inside.Reading.{read_view, take_line, take_form, declarations, IsIndexed, Takes, TakesDeed, said, IsSaid, times_of, says, deed_view, declares, Stops, Says, Declares, IsMoment, IsRun, IsRetune, form_view};
-ghost use Rattle.grub_trace.specs.Faults.{last_of, reservation_fits};
-ghost use Rattle.grub_trace.specs.inside.Faults.{is_named};
-ghost use Rattle.grub_trace.specs.Tree.{is_name};
+ghost use Rattle.std.specs.Prelude.{◌≡◌, ◌≤◌, [], map, false};
+ghost use Rattle.grub_trace.specs.inside.Reading.{IsIndexed, IsMoment, IsRetune, IsRun, declarations, deed_view, opened, read_lines};
+ghost use Rattle.grub_trace.specs.Faults.{last_of};
+ghost use Rattle.grub_trace.specs.Forms.{parts_of};
+ghost use Rattle.grub_trace.specs.Tree.{names_of};
+ghost use Rattle.grub_trace.specs.inside.Forms.{begins_with_task};
+ghost use Rattle.grub_trace.specs.inside.Heads.{IsHead, read_body};
+ghost use Rattle.grub_trace.specs.inside.Lines.{GivesBody, GivesScript, IsTimely, SaysMore, TakesDeed, TakesLine};
 
-use crate::fault::{Kind, Stop};
+use crate::fault::{Halt, Kind};
 use crate::form::{Deed, Form, form_of};
-use crate::line::Line;
+use crate::line::{Act, Line};
+use crate::naming::act_in;
 use crate::number::number;
-use crate::pending::act;
-use crate::raw::RawScript;
-use crate::tasks::Tasks;
+use crate::raw::{Head, RawFile, RawScript};
+use crate::tasks::{Tasks, reservation};
 use crate::version::Version;
-use grub_book::{MOMENT_MAX, RUN_MAX, TASKS_MAX};
-use grub_bw::Params;
-use std::alloc::Global;
+use crate::words::first_line;
+use grub_book::{MOMENT_MAX, RUN_MAX};
+use std::alloc::{AllocError, Global};
+
+/// The fewest bytes of a line that says what happens: `at 0 read`, and the byte that ends it.
+const LINE_MIN: usize = 10;
 
 /// The moment of the last line so far, or 0.
 fn last(lines: &[Line]) -> u32
@@ -28,182 +34,165 @@ fn last(lines: &[Line]) -> u32
     }
 }
 
-/// Adds what happens within its limits.
-fn say<'a>(
-    tasks: &Tasks,
-    script: &mut RawScript<'a>,
-    at: u32,
-    deed: Deed<'a, u32>,
-) -> Result<(), Stop>
-    requires indexed { IsIndexed tasks.now }
-    requires placed { IsSaid tasks.now script.old }
-    ensures says { Says result (said tasks.now script.old) (said tasks.now script.new) at (deed_view (λ n. n) deed.entry) }
-    ensures placed { OnOk result (IsSaid tasks.now script.new) }
-{
-    if at < last(&script.lines) {
-        return Err(Stop::Fault(Kind::MomentGoesBack));
-    }
-    let act = act(tasks, &mut script.pending, deed)?;
-    script.lines.push(Line { m: at, act })?;
-    Ok(())
-}
-
-/// The reservation, where it is one.
-fn reservation(runtime: u32, period: u32) -> Option<Params>
-    ensures value { IfSome result (λ p. p ≡ record { runtime = runtime; period = period }) }
-    ensures exact { is_some result ≡ reservation_fits (record { runtime = runtime; period = period }) }
-{
-    Params::new(runtime, period).ok()
-}
-
-/// Declares a task.
-fn declare(
-    alloc: Global,
-    tasks: &mut Tasks,
-    name: &[u8],
-    runtime: &[u8],
-    period: &[u8],
-) -> Result<(), Stop>
-    requires indexed { IsIndexed tasks.old }
-    requires name_in { is_name name.now ≡ true }
-    ensures takes { Declares result (declarations tasks.old) (declarations tasks.new) name.now runtime.now period.now }
-    ensures indexed { OnOk result (IsIndexed tasks.new) }
-{
-    let (Some(runtime), Some(period)) = (number(runtime), number(period)) else {
-        return Err(Stop::Fault(Kind::BadNumber));
-    };
-    if tasks.list.len() >= TASKS_MAX {
-        return Err(Stop::Fault(Kind::OutOfRange));
-    }
-    let Some(params) = reservation(runtime, period) else {
-        return Err(Stop::Fault(Kind::OutOfRange));
-    };
-    if tasks.find(name).is_some() {
-        return Err(Stop::Fault(Kind::DuplicateTask));
-    }
-    let Ok(name) = str::from_utf8(name) else {
-        unreachable!();
-    };
-    tasks.push(alloc, name, params)
-}
-
-/// Takes a line's form, whose name is a name.
-fn take_form<'a>(
-    alloc: Global,
-    version: Version,
-    tasks: &mut Tasks,
-    script: &mut RawScript<'a>,
-    form: Form<'a>,
-) -> Result<(), Stop>
-    requires indexed { IsIndexed tasks.old }
-    requires placed { IsSaid tasks.old script.old }
-    requires names { is_named (form_view form) ≡ true }
-    ensures takes { Takes result (read_view version tasks.new script.new) (take_form (read_view version tasks.old script.old) (form_view form.entry)) }
-    ensures indexed { OnOk result (IsIndexed tasks.new) }
-    ensures placed { OnOk result (IsSaid tasks.new script.new) }
-{
-    match form {
-        Form::Queue(..) => Err(Stop::Fault(Kind::BadLine)),
-        Form::Task(name, runtime, period) => {
-            if !script.lines.is_empty() {
-                return Err(Stop::Fault(Kind::BadLine));
-            }
-            declare(alloc, tasks, name, runtime, period)
-        }
-        Form::At(at, deed) => take_deed(version, tasks, script, at, deed),
-    }
-}
-
-/// Takes what is said to happen at a moment.
-fn take_deed<'a>(
-    version: Version,
-    tasks: &Tasks,
-    script: &mut RawScript<'a>,
-    at: &[u8],
-    deed: Deed<'a, &'a [u8]>,
-) -> Result<(), Stop>
-    requires indexed { IsIndexed tasks.now }
-    requires placed { IsSaid tasks.now script.old }
-    ensures takes { TakesDeed result version (said tasks.now script.old) (said tasks.now script.new) at.now (deed_view (λ w. w.now) deed.entry) }
-    ensures placed { OnOk result (IsSaid tasks.now script.new) }
-{
-    match deed {
-        Deed::Does(verb, name) => {
-            let at = moment(at)?;
-            say(tasks, script, at, Deed::Does(verb, name))
-        }
-        Deed::Runs(name, span) => {
-            let (at, span) = run(at, span)?;
-            say(tasks, script, at, Deed::Runs(name, span))
-        }
-        Deed::Retunes(name, runtime, period) => {
-            if !version.may_retune() {
-                return Err(Stop::Fault(Kind::BadLine));
-            }
-            let (at, runtime, period) = retune(at, runtime, period)?;
-            say(tasks, script, at, Deed::Retunes(name, runtime, period))
-        }
-        Deed::Reads => {
-            let at = moment(at)?;
-            say(tasks, script, at, Deed::Reads)
-        }
-    }
-}
-
 /// The moment that a word spells.
-fn moment(word: &[u8]) -> Result<u32, Stop>
+fn moment(word: &[u8]) -> Result<u32, Kind>
     ensures { IsMoment result word.now }
 {
     match number(word) {
-        None => Err(Stop::Fault(Kind::BadNumber)),
-        Some(at) if at > MOMENT_MAX => Err(Stop::Fault(Kind::OutOfRange)),
+        None => Err(Kind::BadNumber),
+        Some(at) if at > MOMENT_MAX => Err(Kind::OutOfRange),
         Some(at) => Ok(at),
     }
 }
 
 /// The moment and the length of a run.
-fn run(at: &[u8], span: &[u8]) -> Result<(u32, u32), Stop>
+fn run(at: &[u8], span: &[u8]) -> Result<(u32, u32), Kind>
     ensures { IsRun result at.now span.now }
 {
     let (Some(at), Some(span)) = (number(at), number(span)) else {
-        return Err(Stop::Fault(Kind::BadNumber));
+        return Err(Kind::BadNumber);
     };
     if at > MOMENT_MAX || span < 1 || span > RUN_MAX {
-        return Err(Stop::Fault(Kind::OutOfRange));
+        return Err(Kind::OutOfRange);
     }
     Ok((at, span))
 }
 
 /// The moment and the new reservation of a retune.
-fn retune(at: &[u8], runtime: &[u8], period: &[u8]) -> Result<(u32, u32, u32), Stop>
+fn retune(at: &[u8], runtime: &[u8], period: &[u8]) -> Result<(u32, u32, u32), Kind>
     ensures { IsRetune result at.now runtime.now period.now }
 {
     let (Some(at), Some(runtime), Some(period)) = (number(at), number(runtime), number(period))
     else {
-        return Err(Stop::Fault(Kind::BadNumber));
+        return Err(Kind::BadNumber);
     };
     if at > MOMENT_MAX || reservation(runtime, period).is_none() {
-        return Err(Stop::Fault(Kind::OutOfRange));
+        return Err(Kind::OutOfRange);
     }
     Ok((at, runtime, period))
 }
 
-/// Takes a line below the second.
-pub fn take_line<'a>(
-    alloc: Global,
+/// Whether a moment does not go back behind the last one.
+fn timely(last: u32, at: u32) -> Result<(), Kind>
+    ensures { IsTimely result last at }
+{
+    if at < last {
+        return Err(Kind::MomentGoesBack);
+    }
+    Ok(())
+}
+
+/// What is said to happen at a moment, after the last one.
+fn take_deed<'a>(
     version: Version,
-    tasks: &mut Tasks,
-    script: &mut RawScript<'a>,
-    line: &'a [u8],
-) -> Result<(), Stop>
-    requires indexed { IsIndexed tasks.old }
-    requires placed { IsSaid tasks.old script.old }
-    ensures takes { Takes result (read_view version tasks.new script.new) (take_line (read_view version tasks.old script.old) line.now) }
-    ensures indexed { OnOk result (IsIndexed tasks.new) }
-    ensures placed { OnOk result (IsSaid tasks.new script.new) }
+    last: u32,
+    at: &[u8],
+    deed: Deed<'a, &'a [u8]>,
+) -> Result<(u32, Deed<'a, u32>), Kind>
+    ensures { TakesDeed result version last at.now deed.entry }
+{
+    match deed {
+        Deed::Does(verb, name) => {
+            let at = moment(at)?;
+            timely(last, at)?;
+            Ok((at, Deed::Does(verb, name)))
+        }
+        Deed::Runs(name, span) => {
+            let (at, span) = run(at, span)?;
+            timely(last, at)?;
+            Ok((at, Deed::Runs(name, span)))
+        }
+        Deed::Retunes(name, runtime, period) => {
+            if !version.may_retune() {
+                return Err(Kind::BadLine);
+            }
+            let (at, runtime, period) = retune(at, runtime, period)?;
+            timely(last, at)?;
+            Ok((at, Deed::Retunes(name, runtime, period)))
+        }
+        Deed::Reads => {
+            let at = moment(at)?;
+            timely(last, at)?;
+            Ok((at, Deed::Reads))
+        }
+    }
+}
+
+/// What a line below a head says, after the last moment. No task is declared there.
+fn take_line<'a>(version: Version, last: u32, line: &'a [u8]) -> Result<(u32, Deed<'a, u32>), Kind>
+    ensures { TakesLine result version last line.now }
 {
     match form_of(line) {
-        None => Err(Stop::Fault(Kind::BadLine)),
-        Some(form) => take_form(alloc, version, tasks, script, form),
+        Some(Form::At(at, deed)) => take_deed(version, last, at, deed),
+        _ => Err(Kind::BadLine),
     }
+}
+
+/// Adds what line `number` says that happens, to lines that begin with line `first`.
+fn say(
+    tasks: &Tasks,
+    script: &mut RawScript,
+    number: usize,
+    m: u32,
+    deed: Deed<'_, u32>,
+) -> Result<(), AllocError>
+    requires { IsIndexed tasks.now }
+    ensures { SaysMore result (names_of (declarations tasks.now)) script.old script.new number m (deed_view (λ n. n) deed.entry) }
+{
+    let act = match act_in(tasks, deed) {
+        Some(act) => act,
+        None => {
+            script.unknown = script.unknown.or(Some(number));
+            Act::Read
+        }
+    };
+    script.lines.push(Line { m, act })?;
+    Ok(())
+}
+
+/// Reads the lines from number `first` on. The room for all of them is taken at once, so that they are never copied.
+fn read_lines(
+    alloc: Global,
+    version: Version,
+    tasks: &Tasks,
+    first: usize,
+    text: &[u8],
+) -> Result<RawScript, Halt>
+    requires indexed { IsIndexed tasks.now }
+    requires below { begins_with_task (parts_of text.now) ≡ false }
+    requires few { first ≤ 259 }
+    ensures { GivesScript result tasks.now first (read_lines (opened version (declarations tasks.now)) first (parts_of text.now)) }
+{
+    let mut script = RawScript {
+        lines: Vec::with_capacity(alloc, text.len() / LINE_MIN)?,
+        unknown: None,
+    };
+    let mut rest = text;
+    let mut number = first;
+    while let Some((line, after)) = first_line(rest) {
+        let (m, deed) = match take_line(version, last(&script.lines), line) {
+            Ok(taken) => taken,
+            Err(kind) => return Err(Halt::At(kind, number)),
+        };
+        say(tasks, &mut script, number, m, deed)?;
+        rest = after;
+        number += 1;
+    }
+    if !rest.is_empty() {
+        return Err(Halt::At(Kind::CutShort, number));
+    }
+    Ok(script)
+}
+
+/// Reads what stands below a head, where all tasks are declared.
+pub fn read_body(alloc: Global, tasks: &Tasks, head: &Head<'_>) -> Result<RawFile, Halt>
+    requires indexed { IsIndexed tasks.now }
+    requires head { IsHead head.now }
+    ensures { GivesBody result tasks.now (read_body [] head.now) }
+{
+    let script = read_lines(alloc, head.version, tasks, head.first, head.below)?;
+    Ok(RawFile {
+        queue: head.queue,
+        script,
+    })
 }

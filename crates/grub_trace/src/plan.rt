@@ -1,6 +1,6 @@
 //! What event files say, with tasks by number.
 
-ghost use Rattle.std.specs.Prelude.{◌≡◌, ◌<◌, ◌≤◌, length, map, string_bytes, slice_get, Some, true};
+ghost use Rattle.std.specs.Prelude.{◌≡◌, ◌<◌, length, map, string_bytes, slice_get, Some, true};
 ghost use Rattle.grub_trace.specs.Limits.{PlanFits, ScriptFits};
 ghost use Rattle.grub_trace.specs.Tree.{is_name};
 

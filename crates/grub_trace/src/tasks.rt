@@ -1,11 +1,14 @@
 //! The declared tasks, and their numbers by their names.
 
-ghost use Rattle.std.specs.Prelude.{◌≡◌, ◌<◌, length, ◌∷◌, [], ◌++◌, OnOk, IfErr, None};
+ghost use Rattle.std.specs.Prelude.{◌≡◌, ◌<◌, length, ◌∷◌, [], ◌++◌, Err, OnOk, IfErr, IfSome, None, is_some, true};
 ghost use Rattle.grub_trace.specs.Tree.{is_name, names_of};
 ghost use Rattle.grub_trace.specs.Naming.{task_of};
-ghost use Rattle.grub_trace.specs.inside.Reading.{declarations, IsIndexed};
+ghost use Rattle.grub_trace.specs.Faults.{reservation_fits};
+ghost use Rattle.grub_trace.specs.inside.Reading.{Declares, declarations, IsIndexed};
 
-use crate::fault::Stop;
+use crate::fault::{Kind, Stop};
+use crate::number::number;
+use grub_book::TASKS_MAX;
 use grub_bw::Params;
 use std::alloc::Global;
 use std::collections::HashMap;
@@ -60,4 +63,43 @@ impl Tasks {
         self.index.insert(key, number)?;
         Ok(())
     }
+}
+
+/// The reservation, where it is one.
+pub fn reservation(runtime: u32, period: u32) -> Option<Params>
+    ensures value { IfSome result (λ p. p ≡ record { runtime = runtime; period = period }) }
+    ensures exact { is_some result ≡ reservation_fits (record { runtime = runtime; period = period }) }
+{
+    Params::new(runtime, period).ok()
+}
+
+/// Declares a task.
+pub fn declare(
+    alloc: Global,
+    tasks: &mut Tasks,
+    name: &[u8],
+    runtime: &[u8],
+    period: &[u8],
+) -> Result<(), Stop>
+    requires indexed { IsIndexed tasks.old }
+    requires name_in { is_name name.now ≡ true }
+    ensures takes { Declares result (declarations tasks.old) (declarations tasks.new) name.now runtime.now period.now }
+    ensures indexed { (result ≡ Err Stop.Memory → ⊥) → IsIndexed tasks.new }
+{
+    let (Some(runtime), Some(period)) = (number(runtime), number(period)) else {
+        return Err(Stop::Fault(Kind::BadNumber));
+    };
+    if tasks.list.len() >= TASKS_MAX {
+        return Err(Stop::Fault(Kind::OutOfRange));
+    }
+    let Some(params) = reservation(runtime, period) else {
+        return Err(Stop::Fault(Kind::OutOfRange));
+    };
+    if tasks.find(name).is_some() {
+        return Err(Stop::Fault(Kind::DuplicateTask));
+    }
+    let Ok(name) = str::from_utf8(name) else {
+        unreachable!();
+    };
+    tasks.push(alloc, name, params)
 }

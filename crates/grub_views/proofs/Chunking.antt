@@ -1,5 +1,5 @@
 -- The steps of entries that are played some at a time.
-use Rattle.std.proofs.Common.{◌≡◌, ℕ, ◌+◌, ◌<◌, List, [], ◌∷◌, ◌++◌, ◌∙◌, length, get_or, drop, refl, ap, subst, add-one}
+use Rattle.std.proofs.Common.{◌≡◌, ℕ, ◌+◌, ◌<◌, List, [], ◌∷◌, ◌++◌, ◌∙◌, length, get_or, drop, refl, ap, subst, add-one, append_assoc}
 use Rattle.std.proofs.Math.Seq.{drop-cons}
 use Rattle.std.proofs.lemmas.Grind.{flat_map-append}
 use Rattle.std.proofs.lemmas.List.Elements.{All-append, All-tail}
@@ -33,12 +33,17 @@ pub past_more : (s : Machine) (book : Records) (xs ys : List Told) → book_past
 past_more s book [] ys = refl
 past_more s book (x ∷ xs) ys = past_more s (book_after s book x.entry.ask) xs ys
 
+-- the rows of some entries, and those of the entries behind them
+pub rows_then : (names : List (List ℕ)) (s : Machine) (book : Records) (xs ys : List Told)
+    → flat_map (step_row names) (steps_from s book (xs ++ ys)) ≡ flat_map (step_row names) (steps_from s book xs) ++ flat_map (step_row names) (steps_from s (book_past s book xs) ys)
+rows_then names s book xs ys =
+    ap (flat_map (step_row names)) (steps_more s book xs ys) ∙ flat_map-append (step_row names) (steps_from s book xs) (steps_from s (book_past s book xs) ys)
+
 -- the rows of the entries so far, and those of the next
 pub rows_more : (names : List (List ℕ)) (s : Machine) (was chunk : List Told)
     → flat_map (step_row names) (steps_of s (was ++ chunk)) ≡ flat_map (step_row names) (steps_of s was) ++ flat_map (step_row names) (steps_from s (book_past s (opening_book s) was) chunk)
 unfolding steps_of
-rows_more names s was chunk =
-    ap (flat_map (step_row names)) (steps_more s (opening_book s) was chunk) ∙ flat_map-append (step_row names) (steps_from s (opening_book s) was) (steps_from s (book_past s (opening_book s) was) chunk)
+rows_more names s was chunk = rows_then names s (opening_book s) was chunk
 
 behind : (P : Told → Type 0) (xs ys : List Told) → All P (xs ++ ys) → All P ys
 behind P [] ys all = all
@@ -57,3 +62,8 @@ chunk_viewable plan then was chunk told is list legal answered before within =
     let all_legal : IsLegal s (history_of (was ++ chunk)) = subst (λ (xs : List Told). IsLegal s (history_of xs)) list (subst (λ (p : PlanView). IsLegal p.setup (history_of told)) is legal) in
     let all_answered : AreAnswered (was ++ chunk) = subst (λ (xs : List Told). AreAnswered xs) list answered in
     behind (IsToldIn s) was chunk (legal_within s (opening_book s) (was ++ chunk) all_legal all_answered (within_more s was chunk before chunk_within))
+
+-- what was played, and then the rest of the time line
+pub told_out : (before latest next more then all : List Told) → then ≡ (before ++ latest) ++ next → all ≡ then ++ more → all ≡ before ++ (latest ++ (next ++ more))
+told_out before latest next more then all was out =
+    out ∙ ap (λ (l : List Told). l ++ more) was ∙ append_assoc (before ++ latest) next more ∙ append_assoc before latest (next ++ more)

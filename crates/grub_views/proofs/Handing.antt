@@ -16,3 +16,7 @@ part_piece a b c kept done left text after rest whole h k is cut =
 pub hands_end : (a b : Option (List ℕ)) (kept done left rest whole : List ℕ) → HandsOn a b kept done left → done ++ rest ≡ whole → rest ≡ [] → HandsOn a b kept whole left
 hands_end a b kept done left rest whole h is none =
     subst (λ (t : List ℕ). HandsOn a b kept t left) (sym (append-nil done) ∙ ap (λ (l : List ℕ). done ++ l) (sym none) ∙ is) h
+
+-- what was handed on, under other names
+pub hands_same : (a b c : Option (List ℕ)) (kept text left rest : List ℕ) → b ≡ c → left ≡ rest → HandsOn a c kept text rest → HandsOn a b kept text left
+hands_same a b c kept text left rest now is h = rw (now, is) h

@@ -17,7 +17,7 @@ use Rattle.grub_timeline.specs.TimeLines.{IsTimeLine}
 use Rattle.grub_timeline.specs.declared.told.Told.{Told}
 use Rattle.grub_views.specs.Replay.{steps_of}
 use Rattle.grub_views.specs.declared.book_steps.Step.{Step}
-use Rattle.grub_views.specs.declared.rows.Numbers.{Numbers}
+use Rattle.grub_views.specs.declared.row.Numbers.{Numbers}
 
 abbrev pub first_word : List ℕ → List ℕ
 first_word text = before_first (λ b. b == 32) text

@@ -2,6 +2,7 @@
 #![tactic(auto)]
 
 mod bars;
+mod beside;
 mod book_steps;
 mod curve;
 mod drawing;
@@ -13,6 +14,7 @@ mod lines;
 mod mark;
 mod picture;
 mod rest;
+mod row;
 mod rows;
 mod said;
 mod summary;

@@ -1,11 +1,12 @@
 //! The text of a time line, through a buffer that never grows.
 
-ghost use Rattle.std.specs.Prelude.{◌≡◌, ◌+◌, ◌≤◌, ◌++◌, [], OnOk, OnErr, length, vec_len, vec_capacity};
+ghost use Rattle.std.specs.Prelude.{◌≡◌, ◌+◌, ◌≤◌, ◌++◌, [], All, OnOk, OnErr, length, vec_len, vec_capacity};
 ghost use Rattle.std.specs.List.{flat_map};
 ghost use Rattle.grub_trace.specs.Texts.{IsAskOf};
 ghost use Rattle.grub_trace.specs.Writing.{HandsOn, HandsPart};
 ghost use Rattle.grub_views.specs.Lines.{HandsOnTimeline, HandsPartOfTimeline, close_line, close_lines, told_line};
 
+use crate::beside::play_beside;
 use crate::rest::play_out;
 use grub_book::Reading;
 use grub_lines::{Blocks, Line, write_lines};
@@ -18,7 +19,8 @@ use std::io::Write;
 use std::thread::Threads;
 
 /// Plays what is left of a time line of the plan, of which nothing was played yet, and puts its text into the buffer, which is
-/// written as often as it is full: a line for each entry, and then the closing reading of each runqueue. It takes no memory.
+/// written as often as it is full: a line for each entry, and then the closing reading of each runqueue. Entries wait for their
+/// lines in the vector, which has room for those of a line, while the next ones are played. It takes no memory.
 /// After a failing write, or one that took nothing, a beginning of the buffer's bytes and the text was written.
 pub fn write_timeline<R: Threads + Sync, W: Write>(
     rt: &R,
@@ -26,17 +28,19 @@ pub fn write_timeline<R: Threads + Sync, W: Write>(
     buffer: &mut Vec<u8>,
     out: &mut W,
     plan: &Plan,
+    latest: &mut Vec<Told>,
     playing: Playing<'_>,
 ) -> io::Result<()>
     requires plan { playing.plan ≡ plan.now }
     requires nothing { playing.told ≡ [] }
+    requires latest { length plan.now.setup.tasks + 3 ≤ vec_capacity latest.old }
     requires room { LINE_MAX ≤ vec_capacity buffer.old }
     ensures whole { OnOk result (HandsOnTimeline plan.now (W.contents out.old) (W.contents out.new) buffer.old.items buffer.new.items) }
     ensures part { OnErr result (HandsPartOfTimeline plan.now (W.contents out.old) (W.contents out.new) buffer.old.items) }
     ensures room { LINE_MAX ≤ vec_capacity buffer.new }
 {
     let mut playing = playing;
-    let written = write_played(rt, blocks, buffer, out, plan, &mut playing);
+    let written = write_played(rt, blocks, buffer, out, plan, latest, &mut playing);
     let closing = playing.close();
     written?;
     write_closing(buffer, out, &closing)
@@ -49,10 +53,12 @@ fn write_played<R: Threads + Sync, W: Write>(
     buffer: &mut Vec<u8>,
     out: &mut W,
     plan: &Plan,
+    latest: &mut Vec<Told>,
     playing: &mut Playing<'_>,
 ) -> io::Result<()>
     requires plan { playing.old.plan ≡ plan.now }
     requires nothing { playing.old.told ≡ [] }
+    requires latest { length plan.now.setup.tasks + 3 ≤ vec_capacity latest.old }
     requires room { LINE_MAX ≤ vec_capacity buffer.old }
     ensures plan { playing.new.plan ≡ plan.now }
     ensures over { playing.new.left ≡ 0 }
@@ -61,11 +67,23 @@ fn write_played<R: Threads + Sync, W: Write>(
     ensures room { LINE_MAX ≤ vec_capacity buffer.new }
 {
     let lines = PlanLines { plan };
-    while playing.play_on() {
-        if let Err(fault) = write_lines(rt, blocks, buffer, out, playing.chunk(), &lines) {
+    let mut more = playing.play_on();
+    while more {
+        playing.exchange(latest);
+        let told = latest.as_slice();
+        let mut write = || -> io::Result<()>
+            requires fits { All (λ x. IsAskOf (length lines.plan.now.setup.tasks) x.entry.ask) told.now }
+            requires room { LINE_MAX ≤ vec_capacity buffer.now }
+            ensures whole { OnOk result (HandsOn (W.contents out.entry.now) (W.contents out.exit.now) buffer.entry.now.items (flat_map (told_line lines.entry.plan.now.names) told.entry.now) buffer.exit.now.items) }
+            ensures part { OnErr result (HandsPart (W.contents out.entry.now) (W.contents out.exit.now) buffer.entry.now.items (flat_map (told_line lines.entry.plan.now.names) told.entry.now)) }
+            ensures room { LINE_MAX ≤ vec_capacity buffer.exit.now }
+        { write_lines(rt, blocks, buffer, out, told, &lines) };
+        let (goes_on, written) = play_beside(rt, playing, told.len(), &mut write);
+        if let Err(fault) = written {
             play_out(playing);
             return Err(fault);
         }
+        more = goes_on;
     }
     Ok(())
 }

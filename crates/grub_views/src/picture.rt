@@ -1,6 +1,6 @@
 //! A picture of a time line, as an SVG document.
 
-ghost use Rattle.std.specs.Prelude.{◌≡◌, ◌<◌, ◌≤◌, ◌^◌, ◌++◌, [], max, map, length, OnOk, IfOk, vec_len};
+ghost use Rattle.std.specs.Prelude.{◌≡◌, ◌<◌, ◌^◌, ◌++◌, [], max, map, length, OnOk, IfOk, vec_len};
 ghost use Rattle.grub_timeline.specs.TimeLines.{AreWithin, IsTimeLine};
 ghost use Rattle.grub_views.specs.inside.Fitting.{AreToldIn};
 ghost use Rattle.grub_views.specs.inside.Scenes.{drawn_of, owns_of};

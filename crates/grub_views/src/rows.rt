@@ -1,20 +1,22 @@
 //! The steps of a time line as a table of fields with tabs between them, through a buffer that never grows.
 
-ghost use Rattle.std.specs.Prelude.{◌≡◌, ◌+◌, ◌≤◌, ◌++◌, ◌∷◌, [], OnOk, OnErr, length, decimal, codes, vec_len, vec_capacity};
-ghost use Rattle.std.specs.List.{flat_map, join_with_byte};
+ghost use Rattle.std.specs.Prelude.{◌≡◌, ◌+◌, ◌≤◌, [], OnOk, OnErr, length, vec_capacity};
+ghost use Rattle.std.specs.List.{flat_map};
 ghost use Rattle.grub_book.specs.Sums.{opening_book};
-ghost use Rattle.grub_trace.specs.Texts.{IsAskOf};
 ghost use Rattle.grub_trace.specs.Writing.{HandsOn, HandsPart};
-ghost use Rattle.grub_views.specs.inside.Fitting.{IsToldIn};
-ghost use Rattle.grub_views.specs.Replay.{steps_of};
-ghost use Rattle.grub_views.specs.Rows.{HandsOnSteps, HandsPartOfSteps, answer_numbers, answer_word, arg_field, ask_word, asked_fields, header, number_field, number_fields, reply_numbers, reply_word, step_row, step_rows, task_field};
+ghost use Rattle.grub_views.specs.inside.Fitting.{AreToldIn, IsToldIn};
+ghost use Rattle.grub_views.specs.inside.Past.{book_past};
+ghost use Rattle.grub_views.specs.Replay.{steps_from, steps_of};
+ghost use Rattle.grub_views.specs.Rows.{HandsOnSteps, HandsPartOfSteps, header, step_row, step_rows};
 
+use crate::beside::play_beside;
 use crate::book_steps::{Step, fill_steps};
 use crate::rest::play_out;
-use grub_book::{Book, Op, Reply};
+use crate::row::append_step;
+use grub_book::Book;
 use grub_lines::{Blocks, Line, write_lines};
-use grub_timeline::Playing;
-use grub_trace::{Answer, Ask, LINE_MAX, Plan, append, append_number, make_room};
+use grub_timeline::{Playing, Told};
+use grub_trace::{LINE_MAX, Plan, append, make_room};
 use std::io;
 use std::io::Write;
 use std::thread::Threads;
@@ -25,7 +27,8 @@ const HEADER: &[u8] = b"moment\trunqueue\task\ttask\targ\tanswer\tdq\tk\tq\td\tz
 /// Plays what is left of a time line of the plan, of which nothing was played yet, and puts its steps into the buffer, which is
 /// written as often as it is full, for programs that read tables: the names of the columns, and then for each entry a line of
 /// fields with a tab between each two. A field that there is none of is empty. The steps are those of the book, of which
-/// nothing was asked yet, and the vector has room for those that are played at a time. It takes no memory.
+/// nothing was asked yet. Entries wait for their rows in one vector, which has room for those of a line, while the next ones
+/// are played; the other vector has room for the steps of those that are played at a time. It takes no memory.
 /// After a failing write, or one that took nothing, a beginning of the buffer's bytes and the text was written.
 pub fn write_steps<R: Threads + Sync, W: Write>(
     rt: &R,
@@ -34,6 +37,7 @@ pub fn write_steps<R: Threads + Sync, W: Write>(
     out: &mut W,
     plan: &Plan,
     book: &mut Book<'_>,
+    latest: &mut Vec<Told>,
     steps: &mut Vec<Step>,
     playing: Playing<'_>,
 ) -> io::Result<()>
@@ -41,14 +45,26 @@ pub fn write_steps<R: Threads + Sync, W: Write>(
     requires nothing { playing.told ≡ [] }
     requires setup { book.old.setup ≡ plan.now.setup }
     requires book { book.old.records ≡ opening_book plan.now.setup }
+    requires latest { length plan.now.setup.tasks + 3 ≤ vec_capacity latest.old }
     requires steps { playing.most ≤ vec_capacity steps.old }
+    requires waiting { vec_capacity latest.old ≤ vec_capacity steps.old }
     requires room { LINE_MAX ≤ vec_capacity buffer.old }
     ensures whole { OnOk result (HandsOnSteps plan.now (W.contents out.old) (W.contents out.new) buffer.old.items buffer.new.items) }
     ensures part { OnErr result (HandsPartOfSteps plan.now (W.contents out.old) (W.contents out.new) buffer.old.items) }
     ensures room { LINE_MAX ≤ vec_capacity buffer.new }
 {
     let mut playing = playing;
-    let written = write_table(rt, blocks, buffer, out, plan, book, steps, &mut playing);
+    let written = write_table(
+        rt,
+        blocks,
+        buffer,
+        out,
+        plan,
+        book,
+        latest,
+        steps,
+        &mut playing,
+    );
     playing.close();
     written
 }
@@ -61,6 +77,7 @@ fn write_table<R: Threads + Sync, W: Write>(
     out: &mut W,
     plan: &Plan,
     book: &mut Book<'_>,
+    latest: &mut Vec<Told>,
     steps: &mut Vec<Step>,
     playing: &mut Playing<'_>,
 ) -> io::Result<()>
@@ -68,7 +85,9 @@ fn write_table<R: Threads + Sync, W: Write>(
     requires nothing { playing.old.told ≡ [] }
     requires setup { book.old.setup ≡ plan.now.setup }
     requires book { book.old.records ≡ opening_book plan.now.setup }
+    requires latest { length plan.now.setup.tasks + 3 ≤ vec_capacity latest.old }
     requires steps { playing.old.most ≤ vec_capacity steps.old }
+    requires waiting { vec_capacity latest.old ≤ vec_capacity steps.old }
     requires room { LINE_MAX ≤ vec_capacity buffer.old }
     ensures plan { playing.new.plan ≡ plan.now }
     ensures over { playing.new.left ≡ 0 }
@@ -80,7 +99,7 @@ fn write_table<R: Threads + Sync, W: Write>(
         play_out(playing);
         return Err(fault);
     }
-    write_rows(rt, blocks, buffer, out, plan, book, steps, playing)
+    write_rows(rt, blocks, buffer, out, plan, book, latest, steps, playing)
 }
 
 fn write_header<W: Write>(buffer: &mut Vec<u8>, out: &mut W) -> io::Result<()>
@@ -102,6 +121,7 @@ fn write_rows<R: Threads + Sync, W: Write>(
     out: &mut W,
     plan: &Plan,
     book: &mut Book<'_>,
+    latest: &mut Vec<Told>,
     steps: &mut Vec<Step>,
     playing: &mut Playing<'_>,
 ) -> io::Result<()>
@@ -109,7 +129,9 @@ fn write_rows<R: Threads + Sync, W: Write>(
     requires nothing { playing.old.told ≡ [] }
     requires setup { book.old.setup ≡ plan.now.setup }
     requires book { book.old.records ≡ opening_book plan.now.setup }
+    requires latest { length plan.now.setup.tasks + 3 ≤ vec_capacity latest.old }
     requires steps { playing.old.most ≤ vec_capacity steps.old }
+    requires waiting { vec_capacity latest.old ≤ vec_capacity steps.old }
     requires room { LINE_MAX ≤ vec_capacity buffer.old }
     ensures plan { playing.new.plan ≡ plan.now }
     ensures over { playing.new.left ≡ 0 }
@@ -118,12 +140,31 @@ fn write_rows<R: Threads + Sync, W: Write>(
     ensures room { LINE_MAX ≤ vec_capacity buffer.new }
 {
     let rows = PlanRows { plan };
-    while playing.play_on() {
-        fill_steps(steps, book, playing.chunk());
-        if let Err(fault) = write_lines(rt, blocks, buffer, out, steps, &rows) {
+    let mut more = playing.play_on();
+    while more {
+        playing.exchange(latest);
+        let told = latest.as_slice();
+        let mut write = || -> io::Result<()>
+            requires setup { book.now.setup ≡ rows.plan.now.setup }
+            requires told { AreToldIn rows.plan.now.setup told.now }
+            requires steps { length told.now ≤ vec_capacity steps.now }
+            requires room { LINE_MAX ≤ vec_capacity buffer.now }
+            ensures setup { book.exit.now.setup ≡ rows.entry.plan.now.setup }
+            ensures book { book.exit.now.records ≡ book_past rows.entry.plan.now.setup book.entry.now.records told.entry.now }
+            ensures steps { vec_capacity steps.exit.now ≡ vec_capacity steps.entry.now }
+            ensures whole { OnOk result (HandsOn (W.contents out.entry.now) (W.contents out.exit.now) buffer.entry.now.items (flat_map (step_row rows.entry.plan.now.names) (steps_from rows.entry.plan.now.setup book.entry.now.records told.entry.now)) buffer.exit.now.items) }
+            ensures part { OnErr result (HandsPart (W.contents out.entry.now) (W.contents out.exit.now) buffer.entry.now.items (flat_map (step_row rows.entry.plan.now.names) (steps_from rows.entry.plan.now.setup book.entry.now.records told.entry.now))) }
+            ensures room { LINE_MAX ≤ vec_capacity buffer.exit.now }
+        {
+            fill_steps(steps, book, told);
+            write_lines(rt, blocks, buffer, out, steps, &rows)
+        };
+        let (goes_on, written) = play_beside(rt, playing, told.len(), &mut write);
+        if let Err(fault) = written {
             play_out(playing);
             return Err(fault);
         }
+        more = goes_on;
     }
     Ok(())
 }
@@ -141,254 +182,5 @@ impl<'a> Line<Step> for PlanRows<'a> {
 
     fn append(&self, out: &mut Vec<u8>, item: &Step) {
         append_step(out, self.plan, item);
-    }
-}
-
-/// The numbers of an answer, where it has them.
-#[derive(Clone, Copy)]
-struct Numbers {
-    /// What was charged.
-    dq: Option<u64>,
-
-    /// How often the budget was recharged.
-    k: Option<u32>,
-
-    /// The budget.
-    q: Option<u32>,
-
-    /// The deadline.
-    d: Option<u32>,
-
-    /// The 0-lag moment.
-    z: Option<u32>,
-}
-
-const NO_NUMBERS: Numbers = Numbers {
-    dq: None,
-    k: None,
-    q: None,
-    d: None,
-    z: None,
-};
-
-/// No piece of a row is longer: what was asked with the word of the answer, the numbers, one number of them, and an argument.
-const ASKED_MAX: usize = 138;
-
-const NUMBERS_MAX: usize = 105;
-
-const OPTIONAL_MAX: usize = 21;
-
-const ARG_MAX: usize = 41;
-
-#[tactic(auto, unfolding(crate::specs::Rows::step_row))]
-fn append_step(out: &mut Vec<u8>, plan: &Plan, step: &Step)
-    requires told { IsToldIn plan.now.setup step.now.told }
-    requires room { vec_len out.old + LINE_MAX ≤ vec_capacity out.old }
-    ensures text { out.new.items ≡ out.old.items ++ step_row plan.now.names step.now }
-    ensures len { vec_len out.new ≤ vec_len out.old + LINE_MAX }
-    ensures room { vec_capacity out.old ≤ vec_capacity out.new }
-{
-    append_asked(out, plan, step);
-    append_numbers(out, numbers_of(step.told.entry.answer));
-    append_number(out, b"\t", u64::from(step.reading.running));
-    append_number(out, b"\t", u64::from(step.reading.this));
-    append(out, b"\n");
-}
-
-/// The moment, the runqueue, what was asked, and the word of the answer.
-fn append_asked(out: &mut Vec<u8>, plan: &Plan, step: &Step)
-    requires told { IsToldIn plan.now.setup step.now.told }
-    requires room { vec_len out.old + ASKED_MAX ≤ vec_capacity out.old }
-    ensures text { out.new.items ≡ out.old.items ++ join_with_byte 9 (asked_fields plan.now.names step.now) }
-    ensures len { vec_len out.new ≤ vec_len out.old + ASKED_MAX }
-    ensures room { vec_capacity out.old ≤ vec_capacity out.new }
-{
-    let entry = step.told.entry;
-    append_number(out, b"", u64::from(entry.m));
-    append_number(out, b"\t", u64::from(step.queue));
-    append_field(out, ask_word(entry.ask));
-    append_field(out, task_name(plan, entry.ask));
-    append(out, b"\t");
-    append_arg(out, entry.ask);
-    append_field(out, answer_word(entry.answer));
-}
-
-fn append_field(out: &mut Vec<u8>, text: &str)
-    requires { vec_len out.old + length text.now + 1 ≤ vec_capacity out.old }
-    ensures text { out.new.items ≡ out.old.items ++ (9 ∷ text.now) }
-    ensures len { vec_len out.new ≡ vec_len out.old + length text.now + 1 }
-    ensures room { vec_capacity out.old ≤ vec_capacity out.new }
-{
-    append(out, b"\t");
-    append(out, text.as_bytes());
-}
-
-fn append_arg(out: &mut Vec<u8>, ask: Ask)
-    requires { vec_len out.old + ARG_MAX ≤ vec_capacity out.old }
-    ensures text { out.new.items ≡ out.old.items ++ arg_field ask }
-    ensures len { vec_len out.new ≤ vec_len out.old + ARG_MAX }
-    ensures room { vec_capacity out.old ≤ vec_capacity out.new }
-{
-    match ask {
-        Ask::Call {
-            t: _,
-            op: Op::Charge { r: _, dt },
-        } => append_number(out, b"", u64::from(dt)),
-        Ask::Call {
-            t: _,
-            op: Op::Timer { ticket, m: _ },
-        } => append_number(out, b"", u64::from(ticket)),
-        Ask::Call {
-            t: _,
-            op: Op::Retune { q, p },
-        } => append_reservation(out, q, p),
-        _ => {}
-    }
-}
-
-fn append_reservation(out: &mut Vec<u8>, q: u32, p: u32)
-    requires { vec_len out.old + ARG_MAX ≤ vec_capacity out.old }
-    ensures text { out.new.items ≡ out.old.items ++ (decimal q ++ codes "/" ++ decimal p) }
-    ensures len { vec_len out.new ≤ vec_len out.old + ARG_MAX }
-    ensures room { vec_capacity out.old ≤ vec_capacity out.new }
-{
-    append_number(out, b"", u64::from(q));
-    append_number(out, b"/", u64::from(p));
-}
-
-fn append_numbers(out: &mut Vec<u8>, numbers: Numbers)
-    requires { vec_len out.old + NUMBERS_MAX ≤ vec_capacity out.old }
-    ensures text { out.new.items ≡ out.old.items ++ flat_map (λ f. 9 ∷ f) (number_fields numbers) }
-    ensures len { vec_len out.new ≤ vec_len out.old + NUMBERS_MAX }
-    ensures room { vec_capacity out.old ≤ vec_capacity out.new }
-{
-    append_optional(out, numbers.dq);
-    append_optional(out, numbers.k.map(u64::from));
-    append_optional(out, numbers.q.map(u64::from));
-    append_optional(out, numbers.d.map(u64::from));
-    append_optional(out, numbers.z.map(u64::from));
-}
-
-fn append_optional(out: &mut Vec<u8>, number: Option<u64>)
-    requires { vec_len out.old + OPTIONAL_MAX ≤ vec_capacity out.old }
-    ensures text { out.new.items ≡ out.old.items ++ (9 ∷ number_field number) }
-    ensures len { vec_len out.new ≤ vec_len out.old + OPTIONAL_MAX }
-    ensures room { vec_capacity out.old ≤ vec_capacity out.new }
-{
-    match number {
-        Some(n) => append_number(out, b"\t", n),
-        None => append(out, b"\t"),
-    }
-}
-
-fn task_name(plan: &Plan, ask: Ask) -> &str
-    requires { IsAskOf (length plan.now.setup.tasks) ask }
-    ensures name { result.now ≡ task_field plan.now.names ask }
-    ensures short { length result.now ≤ 16 }
-{
-    match ask {
-        Ask::Call { t, op: _ } => plan.name(t),
-        Ask::Read => "",
-    }
-}
-
-#[tactic(auto, unfolding(grub_trace::specs::Texts::ask_text, grub_trace::specs::Texts::op_text))]
-fn ask_word(ask: Ask) -> &'static str
-    ensures word { result.now ≡ ask_word ask }
-    ensures short { length result.now ≤ 18 }
-{
-    let Ask::Call { t: _, op } = ask else {
-        return "read";
-    };
-    match op {
-        Op::Join { r: _, m: _ } => "join",
-        Op::Wake { r: _, m: _ } => "wake",
-        Op::Block { r: _, m: _ } => "block",
-        Op::Leave => "leave",
-        Op::Timer { ticket: _, m: _ } => "timer",
-        Op::Exit => "exit",
-        Op::Charge { r: _, dt: _ } => "run",
-        Op::Retune { q: _, p: _ } => "retune",
-    }
-}
-
-fn answer_word(answer: Answer) -> &'static str
-    ensures word { result.now ≡ answer_word answer }
-    ensures short { length result.now ≤ 18 }
-{
-    match answer {
-        Answer::Replied(reply) => reply_word(reply),
-        Answer::Seen(_) => "read",
-        Answer::Busy => "busy",
-        Answer::Lost => "lost",
-    }
-}
-
-#[tactic(auto, unfolding(grub_trace::specs::Texts::reply_text))]
-fn reply_word(reply: Reply) -> &'static str
-    ensures word { result.now ≡ reply_word reply }
-    ensures short { length result.now ≤ 18 }
-{
-    match reply {
-        Reply::Joined { q: _, d: _ } => "joined",
-        Reply::Woken { q: _, d: _ } => "woken",
-        Reply::Waiting { ticket: _, z: _ } => "waiting",
-        Reply::Asleep => "asleep",
-        Reply::Left { r: _ } => "left",
-        Reply::Retired => "retired",
-        Reply::Ended => "ended",
-        Reply::Charged {
-            dq: _,
-            k: _,
-            q: _,
-            d: _,
-        } => "charged",
-        Reply::Retuned => "retuned",
-        Reply::Gone => "gone",
-        Reply::NotOn => "not-on",
-        Reply::AlreadyOn(_) => "already-on",
-        Reply::Elsewhere(_) => "elsewhere",
-        Reply::AlreadyContending => "already-contending",
-        Reply::NotContending => "not-contending",
-        Reply::StillContending => "still-contending",
-        Reply::StillActive => "still-active",
-        Reply::Worn => "worn",
-        Reply::Stale => "stale",
-        Reply::Early(_) => "early",
-        Reply::Full => "full",
-        Reply::DeadlineOverflow => "deadline-overflow",
-    }
-}
-
-fn numbers_of(answer: Answer) -> Numbers
-    ensures { result ≡ answer_numbers answer }
-{
-    match answer {
-        Answer::Replied(reply) => numbers_told(reply),
-        Answer::Seen(_) | Answer::Busy | Answer::Lost => NO_NUMBERS,
-    }
-}
-
-fn numbers_told(reply: Reply) -> Numbers
-    ensures { result ≡ reply_numbers reply }
-{
-    match reply {
-        Reply::Joined { q, d } | Reply::Woken { q, d } => Numbers {
-            q: Some(q),
-            d: Some(d),
-            ..NO_NUMBERS
-        },
-        Reply::Charged { dq, k, q, d } => Numbers {
-            dq: Some(dq),
-            k: Some(k),
-            q: Some(q),
-            d: Some(d),
-            z: None,
-        },
-        Reply::Waiting { ticket: _, z } => Numbers {
-            z: Some(z),
-            ..NO_NUMBERS
-        },
-        _ => NO_NUMBERS,
     }
 }

@@ -150,6 +150,9 @@ fn lines_of<R: Threads + Sync>(rt: &R, alloc: Global, plan: &Plan) -> Result<Vec
     let Ok(playing) = Playing::new(alloc, plan) else {
         return Err(ViewFault::NoMemory);
     };
+    let Ok(mut latest) = Vec::with_capacity(alloc, playing.most()) else {
+        return Err(ViewFault::NoMemory);
+    };
     let Ok(mut buffer) = report_buffer(alloc) else {
         return Err(ViewFault::NoMemory);
     };
@@ -157,9 +160,16 @@ fn lines_of<R: Threads + Sync>(rt: &R, alloc: Global, plan: &Plan) -> Result<Vec
         return Err(ViewFault::NoMemory);
     };
     let mut text = Vec::new(alloc);
-    write_timeline(rt, &mut blocks, &mut buffer, &mut text, plan, playing).map_err(
-        |_| ViewFault::NoMemory,
-    )?;
+    write_timeline(
+        rt,
+        &mut blocks,
+        &mut buffer,
+        &mut text,
+        plan,
+        &mut latest,
+        playing,
+    )
+    .map_err(|_| ViewFault::NoMemory)?;
     write_buffer(&mut buffer, &mut text).map_err(|_| ViewFault::NoMemory)?;
     Ok(text)
 }
@@ -169,7 +179,10 @@ fn rows_of<R: Threads + Sync>(rt: &R, alloc: Global, plan: &Plan) -> Result<Vec<
     let Ok(playing) = Playing::new(alloc, plan) else {
         return Err(ViewFault::NoMemory);
     };
-    let Ok(mut steps) = Vec::with_capacity(alloc, playing.most()) else {
+    let Ok(mut latest) = Vec::with_capacity(alloc, playing.most()) else {
+        return Err(ViewFault::NoMemory);
+    };
+    let Ok(mut steps) = Vec::with_capacity(alloc, latest.capacity()) else {
         return Err(ViewFault::NoMemory);
     };
     let Ok(mut book) = Book::new(alloc, plan.setup()) else {
@@ -189,6 +202,7 @@ fn rows_of<R: Threads + Sync>(rt: &R, alloc: Global, plan: &Plan) -> Result<Vec<
         &mut text,
         plan,
         &mut book,
+        &mut latest,
         &mut steps,
         playing,
     )

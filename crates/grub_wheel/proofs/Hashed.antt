@@ -15,7 +15,7 @@ use Rattle.grub_wheel.proofs.Numbers.{no_both}
 use Rattle.grub_wheel.proofs.Links.{IsSame, first_as, behind_as, behind_to}
 use Rattle.grub_wheel.proofs.Looks.{bag_of, bag-same}
 use Rattle.grub_wheel.specs.TimerBag.{WheelState}
-use Rattle.grub_wheel.specs.inside.Used.{IsMapped}
+use Rattle.grub_wheel.specs.inside.Used.{AreMarked, IsMapped, mark_of}
 use Rattle.std.specs.FinMap as map
 use Rattle.grub_wheel.proofs.Views.{state_of, looks}
 use Rattle.grub_wheel.proofs.Apart.{Apart, same_look, look_has}
@@ -47,6 +47,9 @@ fresh_hashed ns hs e f = subst (λ (xs : List Node). IsHashed xs hs None 0 0) (s
 
 pub fresh_mapped : (us : List ℕ) (hs : List (Option ℕ)) → hs ≡ replicate 256 None → IsMapped us hs
 fresh_mapped us hs e s lt some = absurd (some (no_head hs e s lt))
+
+pub fresh_marked : (us : List ℕ) (ns : List Node) → ns ≡ [] → AreMarked us ns
+fresh_marked us ns e i a low = absurd (none_in i (subst (λ (xs : List Node). Armed xs i) e a))
 
 -- ---- a timer more, and a timer less
 
@@ -194,6 +197,9 @@ module _ (ns : List Node) (n : Node) (off : n.armed ≡ false) where
           let k = more_length in let e = h.count in
           omega arith
 
+  more_marked : (us : List ℕ) → AreMarked us ns → AreMarked us More
+  more_marked us marked i a low = let p = armed_was i a in let t = task_is i p in ap (mark_of us) t ∙ marked i p (subst (λ k. k < 256) t low)
+
   more_bag : Apart ns → bag_of (timers_of More) ≡ bag_of (timers_of ns)
   more_bag apart = bag-same (timers_of ns) (timers_of More) (λ q. same_look ns More q apart
       (λ j a t. (armed_is j a, task_is j a ∙ t))
@@ -207,6 +213,9 @@ pub free_more : (ns ms : List Node) (hs : List (Option ℕ)) (free : Option ℕ)
 free_more ns ms hs free spare place from h e p =
     let m = more_hashed ns (free_before free) refl hs free spare from h refl in
     subst (λ (k : ℕ). IsHashed ms hs (Some k) (spare + 1) from) (sym p) (subst (λ (xs : List Node). IsHashed xs hs (Some (length ns)) (spare + 1) from) (sym e) m)
+
+pub marked_more : (us : List ℕ) (ns ms : List Node) (free : Option ℕ) → AreMarked us ns → ms ≡ ns ++ free_before free ∷ [] → AreMarked us ms
+marked_more us ns ms free marked e = subst (AreMarked us) (sym e) (more_marked ns (free_before free) refl us marked)
 
 pub bag-free_more : (ns ms : List Node) (free : Option ℕ) → Apart ns → ms ≡ ns ++ free_before free ∷ [] → bag_of (timers_of ms) ≡ bag_of (timers_of ns)
 bag-free_more ns ms free apart e = ap (λ (xs : List Node). bag_of (timers_of xs)) e ∙ more_bag ns (free_before free) refl apart

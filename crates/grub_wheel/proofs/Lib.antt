@@ -10,5 +10,6 @@ pub mod Marks
 pub mod Scans
 pub mod FreePlaces
 pub mod Hashed
+pub mod Marked
 pub mod Bags
 pub mod Dues

@@ -4,12 +4,14 @@ ghost use Rattle.std.specs.Bool.{OnTrue, OnFalse};
 ghost use Rattle.std.specs.FinMap as map;
 ghost use Rattle.grub_wheel.specs.TimerBag.{IsArmed, IsArmedWith, IsLeast, AreLater, fresh, after_arming, after_taking};
 ghost use Rattle.grub_wheel.specs.inside.Nodes.{Armed, tasks, free_node};
+ghost use Rattle.grub_wheel.specs.inside.Used.{AreMarked};
 
 use crate::chains::{SLOTS, put, take};
 use crate::fault::WheelFault;
 use crate::node::Node;
 use crate::scan::{bound_after, earliest};
 use crate::timer::Timer;
+use crate::used::{may_be_armed, note_armed, note_taken};
 use std::alloc::Global;
 use std::marker::Model;
 
@@ -24,6 +26,9 @@ pub struct Wheel {
 
     /// A bit for each slot that is not empty.
     used: [u64; 4],
+
+    /// A bit for each task below 256 whose timer is armed.
+    tasks: [u64; 4],
     free: Option<usize>,
     spare: usize,
 
@@ -42,11 +47,11 @@ impl Model for Wheel {
 
     ghost use Rattle.grub_wheel.specs.inside.Order.{entries_of};
     ghost use Rattle.grub_wheel.specs.inside.Nodes.{timers_of, IsHashed};
-    ghost use Rattle.grub_wheel.specs.inside.Used.{IsMapped};
+    ghost use Rattle.grub_wheel.specs.inside.Used.{AreMarked, IsMapped};
 
     ghost view = { λ w. record { timers = map.from_entries (entries_of (timers_of w.nodes.items)); spare = w.spare; last = w.last } };
 
-    ghost invariant = { λ w. record { hashed : IsHashed w.nodes.items w.heads.items w.free w.spare w.from; mapped : IsMapped w.used w.heads.items } };
+    ghost invariant = { λ w. record { hashed : IsHashed w.nodes.items w.heads.items w.free w.spare w.from; mapped : IsMapped w.used w.heads.items; marked : AreMarked w.tasks w.nodes.items } };
 }
 
 impl Wheel {
@@ -61,6 +66,7 @@ impl Wheel {
             nodes: Vec::new(alloc),
             heads,
             used: [0; 4],
+            tasks: [0; 4],
             free: None,
             spare: 0,
             from: 0,
@@ -121,7 +127,7 @@ impl Wheel {
         ensures task { IfSome result (λ x. x.t ≡ t) }
         ensures none { IfNone result (map.get self.now.timers t ≡ None) }
     {
-        let i = index_of(&self.nodes, t)?;
+        let i = place_of(&self.nodes, &self.tasks, t)?;
         Some(self.nodes[i].timer)
     }
 
@@ -144,6 +150,7 @@ impl Wheel {
             i,
             Timer { z, t, ticket },
         );
+        note_armed(&mut self.tasks, t);
         self.free = free;
         self.spare -= 1;
         self.from = self.from.min(u64::from(z));
@@ -155,7 +162,7 @@ impl Wheel {
         ensures taken { OnTrue result (self.new ≡ after_taking self.old t) }
         ensures kept { OnFalse result (self.new ≡ self.old) }
     {
-        match index_of(&self.nodes, t) {
+        match place_of(&self.nodes, &self.tasks, t) {
             Some(i) if self.nodes[i].timer.ticket == ticket => {
                 take(
                     &mut self.nodes,
@@ -164,6 +171,7 @@ impl Wheel {
                     i,
                     self.free,
                 );
+                note_taken(&mut self.tasks, t);
                 self.free = Some(i);
                 self.spare += 1;
                 true
@@ -199,6 +207,7 @@ impl Wheel {
             first,
             self.free,
         );
+        note_taken(&mut self.tasks, timer.t);
         self.free = Some(first);
         self.spare += 1;
         self.from = u64::from(timer.z);
@@ -221,7 +230,21 @@ fn free_node(next: Option<usize>) -> Node
     }
 }
 
-/// The place of a task's timer.
+/// The place of a task's timer. All places are looked at only where the map does not say that it has none.
+fn place_of(nodes: &[Node], marks: &[u64; 4], t: u32) -> Option<usize>
+    requires { AreMarked marks.now nodes.now }
+    ensures within { IfSome result (λ i. i < length nodes.now) }
+    ensures armed { IfSome result (Armed nodes.now) }
+    ensures task { IfSome result (λ i. tasks nodes.now i ≡ t) }
+    ensures none { IfNone result ((j : ℕ) → Armed nodes.now j → tasks nodes.now j ≢ t) }
+{
+    if !may_be_armed(marks, t) {
+        return None;
+    }
+    index_of(nodes, t)
+}
+
+/// The place of a task's timer, by the places.
 fn index_of(nodes: &[Node], t: u32) -> Option<usize>
     ensures within { IfSome result (λ i. i < length nodes.now) }
     ensures armed { IfSome result (Armed nodes.now) }
@@ -229,7 +252,7 @@ fn index_of(nodes: &[Node], t: u32) -> Option<usize>
     ensures none { IfNone result ((j : ℕ) → Armed nodes.now j → tasks nodes.now j ≢ t) }
 {
     for (i, node) in nodes.iter().enumerate() {
-        if node.armed && node.timer.t == t {
+        if node.timer.t == t && node.armed {
             return Some(i);
         }
     }

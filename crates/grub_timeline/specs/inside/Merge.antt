@@ -1,10 +1,12 @@
 -- The lines that come first in what is left of each file.
-use Rattle.std.specs.Prelude.{◌≡◌, ℕ, ◌+◌, ◌<◌, ◌≤◌, nat_lt, Option, Some, None, if◌then◌else◌, List, [], length, slice_get, slice_index_or, take, vec_capacity}
+use Rattle.std.specs.Prelude.{◌≡◌, ◌≢◌, ℕ, ◌+◌, ◌<◌, ◌≤◌, ◌⊎◌, min, nat_lt, Option, Some, None, if◌then◌else◌, List, [], length, slice_get, slice_index_or, take, vec_capacity}
 use Rattle.std.specs.List.{AllByRecursion}
+use Rattle.std.specs.Option.{IsSomeAnd}
 use Rattle.std.specs.Global.{Vec}
 use Rattle.grub_book.specs.declared.event.Reading.{Reading}
 use Rattle.grub_trace.specs.Limits.{PlanFits}
 use Rattle.grub_trace.specs.declared.line.Line.{Line}
+use Rattle.grub_timeline.specs.declared.order.Lead.{Lead}
 use Rattle.grub_timeline.specs.declared.order.Placed.{Placed}
 use Rattle.grub_trace.specs.Plans.{PlanView}
 use Rattle.grub_timeline.specs.declared.player.Player.{Player}
@@ -28,16 +30,43 @@ pub record IsFirst (scripts : List (List Line)) (done : List ℕ) (p : Placed) :
   pub head : head_at scripts done p.r ≡ Some p.line
   pub least : (r : ℕ) (line : Line) → head_at scripts done r ≡ Some line → IsNotLater p (placed r line)
 
--- the best of the files below n
-abbrev pub IsSoonest : List (List Line) → List ℕ → ℕ → Option Placed → Type 0
-IsSoonest scripts done n None = (r : ℕ) → r < n → head_at scripts done r ≡ None
-IsSoonest scripts done n (Some p) = (p.r < n) × (head_at scripts done p.r ≡ Some p.line) × ((r : ℕ) (line : Line) → r < n → head_at scripts done r ≡ Some line → IsNotLater p (placed r line))
+-- a line of file r at moment m comes behind all lines before `until` of the file that leads
+abbrev pub IsBehind : Lead → ℕ → ℕ → Type 0
+IsBehind lead r m = (lead.until ≤ m) ⊎ ((lead.until ≤ m + 1) × (lead.r < r))
 
--- the best line, and that of the file after it
-abbrev pub sooner_of : Option Placed → ℕ → Option Line → Option Placed
-sooner_of best r None = best
-sooner_of None r (Some line) = Some (placed r line)
-sooner_of (Some p) r (Some line) = if nat_lt line.m p.line.m then Some (placed r line) else Some p
+-- so do the lines that are left of all other files
+abbrev pub IsAhead : List (List Line) → List ℕ → Lead → Type 0
+IsAhead scripts done lead = (r : ℕ) (line : Line) → r ≢ lead.r → head_at scripts done r ≡ Some line → IsBehind lead r line.m
+
+-- and the file that leads has such a line left
+abbrev pub IsNext : List (List Line) → List ℕ → Lead → Type 0
+IsNext scripts done lead = IsSomeAnd (head_at scripts done lead.r) (λ line. line.m < lead.until)
+
+-- the file leads those below n
+pub record IsLeading (scripts : List (List Line)) (done : List ℕ) (n : ℕ) (lead : Lead) : Type 0 where
+  pub within : lead.r < n
+  pub line : Line
+  pub head : head_at scripts done lead.r ≡ Some line
+  pub moment : line.m ≡ lead.m
+  pub others : (r : ℕ) → r < n → (line : Line) → r ≢ lead.r → head_at scripts done r ≡ Some line → IsBehind lead r line.m
+
+-- the file that leads those below n, where one of them has a line left
+abbrev pub IsLeader : List (List Line) → List ℕ → ℕ → Option Lead → Type 0
+IsLeader scripts done n None = (r : ℕ) → r < n → head_at scripts done r ≡ None
+IsLeader scripts done n (Some lead) = IsLeading scripts done n lead
+
+-- its first line is one of those that come next
+abbrev pub IsBefore : Lead → Type 0
+IsBefore lead = lead.m < lead.until
+
+-- the file that led those before r, or r, by its first line that is not done
+abbrev pub leader_of : Option Lead → ℕ → Option Line → Option Lead
+leader_of lead r None = lead
+leader_of None r (Some line) = Some (record { r = r; m = line.m; until = 18446744073709551615 })
+leader_of (Some lead) r (Some line) =
+    if nat_lt line.m lead.m
+    then Some (record { r = r; m = line.m; until = lead.m })
+    else Some (record lead { until = min lead.until (line.m + 1) })
 
 -- nothing is done of any file
 pub record AreNone (files : ℕ) (done : List ℕ) : Type 0 where

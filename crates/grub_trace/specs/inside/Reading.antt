@@ -8,7 +8,7 @@ use Rattle.std.specs.HashMap.{get_by_text}
 use Rattle.grub_bw.specs.Bandwidth.{Capacity}
 use Rattle.grub_trace.specs.declared.version.Version.{Version}
 use Rattle.grub_trace.specs.declared.fault.Kind.{Kind}
-use Rattle.grub_trace.specs.declared.fault.Kind.TheVariants.{BadLine, MomentGoesBack, BadNumber, OutOfRange, CutShort, MissingQueue, BadHeader, UnknownTask}
+use Rattle.grub_trace.specs.declared.fault.Kind.TheVariants.{BadLine, BadNumber, OutOfRange, CutShort, MissingQueue, BadHeader, UnknownTask}
 use Rattle.grub_trace.specs.declared.fault.TraceFault.{TraceFault}
 use Rattle.grub_trace.specs.declared.fault.TraceFault.TheVariants as fault
 use Rattle.grub_trace.specs.declared.line.Line.{Line}
@@ -20,14 +20,11 @@ use Rattle.grub_trace.specs.declared.tasks.Task.{Task}
 use Rattle.grub_trace.specs.declared.tasks.Tasks.{Tasks}
 use Rattle.grub_trace.specs.declared.form.Deed as raw
 use Rattle.grub_trace.specs.declared.form.Deed.TheVariants as deed
-use Rattle.grub_trace.specs.declared.raw.RawScript.{RawScript}
-use Rattle.grub_trace.specs.declared.raw.RawFile.{RawFile}
 use Rattle.grub_trace.specs.Forms.{parts_of, version_of, Form, queue, task, at_moment, words_of, form_of, is_filled, is_number, value, reservation_value, capacity_value}
-use Rattle.grub_trace.specs.inside.Pending.{happenings_of, ArePlaced}
 use Rattle.grub_trace.specs.Plans.{PlanView}
 use Rattle.grub_trace.specs.Naming.{line_in, plan_with, task_of}
 use Rattle.grub_trace.specs.Tree.{is_moment, is_span, Declaration, Deed, does, runs, retunes, reads, Happening, names_of}
-use Rattle.grub_trace.specs.Faults.{queue_fault, form_fault, last_of, reservation_fits}
+use Rattle.grub_trace.specs.Faults.{queue_fault, form_fault, reservation_fits}
 use Rattle.grub_trace.specs.declared.form.Form as coded
 use Rattle.grub_trace.specs.declared.form.Form.TheVariants as code
 use Rattle.grub_trace.specs.declared.word_list.WordList.{WordList}
@@ -119,17 +116,6 @@ pub record IsIndexed (t : Tasks) : Type 0 where
   pub few : length (declarations t) ≤ 256
   pub found : (q : List ℕ) → get_by_text t.index q ≡ task_of (names_of (declarations t)) q
 
--- what a script says, where these tasks are declared
-abbrev pub said : Tasks → RawScript → List Happening
-said t s = happenings_of (names_of (declarations t)) (map (λ n. n.now) s.pending.items) s.lines.items
-
--- each of its lines has its task's number or a pending name
-abbrev pub IsSaid : Tasks → RawScript → Type 0
-IsSaid t s = ArePlaced (names_of (declarations t)) (map (λ n. n.now) s.pending.items) s.lines.items
-
-abbrev pub read_view : Version → Tasks → RawScript → Read
-read_view version t s = record { version = version; declared = declarations t; happenings = said t s }
-
 -- what a step returned, and what it left, are what reading gives, unless memory ran out
 abbrev pub Stops : {X : Type 0} → Stop → Result X Kind → Type 0
 Stops stop.Memory r = Unit {0}
@@ -139,42 +125,30 @@ abbrev pub Takes : {U X : Type 0} → Result U Stop → X → Result X Kind → 
 Takes (Ok u) new r = r ≡ Ok new
 Takes (Err e) new r = Stops e r
 
--- what became of the happenings, where the next one is within its limits
-abbrev pub Says : {U : Type 0} → Result U Stop → List Happening → List Happening → ℕ → Deed ℕ → Type 0
-Says (Ok u) old new at deed = (last_of (times_of old) ≤ at) × (new ≡ old ++ record { at = at; deed = deed } ∷ [])
-Says (Err e) old new at deed = Stops e (if nat_lt at (last_of (times_of old)) then Err MomentGoesBack else Ok old)
-
 -- what became of the declarations, where a task line stands before the first moment
 abbrev pub Declares : {U : Type 0} → Result U Stop → List Declaration → List Declaration → List ℕ → List ℕ → List ℕ → Type 0
 Declares r old new n q p = (version : Version) → Takes r (opened version new) (take_form (opened version old) (task n q p))
 
--- what became of the happenings of a file, whatever was declared
-abbrev pub TakesDeed : {U : Type 0} → Result U Stop → Version → List Happening → List Happening → List ℕ → Deed (List ℕ) → Type 0
-TakesDeed r version old new at deed = (ds : List Declaration) → Takes r (record { version = version; declared = ds; happenings = new }) (take_form (record { version = version; declared = ds; happenings = old }) (at_moment at deed))
-
 abbrev pub moment_fault : List ℕ → Option Kind
 moment_fault w = if not (is_number w) then Some BadNumber else (if is_moment (value w) then None else Some OutOfRange)
 
-abbrev pub IsMoment : Result ℕ Stop → List ℕ → Type 0
+abbrev pub IsMoment : Result ℕ Kind → List ℕ → Type 0
 IsMoment (Ok at) w = (is_number w ≡ true) × (value w ≡ at) × (at ≤ 2147483647)
-IsMoment (Err stop.Memory) w = ⊥
-IsMoment (Err (stop.Fault k)) w = moment_fault w ≡ Some k
+IsMoment (Err k) w = moment_fault w ≡ Some k
 
 -- what is wrong with a number that is to be this, and within that limit
 abbrev pub two_fault : Bool → Bool → Option Kind
 two_fault spelled within = if not spelled then Some BadNumber else (if within then None else Some OutOfRange)
 
 -- the moment and the length of a run
-abbrev pub IsRun : Result (ℕ × ℕ) Stop → List ℕ → List ℕ → Type 0
+abbrev pub IsRun : Result (ℕ × ℕ) Kind → List ℕ → List ℕ → Type 0
 IsRun (Ok x) m d = (is_number m ≡ true) × (is_number d ≡ true) × (value m ≡ x.0) × (value d ≡ x.1) × (x.0 ≤ 2147483647) × (1 ≤ x.1) × (x.1 ≤ 16777216)
-IsRun (Err stop.Memory) m d = ⊥
-IsRun (Err (stop.Fault k)) m d = two_fault (is_number m && is_number d) (is_moment (value m) && is_span (value d)) ≡ Some k
+IsRun (Err k) m d = two_fault (is_number m && is_number d) (is_moment (value m) && is_span (value d)) ≡ Some k
 
 -- the moment and the new reservation of a retune
-abbrev pub IsRetune : Result (ℕ × ℕ × ℕ) Stop → List ℕ → List ℕ → List ℕ → Type 0
+abbrev pub IsRetune : Result (ℕ × ℕ × ℕ) Kind → List ℕ → List ℕ → List ℕ → Type 0
 IsRetune (Ok x) m q p = (is_number m ≡ true) × (is_number q ≡ true) × (is_number p ≡ true) × (value m ≡ x.0) × (value q ≡ x.1) × (value p ≡ x.2) × (x.0 ≤ 2147483647) × (reservation_fits (reservation_value q p) ≡ true)
-IsRetune (Err stop.Memory) m q p = ⊥
-IsRetune (Err (stop.Fault k)) m q p = two_fault (is_number m && is_number q && is_number p) (is_moment (value m) && reservation_fits (reservation_value q p)) ≡ Some k
+IsRetune (Err k) m q p = two_fault (is_number m && is_number q && is_number p) (is_moment (value m) && reservation_fits (reservation_value q p)) ≡ Some k
 
 -- ---- a file
 
@@ -249,9 +223,6 @@ GivesOpening r total = (k : Kind) (n : ℕ) → n ≤ 2 → total ≡ Err (k, n)
 abbrev pub GivesQueue : Result Capacity Kind → List ℕ → Type 0
 GivesQueue r line = r ≡ read_queue line
 
-abbrev pub file_view : Tasks → RawFile → FileRead
-file_view t f = record { queue = f.queue; first = f.first; declared = declarations t; happenings = said t f.script }
-
 -- ---- all files
 
 -- what was read of a file, without its declarations
@@ -278,12 +249,6 @@ with_file all r = record { declared = r.declared; files = all.files ++ body_of r
 unfoldable pub read_from : AllRead → ℕ → List (List ℕ) → Result AllRead (Kind × ℕ × ℕ)
 read_from all f [] = Ok all
 read_from all f (bytes ∷ more) = in_file f (read_file all.declared bytes) >>= λ r. read_from (with_file all r) (f + 1) more
-
-abbrev pub body_view : Tasks → RawFile → Body
-body_view t f = record { queue = f.queue; first = f.first; happenings = said t f.script }
-
-abbrev pub all_view : Tasks → List RawFile → AllRead
-all_view t fs = record { declared = declarations t; files = map (body_view t) fs }
 
 abbrev pub Faults : {X : Type 0} → TraceFault → Result X (Kind × ℕ × ℕ) → Type 0
 Faults fault.NoMemory r = Unit {0}
@@ -315,14 +280,6 @@ unknown_in f (Err n) = Err (UnknownTask, f, n)
 unfoldable pub scripts_from : List (List ℕ) → List (List Line) → ℕ → List Body → Result (List (List Line)) (Kind × ℕ × ℕ)
 scripts_from names done f [] = Ok done
 scripts_from names done f (b ∷ more) = unknown_in f (script_from names [] b.first b.happenings) >>= λ s. scripts_from names (done ++ s ∷ []) (f + 1) more
-
-abbrev pub ScriptHalts : {X : Type 0} → Halt → Result X ℕ → Type 0
-ScriptHalts halt.Memory r = Unit {0}
-ScriptHalts (halt.At k n) r = (k ≡ UnknownTask) × (r ≡ Err n)
-
-abbrev pub ScriptIs : {U : Type 0} → Result U Halt → (U → List Line) → Result (List Line) ℕ → Type 0
-ScriptIs (Ok u) view r = r ≡ Ok (view u)
-ScriptIs (Err h) view r = ScriptHalts h r
 
 abbrev pub plan_of_read : AllRead → Result PlanView (Kind × ℕ × ℕ)
 plan_of_read all = do

@@ -1,34 +1,54 @@
-use Rattle.std.proofs.Common.{◌≡◌, ◌<◌, ◌++◌, ◌∙◌, List, ℕ, length, ap, sym, subst}
+use Rattle.std.proofs.Common.{◌≡◌, ◌++◌, ◌∙◌, ap, sym, subst, rules}
 use Rattle.std.specs.List.{flat_map}
 use Rattle.std.proofs.lemmas.Grind.{flat_map-append}
-use Rattle.std.proofs.lemmas.List.Elements.{All-weaker}
 use Rattle.grub_trace.specs.Plans.{PlanView}
-use Rattle.grub_trace.specs.Texts.{IsAskOf}
-use Rattle.grub_trace.specs.Writing.{HandsPart}
-use Rattle.grub_trace.proofs.Handing.{part_after, part_longer}
+use Rattle.grub_trace.specs.Writing.{HandsOn, HandsPart}
+use Rattle.grub_trace.proofs.Handing.{hands_both}
 use Rattle.grub_timeline.specs.TimeLines.{AreWithin}
-use Rattle.grub_timeline.specs.declared.told.Told.{Told}
 use Rattle.grub_views.specs.Lines.{told_line}
+use Rattle.grub_views.proofs.Chunking.{told_out}
+use Rattle.grub_views.proofs.Handing.{hands_same, part_piece}
 use Rattle.grub_views.proofs.lines.write_played.Goals as goal
-
-pub write_lines-requires-clause-fits : goal.write_lines-requires-clause-fits
-write_lines-requires-clause-fits g c = λ κs lives.
-    let plan = c.args.plan.now in let chunk = c.play_on.new.self.chunk in
-    let is = c.play_on.ensures.plan ∙ c.loop-lines.invariant.plan in
-    let within : AreWithin plan.setup chunk = subst (λ (p : PlanView). AreWithin p.setup chunk) is c.play_on.ensures.within in
-    rw c.chunk.ensures (All-weaker (λ (x : Told). (x.r < length plan.setup.queues) × IsAskOf (length plan.setup.tasks) x.entry.ask)
-    (λ (x : Told). IsAskOf (length plan.setup.tasks) x.entry.ask) (λ x h. h.1) chunk within)
 
 -- a part of the lines of the latest entries, which the rest of the time line follows
 pub returns-in-Err-clause-part : goal.returns-in-Err-clause-part
 returns-in-Err-clause-part g c =
-    let line = told_line c.args.plan.now.names in let more = c.play_out.ensures.told.0 in
+    let line = told_line c.args.plan.now.names in let inv = c.loop-more.invariant in let p = c.play_beside-goes_on in
     let a = g.W.Write.contents c.args.out.now in
-    let b = g.W.Write.contents c.loop-lines.out in
-    let d = g.W.Write.contents c.write_lines.new.out in
-    let was = c.loop-lines.playing.told in let chunk = c.play_on.new.self.chunk in let then = c.play_on.new.self.told in
-    let part : HandsPart b d c.loop-lines.buffer.items (flat_map line chunk) = subst (λ (xs : List Told). HandsPart b d c.loop-lines.buffer.items (flat_map line xs)) c.chunk.ensures c.in-Err.ensures.part in
-    let texts : flat_map line then ≡ flat_map line was ++ flat_map line chunk = ap (λ (xs : List Told). flat_map line xs) c.play_on.ensures.told ∙ flat_map-append line was chunk in
-    let all = ap (λ (xs : List Told). flat_map line xs) c.play_out.ensures.told.1 ∙ flat_map-append line then more ∙ ap (λ (l : List ℕ). l ++ flat_map line more) texts in
-    subst (λ (t : List ℕ). HandsPart a d c.args.buffer.now.items t) (sym all)
-    (part_longer a d c.args.buffer.now.items (flat_map line was ++ flat_map line chunk) (flat_map line more) (part_after a b d c.args.buffer.now.items (flat_map line was) c.loop-lines.buffer.items (flat_map line chunk) c.loop-lines.invariant.so_far part))
+    let b = g.W.Write.contents c.loop-more.out in
+    let d = g.W.Write.contents p.new.work.3.now in
+    let latest = c.loop-more.playing.chunk in let rest = p.new.playing.chunk ++ c.play_out.ensures.told.0 in
+    let is : c.as_slice-told.result.now ≡ latest = search rules in
+    let was : p.new.playing.told ≡ (inv.before ++ latest) ++ p.new.playing.chunk = rw (c.exchange.ensures.told, inv.told) at p.ensures.told in
+    let all : c.play_out.new.playing.told ≡ inv.before ++ (latest ++ rest) = told_out inv.before latest p.new.playing.chunk c.play_out.ensures.told.0 p.new.playing.told c.play_out.new.playing.told was c.play_out.ensures.told.1 in
+    let part : HandsPart b d c.loop-more.buffer.items (flat_map line latest) = rw (c.in-Err.is, is) at p.ensures.work.met.1.1.0 in
+    let whole : flat_map line inv.before ++ flat_map line (latest ++ rest) ≡ flat_map line c.play_out.new.playing.told = sym (ap (flat_map line) all ∙ flat_map-append line inv.before (latest ++ rest)) in
+    subst (λ w. HandsPart a (g.W.Write.contents w) c.args.buffer.now.items (flat_map line c.play_out.new.playing.told)) (sym (search rules))
+    (part_piece a b d c.args.buffer.now.items (flat_map line inv.before) c.loop-more.buffer.items (flat_map line latest) (flat_map line rest) (flat_map line (latest ++ rest)) (flat_map line c.play_out.new.playing.told)
+    inv.so_far part whole (flat_map-append line latest rest))
+
+pub loop-more-preserved : goal.loop-more-preserved
+loop-more-preserved g c =
+    let line = told_line c.args.plan.now.names in let inv = c.loop-more.invariant in let p = c.play_beside-goes_on in
+    let a = g.W.Write.contents c.args.out.now in
+    let b = g.W.Write.contents c.loop-more.out in
+    let d = g.W.Write.contents p.new.work.3.now in
+    let latest = c.loop-more.playing.chunk in
+    let slice : c.as_slice-told.result.now ≡ latest = search rules in
+    let was : p.new.playing.told ≡ (inv.before ++ latest) ++ p.new.playing.chunk = rw (c.exchange.ensures.told, inv.told) at p.ensures.told in
+    let is : p.new.playing.plan ≡ c.args.plan.now = p.ensures.plan ∙ c.exchange.ensures.plan ∙ inv.plan in
+    let within : AreWithin c.args.plan.now.setup p.new.playing.chunk = subst (λ (v : PlanView). AreWithin v.setup p.new.playing.chunk) is p.ensures.within in
+    let more : HandsOn b d c.loop-more.buffer.items (flat_map line latest) p.new.work.2.now.items = rw (c.in_default.is, slice) at p.ensures.work.met.1.0 in
+    let done : HandsOn a d c.args.buffer.now.items (flat_map line (inv.before ++ latest)) p.new.work.2.now.items =
+    rw (flat_map-append line inv.before latest) (hands_both a b d c.args.buffer.now.items (flat_map line inv.before) c.loop-more.buffer.items (flat_map line latest) p.new.work.2.now.items inv.so_far more) in
+    record {
+      plan = is;
+      latest = search rules;
+      room = search rules;
+      over = p.ensures.over;
+      none = p.ensures.none;
+      within = within;
+      before = inv.before ++ latest;
+      told = was;
+      so_far = hands_same a _ d c.args.buffer.now.items (flat_map line (inv.before ++ latest)) _ p.new.work.2.now.items (search rules) (search rules) done;
+    }

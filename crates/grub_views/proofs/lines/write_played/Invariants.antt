@@ -1,17 +1,26 @@
-use Rattle.std.proofs.Common.{◌≡◌, ◌≤◌, vec_capacity}
+use Rattle.std.proofs.Common.{◌≡◌, ◌+◌, ◌≤◌, ◌++◌, [], List, if◌then◌else◌, length, vec_capacity}
+use Rattle.std.specs.Bool.{OnFalse}
 use Rattle.std.specs.List.{flat_map}
+use Rattle.grub_timeline.specs.TimeLines.{AreWithin}
+use Rattle.grub_timeline.specs.declared.told.Told.{Told}
 use Rattle.grub_trace.specs.declared.pieces.TheConstants.{LINE_MAX}
 use Rattle.grub_trace.specs.Writing.{HandsOn}
 use Rattle.grub_views.specs.Lines.{told_line}
 use Rattle.grub_views.proofs.lines.write_played.Given as goal
 
--- the lines of the entries so far
-abbrev pub invariant-loop-lines : goal.invariant-loop-lines
-invariant-loop-lines g l = record {
+-- the lines of the entries before the latest
+abbrev pub invariant-loop-more : goal.invariant-loop-more
+invariant-loop-more g l = record {
   plan : l.playing.plan ≡ l.plan;
+  latest : length l.plan.setup.tasks + 3 ≤ vec_capacity l.latest;
   room : LINE_MAX ≤ vec_capacity l.buffer;
-  so_far : HandsOn (g.W.Write.contents l.initial.out) (g.W.Write.contents l.out) l.initial.buffer.items (flat_map (told_line l.plan.names) l.playing.told) l.buffer.items;
+  over : OnFalse l.more (l.playing.left ≡ 0);
+  none : OnFalse l.more (l.playing.chunk ≡ []);
+  within : AreWithin l.plan.setup l.playing.chunk;
+  before : List Told;
+  told : l.playing.told ≡ before ++ l.playing.chunk;
+  so_far : HandsOn (g.W.Write.contents l.initial.out) (g.W.Write.contents l.out) l.initial.buffer.items (flat_map (told_line l.plan.names) before) l.buffer.items;
 }
 
-abbrev pub decreases-loop-lines : goal.decreases-loop-lines
-decreases-loop-lines g l = l.playing.left
+abbrev pub decreases-loop-more : goal.decreases-loop-more
+decreases-loop-more g l = if l.more then l.playing.left + 1 else l.playing.left

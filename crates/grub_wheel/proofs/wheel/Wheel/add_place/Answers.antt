@@ -1,7 +1,7 @@
 use Rattle.std.proofs.Common.{◌≡◌, ◌∙◌, ◌+◌, ap, List, [], ◌∷◌, ◌++◌, length, arith}
 use Rattle.grub_wheel.specs.TimerBag.{TimerBag, WheelState}
 use Rattle.grub_wheel.specs.declared.node.Node.{Node}
-use Rattle.grub_wheel.proofs.Hashed.{free_more, bag-free_more}
+use Rattle.grub_wheel.proofs.Hashed.{free_more, bag-free_more, marked_more}
 use Rattle.grub_wheel.proofs.wheel.Wheel.add_place.Goals as goal
 
 pub invariant_of-self-2 : goal.invariant_of-self-2
@@ -12,6 +12,7 @@ invariant_of-self-2 c =
     record {
       hashed = free_more ns _ _ c.self.inside.free c.self.inside.spare _ _ c.self.invariant.hashed (c.push_reserved.ensures.items ∙ grown) place;
       mapped = c.self.invariant.mapped;
+      marked = marked_more _ ns _ c.self.inside.free c.self.invariant.marked (c.push_reserved.ensures.items ∙ grown);
     }
 
 pub returns-clause-place : goal.returns-clause-place

@@ -6,6 +6,7 @@ use Rattle.grub_wheel.proofs.NodeReads.{node_read, lent_back}
 use Rattle.grub_wheel.proofs.Apart.{bag_put}
 use Rattle.grub_wheel.proofs.FreePlaces.{free_head, some_free}
 use Rattle.grub_wheel.proofs.Hashed.{put_hashed, hashed_as, mapped_as, no_task}
+use Rattle.grub_wheel.proofs.Marked.{marked_as, put_marked}
 use Rattle.grub_wheel.proofs.Views.{state_of, arming_state}
 use Rattle.grub_wheel.proofs.wheel.Wheel.arm.Goals as goal
 
@@ -58,6 +59,10 @@ invariant_of-self c =
           (sym (ap (λ (y : Node). y.next) n))
           (put_hashed ns ms c.self.inside.heads.items gs c.self.inside.free i c.self.inside.spare c.self.inside.from _ x h c.in-Some.is c.put.ensures.sound c.put.ensures.here others (omega arith) (omega arith));
       mapped = mapped_as c.put.new.used gs _ heads c.put.ensures.mapped;
+      marked =
+          marked_as c.note_armed.new.tasks ms _
+          (lent_back c.self.inside.nodes.len ms ns (omega (arith, size, c.self.inside.nodes.ok.0)))
+          (put_marked c.self.inside.tasks c.note_armed.new.tasks ns ms i x c.self.invariant.marked others c.put.ensures.here (no_task ns ns _ _ _ c.args.t c.self.view_is refl c.requires.free) c.note_armed.ensures.here c.note_armed.ensures.others);
     }
 
 pub returns : goal.returns

@@ -24,3 +24,6 @@ returns-in_err-i-clause-none c =
     let e = c.deref.ensures.value in
     let n = rw e at c.in_err-i.ensures.none in
     rw c.from_residual.ensures (looks (timers_of ns) _ _ _ c.args.t c.self.view_is ∙ look_not ns c.args.t n)
+
+pub place_of-requires : goal.place_of-requires
+place_of-requires c = rw c.deref.ensures.value c.self.invariant.marked

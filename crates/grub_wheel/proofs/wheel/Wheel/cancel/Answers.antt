@@ -5,6 +5,7 @@ use Rattle.grub_wheel.proofs.Bags.{has_ticket, other_ticket, no_ticket}
 use Rattle.grub_wheel.proofs.NodeReads.{node_read, lent_back}
 use Rattle.grub_wheel.proofs.Apart.{look_is, look_not, bag_take}
 use Rattle.grub_wheel.proofs.Hashed.{take_hashed, hashed_as, mapped_as}
+use Rattle.grub_wheel.proofs.Marked.{marked_as, take_marked}
 use Rattle.grub_wheel.proofs.Views.{state_of, looks, cancelling_state}
 use Rattle.grub_wheel.proofs.wheel.Wheel.cancel.Goals as goal
 
@@ -17,6 +18,7 @@ invariant_of-self c =
     let h = c.self.invariant.hashed in
     let e = c.deref.ensures.value in
     let a : Armed ns i = rw e at c.in-Some.ensures.armed in
+    let t : tasks ns i ≡ c.args.t = rw e at c.in-Some.ensures.task in
     let w : i < length ns = rw e at c.in-Some.ensures.within in
     let others : AreOthersKept ns ms i = subst (λ (d : List Node). AreOthersKept d ms i) c.deref_mut.ensures.value c.take.ensures.others in
     let size = others.size in
@@ -30,6 +32,10 @@ invariant_of-self c =
           refl
           (take_hashed ns ms c.self.inside.heads.items gs c.self.inside.free i c.self.inside.spare c.self.inside.from h w a c.take.ensures.sound c.take.ensures.here others);
       mapped = mapped_as c.take.new.used gs _ heads c.take.ensures.mapped;
+      marked =
+          marked_as c.note_taken.new.tasks ms _
+          (lent_back c.self.inside.nodes.len ms ns (omega (arith, size, c.self.inside.nodes.ok.0)))
+          (take_marked c.self.inside.tasks c.note_taken.new.tasks ns ms i c.args.t c.self.invariant.marked others c.take.ensures.here.armed h.sound.apart a t c.note_taken.ensures);
     }
 
 pub returns-in-Some-clause-answer : goal.returns-in-Some-clause-answer
@@ -76,3 +82,6 @@ returns-in_default-2-clause-answer c =
     let e = c.deref.ensures.value in
     let n = rw e at c.in_default.ensures.none in
     (λ f. absurd cc, λ h. absurd (no_ticket _ c.args.ticket (looks (timers_of ns) _ _ _ c.args.t c.self.view_is ∙ look_not ns c.args.t n) h))
+
+pub place_of-requires : goal.place_of-requires
+place_of-requires c = rw c.deref.ensures.value c.self.invariant.marked

@@ -5,6 +5,7 @@ use Rattle.grub_wheel.proofs.NodeReads.{node_read, lent_back}
 use Rattle.grub_wheel.proofs.Apart.{bag_take}
 use Rattle.grub_wheel.proofs.Scans.{armed_within}
 use Rattle.grub_wheel.proofs.Hashed.{take_hashed, hashed_as, mapped_as, moved_on}
+use Rattle.grub_wheel.proofs.Marked.{marked_as, take_marked}
 use Rattle.grub_wheel.proofs.Views.{state_of, taking_state}
 use Rattle.grub_wheel.proofs.Dues.{due_is, none_due, none_later, due_armed, due_least, rest_after}
 use Rattle.grub_wheel.proofs.wheel.Wheel.due.Goals as goal
@@ -44,6 +45,10 @@ invariant_of-self-2 c =
           refl
           (moved_on ms gs (Some i) (c.self.inside.spare + 1) c.self.inside.from c.from-self-inside.result taken (λ j b. let q = after j b in omega (arith, q, z)));
       mapped = mapped_as c.take.new.used gs _ heads c.take.ensures.mapped;
+      marked =
+          marked_as c.note_taken.new.tasks ms _
+          (lent_back c.self.inside.nodes.len ms ns (omega (arith, size, c.self.inside.nodes.ok.0)))
+          (take_marked c.self.inside.tasks c.note_taken.new.tasks ns ms i _ c.self.invariant.marked others c.take.ensures.here.armed h.sound.apart d.armed (ap (λ (x : Node). x.timer.t) n) c.note_taken.ensures);
     }
 
 pub returns-clause-armed : goal.returns-clause-armed

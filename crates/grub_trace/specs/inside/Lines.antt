@@ -1,0 +1,72 @@
+-- What lines below a head say, and the script that they are.
+use Rattle.std.specs.Prelude.{◌≡◌, ◌<◌, ◌≤◌, ℕ, true, List, [], Option, Some, None, Result, Ok, Err, length, map, ◌+◌, ◌++◌, ◌∷◌}
+use Rattle.std.specs.Borrow.{Bor}
+use Rattle.grub_trace.specs.declared.fault.Halt.{Halt}
+use Rattle.grub_trace.specs.declared.fault.Kind.{Kind}
+use Rattle.grub_trace.specs.declared.fault.Kind.TheVariants.{MomentGoesBack}
+use Rattle.grub_trace.specs.declared.form.Deed as raw
+use Rattle.grub_trace.specs.declared.line.Line.{Line}
+use Rattle.grub_trace.specs.declared.raw.RawFile.{RawFile}
+use Rattle.grub_trace.specs.declared.raw.RawScript.{RawScript}
+use Rattle.grub_trace.specs.declared.tasks.Tasks.{Tasks}
+use Rattle.grub_trace.specs.declared.version.Version.{Version}
+use Rattle.grub_trace.specs.Faults.{last_of}
+use Rattle.grub_trace.specs.Forms.{at_moment, form_of, words_of}
+use Rattle.grub_trace.specs.Tree.{Deed, Happening, names_of}
+use Rattle.grub_trace.specs.inside.Forms.{is_task}
+use Rattle.grub_trace.specs.inside.Reading.{Body, Halts, Read, declarations, deed_view, says, script_from, take_form, take_line, times_of}
+
+-- the next moment is not before the last one
+abbrev pub IsTimely : {U : Type 0} → Result U Kind → ℕ → ℕ → Type 0
+IsTimely (Ok u) last at = last ≤ at
+IsTimely (Err k) last at = (k ≡ MomentGoesBack) × (at < last)
+
+-- what a line says is said, or has this fault
+abbrev pub IsTaken : Result (ℕ × raw.Deed ℕ) Kind → Read → Result Read Kind → Type 0
+IsTaken (Ok x) r total = total ≡ Ok (says x.0 (deed_view (λ n. n) x.1) r)
+IsTaken (Err k) r total = total ≡ Err k
+
+-- what is said to happen, after whatever was read of the file
+abbrev pub TakesDeed : Result (ℕ × raw.Deed ℕ) Kind → Version → ℕ → List ℕ → raw.Deed (Bor (List ℕ)) → Type 0
+TakesDeed result version last at deed = (r : Read) → r.version ≡ version → last_of (times_of r.happenings) ≡ last → IsTaken result r (take_form r (at_moment at (deed_view (λ w. w.now) deed)))
+
+-- the same of a line, which is no task's above the first moment
+abbrev pub TakesLine : Result (ℕ × raw.Deed ℕ) Kind → Version → ℕ → List ℕ → Type 0
+TakesLine result version last line = (r : Read) → r.version ≡ version → last_of (times_of r.happenings) ≡ last → (is_task (form_of (words_of line)) ≡ true → 0 < length r.happenings) → IsTaken result r (take_line r line)
+
+-- the lines, or the first of them that names a task which no file declares
+abbrev pub script_in : List Line → Option ℕ → Result (List Line) ℕ
+script_in lines None = Ok lines
+script_in lines (Some n) = Err n
+
+-- lines that these happenings are, from line `first` on
+pub record IsScript (names : List (List ℕ)) (first : ℕ) (happenings : List Happening) (lines : List Line) (unknown : Option ℕ) : Type 0 where
+  pub times : times_of happenings ≡ map (λ l. l.m) lines
+  pub script : script_from names [] first happenings ≡ script_in lines unknown
+
+-- what line n says, after lines that are the happenings from any line on
+abbrev pub SaysMore : {U E : Type 0} → Result U E → List (List ℕ) → RawScript → RawScript → ℕ → ℕ → Deed ℕ → Type 0
+SaysMore (Ok u) names old new n at deed = (first : ℕ) (happenings : List Happening) → n ≡ first + length happenings → IsScript names first happenings old.lines.items old.unknown
+    → IsScript names first (happenings ++ record { at = at; deed = deed } ∷ []) new.lines.items new.unknown
+SaysMore (Err e) names old new n at deed = Unit {0}
+
+-- the script of what was read, or the fault
+abbrev pub GivesScript : Result RawScript Halt → Tasks → ℕ → Result Read (Kind × ℕ) → Type 0
+GivesScript (Ok s) t first total = (r : Read) × (total ≡ Ok r) × IsScript (names_of (declarations t)) first r.happenings s.lines.items s.unknown
+GivesScript (Err e) t first total = Halts e total
+
+-- the file that stands below a head
+pub record IsBody (t : Tasks) (b : Body) (f : RawFile) : Type 0 where
+  pub queue : b.queue ≡ f.queue
+  pub script : script_from (names_of (declarations t)) [] b.first b.happenings ≡ script_in f.script.lines.items f.script.unknown
+
+abbrev pub AreBodies : Tasks → List Body → List RawFile → Type 0
+AreBodies t [] [] = Unit {0}
+AreBodies t [] (f ∷ fs) = ⊥
+AreBodies t (b ∷ bs) [] = ⊥
+AreBodies t (b ∷ bs) (f ∷ fs) = IsBody t b f × AreBodies t bs fs
+
+-- what was read below a head, or its fault
+abbrev pub GivesBody : Result RawFile Halt → Tasks → Result Body (Kind × ℕ) → Type 0
+GivesBody (Ok f) t total = (b : Body) × (total ≡ Ok b) × IsBody t b f
+GivesBody (Err e) t total = Halts e total

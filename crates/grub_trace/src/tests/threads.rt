@@ -1,0 +1,69 @@
+//! Files that are read by threads: the plan and the fault are those of one thread.
+
+use super::*;
+use std::test::Fail;
+
+const DECLARES: &[u8] = b"grub 1\nqueue 1 0\ntask A 1 2\nat 5 join A\n";
+
+const USES: &[u8] = b"grub 1\nqueue 1 0\nat 6 wake A\nat 7 read\n";
+
+const UNKNOWN: &[u8] = b"grub 1\nqueue 1 0\nat 6 wake B\nat 7 wake C\n";
+
+const GOES_BACK: &[u8] = b"grub 1\nqueue 1 0\nat 6 wake A\nat 5 read\n";
+
+const CUT: &[u8] = b"grub 1\nqueue 1 0\nat 6 read";
+
+const HEADLESS: &[u8] = b"grub 3\n";
+
+#[test]
+fn same_fault(rt: HostRuntime) -> Result<(), Fail> {
+    let alloc = rt.alloc();
+    // Each with the fault, its file, and its line.
+    let cases: [(&[&[u8]], Kind, usize, usize); 8] = [
+        (&[DECLARES, HEADLESS], Kind::BadHeader, 1, 1),
+        (&[DECLARES, DECLARES], Kind::DuplicateTask, 1, 3),
+        // What is wrong below a head comes before a later head.
+        (&[GOES_BACK, HEADLESS], Kind::MomentGoesBack, 0, 4),
+        (&[USES, CUT, DECLARES, DECLARES], Kind::CutShort, 1, 3),
+        (&[USES, CUT, GOES_BACK], Kind::CutShort, 1, 3),
+        // A name that no file declares comes last, the first one of all.
+        (&[UNKNOWN, GOES_BACK], Kind::MomentGoesBack, 1, 4),
+        (&[UNKNOWN, DECLARES, HEADLESS], Kind::BadHeader, 2, 1),
+        (&[DECLARES, UNKNOWN, UNKNOWN], Kind::UnknownTask, 1, 3),
+    ];
+    for (texts, kind, file, line) in cases {
+        let files = files_of(alloc, texts)?;
+        let fault = Some(TraceFault::At { kind, file, line });
+        assert_eq!(rt; read_files(alloc, &files).err(), fault);
+        assert_eq!(rt; read_files_by_threads(&rt, alloc, &files).err(), fault);
+    }
+    Ok(())
+}
+
+#[test]
+fn same_plan(rt: HostRuntime) -> Result<(), Fail> {
+    let alloc = rt.alloc();
+    let files = files_of(alloc, &[USES, DECLARES, USES])?;
+    for plan in [
+        read_files(alloc, &files)?,
+        read_files_by_threads(&rt, alloc, &files)?,
+    ] {
+        assert_eq!(rt; plan.files(), 3);
+        let wake = Line {
+            m: 6,
+            act: Act::Wake(0),
+        };
+        let read = Line {
+            m: 7,
+            act: Act::Read,
+        };
+        assert_eq!(rt; plan.script(0), [wake, read].as_slice());
+        let join = Line {
+            m: 5,
+            act: Act::Join(0),
+        };
+        assert_eq!(rt; plan.script(1), [join].as_slice());
+        assert_eq!(rt; plan.script(2), [wake, read].as_slice());
+    }
+    Ok(())
+}
