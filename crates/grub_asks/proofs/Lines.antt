@@ -1,11 +1,10 @@
 -- What one line asks.
 use Rattle.std.proofs.Common.{◌≡◌, ℕ, List, [], ◌∷◌, ◌++◌, refl, sym, ap, ◌∙◌}
 use Rattle.std.specs.Prelude.{Result, Ok, Err, IfOk}
-use Rattle.grub_book.specs.declared.op.Op.{Op}
 use Rattle.grub_trace.specs.declared.line.Line.{Line}
 use Rattle.grub_trace.specs.declared.line.Act.{Act}
 use Rattle.grub_trace.specs.declared.line.Act.TheVariants as acts
-use Rattle.grub_trace.specs.declared.entry.Ask.TheVariants.{Call, Read}
+use Rattle.grub_trace.specs.declared.entry.Ask.TheVariants.{Read}
 use Rattle.grub_trace.specs.declared.entry.Answer.{Answer}
 use Rattle.grub_trace.specs.declared.entry.Entry.{Entry}
 use Rattle.grub_asks.specs.Asked.{AsksDue, AsksLine, Follows, GoesOn, ask_of, entry}
@@ -29,13 +28,4 @@ line_read r line before due after timers is goes_on = record {
   follows = read_follows r line.m line.act goes_on.answer after is;
 }
 
-pub line_called : (r : ℕ) (line : Line) (t : ℕ) (op : Op) (answer : Answer) (before due asked after : List Entry) → AsksDue line.m before due → ask_of r line.m line.act ≡ Call t op → asked ≡ due ++ entry line.m (Call t op) answer ∷ []
-    → Follows r line.m line.act answer asked after → AsksLine r before line after
-line_called r line t op answer before due asked after timers is list follows = record {
-  due = due;
-  answer = answer;
-  asked = asked;
-  timers = timers;
-  line_asked = list ∙ ap (λ ask. due ++ entry line.m ask answer ∷ []) (sym is);
-  follows = follows;
 }

@@ -1,5 +1,5 @@
 //! What an answer does to the timers.
-ghost use Rattle.std.specs.Prelude.{◌≡◌, ◌<◌, ◌≤◌, ℕ, Some, None, IfSome, OnOk};
+ghost use Rattle.std.specs.Prelude.{◌≡◌, ◌<◌, ◌≤◌, ℕ, Some, None, OnOk};
 ghost use Rattle.std.specs.FinMap as map;
 ghost use Rattle.grub_asks.specs.Timers.{touch_of_call};
 ghost use Rattle.grub_asks.specs.Timers.Touch.{disarms};

@@ -1,5 +1,5 @@
 -- Names of servers.
-use Rattle.std.proofs.Common.{◌≡◌, ◌+◌, ℕ, suc, List, Bool, ◌||◌, false, ◌≤◌, refl, add-one, arith}
+use Rattle.std.proofs.Common.{◌≡◌, ◌+◌, ℕ, List, ◌||◌, false, ◌≤◌, refl, add-one, arith}
 use Rattle.std.specs.Str.{bytes_eq}
 use Rattle.grub_events.specs.Names.{is_fair, fair_name}
 

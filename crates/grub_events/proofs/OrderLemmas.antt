@@ -1,8 +1,8 @@
 -- One event more, from the front.
-use Rattle.std.proofs.Common.{◌≡◌, ◌<◌, ◌+◌, ◌++◌, ℕ, suc, List, [], ◌∷◌, Bool, true, false, Option, Some, None, length, drop, get_or, set, refl, append_assoc, add-one, find, cond}
+use Rattle.std.proofs.Common.{◌≡◌, ◌<◌, ◌+◌, ◌++◌, ℕ, suc, List, [], ◌∷◌, Bool, true, false, Some, None, length, drop, get_or, set, refl, append_assoc, add-one, find}
 use Rattle.std.proofs.Math.Seq.{drop-cons}
 use Rattle.std.proofs.lemmas.List.Folds.{find-append}
-use Rattle.grub_events.specs.Order.{moments_of, moment_of, files_after, place_at, nowhere, is_beyond}
+use Rattle.grub_events.specs.Order.{moments_of, moment_of, files_after, place_at, nowhere}
 use Rattle.grub_events.specs.declared.event.Event.{Event}
 use Rattle.grub_events.specs.declared.event.Placed.{Placed}
 use Rattle.grub_events.specs.declared.order.Place.{Place}

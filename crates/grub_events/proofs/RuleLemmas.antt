@@ -1,6 +1,5 @@
 -- One fact more, from the front.
-use Rattle.std.proofs.Common.{◌≡◌, ◌<◌, ◌≤◌, ◌+◌, ◌++◌, ℕ, zero, suc, List, [], ◌∷◌, Option, None, length, drop, get_or, set, refl, ap, sym, ◌∙◌, arith, append_assoc, add_assoc, add-one, if◌then◌else◌}
-use Rattle.std.proofs.lemmas.Grind.{common_steps}
+use Rattle.std.proofs.Common.{◌≡◌, ◌<◌, ◌+◌, ◌++◌, ℕ, zero, suc, List, [], ◌∷◌, Option, None, length, drop, get_or, set, refl, arith, append_assoc, add_assoc, add-one, if◌then◌else◌}
 use Rattle.std.proofs.Math.Seq.{drop-cons}
 use Rattle.grub_facts.specs.declared.fact.Fact.{Fact}
 use Rattle.grub_events.specs.Moved.{wakes_moved, is_moved_wake}

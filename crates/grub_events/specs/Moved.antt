@@ -9,7 +9,7 @@ use Rattle.grub_events.specs.declared.event.Source.{Source}
 use Rattle.grub_events.specs.declared.event.Source.TheVariants.{Told, Ending, Opening, Moving}
 use Rattle.grub_events.specs.declared.event.Placed.{Placed}
 use Rattle.grub_events.specs.declared.standing.Standing.{Standing}
-use Rattle.grub_events.specs.declared.standing.Standing.TheVariants.{Unseen, Asleep, Awake}
+use Rattle.grub_events.specs.declared.standing.Standing.TheVariants.{Unseen, Awake}
 use Rattle.grub_events.specs.Rules.{standing_after}
 
 -- a task that woke is sent to another CPU before it ran

@@ -1,5 +1,5 @@
 -- Names of tasks in event files.
-use Rattle.std.specs.Prelude.{ℕ, zero, suc, Bool, true, false, not, ◌&&◌, ◌||◌, nat_le, List, [], ◌++◌, map, count_by, codes, decimal, Option, Some, None, if◌then◌else◌}
+use Rattle.std.specs.Prelude.{ℕ, zero, suc, Bool, false, not, ◌&&◌, ◌||◌, nat_le, List, [], ◌++◌, map, count_by, codes, decimal, Option, Some, None, if◌then◌else◌}
 use Rattle.std.specs.Str.{bytes_eq}
 use Rattle.grub_facts.specs.declared.fact.Found.{Found}
 use Rattle.grub_trace.specs.Tree.{is_name}

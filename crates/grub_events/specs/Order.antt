@@ -1,5 +1,5 @@
 -- The moments of events.
-use Rattle.std.specs.Prelude.{◌≡◌, ℕ, Bool, true, false, ◌+◌, ◌-◌, ◌/◌, ◌||◌, max, nat_lt, nat_le, List, [], ◌∷◌, Option, Some, find, slice_index_or, slice_set, if◌then◌else◌}
+use Rattle.std.specs.Prelude.{◌≡◌, ℕ, Bool, true, false, ◌+◌, ◌-◌, ◌/◌, ◌||◌, max, nat_lt, nat_le, List, [], ◌∷◌, Some, find, slice_index_or, slice_set, if◌then◌else◌}
 use Rattle.grub_events.specs.declared.event.Act.{Act}
 use Rattle.grub_events.specs.declared.event.Act.TheVariants.{Join, Wake, Block, Run}
 use Rattle.grub_events.specs.declared.event.Source.{Source}

@@ -1,6 +1,6 @@
 -- What event files say beside their events.
 use Rattle.std.specs.Prelude.{ℕ, ◌+◌, ◌-◌, ◌*◌, ◌/◌, List, Option, Some, None, sum_by}
-use Rattle.grub_bw.specs.Bandwidth.{Reservation, Capacity, bandwidth_of}
+use Rattle.grub_bw.specs.Bandwidth.{Reservation, bandwidth_of}
 
 -- the bandwidths of the tasks, together
 abbrev pub total_of : List Reservation → ℕ

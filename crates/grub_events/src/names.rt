@@ -1,7 +1,6 @@
 //! Names of tasks in event files.
 
-ghost use Rattle.std.specs.Prelude.{◌≡◌, ◌++◌, ◌≤◌, IfOk, OnOk, codes, decimal, Option, vec_items, count_by};
-ghost use Rattle.std.specs.Str.{bytes_eq};
+ghost use Rattle.std.specs.Prelude.{◌≡◌, ◌++◌, IfOk, codes, decimal, count_by};
 ghost use Rattle.grub_trace.specs.Reading.{contents};
 ghost use Rattle.grub_events.specs.Names.{fair_name, is_fair, has_comm, is_fit, name_of, names_of};
 

@@ -1,6 +1,6 @@
 //! What event files say beside their events: the runqueue's constants, and the reservations.
 
-ghost use Rattle.std.specs.Prelude.{◌≡◌, ◌<◌, ◌≤◌, ◌^◌, ◌-◌, ◌*◌, ◌/◌, IfSome, IfNone, ◌⊎◌, length, Option, Some, None};
+ghost use Rattle.std.specs.Prelude.{◌≡◌, ◌<◌, ◌≤◌, ◌^◌, ◌-◌, ◌*◌, ◌/◌, IfSome, IfNone, ◌⊎◌, length, Some, None};
 ghost use Rattle.grub_bw.specs.Bandwidth.{IsMost};
 ghost use Rattle.grub_events.specs.Setting.{total_of, extra_of};
 

@@ -22,12 +22,6 @@ changed_map f g [] i y d lt is e = absurd (omega arith)
 changed_map f g (x ∷ xs) zero y d lt is e = ap (λ z. z ∷ map f xs) (e ∙ ap (λ z. g (f z)) is)
 changed_map f g (x ∷ xs) (suc i) y d lt is e = ap (λ zs. f x ∷ zs) (changed_map f g xs i y d (omega arith) is e)
 
--- a change that changes nothing
-pub changed_same : {X Y : Type 0} (f : X → Y) (g : Y → Y) (xs : List X) (i : ℕ) (d : X) → i < length xs → d ≡ get_or xs i d → g (f d) ≡ f d → map f xs ≡ changed_at i g (map f xs)
-changed_same f g [] i d lt is e = absurd (omega arith)
-changed_same f g (x ∷ xs) zero d lt is e = ap (λ z. z ∷ map f xs) (sym (sym (ap (λ z. g (f z)) is) ∙ (e ∙ ap f is)))
-changed_same f g (x ∷ xs) (suc i) d lt is e = ap (λ zs. f x ∷ zs) (changed_same f g xs i d (omega arith) is e)
-
 pub changed_where_some : {X : Type 0} (o : Option ℕ) (i : ℕ) (f : X → X) (xs : List X) → o ≡ Some i → changed_where o f xs ≡ changed_at i f xs
 changed_where_some o i f xs e = ap (λ (q : Option ℕ). changed_where q f xs) e
 

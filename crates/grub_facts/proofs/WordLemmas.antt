@@ -1,5 +1,5 @@
 -- The words of a line.
-use Rattle.std.proofs.Common.{◌≡◌, ℕ, suc, ◌+◌, ◌-◌, ◌<◌, ◌≤◌, Bool, true, false, not, ◌&&◌, nat_eq, cond, ltb, List, [], ◌∷◌, length, take, drop, Option, Some, None, refl, sym, ◌∙◌, ap, arith, subst, unwrap_or}
+use Rattle.std.proofs.Common.{◌≡◌, ℕ, suc, ◌+◌, ◌-◌, ◌<◌, ◌≤◌, Bool, true, false, not, ◌&&◌, nat_eq, cond, ltb, List, [], ◌∷◌, length, take, drop, Option, Some, None, refl, sym, ◌∙◌, ap, arith, subst}
 use Rattle.std.proofs.lemmas.List.Sums.{prefix_len-le-length}
 use Rattle.std.proofs.lemmas.List.{take_rest, length-drop}
 use Rattle.std.specs.List.{slice_split, onto_first, position, position_or_len, starts_with}
@@ -102,18 +102,6 @@ place_step n key xs i b at is =
     let step : place_from n key xs ≡ cond (starts_with nat_eq (drop (i + 1) xs) key) (Some (n + i)) (place_from (n + (i + 1)) key (drop (i + 1) xs)) =
     subst (λ (j : ℕ). place_from n key xs ≡ cond (starts_with nat_eq (drop j xs) key) (Some (n + i)) (place_from (n + (i + 1)) key (drop j xs))) same (place_some n key xs i (n + i) (n + (i + 1)) here.1 here.0 refl (omega arith)) in
     rw (is, rest_is xs (i + 1)) step
-
--- no more elements than there are stand before the first that passes
-pub position_or_len-le : (p : ℕ → Bool) (xs : List ℕ) → position_or_len p xs ≤ length xs
-position_or_len-le p xs = prefix_len-le-length (λ x. not (p x)) xs
-
--- the first place that passes, or the length where there is none
-pub unwrap_position : (p : ℕ → Bool) (xs : List ℕ) (n : ℕ) → n ≡ length xs → unwrap_or (position p xs) n ≡ position_or_len p xs
-unwrap_position p xs n all = go (ltb (position_or_len p xs) (length xs)) refl
-  where
-    go : (b : Bool) → ltb (position_or_len p xs) (length xs) ≡ b → unwrap_or (cond b (Some (position_or_len p xs)) None) n ≡ position_or_len p xs
-    go true e = refl
-    go false e = (let h : length xs ≤ position_or_len p xs = ltb-false _ _ e in let k : position_or_len p xs ≤ length xs = position_or_len-le p xs in omega arith)
 
 pub left_len : (xs : List ℕ) (k : ℕ) → length (take (length xs - k) (drop k xs)) ≡ length xs - k
 left_len xs k = ap length (rest_is xs k) ∙ length-drop k xs

@@ -2,7 +2,6 @@
 use Rattle.std.specs.Prelude.{ℕ, Bool, ◌||◌, List, length, take, codes, slice_range, Option, Some, None, if◌then◌else◌, option_map, option_and_then, unwrap_or}
 use Rattle.std.specs.Option.{option_or}
 use Rattle.std.specs.Str.{bytes_eq}
-use Rattle.std.specs.Borrow.{Bor}
 use Rattle.grub_facts.specs.Numbers.{after, before_end}
 use Rattle.grub_facts.specs.Words.{behind, cpu_field, deadline_field, number_field, place_of, value_of}
 use Rattle.grub_facts.specs.Opening.{running}

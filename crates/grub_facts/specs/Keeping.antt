@@ -1,11 +1,10 @@
 -- What the code holds of a trace, in the words of the definitions.
-use Rattle.std.specs.Prelude.{Option, option_map}
-use Rattle.grub_facts.specs.Faults.{fault_text, problem_of}
+use Rattle.std.specs.Prelude.{option_map}
+use Rattle.grub_facts.specs.Faults.{fault_text}
 use Rattle.grub_facts.specs.Given.{Kept, tasks_text}
 use Rattle.grub_facts.specs.Reading.{Told}
-use Rattle.grub_facts.specs.Texts.{After, Progress}
+use Rattle.grub_facts.specs.Texts.{Progress}
 use Rattle.grub_facts.specs.declared.fact_lines.FactLines.{FactLines}
-use Rattle.grub_facts.specs.declared.fault.Wrong.{Wrong}
 use Rattle.grub_facts.specs.declared.keeper.Keeper.{Keeper}
 use Rattle.grub_facts.specs.declared.text.Text.{Text}
 

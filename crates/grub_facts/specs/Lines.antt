@@ -1,11 +1,9 @@
 -- What a line of a trace tells, whatever tasks were given.
 use Rattle.std.specs.Prelude.{ℕ, Bool, ◌||◌, nat_lt, ◌+◌, ◌-◌, List, length, slice_range, Option, Some, None, if◌then◌else◌}
-use Rattle.std.specs.Borrow.{Bor}
 use Rattle.grub_facts.specs.Words.{word_of, without_spaces}
 use Rattle.grub_facts.specs.Opening.{opening_of}
 use Rattle.grub_facts.specs.Head.{is_comment, is_lost}
 use Rattle.grub_facts.specs.Events.{verb_of, said_of}
-use Rattle.grub_facts.specs.inside.Events.{said_text}
 use Rattle.grub_facts.specs.declared.event.Event.{Event}
 use Rattle.grub_facts.specs.declared.event.Event.TheVariants.{Woken, Migrated, Expired}
 use Rattle.grub_facts.specs.declared.event.Said.{Said}

@@ -5,7 +5,7 @@ ghost use Rattle.grub_facts.specs.inside.Events.{said_text};
 ghost use Rattle.grub_facts.specs.Opening.{opening_of};
 ghost use Rattle.grub_facts.specs.Lines.{checked, drift, event_line, has_cpu_above, line_behind, line_of, other_cpu};
 ghost use Rattle.grub_facts.specs.inside.Lines.{line_text};
-ghost use Rattle.std.specs.Prelude.{length, ◌≤◌, slice_range};
+ghost use Rattle.std.specs.Prelude.{length};
 ghost use Rattle.grub_facts.specs.inside.OpeningFits.{StartsWithin};
 
 use crate::event::{Event, Said, said_of, verb_of};

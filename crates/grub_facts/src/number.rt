@@ -1,6 +1,6 @@
 //! Decimal numbers and moments, as words of a trace spell them.
 
-ghost use Rattle.std.specs.Prelude.{◌≡◌, ◌<◌, ◌*◌, ◌+◌, ◌&&◌, ◌==◌, min, true, position, codes, option_map};
+ghost use Rattle.std.specs.Prelude.{◌≡◌, ◌<◌, ◌*◌, ◌+◌, ◌&&◌, ◌==◌, min, true, position, option_map};
 ghost use Rattle.std.specs.List.{list_all};
 ghost use Rattle.std.specs.Char.{is_ascii_digit};
 ghost use Rattle.grub_facts.specs.Numbers.{after, before_end, bracketed, fraction, is_deadline, moment, nanos, number, point_text, small_number, value};

@@ -3,7 +3,7 @@
 ghost use Rattle.std.specs.Prelude.{[], IfOk, IsTrue, OnOk, map};
 ghost use Rattle.grub_facts.specs.Words.{text_of};
 ghost use Rattle.grub_facts.specs.Keeping.{told_text};
-ghost use Rattle.grub_facts.specs.Reading.{Told, fact_step, told_first};
+ghost use Rattle.grub_facts.specs.Reading.{Told, fact_step};
 ghost use Rattle.grub_facts.specs.Told.{HasRead, NeedsNoMore, ReadsOn, TellsAll, TellsStop};
 
 use crate::fact::Facts;

@@ -1,5 +1,5 @@
 -- The front of a room that reads fill piece by piece.
-use Rattle.std.proofs.Common.{◌≡◌, ◌∙◌, ap, sym, ℕ, List, ◌+◌, ◌++◌, ◌≤◌, length, take, Ok, Err, IfOk, length-append}
+use Rattle.std.proofs.Common.{◌≡◌, ◌∙◌, ap, sym, ℕ, List, ◌+◌, ◌++◌, ◌≤◌, length, take, Ok, Err, IfOk}
 use Rattle.std.proofs.lemmas.List.{length-take-le, take-append-le}
 use Rattle.std.proofs.Math.Seq.{take-append-add}
 use Rattle.std.specs.declared.result.Result.{Result}

@@ -13,10 +13,6 @@ use Rattle.grub_files.specs.Source.{Answers, Gives, Reader, Reads}
 pub answered : {N D : Type 0} (g : Reader N D) (read : N) (shown left : MutBor D × (MutBor (List ℕ) × Unit {0})) (answer : Result ℕ Error) → g.post read shown (answer, left) → 0 < length shown.1.0.now → Answers g read shown.0.now answer left.1.0.now left.0.now
 answered g read shown left answer says has_room = record { shown = shown; left = left; says = says; shows = refl; has_room = has_room; fills = refl; leaves = refl }
 
--- no read yet
-pub no_reads : {N D : Type 0} (g : Reader N D) (read : N) (file : D) → Reads g read file [] file
-no_reads g read file = record { pieces = []; each = refl; whole = refl }
-
 -- one read more, and all bytes up to then
 pub one_more : {N D : Type 0} (g : Reader N D) (read : N) (file : D) (bytes : List ℕ) (mid : D) (piece : List ℕ) (last : D) (all : List ℕ) → Reads g read file bytes mid → Gives g read mid piece last → all ≡ bytes ++ piece → Reads g read file all last
 one_more g read file bytes mid piece last all reads gives is = record { pieces = reads.pieces ++ piece ∷ []; each = FoldsTo-push (Gives g read) file reads.pieces mid piece last reads.each gives; whole = is ∙ (ap (λ bs. bs ++ piece) reads.whole ∙ (ap (λ bs. concat reads.pieces ++ bs) (sym (append-nil piece)) ∙ sym (concat-append reads.pieces (piece ∷ [])))) }

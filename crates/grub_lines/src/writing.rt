@@ -1,6 +1,6 @@
 //! The way of lines to a writer.
 
-ghost use Rattle.std.specs.Prelude.{◌≡◌, ◌≤◌, [], All, length, vec_capacity, OnOk, OnErr};
+ghost use Rattle.std.specs.Prelude.{◌≤◌, [], All, vec_capacity, OnOk, OnErr};
 ghost use Rattle.std.specs.List.{flat_map};
 ghost use Rattle.grub_trace.specs.Writing.{HandsOn, HandsPart};
 

@@ -8,7 +8,7 @@ ghost use Rattle.grub_trace.specs.Reading.{contents};
 ghost use Rattle.grub_trace.specs.Tree.{Tree};
 ghost use Rattle.grub_trace.specs.declared.fault.Kind.{Kind};
 ghost use Rattle.grub_workers.specs.Runs.{AllAsksOf};
-ghost use Rattle.grub_run.specs.Written.{IsFaultOf, IsNoFileFault, IsOnlyFault, IsOutput, WritesText, WritesPrefix, AppendsPrefix, texts_from};
+ghost use Rattle.grub_run.specs.Written.{IsFaultOf, IsNoFileFault, IsOnlyFault, WritesText, WritesPrefix, AppendsPrefix, texts_from};
 ghost use Rattle.grub_run.specs.declared.fault.GrubFault.TheVariants as faults;
 
 use crate::fault::GrubFault;

@@ -1,6 +1,6 @@
 //! From the names of event files to their reports.
 
-ghost use Rattle.std.specs.Prelude.{◌≡◌, ◌≤◌, ◌<◌, ◌⊎◌, ℕ, List, IfErr, IfOk, OnErr, OnOk, length};
+ghost use Rattle.std.specs.Prelude.{◌≡◌, ◌≤◌, ◌<◌, ℕ, List, IfErr, IfOk, OnOk, length};
 ghost use Rattle.grub_trace.specs.Reading.{contents};
 ghost use Rattle.grub_run.specs.declared.fault.GrubFault.TheVariants as run_faults;
 ghost use Rattle.grub_files.specs.Source.{Holds, IsOpened};

@@ -2,7 +2,7 @@
 //! runqueue, and they meet. What is proved of it stands in the contracts.
 #![tactic(auto)]
 
-ghost use Rattle.std.specs.Prelude.{◌≡◌, ◌<◌, ◌≤◌, ◌⊎◌, length, IfSome};
+ghost use Rattle.std.specs.Prelude.{◌≡◌, ◌<◌, ◌≤◌, length, IfSome};
 ghost use Rattle.grub_book.specs.Machine.{queue_at};
 ghost use Rattle.grub_table.specs.Calls.{terms, IsPassOf};
 

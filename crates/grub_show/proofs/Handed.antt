@@ -2,16 +2,8 @@
 use Rattle.std.proofs.Common.{◌≡◌, ℕ, ◌++◌, List, [], take, ap, ◌∙◌, sym, Option, Some, None, Result, Ok, Err, length, append-nil}
 use Rattle.std.specs.Prelude.{OnOk}
 use Rattle.std.proofs.Math.Seq.{take-append_seam}
-use Rattle.std.specs.Io.KnownBytes.{Appends}
-use Rattle.grub_trace.specs.Writing.{HandsOn, HandsPart}
+use Rattle.grub_trace.specs.Writing.{HandsPart}
 use Rattle.grub_run.specs.Written.{AppendsPrefix}
-
-pub handed_whole : (a b : Option (List ℕ)) (text : List ℕ) → HandsOn a b text [] [] → Appends a b text
-handed_whole None b text h = tt
-handed_whole (Some xs) None text h = absurd h
-handed_whole (Some xs) (Some ys) text h =
-    let same : h.0 ≡ text = sym (append-nil h.0) ∙ sym h.2 ∙ append-nil text in
-    h.1 ∙ ap (λ l. xs ++ l) same
 
 pub handed_part : (a b : Option (List ℕ)) (text : List ℕ) → HandsPart a b text [] → AppendsPrefix a b text
 handed_part None b text h = tt

@@ -34,9 +34,6 @@ time_line_of plan p closing played all = record {
   closes = subst (λ (s : Machine). AreClosing s (history_of p.told.items) closing) played.setup (closes p.book.setup (history_of p.told.items) p.book.records closing played.known.book all);
 }
 
-pub within_of : (plan : PlanView) (p : Player) → IsPlayed plan p → AreWithin plan.setup p.told.items
-within_of plan p played = subst (λ (s : Machine). AreWithin s p.told.items) played.setup played.known.within
-
 all_end : {X : Type 0} (P : X → Type 0) (xs ys : List X) → All P (xs ++ ys) → All P ys
 all_end P [] ys h = h
 all_end P (x ∷ xs) ys h = all_end P xs ys (All-tail P x (xs ++ ys) h)

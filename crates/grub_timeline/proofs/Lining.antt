@@ -1,6 +1,5 @@
 -- What one line asks, and of which runqueue it is.
 use Rattle.std.proofs.Common.{◌≡◌, ℕ, List, [], ◌∷◌, ◌++◌, refl, sym, ap, ◌∙◌}
-use Rattle.std.specs.Prelude.{Result, Ok, Err, IfOk}
 use Rattle.grub_book.specs.declared.op.Op.{Op}
 use Rattle.grub_trace.specs.declared.line.Act.{Act}
 use Rattle.grub_trace.specs.declared.line.Act.TheVariants as acts
@@ -17,10 +16,6 @@ use Rattle.grub_timeline.specs.inside.TimeLines.{told_of}
 use Rattle.grub_timeline.specs.inside.Playing.{GoesOnAt, GoesOnOf, IsLineAsked, IsLookedAt}
 use Rattle.grub_timeline.proofs.Entries.{entries_more}
 use Rattle.grub_timeline.proofs.GoesOn.{goes_on, goes_twice}
-
-pub if_ok_both : {X E : Type 0} (P Q S : X → Type 0) (r : Result X E) → ((x : X) → P x → Q x → S x) → IfOk r P → IfOk r Q → IfOk r S
-if_ok_both P Q S (Ok x) f h k = f x h k
-if_ok_both P Q S (Err e) f h k = tt
 
 -- what a line asks is of its own runqueue
 own_asker : (r m : ℕ) (act : Act) (before : List Entry) → asker r before (ask_of r m act) ≡ r

@@ -1,5 +1,5 @@
 //! The closing readings.
-ghost use Rattle.std.specs.Prelude.{◌≡◌, ◌<◌, ◌≤◌, ℕ, [], length, vec_capacity};
+ghost use Rattle.std.specs.Prelude.{◌≡◌, ◌<◌, ◌≤◌, [], length, vec_capacity};
 ghost use Rattle.grub_timeline.specs.inside.Playing.{AreReadings};
 
 use grub_book::{Book, Reading};

@@ -1,5 +1,5 @@
 //! The next lines of all files.
-ghost use Rattle.std.specs.Prelude.{◌≡◌, ◌<◌, ◌≤◌, ◌+◌, [], length, vec_len, vec_capacity};
+ghost use Rattle.std.specs.Prelude.{◌≡◌, ◌<◌, ◌≤◌, ◌+◌, length, vec_len, vec_capacity};
 ghost use Rattle.std.specs.Bool.{OnFalse, OnTrue};
 ghost use Rattle.grub_trace.specs.Limits.{PlanFits};
 ghost use Rattle.grub_timeline.specs.inside.Merge.{IsAhead, IsMidway, IsNext, NoHead};

@@ -1,5 +1,5 @@
 //! A player that has asked nothing yet. All memory that playing wants is taken here.
-ghost use Rattle.std.specs.Prelude.{◌≡◌, ◌≤◌, ◌+◌, ℕ, [], None, IfOk, length, vec_capacity};
+ghost use Rattle.std.specs.Prelude.{◌≡◌, ◌≤◌, ◌+◌, [], None, IfOk, length, vec_capacity};
 ghost use Rattle.std.specs.FinMap as map;
 ghost use Rattle.grub_timeline.specs.inside.Playing.{IsPlaying};
 

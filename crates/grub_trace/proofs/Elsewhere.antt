@@ -87,15 +87,6 @@ body_elsewhere ds h is = ap (λ (x : Result Read (Kind × ℕ)). x >>= λ r. Ok 
     same (Ok r) = refl
     same (Err e) = refl
 
--- the tasks that were declared above stay as they are
-pub still_declared : (parts : List (List ℕ)) (r s : Read) (n : ℕ) → IsBelow r parts → read_lines r n parts ≡ Ok s → s.declared ≡ r.declared
-still_declared parts r s n below e =
-    let x : Ok s ≡ with_tasks r.declared (Ok s) = sym e ∙ lines_elsewhere parts r.declared r n below ∙ ap (with_tasks r.declared) e in
-    cc
-
 -- a whole line that is first
 pub front_below : (text line rest : List ℕ) → parts_of text ≡ line ∷ parts_of rest → is_task (form_of (words_of line)) ≡ true → begins_with_task (parts_of text) ≡ true
 front_below text line rest parts is = let more = has_part (λ b. eqb b 10) rest in ap begins_with_task (parts ∙ ap (λ ps. line ∷ ps) more.2) ∙ is
-
-pub front_above : (text line rest : List ℕ) → parts_of text ≡ line ∷ parts_of rest → is_task (form_of (words_of line)) ≡ false → begins_with_task (parts_of text) ≡ false
-front_above text line rest parts is = let more = has_part (λ b. eqb b 10) rest in ap begins_with_task (parts ∙ ap (λ ps. line ∷ ps) more.2) ∙ is

@@ -38,9 +38,6 @@ pick : (b : Bool) (v : Verb) (o : Option Verb) (u : Verb) → cond b (Some v) o 
 pick true v o u e = inl (refl, cc)
 pick false v o u e = inr e
 
-abbrev Named : List ℕ → Verb → Type 0
-Named w u = w ≡ verb_word u
-
 named : (w : List ℕ) (v u : Verb) → (bytes_eq w (verb_word v) ≡ true) × (v ≡ u) → w ≡ verb_word u
 named w v u h = text_is w (verb_word v) h.0 ∙ ap verb_word h.1
 
@@ -129,9 +126,6 @@ form_is ws f e = shape_is ws f (filled (list_all is_filled ws) (shape_of ws) f e
 -- filled words have the form of their shape
 pub form_again : (ws : List (List ℕ)) → list_all is_filled ws ≡ true → form_of ws ≡ shape_of ws
 form_again ws h = ap (λ (b : Bool). cond b (shape_of ws) None) h
-
-pub no_form : (ws : List (List ℕ)) → list_all is_filled ws ≡ false → form_of ws ≡ None
-no_form ws h = ap (λ (b : Bool). cond b (shape_of ws) None) h
 
 pub no_shape : (ws : List (List ℕ)) → shape_of ws ≡ None → form_of ws ≡ None
 no_shape ws h = go (list_all is_filled ws) (shape_of ws) h

@@ -56,11 +56,6 @@ hands_both (Some xs) (Some ys) (Some zs) kept text left more rest h k = (
   sym (append_assoc kept text more) ∙ ap (λ l. l ++ more) h.2 ∙ append_assoc h.0 left more ∙ ap (λ l. h.0 ++ l) k.2 ∙ sym (append_assoc h.0 k.0 rest),
 )
 
--- a text, and then a beginning of the next one
-pub hands_then_part : (a b c : Option (List ℕ)) (kept text left more after : List ℕ) → HandsOn a b kept text left → HandsPart b c left more → HandsPart a c kept (text ++ (more ++ after))
-hands_then_part a b c kept text left more after h k =
-    (k.0 ++ after, hands_both a b c kept text left (more ++ after) (k.0 ++ after) h (hands_more b c left more k.0 after k.1))
-
 -- the buffer was handed on, and then a text was put into it
 pub hands_put : (a b : Option (List ℕ)) (kept left text new : List ℕ) → HandsOn a b kept [] left → new ≡ left ++ text → HandsOn a b kept text new
 hands_put a b kept left text new h is = subst_new (hands_more a b kept [] left text h)

@@ -11,8 +11,6 @@ use Rattle.grub_trace.specs.inside.Reading.{Read, FileRead, read_queue, read_sec
 use Rattle.grub_trace.specs.Forms.{parts_of, Form, queue, task, at_moment, words_of, form_of, is_number, version_of, value, reservation_value}
 use Rattle.std.proofs.Common.{◌-◌, Option, Some, None}
 use Rattle.std.proofs.lemmas.List.{length_push}
-use Rattle.std.proofs.lemmas.List.Splits.{length-slice_split}
-use Rattle.std.proofs.lemmas.List.Sums.{count_by-le-length}
 use Rattle.grub_trace.specs.declared.fault.Halt.{Halt}
 use Rattle.grub_trace.specs.declared.fault.Halt.TheVariants as halt
 use Rattle.grub_trace.specs.Tree.{Declaration, does, runs, retunes, reads, names_of, is_moment, is_span, may_retune}
@@ -150,16 +148,6 @@ lines_count (line ∷ next ∷ more) r s n some e =
     let allowed = (none_if _ _ _ t.2).0 in
     let g : length a.0.declared + length a.0.happenings ≡ length r.declared + length r.happenings + 1 = subst (λ (u : Read). length u.declared + length u.happenings ≡ length r.declared + length r.happenings + 1) t.3 (adds_one t.0 r (times_of r.happenings) allowed) in
     omega (arith, rest, g)
-
-pub parts_fit : (text : List ℕ) → length (parts_of text) ≤ length text + 1
-parts_fit text = omega (arith, length-slice_split (λ b. eqb b 10) text, count_by-le-length (λ b. eqb b 10) text)
-
-pub first_fits : (version : Version) (ds : List Declaration) (s : Read) (text : List ℕ) (k : ℕ) → read_lines (opened version ds) 3 (parts_of text) ≡ Ok s → k ≡ 3 + (length s.declared - length ds) → k + length s.happenings ≤ 3 + length text
-first_fits version ds s text k e is =
-    let c = has_part (λ b. eqb b 10) text in
-    let some : 0 < length (parts_of text) = subst (λ (ps : List (List ℕ)). 0 < length ps) (sym c.2) (omega arith) in
-    let count = lines_count (parts_of text) (opened version ds) s 3 some e in
-    omega (arith, count, lines_grow _ _ _ 3 e, parts_fit text)
 
 -- ---- lines with two or three numbers
 

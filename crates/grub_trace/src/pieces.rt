@@ -1,8 +1,7 @@
 //! The pieces of a report. Each is appended to a vector that has room for it, so no memory is taken.
 
-ghost use Rattle.std.specs.Prelude.{◌≡◌, ◌+◌, ◌≤◌, ◌++◌, length, decimal, codes, vec_len, vec_capacity, true};
+ghost use Rattle.std.specs.Prelude.{◌≡◌, ◌+◌, ◌≤◌, ◌++◌, length, decimal, codes, vec_len, vec_capacity};
 ghost use Rattle.grub_trace.specs.Texts.{reading_text, op_text, reply_text, server_text, answer_text, ask_text, entry_line, head_line, close_line, IsAskOf};
-ghost use Rattle.grub_trace.specs.Tree.{is_name};
 
 use crate::entry::{Answer, Ask, Entry};
 use crate::plan::Plan;

@@ -1,6 +1,6 @@
 -- The earliest of some blocks, and one block more.
-use Rattle.std.proofs.Common.{◌≡◌, ℕ, ◌≤◌, ◌⊎◌, inl, inr, true, false, List, [], ◌∷◌, ◌++◌, refl, sym, ap, ◌∙◌, subst, lit<, arith}
-use Rattle.std.specs.Prelude.{Contains, filter, Option, Some, None}
+use Rattle.std.proofs.Common.{◌≡◌, ℕ, ◌≤◌, ◌⊎◌, inl, inr, true, List, [], ◌∷◌, ◌++◌, refl, sym, subst, lit<, arith}
+use Rattle.std.specs.Prelude.{Contains, filter, Some}
 use Rattle.std.proofs.lemmas.Grind.{common_steps}
 use Rattle.std.proofs.lemmas.List.Elements.{All-push, All-weaker, Contains-append_left, Contains-append_right, filter-append}
 use Rattle.grub_verdict.specs.declared.observation.Observation.{Observation}
@@ -14,9 +14,6 @@ le_trans a b c x y = omega arith
 contains_last : (ds : List Observation) (n : Observation) → Contains (ds ++ n ∷ []) n
 contains_last ds n = Contains-append_right ds (n ∷ []) n (0, lit< tt, refl)
 
-earliest_one : (n : Observation) → IsEarliest (n ∷ []) n
-earliest_one n = record { one = (0, lit< tt, refl); least = All-push (λ o. n.line ≤ o.line) [] n (λ k d inside. absurd (omega arith)) (omega arith) }
-
 -- the earlier of the two is the earliest
 earliest_more : (ds : List Observation) (f r n : Observation) → IsEarliest ds f → (r ≡ f) ⊎ (r ≡ n) → r.line ≤ f.line → r.line ≤ n.line → IsEarliest (ds ++ n ∷ []) r
 earliest_more ds f r n is which below here = record {
@@ -27,16 +24,5 @@ earliest_more ds f r n is which below here = record {
 filter_in : (y : Yardstick) (os : List Observation) (n : Observation) → deviates y n ≡ true → filter (deviates y) (os ++ n ∷ []) ≡ filter (deviates y) os ++ n ∷ []
 filter_in y os n e = grind (arith, common_steps, e, filter-append)
 
-filter_out : (y : Yardstick) (os : List Observation) (n : Observation) → deviates y n ≡ false → filter (deviates y) (os ++ n ∷ []) ≡ filter (deviates y) os
-filter_out y os n e = grind (arith, common_steps, e, filter-append)
-
--- nothing deviated so far
-pub first_one : (y : Yardstick) (os : List Observation) (n : Observation) → deviates y n ≡ true → IsFirst y os None → IsFirst y (os ++ n ∷ []) (Some n)
-first_one y os n e none = subst (λ ds. IsEarliest ds n) (sym (filter_in y os n e ∙ ap (λ ds. ds ++ n ∷ []) none)) (earliest_one n)
-
 pub first_more : (y : Yardstick) (os : List Observation) (f r n : Observation) → deviates y n ≡ true → IsFirst y os (Some f) → (r ≡ f) ⊎ (r ≡ n) → r.line ≤ f.line → r.line ≤ n.line → IsFirst y (os ++ n ∷ []) (Some r)
 first_more y os f r n e is which below here = subst (λ ds. IsEarliest ds r) (sym (filter_in y os n e)) (earliest_more (filter (deviates y) os) f r n is which below here)
-
-pub first_same : (y : Yardstick) (os : List Observation) (first : Option Observation) (n : Observation) → deviates y n ≡ false → IsFirst y os first → IsFirst y (os ++ n ∷ []) first
-first_same y os None n e is = filter_out y os n e ∙ is
-first_same y os (Some f) n e is = subst (λ ds. IsEarliest ds f) (sym (filter_out y os n e)) is

@@ -1,6 +1,6 @@
 //! The verdict on what the facts of a trace tell.
 
-ghost use Rattle.std.specs.Prelude.{◌≡◌, IfOk, IfErr};
+ghost use Rattle.std.specs.Prelude.{IfOk, IfErr};
 ghost use Rattle.grub_trace.specs.Reading.{contents};
 ghost use Rattle.grub_verdict.specs.Checking.{AreReadAs, HasText, IsFaultOn, IsJudgedOf, IsVerdictOn};
 

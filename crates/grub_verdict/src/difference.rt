@@ -1,6 +1,6 @@
 //! Numbers of a verdict, and how they are written.
 
-ghost use Rattle.std.specs.Prelude.{◌≡◌, ◌++◌, ◌∷◌, [], ◌<◌, ◌^◌, OnOk, decimal, codes};
+ghost use Rattle.std.specs.Prelude.{◌≡◌, ◌++◌, ◌<◌, ◌^◌, OnOk, decimal};
 ghost use Rattle.grub_verdict.specs.Numbers.{digit, two_digits, three_digits, thousandths, hundredths, seconds, difference, micros, share, rate, sign};
 
 use itoa::Buffer;

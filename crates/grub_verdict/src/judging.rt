@@ -3,9 +3,8 @@
 ghost use Rattle.std.specs.Prelude.{◌≡◌, ◌++◌, ◌/◌, IfOk, OnOk};
 ghost use Rattle.std.specs.List.{flat_map};
 ghost use Rattle.grub_events.specs.Convert.{first_wake, is_wake};
-ghost use Rattle.grub_verdict.specs.Judging.{IsJudged, answered_by, declared_line, deviation, first_line, head_text, heading_of, number_from, number_of, observations, observed_from, refused_by, refused_from, yardstick};
+ghost use Rattle.grub_verdict.specs.Judging.{IsJudged, answered_by, declared_line, deviation, first_line, head_text, heading_of, number_from, number_of, observations, refused_by, refused_from, yardstick};
 ghost use Rattle.grub_verdict.specs.Observed.{no_watch, observed};
-ghost use Rattle.grub_verdict.specs.Texts.{agrees_line};
 
 use crate::answered::answered_of;
 use crate::case::{Case, Judged};

@@ -1,7 +1,7 @@
 //! A block that a trace shows, and what the book and the kernel made of it.
 
 ghost use Rattle.std.specs.Prelude.{◌≡◌, ◌<◌, ◌^◌};
-ghost use Rattle.grub_verdict.specs.Agreement.{agree, are_alike, deviates, distance, is_beyond, lead, lead_of, moment_of_book, moment_of_kernel};
+ghost use Rattle.grub_verdict.specs.Agreement.{agree, are_alike, deviates, is_beyond, lead, lead_of, moment_of_book, moment_of_kernel};
 
 use grub_book::Reading;
 use grub_bw::Server;

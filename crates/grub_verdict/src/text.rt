@@ -1,7 +1,6 @@
 //! The lines of a verdict.
 
-ghost use Rattle.std.specs.Prelude.{◌≡◌, ◌++◌, ◌<◌, ◌≤◌, ◌^◌, length, OnOk, decimal, codes};
-ghost use Rattle.grub_bw.specs.Bandwidth.{IsReservation};
+ghost use Rattle.std.specs.Prelude.{◌≡◌, ◌++◌, ◌<◌, ◌^◌, length, OnOk, decimal};
 ghost use Rattle.grub_verdict.specs.Numbers.{micros};
 ghost use Rattle.grub_verdict.specs.Texts.{agrees_line, armed_line, book_line, book_less_kernel, book_state, by_kernel, charge_line, clock_line, covered_line, deviation_text, differs_line, kernel_charge, kernel_line, kernel_z, lead_after, lead_text, moments_line, moments_text, runqueue_line, runqueues_line, sums, task_line, timers_line, trace_line};
 

@@ -1,6 +1,6 @@
 //! The numbers of a verdict.
 
-ghost use Rattle.std.specs.Prelude.{◌≡◌, ◌≤◌, ◌⊎◌, ◌++◌, ◌∷◌, [], List, OnOk, IfOk, IfSome, MatchOption, length, count_by, is_some, not, ◌&&◌};
+ghost use Rattle.std.specs.Prelude.{◌≡◌, ◌≤◌, ◌⊎◌, ◌++◌, ◌∷◌, [], List, OnOk, IfOk, count_by, is_some, not, ◌&&◌};
 ghost use Rattle.std.specs.List.{filter_map};
 ghost use Rattle.grub_verdict.specs.Agreement.{are_alike, lead_of};
 ghost use Rattle.grub_verdict.specs.declared.observation.Observation.{Observation as Seen};

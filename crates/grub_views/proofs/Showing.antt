@@ -1,50 +1,14 @@
 -- One more of what is drawn.
-use Rattle.std.proofs.Common.{◌≡◌, ℕ, zero, suc, ◌+◌, ◌-◌, ◌<◌, Bool, true, false, List, [], ◌∷◌, ◌++◌, length, get_or, drop, refl, ap, ◌∙◌, sym, append_assoc, arith}
-use Rattle.std.specs.Prelude.{filter, nat_lt, ◌&&◌, Some, map, slice_get}
+use Rattle.std.proofs.Common.{◌≡◌, ℕ, zero, suc, ◌+◌, ◌-◌, ◌<◌, List, [], ◌∷◌, ◌++◌, length, refl, ap, ◌∙◌, sym, append_assoc, arith}
+use Rattle.std.specs.Prelude.{Some, map, slice_get}
 use Rattle.std.specs.List.{flat_map}
-use Rattle.grub_views.specs.Frames.{firsts}
 use Rattle.grub_views.specs.Summary.{count_up}
-use Rattle.grub_views.proofs.Closing.{next_left}
 use Rattle.grub_views.specs.Tallies.{own_steps}
 use Rattle.grub_views.specs.declared.book_steps.Step.{Step}
 use Rattle.grub_views.specs.inside.Scenes.{owns_of}
 use Rattle.grub_views.proofs.Counting.{count_more, map_more}
 use Rattle.std.proofs.lemmas.Grind.{flat_map-append}
 use Rattle.std.proofs.lemmas.List.{map-append, append-nil, length-map}
-
--- the first of these is drawn, and the last column is its own
-first_drawn : {X : Type 0} (g : X → List ℕ) (column : X → ℕ) (p : X → Bool) (last : ℕ) (x : X) (xs : List X) (here : Bool) → p x ≡ here → (here && nat_lt last (column x)) ≡ true
-    → flat_map g (firsts column last (filter p (x ∷ xs))) ≡ g x ++ flat_map g (firsts column (column x) (filter p xs))
-first_drawn g column p last x xs true is right = rw (is, right) refl
-first_drawn g column p last x xs false is right = cc
-
--- it is not drawn
-first_left : {X : Type 0} (g : X → List ℕ) (column : X → ℕ) (p : X → Bool) (last : ℕ) (x : X) (xs : List X) (here : Bool) → p x ≡ here → (here && nat_lt last (column x)) ≡ false
-    → flat_map g (firsts column last (filter p (x ∷ xs))) ≡ flat_map g (firsts column last (filter p xs))
-first_left g column p last x xs true is right = rw (is, right) refl
-first_left g column p last x xs false is right = rw is refl
-
-pub one_drawn : {X : Type 0} (g : X → List ℕ) (column : X → ℕ) (p : X → Bool) (o new whole : List ℕ) (last at i : ℕ) (xs : List X) (x : X) → i < length xs → get_or xs i x ≡ x
-    → at ≡ column x → (p x && nat_lt last at) ≡ true → new ≡ o ++ g x
-    → o ++ flat_map g (firsts column last (filter p (drop i xs))) ≡ whole
-    → new ++ flat_map g (firsts column at (filter p (drop (i + 1) xs))) ≡ whole
-one_drawn {X = X} g column p o new whole last at i xs x below item at_is right new_is is =
-    let whole_left : drop i xs ≡ x ∷ drop (i + 1) xs = next_left xs i x below ∙ rw item refl in
-    let fits : (p x && nat_lt last (column x)) ≡ true = rw at_is at right in
-    rw (new_is, at_is)
-    (append_assoc o (g x) (flat_map g (firsts column (column x) (filter p (drop (i + 1) xs))))
-    ∙ ap (λ (t : List ℕ). o ++ t) (sym (first_drawn g column p last x (drop (i + 1) xs) (p x) refl fits))
-    ∙ ap (λ (ys : List X). o ++ flat_map g (firsts column last (filter p ys))) (sym whole_left) ∙ is)
-
-pub one_left : {X : Type 0} (g : X → List ℕ) (column : X → ℕ) (p : X → Bool) (o whole : List ℕ) (last at i : ℕ) (xs : List X) (x : X) → i < length xs → get_or xs i x ≡ x
-    → at ≡ column x → (p x && nat_lt last at) ≡ false
-    → o ++ flat_map g (firsts column last (filter p (drop i xs))) ≡ whole
-    → o ++ flat_map g (firsts column last (filter p (drop (i + 1) xs))) ≡ whole
-one_left {X = X} g column p o whole last at i xs x below item at_is right is =
-    let whole_left : drop i xs ≡ x ∷ drop (i + 1) xs = next_left xs i x below ∙ rw item refl in
-    let fits : (p x && nat_lt last (column x)) ≡ false = rw at_is at right in
-    ap (λ (t : List ℕ). o ++ t) (sym (first_left g column p last x (drop (i + 1) xs) (p x) refl fits))
-    ∙ ap (λ (ys : List X). o ++ flat_map g (firsts column last (filter p ys))) (sym whole_left) ∙ is
 
 -- the numbers that are left, less one
 pub count_left : (k n : ℕ) → k < n → count_up k (n - k) ≡ k ∷ count_up (k + 1) (n - (k + 1))

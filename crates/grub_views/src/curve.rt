@@ -1,6 +1,6 @@
 //! The curves of a runqueue: its bandwidths over time.
 
-ghost use Rattle.std.specs.Prelude.{◌≡◌, ◌++◌, OnOk, Bool};
+ghost use Rattle.std.specs.Prelude.{◌≡◌, ◌++◌, OnOk};
 ghost use Rattle.grub_views.specs.Curves.{bandwidth_in, class_of, curve_text, is_read, lasts, point_text, points_of, points_text, word_of};
 
 use crate::book_steps::Step;

@@ -1,6 +1,6 @@
 //! The head of a picture and its legend, its time axis, and the scale of a runqueue.
 
-ghost use Rattle.std.specs.Prelude.{◌≡◌, ◌++◌, OnOk, map};
+ghost use Rattle.std.specs.Prelude.{◌≡◌, ◌++◌, OnOk};
 ghost use Rattle.std.specs.List.{flat_map};
 ghost use Rattle.grub_views.specs.Elements.{axis_mark_text, axis_moments, axis_text, head_text, legend, mark_step, scale_mark_text, scale_text, span_text, style, umax_text};
 

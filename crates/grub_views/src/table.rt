@@ -1,8 +1,8 @@
 //! Tables with aligned columns.
 
-ghost use Rattle.std.specs.Prelude.{◌≡◌, ◌++◌, ◌-◌, ◌+◌, ◌%◌, ◌<◌, ◌≤◌, ℕ, OnOk, IfOk, All, length, max, decimal, map, slice_index_or, if◌then◌else◌, ◌==◌, ◌&&◌, [], codes};
+ghost use Rattle.std.specs.Prelude.{◌≡◌, ◌++◌, ◌-◌, ◌+◌, ◌%◌, ◌<◌, ◌≤◌, OnOk, IfOk, length, max, decimal, slice_index_or, if◌then◌else◌, ◌==◌, ◌&&◌, [], codes};
 ghost use Rattle.grub_trace.specs.Plans.{name_at};
-ghost use Rattle.grub_views.specs.Tables.{aligned, cell_text, cells_from, heads, lengths_of, percent_text, placed_text, spaces, table_text, width_from};
+ghost use Rattle.grub_views.specs.Tables.{aligned, cell_text, heads, lengths_of, percent_text, placed_text, spaces, table_text, width_from};
 
 use grub_trace::Plan;
 use itoa::Buffer;

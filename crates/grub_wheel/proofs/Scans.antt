@@ -3,7 +3,7 @@ use Rattle.std.proofs.Common.{◌≡◌, ◌≢◌, ℕ, ◌+◌, ◌-◌, ◌%�
 use Rattle.std.specs.Prelude.{IfSome, IsSomeAnd}
 use Rattle.std.proofs.lemmas.List.{get_or_past}
 use Rattle.grub_wheel.specs.declared.node.Node.{Node}
-use Rattle.grub_wheel.specs.inside.Nodes.{free_node, node_at, Armed, keys, slots, tasks, moments, head_of, AreInSlots, IsFirstOf, IsNarrowNode, IsSooner}
+use Rattle.grub_wheel.specs.inside.Nodes.{free_node, node_at, Armed, keys, slots, tasks, moments, head_of, AreInSlots, IsFirstOf, IsSooner}
 use Rattle.grub_wheel.specs.inside.Used.{IsMapped, mark_of}
 use Rattle.std.proofs.lemmas.Bool.{cases_lt, cases_eq}
 use Rattle.grub_wheel.proofs.Numbers.{some_is, no_both, key_moments, later_key}
@@ -20,10 +20,6 @@ armed_within ns j a = go (cases_lt j (length ns))
     go : (j < length ns) ⊎ (length ns ≤ j) → j < length ns
     go (inl l) = l
     go (inr l) = absurd (no_both (node_at ns j).armed a (ap (λ (n : Node). n.armed) (get_or_past ns j free_node l)))
-
-pub first_narrow : (ns : List Node) (hs : List (Option ℕ)) (P : ℕ → Type 0) (at : Option ℕ) → AreInSlots ns hs → IsFirstOf ns P at → IfSome at (IsNarrowNode ns)
-first_narrow ns hs P None h n = tt
-first_narrow ns hs P (Some i) h f = record { within = armed_within ns i f.armed; narrow = h.narrow i f.armed }
 
 -- ---- the earlier of two
 
@@ -133,12 +129,6 @@ module _ (ns : List Node) (hs : List (Option ℕ)) (sound : AreInSlots ns hs) (f
 
   pub head_first : (k : ℕ) → IsFirstOf ns (λ i. slots ns i ≡ (from + k) % 256) (head_of hs ((from + k) % 256))
   head_first k = sound.chained.heads ((from + k) % 256) (omega arith)
-
-  pub head_narrow : (k : ℕ) → IfSome (head_of hs ((from + k) % 256)) (IsNarrowNode ns)
-  head_narrow k = first_narrow ns hs (λ i. slots ns i ≡ (from + k) % 256) (head_of hs ((from + k) % 256)) sound (head_first k)
-
-  pub best_narrow : (k : ℕ) (best : Option ℕ) → IsScanned ns from m k best → IfSome best (IsNarrowNode ns)
-  best_narrow k best sc = first_narrow ns hs (λ i. (moments ns i ≤ m) × ((moments ns i - from) % 256 < k)) best sound sc.seen
 
   module _ (us : List ℕ) (mapped : IsMapped us hs) (k slot next at : ℕ) (e : slot ≡ (from + k) % 256) (lo : slot ≤ next) (hi : next ≤ 256)
       (none : (r : ℕ) → slot ≤ r → r < next → mark_of us r ≡ 0) (is : at ≡ k + (next - slot)) (kl : k < 256) where

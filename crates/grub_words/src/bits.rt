@@ -1,6 +1,6 @@
 //! Numbers side by side in a word. Bit 0 is the lowest.
 
-ghost use Rattle.std.specs.Prelude.{◌≡◌, ◌+◌, ◌*◌, ◌/◌, ◌%◌, ◌^◌, ◌<◌, ◌≤◌};
+ghost use Rattle.std.specs.Prelude.{◌≡◌, ◌+◌, ◌*◌, ◌/◌, ◌%◌, ◌^◌, ◌<◌};
 
 /// A number of `width` bits, with another above it.
 pub(crate) fn join(low: u64, width: u32, high: u64) -> u64

@@ -5,7 +5,7 @@ ghost use Rattle.grub_bw.specs.Bandwidth.{Reservation, IsReservation, IsCapacity
 ghost use Rattle.grub_bw.specs.declared.server.Server.{Server};
 ghost use Rattle.grub_book.specs.Machine.{Machine, IsMachine, queue_at};
 ghost use Rattle.grub_book.specs.Step.{count_most};
-ghost use Rattle.grub_book.specs.Sums.{Records, record_at, reading_of};
+ghost use Rattle.grub_book.specs.Sums.{Records, reading_of};
 ghost use Rattle.grub_book.specs.Sound.{IsKept, IsSound};
 ghost use Rattle.grub_book.specs.declared.event.Reading.{Reading};
 ghost use Rattle.grub_book.specs.declared.place.Place.{Place};

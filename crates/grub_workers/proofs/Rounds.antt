@@ -1,5 +1,5 @@
 -- One round of an ask.
-use Rattle.std.proofs.Common.{◌≡◌, ℕ, ◌+◌, ◌≤◌, true, false, cond, None, List, [], ◌∷◌, sym, ap, ◌∙◌, subst, ⊎_elim, inl, inr, arith, append-nil}
+use Rattle.std.proofs.Common.{◌≡◌, ℕ, ◌+◌, true, false, cond, None, List, [], ◌∷◌, sym, ap, ◌∙◌, subst, ⊎_elim, inl, inr, arith, append-nil}
 use Rattle.grub_book.specs.Step.{changes_sum, refused, runqueue_of}
 use Rattle.grub_book.specs.Sums.{record_at}
 use Rattle.grub_book.specs.History.{HasChanged, book_of, calls_of, pass_of, IsLegal, StartsWith}
@@ -22,9 +22,9 @@ use Rattle.grub_table.specs.Layout.{shown}
 use Rattle.grub_table.specs.Histories.{IsHistory, EndsWith, record_in}
 use Rattle.grub_table.specs.Knowing.{GoesOn, Learns}
 use Rattle.grub_table.proofs.Growths.{learns_none, learns_twice}
-use Rattle.grub_table.specs.Calls.{IsPassOf, IsAnswered, IsTaken, IsBusy, IsDone, IsLost, IsCancelled, IsSighting, IsClaimedSighting, number_of, share_of, claim_number, claim_share, claim_task, claim_op, claim_record, claim_queue, claim_changes_sum, seen, marks, claim_seen, marks_of_call, terms}
+use Rattle.grub_table.specs.Calls.{IsPassOf, IsTaken, IsBusy, IsDone, IsLost, IsCancelled, IsSighting, IsClaimedSighting, number_of, share_of, claim_number, claim_share, claim_task, claim_op, claim_record, claim_queue, claim_changes_sum, seen, marks, claim_seen, marks_of_call, terms}
 use Rattle.grub_trace.specs.declared.entry.Ask.TheVariants.{Call}
-use Rattle.grub_trace.specs.declared.entry.Answer.TheVariants.{Replied, Busy, Lost}
+use Rattle.grub_trace.specs.declared.entry.Answer.TheVariants.{Replied, Lost}
 use Rattle.grub_workers.specs.inside.Evidence.{ShowsHolder}
 use Rattle.grub_asks.specs.Keeping.{IsBlockBefore, WaitsRightly}
 use Rattle.grub_workers.specs.inside.Working.{IsAsked, machine}
@@ -66,16 +66,7 @@ module _ (s : Shared) (p : Pass) (t : ℕ) (asked : Op) where
       }
 
   -- ---- a round that was answered by `start`
-  pub answered_round : (tries round : ℕ) (now q : Pass) (reply : Reply) → IsFree s round p t now → IsAnswered s now t asked q reply → IsAsked s tries p (Call t asked) q (Replied reply)
-  answered_round tries round now q reply a b = record {
-    of = b.of;
-    learns = learns_twice (share_of p) (share_of now) (share_of q) [] (events.Call (number_of p) t asked reply ∷ []) [] (marks_of_call (number_of p) t reply) a.learns
-        (subst (λ n. Learns (share_of now) (share_of q) (events.Call n t asked reply ∷ []) (marks_of_call n t reply)) a.learns.number b.learns);
-    backed = tt;
   }
-
-  pub answered_waits : (now q : Pass) (reply : Reply) → IsAnswered s now t asked q reply → WaitsRightly asked (Replied reply)
-  answered_waits now q reply b ticket z is = waits_last (terms s) (number_of now) t asked reply (seen q) b.of.history b.last ticket z (let same : reply ≡ replies.Waiting ticket z = cc in same)
 
   -- ---- a round that took the task
   pub taken_round : (round : ℕ) (now : Pass) (c : Claim) → IsFree s round p t now → IsTaken s now t asked c → IsHolding s p t asked c
@@ -122,8 +113,6 @@ module _ (s : Shared) (p : Pass) (t : ℕ) (asked : Op) where
       subst (IsBlockBefore z) a.op (waits_last (terms s) (claim_number c) (claim_task c) (claim_op c) reply (seen q) b.of.history (b.before.0, b.before.1) ticket z same)
 
   -- ---- after the last round
-  pub gave_up_busy : (tries round : ℕ) (q : Pass) → 1 ≤ round → IsFree s round p t q → IsAsked s tries p (Call t asked) q Busy
-  gave_up_busy tries round q some a = record { of = a.of; learns = a.learns; backed = a.busy some }
 
   pub gave_up_lost : (tries : ℕ) (c : Claim) (q : Pass) → HasLost s tries p t asked c → IsCancelled s c q → IsAsked s tries p (Call t asked) q Lost
   gave_up_lost tries c q a b =

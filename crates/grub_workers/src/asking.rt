@@ -1,5 +1,5 @@
 //! One ask of an op: rounds of `start` and `finish`.
-ghost use Rattle.std.specs.Prelude.{◌≡◌, ◌<◌, ◌≤◌, length};
+ghost use Rattle.std.specs.Prelude.{◌<◌, ◌≤◌, length};
 ghost use Rattle.grub_book.specs.Op.{IsOp};
 ghost use Rattle.grub_table.specs.Calls.{IsPassOf, terms};
 ghost use Rattle.grub_trace.specs.declared.entry.Ask.TheVariants.{Call};

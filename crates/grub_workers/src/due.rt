@@ -1,6 +1,5 @@
 //! Timers that are due.
-ghost use Rattle.std.specs.Prelude.{◌≡◌, ◌<◌, ◌≤◌, ◌^◌, Some, IfOk, length};
-ghost use Rattle.grub_table.specs.Calls.{terms};
+ghost use Rattle.std.specs.Prelude.{◌≡◌, ◌<◌, ◌≤◌, ◌^◌, Some, IfOk};
 ghost use Rattle.grub_asks.specs.Asked.{AsksDue};
 ghost use Rattle.grub_workers.specs.inside.Working.{IsAtWork, IsNotPast};
 

@@ -1,5 +1,5 @@
 //! The work of one thread, and what its join promises.
-ghost use Rattle.std.specs.Prelude.{◌≡◌, ◌<◌, ◌≤◌, IfOk, length};
+ghost use Rattle.std.specs.Prelude.{◌<◌, ◌≤◌, IfOk, length};
 ghost use Rattle.grub_table.specs.Calls.{IsNew, terms};
 ghost use Rattle.grub_trace.specs.Limits.{ScriptFits};
 ghost use Rattle.grub_workers.specs.inside.Working.{IsWorked};

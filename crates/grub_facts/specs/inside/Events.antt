@@ -1,18 +1,10 @@
 -- The texts that the slices of an event point to.
-use Rattle.std.specs.Prelude.{ℕ, Bool, ◌||◌, List, length, take, codes, slice_range, Option, Some, None, if◌then◌else◌, option_map, option_and_then, unwrap_or}
-use Rattle.std.specs.Option.{option_or}
-use Rattle.std.specs.Str.{bytes_eq}
+use Rattle.std.specs.Prelude.{ℕ, List}
 use Rattle.std.specs.Borrow.{Bor}
-use Rattle.grub_facts.specs.Numbers.{after, before_end}
-use Rattle.grub_facts.specs.Words.{behind, cpu_field, deadline_field, number_field, place_of, value_of}
-use Rattle.grub_facts.specs.Opening.{running}
 use Rattle.grub_facts.specs.declared.event.Shown.{Shown}
 use Rattle.grub_facts.specs.declared.event.Event.{Event}
 use Rattle.grub_facts.specs.declared.event.Event.TheVariants.{Woken, Migrated, Ran, Switched, Armed, Started, Cancelled, Expired}
 use Rattle.grub_facts.specs.declared.event.Said.{Said}
-use Rattle.grub_facts.specs.declared.event.Verb.{Verb}
-use Rattle.grub_facts.specs.declared.event.Verb.TheVariants.{Wakeup, Migrate, Runtime, Switch, Start, Cancel, Expire}
-use Rattle.grub_facts.specs.declared.opening.Opening.{Opening}
 use Rattle.grub_facts.specs.Events.{ShownWith}
 
 abbrev pub shown_text : Shown (Bor (List ℕ)) → Shown (List ℕ)

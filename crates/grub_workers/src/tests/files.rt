@@ -1,5 +1,5 @@
 //! Plans of event files, and the text of an outcome.
-ghost use Rattle.std.specs.Prelude.{◌≡◌, ◌≤◌, length, IfOk};
+ghost use Rattle.std.specs.Prelude.{◌≤◌};
 ghost use Rattle.grub_workers.specs.Runs.{AllAsksOf};
 
 use crate::{Gate, Outcome, RunFault, run};

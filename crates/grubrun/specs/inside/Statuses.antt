@@ -3,13 +3,7 @@ use Rattle.std.specs.Prelude.{◌≡◌, ◌⊎◌, ℕ, List, Option}
 use Rattle.std.specs.Io.KnownBytes.{Appends}
 use Rattle.clap.specs.declared.error.kind.ErrorKind.{ErrorKind}
 use Rattle.clap.specs.declared.error.kind.ErrorKind.TheVariants as kinds
-use Rattle.grub_files.specs.declared.input.Source.{Source}
-use Rattle.grub_files.specs.Source.{Opener, Reader}
-use Rattle.grub_serve.specs.Printed.{HasEmptySpan, PrintsBeginning, PrintsReports, PrintsView, PrintsViewBeginning}
 use Rattle.grub_command.specs.declared.texts.TheConstants.{HELP, VERSION}
-use Rattle.grub_command.specs.CommandLine.{AsksForHelp, AsksForVersion, TriesNamed, files_named}
-use Rattle.grubrun.specs.Views.{Wants}
-use Rattle.grubrun.specs.declared.view.Wanted.{Wanted}
 use Rattle.grubrun.specs.declared.view.Wanted.TheVariants as wishes
 
 -- the text of what a parse answered was printed

@@ -1,4 +1,4 @@
-use Rattle.std.proofs.Common.{◌≡◌, ◌<◌, ◌≤◌, reverse, ℕ, Option, None, length, drop, get_or}
+use Rattle.std.proofs.Common.{◌≡◌, ◌<◌, ◌≤◌, reverse, ℕ, None, length, drop, get_or}
 use Rattle.grub_events.specs.Rules.{sent_to}
 use Rattle.grub_events.specs.inside.Rules.{destinations_of}
 use Rattle.grub_events.proofs.landing.destinations_back.Given as goal

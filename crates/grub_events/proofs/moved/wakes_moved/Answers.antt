@@ -1,4 +1,4 @@
-use Rattle.std.proofs.Common.{rules, arith}
+use Rattle.std.proofs.Common.{rules}
 use Rattle.grub_facts.specs.declared.fact.What.TheVariants.{Wakes}
 use Rattle.grub_events.proofs.RuleLemmas.{moved_step}
 use Rattle.grub_events.proofs.moved.wakes_moved.Goals as goal

@@ -1,4 +1,4 @@
-use Rattle.std.proofs.Common.{rules, refl, sym, get_or}
+use Rattle.std.proofs.Common.{rules, refl, get_or}
 use Rattle.grub_events.specs.Order.{is_beyond}
 use Rattle.grub_events.specs.declared.event.Act.TheVariants.{Join}
 use Rattle.grub_events.specs.declared.event.Event.{Event}

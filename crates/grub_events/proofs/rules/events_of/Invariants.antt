@@ -1,4 +1,4 @@
-use Rattle.std.proofs.Common.{◌≡◌, ◌++◌, drop, length, replicate}
+use Rattle.std.proofs.Common.{◌≡◌, ◌++◌, drop, replicate}
 use Rattle.grub_events.specs.Rules.{told_all}
 use Rattle.grub_events.specs.inside.Rules.{destinations_of}
 use Rattle.grub_events.specs.declared.standing.Standing.TheVariants.{Unseen}

@@ -1,4 +1,4 @@
-use Rattle.std.proofs.Common.{arith, take, ◌≤◌, length}
+use Rattle.std.proofs.Common.{arith, take}
 use Rattle.std.proofs.lemmas.List.{length-take-le}
 use Rattle.grub_files.proofs.RoomLemmas.{front_filled, of_both}
 use Rattle.grub_files.proofs.input.read_behind.Goals as goal
