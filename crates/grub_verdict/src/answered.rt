@@ -10,7 +10,7 @@ use grub_bw::Server;
 use grub_events::{Event, Placed};
 use grub_facts::Fact;
 use grub_trace::{Answer, Ask};
-use grub_views::{Change, Step};
+use grub_views::{Change, Step, charge_in, run_of, server_before};
 use std::alloc::{AllocError, Global};
 
 /// An event of the trace as the book answered it.
@@ -92,15 +92,6 @@ fn server_after(answer: Answer, before: Server) -> Server
     }
 }
 
-fn server_before(change: Option<Change>) -> Server
-    ensures { result ≡ server_before change }
-{
-    match change {
-        Some(change) => change.server,
-        None => Server { q: 0, d: 0 },
-    }
-}
-
 fn zero_lag_of(answer: Answer) -> Option<u32>
     ensures { result ≡ zero_lag_of answer }
 {
@@ -118,50 +109,6 @@ pub fn is_no_room(answer: Answer) -> bool
         answer,
         Answer::Replied(Reply::Full | Reply::DeadlineOverflow)
     )
-}
-
-fn run_of(ask: Ask, answer: Answer) -> u32
-    ensures { result ≡ run_of ask answer }
-{
-    match (ask, answer) {
-        (
-            Ask::Call {
-                t: _,
-                op: Op::Charge { r: _, dt },
-            },
-            Answer::Replied(
-                Reply::Charged {
-                    dq: _,
-                    k: _,
-                    q: _,
-                    d: _,
-                },
-            ),
-        ) => dt,
-        _ => 0,
-    }
-}
-
-fn charge_in(ask: Ask, answer: Answer) -> u64
-    ensures { result ≡ charge_in ask answer }
-{
-    match (ask, answer) {
-        (
-            Ask::Call {
-                t: _,
-                op: Op::Charge { r: _, dt: _ },
-            },
-            Answer::Replied(
-                Reply::Charged {
-                    dq,
-                    k: _,
-                    q: _,
-                    d: _,
-                },
-            ),
-        ) => dq,
-        _ => 0,
-    }
 }
 
 /// An event, and the step that answers it.

@@ -10,7 +10,7 @@ use grub_bw::{Params, Queue};
 use grub_events::{Act, Placed, Source, Standing};
 use grub_facts::{Fact, What};
 use grub_trace::{Answer, Ask};
-use grub_views::Step;
+use grub_views::{Step, recharges_in};
 use std::alloc::{AllocError, Global};
 
 /// 1 where a fact is that the kernel cancelled the timer of a task that was seen before, else 0.
@@ -159,22 +159,6 @@ pub fn count_left_charges(setup: &Setup, queue: Queue, steps: &[Step]) -> usize
         .iter()
         .filter(|x| is_left_charge(setup, queue, x))
         .count()
-}
-
-fn recharges_in(answer: Answer) -> u32
-    ensures { result ≡ recharges_in answer }
-{
-    match answer {
-        Answer::Replied(
-            Reply::Charged {
-                dq: _,
-                k,
-                q: _,
-                d: _,
-            },
-        ) => k,
-        _ => 0,
-    }
 }
 
 /// How often budgets were recharged.

@@ -31,6 +31,7 @@ pub use lines::write_timeline;
 pub use mark::Mark;
 pub use picture::{end_of, marked_picture_text, picture_text};
 pub use rows::write_steps;
+pub use said::{charge_in, recharges_in, run_of, server_before};
 pub use summary::summary_text;
 
 #[cfg(test)]

@@ -8,6 +8,7 @@ use grub_book::{Op, Reply};
 use grub_bw::Server;
 use grub_trace::{Answer, Ask};
 
+/// How long the task ran, in moments, where a step charges a run, and else 0.
 pub fn run_of(ask: Ask, answer: Answer) -> u32
     ensures { result ≡ run_of ask answer }
 {
@@ -30,6 +31,7 @@ pub fn run_of(ask: Ask, answer: Answer) -> u32
     }
 }
 
+/// What a step charges, in moments of budget, and where it charges nothing 0.
 pub fn charge_in(ask: Ask, answer: Answer) -> u64
     ensures { result ≡ charge_in ask answer }
 {
@@ -52,6 +54,7 @@ pub fn charge_in(ask: Ask, answer: Answer) -> u64
     }
 }
 
+/// How often a charge recharged the budget.
 pub fn recharges_in(answer: Answer) -> u32
     ensures { result ≡ recharges_in answer }
 {
@@ -122,6 +125,7 @@ pub fn is_retired(answer: Answer) -> bool
     }
 }
 
+/// The task's server before a step that changes one, and else a server of nothing.
 pub fn server_before(change: Option<Change>) -> Server
     ensures { result ≡ server_before change }
 {
