@@ -1,9 +1,11 @@
 -- What a writer holds after a text was handed to it.
-use Rattle.std.proofs.Common.{◌≡◌, ℕ, ◌++◌, List, [], take, ap, ◌∙◌, sym, Option, Some, None, Result, Ok, Err, length, append-nil}
-use Rattle.std.specs.Prelude.{OnOk}
+use Rattle.std.proofs.Common.{◌≡◌, ℕ, ◌++◌, List, [], take, drop, ap, ◌∙◌, sym, append_assoc, Option, Some, None, length, append-nil}
+use Rattle.std.specs.Io.KnownBytes.{Appends}
 use Rattle.std.proofs.Math.Seq.{take-append_seam}
-use Rattle.grub_trace.specs.Writing.{HandsPart}
+use Rattle.std.proofs.lemmas.List.{take-append-drop}
+use Rattle.grub_trace.specs.Writing.{HandsOn, HandsPart}
 use Rattle.grub_run.specs.Written.{AppendsPrefix}
+use Rattle.grub_run.proofs.Known.{prefix_of}
 
 pub handed_part : (a b : Option (List ℕ)) (text : List ℕ) → HandsPart a b text [] → AppendsPrefix a b text
 handed_part None b text h = tt
@@ -13,7 +15,25 @@ handed_part (Some xs) (Some ys) text h =
     let all : text ≡ told ++ h.0 = sym (append-nil text) ∙ h.1.2 in
     (length told, h.1.1 ∙ ap (λ l. xs ++ l) (sym (ap (take (length told)) all ∙ take-append_seam told h.0)))
 
--- what holds, holds of a success
-pub on_ok : {U E P : Type 0} (r : Result U E) → P → OnOk r P
-on_ok (Ok u) p = p
-on_ok (Err e) p = tt
+-- the same of a text that came after an empty buffer
+pub begun : (a b : Option (List ℕ)) (text : List ℕ) → HandsPart a b [] text → AppendsPrefix a b text
+begun a b text h = prefix_of a b text [] text h (sym (append-nil text))
+
+-- what was left of a text was written too
+pub drained : (a b c : Option (List ℕ)) (text left : List ℕ) → HandsOn a b [] text left → Appends b c left → Appends a c text
+drained None b c text left h k = tt
+drained (Some xs) None c text left h k = absurd h
+drained (Some xs) (Some ys) None text left h k = absurd k
+drained (Some xs) (Some ys) (Some zs) text left h k =
+    k ∙ ap (λ l. l ++ left) h.1 ∙ append_assoc xs h.0 left ∙ ap (λ l. xs ++ l) (sym h.2)
+
+-- a beginning of what was left was written
+pub drained_part : (a b c : Option (List ℕ)) (text left : List ℕ) → HandsOn a b [] text left → AppendsPrefix b c left → AppendsPrefix a c text
+drained_part None b c text left h k = tt
+drained_part (Some xs) None c text left h k = absurd h
+drained_part (Some xs) (Some ys) None text left h k = absurd k
+drained_part (Some xs) (Some ys) (Some zs) text left h k =
+    let told = h.0 ++ take k.0 left in
+    let more : zs ≡ xs ++ told = k.1 ∙ ap (λ l. l ++ take k.0 left) h.1 ∙ append_assoc xs h.0 (take k.0 left) in
+    let whole : text ≡ told ++ drop k.0 left = h.2 ∙ ap (λ l. h.0 ++ l) (sym (take-append-drop k.0 left)) ∙ sym (append_assoc h.0 (take k.0 left) (drop k.0 left)) in
+    prefix_of (Some xs) (Some zs) told (drop k.0 left) text ([], (told, more, sym (append-nil told))) whole

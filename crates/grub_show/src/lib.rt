@@ -2,6 +2,7 @@
 #![tactic(auto)]
 
 mod fault;
+mod ready;
 mod view;
 
 pub use fault::ShowFault;

@@ -14,11 +14,11 @@ ghost use Rattle.grub_show.specs.Shown.{Shows, ShowsBeginning};
 ghost use Rattle.grub_show.specs.inside.Showing.{BeginsLine, IsFaultOfLine, WritesLine};
 
 use crate::fault::ShowFault;
+use crate::ready::Ready;
 use grub_book::Book;
-use grub_lines::Blocks;
 use grub_run::GrubFault;
-use grub_timeline::{Playing, Told, play};
-use grub_trace::{LINE_MAX, Plan, read_files_by_threads, report_buffer, write_buffer};
+use grub_timeline::play;
+use grub_trace::{Plan, read_files_by_threads, write_buffer};
 use grub_views::{Step, end_of, picture_text, summary_text, write_steps, write_timeline};
 use std::alloc::Global;
 use std::io;
@@ -107,45 +107,32 @@ fn write_lines<R: Threads + Sync, W: Write>(
     ensures nothing { IfErr result (λ e. (e ≡ write_fault → ⊥) → out.new ≡ out.old) }
     ensures fault { IfErr result (IsFaultOfLine View.Timeline plan.now) }
 {
-    let Ok(playing) = Playing::new(alloc, plan) else {
+    let Some(ready) = Ready::new(alloc, plan) else {
         return Err(ShowFault::Grub(GrubFault::View));
     };
-    let Ok(latest) = Vec::with_capacity(alloc, playing.most()) else {
-        return Err(ShowFault::Grub(GrubFault::View));
-    };
-    let Ok(buffer) = report_buffer(alloc) else {
-        return Err(ShowFault::Grub(GrubFault::View));
-    };
-    let Ok(blocks) = Blocks::new(alloc) else {
-        return Err(ShowFault::Grub(GrubFault::View));
-    };
-    match lines_through(rt, blocks, buffer, plan, latest, playing, out) {
+    match lines_through(rt, ready, plan, out) {
         Ok(()) => Ok(()),
         Err(_) => Err(ShowFault::Grub(GrubFault::WriteFault)),
     }
 }
 
-/// Plays a time line of which nothing was played yet, writes its lines through a buffer, and flushes.
+/// Plays a time line, writes its lines, and flushes.
 fn lines_through<R: Threads + Sync, W: Write>(
     rt: &R,
-    blocks: Blocks,
-    buffer: Vec<u8>,
+    ready: Ready<'_>,
     plan: &Plan,
-    latest: Vec<Told>,
-    playing: Playing<'_>,
     out: &mut W,
 ) -> io::Result<()>
-    requires plan { playing.plan ≡ plan.now }
-    requires nothing { playing.told ≡ [] }
-    requires latest { length plan.now.setup.tasks + 3 ≤ vec_capacity latest }
-    requires empty { buffer.items ≡ [] }
-    requires room { LINE_MAX ≤ vec_capacity buffer }
+    requires plan { ready.playing.plan ≡ plan.now }
     ensures whole { OnOk result (WritesLine View.Timeline plan.now (W.contents out.old) (W.contents out.new)) }
     ensures part { OnErr result (BeginsLine View.Timeline plan.now (W.contents out.old) (W.contents out.new)) }
 {
-    let mut blocks = blocks;
-    let mut buffer = buffer;
-    let mut latest = latest;
+    let Ready {
+        playing,
+        mut latest,
+        mut blocks,
+        mut buffer,
+    } = ready;
     write_timeline(
         rt,
         &mut blocks,
@@ -155,8 +142,7 @@ fn lines_through<R: Threads + Sync, W: Write>(
         &mut latest,
         playing,
     )?;
-    write_buffer(&mut buffer, out)?;
-    out.flush()
+    write_text(buffer, out)
 }
 
 /// Plays the plan, and writes the steps of its time line.
@@ -171,59 +157,46 @@ fn write_rows<R: Threads + Sync, W: Write>(
     ensures nothing { IfErr result (λ e. (e ≡ write_fault → ⊥) → out.new ≡ out.old) }
     ensures fault { IfErr result (IsFaultOfLine View.Steps plan.now) }
 {
-    let Ok(playing) = Playing::new(alloc, plan) else {
+    let Some(ready) = Ready::new(alloc, plan) else {
         return Err(ShowFault::Grub(GrubFault::View));
     };
-    let Ok(latest) = Vec::with_capacity(alloc, playing.most()) else {
-        return Err(ShowFault::Grub(GrubFault::View));
-    };
-    let Ok(steps) = Vec::with_capacity(alloc, latest.capacity()) else {
+    let room = ready.latest.capacity();
+    let Ok(steps) = Vec::with_capacity(alloc, room) else {
         return Err(ShowFault::Grub(GrubFault::View));
     };
     let Ok(book) = Book::new(alloc, plan.setup()) else {
         return Err(ShowFault::Grub(GrubFault::View));
     };
-    let Ok(buffer) = report_buffer(alloc) else {
-        return Err(ShowFault::Grub(GrubFault::View));
-    };
-    let Ok(blocks) = Blocks::new(alloc) else {
-        return Err(ShowFault::Grub(GrubFault::View));
-    };
-    match rows_through(rt, blocks, buffer, plan, book, latest, steps, playing, out) {
+    match rows_through(rt, ready, plan, book, steps, out) {
         Ok(()) => Ok(()),
         Err(_) => Err(ShowFault::Grub(GrubFault::WriteFault)),
     }
 }
 
-/// Plays a time line of which nothing was played yet, writes its steps, by a book that was asked nothing yet, through a
-/// buffer, and flushes.
+/// Plays a time line, writes its steps, by a book that was asked nothing yet, and flushes.
 fn rows_through<R: Threads + Sync, W: Write>(
     rt: &R,
-    blocks: Blocks,
-    buffer: Vec<u8>,
+    ready: Ready<'_>,
     plan: &Plan,
     book: Book<'_>,
-    latest: Vec<Told>,
     steps: Vec<Step>,
-    playing: Playing<'_>,
     out: &mut W,
 ) -> io::Result<()>
-    requires plan { playing.plan ≡ plan.now }
-    requires nothing { playing.told ≡ [] }
+    requires plan { ready.playing.plan ≡ plan.now }
     requires setup { book.setup ≡ plan.now.setup }
     requires book { book.records ≡ opening_book plan.now.setup }
-    requires latest { length plan.now.setup.tasks + 3 ≤ vec_capacity latest }
-    requires steps { playing.most ≤ vec_capacity steps }
-    requires waiting { vec_capacity latest ≤ vec_capacity steps }
-    requires empty { buffer.items ≡ [] }
-    requires room { LINE_MAX ≤ vec_capacity buffer }
+    requires steps { ready.playing.most ≤ vec_capacity steps }
+    requires waiting { vec_capacity ready.latest ≤ vec_capacity steps }
     ensures whole { OnOk result (WritesLine View.Steps plan.now (W.contents out.old) (W.contents out.new)) }
     ensures part { OnErr result (BeginsLine View.Steps plan.now (W.contents out.old) (W.contents out.new)) }
 {
-    let mut blocks = blocks;
-    let mut buffer = buffer;
+    let Ready {
+        playing,
+        mut latest,
+        mut blocks,
+        mut buffer,
+    } = ready;
     let mut book = book;
-    let mut latest = latest;
     let mut steps = steps;
     write_steps(
         rt,
@@ -236,8 +209,7 @@ fn rows_through<R: Threads + Sync, W: Write>(
         &mut steps,
         playing,
     )?;
-    write_buffer(&mut buffer, out)?;
-    out.flush()
+    write_text(buffer, out)
 }
 
 /// Plays the plan, and writes the summary of its time line.

@@ -1,0 +1,44 @@
+//! What the views that are written while they are played take memory for.
+
+ghost use Rattle.std.specs.Prelude.{◌≡◌, ◌+◌, ◌≤◌, [], IfSome, length, vec_capacity};
+ghost use Rattle.grub_trace.specs.declared.pieces.TheConstants.{LINE_MAX};
+
+use grub_lines::Blocks;
+use grub_timeline::{Playing, Told};
+use grub_trace::{Plan, report_buffer};
+use std::alloc::Global;
+
+/// A time line of which nothing was played yet, and room to write it line by line.
+#[derive(Drop)]
+pub struct Ready<'a> {
+    pub playing: Playing<'a>,
+
+    /// The entries that were played last.
+    pub latest: Vec<Told>,
+
+    pub blocks: Blocks,
+    pub buffer: Vec<u8>,
+    ghost nothing: { playing.told ≡ [] },
+    ghost holds: { playing.most ≤ vec_capacity latest },
+    ghost waiting: { length playing.plan.setup.tasks + 3 ≤ vec_capacity latest },
+    ghost empty: { buffer.items ≡ [] },
+    ghost room: { LINE_MAX ≤ vec_capacity buffer },
+}
+
+impl<'a> Ready<'a> {
+    /// Takes the memory. `None` where the allocator refused.
+    pub fn new(alloc: Global, plan: &'a Plan) -> Option<Ready<'a>>
+        ensures plan { IfSome result (λ x. x.playing.plan ≡ plan.now) }
+    {
+        let playing = Playing::new(alloc, plan).ok()?;
+        let latest = Vec::with_capacity(alloc, playing.most()).ok()?;
+        let blocks = Blocks::new(alloc).ok()?;
+        let buffer = report_buffer(alloc).ok()?;
+        Some(Ready {
+            playing,
+            latest,
+            blocks,
+            buffer,
+        })
+    }
+}
