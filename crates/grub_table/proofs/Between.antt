@@ -29,7 +29,7 @@ use Rattle.grub_table.specs.inside.Trails.{each_after, known, lone, trail}
 use Rattle.grub_table.specs.inside.Views.{alone}
 use Rattle.grub_table.proofs.Turns.{under}
 
--- what a step tells, in terms of the table's own setup
+-- what a seat's one pass made
 made_after : (s : Shared) (old new : TheSeat) (a : Access) → IsSeatOf s old → new.me.0.made ≡ each_after old.me.0.made a → new.me.0.made ≡ (made_on old ++ a ∷ []) ∷ []
 made_after s old new a is made = made ∙ ap (λ m. each_after m.0.made a) is.single
 
@@ -41,6 +41,7 @@ made_more s old new a is made = ap head_made (made_after s old new a is made)
 pub made_at : (s : Shared) (old new : TheSeat) (k : ℕ → Access) (i j : ℕ) → IsSeatOf s old → new.me.0.made ≡ each_after old.me.0.made (k i) → i ≡ j → made_on new ≡ made_on old ++ k j ∷ []
 made_at s old new k i j is made at = made_more s old new (k i) is made ∙ ap (λ w. made_on old ++ k w ∷ []) at
 
+-- what a step tells, in terms of the table's own setup
 pub tells_of : (s : Shared) (P : Terms → Share → Share → Type 0) (old new : TheSeat) (a : Access) → IsSeatOf s old → new.table_id ≡ old.table_id → Turns {S = Note} P (known old.me) (known new.me) → new.me.0.made ≡ each_after old.me.0.made a
     → Tells s P old new
 tells_of s P old new a is same t made = record {

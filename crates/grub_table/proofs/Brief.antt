@@ -1,18 +1,13 @@
 -- How many accesses the steps of a call make together.
-use Rattle.std.proofs.Common.{◌≡◌, ◌≢◌, ℕ, zero, suc, ◌+◌, ◌*◌, ◌<◌, ◌≤◌, Bool, true, false, cond, List, [], ◌∷◌, ◌++◌, length, Some, sym, refl, ap, ◌∙◌, subst, ⊎_elim, arith, append_assoc, append-nil, length-append, eqb, eq-eqb}
+use Rattle.std.proofs.Common.{◌≡◌, ◌≢◌, ℕ, zero, suc, ◌+◌, ◌*◌, ◌<◌, ◌≤◌, Bool, true, false, cond, List, [], ◌∷◌, ◌++◌, length, Some, sym, refl, ap, ◌∙◌, subst, ⊎_elim, arith, append_assoc, length-append, eqb, eq-eqb}
 use Rattle.std.proofs.lemmas.List.Sums.{sum_by-append}
 use Rattle.std.proofs.lemmas.Bool.{ne_eqb}
 use Rattle.grub_book.specs.declared.place.Record.{Record}
 use Rattle.grub_book.specs.declared.reply.Reply.{Reply}
-use Rattle.grub_table.specs.declared.pass.Claim.{Claim}
-use Rattle.grub_table.specs.declared.pass.Finished.{Finished}
-use Rattle.grub_table.specs.declared.pass.Shared.{Shared}
-use Rattle.grub_table.specs.declared.pass.Finished.TheVariants.{Done, Held}
 use Rattle.grub_table.specs.declared.view.Access.{Access}
 use Rattle.grub_table.specs.declared.view.Access.TheVariants.{Load, Store, Exchange}
 use Rattle.grub_table.specs.Accesses.{is_exchange_of, exchanges_of, lost_tries, FinishesBriefly, StartsBriefly}
 use Rattle.grub_table.specs.inside.Brief.{StoresFew, TriesOnce}
-use Rattle.grub_table.specs.Calls.{claim_changes_sum, IsFinished, IsWithin}
 use Rattle.grub_table.proofs.Tries.{is_not}
 
 exchanges_more : (w : ℕ) (xs ys : List Access) → exchanges_of w (xs ++ ys) ≡ exchanges_of w xs + exchanges_of w ys
@@ -26,11 +21,6 @@ counts_none : (v w : ℕ) → v ≢ w → ◌≡◌ {A = ℕ} (cond (eqb v w) 1 
 counts_none v w other = ap (λ b. cond b 1 0) (ne_eqb v w other)
 
 -- ---- stores
-pub stores_none : (before after : List Access) → after ≡ before → StoresFew 1 before after
-stores_none before after is = record { made = []; grown = is ∙ sym (append-nil before); stores = λ w. refl; few = omega arith }
-
-pub stores_one : (before after : List Access) (w : ℕ) → after ≡ before ++ Store w ∷ [] → StoresFew 1 before after
-stores_one before after w is = record { made = Store w ∷ []; grown = is; stores = λ v. refl; few = omega arith }
 
 pub stores_then : (most : ℕ) (before mid after : List Access) (w : ℕ) → StoresFew most before mid → after ≡ mid ++ Store w ∷ [] → StoresFew (most + 1) before after
 stores_then most before mid after w s is =
@@ -108,11 +98,6 @@ lost_then w v n tries sum on before mid after same one lt is f' =
       quiet = λ off. is_not is off;
       few = omega (arith, all, few, length-append (lost_tries w n) f.made, lost_length w n);
     }
-
--- an op that changes no sum makes no exchange, and so needs no try
-pub quiet_soon : (s : Shared) (c : Claim) (n m : ℕ) (r : Finished) → claim_changes_sum c ≡ false → IsFinished s c n r → IsWithin c n r → IsWithin c m r
-quiet_soon s c n m (Done q reply) off is f = let none = f.quiet off in record { made = f.made; grown = f.grown; tried = omega (arith, none); quiet = f.quiet; few = f.few }
-quiet_soon s c n m (Held d) off is f = is_not is.sum off
 
 -- ---- the start of a call that is early
 pub starts_early : (w p s : ℕ) (won : Bool) (before one two three after : List Access) → one ≡ before ++ Load w ∷ [] → two ≡ one ++ Exchange w won ∷ [] → three ≡ two ++ Load p ∷ Load s ∷ [] → after ≡ three ++ Store w ∷ [] → p ≡ w + 2 → s ≡ w + 1 → StartsBriefly w before after

@@ -1,5 +1,5 @@
 -- The table at the start.
-use Rattle.std.proofs.Common.{◌≡◌, ◌≢◌, ℕ, zero, suc, ◌+◌, ◌-◌, ◌<◌, ◌≤◌, false, List, [], ◌∷◌, ◌++◌, length, set, get_or, slice_index, take, sym, refl, ap, ◌∙◌, subst, arith, length-set, get_or-set_other, get_or-set_same}
+use Rattle.std.proofs.Common.{◌≡◌, ◌≢◌, ℕ, zero, suc, ◌+◌, ◌-◌, ◌<◌, ◌≤◌, false, List, [], ◌∷◌, ◌++◌, length, get_or, slice_index, take, sym, refl, ap, ◌∙◌, subst, arith}
 use mathlib.Core.Logic.{dite}
 use mathlib.Core.Option.{some, some-injective, some-ne-none}
 use native.Mathlib.Decide.{ℕ_discrete}
@@ -8,21 +8,20 @@ use Rattle.std.proofs.lemmas.List.{take_more, get_or-map, get_or_push, get_or_ap
 use Rattle.std.proofs.lemmas.List.Elements.{All-nil}
 use Rattle.std.specs.List.{AllByRecursion}
 use Rattle.atomic_table.specs.Table.{opening}
-use Rattle.grub_bw.specs.Server.{fresh_of}
-use Rattle.grub_book.specs.Machine.{Machine, task_at}
+use Rattle.grub_book.specs.Machine.{task_at}
 use Rattle.grub_book.specs.Sums.{opening_record, opening_book, record_at}
 use Rattle.grub_book.specs.declared.place.Place.TheVariants.{Away}
 use Rattle.grub_book.specs.History.{pass_of}
 use Rattle.grub_book.proofs.Totals.{opening_totals}
-use Rattle.grub_words.specs.Words.{queue_word, server_word, params_word, task_word}
+use Rattle.grub_words.specs.Words.{queue_word, task_word}
 use Rattle.grub_table.specs.declared.pass.Pass.{Pass}
 use Rattle.grub_table.specs.declared.pass.Shared.{Shared}
 use Rattle.grub_table.specs.declared.view.Hold.TheVariants.{Free}
 use Rattle.grub_table.specs.declared.view.Share.{Share}
 use Rattle.grub_table.specs.declared.view.Terms.{Terms}
 use Rattle.grub_table.specs.declared.view.View.{View}
-use Rattle.grub_table.specs.Layout.{queue_word_at, task_word_at}
-use Rattle.grub_table.specs.inside.Layout.{word_count, server_word_at, params_word_at}
+use Rattle.grub_table.specs.Layout.{task_word_at}
+use Rattle.grub_table.specs.inside.Layout.{server_word_at, params_word_at}
 use Rattle.grub_table.specs.Marks.{marker_of}
 use Rattle.grub_table.specs.Views.{share}
 use Rattle.grub_table.specs.inside.Views.{fresh, first_view, MarkedBy}
@@ -37,25 +36,6 @@ pub copied_more : {A : Type 0} (xs ys zs : List A) (k : ℕ) (d x : A) → k < l
 copied_more {A} xs ys zs k d x lt is at more = more ∙ (λ i. is i ++ at i ∷ []) ∙ sym (take_more xs k d lt)
 
 -- ---- the words
-pub words_more : (s : Machine) (t a b : ℕ) (words : List ℕ) → AreOpeningWords s t words → t < length s.tasks → a ≡ server_word (fresh_of (task_at s t)) → b ≡ params_word (task_at s t)
-    → AreOpeningWords s (t + 1) (set (set words (server_word_at s t) a) (params_word_at s t) b)
-words_more s t a b words w lt ea eb =
-    let i : ℕ = server_word_at s t in
-    let j : ℕ = params_word_at s t in
-    let mid : List ℕ = set words i a in
-    let long = w.long in
-    let long' : length mid ≡ word_count s = length-set words i a ∙ long in
-    let both : (k : ℕ) → k ≢ i → k ≢ j → get_or (set mid j b) k 0 ≡ get_or words k 0 = λ k p q. get_or-set_other mid j k b 0 q ∙ get_or-set_other words i k a 0 p in record {
-      long = length-set mid j b ∙ long';
-      queues = λ r less. both (queue_word_at r) (λ e. omega arith) (λ e. omega arith) ∙ w.queues r less;
-      tasks = λ u less. both (task_word_at s u) (λ e. omega arith) (λ e. omega arith) ∙ w.tasks u less;
-      servers = λ u less. dite (ℕ_discrete u t)
-          (λ is. ap (λ v. get_or (set mid j b) (server_word_at s v) 0) is ∙ get_or-set_other mid j i b 0 (λ e. omega arith) ∙ get_or-set_same words i a 0 (omega arith) ∙ ea ∙ ap (λ v. server_word (fresh_of (task_at s v))) (sym is))
-          (λ other. both (server_word_at s u) (λ e. other (omega arith)) (λ e. omega arith) ∙ w.servers u (omega arith));
-      params = λ u less. dite (ℕ_discrete u t)
-          (λ is. ap (λ v. get_or (set mid j b) (params_word_at s v) 0) is ∙ get_or-set_same mid j b 0 (omega arith) ∙ eb ∙ ap (λ v. params_word (task_at s v)) (sym is))
-          (λ other. both (params_word_at s u) (λ e. omega arith) (λ e. other (omega arith)) ∙ w.params u (omega arith));
-    }
 
 empty_queue : queue_word (record { running = 0; this = 0 }) ≡ 0
 unfolding queue_word

@@ -21,7 +21,7 @@ use Rattle.grub_words.proofs.Tasks.{same_fields, claims_apart}
 use Rattle.grub_table.specs.declared.pass.Claim.{Claim}
 use Rattle.grub_table.specs.declared.pass.Pass.{Pass}
 use Rattle.grub_table.specs.declared.pass.Shared.{Shared}
-use Rattle.grub_table.specs.declared.pass.Sighting.TheVariants.{Claimed, Changed}
+use Rattle.grub_table.specs.declared.pass.Sighting.TheVariants.{Changed}
 use Rattle.grub_table.specs.declared.view.Hold.TheVariants.{Free, Undecided, Decided}
 use Rattle.grub_table.specs.declared.view.Mark.TheVariants.{Taken, Given}
 use Rattle.grub_table.specs.declared.view.Note.{Note}
@@ -100,8 +100,6 @@ same_record : (x : Record) (p : Place) (n : ℕ) (server : Server) (params : Res
 same_record x p n server params a b c d = λ i. record { place = a i; count = b i; server = c i; params = d i }
 
 module _ (s : Shared) (old mid new : TheSeat) (t : ℕ) (op : Op) (rec : Record) (h : HoldsFor s old t op rec) (params : Reservation) (server : Server) (one : Tells s (SawParams params) old mid) (two : Tells s (SawServer server) mid new) where
-  pub still_holds : HoldsFor s mid t op rec
-  still_holds = record { seat_of = one.seat; hold = (one.of t op rec h.hold).1 ∙ h.hold; task = h.task; op = h.op; kept = h.kept; unrefused = h.unrefused }
 
   pub saw_record : (w : TaskWord) → w.place ≡ rec.place → w.count ≡ rec.count → let found : Record = record { place = w.place; count = w.count; server = server; params = params } in Tells s (SawRecord found) old new
   saw_record w place count =
@@ -135,12 +133,6 @@ module _ (s : Shared) (p : Pass) (t : ℕ) (op : Op) where
   abbrev x : Share
   x = share_of p
 
-  -- the task is another's
-  pub busy_claimed : (q : Pass) (word : ℕ) → Tells s (SawTask t op (Err word)) p.seat q.seat → IsBusy s p t q (Claimed word)
-  busy_claimed q word told = record {
-    of = record { home = told.seat.home; terms = told.seat.terms; history = told.of.2.0; lawful = told.of.1.0 };
-    learns = record { number = told.number; seen = told.of.2.1; marked = told.of.1.1 };
-    sight = record { was = told.of.3.0; held = told.of.3.1 };
   }
 
   -- what the task's word says decides the call

@@ -40,7 +40,7 @@ use Rattle.grub_table.specs.Histories.{IsHistory, WasBefore, record_in, reading_
 use Rattle.grub_table.specs.Knowing.{GoesOn, Learns}
 use Rattle.grub_table.specs.inside.Layout.{stored_of}
 use Rattle.grub_table.specs.Marks.{AreLawful, marker_of}
-use Rattle.grub_table.specs.inside.Tellings.{is_decided_at_load, outcome, settled_quietly, Grows, Finishes, MarksGo, Sees, Calls, Decides, IsReadingFor, LoadedQueueAs, SettledServer, StoredServer, StoredParams}
+use Rattle.grub_table.specs.inside.Tellings.{is_decided_at_load, outcome, settled_quietly, Grows, Finishes, MarksGo, Sees, Calls, Decides, IsReadingFor, LoadedQueueAs, SettledServer, StoredServer}
 use Rattle.grub_table.specs.inside.Tries.{is_charge, half_stored, Knows, TriedAs, Tried}
 use Rattle.grub_table.proofs.Growths.{goes_none, grows_grows, grows_finishes, learns_none, learns_twice}
 use Rattle.grub_table.proofs.Moves.{sound}
@@ -186,10 +186,6 @@ module _ (s : Shared) (t : ℕ) (op : Op) (rec : Record) (r : ℕ) (now : Readin
 module _ (s : Shared) (t : ℕ) (next : Record) (stored : Stored) (old new : TheSeat) (h : HoldsMade s old t next stored) where
   pub stored_server : (n : ℕ) → Tells s (StoredServer n) old new → ((share_on new).seen ≡ (share_on old).seen) × ((share_on new).marks ≡ (share_on old).marks) × HoldsMade s new t next (record { server = n; params = stored.params })
   stored_server n told = let w = told.of t h.hold.0 next stored h.hold.1 in (w.0, w.1, record { seat_of = told.seat; task = h.task; hold = (h.hold.0, w.2) })
-
-  pub stored_params : (n : ℕ) → Tells s (StoredParams n) old new → Tells s Knows old new × HoldsMade s new t next (record { server = stored.server; params = n })
-  stored_params n told = let w = told.of t h.hold.0 next stored h.hold.1 in
-      (record { seat = told.seat; number = told.number; of = (w.0, w.1) }, record { seat_of = told.seat; task = h.task; hold = (h.hold.0, w.2) })
 
 pub leaves_after : (s : Shared) (t : ℕ) (old mid : TheSeat) (q : Pass) → Tells s Knows old mid → Leaves s (Concluded t) mid q → Leaves s (Concluded t) old q
 leaves_after s t old mid q k l = record {
@@ -353,12 +349,3 @@ lost_lost s c d e n m a b =
 pub tried_more : (s : Shared) (c d : Claim) (n m : ℕ) (r : Finished) → IsLost s c n d → IsFinished s d m r → IsFinished s c (n + m) r
 tried_more s c d n m (Done q reply) a b = lost_done s c d n m q reply a b
 tried_more s c d n m (Held e) a b = lost_lost s c d e n m a b
-
--- a call that was made was made within any more tries
-pub done_within : (s : Shared) (c : Claim) (n m : ℕ) (q : Pass) (reply : Reply) → n ≤ m → IsDone s c n q reply → IsDone s c m q reply
-done_within s c n m q reply le d = record { of = d.of; learns = d.learns; before = d.before; claimed = d.claimed; tried = λ sum. let one = d.tried sum in omega (arith, one, le) }
-
--- an op that changes no sum needs no try
-pub quiet_within : (s : Shared) (c : Claim) (n m : ℕ) (r : Finished) → claim_changes_sum c ≡ false → IsFinished s c n r → IsFinished s c m r
-quiet_within s c n m (Done q reply) quiet d = record { of = d.of; learns = d.learns; before = d.before; claimed = d.claimed; tried = λ sum. is_not sum quiet }
-quiet_within s c n m (Held e) quiet l = is_not l.sum quiet

@@ -1,5 +1,5 @@
 //! A table is closed: its last readings.
-ghost use Rattle.std.specs.Prelude.{◌≡◌, ◌<◌, ◌≤◌, ◌+◌, IfOk, IfErr, OnOk, length};
+ghost use Rattle.std.specs.Prelude.{◌≡◌, ◌<◌, ◌≤◌, IfOk, IfErr, OnOk, length};
 ghost use Rattle.std.specs.List.{All};
 ghost use Rattle.grub_table.specs.Calls.{terms, IsPassOf, IsClosed, IsRefusal};
 

@@ -1,5 +1,5 @@
 //! A call that took its task is made, or given up.
-ghost use Rattle.std.specs.Prelude.{◌≡◌, ℕ, ◌<◌, ◌≤◌, ◌+◌, [], ◌∷◌, ◌++◌, length, true, false};
+ghost use Rattle.std.specs.Prelude.{◌≡◌, ℕ, ◌<◌, ◌+◌, [], ◌∷◌, ◌++◌, true, false};
 ghost use Rattle.grub_book.specs.Sound.{IsKept};
 ghost use Rattle.grub_book.specs.Step.{changes_sum, runqueue_of};
 ghost use Rattle.grub_table.specs.declared.view.Access.TheVariants.{Store};

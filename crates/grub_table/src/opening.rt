@@ -1,5 +1,5 @@
 //! A table is opened: its words, and its passes.
-ghost use Rattle.std.specs.Prelude.{◌≡◌, ℕ, ◌<◌, ◌≤◌, ◌+◌, ◌↔◌, [], IsTrue, IfOk, OnOk, IsErrOf, length};
+ghost use Rattle.std.specs.Prelude.{◌≡◌, ◌<◌, ◌+◌, ◌↔◌, [], IsTrue, IfOk, OnOk, IsErrOf, length};
 ghost use Rattle.grub_book.specs.Machine.{IsMachine};
 ghost use Rattle.grub_book.specs.Op.{IsOp};
 ghost use Rattle.grub_table.specs.Calls.{terms, number_of, AreNew, IsOpened};

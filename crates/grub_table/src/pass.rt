@@ -1,5 +1,5 @@
 //! The public types of a table.
-ghost use Rattle.std.specs.Prelude.{◌≡◌, ◌<◌, ◌≤◌, ◌+◌, ◌*◌, [], length, None};
+ghost use Rattle.std.specs.Prelude.{◌≡◌, ◌<◌, []};
 ghost use Rattle.grub_table.specs.inside.Layout.{word_count};
 ghost use Rattle.grub_table.specs.inside.Rule.{AreLimited};
 ghost use Rattle.grub_table.specs.Trails.{first_made};

@@ -1,5 +1,5 @@
 //! Readings of runqueues, and the meeting of two passes.
-ghost use Rattle.std.specs.Prelude.{◌≡◌, ◌<◌, ◌≤◌, ◌+◌, ◌⊎◌, [], ◌∷◌, ◌++◌, length};
+ghost use Rattle.std.specs.Prelude.{◌≡◌, ◌<◌, ◌+◌, ◌⊎◌, [], ◌∷◌, ◌++◌, length};
 ghost use Rattle.grub_book.specs.declared.event.Event.TheVariants.{Look};
 ghost use Rattle.grub_table.specs.Histories.{EndsWith};
 ghost use Rattle.grub_table.specs.Knowing.{Learns};

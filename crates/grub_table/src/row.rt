@@ -1,5 +1,5 @@
 //! Which word of the row is whose, and what is in it.
-ghost use Rattle.std.specs.Prelude.{◌≡◌, ℕ, ◌<◌, ◌≤◌, ◌+◌, ◌*◌, false, length, IfSome, IsNone, ◌≢◌};
+ghost use Rattle.std.specs.Prelude.{◌≡◌, ℕ, ◌<◌, ◌≤◌, ◌+◌, ◌*◌, false, IfSome, IsNone, ◌≢◌};
 ghost use Rattle.grub_bw.specs.Bandwidth.{Reservation, IsReservation};
 ghost use Rattle.grub_bw.specs.declared.server.Server.{Server};
 ghost use Rattle.grub_book.specs.Machine.{IsMachine};

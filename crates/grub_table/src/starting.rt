@@ -1,6 +1,5 @@
 //! A call begins: it is answered at once, or takes its task.
-ghost use Rattle.std.specs.Prelude.{◌≡◌, ℕ, ◌<◌, ◌≤◌, ◌+◌, false, IfOk, [], ◌∷◌, ◌++◌, length};
-ghost use Rattle.grub_bw.specs.Server.{Fits};
+ghost use Rattle.std.specs.Prelude.{◌≡◌, ◌<◌, ◌+◌, false, IfOk, [], ◌∷◌, ◌++◌, length};
 ghost use Rattle.grub_book.specs.Op.{IsOp};
 ghost use Rattle.grub_book.specs.declared.op.Op.{Op};
 ghost use Rattle.grub_book.specs.declared.place.Record.{Record};

@@ -1,6 +1,5 @@
 //! The single steps on words, each under its own contract.
-ghost use Rattle.std.specs.Prelude.{◌≡◌, ◌==◌, ℕ, ◌<◌, ◌≤◌, ◌+◌, ◌*◌, false, [], ◌∷◌, ◌++◌, length};
-ghost use Rattle.grub_bw.specs.Bandwidth.{Reservation, IsReservation};
+ghost use Rattle.std.specs.Prelude.{◌≡◌, ◌==◌, ℕ, ◌<◌, ◌+◌, false, [], ◌∷◌, ◌++◌, length};
 ghost use Rattle.grub_bw.specs.declared.server.Server.{Server};
 ghost use Rattle.grub_book.specs.Op.{IsOp};
 ghost use Rattle.grub_book.specs.Sound.{IsKept};
@@ -9,7 +8,7 @@ ghost use Rattle.grub_book.specs.Totals.{shifted_of};
 ghost use Rattle.grub_book.specs.declared.event.Reading.{Reading};
 ghost use Rattle.grub_book.specs.declared.op.Op.{Op};
 ghost use Rattle.grub_book.specs.declared.place.Record.{Record};
-ghost use Rattle.grub_words.specs.Words.{queue_word, server_word, params_word, task_word, QueueFits, ServerFits, TaskFits};
+ghost use Rattle.grub_words.specs.Words.{server_word, params_word, task_word, QueueFits, ServerFits, TaskFits};
 ghost use Rattle.grub_table.specs.declared.view.Access.TheVariants.{Load, Store, Exchange};
 ghost use Rattle.grub_table.specs.declared.view.Hold.TheVariants.{Free};
 ghost use Rattle.grub_table.specs.declared.view.Stored.{Stored};

@@ -1,5 +1,5 @@
 //! Tables and calls for the tests.
-ghost use Rattle.std.specs.Prelude.{◌≡◌, ◌<◌, length};
+ghost use Rattle.std.specs.Prelude.{◌<◌};
 ghost use Rattle.std.specs.List.{All};
 ghost use Rattle.grub_table.specs.Calls.{IsPassOf, IsClaimOf, IsRefusal};
 

@@ -1,5 +1,5 @@
 //! Two threads over one table.
-ghost use Rattle.std.specs.Prelude.{◌≡◌, ◌<◌};
+ghost use Rattle.std.specs.Prelude.{◌<◌};
 ghost use Rattle.grub_table.specs.Calls.{IsPassOf};
 
 use crate::tests::fixtures::{A, B, Got, ask, close_both, setup_of, two_passes};
