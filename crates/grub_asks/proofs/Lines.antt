@@ -27,5 +27,3 @@ line_read r line before due after timers is goes_on = record {
   line_asked = goes_on.list ∙ ap (λ ask. due ++ entry line.m ask goes_on.answer ∷ []) (sym is);
   follows = read_follows r line.m line.act goes_on.answer after is;
 }
-
-}

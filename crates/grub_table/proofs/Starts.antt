@@ -133,8 +133,6 @@ module _ (s : Shared) (p : Pass) (t : ℕ) (op : Op) where
   abbrev x : Share
   x = share_of p
 
-  }
-
   -- what the task's word says decides the call
   pub answered : (q : Pass) (w : TaskWord) (reply : Reply) → Tells s (SawTask t op (Ok w)) p.seat q.seat → refused w.place w.count op ≡ Some reply → IsAnswered s p t op q reply
   answered q w reply told is =

@@ -65,9 +65,6 @@ module _ (s : Shared) (p : Pass) (t : ℕ) (asked : Op) where
         busy = λ _. sight_shows (terms s) (number_of p) t (seen now) (seen q) (marks q) sighting b.of.history g sight;
       }
 
-  -- ---- a round that was answered by `start`
-  }
-
   -- ---- a round that took the task
   pub taken_round : (round : ℕ) (now : Pass) (c : Claim) → IsFree s round p t now → IsTaken s now t asked c → IsHolding s p t asked c
   taken_round round now c a b = record {
