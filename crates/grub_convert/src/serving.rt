@@ -1,8 +1,9 @@
 //! What the program does with a trace: it prints which tasks there are, or writes the event files.
 
-ghost use Rattle.std.specs.Prelude.{◌≡◌, IfErr, MatchResult, OnOk};
-ghost use Rattle.grub_convert.specs.Faults.{status_of};
+ghost use Rattle.std.specs.Prelude.{◌≡◌, ◌⊎◌, IfErr, MatchResult, OnOk};
+ghost use Rattle.grub_convert.specs.Faults.{explained, status_of};
 ghost use Rattle.grub_convert.specs.Read.{PrintsTasks};
+ghost use Rattle.grub_convert.specs.declared.fault.TheConstants.{STATUS_FILE, STATUS_SYSTEM};
 
 use crate::census::tasks_text;
 use crate::fault::TraceFault;
@@ -76,7 +77,9 @@ fn write_files<'a, M: Fn(&str, &[u8]) -> io::Result<()>>(
 }
 
 /// The fault of the trace of a name that tells no event files, whose own lines have this one.
-pub fn explain<'a>(path: &'a str, fault: FilesFault<'a>, own: Option<LineFault>) -> TraceFault<'a> {
+pub fn explain<'a>(path: &'a str, fault: FilesFault<'a>, own: Option<LineFault>) -> TraceFault<'a>
+    ensures { result ≡ explained path.entry fault.entry own }
+{
     match (fault, own) {
         (FilesFault::TooLong { line }, _) => TraceFault::Line {
             path,
@@ -150,7 +153,8 @@ fn print_tasks<
 
 /// The status of a result, whose fault is told.
 pub fn told_status<E: Write>(done: Result<(), TraceFault<'_>>, faults: &mut E) -> u8
-    ensures { MatchResult done.entry (λ _. result ≡ 0) (λ e. result ≡ status_of e) }
+    ensures told { MatchResult done.entry (λ _. result ≡ 0) (λ e. result ≡ status_of e) }
+    ensures status { (result ≡ 0) ⊎ (result ≡ STATUS_FILE) ⊎ (result ≡ STATUS_SYSTEM) }
 {
     match done {
         Ok(()) => 0,
