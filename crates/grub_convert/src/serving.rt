@@ -175,6 +175,7 @@ pub fn serve_tasks<
 >(alloc: Global, input: &Input<O, N>, path: &str, out: &mut W, faults: &mut E) -> u8
     requires open { O.IsAlwaysCallable input.now.open }
     requires read { N.IsAlwaysCallable input.now.read }
+    ensures status { (result ≡ 0) ⊎ (result ≡ STATUS_FILE) ⊎ (result ≡ STATUS_SYSTEM) }
     // At 0 the text of the tasks that the trace shows was printed, and where the trace is at fault nothing was.
     ensures done { result ≡ 0 → PrintsTasks O.Fn N.Fn input.now path.now (W.contents out.old) (W.contents out.new) }
     ensures nothing { result ≡ 1 → out.new ≡ out.old }
@@ -204,6 +205,7 @@ pub fn serve_events<
     requires read { N.IsAlwaysCallable input.now.read }
     requires exists { X.IsAlwaysCallable target.now.exists }
     requires make { M.IsAlwaysCallable target.now.make }
+    ensures status { (result ≡ 0) ⊎ (result ≡ STATUS_FILE) ⊎ (result ≡ STATUS_SYSTEM) }
 {
     let done = write_events(alloc, input, target, path, prefix, options);
     told_status(done, faults)
