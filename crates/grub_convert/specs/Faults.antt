@@ -28,3 +28,9 @@ explained path files.Line None = NoMemory
 explained path (files.NoSuchTask name) own = NoSuchTask path name
 explained path files.NoMemory own = NoMemory
 explained path files.NoText own = NoText
+
+-- want of memory, or of reading
+abbrev pub IsOfReading : TraceFault → Type 0
+IsOfReading (Unreadable path) = Unit {0}
+IsOfReading NoMemory = Unit {0}
+IsOfReading fault = ⊥
