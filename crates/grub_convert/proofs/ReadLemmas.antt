@@ -7,17 +7,14 @@ use Rattle.grub_facts.specs.Census.{CountsOn, HasCounted, NeedsNoMore as CountsE
 use Rattle.grub_facts.specs.Told.{HasRead, NeedsNoMore, ReadsOn}
 use Rattle.grub_facts.specs.declared.reader.FactReader.{FactReader}
 use Rattle.grub_facts.specs.declared.task_reader.TaskReader.{TaskReader}
+use Rattle.grub_convert.specs.Faults.{IsOfReading}
 use Rattle.grub_convert.specs.Read.{IsFaultIn, IsSoIn, IsSoOf}
 use Rattle.grub_convert.specs.declared.fault.TraceFault.{TraceFault}
 use Rattle.grub_convert.specs.declared.fault.TraceFault.TheVariants as faults
 use Rattle.grub_convert.specs.declared.pieces.Input.{Input}
-use Rattle.grub_convert.specs.inside.Taking.{IsNoLine, Took, TookAll, TookEnough, TookFrom}
+use Rattle.grub_convert.specs.inside.Taking.{Took, TookAll, TookEnough, TookFrom}
 
 module _ {N D T : Type 0} (g : Reader N D) (read : N) (takes : T → List ℕ → T → Type 0) where
-  -- no piece yet
-  pub took_none : (file : D) (taker : T) → Took g read takes file taker file taker
-  took_none file taker = record { pieces = []; given = refl; taken = refl }
-
   -- one piece more
   pub took_more : (file : D) (old : T) (mid : D) (before : T) (piece : List ℕ) (after : D) (new : T) → Took g read takes file old mid before → Gives g read mid piece after → takes before piece new → Took g read takes file old after new
   took_more file old mid before piece after new took gives taken = record { pieces = took.pieces ++ piece ∷ []; given = FoldsTo-push (Gives g read) file took.pieces mid piece after took.given gives; taken = FoldsTo-push takes old took.pieces before piece new took.taken taken }
@@ -79,14 +76,14 @@ tasks_given = record {
   enough = λ text more taker done has. done text more has;
 }
 
--- a fault that is of no line says nothing of the text
-pub no_line : {O N D : Type 0} (o : Opener O D) (g : Reader N D) (input : Input O N) (name : List ℕ) (e : TraceFault) → IsNoLine e → IsFaultIn o g input name e
-no_line o g input name (faults.Line path fault) none = absurd none
-no_line o g input name (faults.NoSuchTask path task) none = tt
-no_line o g input name (faults.NoTimers path) none = tt
-no_line o g input name (faults.Overfull path line task) none = tt
-no_line o g input name (faults.FileExists path) none = tt
-no_line o g input name faults.Write none = tt
-no_line o g input name (faults.Unreadable path) none = tt
-no_line o g input name faults.NoMemory none = tt
-no_line o g input name faults.NoText none = tt
+-- want of memory or of reading says nothing of the text
+pub of_reading : {O N D : Type 0} (o : Opener O D) (g : Reader N D) (input : Input O N) (name : List ℕ) (e : TraceFault) → IsOfReading e → IsFaultIn o g input name e
+of_reading o g input name (faults.Line path fault) is = absurd is
+of_reading o g input name (faults.NoSuchTask path task) is = tt
+of_reading o g input name (faults.NoTimers path) is = tt
+of_reading o g input name (faults.Overfull path line task) is = tt
+of_reading o g input name (faults.FileExists path) is = tt
+of_reading o g input name faults.Write is = tt
+of_reading o g input name (faults.Unreadable path) is = tt
+of_reading o g input name faults.NoMemory is = tt
+of_reading o g input name faults.NoText is = tt

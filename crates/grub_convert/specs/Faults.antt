@@ -1,5 +1,10 @@
--- The program's status on a fault.
-use Rattle.std.specs.Prelude.{ℕ}
+-- The program's fault and status where a trace tells no event files.
+use Rattle.std.specs.Prelude.{ℕ, List, Option, Some, None}
+use Rattle.std.specs.Borrow.{Bor}
+use Rattle.grub_facts.specs.declared.fault.LineFault.{LineFault}
+use Rattle.grub_facts.specs.declared.fault.Wrong.TheVariants as wrong
+use Rattle.grub_convert.specs.declared.files.FilesFault.{FilesFault}
+use Rattle.grub_convert.specs.declared.files.FilesFault.TheVariants as files
 use Rattle.grub_convert.specs.declared.fault.TraceFault.{TraceFault}
 use Rattle.grub_convert.specs.declared.fault.TraceFault.TheVariants.{Line, NoSuchTask, NoTimers, Overfull, FileExists, Write, Unreadable, NoMemory, NoText}
 
@@ -14,3 +19,18 @@ status_of Write = 3
 status_of (Unreadable path) = 3
 status_of NoMemory = 3
 status_of NoText = 3
+
+-- the fault of the trace of a name that tells no event files for this reason, whose own lines have this fault
+abbrev pub explained : Bor (List ℕ) → FilesFault → Option LineFault → TraceFault
+explained path (files.TooLong line) own = Line path (record { line = line; wrong = wrong.TooLong })
+explained path files.Line (Some fault) = Line path fault
+explained path files.Line None = NoMemory
+explained path (files.NoSuchTask name) own = NoSuchTask path name
+explained path files.NoMemory own = NoMemory
+explained path files.NoText own = NoText
+
+-- want of memory, or of reading
+abbrev pub IsOfReading : TraceFault → Type 0
+IsOfReading (Unreadable path) = Unit {0}
+IsOfReading NoMemory = Unit {0}
+IsOfReading fault = ⊥

@@ -3,4 +3,5 @@ pub mod Faults
 pub mod Files
 pub mod Options
 pub mod Read
+pub mod Serving
 pub mod inside

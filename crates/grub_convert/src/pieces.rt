@@ -4,9 +4,10 @@ ghost use Rattle.std.specs.Prelude.{◌≡◌, ◌<◌, ◌⊎◌, ℕ, List, []
 ghost use Rattle.grub_files.specs.Source.{Gives};
 ghost use Rattle.grub_facts.specs.Census.{CountsOn, NeedsNoMore as CountsEnough};
 ghost use Rattle.grub_facts.specs.Told.{HasRead, NeedsNoMore, ReadsOn};
+ghost use Rattle.grub_convert.specs.Faults.{IsOfReading};
 ghost use Rattle.grub_convert.specs.Options.{text_of};
 ghost use Rattle.grub_convert.specs.Read.{IsFaultIn, IsShownOf, IsToldOf, names_in};
-ghost use Rattle.grub_convert.specs.inside.Taking.{IsNoLine, TookAll, TookEnough, TookFrom};
+ghost use Rattle.grub_convert.specs.inside.Taking.{TookAll, TookEnough, TookFrom};
 
 use crate::fault::TraceFault;
 use crate::options::Options;
@@ -84,7 +85,7 @@ fn read_piece<'a, D, N: Fn(&mut D, &mut [u8]) -> io::Result<usize>, T: Takes>(
     requires has_room { 0 < length room.old }
     ensures room { length room.new ≡ length room.old }
     ensures piece { IfOk result (λ more. (piece : List ℕ) × Gives N.Fn read.now file.old piece file.new × T.takes taker.old piece taker.new × (more ≡ false → (piece ≡ []) ⊎ T.is_done taker.new)) }
-    ensures other { IfErr result IsNoLine }
+    ensures fault { IfErr result IsOfReading }
 {
     let Ok(count) = read_once(read, file, room) else {
         return Err(TraceFault::Unreadable { path });
@@ -106,7 +107,7 @@ fn take_pieces<'a, D, N: Fn(&mut D, &mut [u8]) -> io::Result<usize>, T: Takes>(
     requires callable { N.IsAlwaysCallable read.now }
     requires has_room { 0 < length room.old }
     ensures taken { OnOk result (TookAll N.Fn read.now T.takes file.old taker.old taker.new ⊎ TookEnough N.Fn read.now T.takes T.is_done file.old taker.old taker.new) }
-    ensures other { IfErr result IsNoLine }
+    ensures fault { IfErr result IsOfReading }
 {
     for _ in 0..u64::MAX {
         if !read_piece(read, path, file, room, taker)? {
@@ -127,7 +128,7 @@ fn read_pieces<
     requires open { O.IsAlwaysCallable input.now.open }
     requires read { N.IsAlwaysCallable input.now.read }
     ensures taken { OnOk result (TookFrom O.Fn N.Fn input.now T.takes T.is_done path.now taker.old taker.new) }
-    ensures other { IfErr result IsNoLine }
+    ensures fault { IfErr result IsOfReading }
 {
     let Ok(mut room) = Vec::from_elem(alloc, 0u8, PIECE_BYTES) else {
         return Err(TraceFault::NoMemory);
@@ -173,7 +174,8 @@ pub fn read_facts<
 ) -> Result<Facts, TraceFault<'a>>
     requires open { O.IsAlwaysCallable input.now.open }
     requires read { N.IsAlwaysCallable input.now.read }
-    ensures { IfOk result (IsToldOf O.Fn N.Fn input.now path.now options.now) }
+    ensures told { IfOk result (IsToldOf O.Fn N.Fn input.now path.now options.now) }
+    ensures fault { IfErr result IsOfReading }
 {
     let Ok(mut reader) = fact_reader(alloc, options) else {
         return Err(TraceFault::NoMemory);

@@ -1,8 +1,12 @@
 //! What the program does with a trace: it prints which tasks there are, or writes the event files.
 
-ghost use Rattle.std.specs.Prelude.{◌≡◌, IfErr, MatchResult, OnOk};
-ghost use Rattle.grub_convert.specs.Faults.{status_of};
+ghost use Rattle.std.specs.Prelude.{◌≡◌, ◌⊎◌, ◌<◌, None, IfErr, IfOk, IfSome, OnSome, MatchResult, OnOk, length, map, string_bytes};
+ghost use Rattle.grub_trace.specs.Reading.{contents};
+ghost use Rattle.grub_convert.specs.Faults.{explained, status_of};
 ghost use Rattle.grub_convert.specs.Read.{PrintsTasks};
+ghost use Rattle.grub_convert.specs.Serving.{AreFree, AreMade, HasNoEvents, IsTaken, MakesEvents, event_path, event_paths};
+ghost use Rattle.grub_convert.specs.declared.fault.TraceFault.TheVariants as faults;
+ghost use Rattle.grub_convert.specs.declared.fault.TheConstants.{STATUS_FILE, STATUS_SYSTEM};
 
 use crate::census::tasks_text;
 use crate::fault::TraceFault;
@@ -25,11 +29,16 @@ pub struct Target<X, M> {
 }
 
 /// The path of the event file of a runqueue.
-fn path_of(alloc: Global, prefix: &str, runqueue: usize) -> Result<String, AllocError> {
+fn path_of(alloc: Global, prefix: &str, runqueue: usize) -> Result<String, AllocError>
+    ensures { IfOk result (λ path. string_bytes path ≡ event_path prefix.now runqueue) }
+{
     format!(in alloc; "{prefix}.cpu{runqueue}.grub")
 }
 
-fn paths_of(alloc: Global, prefix: &str, count: usize) -> Result<Vec<String>, AllocError> {
+/// Those of so many runqueues.
+fn paths_of(alloc: Global, prefix: &str, count: usize) -> Result<Vec<String>, AllocError>
+    ensures { IfOk result (λ v. map string_bytes v.items ≡ event_paths prefix.now count) }
+{
     let mut paths = Vec::new(alloc);
     for runqueue in 0..count {
         paths.push(path_of(alloc, prefix, runqueue)?)?;
@@ -38,45 +47,44 @@ fn paths_of(alloc: Global, prefix: &str, count: usize) -> Result<Vec<String>, Al
 }
 
 /// The first of these paths at which there is something.
-fn taken<'a, X: Fn(&str) -> bool>(
-    exists: &X,
-    paths: Vec<String>,
-) -> Result<Vec<String>, TraceFault<'a>>
+fn first_taken<X: Fn(&str) -> bool>(exists: &X, paths: &[String]) -> Option<usize>
     requires { X.IsAlwaysCallable exists.now }
+    ensures free { result ≡ None → AreFree X.Fn exists.now (map string_bytes paths.now) }
+    ensures taken { OnSome result (IsTaken X.Fn exists.now (map string_bytes paths.now)) }
+    ensures below { IfSome result (λ i. i < length paths.now) }
 {
-    let mut free = None;
     for (i, path) in paths.iter().enumerate() {
         if exists(path.as_str()) {
-            free = Some(i);
-            break;
+            return Some(i);
         }
     }
-    let mut paths = paths;
-    match free {
-        Some(i) if i < paths.len() => Err(TraceFault::FileExists {
-            path: paths.remove(i),
-        }),
-        _ => Ok(paths),
-    }
+    None
 }
 
+/// Makes a file at each of these paths.
 fn write_files<'a, M: Fn(&str, &[u8]) -> io::Result<()>>(
     make: &M,
     paths: &[String],
     files: &[Vec<u8>],
 ) -> Result<(), TraceFault<'a>>
-    requires { M.IsAlwaysCallable make.now }
+    requires callable { M.IsAlwaysCallable make.now }
+    requires same { length paths.now ≡ length files.now }
+    ensures made { OnOk result (AreMade M.Fn make.now (map string_bytes paths.now) (contents files.now)) }
+    ensures fault { IfErr result (λ e. e ≡ faults.Write) }
 {
-    for (path, bytes) in paths.iter().zip(files) {
-        if make(path.as_str(), bytes.as_slice()).is_err() {
-            return Err(TraceFault::Write);
+    for i in 0..files.len() {
+        match make(paths[i].as_str(), files[i].as_slice()) {
+            Ok(()) => {}
+            Err(_) => return Err(TraceFault::Write),
         }
     }
     Ok(())
 }
 
 /// The fault of the trace of a name that tells no event files, whose own lines have this one.
-pub fn explain<'a>(path: &'a str, fault: FilesFault<'a>, own: Option<LineFault>) -> TraceFault<'a> {
+pub fn explain<'a>(path: &'a str, fault: FilesFault<'a>, own: Option<LineFault>) -> TraceFault<'a>
+    ensures { result ≡ explained path.entry fault.entry own }
+{
     match (fault, own) {
         (FilesFault::TooLong { line }, _) => TraceFault::Line {
             path,
@@ -112,16 +120,22 @@ fn write_events<
     requires read { N.IsAlwaysCallable input.now.read }
     requires exists { X.IsAlwaysCallable target.now.exists }
     requires make { M.IsAlwaysCallable target.now.make }
+    ensures done { OnOk result (MakesEvents O.Fn N.Fn X.Fn M.Fn input.now target.now path.now prefix.now options.now) }
+    ensures nothing { IfErr result (λ e. status_of e ≡ 1 → HasNoEvents O.Fn N.Fn X.Fn M.Fn input.now target.now path.now prefix.now options.now) }
 {
     let mut facts = read_facts(alloc, input, path, options)?;
     let files = match event_files(alloc, options, &facts) {
         Ok(files) => files,
         Err(fault) => return Err(explain(path, fault, facts.fault.take())),
     };
-    let Ok(paths) = paths_of(alloc, prefix, files.len()) else {
+    let Ok(mut paths) = paths_of(alloc, prefix, files.len()) else {
         return Err(TraceFault::NoText);
     };
-    let paths = taken(&target.exists, paths)?;
+    if let Some(i) = first_taken(&target.exists, &paths) {
+        return Err(TraceFault::FileExists {
+            path: paths.remove(i),
+        });
+    }
     write_files(&target.make, &paths, &files)
 }
 
@@ -150,7 +164,8 @@ fn print_tasks<
 
 /// The status of a result, whose fault is told.
 pub fn told_status<E: Write>(done: Result<(), TraceFault<'_>>, faults: &mut E) -> u8
-    ensures { MatchResult done.entry (λ _. result ≡ 0) (λ e. result ≡ status_of e) }
+    ensures told { MatchResult done.entry (λ _. result ≡ 0) (λ e. result ≡ status_of e) }
+    ensures status { (result ≡ 0) ⊎ (result ≡ STATUS_FILE) ⊎ (result ≡ STATUS_SYSTEM) }
 {
     match done {
         Ok(()) => 0,
@@ -171,6 +186,7 @@ pub fn serve_tasks<
 >(alloc: Global, input: &Input<O, N>, path: &str, out: &mut W, faults: &mut E) -> u8
     requires open { O.IsAlwaysCallable input.now.open }
     requires read { N.IsAlwaysCallable input.now.read }
+    ensures status { (result ≡ 0) ⊎ (result ≡ STATUS_FILE) ⊎ (result ≡ STATUS_SYSTEM) }
     // At 0 the text of the tasks that the trace shows was printed, and where the trace is at fault nothing was.
     ensures done { result ≡ 0 → PrintsTasks O.Fn N.Fn input.now path.now (W.contents out.old) (W.contents out.new) }
     ensures nothing { result ≡ 1 → out.new ≡ out.old }
@@ -200,6 +216,10 @@ pub fn serve_events<
     requires read { N.IsAlwaysCallable input.now.read }
     requires exists { X.IsAlwaysCallable target.now.exists }
     requires make { M.IsAlwaysCallable target.now.make }
+    // At 0 the event files of what the trace tells were made at paths where nothing was; at 1 it is at fault, or something was there.
+    ensures done { result ≡ 0 → MakesEvents O.Fn N.Fn X.Fn M.Fn input.now target.now path.now prefix.now options.now }
+    ensures nothing { result ≡ 1 → HasNoEvents O.Fn N.Fn X.Fn M.Fn input.now target.now path.now prefix.now options.now }
+    ensures status { (result ≡ 0) ⊎ (result ≡ STATUS_FILE) ⊎ (result ≡ STATUS_SYSTEM) }
 {
     let done = write_events(alloc, input, target, path, prefix, options);
     told_status(done, faults)

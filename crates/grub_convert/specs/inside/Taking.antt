@@ -3,8 +3,6 @@ use Rattle.std.specs.Prelude.{◌⊎◌, ℕ, List, [], Ok}
 use Rattle.std.specs.Fn.{FnReturnsAt}
 use Rattle.std.specs.List.{FoldsTo}
 use Rattle.grub_files.specs.Source.{Gives, Opener, Reader}
-use Rattle.grub_convert.specs.declared.fault.TraceFault.{TraceFault}
-use Rattle.grub_convert.specs.declared.fault.TraceFault.TheVariants.{Line}
 use Rattle.grub_convert.specs.declared.pieces.Input.{Input}
 
 module _ {N D T : Type 0} (g : Reader N D) (read : N) (takes : T → List ℕ → T → Type 0) where
@@ -35,8 +33,3 @@ module _ {O N D T : Type 0} (o : Opener O D) (g : Reader N D) (input : Input O N
   TookFrom name old new =
       (file : D) × FnReturnsAt o input.open name (Ok file)
       × (TookAll g input.read takes file old new ⊎ TookEnough g input.read takes is_done file old new)
-
--- a fault that no line of a trace has
-abbrev pub IsNoLine : TraceFault → Type 0
-IsNoLine (Line path fault) = ⊥
-IsNoLine fault = Unit {0}

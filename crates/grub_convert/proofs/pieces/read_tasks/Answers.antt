@@ -3,7 +3,7 @@ use Rattle.grub_convert.specs.Read.{IsShownBy}
 use Rattle.grub_facts.specs.Census.{CountsOn, HasCounted, NeedsNoMore, fault_counted}
 use Rattle.grub_facts.specs.Faults.{fault_text}
 use Rattle.grub_facts.specs.declared.task_reader.TaskReader.{TaskReader}
-use Rattle.grub_convert.proofs.ReadLemmas.{no_line, so_from, tasks_given}
+use Rattle.grub_convert.proofs.ReadLemmas.{of_reading, so_from, tasks_given}
 use Rattle.grub_convert.proofs.pieces.read_tasks.Goals as goal
 
 pub returns-in-Ok-clause-shown : goal.returns-in-Ok-clause-shown
@@ -17,4 +17,4 @@ returns-in-Err-end-clause-fault g c =
     (λ text. fault_counted text ≡ Some (fault_text c.in-Err-end.fault)) c.args.path.now c.new-reader.result c.read_pieces.new.taker c.new-reader.ensures c.in_default.ensures.taken c.in-Err-end.ensures.fault
 
 pub returns-in-Err-clause-fault : goal.returns-in-Err-clause-fault
-returns-in-Err-clause-fault g c = no_line g.O.Fn g.N.Fn c.args.input.now c.args.path.now c.in-Err.fault c.in-Err.ensures.other
+returns-in-Err-clause-fault g c = of_reading g.O.Fn g.N.Fn c.args.input.now c.args.path.now c.in-Err.fault c.in-Err.ensures.fault
