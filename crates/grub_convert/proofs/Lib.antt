@@ -1,2 +1,3 @@
+mod MessageLemmas
 mod OptionLemmas
 mod ReadLemmas
