@@ -19,8 +19,11 @@ of_four a b c d = simp append_assoc
 pub of_five : (a b c d e : List ℕ) → a ++ b ++ c ++ d ++ e ≡ a ++ (b ++ (c ++ (d ++ e)))
 of_five a b c d e = simp append_assoc
 
-pub of_seven : (a b c d e f g : List ℕ) → a ++ b ++ c ++ d ++ e ++ f ++ g ≡ a ++ (b ++ (c ++ (d ++ (e ++ (f ++ g)))))
-of_seven a b c d e f g = simp append_assoc
+pub named : (a b c d e f : List ℕ) → a ++ b ++ c ++ (d ++ e ++ f) ≡ a ++ (b ++ (c ++ (d ++ (e ++ f))))
+named a b c d e f = simp append_assoc
+
+pub named_line : (a b c d e f g h : List ℕ) → a ++ b ++ c ++ d ++ e ++ (f ++ g ++ h) ≡ a ++ (b ++ (c ++ (d ++ (e ++ (f ++ (g ++ h))))))
+named_line a b c d e f g h = simp append_assoc
 
 pub behind_five : (a b c d e f : List ℕ) → a ++ b ++ c ++ d ++ e ++ f ≡ a ++ (b ++ (c ++ (d ++ e))) ++ f
 behind_five a b c d e f = simp append_assoc

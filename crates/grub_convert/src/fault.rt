@@ -1,9 +1,9 @@
 //! Why a trace was not converted, and the program's status then.
 
-ghost use Rattle.std.specs.Prelude.{◌≡◌, OnOk};
+ghost use Rattle.std.specs.Prelude.{◌≡◌, OnOk, Some};
 ghost use Rattle.std.specs.Io.KnownBytes.{Appends};
 ghost use Rattle.grub_convert.specs.Faults.{status_of};
-ghost use Rattle.grub_convert.specs.Messages.{fault_line, line_told, overfull_line, task_told, unknown_told, wrong_told};
+ghost use Rattle.grub_convert.specs.Messages.{fault_line, overfull_told, told_of, unknown_told, wrong_told};
 
 use grub_facts::{LineFault, Wrong};
 use std::io;
@@ -74,7 +74,8 @@ impl TraceFault<'_> {
 
     /// Writes the line that tells it.
     pub fn tell<E: Write>(&self, to: &mut E) -> io::Result<()>
-        ensures { OnOk result (Appends (E.contents to.old) (E.contents to.new) (fault_line self.now)) }
+        ensures { OnOk result
+            (Appends (E.contents to.old) (E.contents to.new) (fault_line self.now)) }
     {
         match self {
             TraceFault::Line { path, fault } => tell_line(to, path, fault),
@@ -99,21 +100,17 @@ impl TraceFault<'_> {
 
 /// Writes the end of the line of a task that was not given; its comm may be no text.
 fn tell_unknown<E: Write>(to: &mut E, comm: &[u8], pid: u64) -> io::Result<()>
-    ensures { OnOk result (Appends (E.contents to.old) (E.contents to.new) (unknown_told comm.now pid)) }
+    ensures { OnOk result
+        (Appends (E.contents to.old) (E.contents to.new) (unknown_told comm.now pid)) }
 {
     to.write_all(b"50 UnknownTask ")?;
-    tell_task(to, comm, pid)
-}
-
-fn tell_task<E: Write>(to: &mut E, comm: &[u8], pid: u64) -> io::Result<()>
-    ensures { OnOk result (Appends (E.contents to.old) (E.contents to.new) (task_told comm.now pid)) }
-{
     to.write_all(comm)?;
     writeln!(to, " (pid {pid})")
 }
 
 fn tell_overfull<E: Write>(to: &mut E, path: &str, line: Option<u64>, name: &str) -> io::Result<()>
-    ensures { OnOk result (Appends (E.contents to.old) (E.contents to.new) (overfull_line path.now line name.now)) }
+    ensures { OnOk result (Appends (E.contents to.old) (E.contents to.new)
+        (told_of path.now line (overfull_told name.now))) }
 {
     match line {
         Some(line) => writeln!(to, "grubtrace: {path}:{line}: 57 Overfull {name}"),
@@ -135,7 +132,8 @@ fn tell_wrong<E: Write>(to: &mut E, wrong: &Wrong) -> io::Result<()>
 }
 
 fn tell_line<E: Write>(to: &mut E, path: &str, fault: &LineFault) -> io::Result<()>
-    ensures { OnOk result (Appends (E.contents to.old) (E.contents to.new) (line_told path.now fault.now)) }
+    ensures { OnOk result (Appends (E.contents to.old) (E.contents to.new)
+        (told_of path.now (Some fault.now.line) (wrong_told fault.now.wrong))) }
 {
     let line = fault.line;
     write!(to, "grubtrace: {path}:{line}: ")?;
