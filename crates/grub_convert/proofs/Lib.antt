@@ -1,3 +1,4 @@
+mod MessageLemmas
 mod OptionLemmas
 mod ReadLemmas
 mod ServingLemmas

@@ -1,7 +1,9 @@
 //! Why a trace was not converted, and the program's status then.
 
-ghost use Rattle.std.specs.Prelude.{◌≡◌};
+ghost use Rattle.std.specs.Prelude.{◌≡◌, OnOk, Some};
+ghost use Rattle.std.specs.Io.KnownBytes.{Appends};
 ghost use Rattle.grub_convert.specs.Faults.{status_of};
+ghost use Rattle.grub_convert.specs.Messages.{fault_line, overfull_told, told_of, unknown_told, wrong_told};
 
 use grub_facts::{LineFault, Wrong};
 use std::io;
@@ -71,7 +73,10 @@ impl TraceFault<'_> {
     }
 
     /// Writes the line that tells it.
-    pub fn tell<E: Write>(&self, to: &mut E) -> io::Result<()> {
+    pub fn tell<E: Write>(&self, to: &mut E) -> io::Result<()>
+        ensures { OnOk result
+            (Appends (E.contents to.old) (E.contents to.new) (fault_line self.now)) }
+    {
         match self {
             TraceFault::Line { path, fault } => tell_line(to, path, fault),
             TraceFault::NoSuchTask { path, name } => {
@@ -93,33 +98,44 @@ impl TraceFault<'_> {
     }
 }
 
-/// Writes the line of a task that was not given; its comm may be no text.
-fn tell_unknown<E: Write>(to: &mut E, comm: &[u8], pid: u64) -> io::Result<()> {
+/// Writes the end of the line of a task that was not given; its comm may be no text.
+fn tell_unknown<E: Write>(to: &mut E, comm: &[u8], pid: u64) -> io::Result<()>
+    ensures { OnOk result
+        (Appends (E.contents to.old) (E.contents to.new) (unknown_told comm.now pid)) }
+{
     to.write_all(b"50 UnknownTask ")?;
     to.write_all(comm)?;
     writeln!(to, " (pid {pid})")
 }
 
-fn tell_overfull<E: Write>(
-    to: &mut E,
-    path: &str,
-    line: Option<u64>,
-    name: &str,
-) -> io::Result<()> {
+fn tell_overfull<E: Write>(to: &mut E, path: &str, line: Option<u64>, name: &str) -> io::Result<()>
+    ensures { OnOk result (Appends (E.contents to.old) (E.contents to.new)
+        (told_of path.now line (overfull_told name.now))) }
+{
     match line {
         Some(line) => writeln!(to, "grubtrace: {path}:{line}: 57 Overfull {name}"),
         None => writeln!(to, "grubtrace: {path}: 57 Overfull {name}"),
     }
 }
 
-fn tell_line<E: Write>(to: &mut E, path: &str, fault: &LineFault) -> io::Result<()> {
-    let line = fault.line;
-    write!(to, "grubtrace: {path}:{line}: ")?;
-    match &fault.wrong {
+/// Writes the end of the line of a fault of a trace's line.
+fn tell_wrong<E: Write>(to: &mut E, wrong: &Wrong) -> io::Result<()>
+    ensures { OnOk result (Appends (E.contents to.old) (E.contents to.new) (wrong_told wrong.now)) }
+{
+    match wrong {
         Wrong::UnknownTask { comm, pid } => tell_unknown(to, comm, *pid),
         Wrong::WrongClock => to.write_all(b"51 WrongClock\n"),
         Wrong::LostEvents => to.write_all(b"52 LostEvents\n"),
         Wrong::TooLong => to.write_all(b"54 TooLong\n"),
         Wrong::BadTraceLine => to.write_all(b"55 BadTraceLine\n"),
     }
+}
+
+fn tell_line<E: Write>(to: &mut E, path: &str, fault: &LineFault) -> io::Result<()>
+    ensures { OnOk result (Appends (E.contents to.old) (E.contents to.new)
+        (told_of path.now (Some fault.now.line) (wrong_told fault.now.wrong))) }
+{
+    let line = fault.line;
+    write!(to, "grubtrace: {path}:{line}: ")?;
+    tell_wrong(to, &fault.wrong)
 }
