@@ -1,5 +1,5 @@
 -- Files that are made one after another, and the statuses of that.
-use Rattle.std.proofs.Common.{◌≡◌, ◌<◌, ◌+◌, ◌∙◌, ◌⊎◌, inl, inr, arith, ap, sym, subst, refl, ℕ, zero, suc, List, [], ◌∷◌, ◌++◌, get_or, length, map, take, Option, Some, None, Result, Ok, Err}
+use Rattle.std.proofs.Common.{◌≡◌, ◌<◌, ◌+◌, ◌∙◌, ◌⊎◌, inl, inr, arith, ap, sym, subst, refl, ℕ, zero, suc, List, [], ◌∷◌, ◌++◌, get_or, length, map, take, Option, Result, Ok, Err}
 use Rattle.std.specs.Prelude.{All, IfErr, MatchResult, OnOk}
 use Rattle.std.specs.List.{AllZip}
 use Rattle.std.proofs.lemmas.List.{length-append, map-append}

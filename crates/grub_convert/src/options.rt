@@ -1,10 +1,10 @@
 //! What the words of options say.
 
-ghost use Rattle.std.specs.Prelude.{◌≡◌, ◌<◌, ◌==◌, [], Some, IfOk, length, map, option_map};
+ghost use Rattle.std.specs.Prelude.{◌≡◌, ◌<◌, ◌==◌, Some, IfOk, map, option_map};
 ghost use Rattle.std.specs.Char.{is_ascii_digit};
 ghost use Rattle.std.specs.List.{list_all, list_any};
 ghost use Rattle.std.specs.Path.{rsplit_once};
-ghost use Rattle.grub_convert.specs.Options.{fair_in, text_of, given_task, has_name, most_in, number_in, pair_in, reservation_in, said_by, said_in, task_in, tasks_in};
+ghost use Rattle.grub_convert.specs.Options.{fair_in, text_of, given_task, most_in, number_in, pair_in, reservation_in, said_by, said_in, task_in, tasks_in};
 ghost use Rattle.grub_convert.specs.inside.Words.{is_named, texts_of};
 
 use grub_bw::Params;

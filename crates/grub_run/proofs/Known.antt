@@ -20,9 +20,3 @@ prefix_flushed None b c text h k = tt
 prefix_flushed (Some xs) None c text h k = absurd h
 prefix_flushed (Some xs) (Some ys) None text h k = absurd k
 prefix_flushed (Some xs) (Some ys) (Some zs) text h k = (length text, k ∙ h ∙ ap (λ l. xs ++ l) (sym (take-length text)))
-
-pub appends_flushed : (a b c : Option (List ℕ)) (text : List ℕ) → Appends a b text → Keeps b c → Appends a c text
-appends_flushed None b c text h k = tt
-appends_flushed (Some xs) None c text h k = absurd h
-appends_flushed (Some xs) (Some ys) None text h k = absurd k
-appends_flushed (Some xs) (Some ys) (Some zs) text h k = k ∙ h

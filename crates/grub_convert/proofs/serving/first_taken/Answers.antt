@@ -1,4 +1,4 @@
-use Rattle.std.proofs.Common.{ap, arith, map, subst, sym}
+use Rattle.std.proofs.Common.{ap, arith, map, subst}
 use Rattle.std.proofs.lemmas.Fn.{says_at}
 use Rattle.std.proofs.lemmas.List.{take_all}
 use Rattle.std.specs.Fn.{FnReturnsAt}
