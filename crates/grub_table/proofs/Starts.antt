@@ -100,7 +100,6 @@ same_record : (x : Record) (p : Place) (n : ℕ) (server : Server) (params : Res
 same_record x p n server params a b c d = λ i. record { place = a i; count = b i; server = c i; params = d i }
 
 module _ (s : Shared) (old mid new : TheSeat) (t : ℕ) (op : Op) (rec : Record) (h : HoldsFor s old t op rec) (params : Reservation) (server : Server) (one : Tells s (SawParams params) old mid) (two : Tells s (SawServer server) mid new) where
-
   pub saw_record : (w : TaskWord) → w.place ≡ rec.place → w.count ≡ rec.count → let found : Record = record { place = w.place; count = w.count; server = server; params = params } in Tells s (SawRecord found) old new
   saw_record w place count =
       let x : Share = share_on old in
