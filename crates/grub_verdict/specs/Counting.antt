@@ -8,12 +8,12 @@ use Rattle.grub_facts.specs.declared.fact.Fact.{Fact}
 use Rattle.grub_facts.specs.declared.fact.What.{What}
 use Rattle.grub_facts.specs.declared.fact.What.TheVariants.{Cancelled}
 use Rattle.grub_events.specs.declared.event.Act.{Act}
-use Rattle.grub_events.specs.declared.event.Act.TheVariants.{Join, Wake, Block, Run}
+use Rattle.grub_events.specs.declared.event.Act.TheVariants.{Join, Wake, Run}
 use Rattle.grub_events.specs.declared.event.Source.{Source}
-use Rattle.grub_events.specs.declared.event.Source.TheVariants.{Told, Ending, Opening, Moving}
+use Rattle.grub_events.specs.declared.event.Source.TheVariants.{Told, Ending}
 use Rattle.grub_events.specs.declared.event.Placed.{Placed}
 use Rattle.grub_events.specs.declared.standing.Standing.{Standing}
-use Rattle.grub_events.specs.declared.standing.Standing.TheVariants.{Unseen, Asleep, Awake}
+use Rattle.grub_events.specs.declared.standing.Standing.TheVariants.{Unseen}
 use Rattle.grub_events.specs.Rules.{standing_after}
 use Rattle.grub_trace.specs.declared.entry.Ask.{Ask}
 use Rattle.grub_trace.specs.declared.entry.Ask.TheVariants.{Call}
@@ -23,36 +23,29 @@ use Rattle.grub_views.specs.declared.book_steps.Step.{Step}
 
 -- ---- events
 
-abbrev pub is_wake : Act → Bool
-is_wake Join = true
-is_wake Wake = true
-is_wake Block = false
-is_wake (Run micros) = false
+abbrev pub is_arrival : Act → Bool
+is_arrival Join = true
+is_arrival Wake = true
+is_arrival act = false
 
 abbrev pub is_told : Source → Bool
 is_told Told = true
-is_told Ending = false
-is_told Opening = false
-is_told Moving = false
+is_told source = false
 
 -- a wake that the trace shows
 abbrev pub is_told_wake : Placed → Bool
-is_told_wake p = is_wake p.event.act && is_told p.event.source
+is_told_wake p = is_arrival p.event.act && is_told p.event.source
 
 abbrev pub is_run_act : Act → Bool
 is_run_act (Run micros) = true
-is_run_act Join = false
-is_run_act Wake = false
-is_run_act Block = false
+is_run_act act = false
 
 abbrev pub is_run : Placed → Bool
 is_run p = is_run_act p.event.act
 
 abbrev pub is_ending : Source → Bool
 is_ending Ending = true
-is_ending Told = false
-is_ending Opening = false
-is_ending Moving = false
+is_ending source = false
 
 -- the block of a task that ends
 abbrev pub is_exit : Placed → Bool
@@ -62,8 +55,7 @@ is_exit p = is_ending p.event.source
 
 abbrev pub is_unseen : Standing → Bool
 is_unseen Unseen = true
-is_unseen Asleep = false
-is_unseen (Awake runqueue ran rest) = false
+is_unseen standing = false
 
 abbrev pub cancels : What → Bool
 cancels Cancelled = true

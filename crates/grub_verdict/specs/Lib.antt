@@ -7,4 +7,5 @@ pub mod Counting
 pub mod Answered
 pub mod Observed
 pub mod Judging
+pub mod Marking
 pub mod Checking

@@ -1,7 +1,7 @@
 //! The verdict on the trace of a name, printed.
 
-ghost use Rattle.std.specs.Prelude.{◌≡◌, IfOk, true, false};
-ghost use Rattle.grub_verdict.specs.Checking.{IsSaid, Prints};
+ghost use Rattle.std.specs.Prelude.{◌≡◌, IfOk, OnOk, true, false};
+ghost use Rattle.grub_verdict.specs.Checking.{IsSaid, MakesWanted, Prints};
 
 use crate::case::Judged;
 use crate::checking::{CheckFault, Question, check_facts};
@@ -39,11 +39,12 @@ fn write_picture<'a, X: Fn(&str) -> bool, M: Fn(&str, &[u8]) -> io::Result<()>>(
 ) -> Result<(), TraceFault<'a>>
     requires exists { X.IsAlwaysCallable target.now.exists }
     requires make { M.IsAlwaysCallable target.now.make }
+    ensures { OnOk result (MakesWanted X.Fn M.Fn target.now question.entry options.now facts.now) }
 {
     let Some(path) = question.picture else {
         return Ok(());
     };
-    let Ok(text) = picture_facts(alloc, options, facts, question.within) else {
+    let Ok(text) = picture_facts(alloc, question, options, facts) else {
         return Err(TraceFault::NoText);
     };
     if (target.exists)(path) {
@@ -78,7 +79,7 @@ fn read_verdict<
     requires read { N.IsAlwaysCallable input.now.read }
     requires exists { X.IsAlwaysCallable target.now.exists }
     requires make { M.IsAlwaysCallable target.now.make }
-    ensures { IfOk result (λ said. IsSaid O.Fn N.Fn input.now question.entry options.now said.0 said.1.items) }
+    ensures { IfOk result (λ said. IsSaid O.Fn N.Fn X.Fn M.Fn input.now target.now question.entry options.now said.0 said.1.items) }
 {
     let mut facts = read_facts(alloc, input, question.path, options)?;
     match check_facts(alloc, question, options, &facts) {
@@ -119,8 +120,8 @@ pub fn serve_check<
     requires exists { X.IsAlwaysCallable target.now.exists }
     requires make { M.IsAlwaysCallable target.now.make }
     // The verdict on what the trace tells was printed: at 0 it says that it agrees, and at 4 that it differs.
-    ensures agrees { result ≡ 0 → Prints O.Fn N.Fn input.now question.entry options.now true (W.contents out.old) (W.contents out.new) }
-    ensures differs { result ≡ 4 → Prints O.Fn N.Fn input.now question.entry options.now false (W.contents out.old) (W.contents out.new) }
+    ensures agrees { result ≡ 0 → Prints O.Fn N.Fn X.Fn M.Fn input.now target.now question.entry options.now true (W.contents out.old) (W.contents out.new) }
+    ensures differs { result ≡ 4 → Prints O.Fn N.Fn X.Fn M.Fn input.now target.now question.entry options.now false (W.contents out.old) (W.contents out.new) }
     // Where the trace is at fault, nothing was printed.
     ensures nothing { result ≡ 1 → out.new ≡ out.old }
 {

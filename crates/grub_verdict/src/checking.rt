@@ -4,13 +4,12 @@ ghost use Rattle.std.specs.Prelude.{IfOk, IfErr};
 ghost use Rattle.grub_trace.specs.Reading.{contents};
 ghost use Rattle.grub_verdict.specs.Checking.{AreReadAs, HasText, IsFaultOn, IsJudgedOf, IsVerdictOn};
 
-use crate::case::{Case, Judged, Overfull};
+use crate::case::{Judged, Overfull};
 use crate::judging::judge;
-use grub_convert::{FilesFault, Options, event_files, events_told, setting_of};
+use crate::played::Played;
+use grub_convert::{FilesFault, Options, event_files};
 use grub_facts::Facts;
-use grub_timeline::play;
 use grub_trace::{Plan, read_files};
-use grub_views::played_steps;
 use std::alloc::{AllocError, Global};
 
 /// What is checked: the trace of a name.
@@ -42,7 +41,7 @@ pub enum CheckFault<'a> {
 }
 
 /// The plan of the event files that a trace tells.
-fn plan_of(alloc: Global, files: &[Vec<u8>]) -> Result<Plan, AllocError>
+pub fn plan_of(alloc: Global, files: &[Vec<u8>]) -> Result<Plan, AllocError>
     ensures { IfOk result (AreReadAs (contents files.now)) }
 {
     match read_files(alloc, files) {
@@ -61,25 +60,8 @@ fn judged_of(
 ) -> Result<Judged, AllocError>
     ensures { IfOk result (IsJudgedOf question.entry options.now facts.now plan.now) }
 {
-    let Ok(placed) = events_told(alloc, options, facts) else {
-        return Err(AllocError);
-    };
-    let setting = setting_of(alloc, options, facts)?;
-    let Ok(line) = play(alloc, plan) else {
-        return Err(AllocError);
-    };
-    let steps = played_steps(alloc, plan, &line)?;
-    let case = Case {
-        trace: question.path,
-        facts,
-        setting: &setting,
-        placed: &placed,
-        plan,
-        steps: &steps,
-        within: question.within,
-    };
-    let judged = judge(alloc, &case)?;
-    Ok(judged)
+    let played = Played::new(alloc, options, facts, plan)?;
+    judge(alloc, &played.case(question, facts, plan))
 }
 
 /// The name of a task of the plan.

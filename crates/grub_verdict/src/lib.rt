@@ -11,6 +11,7 @@ mod heading;
 mod judging;
 mod observation;
 mod picture;
+mod played;
 mod refusal;
 mod sign;
 mod text;
