@@ -1,7 +1,9 @@
 //! The verdict on the trace of a name, printed.
 
-ghost use Rattle.std.specs.Prelude.{◌≡◌, IfOk, OnOk, true, false};
+ghost use Rattle.std.specs.Prelude.{◌≡◌, ◌⊎◌, IfOk, OnOk, true, false};
+ghost use Rattle.grub_convert.specs.declared.fault.TheConstants.{STATUS_FILE, STATUS_SYSTEM};
 ghost use Rattle.grub_verdict.specs.Checking.{IsSaid, MakesWanted, Prints};
+ghost use Rattle.grub_verdict.specs.declared.check.TheConstants.{STATUS_DIFFERS};
 
 use crate::case::Judged;
 use crate::checking::{CheckFault, Question, check_facts};
@@ -119,6 +121,7 @@ pub fn serve_check<
     requires read { N.IsAlwaysCallable input.now.read }
     requires exists { X.IsAlwaysCallable target.now.exists }
     requires make { M.IsAlwaysCallable target.now.make }
+    ensures status { (result ≡ 0) ⊎ (result ≡ STATUS_DIFFERS) ⊎ (result ≡ STATUS_FILE) ⊎ (result ≡ STATUS_SYSTEM) }
     // The verdict on what the trace tells was printed: at 0 it says that it agrees, and at 4 that it differs.
     ensures agrees { result ≡ 0 → Prints O.Fn N.Fn X.Fn M.Fn input.now target.now question.entry options.now true (W.contents out.old) (W.contents out.new) }
     ensures differs { result ≡ 4 → Prints O.Fn N.Fn X.Fn M.Fn input.now target.now question.entry options.now false (W.contents out.old) (W.contents out.new) }

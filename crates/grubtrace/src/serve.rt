@@ -1,5 +1,8 @@
 //! The program over its words and two writers.
 
+ghost use Rattle.std.specs.Prelude.{◌≡◌, ◌≤◌, ◌⊎◌};
+ghost use Rattle.grub_convert.specs.declared.fault.TheConstants.{STATUS_SYSTEM, STATUS_USAGE};
+
 use crate::command::command;
 use clap::error::ErrorKind;
 use clap::{ArgMatches, Error};
@@ -40,6 +43,9 @@ pub fn serve<
     requires read { N.IsAlwaysCallable input.now.read }
     requires exists { X.IsAlwaysCallable target.now.exists }
     requires make { M.IsAlwaysCallable target.now.make }
+    ensures status { result ≤ 4 }
+    // Where the trace is at fault, or the words are, nothing was printed.
+    ensures nothing { (result ≡ 1) ⊎ (result ≡ 2) → out.new ≡ out.old }
 {
     match matches_of(alloc, words) {
         Ok(matches) => match matches.subcommand() {
@@ -74,6 +80,7 @@ fn events<
     requires read { N.IsAlwaysCallable input.now.read }
     requires exists { X.IsAlwaysCallable target.now.exists }
     requires make { M.IsAlwaysCallable target.now.make }
+    ensures { result ≤ 4 }
 {
     let path = matches.get_str("TRACE").unwrap_or("");
     let prefix = matches.get_str("out").unwrap_or("");
@@ -105,6 +112,8 @@ fn check<
     requires read { N.IsAlwaysCallable input.now.read }
     requires exists { X.IsAlwaysCallable target.now.exists }
     requires make { M.IsAlwaysCallable target.now.make }
+    ensures status { result ≤ 4 }
+    ensures nothing { (result ≡ 1) ⊎ (result ≡ 2) → out.new ≡ out.old }
 {
     let question = Question {
         path: matches.get_str("TRACE").unwrap_or(""),
@@ -129,20 +138,27 @@ fn options_in<'a>(
     options_of(alloc, tasks, matches.get_one::<u32>("cpus"), rt, fair)
 }
 
-fn no_options<E: Write>(faults: &mut E) -> u8 {
+fn no_options<E: Write>(faults: &mut E) -> u8
+    ensures { result ≡ STATUS_USAGE }
+{
     let _ = faults.write_all(
         b"error: a task, --rt or --fair-server says no reservation, or a task is given twice\n",
     );
     STATUS_USAGE
 }
 
-fn no_memory<E: Write>(faults: &mut E) -> u8 {
+fn no_memory<E: Write>(faults: &mut E) -> u8
+    ensures { result ≡ STATUS_SYSTEM }
+{
     let _ = faults.write_all(b"grubtrace: 47 NoMemory\n");
     STATUS_SYSTEM
 }
 
 /// The text of the command line's fault, or the text that the words ask for.
-fn serve_error<W: Write, E: Write>(error: &Error, out: &mut W, faults: &mut E) -> u8 {
+fn serve_error<W: Write, E: Write>(error: &Error, out: &mut W, faults: &mut E) -> u8
+    ensures status { (result ≡ 0) ⊎ (result ≡ STATUS_USAGE) ⊎ (result ≡ STATUS_SYSTEM) }
+    ensures nothing { result ≡ STATUS_USAGE → out.new ≡ out.old }
+{
     match error.kind() {
         ErrorKind::OutOfMemory => no_memory(faults),
         ErrorKind::DisplayHelp | ErrorKind::DisplayVersion => {
@@ -160,7 +176,9 @@ fn serve_error<W: Write, E: Write>(error: &Error, out: &mut W, faults: &mut E) -
 }
 
 /// The line where the words could not be had: memory was refused, or they are no text.
-pub fn serve_no_words<E: Write>(error: &io::Error, faults: &mut E) -> u8 {
+pub fn serve_no_words<E: Write>(error: &io::Error, faults: &mut E) -> u8
+    ensures { (result ≡ STATUS_USAGE) ⊎ (result ≡ STATUS_SYSTEM) }
+{
     if error.kind() == io::ErrorKind::OutOfMemory {
         return no_memory(faults);
     }
