@@ -10,62 +10,58 @@ use Rattle.grub_book.specs.declared.place.Record.{Record}
 use Rattle.grub_words.specs.Words.{queue_word, server_word, params_word, QueueFits, ServerFits}
 use Rattle.grub_words.proofs.Bounds.{ServerFits-kept}
 use Rattle.grub_words.proofs.Halves.{same_queue, same_server, same_params}
-use Rattle.grub_table.specs.declared.pass.Pass.{Pass}
+use Rattle.atomic_table.specs.declared.shared.Seat.{Seat}
 use Rattle.grub_table.specs.declared.pass.Shared.{Shared}
-use Rattle.grub_table.specs.declared.view.Hold.TheVariants.{Free}
+use Rattle.grub_table.specs.declared.seated.Seated.{Seated}
 use Rattle.grub_table.specs.declared.view.Note.{Note}
 use Rattle.grub_table.specs.declared.view.Access.{Access}
 use Rattle.grub_table.specs.declared.view.Share.{Share}
 use Rattle.grub_table.specs.declared.view.Terms.{Terms}
-use Rattle.grub_table.specs.inside.Between.{TheSeat, share_on, made_on, IsSeatOf, HoldsFor, HoldsMade, Tells, Leaves, GivenUp, SawReading, SawParams, SawServer, SawQueue, Exchanged, Concluded}
+use Rattle.grub_table.specs.Calls.{share_on, made_on}
+use Rattle.grub_table.specs.inside.Between.{IsSeatOf, HoldsFor, HoldsMade, Tells, GivenUp, SawReading, SawParams, SawServer, SawQueue, Exchanged, Concluded}
 use Rattle.grub_table.specs.declared.view.Stored.{Stored}
 use Rattle.grub_table.specs.Histories.{record_in, reading_in}
 use Rattle.grub_table.specs.Layout.{queue_word_at}
 use Rattle.grub_table.specs.inside.Layout.{stored_of}
 use Rattle.grub_book.specs.Step.{early}
 use Rattle.grub_table.specs.inside.Tellings.{Finishes, Turns, OfQueue, outcome, is_decided_at_load, DecidesIf, Decides, Looked, LoadedParams, LoadedServer, LoadedQueue, LoadedQueueAs, ChangedQueue, GaveClaim, Sees, IsReadingFor}
-use Rattle.grub_table.specs.Trails.{head_made}
+use Rattle.grub_table.specs.declared.view.Trail.{Trail}
+use Rattle.grub_table.specs.Trails.{first_made, head_made}
 use Rattle.grub_table.specs.inside.Trails.{each_after, known, lone, trail}
+use Rattle.grub_table.specs.Views.{first_of}
 use Rattle.grub_table.specs.inside.Views.{alone}
 use Rattle.grub_table.proofs.Turns.{under}
 
--- what a seat's one pass made
-made_after : (s : Shared) (old new : TheSeat) (a : Access) → IsSeatOf s old → new.me.0.made ≡ each_after old.me.0.made a → new.me.0.made ≡ (made_on old ++ a ∷ []) ∷ []
-made_after s old new a is made = made ∙ ap (λ m. each_after m.0.made a) is.single
+-- the seat that a step leaves is of the same pass, which has made one access more
+module _ (old : Seated) (new : Seat Note Trail) (a : Access) (made : new.me.0.made ≡ each_after old.seat.me.0.made a) where
+  made_after : new.me.0.made ≡ (made_on old ++ a ∷ []) ∷ []
+  made_after = made ∙ ap (λ m. each_after m.0.made a) old.single
 
--- the access is the pass's own
-pub made_more : (s : Shared) (old new : TheSeat) (a : Access) → IsSeatOf s old → new.me.0.made ≡ each_after old.me.0.made a → made_on new ≡ made_on old ++ a ∷ []
-made_more s old new a is made = ap head_made (made_after s old new a is made)
+  pub made_more : first_made new.me.0 ≡ made_on old ++ a ∷ []
+  made_more = ap head_made made_after
 
--- the same, at a word that is known by its place
-pub made_at : (s : Shared) (old new : TheSeat) (k : ℕ → Access) (i j : ℕ) → IsSeatOf s old → new.me.0.made ≡ each_after old.me.0.made (k i) → i ≡ j → made_on new ≡ made_on old ++ k j ∷ []
-made_at s old new k i j is made at = made_more s old new (k i) is made ∙ ap (λ w. made_on old ++ k w ∷ []) at
+  pub still_single : (P : Terms → Share → Share → Type 0) → Turns {S = Note} P (known old.seat.me) (known new.me) → new.me ≡ (lone (first_of new.me.0.view) (first_made new.me.0), [])
+  still_single P t =
+      let lists : new.me.0.made ≡ first_made new.me.0 ∷ [] = made_after ∙ sym (ap (λ l. head_made l ∷ []) made_after) in
+      let views : known new.me ≡ (alone (first_of new.me.0.view), []) = t.single ∙ ap (λ m. (alone (first_of new.me.0.view), m.1)) old.single in
+      λ i. (trail (views i).0 (lists i), (views i).1)
 
 -- what a step tells, in terms of the table's own setup
-pub tells_of : (s : Shared) (P : Terms → Share → Share → Type 0) (old new : TheSeat) (a : Access) → IsSeatOf s old → new.table_id ≡ old.table_id → Turns {S = Note} P (known old.me) (known new.me) → new.me.0.made ≡ each_after old.me.0.made a
-    → Tells s P old new
-tells_of s P old new a is same t made = record {
-  seat = record {
-    home = same ∙ is.home;
-    single =
-        let one = made_after s old new a is made in
-        let lists : new.me.0.made ≡ made_on new ∷ [] = one ∙ sym (ap (λ l. head_made l ∷ []) one) in
-        let views : known new.me ≡ (alone (share_on new), []) = t.single ∙ ap (λ m. (alone (share_on new), m.1)) is.single in
-        λ i. (trail (views i).0 (lists i), (views i).1);
-    terms = t.terms ∙ is.terms;
-  };
+pub tells_of : (s : Shared) (P : Terms → Share → Share → Type 0) (old new : Seated) → IsSeatOf s old → new.seat.table_id ≡ old.seat.table_id → Turns {S = Note} P (known old.seat.me) (known new.seat.me) → Tells s P old new
+tells_of s P old new is same t = record {
+  seat = record { home = same ∙ is.home; terms = t.terms ∙ is.terms };
   number = t.number;
   of = subst (λ (T : Terms). P T (share_on old) (share_on new)) is.terms t.told;
 }
 
-pub tells_as : (s : Shared) (P Q : Terms → Share → Share → Type 0) (old new : TheSeat) → Tells s P old new → Q s.terms (share_on old) (share_on new) → Tells s Q old new
+pub tells_as : (s : Shared) (P Q : Terms → Share → Share → Type 0) (old new : Seated) → Tells s P old new → Q s.terms (share_on old) (share_on new) → Tells s Q old new
 tells_as s P Q old new t q = record { seat = t.seat; number = t.number; of = q }
 
 -- ---- a look
-pub word_of_look : (s : Shared) (r word found : ℕ) (old new : TheSeat) → Tells s (OfQueue word (λ q. Looked q found)) old new → word ≡ queue_word_at r → (now : Reading) × QueueFits now × (queue_word now ≡ found)
+pub word_of_look : (s : Shared) (r word found : ℕ) (old new : Seated) → Tells s (OfQueue word (λ q. Looked q found)) old new → word ≡ queue_word_at r → (now : Reading) × QueueFits now × (queue_word now ≡ found)
 word_of_look s r word found old new t at = let l = (t.of r at).2 in (l.0, l.2, sym l.1)
 
-pub saw_reading : (s : Shared) (r word found : ℕ) (now : Reading) (old new : TheSeat) → Tells s (OfQueue word (λ q. Looked q found)) old new → word ≡ queue_word_at r → QueueFits now → queue_word now ≡ found → Tells s (SawReading r now) old new
+pub saw_reading : (s : Shared) (r word found : ℕ) (now : Reading) (old new : Seated) → Tells s (OfQueue word (λ q. Looked q found)) old new → word ≡ queue_word_at r → QueueFits now → queue_word now ≡ found → Tells s (SawReading r now) old new
 saw_reading s r word found now old new t at fits is =
     let l = t.of r at in
     let w = l.2 in
@@ -74,7 +70,7 @@ saw_reading s r word found now old new t at fits is =
     (l.0, l.1, subst (λ m. Finishes s.terms (share_on old).number (share_on old).seen (Look (share_on old).number r m) (share_on new).seen) same w.3, l.3)
 
 -- ---- under a claim
-module _ (s : Shared) (old new : TheSeat) (t : ℕ) (op : Op) (rec : Record) (h : HoldsFor s old t op rec) where
+module _ (s : Shared) (old new : Seated) (t : ℕ) (op : Op) (rec : Record) (h : HoldsFor s old t op rec) where
   abbrev x : Share
   x = share_on old
 
@@ -135,22 +131,9 @@ module _ (s : Shared) (old new : TheSeat) (t : ℕ) (op : Op) (rec : Record) (h 
     exchanged b is = tells_as s (OfQueue word (λ q. ChangedQueue q loaded found)) (Exchanged r now b) old new told (exchanged_as b is)
 
 -- ---- the task is given back
--- the ghost fields of a pass, of the seat that it gets
-pub record MayBePass (seat : TheSeat) (number : ℕ) : Type 0 where
-  pub single : seat.me ≡ (lone (share_on seat) (made_on seat), [])
-  pub numbered : (share_on seat).number ≡ number
-  pub free : (share_on seat).hold ≡ Free
+module _ (s : Shared) (old new : Seated) (t : ℕ) (told : Tells s GaveClaim old new) where
+  pub left_up : (op : Op) (rec : Record) → HoldsFor s old t op rec → Tells s (GivenUp t) old new
+  left_up op rec h = tells_as s GaveClaim (GivenUp t) old new told (told.of.0 t op rec h.hold)
 
-module _ (s : Shared) (old : TheSeat) (q : Pass) (t : ℕ) where
-  pub left_up : (op : Op) (rec : Record) → HoldsFor s old t op rec → Tells s GaveClaim old q.seat → Leaves s (GivenUp t) old q
-  left_up op rec h told = record { home = told.seat.home; terms = told.seat.terms; number = told.number; of = told.of.0 t op rec h.hold }
-
-  pub left_back : (now : Record) (stored : Stored) → HoldsMade s old t now stored → Tells s GaveClaim old q.seat → Leaves s (Concluded t) old q
-  left_back now stored h told = record { home = told.seat.home; terms = told.seat.terms; number = told.number; of = told.of.1 t h.hold.0 now stored h.hold.1 }
-
-module _ (s : Shared) (old new : TheSeat) (t : ℕ) where
-  pub left_free_up : (op : Op) (rec : Record) (number : ℕ) → HoldsFor s old t op rec → (share_on old).number ≡ number → Tells s GaveClaim old new → MayBePass new number
-  left_free_up op rec number h by told = record { single = told.seat.single; numbered = told.number ∙ by; free = (told.of.0 t op rec h.hold).1.0 }
-
-  pub left_free_back : (now : Record) (number : ℕ) (stored : Stored) → HoldsMade s old t now stored → (share_on old).number ≡ number → Tells s GaveClaim old new → MayBePass new number
-  left_free_back now number stored h by told = record { single = told.seat.single; numbered = told.number ∙ by; free = (told.of.1 t h.hold.0 now stored h.hold.1).1.0 }
+  pub left_back : (now : Record) (stored : Stored) → HoldsMade s old t now stored → Tells s (Concluded t) old new
+  left_back now stored h = tells_as s GaveClaim (Concluded t) old new told (told.of.1 t h.hold.0 now stored h.hold.1)

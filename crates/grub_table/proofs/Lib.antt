@@ -8,8 +8,7 @@ pub mod Turns
 pub mod TaskTurns
 pub mod ClaimTurns
 pub mod StoreTurns
-pub mod Allowed
-pub mod Seated
+pub mod AllowedSteps
 pub mod Between
 pub mod Starts
 pub mod Openings

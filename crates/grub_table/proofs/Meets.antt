@@ -10,7 +10,6 @@ use Rattle.grub_table.specs.declared.view.Note.{Note}
 use Rattle.grub_table.specs.declared.view.Trail.{Trail}
 use Rattle.grub_table.specs.declared.view.View.{View}
 use Rattle.grub_table.specs.Accesses.{meeting_loads}
-use Rattle.grub_table.specs.inside.Between.{TheSeat}
 use Rattle.grub_table.specs.Calls.{accesses, share_of}
 use Rattle.grub_table.specs.Knowing.{GoesOn}
 use Rattle.grub_table.specs.Marks.{marker_of}
@@ -18,6 +17,7 @@ use Rattle.grub_table.specs.Trails.{Accesses}
 use Rattle.grub_table.specs.inside.Trails.{each_after, joined, known, left_trail, lone, right_trail, trail}
 use Rattle.grub_table.specs.inside.Views.{StandTogether, view}
 use Rattle.atomic_table.specs.Table.{Me}
+use Rattle.atomic_table.specs.declared.shared.Seat.{Seat}
 
 head_or : {A : Type 0} → A → List A → A
 head_or a [] = a
@@ -68,7 +68,7 @@ module _ (x y : Share) (t : StandTogether (x ∷ y ∷ [])) where
   marked_met = met_in marker_of x.number y.number t.marks x.marks y.marks t.marked.0 t.marked.1.0
 
 -- the trails of two passes that meet: joined, looking, and each with a seat of its own again
-module _ (p q : Pass) (j : TheSeat) (joins : j.me ≡ (joined q.seat.me.0 p.seat.me.0, q.seat.me.1)) where
+module _ (p q : Pass) (j : Seat Note Trail) (joins : j.me ≡ (joined q.seated.seat.me.0 p.seated.seat.me.0, q.seated.seat.me.1)) where
   abbrev both : View
   both = view (share_of p ∷ share_of q ∷ [])
 
@@ -76,12 +76,12 @@ module _ (p q : Pass) (j : TheSeat) (joins : j.me ≡ (joined q.seat.me.0 p.seat
   lists = (accesses p ++ Load 0 ∷ []) ∷ (accesses q ++ Load 0 ∷ []) ∷ []
 
   join_is : j.me ≡ (trail both lists, [])
-  join_is = joins ∙ (λ i. (joined (q.single i).0 (p.single i).0, (q.single i).1))
+  join_is = joins ∙ (λ i. (joined (q.seated.single i).0 (p.seated.single i).0, (q.seated.single i).1))
 
   pub both_known : j.me.0.view ≡ both
   both_known = ap (λ m. m.0.view) join_is
 
-  module _ (l : TheSeat) (sees : known l.me ≡ known j.me) (made : l.me.0.made ≡ each_after j.me.0.made (Load 0)) where
+  module _ (l : Seat Note Trail) (sees : known l.me ≡ known j.me) (made : l.me.0.made ≡ each_after j.me.0.made (Load 0)) where
     load_is : l.me ≡ (trail both (each_after lists (Load 0)), [])
     load_is =
         let what : known l.me ≡ (both, []) = sees ∙ ap known join_is in

@@ -1,34 +1,27 @@
--- Steps that change no word and no task keep the rule: looks, and the cutting and joining of views.
-use Rattle.std.proofs.Common.{◌≡◌, ◌≢◌, ℕ, ◌<◌, List, [], ◌∷◌, ◌++◌, length, set, get_or, sym, refl, ap, ◌∙◌, subst, ⊎_elim, arith}
+-- Steps that change no word and no task keep the rule: a comparison, and the cutting and joining of views.
+use Rattle.std.proofs.Common.{◌≡◌, ◌≢◌, ℕ, ◌<◌, List, ◌∷◌, length, set, get_or, sym, refl, subst, ⊎_elim}
 use mathlib.Core.Option.{some, none}
 use lib.ListN.{get_elem?}
 use lib.Seq.{set-get_or}
 use Rattle.atomic_table.specs.Table.{State, Me, step, keeps, stepped, Allows, Splits, Joins}
 use Rattle.atomic_table.proofs.Lists.{at_set, set_again}
 use Rattle.grub_book.specs.Sums.{reading_of}
-use Rattle.grub_book.specs.History.{IsTrueOf, book_of, StartsWith}
+use Rattle.grub_book.specs.History.{book_of, StartsWith}
 use Rattle.grub_book.specs.Sound.{IsSound}
 use Rattle.grub_book.specs.declared.event.Event.{Event}
-use Rattle.grub_book.specs.declared.event.Event.TheVariants.{Look}
-use Rattle.grub_book.specs.declared.event.Reading.{Reading}
-use Rattle.grub_book.specs.declared.op.Op.{Op}
-use Rattle.grub_book.specs.declared.place.Record.{Record}
-use Rattle.grub_book.proofs.Histories.{book_push, starts_whole, starts_next, starts_after}
+use Rattle.grub_book.proofs.Histories.{starts_whole, starts_after}
 use Rattle.grub_book.proofs.Soundness.{sound_legal}
-use Rattle.grub_words.specs.Words.{queue_word, QueueFits}
+use Rattle.grub_words.specs.Words.{QueueFits}
 use Rattle.grub_words.proofs.Bounds.{QueueFits-sound}
-use Rattle.grub_table.specs.declared.view.Hold.{Hold}
-use Rattle.grub_table.specs.declared.view.Hold.TheVariants.{Undecided}
 use Rattle.grub_table.specs.declared.view.Share.{Share}
 use Rattle.grub_table.specs.declared.view.Terms.{Terms}
 use Rattle.grub_table.specs.declared.view.View.{View}
-use Rattle.grub_table.specs.Layout.{queue_word_at}
-use Rattle.grub_table.specs.Histories.{IsHistory, record_in}
-use Rattle.grub_table.specs.inside.Views.{view, alone, nothing, without_first, only_first, both_of, holding, ShareOf, MarkedBy}
-use Rattle.grub_table.specs.inside.Tellings.{Looked, looks, compares}
+use Rattle.grub_table.specs.Histories.{IsHistory}
+use Rattle.grub_table.specs.inside.Views.{view, alone, nothing, without_first, only_first, both_of, ShareOf, MarkedBy}
+use Rattle.grub_table.specs.inside.Tellings.{compares}
 use Rattle.grub_table.specs.inside.Rule.{AreLimited, Stands, Known, Held, Grips, Grasps, Written, Kept, Marked, Since}
-use Rattle.grub_table.proofs.Growths.{all_weaker, history_more, finished}
-use Rattle.grub_table.proofs.Seats.{known_event, moved, taken, known_split, known_join, held_own, each_own, each_split, each_join}
+use Rattle.grub_table.proofs.Growths.{all_weaker}
+use Rattle.grub_table.proofs.Seats.{moved, taken, known_split, known_join, each_split, each_join}
 
 pub since_more : (T : Terms) (h h' : List Event) (grips : Grips) → StartsWith h' h → Since T h grips → Since T h' grips
 since_more T h h' grips more since t i before stored is = let s = since t i before stored is in (s.0, starts_after h' h s.0 more s.1, s.2)
@@ -39,9 +32,6 @@ sound T h are is = sound_legal T.setup h are is.legal
 
 pub reading_fits : (T : Terms) (h : List Event) (r : ℕ) → AreLimited T.setup → IsHistory T h → r < length T.setup.queues → QueueFits (reading_of (book_of T.setup h) r)
 reading_fits T h r are is lt = QueueFits-sound T.setup (book_of T.setup h) r (sound T h are is) lt (are.capacities r lt)
-
-still : (T : Terms) (grips : Grips) (h : List Event) (i : ℕ) (hold : Hold) → Grasps T grips (book_of T.setup h) i hold → (t : ℕ) (op : Op) (rec : Record) → hold ≡ Undecided t op rec → record_in T h t ≡ rec
-still T grips h i hold g t op rec is = (subst (Grasps T grips (book_of T.setup h) i) is g).2
 
 module _ {S : Type 0} where
   -- a step that changes no word and adds no mark
@@ -62,39 +52,6 @@ module _ {S : Type 0} where
     marked = marked;
     since = since_more T k.history h k.grips more k.since;
   }
-
-  pub look_allowed : (T : Terms) (slots id r i : ℕ) (me : Me S View) (x : Share) → me.0 ≡ alone x → x.terms ≡ T → r < length T.setup.queues → i ≡ queue_word_at r → Allows (Kept T) slots id me i (λ n. n) (looks (step slots i 0 0 none) me)
-  look_allowed T slots id r i me x is of fits place s k _ at _ =
-      let here = at ∙ ap some is in
-      let mine = (k.known id (alone x) here).0.0.0 in
-      let now : Reading = reading_of (book_of T.setup k.history) r in
-      let e : Event = Look x.number r now in
-      let h : List Event = k.history ++ e ∷ [] in
-      let so : IsTrueOf T.setup (book_of T.setup k.history) e = (fits, refl) in
-      let history = history_more T k.history e k.is_history so mine.number in
-      let same = sym (book_push T.setup k.history e) in
-      let y : Share = holding x h x.hold x.marks in
-      let w : View = alone y in
-      let grasp = subst (λ b. Grasps T k.grips b x.number x.hold) same (k.held id (alone x) here).0 in
-      let found : get_or s.words i 0 ≡ queue_word now = ap (λ j. get_or s.words j 0) place ∙ k.written.queues r fits in
-      let told : Looked r (get_or s.words i 0) T x y = (
-        refl,
-        refl,
-        (now, found, reading_fits T k.history r k.limited k.is_history fits, finished T k.history x e history mine refl),
-        still T k.grips h x.number x.hold grasp,
-      ) in (
-        w,
-        keeps,
-        tt,
-        unmoved T s i id me.1 w h k (starts_next k.history e) history (known_event T k.history k.owner s.views id x e x.hold x.marks k.known here refl)
-            (subst (λ b. Held T k.grips b (set s.views id w)) same (held_own T k.grips (book_of T.setup k.history) s.views id x h x.hold x.marks k.held (k.held id (alone x) here).0)) (subst (λ b. Written T b k.grips s.words) same k.written)
-            (each_own (MarkedBy k.marks) s.views id y k.marked (k.marked id (alone x) here).0),
-        subst (λ (v : View). looks (step slots i 0 0 none) (v, me.1) (get_or s.words i 0) (w, me.1)) (sym is)
-            (record { single = refl; terms = refl; number = refl; told = λ q eq. subst (λ m. Looked m (get_or s.words i 0) x.terms x y) (same_queue r q (sym place ∙ eq)) (subst (λ (U : Terms). Looked r (get_or s.words i 0) U x y) (sym of) told) }),
-      )
-    where
-      same_queue : (p q : ℕ) → queue_word_at p ≡ queue_word_at q → p ≡ q
-      same_queue p q e = omega arith
 
   pub compare_allowed : (T : Terms) (slots id i : ℕ) (me : Me S View) → Allows (Kept T) slots id me i (λ n. n) (compares (step slots i 0 0 none) me)
   compare_allowed T slots id i me s k _ at _ =

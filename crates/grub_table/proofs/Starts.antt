@@ -21,19 +21,20 @@ use Rattle.grub_words.proofs.Tasks.{same_fields, claims_apart}
 use Rattle.grub_table.specs.declared.pass.Claim.{Claim}
 use Rattle.grub_table.specs.declared.pass.Pass.{Pass}
 use Rattle.grub_table.specs.declared.pass.Shared.{Shared}
+use Rattle.grub_table.specs.declared.seated.Seated.{Seated}
 use Rattle.grub_table.specs.declared.pass.Sighting.TheVariants.{Changed}
 use Rattle.grub_table.specs.declared.view.Hold.TheVariants.{Free, Undecided, Decided}
 use Rattle.grub_table.specs.declared.view.Mark.TheVariants.{Taken, Given}
 use Rattle.grub_table.specs.declared.view.Note.{Note}
 use Rattle.grub_table.specs.declared.view.Share.{Share}
 use Rattle.grub_table.specs.declared.view.Terms.{Terms}
-use Rattle.grub_table.specs.inside.Between.{TheSeat, share_on, HoldsFor, HoldsMade, Tells, Leaves, SawTask, SawParams, SawServer, SawRecord, Concluded}
-use Rattle.grub_table.specs.Calls.{share_of, marks, number_of, IsAnswered, IsTaken, IsBusy, IsSighting, IsEarly, marks_of_call}
-use Rattle.grub_table.specs.Histories.{IsHistory, record_in}
+use Rattle.grub_table.specs.inside.Between.{HoldsFor, HoldsMade, Tells, SawTask, SawParams, SawServer, SawRecord, Concluded}
+use Rattle.grub_table.specs.Calls.{share_on, share_of, marks, ComesFrom, number_of, IsAnswered, IsTaken, IsBusy, IsSighting, IsEarly, marks_of_call}
+use Rattle.grub_table.specs.Histories.{record_in}
 use Rattle.grub_table.specs.Knowing.{GoesOn, Learns}
 use Rattle.grub_table.specs.Layout.{shown}
 use Rattle.grub_table.specs.inside.Layout.{stored_of}
-use Rattle.grub_table.specs.Marks.{AreLawful, marker_of}
+use Rattle.grub_table.specs.Marks.{marker_of}
 use Rattle.grub_table.specs.inside.Tellings.{Grows, Finishes, MarksGo, Sees, Calls, CallsIf, DecidesIf, IsOthers, LoadedTask, TookClaim}
 use Rattle.grub_table.proofs.Between.{tells_as}
 use Rattle.grub_table.proofs.Growths.{grows_grows, grows_finishes, marks_both}
@@ -70,7 +71,7 @@ early_is x (Retune q p) reply is = absurd cc
 pub word_says : (s : Shared) (w : TaskWord) (rec : Record) → PlaceFits w.place → IsKept s.terms.setup rec → task_word w.place w.count false ≡ shown rec false → (w.place ≡ rec.place) × (w.count ≡ rec.count)
 word_says s w rec fits kept is = let f = same_fields w.place rec.place w.count rec.count false false fits (PlaceFits-kept s.terms.setup rec s.limited kept) is in (f.0, f.1)
 
-module _ (s : Shared) (n : Note) (found : ℕ) (old new : TheSeat) (told : Tells s (LoadedTask n found) old new) where
+module _ (s : Shared) (n : Note) (found : ℕ) (old new : Seated) (told : Tells s (LoadedTask n found) old new) where
   abbrev rec : Record
   rec = record_in s.terms (share_on new).seen n.task
 
@@ -99,7 +100,7 @@ module _ (s : Shared) (n : Note) (found : ℕ) (old new : TheSeat) (told : Tells
 same_record : (x : Record) (p : Place) (n : ℕ) (server : Server) (params : Reservation) → p ≡ x.place → n ≡ x.count → server ≡ x.server → params ≡ x.params → let y : Record = record { place = p; count = n; server = server; params = params } in y ≡ x
 same_record x p n server params a b c d = λ i. record { place = a i; count = b i; server = c i; params = d i }
 
-module _ (s : Shared) (old mid new : TheSeat) (t : ℕ) (op : Op) (rec : Record) (h : HoldsFor s old t op rec) (params : Reservation) (server : Server) (one : Tells s (SawParams params) old mid) (two : Tells s (SawServer server) mid new) where
+module _ (s : Shared) (old mid new : Seated) (t : ℕ) (op : Op) (rec : Record) (h : HoldsFor s old t op rec) (params : Reservation) (server : Server) (one : Tells s (SawParams params) old mid) (two : Tells s (SawServer server) mid new) where
   pub saw_record : (w : TaskWord) → w.place ≡ rec.place → w.count ≡ rec.count → let found : Record = record { place = w.place; count = w.count; server = server; params = params } in Tells s (SawRecord found) old new
   saw_record w place count =
       let x : Share = share_on old in
@@ -133,7 +134,7 @@ module _ (s : Shared) (p : Pass) (t : ℕ) (op : Op) where
   x = share_of p
 
   -- what the task's word says decides the call
-  pub answered : (q : Pass) (w : TaskWord) (reply : Reply) → Tells s (SawTask t op (Ok w)) p.seat q.seat → refused w.place w.count op ≡ Some reply → IsAnswered s p t op q reply
+  pub answered : (q : Pass) (w : TaskWord) (reply : Reply) → Tells s (SawTask t op (Ok w)) p.seated q.seated → refused w.place w.count op ≡ Some reply → IsAnswered s p t op q reply
   answered q w reply told is =
       let outside = refused_outside w.place w.count op reply is in
       let f : Calls T x t op reply (share_of q) = subst (λ o. CallsIf o T x t op (share_of q)) is told.of.2.3 in
@@ -145,7 +146,7 @@ module _ (s : Shared) (p : Pass) (t : ℕ) (op : Op) where
       }
 
   -- the seat after the look, and after the try to take the task
-  module _ (w : TaskWord) (unclaimed : w.claimed ≡ false) (one : TheSeat) (looked : Tells s (SawTask t op (Ok w)) p.seat one) (free : refused w.place w.count op ≡ None) (old found : ℕ) (was : old ≡ task_word w.place w.count false) (two : TheSeat) (took : Tells s (TookClaim (record { task = t; op = op }) (task_word w.place w.count false) found) one two) where
+  module _ (w : TaskWord) (unclaimed : w.claimed ≡ false) (one : Seated) (looked : Tells s (SawTask t op (Ok w)) p.seated one) (free : refused w.place w.count op ≡ None) (old found : ℕ) (was : old ≡ task_word w.place w.count false) (two : Seated) (took : Tells s (TookClaim (record { task = t; op = op }) (task_word w.place w.count false) found) one two) where
     abbrev x1 : Share
     x1 = share_on one
 
@@ -174,7 +175,7 @@ module _ (s : Shared) (p : Pass) (t : ℕ) (op : Op) where
     number2 = took.number ∙ number1
 
     -- the word had changed
-    pub busy_changed : (q : Pass) → q.seat ≡ two → found ≢ old → IsBusy s p t q (Changed old found)
+    pub busy_changed : (q : Pass) → q.seated ≡ two → found ≢ old → IsBusy s p t q (Changed old found)
     busy_changed q seat other =
         let miss = took.of.2 (λ e. other (e ∙ sym was)) in
         let marked2 = subst (λ n. MarksGo T.passes n x1.marks x2.marks []) number1 miss.1 in
@@ -191,14 +192,9 @@ module _ (s : Shared) (p : Pass) (t : ℕ) (op : Op) where
               miss.2;
         } in
         record {
-          of = record {
-            home = ap (λ (z : TheSeat). z.table_id) seat ∙ took.seat.home;
-            terms = ap (λ (z : TheSeat). (share_on z).terms) seat ∙ took.seat.terms;
-            history = subst (λ (z : TheSeat). IsHistory T (share_on z).seen) (sym seat) grows.0;
-            lawful = subst (λ (z : TheSeat). AreLawful T.passes (share_on z).marks) (sym seat) marked.0;
-          };
-          learns = subst (λ (z : TheSeat). Learns x (share_on z) [] []) (sym seat) (record { number = number2; seen = grows.1; marked = marked.1 });
-          sight = subst (λ (z : TheSeat). IsSighting T i t x.seen (share_on z).seen (share_on z).marks (Changed old found)) (sym seat) sight;
+          of = subst (ComesFrom s) (sym seat) (record { home = took.seat.home; terms = took.seat.terms; history = grows.0; lawful = marked.0 });
+          learns = subst (λ (z : Seated). Learns x (share_on z) [] []) (sym seat) (record { number = number2; seen = grows.1; marked = marked.1 });
+          sight = subst (λ (z : Seated). IsSighting T i t x.seen (share_on z).seen (share_on z).marks (Changed old found)) (sym seat) sight;
         }
 
     pub free_changed : x.hold ≡ Free → found ≢ old → x2.hold ≡ Free
@@ -222,7 +218,7 @@ module _ (s : Shared) (p : Pass) (t : ℕ) (op : Op) where
       marked2 = let h = took.of.1 (hit ∙ was) in marks_both T.passes i x.marks x1.marks x2.marks [] (Taken i t ∷ []) marked1 (subst (λ n. MarksGo T.passes n x1.marks x2.marks (Taken n t ∷ [])) number1 h.5)
 
       -- the record is loaded
-      module _ (held : Record) (three : TheSeat) (saw : Tells s (SawRecord held) two three) where
+      module _ (held : Record) (three : Seated) (saw : Tells s (SawRecord held) two three) where
         abbrev x3 : Share
         x3 = share_on three
 
@@ -247,15 +243,12 @@ module _ (s : Shared) (p : Pass) (t : ℕ) (op : Op) where
         pub claim_holds : early held op ≡ None → x3.hold ≡ Undecided t op held
         claim_holds late = (undecided late).1 ∙ ap (Undecided t op) (sym known.0)
 
-        pub is_taken : (c : Claim) → c.seat ≡ three → c.task ≡ t → c.op ≡ op → c.held ≡ held → early held op ≡ None → IsTaken s p t op c
+        pub is_taken : (c : Claim) → c.seated ≡ three → c.task ≡ t → c.op ≡ op → c.held ≡ held → early held op ≡ None → IsTaken s p t op c
         is_taken c seat at asked has late =
             let grows' = grows_grows T i x.seen x2.seen x3.seen grows (subst (λ n. Grows T n x2.seen x3.seen) number2 (undecided late).0) in
             record {
               of = record {
-                home = ap (λ (z : TheSeat). z.table_id) seat ∙ saw.seat.home;
-                terms = ap (λ (z : TheSeat). (share_on z).terms) seat ∙ saw.seat.terms;
-                history = subst (λ (z : TheSeat). IsHistory T (share_on z).seen) (sym seat) grows'.0;
-                lawful = subst (λ (z : TheSeat). AreLawful T.passes (share_on z).marks) (sym seat) marked3.0;
+                of = subst (ComesFrom s) (sym seat) (record { home = saw.seat.home; terms = saw.seat.terms; history = grows'.0; lawful = marked3.0 });
                 task = subst (λ u. u < length T.setup.tasks) (sym at) lt;
                 op = subst (IsOp T.setup) (sym asked) is_op;
                 held = (λ k. record_in T (share_on (seat k)).seen (at k)) ∙ known.2 ∙ sym known.0 ∙ sym has;
@@ -265,7 +258,7 @@ module _ (s : Shared) (p : Pass) (t : ℕ) (op : Op) where
               };
               task = at;
               op = asked;
-              learns = subst (λ (z : TheSeat). Learns x (share_on z) [] (Taken i t ∷ [])) (sym seat) (record { number = number3; seen = grows'.1; marked = marked3.1 });
+              learns = subst (λ (z : Seated). Learns x (share_on z) [] (Taken i t ∷ [])) (sym seat) (record { number = number3; seen = grows'.1; marked = marked3.1 });
             }
 
         pub made_early : (reply : Reply) → early held op ≡ Some reply → HoldsMade s three t held (stored_of held)
@@ -275,7 +268,7 @@ module _ (s : Shared) (p : Pass) (t : ℕ) (op : Op) where
           hold = (taken, (decided reply is).1 ∙ ap (λ z. Decided t taken z (stored_of z)) (sym known.0));
         }
 
-        pub answered_early : (reply : Reply) → early held op ≡ Some reply → (q : Pass) → Leaves s (Concluded t) three q → IsAnswered s p t op q reply
+        pub answered_early : (reply : Reply) → early held op ≡ Some reply → (q : Pass) → Tells s (Concluded t) three q.seated → IsAnswered s p t op q reply
         answered_early reply is q l =
             let z = early_is held op reply is in
             let called = subst (λ n. Finishes T n x2.seen (Call n t op reply) x3.seen) number2 (decided reply is).0 in
@@ -283,7 +276,7 @@ module _ (s : Shared) (p : Pass) (t : ℕ) (op : Op) where
             let gave = subst (λ n. MarksGo T.passes n x3.marks (marks q) (Given n t ∷ [])) number3 l.of.1.1 in
             let marked = marks_both T.passes i x.marks x3.marks (marks q) (Taken i t ∷ []) (Given i t ∷ []) marked3 gave in
             record {
-              of = record { home = l.home; terms = l.terms; history = f.0; lawful = marked.0 };
+              of = record { home = l.seat.home; terms = l.seat.terms; history = f.0; lawful = marked.0 };
               learns = record { number = l.number ∙ number3; seen = f.1; marked = subst (λ r. GoesOn marker_of i x.marks (marks q) (marks_of_call i t r)) (sym z.1) marked.1 };
               last = f.2;
               soon = λ _. subst IsEarly (sym z.1) tt;

@@ -1,4 +1,4 @@
--- load-task and take-claim keep the rule.
+-- A look, load-task and take-claim keep the rule.
 use Rattle.std.proofs.Common.{◌≡◌, ◌⊎◌, ℕ, ◌+◌, ◌<◌, true, false, List, [], ◌∷◌, ◌++◌, length, set, get_or, sym, refl, ap, ◌∙◌, subst, inl, inr, arith, Option, Some, None, eqb}
 use mathlib.Core.Logic.{dite}
 use mathlib.Core.Option.{some}
@@ -8,15 +8,17 @@ use prog.Atomic.{either}
 use Rattle.atomic_table.specs.Table.{State}
 use Rattle.atomic_table.proofs.Lists.{exchanged}
 use Rattle.grub_book.specs.Op.{IsOp}
-use Rattle.grub_book.specs.Sums.{Records, record_at}
+use Rattle.grub_book.specs.Sums.{Records, record_at, reading_of}
+use Rattle.grub_book.specs.History.{IsTrueOf, book_of}
 use Rattle.grub_book.specs.Sound.{IsKept}
 use Rattle.grub_book.specs.Step.{refused, replied, step}
 use Rattle.grub_book.specs.declared.event.Event.{Event}
-use Rattle.grub_book.specs.declared.event.Event.TheVariants.{Call}
+use Rattle.grub_book.specs.declared.event.Event.TheVariants.{Call, Look}
+use Rattle.grub_book.specs.declared.event.Reading.{Reading}
 use Rattle.grub_book.specs.declared.place.Place.{Place}
 use Rattle.grub_book.specs.declared.place.Record.{Record}
 use Rattle.grub_book.specs.declared.reply.Reply.{Reply}
-use Rattle.grub_book.proofs.Histories.{book_push, starts_whole}
+use Rattle.grub_book.proofs.Histories.{book_push, starts_whole, starts_next}
 use Rattle.grub_book.proofs.Soundness.{moved}
 use Rattle.grub_words.specs.Words.{task_word}
 use Rattle.grub_words.proofs.Tasks.{task_word-claimed, claims_apart}
@@ -30,17 +32,18 @@ use Rattle.grub_table.specs.declared.view.Stored.{Stored}
 use Rattle.grub_table.specs.declared.view.Terms.{Terms}
 use Rattle.grub_table.specs.declared.view.View.{View}
 use Rattle.grub_table.specs.Marks.{holder_of, handed, marker_of}
-use Rattle.grub_table.specs.Layout.{task_word_at, shown}
+use Rattle.grub_table.specs.Layout.{queue_word_at, task_word_at, shown}
 use Rattle.grub_table.specs.inside.Layout.{stored_of}
 use Rattle.grub_table.specs.Histories.{record_in}
 use Rattle.grub_table.specs.inside.Views.{alone, holding}
-use Rattle.grub_table.specs.inside.Tellings.{CallsIf, IsOthers, LoadedTask, TookClaim}
+use Rattle.grub_table.specs.inside.Tellings.{CallsIf, IsOthers, Looked, LoadedTask, TookClaim}
 use Rattle.grub_table.specs.inside.Rule.{holder_in, Grip, Grips, loose, grip, Grasps, TaskShows, Kept}
 use Rattle.grub_table.proofs.Marks.{lawful_more, holder_more, handed_here, handed_else}
-use Rattle.grub_table.proofs.Growths.{goes_own}
-use Rattle.grub_table.proofs.Seats.{known_seen, marked_more, IsMine}
+use Rattle.grub_table.proofs.Growths.{goes_own, history_more, finished}
+use Rattle.grub_table.proofs.Moves.{reading_fits}
+use Rattle.grub_table.proofs.Seats.{known_event, known_seen, marked_more, IsMine}
 use Rattle.grub_table.proofs.Rows.{put, put_here, put_else, same_before, Words, words_of, Shows, set_task, written_task}
-use Rattle.grub_table.proofs.Turns.{Out, book, own, grasp, marked, is_sound, seen_told, marks_told, call_told, stays_all, stays_called, turned}
+use Rattle.grub_table.proofs.Turns.{Out, book, own, grasp, marked, is_sound, seen_told, marks_told, call_told, same_marks, stays, stays_all, stays_called, turned}
 
 module _ {S : Type 0} (x : Share) (s : State S View) (id : ℕ) (c : List (ℕ × S)) (k : Kept x.terms s) (at : get_elem? s.views id ≡ some (alone x)) where
   abbrev T : Terms
@@ -51,6 +54,27 @@ module _ {S : Type 0} (x : Share) (s : State S View) (id : ℕ) (c : List (ℕ �
 
   abbrev word_of : ℕ → ℕ
   word_of t = get_or s.words (task_word_at T.setup t) 0
+
+  -- ---- look
+  pub look_out : (r : ℕ) → r < length T.setup.queues → Out x s id c (queue_word_at r) (get_or s.words (queue_word_at r) 0) (Looked r (get_or s.words (queue_word_at r) 0))
+  look_out r lt =
+      let now : Reading = reading_of b r in
+      let e : Event = Look x.number r now in
+      let h : List Event = k.history ++ e ∷ [] in
+      let so : IsTrueOf T.setup b e = (lt, refl) in
+      let history = history_more T k.history e k.is_history so (own x s id c k at).number in
+      let same : book_of T.setup h ≡ b = book_push T.setup k.history e in (
+        h,
+        x.hold,
+        x.marks,
+        stays x s id c k at (queue_word_at r) h h x.hold x.marks (starts_next k.history e) history (known_event T k.history k.owner s.views id x e x.hold x.marks k.known at refl) same (grasp x s id c k at) (same_marks x s id c k at h x.hold),
+        (
+          refl,
+          refl,
+          (now, k.written.queues r lt, reading_fits T k.history r k.limited k.is_history lt, finished T k.history x e history (own x s id c k at) refl),
+          (λ t op rec is. ap (λ z. record_at z t) same ∙ (subst (Grasps T k.grips b x.number) is (grasp x s id c k at)).2),
+        ),
+      )
 
   -- a held task is another's, where the pass holds none
   others : (t i : ℕ) (before : Record) (stored : Stored) → x.hold ≡ Free → k.grips t ≡ grip i before stored → word_of t ≡ shown before true → IsOthers T x.number t (word_of t) (holding x k.history x.hold k.marks)

@@ -27,6 +27,7 @@ use Rattle.grub_words.proofs.Bounds.{QueueFits-sound}
 use Rattle.grub_table.specs.declared.pass.Claim.{Claim}
 use Rattle.grub_table.specs.declared.pass.Pass.{Pass}
 use Rattle.grub_table.specs.declared.pass.Shared.{Shared}
+use Rattle.grub_table.specs.declared.seated.Seated.{Seated}
 use Rattle.grub_table.specs.declared.pass.Finished.{Finished}
 use Rattle.grub_table.specs.declared.pass.Finished.TheVariants.{Done, Held}
 use Rattle.grub_table.specs.declared.view.Mark.{Mark}
@@ -34,9 +35,9 @@ use Rattle.grub_table.specs.declared.view.Mark.TheVariants.{Given}
 use Rattle.grub_table.specs.declared.view.Share.{Share}
 use Rattle.grub_table.specs.declared.view.Stored.{Stored}
 use Rattle.grub_table.specs.declared.view.Terms.{Terms}
-use Rattle.grub_table.specs.inside.Between.{TheSeat, share_on, IsSeatOf, HoldsFor, HoldsMade, Tells, Leaves, SawQueue, Exchanged, GivenUp, Concluded}
-use Rattle.grub_table.specs.Calls.{seen, marks, share_of, claim_number, claim_share, claim_seen, claim_queue, claim_changes_sum, IsClaimOf, IsDone, IsLost, IsFinished, IsCancelled}
-use Rattle.grub_table.specs.Histories.{IsHistory, WasBefore, record_in, reading_in}
+use Rattle.grub_table.specs.inside.Between.{IsSeatOf, HoldsFor, HoldsMade, Tells, SawQueue, Exchanged, GivenUp, Concluded}
+use Rattle.grub_table.specs.Calls.{seen, marks, share_on, share_of, ComesFrom, claim_number, claim_share, claim_seen, claim_queue, claim_changes_sum, IsClaimOf, IsDone, IsLost, IsFinished, IsCancelled}
+use Rattle.grub_table.specs.Histories.{WasBefore, record_in, reading_in}
 use Rattle.grub_table.specs.Knowing.{GoesOn, Learns}
 use Rattle.grub_table.specs.inside.Layout.{stored_of}
 use Rattle.grub_table.specs.Marks.{AreLawful, marker_of}
@@ -81,9 +82,9 @@ quiet_blind x (Retune q p) quiet off looks = is_not looks quiet
 quiet_blind x Exit quiet off looks = looks
 
 -- ---- claims
-pub claim_holds : (s : Shared) (c : Claim) → IsClaimOf s c → HoldsFor s c.seat c.task c.op c.held
+pub claim_holds : (s : Shared) (c : Claim) → IsClaimOf s c → HoldsFor s c.seated c.task c.op c.held
 claim_holds s c is = record {
-  seat_of = record { home = is.home; single = c.single; terms = is.terms };
+  seat_of = record { home = is.of.home; terms = is.of.terms };
   hold = c.holds;
   task = is.task;
   op = is.op;
@@ -99,7 +100,7 @@ calls_after : (T : Terms) (x m y : Share) (t : ℕ) (op : Op) (reply : Reply) �
 calls_after T x m y t op reply same g f = grows_finishes T x.number x.seen m.seen (Call x.number t op reply) y.seen g (subst (λ n. Finishes T n m.seen (Call n t op reply) y.seen) same f)
 
 -- ---- a try
-module _ (s : Shared) (t : ℕ) (op : Op) (rec : Record) (r : ℕ) (now : Reading) (old mid : TheSeat) (h : HoldsFor s old t op rec) (about : r ≡ runqueue_of rec.place op) (there : r < length s.terms.setup.queues) (saw : Tells s (SawQueue r now) old mid) where
+module _ (s : Shared) (t : ℕ) (op : Op) (rec : Record) (r : ℕ) (now : Reading) (old mid : Seated) (h : HoldsFor s old t op rec) (about : r ≡ runqueue_of rec.place op) (there : r < length s.terms.setup.queues) (saw : Tells s (SawQueue r now) old mid) where
   abbrev T : Terms
   T = s.terms
 
@@ -124,7 +125,7 @@ module _ (s : Shared) (t : ℕ) (op : Op) (rec : Record) (r : ℕ) (now : Readin
   under_claim : is_under_claim p.1 ≡ true
   under_claim = settled_under (queue_at T.setup r) now rec op
 
-  made : (q : Record × Reply) (new : TheSeat) → q ≡ p → IsSeatOf s new → (share_on new).number ≡ x.number → (share_on new).marks ≡ x.marks → Decides T x t op rec p (stored_of rec) (share_on new) → Tells s (Tried r (Some q)) old new
+  made : (q : Record × Reply) (new : Seated) → q ≡ p → IsSeatOf s new → (share_on new).number ≡ x.number → (share_on new).marks ≡ x.marks → Decides T x t op rec p (stored_of rec) (share_on new) → Tells s (Tried r (Some q)) old new
   made q new is seat number same d =
       let w = subst (λ (z : Record × Reply). Decides T x t op rec z (stored_of rec) (share_on new) × IsKept T.setup z.0 × (is_under_claim z.1 ≡ true)) (sym is) (d, next_kept, under_claim) in
       record { seat = seat; number = number; of = under x.hold t op rec (λ t op rec. ((share_on new).marks ≡ x.marks) × TriedAs r (Some q) T x t op rec (share_on new)) h.hold (same, w) }
@@ -162,7 +163,7 @@ module _ (s : Shared) (t : ℕ) (op : Op) (rec : Record) (r : ℕ) (now : Readin
         moves ∙ ap (λ (z : Record × Reply). shifted_of now r rec z.0) is ∙ ap (λ (n : Reading). shifted_of n r rec p.0) still.2 ∙ ap (λ (z : Record). shifted_of (reading_of b r) r z p.0) (sym still.3) ∙ moved in
         subst QueueFits (sym same) (QueueFits-sound T.setup (set b t p.0) r sound_then there (s.limited.capacities r there))
 
-    module _ (new : TheSeat) where
+    module _ (new : Seated) where
       abbrev y : Share
       y = share_on new
 
@@ -183,18 +184,17 @@ module _ (s : Shared) (t : ℕ) (op : Op) (rec : Record) (r : ℕ) (now : Readin
           }
 
 -- ---- what is stored after the event
-module _ (s : Shared) (t : ℕ) (next : Record) (stored : Stored) (old new : TheSeat) (h : HoldsMade s old t next stored) where
+module _ (s : Shared) (t : ℕ) (next : Record) (stored : Stored) (old new : Seated) (h : HoldsMade s old t next stored) where
   pub stored_server : (n : ℕ) → Tells s (StoredServer n) old new → ((share_on new).seen ≡ (share_on old).seen) × ((share_on new).marks ≡ (share_on old).marks) × HoldsMade s new t next (record { server = n; params = stored.params })
   stored_server n told = let w = told.of t h.hold.0 next stored h.hold.1 in (w.0, w.1, record { seat_of = told.seat; task = h.task; hold = (h.hold.0, w.2) })
 
-pub leaves_after : (s : Shared) (t : ℕ) (old mid : TheSeat) (q : Pass) → Tells s Knows old mid → Leaves s (Concluded t) mid q → Leaves s (Concluded t) old q
-leaves_after s t old mid q k l = record {
-  home = l.home;
-  terms = l.terms;
+pub leaves_after : (s : Shared) (t : ℕ) (old mid new : Seated) → Tells s Knows old mid → Tells s (Concluded t) mid new → Tells s (Concluded t) old new
+leaves_after s t old mid new k l = record {
+  seat = l.seat;
   number = l.number ∙ k.number;
   of = (
     l.of.0 ∙ k.of.0,
-    (l.of.1.0, subst (λ (p : ℕ × List Mark). MarksGo s.terms.passes p.0 p.1 (marks q) (Given p.0 t ∷ [])) (λ i. (k.number i, k.of.1 i)) l.of.1.1),
+    (l.of.1.0, subst (λ (p : ℕ × List Mark). MarksGo s.terms.passes p.0 p.1 (share_on new).marks (Given p.0 t ∷ [])) (λ i. (k.number i, k.of.1 i)) l.of.1.1),
   );
 }
 
@@ -204,14 +204,14 @@ module _ (s : Shared) (c : Claim) (is : IsClaimOf s c) where
   mine = claim_share c
 
   -- the call is made, and then the task is given back
-  pub done : (mid : TheSeat) (reply : Reply) (tries : ℕ) (q : Pass) → (share_on mid).number ≡ mine.number → (share_on mid).marks ≡ mine.marks → Calls s.terms mine c.task c.op reply (share_on mid)
-      → WasBefore s.terms c.task c.held (Call mine.number c.task c.op reply) (share_on mid).seen → Leaves s (Concluded c.task) mid q → is_under_claim reply ≡ true → (claim_changes_sum c ≡ true → 1 ≤ tries) → IsDone s c tries q reply
+  pub done : (mid : Seated) (reply : Reply) (tries : ℕ) (q : Pass) → (share_on mid).number ≡ mine.number → (share_on mid).marks ≡ mine.marks → Calls s.terms mine c.task c.op reply (share_on mid)
+      → WasBefore s.terms c.task c.held (Call mine.number c.task c.op reply) (share_on mid).seen → Tells s (Concluded c.task) mid q.seated → is_under_claim reply ≡ true → (claim_changes_sum c ≡ true → 1 ≤ tries) → IsDone s c tries q reply
   done mid reply tries q number known calls was leaves claimed tried =
       let f : Finishes s.terms mine.number mine.seen (Call mine.number c.task c.op reply) (seen q) = subst (λ h. Finishes s.terms mine.number mine.seen (Call mine.number c.task c.op reply) h) (sym leaves.of.0) calls in
       let g : MarksGo s.terms.passes mine.number mine.marks (marks q) (Given mine.number c.task ∷ []) =
       subst (λ (p : ℕ × List Mark). MarksGo s.terms.passes p.0 p.1 (marks q) (Given p.0 c.task ∷ [])) (λ i. (number i, known i)) leaves.of.1.1 in
       record {
-        of = record { home = leaves.home; terms = leaves.terms; history = f.0; lawful = g.0 };
+        of = record { home = leaves.seat.home; terms = leaves.seat.terms; history = f.0; lawful = g.0 };
         learns = record { number = leaves.number ∙ number; seen = f.1; marked = g.1 };
         before = subst (λ h. WasBefore s.terms c.task c.held (Call mine.number c.task c.op reply) h) (sym leaves.of.0) was;
         claimed = claimed;
@@ -219,29 +219,26 @@ module _ (s : Shared) (c : Claim) (is : IsClaimOf s c) where
       }
 
   -- the call is not made, and the task is given back
-  pub cancelled : (q : Pass) → Leaves s (GivenUp c.task) c.seat q → IsCancelled s c q
+  pub cancelled : (q : Pass) → Tells s (GivenUp c.task) c.seated q.seated → IsCancelled s c q
   cancelled q leaves = record {
-    of = record { home = leaves.home; terms = leaves.terms; history = leaves.of.0.0; lawful = leaves.of.1.1.0 };
+    of = record { home = leaves.seat.home; terms = leaves.seat.terms; history = leaves.of.0.0; lawful = leaves.of.1.1.0 };
     learns = record { number = leaves.number; seen = leaves.of.0.1; marked = leaves.of.1.1.1 };
   }
 
   -- an exchange was lost
-  pub lost : (mid : TheSeat) (d : Claim) → d.seat ≡ mid → d.task ≡ c.task → d.op ≡ c.op → d.held ≡ c.held → Tells s (Tried (claim_queue c) None) c.seat mid → IsLost s c 1 d
+  pub lost : (mid : Seated) (d : Claim) → d.seated ≡ mid → d.task ≡ c.task → d.op ≡ c.op → d.held ≡ c.held → Tells s (Tried (claim_queue c) None) c.seated mid → IsLost s c 1 d
   lost mid d seat_is task_is op_is held_is tells =
       let y : Share = share_on mid in
       let w = tells.of c.task c.op c.held c.holds in
-      let same : (share_on d.seat).marks ≡ mine.marks = ap (λ (u : TheSeat). (share_on u).marks) seat_is ∙ w.0 in
-      let number : (share_on d.seat).number ≡ mine.number = ap (λ (u : TheSeat). (share_on u).number) seat_is ∙ tells.number in
+      let same : (claim_share d).marks ≡ mine.marks = ap (λ (u : Seated). (share_on u).marks) seat_is ∙ w.0 in
+      let number : (claim_share d).number ≡ mine.number = ap (λ (u : Seated). (share_on u).number) seat_is ∙ tells.number in
       record {
         still = record {
           of = record {
-            home = ap (λ (u : TheSeat). u.table_id) seat_is ∙ tells.seat.home;
-            terms = ap (λ (u : TheSeat). (share_on u).terms) seat_is ∙ tells.seat.terms;
-            history = subst (λ (u : TheSeat). IsHistory s.terms (share_on u).seen) (sym seat_is) w.1.0.0;
-            lawful = subst (AreLawful s.terms.passes) (sym same) is.lawful;
+            of = subst (ComesFrom s) (sym seat_is) (record { home = tells.seat.home; terms = tells.seat.terms; history = w.1.0.0; lawful = subst (AreLawful s.terms.passes) (sym w.0) is.of.lawful });
             task = subst (λ t. t < length s.terms.setup.tasks) (sym task_is) is.task;
             op = subst (IsOp s.terms.setup) (sym op_is) is.op;
-            held = ap (λ (p : TheSeat × ℕ). record_in s.terms (share_on p.0).seen p.1) (λ i. (seat_is i, task_is i)) ∙ w.1.2 ∙ sym held_is;
+            held = ap (λ (p : Seated × ℕ). record_in s.terms (share_on p.0).seen p.1) (λ i. (seat_is i, task_is i)) ∙ w.1.2 ∙ sym held_is;
             kept = subst (IsKept s.terms.setup) (sym held_is) is.kept;
             unrefused = ap (λ (p : Record × Op). refused p.0.place p.0.count p.1) (λ i. (held_is i, op_is i)) ∙ is.unrefused;
             timely = ap (λ (p : Record × Op). early p.0 p.1) (λ i. (held_is i, op_is i)) ∙ is.timely;
@@ -254,11 +251,11 @@ module _ (s : Shared) (c : Claim) (is : IsClaimOf s c) where
         };
         learns = record {
           number = number;
-          seen = subst (λ (u : TheSeat). GoesOn pass_of mine.number mine.seen (share_on u).seen []) (sym seat_is) w.1.0.1;
+          seen = subst (λ (u : Seated). GoesOn pass_of mine.number mine.seen (share_on u).seen []) (sym seat_is) w.1.0.1;
           marked = subst (λ ms. GoesOn marker_of mine.number mine.marks ms []) (sym same) (goes_none marker_of mine.number mine.marks);
         };
         sum = w.1.4;
-        changes = subst (λ (u : TheSeat). HasChanged s.terms.setup (claim_queue c) mine.seen (share_on u).seen 1) (sym seat_is) w.1.3;
+        changes = subst (λ (u : Seated). HasChanged s.terms.setup (claim_queue c) mine.seen (share_on u).seen 1) (sym seat_is) w.1.3;
       }
 
   pub lost_none : claim_changes_sum c ≡ true → IsLost s c 0 c
@@ -272,7 +269,7 @@ module _ (s : Shared) (c : Claim) (is : IsClaimOf s c) where
 -- ---- between the steps of a claim's call
 module _ (s : Shared) (c : Claim) (is : IsClaimOf s c) where
   -- the call is made by a try
-  module _ (mid : TheSeat) (p : Record × Reply) (tells : Tells s (Tried (claim_queue c) (Some p)) c.seat mid) where
+  module _ (mid : Seated) (p : Record × Reply) (tells : Tells s (Tried (claim_queue c) (Some p)) c.seated mid) where
     tried_it : ((share_on mid).marks ≡ (claim_share c).marks) × TriedAs (claim_queue c) (Some p) s.terms (claim_share c) c.task c.op c.held (share_on mid)
     tried_it = tells.of c.task c.op c.held c.holds
 
@@ -295,7 +292,7 @@ module _ (s : Shared) (c : Claim) (is : IsClaimOf s c) where
     tried_claimed = tried_it.1.2
 
   -- the call is made by the store of the server word
-  module _ (mid : TheSeat) (queue : Capacity) (now : Reading) (p : Record × Reply) (settles : p ≡ settled c.held queue now c.op) (quiet : claim_changes_sum c ≡ false) (blind : is_charge c.op ≡ false) where
+  module _ (mid : Seated) (queue : Capacity) (now : Reading) (p : Record × Reply) (settles : p ≡ settled c.held queue now c.op) (quiet : claim_changes_sum c ≡ false) (blind : is_charge c.op ≡ false) where
     quietly : p ≡ settled_quietly c.held c.op
     quietly = settles ∙ settled_alike c.held c.op queue (record { most = 1; extra = 0 }) now (record { running = 0; this = 0 }) (λ looks. absurd (quiet_blind c.held c.op quiet blind looks))
 
@@ -305,7 +302,7 @@ module _ (s : Shared) (c : Claim) (is : IsClaimOf s c) where
     pub quiet_claimed : is_under_claim p.1 ≡ true
     quiet_claimed = ap (λ (q : Record × Reply). is_under_claim q.1) settles ∙ settled_under queue now c.held c.op
 
-    module _ (tells : Tells s (SettledServer (server_word p.0.server)) c.seat mid) where
+    module _ (tells : Tells s (SettledServer (server_word p.0.server)) c.seated mid) where
       settled_it : ((share_on mid).marks ≡ (claim_share c).marks) × Decides s.terms (claim_share c) c.task c.op c.held p (half_stored c.held p.0) (share_on mid)
       settled_it =
           let w = tells.of c.task c.op c.held c.holds in

@@ -133,7 +133,7 @@ module _ {S : Type 0} (x : Share) (s : State S View) (id : ℕ) (c : List (ℕ �
     pub all_marks : (seen : List Event) (hold : Hold) → MarkedBy k.marks (holding x seen hold k.marks)
     all_marks seen hold = goes_none marker_of x.number k.marks
 
-    stays : (i : ℕ) (h seen : List Event) (hold : Hold) (marks : List Mark) → StartsWith h k.history → IsHistory x.terms h → Known x.terms h k.owner (set s.views id (alone (holding x seen hold marks))) → book_of machine h ≡ book
+    pub stays : (i : ℕ) (h seen : List Event) (hold : Hold) (marks : List Mark) → StartsWith h k.history → IsHistory x.terms h → Known x.terms h k.owner (set s.views id (alone (holding x seen hold marks))) → book_of machine h ≡ book
         → Grasps x.terms k.grips book x.number hold → MarkedBy k.marks (holding x seen hold marks) → Kept x.terms (stepped s i (get_or s.words i 0) id c (alone (holding x seen hold marks)) keeps)
     stays i h seen hold marks more is known same new told = unmoved x.terms s i id c (alone (holding x seen hold marks)) h k more is known
         (subst (λ b. Held x.terms k.grips b (set s.views id (alone (holding x seen hold marks)))) (sym same) (held_own x.terms k.grips book s.views id x seen hold marks k.held new))

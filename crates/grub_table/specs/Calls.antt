@@ -18,6 +18,7 @@ use Rattle.grub_table.specs.declared.view.Mark.{Mark}
 use Rattle.grub_table.specs.declared.view.Mark.TheVariants.{Taken, Given}
 use Rattle.grub_table.specs.declared.view.Terms.{Terms}
 use Rattle.grub_table.specs.declared.view.Share.{Share}
+use Rattle.grub_table.specs.declared.seated.Seated.{Seated}
 use Rattle.grub_table.specs.declared.pass.Pass.{Pass}
 use Rattle.grub_table.specs.declared.pass.Claim.{Claim}
 use Rattle.grub_table.specs.declared.pass.Shared.{Shared}
@@ -40,9 +41,16 @@ use Rattle.grub_table.specs.Trails.{first_made}
 use Rattle.grub_table.specs.Views.{first_of}
 use Rattle.grub_table.specs.Tellings.{IsHeldByOther, WasClaimedWord}
 
--- ---- what a pass or a claim knows
+-- ---- what a pass or a claim knows, by its seat
+abbrev pub share_on : Seated → Share
+share_on x = first_of x.seat.me.0.view
+
+-- the accesses of the table's words that it has made, the first one first
+abbrev pub made_on : Seated → List Access
+made_on x = first_made x.seat.me.0
+
 abbrev pub share_of : Pass → Share
-share_of p = first_of p.seat.me.0.view
+share_of p = share_on p.seated
 
 abbrev pub number_of : Pass → ℕ
 number_of p = (share_of p).number
@@ -55,12 +63,11 @@ seen p = (share_of p).seen
 abbrev pub marks : Pass → List Mark
 marks p = (share_of p).marks
 
--- the accesses of the table's words that the pass has made, the first one first
 abbrev pub accesses : Pass → List Access
-accesses p = first_made p.seat.me.0
+accesses p = made_on p.seated
 
 abbrev pub claim_share : Claim → Share
-claim_share c = first_of c.seat.me.0.view
+claim_share c = share_on c.seated
 
 abbrev pub claim_number : Claim → ℕ
 claim_number c = (claim_share c).number
@@ -85,27 +92,28 @@ claim_seen c = (claim_share c).seen
 abbrev pub claim_marks : Claim → List Mark
 claim_marks c = (claim_share c).marks
 
--- the accesses of the table's words that it has made, its pass before it among them
+-- its own and those of its pass before it
 abbrev pub claim_accesses : Claim → List Access
-claim_accesses c = first_made c.seat.me.0
+claim_accesses c = made_on c.seated
 
 -- what the table was opened for
 abbrev pub terms : Shared → Terms
 terms s = s.terms
 
+-- the seat comes from this table
+pub record ComesFrom (s : Shared) (x : Seated) : Type 0 where
+  pub home : x.seat.table_id ≡ s.table.inner.shared.table_id
+  pub terms : (share_on x).terms ≡ s.terms
+  pub history : IsHistory s.terms (share_on x).seen
+  pub lawful : AreLawful s.terms.passes (share_on x).marks
+
 -- the pass comes from this table
-pub record IsPassOf (s : Shared) (p : Pass) : Type 0 where
-  pub home : p.seat.table_id ≡ s.table.inner.shared.table_id
-  pub terms : (share_of p).terms ≡ s.terms
-  pub history : IsHistory s.terms (seen p)
-  pub lawful : AreLawful s.terms.passes (marks p)
+abbrev pub IsPassOf : Shared → Pass → Type 0
+IsPassOf s p = ComesFrom s p.seated
 
 -- the claim comes from this table, and holds a task whose record is the one that it names, for an op that neither the record nor the server refuses
 pub record IsClaimOf (s : Shared) (c : Claim) : Type 0 where
-  pub home : c.seat.table_id ≡ s.table.inner.shared.table_id
-  pub terms : (claim_share c).terms ≡ s.terms
-  pub history : IsHistory s.terms (claim_seen c)
-  pub lawful : AreLawful s.terms.passes (claim_marks c)
+  pub of : ComesFrom s c.seated
   pub task : claim_task c < length s.terms.setup.tasks
   pub op : IsOp s.terms.setup (claim_op c)
   pub held : record_in s.terms (claim_seen c) (claim_task c) ≡ claim_record c

@@ -5,6 +5,7 @@ ghost use Rattle.grub_table.specs.Calls.{terms, IsPassOf, IsClosed, IsRefusal};
 
 use crate::pass::{CloseFault, CloseWhy, Pass, Shared};
 use crate::row::{SPACING, reading_in};
+use crate::seated::Seated;
 use grub_book::Reading;
 use std::alloc::Global;
 
@@ -55,15 +56,15 @@ impl Shared {
         let Some(last) = passes.pop() else {
             unreachable!()
         };
-        let Pass {
+        let Seated {
             mut seat,
             number: _,
-        } = last;
+        } = last.seated;
         while let Some(pass) = passes.pop() {
-            let Pass {
+            let Seated {
                 seat: one,
                 number: _,
-            } = pass;
+            } = pass.seated;
             self.table.join_seat(&mut seat, one);
         }
         let Shared { table, terms: _ } = self;

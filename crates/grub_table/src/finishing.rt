@@ -3,17 +3,16 @@ ghost use Rattle.std.specs.Prelude.{◌≡◌, ℕ, ◌<◌, ◌+◌, [], ◌∷
 ghost use Rattle.grub_book.specs.Sound.{IsKept};
 ghost use Rattle.grub_book.specs.Step.{changes_sum, runqueue_of};
 ghost use Rattle.grub_table.specs.declared.view.Access.TheVariants.{Store};
-ghost use Rattle.grub_table.specs.inside.Between.{Concluded, HoldsFor, HoldsMade, Leaves, Tells, made_on, share_on};
+ghost use Rattle.grub_table.specs.inside.Between.{Concluded, HoldsFor, HoldsMade, Tells};
 ghost use Rattle.grub_table.specs.inside.Brief.{StoresFew, TriesOnce};
-ghost use Rattle.grub_table.specs.Calls.{accesses, claim_accesses, claim_changes_sum, claim_number, claim_op, claim_task, number_of, terms, IsCancelled, IsClaimOf, IsFinished, IsWithin};
+ghost use Rattle.grub_table.specs.Calls.{accesses, claim_accesses, claim_changes_sum, claim_number, claim_op, claim_task, made_on, terms, IsCancelled, IsClaimOf, IsFinished, IsWithin};
 ghost use Rattle.grub_table.specs.Layout.{queue_word_at, task_word_at};
 ghost use Rattle.grub_table.specs.inside.Layout.{stored_of};
 ghost use Rattle.grub_table.specs.inside.Tellings.{is_decided_at_load};
 ghost use Rattle.grub_table.specs.inside.Tries.{half_stored, is_charge, Knows, Tried};
 
 use crate::pass::{Claim, Finished, Pass, Shared};
-use crate::view::{Note, Trail};
-use atomic_table::Seat;
+use crate::seated::Seated;
 use grub_book::{Op, Reading, Record, Reply, changes_sum, runqueue, settle, shifted};
 use grub_words::pack_params;
 
@@ -36,7 +35,7 @@ impl Claim {
     pub fn number(&self) -> u32
         ensures { result ≡ claim_number self.now }
     {
-        self.number
+        self.seated.number
     }
 }
 
@@ -81,13 +80,12 @@ impl Shared {
         ensures made { accesses result ≡ claim_accesses claim ++ Store (task_word_at (terms self.now).setup (claim_task claim)) ∷ [] }
     {
         let Claim {
-            seat,
-            number,
+            seated,
             task,
             op: _,
             held,
         } = claim;
-        self.give_up(seat, number, task, &held)
+        self.give_up(seated, task, &held)
     }
 
     fn finish_sum(&self, claim: Claim, tries: u8) -> Finished
@@ -114,41 +112,39 @@ impl Shared {
         ensures within { IsWithin claim 1 result }
     {
         let Claim {
-            mut seat,
-            number,
+            mut seated,
             task,
             op,
             held,
         } = claim;
-        let Some((next, reply)) = self.decide(&mut seat, op, &held) else {
+        let Some((next, reply)) = self.decide(&mut seated, op, &held) else {
             return Finished::Held(Claim {
-                seat,
-                number,
+                seated,
                 task,
                 op,
                 held,
             });
         };
-        self.store_server(&mut seat, task, next.server);
-        let pass = self.hand_back(seat, number, task, &held, &next);
+        self.store_server(&mut seated, task, next.server);
+        let pass = self.hand_back(seated, task, &held, &next);
         Finished::Done(pass, reply)
     }
 
     /// The event of an op that looks at its runqueue or changes a sum of it: at the load of the runqueue's word, or at its exchange where that is won.
-    fn decide(&self, seat: &mut Seat<Note, Trail>, op: Op, held: &Record) -> Option<(Record, Reply)>
-        requires held { (t : ℕ) × HoldsFor self.now seat.old t op held.now }
+    fn decide(&self, seated: &mut Seated, op: Op, held: &Record) -> Option<(Record, Reply)>
+        requires held { (t : ℕ) × HoldsFor self.now seated.old t op held.now }
         requires about { changes_sum held.now op ≡ false → is_charge op ≡ true }
-        ensures told { Tells self.now (Tried (runqueue_of held.now.place op) result) seat.old seat.new }
-        ensures made { TriesOnce (queue_word_at (runqueue_of held.now.place op)) (changes_sum held.now op) result (made_on seat.old) (made_on seat.new) }
+        ensures told { Tells self.now (Tried (runqueue_of held.now.place op) result) seated.old seated.new }
+        ensures made { TriesOnce (queue_word_at (runqueue_of held.now.place op)) (changes_sum held.now op) result (made_on seated.old) (made_on seated.new) }
     {
         let r = runqueue(held.place, op);
-        let now = self.load_queue(seat, r);
+        let now = self.load_queue(seated, r);
         let (next, reply) = settle(*held, self.terms.setup.queue(r), now, op);
         if is_decided_at_load(reply) {
             return Some((next, reply));
         }
         let new = shifted(now, r, held, &next);
-        if self.change_queue(seat, r, now, new) {
+        if self.change_queue(seated, r, now, new) {
             Some((next, reply))
         } else {
             None
@@ -164,8 +160,7 @@ impl Shared {
         ensures within { (tries : ℕ) → IsWithin claim tries result }
     {
         let Claim {
-            mut seat,
-            number,
+            mut seated,
             task,
             op,
             held,
@@ -175,40 +170,31 @@ impl Shared {
             this: 0,
         };
         let (next, reply) = settle(held, self.terms.setup.queue(0), unseen, op);
-        self.settle_server(&mut seat, task, next.server);
-        let pass = self.hand_back(seat, number, task, &held, &next);
+        self.settle_server(&mut seated, task, next.server);
+        let pass = self.hand_back(seated, task, &held, &next);
         Finished::Done(pass, reply)
     }
 
     /// After the event and the store of the server's word: the parameter word is stored where it changes, and the task is given back.
-    fn hand_back(
-        &self,
-        mut seat: Seat<Note, Trail>,
-        number: u32,
-        task: u32,
-        held: &Record,
-        next: &Record,
-    ) -> Pass
-        requires held { HoldsMade self.now seat task next.now (half_stored held.now next.now) }
+    fn hand_back(&self, mut seated: Seated, task: u32, held: &Record, next: &Record) -> Pass
+        requires held { HoldsMade self.now seated task next.now (half_stored held.now next.now) }
         requires kept { IsKept (terms self.now).setup next.now }
-        requires number { (share_on seat).number ≡ number }
-        ensures leaves { Leaves self.now (Concluded task) seat result }
-        ensures number { number_of result ≡ number }
-        ensures made { StoresFew 2 (made_on seat) (accesses result) }
+        ensures told { Tells self.now (Concluded task) seated result.seated }
+        ensures made { StoresFew 2 (made_on seated) (accesses result) }
     {
-        self.store_changed(&mut seat, task, held, next);
-        self.give_back(seat, number, task, next)
+        self.store_changed(&mut seated, task, held, next);
+        self.give_back(seated, task, next)
     }
 
     /// Stores the parameter word where it changes.
-    fn store_changed(&self, seat: &mut Seat<Note, Trail>, task: u32, held: &Record, next: &Record)
-        requires { HoldsMade self.now seat.old task next.now (half_stored held.now next.now) }
-        ensures knows { Tells self.now Knows seat.old seat.new }
-        ensures stored { HoldsMade self.now seat.new task next.now (stored_of next.now) }
-        ensures made { StoresFew 1 (made_on seat.old) (made_on seat.new) }
+    fn store_changed(&self, seated: &mut Seated, task: u32, held: &Record, next: &Record)
+        requires { HoldsMade self.now seated.old task next.now (half_stored held.now next.now) }
+        ensures knows { Tells self.now Knows seated.old seated.new }
+        ensures stored { HoldsMade self.now seated.new task next.now (stored_of next.now) }
+        ensures made { StoresFew 1 (made_on seated.old) (made_on seated.new) }
     {
         if pack_params(next.params) != pack_params(held.params) {
-            self.store_params(seat, task, next.params);
+            self.store_params(seated, task, next.params);
         }
     }
 }

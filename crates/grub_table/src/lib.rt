@@ -10,6 +10,7 @@ mod pass;
 mod reading;
 mod row;
 mod rule;
+mod seated;
 mod starting;
 mod steps;
 #[cfg(test)]

@@ -10,6 +10,7 @@ ghost use Rattle.grub_table.specs.inside.Trails.{first_trail};
 use crate::counted::CountedTable;
 use crate::pass::{OpenFault, Pass, Shared};
 use crate::row::{SPACING, params_word_at, server_word_at};
+use crate::seated::Seated;
 use crate::view::{Note, Terms, Trail};
 use atomic_table::Seat;
 use grub_book::{Op, Setup};
@@ -82,7 +83,8 @@ fn dealt(
     let mut passes = Vec::new(alloc);
     for number in 0..shared.terms.passes {
         let one = shared.table.split_seat(&mut seat);
-        passes.push(Pass { seat: one, number })?;
+        let seated = Seated { seat: one, number };
+        passes.push(Pass { seated })?;
     }
     Ok(passes)
 }
@@ -107,7 +109,7 @@ impl Pass {
     pub fn number(&self) -> u32
         ensures { result ≡ number_of self.now }
     {
-        self.number
+        self.seated.number
     }
 }
 

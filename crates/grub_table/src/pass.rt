@@ -1,15 +1,13 @@
 //! The public types of a table.
-ghost use Rattle.std.specs.Prelude.{◌≡◌, ◌<◌, []};
+ghost use Rattle.std.specs.Prelude.{◌≡◌, ◌<◌};
 ghost use Rattle.grub_table.specs.inside.Layout.{word_count};
 ghost use Rattle.grub_table.specs.inside.Rule.{AreLimited};
-ghost use Rattle.grub_table.specs.Trails.{first_made};
-ghost use Rattle.grub_table.specs.inside.Trails.{lone};
 ghost use Rattle.grub_table.specs.Views.{first_of};
 ghost use Rattle.grub_table.specs.declared.view.Hold.TheVariants.{Free, Undecided};
 
 use crate::counted::CountedTable;
-use crate::view::{Note, Terms, Trail};
-use atomic_table::Seat;
+use crate::seated::Seated;
+use crate::view::Terms;
 use grub_book::{Op, Record, Reply};
 use std::error::Error;
 use std::fmt;
@@ -29,23 +27,17 @@ pub struct Shared {
 /// The right to make calls under one number. A pass may be dropped; its table then cannot be closed.
 #[derive(Drop)]
 pub struct Pass {
-    pub(crate) seat: Seat<Note, Trail>,
-    pub(crate) number: u32,
-    ghost single: { seat.me ≡ (lone (first_of seat.me.0.view) (first_made seat.me.0), []) },
-    ghost numbered: { (first_of seat.me.0.view).number ≡ number },
-    ghost free: { (first_of seat.me.0.view).hold ≡ Free },
+    pub(crate) seated: Seated,
+    ghost free: { (first_of seated.seat.me.0.view).hold ≡ Free },
 }
 
 /// A pass that holds a task, for an op whose transition is not in the history. It has to be spent, by `finish` or `cancel`: it is neither `Drop` nor `Copy`.
 pub struct Claim {
-    pub(crate) seat: Seat<Note, Trail>,
-    pub(crate) number: u32,
+    pub(crate) seated: Seated,
     pub(crate) task: u32,
     pub(crate) op: Op,
     pub(crate) held: Record,
-    ghost single: { seat.me ≡ (lone (first_of seat.me.0.view) (first_made seat.me.0), []) },
-    ghost numbered: { (first_of seat.me.0.view).number ≡ number },
-    ghost holds: { (first_of seat.me.0.view).hold ≡ Undecided task op held },
+    ghost holds: { (first_of seated.seat.me.0.view).hold ≡ Undecided task op held },
 }
 
 /// What a call saw that found its task busy: the task's word with its claim bit set, or a word that had changed from the one that the call had loaded.

@@ -10,6 +10,7 @@ ghost use Rattle.grub_table.specs.Calls.{terms, number_of, share_of, claim_share
 
 use crate::pass::{Claim, Pass, Shared};
 use crate::rule::Compare;
+use crate::seated::Seated;
 use grub_book::Reading;
 
 impl Shared {
@@ -23,7 +24,7 @@ impl Shared {
         ensures marks { marks pass.new ≡ marks pass.old }
         ensures made { accesses pass.new ≡ accesses pass.old ++ Load (queue_word_at r) ∷ [] }
     {
-        self.look(&mut pass.seat, r)
+        self.look(&mut pass.seated, r)
     }
 
     /// A reading, as in `read`, by a pass that holds a claim.
@@ -35,7 +36,7 @@ impl Shared {
         ensures last { EndsWith (claim_seen claim.new) (Look (claim_number claim.old) r result) }
         ensures made { claim_accesses claim.new ≡ claim_accesses claim.old ++ Load (queue_word_at r) ∷ [] }
     {
-        self.look(&mut claim.seat, r)
+        self.look(&mut claim.seated, r)
     }
 
     /// Gives both passes back. What the two have seen are then known to be beginnings of one history.
@@ -48,25 +49,29 @@ impl Shared {
         ensures marks { IsMarkedBehind result.0 result.1 ⊎ IsMarkedBehind result.1 result.0 }
         ensures made { (accesses result.0 ≡ accesses first ++ meeting_loads) × (accesses result.1 ≡ accesses second ++ meeting_loads) }
     {
-        let Pass {
+        let Seated {
             seat: one,
             number: first,
-        } = first;
-        let Pass {
+        } = first.seated;
+        let Seated {
             mut seat,
             number: second,
-        } = second;
+        } = second.seated;
         self.table.join_seat(&mut seat, one);
         self.table.load::<Compare>(&mut seat, 0);
         let one = self.table.split_seat(&mut seat);
         (
             Pass {
-                seat: one,
-                number: first,
+                seated: Seated {
+                    seat: one,
+                    number: first,
+                },
             },
             Pass {
-                seat,
-                number: second,
+                seated: Seated {
+                    seat,
+                    number: second,
+                },
             },
         )
     }

@@ -1,6 +1,6 @@
 //! The rule of the table, and what each step tells.
 ghost use Rattle.grub_table.specs.inside.Trails.{left_trail, right_trail, joined, spent, counts_load, counts_store, counts_exchange};
-ghost use Rattle.grub_table.specs.inside.Tellings.{looks, compares, loads_task, takes_claim, loads_params, loads_server, loads_queue, changes_queue, settles_server, stores_server, stores_params, gives_claim};
+ghost use Rattle.grub_table.specs.inside.Tellings.{compares, note_of, turns, OfQueue, Looked, LoadedTask, TookClaim, LoadedParams, LoadedServer, LoadedQueue, ChangedQueue, SettledServer, StoredServer, StoredParams, GaveClaim};
 
 use crate::view::{Note, Terms, Trail, View};
 use atomic_table::{Join, Play, Split, TableRule};
@@ -56,10 +56,24 @@ impl Asked for Brand {
     ghost note = { no_note };
 }
 
-pub struct Look;
+/// What a step tells the pass that makes it: of the step, the number found (at a store, the number stored), and the pass's share before and after.
+pub trait Telling {
+    ghost use Rattle.std.specs.Prelude.{ℕ};
+    ghost use Rattle.atomic_table.specs.Table.{Step};
+    ghost use Rattle.grub_table.specs.declared.view.Note.{Note};
+    ghost use Rattle.grub_table.specs.declared.view.Share.{Share};
+    ghost use Rattle.grub_table.specs.declared.view.Terms.{Terms};
 
-impl Play<Note, View> for Look {
-    ghost then = { looks };
+    ghost tells: { Step Note → ℕ → Terms → Share → Share → Type 0 };
+}
+
+/// A step of a seat of one pass, told as `T` tells it.
+pub struct Turn<T> {
+    told: PhantomData<T>,
+}
+
+impl<T: Telling> Play<Note, View> for Turn<T> {
+    ghost then = { turns T.tells };
 }
 
 pub struct Compare;
@@ -68,66 +82,72 @@ impl Play<Note, View> for Compare {
     ghost then = { compares };
 }
 
+pub struct Look;
+
+impl Telling for Look {
+    ghost tells = { λ st found. OfQueue st.word (λ r. Looked r found) };
+}
+
 pub struct LoadTask<J> {
     asked: PhantomData<J>,
 }
 
-impl<J: Asked> Play<Note, View> for LoadTask<J> {
-    ghost then = { loads_task J.note };
+impl<J: Asked> Telling for LoadTask<J> {
+    ghost tells = { λ st found. LoadedTask J.note found };
 }
 
 pub struct TakeClaim;
 
-impl Play<Note, View> for TakeClaim {
-    ghost then = { takes_claim };
+impl Telling for TakeClaim {
+    ghost tells = { λ st found. TookClaim (note_of st.said) st.first found };
 }
 
 pub struct LoadParams;
 
-impl Play<Note, View> for LoadParams {
-    ghost then = { loads_params };
+impl Telling for LoadParams {
+    ghost tells = { λ st found. LoadedParams found };
 }
 
 pub struct LoadServer;
 
-impl Play<Note, View> for LoadServer {
-    ghost then = { loads_server };
+impl Telling for LoadServer {
+    ghost tells = { λ st found. LoadedServer found };
 }
 
 pub struct LoadQueue;
 
-impl Play<Note, View> for LoadQueue {
-    ghost then = { loads_queue };
+impl Telling for LoadQueue {
+    ghost tells = { λ st found. OfQueue st.word (λ r. LoadedQueue r found) };
 }
 
 pub struct ChangeQueue;
 
-impl Play<Note, View> for ChangeQueue {
-    ghost then = { changes_queue };
+impl Telling for ChangeQueue {
+    ghost tells = { λ st found. OfQueue st.word (λ r. ChangedQueue r st.first found) };
 }
 
 pub struct SettleServer;
 
-impl Play<Note, View> for SettleServer {
-    ghost then = { settles_server };
+impl Telling for SettleServer {
+    ghost tells = { λ st stored. SettledServer stored };
 }
 
 pub struct StoreServer;
 
-impl Play<Note, View> for StoreServer {
-    ghost then = { stores_server };
+impl Telling for StoreServer {
+    ghost tells = { λ st stored. StoredServer stored };
 }
 
 pub struct StoreParams;
 
-impl Play<Note, View> for StoreParams {
-    ghost then = { stores_params };
+impl Telling for StoreParams {
+    ghost tells = { λ st stored. StoredParams stored };
 }
 
 pub struct GiveClaim;
 
-impl Play<Note, View> for GiveClaim {
-    ghost then = { gives_claim };
+impl Telling for GiveClaim {
+    ghost tells = { λ st stored. GaveClaim };
 }
 
 /// The first share is cut off.

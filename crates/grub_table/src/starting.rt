@@ -8,30 +8,29 @@ ghost use Rattle.grub_table.specs.declared.view.Access.TheVariants.{Load};
 ghost use Rattle.grub_table.specs.Accesses.{StartsBriefly};
 ghost use Rattle.grub_table.specs.Layout.{task_word_at};
 ghost use Rattle.grub_table.specs.inside.Layout.{server_word_at, params_word_at};
-ghost use Rattle.grub_table.specs.inside.Between.{hold_of, made_on, IsSeatOf, HoldsFor, Tells, SawTask, SawRecord};
-ghost use Rattle.grub_table.specs.Calls.{terms, accesses, started_accesses, IsPassOf, IsStarted};
+ghost use Rattle.grub_table.specs.inside.Between.{hold_of, IsSeatOf, HoldsFor, Tells, SawTask, SawRecord};
+ghost use Rattle.grub_table.specs.Calls.{terms, accesses, made_on, started_accesses, IsPassOf, IsStarted};
 ghost use Rattle.grub_table.specs.declared.view.Hold.TheVariants.{Free};
 
 use crate::pass::{Claim, Pass, Shared, Sighting, Started};
 use crate::row::unclaimed;
-use crate::view::{Note, Trail};
-use atomic_table::Seat;
+use crate::seated::Seated;
 use grub_book::{Op, Record, early, refusal};
 use grub_words::{TaskWord, pack_task};
 use std::marker::Brand;
 
 impl Shared {
     /// What the task's word says, or the word itself where another pass has the task.
-    fn look_at_task(&self, seat: &mut Seat<Note, Trail>, t: u32, op: Op) -> Result<TaskWord, u64>
-        requires seat { IsSeatOf self.now seat.old }
-        requires free { hold_of seat.old ≡ Free }
+    fn look_at_task(&self, seated: &mut Seated, t: u32, op: Op) -> Result<TaskWord, u64>
+        requires seat { IsSeatOf self.now seated.old }
+        requires free { hold_of seated.old ≡ Free }
         requires task { t < length (terms self.now).setup.tasks }
         requires op { IsOp (terms self.now).setup op }
-        ensures told { Tells self.now (SawTask t op result) seat.old seat.new }
-        ensures made { made_on seat.new ≡ made_on seat.old ++ Load (task_word_at (terms self.now).setup t) ∷ [] }
+        ensures told { Tells self.now (SawTask t op result) seated.old seated.new }
+        ensures made { made_on seated.new ≡ made_on seated.old ++ Load (task_word_at (terms self.now).setup t) ∷ [] }
         ensures free { IfOk result (λ w. TaskFits w × (w.claimed ≡ false)) }
     {
-        let word = self.load_task::<Brand>(seat, t, op);
+        let word = self.load_task::<Brand>(seated, t, op);
         match unclaimed(word) {
             Some(shown) => Ok(shown),
             None => Err(word),
@@ -39,13 +38,13 @@ impl Shared {
     }
 
     /// The record of a task that was taken, whose word said this.
-    fn load_record(&self, seat: &mut Seat<Note, Trail>, t: u32, shown: TaskWord) -> Record
-        requires { (op : Op) × (rec : Record) × HoldsFor self.now seat.old t op rec × (shown.place ≡ rec.place) × (shown.count ≡ rec.count) }
-        ensures told { Tells self.now (SawRecord result) seat.old seat.new }
-        ensures made { made_on seat.new ≡ made_on seat.old ++ Load (params_word_at (terms self.now).setup t) ∷ Load (server_word_at (terms self.now).setup t) ∷ [] }
+    fn load_record(&self, seated: &mut Seated, t: u32, shown: TaskWord) -> Record
+        requires { (op : Op) × (rec : Record) × HoldsFor self.now seated.old t op rec × (shown.place ≡ rec.place) × (shown.count ≡ rec.count) }
+        ensures told { Tells self.now (SawRecord result) seated.old seated.new }
+        ensures made { made_on seated.new ≡ made_on seated.old ++ Load (params_word_at (terms self.now).setup t) ∷ Load (server_word_at (terms self.now).setup t) ∷ [] }
     {
-        let params = self.load_params(seat, t);
-        let server = self.load_server(seat, t);
+        let params = self.load_params(seated, t);
+        let server = self.load_server(seated, t);
         Record {
             place: shown.place,
             count: shown.count,
@@ -63,27 +62,26 @@ impl Shared {
         ensures started { IsStarted self.now pass t op result }
         ensures brief { StartsBriefly (task_word_at (terms self.now).setup t) (accesses pass) (started_accesses result) }
     {
-        let Pass { mut seat, number } = pass;
-        let shown = match self.look_at_task(&mut seat, t, op) {
+        let Pass { mut seated } = pass;
+        let shown = match self.look_at_task(&mut seated, t, op) {
             Ok(shown) => shown,
-            Err(word) => return Started::Busy(Pass { seat, number }, Sighting::Claimed { word }),
+            Err(word) => return Started::Busy(Pass { seated }, Sighting::Claimed { word }),
         };
         if let Some(reply) = refusal(shown.place, shown.count, op) {
-            return Started::Answered(Pass { seat, number }, reply);
+            return Started::Answered(Pass { seated }, reply);
         }
         let loaded = pack_task(shown);
-        let found = self.take_claim(&mut seat, t, op, shown);
+        let found = self.take_claim(&mut seated, t, op, shown);
         if found != loaded {
-            return Started::Busy(Pass { seat, number }, Sighting::Changed { loaded, found });
+            return Started::Busy(Pass { seated }, Sighting::Changed { loaded, found });
         }
-        let held = self.load_record(&mut seat, t, shown);
+        let held = self.load_record(&mut seated, t, shown);
         if let Some(reply) = early(&held, op) {
-            let pass = self.give_back(seat, number, t, &held);
+            let pass = self.give_back(seated, t, &held);
             return Started::Answered(pass, reply);
         }
         Started::Held(Claim {
-            seat,
-            number,
+            seated,
             task: t,
             op,
             held,

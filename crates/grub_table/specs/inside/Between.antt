@@ -1,6 +1,7 @@
 -- What stands between the steps of a call: the seat of a pass, and what it was told.
-use Rattle.std.specs.Prelude.{◌≡◌, ◌≢◌, ℕ, ◌<◌, Bool, true, false, List, [], length, None, Result, Ok, Err}
-use Rattle.atomic_table.specs.declared.shared.Seat.{Seat}
+use Rattle.std.specs.Prelude.{◌≡◌, ◌≢◌, ℕ, ◌<◌, Bool, true, false, [], length, None, Result, Ok, Err}
+use mathlib.Core.Option.{Option}
+use Rattle.atomic_table.specs.Table.{Allows, Step, step}
 use Rattle.grub_book.specs.Op.{IsOp}
 use Rattle.grub_book.specs.Sound.{IsKept}
 use Rattle.grub_book.specs.Step.{early, refused}
@@ -10,53 +11,49 @@ use Rattle.grub_book.specs.declared.event.Event.TheVariants.{Look}
 use Rattle.grub_book.specs.declared.event.Reading.{Reading}
 use Rattle.grub_book.specs.declared.op.Op.{Op}
 use Rattle.grub_book.specs.declared.place.Record.{Record}
-use Rattle.grub_table.specs.declared.pass.Pass.{Pass}
 use Rattle.grub_table.specs.declared.pass.Shared.{Shared}
+use Rattle.grub_table.specs.declared.seated.Seated.{Seated}
 use Rattle.grub_table.specs.declared.view.Hold.{Hold}
 use Rattle.grub_table.specs.declared.view.Hold.TheVariants.{Undecided, Decided}
 use Rattle.grub_table.specs.declared.view.Note.{Note}
 use Rattle.grub_table.specs.declared.view.Share.{Share}
 use Rattle.grub_table.specs.declared.view.Stored.{Stored}
 use Rattle.grub_table.specs.declared.view.Terms.{Terms}
-use Rattle.grub_table.specs.declared.view.Access.{Access}
-use Rattle.grub_table.specs.declared.view.Trail.{Trail}
 use Rattle.grub_words.specs.declared.task.TaskWord.{TaskWord}
 use Rattle.grub_table.specs.Histories.{record_in, reading_in}
 use Rattle.grub_table.specs.inside.Layout.{stored_of}
-use Rattle.grub_table.specs.inside.Tellings.{Adds, Finishes, CallsIf, Decides, DecidesIf, Gave, IsOthers, IsReadingFor, LoadedQueueAs, Sees, is_decided_at_load, outcome}
-use Rattle.grub_table.specs.Trails.{first_made}
-use Rattle.grub_table.specs.inside.Trails.{lone}
-use Rattle.grub_table.specs.Views.{first_of}
+use Rattle.grub_table.specs.inside.Tellings.{Adds, Finishes, CallsIf, Decides, DecidesIf, Gave, IsOthers, IsReadingFor, LoadedQueueAs, Sees, Turns, is_decided_at_load, outcome}
+use Rattle.grub_table.specs.inside.Rule.{Kept}
+use Rattle.grub_table.specs.inside.Trails.{known}
+use Rattle.grub_table.specs.Calls.{share_on}
 
-abbrev pub TheSeat : Type 0
-TheSeat = Seat Note Trail
+abbrev pub hold_of : Seated → Hold
+hold_of x = (share_on x).hold
 
-abbrev pub share_on : TheSeat → Share
-share_on seat = first_of seat.me.0.view
+-- the seat is at this table
+pub record IsSeatOf (s : Shared) (x : Seated) : Type 0 where
+  pub home : x.seat.table_id ≡ s.table.inner.shared.table_id
+  pub terms : (share_on x).terms ≡ s.terms
 
--- the accesses that the pass has made
-abbrev pub made_on : TheSeat → List Access
-made_on seat = first_made seat.me.0
+-- a step at a word of the table
+abbrev pub made_step : Shared → ℕ → ℕ → ℕ → Option Note → Step Note
+made_step s word first second said = step s.table.inner.shared.table_id.slots word first second said
 
-abbrev pub hold_of : TheSeat → Hold
-hold_of seat = (share_on seat).hold
+-- the word is there, and whatever it is, the rule lets it become f of what it was, and this is told
+abbrev pub IsAllowed : Shared → Seated → ℕ → (ℕ → ℕ) → (ℕ → Terms → Share → Share → Type 0) → Type 0
+IsAllowed s x word f tells = (word < s.table.inner.shared.table_id.words)
+    × Allows (Kept s.table.inner.shared.key) s.table.inner.shared.table_id.slots x.seat.id (known x.seat.me) word f (λ n m'. Turns (tells n) (known x.seat.me) m')
 
--- the seat of one pass of this table
-pub record IsSeatOf (s : Shared) (seat : TheSeat) : Type 0 where
-  pub home : seat.table_id ≡ s.table.inner.shared.table_id
-  pub single : seat.me ≡ (lone (share_on seat) (made_on seat), [])
-  pub terms : (share_on seat).terms ≡ s.terms
-
--- the seat is still of the same pass, and this is told of its shares
-pub record Tells (s : Shared) (told : Terms → Share → Share → Type 0) (old new : TheSeat) : Type 0 where
+-- the seat is still at the table and of the same pass, and this is told of its shares
+pub record Tells (s : Shared) (told : Terms → Share → Share → Type 0) (old new : Seated) : Type 0 where
   pub seat : IsSeatOf s new
   pub number : (share_on new).number ≡ (share_on old).number
   pub of : told s.terms (share_on old) (share_on new)
 
 -- the seat holds a task with this record, for an op that the place, the count and the ticket do not refuse
-pub record HoldsFor (s : Shared) (seat : TheSeat) (t : ℕ) (asked : Op) (rec : Record) : Type 0 where
-  pub seat_of : IsSeatOf s seat
-  pub hold : hold_of seat ≡ Undecided t asked rec
+pub record HoldsFor (s : Shared) (x : Seated) (t : ℕ) (asked : Op) (rec : Record) : Type 0 where
+  pub seat_of : IsSeatOf s x
+  pub hold : hold_of x ≡ Undecided t asked rec
   pub task : t < length s.terms.setup.tasks
   pub op : IsOp s.terms.setup asked
   pub kept : IsKept s.terms.setup rec
@@ -111,15 +108,8 @@ GivenUp t T x y = Sees T x y × Gave T x t y
 abbrev pub Concluded : ℕ → Terms → Share → Share → Type 0
 Concluded t T x y = (y.seen ≡ x.seen) × Gave T x t y
 
--- the pass whose seat this was, of which this is told
-pub record Leaves (s : Shared) (told : Terms → Share → Share → Type 0) (old : TheSeat) (q : Pass) : Type 0 where
-  pub home : q.seat.table_id ≡ s.table.inner.shared.table_id
-  pub terms : (first_of q.seat.me.0.view).terms ≡ s.terms
-  pub number : (first_of q.seat.me.0.view).number ≡ (share_on old).number
-  pub of : told s.terms (share_on old) (first_of q.seat.me.0.view)
-
 -- the seat holds a task whose call is made: its record is now this one, and its words are still to be stored
-pub record HoldsMade (s : Shared) (seat : TheSeat) (t : ℕ) (now : Record) (stored : Stored) : Type 0 where
-  pub seat_of : IsSeatOf s seat
+pub record HoldsMade (s : Shared) (x : Seated) (t : ℕ) (now : Record) (stored : Stored) : Type 0 where
+  pub seat_of : IsSeatOf s x
   pub task : t < length s.terms.setup.tasks
-  pub hold : (before : Record) × (hold_of seat ≡ Decided t before now stored)
+  pub hold : (before : Record) × (hold_of x ≡ Decided t before now stored)

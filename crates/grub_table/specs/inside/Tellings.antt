@@ -183,40 +183,10 @@ note_of none = no_note
 abbrev pub OfQueue : ℕ → (ℕ → Terms → Share → Share → Type 0) → Terms → Share → Share → Type 0
 OfQueue word tells T x y = (r : ℕ) → word ≡ queue_word_at r → tells r T x y
 
--- what the steps tell
-module _ {S : Type 0} where
-  abbrev pub looks : Step S → Sat S → ℕ → Sat S → Type 0
-  looks st m found m' = Turns (OfQueue st.word (λ r. Looked r found)) m m'
+-- what a seat of one pass is told of its step
+abbrev pub turns : {S : Type 0} → (Step S → ℕ → Terms → Share → Share → Type 0) → Step S → Sat S → ℕ → Sat S → Type 0
+turns tells st m found m' = Turns (tells st found) m m'
 
-  abbrev pub compares : Step S → Sat S → ℕ → Sat S → Type 0
-  compares st m found m' = (m' ≡ m) × StandTogether m.0.shares
-
-  abbrev pub loads_task : Note → Step S → Sat S → ℕ → Sat S → Type 0
-  loads_task n st m found m' = Turns (LoadedTask n found) m m'
-
-  abbrev pub loads_params : Step S → Sat S → ℕ → Sat S → Type 0
-  loads_params st m found m' = Turns (LoadedParams found) m m'
-
-  abbrev pub loads_server : Step S → Sat S → ℕ → Sat S → Type 0
-  loads_server st m found m' = Turns (LoadedServer found) m m'
-
-  abbrev pub loads_queue : Step S → Sat S → ℕ → Sat S → Type 0
-  loads_queue st m found m' = Turns (OfQueue st.word (λ r. LoadedQueue r found)) m m'
-
-  abbrev pub changes_queue : Step S → Sat S → ℕ → Sat S → Type 0
-  changes_queue st m found m' = Turns (OfQueue st.word (λ r. ChangedQueue r st.first found)) m m'
-
-  abbrev pub settles_server : Step S → Sat S → ℕ → Sat S → Type 0
-  settles_server st m found m' = Turns (SettledServer found) m m'
-
-  abbrev pub stores_server : Step S → Sat S → ℕ → Sat S → Type 0
-  stores_server st m found m' = Turns (StoredServer found) m m'
-
-  abbrev pub stores_params : Step S → Sat S → ℕ → Sat S → Type 0
-  stores_params st m found m' = Turns (StoredParams found) m m'
-
-  abbrev pub gives_claim : Step S → Sat S → ℕ → Sat S → Type 0
-  gives_claim st m found m' = Turns GaveClaim m m'
-
-abbrev pub takes_claim : Step Note → Sat Note → ℕ → Sat Note → Type 0
-takes_claim st m found m' = Turns (TookClaim (note_of st.said) st.first found) m m'
+-- nothing changes, and all passes of the seat stand together
+abbrev pub compares : {S : Type 0} → Step S → Sat S → ℕ → Sat S → Type 0
+compares st m found m' = (m' ≡ m) × StandTogether m.0.shares

@@ -25,8 +25,8 @@ split_seat-one-requires c =
     let whole = ap (λ m. m.0) i.left ∙ ap view (fresh_next (terms s) c.loop-number.number (terms s).passes c.loop-number-test.true) in
     (i.table, omega (arith, words, some), split_allowed_as _ _ _ _ _ whole)
 
-pub invariant_of-push : goal.invariant_of-push
-invariant_of-push c =
+pub invariant_of-seated : goal.invariant_of-seated
+invariant_of-seated c =
     let s = c.args.shared.now in
     let whole = ap (λ m. m.0) c.loop-number.invariant.left ∙ ap view (fresh_next (terms s) c.loop-number.number (terms s).passes c.loop-number-test.true) in
     let one = ap known c.split_seat-one.ensures.right ∙ ap (λ (v : View). (only_first v, [])) whole in
@@ -35,7 +35,13 @@ invariant_of-push c =
     let made = ap (λ m. m.0.made) c.split_seat-one.ensures.right ∙ ap (λ ms. each_after ms (Load 0)) (only_one _ (omega (arith, each, many))) in
     let lists = made ∙ sym (ap (λ ms. head_made ms ∷ []) made) in
     let views = one ∙ ap (λ m. (alone (first_of m.0), [])) (sym one) in
-    record { single = λ k. (trail (views k).0 (lists k), (views k).1); numbered = ap (λ m. (first_of m.0).number) one; free = ap (λ m. (first_of m.0).hold) one }
+    record { single = λ k. (trail (views k).0 (lists k), (views k).1); numbered = ap (λ m. (first_of m.0).number) one }
+
+pub invariant_of-push : goal.invariant_of-push
+invariant_of-push c =
+    let s = c.args.shared.now in
+    let whole = ap (λ m. m.0) c.loop-number.invariant.left ∙ ap view (fresh_next (terms s) c.loop-number.number (terms s).passes c.loop-number-test.true) in
+    record { free = ap (λ m. (first_of m.0).hold) (ap known c.split_seat-one.ensures.right ∙ ap (λ (v : View). (only_first v, [])) whole) }
 
 pub loop-number-preserved : goal.loop-number-preserved
 loop-number-preserved c =

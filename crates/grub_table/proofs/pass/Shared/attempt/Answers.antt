@@ -15,25 +15,25 @@ pub invariant_of-result : goal.invariant_of-result
 invariant_of-result c =
     let q = c.args.claim in
     let tells = c.in_default.ensures.told in
-    record { single = tells.seat.single; numbered = tells.number ∙ q.numbered; holds = (tells.of q.task q.op q.held q.holds).1.1 ∙ q.holds }
+    record { holds = (tells.of q.task q.op q.held q.holds).1.1 ∙ q.holds }
 
 pub returns-in_default-clause-finished : goal.returns-in_default-clause-finished
-returns-in_default-clause-finished c = lost c.args.self.now c.args.claim c.requires.of c.decide.new.seat _ refl refl refl refl c.in_default.ensures.told
+returns-in_default-clause-finished c = lost c.args.self.now c.args.claim c.requires.of c.decide.new.seated _ refl refl refl refl c.in_default.ensures.told
 
 pub store_server-requires-clause-held : goal.store_server-requires-clause-held
 store_server-requires-clause-held c =
-    (c.in-Some.next, stored_of c.args.claim.held, tried_made c.args.self.now c.args.claim c.requires.of c.decide.new.seat (c.in-Some.next, c.in-Some.reply) c.in-Some.ensures.told)
+    (c.in-Some.next, stored_of c.args.claim.held, tried_made c.args.self.now c.args.claim c.requires.of c.decide.new.seated (c.in-Some.next, c.in-Some.reply) c.in-Some.ensures.told)
 
 pub store_server-requires-clause-fits : goal.store_server-requires-clause-fits
-store_server-requires-clause-fits c = (ServerFits-kept _ _ (tried_kept c.args.self.now c.args.claim c.requires.of c.decide.new.seat (c.in-Some.next, c.in-Some.reply) c.in-Some.ensures.told)).0
+store_server-requires-clause-fits c = (ServerFits-kept _ _ (tried_kept c.args.self.now c.args.claim c.requires.of c.decide.new.seated (c.in-Some.next, c.in-Some.reply) c.in-Some.ensures.told)).0
 
 pub hand_back-pass-requires-clause-held : goal.hand_back-pass-requires-clause-held
 hand_back-pass-requires-clause-held c =
-    (stored_server c.args.self.now c.args.claim.task c.in-Some.next (stored_of c.args.claim.held) c.decide.new.seat c.store_server.new.seat
-    (tried_made c.args.self.now c.args.claim c.requires.of c.decide.new.seat (c.in-Some.next, c.in-Some.reply) c.in-Some.ensures.told) _ c.store_server.ensures.told).2
+    (stored_server c.args.self.now c.args.claim.task c.in-Some.next (stored_of c.args.claim.held) c.decide.new.seated c.store_server.new.seated
+    (tried_made c.args.self.now c.args.claim c.requires.of c.decide.new.seated (c.in-Some.next, c.in-Some.reply) c.in-Some.ensures.told) _ c.store_server.ensures.told).2
 
 pub hand_back-pass-requires-clause-kept : goal.hand_back-pass-requires-clause-kept
-hand_back-pass-requires-clause-kept c = tried_kept c.args.self.now c.args.claim c.requires.of c.decide.new.seat (c.in-Some.next, c.in-Some.reply) c.in-Some.ensures.told
+hand_back-pass-requires-clause-kept c = tried_kept c.args.self.now c.args.claim c.requires.of c.decide.new.seated (c.in-Some.next, c.in-Some.reply) c.in-Some.ensures.told
 
 pub returns-clause-finished : goal.returns-clause-finished
 returns-clause-finished c =
@@ -42,17 +42,14 @@ returns-clause-finished c =
     let of = c.requires.of in
     let p : Record × Reply = (c.in-Some.next, c.in-Some.reply) in
     let tried = c.in-Some.ensures.told in
-    let k = stored_server s q.task c.in-Some.next (stored_of q.held) c.decide.new.seat c.store_server.new.seat (tried_made s q of c.decide.new.seat p tried) _ c.store_server.ensures.told in
-    done s q of c.store_server.new.seat c.in-Some.reply 1 _ (c.store_server.ensures.told.number ∙ tried.number) (k.1 ∙ tried_marks s q of c.decide.new.seat p tried)
-    (subst (λ h. Finishes s.terms (claim_share q).number (claim_share q).seen (Call (claim_share q).number q.task q.op c.in-Some.reply) h) (sym k.0) (tried_calls s q of c.decide.new.seat p tried))
-    (subst (λ h. WasBefore s.terms q.task q.held (Call (claim_share q).number q.task q.op c.in-Some.reply) h) (sym k.0) (tried_was s q of c.decide.new.seat p tried))
-    c.hand_back-pass.ensures.leaves (tried_claimed s q of c.decide.new.seat p tried) (λ _. one)
+    let k = stored_server s q.task c.in-Some.next (stored_of q.held) c.decide.new.seated c.store_server.new.seated (tried_made s q of c.decide.new.seated p tried) _ c.store_server.ensures.told in
+    done s q of c.store_server.new.seated c.in-Some.reply 1 _ (c.store_server.ensures.told.number ∙ tried.number) (k.1 ∙ tried_marks s q of c.decide.new.seated p tried)
+    (subst (λ h. Finishes s.terms (claim_share q).number (claim_share q).seen (Call (claim_share q).number q.task q.op c.in-Some.reply) h) (sym k.0) (tried_calls s q of c.decide.new.seated p tried))
+    (subst (λ h. WasBefore s.terms q.task q.held (Call (claim_share q).number q.task q.op c.in-Some.reply) h) (sym k.0) (tried_was s q of c.decide.new.seated p tried))
+    c.hand_back-pass.ensures.told (tried_claimed s q of c.decide.new.seated p tried) (λ _. one)
   where
     one : 1 ≤ 1
     one = omega arith
-
-pub hand_back-pass-requires-clause-number : goal.hand_back-pass-requires-clause-number
-hand_back-pass-requires-clause-number c = c.store_server.ensures.told.number ∙ c.in-Some.ensures.told.number ∙ c.args.claim.numbered
 
 pub returns-clause-within : goal.returns-clause-within
 returns-clause-within c = made_by_try _ _ _ (c.in-Some.next, c.in-Some.reply) _ _ _ _ c.in-Some.ensures.made c.store_server.ensures.made c.hand_back-pass.ensures.made

@@ -1,27 +1,13 @@
-use Rattle.std.proofs.Common.{sym, arith}
-use Rattle.grub_table.specs.declared.view.Access.TheVariants.{Load}
-use Rattle.grub_table.proofs.Between.{made_at, tells_of, saw_params}
-use Rattle.grub_table.proofs.Seated.{word_within, on_load_params}
+use Rattle.std.proofs.Common.{sym}
+use Rattle.grub_table.proofs.AllowedSteps.{load_params_allowed}
+use Rattle.grub_table.proofs.Between.{saw_params}
 use Rattle.grub_table.proofs.pass.Shared.load_params.Goals as goal
 
-pub load-word-requires : goal.load-word-requires
-load-word-requires c =
-    let s = c.args.self.now in
-    let seat = c.args.seat.now in
-    let at = c.params_word_at-at.ensures.value in
-    let h = c.requires.2 in
-    (h.seat_of.home, word_within s seat c.args.t _ 2 h.task (omega arith) at, on_load_params s seat c.args.t _ _ _ h at)
+pub load-word-requires-clause-allowed : goal.load-word-requires-clause-allowed
+load-word-requires-clause-allowed c = load_params_allowed c.args.self.now c.args.seated.now c.args.t _ _ _ c.requires.2 c.params_word_at-at.ensures.value
 
 pub params_in-requires : goal.params_in-requires
-params_in-requires c =
-    let h = c.requires.2 in
-    let told = tells_of c.args.self.now _ c.args.seat.now c.load-word.new.seat _ h.seat_of c.load-word.ensures.home c.load-word.ensures.told c.load-word.ensures.made in
-    (c.requires.1.params, h.kept.reservation, sym (told.of c.args.t c.requires.0 c.requires.1 h.hold).0)
+params_in-requires c = let h = c.requires.2 in (c.requires.1.params, h.kept.reservation, sym (c.load-word.ensures.told.of c.args.t c.requires.0 c.requires.1 h.hold).0)
 
 pub returns-clause-told : goal.returns-clause-told
-returns-clause-told c =
-    let h = c.requires.2 in
-    saw_params c.args.self.now c.args.seat.now _ c.args.t _ _ h _ _ (tells_of c.args.self.now _ c.args.seat.now c.load-word.new.seat _ h.seat_of c.load-word.ensures.home c.load-word.ensures.told c.load-word.ensures.made) c.params_in.ensures.fits c.params_in.ensures.word
-
-pub returns-clause-made : goal.returns-clause-made
-returns-clause-made c = made_at c.args.self.now c.args.seat.now c.load-word.new.seat Load _ _ c.requires.2.seat_of c.load-word.ensures.made c.params_word_at-at.ensures.value
+returns-clause-told c = saw_params c.args.self.now c.args.seated.now _ c.args.t _ _ c.requires.2 _ _ c.load-word.ensures.told c.params_in.ensures.fits c.params_in.ensures.word

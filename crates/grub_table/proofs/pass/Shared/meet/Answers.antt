@@ -13,7 +13,7 @@ join_seat-requires c =
     let self = c.args.self.now in
     let words = self.words in
     let some = self.limited.queues_some in
-    (c.requires.second.home, c.requires.first.home, ap (λ m. m.1) c.args.first.single, omega (arith, words, some), join_allowed _ _ _ _ _)
+    (c.requires.second.home, c.requires.first.home, ap (λ m. m.1) c.args.first.seated.single, omega (arith, words, some), join_allowed _ _ _ _ _)
 
 pub load-requires : goal.load-requires
 load-requires c =

@@ -1,7 +1,7 @@
 use Rattle.std.proofs.Common.{refl, sym, ap, ◌∙◌}
 use Rattle.grub_words.specs.Words.{task_word}
 use Rattle.grub_table.proofs.Brief.{starts_early}
-use Rattle.grub_table.proofs.Starts.{answered, busy_changed, free_changed, number2, says, holds, taken, kept, claim_holds, is_taken, made_early, answered_early, number3}
+use Rattle.grub_table.proofs.Starts.{answered, busy_changed, free_changed, says, holds, taken, kept, claim_holds, is_taken, made_early, answered_early}
 use Rattle.grub_table.proofs.pass.Shared.start.Goals as goal
 
 pub returns-in-Some-clause-started : goal.returns-in-Some-clause-started
@@ -12,25 +12,23 @@ invariant_of-result-then-found-loaded c =
     let was = c.pack_task-loaded.ensures ∙ ap (task_word c.in-Ok.shown.place c.in-Ok.shown.count) c.in-Ok.ensures.free.1 in
     let free = sym c.refusal.ensures ∙ c.in_default.is in
     record {
-      single = c.take_claim-found.ensures.told.seat.single;
-      numbered = number2 c.args.self.now c.args.pass c.args.t c.args.op c.in-Ok.shown c.in-Ok.ensures.free.1 c.look_at_task.new.seat c.in-Ok.ensures.told free c.pack_task-loaded.result c.take_claim-found.result was c.take_claim-found.new.seat c.take_claim-found.ensures.told ∙ c.args.pass.numbered;
-      free = free_changed c.args.self.now c.args.pass c.args.t c.args.op c.in-Ok.shown c.in-Ok.ensures.free.1 c.look_at_task.new.seat c.in-Ok.ensures.told free c.pack_task-loaded.result c.take_claim-found.result was c.take_claim-found.new.seat c.take_claim-found.ensures.told c.args.pass.free c.if-found-loaded.true;
+      free = free_changed c.args.self.now c.args.pass c.args.t c.args.op c.in-Ok.shown c.in-Ok.ensures.free.1 c.look_at_task.new.seated c.in-Ok.ensures.told free c.pack_task-loaded.result c.take_claim-found.result was c.take_claim-found.new.seated c.take_claim-found.ensures.told c.args.pass.free c.if-found-loaded.true;
     }
 
 pub returns-then-found-loaded-clause-started : goal.returns-then-found-loaded-clause-started
 returns-then-found-loaded-clause-started c =
     let was = c.pack_task-loaded.ensures ∙ ap (task_word c.in-Ok.shown.place c.in-Ok.shown.count) c.in-Ok.ensures.free.1 in
     let free = sym c.refusal.ensures ∙ c.in_default.is in
-    busy_changed c.args.self.now c.args.pass c.args.t c.args.op c.in-Ok.shown c.in-Ok.ensures.free.1 c.look_at_task.new.seat c.in-Ok.ensures.told free c.pack_task-loaded.result c.take_claim-found.result was c.take_claim-found.new.seat c.take_claim-found.ensures.told _ refl c.if-found-loaded.true
+    busy_changed c.args.self.now c.args.pass c.args.t c.args.op c.in-Ok.shown c.in-Ok.ensures.free.1 c.look_at_task.new.seated c.in-Ok.ensures.told free c.pack_task-loaded.result c.take_claim-found.result was c.take_claim-found.new.seated c.take_claim-found.ensures.told _ refl c.if-found-loaded.true
 
 pub load_record-held-requires : goal.load_record-held-requires
 load_record-held-requires c =
     let was = c.pack_task-loaded.ensures ∙ ap (task_word c.in-Ok.shown.place c.in-Ok.shown.count) c.in-Ok.ensures.free.1 in
     let free = sym c.refusal.ensures ∙ c.in_default.is in
-    let s = says c.args.self.now c.args.pass c.args.t c.args.op c.in-Ok.shown c.in-Ok.ensures.free.1 c.look_at_task.new.seat c.in-Ok.ensures.told free c.pack_task-loaded.result c.take_claim-found.result was c.take_claim-found.new.seat c.take_claim-found.ensures.told c.if-found-loaded.false c.in-Ok.ensures.free.0.place c.requires.task c.requires.op in (
+    let s = says c.args.self.now c.args.pass c.args.t c.args.op c.in-Ok.shown c.in-Ok.ensures.free.1 c.look_at_task.new.seated c.in-Ok.ensures.told free c.pack_task-loaded.result c.take_claim-found.result was c.take_claim-found.new.seated c.take_claim-found.ensures.told c.if-found-loaded.false c.in-Ok.ensures.free.0.place c.requires.task c.requires.op in (
       c.args.op,
-      taken c.args.self.now c.args.pass c.args.t c.args.op c.in-Ok.shown c.in-Ok.ensures.free.1 c.look_at_task.new.seat c.in-Ok.ensures.told free c.pack_task-loaded.result c.take_claim-found.result was c.take_claim-found.new.seat c.take_claim-found.ensures.told c.if-found-loaded.false c.in-Ok.ensures.free.0.place c.requires.task c.requires.op,
-      holds c.args.self.now c.args.pass c.args.t c.args.op c.in-Ok.shown c.in-Ok.ensures.free.1 c.look_at_task.new.seat c.in-Ok.ensures.told free c.pack_task-loaded.result c.take_claim-found.result was c.take_claim-found.new.seat c.take_claim-found.ensures.told c.if-found-loaded.false c.in-Ok.ensures.free.0.place c.requires.task c.requires.op,
+      taken c.args.self.now c.args.pass c.args.t c.args.op c.in-Ok.shown c.in-Ok.ensures.free.1 c.look_at_task.new.seated c.in-Ok.ensures.told free c.pack_task-loaded.result c.take_claim-found.result was c.take_claim-found.new.seated c.take_claim-found.ensures.told c.if-found-loaded.false c.in-Ok.ensures.free.0.place c.requires.task c.requires.op,
+      holds c.args.self.now c.args.pass c.args.t c.args.op c.in-Ok.shown c.in-Ok.ensures.free.1 c.look_at_task.new.seated c.in-Ok.ensures.told free c.pack_task-loaded.result c.take_claim-found.result was c.take_claim-found.new.seated c.take_claim-found.ensures.told c.if-found-loaded.false c.in-Ok.ensures.free.0.place c.requires.task c.requires.op,
       s.0,
       s.1,
     )
@@ -39,47 +37,39 @@ pub early-requires : goal.early-requires
 early-requires c =
     let was = c.pack_task-loaded.ensures ∙ ap (task_word c.in-Ok.shown.place c.in-Ok.shown.count) c.in-Ok.ensures.free.1 in
     let free = sym c.refusal.ensures ∙ c.in_default.is in
-    (kept c.args.self.now c.args.pass c.args.t c.args.op c.in-Ok.shown c.in-Ok.ensures.free.1 c.look_at_task.new.seat c.in-Ok.ensures.told free c.pack_task-loaded.result c.take_claim-found.result was c.take_claim-found.new.seat c.take_claim-found.ensures.told c.if-found-loaded.false c.in-Ok.ensures.free.0.place c.requires.task c.requires.op c.load_record-held.result c.load_record-held.new.seat c.load_record-held.ensures.told).server.fits
+    (kept c.args.self.now c.args.pass c.args.t c.args.op c.in-Ok.shown c.in-Ok.ensures.free.1 c.look_at_task.new.seated c.in-Ok.ensures.told free c.pack_task-loaded.result c.take_claim-found.result was c.take_claim-found.new.seated c.take_claim-found.ensures.told c.if-found-loaded.false c.in-Ok.ensures.free.0.place c.requires.task c.requires.op c.load_record-held.result c.load_record-held.new.seated c.load_record-held.ensures.told).server.fits
 
 pub give_back-pass-requires-clause-held : goal.give_back-pass-requires-clause-held
 give_back-pass-requires-clause-held c =
     let was = c.pack_task-loaded.ensures ∙ ap (task_word c.in-Ok.shown.place c.in-Ok.shown.count) c.in-Ok.ensures.free.1 in
     let free = sym c.refusal.ensures ∙ c.in_default.is in
-    made_early c.args.self.now c.args.pass c.args.t c.args.op c.in-Ok.shown c.in-Ok.ensures.free.1 c.look_at_task.new.seat c.in-Ok.ensures.told free c.pack_task-loaded.result c.take_claim-found.result was c.take_claim-found.new.seat c.take_claim-found.ensures.told c.if-found-loaded.false c.in-Ok.ensures.free.0.place c.requires.task c.requires.op c.load_record-held.result c.load_record-held.new.seat c.load_record-held.ensures.told c.in-Some-early.reply (sym c.early.ensures ∙ c.in-Some-early.is)
+    made_early c.args.self.now c.args.pass c.args.t c.args.op c.in-Ok.shown c.in-Ok.ensures.free.1 c.look_at_task.new.seated c.in-Ok.ensures.told free c.pack_task-loaded.result c.take_claim-found.result was c.take_claim-found.new.seated c.take_claim-found.ensures.told c.if-found-loaded.false c.in-Ok.ensures.free.0.place c.requires.task c.requires.op c.load_record-held.result c.load_record-held.new.seated c.load_record-held.ensures.told c.in-Some-early.reply (sym c.early.ensures ∙ c.in-Some-early.is)
 
 pub give_back-pass-requires-clause-kept : goal.give_back-pass-requires-clause-kept
 give_back-pass-requires-clause-kept c =
     let was = c.pack_task-loaded.ensures ∙ ap (task_word c.in-Ok.shown.place c.in-Ok.shown.count) c.in-Ok.ensures.free.1 in
     let free = sym c.refusal.ensures ∙ c.in_default.is in
-    kept c.args.self.now c.args.pass c.args.t c.args.op c.in-Ok.shown c.in-Ok.ensures.free.1 c.look_at_task.new.seat c.in-Ok.ensures.told free c.pack_task-loaded.result c.take_claim-found.result was c.take_claim-found.new.seat c.take_claim-found.ensures.told c.if-found-loaded.false c.in-Ok.ensures.free.0.place c.requires.task c.requires.op c.load_record-held.result c.load_record-held.new.seat c.load_record-held.ensures.told
-
-pub give_back-pass-requires-clause-number : goal.give_back-pass-requires-clause-number
-give_back-pass-requires-clause-number c =
-    let was = c.pack_task-loaded.ensures ∙ ap (task_word c.in-Ok.shown.place c.in-Ok.shown.count) c.in-Ok.ensures.free.1 in
-    let free = sym c.refusal.ensures ∙ c.in_default.is in
-    number3 c.args.self.now c.args.pass c.args.t c.args.op c.in-Ok.shown c.in-Ok.ensures.free.1 c.look_at_task.new.seat c.in-Ok.ensures.told free c.pack_task-loaded.result c.take_claim-found.result was c.take_claim-found.new.seat c.take_claim-found.ensures.told c.if-found-loaded.false c.in-Ok.ensures.free.0.place c.requires.task c.requires.op c.load_record-held.result c.load_record-held.new.seat c.load_record-held.ensures.told ∙ c.args.pass.numbered
+    kept c.args.self.now c.args.pass c.args.t c.args.op c.in-Ok.shown c.in-Ok.ensures.free.1 c.look_at_task.new.seated c.in-Ok.ensures.told free c.pack_task-loaded.result c.take_claim-found.result was c.take_claim-found.new.seated c.take_claim-found.ensures.told c.if-found-loaded.false c.in-Ok.ensures.free.0.place c.requires.task c.requires.op c.load_record-held.result c.load_record-held.new.seated c.load_record-held.ensures.told
 
 pub returns-in-Some-early-clause-started : goal.returns-in-Some-early-clause-started
 returns-in-Some-early-clause-started c =
     let was = c.pack_task-loaded.ensures ∙ ap (task_word c.in-Ok.shown.place c.in-Ok.shown.count) c.in-Ok.ensures.free.1 in
     let free = sym c.refusal.ensures ∙ c.in_default.is in
-    answered_early c.args.self.now c.args.pass c.args.t c.args.op c.in-Ok.shown c.in-Ok.ensures.free.1 c.look_at_task.new.seat c.in-Ok.ensures.told free c.pack_task-loaded.result c.take_claim-found.result was c.take_claim-found.new.seat c.take_claim-found.ensures.told c.if-found-loaded.false c.in-Ok.ensures.free.0.place c.requires.task c.requires.op c.load_record-held.result c.load_record-held.new.seat c.load_record-held.ensures.told c.in-Some-early.reply (sym c.early.ensures ∙ c.in-Some-early.is) _ c.give_back-pass.ensures.leaves
+    answered_early c.args.self.now c.args.pass c.args.t c.args.op c.in-Ok.shown c.in-Ok.ensures.free.1 c.look_at_task.new.seated c.in-Ok.ensures.told free c.pack_task-loaded.result c.take_claim-found.result was c.take_claim-found.new.seated c.take_claim-found.ensures.told c.if-found-loaded.false c.in-Ok.ensures.free.0.place c.requires.task c.requires.op c.load_record-held.result c.load_record-held.new.seated c.load_record-held.ensures.told c.in-Some-early.reply (sym c.early.ensures ∙ c.in-Some-early.is) _ c.give_back-pass.ensures.told
 
 pub invariant_of-result-2 : goal.invariant_of-result-2
 invariant_of-result-2 c =
     let was = c.pack_task-loaded.ensures ∙ ap (task_word c.in-Ok.shown.place c.in-Ok.shown.count) c.in-Ok.ensures.free.1 in
     let free = sym c.refusal.ensures ∙ c.in_default.is in
     record {
-      single = c.load_record-held.ensures.told.seat.single;
-      numbered = number3 c.args.self.now c.args.pass c.args.t c.args.op c.in-Ok.shown c.in-Ok.ensures.free.1 c.look_at_task.new.seat c.in-Ok.ensures.told free c.pack_task-loaded.result c.take_claim-found.result was c.take_claim-found.new.seat c.take_claim-found.ensures.told c.if-found-loaded.false c.in-Ok.ensures.free.0.place c.requires.task c.requires.op c.load_record-held.result c.load_record-held.new.seat c.load_record-held.ensures.told ∙ c.args.pass.numbered;
-      holds = claim_holds c.args.self.now c.args.pass c.args.t c.args.op c.in-Ok.shown c.in-Ok.ensures.free.1 c.look_at_task.new.seat c.in-Ok.ensures.told free c.pack_task-loaded.result c.take_claim-found.result was c.take_claim-found.new.seat c.take_claim-found.ensures.told c.if-found-loaded.false c.in-Ok.ensures.free.0.place c.requires.task c.requires.op c.load_record-held.result c.load_record-held.new.seat c.load_record-held.ensures.told (sym c.early.ensures ∙ c.in_default-early.is);
+      holds = claim_holds c.args.self.now c.args.pass c.args.t c.args.op c.in-Ok.shown c.in-Ok.ensures.free.1 c.look_at_task.new.seated c.in-Ok.ensures.told free c.pack_task-loaded.result c.take_claim-found.result was c.take_claim-found.new.seated c.take_claim-found.ensures.told c.if-found-loaded.false c.in-Ok.ensures.free.0.place c.requires.task c.requires.op c.load_record-held.result c.load_record-held.new.seated c.load_record-held.ensures.told (sym c.early.ensures ∙ c.in_default-early.is);
     }
 
 pub returns-clause-started : goal.returns-clause-started
 returns-clause-started c =
     let was = c.pack_task-loaded.ensures ∙ ap (task_word c.in-Ok.shown.place c.in-Ok.shown.count) c.in-Ok.ensures.free.1 in
     let free = sym c.refusal.ensures ∙ c.in_default.is in
-    is_taken c.args.self.now c.args.pass c.args.t c.args.op c.in-Ok.shown c.in-Ok.ensures.free.1 c.look_at_task.new.seat c.in-Ok.ensures.told free c.pack_task-loaded.result c.take_claim-found.result was c.take_claim-found.new.seat c.take_claim-found.ensures.told c.if-found-loaded.false c.in-Ok.ensures.free.0.place c.requires.task c.requires.op c.load_record-held.result c.load_record-held.new.seat c.load_record-held.ensures.told _ refl refl refl refl (sym c.early.ensures ∙ c.in_default-early.is)
+    is_taken c.args.self.now c.args.pass c.args.t c.args.op c.in-Ok.shown c.in-Ok.ensures.free.1 c.look_at_task.new.seated c.in-Ok.ensures.told free c.pack_task-loaded.result c.take_claim-found.result was c.take_claim-found.new.seated c.take_claim-found.ensures.told c.if-found-loaded.false c.in-Ok.ensures.free.0.place c.requires.task c.requires.op c.load_record-held.result c.load_record-held.new.seated c.load_record-held.ensures.told _ refl refl refl refl (sym c.early.ensures ∙ c.in_default-early.is)
 
 pub returns-in-Some-early-clause-brief : goal.returns-in-Some-early-clause-brief
 returns-in-Some-early-clause-brief c = starts_early _ _ _ _ _ _ _ _ _ c.in-Ok.ensures.made c.take_claim-found.ensures.made c.load_record-held.ensures.made c.give_back-pass.ensures.made refl refl

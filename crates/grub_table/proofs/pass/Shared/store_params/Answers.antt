@@ -1,23 +1,11 @@
-use Rattle.std.proofs.Common.{subst, arith}
+use Rattle.std.proofs.Common.{subst}
 use Rattle.grub_table.specs.inside.Between.{Tells}
 use Rattle.grub_table.specs.inside.Tellings.{StoredParams}
-use Rattle.grub_table.specs.declared.view.Access.TheVariants.{Store}
-use Rattle.grub_table.proofs.Between.{made_at, tells_of}
-use Rattle.grub_table.proofs.Seated.{word_within, on_store_params}
+use Rattle.grub_table.proofs.AllowedSteps.{store_params_allowed}
 use Rattle.grub_table.proofs.pass.Shared.store_params.Goals as goal
 
-pub store-requires : goal.store-requires
-store-requires c =
-    let s = c.args.self.now in
-    let seat = c.args.seat.now in
-    let at = c.params_word_at-at.ensures.value in
-    let h = c.requires.2 in
-    (h.seat_of.home, word_within s seat c.args.t _ 2 h.task (omega arith) at, on_store_params s seat c.args.t _ _ _ h _ at)
+pub store-requires-clause-allowed : goal.store-requires-clause-allowed
+store-requires-clause-allowed c = store_params_allowed c.args.self.now c.args.seated.now c.args.t _ _ _ c.requires.2 _ c.params_word_at-at.ensures.value
 
 pub returns-clause-told : goal.returns-clause-told
-returns-clause-told c =
-    let h = c.requires.2 in
-    subst (λ n. Tells c.args.self.now (StoredParams n) c.args.seat.now c.store.new.seat) c.pack_params.ensures (tells_of c.args.self.now _ c.args.seat.now _ _ h.seat_of c.store.ensures.home c.store.ensures.told c.store.ensures.made)
-
-pub returns-clause-made : goal.returns-clause-made
-returns-clause-made c = made_at c.args.self.now c.args.seat.now c.store.new.seat Store _ _ c.requires.2.seat_of c.store.ensures.made c.params_word_at-at.ensures.value
+returns-clause-told c = subst (λ n. Tells c.args.self.now (StoredParams n) c.args.seated.now c.store.new.seated) c.pack_params.ensures c.store.ensures.told
