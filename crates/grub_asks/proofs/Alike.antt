@@ -4,7 +4,7 @@ use Rattle.std.specs.List.{FoldsTo}
 use Rattle.grub_book.specs.History.{StartsWith}
 use Rattle.grub_book.specs.declared.op.Op.TheVariants as ops
 use Rattle.grub_book.specs.declared.reply.Reply.TheVariants as replies
-use Rattle.grub_trace.specs.declared.line.Line.{Line}
+use Rattle.grub_trace.specs.Plans.{Line}
 use Rattle.grub_trace.specs.declared.line.Act.{Act}
 use Rattle.grub_trace.specs.declared.line.Act.TheVariants as acts
 use Rattle.grub_trace.specs.declared.entry.Ask.{Ask}
@@ -68,7 +68,7 @@ module _
   joins_alike m t (Replied (replies.Left r)) before j k f g p q = (same_entry m (Call t (ops.Join own m)) before j k f.answer g.answer f.list g.list p q).1
   joins_alike m t answer before j k f g p q = f ∙ sym g
 
-  follows_alike : (m : ℕ) (act : Act) (answer : Answer) (before j k : List Entry) → Follows own m act answer before j → Follows own m act answer before k → P j → P k → j ≡ k
+  follows_alike : (m : ℕ) (act : Act ℕ ℕ) (answer : Answer) (before j k : List Entry) → Follows own m act answer before j → Follows own m act answer before k → P j → P k → j ≡ k
   follows_alike m (acts.Wake t) (Replied (replies.Elsewhere r)) before j k f g p q =
       let plain = prefix j f.left (joins_start own m t f.answer f.left j f.joins) p in
       let plain' = prefix k g.left (joins_start own m t g.answer g.left k g.joins) q in

@@ -1,7 +1,7 @@
 -- What one line asks.
 use Rattle.std.proofs.Common.{◌≡◌, ℕ, List, [], ◌∷◌, ◌++◌, refl, sym, ap, ◌∙◌}
 use Rattle.std.specs.Prelude.{Result, Ok, Err, IfOk}
-use Rattle.grub_trace.specs.declared.line.Line.{Line}
+use Rattle.grub_trace.specs.Plans.{Line}
 use Rattle.grub_trace.specs.declared.line.Act.{Act}
 use Rattle.grub_trace.specs.declared.line.Act.TheVariants as acts
 use Rattle.grub_trace.specs.declared.entry.Ask.TheVariants.{Read}
@@ -14,7 +14,7 @@ if_ok_weaker P Q (Ok x) f h = f x h
 if_ok_weaker P Q (Err e) f h = tt
 
 -- a reading asks nothing more
-read_follows : (r m : ℕ) (act : Act) (answer : Answer) (es : List Entry) → ask_of r m act ≡ Read → Follows r m act answer es es
+read_follows : (r m : ℕ) (act : Act ℕ ℕ) (answer : Answer) (es : List Entry) → ask_of r m act ≡ Read → Follows r m act answer es es
 read_follows r m acts.Read answer es is = refl
 read_follows r m act answer es is = absurd (cc)
 

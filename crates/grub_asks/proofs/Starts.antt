@@ -5,7 +5,7 @@ use Rattle.std.proofs.lemmas.Grind.{common_steps}
 use Rattle.grub_book.specs.History.{StartsWith}
 use Rattle.grub_book.specs.declared.reply.Reply.TheVariants as replies
 use Rattle.grub_book.proofs.Histories.{starts_after}
-use Rattle.grub_trace.specs.declared.line.Line.{Line}
+use Rattle.grub_trace.specs.Plans.{Line}
 use Rattle.grub_trace.specs.declared.line.Act.{Act}
 use Rattle.grub_trace.specs.declared.line.Act.TheVariants as acts
 use Rattle.grub_trace.specs.declared.entry.Answer.{Answer}
@@ -34,7 +34,7 @@ pub joins_start : (r m t : ℕ) (answer : Answer) (before after : List Entry) �
 joins_start r m t (Replied (replies.Left q)) before after f = next_start before after _ f.list
 joins_start r m t answer before after f = same_start before after f
 
-pub follows_start : (r m : ℕ) (act : Act) (answer : Answer) (before after : List Entry) → Follows r m act answer before after → StartsWith after before
+pub follows_start : (r m : ℕ) (act : Act ℕ ℕ) (answer : Answer) (before after : List Entry) → Follows r m act answer before after → StartsWith after before
 follows_start r m (acts.Wake t) (Replied (replies.Elsewhere q)) before after f = starts_after after f.left before (joins_start r m t f.answer f.left after f.joins) (next_start before f.left _ f.leaves)
 follows_start r m act answer before after f = same_start before after f
 

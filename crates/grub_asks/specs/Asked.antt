@@ -5,7 +5,7 @@ use Rattle.grub_book.specs.declared.op.Op.TheVariants as ops
 use Rattle.grub_book.specs.declared.reply.Reply.TheVariants as replies
 use Rattle.grub_trace.specs.declared.line.Act.{Act}
 use Rattle.grub_trace.specs.declared.line.Act.TheVariants as acts
-use Rattle.grub_trace.specs.declared.line.Line.{Line}
+use Rattle.grub_trace.specs.Plans.{Line}
 use Rattle.grub_trace.specs.declared.entry.Ask.{Ask}
 use Rattle.grub_trace.specs.declared.entry.Ask.TheVariants.{Call, Read}
 use Rattle.grub_trace.specs.declared.entry.Answer.{Answer}
@@ -39,7 +39,7 @@ pub record AsksDue (m : ℕ) (before after : List Entry) : Type 0 where
   pub none : NoneDue (armed after) m
 
 -- what a line of runqueue r asks at moment m
-abbrev pub ask_of : ℕ → ℕ → Act → Ask
+abbrev pub ask_of : ℕ → ℕ → Act ℕ ℕ → Ask
 ask_of r m (acts.Join t) = Call t (ops.Join r m)
 ask_of r m (acts.Wake t) = Call t (ops.Wake r m)
 ask_of r m (acts.Block t) = Call t (ops.Block r m)
@@ -62,7 +62,7 @@ pub record MovesHere (r m t : ℕ) (before after : List Entry) : Type 0 where
   pub joins : JoinsAfter r m t answer left after
 
 -- where a Wake was answered Elsewhere, the task moves here; after any other answer nothing more is asked
-abbrev pub Follows : ℕ → ℕ → Act → Answer → List Entry → List Entry → Type 0
+abbrev pub Follows : ℕ → ℕ → Act ℕ ℕ → Answer → List Entry → List Entry → Type 0
 Follows r m (acts.Wake t) (Replied (replies.Elsewhere s)) before after = MovesHere r m t before after
 Follows r m act answer before after = after ≡ before
 

@@ -3,7 +3,7 @@ use Rattle.std.proofs.Common.{◌≡◌, ℕ, List, [], ◌∷◌, ◌++◌, ref
 use Rattle.grub_book.specs.declared.op.Op.{Op}
 use Rattle.grub_trace.specs.declared.line.Act.{Act}
 use Rattle.grub_trace.specs.declared.line.Act.TheVariants as acts
-use Rattle.grub_trace.specs.declared.line.Line.{Line}
+use Rattle.grub_trace.specs.Plans.{Line}
 use Rattle.grub_trace.specs.declared.entry.Ask.TheVariants.{Call, Read}
 use Rattle.grub_trace.specs.declared.entry.Answer.{Answer}
 use Rattle.grub_trace.specs.declared.entry.Answer.TheVariants.{Seen}
@@ -18,7 +18,7 @@ use Rattle.grub_timeline.proofs.Entries.{entries_more}
 use Rattle.grub_timeline.proofs.GoesOn.{goes_on, goes_twice}
 
 -- what a line asks is of its own runqueue
-own_asker : (r m : ℕ) (act : Act) (before : List Entry) → asker r before (ask_of r m act) ≡ r
+own_asker : (r m : ℕ) (act : Act ℕ ℕ) (before : List Entry) → asker r before (ask_of r m act) ≡ r
 own_asker r m (acts.Join t) before = refl
 own_asker r m (acts.Wake t) before = refl
 own_asker r m (acts.Block t) before = refl
@@ -28,7 +28,7 @@ own_asker r m (acts.Run t dt) before = refl
 own_asker r m (acts.Retune t q p) before = refl
 own_asker r m acts.Read before = refl
 
-read_follows : (r m : ℕ) (act : Act) (answer : Answer) (es : List Entry) → ask_of r m act ≡ Read → Follows r m act answer es es
+read_follows : (r m : ℕ) (act : Act ℕ ℕ) (answer : Answer) (es : List Entry) → ask_of r m act ≡ Read → Follows r m act answer es es
 read_follows r m acts.Read answer es is = refl
 read_follows r m act answer es is = absurd (cc)
 

@@ -12,7 +12,7 @@ use Rattle.grub_book.specs.declared.reply.Reply.{Reply}
 use Rattle.grub_book.specs.declared.reply.Reply.TheVariants as replies
 use Rattle.grub_trace.specs.declared.line.Act.{Act}
 use Rattle.grub_trace.specs.declared.line.Act.TheVariants as acts
-use Rattle.grub_trace.specs.declared.line.Line.{Line}
+use Rattle.grub_trace.specs.Plans.{Line}
 use Rattle.grub_trace.specs.declared.entry.Ask.{Ask}
 use Rattle.grub_trace.specs.declared.entry.Ask.TheVariants.{Call, Read}
 use Rattle.grub_trace.specs.declared.entry.Answer.{Answer}
@@ -144,7 +144,7 @@ ask_rises m ask answer es after at right was list =
     subst (Rises m) (sym list) (rises_more m m es e was (omega arith) refl
     (λ t a there. after_touch m (touch t ask answer) (armed es t) a (late_touch m t ask answer at right) (λ b is. was.ahead t b is) (sym (armed-more t es e) ∙ there)))
 
-line_ask : (r m : ℕ) (act : Act) → IsLineAsk m (ask_of r m act)
+line_ask : (r m : ℕ) (act : Act ℕ ℕ) → IsLineAsk m (ask_of r m act)
 line_ask r m (acts.Join t) = refl
 line_ask r m (acts.Wake t) = refl
 line_ask r m (acts.Block t) = refl
@@ -166,7 +166,7 @@ module _
   joins_rises r m t (Replied (replies.Left s)) es after p was f = next_rises m (Call t (ops.Join r m)) f.answer es after refl p was f.list
   joins_rises r m t answer es after p was f = subst (Rises m) (sym f) was
 
-  follows_rises : (r m : ℕ) (act : Act) (answer : Answer) (es after : List Entry) → P after → Rises m es → Follows r m act answer es after → Rises m after
+  follows_rises : (r m : ℕ) (act : Act ℕ ℕ) (answer : Answer) (es after : List Entry) → P after → Rises m es → Follows r m act answer es after → Rises m after
   follows_rises r m (acts.Wake t) (Replied (replies.Elsewhere s)) es after p was f =
       joins_rises r m t f.answer f.left after p (next_rises m (Call t ops.Leave) f.answer es f.left tt (prefix after f.left (joins_start r m t f.answer f.left after f.joins) p) was f.leaves) f.joins
   follows_rises r m act answer es after p was f = subst (Rises m) (sym f) was

@@ -10,7 +10,7 @@ use Rattle.grub_bw.specs.Bandwidth.{Capacity}
 use Rattle.grub_trace.specs.declared.version.Version.{Version}
 use Rattle.grub_trace.specs.declared.version.Version.TheVariants.{One, Two}
 use Rattle.grub_trace.specs.declared.fault.Kind.{Kind}
-use Rattle.grub_trace.specs.declared.line.Line.{Line}
+use Rattle.grub_trace.specs.Plans.{Line}
 use Rattle.grub_trace.specs.Tree.{Declaration, Happening, Tree, text, line, header, queue_words, declaration_words, happening_words, names_of}
 use Rattle.grub_trace.specs.Faults.{last_of}
 use Rattle.grub_trace.specs.Forms.{parts_of}
@@ -61,8 +61,8 @@ said_run (m ∷ ms) r n rest on =
     let others = flat_map (λ m. line (happening_words m)) ms in
     let next : GoOn r.version (last_of (times_of (r.happenings ++ m ∷ []))) ms = subst (λ (low : ℕ). GoOn r.version low ms) (sym (last_push r.happenings m)) on.1 in
     ap (λ (bytes : List ℕ). read_lines r n (parts_of bytes)) (append_assoc (line (happening_words m)) others rest)
-    ∙ step r (says m.at m.deed r) n (happening_line m) (others ++ rest) (happening_one_line r.version (last_of (times_of r.happenings)) m on.0) (happening_again r m on.0)
-    ∙ said_run ms (says m.at m.deed r) (n + 1) rest next
+    ∙ step r (says m r) n (happening_line m) (others ++ rest) (happening_one_line r.version (last_of (times_of r.happenings)) m on.0) (happening_again r m on.0)
+    ∙ said_run ms (says m r) (n + 1) rest next
     ∙ ap (λ (xs : List Happening). read_lines (record { version = r.version; declared = r.declared; happenings = xs }) (n + 1 + length ms) (parts_of rest)) (append_assoc r.happenings (m ∷ []) ms)
     ∙ ap (λ (k : ℕ). read_lines (record { version = r.version; declared = r.declared; happenings = r.happenings ++ m ∷ ms }) k (parts_of rest)) (omega arith)
 

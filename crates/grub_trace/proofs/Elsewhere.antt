@@ -5,12 +5,12 @@ use Rattle.std.proofs.lemmas.List.{length-map, length_push}
 use Rattle.grub_trace.specs.declared.fault.Kind.{Kind}
 use Rattle.grub_trace.specs.declared.fault.Kind.TheVariants.{BadLine, CutShort}
 use Rattle.grub_trace.specs.declared.raw.Head.{Head}
-use Rattle.grub_trace.specs.Tree.{Declaration, does, runs, retunes, reads}
+use Rattle.grub_trace.specs.Tree.{Declaration}
 use Rattle.grub_trace.specs.Forms.{Form, at_moment, form_of, parts_of, queue, task, value, words_of}
 use Rattle.grub_trace.specs.Faults.{form_fault}
 use Rattle.grub_trace.specs.inside.Forms.{begins_with_task, is_task}
 use Rattle.grub_trace.specs.inside.Heads.{IsHead, body_from, read_body}
-use Rattle.grub_trace.specs.inside.Reading.{Read, adds, at_line, opened, read_lines, take_form, take_line, take_option, times_of, unless, ◌>>=◌}
+use Rattle.grub_trace.specs.inside.Reading.{Read, act_map, adds, at_line, opened, read_lines, take_form, take_line, take_option, times_of, unless, ◌>>=◌}
 use Rattle.grub_trace.proofs.LineLemmas.{unless_ok}
 use Rattle.grub_trace.proofs.WordLemmas.{has_part}
 
@@ -32,7 +32,7 @@ not_zero n h = grind (arith, nat_tests)
 -- a task below a moment
 pub late_task : (r : Read) (n q p : List ℕ) → 0 < length r.happenings → take_form r (task n q p) ≡ Err BadLine
 late_task r n q p some =
-    let len = length-map r.happenings (λ h. h.at) in
+    let len = length-map r.happenings (λ h. h.m) in
     let late : eqb (length (times_of r.happenings)) 0 ≡ false = not_zero (length (times_of r.happenings)) (omega (arith, len)) in
     rw late refl
 
@@ -40,20 +40,15 @@ form_elsewhere : (ds : List Declaration) (r : Read) (o : Option Form) → (is_ta
 form_elsewhere ds r None late = refl
 form_elsewhere ds r (Some (queue a b)) late = refl
 form_elsewhere ds r (Some (task n q p)) late = late_task (redeclare ds r) n q p (late refl) ∙ sym (ap (with_tasks ds) (late_task r n q p (late refl)))
-form_elsewhere ds r (Some (at_moment m (does v n))) late = unless_with ds (form_fault r.version [] (times_of r.happenings) (at_moment m (does v n))) (adds (at_moment m (does v n)) r)
-form_elsewhere ds r (Some (at_moment m (runs n d))) late = unless_with ds (form_fault r.version [] (times_of r.happenings) (at_moment m (runs n d))) (adds (at_moment m (runs n d)) r)
-form_elsewhere ds r (Some (at_moment m (retunes n q p))) late = unless_with ds (form_fault r.version [] (times_of r.happenings) (at_moment m (retunes n q p))) (adds (at_moment m (retunes n q p)) r)
-form_elsewhere ds r (Some (at_moment m reads)) late = unless_with ds (form_fault r.version [] (times_of r.happenings) (at_moment m reads)) (adds (at_moment m reads) r)
+form_elsewhere ds r (Some (at_moment m a)) late = unless_with ds (form_fault r.version [] (times_of r.happenings) (at_moment m a)) (adds (at_moment m a) r)
 
 -- a line that is taken below a head says what happens
 form_says : (r s : Read) (o : Option Form) → (is_task o ≡ true → 0 < length r.happenings) → take_option r o ≡ Ok s → 0 < length s.happenings
 form_says r s None late e = absurd cc
 form_says r s (Some (queue a b)) late e = absurd cc
 form_says r s (Some (task n q p)) late e = absurd (let x = sym (late_task r n q p (late refl)) ∙ e in cc)
-form_says r s (Some (at_moment m (does v n))) late e = rw (← (unless_ok (form_fault r.version [] (times_of r.happenings) (at_moment m (does v n))) (adds (at_moment m (does v n)) r) s e).1) (omega (arith, length_push r.happenings (record { at = value m; deed = does v n })))
-form_says r s (Some (at_moment m (runs n d))) late e = rw (← (unless_ok (form_fault r.version [] (times_of r.happenings) (at_moment m (runs n d))) (adds (at_moment m (runs n d)) r) s e).1) (omega (arith, length_push r.happenings (record { at = value m; deed = runs n (value d) })))
-form_says r s (Some (at_moment m (retunes n q p))) late e = rw (← (unless_ok (form_fault r.version [] (times_of r.happenings) (at_moment m (retunes n q p))) (adds (at_moment m (retunes n q p)) r) s e).1) (omega (arith, length_push r.happenings (record { at = value m; deed = retunes n (value q) (value p) })))
-form_says r s (Some (at_moment m reads)) late e = rw (← (unless_ok (form_fault r.version [] (times_of r.happenings) (at_moment m reads)) (adds (at_moment m reads) r) s e).1) (omega (arith, length_push r.happenings (record { at = value m; deed = reads })))
+form_says r s (Some (at_moment m a)) late e =
+    rw (← (unless_ok (form_fault r.version [] (times_of r.happenings) (at_moment m a)) (adds (at_moment m a) r) s e).1) (omega (arith, length_push r.happenings (record { m = value m; act = act_map (λ n. n) value a })))
 
 -- a head's lines, or those below a moment
 abbrev pub IsBelow : Read → List (List ℕ) → Type 0

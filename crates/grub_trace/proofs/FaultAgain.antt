@@ -3,7 +3,7 @@ use Rattle.std.proofs.Common.{◌≡◌, ℕ, ◌+◌, ◌-◌, ◌<◌, ◌≤�
 use Rattle.std.specs.Prelude.{IsSome, is_none}
 use Rattle.std.proofs.lemmas.Bool.{le-ltb, lt-ltb}
 use Rattle.std.proofs.lemmas.Bool.Decides.{nat_tests}
-use Rattle.grub_trace.specs.declared.line.Line.{Line}
+use Rattle.grub_trace.specs.Plans.{Line}
 use Rattle.std.specs.List.{join_with_byte, flat_map, AllByRecursion}
 use Rattle.std.proofs.lemmas.List.{append-nil, map-append}
 use Rattle.std.proofs.lemmas.List.Splits.{join_with_byte-slice_split}
@@ -53,7 +53,7 @@ stop_here r n rest (last ∷ []) k some p e = go (eqb (length last) 0) (no_zero 
 stop_here r n rest (l ∷ t ∷ more) k some p e = ap (λ (x : Result Read Kind). at_line n x >>= λ s. read_lines s (n + 1) (t ∷ more)) (faulty (form_of (words_of l)) r k e)
 
 lines_stop : (ds : List Declaration) (t : Tree) (rest : List ℕ) (k : Kind) → IsTree (names_of ds) t → 0 < length rest
-    → front_fault CutShort (line_fault t.version (names_of ds ++ names_of t.tasks) (map (λ m. m.at) t.happenings)) (parts_of rest) ≡ Some k
+    → front_fault CutShort (line_fault t.version (names_of ds ++ names_of t.tasks) (map (λ h. h.m) t.happenings)) (parts_of rest) ≡ Some k
     → read_lines (opened t.version ds) 3 (parts_of ((flat_map (λ d. line (declaration_words d)) t.tasks ++ flat_map (λ m. line (happening_words m)) t.happenings) ++ rest)) ≡ Err (k, 3 + length t.tasks + length t.happenings)
 lines_stop ds t rest k is some e =
     let said = flat_map (λ m. line (happening_words m)) t.happenings in
@@ -62,7 +62,7 @@ lines_stop ds t rest k is some e =
     ∙ declared_run t.tasks (opened t.version ds) 3 (said ++ rest) is.tasks refl
     ∙ said_run t.happenings (record { version = t.version; declared = ds ++ t.tasks; happenings = [] }) (3 + length t.tasks) rest is.happenings
     ∙ stop_here (record { version = t.version; declared = ds ++ t.tasks; happenings = t.happenings }) (3 + length t.tasks + length t.happenings) rest (parts_of rest) k some refl
-    (ap (λ (ns : List (List ℕ)). front_fault CutShort (line_fault t.version ns (map (λ m. m.at) t.happenings)) (parts_of rest)) names ∙ e)
+    (ap (λ (ns : List (List ℕ)). front_fault CutShort (line_fault t.version ns (map (λ h. h.m) t.happenings)) (parts_of rest)) names ∙ e)
 
 header_again : (ds : List Declaration) (parts : List (List ℕ)) (k : Kind) → front_fault BadHeader header_fault parts ≡ Some k → read_first ds parts ≡ Err (k, 1)
 unfolding read_first

@@ -43,7 +43,7 @@ small_queue c is = (omega (arith, is.most_most), omega (arith, is.most_most, is.
 queue_form : (l : List ℕ) (o : Option Form) (q : Capacity) → form_of (words_of l) ≡ o → queue_form_fault o ≡ None → queue_of o ≡ q → IsQueueLine l q
 queue_form l None q is none e = absurd cc
 queue_form l (Some (task n r p)) q is none e = absurd cc
-queue_form l (Some (at_moment m deed)) q is none e = absurd cc
+queue_form l (Some (at_moment m act)) q is none e = absurd cc
 queue_form l (Some (queue a b)) q is none e =
     let x = none_if (list_all is_number (a ∷ b ∷ [])) BadNumber _ none in
     let y = none_if (capacity_fits (capacity_value a b)) OutOfRange _ x.1 in
@@ -195,7 +195,7 @@ fault_after version ds bytes rest after l t more (u ∷ us) q k n s ls e is f pa
     let g = fronts ls after u us (parts ∙ whole) in
     let tree = tree_of q (opened version ds) s ls p in
     let names : names_of s.declared ≡ names_of ds ++ names_of p.tasks = ap names_of p.declared_is ∙ map-append (λ (d : Declaration). d.name) ds p.tasks in
-    let times : times_of s.happenings ≡ map (λ m. m.at) p.happenings = ap times_of p.happenings_are in
+    let times : times_of s.happenings ≡ map (λ h. h.m) p.happenings = ap times_of p.happenings_are in
     let count = ap length p.lines_are ∙ length-append (map declaration_line p.tasks) (map happening_line p.happenings) in
     record {
       tree = tree;
@@ -204,8 +204,8 @@ fault_after version ds bytes rest after l t more (u ∷ us) q k n s ls e is f pa
       front = head_is version bytes rest l after q e is f ∙ ap (λ (y : List ℕ). head_text version q ++ y) g.whole ∙ sym (append_assoc (head_text version q) (ended_lines ls) g.rest) ∙ ap (λ (y : List ℕ). y ++ g.rest) (sym (text_is q (opened version ds) s ls p));
       more = tail_some u us s k g.rest h g.parts_are;
       number = omega (arith, number, count, length-map p.tasks declaration_line, length-map p.happenings happening_line);
-      fault = ap (λ (ps : List (List ℕ)). front_fault CutShort (line_fault version (names_of ds ++ names_of p.tasks) (map (λ m. m.at) p.happenings)) ps) g.parts_are
-          ∙ ap (λ (ns : List (List ℕ)). front_fault CutShort (line_fault version ns (map (λ m. m.at) p.happenings)) (u ∷ us)) (sym names)
+      fault = ap (λ (ps : List (List ℕ)). front_fault CutShort (line_fault version (names_of ds ++ names_of p.tasks) (map (λ h. h.m) p.happenings)) ps) g.parts_are
+          ∙ ap (λ (ns : List (List ℕ)). front_fault CutShort (line_fault version ns (map (λ h. h.m) p.happenings)) (u ∷ us)) (sym names)
           ∙ ap (λ (ts : List ℕ). front_fault CutShort (line_fault version (names_of s.declared) ts) (u ∷ us)) (sym times)
           ∙ ap (λ (v : Version). front_fault CutShort (line_fault v (names_of s.declared) (times_of s.happenings)) (u ∷ us)) (sym p.version_is)
           ∙ tail_fault u us s k h;

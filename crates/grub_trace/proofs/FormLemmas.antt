@@ -1,6 +1,6 @@
 -- The words of a form, and the line that they make.
-use Rattle.std.proofs.Common.{map, ◌≤◌, ◌≡◌, ℕ, ◌^◌, ◌<◌, Bool, true, false, not, ◌&&◌, ◌||◌, cond, eqb, ◌⊎◌, inl, inr, List, [], ◌∷◌, length, get_or, Option, Some, None, option_map, refl, ap, ◌∙◌, arith, subst}
-use Rattle.std.specs.Prelude.{codes, decimal}
+use Rattle.std.proofs.Common.{map, ◌≤◌, ◌≡◌, ℕ, ◌^◌, ◌<◌, Bool, true, false, not, ◌&&◌, ◌||◌, cond, eqb, ◌⊎◌, inl, inr, List, [], ◌∷◌, length, get_or, Option, Some, None, option_map, refl, ap, ◌∙◌, sym, arith, subst}
+use Rattle.std.specs.Prelude.{codes, decimal, IfSome}
 use Rattle.std.specs.Str.{bytes_eq}
 use Rattle.std.specs.Char.{is_ascii_digit}
 use Rattle.std.specs.List.{list_all}
@@ -9,11 +9,13 @@ use Rattle.std.proofs.lemmas.Bool.Decides.{nat_tests}
 use Rattle.std.proofs.lemmas.Fmt.{decimal-digits_value}
 use Rattle.grub_trace.specs.declared.version.Version.{Version}
 use Rattle.grub_trace.specs.declared.version.Version.TheVariants.{One, Two}
-use Rattle.grub_trace.specs.declared.form.Verb.{Verb}
-use Rattle.grub_trace.specs.declared.form.Verb.TheVariants.{Join, Wake, Block, Leave, Exit}
-use Rattle.grub_trace.specs.Tree.{does, runs, retunes, reads, verb_word, header, is_name}
-use Rattle.grub_trace.specs.Forms.{Form, queue, task, at_moment, form_of, shape_of, is_filled, verb_of, version_of, is_number, value}
-use Rattle.grub_trace.specs.inside.Faults.{is_named}
+use Rattle.grub_trace.specs.declared.line.Act.{Act}
+use Rattle.grub_trace.specs.declared.line.Act.TheVariants as act
+use Rattle.grub_trace.specs.declared.form.Form as coded
+use Rattle.grub_trace.specs.Tree.{act_words, header, is_name}
+use Rattle.grub_trace.specs.Forms.{Form, queue, task, at_moment, form_of, shape_of, is_filled, act_of, version_of, is_number, value}
+use Rattle.grub_trace.specs.inside.Faults.{is_act_named, is_named}
+use Rattle.grub_trace.specs.inside.Reading.{form_view}
 use Rattle.grub_trace.proofs.NumberLemmas.{numerals}
 
 pub both : (a b : Bool) → (a && b) ≡ true → (a ≡ true) × (b ≡ true)
@@ -23,10 +25,7 @@ both false b h = absurd cc
 abbrev pub form_words : Form → List (List ℕ)
 form_words (queue a b) = codes "queue" ∷ a ∷ b ∷ []
 form_words (task n q p) = codes "task" ∷ n ∷ q ∷ p ∷ []
-form_words (at_moment m (does v n)) = codes "at" ∷ m ∷ verb_word v ∷ n ∷ []
-form_words (at_moment m (runs n d)) = codes "at" ∷ m ∷ codes "run" ∷ n ∷ d ∷ []
-form_words (at_moment m (retunes n q p)) = codes "at" ∷ m ∷ codes "retune" ∷ n ∷ q ∷ p ∷ []
-form_words (at_moment m reads) = codes "at" ∷ m ∷ codes "read" ∷ []
+form_words (at_moment m a) = codes "at" ∷ m ∷ act_words (λ w. w) a
 
 abbrev pub IsForm : List (List ℕ) → Form → Type 0
 IsForm ws f = (ws ≡ form_words f) × (is_named f ≡ true)
@@ -34,25 +33,29 @@ IsForm ws f = (ws ≡ form_words f) × (is_named f ≡ true)
 text_is : (a b : List ℕ) → bytes_eq a b ≡ true → a ≡ b
 text_is a b e = (bytes_decides a b).0 e
 
-pick : (b : Bool) (v : Verb) (o : Option Verb) (u : Verb) → cond b (Some v) o ≡ Some u → ((b ≡ true) × (v ≡ u)) ⊎ (o ≡ Some u)
-pick true v o u e = inl (refl, cc)
-pick false v o u e = inr e
+-- the act that a verb and a name make
+abbrev IsActOf : List ℕ → List ℕ → Act (List ℕ) (List ℕ) → Type 0
+IsActOf w n a = (w ∷ n ∷ [] ≡ act_words (λ w. w) a) × (is_name n ≡ true → is_act_named a ≡ true)
 
-named : (w : List ℕ) (v u : Verb) → (bytes_eq w (verb_word v) ≡ true) × (v ≡ u) → w ≡ verb_word u
-named w v u h = text_is w (verb_word v) h.0 ∙ ap verb_word h.1
+pick : (b : Bool) (x : Act (List ℕ) (List ℕ)) (o : Option (Act (List ℕ) (List ℕ))) (a : Act (List ℕ) (List ℕ)) → cond b (Some x) o ≡ Some a → ((b ≡ true) × (x ≡ a)) ⊎ (o ≡ Some a)
+pick true x o a e = inl (refl, cc)
+pick false x o a e = inr e
 
-pub verb_is : (w : List ℕ) (u : Verb) → verb_of w ≡ Some u → w ≡ verb_word u
-verb_is w u e =
-    elim (pick (bytes_eq w (codes "join")) Join _ u e) [
-      | inl h ↦ named w Join u h
-      | inr e ↦ elim (pick (bytes_eq w (codes "wake")) Wake _ u e) [
-        | inl h ↦ named w Wake u h
-        | inr e ↦ elim (pick (bytes_eq w (codes "block")) Block _ u e) [
-          | inl h ↦ named w Block u h
-          | inr e ↦ elim (pick (bytes_eq w (codes "leave")) Leave _ u e) [
-            | inl h ↦ named w Leave u h
-            | inr e ↦ elim (pick (bytes_eq w (codes "exit")) Exit None u e) [
-              | inl h ↦ named w Exit u h
+verb : (w k n : List ℕ) (x a : Act (List ℕ) (List ℕ)) → k ∷ n ∷ [] ≡ act_words (λ w. w) x → (is_name n ≡ true → is_act_named x ≡ true) → (bytes_eq w k ≡ true) × (x ≡ a) → IsActOf w n a
+verb w k n x a words named h = subst (IsActOf w n) h.1 (ap (λ (u : List ℕ). u ∷ n ∷ []) (text_is w k h.0) ∙ words, named)
+
+act_is : (w n : List ℕ) (a : Act (List ℕ) (List ℕ)) → act_of w n ≡ Some a → IsActOf w n a
+act_is w n a e =
+    elim (pick (bytes_eq w (codes "join")) (act.Join n) _ a e) [
+      | inl h ↦ verb w (codes "join") n (act.Join n) a refl (λ is. is) h
+      | inr e ↦ elim (pick (bytes_eq w (codes "wake")) (act.Wake n) _ a e) [
+        | inl h ↦ verb w (codes "wake") n (act.Wake n) a refl (λ is. is) h
+        | inr e ↦ elim (pick (bytes_eq w (codes "block")) (act.Block n) _ a e) [
+          | inl h ↦ verb w (codes "block") n (act.Block n) a refl (λ is. is) h
+          | inr e ↦ elim (pick (bytes_eq w (codes "leave")) (act.Leave n) _ a e) [
+            | inl h ↦ verb w (codes "leave") n (act.Leave n) a refl (λ is. is) h
+            | inr e ↦ elim (pick (bytes_eq w (codes "exit")) (act.Exit n) None a e) [
+              | inl h ↦ verb w (codes "exit") n (act.Exit n) a refl (λ is. is) h
               | inr e ↦ absurd cc
             ]
           ]
@@ -63,9 +66,9 @@ verb_is w u e =
 some_form : (x y : Form) → Some x ≡ Some y → x ≡ y
 some_form x y e = cc
 
-mapped : (g : Verb → Form) (o : Option Verb) (f : Form) → option_map g o ≡ Some f → (v : Verb) × (o ≡ Some v) × (g v ≡ f)
+mapped : (g : Act (List ℕ) (List ℕ) → Form) (o : Option (Act (List ℕ) (List ℕ))) (f : Form) → option_map g o ≡ Some f → (a : Act (List ℕ) (List ℕ)) × (o ≡ Some a) × (g a ≡ f)
 mapped g None f e = absurd cc
-mapped g (Some v) f e = (v, refl, some_form (g v) f e)
+mapped g (Some a) f e = (a, refl, some_form (g a) f e)
 
 three : (t u : Bool) (x y f : Form) → cond t (Some x) (cond u (Some y) None) ≡ Some f → ((t ≡ true) × (x ≡ f)) ⊎ ((u ≡ true) × (y ≡ f))
 three true u x y f e = inl (refl, cc)
@@ -86,29 +89,30 @@ shape_is [] f e = absurd cc
 shape_is (k ∷ []) f e = absurd cc
 shape_is (k ∷ a ∷ []) f e = absurd cc
 shape_is (k ∷ a ∷ b ∷ []) f e =
-    elim (three (bytes_eq k (codes "queue")) (bytes_eq k (codes "at") && bytes_eq b (codes "read")) (queue a b) (at_moment a reads) f e) [
+    elim (three (bytes_eq k (codes "queue")) (bytes_eq k (codes "at") && bytes_eq b (codes "read")) (queue a b) (at_moment a act.Read) f e) [
       | inl h ↦ subst (IsForm (k ∷ a ∷ b ∷ [])) h.1 (ap (λ (w : List ℕ). w ∷ a ∷ b ∷ []) (text_is k (codes "queue") h.0), refl)
       | inr h ↦ let p = both (bytes_eq k (codes "at")) (bytes_eq b (codes "read")) h.0 in
           subst (IsForm (k ∷ a ∷ b ∷ [])) h.1
           (ap (λ (w : List ℕ). w ∷ a ∷ b ∷ []) (text_is k (codes "at") p.0) ∙ ap (λ (w : List ℕ). codes "at" ∷ a ∷ w ∷ []) (text_is b (codes "read") p.1), refl)
     ]
 shape_is (k ∷ a ∷ b ∷ c ∷ []) f e =
-    elim (four (bytes_eq k (codes "task") && is_name a) (bytes_eq k (codes "at") && is_name c) (task a b c) (option_map (λ v. at_moment a (does v c)) (verb_of b)) f e) [
+    elim (four (bytes_eq k (codes "task") && is_name a) (bytes_eq k (codes "at") && is_name c) (task a b c) (option_map (at_moment a) (act_of b c)) f e) [
       | inl h ↦ let p = both (bytes_eq k (codes "task")) (is_name a) h.0 in
           subst (IsForm (k ∷ a ∷ b ∷ c ∷ [])) h.1 (ap (λ (w : List ℕ). w ∷ a ∷ b ∷ c ∷ []) (text_is k (codes "task") p.0), p.1)
       | inr h ↦ let p = both (bytes_eq k (codes "at")) (is_name c) h.0 in
-          let v = mapped (λ v. at_moment a (does v c)) (verb_of b) f h.1 in
+          let v = mapped (at_moment a) (act_of b c) f h.1 in
+          let is = act_is b c v.0 v.1 in
           subst (IsForm (k ∷ a ∷ b ∷ c ∷ [])) v.2
-          (ap (λ (w : List ℕ). w ∷ a ∷ b ∷ c ∷ []) (text_is k (codes "at") p.0) ∙ ap (λ (w : List ℕ). codes "at" ∷ a ∷ w ∷ c ∷ []) (verb_is b v.0 v.1), p.1)
+          (ap (λ (w : List ℕ). w ∷ a ∷ b ∷ c ∷ []) (text_is k (codes "at") p.0) ∙ ap (λ (ws : List (List ℕ)). codes "at" ∷ a ∷ ws) is.0, is.1 p.1)
     ]
 shape_is (k ∷ a ∷ b ∷ c ∷ d ∷ []) f e =
-    let h = five (bytes_eq k (codes "at") && bytes_eq b (codes "run") && is_name c) (at_moment a (runs c d)) f e in
+    let h = five (bytes_eq k (codes "at") && bytes_eq b (codes "run") && is_name c) (at_moment a (act.Run c d)) f e in
     let p = both (bytes_eq k (codes "at") && bytes_eq b (codes "run")) (is_name c) h.0 in
     let q = both (bytes_eq k (codes "at")) (bytes_eq b (codes "run")) p.0 in
     subst (IsForm (k ∷ a ∷ b ∷ c ∷ d ∷ [])) h.1
     (ap (λ (w : List ℕ). w ∷ a ∷ b ∷ c ∷ d ∷ []) (text_is k (codes "at") q.0) ∙ ap (λ (w : List ℕ). codes "at" ∷ a ∷ w ∷ c ∷ d ∷ []) (text_is b (codes "run") q.1), p.1)
 shape_is (k ∷ a ∷ b ∷ c ∷ d ∷ x ∷ []) f e =
-    let h = five (bytes_eq k (codes "at") && bytes_eq b (codes "retune") && is_name c) (at_moment a (retunes c d x)) f e in
+    let h = five (bytes_eq k (codes "at") && bytes_eq b (codes "retune") && is_name c) (at_moment a (act.Retune c d x)) f e in
     let p = both (bytes_eq k (codes "at") && bytes_eq b (codes "retune")) (is_name c) h.0 in
     let q = both (bytes_eq k (codes "at")) (bytes_eq b (codes "retune")) p.0 in
     subst (IsForm (k ∷ a ∷ b ∷ c ∷ d ∷ x ∷ [])) h.1
@@ -122,6 +126,10 @@ filled false o f e = absurd cc
 
 pub form_is : (ws : List (List ℕ)) (f : Form) → form_of ws ≡ Some f → IsForm ws f
 form_is ws f e = shape_is ws f (filled (list_all is_filled ws) (shape_of ws) f e).1
+
+pub form_named : (o : Option coded.Form) (ws : List (List ℕ)) → option_map form_view o ≡ form_of ws → IfSome o (λ f. is_named (form_view f) ≡ true)
+form_named None ws e = tt
+form_named (Some f) ws e = (form_is ws (form_view f) (sym e)).1
 
 -- filled words have the form of their shape
 pub form_again : (ws : List (List ℕ)) → list_all is_filled ws ≡ true → form_of ws ≡ shape_of ws

@@ -10,15 +10,12 @@ use Rattle.std.proofs.lemmas.List.{length-append, length-map}
 use Rattle.grub_bw.specs.Bandwidth.{IsReservation, IsCapacity}
 use Rattle.std.proofs.lemmas.Bool.Decides.{nat_tests}
 use Rattle.grub_trace.specs.declared.version.Version.{Version}
-use Rattle.grub_trace.specs.declared.form.Verb.{Verb}
-use Rattle.grub_trace.specs.declared.form.Verb.TheVariants.{Join, Wake, Block, Leave, Exit}
-use Rattle.grub_trace.specs.declared.line.Line.{Line}
 use Rattle.grub_trace.specs.declared.line.Act.{Act}
 use Rattle.grub_trace.specs.declared.line.Act.TheVariants as act
-use Rattle.grub_trace.specs.Tree.{Declaration, Deed, does, runs, retunes, reads, Happening, Tree, names_of, params_of, is_name, is_span, is_moment, text}
-use Rattle.grub_trace.specs.Plans.{PlanView}
-use Rattle.grub_trace.specs.Naming.{task_of, line_in, act_in, act_of, script_of, all_tasks, plan_of}
-use Rattle.grub_trace.specs.Meaning.{GoOn, IsDeed, AreKnown, Reads}
+use Rattle.grub_trace.specs.Tree.{Declaration, Happening, Tree, names_of, params_of, is_name, is_span, is_moment, text}
+use Rattle.grub_trace.specs.Plans.{Line, PlanView}
+use Rattle.grub_trace.specs.Naming.{task_of, line_in, act_in, script_of, all_tasks, plan_of}
+use Rattle.grub_trace.specs.Meaning.{GoOn, IsAct, AreKnown, Reads}
 use Rattle.grub_trace.specs.FirstFault.{AreDeclared, AreTrees}
 use Rattle.grub_trace.specs.Limits.{ActFits, ScriptFits, PlanFits}
 
@@ -34,13 +31,6 @@ place_below (x ∷ xs) n t e = go (bytes_eq x n) (task_of xs n) (λ i h. place_b
     go false None h e = absurd cc
     go false (Some i) h e = let p = some_is (i + 1) t e in omega (arith, h i refl)
 
-act_fits : (v : Verb) (n t : ℕ) → t < n → ActFits n (act_of v t)
-act_fits Join n t h = h
-act_fits Wake n t h = h
-act_fits Block n t h = h
-act_fits Leave n t h = h
-act_fits Exit n t h = h
-
 mapped : {A : Type 0} (f : ℕ → A) (o : Option ℕ) (a : A) → option_map f o ≡ Some a → (t : ℕ) × (o ≡ Some t) × (f t ≡ a)
 mapped f None a e = absurd cc
 mapped f (Some t) a e = (t, refl, cc)
@@ -51,22 +41,26 @@ span_is d h = (grind (arith, nat_tests), grind (arith, nat_tests))
 moment_is : (m : ℕ) → is_moment m ≡ true → m < 2 ^ 31
 moment_is m h = grind (arith, nat_tests)
 
-deed_fits : (version : Version) (names : List (List ℕ)) (d : Deed ℕ) (a : Act) → IsDeed version d → act_in names d ≡ Some a → ActFits (length names) a
-deed_fits version names (does v n) a is e = let m = mapped (act_of v) (task_of names n) a e in subst (ActFits (length names)) m.2 (act_fits v (length names) m.0 (place_below names n m.0 m.1))
-deed_fits version names (runs n s) a is e = let m = mapped (λ t. act.Run t s) (task_of names n) a e in subst (ActFits (length names)) m.2 (let s = span_is s is.1 in (place_below names n m.0 m.1, s.0, s.1))
-deed_fits version names (retunes n q p) a is e = let m = mapped (λ t. act.Retune t q p) (task_of names n) a e in subst (ActFits (length names)) m.2 (place_below names n m.0 m.1, is.1)
-deed_fits version names reads a is e = let h : act.Read ≡ a = cc in subst (ActFits (length names)) h tt
+act_fits : (version : Version) (names : List (List ℕ)) (said : Act (List ℕ) ℕ) (a : Act ℕ ℕ) → IsAct version said → act_in names said ≡ Some a → ActFits (length names) a
+act_fits version names (act.Join n) a is e = let m = mapped act.Join (task_of names n) a e in subst (ActFits (length names)) m.2 (place_below names n m.0 m.1)
+act_fits version names (act.Wake n) a is e = let m = mapped act.Wake (task_of names n) a e in subst (ActFits (length names)) m.2 (place_below names n m.0 m.1)
+act_fits version names (act.Block n) a is e = let m = mapped act.Block (task_of names n) a e in subst (ActFits (length names)) m.2 (place_below names n m.0 m.1)
+act_fits version names (act.Leave n) a is e = let m = mapped act.Leave (task_of names n) a e in subst (ActFits (length names)) m.2 (place_below names n m.0 m.1)
+act_fits version names (act.Exit n) a is e = let m = mapped act.Exit (task_of names n) a e in subst (ActFits (length names)) m.2 (place_below names n m.0 m.1)
+act_fits version names (act.Run n s) a is e = let m = mapped (λ t. act.Run t s) (task_of names n) a e in subst (ActFits (length names)) m.2 (let s = span_is s is.1 in (place_below names n m.0 m.1, s.0, s.1))
+act_fits version names (act.Retune n q p) a is e = let m = mapped (λ t. act.Retune t q p) (task_of names n) a e in subst (ActFits (length names)) m.2 (place_below names n m.0 m.1, is.1)
+act_fits version names act.Read a is e = let h : act.Read ≡ a = cc in subst (ActFits (length names)) h tt
 
-abbrev at_moment : Happening → Act → Line
-at_moment m a = record { m = m.at; act = a }
+abbrev at_moment : Happening → Act ℕ ℕ → Line
+at_moment h a = record { m = h.m; act = a }
 
 script_fits : (version : Version) (names : List (List ℕ)) (ms : List Happening) (low : ℕ) → GoOn version low ms → AreKnown names ms → ScriptFits (length names) low (filter_map (line_in names) ms)
 script_fits version names [] low on known = tt
-script_fits version names (m ∷ ms) low on known = go (act_in names m.deed) refl known.0 (script_fits version names ms m.at on.1 known.1)
+script_fits version names (m ∷ ms) low on known = go (act_in names m.act) refl known.0 (script_fits version names ms m.m on.1 known.1)
   where
-    go : (o : Option Act) → act_in names m.deed ≡ o → IsSome (option_map (at_moment m) o) → ScriptFits (length names) m.at (filter_map (line_in names) ms) → ScriptFits (length names) low (cons_option (option_map (at_moment m) o) (filter_map (line_in names) ms))
+    go : (o : Option (Act ℕ ℕ)) → act_in names m.act ≡ o → IsSome (option_map (at_moment m) o) → ScriptFits (length names) m.m (filter_map (line_in names) ms) → ScriptFits (length names) low (cons_option (option_map (at_moment m) o) (filter_map (line_in names) ms))
     go None e some rest = absurd cc
-    go (Some a) e some rest = (on.0.after, moment_is m.at on.0.within, deed_fits version names m.deed a on.0.deed e, rest)
+    go (Some a) e some rest = (on.0.after, moment_is m.m on.0.within, act_fits version names m.act a on.0.act e, rest)
 
 few_declared : (ds : List Declaration) (names : List (List ℕ)) → length names ≤ 256 → AreDeclared names ds → length names + length ds ≤ 256
 few_declared [] names few are = omega arith

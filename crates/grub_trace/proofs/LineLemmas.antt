@@ -7,13 +7,14 @@ use Rattle.grub_trace.specs.declared.fault.Kind.TheVariants.{CutShort, BadHeader
 use Rattle.grub_trace.specs.declared.fault.Stop.{Stop}
 use Rattle.grub_trace.specs.declared.fault.Stop.TheVariants as stop
 use Rattle.grub_trace.specs.inside.Halts.{halt_of}
-use Rattle.grub_trace.specs.inside.Reading.{Read, FileRead, read_queue, read_second, read_first, read_as, read_file, file_from, opened, unless, adds, take_option, times_of, read_lines, take_line, at_line, ◌>>=◌, Stops, Halts, two_fault, IsRun, IsRetune, take_form}
+use Rattle.grub_trace.specs.inside.Reading.{Read, FileRead, act_map, read_queue, read_second, read_first, read_as, read_file, file_from, opened, unless, adds, take_option, times_of, read_lines, take_line, at_line, ◌>>=◌, Stops, Halts, two_fault, IsRun, IsRetune, take_form}
 use Rattle.grub_trace.specs.Forms.{parts_of, Form, queue, task, at_moment, words_of, form_of, is_number, version_of, value, reservation_value}
 use Rattle.std.proofs.Common.{◌-◌, Option, Some, None}
 use Rattle.std.proofs.lemmas.List.{length_push}
 use Rattle.grub_trace.specs.declared.fault.Halt.{Halt}
 use Rattle.grub_trace.specs.declared.fault.Halt.TheVariants as halt
-use Rattle.grub_trace.specs.Tree.{Declaration, does, runs, retunes, reads, names_of, is_moment, is_span, may_retune}
+use Rattle.grub_trace.specs.Tree.{Declaration, names_of, is_moment, is_span, may_retune}
+use Rattle.grub_trace.specs.declared.line.Act.TheVariants.{Run, Retune}
 use Rattle.grub_trace.specs.Faults.{form_fault, is_allowed, is_timely, reservation_fits}
 use Rattle.grub_trace.proofs.WordLemmas.{has_part}
 
@@ -58,10 +59,7 @@ taken r s line e = go (form_of (words_of line)) refl e
 adds_grows : (f : Form) (r : Read) → length r.declared ≤ length (adds f r).declared
 adds_grows (queue a b) r = omega arith
 adds_grows (task n q p) r = omega (arith, length_push r.declared (record { name = n; params = reservation_value q p }))
-adds_grows (at_moment m (does v n)) r = omega arith
-adds_grows (at_moment m (runs n d)) r = omega arith
-adds_grows (at_moment m (retunes n q p)) r = omega arith
-adds_grows (at_moment m reads) r = omega arith
+adds_grows (at_moment m a) r = omega arith
 
 pub bind_ok : {A B E : Type 0} (r : Result A E) (f : A → Result B E) (y : B) → (r >>= f) ≡ Ok y → (x : A) × (r ≡ Ok x) × (f x ≡ Ok y)
 bind_ok (Ok x) f y e = (x, refl, e)
@@ -128,10 +126,7 @@ second_view version ds text line rest q r k parts is h e = second_ok version ds 
 adds_one : (f : Form) (r : Read) (moments : List ℕ) → is_allowed r.version moments f ≡ true → length (adds f r).declared + length (adds f r).happenings ≡ length r.declared + length r.happenings + 1
 adds_one (queue a b) r moments h = absurd cc
 adds_one (task n q p) r moments h = omega (arith, length_push r.declared (record { name = n; params = reservation_value q p }))
-adds_one (at_moment m (does v n)) r moments h = omega (arith, length_push r.happenings (record { at = value m; deed = does v n }))
-adds_one (at_moment m (runs n d)) r moments h = omega (arith, length_push r.happenings (record { at = value m; deed = runs n (value d) }))
-adds_one (at_moment m (retunes n q p)) r moments h = omega (arith, length_push r.happenings (record { at = value m; deed = retunes n (value q) (value p) }))
-adds_one (at_moment m reads) r moments h = omega (arith, length_push r.happenings (record { at = value m; deed = reads }))
+adds_one (at_moment m a) r moments h = omega (arith, length_push r.happenings (record { m = value m; act = act_map (λ n. n) value a }))
 
 pub none_if : (b : Bool) (k : Kind) (o : Option Kind) → cond (not b) (Some k) o ≡ None → (b ≡ true) × (o ≡ None)
 none_if true k o e = (refl, e)
@@ -165,18 +160,18 @@ all_three : (a b c : Bool) → (a && (b && (c && true))) ≡ (a && b && c)
 all_three true b c = all_two b c
 all_three false b c = refl
 
-pub run_stops : (k : Kind) (r : Read) (m n d : List ℕ) → IsRun (Err k) m d → take_form r (at_moment m (runs n d)) ≡ Err k
+pub run_stops : (k : Kind) (r : Read) (m n d : List ℕ) → IsRun (Err k) m d → take_form r (at_moment m (Run n d)) ≡ Err k
 run_stops k r m n d h =
-    let f = at_moment m (runs n d) in
+    let f = at_moment m (Run n d) in
     let late = cond (not (is_timely (times_of r.happenings) f)) (Some MomentGoesBack) None in
     let within = is_moment (value m) && is_span (value d) in
     let fault : form_fault r.version (names_of r.declared) (times_of r.happenings) f ≡ Some k =
     ap (λ (s : Bool). cond (not s) (Some BadNumber) (cond (not within) (Some OutOfRange) late)) (all_two (is_number m) (is_number d)) ∙ fault_from (is_number m && is_number d) within late k h in
     ap (λ (o : Option Kind). unless o (adds f r)) fault
 
-pub retune_stops : (k : Kind) (r : Read) (m n q p : List ℕ) → may_retune r.version ≡ true → IsRetune (Err k) m q p → take_form r (at_moment m (retunes n q p)) ≡ Err k
+pub retune_stops : (k : Kind) (r : Read) (m n q p : List ℕ) → may_retune r.version ≡ true → IsRetune (Err k) m q p → take_form r (at_moment m (Retune n q p)) ≡ Err k
 retune_stops k r m n q p may h =
-    let f = at_moment m (retunes n q p) in
+    let f = at_moment m (Retune n q p) in
     let late = cond (not (is_timely (times_of r.happenings) f)) (Some MomentGoesBack) None in
     let within = is_moment (value m) && reservation_fits (reservation_value q p) in
     let fault : form_fault r.version (names_of r.declared) (times_of r.happenings) f ≡ Some k =

@@ -10,13 +10,15 @@ use Rattle.grub_bw.specs.Bandwidth.{Reservation, IsReservation}
 use Rattle.grub_trace.proofs.LimitTests.{reservation_is}
 use Rattle.grub_trace.specs.declared.version.Version.{Version}
 use Rattle.grub_trace.specs.declared.fault.Kind.TheVariants.{BadLine, BadNumber, OutOfRange, DuplicateTask, MomentGoesBack}
-use Rattle.grub_trace.specs.Tree.{Declaration, does, runs, retunes, reads, Happening, is_moment, is_span, names_of, verb_word}
+use Rattle.grub_trace.specs.declared.line.Act.{Act}
+use Rattle.grub_trace.specs.declared.line.Act.TheVariants as act
+use Rattle.grub_trace.specs.Tree.{Declaration, Happening, act_words, is_moment, is_span, names_of}
 use Rattle.grub_trace.specs.Faults.{form_fault, last_of, is_allowed, is_in_range, is_fresh, is_timely, reservation_fits}
 use Rattle.grub_trace.specs.Forms.{Form, queue, task, at_moment, words_of, is_number, value, numbers_of, reservation_value}
 use Rattle.grub_trace.specs.Naming.{task_of}
-use Rattle.grub_trace.specs.inside.Faults.{is_named}
-use Rattle.grub_trace.specs.inside.Reading.{Read, take_line, declares, says, adds, times_of}
-use Rattle.grub_trace.specs.Meaning.{IsHappeningFrom}
+use Rattle.grub_trace.specs.inside.Faults.{is_act_named, is_named}
+use Rattle.grub_trace.specs.inside.Reading.{Read, act_map, take_line, declares, says, adds, times_of}
+use Rattle.grub_trace.specs.Meaning.{IsAct, IsHappeningFrom}
 use Rattle.grub_trace.specs.FirstFault.{IsDeclaration}
 use Rattle.grub_trace.specs.inside.Tree.{declaration_line, happening_line}
 use Rattle.grub_trace.proofs.FormLemmas.{form_is, form_words, number_is, both}
@@ -33,7 +35,7 @@ pub record Says (r : Read) (line : List ℕ) (s : Read) : Type 0 where
   pub happening : Happening
   pub is : IsHappeningFrom r.version (last_of (times_of r.happenings)) happening
   pub spelled : line ≡ happening_line happening
-  pub added : says happening.at happening.deed r ≡ s
+  pub added : says happening r ≡ s
 
 -- the tests that a form without a fault passes
 pub record Passes (version : Version) (names : List (List ℕ)) (moments : List ℕ) (f : Form) : Type 0 where
@@ -77,6 +79,37 @@ two v w h = let p = both (is_number v) (list_all is_number (w ∷ [])) h in (p.0
 three : (u v w : List ℕ) → list_all is_number (u ∷ v ∷ w ∷ []) ≡ true → (is_number u ≡ true) × (is_number v ≡ true) × (is_number w ≡ true)
 three u v w h = let p = both (is_number u) (list_all is_number (v ∷ w ∷ [])) h in let q = two v w p.1 in (p.0, q.0, q.1)
 
+-- an act that passes the tests, once its numbers are read
+pub record Means (version : Version) (m : List ℕ) (a : Act (List ℕ) (List ℕ)) : Type 0 where
+  pub moment : is_number m ≡ true
+  pub within : is_moment (value m) ≡ true
+  pub act : IsAct version (act_map (λ n. n) value a)
+  pub words : act_words (λ w. w) a ≡ act_words decimal (act_map (λ n. n) value a)
+
+act_means : (version : Version) (names : List (List ℕ)) (moments m : List ℕ) (a : Act (List ℕ) (List ℕ)) → is_act_named a ≡ true → Passes version names moments (at_moment m a) → Means version m a
+act_means version names moments m (act.Join n) name t = record { moment = one m t.spelled; within = t.in_range; act = name; words = refl }
+act_means version names moments m (act.Wake n) name t = record { moment = one m t.spelled; within = t.in_range; act = name; words = refl }
+act_means version names moments m (act.Block n) name t = record { moment = one m t.spelled; within = t.in_range; act = name; words = refl }
+act_means version names moments m (act.Leave n) name t = record { moment = one m t.spelled; within = t.in_range; act = name; words = refl }
+act_means version names moments m (act.Exit n) name t = record { moment = one m t.spelled; within = t.in_range; act = name; words = refl }
+act_means version names moments m (act.Run n d) name t =
+    let w = two m d t.spelled in
+    let x = both (is_moment (value m)) (is_span (value d)) t.in_range in
+    record { moment = w.0; within = x.0; act = (name, x.1); words = ap (λ (u : List ℕ). codes "run" ∷ n ∷ u ∷ []) (sym (number_is d w.1 (small_span (value d) x.1))) }
+act_means version names moments m (act.Retune n q p) name t =
+    let w = three m q p t.spelled in
+    let x = both (is_moment (value m)) (reservation_fits (reservation_value q p)) t.in_range in
+    let fits = reservation_is (reservation_value q p) x.1 in
+    let small = small_period (reservation_value q p) fits in
+    record {
+      moment = w.0;
+      within = x.0;
+      act = (name, fits, t.allowed);
+      words = ap (λ (u : List ℕ). codes "retune" ∷ n ∷ u ∷ p ∷ []) (sym (number_is q w.1 small.0))
+          ∙ ap (λ (u : List ℕ). codes "retune" ∷ n ∷ decimal (value q) ∷ u ∷ []) (sym (number_is p w.2 small.1));
+    }
+act_means version names moments m act.Read name t = record { moment = one m t.spelled; within = t.in_range; act = tt; words = refl }
+
 pub form_means : (r s : Read) (line : List ℕ) (f : Form) → line ≡ join_with_byte 32 (form_words f) → is_named f ≡ true → Passes r.version (names_of r.declared) (times_of r.happenings) f → adds f r ≡ s → Declares r line s ⊎ Says r line s
 form_means r s line (queue a b) is name p e = absurd (let h = p.allowed in cc)
 form_means r s line (task n q p) is name t e =
@@ -89,44 +122,16 @@ form_means r s line (task n q p) is name t e =
       is = record { name = name; fits = fits; few = ltb-true _ _ x.0; fresh = no_task (task_of (names_of r.declared) n) t.fresh };
       spelled = is ∙ ap (λ (u : List ℕ). join_with_byte 32 (codes "task" ∷ n ∷ u ∷ p ∷ [])) (sym (number_is q w.0 small.0))
           ∙ ap (λ (u : List ℕ). join_with_byte 32 (codes "task" ∷ n ∷ decimal (value q) ∷ u ∷ [])) (sym (number_is p w.1 small.1));
-      first = sym (length-map r.happenings (λ m. m.at)) ∙ eqb-true _ _ t.allowed;
+      first = sym (length-map r.happenings (λ h. h.m)) ∙ eqb-true _ _ t.allowed;
       added = e;
     })
-form_means r s line (at_moment m (does v n)) is name t e =
+form_means r s line (at_moment m a) is name t e =
+    let h = act_means r.version (names_of r.declared) (times_of r.happenings) m a name t in
     inr (record {
-      happening = record { at = value m; deed = does v n };
-      is = record { after = le_test _ _ t.timely; within = t.in_range; deed = name };
-      spelled = is ∙ ap (λ (u : List ℕ). join_with_byte 32 (codes "at" ∷ u ∷ verb_word v ∷ n ∷ [])) (sym (number_is m (one m t.spelled) (small_moment (value m) t.in_range)));
-      added = e;
-    })
-form_means r s line (at_moment m (runs n d)) is name t e =
-    let w = two m d t.spelled in
-    let x = both (is_moment (value m)) (is_span (value d)) t.in_range in
-    inr (record {
-      happening = record { at = value m; deed = runs n (value d) };
-      is = record { after = le_test _ _ t.timely; within = x.0; deed = (name, x.1) };
-      spelled = is ∙ ap (λ (u : List ℕ). join_with_byte 32 (codes "at" ∷ u ∷ codes "run" ∷ n ∷ d ∷ [])) (sym (number_is m w.0 (small_moment (value m) x.0)))
-          ∙ ap (λ (u : List ℕ). join_with_byte 32 (codes "at" ∷ decimal (value m) ∷ codes "run" ∷ n ∷ u ∷ [])) (sym (number_is d w.1 (small_span (value d) x.1)));
-      added = e;
-    })
-form_means r s line (at_moment m (retunes n q p)) is name t e =
-    let w = three m q p t.spelled in
-    let x = both (is_moment (value m)) (reservation_fits (reservation_value q p)) t.in_range in
-    let fits = reservation_is (reservation_value q p) x.1 in
-    let small = small_period (reservation_value q p) fits in
-    inr (record {
-      happening = record { at = value m; deed = retunes n (value q) (value p) };
-      is = record { after = le_test _ _ t.timely; within = x.0; deed = (name, fits, t.allowed) };
-      spelled = is ∙ ap (λ (u : List ℕ). join_with_byte 32 (codes "at" ∷ u ∷ codes "retune" ∷ n ∷ q ∷ p ∷ [])) (sym (number_is m w.0 (small_moment (value m) x.0)))
-          ∙ ap (λ (u : List ℕ). join_with_byte 32 (codes "at" ∷ decimal (value m) ∷ codes "retune" ∷ n ∷ u ∷ p ∷ [])) (sym (number_is q w.1 small.0))
-          ∙ ap (λ (u : List ℕ). join_with_byte 32 (codes "at" ∷ decimal (value m) ∷ codes "retune" ∷ n ∷ decimal (value q) ∷ u ∷ [])) (sym (number_is p w.2 small.1));
-      added = e;
-    })
-form_means r s line (at_moment m reads) is name t e =
-    inr (record {
-      happening = record { at = value m; deed = reads };
-      is = record { after = le_test _ _ t.timely; within = t.in_range; deed = tt };
-      spelled = is ∙ ap (λ (u : List ℕ). join_with_byte 32 (codes "at" ∷ u ∷ codes "read" ∷ [])) (sym (number_is m (one m t.spelled) (small_moment (value m) t.in_range)));
+      happening = record { m = value m; act = act_map (λ n. n) value a };
+      is = record { after = le_test _ _ t.timely; within = h.within; act = h.act };
+      spelled = is ∙ ap (λ (u : List ℕ). join_with_byte 32 (codes "at" ∷ u ∷ act_words (λ w. w) a)) (sym (number_is m h.moment (small_moment (value m) h.within)))
+          ∙ ap (λ (ws : List (List ℕ)). join_with_byte 32 (codes "at" ∷ decimal (value m) ∷ ws)) h.words;
       added = e;
     })
 

@@ -2,8 +2,7 @@
 use Rattle.std.proofs.Common.{◌≡◌, ℕ, zero, suc, List, [], ◌∷◌, length, true, Some, subst}
 use Rattle.std.specs.Prelude.{slice_get}
 use Rattle.std.specs.List.{AllByRecursion}
-use Rattle.grub_trace.specs.declared.line.Line.{Line}
-use Rattle.grub_trace.specs.Plans.{PlanView}
+use Rattle.grub_trace.specs.Plans.{Line, PlanView}
 use Rattle.grub_trace.specs.Tree.{is_name}
 use Rattle.grub_trace.specs.Limits.{PlanFits, ScriptFits}
 

@@ -14,13 +14,13 @@ use Rattle.grub_trace.proofs.LimitTests.{reservation_test, capacity_test}
 use Rattle.grub_trace.specs.declared.version.Version.{Version}
 use Rattle.grub_trace.specs.declared.fault.Kind.{Kind}
 use Rattle.grub_trace.specs.declared.fault.Kind.TheVariants.{MissingQueue}
-use Rattle.grub_trace.specs.declared.form.Verb.{Verb}
-use Rattle.grub_trace.specs.declared.form.Verb.TheVariants.{Join, Wake, Block, Leave, Exit}
-use Rattle.grub_trace.specs.Tree.{Declaration, Deed, does, runs, retunes, reads, Happening, queue_words, verb_word, is_name, is_name_byte, is_moment, names_of}
+use Rattle.grub_trace.specs.declared.line.Act.{Act}
+use Rattle.grub_trace.specs.declared.line.Act.TheVariants as act
+use Rattle.grub_trace.specs.Tree.{Declaration, Happening, act_words, queue_words, is_name, is_name_byte, is_moment, names_of}
 use Rattle.grub_trace.specs.Faults.{form_fault, last_of, queue_fault, queue_form_fault, begins_with_queue, is_allowed, is_in_range, is_fresh, is_timely}
-use Rattle.grub_trace.specs.Forms.{Form, queue, task, at_moment, words_of, form_of, is_filled, verb_of, is_number, value, numbers_of}
-use Rattle.grub_trace.specs.inside.Reading.{Read, take_line, take_option, unless, adds, declares, says, times_of, read_queue, queue_of}
-use Rattle.grub_trace.specs.Meaning.{IsHappeningFrom, IsDeed}
+use Rattle.grub_trace.specs.Forms.{Form, queue, task, at_moment, words_of, form_of, is_filled, act_of, is_number, value, numbers_of}
+use Rattle.grub_trace.specs.inside.Reading.{Read, act_map, take_line, take_option, unless, adds, declares, says, times_of, read_queue, queue_of}
+use Rattle.grub_trace.specs.Meaning.{IsAct, IsHappeningFrom}
 use Rattle.grub_trace.specs.FirstFault.{IsDeclaration}
 use Rattle.grub_trace.specs.inside.Tree.{declaration_line, happening_line}
 use Rattle.grub_trace.proofs.NumberLemmas.{numerals}
@@ -108,20 +108,6 @@ pub join_line : (w : List ℕ) (ws : List (List ℕ)) → IsPlain w → ArePlain
 join_line w [] p ps = one_word w p
 join_line w (v ∷ vs) p ps = plain_line w (32 ∷ join_with_byte 32 (v ∷ vs)) p (refl, join_line v vs ps.0 ps.1)
 
-verb_plain : (v : Verb) → IsPlain (verb_word v)
-verb_plain Join = search rules
-verb_plain Wake = search rules
-verb_plain Block = search rules
-verb_plain Leave = search rules
-verb_plain Exit = search rules
-
-verb_again : (v : Verb) → verb_of (verb_word v) ≡ Some v
-verb_again Join = refl
-verb_again Wake = refl
-verb_again Block = refl
-verb_again Leave = refl
-verb_again Exit = refl
-
 -- ---- lines
 
 keyword_task : IsPlain (codes "task")
@@ -175,32 +161,25 @@ decimal_filled n h = number_filled (decimal n) (number_again n h)
 task_form : (n q p : List ℕ) → is_name n ≡ true → is_filled q ≡ true → is_filled p ≡ true → form_of (codes "task" ∷ n ∷ q ∷ p ∷ []) ≡ Some (task n q p)
 task_form n q p h fq fp =
     form_again (codes "task" ∷ n ∷ q ∷ p ∷ []) (rw (name_filled n h, fq, fp) refl)
-    ∙ ap (λ (b : Bool). cond b (Some (task n q p)) (cond false (option_map (λ v. at_moment n (does v p)) (verb_of q)) None)) h
+    ∙ ap (λ (b : Bool). cond b (Some (task n q p)) (cond false (option_map (at_moment n) (act_of q p)) None)) h
 
-verb_filled : (v : Verb) → is_filled (verb_word v) ≡ true
-verb_filled Join = refl
-verb_filled Wake = refl
-verb_filled Block = refl
-verb_filled Leave = refl
-verb_filled Exit = refl
+verb_form : (m n k : List ℕ) (a : Act (List ℕ) (List ℕ)) → act_of k n ≡ Some a → is_filled k ≡ true → is_filled m ≡ true → is_name n ≡ true → form_of (codes "at" ∷ m ∷ k ∷ n ∷ []) ≡ Some (at_moment m a)
+verb_form m n k a is fk fm h =
+    form_again (codes "at" ∷ m ∷ k ∷ n ∷ []) (rw (fm, fk, name_filled n h) refl)
+    ∙ ap (λ (b : Bool). cond b (option_map (at_moment m) (act_of k n)) None) h ∙ ap (option_map (at_moment m)) is
 
-does_form : (m n : List ℕ) (v : Verb) → is_filled m ≡ true → is_name n ≡ true → form_of (codes "at" ∷ m ∷ verb_word v ∷ n ∷ []) ≡ Some (at_moment m (does v n))
-does_form m n v fm h =
-    form_again (codes "at" ∷ m ∷ verb_word v ∷ n ∷ []) (rw (fm, verb_filled v, name_filled n h) refl)
-    ∙ ap (λ (b : Bool). cond b (option_map (λ v. at_moment m (does v n)) (verb_of (verb_word v))) None) h ∙ ap (option_map (λ v. at_moment m (does v n))) (verb_again v)
-
-runs_form : (m n d : List ℕ) → is_filled m ≡ true → is_name n ≡ true → is_filled d ≡ true → form_of (codes "at" ∷ m ∷ codes "run" ∷ n ∷ d ∷ []) ≡ Some (at_moment m (runs n d))
-runs_form m n d fm h fd =
+run_form : (m n d : List ℕ) → is_filled m ≡ true → is_name n ≡ true → is_filled d ≡ true → form_of (codes "at" ∷ m ∷ codes "run" ∷ n ∷ d ∷ []) ≡ Some (at_moment m (act.Run n d))
+run_form m n d fm h fd =
     form_again (codes "at" ∷ m ∷ codes "run" ∷ n ∷ d ∷ []) (rw (fm, name_filled n h, fd) refl)
-    ∙ ap (λ (b : Bool). cond b (Some (at_moment m (runs n d))) None) h
+    ∙ ap (λ (b : Bool). cond b (Some (at_moment m (act.Run n d))) None) h
 
-retunes_form : (m n q p : List ℕ) → is_filled m ≡ true → is_name n ≡ true → is_filled q ≡ true → is_filled p ≡ true → form_of (codes "at" ∷ m ∷ codes "retune" ∷ n ∷ q ∷ p ∷ []) ≡ Some (at_moment m (retunes n q p))
-retunes_form m n q p fm h fq fp =
+retune_form : (m n q p : List ℕ) → is_filled m ≡ true → is_name n ≡ true → is_filled q ≡ true → is_filled p ≡ true → form_of (codes "at" ∷ m ∷ codes "retune" ∷ n ∷ q ∷ p ∷ []) ≡ Some (at_moment m (act.Retune n q p))
+retune_form m n q p fm h fq fp =
     form_again (codes "at" ∷ m ∷ codes "retune" ∷ n ∷ q ∷ p ∷ []) (rw (fm, name_filled n h, fq, fp) refl)
-    ∙ ap (λ (b : Bool). cond b (Some (at_moment m (retunes n q p))) None) h
+    ∙ ap (λ (b : Bool). cond b (Some (at_moment m (act.Retune n q p))) None) h
 
-reads_form : (m : List ℕ) → is_filled m ≡ true → form_of (codes "at" ∷ m ∷ codes "read" ∷ []) ≡ Some (at_moment m reads)
-reads_form m fm = form_again (codes "at" ∷ m ∷ codes "read" ∷ []) (rw fm refl)
+read_form : (m : List ℕ) → is_filled m ≡ true → form_of (codes "at" ∷ m ∷ codes "read" ∷ []) ≡ Some (at_moment m act.Read)
+read_form m fm = form_again (codes "at" ∷ m ∷ codes "read" ∷ []) (rw fm refl)
 
 queue_form : (u x : List ℕ) → is_filled u ≡ true → is_filled x ≡ true → form_of (codes "queue" ∷ u ∷ x ∷ []) ≡ Some (queue u x)
 queue_form u x fu fx = form_again (codes "queue" ∷ u ∷ x ∷ []) (rw (fu, fx) refl)
@@ -211,55 +190,77 @@ declaration_again r d is first =
     let f : Form = task d.name (decimal d.params.runtime) (decimal d.params.period) in
     let words = words_again (codes "task") (d.name ∷ decimal d.params.runtime ∷ decimal d.params.period ∷ []) keyword_task (name_plain d.name is.name, (decimal_plain d.params.runtime small.0, (decimal_plain d.params.period small.1, tt))) in
     let range : is_in_range (length (names_of r.declared)) f ≡ true = rw (value_again d.params.runtime small.0, value_again d.params.period small.1, lt-ltb (length (names_of r.declared)) 256 is.few) (reservation_test d.params is.fits) in
-    let allowed : is_allowed r.version (times_of r.happenings) f ≡ true = rw (length-map r.happenings (λ m. m.at), first) refl in
+    let allowed : is_allowed r.version (times_of r.happenings) f ≡ true = rw (length-map r.happenings (λ h. h.m), first) refl in
     let fresh : is_fresh (names_of r.declared) f ≡ true = rw is.fresh refl in
     taken_form r (declaration_line d) f (ap form_of words ∙ task_form d.name (decimal d.params.runtime) (decimal d.params.period) is.name (decimal_filled d.params.runtime small.0) (decimal_filled d.params.period small.1))
     (no_fault r.version (names_of r.declared) (times_of r.happenings) f allowed (both_numbers d.params.runtime d.params.period small.0 small.1) range fresh refl)
     ∙ ap (λ (q : ℕ). Ok (declares (record { name = d.name; params = record { runtime = q; period = value (decimal d.params.period) } }) r)) (value_again d.params.runtime small.0)
     ∙ ap (λ (p : ℕ). Ok (declares (record { name = d.name; params = record { runtime = d.params.runtime; period = p } }) r)) (value_again d.params.period small.1)
 
-happening_form : (r : Read) (at : ℕ) (deed : Deed ℕ) → last_of (times_of r.happenings) ≤ at → is_moment at ≡ true → IsDeed r.version deed → take_line r (happening_line (record { at = at; deed = deed })) ≡ Ok (says at deed r)
-happening_form r at (does v n) after within is =
-    let small = small_moment at within in
-    let f : Form = at_moment (decimal at) (does v n) in
-    let words = words_again (codes "at") (decimal at ∷ verb_word v ∷ n ∷ []) keyword_at (decimal_plain at small, (verb_plain v, (name_plain n is, tt))) in
-    taken_form r (happening_line (record { at = at; deed = does v n })) f (ap form_of words ∙ does_form (decimal at) n v (decimal_filled at small) is)
-    (no_fault r.version (names_of r.declared) (times_of r.happenings) f refl (one_number at small) (rw (value_again at small) within) refl (rw (value_again at small) (le_true (last_of (times_of r.happenings)) at after)))
-    ∙ ap (λ (m : ℕ). Ok (says m (does v n) r)) (value_again at small)
-happening_form r at (runs n d) after within is =
-    let small = small_moment at within in
-    let short = small_span d is.1 in
-    let f : Form = at_moment (decimal at) (runs n (decimal d)) in
-    let words = words_again (codes "at") (decimal at ∷ codes "run" ∷ n ∷ decimal d ∷ []) keyword_at (decimal_plain at small, (keyword_run, (name_plain n is.0, (decimal_plain d short, tt)))) in
-    let range : is_in_range (length (names_of r.declared)) f ≡ true = rw (value_again at small, value_again d short, within) is.1 in
-    taken_form r (happening_line (record { at = at; deed = runs n d })) f (ap form_of words ∙ runs_form (decimal at) n (decimal d) (decimal_filled at small) is.0 (decimal_filled d short))
-    (no_fault r.version (names_of r.declared) (times_of r.happenings) f refl (both_numbers at d small short) range refl (rw (value_again at small) (le_true (last_of (times_of r.happenings)) at after)))
-    ∙ ap (λ (m : ℕ). Ok (says m (runs n (value (decimal d))) r)) (value_again at small)
-    ∙ ap (λ (s : ℕ). Ok (says at (runs n s) r)) (value_again d short)
-happening_form r at (retunes n x y) after within is =
-    let p : Reservation = record { runtime = x; period = y } in
-    let small = small_moment at within in
-    let fits = small_period p is.1 in
-    let q = decimal x in
-    let d = decimal y in
-    let f : Form = at_moment (decimal at) (retunes n q d) in
-    let words = words_again (codes "at") (decimal at ∷ codes "retune" ∷ n ∷ q ∷ d ∷ []) keyword_at (decimal_plain at small, (keyword_retune, (name_plain n is.0, (decimal_plain x fits.0, (decimal_plain y fits.1, tt))))) in
-    let range : is_in_range (length (names_of r.declared)) f ≡ true = rw (value_again at small, value_again x fits.0, value_again y fits.1, within) (reservation_test p is.1) in
-    taken_form r (happening_line (record { at = at; deed = retunes n x y })) f (ap form_of words ∙ retunes_form (decimal at) n q d (decimal_filled at small) is.0 (decimal_filled x fits.0) (decimal_filled y fits.1))
-    (no_fault r.version (names_of r.declared) (times_of r.happenings) f is.2 (three_numbers at x y small fits.0 fits.1) range refl (rw (value_again at small) (le_true (last_of (times_of r.happenings)) at after)))
-    ∙ ap (λ (m : ℕ). Ok (says m (retunes n (value q) (value d)) r)) (value_again at small)
-    ∙ ap (λ (u : ℕ). Ok (says at (retunes n u (value d)) r)) (value_again x fits.0)
-    ∙ ap (λ (u : ℕ). Ok (says at (retunes n x u) r)) (value_again y fits.1)
-happening_form r at reads after within is =
-    let small = small_moment at within in
-    let f : Form = at_moment (decimal at) reads in
-    let words = words_again (codes "at") (decimal at ∷ codes "read" ∷ []) keyword_at (decimal_plain at small, (keyword_read, tt)) in
-    taken_form r (happening_line (record { at = at; deed = reads })) f (ap form_of words ∙ reads_form (decimal at) (decimal_filled at small))
-    (no_fault r.version (names_of r.declared) (times_of r.happenings) f refl (one_number at small) (rw (value_again at small) within) refl (rw (value_again at small) (le_true (last_of (times_of r.happenings)) at after)))
-    ∙ ap (λ (m : ℕ). Ok (says m reads r)) (value_again at small)
+words_plain : (version : Version) (a : Act (List ℕ) ℕ) → IsAct version a → ArePlain (act_words decimal a)
+words_plain version (act.Join n) is = (search rules, (name_plain n is, tt))
+words_plain version (act.Wake n) is = (search rules, (name_plain n is, tt))
+words_plain version (act.Block n) is = (search rules, (name_plain n is, tt))
+words_plain version (act.Leave n) is = (search rules, (name_plain n is, tt))
+words_plain version (act.Exit n) is = (search rules, (name_plain n is, tt))
+words_plain version (act.Run n d) is = (keyword_run, (name_plain n is.0, (decimal_plain d (small_span d is.1), tt)))
+words_plain version (act.Retune n q p) is =
+    let small = small_period (record { runtime = q; period = p }) is.1 in
+    (keyword_retune, (name_plain n is.0, (decimal_plain q small.0, (decimal_plain p small.1, tt))))
+words_plain version act.Read is = (keyword_read, tt)
 
-pub happening_again : (r : Read) (m : Happening) → IsHappeningFrom r.version (last_of (times_of r.happenings)) m → take_line r (happening_line m) ≡ Ok (says m.at m.deed r)
-happening_again r m is = happening_form r m.at m.deed is.after is.within is.deed
+-- an act that is printed at a moment has its form, which passes the tests
+record IsPrinted (version : Version) (moments : List ℕ) (declared m : ℕ) (a : Act (List ℕ) ℕ) : Type 0 where
+  pub form : form_of (codes "at" ∷ decimal m ∷ act_words decimal a) ≡ Some (at_moment (decimal m) (act_map (λ n. n) decimal a))
+  pub allowed : is_allowed version moments (at_moment (decimal m) (act_map (λ n. n) decimal a)) ≡ true
+  pub spelled : list_all is_number (numbers_of (at_moment (decimal m) (act_map (λ n. n) decimal a))) ≡ true
+  pub in_range : is_in_range declared (at_moment (decimal m) (act_map (λ n. n) decimal a)) ≡ true
+  pub values : act_map (λ n. n) value (act_map (λ n. n) decimal a) ≡ a
+
+act_printed : (version : Version) (moments : List ℕ) (declared m : ℕ) (a : Act (List ℕ) ℕ) → m < 2 ^ 64 → is_moment (value (decimal m)) ≡ true → IsAct version a → IsPrinted version moments declared m a
+act_printed version moments declared m (act.Join n) small within is =
+    record { form = verb_form (decimal m) n (codes "join") (act.Join n) refl refl (decimal_filled m small) is; allowed = refl; spelled = one_number m small; in_range = within; values = refl }
+act_printed version moments declared m (act.Wake n) small within is =
+    record { form = verb_form (decimal m) n (codes "wake") (act.Wake n) refl refl (decimal_filled m small) is; allowed = refl; spelled = one_number m small; in_range = within; values = refl }
+act_printed version moments declared m (act.Block n) small within is =
+    record { form = verb_form (decimal m) n (codes "block") (act.Block n) refl refl (decimal_filled m small) is; allowed = refl; spelled = one_number m small; in_range = within; values = refl }
+act_printed version moments declared m (act.Leave n) small within is =
+    record { form = verb_form (decimal m) n (codes "leave") (act.Leave n) refl refl (decimal_filled m small) is; allowed = refl; spelled = one_number m small; in_range = within; values = refl }
+act_printed version moments declared m (act.Exit n) small within is =
+    record { form = verb_form (decimal m) n (codes "exit") (act.Exit n) refl refl (decimal_filled m small) is; allowed = refl; spelled = one_number m small; in_range = within; values = refl }
+act_printed version moments declared m (act.Run n d) small within is =
+    let short = small_span d is.1 in
+    record {
+      form = run_form (decimal m) n (decimal d) (decimal_filled m small) is.0 (decimal_filled d short);
+      allowed = refl;
+      spelled = both_numbers m d small short;
+      in_range = rw (within, value_again d short) is.1;
+      values = ap (λ (s : ℕ). act.Run n s) (value_again d short);
+    }
+act_printed version moments declared m (act.Retune n q p) small within is =
+    let x : Reservation = record { runtime = q; period = p } in
+    let fits = small_period x is.1 in
+    record {
+      form = retune_form (decimal m) n (decimal q) (decimal p) (decimal_filled m small) is.0 (decimal_filled q fits.0) (decimal_filled p fits.1);
+      allowed = is.2;
+      spelled = three_numbers m q p small fits.0 fits.1;
+      in_range = rw (within, value_again q fits.0, value_again p fits.1) (reservation_test x is.1);
+      values = ap (λ (u : ℕ). act.Retune n u (value (decimal p))) (value_again q fits.0) ∙ ap (λ (u : ℕ). act.Retune n q u) (value_again p fits.1);
+    }
+act_printed version moments declared m act.Read small within is =
+    record { form = read_form (decimal m) (decimal_filled m small); allowed = refl; spelled = one_number m small; in_range = within; values = refl }
+
+pub happening_again : (r : Read) (h : Happening) → IsHappeningFrom r.version (last_of (times_of r.happenings)) h → take_line r (happening_line h) ≡ Ok (says h r)
+happening_again r h is =
+    let small = small_moment h.m is.within in
+    let f : Form = at_moment (decimal h.m) (act_map (λ n. n) decimal h.act) in
+    let within : is_moment (value (decimal h.m)) ≡ true = rw (value_again h.m small) is.within in
+    let p = act_printed r.version (times_of r.happenings) (length (names_of r.declared)) h.m h.act small within is.act in
+    let words = words_again (codes "at") (decimal h.m ∷ act_words decimal h.act) keyword_at (decimal_plain h.m small, words_plain r.version h.act is.act) in
+    taken_form r (happening_line h) f (ap form_of words ∙ p.form)
+    (no_fault r.version (names_of r.declared) (times_of r.happenings) f p.allowed p.spelled p.in_range refl (rw (value_again h.m small) (le_true (last_of (times_of r.happenings)) h.m is.after)))
+    ∙ ap (λ (m : ℕ). Ok (says (record { m = m; act = act_map (λ n. n) value (act_map (λ n. n) decimal h.act) }) r)) (value_again h.m small)
+    ∙ ap (λ (a : Act (List ℕ) ℕ). Ok (says (record { m = h.m; act = a }) r)) p.values
 
 pub queue_again : (c : Capacity) → c.most < 2 ^ 64 → c.extra < 2 ^ 64 → IsCapacity c → read_queue (join_with_byte 32 (queue_words c)) ≡ Ok c
 queue_again c hu hx fits =
@@ -281,16 +282,8 @@ declaration_one_line names d is =
     let small = small_period d.params is.fits in
     join_line (codes "task") (d.name ∷ decimal d.params.runtime ∷ decimal d.params.period ∷ []) keyword_task (name_plain d.name is.name, (decimal_plain d.params.runtime small.0, (decimal_plain d.params.period small.1, tt)))
 
-deed_one_line : (version : Version) (at : ℕ) (deed : Deed ℕ) → is_moment at ≡ true → IsDeed version deed → IsOneLine (happening_line (record { at = at; deed = deed }))
-deed_one_line version at (does v n) within is = join_line (codes "at") (decimal at ∷ verb_word v ∷ n ∷ []) keyword_at (decimal_plain at (small_moment at within), (verb_plain v, (name_plain n is, tt)))
-deed_one_line version at (runs n d) within is = join_line (codes "at") (decimal at ∷ codes "run" ∷ n ∷ decimal d ∷ []) keyword_at (decimal_plain at (small_moment at within), (keyword_run, (name_plain n is.0, (decimal_plain d (small_span d is.1), tt))))
-deed_one_line version at (retunes n q p) within is =
-    let small = small_period (record { runtime = q; period = p }) is.1 in
-    join_line (codes "at") (decimal at ∷ codes "retune" ∷ n ∷ decimal q ∷ decimal p ∷ []) keyword_at (decimal_plain at (small_moment at within), (keyword_retune, (name_plain n is.0, (decimal_plain q small.0, (decimal_plain p small.1, tt)))))
-deed_one_line version at reads within is = join_line (codes "at") (decimal at ∷ codes "read" ∷ []) keyword_at (decimal_plain at (small_moment at within), (keyword_read, tt))
-
-pub happening_one_line : (version : Version) (low : ℕ) (m : Happening) → IsHappeningFrom version low m → IsOneLine (happening_line m)
-happening_one_line version low m is = deed_one_line version m.at m.deed is.within is.deed
+pub happening_one_line : (version : Version) (low : ℕ) (h : Happening) → IsHappeningFrom version low h → IsOneLine (happening_line h)
+happening_one_line version low h is = join_line (codes "at") (decimal h.m ∷ act_words decimal h.act) keyword_at (decimal_plain h.m (small_moment h.m is.within), words_plain version h.act is.act)
 
 pub queue_one_line : (c : Capacity) → c.most < 2 ^ 64 → c.extra < 2 ^ 64 → IsOneLine (join_with_byte 32 (queue_words c))
 queue_one_line c hu hx = join_line (codes "queue") (decimal c.most ∷ decimal c.extra ∷ []) keyword_queue (decimal_plain c.most hu, (decimal_plain c.extra hx, tt))

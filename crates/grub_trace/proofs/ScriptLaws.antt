@@ -5,12 +5,12 @@ use Rattle.std.specs.Option.{option_or}
 use Rattle.std.proofs.lemmas.List.{length_push, map_push}
 use Rattle.grub_trace.specs.declared.line.Act.{Act}
 use Rattle.grub_trace.specs.declared.line.Act.TheVariants as act
-use Rattle.grub_trace.specs.declared.line.Line.{Line}
 use Rattle.grub_trace.specs.declared.version.Version.{Version}
 use Rattle.grub_trace.specs.declared.tasks.Tasks.{Tasks}
 use Rattle.grub_trace.specs.Forms.{parts_of}
 use Rattle.grub_trace.specs.Naming.{act_in, line_in}
-use Rattle.grub_trace.specs.Tree.{Deed, Happening, names_of}
+use Rattle.grub_trace.specs.Plans.{Line}
+use Rattle.grub_trace.specs.Tree.{Happening, names_of}
 use Rattle.grub_trace.specs.inside.Forms.{begins_with_task}
 use Rattle.grub_trace.specs.inside.Lines.{IsScript, script_in}
 use Rattle.grub_trace.specs.inside.Reading.{Read, declarations, opened, option_or_err, read_lines, says, script_from, take_line, ◌>>=◌}
@@ -40,27 +40,27 @@ unfolding script_from
 script_none names first = record { times = refl; script = refl }
 
 -- one line more, whose task is declared
-pub script_known : (names : List (List ℕ)) (first at : ℕ) (hs : List Happening) (lines : List Line) (unknown : Option ℕ) (deed : Deed ℕ) (a : Act) → Some a ≡ act_in names deed → IsScript names first hs lines unknown
-    → IsScript names first (hs ++ record { at = at; deed = deed } ∷ []) (lines ++ record { m = at; act = a } ∷ []) unknown
-script_known names first at hs lines unknown deed a is on = record {
-  times = map_push (λ h. h.at) hs (record { at = at; deed = deed }) ∙ ap (λ ts. ts ++ at ∷ []) on.times ∙ sym (map_push (λ l. l.m) lines (record { m = at; act = a }));
-  script = script_push names hs (record { at = at; deed = deed }) [] first ∙ ap (λ r. r >>= λ ls. option_or_err (first + length hs) (line_in names (record { at = at; deed = deed })) >>= λ l. Ok (ls ++ l ∷ [])) on.script ∙ go unknown;
+pub script_known : (names : List (List ℕ)) (first : ℕ) (h : Happening) (hs : List Happening) (lines : List Line) (unknown : Option ℕ) (a : Act ℕ ℕ) → Some a ≡ act_in names h.act → IsScript names first hs lines unknown
+    → IsScript names first (hs ++ h ∷ []) (lines ++ record { m = h.m; act = a } ∷ []) unknown
+script_known names first h hs lines unknown a is on = record {
+  times = map_push (λ h. h.m) hs h ∙ ap (λ ts. ts ++ h.m ∷ []) on.times ∙ sym (map_push (λ l. l.m) lines (record { m = h.m; act = a }));
+  script = script_push names hs h [] first ∙ ap (λ r. r >>= λ ls. option_or_err (first + length hs) (line_in names h) >>= λ l. Ok (ls ++ l ∷ [])) on.script ∙ go unknown;
 }
   where
-    go : (u : Option ℕ) → (script_in lines u >>= λ ls. option_or_err (first + length hs) (line_in names (record { at = at; deed = deed })) >>= λ l. Ok (ls ++ l ∷ [])) ≡ script_in (lines ++ record { m = at; act = a } ∷ []) u
-    go None = ap (λ (o : Option Act). option_or_err (first + length hs) (option_map (λ a. record { m = at; act = a }) o) >>= λ l. Ok (lines ++ l ∷ [])) (sym is)
+    go : (u : Option ℕ) → (script_in lines u >>= λ ls. option_or_err (first + length hs) (line_in names h) >>= λ l. Ok (ls ++ l ∷ [])) ≡ script_in (lines ++ record { m = h.m; act = a } ∷ []) u
+    go None = ap (λ (o : Option (Act ℕ ℕ)). option_or_err (first + length hs) (option_map (λ a. record { m = h.m; act = a }) o) >>= λ l. Ok (lines ++ l ∷ [])) (sym is)
     go (Some n) = refl
 
 -- and one whose task is not
-pub script_unknown : (names : List (List ℕ)) (first at number : ℕ) (hs : List Happening) (lines : List Line) (unknown : Option ℕ) (deed : Deed ℕ) → None ≡ act_in names deed → number ≡ first + length hs → IsScript names first hs lines unknown
-    → IsScript names first (hs ++ record { at = at; deed = deed } ∷ []) (lines ++ record { m = at; act = act.Read } ∷ []) (option_or unknown (Some number))
-script_unknown names first at number hs lines unknown deed is place on = record {
-  times = map_push (λ h. h.at) hs (record { at = at; deed = deed }) ∙ ap (λ ts. ts ++ at ∷ []) on.times ∙ sym (map_push (λ l. l.m) lines (record { m = at; act = act.Read }));
-  script = script_push names hs (record { at = at; deed = deed }) [] first ∙ ap (λ r. r >>= λ ls. option_or_err (first + length hs) (line_in names (record { at = at; deed = deed })) >>= λ l. Ok (ls ++ l ∷ [])) on.script ∙ go unknown;
+pub script_unknown : (names : List (List ℕ)) (first number : ℕ) (h : Happening) (hs : List Happening) (lines : List Line) (unknown : Option ℕ) → None ≡ act_in names h.act → number ≡ first + length hs → IsScript names first hs lines unknown
+    → IsScript names first (hs ++ h ∷ []) (lines ++ record { m = h.m; act = act.Read } ∷ []) (option_or unknown (Some number))
+script_unknown names first number h hs lines unknown is place on = record {
+  times = map_push (λ h. h.m) hs h ∙ ap (λ ts. ts ++ h.m ∷ []) on.times ∙ sym (map_push (λ l. l.m) lines (record { m = h.m; act = act.Read }));
+  script = script_push names hs h [] first ∙ ap (λ r. r >>= λ ls. option_or_err (first + length hs) (line_in names h) >>= λ l. Ok (ls ++ l ∷ [])) on.script ∙ go unknown;
 }
   where
-    go : (u : Option ℕ) → (script_in lines u >>= λ ls. option_or_err (first + length hs) (line_in names (record { at = at; deed = deed })) >>= λ l. Ok (ls ++ l ∷ [])) ≡ script_in (lines ++ record { m = at; act = act.Read } ∷ []) (option_or u (Some number))
-    go None = ap (λ (o : Option Act). option_or_err (first + length hs) (option_map (λ a. record { m = at; act = a }) o) >>= λ l. Ok (lines ++ l ∷ [])) (sym is) ∙ ap Err (sym place)
+    go : (u : Option ℕ) → (script_in lines u >>= λ ls. option_or_err (first + length hs) (line_in names h) >>= λ l. Ok (ls ++ l ∷ [])) ≡ script_in (lines ++ record { m = h.m; act = act.Read } ∷ []) (option_or u (Some number))
+    go None = ap (λ (o : Option (Act ℕ ℕ)). option_or_err (first + length hs) (option_map (λ a. record { m = h.m; act = a }) o) >>= λ l. Ok (lines ++ l ∷ [])) (sym is) ∙ ap Err (sym place)
     go (Some n) = refl
 
 -- before the first line
@@ -75,17 +75,17 @@ says_none version tasks lines first text none below = record {
 }
 
 -- the next line
-pub says_next : (version : Version) (tasks : Tasks) (lines more : List Line) (unknown now : Option ℕ) (number at : ℕ) (rest line after : List ℕ) (first : ℕ) (text : List ℕ) (deed : Deed ℕ) → (on : SaysOn version tasks lines unknown number rest first text)
+pub says_next : (version : Version) (tasks : Tasks) (lines more : List Line) (unknown now : Option ℕ) (number : ℕ) (rest line after : List ℕ) (first : ℕ) (text : List ℕ) (h : Happening) → (on : SaysOn version tasks lines unknown number rest first text)
     → parts_of rest ≡ line ∷ parts_of after → length after < length rest
-    → take_line (record { version = version; declared = declarations tasks; happenings = on.happenings }) line ≡ Ok (says at deed (record { version = version; declared = declarations tasks; happenings = on.happenings }))
-    → IsScript (names_of (declarations tasks)) first (on.happenings ++ record { at = at; deed = deed } ∷ []) more now → SaysOn version tasks more now (number + 1) after first text
-says_next version tasks lines more unknown now number at rest line after first text deed on parts shorter taken script =
+    → take_line (record { version = version; declared = declarations tasks; happenings = on.happenings }) line ≡ Ok (says h (record { version = version; declared = declarations tasks; happenings = on.happenings }))
+    → IsScript (names_of (declarations tasks)) first (on.happenings ++ h ∷ []) more now → SaysOn version tasks more now (number + 1) after first text
+says_next version tasks lines more unknown now number rest line after first text h on parts shorter taken script =
     let r : Read = record { version = version; declared = declarations tasks; happenings = on.happenings } in
-    let longer = length_push on.happenings (record { at = at; deed = deed }) in
+    let longer = length_push on.happenings h in
     record {
-      happenings = on.happenings ++ record { at = at; deed = deed } ∷ [];
+      happenings = on.happenings ++ h ∷ [];
       script = script;
-      so_far = goes_on r (says at deed r) number rest line after _ parts taken on.so_far;
+      so_far = goes_on r (says h r) number rest line after _ parts taken on.so_far;
       count = omega (arith, on.count, shorter);
       place = omega (arith, on.place, longer);
       below = λ _. omega (arith, longer);

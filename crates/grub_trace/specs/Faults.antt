@@ -8,7 +8,8 @@ use Rattle.grub_trace.specs.declared.fault.Kind.{Kind}
 use Rattle.grub_trace.specs.declared.fault.Kind.TheVariants.{BadHeader, BadLine, BadNumber, OutOfRange, DuplicateTask, MomentGoesBack, MissingQueue}
 use Rattle.grub_trace.specs.Forms.{Form, queue, task, at_moment, words_of, form_of, is_number, value, numbers_of, reservation_value, capacity_value, version_of}
 use Rattle.grub_trace.specs.Naming.{task_of}
-use Rattle.grub_trace.specs.Tree.{runs, retunes, is_moment, is_span, may_retune}
+use Rattle.grub_trace.specs.Tree.{is_moment, is_span, may_retune}
+use Rattle.grub_trace.specs.declared.line.Act.TheVariants.{Run, Retune}
 
 -- ---- the tests of a line below the second
 
@@ -16,8 +17,8 @@ use Rattle.grub_trace.specs.Tree.{runs, retunes, is_moment, is_span, may_retune}
 abbrev pub is_allowed : Version → List ℕ → Form → Bool
 is_allowed version moments (queue a b) = false
 is_allowed version moments (task n q p) = length moments == 0
-is_allowed version moments (at_moment m (retunes n q p)) = may_retune version
-is_allowed version moments (at_moment m deed) = true
+is_allowed version moments (at_moment m (Retune n q p)) = may_retune version
+is_allowed version moments (at_moment m act) = true
 
 -- the tests of IsReservation and IsCapacity
 abbrev pub reservation_fits : Reservation → Bool
@@ -30,9 +31,9 @@ capacity_fits c = nat_le 1 c.most && nat_le c.most (2 ^ 20) && nat_le c.extra c.
 abbrev pub is_in_range : ℕ → Form → Bool
 is_in_range declared (queue a b) = capacity_fits (capacity_value a b)
 is_in_range declared (task n q p) = nat_lt declared 256 && reservation_fits (reservation_value q p)
-is_in_range declared (at_moment m (runs n d)) = is_moment (value m) && is_span (value d)
-is_in_range declared (at_moment m (retunes n q p)) = is_moment (value m) && reservation_fits (reservation_value q p)
-is_in_range declared (at_moment m deed) = is_moment (value m)
+is_in_range declared (at_moment m (Run n d)) = is_moment (value m) && is_span (value d)
+is_in_range declared (at_moment m (Retune n q p)) = is_moment (value m) && reservation_fits (reservation_value q p)
+is_in_range declared (at_moment m act) = is_moment (value m)
 
 abbrev pub is_fresh : List (List ℕ) → Form → Bool
 is_fresh names (task n q p) = is_none (task_of names n)
@@ -43,7 +44,7 @@ abbrev pub last_of : List ℕ → ℕ
 last_of moments = slice_index moments (length moments - 1)
 
 abbrev pub is_timely : List ℕ → Form → Bool
-is_timely moments (at_moment m deed) = nat_le (last_of moments) (value m)
+is_timely moments (at_moment m act) = nat_le (last_of moments) (value m)
 is_timely moments form = true
 
 -- The first test that a form fails, after the names declared so far, in any file, and the moments so far, in this one.

@@ -66,7 +66,7 @@ pub record LineFault (names : List (List ℕ)) (bytes : List ℕ) (k : Kind) (n 
   pub front : bytes ≡ text tree ++ rest
   pub more : 0 < length rest
   pub number : n ≡ 3 + length tree.tasks + length tree.happenings
-  pub fault : front_fault CutShort (line_fault tree.version (names ++ names_of tree.tasks) (map (λ m. m.at) tree.happenings)) (parts_of rest) ≡ Some k
+  pub fault : front_fault CutShort (line_fault tree.version (names ++ names_of tree.tasks) (map (λ h. h.m) tree.happenings)) (parts_of rest) ≡ Some k
 
 -- the first fault of a file, after these names
 abbrev pub FileFault : List (List ℕ) → List ℕ → Kind → ℕ → Type 0
@@ -85,11 +85,11 @@ pub record FirstFault (names : List (List ℕ)) (files : List (List ℕ)) (k : K
   pub fault : FileFault (names ++ names_of (all_tasks fronts)) bytes k n
 
 -- the first happening that names a task which is not declared
-pub record UnknownIn (names : List (List ℕ)) (ms : List Happening) (n : ℕ) : Type 0 where
+pub record UnknownIn (names : List (List ℕ)) (hs : List Happening) (n : ℕ) : Type 0 where
   pub before : List Happening
   pub happening : Happening
   pub after : List Happening
-  pub happenings_are : ms ≡ before ++ happening ∷ after
+  pub happenings_are : hs ≡ before ++ happening ∷ after
   pub known : AreKnown names before
   pub unknown : line_in names happening ≡ None
   pub line : n ≡ length before

@@ -5,11 +5,11 @@ use Rattle.std.specs.Str.{bytes_eq}
 use Rattle.std.specs.Char.{is_ascii_digit}
 use Rattle.std.specs.Str.Parse.{digits_value}
 use Rattle.grub_bw.specs.Bandwidth.{Reservation, Capacity}
-use Rattle.grub_trace.specs.declared.form.Verb.{Verb}
-use Rattle.grub_trace.specs.declared.form.Verb.TheVariants.{Join, Wake, Block, Leave, Exit}
+use Rattle.grub_trace.specs.declared.line.Act.{Act}
+use Rattle.grub_trace.specs.declared.line.Act.TheVariants.{Join, Wake, Block, Leave, Exit, Run, Retune, Read}
 use Rattle.grub_trace.specs.declared.version.Version.{Version}
 use Rattle.grub_trace.specs.declared.version.Version.TheVariants.{One, Two}
-use Rattle.grub_trace.specs.Tree.{Deed, does, runs, retunes, reads, is_name, header}
+use Rattle.grub_trace.specs.Tree.{is_name, header}
 
 -- ---- lines and their words
 
@@ -29,18 +29,19 @@ words_of line = slice_split (λ b. b == 32) line
 pub data Form : Type 0 where
   queue : List ℕ → List ℕ → Form
   task : List ℕ → List ℕ → List ℕ → Form
-  at_moment : List ℕ → Deed (List ℕ) → Form
+  at_moment : List ℕ → Act (List ℕ) (List ℕ) → Form
 
-abbrev pub verb_of : List ℕ → Option Verb
-verb_of w = if bytes_eq w (codes "join") then Some Join else (if bytes_eq w (codes "wake") then Some Wake else (if bytes_eq w (codes "block") then Some Block
-    else (if bytes_eq w (codes "leave") then Some Leave else (if bytes_eq w (codes "exit") then Some Exit else None))))
+-- what a verb says that the task with this name does
+abbrev pub act_of : List ℕ → List ℕ → Option (Act (List ℕ) (List ℕ))
+act_of w n = if bytes_eq w (codes "join") then Some (Join n) else (if bytes_eq w (codes "wake") then Some (Wake n) else (if bytes_eq w (codes "block") then Some (Block n)
+    else (if bytes_eq w (codes "leave") then Some (Leave n) else (if bytes_eq w (codes "exit") then Some (Exit n) else None))))
 
 -- the form that the keywords, the number of words and the name among them make
 abbrev pub shape_of : List (List ℕ) → Option Form
-shape_of (k ∷ a ∷ b ∷ []) = if bytes_eq k (codes "queue") then Some (queue a b) else (if bytes_eq k (codes "at") && bytes_eq b (codes "read") then Some (at_moment a reads) else None)
-shape_of (k ∷ a ∷ b ∷ c ∷ []) = if bytes_eq k (codes "task") && is_name a then Some (task a b c) else (if bytes_eq k (codes "at") && is_name c then option_map (λ v. at_moment a (does v c)) (verb_of b) else None)
-shape_of (k ∷ a ∷ b ∷ c ∷ d ∷ []) = if bytes_eq k (codes "at") && bytes_eq b (codes "run") && is_name c then Some (at_moment a (runs c d)) else None
-shape_of (k ∷ a ∷ b ∷ c ∷ d ∷ e ∷ []) = if bytes_eq k (codes "at") && bytes_eq b (codes "retune") && is_name c then Some (at_moment a (retunes c d e)) else None
+shape_of (k ∷ a ∷ b ∷ []) = if bytes_eq k (codes "queue") then Some (queue a b) else (if bytes_eq k (codes "at") && bytes_eq b (codes "read") then Some (at_moment a Read) else None)
+shape_of (k ∷ a ∷ b ∷ c ∷ []) = if bytes_eq k (codes "task") && is_name a then Some (task a b c) else (if bytes_eq k (codes "at") && is_name c then option_map (at_moment a) (act_of b c) else None)
+shape_of (k ∷ a ∷ b ∷ c ∷ d ∷ []) = if bytes_eq k (codes "at") && bytes_eq b (codes "run") && is_name c then Some (at_moment a (Run c d)) else None
+shape_of (k ∷ a ∷ b ∷ c ∷ d ∷ e ∷ []) = if bytes_eq k (codes "at") && bytes_eq b (codes "retune") && is_name c then Some (at_moment a (Retune c d e)) else None
 shape_of _ = None
 
 abbrev pub is_filled : List ℕ → Bool
@@ -64,9 +65,9 @@ value digits = digits_value 10 digits
 abbrev pub numbers_of : Form → List (List ℕ)
 numbers_of (queue a b) = a ∷ b ∷ []
 numbers_of (task n q p) = q ∷ p ∷ []
-numbers_of (at_moment m (runs n d)) = m ∷ d ∷ []
-numbers_of (at_moment m (retunes n q p)) = m ∷ q ∷ p ∷ []
-numbers_of (at_moment m deed) = m ∷ []
+numbers_of (at_moment m (Run n d)) = m ∷ d ∷ []
+numbers_of (at_moment m (Retune n q p)) = m ∷ q ∷ p ∷ []
+numbers_of (at_moment m act) = m ∷ []
 
 -- the reservation and the constants that two words spell
 abbrev pub reservation_value : List ℕ → List ℕ → Reservation

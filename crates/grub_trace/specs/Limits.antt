@@ -5,12 +5,11 @@ use Rattle.grub_bw.specs.Bandwidth.{IsReservation}
 use Rattle.grub_book.specs.Machine.{IsMachine}
 use Rattle.grub_trace.specs.declared.line.Act.{Act}
 use Rattle.grub_trace.specs.declared.line.Act.TheVariants as act
-use Rattle.grub_trace.specs.declared.line.Line.{Line}
-use Rattle.grub_trace.specs.Plans.{PlanView}
+use Rattle.grub_trace.specs.Plans.{Line, PlanView}
 use Rattle.grub_trace.specs.Tree.{is_name}
 
 -- an act of one of so many tasks, with its numbers within their limits
-abbrev pub ActFits : ℕ → Act → Type 0
+abbrev pub ActFits : ℕ → Act ℕ ℕ → Type 0
 ActFits n (act.Join t) = t < n
 ActFits n (act.Wake t) = t < n
 ActFits n (act.Block t) = t < n

@@ -3,26 +3,32 @@ use Rattle.std.specs.Prelude.{◌≡◌, ℕ, ◌≤◌, true, List, [], ◌∷�
 use Rattle.std.specs.List.{AllByRecursion}
 use Rattle.grub_bw.specs.Bandwidth.{IsReservation, IsCapacity}
 use Rattle.grub_trace.specs.declared.version.Version.{Version}
-use Rattle.grub_trace.specs.Tree.{Declaration, Deed, does, runs, retunes, reads, Happening, may_retune, Tree, text, is_name, is_span, is_moment, names_of}
+use Rattle.grub_trace.specs.declared.line.Act.{Act}
+use Rattle.grub_trace.specs.declared.line.Act.TheVariants as act
+use Rattle.grub_trace.specs.Tree.{Declaration, Happening, may_retune, Tree, text, is_name, is_span, is_moment, names_of}
 use Rattle.grub_trace.specs.Naming.{task_of, line_in, all_tasks}
 
 -- what may be said in a file of this version
-abbrev pub IsDeed : Version → Deed ℕ → Type 0
-IsDeed version (does v n) = is_name n ≡ true
-IsDeed version (runs n s) = (is_name n ≡ true) × (is_span s ≡ true)
-IsDeed version (retunes n q p) = (is_name n ≡ true) × IsReservation (record { runtime = q; period = p }) × (may_retune version ≡ true)
-IsDeed version reads = Unit {0}
+abbrev pub IsAct : Version → Act (List ℕ) ℕ → Type 0
+IsAct version (act.Join n) = is_name n ≡ true
+IsAct version (act.Wake n) = is_name n ≡ true
+IsAct version (act.Block n) = is_name n ≡ true
+IsAct version (act.Leave n) = is_name n ≡ true
+IsAct version (act.Exit n) = is_name n ≡ true
+IsAct version (act.Run n s) = (is_name n ≡ true) × (is_span s ≡ true)
+IsAct version (act.Retune n q p) = (is_name n ≡ true) × IsReservation (record { runtime = q; period = p }) × (may_retune version ≡ true)
+IsAct version act.Read = Unit {0}
 
 -- a happening that may stand after a moment, in a file of this version
-pub record IsHappeningFrom (version : Version) (low : ℕ) (m : Happening) : Type 0 where
-  pub after : low ≤ m.at
-  pub within : is_moment m.at ≡ true
-  pub deed : IsDeed version m.deed
+pub record IsHappeningFrom (version : Version) (low : ℕ) (h : Happening) : Type 0 where
+  pub after : low ≤ h.m
+  pub within : is_moment h.m ≡ true
+  pub act : IsAct version h.act
 
 -- no moment is before low, or before the one in front of it
 abbrev pub GoOn : Version → ℕ → List Happening → Type 0
 GoOn version low [] = Unit {0}
-GoOn version low (m ∷ ms) = IsHappeningFrom version low m × GoOn version m.at ms
+GoOn version low (h ∷ hs) = IsHappeningFrom version low h × GoOn version h.m hs
 
 -- a declaration by itself, and a tree by itself
 abbrev pub IsGood : Declaration → Type 0
@@ -44,7 +50,7 @@ pub record AreTogether (ts : List Tree) : Type 0 where
 
 -- each task that is named is declared
 abbrev pub AreKnown : List (List ℕ) → List Happening → Type 0
-AreKnown names ms = AllByRecursion (λ m. IsSome (line_in names m)) ms
+AreKnown names hs = AllByRecursion (λ h. IsSome (line_in names h)) hs
 
 -- the files read as these trees
 pub record Reads (files : List (List ℕ)) (trees : List Tree) : Type 0 where

@@ -1,7 +1,11 @@
 -- What a plan is seen as.
 use Rattle.std.specs.Prelude.{ℕ, List, slice_index_or, []}
 use Rattle.grub_book.specs.Machine.{Machine}
-use Rattle.grub_trace.specs.declared.line.Line.{Line}
+use Rattle.grub_trace.specs.declared.line.Line as lines
+
+-- a line of a script, with the number of the task
+abbrev pub Line : Type 0
+Line = lines.Line ℕ
 
 -- the runqueues and tasks of all files, the name of each task, and a script for each file
 pub record PlanView : Type 0 where

@@ -2,8 +2,9 @@
 use Rattle.std.specs.Prelude.{ℕ, Bool, true, false, not, ◌==◌, ◌&&◌, ◌||◌, nat_le, List, [], ◌∷◌, ◌++◌, length, map, codes, decimal}
 use Rattle.std.specs.List.{flat_map, join_with_byte, list_all}
 use Rattle.grub_bw.specs.Bandwidth.{Reservation, Capacity}
-use Rattle.grub_trace.specs.declared.form.Verb.{Verb}
-use Rattle.grub_trace.specs.declared.form.Verb.TheVariants.{Join, Wake, Block, Leave, Exit}
+use Rattle.grub_trace.specs.declared.line.Act.{Act}
+use Rattle.grub_trace.specs.declared.line.Act.TheVariants as act
+use Rattle.grub_trace.specs.declared.line.Line as lines
 use Rattle.grub_trace.specs.declared.version.Version.{Version}
 use Rattle.grub_trace.specs.declared.version.Version.TheVariants.{One, Two}
 
@@ -12,17 +13,9 @@ pub record Declaration : Type 0 where
   pub name : List ℕ
   pub params : Reservation
 
--- what is said to happen, with the names of tasks and with such numbers: a task does this, ran for so long or has a new runtime and period, or the runqueue is read
-pub data Deed (N : Type 0) : Type 0 where
-  does : Verb → List ℕ → Deed N
-  runs : List ℕ → N → Deed N
-  retunes : List ℕ → N → N → Deed N
-  reads : Deed N
-
--- a deed and its moment
-pub record Happening : Type 0 where
-  pub at : ℕ
-  pub deed : Deed ℕ
+-- what a line says that happens, with the name of the task, and its moment
+abbrev pub Happening : Type 0
+Happening = lines.Line (List ℕ)
 
 -- what a file says
 pub record Tree : Type 0 where
@@ -38,27 +31,25 @@ abbrev pub header : Version → List ℕ
 header One = codes "grub 1"
 header Two = codes "grub 2"
 
-abbrev pub verb_word : Verb → List ℕ
-verb_word Join = codes "join"
-verb_word Wake = codes "wake"
-verb_word Block = codes "block"
-verb_word Leave = codes "leave"
-verb_word Exit = codes "exit"
-
 abbrev pub queue_words : Capacity → List (List ℕ)
 queue_words c = codes "queue" ∷ decimal c.most ∷ decimal c.extra ∷ []
 
 abbrev pub declaration_words : Declaration → List (List ℕ)
 declaration_words d = codes "task" ∷ d.name ∷ decimal d.params.runtime ∷ decimal d.params.period ∷ []
 
-abbrev pub deed_words : Deed ℕ → List (List ℕ)
-deed_words (does v name) = verb_word v ∷ name ∷ []
-deed_words (runs name span) = codes "run" ∷ name ∷ decimal span ∷ []
-deed_words (retunes name q p) = codes "retune" ∷ name ∷ decimal q ∷ decimal p ∷ []
-deed_words reads = codes "read" ∷ []
+-- an act whose numbers are spelled so
+abbrev pub act_words : {V : Type 0} → (V → List ℕ) → Act (List ℕ) V → List (List ℕ)
+act_words spell (act.Join name) = codes "join" ∷ name ∷ []
+act_words spell (act.Wake name) = codes "wake" ∷ name ∷ []
+act_words spell (act.Block name) = codes "block" ∷ name ∷ []
+act_words spell (act.Leave name) = codes "leave" ∷ name ∷ []
+act_words spell (act.Exit name) = codes "exit" ∷ name ∷ []
+act_words spell (act.Run name span) = codes "run" ∷ name ∷ spell span ∷ []
+act_words spell (act.Retune name q p) = codes "retune" ∷ name ∷ spell q ∷ spell p ∷ []
+act_words spell act.Read = codes "read" ∷ []
 
 abbrev pub happening_words : Happening → List (List ℕ)
-happening_words m = codes "at" ∷ decimal m.at ∷ deed_words m.deed
+happening_words h = codes "at" ∷ decimal h.m ∷ act_words decimal h.act
 
 -- a line: its words with a space between each two, and the byte that ends it
 abbrev pub line : List (List ℕ) → List ℕ

@@ -1,16 +1,16 @@
 //! What stands below a head: what each line says, and the script that the lines are.
 
 ghost use Rattle.std.specs.Prelude.{◌≡◌, ◌≤◌, [], map, false};
-ghost use Rattle.grub_trace.specs.inside.Reading.{IsIndexed, IsMoment, IsRetune, IsRun, declarations, deed_view, opened, read_lines};
+ghost use Rattle.grub_trace.specs.inside.Reading.{IsIndexed, IsMoment, IsRetune, IsRun, declarations, line_view, opened, read_lines};
 ghost use Rattle.grub_trace.specs.Faults.{last_of};
 ghost use Rattle.grub_trace.specs.Forms.{parts_of};
 ghost use Rattle.grub_trace.specs.Tree.{names_of};
 ghost use Rattle.grub_trace.specs.inside.Forms.{begins_with_task};
 ghost use Rattle.grub_trace.specs.inside.Heads.{IsHead, read_body};
-ghost use Rattle.grub_trace.specs.inside.Lines.{GivesBody, GivesScript, IsTimely, SaysMore, TakesDeed, TakesLine};
+ghost use Rattle.grub_trace.specs.inside.Lines.{GivesBody, GivesScript, IsTimely, SaysMore, TakesAct, TakesLine};
 
 use crate::fault::{Halt, Kind};
-use crate::form::{Deed, Form, form_of};
+use crate::form::{Form, form_of};
 use crate::line::{Act, Line};
 use crate::naming::act_in;
 use crate::number::number;
@@ -83,47 +83,43 @@ fn timely(last: u32, at: u32) -> Result<(), Kind>
 }
 
 /// What is said to happen at a moment, after the last one.
-fn take_deed<'a>(
+fn take_act<'a>(
     version: Version,
     last: u32,
     at: &[u8],
-    deed: Deed<'a, &'a [u8]>,
-) -> Result<(u32, Deed<'a, u32>), Kind>
-    ensures { TakesDeed result version last at.now deed.entry }
+    act: Act<&'a [u8], &'a [u8]>,
+) -> Result<Line<&'a [u8]>, Kind>
+    ensures { TakesAct result version last at.now act.entry }
 {
-    match deed {
-        Deed::Does(verb, name) => {
-            let at = moment(at)?;
-            timely(last, at)?;
-            Ok((at, Deed::Does(verb, name)))
+    let (m, act) = match act {
+        Act::Join(name) => (moment(at)?, Act::Join(name)),
+        Act::Wake(name) => (moment(at)?, Act::Wake(name)),
+        Act::Block(name) => (moment(at)?, Act::Block(name)),
+        Act::Leave(name) => (moment(at)?, Act::Leave(name)),
+        Act::Exit(name) => (moment(at)?, Act::Exit(name)),
+        Act::Run(name, span) => {
+            let (m, span) = run(at, span)?;
+            (m, Act::Run(name, span))
         }
-        Deed::Runs(name, span) => {
-            let (at, span) = run(at, span)?;
-            timely(last, at)?;
-            Ok((at, Deed::Runs(name, span)))
-        }
-        Deed::Retunes(name, runtime, period) => {
+        Act::Retune(name, runtime, period) => {
             if !version.may_retune() {
                 return Err(Kind::BadLine);
             }
-            let (at, runtime, period) = retune(at, runtime, period)?;
-            timely(last, at)?;
-            Ok((at, Deed::Retunes(name, runtime, period)))
+            let (m, runtime, period) = retune(at, runtime, period)?;
+            (m, Act::Retune(name, runtime, period))
         }
-        Deed::Reads => {
-            let at = moment(at)?;
-            timely(last, at)?;
-            Ok((at, Deed::Reads))
-        }
-    }
+        Act::Read => (moment(at)?, Act::Read),
+    };
+    timely(last, m)?;
+    Ok(Line { m, act })
 }
 
 /// What a line below a head says, after the last moment. No task is declared there.
-fn take_line<'a>(version: Version, last: u32, line: &'a [u8]) -> Result<(u32, Deed<'a, u32>), Kind>
+fn take_line<'a>(version: Version, last: u32, line: &'a [u8]) -> Result<Line<&'a [u8]>, Kind>
     ensures { TakesLine result version last line.now }
 {
     match form_of(line) {
-        Some(Form::At(at, deed)) => take_deed(version, last, at, deed),
+        Some(Form::At(at, act)) => take_act(version, last, at, act),
         _ => Err(Kind::BadLine),
     }
 }
@@ -133,20 +129,19 @@ fn say(
     tasks: &Tasks,
     script: &mut RawScript,
     number: usize,
-    m: u32,
-    deed: Deed<'_, u32>,
+    line: Line<&[u8]>,
 ) -> Result<(), AllocError>
     requires { IsIndexed tasks.now }
-    ensures { SaysMore result (names_of (declarations tasks.now)) script.old script.new number m (deed_view (λ n. n) deed.entry) }
+    ensures { SaysMore result (names_of (declarations tasks.now)) script.old script.new number (line_view line.entry) }
 {
-    let act = match act_in(tasks, deed) {
+    let act = match act_in(tasks, line.act) {
         Some(act) => act,
         None => {
             script.unknown = script.unknown.or(Some(number));
             Act::Read
         }
     };
-    script.lines.push(Line { m, act })?;
+    script.lines.push(Line { m: line.m, act })?;
     Ok(())
 }
 
@@ -170,11 +165,11 @@ fn read_lines(
     let mut rest = text;
     let mut number = first;
     while let Some((line, after)) = first_line(rest) {
-        let (m, deed) = match take_line(version, last(&script.lines), line) {
-            Ok(taken) => taken,
+        let said = match take_line(version, last(&script.lines), line) {
+            Ok(said) => said,
             Err(kind) => return Err(Halt::At(kind, number)),
         };
-        say(tasks, &mut script, number, m, deed)?;
+        say(tasks, &mut script, number, said)?;
         rest = after;
         number += 1;
     }

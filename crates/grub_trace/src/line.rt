@@ -1,24 +1,25 @@
-//! The lines of a script.
+//! Lines that say what happens.
 
-/// What a line of a script says that happens. Tasks are given by their numbers.
+/// What a line says that happens, with the name or the number of its task and with such numbers. A plan has the tasks by
+/// their numbers.
 #[derive(Clone, Copy, Debug, PartialEq, Eq)]
-pub enum Act {
-    Join(u32),
-    Wake(u32),
-    Block(u32),
-    Leave(u32),
-    Exit(u32),
+pub enum Act<N = u32, V = u32> {
+    Join(N),
+    Wake(N),
+    Block(N),
+    Leave(N),
+    Exit(N),
     /// The task ran for so long.
-    Run(u32, u32),
+    Run(N, V),
     /// The task's reservation becomes this runtime in each period.
-    Retune(u32, u32, u32),
+    Retune(N, V, V),
     /// The runqueue is read.
     Read,
 }
 
 /// A line of a script, at its moment.
 #[derive(Clone, Copy, Debug, PartialEq, Eq)]
-pub struct Line {
+pub struct Line<N = u32> {
     pub m: u32,
-    pub act: Act,
+    pub act: Act<N>,
 }

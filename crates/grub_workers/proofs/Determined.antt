@@ -9,7 +9,7 @@ use Rattle.grub_book.specs.History.{IsLegal, StartsWith, book_of}
 use Rattle.grub_book.specs.declared.event.Event.{Event}
 use Rattle.grub_book.specs.declared.event.Event.TheVariants as events
 use Rattle.grub_book.proofs.Histories.{legal_last, legal_prefix}
-use Rattle.grub_trace.specs.declared.line.Line.{Line}
+use Rattle.grub_trace.specs.Plans.{Line}
 use Rattle.grub_trace.specs.declared.entry.Ask.{Ask}
 use Rattle.grub_trace.specs.declared.entry.Ask.TheVariants.{Call, Read}
 use Rattle.grub_trace.specs.declared.entry.Answer.{Answer}

@@ -9,7 +9,7 @@ use Rattle.grub_book.specs.declared.op.Op.TheVariants as ops
 use Rattle.grub_book.specs.declared.reply.Reply.TheVariants as replies
 use Rattle.grub_trace.specs.declared.line.Act.{Act}
 use Rattle.grub_trace.specs.declared.line.Act.TheVariants as acts
-use Rattle.grub_trace.specs.declared.line.Line.{Line}
+use Rattle.grub_trace.specs.Plans.{Line}
 use Rattle.grub_trace.specs.declared.entry.Ask.{Ask}
 use Rattle.grub_trace.specs.declared.entry.Ask.TheVariants.{Call, Read}
 use Rattle.grub_trace.specs.declared.entry.Answer.{Answer}
@@ -63,7 +63,7 @@ module _ (r : ℕ) (N : ℕ → Type 0) where
       let there : N x.t = armed_own x.t before None (alarm_at x.z x.ticket) own (λ b none. absurd (cc)) f.1.next.armed in
       timers_own m xs f.0 after f.2 (own_more before f.0 x.z (Call x.t (ops.Timer x.ticket x.z)) f.1.goes_on.answer f.1.goes_on.list (there, tt) own)
 
-  act_own : (m : ℕ) (act : Act) → ((t : ℕ) → task_of act ≡ Some t → N t) → IsOwnAsk r N (ask_of r m act)
+  act_own : (m : ℕ) (act : Act ℕ ℕ) → ((t : ℕ) → task_of act ≡ Some t → N t) → IsOwnAsk r N (ask_of r m act)
   act_own m (acts.Join t) named = (named t refl, refl)
   act_own m (acts.Wake t) named = (named t refl, refl)
   act_own m (acts.Block t) named = (named t refl, refl)
@@ -77,7 +77,7 @@ module _ (r : ℕ) (N : ℕ → Type 0) where
   joins_own m t (Replied (replies.Left q)) before after there f own = own_more before after m (Call t (ops.Join r m)) f.answer f.list (there, refl) own
   joins_own m t answer before after there f own = subst AreOwn (sym f) own
 
-  follows_own : (m : ℕ) (act : Act) (answer : Answer) (before after : List Entry) → ((t : ℕ) → task_of act ≡ Some t → N t) → Follows r m act answer before after → AreOwn before → AreOwn after
+  follows_own : (m : ℕ) (act : Act ℕ ℕ) (answer : Answer) (before after : List Entry) → ((t : ℕ) → task_of act ≡ Some t → N t) → Follows r m act answer before after → AreOwn before → AreOwn after
   follows_own m (acts.Wake t) (Replied (replies.Elsewhere q)) before after named f own =
       joins_own m t f.answer f.left after (named t refl) f.joins (own_more before f.left m (Call t ops.Leave) f.answer f.leaves (named t refl, tt) own)
   follows_own m act answer before after named f own = subst AreOwn (sym f) own

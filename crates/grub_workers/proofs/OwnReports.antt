@@ -22,7 +22,6 @@ use Rattle.grub_book.specs.declared.event.Event.TheVariants as events
 use Rattle.grub_book.specs.declared.event.Reading.{Reading}
 use Rattle.grub_book.proofs.Histories.{book_push, legal_first, legal_last}
 use Rattle.grub_book.proofs.Totals.{opening_totals}
-use Rattle.grub_trace.specs.declared.line.Line.{Line}
 use Rattle.grub_trace.specs.declared.entry.Ask.{Ask}
 use Rattle.grub_trace.specs.declared.entry.Ask.TheVariants.{Call, Read}
 use Rattle.grub_trace.specs.declared.entry.Answer.{Answer}
@@ -30,7 +29,7 @@ use Rattle.grub_trace.specs.declared.entry.Answer.TheVariants.{Replied, Seen, Bu
 use Rattle.grub_trace.specs.declared.entry.Entry.{Entry}
 use Rattle.grub_trace.specs.declared.entry.Report.{Report}
 use Rattle.grub_asks.specs.Asked.{Asked}
-use Rattle.grub_trace.specs.Plans.{PlanView}
+use Rattle.grub_trace.specs.Plans.{Line, PlanView}
 use Rattle.grub_asks.specs.Answers.{IsAnswerTo, event_told, events_told}
 use Rattle.grub_workers.specs.Entries.{HeldTask}
 use Rattle.grub_workers.specs.Evidence.{IsOvertaken}

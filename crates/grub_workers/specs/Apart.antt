@@ -6,13 +6,12 @@ use Rattle.grub_trace.specs.declared.entry.Entry.{Entry}
 use Rattle.grub_trace.specs.declared.entry.Report.{Report}
 use Rattle.grub_trace.specs.declared.line.Act.{Act}
 use Rattle.grub_trace.specs.declared.line.Act.TheVariants.{Join, Wake, Block, Leave, Exit, Run, Retune, Read}
-use Rattle.grub_trace.specs.declared.line.Line.{Line}
-use Rattle.grub_trace.specs.Plans.{PlanView}
+use Rattle.grub_trace.specs.Plans.{Line, PlanView}
 use Rattle.grub_workers.specs.Handles.{script_at}
 use Rattle.grub_asks.specs.Answers.{IsGivenUp}
 use Rattle.grub_workers.specs.Runs.{IsOnlyRun, IsRun, entries_of}
 
-abbrev pub task_of : Act → Option ℕ
+abbrev pub task_of : Act ℕ ℕ → Option ℕ
 task_of (Join t) = Some t
 task_of (Wake t) = Some t
 task_of (Block t) = Some t

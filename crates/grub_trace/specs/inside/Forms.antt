@@ -6,7 +6,7 @@ abbrev pub is_task : Option Form → Bool
 is_task None = false
 is_task (Some (queue a b)) = false
 is_task (Some (task n q p)) = true
-is_task (Some (at_moment m d)) = false
+is_task (Some (at_moment m act)) = false
 
 -- the first whole line declares a task
 abbrev pub begins_with_task : List (List ℕ) → Bool

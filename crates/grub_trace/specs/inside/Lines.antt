@@ -4,17 +4,18 @@ use Rattle.std.specs.Borrow.{Bor}
 use Rattle.grub_trace.specs.declared.fault.Halt.{Halt}
 use Rattle.grub_trace.specs.declared.fault.Kind.{Kind}
 use Rattle.grub_trace.specs.declared.fault.Kind.TheVariants.{MomentGoesBack}
-use Rattle.grub_trace.specs.declared.form.Deed as raw
-use Rattle.grub_trace.specs.declared.line.Line.{Line}
+use Rattle.grub_trace.specs.declared.line.Act.{Act}
+use Rattle.grub_trace.specs.declared.line.Line as lines
 use Rattle.grub_trace.specs.declared.raw.RawFile.{RawFile}
 use Rattle.grub_trace.specs.declared.raw.RawScript.{RawScript}
 use Rattle.grub_trace.specs.declared.tasks.Tasks.{Tasks}
 use Rattle.grub_trace.specs.declared.version.Version.{Version}
 use Rattle.grub_trace.specs.Faults.{last_of}
 use Rattle.grub_trace.specs.Forms.{at_moment, form_of, words_of}
-use Rattle.grub_trace.specs.Tree.{Deed, Happening, names_of}
+use Rattle.grub_trace.specs.Plans.{Line}
+use Rattle.grub_trace.specs.Tree.{Happening, names_of}
 use Rattle.grub_trace.specs.inside.Forms.{is_task}
-use Rattle.grub_trace.specs.inside.Reading.{Body, Halts, Read, declarations, deed_view, says, script_from, take_form, take_line, times_of}
+use Rattle.grub_trace.specs.inside.Reading.{Body, Halts, Read, declarations, line_view, raw_view, says, script_from, take_form, take_line, times_of}
 
 -- the next moment is not before the last one
 abbrev pub IsTimely : {U : Type 0} → Result U Kind → ℕ → ℕ → Type 0
@@ -22,16 +23,16 @@ IsTimely (Ok u) last at = last ≤ at
 IsTimely (Err k) last at = (k ≡ MomentGoesBack) × (at < last)
 
 -- what a line says is said, or has this fault
-abbrev pub IsTaken : Result (ℕ × raw.Deed ℕ) Kind → Read → Result Read Kind → Type 0
-IsTaken (Ok x) r total = total ≡ Ok (says x.0 (deed_view (λ n. n) x.1) r)
+abbrev pub IsTaken : Result (lines.Line (Bor (List ℕ))) Kind → Read → Result Read Kind → Type 0
+IsTaken (Ok l) r total = total ≡ Ok (says (line_view l) r)
 IsTaken (Err k) r total = total ≡ Err k
 
 -- what is said to happen, after whatever was read of the file
-abbrev pub TakesDeed : Result (ℕ × raw.Deed ℕ) Kind → Version → ℕ → List ℕ → raw.Deed (Bor (List ℕ)) → Type 0
-TakesDeed result version last at deed = (r : Read) → r.version ≡ version → last_of (times_of r.happenings) ≡ last → IsTaken result r (take_form r (at_moment at (deed_view (λ w. w.now) deed)))
+abbrev pub TakesAct : Result (lines.Line (Bor (List ℕ))) Kind → Version → ℕ → List ℕ → Act (Bor (List ℕ)) (Bor (List ℕ)) → Type 0
+TakesAct result version last at act = (r : Read) → r.version ≡ version → last_of (times_of r.happenings) ≡ last → IsTaken result r (take_form r (at_moment at (raw_view act)))
 
 -- the same of a line, which is no task's above the first moment
-abbrev pub TakesLine : Result (ℕ × raw.Deed ℕ) Kind → Version → ℕ → List ℕ → Type 0
+abbrev pub TakesLine : Result (lines.Line (Bor (List ℕ))) Kind → Version → ℕ → List ℕ → Type 0
 TakesLine result version last line = (r : Read) → r.version ≡ version → last_of (times_of r.happenings) ≡ last → (is_task (form_of (words_of line)) ≡ true → 0 < length r.happenings) → IsTaken result r (take_line r line)
 
 -- the lines, or the first of them that names a task which no file declares
@@ -45,10 +46,10 @@ pub record IsScript (names : List (List ℕ)) (first : ℕ) (happenings : List H
   pub script : script_from names [] first happenings ≡ script_in lines unknown
 
 -- what line n says, after lines that are the happenings from any line on
-abbrev pub SaysMore : {U E : Type 0} → Result U E → List (List ℕ) → RawScript → RawScript → ℕ → ℕ → Deed ℕ → Type 0
-SaysMore (Ok u) names old new n at deed = (first : ℕ) (happenings : List Happening) → n ≡ first + length happenings → IsScript names first happenings old.lines.items old.unknown
-    → IsScript names first (happenings ++ record { at = at; deed = deed } ∷ []) new.lines.items new.unknown
-SaysMore (Err e) names old new n at deed = Unit {0}
+abbrev pub SaysMore : {U E : Type 0} → Result U E → List (List ℕ) → RawScript → RawScript → ℕ → Happening → Type 0
+SaysMore (Ok u) names old new n h = (first : ℕ) (happenings : List Happening) → n ≡ first + length happenings → IsScript names first happenings old.lines.items old.unknown
+    → IsScript names first (happenings ++ h ∷ []) new.lines.items new.unknown
+SaysMore (Err e) names old new n h = Unit {0}
 
 -- the script of what was read, or the fault
 abbrev pub GivesScript : Result RawScript Halt → Tasks → ℕ → Result Read (Kind × ℕ) → Type 0

@@ -11,19 +11,19 @@ use Rattle.grub_trace.specs.declared.fault.Kind.{Kind}
 use Rattle.grub_trace.specs.declared.fault.Kind.TheVariants.{BadLine, BadNumber, OutOfRange, CutShort, MissingQueue, BadHeader, UnknownTask}
 use Rattle.grub_trace.specs.declared.fault.TraceFault.{TraceFault}
 use Rattle.grub_trace.specs.declared.fault.TraceFault.TheVariants as fault
-use Rattle.grub_trace.specs.declared.line.Line.{Line}
+use Rattle.grub_trace.specs.declared.line.Line as lines
+use Rattle.grub_trace.specs.declared.line.Act.{Act}
+use Rattle.grub_trace.specs.declared.line.Act.TheVariants as act
 use Rattle.grub_trace.specs.declared.fault.Halt.{Halt}
 use Rattle.grub_trace.specs.declared.fault.Halt.TheVariants as halt
 use Rattle.grub_trace.specs.declared.fault.Stop.{Stop}
 use Rattle.grub_trace.specs.declared.fault.Stop.TheVariants as stop
 use Rattle.grub_trace.specs.declared.tasks.Task.{Task}
 use Rattle.grub_trace.specs.declared.tasks.Tasks.{Tasks}
-use Rattle.grub_trace.specs.declared.form.Deed as raw
-use Rattle.grub_trace.specs.declared.form.Deed.TheVariants as deed
 use Rattle.grub_trace.specs.Forms.{parts_of, version_of, Form, queue, task, at_moment, words_of, form_of, is_filled, is_number, value, reservation_value, capacity_value}
-use Rattle.grub_trace.specs.Plans.{PlanView}
+use Rattle.grub_trace.specs.Plans.{Line, PlanView}
 use Rattle.grub_trace.specs.Naming.{line_in, plan_with, task_of}
-use Rattle.grub_trace.specs.Tree.{is_moment, is_span, Declaration, Deed, does, runs, retunes, reads, Happening, names_of}
+use Rattle.grub_trace.specs.Tree.{is_moment, is_span, Declaration, Happening, names_of}
 use Rattle.grub_trace.specs.Faults.{queue_fault, form_fault, reservation_fits}
 use Rattle.grub_trace.specs.declared.form.Form as coded
 use Rattle.grub_trace.specs.declared.form.Form.TheVariants as code
@@ -37,17 +37,28 @@ words_in words = take words.count words.list
 abbrev pub AreFilled : WordList → List (List ℕ) → Type 0
 AreFilled words ws = (map (λ w. w.now) (words_in words) ≡ ws) × (list_all is_filled ws ≡ true)
 
--- what is said, with numbers in another form
-abbrev pub deed_view : {X Y : Type 0} → (X → Y) → raw.Deed X → Deed Y
-deed_view number (deed.Does v n) = does v n.now
-deed_view number (deed.Runs n d) = runs n.now (number d)
-deed_view number (deed.Retunes n q p) = retunes n.now (number q) (number p)
-deed_view number deed.Reads = reads
+-- the same act, with its name and its numbers in another form
+abbrev pub act_map : {N M V W : Type 0} → (N → M) → (V → W) → Act N V → Act M W
+act_map f g (act.Join n) = act.Join (f n)
+act_map f g (act.Wake n) = act.Wake (f n)
+act_map f g (act.Block n) = act.Block (f n)
+act_map f g (act.Leave n) = act.Leave (f n)
+act_map f g (act.Exit n) = act.Exit (f n)
+act_map f g (act.Run n d) = act.Run (f n) (g d)
+act_map f g (act.Retune n q p) = act.Retune (f n) (g q) (g p)
+act_map f g act.Read = act.Read
+
+-- what a line says, with its numbers unread and read
+abbrev pub raw_view : Act (Bor (List ℕ)) (Bor (List ℕ)) → Act (List ℕ) (List ℕ)
+raw_view a = act_map (λ n. n.now) (λ w. w.now) a
+
+abbrev pub line_view : lines.Line (Bor (List ℕ)) → Happening
+line_view l = record { m = l.m; act = act_map (λ n. n.now) (λ v. v) l.act }
 
 abbrev pub form_view : coded.Form → Form
 form_view (code.Queue a b) = queue a.now b.now
 form_view (code.Task n q p) = task n.now q.now p.now
-form_view (code.At m d) = at_moment m.now (deed_view (λ w. w.now) d)
+form_view (code.At m a) = at_moment m.now (raw_view a)
 
 -- the number that the word spells, or the greatest of 32 bits where it is greater
 abbrev pub IsNumber : Option ℕ → List ℕ → Type 0
@@ -74,20 +85,17 @@ opened version ds = record { version = version; declared = ds; happenings = [] }
 abbrev pub declares : Declaration → Read → Read
 declares d r = record { version = r.version; declared = r.declared ++ d ∷ []; happenings = r.happenings }
 
-abbrev pub says : ℕ → Deed ℕ → Read → Read
-says at deed r = record { version = r.version; declared = r.declared; happenings = r.happenings ++ record { at = at; deed = deed } ∷ [] }
+abbrev pub says : Happening → Read → Read
+says h r = record { version = r.version; declared = r.declared; happenings = r.happenings ++ h ∷ [] }
 
 -- what a form without a fault adds
 abbrev pub adds : Form → Read → Read
 adds (queue a b) r = r
 adds (task n q p) r = declares (record { name = n; params = reservation_value q p }) r
-adds (at_moment m (does v n)) r = says (value m) (does v n) r
-adds (at_moment m (runs n d)) r = says (value m) (runs n (value d)) r
-adds (at_moment m (retunes n q p)) r = says (value m) (retunes n (value q) (value p)) r
-adds (at_moment m reads) r = says (value m) reads r
+adds (at_moment m a) r = says (record { m = value m; act = act_map (λ n. n) value a }) r
 
 abbrev pub times_of : List Happening → List ℕ
-times_of ms = map (λ m. m.at) ms
+times_of hs = map (λ h. h.m) hs
 
 abbrev pub unless : {X : Type 0} → Option Kind → X → Result X Kind
 unless None x = Ok x

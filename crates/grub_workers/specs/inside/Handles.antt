@@ -7,8 +7,7 @@ use Rattle.grub_table.specs.declared.pass.Pass.{Pass}
 use Rattle.grub_table.specs.declared.pass.Shared.{Shared}
 use Rattle.grub_table.specs.Calls.{terms}
 use Rattle.grub_trace.specs.declared.entry.Report.{Report}
-use Rattle.grub_trace.specs.declared.line.Line.{Line}
-use Rattle.grub_trace.specs.Plans.{PlanView}
+use Rattle.grub_trace.specs.Plans.{Line, PlanView}
 use Rattle.grub_workers.specs.declared.work.WorkOf.{WorkOf}
 use Rattle.grub_workers.specs.declared.work.Worked.{Worked}
 use Rattle.grub_workers.specs.inside.Working.{IsWorked}

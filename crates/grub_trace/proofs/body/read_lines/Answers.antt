@@ -1,7 +1,7 @@
 use Rattle.std.proofs.Common.{◌∙◌, ap, refl, sym}
 use Rattle.grub_trace.specs.Faults.{last_of}
 use Rattle.grub_trace.specs.declared.fault.Stop.TheVariants as stop
-use Rattle.grub_trace.specs.inside.Reading.{Read, declarations, deed_view}
+use Rattle.grub_trace.specs.inside.Reading.{Read, declarations, line_view}
 use Rattle.grub_trace.proofs.Elsewhere.{front_below}
 use Rattle.grub_trace.proofs.LineLemmas.{ends_short, ends_whole, stops}
 use Rattle.grub_trace.proofs.ScriptLaws.{says_next, says_none}
@@ -24,7 +24,7 @@ loop-line-preserved c =
     let r : Read = record { version = c.args.version; declared = declarations c.args.tasks.now; happenings = on.happenings } in
     let last = rw c.deref.ensures.value at c.last.ensures in
     let taken = c.in-Ok.ensures r refl (ap last_of on.script.times ∙ sym last) (λ is. on.below (front_below c.loop-line.rest.now c.in-Some.line.now c.in-Some.after.now c.in-Some.ensures.parts is)) in
-    says_next c.args.version c.args.tasks.now c.loop-line.script.lines.items c.say.new.script.lines.items c.loop-line.script.unknown c.say.new.script.unknown c.loop-line.number c.in-Ok.taken.0 c.loop-line.rest.now c.in-Some.line.now c.in-Some.after.now c.args.first c.args.text.now (deed_view (λ n. n) c.in-Ok.taken.1) on
+    says_next c.args.version c.args.tasks.now c.loop-line.script.lines.items c.say.new.script.lines.items c.loop-line.script.unknown c.say.new.script.unknown c.loop-line.number c.loop-line.rest.now c.in-Some.line.now c.in-Some.after.now c.args.first c.args.text.now (line_view c.in-Ok.said) on
     c.in-Some.ensures.parts c.in-Some.ensures.len taken (c.in_ok-say.ensures c.args.first on.happenings on.place on.script)
 
 pub returns-then-not-is_empty : goal.returns-then-not-is_empty

@@ -2,7 +2,7 @@ use Rattle.std.proofs.Common.{◌≡◌, ◌+◌, [], ◌∷◌, List, length, r
 use Rattle.std.proofs.lemmas.Fn.{FoldsTo-push}
 use Rattle.std.proofs.lemmas.List.{take_more}
 use Rattle.grub_table.specs.Calls.{terms}
-use Rattle.grub_trace.specs.declared.line.Line.{Line}
+use Rattle.grub_trace.specs.Plans.{Line}
 use Rattle.grub_trace.specs.declared.line.Act.TheVariants as acts
 use Rattle.grub_asks.specs.Asked.{AsksLine}
 use Rattle.grub_trace.specs.Limits.{ScriptFits}
