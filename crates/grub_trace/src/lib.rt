@@ -16,8 +16,6 @@ mod plan;
 mod raw;
 mod read;
 mod tasks;
-#[cfg(test)]
-mod tests;
 mod text;
 mod version;
 mod word_list;

@@ -1,0 +1,5 @@
+//! Tests of grub_trace.
+#![tactic(auto)]
+
+#[cfg(test)]
+mod tests;
