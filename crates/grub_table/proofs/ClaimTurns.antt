@@ -1,15 +1,18 @@
--- The steps of a pass that holds a task whose call is undecided: load-params, load-server, load-queue, change-queue, and store-server with the event.
-use Rattle.std.proofs.Common.{◌≡◌, ◌≢◌, ◌⊎◌, ℕ, ◌+◌, ◌<◌, Bool, true, false, cond, nat_lt, ◌&&◌, List, [], ◌∷◌, ◌++◌, length, set, get_or, sym, refl, ap, ◌∙◌, subst, inl, inr, ⊎_elim, arith, Option, Some, None, eqb}
+-- The steps of a pass that holds a task whose call is undecided are allowed: load-params, load-server, load-queue, change-queue, and store-server with the event.
+use Rattle.std.proofs.Common.{◌≡◌, ◌≢◌, ◌⊎◌, ℕ, ◌+◌, ◌<◌, Bool, true, false, cond, nat_lt, ◌&&◌, List, [], ◌∷◌, ◌++◌, length, set, get_or, sym, refl, ap, ◌∙◌, subst, inl, inr, ⊎_elim, arith, Option, Some, None, eqb, eq-eqb}
 use mathlib.Core.Option.{some}
 use lib.ListN.{get_elem?}
 use lib.Seq.{set-get_or}
 use prog.Atomic.{either}
 use Rattle.atomic_table.specs.Table.{State}
 use Rattle.atomic_table.proofs.Lists.{exchanged}
-use Rattle.grub_bw.specs.Bandwidth.{Capacity, Reservation, bandwidth_of}
+use Rattle.std.proofs.lemmas.Bool.{ne_eqb}
+use Rattle.grub_bw.specs.Bandwidth.{Capacity, Reservation, IsReservation, bandwidth_of}
 use Rattle.grub_book.specs.Machine.{queue_at}
 use Rattle.grub_book.specs.Op.{IsOp}
+use Rattle.grub_book.specs.Sound.{IsKept}
 use Rattle.grub_book.specs.Sums.{Records, record_at, reading_of}
+use Rattle.grub_book.proofs.Soundness.{runqueue_there}
 use Rattle.grub_book.specs.Step.{early, unless, refused, settled, step, runqueue_of, changes_sum, LooksAtQueue, Refuses, arrived, lag_moment, is_inactive}
 use Rattle.grub_book.specs.Totals.{Counts, shifted_of}
 use Rattle.grub_book.specs.declared.event.Event.TheVariants.{Call}
@@ -26,8 +29,11 @@ use Rattle.grub_book.proofs.Refusals.{settling, refused_same}
 use Rattle.grub_book.proofs.Readings.{step_unchanged, step_elsewhere}
 use Rattle.grub_book.proofs.Tallies.{running_le_this}
 use Rattle.grub_book.proofs.Totals.{counts_each, shifted_set}
-use Rattle.grub_words.specs.Words.{queue_word, QueueFits}
+use Rattle.grub_words.specs.Words.{queue_word, server_word, params_word, QueueFits, ServerFits}
+use Rattle.grub_words.proofs.Bounds.{ServerFits-kept}
 use Rattle.grub_words.proofs.Halves.{same_queue}
+use Rattle.grub_table.specs.declared.pass.Shared.{Shared}
+use Rattle.grub_table.specs.declared.seated.Seated.{Seated}
 use Rattle.grub_table.specs.declared.view.Hold.{Hold}
 use Rattle.grub_table.specs.declared.view.Hold.TheVariants.{Undecided, Decided}
 use Rattle.grub_table.specs.declared.view.Share.{Share}
@@ -38,10 +44,13 @@ use Rattle.grub_table.specs.Layout.{queue_word_at}
 use Rattle.grub_table.specs.inside.Layout.{server_word_at, params_word_at, stored_of}
 use Rattle.grub_table.specs.Histories.{record_in, reading_in}
 use Rattle.grub_table.specs.inside.Views.{alone, holding}
-use Rattle.grub_table.specs.inside.Tellings.{is_decided_at_load, settled_quietly, outcome, Sees, Decides, DecidesIf, IsReadingFor, LoadedParams, LoadedServer, LoadedQueueAs, LoadedQueue, ChangedQueue, SettledServer}
+use Rattle.grub_table.specs.inside.Tellings.{is_decided_at_load, settled_quietly, outcome, Sees, Decides, DecidesIf, IsReadingFor, Of, OfQueue, SawParams, SawServer, SawQueueAs, SawQueue, ChangedQueue, SettledServer}
+use Rattle.grub_table.specs.inside.Between.{IsAllowed, HoldsFor}
+use Rattle.grub_table.specs.Calls.{share_on}
 use Rattle.grub_table.specs.inside.Rule.{Grip, Grips, grip, Kept, Written}
 use Rattle.grub_table.proofs.Moves.{reading_fits}
 use Rattle.grub_table.proofs.Rows.{put, put_here, put_else, only_put, words_of, Shows, shows_held, set_server, written_same, written_queue, written_task}
+use Rattle.grub_table.proofs.Allowed.{allowed_at, own_op, own_queue, task_within, queue_within, queue_told}
 use Rattle.grub_table.proofs.Turns.{Out, book, is_sound, in_book, seen_told, stays_seen, under, holds, record_here, record_else, book_called, decided, decided_told}
 
 -- ---- which outcomes are decided early, or at the load of the runqueue's word
@@ -107,6 +116,9 @@ module _ {S : Type 0} (x : Share) (s : State S View) (id : ℕ) (c : List (ℕ �
   shows : Shows (grip x.number rec (stored_of rec)) (record_at b t) (words_of T.setup s.words t)
   shows = subst (λ g. Shows g (record_at b t) (words_of T.setup s.words t)) mine (k.written.tasks t lt)
 
+  is_kept : IsKept T.setup rec
+  is_kept = subst (IsKept T.setup) record_is ((is_sound x s id c k at).kept t lt)
+
   -- the pass sees the history, and nothing else is new
   abbrev y : Share
   y = holding x k.history x.hold x.marks
@@ -115,15 +127,19 @@ module _ {S : Type 0} (x : Share) (s : State S View) (id : ℕ) (c : List (ℕ �
   sees = seen_told x s id c k at
 
   -- load-params
-  pub load_params_out : Out x s id c (params_word_at T.setup t) (get_or s.words (params_word_at T.setup t) 0) (LoadedParams (get_or s.words (params_word_at T.setup t) 0))
-  load_params_out =
-      let found : ℕ = get_or s.words (params_word_at T.setup t) 0 in (
-        k.history,
-        x.hold,
-        x.marks,
-        stays_seen x s id c k at (params_word_at T.setup t),
-        under x.hold t op rec (λ t op rec. (found ≡ (stored_of rec).params) × (y.hold ≡ x.hold) × (y.marks ≡ x.marks) × Sees T x y × (record_in T y.seen t ≡ rec)) has (shows.2, refl, refl, sees, record_is),
-      )
+  load_params_out : Out x s id c (params_word_at T.setup t) (get_or s.words (params_word_at T.setup t) 0) (Of params_word IsReservation SawParams (get_or s.words (params_word_at T.setup t) 0))
+  load_params_out = (
+    k.history,
+    x.hold,
+    x.marks,
+    stays_seen x s id c k at (params_word_at T.setup t),
+    (
+      rec.params,
+      is_kept.reservation,
+      sym shows.2,
+      under x.hold t op rec (λ t op r. (rec.params ≡ r.params) × (y.hold ≡ x.hold) × (y.marks ≡ x.marks) × Sees T x y) has (refl, refl, refl, sees),
+    ),
+  )
 
   -- the words of the other tasks, and what is shown of this one, where its call is made and its words stay
   module _ (fits : IsOp T.setup op) (p : Record × Reply) (is : step T.setup b t op ≡ (set b t p.0, p.1)) where
@@ -160,13 +176,21 @@ module _ {S : Type 0} (x : Share) (s : State S View) (id : ℕ) (c : List (ℕ �
       no_record : Record
       no_record = record { place = Gone; count = 0; params = record { runtime = 0; period = 0 }; server = record { q = 0; d = 0 } }
 
-  pub load_server_out : refused rec.place rec.count op ≡ None → IsOp T.setup op → Out x s id c (server_word_at T.setup t) (get_or s.words (server_word_at T.setup t) 0) (LoadedServer (get_or s.words (server_word_at T.setup t) 0))
+  load_server_out : refused rec.place rec.count op ≡ None → IsOp T.setup op → Out x s id c (server_word_at T.setup t) (get_or s.words (server_word_at T.setup t) 0) (Of server_word ServerFits SawServer (get_or s.words (server_word_at T.setup t) 0))
   load_server_out free fits =
-      let i : ℕ = server_word_at T.setup t in
-      let found : ℕ = get_or s.words i 0 in
-      let o = load_server_as i (early rec op) refl free fits in
-      let z : Share = holding x o.0 o.1 o.2 in
-      (o.0, o.1, o.2, o.3, under x.hold t op rec (λ t op rec. (found ≡ (stored_of rec).server) × (z.marks ≡ x.marks) × (record_in T z.seen t ≡ rec) × DecidesIf (early rec op) T x t op rec z) has (shows.1, o.4.0, o.4.1, o.4.2))
+      let o = load_server_as (server_word_at T.setup t) (early rec op) refl free fits in
+      let z : Share = holding x o.0 o.1 o.2 in (
+        o.0,
+        o.1,
+        o.2,
+        o.3,
+        (
+          rec.server,
+          (ServerFits-kept T.setup rec is_kept).0,
+          sym shows.1,
+          under x.hold t op rec (λ t op r. (rec.server ≡ r.server) × (z.marks ≡ x.marks) × (record_in T z.seen t ≡ r) × DecidesIf (early r op) T x t op r z) has (refl, o.4.0, o.4.1, o.4.2),
+        ),
+      )
 
   module _ (r : ℕ) (about : r ≡ runqueue_of rec.place op) (inside : r < length T.setup.queues) (free : refused rec.place rec.count op ≡ None) (fits : IsOp T.setup op) where
     abbrev now : Reading
@@ -192,57 +216,72 @@ module _ {S : Type 0} (x : Share) (s : State S View) (id : ℕ) (c : List (ℕ �
     }
 
     -- load-queue
-    load_queue_as : (d : Bool) → is_decided_at_load p.1 ≡ d → Out x s id c (queue_word_at r) (get_or s.words (queue_word_at r) 0) (λ U x y. (y.marks ≡ x.marks) × LoadedQueueAs d U x r t op rec now y)
+    load_queue_as : (d : Bool) → is_decided_at_load p.1 ≡ d → Out x s id c (queue_word_at r) (get_or s.words (queue_word_at r) 0) (λ U x y. (y.marks ≡ x.marks) × SawQueueAs d U x r t op rec now y)
     load_queue_as true is = let o = decided_here fits p steps (queue_word_at r) (λ q _. readings_at_load is q) in (o.0, o.1, o.2, o.3, (o.4.0, o.4.1))
     load_queue_as false is = (k.history, x.hold, x.marks, stays_seen x s id c k at (queue_word_at r), (refl, (sees, refl, refl, record_is)))
 
-    pub load_queue_out : Out x s id c (queue_word_at r) (get_or s.words (queue_word_at r) 0) (LoadedQueue r (get_or s.words (queue_word_at r) 0))
+    fits_now : QueueFits now
+    fits_now = reading_fits T k.history r k.limited k.is_history inside
+
+    load_queue_out : Out x s id c (queue_word_at r) (get_or s.words (queue_word_at r) 0) (Of queue_word QueueFits (SawQueue r) (get_or s.words (queue_word_at r) 0))
     load_queue_out =
-        let found : ℕ = get_or s.words (queue_word_at r) 0 in
         let o = load_queue_as (is_decided_at_load p.1) refl in
         let z : Share = holding x o.0 o.1 o.2 in (
           o.0,
           o.1,
           o.2,
           o.3,
-          under x.hold t op rec (λ t op rec. (z.marks ≡ x.marks) × ((now : Reading) × (found ≡ queue_word now) × IsReadingFor T r rec now × LoadedQueueAs (is_decided_at_load (outcome T r now rec op).1) T x r t op rec now z)) has
-              (o.4.0, (now, k.written.queues r inside, is_reading, o.4.1)),
+          (
+            now,
+            fits_now,
+            sym (k.written.queues r inside),
+            under x.hold t op rec (λ t op rec. (z.marks ≡ x.marks) × IsReadingFor T r rec now × SawQueueAs (is_decided_at_load (outcome T r now rec op).1) T x r t op rec now z) has (o.4.0, is_reading, o.4.1),
+          ),
         )
 
     -- change-queue
-    change_queue_hit : (old new : ℕ) (then : Reading) → get_or s.words (queue_word_at r) 0 ≡ old → old ≡ queue_word then → QueueFits then → new ≡ queue_word (shifted_of then r rec (outcome T r then rec op).0)
-        → Out x s id c (queue_word_at r) new (λ U x y. (y.marks ≡ x.marks) × ((now : Reading) × (old ≡ queue_word now) × QueueFits now × Decides U x t op rec (outcome U r now rec op) (stored_of rec) y))
-    change_queue_hit old new then found was fit change =
+    abbrev found : ℕ
+    found = get_or s.words (queue_word_at r) 0
+
+    abbrev Told : ℕ → Terms → Share → Share → Type 0
+    Told old = Of queue_word QueueFits (λ m. ChangedQueue r m (eqb found old)) old
+
+    change_queue_hit : (old new : ℕ) (then : Reading) → found ≡ old → old ≡ queue_word then → QueueFits then → new ≡ queue_word (shifted_of then r rec (outcome T r then rec op).0) → Out x s id c (queue_word_at r) new (Told old)
+    change_queue_hit old new then hit was fit change =
         let g = holds x s id c k at t op rec has in
-        let fit_now = reading_fits T k.history r k.limited k.is_history inside in
-        let same : then ≡ now = same_queue then now fit fit_now (sym was ∙ sym found ∙ k.written.queues r inside) in
+        let same : then ≡ now = same_queue then now fit fits_now (sym was ∙ sym hit ∙ k.written.queues r inside) in
         let moved : shifted_of now r (record_at b t) p.0 ≡ reading_of (set b t p.0) r = shifted_set b t p.0 r below in
         let word : new ≡ queue_word (reading_of (set b t p.0) r) =
         change ∙ ap (λ (m : Reading). queue_word (shifted_of m r rec (outcome T r m rec op).0)) same ∙ ap (λ (z : Record). queue_word (shifted_of now r z p.0)) (sym record_is) ∙ ap queue_word moved in
         let elsewhere : (q : ℕ) → q ≢ r → reading_of (set b t p.0) q ≡ reading_of b q = λ q other. ap (λ z. reading_of z q) (sym (ap (λ z. z.0) steps))
         ∙ step_elsewhere T.setup b t op q below (λ e. other (sym e ∙ ap (λ (z : Record). runqueue_of z.place op) record_is ∙ sym about)) in
         let written = written_queue T b (set b t p.0) k.grips k.grips s.words t k.written (λ u _. refl) (λ u other. record_else b t u p.0 other) r new inside word elsewhere
-        (shows_held (k.grips t) x.number rec (record_at b t) (record_at (set b t p.0) t) (stored_of rec) (words_of T.setup s.words t) mine (k.written.tasks t lt)) in (
-          k.history ++ Call x.number t op p.1 ∷ [],
-          Decided t rec p.0 (stored_of rec),
+        (shows_held (k.grips t) x.number rec (record_at b t) (record_at (set b t p.0) t) (stored_of rec) (words_of T.setup s.words t) mine (k.written.tasks t lt)) in
+        let h = k.history ++ Call x.number t op p.1 ∷ [] in
+        let d : Hold = Decided t rec p.0 (stored_of rec) in
+        let z : Share = holding x h d x.marks in
+        let told : ChangedQueue r now true T x z =
+        under x.hold t op rec (λ t op rec. (z.marks ≡ x.marks) × Decides T x t op rec (outcome T r now rec op) (stored_of rec) z) has
+        (refl, (decided_told x s id c k at t op rec has p fits steps (stored_of rec), refl, (k.history, refl, record_is))) in (
+          h,
+          d,
           x.marks,
           decided x s id c k at t op rec has p fits steps (queue_word_at r) new k.grips (stored_of rec) mine (λ u _. refl) g.3 written,
-          (refl, (now, sym found ∙ k.written.queues r inside, fit_now, (decided_told x s id c k at t op rec has p fits steps (stored_of rec), refl, (k.history, refl, record_is)))),
+          (now, fits_now, sym (k.written.queues r inside) ∙ hit, subst (λ w. ChangedQueue r now w T x z) (sym (eq-eqb found old hit)) told),
         )
 
-    pub change_queue_out : (old new : ℕ) (then : Reading) → old ≡ queue_word then → QueueFits then → new ≡ queue_word (shifted_of then r rec (outcome T r then rec op).0)
-        → Out x s id c (queue_word_at r) (either (eqb (get_or s.words (queue_word_at r) 0) old) new (get_or s.words (queue_word_at r) 0)) (ChangedQueue r old (get_or s.words (queue_word_at r) 0))
-    change_queue_out old new then was fit change =
-        let found : ℕ = get_or s.words (queue_word_at r) 0 in
-        let Q : Share → ℕ → Op → Record → Type 0 = λ z t op rec. (z.marks ≡ x.marks)
-        × (found ≡ old → (now : Reading) × (old ≡ queue_word now) × QueueFits now × Decides T x t op rec (outcome T r now rec op) (stored_of rec) z)
-        × (found ≢ old → Sees T x z × (z.hold ≡ x.hold) × (found ≡ queue_word (reading_in T z.seen r)) × (record_in T z.seen t ≡ rec)) in
-        exchanged found old new (λ m. Out x s id c (queue_word_at r) m (ChangedQueue r old found))
-        (λ hit. let o = change_queue_hit old new then hit was fit change in let z : Share = holding x o.0 o.1 o.2 in (o.0, o.1, o.2, o.3, under x.hold t op rec (Q z) has (o.4.0, (λ _. o.4.1), (λ not. absurd (not hit)))))
-        (λ not. (k.history, x.hold, x.marks, stays_seen x s id c k at (queue_word_at r), under x.hold t op rec (Q y) has (refl, (λ hit. absurd (not hit)), (λ _. (sees, refl, k.written.queues r inside, record_is)))))
+    change_queue_out : (old new : ℕ) (then : Reading) → old ≡ queue_word then → QueueFits then → new ≡ queue_word (shifted_of then r rec (outcome T r then rec op).0)
+        → Out x s id c (queue_word_at r) (either (eqb found old) new found) (Told old)
+    change_queue_out old new then was fit change = exchanged found old new (λ m. Out x s id c (queue_word_at r) m (Told old))
+        (λ hit. change_queue_hit old new then hit was fit change)
+        (λ not.
+        let told : ChangedQueue r then false T x y =
+        under x.hold t op rec (λ t op rec. (y.marks ≡ x.marks) × Sees T x y × (y.hold ≡ x.hold) × (then ≢ reading_in T y.seen r) × (record_in T y.seen t ≡ rec)) has
+        (refl, sees, refl, (λ e. not (k.written.queues r inside ∙ ap queue_word (sym e) ∙ sym was)), record_is) in
+        (k.history, x.hold, x.marks, stays_seen x s id c k at (queue_word_at r), (then, fit, sym was, subst (λ w. ChangedQueue r then w T x y) (sym (ne_eqb found old not)) told)))
 
   -- store-server, with the event
-  pub settle_server_out : (stored : ℕ) → refused rec.place rec.count op ≡ None → IsOp T.setup op → changes_sum rec op ≡ false → ¬ LooksAtQueue rec.place op → Out x s id c (server_word_at T.setup t) stored (SettledServer stored)
+  settle_server_out : (stored : ℕ) → refused rec.place rec.count op ≡ None → IsOp T.setup op → changes_sum rec op ≡ false → ¬ LooksAtQueue rec.place op → Out x s id c (server_word_at T.setup t) stored (SettledServer stored)
   settle_server_out stored free fits quiet blind =
       let p : Record × Reply = settled_quietly rec op in
       let j : ℕ = server_word_at T.setup t in
@@ -267,3 +306,35 @@ module _ {S : Type 0} (x : Share) (s : State S View) (id : ℕ) (c : List (ℕ �
     where
       one_three : 1 < 3
       one_three = omega arith
+
+-- ---- of the seat that a function has
+module _ (s : Shared) (seat : Seated) (t j : ℕ) (op : Op) (rec : Record) (h : HoldsFor s seat t op rec) where
+  pub load_params_allowed : j ≡ params_word_at s.terms.setup t → IsAllowed s seat j (λ v. v) (Of params_word IsReservation SawParams)
+  load_params_allowed e = allowed_at s seat h.seat_of (λ U. params_word_at U.setup t) j (λ v. v) (Of params_word IsReservation SawParams) e (task_within s seat h.seat_of t j 2 h.task (omega arith) e)
+      (λ st k at. load_params_out (share_on seat) st seat.seat.id seat.seat.me.1 k at t op rec h.hold)
+
+  pub load_server_allowed : j ≡ server_word_at s.terms.setup t → IsAllowed s seat j (λ v. v) (Of server_word ServerFits SawServer)
+  load_server_allowed e = allowed_at s seat h.seat_of (λ U. server_word_at U.setup t) j (λ v. v) (Of server_word ServerFits SawServer) e (task_within s seat h.seat_of t j 1 h.task (omega arith) e)
+      (λ st k at. load_server_out (share_on seat) st seat.seat.id seat.seat.me.1 k at t op rec h.hold h.unrefused (own_op s seat h.seat_of op h.op))
+
+  pub settle_server_allowed : (n : ℕ) → j ≡ server_word_at s.terms.setup t → changes_sum rec op ≡ false → ¬ LooksAtQueue rec.place op → IsAllowed s seat j (λ _. n) (λ _. SettledServer n)
+  settle_server_allowed n e quiet blind = allowed_at s seat h.seat_of (λ U. server_word_at U.setup t) j (λ _. n) (λ _. SettledServer n) e (task_within s seat h.seat_of t j 1 h.task (omega arith) e)
+      (λ st k at. settle_server_out (share_on seat) st seat.seat.id seat.seat.me.1 k at t op rec h.hold n h.unrefused (own_op s seat h.seat_of op h.op) quiet blind)
+
+  -- the runqueue that the op is about is there
+  pub about_there : (r : ℕ) → r ≡ runqueue_of rec.place op → r < length s.terms.setup.queues
+  about_there r about = subst (λ q. q < length s.terms.setup.queues) (sym about) (runqueue_there s.terms.setup rec.place op s.limited.queues_some h.kept.there h.op)
+
+  pub load_queue_allowed : (r : ℕ) → j ≡ queue_word_at r → r ≡ runqueue_of rec.place op → IsAllowed s seat j (λ v. v) (λ v. OfQueue j (λ q. Of queue_word QueueFits (SawQueue q) v))
+  load_queue_allowed r e about = allowed_at s seat h.seat_of (λ _. queue_word_at r) j (λ v. v) (λ v. OfQueue j (λ q. Of queue_word QueueFits (SawQueue q) v)) e (queue_within s seat h.seat_of r j (about_there r about) e)
+      (λ st k at.
+      let o = load_queue_out (share_on seat) st seat.seat.id seat.seat.me.1 k at t op rec h.hold r about (own_queue s seat h.seat_of r (about_there r about)) h.unrefused (own_op s seat h.seat_of op h.op) in
+      (o.0, o.1, o.2, o.3, queue_told s seat h.seat_of r (λ q. Of queue_word QueueFits (SawQueue q) (get_or st.words (queue_word_at r) 0)) (share_on seat).terms (holding (share_on seat) o.0 o.1 o.2) j e o.4))
+
+  pub change_queue_allowed : (r old new : ℕ) (now : Reading) → j ≡ queue_word_at r → r ≡ runqueue_of rec.place op → old ≡ queue_word now → QueueFits now → new ≡ queue_word (shifted_of now r rec (outcome s.terms r now rec op).0)
+      → IsAllowed s seat j (λ v. either (eqb v old) new v) (λ v. OfQueue j (λ q. Of queue_word QueueFits (λ m. ChangedQueue q m (eqb v old)) old))
+  change_queue_allowed r old new now e about was fit change = allowed_at s seat h.seat_of (λ _. queue_word_at r) j (λ v. either (eqb v old) new v) (λ v. OfQueue j (λ q. Of queue_word QueueFits (λ m. ChangedQueue q m (eqb v old)) old)) e (queue_within s seat h.seat_of r j (about_there r about) e)
+      (λ st k at.
+      let o = change_queue_out (share_on seat) st seat.seat.id seat.seat.me.1 k at t op rec h.hold r about (own_queue s seat h.seat_of r (about_there r about)) h.unrefused (own_op s seat h.seat_of op h.op) old new now was fit
+      (subst (λ (U : Terms). new ≡ queue_word (shifted_of now r rec (outcome U r now rec op).0)) (sym h.seat_of.terms) change) in
+      (o.0, o.1, o.2, o.3, queue_told s seat h.seat_of r (λ q. Of queue_word QueueFits (λ m. ChangedQueue q m (eqb (get_or st.words (queue_word_at r) 0) old)) old) (share_on seat).terms (holding (share_on seat) o.0 o.1 o.2) j e o.4))

@@ -5,10 +5,10 @@ pub mod Rows
 pub mod Moves
 pub mod Counts
 pub mod Turns
+pub mod Allowed
 pub mod TaskTurns
 pub mod ClaimTurns
 pub mod StoreTurns
-pub mod AllowedSteps
 pub mod Between
 pub mod Starts
 pub mod Openings

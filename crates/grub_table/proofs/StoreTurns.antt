@@ -1,4 +1,4 @@
--- The stores of a pass that holds a task: store-server and store-params after the event, and give-claim.
+-- The stores of a pass that holds a task are allowed: store-server and store-params after the event, and give-claim.
 use Rattle.std.proofs.Common.{◌≡◌, ℕ, ◌+◌, ◌<◌, false, List, [], ◌∷◌, ◌++◌, length, set, sym, refl, ap, ◌∙◌, subst, arith, None}
 use mathlib.Core.Logic.{dite}
 use mathlib.Core.Option.{some}
@@ -10,6 +10,8 @@ use Rattle.grub_book.specs.declared.event.Event.{Event}
 use Rattle.grub_book.specs.declared.op.Op.{Op}
 use Rattle.grub_book.specs.declared.place.Record.{Record}
 use Rattle.grub_book.proofs.Histories.{starts_whole}
+use Rattle.grub_table.specs.declared.pass.Shared.{Shared}
+use Rattle.grub_table.specs.declared.seated.Seated.{Seated}
 use Rattle.grub_table.specs.declared.view.Hold.{Hold}
 use Rattle.grub_table.specs.declared.view.Hold.TheVariants.{Free, Undecided, Decided}
 use Rattle.grub_table.specs.declared.view.Mark.{Mark}
@@ -21,6 +23,8 @@ use Rattle.grub_table.specs.declared.view.View.{View}
 use Rattle.grub_table.specs.Marks.{AreLawful, holder_of, handed, marker_of}
 use Rattle.grub_table.specs.Layout.{task_word_at, shown}
 use Rattle.grub_table.specs.inside.Layout.{server_word_at, params_word_at, stored_of}
+use Rattle.grub_table.specs.Calls.{share_on}
+use Rattle.grub_table.specs.inside.Between.{IsAllowed, HoldsFor, HoldsMade}
 use Rattle.grub_table.specs.inside.Views.{alone, holding}
 use Rattle.grub_table.specs.inside.Tellings.{Sees, Gave, GaveClaim, StoredServer, StoredParams}
 use Rattle.grub_table.specs.inside.Rule.{Known, Grip, Grips, loose, grip, Grasps, IsOnly, holder_in, Kept}
@@ -28,6 +32,7 @@ use Rattle.grub_table.proofs.Marks.{lawful_more, holder_more, handed_here, hande
 use Rattle.grub_table.proofs.Growths.{goes_own}
 use Rattle.grub_table.proofs.Seats.{known_seen, known_kept, marked_more, IsMine}
 use Rattle.grub_table.proofs.Rows.{put, put_here, put_else, only_put, is_loose_not, IsWordOf, words_of, Shows, set_task, set_server, set_params, written_task}
+use Rattle.grub_table.proofs.Allowed.{allowed_at, task_within}
 use Rattle.grub_table.proofs.Turns.{Out, book, own, grasp, marked, seen_told, turned, turned_held, under, decided_as}
 
 module _ {S : Type 0} (x : Share) (s : State S View) (id : ℕ) (c : List (ℕ × S)) (k : Kept x.terms s) (at : get_elem? s.views id ≡ some (alone x)) where
@@ -57,7 +62,7 @@ module _ {S : Type 0} (x : Share) (s : State S View) (id : ℕ) (c : List (ℕ �
         (grasps.0, here, grasps.2, only_put k.grips t g x.number grasps.3)
         (written_task T b b k.grips grips s.words t k.written (put_else k.grips t g) (λ u _. refl) j n of (λ r _. refl) (subst (λ f. Shows f (record_at b t) (words_of T.setup (set s.words j n) t)) (sym here) new))
 
-    pub store_server_out : (n : ℕ) → Out x s id c (server_word_at T.setup t) n (StoredServer n)
+    store_server_out : (n : ℕ) → Out x s id c (server_word_at T.setup t) n (StoredServer n)
     store_server_out n =
         let j : ℕ = server_word_at T.setup t in
         let now : Stored = record { server = n; params = stored.params } in
@@ -73,7 +78,7 @@ module _ {S : Type 0} (x : Share) (s : State S View) (id : ℕ) (c : List (ℕ �
         one_three : 1 < 3
         one_three = omega arith
 
-    pub store_params_out : (n : ℕ) → Out x s id c (params_word_at T.setup t) n (StoredParams n)
+    store_params_out : (n : ℕ) → Out x s id c (params_word_at T.setup t) n (StoredParams n)
     store_params_out n =
         let j : ℕ = params_word_at T.setup t in
         let now : Stored = record { server = stored.server; params = n } in
@@ -129,7 +134,7 @@ module _ {S : Type 0} (x : Share) (s : State S View) (id : ℕ) (c : List (ℕ �
   undecided_not_decided e f = let g = sym e ∙ f in cc
 
   -- of a call that is given up
-  pub give_up_out : (t : ℕ) (op : Op) (rec : Record) (n : ℕ) → x.hold ≡ Undecided t op rec → n ≡ shown rec false → Out x s id c (task_word_at T.setup t) n GaveClaim
+  give_up_out : (t : ℕ) (op : Op) (rec : Record) (n : ℕ) → x.hold ≡ Undecided t op rec → n ≡ shown rec false → Out x s id c (task_word_at T.setup t) n GaveClaim
   give_up_out t op rec n has word =
       let g = subst (Grasps T k.grips b x.number) has (grasp x s id c k at) in
       let z : Share = holding x k.history Free (given t) in
@@ -142,7 +147,7 @@ module _ {S : Type 0} (x : Share) (s : State S View) (id : ℕ) (c : List (ℕ �
       )
 
   -- after the event
-  pub give_back_out : (t : ℕ) (before rec : Record) (n : ℕ) → x.hold ≡ Decided t before rec (stored_of rec) → n ≡ shown rec false → Out x s id c (task_word_at T.setup t) n GaveClaim
+  give_back_out : (t : ℕ) (before rec : Record) (n : ℕ) → x.hold ≡ Decided t before rec (stored_of rec) → n ≡ shown rec false → Out x s id c (task_word_at T.setup t) n GaveClaim
   give_back_out t before rec n has word =
       let g = subst (Grasps T k.grips b x.number) has (grasp x s id c k at) in
       let z : Share = holding x x.seen Free (given t) in (
@@ -152,3 +157,22 @@ module _ {S : Type 0} (x : Share) (s : State S View) (id : ℕ) (c : List (ℕ �
         freed t before rec (stored_of rec) x.seen n g.0 g.1 g.2 refl g.3 word (known_kept T k.history k.owner s.views id x Free (given t) k.known at),
         ((λ t' op' rec' is. absurd (undecided_not_decided is has)), decided_as x.hold t before rec (stored_of rec) (λ t before rec stored. (z.seen ≡ x.seen) × Gave T x t z) has (refl, gave t before (stored_of rec) x.seen g.1)),
       )
+
+-- ---- of the seat that a function has
+module _ (s : Shared) (seat : Seated) (t j : ℕ) (op : Op) (rec : Record) (h : HoldsFor s seat t op rec) where
+  pub give_up_allowed : (n : ℕ) → j ≡ task_word_at s.terms.setup t → n ≡ shown rec false → IsAllowed s seat j (λ _. n) (λ _. GaveClaim)
+  give_up_allowed n e word = allowed_at s seat h.seat_of (λ U. task_word_at U.setup t) j (λ _. n) (λ _. GaveClaim) e (task_within s seat h.seat_of t j 0 h.task (omega arith) (omega (arith, e)))
+      (λ st k at. give_up_out (share_on seat) st seat.seat.id seat.seat.me.1 k at t op rec n h.hold word)
+
+module _ (s : Shared) (seat : Seated) (t j : ℕ) (now : Record) (stored : Stored) (h : HoldsMade s seat t now stored) where
+  pub store_server_allowed : (n : ℕ) → j ≡ server_word_at s.terms.setup t → IsAllowed s seat j (λ _. n) (λ _. StoredServer n)
+  store_server_allowed n e = allowed_at s seat h.seat_of (λ U. server_word_at U.setup t) j (λ _. n) (λ _. StoredServer n) e (task_within s seat h.seat_of t j 1 h.task (omega arith) e)
+      (λ st k at. store_server_out (share_on seat) st seat.seat.id seat.seat.me.1 k at t h.hold.0 now stored h.hold.1 n)
+
+  pub store_params_allowed : (n : ℕ) → j ≡ params_word_at s.terms.setup t → IsAllowed s seat j (λ _. n) (λ _. StoredParams n)
+  store_params_allowed n e = allowed_at s seat h.seat_of (λ U. params_word_at U.setup t) j (λ _. n) (λ _. StoredParams n) e (task_within s seat h.seat_of t j 2 h.task (omega arith) e)
+      (λ st k at. store_params_out (share_on seat) st seat.seat.id seat.seat.me.1 k at t h.hold.0 now stored h.hold.1 n)
+
+  pub give_back_allowed : (n : ℕ) → j ≡ task_word_at s.terms.setup t → stored ≡ stored_of now → n ≡ shown now false → IsAllowed s seat j (λ _. n) (λ _. GaveClaim)
+  give_back_allowed n e same word = allowed_at s seat h.seat_of (λ U. task_word_at U.setup t) j (λ _. n) (λ _. GaveClaim) e (task_within s seat h.seat_of t j 0 h.task (omega arith) (omega (arith, e)))
+      (λ st k at. give_back_out (share_on seat) st seat.seat.id seat.seat.me.1 k at t h.hold.0 now n (h.hold.1 ∙ ap (Decided t h.hold.0 now) same) word)

@@ -1,4 +1,4 @@
--- A look, load-task and take-claim keep the rule.
+-- look, load-task and take-claim are allowed.
 use Rattle.std.proofs.Common.{◌≡◌, ◌⊎◌, ℕ, ◌+◌, ◌<◌, true, false, List, [], ◌∷◌, ◌++◌, length, set, get_or, sym, refl, ap, ◌∙◌, subst, inl, inr, arith, Option, Some, None, eqb}
 use mathlib.Core.Logic.{dite}
 use mathlib.Core.Option.{some}
@@ -13,6 +13,7 @@ use Rattle.grub_book.specs.History.{IsTrueOf, book_of}
 use Rattle.grub_book.specs.Sound.{IsKept}
 use Rattle.grub_book.specs.Step.{refused, replied, step}
 use Rattle.grub_book.specs.declared.event.Event.{Event}
+use Rattle.grub_book.specs.declared.op.Op.{Op}
 use Rattle.grub_book.specs.declared.event.Event.TheVariants.{Call, Look}
 use Rattle.grub_book.specs.declared.event.Reading.{Reading}
 use Rattle.grub_book.specs.declared.place.Place.{Place}
@@ -20,8 +21,10 @@ use Rattle.grub_book.specs.declared.place.Record.{Record}
 use Rattle.grub_book.specs.declared.reply.Reply.{Reply}
 use Rattle.grub_book.proofs.Histories.{book_push, starts_whole, starts_next}
 use Rattle.grub_book.proofs.Soundness.{moved}
-use Rattle.grub_words.specs.Words.{task_word}
+use Rattle.grub_words.specs.Words.{queue_word, task_word, QueueFits}
 use Rattle.grub_words.proofs.Tasks.{task_word-claimed, claims_apart}
+use Rattle.grub_table.specs.declared.pass.Shared.{Shared}
+use Rattle.grub_table.specs.declared.seated.Seated.{Seated}
 use Rattle.grub_table.specs.declared.view.Hold.{Hold}
 use Rattle.grub_table.specs.declared.view.Hold.TheVariants.{Free, Undecided}
 use Rattle.grub_table.specs.declared.view.Mark.{Mark}
@@ -36,13 +39,16 @@ use Rattle.grub_table.specs.Layout.{queue_word_at, task_word_at, shown}
 use Rattle.grub_table.specs.inside.Layout.{stored_of}
 use Rattle.grub_table.specs.Histories.{record_in}
 use Rattle.grub_table.specs.inside.Views.{alone, holding}
-use Rattle.grub_table.specs.inside.Tellings.{CallsIf, IsOthers, Looked, LoadedTask, TookClaim}
+use Rattle.grub_table.specs.inside.Tellings.{CallsIf, IsOthers, Of, OfQueue, SawReading, LoadedTask, TookClaim}
+use Rattle.grub_table.specs.inside.Between.{hold_of, IsAllowed, IsSeatOf}
+use Rattle.grub_table.specs.Calls.{share_on}
 use Rattle.grub_table.specs.inside.Rule.{holder_in, Grip, Grips, loose, grip, Grasps, TaskShows, Kept}
 use Rattle.grub_table.proofs.Marks.{lawful_more, holder_more, handed_here, handed_else}
 use Rattle.grub_table.proofs.Growths.{goes_own, history_more, finished}
 use Rattle.grub_table.proofs.Moves.{reading_fits}
 use Rattle.grub_table.proofs.Seats.{known_event, known_seen, marked_more, IsMine}
 use Rattle.grub_table.proofs.Rows.{put, put_here, put_else, same_before, Words, words_of, Shows, set_task, written_task}
+use Rattle.grub_table.proofs.Allowed.{allowed_at, own_task, own_op, own_queue, task_within, queue_within, queue_told}
 use Rattle.grub_table.proofs.Turns.{Out, book, own, grasp, marked, is_sound, seen_told, marks_told, call_told, same_marks, stays, stays_all, stays_called, turned}
 
 module _ {S : Type 0} (x : Share) (s : State S View) (id : ℕ) (c : List (ℕ × S)) (k : Kept x.terms s) (at : get_elem? s.views id ≡ some (alone x)) where
@@ -56,7 +62,7 @@ module _ {S : Type 0} (x : Share) (s : State S View) (id : ℕ) (c : List (ℕ �
   word_of t = get_or s.words (task_word_at T.setup t) 0
 
   -- ---- look
-  pub look_out : (r : ℕ) → r < length T.setup.queues → Out x s id c (queue_word_at r) (get_or s.words (queue_word_at r) 0) (Looked r (get_or s.words (queue_word_at r) 0))
+  look_out : (r : ℕ) → r < length T.setup.queues → Out x s id c (queue_word_at r) (get_or s.words (queue_word_at r) 0) (Of queue_word QueueFits (SawReading r) (get_or s.words (queue_word_at r) 0))
   look_out r lt =
       let now : Reading = reading_of b r in
       let e : Event = Look x.number r now in
@@ -69,10 +75,10 @@ module _ {S : Type 0} (x : Share) (s : State S View) (id : ℕ) (c : List (ℕ �
         x.marks,
         stays x s id c k at (queue_word_at r) h h x.hold x.marks (starts_next k.history e) history (known_event T k.history k.owner s.views id x e x.hold x.marks k.known at refl) same (grasp x s id c k at) (same_marks x s id c k at h x.hold),
         (
-          refl,
-          refl,
-          (now, k.written.queues r lt, reading_fits T k.history r k.limited k.is_history lt, finished T k.history x e history (own x s id c k at) refl),
-          (λ t op rec is. ap (λ z. record_at z t) same ∙ (subst (Grasps T k.grips b x.number) is (grasp x s id c k at)).2),
+          now,
+          reading_fits T k.history r k.limited k.is_history lt,
+          sym (k.written.queues r lt),
+          (refl, refl, finished T k.history x e history (own x s id c k at) refl, (λ t op rec is. ap (λ z. record_at z t) same ∙ (subst (Grasps T k.grips b x.number) is (grasp x s id c k at)).2)),
         ),
       )
 
@@ -115,7 +121,7 @@ module _ {S : Type 0} (x : Share) (s : State S View) (id : ℕ) (c : List (ℕ �
     (refl, marks_told x s id c k at, inl (seen_told x s id c k at, others n.task i before stored free is shows.0)),
   )
 
-  pub load_task_out : (n : Note) → x.hold ≡ Free → n.task < length T.setup.tasks → IsOp T.setup n.op → Out x s id c (task_word_at T.setup n.task) (word_of n.task) (LoadedTask n (word_of n.task))
+  load_task_out : (n : Note) → x.hold ≡ Free → n.task < length T.setup.tasks → IsOp T.setup n.op → Out x s id c (task_word_at T.setup n.task) (word_of n.task) (LoadedTask n (word_of n.task))
   load_task_out n free lt fits = loaded_as n (k.grips n.task) refl free lt fits (k.written.tasks n.task lt)
 
   -- ---- take-claim
@@ -174,7 +180,7 @@ module _ {S : Type 0} (x : Share) (s : State S View) (id : ℕ) (c : List (ℕ �
   missed t loose is free shows = inr shows.0
   missed t (grip i before stored) is free shows = inl (others t i before stored free is shows.0)
 
-  pub take_claim_out : (n : Note) (old new : ℕ) (p : Place) (m : ℕ) → x.hold ≡ Free → n.task < length T.setup.tasks → old ≡ task_word p m false → new ≡ task_word p m true
+  take_claim_out : (n : Note) (old new : ℕ) (p : Place) (m : ℕ) → x.hold ≡ Free → n.task < length T.setup.tasks → old ≡ task_word p m false → new ≡ task_word p m true
       → Out x s id c (task_word_at T.setup n.task) (either (eqb (word_of n.task) old) new (word_of n.task)) (TookClaim n old (word_of n.task))
   take_claim_out n old new p m free lt was now =
       let found : ℕ = word_of n.task in
@@ -187,3 +193,30 @@ module _ {S : Type 0} (x : Share) (s : State S View) (id : ℕ) (c : List (ℕ �
         stays_all x s id c k at (task_word_at T.setup n.task),
         (seen_told x s id c k at, (λ is. absurd (not is)), (λ _. (refl, marks_told x s id c k at, missed n.task (k.grips n.task) refl free (k.written.tasks n.task lt)))),
       ))
+
+-- ---- of the seat that a function has
+module _ (s : Shared) (seat : Seated) (is : IsSeatOf s seat) where
+  abbrev y : Share
+  y = share_on seat
+
+  pub look_allowed : (r j : ℕ) → r < length s.terms.setup.queues → j ≡ queue_word_at r → IsAllowed s seat j (λ v. v) (λ v. OfQueue j (λ q. Of queue_word QueueFits (SawReading q) v))
+  look_allowed r j lt e = allowed_at s seat is (λ _. queue_word_at r) j (λ v. v) (λ v. OfQueue j (λ q. Of queue_word QueueFits (SawReading q) v)) e (queue_within s seat is r j lt e)
+      (λ st k at.
+      let o = look_out y st seat.seat.id seat.seat.me.1 k at r (own_queue s seat is r lt) in
+      (o.0, o.1, o.2, o.3, queue_told s seat is r (λ q. Of queue_word QueueFits (SawReading q) (get_or st.words (queue_word_at r) 0)) y.terms (holding y o.0 o.1 o.2) j e o.4))
+
+  module _ (free : hold_of seat ≡ Free) (t j : ℕ) (lt : t < length s.terms.setup.tasks) (e : j ≡ task_word_at s.terms.setup t) where
+    within : j < s.table.inner.shared.table_id.words
+    within = task_within s seat is t j 0 lt (omega arith) (omega (arith, e))
+
+    pub load_task_allowed : (n : Note) (op : Op) → n ≡ record { task = t; op = op } → IsOp s.terms.setup op → IsAllowed s seat j (λ v. v) (λ v. LoadedTask n v)
+    load_task_allowed n op asked fits =
+        let n' : Note = record { task = t; op = op } in
+        subst (λ n. IsAllowed s seat j (λ v. v) (λ v. LoadedTask n v)) (sym asked)
+        (allowed_at s seat is (λ U. task_word_at U.setup t) j (λ v. v) (λ v. LoadedTask n' v) e within (λ st k at. load_task_out y st seat.seat.id seat.seat.me.1 k at n' free (own_task s seat is t lt) (own_op s seat is op fits)))
+
+    pub take_claim_allowed : (op : Op) (old new : ℕ) (p : Place) (m : ℕ) → old ≡ task_word p m false → new ≡ task_word p m true
+        → IsAllowed s seat j (λ v. either (eqb v old) new v) (λ v. TookClaim (record { task = t; op = op }) old v)
+    take_claim_allowed op old new p m was now =
+        let n : Note = record { task = t; op = op } in
+        allowed_at s seat is (λ U. task_word_at U.setup t) j (λ v. either (eqb v old) new v) (λ v. TookClaim n old v) e within (λ st k at. take_claim_out y st seat.seat.id seat.seat.me.1 k at n old new p m free (own_task s seat is t lt) was now)

@@ -1,29 +1,20 @@
 -- What the steps of a call under a claim tell together.
-use Rattle.std.proofs.Common.{◌≡◌, ℕ, ◌+◌, ◌<◌, ◌≤◌, Bool, true, false, List, [], ◌∷◌, length, set, sym, refl, ap, ◌∙◌, subst, arith, Option, Some, None}
+use Rattle.std.proofs.Common.{◌≡◌, ℕ, ◌+◌, ◌<◌, ◌≤◌, Bool, true, false, List, [], ◌∷◌, length, sym, refl, ap, ◌∙◌, subst, arith, Option, Some, None}
 use Rattle.grub_bw.specs.Bandwidth.{Capacity, bandwidth_of}
 use Rattle.grub_bw.specs.Server.{charge_of, depleted_of}
 use Rattle.grub_bw.specs.declared.server.Server.{Server}
-use Rattle.grub_book.specs.Machine.{queue_at}
 use Rattle.grub_book.specs.Op.{IsOp}
-use Rattle.grub_book.specs.Sums.{Records, record_at, reading_of}
-use Rattle.grub_book.specs.History.{HasChanged, book_of, pass_of}
-use Rattle.grub_book.specs.Sound.{IsKept, IsSound}
-use Rattle.grub_book.specs.Step.{early, refused, settled, step, charged, changes_sum, is_under_claim, runqueue_of, LooksAtQueue}
-use Rattle.grub_book.specs.Totals.{shifted_of}
+use Rattle.grub_book.specs.History.{HasChanged, pass_of}
+use Rattle.grub_book.specs.Sound.{IsKept}
+use Rattle.grub_book.specs.Step.{early, refused, settled, charged, changes_sum, is_under_claim, runqueue_of, LooksAtQueue}
 use Rattle.grub_book.specs.declared.event.Event.TheVariants.{Call}
 use Rattle.grub_book.specs.declared.event.Reading.{Reading}
 use Rattle.grub_book.specs.declared.op.Op.{Op}
 use Rattle.grub_book.specs.declared.op.Op.TheVariants.{Join, Wake, Block, Leave, Timer, Exit, Charge, Retune}
 use Rattle.grub_book.specs.declared.place.Record.{Record}
 use Rattle.grub_book.specs.declared.reply.Reply.{Reply}
-use Rattle.grub_book.proofs.Changes.{changed_none, changed_once, changed_more}
-use Rattle.grub_book.proofs.Claims.{settled_under}
+use Rattle.grub_book.proofs.Changes.{changed_none, changed_more}
 use Rattle.grub_book.proofs.Histories.{starts_whole}
-use Rattle.grub_book.proofs.Refusals.{settled_alike, settling}
-use Rattle.grub_book.proofs.Soundness.{kept_settled, sound_step}
-use Rattle.grub_book.proofs.Totals.{shifted_set}
-use Rattle.grub_words.specs.Words.{server_word, params_word, QueueFits}
-use Rattle.grub_words.proofs.Bounds.{QueueFits-sound}
 use Rattle.grub_table.specs.declared.pass.Claim.{Claim}
 use Rattle.grub_table.specs.declared.pass.Pass.{Pass}
 use Rattle.grub_table.specs.declared.pass.Shared.{Shared}
@@ -33,19 +24,16 @@ use Rattle.grub_table.specs.declared.pass.Finished.TheVariants.{Done, Held}
 use Rattle.grub_table.specs.declared.view.Mark.{Mark}
 use Rattle.grub_table.specs.declared.view.Mark.TheVariants.{Given}
 use Rattle.grub_table.specs.declared.view.Share.{Share}
-use Rattle.grub_table.specs.declared.view.Stored.{Stored}
 use Rattle.grub_table.specs.declared.view.Terms.{Terms}
-use Rattle.grub_table.specs.inside.Between.{IsSeatOf, HoldsFor, HoldsMade, Tells, SawQueue, Exchanged, GivenUp, Concluded}
-use Rattle.grub_table.specs.Calls.{seen, marks, share_on, share_of, ComesFrom, claim_number, claim_share, claim_seen, claim_queue, claim_changes_sum, IsClaimOf, IsDone, IsLost, IsFinished, IsCancelled}
-use Rattle.grub_table.specs.Histories.{WasBefore, record_in, reading_in}
+use Rattle.grub_table.specs.inside.Between.{HoldsFor, HoldsMade, Tells, Concluded}
+use Rattle.grub_table.specs.Calls.{seen, marks, share_on, share_of, ComesFrom, claim_number, claim_share, claim_seen, claim_queue, claim_changes_sum, IsClaimOf, IsDone, IsLost, IsFinished}
+use Rattle.grub_table.specs.Histories.{WasBefore, record_in}
 use Rattle.grub_table.specs.Knowing.{GoesOn, Learns}
 use Rattle.grub_table.specs.inside.Layout.{stored_of}
 use Rattle.grub_table.specs.Marks.{AreLawful, marker_of}
-use Rattle.grub_table.specs.inside.Tellings.{is_decided_at_load, outcome, settled_quietly, Grows, Finishes, MarksGo, Sees, Calls, Decides, IsReadingFor, LoadedQueueAs, SettledServer, StoredServer}
-use Rattle.grub_table.specs.inside.Tries.{is_charge, half_stored, Knows, TriedAs, Tried}
+use Rattle.grub_table.specs.inside.Tellings.{is_decided_at_load, Grows, Finishes, MarksGo, Sees, Calls}
+use Rattle.grub_table.specs.inside.Tries.{is_charge, Knows, TriedAs, Tried}
 use Rattle.grub_table.proofs.Growths.{goes_none, grows_grows, grows_finishes, learns_none, learns_twice}
-use Rattle.grub_table.proofs.Moves.{sound}
-use Rattle.grub_table.proofs.Turns.{under}
 
 pub is_not : {A : Type 0} {b : Bool} → b ≡ true → b ≡ false → A
 is_not e f = let g = sym e ∙ f in absurd cc
@@ -93,100 +81,11 @@ claim_holds s c is = record {
 }
 
 -- ---- two steps, one after the other
-sees_after : (T : Terms) (x m y : Share) → m.number ≡ x.number → Sees T x m → Sees T m y → Sees T x y
+pub sees_after : (T : Terms) (x m y : Share) → m.number ≡ x.number → Sees T x m → Sees T m y → Sees T x y
 sees_after T x m y same g h = grows_grows T x.number x.seen m.seen y.seen g (subst (λ n. Grows T n m.seen y.seen) same h)
 
-calls_after : (T : Terms) (x m y : Share) (t : ℕ) (op : Op) (reply : Reply) → m.number ≡ x.number → Sees T x m → Calls T m t op reply y → Calls T x t op reply y
+pub calls_after : (T : Terms) (x m y : Share) (t : ℕ) (op : Op) (reply : Reply) → m.number ≡ x.number → Sees T x m → Calls T m t op reply y → Calls T x t op reply y
 calls_after T x m y t op reply same g f = grows_finishes T x.number x.seen m.seen (Call x.number t op reply) y.seen g (subst (λ n. Finishes T n m.seen (Call n t op reply) y.seen) same f)
-
--- ---- a try
-module _ (s : Shared) (t : ℕ) (op : Op) (rec : Record) (r : ℕ) (now : Reading) (old mid : Seated) (h : HoldsFor s old t op rec) (about : r ≡ runqueue_of rec.place op) (there : r < length s.terms.setup.queues) (saw : Tells s (SawQueue r now) old mid) where
-  abbrev T : Terms
-  T = s.terms
-
-  abbrev p : Record × Reply
-  p = outcome T r now rec op
-
-  abbrev x : Share
-  x = share_on old
-
-  abbrev m : Share
-  m = share_on mid
-
-  told : (m.marks ≡ x.marks) × IsReadingFor T r rec now × LoadedQueueAs (is_decided_at_load p.1) T x r t op rec now m
-  told = saw.of t op rec h.hold
-
-  pub reading_is : IsReadingFor T r rec now
-  reading_is = told.1
-
-  next_kept : IsKept T.setup p.0
-  next_kept = kept_settled T.setup (queue_at T.setup r) now rec op h.op h.unrefused h.kept
-
-  under_claim : is_under_claim p.1 ≡ true
-  under_claim = settled_under (queue_at T.setup r) now rec op
-
-  made : (q : Record × Reply) (new : Seated) → q ≡ p → IsSeatOf s new → (share_on new).number ≡ x.number → (share_on new).marks ≡ x.marks → Decides T x t op rec p (stored_of rec) (share_on new) → Tells s (Tried r (Some q)) old new
-  made q new is seat number same d =
-      let w = subst (λ (z : Record × Reply). Decides T x t op rec z (stored_of rec) (share_on new) × IsKept T.setup z.0 × (is_under_claim z.1 ≡ true)) (sym is) (d, next_kept, under_claim) in
-      record { seat = seat; number = number; of = under x.hold t op rec (λ t op rec. ((share_on new).marks ≡ x.marks) × TriedAs r (Some q) T x t op rec (share_on new)) h.hold (same, w) }
-
-  -- the reply is decided at the load
-  pub tried_at_load : (q : Record × Reply) → q ≡ p → is_decided_at_load q.1 ≡ true → Tells s (Tried r (Some q)) old mid
-  tried_at_load q is now_decided =
-      let on : is_decided_at_load p.1 ≡ true = ap (λ (z : Record × Reply). is_decided_at_load z.1) (sym is) ∙ now_decided in
-      made q mid is saw.seat saw.number told.0 (subst (λ b. LoadedQueueAs b T x r t op rec now m) on told.2)
-
-  -- it is not
-  module _ (q : Record × Reply) (is : q ≡ p) (undecided : is_decided_at_load q.1 ≡ false) where
-    off : is_decided_at_load p.1 ≡ false
-    off = ap (λ (z : Record × Reply). is_decided_at_load z.1) (sym is) ∙ undecided
-
-    still : Sees T x m × (m.hold ≡ x.hold) × (now ≡ reading_in T m.seen r) × (record_in T m.seen t ≡ rec)
-    still = subst (λ b. LoadedQueueAs b T x r t op rec now m) off told.2
-
-    pub holds_still : HoldsFor s mid t op rec
-    holds_still = record { seat_of = saw.seat; hold = still.1 ∙ h.hold; task = h.task; op = h.op; kept = h.kept; unrefused = h.unrefused }
-
-    abbrev b : Records
-    b = book_of T.setup m.seen
-
-    pub new_fits : (new : Reading) → new ≡ shifted_of now r rec q.0 → QueueFits new
-    new_fits new moves =
-        let is_sound : IsSound T.setup b = sound T m.seen s.limited still.0.0 in
-        let one = is_sound.one_each in
-        let lt = h.task in
-        let below : t < length b = omega (arith, one, lt) in
-        let steps : step T.setup b t op ≡ (set b t p.0, p.1) = settling T.setup b t op rec (queue_at T.setup r) now still.3 h.unrefused (λ _. (ap (queue_at T.setup) about, still.2 ∙ ap (reading_of b) about)) in
-        let sound_then : IsSound T.setup (set b t p.0) = subst (IsSound T.setup) (ap (λ z. z.0) steps) (sound_step T.setup b t op is_sound lt h.op) in
-        let moved : shifted_of (reading_of b r) r (record_at b t) p.0 ≡ reading_of (set b t p.0) r = shifted_set b t p.0 r below in
-        let same : new ≡ reading_of (set b t p.0) r =
-        moves ∙ ap (λ (z : Record × Reply). shifted_of now r rec z.0) is ∙ ap (λ (n : Reading). shifted_of n r rec p.0) still.2 ∙ ap (λ (z : Record). shifted_of (reading_of b r) r z p.0) (sym still.3) ∙ moved in
-        subst QueueFits (sym same) (QueueFits-sound T.setup (set b t p.0) r sound_then there (s.limited.capacities r there))
-
-    module _ (new : Seated) where
-      abbrev y : Share
-      y = share_on new
-
-      pub tried_won : Tells s (Exchanged r now true) mid new → Tells s (Tried r (Some q)) old new
-      tried_won won =
-          let w = won.of t op rec holds_still.hold in
-          made q new is won.seat (won.number ∙ saw.number) (w.0 ∙ told.0) (calls_after T x m y t op p.1 saw.number still.0 w.1.0, w.1.1, subst (λ n. WasBefore T t rec (Call n t op p.1) y.seen) saw.number w.1.2)
-
-      pub tried_lost : (changes_sum rec op ≡ false → is_charge op ≡ true) → Tells s (Exchanged r now false) mid new → Tells s (Tried r None) old new
-      tried_lost sums lost =
-          let l = lost.of t op rec holds_still.hold in
-          let changed : HasChanged T.setup r x.seen y.seen 1 = changed_more T.setup r x.seen m.seen y.seen 0 1 (changed_none T.setup r x.seen m.seen still.0.1.starts) (changed_once T.setup r m.seen y.seen l.1.1.starts (λ same. l.3 (still.2 ∙ same))) in
-          record {
-            seat = lost.seat;
-            number = lost.number ∙ saw.number;
-            of = under x.hold t op rec (λ t op rec. (y.marks ≡ x.marks) × TriedAs r None T x t op rec y) h.hold
-                (l.0 ∙ told.0, (sees_after T x m y saw.number still.0 l.1, l.2 ∙ still.1, l.4, changed, lost_changes (queue_at T.setup r) now rec op sums off));
-          }
-
--- ---- what is stored after the event
-module _ (s : Shared) (t : ℕ) (next : Record) (stored : Stored) (old new : Seated) (h : HoldsMade s old t next stored) where
-  pub stored_server : (n : ℕ) → Tells s (StoredServer n) old new → ((share_on new).seen ≡ (share_on old).seen) × ((share_on new).marks ≡ (share_on old).marks) × HoldsMade s new t next (record { server = n; params = stored.params })
-  stored_server n told = let w = told.of t h.hold.0 next stored h.hold.1 in (w.0, w.1, record { seat_of = told.seat; task = h.task; hold = (h.hold.0, w.2) })
 
 pub leaves_after : (s : Shared) (t : ℕ) (old mid new : Seated) → Tells s Knows old mid → Tells s (Concluded t) mid new → Tells s (Concluded t) old new
 leaves_after s t old mid new k l = record {
@@ -217,13 +116,6 @@ module _ (s : Shared) (c : Claim) (is : IsClaimOf s c) where
         claimed = claimed;
         tried = tried;
       }
-
-  -- the call is not made, and the task is given back
-  pub cancelled : (q : Pass) → Tells s (GivenUp c.task) c.seated q.seated → IsCancelled s c q
-  cancelled q leaves = record {
-    of = record { home = leaves.seat.home; terms = leaves.seat.terms; history = leaves.of.0.0; lawful = leaves.of.1.1.0 };
-    learns = record { number = leaves.number; seen = leaves.of.0.1; marked = leaves.of.1.1.1 };
-  }
 
   -- an exchange was lost
   pub lost : (mid : Seated) (d : Claim) → d.seated ≡ mid → d.task ≡ c.task → d.op ≡ c.op → d.held ≡ c.held → Tells s (Tried (claim_queue c) None) c.seated mid → IsLost s c 1 d
@@ -290,35 +182,6 @@ module _ (s : Shared) (c : Claim) (is : IsClaimOf s c) where
 
     pub tried_claimed : is_under_claim p.1 ≡ true
     tried_claimed = tried_it.1.2
-
-  -- the call is made by the store of the server word
-  module _ (mid : Seated) (queue : Capacity) (now : Reading) (p : Record × Reply) (settles : p ≡ settled c.held queue now c.op) (quiet : claim_changes_sum c ≡ false) (blind : is_charge c.op ≡ false) where
-    quietly : p ≡ settled_quietly c.held c.op
-    quietly = settles ∙ settled_alike c.held c.op queue (record { most = 1; extra = 0 }) now (record { running = 0; this = 0 }) (λ looks. absurd (quiet_blind c.held c.op quiet blind looks))
-
-    pub quiet_kept : IsKept s.terms.setup p.0
-    quiet_kept = subst (λ (q : Record × Reply). IsKept s.terms.setup q.0) (sym settles) (kept_settled s.terms.setup queue now c.held c.op is.op is.unrefused is.kept)
-
-    pub quiet_claimed : is_under_claim p.1 ≡ true
-    quiet_claimed = ap (λ (q : Record × Reply). is_under_claim q.1) settles ∙ settled_under queue now c.held c.op
-
-    module _ (tells : Tells s (SettledServer (server_word p.0.server)) c.seated mid) where
-      settled_it : ((share_on mid).marks ≡ (claim_share c).marks) × Decides s.terms (claim_share c) c.task c.op c.held p (half_stored c.held p.0) (share_on mid)
-      settled_it =
-          let w = tells.of c.task c.op c.held c.holds in
-          (w.0, subst (λ (q : Record × Reply). Decides s.terms (claim_share c) c.task c.op c.held q (record { server = server_word p.0.server; params = params_word c.held.params }) (share_on mid)) (sym quietly) w.1)
-
-      pub quiet_marks : (share_on mid).marks ≡ (claim_share c).marks
-      quiet_marks = settled_it.0
-
-      pub quiet_calls : Calls s.terms (claim_share c) c.task c.op p.1 (share_on mid)
-      quiet_calls = settled_it.1.0
-
-      pub quiet_was : WasBefore s.terms c.task c.held (Call (claim_share c).number c.task c.op p.1) (share_on mid).seen
-      quiet_was = settled_it.1.2
-
-      pub quiet_made : HoldsMade s mid c.task p.0 (half_stored c.held p.0)
-      quiet_made = record { seat_of = tells.seat; task = is.task; hold = (c.held, settled_it.1.1) }
 
 -- ---- tries, one after another
 lost_done : (s : Shared) (c d : Claim) (n m : ℕ) (q : Pass) (reply : Reply) → IsLost s c n d → IsDone s d m q reply → IsDone s c (n + m) q reply

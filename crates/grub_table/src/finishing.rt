@@ -1,20 +1,28 @@
 //! A call that took its task is made, or given up.
-ghost use Rattle.std.specs.Prelude.{◌≡◌, ℕ, ◌<◌, ◌+◌, [], ◌∷◌, ◌++◌, true, false};
+ghost use Rattle.std.specs.Prelude.{◌≡◌, ℕ, [], ◌∷◌, ◌++◌, true, false, ◌==◌};
 ghost use Rattle.grub_book.specs.Sound.{IsKept};
-ghost use Rattle.grub_book.specs.Step.{changes_sum, runqueue_of};
-ghost use Rattle.grub_table.specs.declared.view.Access.TheVariants.{Store};
+ghost use Rattle.grub_book.specs.Step.{changes_sum, runqueue_of, LooksAtQueue};
+ghost use Rattle.grub_book.specs.Totals.{shifted_of};
+ghost use Rattle.grub_book.specs.declared.op.Op.{Op};
+ghost use Rattle.grub_book.specs.declared.place.Record.{Record};
+ghost use Rattle.grub_words.specs.Words.{queue_word, server_word, params_word, QueueFits, ServerFits};
+ghost use Rattle.grub_table.specs.declared.view.Access.TheVariants.{Store, Load, Exchange};
+ghost use Rattle.grub_table.specs.declared.view.Stored.{Stored};
 ghost use Rattle.grub_table.specs.inside.Between.{Concluded, HoldsFor, HoldsMade, Tells};
-ghost use Rattle.grub_table.specs.inside.Brief.{StoresFew, TriesOnce};
 ghost use Rattle.grub_table.specs.Calls.{accesses, claim_accesses, claim_changes_sum, claim_number, claim_op, claim_task, made_on, terms, IsCancelled, IsClaimOf, IsFinished, IsWithin};
 ghost use Rattle.grub_table.specs.Layout.{queue_word_at, task_word_at};
-ghost use Rattle.grub_table.specs.inside.Layout.{stored_of};
-ghost use Rattle.grub_table.specs.inside.Tellings.{is_decided_at_load};
+ghost use Rattle.grub_table.specs.inside.Layout.{stored_of, server_word_at, params_word_at};
+ghost use Rattle.grub_table.specs.inside.Tellings.{is_decided_at_load, outcome, Of, OfQueue, SawQueue, ChangedQueue, SettledServer, StoredServer, StoredParams};
+ghost use Rattle.grub_table.specs.inside.Brief.{StoresFew, TriesOnce};
 ghost use Rattle.grub_table.specs.inside.Tries.{half_stored, is_charge, Knows, Tried};
 
 use crate::pass::{Claim, Finished, Pass, Shared};
+use crate::row::{params_word_at, queue_word_at, reading_in, server_word_at};
+use crate::rule::Telling;
 use crate::seated::Seated;
 use grub_book::{Op, Reading, Record, Reply, changes_sum, runqueue, settle, shifted};
-use grub_words::pack_params;
+use grub_bw::{Params, Server};
+use grub_words::{pack_params, pack_queue, pack_server};
 
 impl Claim {
     /// The task that it holds.
@@ -53,6 +61,36 @@ fn is_charge(op: Op) -> bool
     ensures { result ≡ is_charge op }
 {
     matches!(op, Op::Charge { .. })
+}
+
+pub(crate) struct LoadQueue;
+
+impl Telling for LoadQueue {
+    ghost tells = { λ st found. OfQueue st.word (λ r. Of queue_word QueueFits (SawQueue r) found) };
+}
+
+pub(crate) struct ChangeQueue;
+
+impl Telling for ChangeQueue {
+    ghost tells = { λ st found. OfQueue st.word (λ r. Of queue_word QueueFits (λ now. ChangedQueue r now (found == st.first)) st.first) };
+}
+
+pub(crate) struct SettleServer;
+
+impl Telling for SettleServer {
+    ghost tells = { λ st stored. SettledServer stored };
+}
+
+pub(crate) struct StoreServer;
+
+impl Telling for StoreServer {
+    ghost tells = { λ st stored. StoredServer stored };
+}
+
+pub(crate) struct StoreParams;
+
+impl Telling for StoreParams {
+    ghost tells = { λ st stored. StoredParams stored };
 }
 
 impl Shared {
@@ -196,5 +234,57 @@ impl Shared {
         if pack_params(next.params) != pack_params(held.params) {
             self.store_params(seated, task, next.params);
         }
+    }
+
+    fn load_queue(&self, seated: &mut Seated, r: u32) -> Reading
+        requires { (t : ℕ) × (op : Op) × (rec : Record) × HoldsFor self.now seated.old t op rec × (r ≡ runqueue_of rec.place op) }
+        ensures told { Tells self.now (SawQueue r result) seated.old seated.new }
+        ensures made { made_on seated.new ≡ made_on seated.old ++ Load (queue_word_at r) ∷ [] }
+    {
+        let word = self.load::<LoadQueue>(seated, queue_word_at(r));
+        reading_in(word)
+    }
+
+    /// Makes the reading `new` where it is still `old`, and says whether it was.
+    fn change_queue(&self, seated: &mut Seated, r: u32, old: Reading, new: Reading) -> bool
+        requires held { (t : ℕ) × (op : Op) × (rec : Record) × HoldsFor self.now seated.old t op rec × (r ≡ runqueue_of rec.place op) × (new ≡ shifted_of old r rec (outcome (terms self.now) r old rec op).0) }
+        requires old { QueueFits old }
+        requires new { QueueFits new }
+        ensures told { Tells self.now (ChangedQueue r old result) seated.old seated.new }
+        ensures made { made_on seated.new ≡ made_on seated.old ++ Exchange (queue_word_at r) result ∷ [] }
+    {
+        let loaded = pack_queue(old);
+        let found = self.exchange::<ChangeQueue>(seated, queue_word_at(r), loaded, pack_queue(new));
+        found == loaded
+    }
+
+    /// The server of an op that changes no sum: its transition.
+    fn settle_server(&self, seated: &mut Seated, t: u32, server: Server)
+        requires held { (op : Op) × (rec : Record) × HoldsFor self.now seated.old t op rec × (changes_sum rec op ≡ false) × ¬ LooksAtQueue rec.place op }
+        requires fits { ServerFits server }
+        ensures told { Tells self.now (SettledServer (server_word server)) seated.old seated.new }
+        ensures made { made_on seated.new ≡ made_on seated.old ++ Store (server_word_at (terms self.now).setup t) ∷ [] }
+    {
+        let at = server_word_at(&self.terms.setup, t);
+        self.store::<SettleServer>(seated, at, pack_server(server));
+    }
+
+    fn store_server(&self, seated: &mut Seated, t: u32, server: Server)
+        requires held { (now : Record) × (stored : Stored) × HoldsMade self.now seated.old t now stored }
+        requires fits { ServerFits server }
+        ensures told { Tells self.now (StoredServer (server_word server)) seated.old seated.new }
+        ensures made { made_on seated.new ≡ made_on seated.old ++ Store (server_word_at (terms self.now).setup t) ∷ [] }
+    {
+        let at = server_word_at(&self.terms.setup, t);
+        self.store::<StoreServer>(seated, at, pack_server(server));
+    }
+
+    fn store_params(&self, seated: &mut Seated, t: u32, params: Params)
+        requires { (now : Record) × (stored : Stored) × HoldsMade self.now seated.old t now stored }
+        ensures told { Tells self.now (StoredParams (params_word params)) seated.old seated.new }
+        ensures made { made_on seated.new ≡ made_on seated.old ++ Store (params_word_at (terms self.now).setup t) ∷ [] }
+    {
+        let at = params_word_at(&self.terms.setup, t);
+        self.store::<StoreParams>(seated, at, pack_params(params));
     }
 }

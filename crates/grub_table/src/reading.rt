@@ -1,17 +1,27 @@
 //! Readings of runqueues, and the meeting of two passes.
-ghost use Rattle.std.specs.Prelude.{◌≡◌, ◌<◌, ◌+◌, ◌⊎◌, [], ◌∷◌, ◌++◌, length};
+ghost use Rattle.std.specs.Prelude.{◌≡◌, ◌<◌, ◌⊎◌, [], ◌∷◌, ◌++◌, length};
 ghost use Rattle.grub_book.specs.declared.event.Event.TheVariants.{Look};
+ghost use Rattle.grub_words.specs.Words.{queue_word, QueueFits};
+ghost use Rattle.grub_table.specs.declared.view.Access.TheVariants.{Load};
+ghost use Rattle.grub_table.specs.inside.Between.{IsSeatOf, Tells};
+ghost use Rattle.grub_table.specs.Calls.{terms, number_of, share_of, claim_share, seen, marks, accesses, claim_accesses, claim_number, claim_seen, IsPassOf, IsClaimOf, IsStill, IsSame, IsBehind, IsMarkedBehind, made_on};
+ghost use Rattle.grub_table.specs.Layout.{queue_word_at};
+ghost use Rattle.grub_table.specs.inside.Tellings.{Of, OfQueue, SawReading};
+ghost use Rattle.grub_table.specs.Accesses.{meeting_loads};
 ghost use Rattle.grub_table.specs.Histories.{EndsWith};
 ghost use Rattle.grub_table.specs.Knowing.{Learns};
-ghost use Rattle.grub_table.specs.declared.view.Access.TheVariants.{Load};
-ghost use Rattle.grub_table.specs.Accesses.{meeting_loads};
-ghost use Rattle.grub_table.specs.Layout.{queue_word_at};
-ghost use Rattle.grub_table.specs.Calls.{terms, number_of, share_of, claim_share, seen, marks, accesses, claim_accesses, claim_number, claim_seen, IsPassOf, IsClaimOf, IsStill, IsSame, IsBehind, IsMarkedBehind};
 
 use crate::pass::{Claim, Pass, Shared};
-use crate::rule::Compare;
+use crate::row::{queue_word_at, reading_in};
+use crate::rule::{Compare, Telling};
 use crate::seated::Seated;
 use grub_book::Reading;
+
+pub(crate) struct Looks;
+
+impl Telling for Looks {
+    ghost tells = { λ st found. OfQueue st.word (λ r. Of queue_word QueueFits (SawReading r) found) };
+}
 
 impl Shared {
     /// The bandwidths of a runqueue, in 1/2^20: running_bw of its active tasks, and this_bw of all its tasks. One load.
@@ -74,5 +84,15 @@ impl Shared {
                 },
             },
         )
+    }
+
+    fn look(&self, seated: &mut Seated, r: u32) -> Reading
+        requires seat { IsSeatOf self.now seated.old }
+        requires queue { r < length (terms self.now).setup.queues }
+        ensures told { Tells self.now (SawReading r result) seated.old seated.new }
+        ensures made { made_on seated.new ≡ made_on seated.old ++ Load (queue_word_at r) ∷ [] }
+    {
+        let word = self.load::<Looks>(seated, queue_word_at(r));
+        reading_in(word)
     }
 }

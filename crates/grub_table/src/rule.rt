@@ -1,10 +1,10 @@
 //! The rule of the table, and what each step tells.
 ghost use Rattle.grub_table.specs.inside.Trails.{left_trail, right_trail, joined, spent, counts_load, counts_store, counts_exchange};
-ghost use Rattle.grub_table.specs.inside.Tellings.{compares, note_of, turns, OfQueue, Looked, LoadedTask, TookClaim, LoadedParams, LoadedServer, LoadedQueue, ChangedQueue, SettledServer, StoredServer, StoredParams, GaveClaim};
+ghost use Rattle.grub_table.specs.inside.Tellings.{compares, turns};
 
 use crate::view::{Note, Terms, Trail, View};
 use atomic_table::{Join, Play, Split, TableRule};
-use std::marker::{Brand, PhantomData};
+use std::marker::PhantomData;
 
 pub struct OneHistory;
 
@@ -43,19 +43,6 @@ impl<P: Play<Note, View>> Play<Note, Trail> for Exchanges<P> {
     ghost then = { counts_exchange P.then };
 }
 
-/// What a load is told of the call that makes it. Each call of the program picks it.
-pub trait Asked {
-    ghost use Rattle.grub_table.specs.declared.view.Note.{Note};
-
-    ghost note: { Note };
-}
-
-impl Asked for Brand {
-    ghost use Rattle.grub_table.specs.inside.Tellings.{no_note};
-
-    ghost note = { no_note };
-}
-
 /// What a step tells the pass that makes it: of the step, the number found (at a store, the number stored), and the pass's share before and after.
 pub trait Telling {
     ghost use Rattle.std.specs.Prelude.{ℕ};
@@ -80,74 +67,6 @@ pub struct Compare;
 
 impl Play<Note, View> for Compare {
     ghost then = { compares };
-}
-
-pub struct Look;
-
-impl Telling for Look {
-    ghost tells = { λ st found. OfQueue st.word (λ r. Looked r found) };
-}
-
-pub struct LoadTask<J> {
-    asked: PhantomData<J>,
-}
-
-impl<J: Asked> Telling for LoadTask<J> {
-    ghost tells = { λ st found. LoadedTask J.note found };
-}
-
-pub struct TakeClaim;
-
-impl Telling for TakeClaim {
-    ghost tells = { λ st found. TookClaim (note_of st.said) st.first found };
-}
-
-pub struct LoadParams;
-
-impl Telling for LoadParams {
-    ghost tells = { λ st found. LoadedParams found };
-}
-
-pub struct LoadServer;
-
-impl Telling for LoadServer {
-    ghost tells = { λ st found. LoadedServer found };
-}
-
-pub struct LoadQueue;
-
-impl Telling for LoadQueue {
-    ghost tells = { λ st found. OfQueue st.word (λ r. LoadedQueue r found) };
-}
-
-pub struct ChangeQueue;
-
-impl Telling for ChangeQueue {
-    ghost tells = { λ st found. OfQueue st.word (λ r. ChangedQueue r st.first found) };
-}
-
-pub struct SettleServer;
-
-impl Telling for SettleServer {
-    ghost tells = { λ st stored. SettledServer stored };
-}
-
-pub struct StoreServer;
-
-impl Telling for StoreServer {
-    ghost tells = { λ st stored. StoredServer stored };
-}
-
-pub struct StoreParams;
-
-impl Telling for StoreParams {
-    ghost tells = { λ st stored. StoredParams stored };
-}
-
-pub struct GiveClaim;
-
-impl Telling for GiveClaim {
-    ghost tells = { λ st stored. GaveClaim };
 }
 
 /// The first share is cut off.

@@ -1,25 +1,123 @@
 //! A call begins: it is answered at once, or takes its task.
-ghost use Rattle.std.specs.Prelude.{◌≡◌, ◌<◌, ◌+◌, false, IfOk, [], ◌∷◌, ◌++◌, length};
+ghost use Rattle.std.specs.Prelude.{◌≡◌, ◌<◌, false, IfOk, [], ◌∷◌, ◌++◌, length, ◌==◌};
+ghost use Rattle.grub_bw.specs.Bandwidth.{IsReservation};
 ghost use Rattle.grub_book.specs.Op.{IsOp};
 ghost use Rattle.grub_book.specs.declared.op.Op.{Op};
 ghost use Rattle.grub_book.specs.declared.place.Record.{Record};
-ghost use Rattle.grub_words.specs.Words.{TaskFits};
-ghost use Rattle.grub_table.specs.declared.view.Access.TheVariants.{Load};
-ghost use Rattle.grub_table.specs.Accesses.{StartsBriefly};
-ghost use Rattle.grub_table.specs.Layout.{task_word_at};
-ghost use Rattle.grub_table.specs.inside.Layout.{server_word_at, params_word_at};
+ghost use Rattle.grub_words.specs.Words.{TaskFits, server_word, params_word, task_word, ServerFits};
+ghost use Rattle.grub_table.specs.declared.view.Access.TheVariants.{Load, Exchange};
+ghost use Rattle.grub_table.specs.declared.view.Hold.TheVariants.{Free};
 ghost use Rattle.grub_table.specs.inside.Between.{hold_of, IsSeatOf, HoldsFor, Tells, SawTask, SawRecord};
 ghost use Rattle.grub_table.specs.Calls.{terms, accesses, made_on, started_accesses, IsPassOf, IsStarted};
-ghost use Rattle.grub_table.specs.declared.view.Hold.TheVariants.{Free};
+ghost use Rattle.grub_table.specs.Layout.{task_word_at};
+ghost use Rattle.grub_table.specs.inside.Layout.{server_word_at, params_word_at};
+ghost use Rattle.grub_table.specs.inside.Tellings.{note_of, Of, LoadedTask, TookClaim, SawParams, SawServer};
+ghost use Rattle.grub_table.specs.Accesses.{StartsBriefly};
 
 use crate::pass::{Claim, Pass, Shared, Sighting, Started};
-use crate::row::unclaimed;
+use crate::row::{params_in, params_word_at, server_in, server_word_at, task_word_at, unclaimed};
+use crate::rule::Telling;
 use crate::seated::Seated;
+use crate::view::Note;
 use grub_book::{Op, Record, early, refusal};
+use grub_bw::{Params, Server};
 use grub_words::{TaskWord, pack_task};
-use std::marker::Brand;
+use std::marker::{Brand, PhantomData};
+
+/// What a load is told of the call that makes it. Each call of the program picks it.
+pub trait Asked {
+    ghost use Rattle.grub_table.specs.declared.view.Note.{Note};
+
+    ghost note: { Note };
+}
+
+impl Asked for Brand {
+    ghost use Rattle.grub_table.specs.inside.Tellings.{no_note};
+
+    ghost note = { no_note };
+}
+
+pub(crate) struct LoadTask<J> {
+    asked: PhantomData<J>,
+}
+
+impl<J: Asked> Telling for LoadTask<J> {
+    ghost tells = { λ st found. LoadedTask J.note found };
+}
+
+pub(crate) struct TakeClaim;
+
+impl Telling for TakeClaim {
+    ghost tells = { λ st found. TookClaim (note_of st.said) st.first found };
+}
+
+pub(crate) struct LoadParams;
+
+impl Telling for LoadParams {
+    ghost tells = { λ st found. Of params_word IsReservation SawParams found };
+}
+
+pub(crate) struct LoadServer;
+
+impl Telling for LoadServer {
+    ghost tells = { λ st found. Of server_word ServerFits SawServer found };
+}
 
 impl Shared {
+    fn load_task<J: Asked>(&self, seated: &mut Seated, t: u32, op: Op) -> u64
+        requires seat { IsSeatOf self.now seated.old }
+        requires free { hold_of seated.old ≡ Free }
+        requires task { t < length (terms self.now).setup.tasks }
+        requires op { IsOp (terms self.now).setup op }
+        requires note { J.note ≡ record { task = t; op = op } }
+        ensures told { Tells self.now (LoadedTask J.note result) seated.old seated.new }
+        ensures made { made_on seated.new ≡ made_on seated.old ++ Load (task_word_at (terms self.now).setup t) ∷ [] }
+    {
+        let at = task_word_at(&self.terms.setup, t);
+        self.load::<LoadTask<J>>(seated, at)
+    }
+
+    /// Sets the claim bit where the word still says this, and returns the word as it was.
+    fn take_claim(&self, seated: &mut Seated, t: u32, op: Op, shown: TaskWord) -> u64
+        requires seat { IsSeatOf self.now seated.old }
+        requires free { hold_of seated.old ≡ Free }
+        requires task { t < length (terms self.now).setup.tasks }
+        requires fits { TaskFits shown }
+        requires unclaimed { shown.claimed ≡ false }
+        ensures told { Tells self.now (TookClaim (record { task = t; op = op }) (task_word shown.place shown.count false) result) seated.old seated.new }
+        ensures made { made_on seated.new ≡ made_on seated.old ++ Exchange (task_word_at (terms self.now).setup t) (result == task_word shown.place shown.count false) ∷ [] }
+    {
+        let loaded = pack_task(shown);
+        let claimed = pack_task(TaskWord {
+            place: shown.place,
+            claimed: true,
+            count: shown.count,
+        });
+        let at = task_word_at(&self.terms.setup, t);
+        let note = Note { task: t, op };
+        self.exchange_saying::<TakeClaim>(seated, at, loaded, claimed, &note)
+    }
+
+    pub(crate) fn load_params(&self, seated: &mut Seated, t: u32) -> Params
+        requires { (op : Op) × (rec : Record) × HoldsFor self.now seated.old t op rec }
+        ensures told { Tells self.now (SawParams result) seated.old seated.new }
+        ensures made { made_on seated.new ≡ made_on seated.old ++ Load (params_word_at (terms self.now).setup t) ∷ [] }
+    {
+        let at = params_word_at(&self.terms.setup, t);
+        let word = self.load::<LoadParams>(seated, at);
+        params_in(word)
+    }
+
+    fn load_server(&self, seated: &mut Seated, t: u32) -> Server
+        requires { (op : Op) × (rec : Record) × HoldsFor self.now seated.old t op rec }
+        ensures told { Tells self.now (SawServer result) seated.old seated.new }
+        ensures made { made_on seated.new ≡ made_on seated.old ++ Load (server_word_at (terms self.now).setup t) ∷ [] }
+    {
+        let at = server_word_at(&self.terms.setup, t);
+        let word = self.load::<LoadServer>(seated, at);
+        server_in(word)
+    }
+
     /// What the task's word says, or the word itself where another pass has the task.
     fn look_at_task(&self, seated: &mut Seated, t: u32, op: Op) -> Result<TaskWord, u64>
         requires seat { IsSeatOf self.now seated.old }

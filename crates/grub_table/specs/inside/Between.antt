@@ -1,14 +1,10 @@
 -- What stands between the steps of a call: the seat of a pass, and what it was told.
-use Rattle.std.specs.Prelude.{◌≡◌, ◌≢◌, ℕ, ◌<◌, Bool, true, false, [], length, None, Result, Ok, Err}
+use Rattle.std.specs.Prelude.{◌≡◌, ℕ, ◌<◌, [], length, None, Result, Ok, Err}
 use mathlib.Core.Option.{Option}
 use Rattle.atomic_table.specs.Table.{Allows, Step, step}
 use Rattle.grub_book.specs.Op.{IsOp}
 use Rattle.grub_book.specs.Sound.{IsKept}
 use Rattle.grub_book.specs.Step.{early, refused}
-use Rattle.grub_bw.specs.Bandwidth.{Reservation}
-use Rattle.grub_bw.specs.declared.server.Server.{Server}
-use Rattle.grub_book.specs.declared.event.Event.TheVariants.{Look}
-use Rattle.grub_book.specs.declared.event.Reading.{Reading}
 use Rattle.grub_book.specs.declared.op.Op.{Op}
 use Rattle.grub_book.specs.declared.place.Record.{Record}
 use Rattle.grub_table.specs.declared.pass.Shared.{Shared}
@@ -20,9 +16,8 @@ use Rattle.grub_table.specs.declared.view.Share.{Share}
 use Rattle.grub_table.specs.declared.view.Stored.{Stored}
 use Rattle.grub_table.specs.declared.view.Terms.{Terms}
 use Rattle.grub_words.specs.declared.task.TaskWord.{TaskWord}
-use Rattle.grub_table.specs.Histories.{record_in, reading_in}
-use Rattle.grub_table.specs.inside.Layout.{stored_of}
-use Rattle.grub_table.specs.inside.Tellings.{Adds, Finishes, CallsIf, Decides, DecidesIf, Gave, IsOthers, IsReadingFor, LoadedQueueAs, Sees, Turns, is_decided_at_load, outcome}
+use Rattle.grub_table.specs.Histories.{record_in}
+use Rattle.grub_table.specs.inside.Tellings.{Adds, CallsIf, DecidesIf, Gave, IsOthers, Sees, Turns}
 use Rattle.grub_table.specs.inside.Rule.{Kept}
 use Rattle.grub_table.specs.inside.Trails.{known}
 use Rattle.grub_table.specs.Calls.{share_on}
@@ -59,13 +54,7 @@ pub record HoldsFor (s : Shared) (x : Seated) (t : ℕ) (asked : Op) (rec : Reco
   pub kept : IsKept s.terms.setup rec
   pub unrefused : refused rec.place rec.count asked ≡ None
 
--- ---- what the steps tell of the values in the words
--- a look
-abbrev pub SawReading : ℕ → Reading → Terms → Share → Share → Type 0
-SawReading r now T x y =
-    (y.hold ≡ x.hold) × (y.marks ≡ x.marks) × Finishes T x.number x.seen (Look x.number r now) y.seen
-    × ((t : ℕ) (op : Op) (rec : Record) → x.hold ≡ Undecided t op rec → record_in T y.seen t ≡ rec)
-
+-- ---- what steps tell together
 -- load-task: the word of a task that another pass has, or what the word of a free task says
 abbrev pub SawTask : ℕ → Op → Result TaskWord ℕ → Terms → Share → Share → Type 0
 SawTask t op (Err word) T x y = (y.hold ≡ x.hold) × Adds T x [] y × Sees T x y × IsOthers T x.number t word y
@@ -73,32 +62,10 @@ SawTask t op (Ok w) T x y =
     (y.hold ≡ x.hold) × Adds T x [] y
     × (let rec = record_in T y.seen t in (w.place ≡ rec.place) × (w.count ≡ rec.count) × IsKept T.setup rec × CallsIf (refused w.place w.count op) T x t op y)
 
--- load-params
-abbrev pub SawParams : Reservation → Terms → Share → Share → Type 0
-SawParams p T x y = (t : ℕ) (op : Op) (rec : Record) → x.hold ≡ Undecided t op rec
-    → (p ≡ rec.params) × (y.hold ≡ x.hold) × (y.marks ≡ x.marks) × Sees T x y
-
--- load-server
-abbrev pub SawServer : Server → Terms → Share → Share → Type 0
-SawServer server T x y = (t : ℕ) (op : Op) (rec : Record) → x.hold ≡ Undecided t op rec
-    → (server ≡ rec.server) × (y.marks ≡ x.marks) × (record_in T y.seen t ≡ rec) × DecidesIf (early rec op) T x t op rec y
-
 -- load-params, and then load-server
 abbrev pub SawRecord : Record → Terms → Share → Share → Type 0
 SawRecord found T x y = (t : ℕ) (op : Op) (rec : Record) → x.hold ≡ Undecided t op rec
     → (found ≡ rec) × (y.marks ≡ x.marks) × (record_in T y.seen t ≡ rec) × DecidesIf (early rec op) T x t op rec y
-
--- load-queue
-abbrev pub SawQueue : ℕ → Reading → Terms → Share → Share → Type 0
-SawQueue r now T x y = (t : ℕ) (op : Op) (rec : Record) → x.hold ≡ Undecided t op rec
-    → (y.marks ≡ x.marks) × IsReadingFor T r rec now × LoadedQueueAs (is_decided_at_load (outcome T r now rec op).1) T x r t op rec now y
-
--- change-queue: whether the reading was still the old one
-abbrev pub Exchanged : ℕ → Reading → Bool → Terms → Share → Share → Type 0
-Exchanged r now true T x y = (t : ℕ) (op : Op) (rec : Record) → x.hold ≡ Undecided t op rec
-    → (y.marks ≡ x.marks) × Decides T x t op rec (outcome T r now rec op) (stored_of rec) y
-Exchanged r now false T x y = (t : ℕ) (op : Op) (rec : Record) → x.hold ≡ Undecided t op rec
-    → (y.marks ≡ x.marks) × Sees T x y × (y.hold ≡ x.hold) × (now ≢ reading_in T y.seen r) × (record_in T y.seen t ≡ rec)
 
 -- the call is given up, and the task is given back
 abbrev pub GivenUp : ℕ → Terms → Share → Share → Type 0

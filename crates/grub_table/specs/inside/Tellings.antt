@@ -2,6 +2,8 @@
 use Rattle.std.specs.Prelude.{◌≡◌, ◌≢◌, ◌⊎◌, ℕ, ◌≤◌, Bool, true, false, List, [], ◌∷◌, Option, Some, None}
 use mathlib.Core.Option.{Option as MOption, some, none}
 use Rattle.atomic_table.specs.Table.{Step}
+use Rattle.grub_bw.specs.Bandwidth.{Reservation}
+use Rattle.grub_bw.specs.declared.server.Server.{Server}
 use Rattle.grub_book.specs.Machine.{queue_at}
 use Rattle.grub_book.specs.History.{pass_of}
 use Rattle.grub_book.specs.Sound.{IsKept}
@@ -15,7 +17,6 @@ use Rattle.grub_book.specs.declared.op.Op.TheVariants.{Leave}
 use Rattle.grub_book.specs.declared.place.Record.{Record}
 use Rattle.grub_book.specs.declared.reply.Reply.{Reply}
 use Rattle.grub_book.specs.declared.reply.Reply.TheVariants.{Charged, Full, DeadlineOverflow}
-use Rattle.grub_words.specs.Words.{queue_word, QueueFits}
 use Rattle.grub_table.specs.declared.view.Mark.{Mark}
 use Rattle.grub_table.specs.declared.view.Mark.TheVariants.{Taken, Given}
 use Rattle.grub_table.specs.declared.view.Note.{Note}
@@ -76,11 +77,14 @@ CallsIf (Some reply) T x t op y = Calls T x t op reply y
 abbrev pub IsOthers : Terms → ℕ → ℕ → ℕ → Share → Type 0
 IsOthers T i t word y = WasClaimedWord T y.seen t word × IsHeldByOther i t y.marks
 
--- a look: a runqueue's word was loaded
-abbrev pub Looked : ℕ → ℕ → Terms → Share → Share → Type 0
-Looked r found T x y =
-    (y.hold ≡ x.hold) × (y.marks ≡ x.marks)
-    × ((now : Reading) × (found ≡ queue_word now) × QueueFits now × Finishes T x.number x.seen (Look x.number r now) y.seen)
+-- the word is that of some value, of which this is told
+abbrev pub Of : {V : Type 0} → (V → ℕ) → (V → Type 0) → (V → Terms → Share → Share → Type 0) → ℕ → Terms → Share → Share → Type 0
+Of {V} word fits saw found T x y = (v : V) × fits v × (word v ≡ found) × saw v T x y
+
+-- look: a runqueue's reading was loaded
+abbrev pub SawReading : ℕ → Reading → Terms → Share → Share → Type 0
+SawReading r now T x y =
+    (y.hold ≡ x.hold) × (y.marks ≡ x.marks) × Finishes T x.number x.seen (Look x.number r now) y.seen
     × ((t : ℕ) (op : Op) (rec : Record) → x.hold ≡ Undecided t op rec → record_in T y.seen t ≡ rec)
 
 -- load-task: the task word was loaded, which is the event where the place, the count or the ticket decides the reply
@@ -97,20 +101,20 @@ TookClaim n old found T x y =
     × (found ≡ old → (rec : Record) × (y.hold ≡ Undecided n.task n.op rec) × (old ≡ shown rec false) × IsKept T.setup rec × (record_in T y.seen n.task ≡ rec) × Adds T x (Taken x.number n.task ∷ []) y)
     × (found ≢ old → (y.hold ≡ x.hold) × Adds T x [] y × (IsOthers T x.number n.task found y ⊎ (found ≡ shown (record_in T y.seen n.task) false)))
 
--- load-params: the parameter word was loaded under a claim
-abbrev pub LoadedParams : ℕ → Terms → Share → Share → Type 0
-LoadedParams found T x y = (t : ℕ) (op : Op) (rec : Record) → x.hold ≡ Undecided t op rec
-    → (found ≡ (stored_of rec).params) × (y.hold ≡ x.hold) × (y.marks ≡ x.marks) × Sees T x y × (record_in T y.seen t ≡ rec)
+-- load-params: the reservation was loaded under a claim
+abbrev pub SawParams : Reservation → Terms → Share → Share → Type 0
+SawParams p T x y = (t : ℕ) (op : Op) (rec : Record) → x.hold ≡ Undecided t op rec
+    → (p ≡ rec.params) × (y.hold ≡ x.hold) × (y.marks ≡ x.marks) × Sees T x y
 
 -- nothing is decided, or this reply is, which leaves the record
 abbrev pub DecidesIf : Option Reply → Terms → Share → ℕ → Op → Record → Share → Type 0
 DecidesIf None T x t op rec y = Sees T x y × (y.hold ≡ Undecided t op rec)
 DecidesIf (Some reply) T x t op rec y = Calls T x t op reply y × (y.hold ≡ Decided t rec rec (stored_of rec))
 
--- load-server: the server word was loaded under a claim, which is the event where the server decides the reply
-abbrev pub LoadedServer : ℕ → Terms → Share → Share → Type 0
-LoadedServer found T x y = (t : ℕ) (op : Op) (rec : Record) → x.hold ≡ Undecided t op rec
-    → (found ≡ (stored_of rec).server) × (y.marks ≡ x.marks) × (record_in T y.seen t ≡ rec) × DecidesIf (early rec op) T x t op rec y
+-- load-server: the server was loaded under a claim, which is the event where the server decides the reply
+abbrev pub SawServer : Server → Terms → Share → Share → Type 0
+SawServer server T x y = (t : ℕ) (op : Op) (rec : Record) → x.hold ≡ Undecided t op rec
+    → (server ≡ rec.server) × (y.marks ≡ x.marks) × (record_in T y.seen t ≡ rec) × DecidesIf (early rec op) T x t op rec y
 
 -- the outcome of an op on a runqueue of the table with this reading
 abbrev pub outcome : Terms → ℕ → Reading → Record → Op → Record × Reply
@@ -126,21 +130,21 @@ pub record IsReadingFor (T : Terms) (r : ℕ) (rec : Record) (now : Reading) : T
   pub this : now.this ≤ (queue_at T.setup r).most
   pub counts : Counts now r rec
 
-abbrev pub LoadedQueueAs : Bool → Terms → Share → ℕ → ℕ → Op → Record → Reading → Share → Type 0
-LoadedQueueAs true T x r t op rec now y = Decides T x t op rec (outcome T r now rec op) (stored_of rec) y
-LoadedQueueAs false T x r t op rec now y = Sees T x y × (y.hold ≡ x.hold) × (now ≡ reading_in T y.seen r) × (record_in T y.seen t ≡ rec)
+abbrev pub SawQueueAs : Bool → Terms → Share → ℕ → ℕ → Op → Record → Reading → Share → Type 0
+SawQueueAs true T x r t op rec now y = Decides T x t op rec (outcome T r now rec op) (stored_of rec) y
+SawQueueAs false T x r t op rec now y = Sees T x y × (y.hold ≡ x.hold) × (now ≡ reading_in T y.seen r) × (record_in T y.seen t ≡ rec)
 
--- load-queue: the runqueue's word was loaded under a claim, which is the event where it decides the reply
-abbrev pub LoadedQueue : ℕ → ℕ → Terms → Share → Share → Type 0
-LoadedQueue r found T x y = (t : ℕ) (op : Op) (rec : Record) → x.hold ≡ Undecided t op rec
-    → (y.marks ≡ x.marks) × ((now : Reading) × (found ≡ queue_word now) × IsReadingFor T r rec now × LoadedQueueAs (is_decided_at_load (outcome T r now rec op).1) T x r t op rec now y)
+-- load-queue: the runqueue's reading was loaded under a claim, which is the event where it decides the reply
+abbrev pub SawQueue : ℕ → Reading → Terms → Share → Share → Type 0
+SawQueue r now T x y = (t : ℕ) (op : Op) (rec : Record) → x.hold ≡ Undecided t op rec
+    → (y.marks ≡ x.marks) × IsReadingFor T r rec now × SawQueueAs (is_decided_at_load (outcome T r now rec op).1) T x r t op rec now y
 
--- change-queue: the runqueue's word was exchanged under a claim, which is the event, or it was not
-abbrev pub ChangedQueue : ℕ → ℕ → ℕ → Terms → Share → Share → Type 0
-ChangedQueue r old found T x y = (t : ℕ) (op : Op) (rec : Record) → x.hold ≡ Undecided t op rec
-    → (y.marks ≡ x.marks)
-    × (found ≡ old → (now : Reading) × (old ≡ queue_word now) × QueueFits now × Decides T x t op rec (outcome T r now rec op) (stored_of rec) y)
-    × (found ≢ old → Sees T x y × (y.hold ≡ x.hold) × (found ≡ queue_word (reading_in T y.seen r)) × (record_in T y.seen t ≡ rec))
+-- change-queue: whether the runqueue's reading was still this one under a claim; its exchange is the event
+abbrev pub ChangedQueue : ℕ → Reading → Bool → Terms → Share → Share → Type 0
+ChangedQueue r now true T x y = (t : ℕ) (op : Op) (rec : Record) → x.hold ≡ Undecided t op rec
+    → (y.marks ≡ x.marks) × Decides T x t op rec (outcome T r now rec op) (stored_of rec) y
+ChangedQueue r now false T x y = (t : ℕ) (op : Op) (rec : Record) → x.hold ≡ Undecided t op rec
+    → (y.marks ≡ x.marks) × Sees T x y × (y.hold ≡ x.hold) × (now ≢ reading_in T y.seen r) × (record_in T y.seen t ≡ rec)
 
 -- store-server, which is the event of an op that changes no sum
 abbrev pub SettledServer : ℕ → Terms → Share → Share → Type 0

@@ -1,16 +1,26 @@
-use Rattle.std.proofs.Common.{◌≤◌, sym, refl, subst, ◌∙◌, arith}
+use Rattle.std.proofs.Common.{◌≤◌, sym, refl, subst, ◌∙◌, arith, ◌≡◌, ℕ}
 use Rattle.grub_book.specs.declared.place.Record.{Record}
 use Rattle.grub_book.specs.declared.event.Event.TheVariants.{Call}
 use Rattle.grub_book.specs.declared.reply.Reply.{Reply}
 use Rattle.grub_words.proofs.Bounds.{ServerFits-kept}
-use Rattle.grub_table.specs.Calls.{claim_share}
+use Rattle.grub_table.specs.Calls.{claim_share, share_on}
 use Rattle.grub_table.specs.Histories.{WasBefore}
-use Rattle.grub_table.specs.inside.Tellings.{Finishes}
+use Rattle.grub_table.specs.inside.Tellings.{Finishes, StoredServer}
 use Rattle.grub_table.specs.inside.Layout.{stored_of}
 use Rattle.grub_table.proofs.Brief.{made_by_try}
-use Rattle.grub_table.proofs.Tries.{done, lost, stored_server, tried_marks, tried_calls, tried_was, tried_made, tried_kept, tried_claimed}
+use Rattle.grub_table.specs.declared.pass.Shared.{Shared}
+use Rattle.grub_table.specs.declared.seated.Seated.{Seated}
+use Rattle.grub_table.specs.declared.view.Stored.{Stored}
+use Rattle.grub_table.specs.inside.Between.{HoldsMade, Tells}
+use Rattle.grub_table.proofs.Tries.{done, lost, tried_marks, tried_calls, tried_was, tried_made, tried_kept, tried_claimed}
 use Rattle.grub_table.proofs.pass.Shared.attempt.Goals as goal
 
+-- ---- what is stored after the event
+module _ (s : Shared) (t : ℕ) (next : Record) (stored : Stored) (old new : Seated) (h : HoldsMade s old t next stored) where
+  stored_server : (n : ℕ) → Tells s (StoredServer n) old new → ((share_on new).seen ≡ (share_on old).seen) × ((share_on new).marks ≡ (share_on old).marks) × HoldsMade s new t next (record { server = n; params = stored.params })
+  stored_server n told = let w = told.of t h.hold.0 next stored h.hold.1 in (w.0, w.1, record { seat_of = told.seat; task = h.task; hold = (h.hold.0, w.2) })
+
+-- ---- the answers
 pub invariant_of-result : goal.invariant_of-result
 invariant_of-result c =
     let q = c.args.claim in

@@ -1,5 +1,5 @@
 use Rattle.std.proofs.Common.{refl}
-use Rattle.grub_table.proofs.AllowedSteps.{give_back_allowed}
+use Rattle.grub_table.proofs.StoreTurns.{give_back_allowed}
 use Rattle.grub_table.proofs.Between.{left_back}
 use Rattle.grub_table.proofs.pass.Shared.give_back.Goals as goal
 

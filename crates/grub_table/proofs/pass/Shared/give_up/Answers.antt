@@ -1,4 +1,4 @@
-use Rattle.grub_table.proofs.AllowedSteps.{give_up_allowed}
+use Rattle.grub_table.proofs.StoreTurns.{give_up_allowed}
 use Rattle.grub_table.proofs.Between.{left_up}
 use Rattle.grub_table.proofs.pass.Shared.give_up.Goals as goal
 

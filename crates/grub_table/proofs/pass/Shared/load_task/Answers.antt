@@ -1,4 +1,4 @@
-use Rattle.grub_table.proofs.AllowedSteps.{load_task_allowed}
+use Rattle.grub_table.proofs.TaskTurns.{load_task_allowed}
 use Rattle.grub_table.proofs.pass.Shared.load_task.Goals as goal
 
 pub load-requires-clause-allowed : goal.load-requires-clause-allowed

@@ -1,7 +1,7 @@
 use Rattle.std.proofs.Common.{subst}
 use Rattle.grub_table.specs.inside.Between.{Tells}
 use Rattle.grub_table.specs.inside.Tellings.{SettledServer}
-use Rattle.grub_table.proofs.AllowedSteps.{settle_server_allowed}
+use Rattle.grub_table.proofs.ClaimTurns.{settle_server_allowed}
 use Rattle.grub_table.proofs.pass.Shared.settle_server.Goals as goal
 
 pub store-requires-clause-allowed : goal.store-requires-clause-allowed

@@ -1,7 +1,7 @@
 use Rattle.std.proofs.Common.{subst}
 use Rattle.grub_table.specs.inside.Between.{Tells}
 use Rattle.grub_table.specs.inside.Tellings.{StoredParams}
-use Rattle.grub_table.proofs.AllowedSteps.{store_params_allowed}
+use Rattle.grub_table.proofs.StoreTurns.{store_params_allowed}
 use Rattle.grub_table.proofs.pass.Shared.store_params.Goals as goal
 
 pub store-requires-clause-allowed : goal.store-requires-clause-allowed

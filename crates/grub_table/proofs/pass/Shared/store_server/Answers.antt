@@ -1,7 +1,7 @@
 use Rattle.std.proofs.Common.{subst}
 use Rattle.grub_table.specs.inside.Between.{Tells}
 use Rattle.grub_table.specs.inside.Tellings.{StoredServer}
-use Rattle.grub_table.proofs.AllowedSteps.{store_server_allowed}
+use Rattle.grub_table.proofs.StoreTurns.{store_server_allowed}
 use Rattle.grub_table.proofs.pass.Shared.store_server.Goals as goal
 
 pub store-requires-clause-allowed : goal.store-requires-clause-allowed

@@ -4,7 +4,7 @@ use Rattle.grub_table.specs.declared.view.Access.TheVariants.{Exchange}
 use Rattle.grub_table.specs.inside.Between.{Tells}
 use Rattle.grub_table.specs.Calls.{made_on}
 use Rattle.grub_table.specs.inside.Tellings.{TookClaim}
-use Rattle.grub_table.proofs.AllowedSteps.{take_claim_allowed}
+use Rattle.grub_table.proofs.TaskTurns.{take_claim_allowed}
 use Rattle.grub_table.proofs.pass.Shared.take_claim.Goals as goal
 
 pub exchange_saying-requires-clause-allowed : goal.exchange_saying-requires-clause-allowed
