@@ -4,10 +4,7 @@ use Rattle.grub_bw.specs.Bandwidth.{Capacity}
 use Rattle.grub_trace.specs.declared.version.Version.{Version}
 use Rattle.grub_trace.specs.declared.fault.Kind.{Kind}
 use Rattle.grub_trace.specs.declared.fault.Kind.TheVariants.{CutShort, BadHeader, BadLine, BadNumber, OutOfRange, MomentGoesBack}
-use Rattle.grub_trace.specs.declared.fault.Stop.{Stop}
-use Rattle.grub_trace.specs.declared.fault.Stop.TheVariants as stop
-use Rattle.grub_trace.specs.inside.Halts.{halt_of}
-use Rattle.grub_trace.specs.inside.Reading.{Read, FileRead, act_map, read_queue, read_second, read_first, read_as, read_file, file_from, opened, unless, adds, take_option, times_of, read_lines, take_line, at_line, ◌>>=◌, Stops, Halts, two_fault, IsRun, IsRetune, take_form}
+use Rattle.grub_trace.specs.inside.Reading.{Read, FileRead, act_map, read_queue, read_second, read_first, read_as, read_file, file_from, opened, unless, adds, take_option, times_of, read_lines, take_line, at_line, ◌>>=◌, Halts, two_fault, IsRun, IsRetune, take_form}
 use Rattle.grub_trace.specs.Forms.{parts_of, Form, queue, task, at_moment, words_of, form_of, is_number, version_of, value, reservation_value}
 use Rattle.std.proofs.Common.{◌-◌, Option, Some, None}
 use Rattle.std.proofs.lemmas.List.{length_push}
@@ -27,10 +24,10 @@ goes_on r s n text line rest total parts taken so_far =
     let one : read_lines r n (parts_of text) ≡ read_lines s (n + 1) (parts_of rest) = ap (read_lines r n) parts ∙ lines_step r n line rest ∙ ap (λ (x : Result Read Kind). at_line n x >>= λ s. read_lines s (n + 1) (parts_of rest)) taken in
     sym one ∙ so_far
 
-pub stops : (e : Stop) (r : Read) (n : ℕ) (text line rest : List ℕ) (total : Result Read (Kind × ℕ)) → parts_of text ≡ line ∷ parts_of rest → Stops e (take_line r line) → read_lines r n (parts_of text) ≡ total → Halts (halt_of e n) total
-stops stop.Memory r n text line rest total parts taken so_far = tt
-stops (stop.Fault k) r n text line rest total parts taken so_far =
-    let one : read_lines r n (parts_of text) ≡ Err (k, n) = ap (read_lines r n) parts ∙ lines_step r n line rest ∙ ap (λ (x : Result Read Kind). at_line n x >>= λ s. read_lines s (n + 1) (parts_of rest)) taken in
+pub stops : (e : Halt) (r : Read) (n : ℕ) (text line rest : List ℕ) (total : Result Read (Kind × ℕ)) → parts_of text ≡ line ∷ parts_of rest → Halts e (at_line n (take_line r line)) → read_lines r n (parts_of text) ≡ total → Halts e total
+stops halt.Memory r n text line rest total parts taken so_far = tt
+stops (halt.At k m) r n text line rest total parts taken so_far =
+    let one : read_lines r n (parts_of text) ≡ Err (k, m) = ap (read_lines r n) parts ∙ lines_step r n line rest ∙ ap (λ (x : Result Read (Kind × ℕ)). x >>= λ s. read_lines s (n + 1) (parts_of rest)) taken in
     sym so_far ∙ one
 
 pub last_line : (r : Read) (n : ℕ) (text : List ℕ) (total : Result Read (Kind × ℕ)) → parts_of text ≡ text ∷ [] → read_lines r n (parts_of text) ≡ total → total ≡ cond (eqb (length text) 0) (Ok r) (Err (CutShort, n))

@@ -36,9 +36,7 @@ fn read_tasks<'a>(
         let Some(Form::Task(name, runtime, period)) = form_of(line) else {
             break;
         };
-        if let Err(stop) = declare(alloc, tasks, name, runtime, period) {
-            return Err(stop.at_line(first));
-        }
+        declare(alloc, tasks, first, name, runtime, period)?;
         rest = after;
         first += 1;
     }

@@ -113,16 +113,16 @@ fn names(alloc: Global, tasks: Vec<Task>) -> Result<Vec<String>, TraceFault>
 }
 
 /// The plan of what was read, where nothing is wrong with it.
-fn plan_of(
-    alloc: Global,
-    tasks: Tasks,
-    bodies: Vec<Below<'_>>,
-    fault: Option<TraceFault>,
-) -> Result<Plan, TraceFault>
-    requires read { AreRead tasks bodies.items }
-    requires files { (files : _) × AreTogether files tasks (map head_of bodies.items) fault }
-    ensures { (files : _) → AreTogether files tasks (map head_of bodies.entry.items) fault → Answers result (λ p. p) (plan_from files) }
+fn plan_of(alloc: Global, heads: Heads<'_>) -> Result<Plan, TraceFault>
+    requires read { AreRead heads.tasks heads.bodies.items }
+    requires files { (files : _) × AreTogether files heads.tasks (map head_of heads.bodies.items) heads.fault }
+    ensures { (files : _) → AreTogether files heads.entry.tasks (map head_of heads.entry.bodies.items) heads.entry.fault → Answers result (λ p. p) (plan_from files) }
 {
+    let Heads {
+        tasks,
+        bodies,
+        fault,
+    } = heads;
     let all = collect(alloc, tasks, bodies, fault)?;
     let AllRead { tasks, files } = all;
     let queues = queues(alloc, &files)?;
@@ -137,14 +137,10 @@ fn plan_of(
 fn plan(alloc: Global, files: &[Vec<u8>]) -> Result<Plan, TraceFault>
     ensures { IsPlanned (contents files.now) result }
 {
-    let heads = read_heads(alloc, files)?;
-    let Heads {
-        tasks,
-        mut bodies,
-        fault,
-    } = heads;
-    read_in_turn(alloc, &tasks, &mut bodies);
-    plan_of(alloc, tasks, bodies, fault)
+    let mut heads = read_heads(alloc, files)?;
+    let lent = &mut heads;
+    read_in_turn(alloc, &lent.tasks, &mut lent.bodies);
+    plan_of(alloc, heads)
 }
 
 /// The plan of files that are read by threads.
@@ -155,14 +151,10 @@ fn plan_by_threads<R: Threads + Sync>(
 ) -> Result<Plan, TraceFault>
     ensures { IsPlanned (contents files.now) result }
 {
-    let heads = read_heads(alloc, files)?;
-    let Heads {
-        tasks,
-        mut bodies,
-        fault,
-    } = heads;
-    read_by_threads(rt, alloc, &tasks, &mut bodies);
-    plan_of(alloc, tasks, bodies, fault)
+    let mut heads = read_heads(alloc, files)?;
+    let lent = &mut heads;
+    read_by_threads(rt, alloc, &lent.tasks, &mut lent.bodies);
+    plan_of(alloc, heads)
 }
 
 /// The plan of event files, of version 1 or 2, one for each runqueue.

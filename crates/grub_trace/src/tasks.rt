@@ -1,16 +1,16 @@
 //! The declared tasks, and their numbers by their names.
 
-ghost use Rattle.std.specs.Prelude.{◌≡◌, ◌<◌, length, ◌∷◌, [], ◌++◌, Err, OnOk, IfErr, IfSome, None, is_some, true};
+ghost use Rattle.std.specs.Prelude.{◌≡◌, ◌<◌, length, ◌∷◌, [], ◌++◌, Err, OnOk, IfSome, None, is_some, true};
 ghost use Rattle.grub_trace.specs.Tree.{is_name, names_of};
 ghost use Rattle.grub_trace.specs.Naming.{task_of};
 ghost use Rattle.grub_trace.specs.Faults.{reservation_fits};
 ghost use Rattle.grub_trace.specs.inside.Reading.{Declares, declarations, IsIndexed};
 
-use crate::fault::{Kind, Stop};
+use crate::fault::{Halt, Kind};
 use crate::number::number;
 use grub_book::TASKS_MAX;
 use grub_bw::Params;
-use std::alloc::Global;
+use std::alloc::{AllocError, Global};
 use std::collections::HashMap;
 
 #[derive(Drop)]
@@ -48,13 +48,12 @@ impl Tasks {
         }
     }
 
-    pub fn push(&mut self, alloc: Global, name: &str, params: Params) -> Result<(), Stop>
+    pub fn push(&mut self, alloc: Global, name: &str, params: Params) -> Result<(), AllocError>
         requires indexed { IsIndexed self.old }
         requires room { length (declarations self.old) < 256 }
         requires fresh { task_of (names_of (declarations self.old)) name.now ≡ None }
         ensures declared { OnOk result (declarations self.new ≡ declarations self.old ++ record { name = name.now; params = params } ∷ []) }
         ensures indexed { OnOk result (IsIndexed self.new) }
-        ensures memory { IfErr result (λ e. e ≡ Stop.Memory) }
     {
         let number = self.list.len() as u32;
         let key = String::from_str(alloc, name)?;
@@ -73,33 +72,35 @@ pub fn reservation(runtime: u32, period: u32) -> Option<Params>
     Params::new(runtime, period).ok()
 }
 
-/// Declares a task.
+/// Declares the task of a line of this number.
 pub fn declare(
     alloc: Global,
     tasks: &mut Tasks,
+    line: usize,
     name: &[u8],
     runtime: &[u8],
     period: &[u8],
-) -> Result<(), Stop>
+) -> Result<(), Halt>
     requires indexed { IsIndexed tasks.old }
     requires name_in { is_name name.now ≡ true }
-    ensures takes { Declares result (declarations tasks.old) (declarations tasks.new) name.now runtime.now period.now }
-    ensures indexed { (result ≡ Err Stop.Memory → ⊥) → IsIndexed tasks.new }
+    ensures takes { Declares result line (declarations tasks.old) (declarations tasks.new) name.now runtime.now period.now }
+    ensures indexed { (result ≡ Err Halt.Memory → ⊥) → IsIndexed tasks.new }
 {
     let (Some(runtime), Some(period)) = (number(runtime), number(period)) else {
-        return Err(Stop::Fault(Kind::BadNumber));
+        return Err(Halt::At(Kind::BadNumber, line));
     };
     if tasks.list.len() >= TASKS_MAX {
-        return Err(Stop::Fault(Kind::OutOfRange));
+        return Err(Halt::At(Kind::OutOfRange, line));
     }
     let Some(params) = reservation(runtime, period) else {
-        return Err(Stop::Fault(Kind::OutOfRange));
+        return Err(Halt::At(Kind::OutOfRange, line));
     };
     if tasks.find(name).is_some() {
-        return Err(Stop::Fault(Kind::DuplicateTask));
+        return Err(Halt::At(Kind::DuplicateTask, line));
     }
     let Ok(name) = str::from_utf8(name) else {
         unreachable!();
     };
-    tasks.push(alloc, name, params)
+    tasks.push(alloc, name, params)?;
+    Ok(())
 }

@@ -16,8 +16,6 @@ use Rattle.grub_trace.specs.declared.line.Act.{Act}
 use Rattle.grub_trace.specs.declared.line.Act.TheVariants as act
 use Rattle.grub_trace.specs.declared.fault.Halt.{Halt}
 use Rattle.grub_trace.specs.declared.fault.Halt.TheVariants as halt
-use Rattle.grub_trace.specs.declared.fault.Stop.{Stop}
-use Rattle.grub_trace.specs.declared.fault.Stop.TheVariants as stop
 use Rattle.grub_trace.specs.declared.tasks.Task.{Task}
 use Rattle.grub_trace.specs.declared.tasks.Tasks.{Tasks}
 use Rattle.grub_trace.specs.Forms.{parts_of, version_of, Form, queue, task, at_moment, words_of, form_of, is_filled, is_number, value, reservation_value, capacity_value}
@@ -111,6 +109,15 @@ take_option r (Some f) = take_form r f
 abbrev pub take_line : Read → List ℕ → Result Read Kind
 take_line r line = take_option r (form_of (words_of line))
 
+abbrev pub at_line : {X : Type 0} → ℕ → Result X Kind → Result X (Kind × ℕ)
+at_line n (Ok x) = Ok x
+at_line n (Err k) = Err (k, n)
+
+-- what a function returned is what reading gives, unless memory ran out
+abbrev pub Halts : {X : Type 0} → Halt → Result X (Kind × ℕ) → Type 0
+Halts halt.Memory r = Unit {0}
+Halts (halt.At k n) r = r ≡ Err (k, n)
+
 -- ---- what the code keeps
 
 abbrev pub task_view : Task → Declaration
@@ -124,18 +131,14 @@ pub record IsIndexed (t : Tasks) : Type 0 where
   pub few : length (declarations t) ≤ 256
   pub found : (q : List ℕ) → get_by_text t.index q ≡ task_of (names_of (declarations t)) q
 
--- what a step returned, and what it left, are what reading gives, unless memory ran out
-abbrev pub Stops : {X : Type 0} → Stop → Result X Kind → Type 0
-Stops stop.Memory r = Unit {0}
-Stops (stop.Fault k) r = r ≡ Err k
-
-abbrev pub Takes : {U X : Type 0} → Result U Stop → X → Result X Kind → Type 0
-Takes (Ok u) new r = r ≡ Ok new
-Takes (Err e) new r = Stops e r
+-- what a step at line n returned, and what it left, are what reading gives, unless memory ran out
+abbrev pub Takes : {U X : Type 0} → Result U Halt → ℕ → X → Result X Kind → Type 0
+Takes (Ok u) n new r = r ≡ Ok new
+Takes (Err e) n new r = Halts e (at_line n r)
 
 -- what became of the declarations, where a task line stands before the first moment
-abbrev pub Declares : {U : Type 0} → Result U Stop → List Declaration → List Declaration → List ℕ → List ℕ → List ℕ → Type 0
-Declares r old new n q p = (version : Version) → Takes r (opened version new) (take_form (opened version old) (task n q p))
+abbrev pub Declares : {U : Type 0} → Result U Halt → ℕ → List Declaration → List Declaration → List ℕ → List ℕ → List ℕ → Type 0
+Declares r line old new n q p = (version : Version) → Takes r line (opened version new) (take_form (opened version old) (task n q p))
 
 abbrev pub moment_fault : List ℕ → Option Kind
 moment_fault w = if not (is_number w) then Some BadNumber else (if is_moment (value w) then None else Some OutOfRange)
@@ -159,10 +162,6 @@ IsRetune (Ok x) m q p = (is_number m ≡ true) × (is_number q ≡ true) × (is_
 IsRetune (Err k) m q p = two_fault (is_number m && is_number q && is_number p) (is_moment (value m) && reservation_fits (reservation_value q p)) ≡ Some k
 
 -- ---- a file
-
-abbrev pub at_line : {X : Type 0} → ℕ → Result X Kind → Result X (Kind × ℕ)
-at_line n (Ok x) = Ok x
-at_line n (Err k) = Err (k, n)
 
 infixl 10 ◌>>=◌
 abbrev pub ◌>>=◌ : {A B E : Type 0} → Result A E → (A → Result B E) → Result B E
@@ -214,11 +213,6 @@ read_first ds (line ∷ next ∷ more) = read_as (version_of line) ds (next ∷ 
 
 unfoldable pub read_file : List Declaration → List ℕ → Result FileRead (Kind × ℕ)
 read_file ds bytes = read_first ds (parts_of bytes)
-
--- what a function returned is what reading gives, unless memory ran out
-abbrev pub Halts : {X : Type 0} → Halt → Result X (Kind × ℕ) → Type 0
-Halts halt.Memory r = Unit {0}
-Halts (halt.At k n) r = r ≡ Err (k, n)
 
 abbrev pub Gives : {U X : Type 0} → Result U Halt → (U → X) → Result X (Kind × ℕ) → Type 0
 Gives (Ok u) view r = r ≡ Ok (view u)

@@ -1,7 +1,7 @@
 use Rattle.std.proofs.Common.{◌∙◌, ap, refl, sym}
 use Rattle.grub_trace.specs.Faults.{last_of}
-use Rattle.grub_trace.specs.declared.fault.Stop.TheVariants as stop
-use Rattle.grub_trace.specs.inside.Reading.{Read, declarations, line_view}
+use Rattle.grub_trace.specs.declared.fault.Halt.TheVariants as halt
+use Rattle.grub_trace.specs.inside.Reading.{Read, at_line, declarations, line_view}
 use Rattle.grub_trace.proofs.Elsewhere.{front_below}
 use Rattle.grub_trace.proofs.LineLemmas.{ends_short, ends_whole, stops}
 use Rattle.grub_trace.proofs.ScriptLaws.{says_next, says_none}
@@ -16,7 +16,7 @@ returns-in-Err c =
     let r : Read = record { version = c.args.version; declared = declarations c.args.tasks.now; happenings = on.happenings } in
     let last = rw c.deref.ensures.value at c.last.ensures in
     let taken = c.in-Err.ensures r refl (ap last_of on.script.times ∙ sym last) (λ is. on.below (front_below c.loop-line.rest.now c.in-Some.line.now c.in-Some.after.now c.in-Some.ensures.parts is)) in
-    stops (stop.Fault c.in-Err.kind) r c.loop-line.number c.loop-line.rest.now c.in-Some.line.now c.in-Some.after.now _ c.in-Some.ensures.parts taken on.so_far
+    stops (halt.At c.in-Err.kind c.loop-line.number) r c.loop-line.number c.loop-line.rest.now c.in-Some.line.now c.in-Some.after.now _ c.in-Some.ensures.parts (ap (at_line c.loop-line.number) taken) on.so_far
 
 pub loop-line-preserved : goal.loop-line-preserved
 loop-line-preserved c =
