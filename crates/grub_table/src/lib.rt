@@ -12,8 +12,6 @@ mod row;
 mod rule;
 mod starting;
 mod steps;
-#[cfg(test)]
-mod tests;
 mod view;
 
 pub use laws::{closing_readings_are_sound, one_pass_makes_all, passes_learn_on};
