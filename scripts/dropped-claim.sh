@@ -8,15 +8,15 @@ trap 'rm -rf "$copy"' EXIT
 
 cp "$root/crates.txt" "$copy/"
 [[ ! -f $root/HANDLES ]] || cp "$root/HANDLES" "$copy/"
-for crate in grub_bw grub_book grub_words grub_table; do
+for crate in grub_bw grub_book grub_words grub_table grub_table_tests; do
     mkdir -p "$copy/crates/$crate"
     for part in src specs proofs; do
         [[ ! -d $root/crates/$crate/$part ]] || cp -r "$root/crates/$crate/$part" "$copy/crates/$crate/"
     done
 done
-grep -E '^(grub_bw|grub_book|grub_words|grub_table)( |:)' "$root/crates.txt" > "$copy/crates.txt"
+grep -E '^(grub_bw|grub_book|grub_words|grub_table|grub_table_tests)( |:)' "$root/crates.txt" > "$copy/crates.txt"
 
-cat >> "$copy/crates/grub_table/src/tests/fixtures.rt" <<'END'
+cat >> "$copy/crates/grub_table_tests/src/tests/fixtures.rt" <<'END'
 
 pub(crate) fn give_up_at_times(shared: &Shared, claim: Claim, tries: u8) -> Option<Pass>
     requires { IsClaimOf shared.now claim }
@@ -28,7 +28,7 @@ pub(crate) fn give_up_at_times(shared: &Shared, claim: Claim, tries: u8) -> Opti
 }
 END
 
-cd "$copy/crates/grub_table"
+cd "$copy/crates/grub_table_tests"
 if rt try --test > "$copy/log" 2>&1; then
     echo "dropped-claim: a path that drops a claim was accepted"
     exit 1

@@ -13,6 +13,3 @@ pub use files::{FilesFault, event_files, events_told, setting_of};
 pub use options::{Given, Options, options_of};
 pub use pieces::{Input, read_facts};
 pub use serving::{Target, explain, serve_events, serve_tasks, told_status};
-
-#[cfg(test)]
-mod tests;

@@ -15,8 +15,6 @@ mod number;
 mod opening;
 mod reader;
 mod task_reader;
-#[cfg(test)]
-mod tests;
 mod text;
 mod words;
 

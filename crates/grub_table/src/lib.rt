@@ -13,8 +13,6 @@ mod rule;
 mod seated;
 mod starting;
 mod steps;
-#[cfg(test)]
-mod tests;
 mod view;
 
 pub use laws::{closing_readings_are_sound, one_pass_makes_all, passes_learn_on};

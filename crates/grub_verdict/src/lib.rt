@@ -27,6 +27,3 @@ pub use judging::judge;
 pub use observation::{Observation, Yardstick};
 pub use sign::Sign;
 pub use verdict::{Verdict, verdict_of};
-
-#[cfg(test)]
-mod tests;

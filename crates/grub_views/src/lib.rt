@@ -33,6 +33,3 @@ pub use picture::{end_of, marked_picture_text, picture_text};
 pub use rows::write_steps;
 pub use said::{charge_in, recharges_in, run_of, server_before};
 pub use summary::summary_text;
-
-#[cfg(test)]
-mod tests;

@@ -13,6 +13,3 @@ mod worker;
 
 pub use gate::{Gate, NoGate};
 pub use outcome::{Outcome, RunFault, run};
-
-#[cfg(test)]
-mod tests;

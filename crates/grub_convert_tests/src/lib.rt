@@ -1,0 +1,5 @@
+//! Tests of grub_convert.
+#![tactic(auto)]
+
+#[cfg(test)]
+mod tests;

@@ -1,0 +1,5 @@
+//! Tests of grub_facts.
+#![tactic(auto)]
+
+#[cfg(test)]
+mod tests;

@@ -1,0 +1,209 @@
+//! Lines that are wrong, and texts that are cut.
+
+use crate::tests::fixtures::{SWITCH, WAKE, fault_of, joined, number_of};
+use grub_facts::TaskReader;
+use std::alloc::{AllocError, Global};
+use std::test::Fail;
+
+#[test]
+fn faults_of_lines(rt: HostRuntime) -> Result<(), Fail> {
+    let alloc = rt.alloc();
+    assert_eq!(rt;
+        fault_of(
+            alloc,
+            b"\na-1 [3] 1.000001: sched_wakeup: comm=gr_2 pid=12928 prio=-1 target_cpu=003\n"
+        )?,
+        (2, 50)
+    );
+    assert_eq!(rt;
+        fault_of(
+            alloc,
+            b"a-1 [3] 1.000001: hrtimer_expire_entry: hrtimer=1 function=inactive_task_timer now=1001001000\n"
+        )?,
+        (0, 0)
+    );
+    assert_eq!(rt;
+        fault_of(
+            alloc,
+            b"a-1 [3] 1.000001: hrtimer_expire_entry: hrtimer=1 function=inactive_task_timer now=1001001001\n"
+        )?,
+        (1, 51)
+    );
+    assert_eq!(rt;
+        fault_of(
+            alloc,
+            b"a-1 [3] 2.000001: hrtimer_expire_entry: hrtimer=1 function=inactive_task_timer now=1\n"
+        )?,
+        (1, 51)
+    );
+    assert_eq!(rt;
+        fault_of(
+            alloc,
+            b"a-1 [3] 2.000001: hrtimer_expire_entry: hrtimer=1 function=hrtimer_wakeup now=1\n"
+        )?,
+        (0, 0)
+    );
+    assert_eq!(rt;
+        fault_of(
+            alloc,
+            b"# tracer: nop\n#\n# entries-in-buffer/entries-written: 9/10   #P:4\n"
+        )?,
+        (3, 52)
+    );
+    assert_eq!(rt;
+        fault_of(
+            alloc,
+            b"# entries-in-buffer/entries-written: 010/10   #P:4\n"
+        )?,
+        (0, 0)
+    );
+    assert_eq!(rt; fault_of(alloc, b"CPU:2 [LOST 12 EVENTS]\n")?, (1, 52));
+    assert_eq!(rt; fault_of(alloc, b"CPU:2 [LOST EVENTS]")?, (1, 52));
+    assert_eq!(rt;
+        fault_of(
+            alloc,
+            b" perf  1 [001]   1.456789: PERF_RECORD_LOST_SAMPLES lost 5\n"
+        )?,
+        (1, 52)
+    );
+    assert_eq!(rt; fault_of(alloc, b"#P:0 x\n")?, (0, 0));
+    assert_eq!(rt; fault_of(alloc, b"# x #P:0\n")?, (1, 54));
+    assert_eq!(rt; fault_of(alloc, b"# x #P:65\n")?, (1, 54));
+    assert_eq!(rt;
+        fault_of(alloc, b"a-1 [064] 1.000001: hrtimer_cancel: hrtimer=1\n")?,
+        (1, 54)
+    );
+    assert_eq!(rt;
+        fault_of(
+            alloc,
+            b"a-1 [0] 1.000001: sched_wakeup: comm=b pid=1 prio=120 target_cpu=64\n"
+        )?,
+        (1, 54)
+    );
+    assert_eq!(rt;
+        fault_of(
+            alloc,
+            b"# #P:2\na-1 [3] 1.000001: sched_wakeup: comm=b pid=77 prio=-1 target_cpu=2\n"
+        )?,
+        (2, 54)
+    );
+    assert_eq!(rt;
+        fault_of(
+            alloc,
+            b"# #P:2\na-1 [3] 1.000001: sched_migrate_task: comm=b pid=77 prio=-1 dest_cpu=2\n"
+        )?,
+        (2, 54)
+    );
+    assert_eq!(rt;
+        fault_of(
+            alloc,
+            b"# #P:2\na-1 [3] 1.000001: sched_migrate_task: comm=b pid=78 prio=-1 dest_cpu=2\n"
+        )?,
+        (0, 0)
+    );
+    Ok(())
+}
+
+#[test]
+fn lines_that_lack_something(rt: HostRuntime) -> Result<(), Fail> {
+    let alloc = rt.alloc();
+    let bad = [
+        b"a-1 1.000001: hrtimer_cancel: hrtimer=1\n".as_slice(),
+        b"a-1 [x] 1.000001: hrtimer_cancel: hrtimer=1\n".as_slice(),
+        b"a-1 [0] 1.000001: hrtimer_cancel: hrtimer=\n".as_slice(),
+        b"a-1 [0] 1.000001: hrtimer_start: hrtimer=1 expires=2\n".as_slice(),
+        b"a- [0] 1.000001: hrtimer_start: hrtimer=1 function=inactive_task_timer expires=2\n".as_slice(),
+        b"a-1 [0] 1.000001: hrtimer_start: hrtimer=1 function=inactive_task_timer expires=-2\n".as_slice(),
+        b"a-1 [0] 1.000001: hrtimer_expire_entry: hrtimer=1 now=2\n".as_slice(),
+        b"a-1 [0] 1.000001: sched_wakeup: comm=b pid=x prio=-1 target_cpu=0\n".as_slice(),
+        b"a-1 [0] 1.000001: sched_wakeup: comm=b pid=1 prio=+1 target_cpu=0\n".as_slice(),
+        b"a-1 [0] 1.000001: sched_wakeup: comm=b pid=1 prio=120\n".as_slice(),
+        b"a-1 [0] 1.000001: sched_wakeup: pid=1 prio=120 target_cpu=1\n".as_slice(),
+        b"a-1 [0] 1.000001: sched_stat_runtime: comm=b pid=1 runtime=1.5\n".as_slice(),
+        b"a-1 [0] 1.000001: sched_switch: gr_0:3001 [-1] S ==> swapper/3:0 [120]\n".as_slice(),
+        b"a-1 [0] 1.000001: sched_switch: prev_comm=b prev_pid=1 prev_prio=-1 prev_state= ==> next_comm=c\n".as_slice(),
+    ];
+    for text in bad {
+        assert_eq!(rt; fault_of(alloc, text)?, (1, 55));
+    }
+    let nothing = [
+        b"a-1 [0] 1.00001: hrtimer_cancel: x\n".as_slice(),
+        b"a-1 [0] 1.0000000001: hrtimer_cancel: x\n".as_slice(),
+        b"a-1 [0] 1.000001 hrtimer_cancel: x\n".as_slice(),
+        b"a-1 [0] 1.000001: sched_waking: x\n".as_slice(),
+        b"#a-1 [0] 1.000001: hrtimer_cancel: x\n".as_slice(),
+        b"1.000001:\n".as_slice(),
+    ];
+    for text in nothing {
+        assert_eq!(rt; fault_of(alloc, text)?, (0, 0));
+    }
+    Ok(())
+}
+
+#[test]
+fn a_text_that_is_cut(rt: HostRuntime) -> Result<(), Fail> {
+    let alloc = rt.alloc();
+    let text = joined(alloc, [WAKE, SWITCH].as_slice())?;
+    let whole = text.as_slice();
+    for k in 0..whole.len() {
+        let (front, _) = whole.split_at(k);
+        let wanted = match k {
+            0 => (0, 0),
+            _ if k == WAKE.len() => (0, 0),
+            _ if k < WAKE.len() => (1, 55),
+            _ => (2, 55),
+        };
+        assert_eq!(rt; fault_of(alloc, front)?, wanted);
+    }
+    assert_eq!(rt; fault_of(alloc, whole)?, (0, 0));
+    Ok(())
+}
+
+/// The first fault of a trace that `tasks` reads.
+fn fault_counted(alloc: Global, text: &[u8]) -> Result<(u64, u64), AllocError> {
+    let mut reader = TaskReader::new(alloc);
+    for piece in text.chunks(5) {
+        reader.feed(piece)?;
+    }
+    match reader.end() {
+        Ok(_) => Ok((0, 0)),
+        Err(fault) => Ok((fault.line, number_of(&fault.wrong))),
+    }
+}
+
+/// The tasks of a trace are told with its faults: 51, 52, 54 and 55.
+#[test]
+fn faults_of_the_tasks(rt: HostRuntime) -> Result<(), Fail> {
+    let alloc = rt.alloc();
+    let text = joined(alloc, [WAKE, SWITCH].as_slice())?;
+    let whole = text.as_slice();
+    for k in 0..whole.len() {
+        let (front, _) = whole.split_at(k);
+        let wanted = match k {
+            0 => (0, 0),
+            _ if k == WAKE.len() => (0, 0),
+            _ if k < WAKE.len() => (1, 55),
+            _ => (2, 55),
+        };
+        assert_eq!(rt; fault_counted(alloc, front)?, wanted);
+    }
+    for (line, number) in [
+        (
+            b"a-1 [3] 2.000001: hrtimer_expire_entry: hrtimer=1 function=inactive_task_timer now=1\n".as_slice(),
+            51,
+        ),
+        (b"CPU:2 [LOST 12 EVENTS]\n".as_slice(), 52),
+        (
+            b"a-1 [0] 1.000001: sched_wakeup: comm=b pid=1 prio=120 target_cpu=64\n".as_slice(),
+            54,
+        ),
+        (
+            b"a-1 [0] 1.000001: hrtimer_cancel: hrtimer=\n".as_slice(),
+            55,
+        ),
+    ] {
+        let text = joined(alloc, [WAKE, line, SWITCH].as_slice())?;
+        assert_eq!(rt; fault_counted(alloc, text.as_slice())?, (2, number));
+    }
+    Ok(())
+}

@@ -1,0 +1,81 @@
+//! Lines that kernels wrote, and what a text tells.
+
+use grub_facts::{Fact, FactReader, Facts, LineFault, What, Wrong};
+use std::alloc::{AllocError, Global};
+
+pub const SWITCH: &[u8] =
+    b"            gr_0-12926   [000] d..2.  1020.381451: sched_switch: prev_comm=gr_0 prev_pid=12926 prev_prio=-1 prev_state=S ==> next_comm=dlwork next_pid=12929 next_prio=120\n";
+
+pub const WAKE: &[u8] =
+    b"          <idle>-0       [002] dNh4.  1020.402803: sched_wakeup: comm=gr_0 pid=12926 prio=-1 target_cpu=002\n";
+
+pub const ARM: &[u8] =
+    b"    gr_0-12926   [000] d..3.  1020.411178: hrtimer_start: hrtimer=00000000d0364ad0 function=inactive_task_timer expires=1020411632855 softexpires=1020411632855 mode=REL|HARD was_armed=0\n";
+
+pub const CANCEL: &[u8] =
+    b"  <idle>-0       [000] d..2.  1020.411200: hrtimer_cancel: hrtimer=00000000d0364ad0\n";
+
+pub const FIRE: &[u8] =
+    b"  <idle>-0       [000] d.h1.  1020.411633: hrtimer_expire_entry: hrtimer=00000000d0364ad0 function=inactive_task_timer now=1020411634000\n";
+
+/// What a text tells of the tasks gr_0 and 77, in pieces of seven bytes.
+pub fn read(alloc: Global, text: &[u8]) -> Result<Facts, AllocError> {
+    let mut reader = FactReader::new(
+        alloc,
+        [b"gr_0".as_slice(), b"77".as_slice()].as_slice(),
+        None,
+    )?;
+    for piece in text.chunks(7) {
+        reader.feed(piece)?;
+    }
+    reader.end()
+}
+
+/// The number of a fault.
+pub fn number_of(wrong: &Wrong) -> u64 {
+    match wrong {
+        Wrong::UnknownTask { comm: _, pid: _ } => 50,
+        Wrong::WrongClock => 51,
+        Wrong::LostEvents => 52,
+        Wrong::TooLong => 54,
+        Wrong::BadTraceLine => 55,
+    }
+}
+
+/// The line and the number of a fault, or 0 and 0.
+pub fn place(fault: &Option<LineFault>) -> (u64, u64) {
+    match fault {
+        None => (0, 0),
+        Some(fault) => (fault.line, number_of(&fault.wrong)),
+    }
+}
+
+pub fn fault_of(alloc: Global, text: &[u8]) -> Result<(u64, u64), AllocError> {
+    Ok(place(&read(alloc, text)?.fault))
+}
+
+/// Whether a text tells this one fact and no other.
+pub fn tells(
+    alloc: Global,
+    text: &[u8],
+    at: u64,
+    task: usize,
+    what: What,
+) -> Result<bool, AllocError> {
+    let told = read(alloc, text)?;
+    let wanted = Fact {
+        line: 1,
+        at,
+        task,
+        what,
+    };
+    Ok(told.facts.as_slice() == [wanted].as_slice() && place(&told.fault) == (0, 0))
+}
+
+pub fn joined(alloc: Global, lines: &[&[u8]]) -> Result<Vec<u8>, AllocError> {
+    let mut text = Vec::new(alloc);
+    for line in lines {
+        text.extend_from_slice(line)?;
+    }
+    Ok(text)
+}

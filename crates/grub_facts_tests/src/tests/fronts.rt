@@ -1,0 +1,117 @@
+//! What stands in front of an event, comms, and the ends of lines.
+
+use crate::tests::fixtures::{joined, place, read, tells};
+use grub_facts::{Stop, What};
+use std::test::Fail;
+
+#[test]
+fn a_comm_may_be_anything(rt: HostRuntime) -> Result<(), Fail> {
+    let alloc = rt.alloc();
+    assert!(rt;
+        tells(
+            alloc,
+            b"a-1 [3] 1.000001: sched_wakeup: comm= pid=77 prio=-1 target_cpu=003\n",
+            1000001000,
+            1,
+            What::Wakes { cpu: 3 }
+        )?
+    );
+    assert!(rt;
+        tells(
+            alloc,
+            b"a-1 [3] 1.000001: sched_wakeup: comm=x prio=120 y=z pid=77 prio=-1 target_cpu=003\n",
+            1000001000,
+            1,
+            What::Wakes { cpu: 3 }
+        )?
+    );
+    assert!(rt;
+        tells(
+            alloc,
+            b"a-1 [3] 1.000001: sched_wakeup: comm=sched_switch: a pid=77 prio=-1 target_cpu=003\n",
+            1000001000,
+            1,
+            What::Wakes { cpu: 3 }
+        )?
+    );
+    let told = read(
+        alloc,
+        b"a-1 [3] 1.000001: sched_switch: prev_comm=a prev b prev_pid=77 prev_prio=-1 prev_state=S ==> next_comm=prev_state=R next_pid=1\n",
+    )?;
+    assert_eq!(rt; told.facts.len(), 1);
+    assert_eq!(rt;
+        told.facts[0].what,
+        What::Stops {
+            cpu: 3,
+            state: Stop::Blocks
+        }
+    );
+    assert_eq!(rt; told.found.len(), 2);
+    match &told.found[1] {
+        None => assert!(rt; false),
+        Some(found) => assert!(rt;
+            found.comm.as_slice() == b"a prev b".as_slice() && found.pid == 77 && found.line == 1
+        ),
+    }
+    Ok(())
+}
+
+#[test]
+fn lines_end_as_they_may(rt: HostRuntime) -> Result<(), Fail> {
+    let alloc = rt.alloc();
+    assert!(rt;
+        tells(
+            alloc,
+            b"a-1 [3] 1.000001: sched_wakeup: comm=b pid=77 prio=-1 target_cpu=003\r\n",
+            1000001000,
+            1,
+            What::Wakes { cpu: 3 }
+        )?
+    );
+    let told = read(alloc, b"\n\r\n# x\na\n")?;
+    assert_eq!(rt; told.counts.lines, 1);
+    assert_eq!(rt; told.runqueues, 1);
+    assert_eq!(rt; place(&told.fault), (0, 0));
+    Ok(())
+}
+
+#[test]
+fn each_form_of_the_front(rt: HostRuntime) -> Result<(), Fail> {
+    let alloc = rt.alloc();
+    let forms = [
+        b"gr_0-77   (  77) [000] d..3.  ".as_slice(),
+        b"a [9] (b)-77   (-----) [000] ".as_slice(),
+        b"gr_0    77 [000]  ".as_slice(),
+        b"a b 3/77 [00]  ".as_slice(),
+        b"<...>-0077(  x) [000] ".as_slice(),
+    ];
+    for form in forms {
+        let text = joined(
+            alloc,
+            [
+                form,
+                b"1.000001: timer:hrtimer_start: hrtimer=0x1 function=inactive_task_timer expires=3 mode=0x9\n".as_slice(),
+            ]
+            .as_slice(),
+        )?;
+        assert!(rt;
+            tells(
+                alloc,
+                text.as_slice(),
+                1000001000,
+                1,
+                What::Armed { expires: 3 }
+            )?
+        );
+    }
+    assert!(rt;
+        tells(
+            alloc,
+            b"gr_0  3001 [003]  3468.623219456:   sched:sched_wakeup: comm=b pid=77 prio=-1 target_cpu=003\n",
+            3468623219456,
+            1,
+            What::Wakes { cpu: 3 }
+        )?
+    );
+    Ok(())
+}

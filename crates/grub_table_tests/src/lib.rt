@@ -1,0 +1,5 @@
+//! Tests of grub_table.
+#![tactic(auto)]
+
+#[cfg(test)]
+mod tests;

@@ -1,0 +1,281 @@
+//! The worked examples.
+
+use crate::tests::fixtures::{
+    A, B, Got, ask, ask_all, keep, look, make, miss, one_pass, refuse, setup_of, take, two_passes,
+};
+use grub_book::{Op, Reading, Reply};
+use grub_table::{CloseWhy, OpenFault, Shared, Sighting};
+use std::test::Fail;
+
+fn join(r: u32, m: u32, q: u32, d: u32) -> (Op, Reply) {
+    (Op::Join { r, m }, Reply::Joined { q, d })
+}
+
+fn wake(m: u32, q: u32, d: u32) -> (Op, Reply) {
+    (Op::Wake { r: 0, m }, Reply::Woken { q, d })
+}
+
+fn block(m: u32, reply: Reply) -> (Op, Reply) {
+    (Op::Block { r: 0, m }, reply)
+}
+
+fn waits(m: u32, ticket: u32, z: u32) -> (Op, Reply) {
+    block(m, Reply::Waiting { ticket, z })
+}
+
+fn timer(ticket: u32, m: u32, reply: Reply) -> (Op, Reply) {
+    (Op::Timer { ticket, m }, reply)
+}
+
+fn charge(dt: u32, q: u32, d: u32) -> (Op, Reply) {
+    let dq = u64::from(dt);
+    (Op::Charge { r: 0, dt }, Reply::Charged { dq, k: 0, q, d })
+}
+
+fn retune(q: u32, p: u32, reply: Reply) -> (Op, Reply) {
+    (Op::Retune { q, p }, reply)
+}
+
+#[test]
+fn claim_on_one_task(rt: HostRuntime) -> Result<(), Fail> {
+    let setup = setup_of(rt.alloc(), 1)?;
+    let (shared, first, second) = two_passes(&rt, rt.alloc(), &setup);
+    let asked = [join(0, 0, 4, 8), block(0, Reply::Asleep)];
+    let first = ask_all(&rt, &shared, first, A, &asked);
+    let wakes = Op::Wake { r: 0, m: 3 };
+    let claim = take(&rt, &shared, first, A, wakes);
+    let (second, sighting) = miss(&rt, &shared, second, A, wakes);
+    assert_eq!(rt; sighting, Sighting::Claimed { word: 11 });
+    let mut second = ask_all(&rt, &shared, second, B, &[join(0, 3, 4, 11)]);
+    let _ = make(&rt, &shared, claim, 1, Reply::Woken { q: 4, d: 11 });
+    look(&rt, &shared, &mut second, 0, 1048576, 1048576);
+    Ok(())
+}
+
+#[test]
+fn no_tries(rt: HostRuntime) -> Result<(), Fail> {
+    let setup = setup_of(rt.alloc(), 1)?;
+    let (shared, pass) = one_pass(&rt, rt.alloc(), &setup);
+    let joins = Op::Join { r: 0, m: 0 };
+    let claim = take(&rt, &shared, pass, A, joins);
+    let mut claim = keep(&rt, &shared, claim);
+    assert!(rt; shared.has_queue(0));
+    assert_eq!(rt;
+        shared.read_held(&mut claim, 0),
+        Reading {
+            running: 0,
+            this: 0
+        }
+    );
+    let mut pass = shared.cancel(claim);
+    look(&rt, &shared, &mut pass, 0, 0, 0);
+    let claim = take(&rt, &shared, pass, A, joins);
+    let pass = make(&rt, &shared, claim, 1, Reply::Joined { q: 4, d: 8 });
+    let (runs, charged) = charge(2, 2, 8);
+    let claim = take(&rt, &shared, pass, A, runs);
+    let pass = make(&rt, &shared, claim, 0, charged);
+    let (blocks, waiting) = waits(2, 1, 4);
+    let claim = take(&rt, &shared, pass, A, blocks);
+    let _ = make(&rt, &shared, claim, 0, waiting);
+    Ok(())
+}
+
+#[test]
+fn own_reading(rt: HostRuntime) -> Result<(), Fail> {
+    let setup = setup_of(rt.alloc(), 1)?;
+    let (shared, pass) = one_pass(&rt, rt.alloc(), &setup);
+    let mut pass = ask_all(&rt, &shared, pass, A, &[join(0, 0, 4, 8)]);
+    look(&rt, &shared, &mut pass, 0, 524288, 524288);
+    Ok(())
+}
+
+#[test]
+fn migration(rt: HostRuntime) -> Result<(), Fail> {
+    let setup = setup_of(rt.alloc(), 2)?;
+    let (shared, first, second) = two_passes(&rt, rt.alloc(), &setup);
+    let asked = [join(0, 0, 4, 8), charge(2, 2, 8), waits(2, 1, 4)];
+    let first = ask_all(&rt, &shared, first, A, &asked);
+    let moves = [
+        (Op::Wake { r: 1, m: 3 }, Reply::Elsewhere(0)),
+        (Op::Leave, Reply::Left { r: 0 }),
+        join(1, 3, 2, 8),
+    ];
+    let mut second = ask_all(&rt, &shared, second, A, &moves);
+    look(&rt, &shared, &mut second, 0, 0, 0);
+    look(&rt, &shared, &mut second, 1, 524288, 524288);
+    let _ = ask_all(&rt, &shared, first, A, &[timer(1, 4, Reply::Stale)]);
+    Ok(())
+}
+
+#[test]
+fn open_refuses(rt: HostRuntime) -> Result<(), Fail> {
+    let setup = setup_of(rt.alloc(), 1)?;
+    let none = Shared::open(rt.alloc(), &setup, 0);
+    assert!(rt; matches!(none, Err(OpenFault::NoPass)));
+    let many = Shared::open(rt.alloc(), &setup, 65);
+    assert!(rt; matches!(many, Err(OpenFault::TooManyPasses)));
+    let most = Shared::open(rt.alloc(), &setup, 64);
+    assert!(rt; most.is_ok());
+    Ok(())
+}
+
+#[test]
+fn fault_texts(rt: HostRuntime) -> Result<(), Fail> {
+    let alloc = rt.alloc();
+    let texts = [
+        (format!(in alloc; "{}", OpenFault::NoPass)?, "23 NoPass"),
+        (
+            format!(in alloc; "{}", OpenFault::TooManyPasses)?,
+            "24 TooManyPasses",
+        ),
+        (format!(in alloc; "{}", OpenFault::NoMemory)?, "25 NoMemory"),
+        (
+            format!(in alloc; "{}", CloseWhy::Missing(64))?,
+            "26 Missing(64)",
+        ),
+        (format!(in alloc; "{}", CloseWhy::NoMemory)?, "42 NoMemory"),
+    ];
+    for (text, line) in &texts {
+        assert_eq!(rt; text.as_str(), *line);
+    }
+    Ok(())
+}
+
+#[test]
+fn open_meet_close(rt: HostRuntime) -> Result<(), Fail> {
+    let setup = setup_of(rt.alloc(), 1)?;
+    let (shared, first, second) = two_passes(&rt, rt.alloc(), &setup);
+    let (mut first, second) = shared.meet(first, second);
+    assert!(rt; first.number() == 0 && second.number() == 1);
+    look(&rt, &shared, &mut first, 0, 0, 0);
+    let mut passes = Vec::new(rt.alloc());
+    passes.push(first)?;
+    let fault = refuse(&rt, rt.alloc(), shared, passes);
+    assert_eq!(rt; fault.why, CloseWhy::Missing(1));
+    let told = format!(in rt.alloc(); "{fault}")?;
+    assert_eq!(rt; told.as_str(), "26 Missing(1)");
+    let mut passes = fault.passes;
+    assert!(rt; passes.len() == 1 && passes[0].number() == 0);
+    passes.push(second)?;
+    let Ok(readings) = fault.shared.close(rt.alloc(), passes) else {
+        panic!(rt; "not closed")
+    };
+    assert!(rt; readings.len() == 1);
+    assert_eq!(rt;
+        readings[0],
+        Reading {
+            running: 0,
+            this: 0
+        }
+    );
+    Ok(())
+}
+
+#[test]
+fn close_with_a_claim_out(rt: HostRuntime) -> Result<(), Fail> {
+    let setup = setup_of(rt.alloc(), 1)?;
+    let (shared, first, second) = two_passes(&rt, rt.alloc(), &setup);
+    let mut passes = Vec::new(rt.alloc());
+    passes.push(second)?;
+    let claim = take(&rt, &shared, first, A, Op::Join { r: 0, m: 0 });
+    let fault = refuse(&rt, rt.alloc(), shared, passes);
+    assert_eq!(rt; fault.why, CloseWhy::Missing(1));
+    let shared = fault.shared;
+    let first = shared.cancel(claim);
+    let mut passes = fault.passes;
+    assert!(rt; passes.len() == 1 && passes[0].number() == 1);
+    passes.push(first)?;
+    let Ok(readings) = shared.close(rt.alloc(), passes) else {
+        panic!(rt; "not closed")
+    };
+    assert_eq!(rt;
+        readings[0],
+        Reading {
+            running: 0,
+            this: 0
+        }
+    );
+    Ok(())
+}
+
+#[test]
+fn tickets(rt: HostRuntime) -> Result<(), Fail> {
+    let setup = setup_of(rt.alloc(), 1)?;
+    let (shared, pass) = one_pass(&rt, rt.alloc(), &setup);
+    let asked = [
+        join(0, 0, 4, 8),
+        charge(2, 2, 8),
+        waits(2, 1, 4),
+        wake(3, 2, 8),
+        charge(1, 1, 8),
+        waits(4, 2, 6),
+        timer(1, 4, Reply::Stale),
+        timer(2, 5, Reply::Early(6)),
+        timer(2, 6, Reply::Retired),
+        timer(2, 6, Reply::Stale),
+    ];
+    let _ = ask_all(&rt, &shared, pass, A, &asked);
+    Ok(())
+}
+
+#[test]
+fn retunes(rt: HostRuntime) -> Result<(), Fail> {
+    let setup = setup_of(rt.alloc(), 1)?;
+    let (shared, pass) = one_pass(&rt, rt.alloc(), &setup);
+    let done = Reply::Retuned;
+    let mut pass = ask_all(
+        &rt,
+        &shared,
+        pass,
+        A,
+        &[retune(2, 8, done), join(0, 0, 2, 8)],
+    );
+    look(&rt, &shared, &mut pass, 0, 262144, 262144);
+    let asked = [
+        retune(4, 8, Reply::StillActive),
+        block(0, Reply::Asleep),
+        retune(8, 8, done),
+    ];
+    let mut pass = ask_all(&rt, &shared, pass, A, &asked);
+    look(&rt, &shared, &mut pass, 0, 0, 1048576);
+    let pass = ask_all(
+        &rt,
+        &shared,
+        pass,
+        B,
+        &[(Op::Join { r: 0, m: 0 }, Reply::Full)],
+    );
+    let pass = ask_all(&rt, &shared, pass, A, &[retune(4, 8, done)]);
+    let pass = ask_all(&rt, &shared, pass, B, &[join(0, 0, 4, 8)]);
+    let mut pass = ask_all(
+        &rt,
+        &shared,
+        pass,
+        A,
+        &[retune(5, 8, Reply::Full), wake(3, 4, 11)],
+    );
+    look(&rt, &shared, &mut pass, 0, 1048576, 1048576);
+    let asked = [
+        block(0, Reply::Asleep),
+        (Op::Exit, Reply::Ended),
+        retune(1, 1, Reply::Gone),
+    ];
+    let _ = ask_all(&rt, &shared, pass, B, &asked);
+    Ok(())
+}
+
+#[test]
+fn retunes_and_tries(rt: HostRuntime) -> Result<(), Fail> {
+    let setup = setup_of(rt.alloc(), 1)?;
+    let (shared, pass) = one_pass(&rt, rt.alloc(), &setup);
+    let (pass, got) = ask(&rt, &shared, pass, B, Op::Retune { q: 2, p: 8 }, 0);
+    assert_eq!(rt; got, Got::Replied(Reply::Retuned));
+    let asked = [join(0, 0, 4, 8), block(0, Reply::Asleep)];
+    let mut pass = ask_all(&rt, &shared, pass, A, &asked);
+    look(&rt, &shared, &mut pass, 0, 0, 524288);
+    let claim = take(&rt, &shared, pass, A, Op::Retune { q: 8, p: 16 });
+    let claim = keep(&rt, &shared, claim);
+    let mut pass = make(&rt, &shared, claim, 1, Reply::Retuned);
+    look(&rt, &shared, &mut pass, 0, 0, 524288);
+    Ok(())
+}

@@ -1,0 +1,5 @@
+//! Tests of grub_verdict.
+#![tactic(auto)]
+
+#[cfg(test)]
+mod tests;

@@ -1,0 +1,5 @@
+//! Tests of grub_views.
+#![tactic(auto)]
+
+#[cfg(test)]
+mod tests;

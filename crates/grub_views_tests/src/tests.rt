@@ -1,0 +1,287 @@
+//! Views of worked examples, and refused growths.
+
+use grub_book::Book;
+use grub_lines::Blocks;
+use grub_timeline::{Playing, play};
+use grub_trace::{Plan, read_files, report_buffer, write_buffer};
+use grub_views::*;
+use std::alloc::{AllocError, Global};
+use std::process::Abort;
+use std::test::Fail;
+use std::thread::Threads;
+
+/// The kernel documentation's example of GRUB, in one file.
+const DOCUMENTATION: &str = "\
+grub 1
+queue 1048576 0
+task T1 4 8
+task T2 4 8
+at 0 join T1
+at 0 join T2
+at 0 run T1 2
+at 2 block T1
+at 2 run T2 2
+at 4 run T2 4
+at 8 wake T1
+at 8 read
+";
+
+/// A task that moves from one runqueue to another while it waits for its 0-lag moment.
+const MOVES_FROM: &str = "\
+grub 1
+queue 1048576 0
+task T 4 8
+at 0 join T
+at 0 run T 2
+at 2 block T
+at 9 read
+";
+
+const MOVES_TO: &str = "\
+grub 1
+queue 1048576 0
+at 3 wake T
+at 3 read
+";
+
+const DOCUMENTATION_LINES: &str = "\
+at 0 on 0 join T1: joined q=4 d=8
+at 0 on 0 join T2: joined q=4 d=8
+at 0 on 0 run T1 2: charged dq=2 k=0 q=2 d=8
+at 2 on 0 block T1: waiting ticket=1 z=4
+at 2 on 0 run T2 2: charged dq=2 k=0 q=2 d=8
+at 4 on 0 timer T1 1: retired
+at 4 on 0 run T2 4: charged dq=2 k=1 q=4 d=16
+at 8 on 0 wake T1: woken q=4 d=16
+at 8 on 0 read: running=1048576 this=1048576
+close 0 running=1048576 this=1048576
+";
+
+const DOCUMENTATION_STEPS: &str = "\
+moment\trunqueue\task\ttask\targ\tanswer\tdq\tk\tq\td\tz\trunning\tthis
+0\t0\tjoin\tT1\t\tjoined\t\t\t4\t8\t\t524288\t524288
+0\t0\tjoin\tT2\t\tjoined\t\t\t4\t8\t\t1048576\t1048576
+0\t0\trun\tT1\t2\tcharged\t2\t0\t2\t8\t\t1048576\t1048576
+2\t0\tblock\tT1\t\twaiting\t\t\t\t\t4\t1048576\t1048576
+2\t0\trun\tT2\t2\tcharged\t2\t0\t2\t8\t\t1048576\t1048576
+4\t0\ttimer\tT1\t1\tretired\t\t\t\t\t\t524288\t1048576
+4\t0\trun\tT2\t4\tcharged\t2\t1\t4\t16\t\t524288\t1048576
+8\t0\twake\tT1\t\twoken\t\t\t4\t16\t\t1048576\t1048576
+8\t0\tread\t\t\tread\t\t\t\t\t\t1048576\t1048576
+";
+
+const DOCUMENTATION_SUMMARY: &str = "\
+task runtime period  util executed charged reclaimed recharges joins wakes kept moves waits sleeps retired least late worst refused
+T1         4      8 50.00        2       2         0         0     1     1    0     0     1      0       1     2    0     0       0
+T2         4      8 50.00        6       4         2         1     1     0    0     0     0      0       0     2    0     0       0
+
+runqueue    umax uextra span changes running running-max   this this-max
+       0 1048576      0    8       4   75.00      100.00 100.00   100.00
+";
+
+const MOVING_LINES: &str = "\
+at 0 on 0 join T: joined q=4 d=8
+at 0 on 0 run T 2: charged dq=2 k=0 q=2 d=8
+at 2 on 0 block T: waiting ticket=1 z=4
+at 3 on 1 wake T: elsewhere 0
+at 3 on 1 leave T: left 0
+at 3 on 1 join T: joined q=2 d=8
+at 3 on 1 read: running=524288 this=524288
+at 9 on 0 read: running=0 this=0
+close 0 running=0 this=0
+close 1 running=524288 this=524288
+";
+
+const MOVING_STEPS: &str = "\
+moment\trunqueue\task\ttask\targ\tanswer\tdq\tk\tq\td\tz\trunning\tthis
+0\t0\tjoin\tT\t\tjoined\t\t\t4\t8\t\t524288\t524288
+0\t0\trun\tT\t2\tcharged\t2\t0\t2\t8\t\t524288\t524288
+2\t0\tblock\tT\t\twaiting\t\t\t\t\t4\t524288\t524288
+3\t0\twake\tT\t\telsewhere\t\t\t\t\t\t524288\t524288
+3\t0\tleave\tT\t\tleft\t\t\t\t\t\t0\t0
+3\t1\tjoin\tT\t\tjoined\t\t\t2\t8\t\t524288\t524288
+3\t1\tread\t\t\tread\t\t\t\t\t\t524288\t524288
+9\t0\tread\t\t\tread\t\t\t\t\t\t0\t0
+";
+
+const MOVING_SUMMARY: &str = "\
+task runtime period  util executed charged reclaimed recharges joins wakes kept moves waits sleeps retired least late worst refused
+T          4      8 50.00        2       2         0         0     2     0    1     1     1      0       0     2    0     0       0
+
+runqueue    umax uextra span changes running running-max  this this-max
+       0 1048576      0    9       2   16.66       50.00 16.66    50.00
+       1 1048576      0    9       1   33.33       50.00 33.33    50.00
+";
+
+#[derive(Clone, Copy)]
+enum View {
+    Lines,
+    Steps,
+    Summary,
+    Picture,
+}
+
+/// A view of these files. Each refusal of memory is answered as the view's own.
+fn view_of<R: Threads + Sync>(
+    rt: &R,
+    alloc: Global,
+    texts: &[&str],
+    view: View,
+) -> Result<Vec<u8>, ViewFault> {
+    let Ok(files) = files_of(alloc, texts) else {
+        return Err(ViewFault::NoMemory);
+    };
+    let Ok(plan) = read_files(alloc, &files) else {
+        return Err(ViewFault::NoMemory);
+    };
+    let Ok(line) = play(alloc, &plan) else {
+        return Err(ViewFault::NoMemory);
+    };
+    match view {
+        View::Lines => lines_of(rt, alloc, &plan),
+        View::Steps => rows_of(rt, alloc, &plan),
+        View::Summary => summary_text(alloc, &plan, &line),
+        View::Picture => picture_text(alloc, &plan, &line, 0, end_of(&line)),
+    }
+}
+
+/// The lines of the time line.
+fn lines_of<R: Threads + Sync>(rt: &R, alloc: Global, plan: &Plan) -> Result<Vec<u8>, ViewFault> {
+    let Ok(playing) = Playing::new(alloc, plan) else {
+        return Err(ViewFault::NoMemory);
+    };
+    let Ok(mut latest) = Vec::with_capacity(alloc, playing.most()) else {
+        return Err(ViewFault::NoMemory);
+    };
+    let Ok(mut buffer) = report_buffer(alloc) else {
+        return Err(ViewFault::NoMemory);
+    };
+    let Ok(mut blocks) = Blocks::new(alloc) else {
+        return Err(ViewFault::NoMemory);
+    };
+    let mut text = Vec::new(alloc);
+    write_timeline(
+        rt,
+        &mut blocks,
+        &mut buffer,
+        &mut text,
+        plan,
+        &mut latest,
+        playing,
+    )
+    .map_err(|_| ViewFault::NoMemory)?;
+    write_buffer(&mut buffer, &mut text).map_err(|_| ViewFault::NoMemory)?;
+    Ok(text)
+}
+
+/// The steps of the time line.
+fn rows_of<R: Threads + Sync>(rt: &R, alloc: Global, plan: &Plan) -> Result<Vec<u8>, ViewFault> {
+    let Ok(playing) = Playing::new(alloc, plan) else {
+        return Err(ViewFault::NoMemory);
+    };
+    let Ok(mut latest) = Vec::with_capacity(alloc, playing.most()) else {
+        return Err(ViewFault::NoMemory);
+    };
+    let Ok(mut steps) = Vec::with_capacity(alloc, latest.capacity()) else {
+        return Err(ViewFault::NoMemory);
+    };
+    let Ok(mut book) = Book::new(alloc, plan.setup()) else {
+        return Err(ViewFault::NoMemory);
+    };
+    let Ok(mut buffer) = report_buffer(alloc) else {
+        return Err(ViewFault::NoMemory);
+    };
+    let Ok(mut blocks) = Blocks::new(alloc) else {
+        return Err(ViewFault::NoMemory);
+    };
+    let mut text = Vec::new(alloc);
+    write_steps(
+        rt,
+        &mut blocks,
+        &mut buffer,
+        &mut text,
+        plan,
+        &mut book,
+        &mut latest,
+        &mut steps,
+        playing,
+    )
+    .map_err(|_| ViewFault::NoMemory)?;
+    write_buffer(&mut buffer, &mut text).map_err(|_| ViewFault::NoMemory)?;
+    Ok(text)
+}
+
+fn files_of(alloc: Global, texts: &[&str]) -> Result<Vec<Vec<u8>>, AllocError> {
+    let mut files = Vec::new(alloc);
+    for text in texts {
+        files.push(text.as_bytes().to_vec(alloc)?)?;
+    }
+    Ok(files)
+}
+
+/// Expects that a view is this text, or that memory was refused.
+fn expect_view(rt: &impl Abort, view: Result<Vec<u8>, ViewFault>, text: &str) {
+    match view {
+        Ok(view) => assert_eq!(rt; view.as_slice(), text.as_bytes()),
+        Err(fault) => assert!(rt; fault == ViewFault::NoMemory),
+    }
+}
+
+// The next four pass with ample memory, and with any one of their growths refused: `scripts/refused-growths.sh` runs them
+// so once for each.
+
+#[test]
+fn refused_growths_of_lines(rt: HostRuntime) {
+    let alloc = rt.alloc();
+    let one = view_of(&rt, alloc, [DOCUMENTATION].as_slice(), View::Lines);
+    expect_view(&rt, one, DOCUMENTATION_LINES);
+    let two = view_of(&rt, alloc, [MOVES_FROM, MOVES_TO].as_slice(), View::Lines);
+    expect_view(&rt, two, MOVING_LINES);
+}
+
+#[test]
+fn refused_growths_of_steps(rt: HostRuntime) {
+    let alloc = rt.alloc();
+    let one = view_of(&rt, alloc, [DOCUMENTATION].as_slice(), View::Steps);
+    expect_view(&rt, one, DOCUMENTATION_STEPS);
+    let two = view_of(&rt, alloc, [MOVES_FROM, MOVES_TO].as_slice(), View::Steps);
+    expect_view(&rt, two, MOVING_STEPS);
+}
+
+#[test]
+fn refused_growths_of_the_summary(rt: HostRuntime) {
+    let alloc = rt.alloc();
+    let one = view_of(&rt, alloc, [DOCUMENTATION].as_slice(), View::Summary);
+    expect_view(&rt, one, DOCUMENTATION_SUMMARY);
+    let two = view_of(&rt, alloc, [MOVES_FROM, MOVES_TO].as_slice(), View::Summary);
+    expect_view(&rt, two, MOVING_SUMMARY);
+}
+
+#[test]
+fn refused_growths_of_the_picture(rt: HostRuntime) {
+    match view_of(
+        &rt,
+        rt.alloc(),
+        [MOVES_FROM, MOVES_TO].as_slice(),
+        View::Picture,
+    ) {
+        Ok(view) => assert!(rt; view.starts_with(b"<svg ")),
+        Err(fault) => assert!(rt; fault == ViewFault::NoMemory),
+    }
+}
+
+/// With ample memory each view is made.
+#[test]
+fn views_are_made(rt: HostRuntime) -> Result<(), Fail> {
+    let alloc = rt.alloc();
+    let files = [MOVES_FROM, MOVES_TO];
+    assert!(rt; view_of(&rt, alloc, files.as_slice(), View::Lines).is_ok());
+    assert!(rt; view_of(&rt, alloc, files.as_slice(), View::Steps).is_ok());
+    assert!(rt; view_of(&rt, alloc, files.as_slice(), View::Summary).is_ok());
+    assert!(rt; view_of(&rt, alloc, files.as_slice(), View::Picture).is_ok());
+    assert_eq!(rt;
+        format!(in alloc; "{}", ViewFault::NoMemory)?.as_str(),
+        "48 NoMemory"
+    );
+    Ok(())
+}

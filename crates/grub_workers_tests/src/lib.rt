@@ -1,0 +1,5 @@
+//! Tests of grub_workers.
+#![tactic(auto)]
+
+#[cfg(test)]
+mod tests;

@@ -1,0 +1,66 @@
+//! One file alone.
+use super::files::run_files;
+use super::gates::Count;
+use grub_workers::NoGate;
+use std::test::Fail;
+
+pub const FIRST_FILE: &[u8] =
+    b"task A 4 8\nat 0 join A\nat 0 block A\nat 0 read\nat 3 wake A\nat 3 read\n";
+
+pub const FIRST_REPORT: &[u8] =
+    b"runqueue 0\nat 0 join A: joined q=4 d=8\nat 0 block A: asleep\nat 0 read: running=0 this=524288\nat 3 wake A: woken q=4 d=11\nat 3 read: running=524288 this=524288\nclose running=524288 this=524288\n";
+
+#[test]
+fn the_first_file(rt: HostRuntime) -> Result<(), Fail> {
+    let text = run_files(&rt, rt.alloc(), &[FIRST_FILE], 8, 64, &NoGate)?;
+    assert_eq!(rt; text.as_slice(), FIRST_REPORT);
+    Ok(())
+}
+
+const GIVEN_UP: &[u8] =
+    b"runqueue 0\nat 0 join A: lost\nat 0 block A: not-on\nat 0 read: running=0 this=0\nat 3 wake A: not-on\nat 3 read: running=0 this=0\nclose running=0 this=0\n";
+
+#[test]
+fn the_first_file_without_tries(rt: HostRuntime) -> Result<(), Fail> {
+    let text = run_files(&rt, rt.alloc(), &[FIRST_FILE], 0, 1, &NoGate)?;
+    assert_eq!(rt; text.as_slice(), GIVEN_UP);
+    Ok(())
+}
+
+#[test]
+fn all_rounds_are_used(rt: HostRuntime) -> Result<(), Fail> {
+    let gate = Count::new();
+    let text = run_files(&rt, rt.alloc(), &[FIRST_FILE], 0, 3, &gate)?;
+    assert_eq!(rt; text.as_slice(), GIVEN_UP);
+    assert_eq!(rt; gate.counts(), (9, 9, 9));
+
+    // The join alone: a start, three times a finish, and the claim given back.
+    let gate = Count::new();
+    let text = run_files(
+        &rt,
+        rt.alloc(),
+        &[b"task A 4 8\nat 0 join A\n"],
+        0,
+        3,
+        &gate,
+    )?;
+    assert_eq!(rt;
+        text.as_slice(),
+        b"runqueue 0\nat 0 join A: lost\nclose running=0 this=0\n".as_slice()
+    );
+    assert_eq!(rt; gate.counts(), (5, 5, 5));
+    Ok(())
+}
+
+pub const DOCUMENTATION: &[u8] =
+    b"task T1 4 8\ntask T2 4 8\nat 0 join T1\nat 0 join T2\nat 0 run T1 2\nat 2 block T1\nat 2 run T2 2\nat 4 run T2 4\nat 8 wake T1\nat 8 read\n";
+
+pub const DOCUMENTATION_REPORT: &[u8] =
+    b"runqueue 0\nat 0 join T1: joined q=4 d=8\nat 0 join T2: joined q=4 d=8\nat 0 run T1 2: charged dq=2 k=0 q=2 d=8\nat 2 block T1: waiting ticket=1 z=4\nat 2 run T2 2: charged dq=2 k=0 q=2 d=8\nat 4 timer T1 1: retired\nat 4 run T2 4: charged dq=2 k=1 q=4 d=16\nat 8 wake T1: woken q=4 d=16\nat 8 read: running=1048576 this=1048576\nclose running=1048576 this=1048576\n";
+
+#[test]
+fn the_documentations_example(rt: HostRuntime) -> Result<(), Fail> {
+    let text = run_files(&rt, rt.alloc(), &[DOCUMENTATION], 4, 100, &NoGate)?;
+    assert_eq!(rt; text.as_slice(), DOCUMENTATION_REPORT);
+    Ok(())
+}
