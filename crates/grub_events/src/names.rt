@@ -1,9 +1,8 @@
 //! Names of tasks in event files.
 
-ghost use Rattle.std.specs.Prelude.{◌≡◌, IfOk, count_by};
-ghost use Rattle.std.specs.List.{list_any};
+ghost use Rattle.std.specs.Prelude.{◌≡◌, ◌++◌, IfOk, codes, decimal, count_by};
 ghost use Rattle.grub_trace.specs.Reading.{contents};
-ghost use Rattle.grub_events.specs.Names.{fair_name, has_comm, is_called, is_fair, is_fit, name_of, names_of, pid_name};
+ghost use Rattle.grub_events.specs.Names.{fair_name, is_fair, has_comm, is_fit, name_of, names_of};
 
 use grub_facts::Found;
 use grub_trace::{is_name, put_number};
@@ -51,42 +50,7 @@ fn count_of(comm: &[u8], tasks: &[Option<Found>]) -> usize
     tasks.iter().filter(|task| has_comm(comm, task)).count()
 }
 
-/// `pid` and a pid.
-fn pid_name(alloc: Global, pid: u64) -> Result<Vec<u8>, AllocError>
-    ensures { IfOk result (λ v. v.items ≡ pid_name pid) }
-{
-    let mut name = Vec::new(alloc);
-    put_number(&mut name, b"pid", pid)?;
-    Ok(name)
-}
-
-/// Whether this is a task with another comm, whose pid makes this word.
-fn is_called(alloc: Global, word: &[u8], task: &Option<Found>) -> Result<bool, AllocError>
-    ensures { IfOk result (λ b. b ≡ is_called word.now task.now) }
-{
-    match task {
-        None => Ok(false),
-        Some(found) => {
-            let name = pid_name(alloc, found.pid)?;
-            Ok(found.comm.as_slice() != word && name.as_slice() == word)
-        }
-    }
-}
-
-/// Whether one of the given tasks is such a task.
-fn is_any_called(alloc: Global, word: &[u8], tasks: &[Option<Found>]) -> Result<bool, AllocError>
-    ensures { IfOk result (λ b. b ≡ list_any (is_called word.now) tasks.now) }
-{
-    for task in tasks {
-        if is_called(alloc, word, task)? {
-            return Ok(true);
-        }
-    }
-    Ok(false)
-}
-
-/// Whether a task's comm can be its name: it is spelled as one, is no server's, is that of one given task, and the pid of
-/// no other makes it.
+/// Whether a task's comm can be its name: it is spelled as one, is no server's, and is that of one given task.
 #[tactic(auto, unfolding(crate::specs::Names::is_fit))]
 fn is_fit(
     alloc: Global,
@@ -97,8 +61,16 @@ fn is_fit(
     ensures { IfOk result (λ b. b ≡ is_fit runqueues tasks.now comm.now) }
 {
     let is_fair = is_fair(alloc, comm, runqueues)?;
-    let is_called = is_any_called(alloc, comm, tasks)?;
-    Ok(is_name(comm) && !is_fair && count_of(comm, tasks) <= 1 && !is_called)
+    Ok(is_name(comm) && !is_fair && count_of(comm, tasks) <= 1)
+}
+
+/// `pid` and a pid.
+fn pid_name(alloc: Global, pid: u64) -> Result<Vec<u8>, AllocError>
+    ensures { IfOk result (λ v. v.items ≡ codes "pid" ++ decimal pid) }
+{
+    let mut name = Vec::new(alloc);
+    put_number(&mut name, b"pid", pid)?;
+    Ok(name)
 }
 
 /// The name of a task among the given ones: its comm, or `pid` and its pid. One that was not found has none.
@@ -123,8 +95,7 @@ fn name_of(
 }
 
 /// The names of the given tasks in the event files of so many runqueues. A task's name is its comm, where that is
-/// spelled as a name, is no server's (`fair0` and so on), no other given task has it and no other's pid makes it (as
-/// `pid12`); else `pid` and its pid. So no two of them are alike.
+/// spelled as a name, is no server's (`fair0` and so on), and no other given task has it; else `pid` and its pid.
 pub fn names_of(
     alloc: Global,
     runqueues: u32,
