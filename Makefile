@@ -8,7 +8,7 @@ FLAGS ?=
 TRACE ?= examples/kernel/trace.txt
 WORDS ?= tasks
 
-.PHONY: build runner tracer run try try-trace test growths program options bench bench-plain record-check install uninstall clean
+.PHONY: build runner tracer run try try-trace test edits growths program options bench bench-plain record-check install uninstall clean
 
 # Proves both programs with all that they stand on, and builds them. What is proved is told crate by crate.
 build:
@@ -37,6 +37,10 @@ try-trace:
 # turn, and the program's statuses and lines of faults.
 test:
 	bash .ci/run
+
+# The must-fail edits: the prover has to refuse each.
+edits: build
+	@python3 scripts/edits.py
 
 # Each growth of memory refused in turn, in the tests that are made for it and in the program.
 growths: runner

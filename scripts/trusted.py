@@ -117,7 +117,7 @@ def public_names(folder):
     return names, set(re.findall(r"\bpub mod (\w+)", text))
 
 
-FUNCTION = re.compile(r"^( *)(pub )?(?:const )?fn (\w+)", re.M)
+FUNCTION = re.compile(r"^( *)(pub )?(?:pub\(\w+\) )?(?:const )?fn (\w+)", re.M)
 CLAUSE = re.compile(r"\b(?:requires|ensures)\b[^{;\n]*\{")
 ITEM = re.compile(r"^(?:pub )?(impl|trait|struct|enum)\b([^{;]*)", re.M)
 GHOST = re.compile(r"\bghost (?:Value|coded|output)\s*=\s*\{")

@@ -1,0 +1,321 @@
+#!/usr/bin/env python3
+"""Tries the must-fail edits in crates/NAME/edits: the prover must refuse each in a function that it turns.
+
+edits.py [--look] [NAME | NAME/EDIT]..: those of these crates, or these edits, or all. Each crate is checked over the libraries
+that `rt ci` or scripts/build.sh left in crates/*/out, first as it stands and then with as many edits at once as turn different
+functions: a function is proved from the contracts of those that it calls, so what one edit turns takes no proof from another.
+An edit for which that tells nothing is tried alone. With --look none is tried: it says which cannot be applied. The last line
+is 'N passed, M failed'.
+"""
+import os
+import re
+import shutil
+import subprocess
+import sys
+import tempfile
+import time
+from concurrent.futures import ThreadPoolExecutor
+from typing import NamedTuple
+
+ROOT = os.path.dirname(os.path.dirname(os.path.abspath(__file__)))
+PARTS = ("src", "specs", "proofs")
+# A check takes up to so many kB of memory, and no check that goes well so many seconds.
+ROOM, LONGEST = 2_500_000, 1800
+
+FUNCTION = re.compile(r"^( *)(?:pub(?:\(\w+\))? )?(?:const )?fn (\w+)")
+TYPE = re.compile(r"^ *(?:impl|trait)(?:<.*?>)? (?:([\w:]+)(?:<.*>)? for )?&?([\w:]+)")
+# What the prover says of a function that it does not admit, and what of that is said of the functions that it calls.
+VERDICT = re.compile(r"^fn (\S+): (?:not proved|no proof|could not tell)(.*)$", re.M)
+UNPROVED = re.compile(r"^note: (src/\S+?):(\d+):\d+: it is not proved", re.M)
+CALLEES = re.compile(r"[:;] it (?:calls .*, which (?:is|are) not proved|waits for the proof of .*)$")
+# A text that cannot be read: then no contract was tried.
+UNREAD = re.compile(r"^(?:\./)?(src/\S+?):(\d+):\d+: error: (?!`).*$|^.*\berror\[[\w-]+\].*$", re.M)
+PLACE = re.compile(r"(src/[\w/]+\.rt):(\d+)")
+# A proof file that names what an edit took away: then a proof is refused, and no contract was tried.
+LACKS = re.compile(r"has no field|is not in scope|has no `|was not admitted")
+
+
+def text_of(path):
+    with open(path, encoding="utf-8") as it:
+        return it.read()
+
+
+def say(text):
+    print(text, flush=True)
+
+
+class Crate:
+    def __init__(self, name, uses, crates):
+        self.name, self.folder, self.uses = name, f"{ROOT}/crates/{name}", uses
+        self.below = list(dict.fromkeys(lib for use in uses if use in crates for lib in [*crates[use].below, use]))
+        self.of_kit = ["std", *[it for it in uses if it not in crates]]
+
+    def edits(self):
+        folder = f"{self.folder}/edits"
+        names = sorted(os.listdir(folder)) if os.path.isdir(folder) else []
+        return [Edit(self, it) for it in names]
+
+    def words(self, kit):
+        top = "main" if os.path.isfile(f"{self.folder}/src/main.rt") else "lib"
+        words = ["check", "--crate-name", self.name, f"src/{top}.rt", "-L", f"dependency={kit}/rlibs"]
+        for name in self.of_kit:
+            words += ["--extern", f"{name}={kit}/rlibs/{name}.rlib"]
+        for name in self.below:
+            at = f"{ROOT}/crates/{name}/out/rlib"
+            words += ["-L", f"dependency={at}"]
+            words += ["--extern", f"{name}={at}/{name}.rlib"] if name in self.uses else []
+        words += ["--antt-project", f"{kit}/rattle/logic/antt-project.json", "--logic-built", f"{kit}/logic_built"]
+        return [*words, "--jobs", "1"]
+
+
+class Edit:
+    """The lines of a crate's sources that an edit turns, as {(path, line): text}, and the functions that these are in."""
+
+    def __init__(self, crate, name):
+        self.label, self.lines, self.functions, self.bad = f"{crate.name}/{name.removesuffix('.edit')}", {}, set(), None
+        self.is_alone = False
+        path = old = None
+        now = {}
+        for line in text_of(f"{crate.folder}/edits/{name}").split("\n"):
+            key, _, value = line.partition(" ")
+            if key == "file:":
+                path = value.strip()
+            elif key == "old:":
+                old = value
+            elif key == "new:" and path and old:
+                now.setdefault(path, text_of(f"{crate.folder}/{path}") if os.path.isfile(f"{crate.folder}/{path}") else "")
+                if not path.startswith("src/") or now[path].count(old) != 1:
+                    self.bad = f"its text stands in {path} {now[path].count(old)} times, and not once: {old.strip()}"
+                    return
+                now[path], old = now[path].replace(old, value), None
+        for path, text in now.items():
+            was = text_of(f"{crate.folder}/{path}").split("\n")
+            for at, (before, after) in enumerate(zip(was, text.split("\n"))):
+                if before != after:
+                    self.lines[path, at] = after
+                    self.functions.add(function_at(crate.name, path, was, at))
+        if not self.lines:
+            self.bad = "it changes nothing"
+
+    def is_beside(self, other):
+        """Whether this edit can be tried at once with another."""
+        free = None not in self.functions | other.functions and not (self.is_alone or other.is_alone)
+        return free and not (self.functions & other.functions or self.lines.keys() & other.lines.keys())
+
+
+class Function(NamedTuple):
+    """A function of a crate: how its name begins, the type that it is of, its name, and its file with its first and last line."""
+
+    module: str
+    of: str
+    name: str
+    path: str
+    first: int
+    last: int
+
+    def is_named(self, name):
+        return name.startswith(self.module) and name.endswith("::" + self.name) and self.of in name
+
+    def has(self, path, line):
+        return self.path == path and self.first <= line <= self.last
+
+
+def function_at(crate, path, lines, at):
+    """The function that a line stands in, or None outside of functions."""
+    for start in range(at, -1, -1):
+        head = FUNCTION.match(lines[start])
+        if head:
+            break
+    else:
+        return None
+    last = next((it for it in range(start, len(lines)) if lines[it] == head[1] + "}"), start)
+    if last < at:
+        return None
+    items = [TYPE.match(it) for it in lines[:start] if head[1] and not it.startswith(head[1])]
+    item = next((it for it in reversed(items) if it), None)
+    of = item[2].split("::")[-1] + (item[1] or "").split("::")[-1] if item else ""
+    first = start
+    while lines[first - 1].strip().startswith("#["):
+        first -= 1
+    module = [it for it in path[len("src/"):-len(".rt")].split("/") if it not in ("lib", "main")]
+    return Function("::".join([crate, *module]) + "::", of, head[2], path, first, last)
+
+
+def is_refused(functions, said):
+    """Whether the prover refuses one of these functions for itself, and not for one that it calls, by the function's name."""
+    places = [(path, int(line) - 1) for path, line in UNPROVED.findall(said)]
+    for name, why in VERDICT.findall(said):
+        if any(it.is_named(name) for it in functions if it) and (CALLEES.sub("", why) or not why):
+            path = name.split("::", 1)[1].replace("::", "/")
+            told = re.findall(rf"^\./proofs/{path}/\w+\.antt:\d+:\d+: error: (.*)$", said, re.M)
+            at_goal = any(it.has(*place) for it in functions if it for place in places)
+            if at_goal or not told or not all(LACKS.search(it) for it in told):
+                return name
+    return None
+
+
+class Trial:
+    """The checks of one crate."""
+
+    def __init__(self, crate, kit, room):
+        self.crate, self.kit, self.room, self.checks, self.began = crate, kit, f"{room}/{crate.name}", 0, time.time()
+
+    def check(self, edits):
+        """Checks a copy of the crate with these edits over what was proved of it as it stands."""
+        self.checks += 1
+        tree, kept = f"{self.room}/tree", f"{self.room}/kept"
+        for it in (tree, kept):
+            shutil.rmtree(it, ignore_errors=True)
+        for part in PARTS:
+            if os.path.isdir(f"{self.crate.folder}/{part}"):
+                shutil.copytree(f"{self.crate.folder}/{part}", f"{tree}/{part}")
+        for path in {it for edit in edits for it, _ in edit.lines}:
+            lines = text_of(f"{tree}/{path}").split("\n")
+            for edit in edits:
+                for (of, at), text in edit.lines.items():
+                    if of == path:
+                        lines[at] = text
+            with open(f"{tree}/{path}", "w", encoding="utf-8") as it:
+                it.write("\n".join(lines))
+        if edits:
+            shutil.copytree(f"{self.room}/seed", kept, copy_function=link)
+        else:
+            self.plant_seed()
+        words = [f"{self.kit}/bin/rattle", *self.crate.words(self.kit), "--incremental", kept if edits else f"{self.room}/seed"]
+        how = {"cwd": tree, "stdin": subprocess.DEVNULL, "stdout": subprocess.PIPE, "stderr": subprocess.STDOUT, "errors": "replace"}
+        try:
+            ran = subprocess.run(words, timeout=LONGEST, **how)
+        except subprocess.TimeoutExpired:
+            return 3, f"no end after {LONGEST} s"
+        return ran.returncode, ran.stdout
+
+    def plant_seed(self):
+        """Begins with what checks of this folder kept, where there is any."""
+        kept = f"{self.crate.folder}/out/incremental"
+        if os.path.isdir(kept):
+            shutil.copytree(kept, f"{self.room}/seed", copy_function=link)
+        else:
+            os.makedirs(f"{self.room}/seed")
+
+    def judge(self, edits):
+        """What a check with these edits tells of each: 'refused', 'proved', 'bad' or, where it tells nothing, None."""
+        status, said = self.check(edits)
+        bad = [it[0] for it in UNREAD.finditer(said)]
+        if status == 1 and bad:
+            at = {(path, int(line) - 1) for it in bad for path, line in PLACE.findall(it)}
+            of = [it for it in edits if it.lines.keys() & at] or (edits if len(edits) == 1 else [])
+            return {it: ("bad", bad[0][:200]) for it in of}
+        found = {}
+        for edit in edits:
+            name = is_refused(edit.functions, said) if status in (1, 3) else None
+            if name:
+                found[edit] = "refused", f"at {name}"
+            elif len(edits) == 1 and status == 1 and "logic=not-proved" in said:
+                found[edit] = "refused", "at what stands on it"
+            elif len(edits) == 1:
+                found[edit] = ("proved", "the crate is still proved") if status == 0 else ("bad", f"the check ended with status {status}")
+        return found
+
+    def run(self, edits):
+        """Tries these edits, and returns how many were refused, and how many were not."""
+        wrong = [it for it in edits if it.bad]
+        left = [it for it in edits if not it.bad]
+        for it in wrong:
+            say(f"edit {it.label}: BAD: {it.bad}")
+        failed = len(wrong)
+        status, said = self.check([]) if left else (0, "")
+        if status:
+            say(f"{self.crate.name} is not proved as it stands, so none of its edits was tried:\n{said[-2000:]}")
+            return 0, failed + len(left)
+        while left:
+            batch = []
+            for edit in left:
+                if all(edit.is_beside(it) for it in batch):
+                    batch.append(edit)
+            found = self.judge(batch)
+            for edit, (kind, why) in found.items():
+                say(f"edit {edit.label}: {kind}, {why}" if kind == "refused" else f"edit {edit.label}: {kind.upper()}: {why}")
+                failed += kind != "refused"
+            left = [it for it in left if it not in found]
+            if not any(kind == "bad" for kind, _ in found.values()):
+                for edit in batch:
+                    edit.is_alone = edit not in found
+        passed = len(edits) - failed
+        say(f"edits: {self.crate.name}: {passed} of {len(edits)} refused, {self.checks} checks, {time.time() - self.began:.0f} s")
+        shutil.rmtree(self.room, ignore_errors=True)
+        return passed, failed
+
+
+def link(one, other):
+    """A check replaces what was proved, and writes into no such file."""
+    if one.endswith(".oantt"):
+        return os.link(one, other)
+    return shutil.copy2(one, other)
+
+
+def crates():
+    found = {}
+    lines = [it.split("#")[0].split(":") for it in text_of(f"{ROOT}/crates.txt").split("\n")]
+    uses = {it[0].split()[0]: it[1].split() for it in lines if len(it) == 2}
+
+    def add(name):
+        if name not in found:
+            for it in uses[name]:
+                if it in uses:
+                    add(it)
+            found[name] = Crate(name, uses[name], {it: found[it] for it in uses if it in found})
+
+    for name in uses:
+        add(name)
+    return found
+
+
+def lanes():
+    free = int(re.search(r"MemAvailable:\s+(\d+)", text_of("/proc/meminfo"))[1])
+    return max(1, min(len(os.sched_getaffinity(0)), free // ROOM))
+
+
+def chosen(words, known):
+    """The edits that these words name, or all, by their crates."""
+    of = {name: crate.edits() for name, crate in known.items()}
+    lacking = set(words) - of.keys() - {it.label for edits in of.values() for it in edits}
+    if lacking:
+        sys.exit(f"edits: there is no {' and no '.join(sorted(lacking))}\n0 passed, 1 failed")
+    named = {name: [it for it in edits if not words or name in words or it.label in words] for name, edits in of.items()}
+    return {name: edits for name, edits in named.items() if edits}
+
+
+def look(of):
+    """Says which edits cannot be applied to their crates' sources."""
+    edits = [it for edits in of.values() for it in edits]
+    wrong = [it for it in edits if it.bad]
+    for it in wrong:
+        say(f"edit {it.label}: BAD: {it.bad}")
+    return len(edits) - len(wrong), len(wrong)
+
+
+def try_all(of, known):
+    """Tries edits, crates side by side, those that take longest first."""
+    unbuilt = sorted({low for it in of for low in known[it].below if not os.path.isdir(f"{ROOT}/crates/{low}/out/rlib/{low}.rlib")})
+    if unbuilt:
+        say(f"edits: {' '.join(unbuilt)} must be built first, by rt ci or scripts/build.sh")
+        return 0, 1
+    doc = subprocess.run(["rt", "doc"], stdout=subprocess.PIPE, text=True, check=True).stdout
+    kit = os.path.dirname(os.path.realpath(doc.strip()))
+    order = sorted(of, key=lambda it: -len(of[it]) * (1 + len(known[it].below)))
+    os.makedirs(f"{ROOT}/out", exist_ok=True)
+    with tempfile.TemporaryDirectory(prefix="edits-", dir=f"{ROOT}/out") as room, ThreadPoolExecutor(lanes()) as pool:
+        told = list(pool.map(lambda it: Trial(known[it], kit, room).run(of[it]), order))
+    return tuple(sum(it) for it in zip((0, 0), *told))
+
+
+def main(words):
+    known = crates()
+    of = chosen([it for it in words if it != "--look"], known)
+    passed, failed = look(of) if "--look" in words else try_all(of, known)
+    say(f"{passed} passed, {failed} failed")
+    return 1 if failed else 0
+
+
+if __name__ == "__main__":
+    sys.exit(main(sys.argv[1:]))
