@@ -152,7 +152,7 @@ fn place_of_pid(tasks: &[Counted], pid: u64) -> Option<usize>
 }
 
 impl Census {
-    pub fn new(alloc: Global) -> Census
+    pub(crate) fn new(alloc: Global) -> Census
         ensures { census_text result ≡ [] }
     {
         Census {
@@ -195,7 +195,7 @@ impl Census {
     }
 
     /// The tasks.
-    pub fn finish(self) -> Vec<Counted>
+    pub(crate) fn finish(self) -> Vec<Counted>
         ensures { map tally_text result.items ≡ census_text self }
     {
         let Census { alloc: _, tasks } = self;

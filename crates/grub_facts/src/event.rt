@@ -91,7 +91,7 @@ pub enum Verb {
 }
 
 /// The event that a word names, with its colon behind it.
-pub fn verb_of(word: &[u8]) -> Option<Verb>
+pub(crate) fn verb_of(word: &[u8]) -> Option<Verb>
     ensures { result ≡ verb_of word.now }
 {
     let name = before_end(b":", word)?;
@@ -334,7 +334,7 @@ fn event_of<'a>(verb: Verb, fields: &'a [u8], front: &[u8]) -> Option<Event<&'a 
 }
 
 /// What a line of an event says, whose fields are these; none where a field is missing or no number, or the CPU.
-pub fn said_of<'a>(
+pub(crate) fn said_of<'a>(
     line: &'a [u8],
     opening: Opening,
     verb: Verb,

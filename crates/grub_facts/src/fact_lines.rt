@@ -119,7 +119,11 @@ fn line_counts(text: &[u8], counts: Counts) -> Counts
 
 impl FactLines {
     /// Lines of which none is read yet, for the tasks with these names.
-    pub fn new(alloc: Global, names: &[&[u8]], cpus: Option<u32>) -> Result<FactLines, AllocError>
+    pub(crate) fn new(
+        alloc: Global,
+        names: &[&[u8]],
+        cpus: Option<u32>,
+    ) -> Result<FactLines, AllocError>
         ensures { IfOk result (λ lines. told_text lines ≡ told_first (map text_of names.now) cpus) }
     {
         let keeper = Keeper::new(alloc, names)?;
@@ -141,7 +145,7 @@ impl FactLines {
     }
 
     /// How many runqueues there are: else one more than the greatest CPU of a line, at least one.
-    pub fn runqueues(&self) -> u32
+    pub(crate) fn runqueues(&self) -> u32
         ensures { result ≡ runqueues_of (told_text self.now) }
     {
         match self.runqueues_told() {
@@ -183,7 +187,7 @@ impl FactLines {
     }
 
     /// Takes a line, without the byte that ends it, and answers what is wrong with it.
-    pub fn take(&mut self, line: u64, text: &[u8]) -> Result<Option<Wrong>, AllocError>
+    pub(crate) fn take(&mut self, line: u64, text: &[u8]) -> Result<Option<Wrong>, AllocError>
         ensures { IfOk result (λ wrong. after_of wrong (told_text self.new) ≡ fact_step line text.now (told_text self.old)) }
     {
         match line_of(text) {

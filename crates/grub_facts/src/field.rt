@@ -7,7 +7,7 @@ use crate::number::{is_deadline, number, small_number};
 use crate::words::{first_word, space_in};
 
 /// How many bytes stand before the first space that the key follows.
-pub fn place_of(key: &[u8], text: &[u8]) -> Option<usize>
+pub(crate) fn place_of(key: &[u8], text: &[u8]) -> Option<usize>
     ensures place { result ≡ place_of key.now text.now }
     ensures fits { IfSome result (λ i. i + 1 + length key.now ≤ length text.now) }
 {
@@ -27,7 +27,7 @@ pub fn place_of(key: &[u8], text: &[u8]) -> Option<usize>
 }
 
 /// What follows the first space with the key behind it.
-pub fn behind<'a>(key: &[u8], text: &'a [u8]) -> Option<&'a [u8]>
+pub(crate) fn behind<'a>(key: &[u8], text: &'a [u8]) -> Option<&'a [u8]>
     ensures { option_map text_of result ≡ behind key.now text.now }
 {
     let place = place_of(key, text)?;
@@ -41,27 +41,27 @@ fn filled(word: &[u8]) -> Option<&[u8]>
 }
 
 /// The value of the field with this key: the word behind it, where that is not empty.
-pub fn value_of<'a>(key: &[u8], text: &'a [u8]) -> Option<&'a [u8]>
+pub(crate) fn value_of<'a>(key: &[u8], text: &'a [u8]) -> Option<&'a [u8]>
     ensures { option_map text_of result ≡ value_of key.now text.now }
 {
     let rest = behind(key, text)?;
     filled(first_word(rest).0)
 }
 
-pub fn number_field(key: &[u8], text: &[u8]) -> Option<u64>
+pub(crate) fn number_field(key: &[u8], text: &[u8]) -> Option<u64>
     ensures { result ≡ number_field key.now text.now }
 {
     number(value_of(key, text)?)
 }
 
-pub fn cpu_field(key: &[u8], text: &[u8]) -> Option<u32>
+pub(crate) fn cpu_field(key: &[u8], text: &[u8]) -> Option<u32>
     ensures { result ≡ cpu_field key.now text.now }
 {
     small_number(value_of(key, text)?)
 }
 
 /// Whether the field has the priority of SCHED_DEADLINE.
-pub fn deadline_field(key: &[u8], text: &[u8]) -> Option<bool>
+pub(crate) fn deadline_field(key: &[u8], text: &[u8]) -> Option<bool>
     ensures { result ≡ deadline_field key.now text.now }
 {
     is_deadline(value_of(key, text)?)

@@ -34,14 +34,14 @@ pub struct Tasks {
 }
 
 /// Whether a comm is that of the kernel threads that have no bandwidth.
-pub fn is_sugov(comm: &[u8]) -> bool
+pub(crate) fn is_sugov(comm: &[u8]) -> bool
     ensures { result ≡ is_sugov comm.now }
 {
     comm.starts_with(b"sugov:")
 }
 
 /// How a task stops to run, by the state's first letter.
-pub fn stop_of(state: &[u8]) -> Stop
+pub(crate) fn stop_of(state: &[u8]) -> Stop
     ensures { result ≡ stop_of state.now }
 {
     if state.starts_with(b"R") || state.starts_with(b"P") {
@@ -99,7 +99,7 @@ fn place_of_timer(given: &[Given], timer: &[u8]) -> Option<usize>
 
 impl Tasks {
     /// The tasks with these names.
-    pub fn new(alloc: Global, names: &[&[u8]]) -> Result<Tasks, AllocError>
+    pub(crate) fn new(alloc: Global, names: &[&[u8]]) -> Result<Tasks, AllocError>
         ensures { IfOk result (λ tasks. tasks_text tasks ≡ tasks_given (map text_of names.now)) }
     {
         let mut tasks = Tasks {
@@ -244,7 +244,11 @@ impl Tasks {
     }
 
     /// Notes what an event shows, and answers the index of the task that it tells of.
-    pub fn note(&mut self, line: u64, event: &Event<&[u8]>) -> Result<Option<usize>, AllocError>
+    pub(crate) fn note(
+        &mut self,
+        line: u64,
+        event: &Event<&[u8]>,
+    ) -> Result<Option<usize>, AllocError>
         ensures tasks { OnOk result (tasks_text self.new ≡ tasks_after line (event_text event.now) (tasks_text self.old)) }
         ensures index { IfOk result (λ i. i ≡ index_told (event_text event.now) (tasks_text self.old)) }
     {
@@ -281,7 +285,7 @@ impl Tasks {
     }
 
     /// Where each task was first shown.
-    pub fn finish(self) -> Result<Vec<Option<Found>>, AllocError>
+    pub(crate) fn finish(self) -> Result<Vec<Option<Found>>, AllocError>
         ensures { IfOk result (λ found. map (option_map finding_text) found.items ≡ map (λ (t : Task). t.found) (tasks_text self)) }
     {
         let Tasks { alloc, given } = self;

@@ -10,14 +10,14 @@ use crate::number::number;
 use crate::words::{first_word, without_spaces};
 
 /// Whether a line begins with `#`.
-pub fn is_comment(line: &[u8]) -> bool
+pub(crate) fn is_comment(line: &[u8]) -> bool
     ensures { result ≡ is_comment line.now }
 {
     line.starts_with(b"#")
 }
 
 /// Whether a line tells that events were lost.
-pub fn is_lost(line: &[u8]) -> bool
+pub(crate) fn is_lost(line: &[u8]) -> bool
     ensures { result ≡ is_lost line.now }
 {
     (is_comment(line) && has_fewer(line)) || says_lost(line)
@@ -77,7 +77,7 @@ fn is_less(kept: Option<u64>, written: Option<u64>) -> bool
 }
 
 /// The N of the first word `#P:N` of a line.
-pub fn processors(line: &[u8]) -> Option<u32>
+pub(crate) fn processors(line: &[u8]) -> Option<u32>
     ensures { result ≡ processors line.now }
 {
     cpu_field(b"#P:", line)

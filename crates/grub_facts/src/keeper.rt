@@ -166,7 +166,7 @@ fn unknown(alloc: Global, event: &Event<&[u8]>) -> Result<Wrong, AllocError>
 
 impl Keeper {
     /// A keeper of the tasks with these names.
-    pub fn new(alloc: Global, names: &[&[u8]]) -> Result<Keeper, AllocError>
+    pub(crate) fn new(alloc: Global, names: &[&[u8]]) -> Result<Keeper, AllocError>
         ensures tasks { IfOk result (λ keeper. (kept_text keeper).tasks ≡ tasks_given (map text_of names.now)) }
         ensures facts { IfOk result (λ keeper. (kept_text keeper).facts ≡ []) }
     {
@@ -202,7 +202,7 @@ impl Keeper {
     }
 
     /// Takes what a line says, and answers what is wrong with it.
-    pub fn take(
+    pub(crate) fn take(
         &mut self,
         line: u64,
         said: &Said<&[u8]>,
@@ -223,7 +223,7 @@ impl Keeper {
     }
 
     /// The facts, and where each given task was first shown.
-    pub fn finish(self) -> Result<(Vec<Fact>, Vec<Option<Found>>), AllocError>
+    pub(crate) fn finish(self) -> Result<(Vec<Fact>, Vec<Option<Found>>), AllocError>
         ensures facts { IfOk result (λ r. r.0.items ≡ (kept_text self).facts) }
         ensures found { IfOk result (λ r. map (option_map finding_text) r.1.items ≡ map (λ (t : Task). t.found) (kept_text self).tasks) }
     {

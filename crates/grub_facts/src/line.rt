@@ -40,7 +40,7 @@ fn has_cpu_above(said: &Said<&[u8]>) -> bool
 }
 
 /// The CPU that an event names beside its line's, or 0.
-pub fn other_cpu(event: &Event<&[u8]>) -> u32
+pub(crate) fn other_cpu(event: &Event<&[u8]>) -> u32
     ensures { result ≡ other_cpu event.now }
 {
     match *event {
@@ -59,7 +59,7 @@ pub fn other_cpu(event: &Event<&[u8]>) -> u32
 }
 
 /// How far the `now` of a 0-lag timer that fires lies from the moment of its line, in nanoseconds, or 0.
-pub fn drift(said: &Said<&[u8]>) -> u64
+pub(crate) fn drift(said: &Said<&[u8]>) -> u64
     ensures { result ≡ drift said.now }
 {
     match said.event {
@@ -115,7 +115,7 @@ fn event_line(line: &[u8]) -> Line<&[u8]>
 }
 
 /// What a line tells, without the byte that ends it.
-pub fn line_of(line: &[u8]) -> Line<&[u8]>
+pub(crate) fn line_of(line: &[u8]) -> Line<&[u8]>
     ensures { line_text result ≡ line_of line.now }
 {
     if is_lost(line) {

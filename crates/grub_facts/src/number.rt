@@ -7,7 +7,7 @@ ghost use Rattle.grub_facts.specs.Numbers.{after, before_end, bracketed, fractio
 ghost use Rattle.grub_facts.specs.Words.{text_of};
 
 /// The number that a word of digits spells, or the greatest `u64` where it is greater.
-pub fn number(word: &[u8]) -> Option<u64>
+pub(crate) fn number(word: &[u8]) -> Option<u64>
     ensures { result ≡ number word.now }
 {
     if !word.is_empty() && are_digits(word) {
@@ -42,7 +42,7 @@ fn push_digit(value: u64, digit: u8) -> u64
 }
 
 /// The number that a word of digits spells, or the greatest `u32` where it is greater.
-pub fn small_number(word: &[u8]) -> Option<u32>
+pub(crate) fn small_number(word: &[u8]) -> Option<u32>
     ensures { result ≡ small_number word.now }
 {
     match number(word) {
@@ -52,21 +52,21 @@ pub fn small_number(word: &[u8]) -> Option<u32>
 }
 
 /// What follows the key at the front of a word.
-pub fn after<'a>(key: &[u8], word: &'a [u8]) -> Option<&'a [u8]>
+pub(crate) fn after<'a>(key: &[u8], word: &'a [u8]) -> Option<&'a [u8]>
     ensures { option_map text_of result ≡ after key.now word.now }
 {
     word.strip_prefix(key)
 }
 
 /// What stands before the key at the end of a word.
-pub fn before_end<'a>(key: &[u8], word: &'a [u8]) -> Option<&'a [u8]>
+pub(crate) fn before_end<'a>(key: &[u8], word: &'a [u8]) -> Option<&'a [u8]>
     ensures { option_map text_of result ≡ before_end key.now word.now }
 {
     word.strip_suffix(key)
 }
 
 /// The CPU of a word such as `[003]`.
-pub fn bracketed(word: &[u8]) -> Option<u32>
+pub(crate) fn bracketed(word: &[u8]) -> Option<u32>
     ensures { result ≡ bracketed word.now }
 {
     let rest = after(b"[", word)?;
@@ -75,7 +75,7 @@ pub fn bracketed(word: &[u8]) -> Option<u32>
 }
 
 /// Whether a priority is -1, that of SCHED_DEADLINE.
-pub fn is_deadline(priority: &[u8]) -> Option<bool>
+pub(crate) fn is_deadline(priority: &[u8]) -> Option<bool>
     ensures { result ≡ is_deadline priority.now }
 {
     match after(b"-", priority) {
@@ -94,7 +94,7 @@ fn is_one(number: Option<u64>, is_negative: bool) -> Option<bool>
 }
 
 /// The moment of a word such as `1020.411177:`, in nanoseconds.
-pub fn moment(word: &[u8]) -> Option<u64>
+pub(crate) fn moment(word: &[u8]) -> Option<u64>
     ensures { result ≡ moment word.now }
 {
     let text = before_end(b":", word)?;

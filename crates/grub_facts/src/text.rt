@@ -70,7 +70,7 @@ fn cut(line: &[u8]) -> Wrong
 }
 
 impl Text {
-    pub fn new(alloc: Global) -> Text
+    pub(crate) fn new(alloc: Global) -> Text
         ensures carry { result.carry.items ≡ [] }
         ensures line { result.line ≡ 0 }
         ensures fault { result.fault ≡ None }
@@ -107,7 +107,7 @@ impl Text {
     }
 
     /// Takes a piece. Behind the first fault nothing is read any more.
-    pub fn feed<L: Lines>(&mut self, lines: &mut L, piece: &[u8]) -> Result<(), AllocError>
+    pub(crate) fn feed<L: Lines>(&mut self, lines: &mut L, piece: &[u8]) -> Result<(), AllocError>
         ensures { OnOk result (progress self.new (L.told lines.new) ≡ further L.step (progress self.old (L.told lines.old)) piece.now) }
     {
         let mut rest = piece;
@@ -123,14 +123,14 @@ impl Text {
     }
 
     /// Whether a line with a fault was read.
-    pub fn is_stopped(&self) -> bool
+    pub(crate) fn is_stopped(&self) -> bool
         ensures { result ≡ is_some self.now.fault }
     {
         self.fault.is_some()
     }
 
     /// The first fault, where the text ends here.
-    pub fn end(self) -> Option<LineFault>
+    pub(crate) fn end(self) -> Option<LineFault>
         ensures { option_map fault_text result ≡ fault_at_end (option_map fault_text self.fault) self.line self.carry.items }
     {
         let Text { carry, line, fault } = self;

@@ -4,14 +4,14 @@ ghost use Rattle.std.specs.Prelude.{◌≡◌, ◌∷◌, [], ◌<◌, ◌+◌, 
 ghost use Rattle.grub_facts.specs.Words.{is_end, is_space, parts_of, word_of, words_of, without_spaces};
 
 /// Where a byte first stands.
-pub fn space_in(text: &[u8]) -> Option<usize>
+pub(crate) fn space_in(text: &[u8]) -> Option<usize>
     ensures { result ≡ position is_space text.now }
 {
     text.iter().position(|b| *b == b' ')
 }
 
 /// The first word, and what follows its space.
-pub fn first_word(text: &[u8]) -> (&[u8], Option<&[u8]>)
+pub(crate) fn first_word(text: &[u8]) -> (&[u8], Option<&[u8]>)
     ensures words { MatchOption result.1 (words_of text.now ≡ result.0.now ∷ []) (λ rest. words_of text.now ≡ result.0.now ∷ words_of rest.now) }
     ensures word { result.0.now ≡ word_of text.now }
     ensures len { MatchOption result.1 (length result.0.now ≡ length text.now) (λ rest. length result.0.now + 1 + length rest.now ≡ length text.now) }
@@ -29,7 +29,7 @@ fn end_in(text: &[u8]) -> Option<usize>
 }
 
 /// The first line, without the byte that ends it, and what follows; none where no byte ends it.
-pub fn first_line(text: &[u8]) -> Option<(&[u8], &[u8])>
+pub(crate) fn first_line(text: &[u8]) -> Option<(&[u8], &[u8])>
     ensures parts { MatchOption result (parts_of text.now ≡ text.now ∷ []) (λ x. parts_of text.now ≡ x.0.now ∷ parts_of x.1.now) }
     ensures len { IfSome result (λ x. length x.1.now < length text.now) }
 {
@@ -46,7 +46,7 @@ fn other_in(text: &[u8]) -> Option<usize>
 }
 
 /// The text from its first byte on that is no space.
-pub fn without_spaces(text: &[u8]) -> &[u8]
+pub(crate) fn without_spaces(text: &[u8]) -> &[u8]
     ensures { result.now ≡ without_spaces text.now }
 {
     match other_in(text) {

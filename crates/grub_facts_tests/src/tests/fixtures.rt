@@ -19,7 +19,7 @@ pub const FIRE: &[u8] =
     b"  <idle>-0       [000] d.h1.  1020.411633: hrtimer_expire_entry: hrtimer=00000000d0364ad0 function=inactive_task_timer now=1020411634000\n";
 
 /// What a text tells of the tasks gr_0 and 77, in pieces of seven bytes.
-pub fn read(alloc: Global, text: &[u8]) -> Result<Facts, AllocError> {
+pub(crate) fn read(alloc: Global, text: &[u8]) -> Result<Facts, AllocError> {
     let mut reader = FactReader::new(
         alloc,
         [b"gr_0".as_slice(), b"77".as_slice()].as_slice(),
@@ -32,7 +32,7 @@ pub fn read(alloc: Global, text: &[u8]) -> Result<Facts, AllocError> {
 }
 
 /// The number of a fault.
-pub fn number_of(wrong: &Wrong) -> u64 {
+pub(crate) fn number_of(wrong: &Wrong) -> u64 {
     match wrong {
         Wrong::UnknownTask { comm: _, pid: _ } => 50,
         Wrong::WrongClock => 51,
@@ -43,19 +43,19 @@ pub fn number_of(wrong: &Wrong) -> u64 {
 }
 
 /// The line and the number of a fault, or 0 and 0.
-pub fn place(fault: &Option<LineFault>) -> (u64, u64) {
+pub(crate) fn place(fault: &Option<LineFault>) -> (u64, u64) {
     match fault {
         None => (0, 0),
         Some(fault) => (fault.line, number_of(&fault.wrong)),
     }
 }
 
-pub fn fault_of(alloc: Global, text: &[u8]) -> Result<(u64, u64), AllocError> {
+pub(crate) fn fault_of(alloc: Global, text: &[u8]) -> Result<(u64, u64), AllocError> {
     Ok(place(&read(alloc, text)?.fault))
 }
 
 /// Whether a text tells this one fact and no other.
-pub fn tells(
+pub(crate) fn tells(
     alloc: Global,
     text: &[u8],
     at: u64,
@@ -72,7 +72,7 @@ pub fn tells(
     Ok(told.facts.as_slice() == [wanted].as_slice() && place(&told.fault) == (0, 0))
 }
 
-pub fn joined(alloc: Global, lines: &[&[u8]]) -> Result<Vec<u8>, AllocError> {
+pub(crate) fn joined(alloc: Global, lines: &[&[u8]]) -> Result<Vec<u8>, AllocError> {
     let mut text = Vec::new(alloc);
     for line in lines {
         text.extend_from_slice(line)?;
