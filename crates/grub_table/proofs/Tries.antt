@@ -25,14 +25,14 @@ use Rattle.grub_table.specs.declared.view.Mark.{Mark}
 use Rattle.grub_table.specs.declared.view.Mark.TheVariants.{Given}
 use Rattle.grub_table.specs.declared.view.Share.{Share}
 use Rattle.grub_table.specs.declared.view.Terms.{Terms}
-use Rattle.grub_table.specs.inside.Between.{HoldsFor, HoldsMade, Tells, Concluded}
+use Rattle.grub_table.specs.inside.Between.{HoldsFor, HoldsMade, Tells}
 use Rattle.grub_table.specs.Calls.{seen, marks, share_on, share_of, ComesFrom, claim_number, claim_share, claim_seen, claim_queue, claim_changes_sum, IsClaimOf, IsDone, IsLost, IsFinished}
 use Rattle.grub_table.specs.Histories.{WasBefore, record_in}
 use Rattle.grub_table.specs.Knowing.{GoesOn, Learns}
 use Rattle.grub_table.specs.inside.Layout.{stored_of}
 use Rattle.grub_table.specs.Marks.{AreLawful, marker_of}
-use Rattle.grub_table.specs.inside.Tellings.{is_decided_at_load, Grows, Finishes, MarksGo, Sees, Calls}
-use Rattle.grub_table.specs.inside.Tries.{is_charge, Knows, TriedAs, Tried}
+use Rattle.grub_table.specs.inside.Tellings.{is_decided_at_load, Grows, Finishes, MarksGo, Sees, Calls, Gives}
+use Rattle.grub_table.specs.inside.Tries.{is_charge, TriedAs, Tried}
 use Rattle.grub_table.proofs.Growths.{goes_none, grows_grows, grows_finishes, learns_none, learns_twice}
 
 pub is_not : {A : Type 0} {b : Bool} → b ≡ true → b ≡ false → A
@@ -87,16 +87,6 @@ sees_after T x m y same g h = grows_grows T x.number x.seen m.seen y.seen g (sub
 pub calls_after : (T : Terms) (x m y : Share) (t : ℕ) (op : Op) (reply : Reply) → m.number ≡ x.number → Sees T x m → Calls T m t op reply y → Calls T x t op reply y
 calls_after T x m y t op reply same g f = grows_finishes T x.number x.seen m.seen (Call x.number t op reply) y.seen g (subst (λ n. Finishes T n m.seen (Call n t op reply) y.seen) same f)
 
-pub leaves_after : (s : Shared) (t : ℕ) (old mid new : Seated) → Tells s Knows old mid → Tells s (Concluded t) mid new → Tells s (Concluded t) old new
-leaves_after s t old mid new k l = record {
-  seat = l.seat;
-  number = l.number ∙ k.number;
-  of = (
-    l.of.0 ∙ k.of.0,
-    (l.of.1.0, subst (λ (p : ℕ × List Mark). MarksGo s.terms.passes p.0 p.1 (share_on new).marks (Given p.0 t ∷ [])) (λ i. (k.number i, k.of.1 i)) l.of.1.1),
-  );
-}
-
 -- ---- the ends of calls
 module _ (s : Shared) (c : Claim) (is : IsClaimOf s c) where
   abbrev mine : Share
@@ -104,15 +94,15 @@ module _ (s : Shared) (c : Claim) (is : IsClaimOf s c) where
 
   -- the call is made, and then the task is given back
   pub done : (mid : Seated) (reply : Reply) (tries : ℕ) (q : Pass) → (share_on mid).number ≡ mine.number → (share_on mid).marks ≡ mine.marks → Calls s.terms mine c.task c.op reply (share_on mid)
-      → WasBefore s.terms c.task c.held (Call mine.number c.task c.op reply) (share_on mid).seen → Tells s (Concluded c.task) mid q.seated → is_under_claim reply ≡ true → (claim_changes_sum c ≡ true → 1 ≤ tries) → IsDone s c tries q reply
-  done mid reply tries q number known calls was leaves claimed tried =
-      let f : Finishes s.terms mine.number mine.seen (Call mine.number c.task c.op reply) (seen q) = subst (λ h. Finishes s.terms mine.number mine.seen (Call mine.number c.task c.op reply) h) (sym leaves.of.0) calls in
+      → WasBefore s.terms c.task c.held (Call mine.number c.task c.op reply) (share_on mid).seen → seen q ≡ (share_on mid).seen → Tells s (Gives c.task) mid q.seated → is_under_claim reply ≡ true → (claim_changes_sum c ≡ true → 1 ≤ tries) → IsDone s c tries q reply
+  done mid reply tries q number known calls was same gives claimed tried =
+      let f : Finishes s.terms mine.number mine.seen (Call mine.number c.task c.op reply) (seen q) = subst (λ h. Finishes s.terms mine.number mine.seen (Call mine.number c.task c.op reply) h) (sym same) calls in
       let g : MarksGo s.terms.passes mine.number mine.marks (marks q) (Given mine.number c.task ∷ []) =
-      subst (λ (p : ℕ × List Mark). MarksGo s.terms.passes p.0 p.1 (marks q) (Given p.0 c.task ∷ [])) (λ i. (number i, known i)) leaves.of.1.1 in
+      subst (λ (p : ℕ × List Mark). MarksGo s.terms.passes p.0 p.1 (marks q) (Given p.0 c.task ∷ [])) (λ i. (number i, known i)) gives.of.1 in
       record {
-        of = record { home = leaves.seat.home; terms = leaves.seat.terms; history = f.0; lawful = g.0 };
-        learns = record { number = leaves.number ∙ number; seen = f.1; marked = g.1 };
-        before = subst (λ h. WasBefore s.terms c.task c.held (Call mine.number c.task c.op reply) h) (sym leaves.of.0) was;
+        of = record { home = gives.seat.home; terms = gives.seat.terms; history = f.0; lawful = g.0 };
+        learns = record { number = gives.number ∙ number; seen = f.1; marked = g.1 };
+        before = subst (λ h. WasBefore s.terms c.task c.held (Call mine.number c.task c.op reply) h) (sym same) was;
         claimed = claimed;
         tried = tried;
       }

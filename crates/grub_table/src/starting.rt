@@ -175,7 +175,7 @@ impl Shared {
         }
         let held = self.load_record(&mut seated, t, shown);
         if let Some(reply) = early(&held, op) {
-            let pass = self.give_back(seated, t, &held);
+            let pass = self.hand_back(seated, t, &held, &held);
             return Started::Answered(pass, reply);
         }
         Started::Held(Claim {

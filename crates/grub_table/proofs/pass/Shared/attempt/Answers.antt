@@ -56,10 +56,10 @@ returns-clause-finished c =
     done s q of c.store_server.new.seated c.in-Some.reply 1 _ (c.store_server.ensures.told.number ∙ tried.number) (k.1 ∙ tried_marks s q of c.decide.new.seated p tried)
     (subst (λ h. Finishes s.terms (claim_share q).number (claim_share q).seen (Call (claim_share q).number q.task q.op c.in-Some.reply) h) (sym k.0) (tried_calls s q of c.decide.new.seated p tried))
     (subst (λ h. WasBefore s.terms q.task q.held (Call (claim_share q).number q.task q.op c.in-Some.reply) h) (sym k.0) (tried_was s q of c.decide.new.seated p tried))
-    c.hand_back-pass.ensures.told (tried_claimed s q of c.decide.new.seated p tried) (λ _. one)
+    c.hand_back-pass.ensures.seen c.hand_back-pass.ensures.told (tried_claimed s q of c.decide.new.seated p tried) (λ _. one)
   where
     one : 1 ≤ 1
     one = omega arith
 
 pub returns-clause-within : goal.returns-clause-within
-returns-clause-within c = made_by_try _ _ _ (c.in-Some.next, c.in-Some.reply) _ _ _ _ c.in-Some.ensures.made c.store_server.ensures.made c.hand_back-pass.ensures.made
+returns-clause-within c = made_by_try _ _ _ _ _ _ _ (c.in-Some.next, c.in-Some.reply) _ _ _ _ c.in-Some.ensures.made c.store_server.ensures.made c.hand_back-pass.ensures.made

@@ -71,9 +71,9 @@ returns-clause-finished c tries =
     (quiet_marks s q of c.settle_server.new.seated c.queue.result unseen c.settle-reply.result c.settle-reply.ensures c.requires.sum c.requires.charge c.settle_server.ensures.told)
     (quiet_calls s q of c.settle_server.new.seated c.queue.result unseen c.settle-reply.result c.settle-reply.ensures c.requires.sum c.requires.charge c.settle_server.ensures.told)
     (quiet_was s q of c.settle_server.new.seated c.queue.result unseen c.settle-reply.result c.settle-reply.ensures c.requires.sum c.requires.charge c.settle_server.ensures.told)
-    c.hand_back-pass.ensures.told
+    c.hand_back-pass.ensures.seen c.hand_back-pass.ensures.told
     (quiet_claimed s q of c.settle_server.new.seated c.queue.result unseen c.settle-reply.result c.settle-reply.ensures c.requires.sum c.requires.charge)
     (λ sum. is_not sum c.requires.sum)
 
 pub returns-clause-within : goal.returns-clause-within
-returns-clause-within c tries = made_by_store _ _ tries _ _ _ _ c.settle_server.ensures.made c.hand_back-pass.ensures.made
+returns-clause-within c tries = made_by_store _ _ _ _ _ _ tries _ _ _ _ c.settle_server.ensures.made c.hand_back-pass.ensures.made

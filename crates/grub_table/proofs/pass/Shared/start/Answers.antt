@@ -20,14 +20,14 @@ use Rattle.grub_table.specs.declared.view.Hold.TheVariants.{Free, Undecided, Dec
 use Rattle.grub_table.specs.declared.view.Mark.TheVariants.{Taken, Given}
 use Rattle.grub_table.specs.declared.view.Share.{Share}
 use Rattle.grub_table.specs.declared.view.Terms.{Terms}
-use Rattle.grub_table.specs.inside.Between.{HoldsFor, HoldsMade, Tells, SawTask, SawRecord, Concluded}
-use Rattle.grub_table.specs.Calls.{share_on, share_of, marks, ComesFrom, number_of, IsAnswered, IsTaken, IsBusy, IsSighting, IsEarly, marks_of_call}
+use Rattle.grub_table.specs.inside.Between.{HoldsFor, HoldsMade, Tells, SawTask, SawRecord}
+use Rattle.grub_table.specs.Calls.{share_on, share_of, seen, marks, ComesFrom, number_of, IsAnswered, IsTaken, IsBusy, IsSighting, IsEarly, marks_of_call}
 use Rattle.grub_table.specs.Histories.{record_in}
 use Rattle.grub_table.specs.Knowing.{GoesOn, Learns}
 use Rattle.grub_table.specs.Layout.{shown}
 use Rattle.grub_table.specs.inside.Layout.{stored_of}
 use Rattle.grub_table.specs.Marks.{marker_of}
-use Rattle.grub_table.specs.inside.Tellings.{Grows, Finishes, MarksGo, Sees, Calls, CallsIf, DecidesIf, IsOthers, TookClaim}
+use Rattle.grub_table.specs.inside.Tellings.{Grows, Finishes, MarksGo, Sees, Calls, CallsIf, DecidesIf, IsOthers, TookClaim, Gives}
 use Rattle.grub_table.proofs.Growths.{grows_grows, grows_finishes, marks_both}
 use Rattle.grub_table.proofs.Starts.{outside_marks, outside_soon, early_is, word_says}
 use Rattle.grub_table.proofs.pass.Shared.start.Goals as goal
@@ -178,12 +178,12 @@ module _ (s : Shared) (p : Pass) (t : ℕ) (op : Op) where
           hold = (taken, (decided reply is).1 ∙ ap (λ z. Decided t taken z (stored_of z)) (sym known.0));
         }
 
-        answered_early : (reply : Reply) → early held op ≡ Some reply → (q : Pass) → Tells s (Concluded t) three q.seated → IsAnswered s p t op q reply
-        answered_early reply is q l =
+        answered_early : (reply : Reply) → early held op ≡ Some reply → (q : Pass) → seen q ≡ x3.seen → Tells s (Gives t) three q.seated → IsAnswered s p t op q reply
+        answered_early reply is q same l =
             let z = early_is held op reply is in
             let called = subst (λ n. Finishes T n x2.seen (Call n t op reply) x3.seen) number2 (decided reply is).0 in
-            let f = subst (λ h. Finishes T i x.seen (Call i t op reply) h) (sym l.of.0) (grows_finishes T i x.seen x2.seen (Call i t op reply) x3.seen grows called) in
-            let gave = subst (λ n. MarksGo T.passes n x3.marks (marks q) (Given n t ∷ [])) number3 l.of.1.1 in
+            let f = subst (λ h. Finishes T i x.seen (Call i t op reply) h) (sym same) (grows_finishes T i x.seen x2.seen (Call i t op reply) x3.seen grows called) in
+            let gave = subst (λ n. MarksGo T.passes n x3.marks (marks q) (Given n t ∷ [])) number3 l.of.1 in
             let marked = marks_both T.passes i x.marks x3.marks (marks q) (Taken i t ∷ []) (Given i t ∷ []) marked3 gave in
             record {
               of = record { home = l.seat.home; terms = l.seat.terms; history = f.0; lawful = marked.0 };
@@ -228,14 +228,14 @@ early-requires c =
     let free = sym c.refusal.ensures ∙ c.in_default.is in
     (kept c.args.self.now c.args.pass c.args.t c.args.op c.in-Ok.shown c.in-Ok.ensures.free.1 c.look_at_task.new.seated c.in-Ok.ensures.told free c.pack_task-loaded.result c.take_claim-found.result was c.take_claim-found.new.seated c.take_claim-found.ensures.told c.if-found-loaded.false c.in-Ok.ensures.free.0.place c.requires.task c.requires.op c.load_record-held.result c.load_record-held.new.seated c.load_record-held.ensures.told).server.fits
 
-pub give_back-pass-requires-clause-held : goal.give_back-pass-requires-clause-held
-give_back-pass-requires-clause-held c =
+pub hand_back-pass-requires-clause-held : goal.hand_back-pass-requires-clause-held
+hand_back-pass-requires-clause-held c =
     let was = c.pack_task-loaded.ensures ∙ ap (task_word c.in-Ok.shown.place c.in-Ok.shown.count) c.in-Ok.ensures.free.1 in
     let free = sym c.refusal.ensures ∙ c.in_default.is in
     made_early c.args.self.now c.args.pass c.args.t c.args.op c.in-Ok.shown c.in-Ok.ensures.free.1 c.look_at_task.new.seated c.in-Ok.ensures.told free c.pack_task-loaded.result c.take_claim-found.result was c.take_claim-found.new.seated c.take_claim-found.ensures.told c.if-found-loaded.false c.in-Ok.ensures.free.0.place c.requires.task c.requires.op c.load_record-held.result c.load_record-held.new.seated c.load_record-held.ensures.told c.in-Some-early.reply (sym c.early.ensures ∙ c.in-Some-early.is)
 
-pub give_back-pass-requires-clause-kept : goal.give_back-pass-requires-clause-kept
-give_back-pass-requires-clause-kept c =
+pub hand_back-pass-requires-clause-kept : goal.hand_back-pass-requires-clause-kept
+hand_back-pass-requires-clause-kept c =
     let was = c.pack_task-loaded.ensures ∙ ap (task_word c.in-Ok.shown.place c.in-Ok.shown.count) c.in-Ok.ensures.free.1 in
     let free = sym c.refusal.ensures ∙ c.in_default.is in
     kept c.args.self.now c.args.pass c.args.t c.args.op c.in-Ok.shown c.in-Ok.ensures.free.1 c.look_at_task.new.seated c.in-Ok.ensures.told free c.pack_task-loaded.result c.take_claim-found.result was c.take_claim-found.new.seated c.take_claim-found.ensures.told c.if-found-loaded.false c.in-Ok.ensures.free.0.place c.requires.task c.requires.op c.load_record-held.result c.load_record-held.new.seated c.load_record-held.ensures.told
@@ -244,7 +244,7 @@ pub returns-in-Some-early-clause-started : goal.returns-in-Some-early-clause-sta
 returns-in-Some-early-clause-started c =
     let was = c.pack_task-loaded.ensures ∙ ap (task_word c.in-Ok.shown.place c.in-Ok.shown.count) c.in-Ok.ensures.free.1 in
     let free = sym c.refusal.ensures ∙ c.in_default.is in
-    answered_early c.args.self.now c.args.pass c.args.t c.args.op c.in-Ok.shown c.in-Ok.ensures.free.1 c.look_at_task.new.seated c.in-Ok.ensures.told free c.pack_task-loaded.result c.take_claim-found.result was c.take_claim-found.new.seated c.take_claim-found.ensures.told c.if-found-loaded.false c.in-Ok.ensures.free.0.place c.requires.task c.requires.op c.load_record-held.result c.load_record-held.new.seated c.load_record-held.ensures.told c.in-Some-early.reply (sym c.early.ensures ∙ c.in-Some-early.is) _ c.give_back-pass.ensures.told
+    answered_early c.args.self.now c.args.pass c.args.t c.args.op c.in-Ok.shown c.in-Ok.ensures.free.1 c.look_at_task.new.seated c.in-Ok.ensures.told free c.pack_task-loaded.result c.take_claim-found.result was c.take_claim-found.new.seated c.take_claim-found.ensures.told c.if-found-loaded.false c.in-Ok.ensures.free.0.place c.requires.task c.requires.op c.load_record-held.result c.load_record-held.new.seated c.load_record-held.ensures.told c.in-Some-early.reply (sym c.early.ensures ∙ c.in-Some-early.is) _ c.hand_back-pass.ensures.seen c.hand_back-pass.ensures.told
 
 pub invariant_of-result-2 : goal.invariant_of-result-2
 invariant_of-result-2 c =
@@ -261,4 +261,4 @@ returns-clause-started c =
     is_taken c.args.self.now c.args.pass c.args.t c.args.op c.in-Ok.shown c.in-Ok.ensures.free.1 c.look_at_task.new.seated c.in-Ok.ensures.told free c.pack_task-loaded.result c.take_claim-found.result was c.take_claim-found.new.seated c.take_claim-found.ensures.told c.if-found-loaded.false c.in-Ok.ensures.free.0.place c.requires.task c.requires.op c.load_record-held.result c.load_record-held.new.seated c.load_record-held.ensures.told _ refl refl refl refl (sym c.early.ensures ∙ c.in_default-early.is)
 
 pub returns-in-Some-early-clause-brief : goal.returns-in-Some-early-clause-brief
-returns-in-Some-early-clause-brief c = starts_early _ _ _ _ _ _ _ _ _ c.in-Ok.ensures.made c.take_claim-found.ensures.made c.load_record-held.ensures.made c.give_back-pass.ensures.made refl refl
+returns-in-Some-early-clause-brief c = starts_early _ _ _ _ _ _ _ _ _ _ c.in-Ok.ensures.made c.take_claim-found.ensures.made c.load_record-held.ensures.made c.hand_back-pass.ensures.made refl refl
