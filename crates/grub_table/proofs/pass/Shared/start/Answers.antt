@@ -55,7 +55,7 @@ module _ (s : Shared) (p : Pass) (t : ℕ) (op : Op) where
         soon = outside_soon reply outside;
       }
 
-  -- the seat after the look, and after the try to take the task
+  -- the seat after the load of the word, and after the try to take the task
   module _ (w : TaskWord) (unclaimed : w.claimed ≡ false) (one : Seated) (looked : Tells s (SawTask t op (Ok w)) p.seated one) (free : refused w.place w.count op ≡ None) (old found : ℕ) (was : old ≡ task_word w.place w.count false) (two : Seated) (took : Tells s (TookClaim (record { task = t; op = op }) (task_word w.place w.count false) found) one two) where
     abbrev x1 : Share
     x1 = share_on one
