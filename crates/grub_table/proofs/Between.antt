@@ -1,7 +1,6 @@
 -- From what the single steps tell to what is known between the steps of a call.
 use Rattle.std.proofs.Common.{◌≡◌, ℕ, ◌<◌, [], ◌∷◌, ◌++◌, length, ap, sym, ◌∙◌, subst, arith}
 use Rattle.grub_book.specs.declared.event.Reading.{Reading}
-use Rattle.grub_book.specs.declared.op.Op.{Op}
 use Rattle.grub_book.specs.declared.place.Record.{Record}
 use Rattle.grub_words.specs.Words.{QueueFits}
 use Rattle.atomic_table.specs.declared.shared.Seat.{Seat}
@@ -12,10 +11,9 @@ use Rattle.grub_table.specs.declared.view.Access.{Access}
 use Rattle.grub_table.specs.declared.view.Share.{Share}
 use Rattle.grub_table.specs.declared.view.Terms.{Terms}
 use Rattle.grub_table.specs.Calls.{share_on, made_on}
-use Rattle.grub_table.specs.inside.Between.{IsSeatOf, HoldsFor, HoldsMade, Tells, GivenUp, Concluded}
-use Rattle.grub_table.specs.declared.view.Stored.{Stored}
+use Rattle.grub_table.specs.inside.Between.{IsSeatOf, Tells}
 use Rattle.grub_table.specs.Layout.{queue_word_at}
-use Rattle.grub_table.specs.inside.Tellings.{Turns, Of, OfQueue, IsReadingFor, GaveClaim}
+use Rattle.grub_table.specs.inside.Tellings.{Turns, Of, OfQueue, IsReadingFor}
 use Rattle.grub_table.specs.declared.view.Trail.{Trail}
 use Rattle.grub_table.specs.Trails.{first_made, head_made}
 use Rattle.grub_table.specs.inside.Trails.{each_after, known, lone, trail}
@@ -64,11 +62,3 @@ reading_fits_for s rec r now lt is =
     let most = (s.limited.capacities r lt).most_most in
     let this = is.this in
     record { running = is.running; this = omega arith }
-
--- ---- the task is given back
-module _ (s : Shared) (old new : Seated) (t : ℕ) (told : Tells s GaveClaim old new) where
-  pub left_up : (op : Op) (rec : Record) → HoldsFor s old t op rec → Tells s (GivenUp t) old new
-  left_up op rec h = tells_as s GaveClaim (GivenUp t) old new told (told.of.0 t op rec h.hold)
-
-  pub left_back : (now : Record) (stored : Stored) → HoldsMade s old t now stored → Tells s (Concluded t) old new
-  left_back now stored h = tells_as s GaveClaim (Concluded t) old new told (told.of.1 t h.hold.0 now stored h.hold.1)

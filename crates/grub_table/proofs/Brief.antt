@@ -2,12 +2,14 @@
 use Rattle.std.proofs.Common.{◌≡◌, ◌≢◌, ℕ, zero, suc, ◌+◌, ◌*◌, ◌<◌, ◌≤◌, Bool, true, false, cond, List, [], ◌∷◌, ◌++◌, length, Some, sym, refl, ap, ◌∙◌, subst, ⊎_elim, arith, append_assoc, length-append, eqb, eq-eqb}
 use Rattle.std.proofs.lemmas.List.Sums.{sum_by-append}
 use Rattle.std.proofs.lemmas.Bool.{ne_eqb}
+use Rattle.grub_bw.specs.Bandwidth.{Reservation}
 use Rattle.grub_book.specs.declared.place.Record.{Record}
 use Rattle.grub_book.specs.declared.reply.Reply.{Reply}
+use Rattle.grub_words.specs.Words.{params_word}
 use Rattle.grub_table.specs.declared.view.Access.{Access}
 use Rattle.grub_table.specs.declared.view.Access.TheVariants.{Load, Store, Exchange}
 use Rattle.grub_table.specs.Accesses.{is_exchange_of, exchanges_of, lost_tries, FinishesBriefly, StartsBriefly}
-use Rattle.grub_table.specs.inside.Brief.{StoresFew, TriesOnce}
+use Rattle.grub_table.specs.inside.Brief.{changed_store, TriesOnce}
 use Rattle.grub_table.proofs.Tries.{is_not}
 
 exchanges_more : (w : ℕ) (xs ys : List Access) → exchanges_of w (xs ++ ys) ≡ exchanges_of w xs + exchanges_of w ys
@@ -20,51 +22,53 @@ counts_one w = ap (λ b. cond b 1 0) (eq-eqb w w refl)
 counts_none : (v w : ℕ) → v ≢ w → ◌≡◌ {A = ℕ} (cond (eqb v w) 1 0) 0
 counts_none v w other = ap (λ b. cond b 1 0) (ne_eqb v w other)
 
--- ---- stores
+-- ---- the last stores
+abbrev stored_if : ℕ → ℕ → Bool → List Access
+stored_if p t same = cond same [] (Store p ∷ []) ++ Store t ∷ []
 
-pub stores_then : (most : ℕ) (before mid after : List Access) (w : ℕ) → StoresFew most before mid → after ≡ mid ++ Store w ∷ [] → StoresFew (most + 1) before after
-stores_then most before mid after w s is =
-    let few = s.few in record {
-      made = s.made ++ Store w ∷ [];
-      grown = is ∙ ap (λ l. l ++ Store w ∷ []) s.grown ∙ append_assoc before s.made (Store w ∷ []);
-      stores = λ v. let none = s.stores v in omega (arith, exchanges_more v s.made (Store w ∷ []), none);
-      few = omega (arith, few, length-append s.made (Store w ∷ []));
-    }
+stored_quiet : (w p t : ℕ) (same : Bool) → exchanges_of w (stored_if p t same) ≡ 0
+stored_quiet w p t true = refl
+stored_quiet w p t false = refl
+
+stored_few : (p t : ℕ) (same : Bool) → length (stored_if p t same) ≤ 2
+stored_few p t true = omega arith
+stored_few p t false = omega arith
 
 -- ---- a call that is made
--- with these accesses, and then at most two stores
-module _ (w v : ℕ) (before mid after : List Access) (first : List Access) (to_mid : mid ≡ before ++ first) (s : StoresFew 2 mid after) where
-  all_grown : after ≡ before ++ (first ++ s.made)
-  all_grown = s.grown ∙ ap (λ l. l ++ s.made) to_mid ∙ append_assoc before first s.made
+-- with these accesses, and then the last stores
+module _ (w p t : ℕ) (held next : Reservation) (before mid after : List Access) (first : List Access) (to_mid : mid ≡ before ++ first) (to_after : after ≡ mid ++ changed_store p held next ++ Store t ∷ []) where
+  abbrev last : List Access
+  last = changed_store p held next ++ Store t ∷ []
 
-  pub made_briefly : (tries : ℕ) (sum : Bool) → exchanges_of w first ≤ tries → (sum ≡ false → exchanges_of w first ≡ 0) → length first ≤ 2 * exchanges_of w first + 2 → FinishesBriefly w tries sum before after
+  made_briefly : (tries : ℕ) (sum : Bool) → exchanges_of w first ≤ tries → (sum ≡ false → exchanges_of w first ≡ 0) → length first ≤ 2 * exchanges_of w first + 2 → FinishesBriefly w tries sum before after
   made_briefly tries sum tried quiet few =
-      let none = s.stores w in
-      let most = s.few in
-      let all : exchanges_of w (first ++ s.made) ≡ exchanges_of w first = omega (arith, exchanges_more w first s.made, none) in
+      let same : Bool = eqb (params_word next) (params_word held) in
+      let none = stored_quiet w p t same in
+      let most = stored_few p t same in
+      let all : exchanges_of w (first ++ last) ≡ exchanges_of w first = omega (arith, exchanges_more w first last, none) in
       record {
-        made = first ++ s.made;
-        grown = all_grown;
+        made = first ++ last;
+        grown = to_after ∙ append_assoc mid (changed_store p held next) (Store t ∷ []) ∙ ap (λ l. l ++ last) to_mid ∙ append_assoc before first last;
         tried = omega (arith, all, tried);
         quiet = λ is. all ∙ quiet is;
-        few = omega (arith, all, few, most, length-append first s.made);
+        few = omega (arith, all, few, most, length-append first last);
       }
 
 -- by a try
-pub made_by_try : (w v : ℕ) (sum : Bool) (p : Record × Reply) (before one two after : List Access) → TriesOnce w sum (Some p) before one → two ≡ one ++ Store v ∷ [] → StoresFew 2 two after → FinishesBriefly w 1 sum before after
-made_by_try w v sum p before one two after try to_two s = ⊎_elim
+pub made_by_try : (w v p t : ℕ) (held next : Reservation) (sum : Bool) (q : Record × Reply) (before one two after : List Access) → TriesOnce w sum (Some q) before one → two ≡ one ++ Store v ∷ [] → after ≡ two ++ changed_store p held next ++ Store t ∷ [] → FinishesBriefly w 1 sum before after
+made_by_try w v p t held next sum q before one two after try to_two to_after = ⊎_elim
     (λ (at_load : one ≡ before ++ Load w ∷ []).
     let here : two ≡ before ++ (Load w ∷ Store v ∷ []) = to_two ∙ ap (λ l. l ++ Store v ∷ []) at_load ∙ append_assoc before (Load w ∷ []) (Store v ∷ []) in
-    made_briefly w v before two after (Load w ∷ Store v ∷ []) here s 1 sum (omega arith) (λ _. refl) (omega arith))
+    made_briefly w p t held next before two after (Load w ∷ Store v ∷ []) here to_after 1 sum (omega arith) (λ _. refl) (omega arith))
     (λ (won : (one ≡ before ++ Load w ∷ Exchange w true ∷ []) × (sum ≡ true)).
     let here : two ≡ before ++ (Load w ∷ Exchange w true ∷ Store v ∷ []) = to_two ∙ ap (λ l. l ++ Store v ∷ []) won.0 ∙ append_assoc before (Load w ∷ Exchange w true ∷ []) (Store v ∷ []) in
     let count : exchanges_of w (Load w ∷ Exchange w true ∷ Store v ∷ []) ≡ 1 = omega (arith, counts_one w) in
-    made_briefly w v before two after (Load w ∷ Exchange w true ∷ Store v ∷ []) here s 1 sum (omega (arith, count)) (λ off. is_not won.1 off) (omega (arith, count)))
+    made_briefly w p t held next before two after (Load w ∷ Exchange w true ∷ Store v ∷ []) here to_after 1 sum (omega (arith, count)) (λ off. is_not won.1 off) (omega (arith, count)))
     try
 
 -- by a store
-pub made_by_store : (w v tries : ℕ) (sum : Bool) (before mid after : List Access) → mid ≡ before ++ Store v ∷ [] → StoresFew 2 mid after → FinishesBriefly w tries sum before after
-made_by_store w v tries sum before mid after is s = made_briefly w v before mid after (Store v ∷ []) is s tries sum (omega arith) (λ _. refl) (omega arith)
+pub made_by_store : (w v p t : ℕ) (held next : Reservation) (tries : ℕ) (sum : Bool) (before mid after : List Access) → mid ≡ before ++ Store v ∷ [] → after ≡ mid ++ changed_store p held next ++ Store t ∷ [] → FinishesBriefly w tries sum before after
+made_by_store w v p t held next tries sum before mid after is to_after = made_briefly w p t held next before mid after (Store v ∷ []) is to_after tries sum (omega arith) (λ _. refl) (omega arith)
 
 -- ---- lost tries
 lost_next : (w n : ℕ) → lost_tries w (suc n) ≡ lost_tries w n ++ Load w ∷ Exchange w false ∷ []
@@ -100,13 +104,13 @@ lost_then w v n tries sum on before mid after same one lt is f' =
     }
 
 -- ---- the start of a call that is early
-pub starts_early : (w p s : ℕ) (won : Bool) (before one two three after : List Access) → one ≡ before ++ Load w ∷ [] → two ≡ one ++ Exchange w won ∷ [] → three ≡ two ++ Load p ∷ Load s ∷ [] → after ≡ three ++ Store w ∷ [] → p ≡ w + 2 → s ≡ w + 1 → StartsBriefly w before after
-starts_early w p s won before one two three after a b c d at_p at_s =
+pub starts_early : (w p s : ℕ) (held : Reservation) (won : Bool) (before one two three after : List Access) → one ≡ before ++ Load w ∷ [] → two ≡ one ++ Exchange w won ∷ [] → three ≡ two ++ Load p ∷ Load s ∷ [] → after ≡ three ++ changed_store p held held ++ Store w ∷ [] → p ≡ w + 2 → s ≡ w + 1 → StartsBriefly w before after
+starts_early w p s held won before one two three after a b c d at_p at_s =
     let not_p = counts_none p w (λ same. omega (arith, same, at_p)) in
     let not_s = counts_none s w (λ same. omega (arith, same, at_s)) in
     record {
       made = Load w ∷ Exchange w won ∷ Load p ∷ Load s ∷ Store w ∷ [];
-      grown = d ∙ ap (λ l. l ++ Store w ∷ []) (c ∙ ap (λ l. l ++ Load p ∷ Load s ∷ []) (b ∙ ap (λ l. l ++ Exchange w won ∷ []) a ∙ append_assoc before (Load w ∷ []) (Exchange w won ∷ [])) ∙ append_assoc before (Load w ∷ Exchange w won ∷ []) (Load p ∷ Load s ∷ []))
+      grown = d ∙ append_assoc three (changed_store p held held) (Store w ∷ []) ∙ ap (λ same. three ++ stored_if p w same) (eq-eqb (params_word held) (params_word held) refl) ∙ ap (λ l. l ++ Store w ∷ []) (c ∙ ap (λ l. l ++ Load p ∷ Load s ∷ []) (b ∙ ap (λ l. l ++ Exchange w won ∷ []) a ∙ append_assoc before (Load w ∷ []) (Exchange w won ∷ [])) ∙ append_assoc before (Load w ∷ Exchange w won ∷ []) (Load p ∷ Load s ∷ []))
           ∙ append_assoc before (Load w ∷ Exchange w won ∷ Load p ∷ Load s ∷ []) (Store w ∷ []);
       load = omega (arith, counts_one w, not_p, not_s);
       exchange = omega (arith, counts_one w);

@@ -1,5 +1,5 @@
 -- Two beginnings of one history, or of one list of marks.
-use Rattle.std.proofs.Common.{◌≡◌, ◌⊎◌, ℕ, List, [], ◌∷◌, ◌++◌, length, drop, filter, sym, refl, ap, ◌∙◌, ⊎_elim, inl, inr, arith, append-nil, append_assoc, length-append, ◌==◌}
+use Rattle.std.proofs.Common.{◌≡◌, ◌⊎◌, ℕ, List, [], ◌∷◌, ◌++◌, length, drop, filter, sym, refl, ap, subst, ◌∙◌, ⊎_elim, inl, inr, arith, append-nil, append_assoc, length-append, ◌==◌}
 use Rattle.std.proofs.lemmas.List.{nil_from_length}
 use Rattle.std.proofs.lemmas.List.Elements.{filter-append}
 use Rattle.grub_book.specs.History.{StartsWith, pass_of}
@@ -15,6 +15,7 @@ use Rattle.grub_table.specs.Knowing.{GoesOn}
 use Rattle.grub_table.specs.Marks.{marker_of}
 use Rattle.grub_table.specs.Trails.{Accesses}
 use Rattle.grub_table.specs.inside.Trails.{each_after, joined, known, left_trail, lone, right_trail, trail}
+use Rattle.grub_table.specs.Views.{first_of}
 use Rattle.grub_table.specs.inside.Views.{StandTogether, view}
 use Rattle.atomic_table.specs.Table.{Me}
 use Rattle.atomic_table.specs.declared.shared.Seat.{Seat}
@@ -99,3 +100,8 @@ module _ (p q : Pass) (j : Seat Note Trail) (joins : j.me ≡ (joined q.seated.s
 
     pub left_is : (m : Me Note Trail) → m ≡ (left_trail l.me.0, l.me.1) → m ≡ (lone (share_of q) (accesses q ++ meeting_loads), [])
     left_is m is = is ∙ ap (λ m. (left_trail m.0, m.1)) load_is ∙ ap (λ made. (lone (share_of q) made, [])) (three (accesses q))
+
+    -- what the look found of the whole seat holds of the two
+    pub together : StandTogether j.me.0.view.shares → (one other : Me Note Trail) → one ≡ (right_trail l.me.0, []) → other ≡ (left_trail l.me.0, l.me.1) → StandTogether (first_of one.0.view ∷ first_of other.0.view ∷ [])
+    together stand one other a b = subst (λ (v : View × View). StandTogether (first_of v.0 ∷ first_of v.1 ∷ [])) (λ k. (sym (ap (λ m. m.0.view) (right_is one a)) k, sym (ap (λ m. m.0.view) (left_is other b)) k))
+        (subst (λ (v : View). StandTogether v.shares) both_known stand)

@@ -1,4 +1,4 @@
--- The stores of a pass that holds a task are allowed: store-server and store-params after the event, and give-claim.
+-- The stores of a pass that holds a task are allowed: store-server, store-params and give-back after the event, and give-up.
 use Rattle.std.proofs.Common.{◌≡◌, ℕ, ◌+◌, ◌<◌, false, List, [], ◌∷◌, ◌++◌, length, set, sym, refl, ap, ◌∙◌, subst, arith, None}
 use mathlib.Core.Logic.{dite}
 use mathlib.Core.Option.{some}
@@ -26,7 +26,7 @@ use Rattle.grub_table.specs.inside.Layout.{server_word_at, params_word_at, store
 use Rattle.grub_table.specs.Calls.{share_on}
 use Rattle.grub_table.specs.inside.Between.{IsAllowed, HoldsFor, HoldsMade}
 use Rattle.grub_table.specs.inside.Views.{alone, holding}
-use Rattle.grub_table.specs.inside.Tellings.{Sees, Gave, GaveClaim, StoredServer, StoredParams}
+use Rattle.grub_table.specs.inside.Tellings.{Sees, Gives, GaveUp, GaveBack, StoredServer, StoredParams}
 use Rattle.grub_table.specs.inside.Rule.{Known, Grip, Grips, loose, grip, Grasps, IsOnly, holder_in, Kept}
 use Rattle.grub_table.proofs.Marks.{lawful_more, holder_more, handed_here, handed_else}
 use Rattle.grub_table.proofs.Growths.{goes_own}
@@ -94,15 +94,15 @@ module _ {S : Type 0} (x : Share) (s : State S View) (id : ℕ) (c : List (ℕ �
         two_three : 2 < 3
         two_three = omega arith
 
-  -- ---- give-claim
+  -- ---- give-up and give-back
   abbrev given : ℕ → List Mark
   given t = k.marks ++ Given x.number t ∷ []
 
   given_lawful : (t : ℕ) (before : Record) (stored : Stored) → k.grips t ≡ grip x.number before stored → AreLawful T.passes (given t)
   given_lawful t before stored held = lawful_more T.passes k.marks (Given x.number t) k.lawful ((own x s id c k at).number, k.tied t ∙ ap holder_in held)
 
-  gave : (t : ℕ) (before : Record) (stored : Stored) (seen : List Event) → k.grips t ≡ grip x.number before stored → Gave T x t (holding x seen Free (given t))
-  gave t before stored seen held = (refl, (given_lawful t before stored held, goes_own marker_of x.number x.marks k.marks (Given x.number t) refl (marked x s id c k at)))
+  gives : (t : ℕ) (before : Record) (stored : Stored) (seen : List Event) → k.grips t ≡ grip x.number before stored → Gives t T x (holding x seen Free (given t))
+  gives t before stored seen held = (refl, (given_lawful t before stored held, goes_own marker_of x.number x.marks k.marks (Given x.number t) refl (marked x s id c k at)))
 
   -- the task is nobody's, and its words are its record
   freed : (t : ℕ) (before rec : Record) (stored : Stored) (seen : List Event) (n : ℕ) → t < length T.setup.tasks → k.grips t ≡ grip x.number before stored → record_at b t ≡ rec → stored ≡ stored_of rec → IsOnly k.grips x.number t → n ≡ shown rec false
@@ -130,11 +130,7 @@ module _ {S : Type 0} (x : Share) (s : State S View) (id : ℕ) (c : List (ℕ �
       add-zero : (n : ℕ) → n + 0 ≡ n
       add-zero n = omega arith
 
-  undecided_not_decided : {h : Hold} {t : ℕ} {op : Op} {rec : Record} {t' : ℕ} {before now : Record} {stored : Stored} → h ≡ Undecided t op rec → h ≡ Decided t' before now stored → ⊥
-  undecided_not_decided e f = let g = sym e ∙ f in cc
-
-  -- of a call that is given up
-  give_up_out : (t : ℕ) (op : Op) (rec : Record) (n : ℕ) → x.hold ≡ Undecided t op rec → n ≡ shown rec false → Out x s id c (task_word_at T.setup t) n GaveClaim
+  give_up_out : (t : ℕ) (op : Op) (rec : Record) (n : ℕ) → x.hold ≡ Undecided t op rec → n ≡ shown rec false → Out x s id c (task_word_at T.setup t) n GaveUp
   give_up_out t op rec n has word =
       let g = subst (Grasps T k.grips b x.number) has (grasp x s id c k at) in
       let z : Share = holding x k.history Free (given t) in
@@ -143,11 +139,10 @@ module _ {S : Type 0} (x : Share) (s : State S View) (id : ℕ) (c : List (ℕ �
         Free,
         given t,
         freed t rec rec (stored_of rec) k.history n g.0 g.1 g.2 refl g.3 word (known_seen T k.history k.owner s.views id x Free (given t) k.known at),
-        (under x.hold t op rec (λ t op rec. Sees T x z × Gave T x t z) has (sees, gave t rec (stored_of rec) k.history g.1), (λ t' before now stored is. absurd (undecided_not_decided has is))),
+        under x.hold t op rec (λ t op rec. Sees T x z × Gives t T x z) has (sees, gives t rec (stored_of rec) k.history g.1),
       )
 
-  -- after the event
-  give_back_out : (t : ℕ) (before rec : Record) (n : ℕ) → x.hold ≡ Decided t before rec (stored_of rec) → n ≡ shown rec false → Out x s id c (task_word_at T.setup t) n GaveClaim
+  give_back_out : (t : ℕ) (before rec : Record) (n : ℕ) → x.hold ≡ Decided t before rec (stored_of rec) → n ≡ shown rec false → Out x s id c (task_word_at T.setup t) n GaveBack
   give_back_out t before rec n has word =
       let g = subst (Grasps T k.grips b x.number) has (grasp x s id c k at) in
       let z : Share = holding x x.seen Free (given t) in (
@@ -155,13 +150,13 @@ module _ {S : Type 0} (x : Share) (s : State S View) (id : ℕ) (c : List (ℕ �
         Free,
         given t,
         freed t before rec (stored_of rec) x.seen n g.0 g.1 g.2 refl g.3 word (known_kept T k.history k.owner s.views id x Free (given t) k.known at),
-        ((λ t' op' rec' is. absurd (undecided_not_decided is has)), decided_as x.hold t before rec (stored_of rec) (λ t before rec stored. (z.seen ≡ x.seen) × Gave T x t z) has (refl, gave t before (stored_of rec) x.seen g.1)),
+        decided_as x.hold t before rec (stored_of rec) (λ t before rec stored. (z.seen ≡ x.seen) × Gives t T x z) has (refl, gives t before (stored_of rec) x.seen g.1),
       )
 
 -- ---- of the seat that a function has
 module _ (s : Shared) (seat : Seated) (t j : ℕ) (op : Op) (rec : Record) (h : HoldsFor s seat t op rec) where
-  pub give_up_allowed : (n : ℕ) → j ≡ task_word_at s.terms.setup t → n ≡ shown rec false → IsAllowed s seat j (λ _. n) (λ _. GaveClaim)
-  give_up_allowed n e word = allowed_at s seat h.seat_of (λ U. task_word_at U.setup t) j (λ _. n) (λ _. GaveClaim) e (task_within s seat h.seat_of t j 0 h.task (omega arith) (omega (arith, e)))
+  pub give_up_allowed : (n : ℕ) → j ≡ task_word_at s.terms.setup t → n ≡ shown rec false → IsAllowed s seat j (λ _. n) (λ _. GaveUp)
+  give_up_allowed n e word = allowed_at s seat h.seat_of (λ U. task_word_at U.setup t) j (λ _. n) (λ _. GaveUp) e (task_within s seat h.seat_of t j 0 h.task (omega arith) (omega (arith, e)))
       (λ st k at. give_up_out (share_on seat) st seat.seat.id seat.seat.me.1 k at t op rec n h.hold word)
 
 module _ (s : Shared) (seat : Seated) (t j : ℕ) (now : Record) (stored : Stored) (h : HoldsMade s seat t now stored) where
@@ -173,6 +168,6 @@ module _ (s : Shared) (seat : Seated) (t j : ℕ) (now : Record) (stored : Store
   store_params_allowed n e = allowed_at s seat h.seat_of (λ U. params_word_at U.setup t) j (λ _. n) (λ _. StoredParams n) e (task_within s seat h.seat_of t j 2 h.task (omega arith) e)
       (λ st k at. store_params_out (share_on seat) st seat.seat.id seat.seat.me.1 k at t h.hold.0 now stored h.hold.1 n)
 
-  pub give_back_allowed : (n : ℕ) → j ≡ task_word_at s.terms.setup t → stored ≡ stored_of now → n ≡ shown now false → IsAllowed s seat j (λ _. n) (λ _. GaveClaim)
-  give_back_allowed n e same word = allowed_at s seat h.seat_of (λ U. task_word_at U.setup t) j (λ _. n) (λ _. GaveClaim) e (task_within s seat h.seat_of t j 0 h.task (omega arith) (omega (arith, e)))
+  pub give_back_allowed : (n : ℕ) → j ≡ task_word_at s.terms.setup t → stored ≡ stored_of now → n ≡ shown now false → IsAllowed s seat j (λ _. n) (λ _. GaveBack)
+  give_back_allowed n e same word = allowed_at s seat h.seat_of (λ U. task_word_at U.setup t) j (λ _. n) (λ _. GaveBack) e (task_within s seat h.seat_of t j 0 h.task (omega arith) (omega (arith, e)))
       (λ st k at. give_back_out (share_on seat) st seat.seat.id seat.seat.me.1 k at t h.hold.0 now n (h.hold.1 ∙ ap (Decided t h.hold.0 now) same) word)

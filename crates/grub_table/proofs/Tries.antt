@@ -24,15 +24,16 @@ use Rattle.grub_table.specs.declared.pass.Finished.TheVariants.{Done, Held}
 use Rattle.grub_table.specs.declared.view.Mark.{Mark}
 use Rattle.grub_table.specs.declared.view.Mark.TheVariants.{Given}
 use Rattle.grub_table.specs.declared.view.Share.{Share}
+use Rattle.grub_table.specs.declared.view.Stored.{Stored}
 use Rattle.grub_table.specs.declared.view.Terms.{Terms}
-use Rattle.grub_table.specs.inside.Between.{HoldsFor, HoldsMade, Tells, Concluded}
+use Rattle.grub_table.specs.inside.Between.{HoldsFor, HoldsMade, Tells}
 use Rattle.grub_table.specs.Calls.{seen, marks, share_on, share_of, ComesFrom, claim_number, claim_share, claim_seen, claim_queue, claim_changes_sum, IsClaimOf, IsDone, IsLost, IsFinished}
 use Rattle.grub_table.specs.Histories.{WasBefore, record_in}
 use Rattle.grub_table.specs.Knowing.{GoesOn, Learns}
 use Rattle.grub_table.specs.inside.Layout.{stored_of}
 use Rattle.grub_table.specs.Marks.{AreLawful, marker_of}
-use Rattle.grub_table.specs.inside.Tellings.{is_decided_at_load, Grows, Finishes, MarksGo, Sees, Calls}
-use Rattle.grub_table.specs.inside.Tries.{is_charge, Knows, TriedAs, Tried}
+use Rattle.grub_table.specs.inside.Tellings.{is_decided_at_load, Grows, Finishes, MarksGo, Sees, Calls, Gives}
+use Rattle.grub_table.specs.inside.Tries.{is_charge, Tried}
 use Rattle.grub_table.proofs.Growths.{goes_none, grows_grows, grows_finishes, learns_none, learns_twice}
 
 pub is_not : {A : Type 0} {b : Bool} → b ≡ true → b ≡ false → A
@@ -87,33 +88,45 @@ sees_after T x m y same g h = grows_grows T x.number x.seen m.seen y.seen g (sub
 pub calls_after : (T : Terms) (x m y : Share) (t : ℕ) (op : Op) (reply : Reply) → m.number ≡ x.number → Sees T x m → Calls T m t op reply y → Calls T x t op reply y
 calls_after T x m y t op reply same g f = grows_finishes T x.number x.seen m.seen (Call x.number t op reply) y.seen g (subst (λ n. Finishes T n m.seen (Call n t op reply) y.seen) same f)
 
-pub leaves_after : (s : Shared) (t : ℕ) (old mid new : Seated) → Tells s Knows old mid → Tells s (Concluded t) mid new → Tells s (Concluded t) old new
-leaves_after s t old mid new k l = record {
-  seat = l.seat;
-  number = l.number ∙ k.number;
-  of = (
-    l.of.0 ∙ k.of.0,
-    (l.of.1.0, subst (λ (p : ℕ × List Mark). MarksGo s.terms.passes p.0 p.1 (share_on new).marks (Given p.0 t ∷ [])) (λ i. (k.number i, k.of.1 i)) l.of.1.1),
-  );
-}
-
 -- ---- the ends of calls
+-- the claim's call is made with this outcome, and these words of its task are stored
+pub record IsMade (s : Shared) (c : Claim) (p : Record × Reply) (stored : Stored) (mid : Seated) : Type 0 where
+  pub holds : HoldsMade s mid c.task p.0 stored
+  pub number : (share_on mid).number ≡ (claim_share c).number
+  pub marks : (share_on mid).marks ≡ (claim_share c).marks
+  pub calls : Calls s.terms (claim_share c) c.task c.op p.1 (share_on mid)
+  pub was : WasBefore s.terms c.task c.held (Call (claim_share c).number c.task c.op p.1) (share_on mid).seen
+  pub kept : IsKept s.terms.setup p.0
+  pub claimed : is_under_claim p.1 ≡ true
+
 module _ (s : Shared) (c : Claim) (is : IsClaimOf s c) where
   abbrev mine : Share
   mine = claim_share c
 
-  -- the call is made, and then the task is given back
-  pub done : (mid : Seated) (reply : Reply) (tries : ℕ) (q : Pass) → (share_on mid).number ≡ mine.number → (share_on mid).marks ≡ mine.marks → Calls s.terms mine c.task c.op reply (share_on mid)
-      → WasBefore s.terms c.task c.held (Call mine.number c.task c.op reply) (share_on mid).seen → Tells s (Concluded c.task) mid q.seated → is_under_claim reply ≡ true → (claim_changes_sum c ≡ true → 1 ≤ tries) → IsDone s c tries q reply
-  done mid reply tries q number known calls was leaves claimed tried =
-      let f : Finishes s.terms mine.number mine.seen (Call mine.number c.task c.op reply) (seen q) = subst (λ h. Finishes s.terms mine.number mine.seen (Call mine.number c.task c.op reply) h) (sym leaves.of.0) calls in
+  -- by a try
+  pub tried : (p : Record × Reply) (mid : Seated) → Tells s (Tried (claim_queue c) (Some p)) c.seated mid → IsMade s c p (stored_of c.held) mid
+  tried p mid tells =
+      let w = tells.of c.task c.op c.held c.holds in record {
+        holds = record { seat_of = tells.seat; task = is.task; hold = (c.held, w.1.0.1) };
+        number = tells.number;
+        marks = w.0;
+        calls = w.1.0.0;
+        was = w.1.0.2;
+        kept = w.1.1;
+        claimed = w.1.2;
+      }
+
+  -- and then the task is given back
+  pub done : (p : Record × Reply) (stored : Stored) (mid : Seated) → IsMade s c p stored mid → (tries : ℕ) (q : Pass) → seen q ≡ (share_on mid).seen → Tells s (Gives c.task) mid q.seated → (claim_changes_sum c ≡ true → 1 ≤ tries) → IsDone s c tries q p.1
+  done p stored mid made tries q same gives tried =
+      let f : Finishes s.terms mine.number mine.seen (Call mine.number c.task c.op p.1) (seen q) = subst (λ h. Finishes s.terms mine.number mine.seen (Call mine.number c.task c.op p.1) h) (sym same) made.calls in
       let g : MarksGo s.terms.passes mine.number mine.marks (marks q) (Given mine.number c.task ∷ []) =
-      subst (λ (p : ℕ × List Mark). MarksGo s.terms.passes p.0 p.1 (marks q) (Given p.0 c.task ∷ [])) (λ i. (number i, known i)) leaves.of.1.1 in
+      subst (λ (m : ℕ × List Mark). MarksGo s.terms.passes m.0 m.1 (marks q) (Given m.0 c.task ∷ [])) (λ i. (made.number i, made.marks i)) gives.of.1 in
       record {
-        of = record { home = leaves.seat.home; terms = leaves.seat.terms; history = f.0; lawful = g.0 };
-        learns = record { number = leaves.number ∙ number; seen = f.1; marked = g.1 };
-        before = subst (λ h. WasBefore s.terms c.task c.held (Call mine.number c.task c.op reply) h) (sym leaves.of.0) was;
-        claimed = claimed;
+        of = record { home = gives.seat.home; terms = gives.seat.terms; history = f.0; lawful = g.0 };
+        learns = record { number = gives.number ∙ made.number; seen = f.1; marked = g.1 };
+        before = subst (λ h. WasBefore s.terms c.task c.held (Call mine.number c.task c.op p.1) h) (sym same) made.was;
+        claimed = made.claimed;
         tried = tried;
       }
 
@@ -157,31 +170,6 @@ module _ (s : Shared) (c : Claim) (is : IsClaimOf s c) where
     sum = sum;
     changes = changed_none s.terms.setup (claim_queue c) mine.seen mine.seen (starts_whole mine.seen);
   }
-
--- ---- between the steps of a claim's call
-module _ (s : Shared) (c : Claim) (is : IsClaimOf s c) where
-  -- the call is made by a try
-  module _ (mid : Seated) (p : Record × Reply) (tells : Tells s (Tried (claim_queue c) (Some p)) c.seated mid) where
-    tried_it : ((share_on mid).marks ≡ (claim_share c).marks) × TriedAs (claim_queue c) (Some p) s.terms (claim_share c) c.task c.op c.held (share_on mid)
-    tried_it = tells.of c.task c.op c.held c.holds
-
-    pub tried_marks : (share_on mid).marks ≡ (claim_share c).marks
-    tried_marks = tried_it.0
-
-    pub tried_calls : Calls s.terms (claim_share c) c.task c.op p.1 (share_on mid)
-    tried_calls = tried_it.1.0.0
-
-    pub tried_was : WasBefore s.terms c.task c.held (Call (claim_share c).number c.task c.op p.1) (share_on mid).seen
-    tried_was = tried_it.1.0.2
-
-    pub tried_made : HoldsMade s mid c.task p.0 (stored_of c.held)
-    tried_made = record { seat_of = tells.seat; task = is.task; hold = (c.held, tried_it.1.0.1) }
-
-    pub tried_kept : IsKept s.terms.setup p.0
-    tried_kept = tried_it.1.1
-
-    pub tried_claimed : is_under_claim p.1 ≡ true
-    tried_claimed = tried_it.1.2
 
 -- ---- tries, one after another
 lost_done : (s : Shared) (c d : Claim) (n m : ℕ) (q : Pass) (reply : Reply) → IsLost s c n d → IsDone s d m q reply → IsDone s c (n + m) q reply

@@ -8,16 +8,18 @@ ghost use Rattle.grub_book.specs.declared.place.Record.{Record};
 ghost use Rattle.grub_words.specs.Words.{queue_word, server_word, params_word, QueueFits, ServerFits};
 ghost use Rattle.grub_table.specs.declared.view.Access.TheVariants.{Store, Load, Exchange};
 ghost use Rattle.grub_table.specs.declared.view.Stored.{Stored};
-ghost use Rattle.grub_table.specs.inside.Between.{Concluded, HoldsFor, HoldsMade, Tells};
-ghost use Rattle.grub_table.specs.Calls.{accesses, claim_accesses, claim_changes_sum, claim_number, claim_op, claim_task, made_on, terms, IsCancelled, IsClaimOf, IsFinished, IsWithin};
+ghost use Rattle.grub_table.specs.inside.Between.{HoldsFor, HoldsMade, Tells};
+ghost use Rattle.grub_table.specs.Calls.{accesses, claim_accesses, claim_changes_sum, claim_number, claim_op, claim_task, made_on, seen, share_on, terms, IsCancelled, IsClaimOf, IsFinished, IsWithin};
 ghost use Rattle.grub_table.specs.Layout.{queue_word_at, task_word_at};
 ghost use Rattle.grub_table.specs.inside.Layout.{stored_of, server_word_at, params_word_at};
-ghost use Rattle.grub_table.specs.inside.Tellings.{is_decided_at_load, outcome, Of, OfQueue, SawQueue, ChangedQueue, SettledServer, StoredServer, StoredParams};
-ghost use Rattle.grub_table.specs.inside.Brief.{StoresFew, TriesOnce};
+ghost use Rattle.grub_table.specs.inside.Tellings.{is_decided_at_load, outcome, Of, OfQueue, SawQueue, ChangedQueue, SettledServer, StoredServer, StoredParams, Gives, GaveUp, GaveBack};
+ghost use Rattle.grub_table.specs.inside.Brief.{changed_store, TriesOnce};
 ghost use Rattle.grub_table.specs.inside.Tries.{half_stored, is_charge, Knows, Tried};
 
 use crate::pass::{Claim, Finished, Pass, Shared};
-use crate::row::{params_word_at, queue_word_at, reading_in, server_word_at};
+use crate::row::{
+    free_word, params_word_at, queue_word_at, reading_in, server_word_at, task_word_at,
+};
 use crate::rule::Telling;
 use crate::seated::Seated;
 use grub_book::{Op, Reading, Record, Reply, changes_sum, runqueue, settle, shifted};
@@ -91,6 +93,18 @@ pub(crate) struct StoreParams;
 
 impl Telling for StoreParams {
     ghost tells = { λ st stored. StoredParams stored };
+}
+
+pub(crate) struct GiveUp;
+
+impl Telling for GiveUp {
+    ghost tells = { λ st stored. GaveUp };
+}
+
+pub(crate) struct GiveBack;
+
+impl Telling for GiveBack {
+    ghost tells = { λ st stored. GaveBack };
 }
 
 impl Shared {
@@ -213,12 +227,19 @@ impl Shared {
         Finished::Done(pass, reply)
     }
 
-    /// After the event and the store of the server's word: the parameter word is stored where it changes, and the task is given back.
-    fn hand_back(&self, mut seated: Seated, task: u32, held: &Record, next: &Record) -> Pass
+    /// After the event, when the server's word says what it is to: the parameter word is stored where it changes, and the task is given back.
+    pub(crate) fn hand_back(
+        &self,
+        mut seated: Seated,
+        task: u32,
+        held: &Record,
+        next: &Record,
+    ) -> Pass
         requires held { HoldsMade self.now seated task next.now (half_stored held.now next.now) }
         requires kept { IsKept (terms self.now).setup next.now }
-        ensures told { Tells self.now (Concluded task) seated result.seated }
-        ensures made { StoresFew 2 (made_on seated) (accesses result) }
+        ensures told { Tells self.now (Gives task) seated result.seated }
+        ensures seen { seen result ≡ (share_on seated).seen }
+        ensures made { accesses result ≡ made_on seated ++ changed_store (params_word_at (terms self.now).setup task) held.now.params next.now.params ++ Store (task_word_at (terms self.now).setup task) ∷ [] }
     {
         self.store_changed(&mut seated, task, held, next);
         self.give_back(seated, task, next)
@@ -229,7 +250,7 @@ impl Shared {
         requires { HoldsMade self.now seated.old task next.now (half_stored held.now next.now) }
         ensures knows { Tells self.now Knows seated.old seated.new }
         ensures stored { HoldsMade self.now seated.new task next.now (stored_of next.now) }
-        ensures made { StoresFew 1 (made_on seated.old) (made_on seated.new) }
+        ensures made { made_on seated.new ≡ made_on seated.old ++ changed_store (params_word_at (terms self.now).setup task) held.now.params next.now.params }
     {
         if pack_params(next.params) != pack_params(held.params) {
             self.store_params(seated, task, next.params);
@@ -286,5 +307,28 @@ impl Shared {
     {
         let at = params_word_at(&self.terms.setup, t);
         self.store::<StoreParams>(seated, at, pack_params(params));
+    }
+
+    /// Gives a task back whose call is made and stored.
+    fn give_back(&self, mut seated: Seated, t: u32, now: &Record) -> Pass
+        requires held { HoldsMade self.now seated t now.now (stored_of now.now) }
+        requires kept { IsKept (terms self.now).setup now.now }
+        ensures told { Tells self.now GaveBack seated result.seated }
+        ensures made { accesses result ≡ made_on seated ++ Store (task_word_at (terms self.now).setup t) ∷ [] }
+    {
+        let at = task_word_at(&self.terms.setup, t);
+        self.store::<GiveBack>(&mut seated, at, free_word(now));
+        Pass { seated }
+    }
+
+    /// Gives a task back whose call is given up.
+    pub(crate) fn give_up(&self, mut seated: Seated, t: u32, held: &Record) -> Pass
+        requires { (op : Op) × HoldsFor self.now seated t op held.now }
+        ensures told { Tells self.now GaveUp seated result.seated }
+        ensures made { accesses result ≡ made_on seated ++ Store (task_word_at (terms self.now).setup t) ∷ [] }
+    {
+        let at = task_word_at(&self.terms.setup, t);
+        self.store::<GiveUp>(&mut seated, at, free_word(held));
+        Pass { seated }
     }
 }

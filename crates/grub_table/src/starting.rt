@@ -119,16 +119,17 @@ impl Shared {
     }
 
     /// What the task's word says, or the word itself where another pass has the task.
-    fn look_at_task(&self, seated: &mut Seated, t: u32, op: Op) -> Result<TaskWord, u64>
+    fn look_at_task<J: Asked>(&self, seated: &mut Seated, t: u32, op: Op) -> Result<TaskWord, u64>
         requires seat { IsSeatOf self.now seated.old }
         requires free { hold_of seated.old ≡ Free }
         requires task { t < length (terms self.now).setup.tasks }
         requires op { IsOp (terms self.now).setup op }
+        requires note { J.note ≡ record { task = t; op = op } }
         ensures told { Tells self.now (SawTask t op result) seated.old seated.new }
         ensures made { made_on seated.new ≡ made_on seated.old ++ Load (task_word_at (terms self.now).setup t) ∷ [] }
         ensures free { IfOk result (λ w. TaskFits w × (w.claimed ≡ false)) }
     {
-        let word = self.load_task::<Brand>(seated, t, op);
+        let word = self.load_task::<J>(seated, t, op);
         match unclaimed(word) {
             Some(shown) => Ok(shown),
             None => Err(word),
@@ -161,7 +162,7 @@ impl Shared {
         ensures brief { StartsBriefly (task_word_at (terms self.now).setup t) (accesses pass) (started_accesses result) }
     {
         let Pass { mut seated } = pass;
-        let shown = match self.look_at_task(&mut seated, t, op) {
+        let shown = match self.look_at_task::<Brand>(&mut seated, t, op) {
             Ok(shown) => shown,
             Err(word) => return Started::Busy(Pass { seated }, Sighting::Claimed { word }),
         };
@@ -175,7 +176,7 @@ impl Shared {
         }
         let held = self.load_record(&mut seated, t, shown);
         if let Some(reply) = early(&held, op) {
-            let pass = self.give_back(seated, t, &held);
+            let pass = self.hand_back(seated, t, &held, &held);
             return Started::Answered(pass, reply);
         }
         Started::Held(Claim {

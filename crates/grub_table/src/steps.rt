@@ -1,28 +1,15 @@
-//! One access of a word, by the pass whose seat this is, and the steps that give a task back.
+//! One access of a word, by the pass whose seat this is.
 ghost use Rattle.std.specs.Prelude.{◌≡◌, ◌==◌, [], ◌∷◌, ◌++◌};
 ghost use mathlib.Core.Option.{none, some};
 ghost use prog.Atomic.{either};
-ghost use Rattle.grub_book.specs.Sound.{IsKept};
-ghost use Rattle.grub_book.specs.declared.op.Op.{Op};
 ghost use Rattle.grub_table.specs.declared.view.Access.TheVariants.{Load, Store, Exchange};
-ghost use Rattle.grub_table.specs.inside.Between.{made_step, IsAllowed, IsSeatOf, HoldsFor, HoldsMade, Tells, GivenUp, Concluded};
-ghost use Rattle.grub_table.specs.Calls.{terms, accesses, made_on};
-ghost use Rattle.grub_table.specs.Layout.{task_word_at};
-ghost use Rattle.grub_table.specs.inside.Layout.{stored_of};
-ghost use Rattle.grub_table.specs.inside.Tellings.{GaveClaim};
+ghost use Rattle.grub_table.specs.inside.Between.{made_step, IsAllowed, IsSeatOf, Tells};
+ghost use Rattle.grub_table.specs.Calls.{made_on};
 
-use crate::pass::{Pass, Shared};
-use crate::row::{free_word, task_word_at};
+use crate::pass::Shared;
 use crate::rule::{Telling, Turn};
 use crate::seated::Seated;
 use crate::view::Note;
-use grub_book::Record;
-
-pub(crate) struct GiveClaim;
-
-impl Telling for GiveClaim {
-    ghost tells = { λ st stored. GaveClaim };
-}
 
 impl Shared {
     /// One load by the pass whose seat this is.
@@ -76,28 +63,5 @@ impl Shared {
     {
         self.table
             .compare_exchange_with::<Turn<T>>(&mut seated.seat, word, old, new, said)
-    }
-
-    /// Gives a task back whose call is given up.
-    pub(crate) fn give_up(&self, mut seated: Seated, t: u32, held: &Record) -> Pass
-        requires { (op : Op) × HoldsFor self.now seated t op held.now }
-        ensures told { Tells self.now (GivenUp t) seated result.seated }
-        ensures made { accesses result ≡ made_on seated ++ Store (task_word_at (terms self.now).setup t) ∷ [] }
-    {
-        let at = task_word_at(&self.terms.setup, t);
-        self.store::<GiveClaim>(&mut seated, at, free_word(held));
-        Pass { seated }
-    }
-
-    /// Gives a task back whose call is made and stored.
-    pub(crate) fn give_back(&self, mut seated: Seated, t: u32, now: &Record) -> Pass
-        requires held { HoldsMade self.now seated t now.now (stored_of now.now) }
-        requires kept { IsKept (terms self.now).setup now.now }
-        ensures told { Tells self.now (Concluded t) seated result.seated }
-        ensures made { accesses result ≡ made_on seated ++ Store (task_word_at (terms self.now).setup t) ∷ [] }
-    {
-        let at = task_word_at(&self.terms.setup, t);
-        self.store::<GiveClaim>(&mut seated, at, free_word(now));
-        Pass { seated }
     }
 }

@@ -17,7 +17,7 @@ use Rattle.grub_table.specs.declared.view.Stored.{Stored}
 use Rattle.grub_table.specs.declared.view.Terms.{Terms}
 use Rattle.grub_words.specs.declared.task.TaskWord.{TaskWord}
 use Rattle.grub_table.specs.Histories.{record_in}
-use Rattle.grub_table.specs.inside.Tellings.{Adds, CallsIf, DecidesIf, Gave, IsOthers, Sees, Turns}
+use Rattle.grub_table.specs.inside.Tellings.{Adds, CallsIf, DecidesIf, IsOthers, Sees, Turns}
 use Rattle.grub_table.specs.inside.Rule.{Kept}
 use Rattle.grub_table.specs.inside.Trails.{known}
 use Rattle.grub_table.specs.Calls.{share_on}
@@ -66,14 +66,6 @@ SawTask t op (Ok w) T x y =
 abbrev pub SawRecord : Record → Terms → Share → Share → Type 0
 SawRecord found T x y = (t : ℕ) (op : Op) (rec : Record) → x.hold ≡ Undecided t op rec
     → (found ≡ rec) × (y.marks ≡ x.marks) × (record_in T y.seen t ≡ rec) × DecidesIf (early rec op) T x t op rec y
-
--- the call is given up, and the task is given back
-abbrev pub GivenUp : ℕ → Terms → Share → Share → Type 0
-GivenUp t T x y = Sees T x y × Gave T x t y
-
--- nothing new is seen, and the task is given back
-abbrev pub Concluded : ℕ → Terms → Share → Share → Type 0
-Concluded t T x y = (y.seen ≡ x.seen) × Gave T x t y
 
 -- the seat holds a task whose call is made: its record is now this one, and its words are still to be stored
 pub record HoldsMade (s : Shared) (x : Seated) (t : ℕ) (now : Record) (stored : Stored) : Type 0 where

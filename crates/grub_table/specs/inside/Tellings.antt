@@ -160,14 +160,19 @@ abbrev pub StoredParams : ℕ → Terms → Share → Share → Type 0
 StoredParams n T x y = (t : ℕ) (before now : Record) (stored : Stored) → x.hold ≡ Decided t before now stored
     → (y.seen ≡ x.seen) × (y.marks ≡ x.marks) × (y.hold ≡ Decided t before now (record { server = stored.server; params = n }))
 
--- give-claim, of a call that is given up or made
-abbrev pub Gave : Terms → Share → ℕ → Share → Type 0
-Gave T x t y = (y.hold ≡ Free) × Adds T x (Given x.number t ∷ []) y
+-- the task is given, and the pass holds none
+abbrev pub Gives : ℕ → Terms → Share → Share → Type 0
+Gives t T x y = (y.hold ≡ Free) × Adds T x (Given x.number t ∷ []) y
 
-abbrev pub GaveClaim : Terms → Share → Share → Type 0
-GaveClaim T x y =
-    ((t : ℕ) (op : Op) (rec : Record) → x.hold ≡ Undecided t op rec → Sees T x y × Gave T x t y)
-    × ((t : ℕ) (before now : Record) (stored : Stored) → x.hold ≡ Decided t before now stored → (y.seen ≡ x.seen) × Gave T x t y)
+-- give-up: the task of a call that is not made is given
+abbrev pub GaveUp : Terms → Share → Share → Type 0
+GaveUp T x y = (t : ℕ) (op : Op) (rec : Record) → x.hold ≡ Undecided t op rec
+    → Sees T x y × Gives t T x y
+
+-- give-back: the task of a call that is made is given
+abbrev pub GaveBack : Terms → Share → Share → Type 0
+GaveBack T x y = (t : ℕ) (before now : Record) (stored : Stored) → x.hold ≡ Decided t before now stored
+    → (y.seen ≡ x.seen) × Gives t T x y
 
 -- the view is one share before and after, of the same pass, and this is told of them
 pub record Turns {S : Type 0} (tells : Terms → Share → Share → Type 0) (m m' : Sat S) : Type 0 where

@@ -1,24 +1,36 @@
-use Rattle.std.proofs.Common.{◌≤◌, sym, refl, subst, ◌∙◌, arith, ◌≡◌, ℕ}
+use Rattle.std.proofs.Common.{ℕ, ◌≤◌, sym, refl, subst, ◌∙◌, arith}
 use Rattle.grub_book.specs.declared.place.Record.{Record}
+use Rattle.grub_book.specs.declared.event.Event.{Event}
 use Rattle.grub_book.specs.declared.event.Event.TheVariants.{Call}
 use Rattle.grub_book.specs.declared.reply.Reply.{Reply}
 use Rattle.grub_words.proofs.Bounds.{ServerFits-kept}
-use Rattle.grub_table.specs.Calls.{claim_share, share_on}
-use Rattle.grub_table.specs.Histories.{WasBefore}
-use Rattle.grub_table.specs.inside.Tellings.{Finishes, StoredServer}
-use Rattle.grub_table.specs.inside.Layout.{stored_of}
-use Rattle.grub_table.proofs.Brief.{made_by_try}
+use Rattle.grub_table.specs.declared.pass.Claim.{Claim}
 use Rattle.grub_table.specs.declared.pass.Shared.{Shared}
 use Rattle.grub_table.specs.declared.seated.Seated.{Seated}
 use Rattle.grub_table.specs.declared.view.Stored.{Stored}
-use Rattle.grub_table.specs.inside.Between.{HoldsMade, Tells}
-use Rattle.grub_table.proofs.Tries.{done, lost, tried_marks, tried_calls, tried_was, tried_made, tried_kept, tried_claimed}
+use Rattle.grub_table.specs.Calls.{claim_share}
+use Rattle.grub_table.specs.Histories.{WasBefore}
+use Rattle.grub_table.specs.inside.Between.{Tells}
+use Rattle.grub_table.specs.inside.Tellings.{Finishes, StoredServer}
+use Rattle.grub_table.proofs.Brief.{made_by_try}
+use Rattle.grub_table.proofs.Tries.{IsMade, done, lost, tried}
 use Rattle.grub_table.proofs.pass.Shared.attempt.Goals as goal
 
--- ---- what is stored after the event
-module _ (s : Shared) (t : ℕ) (next : Record) (stored : Stored) (old new : Seated) (h : HoldsMade s old t next stored) where
-  stored_server : (n : ℕ) → Tells s (StoredServer n) old new → ((share_on new).seen ≡ (share_on old).seen) × ((share_on new).marks ≡ (share_on old).marks) × HoldsMade s new t next (record { server = n; params = stored.params })
-  stored_server n told = let w = told.of t h.hold.0 next stored h.hold.1 in (w.0, w.1, record { seat_of = told.seat; task = h.task; hold = (h.hold.0, w.2) })
+-- the server's word is stored after the event
+stored_server : (s : Shared) (c : Claim) (p : Record × Reply) (stored : Stored) (old new : Seated) (n : ℕ) → IsMade s c p stored old → Tells s (StoredServer n) old new → IsMade s c p (record { server = n; params = stored.params }) new
+stored_server s c p stored old new n made told =
+    let x = claim_share c in
+    let e : Event = Call x.number c.task c.op p.1 in
+    let h = made.holds in
+    let w = told.of c.task h.hold.0 p.0 stored h.hold.1 in record {
+      holds = record { seat_of = told.seat; task = h.task; hold = (h.hold.0, w.2) };
+      number = told.number ∙ made.number;
+      marks = w.1 ∙ made.marks;
+      calls = subst (Finishes s.terms x.number x.seen e) (sym w.0) made.calls;
+      was = subst (WasBefore s.terms c.task c.held e) (sym w.0) made.was;
+      kept = made.kept;
+      claimed = made.claimed;
+    }
 
 -- ---- the answers
 pub invariant_of-result : goal.invariant_of-result
@@ -32,34 +44,30 @@ returns-in_default-clause-finished c = lost c.args.self.now c.args.claim c.requi
 
 pub store_server-requires-clause-held : goal.store_server-requires-clause-held
 store_server-requires-clause-held c =
-    (c.in-Some.next, stored_of c.args.claim.held, tried_made c.args.self.now c.args.claim c.requires.of c.decide.new.seated (c.in-Some.next, c.in-Some.reply) c.in-Some.ensures.told)
+    let made = tried c.args.self.now c.args.claim c.requires.of (c.in-Some.next, c.in-Some.reply) c.decide.new.seated c.in-Some.ensures.told in
+    (c.in-Some.next, _, made.holds)
 
 pub store_server-requires-clause-fits : goal.store_server-requires-clause-fits
-store_server-requires-clause-fits c = (ServerFits-kept _ _ (tried_kept c.args.self.now c.args.claim c.requires.of c.decide.new.seated (c.in-Some.next, c.in-Some.reply) c.in-Some.ensures.told)).0
+store_server-requires-clause-fits c =
+    let made = tried c.args.self.now c.args.claim c.requires.of (c.in-Some.next, c.in-Some.reply) c.decide.new.seated c.in-Some.ensures.told in
+    (ServerFits-kept _ _ made.kept).0
 
 pub hand_back-pass-requires-clause-held : goal.hand_back-pass-requires-clause-held
 hand_back-pass-requires-clause-held c =
-    (stored_server c.args.self.now c.args.claim.task c.in-Some.next (stored_of c.args.claim.held) c.decide.new.seated c.store_server.new.seated
-    (tried_made c.args.self.now c.args.claim c.requires.of c.decide.new.seated (c.in-Some.next, c.in-Some.reply) c.in-Some.ensures.told) _ c.store_server.ensures.told).2
+    let made = tried c.args.self.now c.args.claim c.requires.of (c.in-Some.next, c.in-Some.reply) c.decide.new.seated c.in-Some.ensures.told in
+    (stored_server c.args.self.now c.args.claim _ _ c.decide.new.seated c.store_server.new.seated _ made c.store_server.ensures.told).holds
 
 pub hand_back-pass-requires-clause-kept : goal.hand_back-pass-requires-clause-kept
-hand_back-pass-requires-clause-kept c = tried_kept c.args.self.now c.args.claim c.requires.of c.decide.new.seated (c.in-Some.next, c.in-Some.reply) c.in-Some.ensures.told
+hand_back-pass-requires-clause-kept c = (tried c.args.self.now c.args.claim c.requires.of (c.in-Some.next, c.in-Some.reply) c.decide.new.seated c.in-Some.ensures.told).kept
 
 pub returns-clause-finished : goal.returns-clause-finished
 returns-clause-finished c =
-    let s = c.args.self.now in
-    let q = c.args.claim in
-    let of = c.requires.of in
-    let p : Record × Reply = (c.in-Some.next, c.in-Some.reply) in
-    let tried = c.in-Some.ensures.told in
-    let k = stored_server s q.task c.in-Some.next (stored_of q.held) c.decide.new.seated c.store_server.new.seated (tried_made s q of c.decide.new.seated p tried) _ c.store_server.ensures.told in
-    done s q of c.store_server.new.seated c.in-Some.reply 1 _ (c.store_server.ensures.told.number ∙ tried.number) (k.1 ∙ tried_marks s q of c.decide.new.seated p tried)
-    (subst (λ h. Finishes s.terms (claim_share q).number (claim_share q).seen (Call (claim_share q).number q.task q.op c.in-Some.reply) h) (sym k.0) (tried_calls s q of c.decide.new.seated p tried))
-    (subst (λ h. WasBefore s.terms q.task q.held (Call (claim_share q).number q.task q.op c.in-Some.reply) h) (sym k.0) (tried_was s q of c.decide.new.seated p tried))
-    c.hand_back-pass.ensures.told (tried_claimed s q of c.decide.new.seated p tried) (λ _. one)
+    let made = tried c.args.self.now c.args.claim c.requires.of (c.in-Some.next, c.in-Some.reply) c.decide.new.seated c.in-Some.ensures.told in
+    let stored = stored_server c.args.self.now c.args.claim _ _ c.decide.new.seated c.store_server.new.seated _ made c.store_server.ensures.told in
+    done c.args.self.now c.args.claim c.requires.of _ _ c.store_server.new.seated stored 1 _ c.hand_back-pass.ensures.seen c.hand_back-pass.ensures.told (λ _. one)
   where
     one : 1 ≤ 1
     one = omega arith
 
 pub returns-clause-within : goal.returns-clause-within
-returns-clause-within c = made_by_try _ _ _ (c.in-Some.next, c.in-Some.reply) _ _ _ _ c.in-Some.ensures.made c.store_server.ensures.made c.hand_back-pass.ensures.made
+returns-clause-within c = made_by_try _ _ _ _ _ _ _ (c.in-Some.next, c.in-Some.reply) _ _ _ _ c.in-Some.ensures.made c.store_server.ensures.made c.hand_back-pass.ensures.made

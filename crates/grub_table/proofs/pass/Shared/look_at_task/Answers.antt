@@ -46,9 +46,12 @@ module _ (s : Shared) (n : Note) (found : ℕ) (old new : Seated) (told : Tells 
 
 -- ---- the answers
 pub returns-in-Some-clause-told : goal.returns-in-Some-clause-told
-returns-in-Some-clause-told c =
+returns-in-Some-clause-told g c =
     let f = c.in-Some.ensures.found in
-    saw_free c.args.self.now (record { task = c.args.t; op = c.args.op }) c.load_task-word.result c.args.seated.now c.load_task-word.new.seated c.load_task-word.ensures.told c.in-Some.shown f.0.place f.2
+    subst (λ n. Tells c.args.self.now (SawTask n.task n.op (Ok c.in-Some.shown)) c.args.seated.now c.load_task-word.new.seated) c.requires.note
+    (saw_free c.args.self.now g.J.Asked.note c.load_task-word.result c.args.seated.now c.load_task-word.new.seated c.load_task-word.ensures.told c.in-Some.shown f.0.place f.2)
 
 pub returns-in-None-clause-told : goal.returns-in-None-clause-told
-returns-in-None-clause-told c = saw_claimed c.args.self.now (record { task = c.args.t; op = c.args.op }) c.load_task-word.result c.args.seated.now c.load_task-word.new.seated c.load_task-word.ensures.told (c.in-None.ensures.none refl)
+returns-in-None-clause-told g c =
+    subst (λ n. Tells c.args.self.now (SawTask n.task n.op (Err c.load_task-word.result)) c.args.seated.now c.load_task-word.new.seated) c.requires.note
+    (saw_claimed c.args.self.now g.J.Asked.note c.load_task-word.result c.args.seated.now c.load_task-word.new.seated c.load_task-word.ensures.told (c.in-None.ensures.none refl))

@@ -1,4 +1,4 @@
-use Rattle.std.proofs.Common.{refl, sym, ap, ◌∙◌, ◌≡◌, ◌≢◌, ℕ, ◌<◌, false, Some, None, Ok, [], ◌∷◌, length, subst, inl, inr, ⊎_elim}
+use Rattle.std.proofs.Common.{refl, sym, ap, ◌∙◌, ◌≡◌, ◌≢◌, ℕ, ◌<◌, false, Option, Some, None, Ok, [], ◌∷◌, length, subst, inl, inr, ⊎_elim}
 use Rattle.grub_words.specs.Words.{task_word, PlaceFits}
 use Rattle.grub_table.proofs.Brief.{starts_early}
 use Rattle.grub_book.specs.Op.{IsOp}
@@ -20,14 +20,14 @@ use Rattle.grub_table.specs.declared.view.Hold.TheVariants.{Free, Undecided, Dec
 use Rattle.grub_table.specs.declared.view.Mark.TheVariants.{Taken, Given}
 use Rattle.grub_table.specs.declared.view.Share.{Share}
 use Rattle.grub_table.specs.declared.view.Terms.{Terms}
-use Rattle.grub_table.specs.inside.Between.{HoldsFor, HoldsMade, Tells, SawTask, SawRecord, Concluded}
-use Rattle.grub_table.specs.Calls.{share_on, share_of, marks, ComesFrom, number_of, IsAnswered, IsTaken, IsBusy, IsSighting, IsEarly, marks_of_call}
+use Rattle.grub_table.specs.inside.Between.{HoldsFor, HoldsMade, Tells, SawTask, SawRecord}
+use Rattle.grub_table.specs.Calls.{share_on, share_of, seen, marks, ComesFrom, number_of, IsAnswered, IsTaken, IsBusy, IsSighting, IsEarly, marks_of_call}
 use Rattle.grub_table.specs.Histories.{record_in}
 use Rattle.grub_table.specs.Knowing.{GoesOn, Learns}
 use Rattle.grub_table.specs.Layout.{shown}
 use Rattle.grub_table.specs.inside.Layout.{stored_of}
 use Rattle.grub_table.specs.Marks.{marker_of}
-use Rattle.grub_table.specs.inside.Tellings.{Grows, Finishes, MarksGo, Sees, Calls, CallsIf, DecidesIf, IsOthers, TookClaim}
+use Rattle.grub_table.specs.inside.Tellings.{Grows, Finishes, MarksGo, Sees, Calls, CallsIf, DecidesIf, IsOthers, TookClaim, Gives}
 use Rattle.grub_table.proofs.Growths.{grows_grows, grows_finishes, marks_both}
 use Rattle.grub_table.proofs.Starts.{outside_marks, outside_soon, early_is, word_says}
 use Rattle.grub_table.proofs.pass.Shared.start.Goals as goal
@@ -55,13 +55,19 @@ module _ (s : Shared) (p : Pass) (t : ℕ) (op : Op) where
         soon = outside_soon reply outside;
       }
 
-  -- the seat after the look, and after the try to take the task
-  module _ (w : TaskWord) (unclaimed : w.claimed ≡ false) (one : Seated) (looked : Tells s (SawTask t op (Ok w)) p.seated one) (free : refused w.place w.count op ≡ None) (old found : ℕ) (was : old ≡ task_word w.place w.count false) (two : Seated) (took : Tells s (TookClaim (record { task = t; op = op }) (task_word w.place w.count false) found) one two) where
+  -- the seat after the load of the word, and after the try to take the task
+  module _ (w : TaskWord) (unclaimed : w.claimed ≡ false) (one : Seated) (looked : Tells s (SawTask t op (Ok w)) p.seated one) (o : Option Reply) (refuses : o ≡ refused w.place w.count op) (none : o ≡ None) (old found : ℕ) (packs : old ≡ task_word w.place w.count w.claimed) (two : Seated) (took : Tells s (TookClaim (record { task = t; op = op }) (task_word w.place w.count false) found) one two) where
     abbrev x1 : Share
     x1 = share_on one
 
     abbrev x2 : Share
     x2 = share_on two
+
+    free : refused w.place w.count op ≡ None
+    free = sym refuses ∙ none
+
+    was : old ≡ task_word w.place w.count false
+    was = packs ∙ ap (task_word w.place w.count) unclaimed
 
     grows1 : Grows T i x.seen x1.seen
     grows1 = subst (λ o. CallsIf o T x t op x1) free looked.of.2.3
@@ -124,6 +130,9 @@ module _ (s : Shared) (p : Pass) (t : ℕ) (op : Op) where
       holds : HoldsFor s two t op taken
       holds = let h = took.of.1 (hit ∙ was) in record { seat_of = took.seat; hold = h.1; task = lt; op = is_op; kept = h.3; unrefused = unrefused }
 
+      to_load : (asked : Op) × (rec : Record) × HoldsFor s two t asked rec × (w.place ≡ rec.place) × (w.count ≡ rec.count)
+      to_load = (op, taken, holds, says.0, says.1)
+
       marked2 : MarksGo T.passes i x.marks x2.marks (Taken i t ∷ [])
       marked2 = let h = took.of.1 (hit ∙ was) in marks_both T.passes i x.marks x1.marks x2.marks [] (Taken i t ∷ []) marked1 (subst (λ n. MarksGo T.passes n x1.marks x2.marks (Taken n t ∷ [])) number1 h.5)
 
@@ -178,12 +187,12 @@ module _ (s : Shared) (p : Pass) (t : ℕ) (op : Op) where
           hold = (taken, (decided reply is).1 ∙ ap (λ z. Decided t taken z (stored_of z)) (sym known.0));
         }
 
-        answered_early : (reply : Reply) → early held op ≡ Some reply → (q : Pass) → Tells s (Concluded t) three q.seated → IsAnswered s p t op q reply
-        answered_early reply is q l =
+        answered_early : (reply : Reply) → early held op ≡ Some reply → (q : Pass) → seen q ≡ x3.seen → Tells s (Gives t) three q.seated → IsAnswered s p t op q reply
+        answered_early reply is q same l =
             let z = early_is held op reply is in
             let called = subst (λ n. Finishes T n x2.seen (Call n t op reply) x3.seen) number2 (decided reply is).0 in
-            let f = subst (λ h. Finishes T i x.seen (Call i t op reply) h) (sym l.of.0) (grows_finishes T i x.seen x2.seen (Call i t op reply) x3.seen grows called) in
-            let gave = subst (λ n. MarksGo T.passes n x3.marks (marks q) (Given n t ∷ [])) number3 l.of.1.1 in
+            let f = subst (λ h. Finishes T i x.seen (Call i t op reply) h) (sym same) (grows_finishes T i x.seen x2.seen (Call i t op reply) x3.seen grows called) in
+            let gave = subst (λ n. MarksGo T.passes n x3.marks (marks q) (Given n t ∷ [])) number3 l.of.1 in
             let marked = marks_both T.passes i x.marks x3.marks (marks q) (Taken i t ∷ []) (Given i t ∷ []) marked3 gave in
             record {
               of = record { home = l.seat.home; terms = l.seat.terms; history = f.0; lawful = marked.0 };
@@ -198,67 +207,43 @@ returns-in-Some-clause-started c = answered c.args.self.now c.args.pass c.args.t
 
 pub invariant_of-result-then-found-loaded : goal.invariant_of-result-then-found-loaded
 invariant_of-result-then-found-loaded c =
-    let was = c.pack_task-loaded.ensures ∙ ap (task_word c.in-Ok.shown.place c.in-Ok.shown.count) c.in-Ok.ensures.free.1 in
-    let free = sym c.refusal.ensures ∙ c.in_default.is in
     record {
-      free = free_changed c.args.self.now c.args.pass c.args.t c.args.op c.in-Ok.shown c.in-Ok.ensures.free.1 c.look_at_task.new.seated c.in-Ok.ensures.told free c.pack_task-loaded.result c.take_claim-found.result was c.take_claim-found.new.seated c.take_claim-found.ensures.told c.args.pass.free c.if-found-loaded.true;
+      free = free_changed c.args.self.now c.args.pass c.args.t c.args.op c.in-Ok.shown c.in-Ok.ensures.free.1 c.look_at_task.new.seated c.in-Ok.ensures.told _ c.refusal.ensures c.in_default.is c.pack_task-loaded.result c.take_claim-found.result c.pack_task-loaded.ensures c.take_claim-found.new.seated c.take_claim-found.ensures.told c.args.pass.free c.if-found-loaded.true;
     }
 
 pub returns-then-found-loaded-clause-started : goal.returns-then-found-loaded-clause-started
 returns-then-found-loaded-clause-started c =
-    let was = c.pack_task-loaded.ensures ∙ ap (task_word c.in-Ok.shown.place c.in-Ok.shown.count) c.in-Ok.ensures.free.1 in
-    let free = sym c.refusal.ensures ∙ c.in_default.is in
-    busy_changed c.args.self.now c.args.pass c.args.t c.args.op c.in-Ok.shown c.in-Ok.ensures.free.1 c.look_at_task.new.seated c.in-Ok.ensures.told free c.pack_task-loaded.result c.take_claim-found.result was c.take_claim-found.new.seated c.take_claim-found.ensures.told _ refl c.if-found-loaded.true
+    busy_changed c.args.self.now c.args.pass c.args.t c.args.op c.in-Ok.shown c.in-Ok.ensures.free.1 c.look_at_task.new.seated c.in-Ok.ensures.told _ c.refusal.ensures c.in_default.is c.pack_task-loaded.result c.take_claim-found.result c.pack_task-loaded.ensures c.take_claim-found.new.seated c.take_claim-found.ensures.told _ refl c.if-found-loaded.true
 
 pub load_record-held-requires : goal.load_record-held-requires
 load_record-held-requires c =
-    let was = c.pack_task-loaded.ensures ∙ ap (task_word c.in-Ok.shown.place c.in-Ok.shown.count) c.in-Ok.ensures.free.1 in
-    let free = sym c.refusal.ensures ∙ c.in_default.is in
-    let s = says c.args.self.now c.args.pass c.args.t c.args.op c.in-Ok.shown c.in-Ok.ensures.free.1 c.look_at_task.new.seated c.in-Ok.ensures.told free c.pack_task-loaded.result c.take_claim-found.result was c.take_claim-found.new.seated c.take_claim-found.ensures.told c.if-found-loaded.false c.in-Ok.ensures.free.0.place c.requires.task c.requires.op in (
-      c.args.op,
-      taken c.args.self.now c.args.pass c.args.t c.args.op c.in-Ok.shown c.in-Ok.ensures.free.1 c.look_at_task.new.seated c.in-Ok.ensures.told free c.pack_task-loaded.result c.take_claim-found.result was c.take_claim-found.new.seated c.take_claim-found.ensures.told c.if-found-loaded.false c.in-Ok.ensures.free.0.place c.requires.task c.requires.op,
-      holds c.args.self.now c.args.pass c.args.t c.args.op c.in-Ok.shown c.in-Ok.ensures.free.1 c.look_at_task.new.seated c.in-Ok.ensures.told free c.pack_task-loaded.result c.take_claim-found.result was c.take_claim-found.new.seated c.take_claim-found.ensures.told c.if-found-loaded.false c.in-Ok.ensures.free.0.place c.requires.task c.requires.op,
-      s.0,
-      s.1,
-    )
+    to_load c.args.self.now c.args.pass c.args.t c.args.op c.in-Ok.shown c.in-Ok.ensures.free.1 c.look_at_task.new.seated c.in-Ok.ensures.told _ c.refusal.ensures c.in_default.is c.pack_task-loaded.result c.take_claim-found.result c.pack_task-loaded.ensures c.take_claim-found.new.seated c.take_claim-found.ensures.told c.if-found-loaded.false c.in-Ok.ensures.free.0.place c.requires.task c.requires.op
 
 pub early-requires : goal.early-requires
 early-requires c =
-    let was = c.pack_task-loaded.ensures ∙ ap (task_word c.in-Ok.shown.place c.in-Ok.shown.count) c.in-Ok.ensures.free.1 in
-    let free = sym c.refusal.ensures ∙ c.in_default.is in
-    (kept c.args.self.now c.args.pass c.args.t c.args.op c.in-Ok.shown c.in-Ok.ensures.free.1 c.look_at_task.new.seated c.in-Ok.ensures.told free c.pack_task-loaded.result c.take_claim-found.result was c.take_claim-found.new.seated c.take_claim-found.ensures.told c.if-found-loaded.false c.in-Ok.ensures.free.0.place c.requires.task c.requires.op c.load_record-held.result c.load_record-held.new.seated c.load_record-held.ensures.told).server.fits
+    (kept c.args.self.now c.args.pass c.args.t c.args.op c.in-Ok.shown c.in-Ok.ensures.free.1 c.look_at_task.new.seated c.in-Ok.ensures.told _ c.refusal.ensures c.in_default.is c.pack_task-loaded.result c.take_claim-found.result c.pack_task-loaded.ensures c.take_claim-found.new.seated c.take_claim-found.ensures.told c.if-found-loaded.false c.in-Ok.ensures.free.0.place c.requires.task c.requires.op c.load_record-held.result c.load_record-held.new.seated c.load_record-held.ensures.told).server.fits
 
-pub give_back-pass-requires-clause-held : goal.give_back-pass-requires-clause-held
-give_back-pass-requires-clause-held c =
-    let was = c.pack_task-loaded.ensures ∙ ap (task_word c.in-Ok.shown.place c.in-Ok.shown.count) c.in-Ok.ensures.free.1 in
-    let free = sym c.refusal.ensures ∙ c.in_default.is in
-    made_early c.args.self.now c.args.pass c.args.t c.args.op c.in-Ok.shown c.in-Ok.ensures.free.1 c.look_at_task.new.seated c.in-Ok.ensures.told free c.pack_task-loaded.result c.take_claim-found.result was c.take_claim-found.new.seated c.take_claim-found.ensures.told c.if-found-loaded.false c.in-Ok.ensures.free.0.place c.requires.task c.requires.op c.load_record-held.result c.load_record-held.new.seated c.load_record-held.ensures.told c.in-Some-early.reply (sym c.early.ensures ∙ c.in-Some-early.is)
+pub hand_back-pass-requires-clause-held : goal.hand_back-pass-requires-clause-held
+hand_back-pass-requires-clause-held c =
+    made_early c.args.self.now c.args.pass c.args.t c.args.op c.in-Ok.shown c.in-Ok.ensures.free.1 c.look_at_task.new.seated c.in-Ok.ensures.told _ c.refusal.ensures c.in_default.is c.pack_task-loaded.result c.take_claim-found.result c.pack_task-loaded.ensures c.take_claim-found.new.seated c.take_claim-found.ensures.told c.if-found-loaded.false c.in-Ok.ensures.free.0.place c.requires.task c.requires.op c.load_record-held.result c.load_record-held.new.seated c.load_record-held.ensures.told c.in-Some-early.reply (sym c.early.ensures ∙ c.in-Some-early.is)
 
-pub give_back-pass-requires-clause-kept : goal.give_back-pass-requires-clause-kept
-give_back-pass-requires-clause-kept c =
-    let was = c.pack_task-loaded.ensures ∙ ap (task_word c.in-Ok.shown.place c.in-Ok.shown.count) c.in-Ok.ensures.free.1 in
-    let free = sym c.refusal.ensures ∙ c.in_default.is in
-    kept c.args.self.now c.args.pass c.args.t c.args.op c.in-Ok.shown c.in-Ok.ensures.free.1 c.look_at_task.new.seated c.in-Ok.ensures.told free c.pack_task-loaded.result c.take_claim-found.result was c.take_claim-found.new.seated c.take_claim-found.ensures.told c.if-found-loaded.false c.in-Ok.ensures.free.0.place c.requires.task c.requires.op c.load_record-held.result c.load_record-held.new.seated c.load_record-held.ensures.told
+pub hand_back-pass-requires-clause-kept : goal.hand_back-pass-requires-clause-kept
+hand_back-pass-requires-clause-kept c =
+    kept c.args.self.now c.args.pass c.args.t c.args.op c.in-Ok.shown c.in-Ok.ensures.free.1 c.look_at_task.new.seated c.in-Ok.ensures.told _ c.refusal.ensures c.in_default.is c.pack_task-loaded.result c.take_claim-found.result c.pack_task-loaded.ensures c.take_claim-found.new.seated c.take_claim-found.ensures.told c.if-found-loaded.false c.in-Ok.ensures.free.0.place c.requires.task c.requires.op c.load_record-held.result c.load_record-held.new.seated c.load_record-held.ensures.told
 
 pub returns-in-Some-early-clause-started : goal.returns-in-Some-early-clause-started
 returns-in-Some-early-clause-started c =
-    let was = c.pack_task-loaded.ensures ∙ ap (task_word c.in-Ok.shown.place c.in-Ok.shown.count) c.in-Ok.ensures.free.1 in
-    let free = sym c.refusal.ensures ∙ c.in_default.is in
-    answered_early c.args.self.now c.args.pass c.args.t c.args.op c.in-Ok.shown c.in-Ok.ensures.free.1 c.look_at_task.new.seated c.in-Ok.ensures.told free c.pack_task-loaded.result c.take_claim-found.result was c.take_claim-found.new.seated c.take_claim-found.ensures.told c.if-found-loaded.false c.in-Ok.ensures.free.0.place c.requires.task c.requires.op c.load_record-held.result c.load_record-held.new.seated c.load_record-held.ensures.told c.in-Some-early.reply (sym c.early.ensures ∙ c.in-Some-early.is) _ c.give_back-pass.ensures.told
+    answered_early c.args.self.now c.args.pass c.args.t c.args.op c.in-Ok.shown c.in-Ok.ensures.free.1 c.look_at_task.new.seated c.in-Ok.ensures.told _ c.refusal.ensures c.in_default.is c.pack_task-loaded.result c.take_claim-found.result c.pack_task-loaded.ensures c.take_claim-found.new.seated c.take_claim-found.ensures.told c.if-found-loaded.false c.in-Ok.ensures.free.0.place c.requires.task c.requires.op c.load_record-held.result c.load_record-held.new.seated c.load_record-held.ensures.told c.in-Some-early.reply (sym c.early.ensures ∙ c.in-Some-early.is) _ c.hand_back-pass.ensures.seen c.hand_back-pass.ensures.told
 
 pub invariant_of-result-2 : goal.invariant_of-result-2
 invariant_of-result-2 c =
-    let was = c.pack_task-loaded.ensures ∙ ap (task_word c.in-Ok.shown.place c.in-Ok.shown.count) c.in-Ok.ensures.free.1 in
-    let free = sym c.refusal.ensures ∙ c.in_default.is in
     record {
-      holds = claim_holds c.args.self.now c.args.pass c.args.t c.args.op c.in-Ok.shown c.in-Ok.ensures.free.1 c.look_at_task.new.seated c.in-Ok.ensures.told free c.pack_task-loaded.result c.take_claim-found.result was c.take_claim-found.new.seated c.take_claim-found.ensures.told c.if-found-loaded.false c.in-Ok.ensures.free.0.place c.requires.task c.requires.op c.load_record-held.result c.load_record-held.new.seated c.load_record-held.ensures.told (sym c.early.ensures ∙ c.in_default-early.is);
+      holds = claim_holds c.args.self.now c.args.pass c.args.t c.args.op c.in-Ok.shown c.in-Ok.ensures.free.1 c.look_at_task.new.seated c.in-Ok.ensures.told _ c.refusal.ensures c.in_default.is c.pack_task-loaded.result c.take_claim-found.result c.pack_task-loaded.ensures c.take_claim-found.new.seated c.take_claim-found.ensures.told c.if-found-loaded.false c.in-Ok.ensures.free.0.place c.requires.task c.requires.op c.load_record-held.result c.load_record-held.new.seated c.load_record-held.ensures.told (sym c.early.ensures ∙ c.in_default-early.is);
     }
 
 pub returns-clause-started : goal.returns-clause-started
 returns-clause-started c =
-    let was = c.pack_task-loaded.ensures ∙ ap (task_word c.in-Ok.shown.place c.in-Ok.shown.count) c.in-Ok.ensures.free.1 in
-    let free = sym c.refusal.ensures ∙ c.in_default.is in
-    is_taken c.args.self.now c.args.pass c.args.t c.args.op c.in-Ok.shown c.in-Ok.ensures.free.1 c.look_at_task.new.seated c.in-Ok.ensures.told free c.pack_task-loaded.result c.take_claim-found.result was c.take_claim-found.new.seated c.take_claim-found.ensures.told c.if-found-loaded.false c.in-Ok.ensures.free.0.place c.requires.task c.requires.op c.load_record-held.result c.load_record-held.new.seated c.load_record-held.ensures.told _ refl refl refl refl (sym c.early.ensures ∙ c.in_default-early.is)
+    is_taken c.args.self.now c.args.pass c.args.t c.args.op c.in-Ok.shown c.in-Ok.ensures.free.1 c.look_at_task.new.seated c.in-Ok.ensures.told _ c.refusal.ensures c.in_default.is c.pack_task-loaded.result c.take_claim-found.result c.pack_task-loaded.ensures c.take_claim-found.new.seated c.take_claim-found.ensures.told c.if-found-loaded.false c.in-Ok.ensures.free.0.place c.requires.task c.requires.op c.load_record-held.result c.load_record-held.new.seated c.load_record-held.ensures.told _ refl refl refl refl (sym c.early.ensures ∙ c.in_default-early.is)
 
 pub returns-in-Some-early-clause-brief : goal.returns-in-Some-early-clause-brief
-returns-in-Some-early-clause-brief c = starts_early _ _ _ _ _ _ _ _ _ c.in-Ok.ensures.made c.take_claim-found.ensures.made c.load_record-held.ensures.made c.give_back-pass.ensures.made refl refl
+returns-in-Some-early-clause-brief c = starts_early _ _ _ _ _ _ _ _ _ _ c.in-Ok.ensures.made c.take_claim-found.ensures.made c.load_record-held.ensures.made c.hand_back-pass.ensures.made refl refl
