@@ -15,7 +15,7 @@ use crate::head::{put_axis, put_head};
 use crate::mark::{Mark, put_legend};
 use crate::tally::steps_of_task;
 use grub_timeline::{TimeLine, Told};
-use grub_trace::Plan;
+use grub_plan::Plan;
 use std::alloc::{AllocError, Global};
 
 /// A picture is smaller than this, in bytes.

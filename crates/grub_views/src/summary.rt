@@ -16,7 +16,7 @@ use crate::tally::Tally;
 use crate::usage::{Meter, Usage};
 use grub_bw::{BW_UNIT, Params, Queue};
 use grub_timeline::TimeLine;
-use grub_trace::Plan;
+use grub_plan::Plan;
 use std::alloc::{AllocError, Global};
 
 /// How many columns the table of tasks has, and that of runqueues.

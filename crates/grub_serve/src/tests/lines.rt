@@ -2,7 +2,8 @@
 
 use crate::ProgramFault;
 use grub_run::GrubFault;
-use grub_trace::{Kind, TextFault, TraceFault};
+use grub_plan::TextFault;
+use grub_trace::{Kind, TraceFault};
 use grub_workers::RunFault;
 use std::test::Fail;
 
