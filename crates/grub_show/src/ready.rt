@@ -4,8 +4,8 @@ ghost use Rattle.std.specs.Prelude.{◌≡◌, ◌+◌, ◌≤◌, [], IfSome, l
 ghost use Rattle.grub_plan.specs.declared.pieces.TheConstants.{LINE_MAX};
 
 use grub_lines::Blocks;
-use grub_timeline::{Playing, Told};
 use grub_plan::{Plan, report_buffer};
+use grub_timeline::{Playing, Told};
 use std::alloc::Global;
 
 /// A time line of which nothing was played yet, and room to write it line by line.

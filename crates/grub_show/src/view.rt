@@ -16,9 +16,9 @@ ghost use Rattle.grub_show.specs.inside.Showing.{BeginsLine, IsFaultOfLine, Writ
 use crate::fault::ShowFault;
 use crate::ready::Ready;
 use grub_book::Book;
+use grub_plan::{Plan, write_buffer};
 use grub_run::GrubFault;
 use grub_timeline::play;
-use grub_plan::{Plan, write_buffer};
 use grub_trace::read_files_by_threads;
 use grub_views::{Step, end_of, picture_text, summary_text, write_steps, write_timeline};
 use std::alloc::Global;

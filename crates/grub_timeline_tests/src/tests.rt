@@ -1,8 +1,8 @@
 //! Time lines of event files against worked examples, and with refused growths.
 ghost use Rattle.grub_timeline.specs.TimeLines.{AreWithin};
 
-use grub_timeline::{PlayFault, Playing, TimeLine, play};
 use grub_plan::{Plan, TextFault, line_of};
+use grub_timeline::{PlayFault, Playing, TimeLine, play};
 use grub_trace::{TraceFault, read_files};
 use std::alloc::{AllocError, Global};
 use std::test::Fail;

@@ -10,8 +10,10 @@ use crate::beside::play_beside;
 use crate::rest::play_out;
 use grub_book::Reading;
 use grub_lines::{Blocks, Line, write_lines};
+use grub_plan::{
+    LINE_MAX, Plan, append, append_answer, append_ask, append_number, append_reading, make_room,
+};
 use grub_timeline::{Playing, Told};
-use grub_plan::{LINE_MAX, Plan, append, append_answer, append_ask, append_number, append_reading, make_room};
 use std::io;
 use std::io::Write;
 use std::thread::Threads;

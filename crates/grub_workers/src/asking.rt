@@ -9,8 +9,8 @@ ghost use Rattle.grub_workers.specs.inside.Working.{IsAsked};
 use crate::desk::Desk;
 use crate::gate::Gate;
 use grub_book::Op;
-use grub_table::{Claim, Finished, Pass, Started};
 use grub_plan::Answer;
+use grub_table::{Claim, Finished, Pass, Started};
 
 /// Where an ask stands between two rounds.
 enum Turn {

@@ -11,8 +11,8 @@ use crate::gate::Gate;
 use crate::worker::{Progress, call, look};
 use grub_asks::call_of;
 use grub_book::{Op, Reply};
-use grub_table::Pass;
 use grub_plan::{Act, Answer, Line};
+use grub_table::Pass;
 use std::alloc::AllocError;
 
 /// Where a task has left, it joins here.

@@ -13,8 +13,8 @@ use crate::desk::Desk;
 use crate::gate::Gate;
 use grub_asks::{keep, make_room};
 use grub_book::Op;
-use grub_table::Pass;
 use grub_plan::{Answer, Ask, Entry};
+use grub_table::Pass;
 use grub_wheel::Wheel;
 use std::alloc::AllocError;
 
