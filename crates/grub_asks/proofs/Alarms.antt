@@ -13,8 +13,8 @@ use Rattle.grub_wheel.specs.TimerBag.{TimerBag, WheelState, IsArmed, IsArmedWith
 use Rattle.grub_book.specs.declared.op.Op.{Op}
 use Rattle.grub_book.specs.declared.op.Op.TheVariants as ops
 use Rattle.grub_book.specs.declared.reply.Reply.TheVariants as replies
-use Rattle.grub_trace.specs.declared.entry.Answer.TheVariants as answers
-use Rattle.grub_trace.specs.declared.entry.Entry.{Entry}
+use Rattle.grub_plan.specs.declared.entry.Answer.TheVariants as answers
+use Rattle.grub_plan.specs.declared.entry.Entry.{Entry}
 use Rattle.grub_asks.specs.Timers.{Alarm, leaves, disarms, arms, alarm_after, alarm_at, armed, touch_of_call, IsNextDue, NoneDue}
 use Rattle.grub_asks.specs.Keeping.{IsBlock, IsBlockBefore, IsTouched, alarm_of, places_of}
 

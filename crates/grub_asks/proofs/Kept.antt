@@ -8,10 +8,10 @@ use Rattle.grub_book.specs.Machine.{Machine}
 use Rattle.grub_book.specs.declared.op.Op.{Op}
 use Rattle.grub_book.specs.declared.event.Reading.{Reading}
 use Rattle.grub_wheel.specs.TimerBag.{TimerBag}
-use Rattle.grub_trace.specs.declared.entry.Ask.TheVariants.{Call, Read}
-use Rattle.grub_trace.specs.declared.entry.Answer.{Answer}
-use Rattle.grub_trace.specs.declared.entry.Answer.TheVariants.{Seen}
-use Rattle.grub_trace.specs.declared.entry.Entry.{Entry}
+use Rattle.grub_plan.specs.declared.entry.Ask.TheVariants.{Call, Read}
+use Rattle.grub_plan.specs.declared.entry.Answer.{Answer}
+use Rattle.grub_plan.specs.declared.entry.Answer.TheVariants.{Seen}
+use Rattle.grub_plan.specs.declared.entry.Entry.{Entry}
 use Rattle.grub_asks.specs.Asked.{entry}
 use Rattle.grub_asks.specs.Timers.{Alarm, alarm_after, armed, armed_from, leaves, touch, touch_of_call}
 use Rattle.grub_asks.specs.Keeping.{IsTouched}

@@ -5,12 +5,12 @@ use Rattle.std.proofs.lemmas.Grind.{common_steps}
 use Rattle.grub_book.specs.History.{StartsWith}
 use Rattle.grub_book.specs.declared.reply.Reply.TheVariants as replies
 use Rattle.grub_book.proofs.Histories.{starts_after}
-use Rattle.grub_trace.specs.Plans.{Line}
-use Rattle.grub_trace.specs.declared.line.Act.{Act}
-use Rattle.grub_trace.specs.declared.line.Act.TheVariants as acts
-use Rattle.grub_trace.specs.declared.entry.Answer.{Answer}
-use Rattle.grub_trace.specs.declared.entry.Answer.TheVariants.{Replied}
-use Rattle.grub_trace.specs.declared.entry.Entry.{Entry}
+use Rattle.grub_plan.specs.Plans.{Line}
+use Rattle.grub_plan.specs.declared.line.Act.{Act}
+use Rattle.grub_plan.specs.declared.line.Act.TheVariants as acts
+use Rattle.grub_plan.specs.declared.entry.Answer.{Answer}
+use Rattle.grub_plan.specs.declared.entry.Answer.TheVariants.{Replied}
+use Rattle.grub_plan.specs.declared.entry.Entry.{Entry}
 use Rattle.grub_asks.specs.Answers.{event_told, events_told}
 use Rattle.grub_asks.specs.Asked.{AsksLine, AsksTimer, Follows, JoinsAfter, Timer}
 

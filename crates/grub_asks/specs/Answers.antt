@@ -4,12 +4,12 @@ use Rattle.std.specs.List.{All, flat_map}
 use Rattle.grub_book.specs.declared.event.Event.{Event}
 use Rattle.grub_book.specs.declared.event.Event.TheVariants as events
 use Rattle.grub_book.specs.Machine.{Machine}
-use Rattle.grub_trace.specs.declared.entry.Ask.{Ask}
-use Rattle.grub_trace.specs.declared.entry.Ask.TheVariants.{Call, Read}
-use Rattle.grub_trace.specs.declared.entry.Answer.{Answer}
-use Rattle.grub_trace.specs.declared.entry.Answer.TheVariants.{Replied, Seen, Busy, Lost}
-use Rattle.grub_trace.specs.declared.entry.Entry.{Entry}
-use Rattle.grub_trace.specs.Texts.{IsAskOf}
+use Rattle.grub_plan.specs.declared.entry.Ask.{Ask}
+use Rattle.grub_plan.specs.declared.entry.Ask.TheVariants.{Call, Read}
+use Rattle.grub_plan.specs.declared.entry.Answer.{Answer}
+use Rattle.grub_plan.specs.declared.entry.Answer.TheVariants.{Replied, Seen, Busy, Lost}
+use Rattle.grub_plan.specs.declared.entry.Entry.{Entry}
+use Rattle.grub_plan.specs.Texts.{IsAskOf}
 
 -- the event of an ask for runqueue i, which is the one that is read: none where the ask was given up
 abbrev pub event_told : ℕ → Ask → Answer → List Event

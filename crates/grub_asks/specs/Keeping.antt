@@ -4,8 +4,8 @@ use Rattle.std.specs.FinMap as map
 use Rattle.grub_book.specs.declared.op.Op.{Op}
 use Rattle.grub_book.specs.declared.op.Op.TheVariants as ops
 use Rattle.grub_book.specs.declared.reply.Reply.TheVariants as replies
-use Rattle.grub_trace.specs.declared.entry.Answer.{Answer}
-use Rattle.grub_trace.specs.declared.entry.Answer.TheVariants as answers
+use Rattle.grub_plan.specs.declared.entry.Answer.{Answer}
+use Rattle.grub_plan.specs.declared.entry.Answer.TheVariants as answers
 use Rattle.grub_wheel.specs.TimerBag.{TimerBag, WheelState}
 use Rattle.grub_asks.specs.Timers.{Alarm, Touch, leaves, alarm_after}
 

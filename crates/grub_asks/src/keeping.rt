@@ -6,7 +6,7 @@ ghost use Rattle.grub_asks.specs.Timers.Touch.{disarms};
 ghost use Rattle.grub_asks.specs.Keeping.{IsBlock, IsBlockBefore, IsNoTimer, IsTouched, WaitsRightly, places_of};
 
 use grub_book::{Op, Reply};
-use grub_trace::Answer;
+use grub_plan::Answer;
 use grub_wheel::Wheel;
 use std::alloc::AllocError;
 

@@ -6,7 +6,7 @@ ghost use Rattle.grub_facts.specs.Census.{tally_text};
 ghost use Rattle.grub_convert.specs.Census.{cpus_behind, cpus_text, task_line, tasks_text};
 
 use grub_facts::Counted;
-use grub_trace::put_number;
+use grub_plan::put_number;
 use std::alloc::{AllocError, Global};
 
 /// Puts numbers, each behind a comma.

@@ -1,7 +1,7 @@
 //! The event files of a trace.
 
 ghost use Rattle.std.specs.Prelude.{◌≡◌, ◌<◌, ◌↔◌, All, IsTrue, IfOk, IfErr, OnOk, length, map};
-ghost use Rattle.grub_trace.specs.Reading.{contents};
+ghost use Rattle.grub_plan.specs.Contents.{contents};
 ghost use Rattle.grub_events.specs.Order.{FirstBeyond, is_beyond};
 ghost use Rattle.grub_convert.specs.Files.{AreFiles, IsSetting, IsFault, IsSound, events_told, files_of, is_shown, missing_from, name_in, params_in, reservation_of};
 ghost use Rattle.grub_convert.specs.Options.{text_of};

@@ -1,7 +1,7 @@
 //! What the program does with a trace: it prints which tasks there are, or writes the event files.
 
 ghost use Rattle.std.specs.Prelude.{◌≡◌, ◌⊎◌, ◌<◌, None, IfErr, IfOk, IfSome, OnSome, MatchResult, OnOk, length, map, string_bytes};
-ghost use Rattle.grub_trace.specs.Reading.{contents};
+ghost use Rattle.grub_plan.specs.Contents.{contents};
 ghost use Rattle.grub_convert.specs.Faults.{explained, status_of};
 ghost use Rattle.grub_convert.specs.Read.{PrintsTasks};
 ghost use Rattle.grub_convert.specs.Serving.{AreFree, AreMade, HasNoEvents, IsTaken, MakesEvents, event_path, event_paths};

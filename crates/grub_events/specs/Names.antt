@@ -2,7 +2,7 @@
 use Rattle.std.specs.Prelude.{ℕ, zero, suc, Bool, false, not, ◌&&◌, ◌||◌, nat_le, List, [], ◌++◌, map, count_by, codes, decimal, Option, Some, None, if◌then◌else◌}
 use Rattle.std.specs.Str.{bytes_eq}
 use Rattle.grub_facts.specs.declared.fact.Found.{Found}
-use Rattle.grub_trace.specs.Tree.{is_name}
+use Rattle.grub_plan.specs.Names.{is_name}
 
 -- the name of the deadline server of fair tasks on a runqueue
 abbrev pub fair_name : ℕ → List ℕ

@@ -7,7 +7,7 @@ ghost use Rattle.grub_events.specs.Files.{opens_in, happens_in, in_file, head_te
 use crate::event::{Act, Placed, Source};
 use crate::names::fair_name;
 use grub_bw::{Params, Queue};
-use grub_trace::put_number;
+use grub_plan::put_number;
 use std::alloc::{AllocError, Global};
 
 /// A task of event files.

@@ -1,11 +1,11 @@
 //! Names of tasks in event files.
 
 ghost use Rattle.std.specs.Prelude.{◌≡◌, ◌++◌, IfOk, codes, decimal, count_by};
-ghost use Rattle.grub_trace.specs.Reading.{contents};
+ghost use Rattle.grub_plan.specs.Contents.{contents};
 ghost use Rattle.grub_events.specs.Names.{fair_name, is_fair, has_comm, is_fit, name_of, names_of};
 
 use grub_facts::Found;
-use grub_trace::{is_name, put_number};
+use grub_plan::{is_name, put_number};
 use std::alloc::{AllocError, Global};
 
 /// The name of the deadline server of fair tasks on a runqueue.

@@ -4,8 +4,8 @@ use Rattle.std.proofs.Math.Seq.{take-add}
 use Rattle.std.proofs.lemmas.Grind.{common_steps, flat_map-append}
 use Rattle.std.proofs.lemmas.List.{take-append-drop}
 use Rattle.std.specs.List.{flat_map}
-use Rattle.grub_trace.specs.Writing.{HandsOn, HandsPart}
-use Rattle.grub_trace.proofs.Handing.{hands_both, part_after, part_longer}
+use Rattle.grub_plan.specs.Writing.{HandsOn, HandsPart}
+use Rattle.grub_plan.proofs.Handing.{hands_both, part_after, part_longer}
 
 -- what is put together of the texts of parts is the text of all
 pub parts_text : {X B : Type 0} (line : X → List ℕ) (text : B → List ℕ) (size : ℕ) (bs : List B) (xs : List X)

@@ -5,7 +5,7 @@ ghost use Rattle.std.specs.Fork.{slice_chunk};
 ghost use Rattle.std.specs.List.{flat_map};
 
 use crate::line::Line;
-use grub_trace::LINE_MAX;
+use grub_plan::LINE_MAX;
 use std::mem;
 
 /// Appends the lines of the items to a vector that has room for them.

@@ -3,12 +3,12 @@
 ghost use Rattle.std.specs.Prelude.{◌≡◌, ℕ, ◌*◌, ◌<◌, ◌≤◌, [], All, length, vec_len, vec_capacity, OnOk, OnErr, slice_index_or};
 ghost use Rattle.std.specs.Fork.{slice_chunk};
 ghost use Rattle.std.specs.List.{flat_map};
-ghost use Rattle.grub_trace.specs.Writing.{HandsOn, HandsPart};
+ghost use Rattle.grub_plan.specs.Writing.{HandsOn, HandsPart};
 ghost use Rattle.grub_lines.specs.declared.blocks.TheConstants.{COUNT, BLOCK_ROOM};
 
 use crate::block::make_block;
 use crate::line::Line;
-use grub_trace::{LINE_MAX, write_bytes};
+use grub_plan::{LINE_MAX, write_bytes};
 use std::alloc::{AllocError, Global};
 use std::io::Write;
 use std::thread::Threads;

@@ -1,10 +1,10 @@
 //! The lines of a report's entries.
 
 ghost use Rattle.std.specs.Prelude.{length};
-ghost use Rattle.grub_trace.specs.Texts.{entry_line, IsAskOf};
+ghost use Rattle.grub_plan.specs.Texts.{entry_line, IsAskOf};
 
 use crate::line::Line;
-use grub_trace::{Entry, Plan, append_entry};
+use grub_plan::{Entry, Plan, append_entry};
 
 /// An entry is told with the plan's names. Its task is to be one of the plan's.
 impl Line<Entry> for Plan {

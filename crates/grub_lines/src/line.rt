@@ -2,7 +2,7 @@
 
 ghost use Rattle.std.specs.Prelude.{◌≡◌, ◌+◌, ◌≤◌, ◌++◌, ℕ, List, vec_len, vec_capacity};
 
-use grub_trace::LINE_MAX;
+use grub_plan::LINE_MAX;
 
 /// How the line of an item is made. It is a function of the item.
 pub trait Line<X> {

@@ -3,7 +3,7 @@
 ghost use Rattle.std.specs.Prelude.{◌++◌, codes, decimal, ⊤};
 
 use crate::{Blocks, Line, write_lines};
-use grub_trace::{append, append_number, report_buffer, write_buffer};
+use grub_plan::{append, append_number, report_buffer, write_buffer};
 use std::alloc::{AllocError, Global};
 use std::io;
 use std::io::{ErrorKind, Write};

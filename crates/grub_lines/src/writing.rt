@@ -2,11 +2,11 @@
 
 ghost use Rattle.std.specs.Prelude.{◌≤◌, [], All, vec_capacity, OnOk, OnErr};
 ghost use Rattle.std.specs.List.{flat_map};
-ghost use Rattle.grub_trace.specs.Writing.{HandsOn, HandsPart};
+ghost use Rattle.grub_plan.specs.Writing.{HandsOn, HandsPart};
 
 use crate::blocks::{Blocks, ROUND_MAX};
 use crate::line::Line;
-use grub_trace::{LINE_MAX, make_room, write_buffer};
+use grub_plan::{LINE_MAX, make_room, write_buffer};
 use std::io;
 use std::io::Write;
 use std::thread::Threads;

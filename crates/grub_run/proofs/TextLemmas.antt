@@ -2,11 +2,11 @@
 use Rattle.std.proofs.Common.{◌≡◌, ℕ, zero, suc, ◌+◌, List, [], ◌∷◌, ◌++◌, length, ap, ◌∙◌, sym, append_assoc, append-nil, add-zero, arith, take, get_or, refl, ◌<◌, ◌≤◌, map, subst}
 use Rattle.std.proofs.lemmas.List.{take_more, length-map, length-take-le}
 use Rattle.grub_book.specs.declared.event.Reading.{Reading}
-use Rattle.grub_trace.specs.Texts.{report_text}
-use Rattle.grub_trace.specs.declared.entry.Report.{Report}
+use Rattle.grub_plan.specs.Texts.{report_text}
+use Rattle.grub_plan.specs.declared.entry.Report.{Report}
 use Rattle.grub_trace.specs.Meaning.{Reads}
 use Rattle.grub_trace.specs.Naming.{all_tasks, plan_of, script_of}
-use Rattle.grub_trace.specs.Plans.{PlanView}
+use Rattle.grub_plan.specs.Plans.{PlanView}
 use Rattle.grub_trace.specs.Tree.{Tree, names_of, text as tree_text}
 use Rattle.grub_workers.specs.Apart.{AllApart, AreOwn}
 use Rattle.grub_workers.specs.Runs.{IsOnlyRun, IsRun, entries_of}

@@ -6,8 +6,8 @@ use Rattle.grub_trace.specs.Meaning.{Reads}
 use Rattle.grub_trace.specs.FirstFault.{IsTraceFault, IsOnly}
 use Rattle.grub_trace.specs.Naming.{plan_of}
 use Rattle.grub_trace.specs.Tree.{Tree}
-use Rattle.grub_trace.specs.Texts.{report_text}
-use Rattle.grub_trace.specs.declared.entry.Report.{Report}
+use Rattle.grub_plan.specs.Texts.{report_text}
+use Rattle.grub_plan.specs.declared.entry.Report.{Report}
 use Rattle.grub_trace.specs.declared.fault.Kind.{Kind}
 use Rattle.grub_trace.specs.declared.fault.TraceFault.TheVariants as trace
 use Rattle.grub_workers.specs.Apart.{AllApart}

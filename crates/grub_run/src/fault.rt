@@ -1,6 +1,7 @@
 //! Why nothing, or not all, was written.
 
-use grub_trace::{TextFault, TraceFault};
+use grub_plan::TextFault;
+use grub_trace::TraceFault;
 use grub_workers::RunFault;
 use std::fmt;
 use thiserror::Error;

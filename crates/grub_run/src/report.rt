@@ -1,12 +1,12 @@
 //! The report of a runqueue, on its way to a writer.
 
 ghost use Rattle.std.specs.Prelude.{◌≤◌, All, length, OnOk, OnErr, vec_capacity};
-ghost use Rattle.grub_trace.specs.Texts.{head_line, close_line, report_text, IsAskOf};
-ghost use Rattle.grub_trace.specs.Writing.{HandsOn, HandsPart};
+ghost use Rattle.grub_plan.specs.Texts.{head_line, close_line, report_text, IsAskOf};
+ghost use Rattle.grub_plan.specs.Writing.{HandsOn, HandsPart};
 
 use grub_book::Reading;
 use grub_lines::{Blocks, write_lines};
-use grub_trace::{LINE_MAX, Plan, Report, append_close, append_head, make_room};
+use grub_plan::{LINE_MAX, Plan, Report, append_close, append_head, make_room};
 use std::io;
 use std::io::Write;
 use std::thread::Threads;

@@ -4,7 +4,7 @@ ghost use Rattle.std.specs.Prelude.{◌≡◌, ◌≤◌, ℕ, List, [], length,
 ghost use Rattle.std.specs.Io.KnownBytes.{Appends};
 ghost use Rattle.grub_trace.specs.Meaning.{Reads};
 ghost use Rattle.grub_trace.specs.FirstFault.{IsFault};
-ghost use Rattle.grub_trace.specs.Reading.{contents};
+ghost use Rattle.grub_plan.specs.Contents.{contents};
 ghost use Rattle.grub_trace.specs.Tree.{Tree};
 ghost use Rattle.grub_trace.specs.declared.fault.Kind.{Kind};
 ghost use Rattle.grub_workers.specs.Runs.{AllAsksOf};
@@ -15,9 +15,8 @@ use crate::fault::GrubFault;
 use crate::report::write_report;
 use grub_book::Reading;
 use grub_lines::Blocks;
-use grub_trace::{
-    LINE_MAX, Plan, Report, TextFault, read_files_by_threads, report_buffer, write_buffer,
-};
+use grub_plan::{LINE_MAX, Plan, Report, TextFault, report_buffer, write_buffer};
+use grub_trace::read_files_by_threads;
 use grub_workers::{NoGate, run};
 use std::alloc::Global;
 use std::io;

@@ -1,7 +1,7 @@
 //! From the names of event files to their reports.
 
 ghost use Rattle.std.specs.Prelude.{◌≡◌, ◌≤◌, ◌<◌, ℕ, List, IfErr, IfOk, OnOk, length};
-ghost use Rattle.grub_trace.specs.Reading.{contents};
+ghost use Rattle.grub_plan.specs.Contents.{contents};
 ghost use Rattle.grub_run.specs.declared.fault.GrubFault.TheVariants as run_faults;
 ghost use Rattle.grub_files.specs.Source.{Holds, IsOpened};
 ghost use Rattle.grub_serve.specs.declared.fault.ProgramFault.TheVariants as faults;

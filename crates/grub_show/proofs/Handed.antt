@@ -3,7 +3,7 @@ use Rattle.std.proofs.Common.{◌≡◌, ℕ, ◌++◌, List, [], take, drop, ap
 use Rattle.std.specs.Io.KnownBytes.{Appends}
 use Rattle.std.proofs.Math.Seq.{take-append_seam}
 use Rattle.std.proofs.lemmas.List.{take-append-drop}
-use Rattle.grub_trace.specs.Writing.{HandsOn, HandsPart}
+use Rattle.grub_plan.specs.Writing.{HandsOn, HandsPart}
 use Rattle.grub_run.specs.Written.{AppendsPrefix}
 use Rattle.grub_run.proofs.Known.{prefix_of}
 

@@ -1,11 +1,11 @@
 //! What the views that are written while they are played take memory for.
 
 ghost use Rattle.std.specs.Prelude.{◌≡◌, ◌+◌, ◌≤◌, [], IfSome, length, vec_capacity};
-ghost use Rattle.grub_trace.specs.declared.pieces.TheConstants.{LINE_MAX};
+ghost use Rattle.grub_plan.specs.declared.pieces.TheConstants.{LINE_MAX};
 
 use grub_lines::Blocks;
+use grub_plan::{Plan, report_buffer};
 use grub_timeline::{Playing, Told};
-use grub_trace::{Plan, report_buffer};
 use std::alloc::Global;
 
 /// A time line of which nothing was played yet, and room to write it line by line.

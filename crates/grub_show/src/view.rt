@@ -4,7 +4,7 @@ ghost use Rattle.std.specs.Prelude.{◌≡◌, ◌+◌, ◌≤◌, ℕ, List, []
 ghost use Rattle.grub_book.specs.Sums.{opening_book};
 ghost use Rattle.grub_trace.specs.Meaning.{Reads};
 ghost use Rattle.grub_trace.specs.FirstFault.{IsFault};
-ghost use Rattle.grub_trace.specs.Reading.{contents};
+ghost use Rattle.grub_plan.specs.Contents.{contents};
 ghost use Rattle.grub_trace.specs.Tree.{Tree};
 ghost use Rattle.grub_trace.specs.declared.fault.Kind.{Kind};
 ghost use Rattle.std.specs.Io.KnownBytes.{Appends};
@@ -16,9 +16,10 @@ ghost use Rattle.grub_show.specs.inside.Showing.{BeginsLine, IsFaultOfLine, Writ
 use crate::fault::ShowFault;
 use crate::ready::Ready;
 use grub_book::Book;
+use grub_plan::{Plan, write_buffer};
 use grub_run::GrubFault;
 use grub_timeline::play;
-use grub_trace::{Plan, read_files_by_threads, write_buffer};
+use grub_trace::read_files_by_threads;
 use grub_views::{Step, end_of, picture_text, summary_text, write_steps, write_timeline};
 use std::alloc::Global;
 use std::io;

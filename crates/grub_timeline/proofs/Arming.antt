@@ -7,10 +7,10 @@ use Rattle.grub_book.specs.Machine.{Machine}
 use Rattle.grub_book.specs.declared.op.Op.{Op}
 use Rattle.grub_book.specs.declared.op.Op.TheVariants as ops
 use Rattle.grub_book.specs.declared.reply.Reply.TheVariants.{Waiting}
-use Rattle.grub_trace.specs.declared.entry.Ask.TheVariants.{Call, Read}
-use Rattle.grub_trace.specs.declared.entry.Answer.{Answer}
-use Rattle.grub_trace.specs.declared.entry.Answer.TheVariants.{Replied}
-use Rattle.grub_trace.specs.declared.entry.Entry.{Entry}
+use Rattle.grub_plan.specs.declared.entry.Ask.TheVariants.{Call, Read}
+use Rattle.grub_plan.specs.declared.entry.Answer.{Answer}
+use Rattle.grub_plan.specs.declared.entry.Answer.TheVariants.{Replied}
+use Rattle.grub_plan.specs.declared.entry.Entry.{Entry}
 use Rattle.grub_asks.specs.Asked.{entry}
 use Rattle.grub_asks.specs.Keeping.{WaitsRightly}
 use Rattle.grub_timeline.specs.TimeLines.{armer, armer_after, armer_from}

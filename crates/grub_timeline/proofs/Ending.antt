@@ -8,8 +8,8 @@ use Rattle.grub_book.specs.declared.event.Event.{Event}
 use Rattle.grub_book.specs.declared.event.Reading.{Reading}
 use Rattle.std.specs.List.{All}
 use Rattle.std.proofs.lemmas.List.Elements.{All-tail}
-use Rattle.grub_trace.specs.Plans.{PlanView}
-use Rattle.grub_trace.specs.Texts.{IsAskOf}
+use Rattle.grub_plan.specs.Plans.{PlanView}
+use Rattle.grub_plan.specs.Texts.{IsAskOf}
 use Rattle.grub_timeline.specs.declared.told.Told.{Told}
 use Rattle.grub_timeline.specs.declared.player.Player.{Player}
 use Rattle.grub_timeline.specs.TimeLines.{AreClosing, AreWithin, IsTimeLine, history_of}

@@ -15,11 +15,11 @@ use Rattle.grub_book.specs.declared.event.Reading.{Reading}
 use Rattle.grub_book.specs.declared.event.Event.{Event}
 use Rattle.grub_book.specs.declared.event.Event.TheVariants as events
 use Rattle.grub_book.proofs.Histories.{book_push, legal_push}
-use Rattle.grub_trace.specs.declared.entry.Ask.TheVariants.{Call, Read}
-use Rattle.grub_trace.specs.declared.entry.Answer.TheVariants.{Replied, Seen}
-use Rattle.grub_trace.specs.Texts.{IsAskOf}
+use Rattle.grub_plan.specs.declared.entry.Ask.TheVariants.{Call, Read}
+use Rattle.grub_plan.specs.declared.entry.Answer.TheVariants.{Replied, Seen}
+use Rattle.grub_plan.specs.Texts.{IsAskOf}
 use Rattle.grub_asks.specs.Answers.{IsAnswered, event_told}
-use Rattle.grub_trace.specs.declared.entry.Entry.{Entry}
+use Rattle.grub_plan.specs.declared.entry.Entry.{Entry}
 use Rattle.grub_wheel.specs.TimerBag.{TimerBag, WheelState}
 use Rattle.grub_asks.specs.Keeping.{places_of}
 use Rattle.grub_asks.specs.inside.Keeping.{IsKept}

@@ -1,6 +1,6 @@
 -- How many lines are left, and which.
 use Rattle.std.proofs.Common.{◌≡◌, ℕ, zero, suc, ◌≤◌, List, [], ◌∷◌, None, length, slice_get, refl, arith}
-use Rattle.grub_trace.specs.Plans.{Line}
+use Rattle.grub_plan.specs.Plans.{Line}
 use Rattle.grub_timeline.specs.Order.{left}
 use Rattle.grub_timeline.specs.inside.Merge.{NoHead}
 

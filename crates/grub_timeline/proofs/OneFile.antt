@@ -8,9 +8,9 @@ use Rattle.grub_book.specs.Machine.{Machine}
 use Rattle.grub_book.specs.Sums.{opening_book}
 use Rattle.grub_book.specs.History.{IsLegal}
 use Rattle.grub_book.specs.declared.event.Reading.{Reading}
-use Rattle.grub_trace.specs.declared.entry.Entry.{Entry}
-use Rattle.grub_trace.specs.Plans.{PlanView}
-use Rattle.grub_trace.specs.Texts.{IsAskOf}
+use Rattle.grub_plan.specs.declared.entry.Entry.{Entry}
+use Rattle.grub_plan.specs.Plans.{PlanView}
+use Rattle.grub_plan.specs.Texts.{IsAskOf}
 use Rattle.grub_asks.specs.Answers.{IsAnswered, event_told, events_told}
 use Rattle.grub_asks.specs.Asked.{Asked, AsksLine}
 use Rattle.grub_asks.proofs.Alike.{script_alike}

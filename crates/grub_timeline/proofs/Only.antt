@@ -11,8 +11,8 @@ use Rattle.grub_book.specs.History.{IsLegal, StartsWith}
 use Rattle.grub_book.specs.declared.event.Event.{Event}
 use Rattle.grub_book.specs.declared.event.Reading.{Reading}
 use Rattle.grub_book.proofs.Histories.{legal_prefix, starts_after}
-use Rattle.grub_trace.specs.declared.entry.Entry.{Entry}
-use Rattle.grub_trace.specs.Plans.{PlanView}
+use Rattle.grub_plan.specs.declared.entry.Entry.{Entry}
+use Rattle.grub_plan.specs.Plans.{PlanView}
 use Rattle.grub_asks.specs.Answers.{IsAnswered}
 use Rattle.grub_asks.proofs.Alike.{line_alike}
 use Rattle.grub_timeline.specs.declared.order.Placed.{Placed}

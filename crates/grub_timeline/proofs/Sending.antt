@@ -7,10 +7,10 @@ use Rattle.grub_book.specs.contracts.book.Book as Book
 use Rattle.grub_wheel.specs.contracts.wheel.Wheel as Wheel
 use Rattle.grub_book.specs.contracts.op.Op as Op
 use Rattle.grub_book.specs.contracts.reply.Reply as Reply
-use Rattle.grub_trace.specs.contracts.entry.Ask as Ask
-use Rattle.grub_trace.specs.contracts.entry.Answer as Answer
-use Rattle.grub_trace.specs.contracts.entry.Entry as Entry
-use Rattle.grub_trace.specs.contracts.plan.Plan as Plan
+use Rattle.grub_plan.specs.contracts.entry.Ask as Ask
+use Rattle.grub_plan.specs.contracts.entry.Answer as Answer
+use Rattle.grub_plan.specs.contracts.entry.Entry as Entry
+use Rattle.grub_plan.specs.contracts.plan.Plan as Plan
 use Rattle.grub_timeline.specs.contracts.log.Log as Log
 use Rattle.grub_timeline.specs.contracts.told.Told as Told
 use Rattle.grub_timeline.specs.contracts.player.Player as Player

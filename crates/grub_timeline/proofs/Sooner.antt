@@ -6,7 +6,7 @@ use Rattle.std.proofs.lemmas.Bool.{ltb-true, ltb-false}
 use Rattle.std.proofs.lemmas.List.{get_or_past}
 use mathlib.Core.Logic.{dite}
 use native.Mathlib.Decide.{ℕ_discrete}
-use Rattle.grub_trace.specs.Plans.{Line}
+use Rattle.grub_plan.specs.Plans.{Line}
 use Rattle.grub_timeline.specs.declared.order.Lead.{Lead}
 use Rattle.grub_timeline.specs.declared.order.Placed.{Placed}
 use Rattle.grub_timeline.specs.Order.{IsNotLater, script_at}

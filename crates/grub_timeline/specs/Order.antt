@@ -1,7 +1,7 @@
 -- The one order of the lines of several scripts.
 use Rattle.std.specs.Prelude.{◌≡◌, ℕ, ◌+◌, ◌-◌, ◌<◌, ◌≤◌, ◌⊎◌, ◌==◌, List, [], ◌∷◌, filter, length, map, slice_index_or}
 use Rattle.std.specs.List.{AllByRecursion}
-use Rattle.grub_trace.specs.Plans.{Line}
+use Rattle.grub_plan.specs.Plans.{Line}
 use Rattle.grub_timeline.specs.declared.order.Placed.{Placed}
 
 -- the script of a runqueue: no lines, where it has no file

@@ -3,7 +3,7 @@ ghost use Rattle.std.specs.Prelude.{◌≡◌, ◌<◌, length};
 ghost use Rattle.grub_timeline.specs.inside.Playing.{waits_of};
 
 use grub_book::Reply;
-use grub_trace::Answer;
+use grub_plan::Answer;
 
 /// Remembers the runqueue of a block that waits.
 pub fn note(armers: &mut Vec<u32>, t: u32, r: u32, answer: Answer)

@@ -12,8 +12,6 @@ mod opening;
 mod order;
 mod player;
 mod playing;
-#[cfg(test)]
-mod tests;
 mod told;
 mod whole;
 

@@ -1,14 +1,14 @@
 //! The next lines of all files.
 ghost use Rattle.std.specs.Prelude.{◌≡◌, ◌<◌, ◌≤◌, ◌+◌, length, vec_len, vec_capacity};
 ghost use Rattle.std.specs.Bool.{OnFalse, OnTrue};
-ghost use Rattle.grub_trace.specs.Limits.{PlanFits};
+ghost use Rattle.grub_plan.specs.Limits.{PlanFits};
 ghost use Rattle.grub_timeline.specs.inside.Merge.{IsAhead, IsMidway, IsNext, NoHead};
 ghost use Rattle.grub_timeline.specs.Order.{left};
 
 use crate::line::ask_line;
 use crate::order::{Lead, Placed, first, leads, take};
 use crate::player::Player;
-use grub_trace::Plan;
+use grub_plan::Plan;
 
 /// Asks for the lines that come next, while what one more asks is sure to have room. It tells whether there was a line.
 pub fn ask_lines(player: &mut Player<'_>, plan: &Plan, done: &mut Vec<usize>) -> bool

@@ -6,7 +6,7 @@ ghost use Rattle.grub_timeline.specs.inside.Playing.{IsPlaying};
 use crate::log::Log;
 use crate::player::Player;
 use grub_book::Book;
-use grub_trace::Plan;
+use grub_plan::Plan;
 use grub_wheel::Wheel;
 use std::alloc::{AllocError, Global};
 use std::snapshot::Snapshot;

@@ -2,7 +2,7 @@
 ghost use Rattle.std.specs.Prelude.{◌≡◌, ◌<◌, ◌+◌, ◌↔◌, IsSome, IsTrue, IfSome, MatchOption, Some, length, slice_index_or, slice_set};
 ghost use Rattle.grub_timeline.specs.inside.Merge.{IsAhead, IsBefore, IsNext, NoHead, head_at, leader_of};
 
-use grub_trace::{Line, Plan};
+use grub_plan::{Line, Plan};
 
 /// A line of the script of runqueue `r`.
 #[derive(Clone, Copy, Debug, PartialEq, Eq)]

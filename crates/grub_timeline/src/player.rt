@@ -1,7 +1,7 @@
 //! One entry more.
 ghost use Rattle.std.specs.Prelude.{◌≡◌, ◌<◌, ◌≤◌, ◌+◌, ◌++◌, ◌∷◌, [], Some, length, vec_len, vec_capacity};
 ghost use Rattle.grub_book.specs.Op.{IsOp};
-ghost use Rattle.grub_trace.specs.declared.entry.Ask.TheVariants.{Call, Read};
+ghost use Rattle.grub_plan.specs.declared.entry.Ask.TheVariants.{Call, Read};
 ghost use Rattle.grub_asks.specs.Keeping.{WaitsRightly};
 ghost use Rattle.grub_asks.specs.inside.Keeping.{IsLineOp};
 ghost use Rattle.grub_timeline.specs.inside.TimeLines.{told_of};
@@ -12,7 +12,7 @@ use crate::log::Log;
 use crate::told::Told;
 use grub_asks::keep;
 use grub_book::{Book, Op};
-use grub_trace::{Answer, Ask, Entry};
+use grub_plan::{Answer, Ask, Entry};
 use grub_wheel::Wheel;
 use std::snapshot::Snapshot;
 

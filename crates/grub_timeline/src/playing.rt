@@ -12,7 +12,7 @@ use crate::opening::player_of;
 use crate::player::Player;
 use crate::told::Told;
 use grub_book::Reading;
-use grub_trace::Plan;
+use grub_plan::Plan;
 use std::alloc::{AllocError, Global};
 use std::marker::Model;
 use std::mem;

@@ -1,7 +1,7 @@
 //! What playing gives.
 
 use grub_book::Reading;
-use grub_trace::Entry;
+use grub_plan::Entry;
 
 /// An entry, and the number of the runqueue that it is of: the file whose line asks, and for a timer the runqueue of the
 /// block that armed it.

@@ -6,7 +6,7 @@ ghost use Rattle.grub_timeline.specs.TimeLines.{AreWithin, DoNotGoBack, IsOneRun
 use crate::fault::PlayFault;
 use crate::playing::Playing;
 use crate::told::TimeLine;
-use grub_trace::Plan;
+use grub_plan::Plan;
 use std::alloc::Global;
 
 /// Plays the scripts of a plan in the order of their moments, by one book. `NoMemory` (48) is meant for a refused growth.

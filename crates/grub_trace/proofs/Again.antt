@@ -10,7 +10,7 @@ use Rattle.grub_bw.specs.Bandwidth.{Capacity}
 use Rattle.grub_trace.specs.declared.version.Version.{Version}
 use Rattle.grub_trace.specs.declared.version.Version.TheVariants.{One, Two}
 use Rattle.grub_trace.specs.declared.fault.Kind.{Kind}
-use Rattle.grub_trace.specs.Plans.{Line}
+use Rattle.grub_plan.specs.Plans.{Line}
 use Rattle.grub_trace.specs.Tree.{Declaration, Happening, Tree, text, line, header, queue_words, declaration_words, happening_words, names_of}
 use Rattle.grub_trace.specs.Faults.{last_of}
 use Rattle.grub_trace.specs.Forms.{parts_of}

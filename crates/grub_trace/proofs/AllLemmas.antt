@@ -11,12 +11,12 @@ use Rattle.grub_trace.specs.declared.tasks.Tasks.{Tasks}
 use Rattle.grub_trace.specs.declared.fault.Kind.{Kind}
 use Rattle.grub_trace.specs.declared.fault.Halt.{Halt}
 use Rattle.grub_trace.specs.declared.fault.Halt.TheVariants as halt
-use Rattle.grub_trace.specs.Plans.{Line}
+use Rattle.grub_plan.specs.Plans.{Line}
 use Rattle.grub_trace.specs.inside.Halts.{fault_of}
 use Rattle.grub_trace.specs.Tree.{names_of, params_of}
 use Rattle.grub_trace.proofs.Elsewhere.{not_zero}
 use Rattle.std.proofs.lemmas.Bool.{le-ltb}
-use Rattle.grub_trace.specs.Reading.{contents}
+use Rattle.grub_plan.specs.Contents.{contents}
 use Rattle.grub_trace.specs.inside.Reading.{Halts, Faults, AllRead, Body, read_file, read_from, script_from, scripts_from, unknown_in, plan_from, declarations, task_view, ◌>>=◌}
 use Rattle.grub_trace.specs.inside.Lines.{AreBodies, IsBody, script_in}
 use Rattle.grub_trace.proofs.Loops.{ScriptsLeft, ScriptsSoFar}

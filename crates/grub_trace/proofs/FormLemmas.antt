@@ -9,10 +9,11 @@ use Rattle.std.proofs.lemmas.Bool.Decides.{nat_tests}
 use Rattle.std.proofs.lemmas.Fmt.{decimal-digits_value}
 use Rattle.grub_trace.specs.declared.version.Version.{Version}
 use Rattle.grub_trace.specs.declared.version.Version.TheVariants.{One, Two}
-use Rattle.grub_trace.specs.declared.line.Act.{Act}
-use Rattle.grub_trace.specs.declared.line.Act.TheVariants as act
+use Rattle.grub_plan.specs.declared.line.Act.{Act}
+use Rattle.grub_plan.specs.declared.line.Act.TheVariants as act
 use Rattle.grub_trace.specs.declared.form.Form as coded
-use Rattle.grub_trace.specs.Tree.{act_words, header, is_name}
+use Rattle.grub_plan.specs.Names.{is_name}
+use Rattle.grub_trace.specs.Tree.{act_words, header}
 use Rattle.grub_trace.specs.Forms.{Form, queue, task, at_moment, form_of, shape_of, is_filled, act_of, version_of, is_number, value}
 use Rattle.grub_trace.specs.inside.Faults.{is_act_named, is_named}
 use Rattle.grub_trace.specs.inside.Reading.{form_view}

@@ -14,7 +14,7 @@ use Rattle.grub_trace.specs.declared.below.Below.{Below}
 use Rattle.grub_trace.specs.declared.raw.Head.{Head}
 use Rattle.grub_trace.specs.declared.raw.RawFile.{RawFile}
 use Rattle.grub_trace.specs.declared.tasks.Tasks.{Tasks}
-use Rattle.grub_trace.specs.Reading.{contents}
+use Rattle.grub_plan.specs.Contents.{contents}
 use Rattle.grub_trace.specs.Tree.{Declaration, names_of}
 use Rattle.grub_trace.specs.Faults.{form_fault}
 use Rattle.grub_trace.specs.Forms.{form_of, parts_of, reservation_value, task, version_of, words_of}

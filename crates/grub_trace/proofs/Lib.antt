@@ -1,5 +1,3 @@
-pub mod Joins
-pub mod PlanLimits
 pub mod LimitTests
 pub mod WordLemmas
 pub mod NumberLemmas
@@ -25,5 +23,4 @@ pub mod LimitLaws
 pub mod FaultAgain
 pub mod Together
 pub mod Openings
-pub mod Handing
 pub mod Planned

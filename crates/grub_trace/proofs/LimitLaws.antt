@@ -10,14 +10,15 @@ use Rattle.std.proofs.lemmas.List.{length-append, length-map}
 use Rattle.grub_bw.specs.Bandwidth.{IsReservation, IsCapacity}
 use Rattle.std.proofs.lemmas.Bool.Decides.{nat_tests}
 use Rattle.grub_trace.specs.declared.version.Version.{Version}
-use Rattle.grub_trace.specs.declared.line.Act.{Act}
-use Rattle.grub_trace.specs.declared.line.Act.TheVariants as act
-use Rattle.grub_trace.specs.Tree.{Declaration, Happening, Tree, names_of, params_of, is_name, is_span, is_moment, text}
-use Rattle.grub_trace.specs.Plans.{Line, PlanView}
+use Rattle.grub_plan.specs.declared.line.Act.{Act}
+use Rattle.grub_plan.specs.declared.line.Act.TheVariants as act
+use Rattle.grub_plan.specs.Names.{is_name}
+use Rattle.grub_trace.specs.Tree.{Declaration, Happening, Tree, names_of, params_of, is_span, is_moment, text}
+use Rattle.grub_plan.specs.Plans.{Line, PlanView}
 use Rattle.grub_trace.specs.Naming.{task_of, line_in, act_in, script_of, all_tasks, plan_of}
 use Rattle.grub_trace.specs.Meaning.{GoOn, IsAct, AreKnown, Reads}
 use Rattle.grub_trace.specs.FirstFault.{AreDeclared, AreTrees}
-use Rattle.grub_trace.specs.Limits.{ActFits, ScriptFits, PlanFits}
+use Rattle.grub_plan.specs.Limits.{ActFits, ScriptFits, PlanFits}
 
 place_below : (names : List (List ℕ)) (n : List ℕ) (t : ℕ) → task_of names n ≡ Some t → t < length names
 place_below [] n t e = absurd cc

@@ -11,7 +11,7 @@ use Rattle.std.proofs.lemmas.List.{length_push}
 use Rattle.grub_trace.specs.declared.fault.Halt.{Halt}
 use Rattle.grub_trace.specs.declared.fault.Halt.TheVariants as halt
 use Rattle.grub_trace.specs.Tree.{Declaration, names_of, is_moment, is_span, may_retune}
-use Rattle.grub_trace.specs.declared.line.Act.TheVariants.{Run, Retune}
+use Rattle.grub_plan.specs.declared.line.Act.TheVariants.{Run, Retune}
 use Rattle.grub_trace.specs.Faults.{form_fault, is_allowed, is_timely, reservation_fits}
 use Rattle.grub_trace.proofs.WordLemmas.{has_part}
 

@@ -16,7 +16,7 @@ use Rattle.grub_trace.specs.inside.Heads.{IsHead, bodies_from, body_from, read_b
 use Rattle.grub_trace.specs.Tree.{Declaration}
 use Rattle.grub_trace.specs.FirstFault.{HeaderFault, QueueFault, FileFault, OpeningFault}
 use Rattle.grub_trace.specs.Forms.{parts_of}
-use Rattle.grub_trace.specs.Reading.{contents}
+use Rattle.grub_plan.specs.Contents.{contents}
 use Rattle.grub_trace.specs.inside.Reading.{Body, FileRead, AllRead, declarations, with_file, in_file, file_from, opened, read_queue, read_lines, read_second, read_file, read_from, at_line, ◌>>=◌, GivesOpening, AnswersOpening}
 use Rattle.grub_trace.proofs.LineLemmas.{second_step, queue_then}
 use Rattle.grub_trace.proofs.Runs.{broke}

@@ -8,7 +8,7 @@ use Rattle.grub_bw.specs.Bandwidth.{Capacity}
 use Rattle.grub_trace.specs.declared.fault.Kind.{Kind}
 use Rattle.grub_trace.specs.declared.fault.Kind.TheVariants.{UnknownTask, OutOfRange, MissingQueue}
 use Rattle.grub_trace.specs.Tree.{Declaration, Happening, Tree, text, names_of}
-use Rattle.grub_trace.specs.Plans.{Line, PlanView}
+use Rattle.grub_plan.specs.Plans.{Line, PlanView}
 use Rattle.grub_trace.specs.Naming.{line_in, script_of, all_tasks, plan_of, plan_with}
 use Rattle.grub_trace.specs.Meaning.{AreKnown, Reads}
 use Rattle.grub_trace.specs.FirstFault.{AreTrees, FileFault, UnknownIn, FirstFault, UnknownFault, IsFault, too_many, no_file, first, unknown}

@@ -6,7 +6,7 @@ use Rattle.std.proofs.lemmas.Bool.{le-ltb}
 use Rattle.std.proofs.Math.Seq.{map-set_same}
 use Rattle.std.proofs.lemmas.List.{append-nil, drop_all, get_or-set_same, length-set, take-set, take_all}
 use Rattle.std.proofs.lemmas.List.Elements.{All-get_or, All-more, All-set}
-use Rattle.grub_trace.specs.Plans.{PlanView}
+use Rattle.grub_plan.specs.Plans.{PlanView}
 use Rattle.grub_trace.specs.declared.below.Below.{Below}
 use Rattle.grub_trace.specs.declared.fault.Kind.{Kind}
 use Rattle.grub_trace.specs.declared.fault.TraceFault.{TraceFault}

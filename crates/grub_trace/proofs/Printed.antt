@@ -14,9 +14,10 @@ use Rattle.grub_trace.proofs.LimitTests.{reservation_test, capacity_test}
 use Rattle.grub_trace.specs.declared.version.Version.{Version}
 use Rattle.grub_trace.specs.declared.fault.Kind.{Kind}
 use Rattle.grub_trace.specs.declared.fault.Kind.TheVariants.{MissingQueue}
-use Rattle.grub_trace.specs.declared.line.Act.{Act}
-use Rattle.grub_trace.specs.declared.line.Act.TheVariants as act
-use Rattle.grub_trace.specs.Tree.{Declaration, Happening, act_words, queue_words, is_name, is_name_byte, is_moment, names_of}
+use Rattle.grub_plan.specs.declared.line.Act.{Act}
+use Rattle.grub_plan.specs.declared.line.Act.TheVariants as act
+use Rattle.grub_plan.specs.Names.{is_name, is_name_byte}
+use Rattle.grub_trace.specs.Tree.{Declaration, Happening, act_words, queue_words, is_moment, names_of}
 use Rattle.grub_trace.specs.Faults.{form_fault, last_of, queue_fault, queue_form_fault, begins_with_queue, is_allowed, is_in_range, is_fresh, is_timely}
 use Rattle.grub_trace.specs.Forms.{Form, queue, task, at_moment, words_of, form_of, is_filled, act_of, is_number, value, numbers_of}
 use Rattle.grub_trace.specs.inside.Reading.{Read, act_map, take_line, take_option, unless, adds, declares, says, times_of, read_queue, queue_of}

@@ -4,7 +4,7 @@ use Rattle.std.specs.Prelude.{IfErr, MatchResult}
 use Rattle.grub_trace.specs.declared.fault.TraceFault.{TraceFault}
 use Rattle.grub_trace.specs.declared.fault.TraceFault.TheVariants as trace
 use Rattle.grub_trace.specs.Tree.{Tree}
-use Rattle.grub_trace.specs.Plans.{PlanView}
+use Rattle.grub_plan.specs.Plans.{PlanView}
 use Rattle.grub_trace.specs.Naming.{plan_of}
 use Rattle.grub_trace.specs.Meaning.{Reads}
 use Rattle.grub_trace.specs.FirstFault.{IsTraceFault, IsFault, IsOnly}

@@ -9,7 +9,7 @@ use Rattle.grub_trace.specs.declared.fault.Kind.TheVariants.{BadHeader, BadLine,
 use Rattle.grub_trace.specs.Forms.{Form, queue, task, at_moment, words_of, form_of, is_number, value, numbers_of, reservation_value, capacity_value, version_of}
 use Rattle.grub_trace.specs.Naming.{task_of}
 use Rattle.grub_trace.specs.Tree.{is_moment, is_span, may_retune}
-use Rattle.grub_trace.specs.declared.line.Act.TheVariants.{Run, Retune}
+use Rattle.grub_plan.specs.declared.line.Act.TheVariants.{Run, Retune}
 
 -- ---- the tests of a line below the second
 

@@ -7,7 +7,8 @@ use Rattle.grub_trace.specs.declared.fault.Kind.{Kind}
 use Rattle.grub_trace.specs.declared.fault.Kind.TheVariants.{BadHeader, MissingQueue, CutShort, UnknownTask, OutOfRange}
 use Rattle.grub_trace.specs.declared.fault.TraceFault.{TraceFault}
 use Rattle.grub_trace.specs.declared.fault.TraceFault.TheVariants as trace
-use Rattle.grub_trace.specs.Tree.{Declaration, Happening, header, Tree, text, is_name, names_of}
+use Rattle.grub_plan.specs.Names.{is_name}
+use Rattle.grub_trace.specs.Tree.{Declaration, Happening, header, Tree, text, names_of}
 use Rattle.grub_trace.specs.Forms.{parts_of}
 use Rattle.grub_trace.specs.Faults.{line_fault, header_fault, queue_fault}
 use Rattle.grub_trace.specs.Naming.{task_of, line_in, all_tasks}

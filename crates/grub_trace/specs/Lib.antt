@@ -1,13 +1,8 @@
 pub mod Faults
 pub mod FirstFault
 pub mod Forms
-pub mod Limits
 pub mod Meaning
 pub mod Messages
 pub mod Naming
-pub mod Plans
-pub mod Reading
-pub mod Texts
-pub mod Writing
 pub mod Tree
 pub mod inside

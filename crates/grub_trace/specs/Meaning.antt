@@ -3,9 +3,10 @@ use Rattle.std.specs.Prelude.{◌≡◌, ℕ, ◌≤◌, true, List, [], ◌∷�
 use Rattle.std.specs.List.{AllByRecursion}
 use Rattle.grub_bw.specs.Bandwidth.{IsReservation, IsCapacity}
 use Rattle.grub_trace.specs.declared.version.Version.{Version}
-use Rattle.grub_trace.specs.declared.line.Act.{Act}
-use Rattle.grub_trace.specs.declared.line.Act.TheVariants as act
-use Rattle.grub_trace.specs.Tree.{Declaration, Happening, may_retune, Tree, text, is_name, is_span, is_moment, names_of}
+use Rattle.grub_plan.specs.declared.line.Act.{Act}
+use Rattle.grub_plan.specs.declared.line.Act.TheVariants as act
+use Rattle.grub_plan.specs.Names.{is_name}
+use Rattle.grub_trace.specs.Tree.{Declaration, Happening, may_retune, Tree, text, is_span, is_moment, names_of}
 use Rattle.grub_trace.specs.Naming.{task_of, line_in, all_tasks}
 
 -- what may be said in a file of this version

@@ -20,6 +20,3 @@ kind_text CutShort = codes "36 CutShort"
 abbrev pub trace_fault_text : TraceFault → List ℕ
 trace_fault_text (At kind file line) = kind_text kind ++ codes " at " ++ decimal file ++ codes ":" ++ decimal line
 trace_fault_text NoMemory = codes "37 NoMemory"
-
-abbrev pub text_fault_text : List ℕ
-text_fault_text = codes "43 NoMemory"

@@ -1,11 +1,11 @@
 -- From names to numbers, and the plan of trees.
 use Rattle.grub_bw.specs.Bandwidth.{Capacity}
-use Rattle.grub_trace.specs.Plans.{Line, PlanView}
+use Rattle.grub_plan.specs.Plans.{Line, PlanView}
 use Rattle.std.specs.Prelude.{ℕ, ◌+◌, List, [], ◌∷◌, map, Option, Some, None, if◌then◌else◌, option_map}
 use Rattle.std.specs.List.{filter_map, flat_map}
 use Rattle.std.specs.Str.{bytes_eq}
-use Rattle.grub_trace.specs.declared.line.Act.{Act}
-use Rattle.grub_trace.specs.declared.line.Act.TheVariants as act
+use Rattle.grub_plan.specs.declared.line.Act.{Act}
+use Rattle.grub_plan.specs.declared.line.Act.TheVariants as act
 use Rattle.grub_trace.specs.Tree.{Declaration, Happening, Tree, names_of, params_of}
 
 -- ---- names to numbers

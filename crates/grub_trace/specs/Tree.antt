@@ -1,10 +1,10 @@
 -- Event files: what a file says, and its one text.
-use Rattle.std.specs.Prelude.{ℕ, Bool, true, false, not, ◌==◌, ◌&&◌, ◌||◌, nat_le, List, [], ◌∷◌, ◌++◌, length, map, codes, decimal}
-use Rattle.std.specs.List.{flat_map, join_with_byte, list_all}
+use Rattle.std.specs.Prelude.{ℕ, Bool, true, false, ◌&&◌, nat_le, List, [], ◌∷◌, ◌++◌, map, codes, decimal}
+use Rattle.std.specs.List.{flat_map, join_with_byte}
 use Rattle.grub_bw.specs.Bandwidth.{Reservation, Capacity}
-use Rattle.grub_trace.specs.declared.line.Act.{Act}
-use Rattle.grub_trace.specs.declared.line.Act.TheVariants as act
-use Rattle.grub_trace.specs.declared.line.Line as lines
+use Rattle.grub_plan.specs.declared.line.Act.{Act}
+use Rattle.grub_plan.specs.declared.line.Act.TheVariants as act
+use Rattle.grub_plan.specs.declared.line.Line as lines
 use Rattle.grub_trace.specs.declared.version.Version.{Version}
 use Rattle.grub_trace.specs.declared.version.Version.TheVariants.{One, Two}
 
@@ -63,12 +63,6 @@ unfoldable pub text : Tree → List ℕ
 text t = head_text t.version t.queue ++ (flat_map (λ d. line (declaration_words d)) t.tasks ++ flat_map (λ m. line (happening_words m)) t.happenings)
 
 -- ---- the limits
-
-abbrev pub is_name_byte : ℕ → Bool
-is_name_byte b = (nat_le 65 b && nat_le b 90) || (nat_le 97 b && nat_le b 122) || (nat_le 48 b && nat_le b 57) || b == 95 || b == 45
-
-abbrev pub is_name : List ℕ → Bool
-is_name name = not (length name == 0) && nat_le (length name) 16 && list_all is_name_byte name
 
 abbrev pub is_moment : ℕ → Bool
 is_moment m = nat_le m 2147483647

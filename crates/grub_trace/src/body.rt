@@ -11,7 +11,6 @@ ghost use Rattle.grub_trace.specs.inside.Lines.{GivesBody, GivesScript, IsTimely
 
 use crate::fault::{Halt, Kind};
 use crate::form::{Form, form_of};
-use crate::line::{Act, Line};
 use crate::naming::act_in;
 use crate::number::number;
 use crate::raw::{Head, RawFile, RawScript};
@@ -19,6 +18,7 @@ use crate::tasks::{Tasks, reservation};
 use crate::version::Version;
 use crate::words::first_line;
 use grub_book::{MOMENT_MAX, RUN_MAX};
+use grub_plan::{Act, Line};
 use std::alloc::{AllocError, Global};
 
 /// The fewest bytes of a line that says what happens: `at 0 read`, and the byte that ends it.

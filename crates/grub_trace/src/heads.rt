@@ -1,7 +1,7 @@
 //! The heads of files, read in turn, and what stands below each, read in turn or by threads.
 
 ghost use Rattle.std.specs.Prelude.{◌≡◌, ◌<◌, ◌≤◌, ◌⊎◌, [], Err, IfErr, IfOk, OnErr, OnOk, length, map};
-ghost use Rattle.grub_trace.specs.Reading.{contents};
+ghost use Rattle.grub_plan.specs.Contents.{contents};
 ghost use Rattle.grub_trace.specs.inside.Bodies.{AreRead, HaveHeads, head_of};
 ghost use Rattle.grub_trace.specs.inside.Planning.{AreHeadsOf, IsPlanned};
 ghost use Rattle.grub_trace.specs.inside.Heads.{GiveTogether};

@@ -5,8 +5,8 @@ ghost use Rattle.grub_trace.specs.Naming.{act_in};
 ghost use Rattle.grub_trace.specs.Tree.{names_of};
 ghost use Rattle.grub_trace.specs.inside.Reading.{IsIndexed, act_map, declarations};
 
-use crate::line::Act;
 use crate::tasks::Tasks;
+use grub_plan::Act;
 
 /// The act of the task with this name, where it is declared.
 pub fn act_in(tasks: &Tasks, act: Act<&[u8]>) -> Option<Act>

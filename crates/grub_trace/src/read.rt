@@ -1,7 +1,7 @@
 //! The plan of event files.
 
 ghost use Rattle.std.specs.Prelude.{◌≡◌, ◌<◌, ℕ, List, MatchResult, IfOk, IfErr, [], length, map, string_bytes};
-ghost use Rattle.grub_trace.specs.Reading.{contents};
+ghost use Rattle.grub_plan.specs.Contents.{contents};
 ghost use Rattle.grub_trace.specs.inside.Bodies.{AreRead, head_of};
 ghost use Rattle.grub_trace.specs.inside.Heads.{GiveTogether};
 ghost use Rattle.grub_trace.specs.inside.Planning.{AreTogether, Collects, IsPlanned};
@@ -13,16 +13,15 @@ ghost use Rattle.grub_trace.specs.FirstFault.{IsTraceFault, IsFault, IsOnly, Ope
 ghost use Rattle.grub_trace.specs.declared.fault.Kind.{Kind};
 ghost use Rattle.grub_trace.specs.declared.tasks.Tasks.{Tasks};
 ghost use Rattle.grub_trace.specs.Naming.{plan_of};
-ghost use Rattle.grub_trace.specs.Limits.{PlanFits};
+ghost use Rattle.grub_plan.specs.Limits.{PlanFits};
 
 use crate::below::Below;
 use crate::fault::{Kind, TraceFault};
 use crate::heads::{Heads, read_by_threads, read_heads, read_in_turn};
-use crate::line::Line;
-use crate::plan::Plan;
 use crate::raw::RawFile;
 use crate::tasks::{Task, Tasks};
 use grub_bw::{Params, Queue};
+use grub_plan::{Line, Plan};
 use std::alloc::Global;
 use std::thread::Threads;
 

@@ -1,7 +1,8 @@
 //! The declared tasks, and their numbers by their names.
 
 ghost use Rattle.std.specs.Prelude.{◌≡◌, ◌<◌, length, ◌∷◌, [], ◌++◌, Err, OnOk, IfSome, None, is_some, true};
-ghost use Rattle.grub_trace.specs.Tree.{is_name, names_of};
+ghost use Rattle.grub_plan.specs.Names.{is_name};
+ghost use Rattle.grub_trace.specs.Tree.{names_of};
 ghost use Rattle.grub_trace.specs.Naming.{task_of};
 ghost use Rattle.grub_trace.specs.Faults.{reservation_fits};
 ghost use Rattle.grub_trace.specs.inside.Reading.{Declares, declarations, IsIndexed};

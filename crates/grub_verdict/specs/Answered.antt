@@ -7,10 +7,10 @@ use Rattle.grub_book.specs.declared.reply.Reply.{Reply}
 use Rattle.grub_book.specs.declared.reply.Reply.TheVariants.{Joined, Woken, Charged, Waiting, Elsewhere, Left, Full, DeadlineOverflow}
 use Rattle.grub_facts.specs.declared.fact.Fact.{Fact}
 use Rattle.grub_events.specs.declared.event.Placed.{Placed}
-use Rattle.grub_trace.specs.declared.entry.Ask.{Ask}
-use Rattle.grub_trace.specs.declared.entry.Ask.TheVariants.{Call}
-use Rattle.grub_trace.specs.declared.entry.Answer.{Answer}
-use Rattle.grub_trace.specs.declared.entry.Answer.TheVariants.{Replied}
+use Rattle.grub_plan.specs.declared.entry.Ask.{Ask}
+use Rattle.grub_plan.specs.declared.entry.Ask.TheVariants.{Call}
+use Rattle.grub_plan.specs.declared.entry.Answer.{Answer}
+use Rattle.grub_plan.specs.declared.entry.Answer.TheVariants.{Replied}
 use Rattle.grub_views.specs.declared.book_steps.Step.{Step}
 use Rattle.grub_views.specs.Tallies.{charge_in, is_change_of, run_of, server_before}
 use Rattle.grub_verdict.specs.declared.answered.Answered.{Answered}

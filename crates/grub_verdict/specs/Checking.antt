@@ -6,7 +6,7 @@ use Rattle.grub_facts.specs.declared.fact.Facts.{Facts}
 use Rattle.grub_timeline.specs.TimeLines.{IsTimeLine}
 use Rattle.grub_trace.specs.Meaning.{Reads}
 use Rattle.grub_trace.specs.Naming.{plan_of}
-use Rattle.grub_trace.specs.Plans.{PlanView}
+use Rattle.grub_plan.specs.Plans.{PlanView}
 use Rattle.grub_trace.specs.Tree.{Tree}
 use Rattle.grub_convert.specs.Files.{AreFiles, IsFault, IsSetting, IsSound, events_told}
 use Rattle.grub_convert.specs.Read.{IsToldOf}

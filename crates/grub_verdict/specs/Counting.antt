@@ -15,10 +15,10 @@ use Rattle.grub_events.specs.declared.event.Placed.{Placed}
 use Rattle.grub_events.specs.declared.standing.Standing.{Standing}
 use Rattle.grub_events.specs.declared.standing.Standing.TheVariants.{Unseen}
 use Rattle.grub_events.specs.Rules.{standing_after}
-use Rattle.grub_trace.specs.declared.entry.Ask.{Ask}
-use Rattle.grub_trace.specs.declared.entry.Ask.TheVariants.{Call}
-use Rattle.grub_trace.specs.declared.entry.Answer.{Answer}
-use Rattle.grub_trace.specs.declared.entry.Answer.TheVariants.{Replied}
+use Rattle.grub_plan.specs.declared.entry.Ask.{Ask}
+use Rattle.grub_plan.specs.declared.entry.Ask.TheVariants.{Call}
+use Rattle.grub_plan.specs.declared.entry.Answer.{Answer}
+use Rattle.grub_plan.specs.declared.entry.Answer.TheVariants.{Replied}
 use Rattle.grub_views.specs.declared.book_steps.Step.{Step}
 
 -- ---- events

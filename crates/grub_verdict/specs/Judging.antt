@@ -6,8 +6,8 @@ use Rattle.grub_events.specs.Convert.{first_wake}
 use Rattle.grub_events.specs.Moved.{is_moved_task, wakes_moved}
 use Rattle.grub_events.specs.declared.files.Declared.{Declared}
 use Rattle.grub_events.specs.declared.standing.Standing.TheVariants.{Unseen}
-use Rattle.grub_trace.specs.declared.entry.Ask.{Ask}
-use Rattle.grub_trace.specs.declared.entry.Ask.TheVariants.{Call, Read}
+use Rattle.grub_plan.specs.declared.entry.Ask.{Ask}
+use Rattle.grub_plan.specs.declared.entry.Ask.TheVariants.{Call, Read}
 use Rattle.grub_views.specs.declared.book_steps.Step.{Step}
 use Rattle.grub_views.specs.Tallies.{recharges_in}
 use Rattle.grub_verdict.specs.Answered.{answered_all, answers_of, events_of, facts_of, is_no_room}

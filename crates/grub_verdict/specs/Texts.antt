@@ -2,7 +2,7 @@
 use Rattle.std.specs.Prelude.{ℕ, ◌+◌, ◌-◌, ◌*◌, ◌/◌, ◌^◌, nat_le, ◌==◌, if◌then◌else◌, List, [], ◌++◌, length, Option, Some, None, codes, decimal, slice_index_or}
 use Rattle.grub_book.specs.declared.event.Reading.{Reading}
 use Rattle.grub_bw.specs.Bandwidth.{Reservation, bandwidth_of}
-use Rattle.grub_trace.specs.Texts.{reading_text}
+use Rattle.grub_plan.specs.Texts.{reading_text}
 use Rattle.grub_verdict.specs.declared.difference.Difference.{Difference}
 use Rattle.grub_verdict.specs.declared.heading.Heading.{Heading}
 use Rattle.grub_verdict.specs.declared.observation.Observation.{Observation}

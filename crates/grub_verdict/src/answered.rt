@@ -9,7 +9,7 @@ use grub_book::{Op, Reading, Reply};
 use grub_bw::Server;
 use grub_events::{Event, Placed};
 use grub_facts::Fact;
-use grub_trace::{Answer, Ask};
+use grub_plan::{Answer, Ask};
 use grub_views::{Change, Step, charge_in, run_of, server_before};
 use std::alloc::{AllocError, Global};
 

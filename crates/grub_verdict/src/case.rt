@@ -2,7 +2,7 @@
 
 use grub_events::{Placed, Setting};
 use grub_facts::Facts;
-use grub_trace::Plan;
+use grub_plan::Plan;
 use grub_views::Step;
 
 /// A trace, its events, and the event files made of them as they were played.

@@ -1,7 +1,7 @@
 //! The verdict on what the facts of a trace tell.
 
 ghost use Rattle.std.specs.Prelude.{IfOk, IfErr};
-ghost use Rattle.grub_trace.specs.Reading.{contents};
+ghost use Rattle.grub_plan.specs.Contents.{contents};
 ghost use Rattle.grub_verdict.specs.Checking.{AreReadAs, HasText, IsFaultOn, IsJudgedOf, IsVerdictOn};
 
 use crate::case::{Judged, Overfull};
@@ -9,7 +9,8 @@ use crate::judging::judge;
 use crate::played::Played;
 use grub_convert::{FilesFault, Options, event_files};
 use grub_facts::Facts;
-use grub_trace::{Plan, read_files};
+use grub_plan::Plan;
+use grub_trace::read_files;
 use std::alloc::{AllocError, Global};
 
 /// What is checked: the trace of a name.

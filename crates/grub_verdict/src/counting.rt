@@ -9,7 +9,7 @@ use grub_book::{Op, Reading, Reply, Setup};
 use grub_bw::{Params, Queue};
 use grub_events::{Act, Placed, Source, Standing};
 use grub_facts::{Fact, What};
-use grub_trace::{Answer, Ask};
+use grub_plan::{Answer, Ask};
 use grub_views::{Step, recharges_in};
 use std::alloc::{AllocError, Global};
 

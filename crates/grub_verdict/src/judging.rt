@@ -23,7 +23,7 @@ use crate::verdict::{Verdict, verdict_of};
 use crate::watch::put_observed;
 use grub_events::{Declared, tasks_moved, wakes_moved};
 use grub_facts::{Fact, What};
-use grub_trace::Plan;
+use grub_plan::Plan;
 use std::alloc::{AllocError, Global};
 
 /// What the book answered to the events of the given tasks.

@@ -13,7 +13,7 @@ use crate::played::Played;
 use grub_book::MOMENT_MAX;
 use grub_convert::{Options, event_files};
 use grub_facts::Facts;
-use grub_trace::Plan;
+use grub_plan::Plan;
 use grub_views::{Mark, end_of, marked_picture_text};
 use std::alloc::{AllocError, Global};
 

@@ -9,8 +9,8 @@ use crate::checking::Question;
 use grub_convert::{Options, events_told, setting_of};
 use grub_events::{Placed, Setting};
 use grub_facts::Facts;
+use grub_plan::Plan;
 use grub_timeline::{TimeLine, play};
-use grub_trace::Plan;
 use grub_views::{Step, played_steps};
 use std::alloc::{AllocError, Global};
 

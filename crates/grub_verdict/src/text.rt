@@ -11,7 +11,7 @@ use crate::heading::Heading;
 use crate::observation::{Observation, moment_of_book, moment_of_kernel};
 use grub_book::Reading;
 use grub_bw::Params;
-use grub_trace::put_reading;
+use grub_plan::put_reading;
 use std::alloc::AllocError;
 
 /// The deviation 0, as leads are kept.

@@ -14,8 +14,8 @@ use Rattle.grub_views.specs.Summary.{count_up, queue_row, row_of_queue, row_of_t
 use Rattle.grub_views.specs.Tallies.{charge_in, is_asleep, is_change_of, is_joined, is_kept, is_left, is_refused, is_retired, is_waiting, is_woken, lateness_in, least_after, own_steps, recharges_in, run_of, server_before, tally_of}
 use Rattle.grub_views.specs.Usage.{changes_from, no_reading, reading_after, running_from, running_most_from, this_from, this_most_from}
 use Rattle.grub_book.specs.Sums.{Records}
-use Rattle.grub_trace.specs.declared.entry.Ask.{Ask}
-use Rattle.grub_trace.specs.declared.entry.Ask.TheVariants.{Call, Read}
+use Rattle.grub_plan.specs.declared.entry.Ask.{Ask}
+use Rattle.grub_plan.specs.declared.entry.Ask.TheVariants.{Call, Read}
 use Rattle.grub_timeline.specs.declared.told.Told.{Told}
 use Rattle.grub_views.specs.Replay.{book_after, change_of, step_of}
 use Rattle.grub_views.specs.inside.Fitting.{IsAskIn, IsToldIn}

@@ -21,10 +21,10 @@ use Rattle.grub_book.specs.declared.reply.Reply.TheVariants.{Charged}
 use Rattle.grub_book.proofs.Claims.{refused_outside}
 use Rattle.grub_book.proofs.Soundness.{on_it, sound_opening, sound_step, step_moved}
 use Rattle.grub_book.proofs.Totals.{counts_each}
-use Rattle.grub_trace.specs.declared.entry.Ask.{Ask}
-use Rattle.grub_trace.specs.declared.entry.Ask.TheVariants.{Call, Read}
-use Rattle.grub_trace.specs.declared.entry.Answer.{Answer}
-use Rattle.grub_trace.specs.declared.entry.Answer.TheVariants.{Replied, Seen, Busy, Lost}
+use Rattle.grub_plan.specs.declared.entry.Ask.{Ask}
+use Rattle.grub_plan.specs.declared.entry.Ask.TheVariants.{Call, Read}
+use Rattle.grub_plan.specs.declared.entry.Answer.{Answer}
+use Rattle.grub_plan.specs.declared.entry.Answer.TheVariants.{Replied, Seen, Busy, Lost}
 use Rattle.grub_asks.specs.Answers.{IsAnswered, event_told}
 use Rattle.grub_timeline.specs.TimeLines.{AreAnswered, history_of}
 use Rattle.grub_timeline.specs.declared.told.Told.{Told}

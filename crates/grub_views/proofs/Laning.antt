@@ -1,7 +1,7 @@
 -- One lane more, and one runqueue more.
 use Rattle.std.proofs.Common.{◌≡◌, ℕ, zero, suc, ◌+◌, ◌-◌, ◌*◌, ◌<◌, ◌≤◌, Bool, true, false, List, [], ◌∷◌, ◌++◌, length, refl, ap, ◌∙◌, sym, append_assoc, arith}
 use Rattle.std.specs.Prelude.{filter}
-use Rattle.grub_trace.specs.Plans.{name_at}
+use Rattle.grub_plan.specs.Plans.{name_at}
 use Rattle.grub_views.specs.Lanes.{lane_text}
 use Rattle.grub_views.specs.Picture.{Drawn, has_lane, lanes_of, lanes_text, queue_end, queue_text, queues_end, queues_text}
 use Rattle.grub_views.specs.Summary.{count_up}

@@ -7,7 +7,7 @@ use Rattle.grub_book.specs.Step.{step}
 use Rattle.grub_book.specs.declared.event.Reading.{Reading}
 use Rattle.grub_book.specs.declared.op.Op.{Op}
 use Rattle.grub_book.specs.declared.place.Record.{Record}
-use Rattle.grub_trace.specs.declared.entry.Ask.TheVariants.{Call}
+use Rattle.grub_plan.specs.declared.entry.Ask.TheVariants.{Call}
 use Rattle.grub_timeline.specs.declared.told.Told.{Told}
 use Rattle.std.proofs.lemmas.List.Elements.{All-head, All-tail, All-cons, All-from_recursion}
 use Rattle.std.specs.List.{All}

@@ -5,8 +5,8 @@ use Rattle.grub_book.specs.declared.place.Place.TheVariants.{On, Away, Gone}
 use Rattle.grub_book.specs.declared.place.State.{State}
 use Rattle.grub_book.specs.declared.place.State.TheVariants.{Contending, NonContending, Inactive}
 use Rattle.grub_book.specs.declared.reply.Reply.TheVariants.{Charged}
-use Rattle.grub_trace.specs.declared.entry.Answer.{Answer}
-use Rattle.grub_trace.specs.declared.entry.Answer.TheVariants.{Replied}
+use Rattle.grub_plan.specs.declared.entry.Answer.{Answer}
+use Rattle.grub_plan.specs.declared.entry.Answer.TheVariants.{Replied}
 use Rattle.grub_views.specs.declared.bars.Bar.{Bar}
 use Rattle.grub_views.specs.declared.book_steps.Change.{Change}
 use Rattle.grub_views.specs.declared.book_steps.Step.{Step}

@@ -2,9 +2,9 @@
 use Rattle.std.specs.Prelude.{ℕ, ◌+◌, List, [], ◌∷◌, ◌++◌, Option, codes, decimal}
 use Rattle.std.specs.List.{flat_map}
 use Rattle.grub_book.specs.declared.event.Reading.{Reading}
-use Rattle.grub_trace.specs.Texts.{ask_text, answer_text, reading_text}
-use Rattle.grub_trace.specs.Plans.{PlanView}
-use Rattle.grub_trace.specs.Writing.{HandsOn, HandsPart}
+use Rattle.grub_plan.specs.Texts.{ask_text, answer_text, reading_text}
+use Rattle.grub_plan.specs.Plans.{PlanView}
+use Rattle.grub_plan.specs.Writing.{HandsOn, HandsPart}
 use Rattle.grub_timeline.specs.TimeLines.{IsTimeLine}
 use Rattle.grub_timeline.specs.declared.told.Told.{Told}
 

@@ -2,7 +2,7 @@
 use Rattle.std.specs.Prelude.{ℕ, ◌+◌, ◌*◌, ◌^◌, nat_lt, Bool, true, false, List, [], ◌∷◌, ◌++◌, length, codes, decimal, fold, filter, find, map, unwrap_or}
 use Rattle.grub_book.specs.Machine.{Machine, queue_at}
 use Rattle.grub_timeline.specs.declared.told.Told.{Told}
-use Rattle.grub_trace.specs.Plans.{name_at}
+use Rattle.grub_plan.specs.Plans.{name_at}
 use Rattle.grub_views.specs.declared.book_steps.Step.{Step}
 use Rattle.grub_views.specs.declared.frame.Frame.{Frame}
 use Rattle.grub_views.specs.declared.mark.Mark.{Mark}

@@ -5,8 +5,8 @@ use Rattle.grub_book.specs.Sums.{Records, record_at, opening_book, reading_of}
 use Rattle.grub_book.specs.Step.{step}
 use Rattle.grub_book.specs.declared.place.Place.{Place}
 use Rattle.grub_book.specs.declared.place.Place.TheVariants.{Away, Gone, On}
-use Rattle.grub_trace.specs.declared.entry.Ask.{Ask}
-use Rattle.grub_trace.specs.declared.entry.Ask.TheVariants.{Call, Read}
+use Rattle.grub_plan.specs.declared.entry.Ask.{Ask}
+use Rattle.grub_plan.specs.declared.entry.Ask.TheVariants.{Call, Read}
 use Rattle.grub_timeline.specs.declared.told.Told.{Told}
 use Rattle.grub_views.specs.declared.book_steps.Change.{Change}
 use Rattle.grub_views.specs.declared.book_steps.Step.{Step}

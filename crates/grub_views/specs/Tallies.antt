@@ -4,10 +4,10 @@ use Rattle.grub_bw.specs.declared.server.Server.{Server}
 use Rattle.grub_book.specs.declared.op.Op.TheVariants.{Charge, Wake}
 use Rattle.grub_book.specs.declared.reply.Reply.{Reply}
 use Rattle.grub_book.specs.declared.reply.Reply.TheVariants.{Joined, Woken, Waiting, Asleep, Left, Retired, Ended, Charged, Retuned, Elsewhere}
-use Rattle.grub_trace.specs.declared.entry.Ask.{Ask}
-use Rattle.grub_trace.specs.declared.entry.Ask.TheVariants.{Call}
-use Rattle.grub_trace.specs.declared.entry.Answer.{Answer}
-use Rattle.grub_trace.specs.declared.entry.Answer.TheVariants.{Replied}
+use Rattle.grub_plan.specs.declared.entry.Ask.{Ask}
+use Rattle.grub_plan.specs.declared.entry.Ask.TheVariants.{Call}
+use Rattle.grub_plan.specs.declared.entry.Answer.{Answer}
+use Rattle.grub_plan.specs.declared.entry.Answer.TheVariants.{Replied}
 use Rattle.grub_views.specs.declared.book_steps.Change.{Change}
 use Rattle.grub_views.specs.declared.book_steps.Step.{Step}
 use Rattle.grub_views.specs.declared.tally.Tally.{Tally}

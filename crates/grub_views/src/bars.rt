@@ -8,7 +8,7 @@ ghost use Rattle.grub_views.specs.inside.Begun.{begun_after, ended_bar, last_bar
 use crate::book_steps::{Change, Step};
 use crate::frame::Frame;
 use grub_book::{Place, Reply, State};
-use grub_trace::Answer;
+use grub_plan::Answer;
 use std::alloc::{AllocError, Global};
 
 /// A time in which a task kept its state on a runqueue.

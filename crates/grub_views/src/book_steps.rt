@@ -8,8 +8,8 @@ ghost use Rattle.grub_views.specs.Replay.{book_after, queue_or, step_of, steps_f
 
 use grub_book::{Book, Place, Reading, Setup};
 use grub_bw::Server;
+use grub_plan::{Ask, Plan};
 use grub_timeline::{TimeLine, Told};
-use grub_trace::{Ask, Plan};
 use std::alloc::{AllocError, Global};
 
 /// What an entry changed of its task.

@@ -2,7 +2,7 @@
 
 ghost use Rattle.std.specs.Prelude.{◌≡◌, ◌+◌, ◌*◌, ◌<◌, ◌≤◌, ◌^◌, ◌++◌, OnOk, IfOk, Some, length, map, slice_get};
 ghost use Rattle.std.specs.List.{flat_map};
-ghost use Rattle.grub_trace.specs.Plans.{name_at};
+ghost use Rattle.grub_plan.specs.Plans.{name_at};
 ghost use Rattle.grub_views.specs.Bars.{bars_of, width_of};
 ghost use Rattle.grub_views.specs.Lanes.{bar_text, bars_text, is_tick, lane_text, look_of, rect_text, shape_text, tick_text, ticks_text, title_text};
 ghost use Rattle.grub_views.specs.Picture.{lanes_of, lanes_text, queue_end, queue_text};
@@ -17,7 +17,7 @@ use crate::head::{put_scale, put_umax};
 use crate::mark::{Mark, put_marks};
 use crate::text::{put_number, put_text};
 use grub_book::State;
-use grub_trace::Plan;
+use grub_plan::Plan;
 use std::alloc::{AllocError, Global};
 
 /// What is drawn.

@@ -14,8 +14,8 @@ use crate::frame::Frame;
 use crate::head::{put_axis, put_head};
 use crate::mark::{Mark, put_legend};
 use crate::tally::steps_of_task;
+use grub_plan::Plan;
 use grub_timeline::{TimeLine, Told};
-use grub_trace::Plan;
 use std::alloc::{AllocError, Global};
 
 /// A picture is smaller than this, in bytes.

@@ -2,13 +2,13 @@
 
 ghost use Rattle.std.specs.Prelude.{◌≡◌, ◌+◌, ◌≤◌, ◌++◌, ◌∷◌, length, decimal, codes, vec_len, vec_capacity};
 ghost use Rattle.std.specs.List.{flat_map, join_with_byte};
-ghost use Rattle.grub_trace.specs.Texts.{IsAskOf};
+ghost use Rattle.grub_plan.specs.Texts.{IsAskOf};
 ghost use Rattle.grub_views.specs.inside.Fitting.{IsToldIn};
 ghost use Rattle.grub_views.specs.Rows.{answer_numbers, answer_word, arg_field, ask_word, asked_fields, number_field, number_fields, reply_numbers, reply_word, step_row, task_field};
 
 use crate::book_steps::Step;
 use grub_book::{Op, Reply};
-use grub_trace::{Answer, Ask, LINE_MAX, Plan, append, append_number};
+use grub_plan::{Answer, Ask, LINE_MAX, Plan, append, append_number};
 
 /// The numbers of an answer, where it has them.
 #[derive(Clone, Copy)]
@@ -158,7 +158,7 @@ fn task_name(plan: &Plan, ask: Ask) -> &str
     }
 }
 
-#[tactic(auto, unfolding(grub_trace::specs::Texts::ask_text, grub_trace::specs::Texts::op_text))]
+#[tactic(auto, unfolding(grub_plan::specs::Texts::ask_text, grub_plan::specs::Texts::op_text))]
 fn ask_word(ask: Ask) -> &'static str
     ensures word { result.now ≡ ask_word ask }
     ensures short { length result.now ≤ 18 }
@@ -190,7 +190,7 @@ fn answer_word(answer: Answer) -> &'static str
     }
 }
 
-#[tactic(auto, unfolding(grub_trace::specs::Texts::reply_text))]
+#[tactic(auto, unfolding(grub_plan::specs::Texts::reply_text))]
 fn reply_word(reply: Reply) -> &'static str
     ensures word { result.now ≡ reply_word reply }
     ensures short { length result.now ≤ 18 }

@@ -3,7 +3,7 @@
 ghost use Rattle.std.specs.Prelude.{◌≡◌, ◌+◌, ◌≤◌, [], OnOk, OnErr, length, vec_capacity};
 ghost use Rattle.std.specs.List.{flat_map};
 ghost use Rattle.grub_book.specs.Sums.{opening_book};
-ghost use Rattle.grub_trace.specs.Writing.{HandsOn, HandsPart};
+ghost use Rattle.grub_plan.specs.Writing.{HandsOn, HandsPart};
 ghost use Rattle.grub_views.specs.inside.Fitting.{AreToldIn, IsToldIn};
 ghost use Rattle.grub_views.specs.inside.Past.{book_past};
 ghost use Rattle.grub_views.specs.Replay.{steps_from, steps_of};
@@ -15,8 +15,8 @@ use crate::rest::play_out;
 use crate::row::append_step;
 use grub_book::Book;
 use grub_lines::{Blocks, Line, write_lines};
+use grub_plan::{LINE_MAX, Plan, append, make_room};
 use grub_timeline::{Playing, Told};
-use grub_trace::{LINE_MAX, Plan, append, make_room};
 use std::io;
 use std::io::Write;
 use std::thread::Threads;

@@ -6,7 +6,7 @@ ghost use Rattle.grub_views.specs.Tallies.{charge_in, is_asleep, is_joined, is_k
 use crate::book_steps::{Change, Step};
 use grub_book::{Op, Reply};
 use grub_bw::Server;
-use grub_trace::{Answer, Ask};
+use grub_plan::{Answer, Ask};
 
 /// How long the task ran, in moments, where a step charges a run, and else 0.
 pub fn run_of(ask: Ask, answer: Answer) -> u32

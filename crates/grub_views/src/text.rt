@@ -8,7 +8,7 @@ use std::alloc::AllocError;
 pub fn put_number(out: &mut Vec<u8>, piece: &[u8], n: u64) -> Result<(), AllocError>
     ensures { OnOk result (out.new.items ≡ out.old.items ++ piece.now ++ decimal n) }
 {
-    grub_trace::put_number(out, piece, n)?;
+    grub_plan::put_number(out, piece, n)?;
     Ok(())
 }
 

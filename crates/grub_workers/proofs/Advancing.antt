@@ -8,11 +8,11 @@ use Rattle.grub_book.specs.declared.op.Op.{Op}
 use Rattle.grub_book.specs.declared.event.Event.{Event}
 use Rattle.grub_book.proofs.Histories.{starts_after}
 use Rattle.grub_table.specs.declared.view.Mark.{Mark}
-use Rattle.grub_trace.specs.declared.entry.Ask.{Ask}
-use Rattle.grub_trace.specs.declared.entry.Ask.TheVariants.{Call, Read}
-use Rattle.grub_trace.specs.declared.entry.Answer.{Answer}
-use Rattle.grub_trace.specs.declared.entry.Answer.TheVariants.{Replied, Seen, Busy, Lost}
-use Rattle.grub_trace.specs.declared.entry.Entry.{Entry}
+use Rattle.grub_plan.specs.declared.entry.Ask.{Ask}
+use Rattle.grub_plan.specs.declared.entry.Ask.TheVariants.{Call, Read}
+use Rattle.grub_plan.specs.declared.entry.Answer.{Answer}
+use Rattle.grub_plan.specs.declared.entry.Answer.TheVariants.{Replied, Seen, Busy, Lost}
+use Rattle.grub_plan.specs.declared.entry.Entry.{Entry}
 use Rattle.grub_workers.specs.Evidence.{IsOvertaken}
 use Rattle.grub_workers.specs.inside.Evidence.{AreBacked, CallsElse, IsBacked, ShowsHolder, TakesElse}
 use Rattle.grub_workers.proofs.Finding.{Somewhere, any_of, somewhere_of, somewhere_left}

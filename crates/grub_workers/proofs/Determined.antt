@@ -9,12 +9,12 @@ use Rattle.grub_book.specs.History.{IsLegal, StartsWith, book_of}
 use Rattle.grub_book.specs.declared.event.Event.{Event}
 use Rattle.grub_book.specs.declared.event.Event.TheVariants as events
 use Rattle.grub_book.proofs.Histories.{legal_last, legal_prefix}
-use Rattle.grub_trace.specs.Plans.{Line}
-use Rattle.grub_trace.specs.declared.entry.Ask.{Ask}
-use Rattle.grub_trace.specs.declared.entry.Ask.TheVariants.{Call, Read}
-use Rattle.grub_trace.specs.declared.entry.Answer.{Answer}
-use Rattle.grub_trace.specs.declared.entry.Answer.TheVariants.{Replied, Seen, Busy, Lost}
-use Rattle.grub_trace.specs.declared.entry.Entry.{Entry}
+use Rattle.grub_plan.specs.Plans.{Line}
+use Rattle.grub_plan.specs.declared.entry.Ask.{Ask}
+use Rattle.grub_plan.specs.declared.entry.Ask.TheVariants.{Call, Read}
+use Rattle.grub_plan.specs.declared.entry.Answer.{Answer}
+use Rattle.grub_plan.specs.declared.entry.Answer.TheVariants.{Replied, Seen, Busy, Lost}
+use Rattle.grub_plan.specs.declared.entry.Entry.{Entry}
 use Rattle.grub_asks.specs.Asked.{AsksLine, entry}
 use Rattle.grub_asks.specs.Answers.{IsAnswered, event_told, events_told}
 use Rattle.grub_workers.proofs.Finding.{all_left, all_right}

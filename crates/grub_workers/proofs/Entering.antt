@@ -10,13 +10,13 @@ use Rattle.grub_table.specs.Knowing.{GoesOn, Learns}
 use Rattle.grub_table.specs.Marks.{marker_of}
 use Rattle.grub_book.specs.History.{pass_of}
 use Rattle.grub_table.specs.Calls.{IsPassOf, number_of, share_of, seen, marks}
-use Rattle.grub_trace.specs.declared.entry.Ask.{Ask}
-use Rattle.grub_trace.specs.declared.entry.Ask.TheVariants.{Read}
-use Rattle.grub_trace.specs.declared.entry.Answer.{Answer}
-use Rattle.grub_trace.specs.declared.entry.Answer.TheVariants.{Seen}
-use Rattle.grub_trace.specs.declared.entry.Entry.{Entry}
+use Rattle.grub_plan.specs.declared.entry.Ask.{Ask}
+use Rattle.grub_plan.specs.declared.entry.Ask.TheVariants.{Read}
+use Rattle.grub_plan.specs.declared.entry.Answer.{Answer}
+use Rattle.grub_plan.specs.declared.entry.Answer.TheVariants.{Seen}
+use Rattle.grub_plan.specs.declared.entry.Entry.{Entry}
 use Rattle.grub_asks.specs.Asked.{entry}
-use Rattle.grub_trace.specs.Texts.{IsAskOf}
+use Rattle.grub_plan.specs.Texts.{IsAskOf}
 use Rattle.grub_asks.specs.Answers.{AreAsksOf, event_told, events_told}
 use Rattle.grub_workers.specs.inside.Entries.{mark_told, marks_told}
 use Rattle.grub_workers.specs.inside.Evidence.{AreBacked, IsBacked}

@@ -22,14 +22,14 @@ use Rattle.grub_book.specs.declared.event.Event.TheVariants as events
 use Rattle.grub_book.specs.declared.event.Reading.{Reading}
 use Rattle.grub_book.proofs.Histories.{book_push, legal_first, legal_last}
 use Rattle.grub_book.proofs.Totals.{opening_totals}
-use Rattle.grub_trace.specs.declared.entry.Ask.{Ask}
-use Rattle.grub_trace.specs.declared.entry.Ask.TheVariants.{Call, Read}
-use Rattle.grub_trace.specs.declared.entry.Answer.{Answer}
-use Rattle.grub_trace.specs.declared.entry.Answer.TheVariants.{Replied, Seen, Busy, Lost}
-use Rattle.grub_trace.specs.declared.entry.Entry.{Entry}
-use Rattle.grub_trace.specs.declared.entry.Report.{Report}
+use Rattle.grub_plan.specs.declared.entry.Ask.{Ask}
+use Rattle.grub_plan.specs.declared.entry.Ask.TheVariants.{Call, Read}
+use Rattle.grub_plan.specs.declared.entry.Answer.{Answer}
+use Rattle.grub_plan.specs.declared.entry.Answer.TheVariants.{Replied, Seen, Busy, Lost}
+use Rattle.grub_plan.specs.declared.entry.Entry.{Entry}
+use Rattle.grub_plan.specs.declared.entry.Report.{Report}
 use Rattle.grub_asks.specs.Asked.{Asked}
-use Rattle.grub_trace.specs.Plans.{Line, PlanView}
+use Rattle.grub_plan.specs.Plans.{Line, PlanView}
 use Rattle.grub_asks.specs.Answers.{IsAnswerTo, event_told, events_told}
 use Rattle.grub_workers.specs.Entries.{HeldTask}
 use Rattle.grub_workers.specs.Evidence.{IsOvertaken}

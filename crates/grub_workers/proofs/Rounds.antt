@@ -23,8 +23,8 @@ use Rattle.grub_table.specs.Histories.{IsHistory, EndsWith, record_in}
 use Rattle.grub_table.specs.Knowing.{GoesOn, Learns}
 use Rattle.grub_table.proofs.Growths.{learns_none, learns_twice}
 use Rattle.grub_table.specs.Calls.{IsPassOf, IsTaken, IsBusy, IsDone, IsLost, IsCancelled, IsSighting, IsClaimedSighting, number_of, share_of, claim_number, claim_share, claim_task, claim_op, claim_record, claim_queue, claim_changes_sum, seen, marks, claim_seen, marks_of_call, terms}
-use Rattle.grub_trace.specs.declared.entry.Ask.TheVariants.{Call}
-use Rattle.grub_trace.specs.declared.entry.Answer.TheVariants.{Replied, Lost}
+use Rattle.grub_plan.specs.declared.entry.Ask.TheVariants.{Call}
+use Rattle.grub_plan.specs.declared.entry.Answer.TheVariants.{Replied, Lost}
 use Rattle.grub_workers.specs.inside.Evidence.{ShowsHolder}
 use Rattle.grub_asks.specs.Keeping.{IsBlockBefore, WaitsRightly}
 use Rattle.grub_workers.specs.inside.Working.{IsAsked, machine}

@@ -20,13 +20,13 @@ use Rattle.grub_table.specs.declared.pass.Pass.{Pass}
 use Rattle.grub_table.specs.declared.pass.Shared.{Shared}
 use Rattle.grub_table.specs.Marks.{AreLawful, AreLawfulFrom, Holders, after_mark, nobody_holds, marker_of}
 use Rattle.grub_table.specs.Calls.{IsClosed, IsPassOf, number_of, marks, seen, terms}
-use Rattle.grub_trace.specs.declared.entry.Ask.{Ask}
-use Rattle.grub_trace.specs.declared.entry.Ask.TheVariants.{Call, Read}
-use Rattle.grub_trace.specs.declared.entry.Answer.{Answer}
-use Rattle.grub_trace.specs.declared.entry.Answer.TheVariants.{Replied, Seen, Busy, Lost}
-use Rattle.grub_trace.specs.declared.entry.Entry.{Entry}
-use Rattle.grub_trace.specs.declared.entry.Report.{Report}
-use Rattle.grub_trace.specs.Plans.{Line, PlanView}
+use Rattle.grub_plan.specs.declared.entry.Ask.{Ask}
+use Rattle.grub_plan.specs.declared.entry.Ask.TheVariants.{Call, Read}
+use Rattle.grub_plan.specs.declared.entry.Answer.{Answer}
+use Rattle.grub_plan.specs.declared.entry.Answer.TheVariants.{Replied, Seen, Busy, Lost}
+use Rattle.grub_plan.specs.declared.entry.Entry.{Entry}
+use Rattle.grub_plan.specs.declared.entry.Report.{Report}
+use Rattle.grub_plan.specs.Plans.{Line, PlanView}
 use Rattle.grub_asks.specs.Answers.{event_told, events_told}
 use Rattle.grub_workers.specs.Entries.{HeldTask, has_held}
 use Rattle.grub_workers.specs.inside.Entries.{mark_told, marks_of, marks_told}

@@ -2,11 +2,11 @@
 use Rattle.std.specs.Prelude.{◌≡◌, ◌≢◌, ◌<◌, ◌≤◌, ℕ, List, Option, Some, None, length, map, slice_get}
 use Rattle.std.specs.List.{All, Any}
 use Rattle.grub_book.specs.declared.event.Reading.{Reading}
-use Rattle.grub_trace.specs.declared.entry.Entry.{Entry}
-use Rattle.grub_trace.specs.declared.entry.Report.{Report}
-use Rattle.grub_trace.specs.declared.line.Act.{Act}
-use Rattle.grub_trace.specs.declared.line.Act.TheVariants.{Join, Wake, Block, Leave, Exit, Run, Retune, Read}
-use Rattle.grub_trace.specs.Plans.{Line, PlanView}
+use Rattle.grub_plan.specs.declared.entry.Entry.{Entry}
+use Rattle.grub_plan.specs.declared.entry.Report.{Report}
+use Rattle.grub_plan.specs.declared.line.Act.{Act}
+use Rattle.grub_plan.specs.declared.line.Act.TheVariants.{Join, Wake, Block, Leave, Exit, Run, Retune, Read}
+use Rattle.grub_plan.specs.Plans.{Line, PlanView}
 use Rattle.grub_workers.specs.Handles.{script_at}
 use Rattle.grub_asks.specs.Answers.{IsGivenUp}
 use Rattle.grub_workers.specs.Runs.{IsOnlyRun, IsRun, entries_of}

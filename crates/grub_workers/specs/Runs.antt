@@ -7,14 +7,14 @@ use Rattle.grub_book.specs.History.{IsLegal, book_of, calls_of, pass_of}
 use Rattle.grub_book.specs.declared.op.Op.TheVariants.{Charge}
 use Rattle.grub_book.specs.declared.event.Event.{Event}
 use Rattle.grub_book.specs.declared.event.Reading.{Reading}
-use Rattle.grub_trace.specs.declared.entry.Ask.{Ask}
-use Rattle.grub_trace.specs.declared.entry.Ask.TheVariants.{Call}
-use Rattle.grub_trace.specs.declared.entry.Answer.{Answer}
-use Rattle.grub_trace.specs.declared.entry.Answer.TheVariants.{Busy, Lost}
-use Rattle.grub_trace.specs.declared.entry.Entry.{Entry}
-use Rattle.grub_trace.specs.declared.entry.Report.{Report}
+use Rattle.grub_plan.specs.declared.entry.Ask.{Ask}
+use Rattle.grub_plan.specs.declared.entry.Ask.TheVariants.{Call}
+use Rattle.grub_plan.specs.declared.entry.Answer.{Answer}
+use Rattle.grub_plan.specs.declared.entry.Answer.TheVariants.{Busy, Lost}
+use Rattle.grub_plan.specs.declared.entry.Entry.{Entry}
+use Rattle.grub_plan.specs.declared.entry.Report.{Report}
 use Rattle.grub_asks.specs.Asked.{Asked}
-use Rattle.grub_trace.specs.Plans.{Line, PlanView}
+use Rattle.grub_plan.specs.Plans.{Line, PlanView}
 use Rattle.grub_asks.specs.Answers.{AreAsksOf, IsAnswerTo, events_told}
 use Rattle.grub_workers.specs.Entries.{HeldTask}
 use Rattle.grub_workers.specs.Evidence.{IsOvertaken}

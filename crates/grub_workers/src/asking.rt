@@ -2,15 +2,15 @@
 ghost use Rattle.std.specs.Prelude.{◌<◌, ◌≤◌, length};
 ghost use Rattle.grub_book.specs.Op.{IsOp};
 ghost use Rattle.grub_table.specs.Calls.{IsPassOf, terms};
-ghost use Rattle.grub_trace.specs.declared.entry.Ask.TheVariants.{Call};
+ghost use Rattle.grub_plan.specs.declared.entry.Ask.TheVariants.{Call};
 ghost use Rattle.grub_asks.specs.Keeping.{WaitsRightly};
 ghost use Rattle.grub_workers.specs.inside.Working.{IsAsked};
 
 use crate::desk::Desk;
 use crate::gate::Gate;
 use grub_book::Op;
+use grub_plan::Answer;
 use grub_table::{Claim, Finished, Pass, Started};
-use grub_trace::Answer;
 
 /// Where an ask stands between two rounds.
 enum Turn {

@@ -7,8 +7,8 @@ ghost use Rattle.grub_workers.specs.Runs.{AllAsksOf, IsLostCharge, IsOnlyRun, Is
 use crate::gate::Gate;
 use crate::scoped::{Done, run_scoped};
 use grub_book::Reading;
+use grub_plan::{Plan, Report};
 use grub_table::Shared;
-use grub_trace::{Plan, Report};
 use std::alloc::Global;
 use std::error::Error;
 use std::fmt;

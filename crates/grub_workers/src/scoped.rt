@@ -1,7 +1,7 @@
 //! A thread for each file.
 ghost use Rattle.std.specs.Prelude.{◌≡◌, ℕ, ◌<◌, ◌≤◌, None, length, IfOk, vec_len, slice_index_or};
 ghost use Rattle.grub_table.specs.Calls.{AreNew, IsNew, terms};
-ghost use Rattle.grub_trace.specs.Limits.{ScriptFits};
+ghost use Rattle.grub_plan.specs.Limits.{ScriptFits};
 ghost use Rattle.grub_workers.specs.inside.Working.{IsWorked};
 ghost use Rattle.grub_workers.specs.inside.Handles.{AllFit, AllWorked, Handle, HasRoom, IsOf};
 
@@ -9,8 +9,8 @@ use crate::desk::Desk;
 use crate::gate::Gate;
 use crate::outcome::RunFault;
 use crate::work::{WorkOf, Worked, work_through};
+use grub_plan::{Plan, Report};
 use grub_table::{Pass, Shared};
-use grub_trace::{Plan, Report};
 use std::alloc::{AllocError, Global};
 use std::sync::Wait;
 use std::thread;

@@ -2,7 +2,7 @@
 ghost use Rattle.std.specs.Prelude.{◌≡◌, ◌<◌, ◌≤◌, ◌^◌, [], Some, None, IfOk, length};
 ghost use Rattle.grub_table.specs.Calls.{terms};
 ghost use Rattle.grub_asks.specs.Asked.{Asked, AsksLine, Follows, JoinsAfter};
-ghost use Rattle.grub_trace.specs.Limits.{ActFits, ScriptFits};
+ghost use Rattle.grub_plan.specs.Limits.{ActFits, ScriptFits};
 ghost use Rattle.grub_workers.specs.inside.Working.{IsAtWork, IsNotPast};
 
 use crate::desk::Desk;
@@ -11,8 +11,8 @@ use crate::gate::Gate;
 use crate::worker::{Progress, call, look};
 use grub_asks::call_of;
 use grub_book::{Op, Reply};
+use grub_plan::{Act, Answer, Line};
 use grub_table::Pass;
-use grub_trace::{Act, Answer, Line};
 use std::alloc::AllocError;
 
 /// Where a task has left, it joins here.

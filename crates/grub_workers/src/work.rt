@@ -1,15 +1,15 @@
 //! The work of one thread, and what its join promises.
 ghost use Rattle.std.specs.Prelude.{◌<◌, ◌≤◌, IfOk, length};
 ghost use Rattle.grub_table.specs.Calls.{IsNew, terms};
-ghost use Rattle.grub_trace.specs.Limits.{ScriptFits};
+ghost use Rattle.grub_plan.specs.Limits.{ScriptFits};
 ghost use Rattle.grub_workers.specs.inside.Working.{IsWorked};
 
 use crate::desk::Desk;
 use crate::gate::Gate;
 use crate::script::ask_script;
 use crate::worker::Progress;
+use grub_plan::{Line, Report};
 use grub_table::{Pass, Shared};
-use grub_trace::{Line, Report};
 use grub_wheel::Wheel;
 use std::alloc::{AllocError, Global};
 use std::thread::Promise;

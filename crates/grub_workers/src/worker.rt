@@ -2,7 +2,7 @@
 ghost use Rattle.std.specs.Prelude.{◌≡◌, ◌<◌, ◌≤◌, ◌++◌, ◌∷◌, [], Some, IfOk, length};
 ghost use Rattle.grub_book.specs.Op.{IsOp};
 ghost use Rattle.grub_table.specs.Calls.{terms};
-ghost use Rattle.grub_trace.specs.declared.entry.Ask.TheVariants.{Call, Read};
+ghost use Rattle.grub_plan.specs.declared.entry.Ask.TheVariants.{Call, Read};
 ghost use Rattle.grub_asks.specs.Asked.{GoesOn, entry};
 ghost use Rattle.grub_asks.specs.Keeping.{WaitsRightly};
 ghost use Rattle.grub_asks.specs.inside.Keeping.{IsLineOp};
@@ -13,8 +13,8 @@ use crate::desk::Desk;
 use crate::gate::Gate;
 use grub_asks::{keep, make_room};
 use grub_book::Op;
+use grub_plan::{Answer, Ask, Entry};
 use grub_table::Pass;
-use grub_trace::{Answer, Ask, Entry};
 use grub_wheel::Wheel;
 use std::alloc::AllocError;
 

@@ -3,7 +3,7 @@ use Rattle.std.specs.Prelude.{◌≡◌, ◌<◌, ℕ, Some, List, length}
 use Rattle.grub_book.specs.Machine.{Machine}
 use Rattle.grub_book.specs.declared.op.Op.{Op}
 use Rattle.grub_book.specs.declared.op.Op.TheVariants as ops
-use Rattle.grub_trace.specs.declared.entry.Entry.{Entry}
+use Rattle.grub_plan.specs.declared.entry.Entry.{Entry}
 use Rattle.grub_wheel.specs.TimerBag.{TimerBag}
 use Rattle.grub_asks.specs.Timers.{Alarm, armed}
 use Rattle.grub_asks.specs.Keeping.{alarm_of}

@@ -3,7 +3,8 @@
 use super::files::{DOCUMENTATION, DOCUMENTATION_REPORT, FIRST, FIRST_REPORT};
 use super::files_of;
 use crate::{GrubFault, run_texts};
-use grub_trace::{TextFault, TraceFault};
+use grub_plan::TextFault;
+use grub_trace::TraceFault;
 use grub_workers::RunFault;
 use std::alloc::{AllocError, Global};
 use std::process::Abort;

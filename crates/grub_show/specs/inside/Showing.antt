@@ -7,7 +7,7 @@ use Rattle.grub_run.specs.declared.fault.GrubFault.{GrubFault}
 use Rattle.grub_run.specs.declared.fault.GrubFault.TheVariants as run
 use Rattle.grub_timeline.specs.TimeLines.{IsTimeLine}
 use Rattle.grub_timeline.specs.declared.told.Told.{Told}
-use Rattle.grub_trace.specs.Plans.{PlanView}
+use Rattle.grub_plan.specs.Plans.{PlanView}
 use Rattle.grub_show.specs.Faults.{IsEmptySpan}
 use Rattle.grub_show.specs.Shown.{IsViewOf}
 use Rattle.grub_show.specs.declared.fault.ShowFault.{ShowFault}

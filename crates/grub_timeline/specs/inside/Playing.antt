@@ -7,11 +7,11 @@ use Rattle.grub_book.specs.declared.event.Reading.{Reading}
 use Rattle.grub_book.specs.declared.op.Op.{Op}
 use Rattle.grub_book.specs.declared.op.Op.TheVariants as ops
 use Rattle.grub_book.specs.declared.reply.Reply.TheVariants.{Waiting}
-use Rattle.grub_trace.specs.declared.entry.Ask.TheVariants.{Read}
-use Rattle.grub_trace.specs.declared.entry.Answer.{Answer}
-use Rattle.grub_trace.specs.declared.entry.Answer.TheVariants.{Replied, Seen}
-use Rattle.grub_trace.specs.declared.entry.Entry.{Entry}
-use Rattle.grub_trace.specs.Plans.{Line, PlanView}
+use Rattle.grub_plan.specs.declared.entry.Ask.TheVariants.{Read}
+use Rattle.grub_plan.specs.declared.entry.Answer.{Answer}
+use Rattle.grub_plan.specs.declared.entry.Answer.TheVariants.{Replied, Seen}
+use Rattle.grub_plan.specs.declared.entry.Entry.{Entry}
+use Rattle.grub_plan.specs.Plans.{Line, PlanView}
 use Rattle.grub_asks.specs.Asked.{Follows, ask_of, entry}
 use Rattle.grub_asks.specs.Keeping.{places_of}
 use Rattle.grub_asks.specs.inside.Keeping.{IsKept}

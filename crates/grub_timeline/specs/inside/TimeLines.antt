@@ -1,7 +1,7 @@
 -- One entry of a time line.
 use Rattle.std.specs.Prelude.{ℕ}
-use Rattle.grub_trace.specs.declared.entry.Ask.{Ask}
-use Rattle.grub_trace.specs.declared.entry.Answer.{Answer}
+use Rattle.grub_plan.specs.declared.entry.Ask.{Ask}
+use Rattle.grub_plan.specs.declared.entry.Answer.{Answer}
 use Rattle.grub_asks.specs.Asked.{entry}
 use Rattle.grub_timeline.specs.declared.told.Told.{Told}
 

@@ -1,8 +1,8 @@
 -- Whether the name in a line is a name.
 use Rattle.std.specs.Prelude.{ℕ, Bool, true, List}
-use Rattle.grub_trace.specs.declared.line.Act.{Act}
-use Rattle.grub_trace.specs.declared.line.Act.TheVariants.{Join, Wake, Block, Leave, Exit, Run, Retune, Read}
-use Rattle.grub_trace.specs.Tree.{is_name}
+use Rattle.grub_plan.specs.declared.line.Act.{Act}
+use Rattle.grub_plan.specs.declared.line.Act.TheVariants.{Join, Wake, Block, Leave, Exit, Run, Retune, Read}
+use Rattle.grub_plan.specs.Names.{is_name}
 use Rattle.grub_trace.specs.Forms.{Form, at_moment, queue, task}
 
 -- the name in what is said is a name

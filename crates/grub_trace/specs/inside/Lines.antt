@@ -4,15 +4,15 @@ use Rattle.std.specs.Borrow.{Bor}
 use Rattle.grub_trace.specs.declared.fault.Halt.{Halt}
 use Rattle.grub_trace.specs.declared.fault.Kind.{Kind}
 use Rattle.grub_trace.specs.declared.fault.Kind.TheVariants.{MomentGoesBack}
-use Rattle.grub_trace.specs.declared.line.Act.{Act}
-use Rattle.grub_trace.specs.declared.line.Line as lines
+use Rattle.grub_plan.specs.declared.line.Act.{Act}
+use Rattle.grub_plan.specs.declared.line.Line as lines
 use Rattle.grub_trace.specs.declared.raw.RawFile.{RawFile}
 use Rattle.grub_trace.specs.declared.raw.RawScript.{RawScript}
 use Rattle.grub_trace.specs.declared.tasks.Tasks.{Tasks}
 use Rattle.grub_trace.specs.declared.version.Version.{Version}
 use Rattle.grub_trace.specs.Faults.{last_of}
 use Rattle.grub_trace.specs.Forms.{at_moment, form_of, words_of}
-use Rattle.grub_trace.specs.Plans.{Line}
+use Rattle.grub_plan.specs.Plans.{Line}
 use Rattle.grub_trace.specs.Tree.{Happening, names_of}
 use Rattle.grub_trace.specs.inside.Forms.{is_task}
 use Rattle.grub_trace.specs.inside.Reading.{Body, Halts, Read, declarations, line_view, raw_view, says, script_from, take_form, take_line, times_of}

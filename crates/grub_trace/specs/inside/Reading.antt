@@ -11,15 +11,15 @@ use Rattle.grub_trace.specs.declared.fault.Kind.{Kind}
 use Rattle.grub_trace.specs.declared.fault.Kind.TheVariants.{BadLine, BadNumber, OutOfRange, CutShort, MissingQueue, BadHeader, UnknownTask}
 use Rattle.grub_trace.specs.declared.fault.TraceFault.{TraceFault}
 use Rattle.grub_trace.specs.declared.fault.TraceFault.TheVariants as fault
-use Rattle.grub_trace.specs.declared.line.Line as lines
-use Rattle.grub_trace.specs.declared.line.Act.{Act}
-use Rattle.grub_trace.specs.declared.line.Act.TheVariants as act
+use Rattle.grub_plan.specs.declared.line.Line as lines
+use Rattle.grub_plan.specs.declared.line.Act.{Act}
+use Rattle.grub_plan.specs.declared.line.Act.TheVariants as act
 use Rattle.grub_trace.specs.declared.fault.Halt.{Halt}
 use Rattle.grub_trace.specs.declared.fault.Halt.TheVariants as halt
 use Rattle.grub_trace.specs.declared.tasks.Task.{Task}
 use Rattle.grub_trace.specs.declared.tasks.Tasks.{Tasks}
 use Rattle.grub_trace.specs.Forms.{parts_of, version_of, Form, queue, task, at_moment, words_of, form_of, is_filled, is_number, value, reservation_value, capacity_value}
-use Rattle.grub_trace.specs.Plans.{Line, PlanView}
+use Rattle.grub_plan.specs.Plans.{Line, PlanView}
 use Rattle.grub_trace.specs.Naming.{line_in, plan_with, task_of}
 use Rattle.grub_trace.specs.Tree.{is_moment, is_span, Declaration, Happening, names_of}
 use Rattle.grub_trace.specs.Faults.{queue_fault, form_fault, reservation_fits}

@@ -2,8 +2,8 @@
 use Rattle.std.specs.Prelude.{◌<◌, List, All, length}
 use Rattle.grub_book.specs.Machine.{Machine}
 use Rattle.grub_book.specs.Op.{IsOp}
-use Rattle.grub_trace.specs.declared.entry.Ask.{Ask}
-use Rattle.grub_trace.specs.declared.entry.Ask.TheVariants.{Call, Read}
+use Rattle.grub_plan.specs.declared.entry.Ask.{Ask}
+use Rattle.grub_plan.specs.declared.entry.Ask.TheVariants.{Call, Read}
 use Rattle.grub_timeline.specs.declared.told.Told.{Told}
 use Rattle.grub_views.specs.declared.book_steps.Step.{Step}
 

@@ -6,8 +6,8 @@ use Rattle.std.specs.declared.thread.PromisedHandle.{PromisedHandle}
 use Rattle.grub_table.specs.declared.pass.Pass.{Pass}
 use Rattle.grub_table.specs.declared.pass.Shared.{Shared}
 use Rattle.grub_table.specs.Calls.{terms}
-use Rattle.grub_trace.specs.declared.entry.Report.{Report}
-use Rattle.grub_trace.specs.Plans.{Line, PlanView}
+use Rattle.grub_plan.specs.declared.entry.Report.{Report}
+use Rattle.grub_plan.specs.Plans.{Line, PlanView}
 use Rattle.grub_workers.specs.declared.work.WorkOf.{WorkOf}
 use Rattle.grub_workers.specs.declared.work.Worked.{Worked}
 use Rattle.grub_workers.specs.inside.Working.{IsWorked}

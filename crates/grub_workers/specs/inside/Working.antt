@@ -6,10 +6,10 @@ use Rattle.grub_table.specs.declared.pass.Pass.{Pass}
 use Rattle.grub_table.specs.declared.pass.Shared.{Shared}
 use Rattle.grub_table.specs.Knowing.{Learns}
 use Rattle.grub_table.specs.Calls.{IsPassOf, number_of, share_of, seen, marks, terms}
-use Rattle.grub_trace.specs.Plans.{Line}
-use Rattle.grub_trace.specs.declared.entry.Ask.{Ask}
-use Rattle.grub_trace.specs.declared.entry.Answer.{Answer}
-use Rattle.grub_trace.specs.declared.entry.Entry.{Entry}
+use Rattle.grub_plan.specs.Plans.{Line}
+use Rattle.grub_plan.specs.declared.entry.Ask.{Ask}
+use Rattle.grub_plan.specs.declared.entry.Answer.{Answer}
+use Rattle.grub_plan.specs.declared.entry.Entry.{Entry}
 use Rattle.grub_asks.specs.Asked.{Asked}
 use Rattle.grub_asks.specs.inside.Keeping.{IsKept}
 use Rattle.grub_workers.specs.declared.worker.Progress.{Progress}

@@ -1,5 +1,5 @@
 use Rattle.std.proofs.Common.{◌≡◌, take, map}
-use Rattle.grub_trace.specs.Reading.{contents}
+use Rattle.grub_plan.specs.Contents.{contents}
 use Rattle.grub_convert.specs.Files.{name_in, params_in}
 use Rattle.grub_convert.proofs.files.declarations.Given as goal
 

@@ -1,5 +1,5 @@
 use Rattle.std.proofs.Common.{◌≡◌}
-use Rattle.grub_trace.specs.Reading.{contents}
+use Rattle.grub_plan.specs.Contents.{contents}
 use Rattle.grub_convert.specs.Files.{files_of}
 use Rattle.grub_convert.proofs.files.texts.Given as goal
 

@@ -2,7 +2,7 @@ use Rattle.std.proofs.Common.{◌≡◌, ◌∙◌, ap, inl, inr, length, map, r
 use Rattle.std.proofs.lemmas.List.{length-map}
 use Rattle.std.proofs.lemmas.Result.{on_ok_weaker}
 use Rattle.std.specs.Prelude.{string_bytes}
-use Rattle.grub_trace.specs.Reading.{contents}
+use Rattle.grub_plan.specs.Contents.{contents}
 use Rattle.grub_convert.specs.Faults.{status_of}
 use Rattle.grub_convert.specs.Serving.{AreFree, AreMade, IsTaken, event_paths}
 use Rattle.grub_convert.proofs.ServingLemmas.{count_of_paths, of_trace}

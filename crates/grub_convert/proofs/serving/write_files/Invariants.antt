@@ -1,6 +1,6 @@
 use Rattle.std.proofs.Common.{take, map}
 use Rattle.std.specs.Prelude.{string_bytes}
-use Rattle.grub_trace.specs.Reading.{contents}
+use Rattle.grub_plan.specs.Contents.{contents}
 use Rattle.grub_convert.specs.Serving.{AreMade}
 use Rattle.grub_convert.proofs.serving.write_files.Given as goal
 

@@ -1,6 +1,6 @@
 use Rattle.std.proofs.Common.{◌≡◌, ◌+◌, ◌*◌, ◌≤◌, ◌++◌, vec_len, vec_capacity, take}
 use Rattle.std.specs.List.{flat_map}
-use Rattle.grub_trace.specs.declared.pieces.TheConstants.{LINE_MAX}
+use Rattle.grub_plan.specs.declared.pieces.TheConstants.{LINE_MAX}
 use Rattle.grub_lines.proofs.block.append_lines.Given as goal
 
 abbrev pub invariant-loop-item : goal.invariant-loop-item

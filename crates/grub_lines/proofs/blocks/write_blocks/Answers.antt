@@ -1,6 +1,6 @@
 use Rattle.std.proofs.Common.{◌≡◌, List, ℕ, [], rules, get_or, subst, sym, ap, ◌∙◌}
-use Rattle.grub_trace.specs.Writing.{HandsPart}
-use Rattle.grub_trace.proofs.Handing.{part_entries, on_err}
+use Rattle.grub_plan.specs.Writing.{HandsPart}
+use Rattle.grub_plan.proofs.Handing.{part_entries, on_err}
 use Rattle.grub_lines.proofs.Rounds.{part_bytes}
 use Rattle.grub_lines.proofs.blocks.write_blocks.Goals as goal
 

@@ -1,6 +1,6 @@
 use Rattle.std.proofs.Common.{[], take}
 use Rattle.std.specs.List.{flat_map}
-use Rattle.grub_trace.specs.Writing.{HandsOn}
+use Rattle.grub_plan.specs.Writing.{HandsOn}
 use Rattle.grub_lines.proofs.blocks.write_blocks.Given as goal
 
 abbrev pub invariant-loop-block : goal.invariant-loop-block

@@ -1,6 +1,6 @@
 use Rattle.std.proofs.Common.{◌≡◌, rules, arith, get_or, subst, sym}
-use Rattle.grub_trace.specs.Writing.{HandsOn}
-use Rattle.grub_trace.proofs.Handing.{hands_entries, hands_put, hands_soon, part_entries, on_err}
+use Rattle.grub_plan.specs.Writing.{HandsOn}
+use Rattle.grub_plan.proofs.Handing.{hands_entries, hands_put, hands_soon, part_entries, on_err}
 use Rattle.grub_lines.proofs.writing.write_few.Goals as goal
 
 pub returns-in_err-make_room-clause-part : goal.returns-in_err-make_room-clause-part

@@ -1,7 +1,7 @@
 use Rattle.std.proofs.Common.{◌≤◌, take, vec_capacity}
 use Rattle.std.specs.List.{flat_map}
-use Rattle.grub_trace.specs.declared.pieces.TheConstants.{LINE_MAX}
-use Rattle.grub_trace.specs.Writing.{HandsOn}
+use Rattle.grub_plan.specs.declared.pieces.TheConstants.{LINE_MAX}
+use Rattle.grub_plan.specs.Writing.{HandsOn}
 use Rattle.grub_lines.proofs.writing.write_few.Given as goal
 
 abbrev pub invariant-loop-item : goal.invariant-loop-item

@@ -1,7 +1,7 @@
 use Rattle.std.proofs.Common.{[]}
 use Rattle.std.proofs.lemmas.Result.{on_err_weaker}
 use Rattle.std.specs.List.{flat_map}
-use Rattle.grub_trace.proofs.Handing.{hands_soon, part_after, on_err}
+use Rattle.grub_plan.proofs.Handing.{hands_soon, part_after, on_err}
 use Rattle.grub_lines.proofs.writing.write_lines.Goals as goal
 
 pub returns-in_err-write_buffer-clause-part : goal.returns-in_err-write_buffer-clause-part

@@ -1,6 +1,6 @@
 use Rattle.std.proofs.Common.{◌≤◌, refl, arith, length}
 use Rattle.std.proofs.lemmas.Grind.{common_steps}
-use Rattle.grub_trace.proofs.Handing.{on_err}
+use Rattle.grub_plan.proofs.Handing.{on_err}
 use Rattle.grub_lines.proofs.Rounds.{hands_round, part_round}
 use Rattle.grub_lines.proofs.writing.write_many.Goals as goal
 

@@ -3,9 +3,9 @@ use Rattle.std.proofs.lemmas.Grind.{common_steps}
 use Rattle.std.proofs.lemmas.List.{take_all}
 use Rattle.std.specs.Io.KnownBytes.{Appends}
 use Rattle.grub_book.specs.declared.event.Reading.{Reading}
-use Rattle.grub_trace.specs.Texts.{report_text}
-use Rattle.grub_trace.specs.Writing.{HandsOn}
-use Rattle.grub_trace.proofs.Handing.{hands_both, hands_through, part_after, on_err}
+use Rattle.grub_plan.specs.Texts.{report_text}
+use Rattle.grub_plan.specs.Writing.{HandsOn}
+use Rattle.grub_plan.proofs.Handing.{hands_both, hands_through, part_after, on_err}
 use Rattle.grub_run.specs.Written.{texts_from}
 use Rattle.grub_run.proofs.Known.{prefix_of, prefix_flushed}
 use Rattle.grub_run.proofs.TextLemmas.{texts_next, texts_front, texts_before}

@@ -1,6 +1,6 @@
 use Rattle.std.proofs.Common.{◌≤◌, take, vec_capacity, []}
-use Rattle.grub_trace.specs.declared.pieces.TheConstants.{LINE_MAX}
-use Rattle.grub_trace.specs.Writing.{HandsOn}
+use Rattle.grub_plan.specs.declared.pieces.TheConstants.{LINE_MAX}
+use Rattle.grub_plan.specs.Writing.{HandsOn}
 use Rattle.grub_run.specs.Written.{texts_from}
 use Rattle.grub_run.proofs.texts.write_reports.Given as goal
 

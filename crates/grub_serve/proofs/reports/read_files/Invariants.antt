@@ -1,5 +1,5 @@
 use Rattle.std.proofs.Common.{take}
-use Rattle.grub_trace.specs.Reading.{contents}
+use Rattle.grub_plan.specs.Contents.{contents}
 use Rattle.grub_serve.specs.Faults.{HoldAll, names_of}
 use Rattle.grub_serve.proofs.reports.read_files.Given as goal
 

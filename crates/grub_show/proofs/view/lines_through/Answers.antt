@@ -1,6 +1,6 @@
 use Rattle.std.proofs.Common.{refl}
 use Rattle.std.proofs.lemmas.Result.{on_ok_weaker, on_err_weaker}
-use Rattle.grub_trace.proofs.Handing.{on_err}
+use Rattle.grub_plan.proofs.Handing.{on_err}
 use Rattle.grub_views.specs.Lines.{timeline_lines}
 use Rattle.grub_show.proofs.Handed.{begun, drained, drained_part}
 use Rattle.grub_show.proofs.view.lines_through.Goals as goal

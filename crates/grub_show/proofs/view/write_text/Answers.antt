@@ -1,4 +1,4 @@
-use Rattle.grub_trace.proofs.Handing.{on_err}
+use Rattle.grub_plan.proofs.Handing.{on_err}
 use Rattle.grub_show.proofs.Handed.{handed_part}
 use Rattle.grub_show.proofs.view.write_text.Goals as goal
 

@@ -5,8 +5,8 @@ use Rattle.grub_timeline.specs.TimeLines.{IsTimeLine}
 use Rattle.grub_timeline.specs.declared.told.Told.{Told}
 use Rattle.grub_trace.specs.Meaning.{Reads}
 use Rattle.grub_trace.specs.Naming.{plan_of}
-use Rattle.grub_trace.specs.Plans.{PlanView}
-use Rattle.grub_trace.specs.Reading.{contents}
+use Rattle.grub_plan.specs.Plans.{PlanView}
+use Rattle.grub_plan.specs.Contents.{contents}
 use Rattle.grub_trace.specs.Tree.{Tree}
 use Rattle.grub_show.specs.Shown.{IsShown, IsViewOf}
 use Rattle.grub_show.specs.declared.view.View.{View}

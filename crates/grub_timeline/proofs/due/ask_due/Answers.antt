@@ -3,7 +3,7 @@ use Rattle.std.proofs.lemmas.Fn.{FoldsTo-push}
 use Rattle.grub_book.specs.Machine.{Machine}
 use Rattle.grub_book.specs.declared.op.Op.TheVariants as ops
 use Rattle.grub_wheel.specs.TimerBag.{WheelState}
-use Rattle.grub_trace.specs.declared.entry.Ask.TheVariants.{Call}
+use Rattle.grub_plan.specs.declared.entry.Ask.TheVariants.{Call}
 use Rattle.grub_asks.specs.Asked.{AsksTimer}
 use Rattle.grub_asks.specs.Keeping.{places_of}
 use Rattle.grub_asks.specs.inside.Keeping.{IsKept}

@@ -1,6 +1,6 @@
 use Rattle.std.proofs.Common.{refl}
 use Rattle.grub_book.specs.declared.op.Op.TheVariants.{Leave}
-use Rattle.grub_trace.specs.declared.entry.Ask.TheVariants.{Call}
+use Rattle.grub_plan.specs.declared.entry.Ask.TheVariants.{Call}
 use Rattle.grub_timeline.specs.inside.TimeLines.{told_of}
 use Rattle.grub_timeline.proofs.GoesOn.{goes_on, goes_twice}
 use Rattle.grub_timeline.proofs.line.follow.Goals as goal

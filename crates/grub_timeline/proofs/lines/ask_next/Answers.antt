@@ -1,6 +1,6 @@
 use Rattle.std.proofs.Common.{◌+◌, ◌<◌, ℕ, List, get_or, length, sym, subst}
 use Rattle.grub_book.specs.Machine.{Machine}
-use Rattle.grub_trace.specs.Limits.{ActFits}
+use Rattle.grub_plan.specs.Limits.{ActFits}
 use Rattle.grub_timeline.specs.Order.{left}
 use Rattle.grub_timeline.specs.inside.Merge.{IsAhead, placed}
 use Rattle.grub_timeline.proofs.Merging.{fits_here, less, midway_next}

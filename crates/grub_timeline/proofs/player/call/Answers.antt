@@ -1,7 +1,7 @@
 use Rattle.std.proofs.Common.{List, ℕ, length, arith, ap, sym, ◌∙◌, subst}
 use Rattle.grub_book.specs.Machine.{Machine}
 use Rattle.grub_wheel.specs.TimerBag.{TimerBag, WheelState}
-use Rattle.grub_trace.specs.declared.entry.Ask.TheVariants.{Call}
+use Rattle.grub_plan.specs.declared.entry.Ask.TheVariants.{Call}
 use Rattle.grub_asks.specs.Timers.{touch_of_call}
 use Rattle.grub_asks.specs.Keeping.{IsTouched, places_of}
 use Rattle.grub_asks.specs.inside.Keeping.{IsKept}

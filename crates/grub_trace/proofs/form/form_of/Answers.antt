@@ -1,4 +1,4 @@
-use Rattle.std.proofs.Common.{◌≡◌, ◌∙◌, ap, map, option_map, rules}
+use Rattle.std.proofs.Common.{◌≡◌, option_map, rules}
 use Rattle.grub_trace.specs.Forms.{form_of, words_of}
 use Rattle.grub_trace.specs.inside.Reading.{form_view}
 use Rattle.grub_trace.proofs.FormLemmas.{form_named}

@@ -1,4 +1,4 @@
-use Rattle.grub_trace.specs.Reading.{contents}
+use Rattle.grub_plan.specs.Contents.{contents}
 use Rattle.grub_trace.proofs.Planned.{planned_then, still_together}
 use Rattle.grub_trace.proofs.read.plan.Goals as goal
 

@@ -1,6 +1,6 @@
 use Rattle.std.proofs.Common.{arith}
 use Rattle.std.proofs.lemmas.List.{length-map}
-use Rattle.grub_trace.specs.Reading.{contents}
+use Rattle.grub_plan.specs.Contents.{contents}
 use Rattle.grub_trace.proofs.ReadLaws.{found, fault_is, read_if, fault_if}
 use Rattle.grub_trace.proofs.Openings.{opening_if}
 use Rattle.grub_trace.proofs.read.read_files_by_threads.Goals as goal

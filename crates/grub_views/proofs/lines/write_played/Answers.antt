@@ -1,9 +1,9 @@
 use Rattle.std.proofs.Common.{◌≡◌, ◌++◌, ◌∙◌, ap, sym, subst, rules}
 use Rattle.std.specs.List.{flat_map}
 use Rattle.std.proofs.lemmas.Grind.{flat_map-append}
-use Rattle.grub_trace.specs.Plans.{PlanView}
-use Rattle.grub_trace.specs.Writing.{HandsOn, HandsPart}
-use Rattle.grub_trace.proofs.Handing.{hands_both}
+use Rattle.grub_plan.specs.Plans.{PlanView}
+use Rattle.grub_plan.specs.Writing.{HandsOn, HandsPart}
+use Rattle.grub_plan.proofs.Handing.{hands_both}
 use Rattle.grub_timeline.specs.TimeLines.{AreWithin}
 use Rattle.grub_views.specs.Lines.{told_line}
 use Rattle.grub_views.proofs.Chunking.{told_out}

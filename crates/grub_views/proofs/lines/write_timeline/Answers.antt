@@ -1,8 +1,8 @@
 use Rattle.std.proofs.Common.{subst}
 use Rattle.std.specs.List.{flat_map}
 use Rattle.std.proofs.lemmas.Result.{on_ok_weaker, on_err_weaker}
-use Rattle.grub_trace.specs.Plans.{PlanView}
-use Rattle.grub_trace.proofs.Handing.{hands_both, part_after, part_longer, on_err}
+use Rattle.grub_plan.specs.Plans.{PlanView}
+use Rattle.grub_plan.proofs.Handing.{hands_both, part_after, part_longer, on_err}
 use Rattle.grub_timeline.specs.TimeLines.{IsTimeLine}
 use Rattle.grub_views.specs.Lines.{close_lines, timeline_lines, told_line}
 use Rattle.grub_views.proofs.lines.write_timeline.Goals as goal

@@ -1,6 +1,6 @@
 use Rattle.std.proofs.Common.{subst}
 use Rattle.std.proofs.lemmas.Result.{on_err_weaker, on_ok_weaker}
-use Rattle.grub_trace.specs.Plans.{PlanView}
+use Rattle.grub_plan.specs.Plans.{PlanView}
 use Rattle.grub_timeline.specs.TimeLines.{IsTimeLine}
 use Rattle.grub_views.proofs.rows.write_steps.Goals as goal
 

@@ -1,5 +1,5 @@
 use Rattle.grub_table.specs.declared.pass.Pass.{Pass}
-use Rattle.grub_trace.specs.declared.entry.Ask.TheVariants.{Read}
+use Rattle.grub_plan.specs.declared.entry.Ask.TheVariants.{Read}
 use Rattle.grub_asks.specs.Asked.{AsksLine, GoesOn}
 use Rattle.grub_asks.proofs.Lines.{if_ok_weaker, line_read}
 use Rattle.grub_workers.proofs.script.ask_line.Goals as goal

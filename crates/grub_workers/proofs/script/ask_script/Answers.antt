@@ -2,10 +2,10 @@ use Rattle.std.proofs.Common.{◌≡◌, ◌+◌, [], ◌∷◌, List, length, r
 use Rattle.std.proofs.lemmas.Fn.{FoldsTo-push}
 use Rattle.std.proofs.lemmas.List.{take_more}
 use Rattle.grub_table.specs.Calls.{terms}
-use Rattle.grub_trace.specs.Plans.{Line}
-use Rattle.grub_trace.specs.declared.line.Act.TheVariants as acts
+use Rattle.grub_plan.specs.Plans.{Line}
+use Rattle.grub_plan.specs.declared.line.Act.TheVariants as acts
 use Rattle.grub_asks.specs.Asked.{AsksLine}
-use Rattle.grub_trace.specs.Limits.{ScriptFits}
+use Rattle.grub_plan.specs.Limits.{ScriptFits}
 use Rattle.grub_workers.proofs.script.ask_script.Goals as goal
 
 -- One more line of the script was asked, and no later line goes back before it.

@@ -1,5 +1,5 @@
 use Rattle.std.proofs.Common.{rules}
-use Rattle.grub_trace.specs.declared.entry.Ask.TheVariants.{Call}
+use Rattle.grub_plan.specs.declared.entry.Ask.TheVariants.{Call}
 use Rattle.grub_workers.proofs.Entering.{entered}
 use Rattle.grub_workers.proofs.worker.put.Goals as goal
 

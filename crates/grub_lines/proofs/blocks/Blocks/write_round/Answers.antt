@@ -1,7 +1,7 @@
 use Rattle.std.proofs.Common.{◌≡◌, ◌≤◌, ◌*◌, List, ℕ, [], arith, rules, subst, length, OnOk, OnErr, ap, ◌∙◌}
 use Rattle.std.proofs.lemmas.Grind.{common_steps}
 use Rattle.std.specs.List.{flat_map}
-use Rattle.grub_trace.specs.Writing.{HandsOn, HandsPart}
+use Rattle.grub_plan.specs.Writing.{HandsOn, HandsPart}
 use Rattle.grub_lines.proofs.Rounds.{parts_text}
 use Rattle.grub_lines.proofs.blocks.Blocks.write_round.Goals as goal
 use Rattle.grub_lines.proofs.blocks.Blocks.write_round.Goals.{After-write_blocks}

@@ -1,0 +1,7 @@
+pub mod Contents
+pub mod Limits
+pub mod Messages
+pub mod Names
+pub mod Plans
+pub mod Texts
+pub mod Writing

@@ -1,0 +1,5 @@
+//! Tests of grub_timeline.
+#![tactic(auto)]
+
+#[cfg(test)]
+mod tests;
