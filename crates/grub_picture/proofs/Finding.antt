@@ -2,8 +2,8 @@
 use Rattle.std.proofs.Common.{◌≡◌, ℕ, ◌+◌, ◌<◌, ◌≤◌, Bool, true, false, List, ◌∷◌, length, get_or, drop, refl, ap, ◌∙◌, sym, Option, Some}
 use Rattle.std.specs.Prelude.{find, map, nat_le}
 use Rattle.std.proofs.lemmas.Bool.{lt-ltb, le-ltb, le-leb, lt-leb}
-use Rattle.grub_views.specs.Picture.{is_small}
-use Rattle.grub_views.proofs.Closing.{next_left}
+use Rattle.grub_picture.specs.Picture.{is_small}
+use Rattle.grub_steps.proofs.Counting.{next_left}
 
 pub find_here : {X : Type 0} (p : X → Bool) (xs : List X) (i : ℕ) (d : X) (whole : Option X) → i < length xs → p (get_or xs i d) ≡ true
     → find p (drop i xs) ≡ whole → whole ≡ Some (get_or xs i d)

@@ -1,26 +1,25 @@
 -- One more of what is drawn.
 use Rattle.std.proofs.Common.{◌≡◌, ℕ, zero, suc, ◌+◌, ◌-◌, ◌<◌, List, [], ◌∷◌, ◌++◌, length, refl, ap, ◌∙◌, sym, append_assoc, arith}
 use Rattle.std.specs.Prelude.{Some, map, slice_get}
-use Rattle.std.specs.List.{flat_map}
-use Rattle.grub_views.specs.Summary.{count_up}
-use Rattle.grub_views.specs.Tallies.{own_steps}
-use Rattle.grub_views.specs.declared.book_steps.Step.{Step}
-use Rattle.grub_views.specs.inside.Scenes.{owns_of}
-use Rattle.grub_views.proofs.Counting.{count_more, map_more}
+use Rattle.std.specs.List.{flat_map, range_with_len}
+use Rattle.grub_steps.specs.Said.{own_steps}
+use Rattle.grub_steps.specs.declared.book_steps.Step.{Step}
+use Rattle.grub_picture.specs.inside.Scenes.{owns_of}
+use Rattle.grub_steps.proofs.Counting.{count_more, map_more}
 use Rattle.std.proofs.lemmas.Grind.{flat_map-append}
 use Rattle.std.proofs.lemmas.List.{map-append, append-nil, length-map}
 
 -- the numbers that are left, less one
-pub count_left : (k n : ℕ) → k < n → count_up k (n - k) ≡ k ∷ count_up (k + 1) (n - (k + 1))
+pub count_left : (k n : ℕ) → k < n → range_with_len k (n - k) ≡ k ∷ range_with_len (k + 1) (n - (k + 1))
 count_left k n below = let one : n - k ≡ suc (n - (k + 1)) = omega arith in rw one refl
 
 -- and what is made of them, with one more
-pub marks_more : (o : List ℕ) (g : ℕ → List ℕ) (f : ℕ → ℕ) (n : ℕ) → (o ++ flat_map g (map f (count_up 0 n))) ++ g (f n) ≡ o ++ flat_map g (map f (count_up 0 (n + 1)))
+pub marks_more : (o : List ℕ) (g : ℕ → List ℕ) (f : ℕ → ℕ) (n : ℕ) → (o ++ flat_map g (map f (range_with_len 0 n))) ++ g (f n) ≡ o ++ flat_map g (map f (range_with_len 0 (n + 1)))
 marks_more o g f n =
     let zero_add : 0 + n ≡ n = omega arith in
-    rw (count_more 0 n, map-append f (count_up 0 n) ((0 + n) ∷ []), zero_add, flat_map-append g (map f (count_up 0 n)) (f n ∷ []), append-nil (g (f n))) (append_assoc o (flat_map g (map f (count_up 0 n))) (g (f n)))
+    rw (count_more 0 n, map-append f (range_with_len 0 n) ((0 + n) ∷ []), zero_add, flat_map-append g (map f (range_with_len 0 n)) (f n ∷ []), append-nil (g (f n))) (append_assoc o (flat_map g (map f (range_with_len 0 n))) (g (f n)))
 
-count_length : (k n : ℕ) → length (count_up k n) ≡ n
+count_length : (k n : ℕ) → length (range_with_len k n) ≡ n
 count_length k zero = refl
 count_length k (suc n) = ap suc (count_length (k + 1) n)
 
@@ -28,10 +27,10 @@ count_length k (suc n) = ap suc (count_length (k + 1) n)
 pub own_there : {A : Type 0} (owns : List A) (f : A → List Step) (n t : ℕ) (steps : List Step) → map f owns ≡ owns_of n steps → t < n → t < length owns
 unfolding owns_of
 own_there owns f n t steps is below =
-    let as_many : length owns ≡ n = sym (length-map owns f) ∙ ap length is ∙ length-map (count_up 0 n) (λ (k : ℕ). own_steps k steps) ∙ count_length 0 n in
+    let as_many : length owns ≡ n = sym (length-map owns f) ∙ ap length is ∙ length-map (range_with_len 0 n) (λ (k : ℕ). own_steps k steps) ∙ count_length 0 n in
     omega arith
 
-count_at : {A : Type 0} (g : ℕ → A) (k n i : ℕ) → i < n → slice_get (map g (count_up k n)) i ≡ Some (g (k + i))
+count_at : {A : Type 0} (g : ℕ → A) (k n i : ℕ) → i < n → slice_get (map g (range_with_len k n)) i ≡ Some (g (k + i))
 count_at g k zero i below = absurd (omega arith)
 count_at g k (suc n) zero below = let none : k + 0 ≡ k = omega arith in rw none refl
 count_at g k (suc n) (suc i) below =
@@ -53,4 +52,4 @@ unfolding owns_of
 owns_more owns f own n steps is own_is =
     let zero_add : 0 + n ≡ n = omega arith in
     map-append f owns (own ∷ []) ∙ ap (λ (xs : List (List Step)). xs ++ f own ∷ []) is
-    ∙ ap (λ (x : List Step). map (λ (k : ℕ). own_steps k steps) (count_up 0 n) ++ x ∷ []) (own_is ∙ ap (λ (k : ℕ). own_steps k steps) (sym zero_add)) ∙ map_more (λ (k : ℕ). own_steps k steps) 0 n
+    ∙ ap (λ (x : List Step). map (λ (k : ℕ). own_steps k steps) (range_with_len 0 n) ++ x ∷ []) (own_is ∙ ap (λ (k : ℕ). own_steps k steps) (sym zero_add)) ∙ map_more (λ (k : ℕ). own_steps k steps) 0 n

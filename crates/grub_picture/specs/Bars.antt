@@ -7,11 +7,11 @@ use Rattle.grub_book.specs.declared.place.State.TheVariants.{Contending, NonCont
 use Rattle.grub_book.specs.declared.reply.Reply.TheVariants.{Charged}
 use Rattle.grub_trace.specs.declared.entry.Answer.{Answer}
 use Rattle.grub_trace.specs.declared.entry.Answer.TheVariants.{Replied}
-use Rattle.grub_views.specs.declared.bars.Bar.{Bar}
-use Rattle.grub_views.specs.declared.book_steps.Change.{Change}
-use Rattle.grub_views.specs.declared.book_steps.Step.{Step}
-use Rattle.grub_views.specs.declared.frame.Frame.{Frame}
-use Rattle.grub_views.specs.Frames.{x_of}
+use Rattle.grub_picture.specs.declared.bars.Bar.{Bar}
+use Rattle.grub_steps.specs.declared.book_steps.Change.{Change}
+use Rattle.grub_steps.specs.declared.book_steps.Step.{Step}
+use Rattle.grub_picture.specs.declared.frame.Frame.{Frame}
+use Rattle.grub_picture.specs.Frames.{x_of}
 
 abbrev pub state_at : ℕ → Place → Option State
 state_at r (On s state) = if s == r then Some state else None

@@ -1,9 +1,8 @@
 -- The head of a picture, its legend and its time axis; a runqueue's scale and the line at its Umax.
 use Rattle.std.specs.Prelude.{ℕ, ◌+◌, ◌-◌, ◌*◌, ◌/◌, ◌^◌, nat_le, max, List, [], ◌∷◌, ◌++◌, codes, decimal, map, find, unwrap_or}
-use Rattle.std.specs.List.{flat_map}
-use Rattle.grub_views.specs.declared.frame.Frame.{Frame}
-use Rattle.grub_views.specs.Frames.{height_of, x_of}
-use Rattle.grub_views.specs.Summary.{count_up}
+use Rattle.std.specs.List.{flat_map, range_with_len}
+use Rattle.grub_picture.specs.declared.frame.Frame.{Frame}
+use Rattle.grub_picture.specs.Frames.{height_of, x_of}
 
 abbrev pub span_text : Frame → List ℕ
 span_text f = codes "Time line from " ++ decimal f.from ++ codes " to " ++ decimal f.to
@@ -36,7 +35,7 @@ head_text f y =
 
 -- the steps that marks of the axis may have: 1, 2 or 5 times a power of ten
 abbrev pub mark_steps : List ℕ
-mark_steps = flat_map (λ k. 10 ^ k ∷ 2 * 10 ^ k ∷ 5 * 10 ^ k ∷ []) (count_up 0 9) ++ 1000000000 ∷ []
+mark_steps = flat_map (λ k. 10 ^ k ∷ 2 * 10 ^ k ∷ 5 * 10 ^ k ∷ []) (range_with_len 0 9) ++ 1000000000 ∷ []
 
 -- the first multiple of a step in the span or after it, by which it is multiplied
 abbrev pub first_multiple : Frame → ℕ → ℕ
@@ -60,7 +59,7 @@ axis_mark_text f y m =
 
 -- the moments of the axis: each multiple of the step in the span
 abbrev pub axis_moments : Frame → ℕ → List ℕ
-axis_moments f step = map (λ k. (first_multiple f step + k) * step) (count_up 0 (multiples f step))
+axis_moments f step = map (λ k. (first_multiple f step + k) * step) (range_with_len 0 (multiples f step))
 
 -- the time axis at y, and what stands below it
 unfoldable pub axis_text : Frame → ℕ → List ℕ

@@ -3,13 +3,13 @@ use Rattle.std.specs.Prelude.{ℕ, ◌+◌, ◌==◌, ◌&&◌, Bool, List, [], 
 use Rattle.std.specs.List.{flat_map, list_any}
 use Rattle.grub_book.specs.declared.place.State.{State}
 use Rattle.grub_book.specs.declared.place.State.TheVariants.{Contending, NonContending, Inactive}
-use Rattle.grub_views.specs.declared.bars.Bar.{Bar}
-use Rattle.grub_views.specs.declared.book_steps.Step.{Step}
-use Rattle.grub_views.specs.declared.frame.Frame.{Frame}
-use Rattle.grub_views.specs.declared.mark.Mark.{Mark}
-use Rattle.grub_views.specs.Bars.{bars_of, is_seen, postponed, width_of}
-use Rattle.grub_views.specs.Frames.{firsts, is_in, x_of}
-use Rattle.grub_views.specs.Marks.{marks_text}
+use Rattle.grub_picture.specs.declared.bars.Bar.{Bar}
+use Rattle.grub_steps.specs.declared.book_steps.Step.{Step}
+use Rattle.grub_picture.specs.declared.frame.Frame.{Frame}
+use Rattle.grub_picture.specs.declared.mark.Mark.{Mark}
+use Rattle.grub_picture.specs.Bars.{bars_of, is_seen, postponed, width_of}
+use Rattle.grub_picture.specs.Frames.{firsts, is_in, x_of}
+use Rattle.grub_picture.specs.Marks.{marks_text}
 
 -- how a state is drawn: its class, how far below the lane's top, how high, and the word for it
 pub record Look : Type 0 where

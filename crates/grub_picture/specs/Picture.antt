@@ -1,17 +1,17 @@
 -- A picture of a time line: its runqueues from top to bottom, and the whole document.
 use Rattle.std.specs.Prelude.{ℕ, ◌+◌, ◌*◌, ◌^◌, nat_lt, Bool, true, false, List, [], ◌∷◌, ◌++◌, length, codes, decimal, fold, filter, find, map, unwrap_or}
+use Rattle.std.specs.List.{range_with_len}
 use Rattle.grub_book.specs.Machine.{Machine, queue_at}
 use Rattle.grub_timeline.specs.declared.told.Told.{Told}
 use Rattle.grub_trace.specs.Plans.{name_at}
-use Rattle.grub_views.specs.declared.book_steps.Step.{Step}
-use Rattle.grub_views.specs.declared.frame.Frame.{Frame}
-use Rattle.grub_views.specs.declared.mark.Mark.{Mark}
-use Rattle.grub_views.specs.Curves.{curve_text}
-use Rattle.grub_views.specs.Elements.{axis_text, head_text, scale_text, umax_text}
-use Rattle.grub_views.specs.Lanes.{is_shown, lane_text}
-use Rattle.grub_views.specs.Marks.{legend_of}
-use Rattle.grub_views.specs.Summary.{count_up}
-use Rattle.grub_views.specs.Tallies.{own_steps}
+use Rattle.grub_steps.specs.declared.book_steps.Step.{Step}
+use Rattle.grub_picture.specs.declared.frame.Frame.{Frame}
+use Rattle.grub_picture.specs.declared.mark.Mark.{Mark}
+use Rattle.grub_picture.specs.Curves.{curve_text}
+use Rattle.grub_picture.specs.Elements.{axis_text, head_text, scale_text, umax_text}
+use Rattle.grub_picture.specs.Lanes.{is_shown, lane_text}
+use Rattle.grub_picture.specs.Marks.{legend_of}
+use Rattle.grub_steps.specs.Said.{own_steps}
 
 -- the moment of the last entry
 abbrev pub last_moment : List Told → ℕ
@@ -31,7 +31,7 @@ has_lane d r t = is_shown d.frame r (own_steps t d.steps)
 
 -- the tasks that have a lane on runqueue r
 unfoldable pub lanes_of : Drawn → ℕ → List ℕ
-lanes_of d r = filter (has_lane d r) (count_up 0 (length d.setup.tasks))
+lanes_of d r = filter (has_lane d r) (range_with_len 0 (length d.setup.tasks))
 
 -- the lanes of these tasks, one below the other, from y down
 abbrev pub lanes_text : Drawn → ℕ → ℕ → List ℕ → List ℕ
@@ -60,7 +60,7 @@ queues_end d y [] = y
 queues_end d y (r ∷ queues) = queues_end d (queue_end d r y) queues
 
 abbrev pub queues_of : Drawn → List ℕ
-queues_of d = count_up 0 (length d.setup.queues)
+queues_of d = range_with_len 0 (length d.setup.queues)
 
 -- the whole document: its head, the legend of the marks, the time axis under the last runqueue, and the runqueues
 unfoldable pub drawing : Drawn → List ℕ
@@ -70,7 +70,7 @@ drawing d =
 
 -- the least widths of a bar, in pixels
 abbrev pub units : List ℕ
-units = map (λ k. 2 ^ k) (count_up 0 11)
+units = map (λ k. 2 ^ k) (range_with_len 0 11)
 
 -- the drawing of a time line with this least width
 abbrev pub drawing_at : Machine → List (List ℕ) → List Step → List Mark → ℕ → ℕ → ℕ → List ℕ

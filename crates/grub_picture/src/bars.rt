@@ -2,12 +2,12 @@
 
 ghost use Rattle.std.specs.Prelude.{◌≡◌, ◌++◌, IfOk, OnOk};
 ghost use Rattle.std.specs.List.{list_any};
-ghost use Rattle.grub_views.specs.Bars.{bars_of, is_seen, is_state, is_still, postponed, state_at, state_on};
-ghost use Rattle.grub_views.specs.inside.Begun.{begun_after, ended_bar, last_bar, opened_bar};
+ghost use Rattle.grub_picture.specs.Bars.{bars_of, is_seen, is_state, is_still, postponed, state_at, state_on};
+ghost use Rattle.grub_picture.specs.inside.Begun.{begun_after, ended_bar, last_bar, opened_bar};
 
-use crate::book_steps::{Change, Step};
 use crate::frame::Frame;
 use grub_book::{Place, Reply, State};
+use grub_steps::{Change, Step};
 use grub_trace::Answer;
 use std::alloc::{AllocError, Global};
 

@@ -1,12 +1,12 @@
 //! The curves of a runqueue: its bandwidths over time.
 
 ghost use Rattle.std.specs.Prelude.{◌≡◌, ◌++◌, OnOk};
-ghost use Rattle.grub_views.specs.Curves.{bandwidth_in, class_of, curve_text, is_read, lasts, point_text, points_of, points_text, word_of};
+ghost use Rattle.grub_picture.specs.Curves.{bandwidth_in, class_of, curve_text, is_read, lasts, point_text, points_of, points_text, word_of};
 
-use crate::book_steps::Step;
 use crate::frame::{Frame, LEFT, height_of};
 use crate::text::put_number;
 use grub_book::Reading;
+use grub_steps::Step;
 use std::alloc::AllocError;
 
 /// The step curve of a bandwidth of runqueue `r` on the base at `base`: running_bw, or this_bw.

@@ -3,20 +3,20 @@
 ghost use Rattle.std.specs.Prelude.{◌≡◌, ◌+◌, ◌*◌, ◌<◌, ◌≤◌, ◌^◌, ◌++◌, OnOk, IfOk, Some, length, map, slice_get};
 ghost use Rattle.std.specs.List.{flat_map};
 ghost use Rattle.grub_trace.specs.Plans.{name_at};
-ghost use Rattle.grub_views.specs.Bars.{bars_of, width_of};
-ghost use Rattle.grub_views.specs.Lanes.{bar_text, bars_text, is_tick, lane_text, look_of, rect_text, shape_text, tick_text, ticks_text, title_text};
-ghost use Rattle.grub_views.specs.Picture.{lanes_of, lanes_text, queue_end, queue_text};
-ghost use Rattle.grub_views.specs.Tallies.{own_steps};
-ghost use Rattle.grub_views.specs.inside.Scenes.{drawn_of, owns_of};
+ghost use Rattle.grub_picture.specs.Bars.{bars_of, width_of};
+ghost use Rattle.grub_picture.specs.Lanes.{bar_text, bars_text, is_tick, lane_text, look_of, rect_text, shape_text, tick_text, ticks_text, title_text};
+ghost use Rattle.grub_picture.specs.Picture.{lanes_of, lanes_text, queue_end, queue_text};
+ghost use Rattle.grub_steps.specs.Said.{own_steps};
+ghost use Rattle.grub_picture.specs.inside.Scenes.{drawn_of, owns_of};
 
 use crate::bars::{Bar, are_seen, bars_of, postponed};
-use crate::book_steps::Step;
 use crate::curve::put_curve;
 use crate::frame::{Frame, is_next};
 use crate::head::{put_scale, put_umax};
 use crate::mark::{Mark, put_marks};
 use crate::text::{put_number, put_text};
 use grub_book::State;
+use grub_steps::Step;
 use grub_trace::Plan;
 use std::alloc::{AllocError, Global};
 

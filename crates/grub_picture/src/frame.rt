@@ -1,8 +1,8 @@
 //! Where moments and bandwidths lie in a picture.
 
 ghost use Rattle.std.specs.Prelude.{◌≡◌, ◌<◌, ◌^◌, ◌&&◌, nat_lt};
-ghost use Rattle.grub_views.specs.Elements.{first_multiple, mark_step, multiples};
-ghost use Rattle.grub_views.specs.Frames.{height_of, is_in, x_of};
+ghost use Rattle.grub_picture.specs.Elements.{first_multiple, mark_step, multiples};
+ghost use Rattle.grub_picture.specs.Frames.{height_of, is_in, x_of};
 
 use grub_bw::BW_UNIT;
 

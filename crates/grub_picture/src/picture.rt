@@ -2,18 +2,16 @@
 
 ghost use Rattle.std.specs.Prelude.{◌≡◌, ◌<◌, ◌^◌, ◌++◌, [], max, map, length, OnOk, IfOk, vec_len};
 ghost use Rattle.grub_timeline.specs.TimeLines.{AreWithin, IsTimeLine};
-ghost use Rattle.grub_views.specs.inside.Fitting.{AreToldIn};
-ghost use Rattle.grub_views.specs.inside.Scenes.{drawn_of, owns_of};
-ghost use Rattle.grub_views.specs.Picture.{drawing, last_moment, picture_of, queues_end, queues_of, queues_text};
-ghost use Rattle.grub_views.specs.Replay.{steps_of};
+ghost use Rattle.grub_steps.specs.Fitting.{AreToldIn};
+ghost use Rattle.grub_picture.specs.inside.Scenes.{drawn_of, owns_of};
+ghost use Rattle.grub_picture.specs.Picture.{drawing, last_moment, picture_of, queues_end, queues_of, queues_text};
+ghost use Rattle.grub_steps.specs.Replay.{steps_of};
 
-use crate::book_steps::{Step, replay};
 use crate::drawing::{Scene, put_queue};
-use crate::fault::ViewFault;
 use crate::frame::Frame;
 use crate::head::{put_axis, put_head};
 use crate::mark::{Mark, put_legend};
-use crate::tally::steps_of_task;
+use grub_steps::{Step, ViewFault, replay, steps_of_task};
 use grub_timeline::{TimeLine, Told};
 use grub_trace::Plan;
 use std::alloc::{AllocError, Global};

@@ -11,9 +11,10 @@ use Rattle.grub_trace.specs.declared.entry.Ask.TheVariants.{Call}
 use Rattle.grub_timeline.specs.declared.told.Told.{Told}
 use Rattle.std.proofs.lemmas.List.Elements.{All-head, All-tail, All-cons, All-from_recursion}
 use Rattle.std.specs.List.{All}
-use Rattle.grub_views.specs.inside.Fitting.{AreStepsIn, AreToldIn, IsToldIn}
-use Rattle.grub_views.specs.Replay.{book_after, queue_or, step_of, steps_from, steps_of}
-use Rattle.grub_views.specs.declared.book_steps.Step.{Step}
+use Rattle.grub_steps.specs.Fitting.{AreStepsIn, AreToldIn, IsToldIn}
+use Rattle.grub_steps.specs.Past.{book_past}
+use Rattle.grub_steps.specs.Replay.{book_after, queue_or, step_of, steps_from, steps_of}
+use Rattle.grub_steps.specs.declared.book_steps.Step.{Step}
 
 -- a call, by what was kept of its task before and after
 pub call_step : (s : Machine) (book then : Records) (x : Told) (t : ℕ) (op : Op) (before now : Record) (inner queue : ℕ) (reading : Reading)
@@ -41,3 +42,11 @@ steps_hold P s book (x ∷ told) all =
 pub steps_in : (s : Machine) (told : List Told) (steps : List Step) → AreToldIn s told → steps ≡ steps_of s told → AreStepsIn s steps
 unfolding steps_of
 steps_in s told steps all is = subst (λ xs. AreStepsIn s xs) (sym is) (steps_hold (IsToldIn s) s (opening_book s) told all)
+
+-- the book after what is left, less one
+pub past_left : (s : Machine) (book then : Records) (i : ℕ) (told : List Told) (d : Told) → i < length told
+    → then ≡ book_after s book (get_or told i d).entry.ask
+    → book_past s then (drop (i + 1) told) ≡ book_past s book (drop i told)
+past_left s book then i told d below then_is =
+    let whole : drop i told ≡ get_or told i d ∷ drop (i + 1) told = drop-cons told i d below ∙ rw add-one refl in
+    rw (whole, then_is) refl

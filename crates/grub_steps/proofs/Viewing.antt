@@ -16,7 +16,7 @@ use Rattle.grub_trace.specs.Texts.{IsAskOf}
 use Rattle.grub_asks.specs.Answers.{IsAnswered, event_told}
 use Rattle.grub_timeline.specs.TimeLines.{AreAnswered, AreWithin, IsTimeLine, history_of}
 use Rattle.grub_timeline.specs.declared.told.Told.{Told}
-use Rattle.grub_views.specs.inside.Fitting.{AreToldIn, IsAskIn, IsToldIn}
+use Rattle.grub_steps.specs.Fitting.{AreToldIn, IsAskIn, IsToldIn}
 
 -- an ask whose event is legal is in range, and the rest is legal from some book on
 pub record Goes (s : Machine) (ask : Ask) (rest : List Event) : Type 0 where

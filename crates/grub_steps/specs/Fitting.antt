@@ -5,7 +5,7 @@ use Rattle.grub_book.specs.Op.{IsOp}
 use Rattle.grub_trace.specs.declared.entry.Ask.{Ask}
 use Rattle.grub_trace.specs.declared.entry.Ask.TheVariants.{Call, Read}
 use Rattle.grub_timeline.specs.declared.told.Told.{Told}
-use Rattle.grub_views.specs.declared.book_steps.Step.{Step}
+use Rattle.grub_steps.specs.declared.book_steps.Step.{Step}
 
 -- the task of a call is there, and its op is in range
 abbrev pub IsAskIn : Machine → Ask → Type 0

@@ -3,7 +3,7 @@ use Rattle.std.specs.Prelude.{List, [], ◌∷◌}
 use Rattle.grub_book.specs.Machine.{Machine}
 use Rattle.grub_book.specs.Sums.{Records}
 use Rattle.grub_timeline.specs.declared.told.Told.{Told}
-use Rattle.grub_views.specs.Replay.{book_after}
+use Rattle.grub_steps.specs.Replay.{book_after}
 
 -- what a book becomes by these entries
 abbrev pub book_past : Machine → Records → List Told → Records

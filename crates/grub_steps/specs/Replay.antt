@@ -8,8 +8,8 @@ use Rattle.grub_book.specs.declared.place.Place.TheVariants.{Away, Gone, On}
 use Rattle.grub_trace.specs.declared.entry.Ask.{Ask}
 use Rattle.grub_trace.specs.declared.entry.Ask.TheVariants.{Call, Read}
 use Rattle.grub_timeline.specs.declared.told.Told.{Told}
-use Rattle.grub_views.specs.declared.book_steps.Change.{Change}
-use Rattle.grub_views.specs.declared.book_steps.Step.{Step}
+use Rattle.grub_steps.specs.declared.book_steps.Change.{Change}
+use Rattle.grub_steps.specs.declared.book_steps.Step.{Step}
 
 -- the book after an ask
 abbrev pub book_after : Machine → Records → Ask → Records

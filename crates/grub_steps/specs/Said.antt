@@ -1,5 +1,5 @@
--- What is counted of a task over its own steps.
-use Rattle.std.specs.Prelude.{ℕ, ◌-◌, ◌==◌, ◌&&◌, nat_lt, max, min, Bool, true, false, List, Option, Some, None, filter, sum_by, count_by, fold}
+-- What a step says of its task, and which steps are its own.
+use Rattle.std.specs.Prelude.{ℕ, ◌-◌, ◌==◌, ◌&&◌, min, Bool, true, false, List, Option, Some, None, filter}
 use Rattle.grub_bw.specs.declared.server.Server.{Server}
 use Rattle.grub_book.specs.declared.op.Op.TheVariants.{Charge, Wake}
 use Rattle.grub_book.specs.declared.reply.Reply.{Reply}
@@ -8,9 +8,8 @@ use Rattle.grub_trace.specs.declared.entry.Ask.{Ask}
 use Rattle.grub_trace.specs.declared.entry.Ask.TheVariants.{Call}
 use Rattle.grub_trace.specs.declared.entry.Answer.{Answer}
 use Rattle.grub_trace.specs.declared.entry.Answer.TheVariants.{Replied}
-use Rattle.grub_views.specs.declared.book_steps.Change.{Change}
-use Rattle.grub_views.specs.declared.book_steps.Step.{Step}
-use Rattle.grub_views.specs.declared.tally.Tally.{Tally}
+use Rattle.grub_steps.specs.declared.book_steps.Change.{Change}
+use Rattle.grub_steps.specs.declared.book_steps.Step.{Step}
 
 abbrev pub is_change_of : ℕ → Option Change → Bool
 is_change_of t (Some change) = change.t == t
@@ -103,22 +102,3 @@ abbrev pub is_refused : Ask → Answer → Bool
 is_refused (Call t (Wake r m)) (Replied (Elsewhere s)) = false
 is_refused ask (Replied reply) = is_refusing_reply reply
 is_refused ask answer = false
-
--- the numbers of a task of this runtime, over its own steps
-abbrev pub tally_of : ℕ → List Step → Tally
-tally_of runtime own = record {
-  executed = sum_by (λ x. run_of x.told.entry.ask x.told.entry.answer) own;
-  charged = sum_by (λ x. charge_in x.told.entry.ask x.told.entry.answer) own;
-  recharges = sum_by (λ x. recharges_in x.told.entry.answer) own;
-  joins = count_by (λ x. is_joined x.told.entry.answer) own;
-  wakes = count_by (λ x. is_woken x.told.entry.answer) own;
-  kept = count_by (λ x. is_kept (server_before x.change) x.told.entry.answer) own;
-  moves = count_by (λ x. is_left x.told.entry.answer) own;
-  waits = count_by (λ x. is_waiting x.told.entry.answer) own;
-  sleeps = count_by (λ x. is_asleep x.told.entry.answer) own;
-  retired = count_by (λ x. is_retired x.told.entry.answer) own;
-  least = fold (λ q x. least_after q x.told.entry.answer) runtime own;
-  late = count_by (λ x. nat_lt 0 (lateness_in x)) own;
-  worst = fold (λ worst x. max worst (lateness_in x)) 0 own;
-  refused = count_by (λ x. is_refused x.told.entry.ask x.told.entry.answer) own;
-}

@@ -2,9 +2,9 @@
 
 ghost use Rattle.std.specs.Prelude.{◌≡◌, ◌≤◌, IfOk, length, vec_capacity};
 ghost use Rattle.grub_timeline.specs.TimeLines.{AreWithin, IsTimeLine};
-ghost use Rattle.grub_views.specs.inside.Fitting.{AreStepsIn, AreToldIn, IsToldIn};
-ghost use Rattle.grub_views.specs.inside.Past.{book_past};
-ghost use Rattle.grub_views.specs.Replay.{book_after, queue_or, step_of, steps_from, steps_of};
+ghost use Rattle.grub_steps.specs.Fitting.{AreStepsIn, AreToldIn, IsToldIn};
+ghost use Rattle.grub_steps.specs.Past.{book_past};
+ghost use Rattle.grub_steps.specs.Replay.{book_after, queue_or, step_of, steps_from, steps_of};
 
 use grub_book::{Book, Place, Reading, Setup};
 use grub_bw::Server;
@@ -75,7 +75,7 @@ fn steps_in(alloc: Global, plan: &Plan, line: &TimeLine) -> Result<Vec<Step>, Al
 }
 
 /// Asks the book what the entry asked it.
-pub(crate) fn step_after(book: &mut Book, x: &Told) -> Step
+pub fn step_after(book: &mut Book, x: &Told) -> Step
     requires { IsToldIn book.old.setup x.now }
     ensures setup { book.new.setup ≡ book.old.setup }
     ensures records { book.new.records ≡ book_after book.old.setup book.old.records x.now.entry.ask }
@@ -119,7 +119,7 @@ fn queue_or(place: Place, r: u32) -> u32
 }
 
 /// Puts the steps of these entries into a vector that has room for them, by a book that goes on with them.
-pub(crate) fn fill_steps(steps: &mut Vec<Step>, book: &mut Book<'_>, told: &[Told])
+pub fn fill_steps(steps: &mut Vec<Step>, book: &mut Book<'_>, told: &[Told])
     requires told { AreToldIn book.old.setup told.now }
     requires room { length told.now ≤ vec_capacity steps.old }
     ensures steps { steps.new.items ≡ steps_from book.old.setup book.old.records told.now }

@@ -1,7 +1,7 @@
 //! What a step says of its task.
 
 ghost use Rattle.std.specs.Prelude.{◌≡◌};
-ghost use Rattle.grub_views.specs.Tallies.{charge_in, is_asleep, is_joined, is_kept, is_left, is_refused, is_refusing_reply, is_retired, is_waiting, is_woken, lateness, lateness_in, least_after, recharges_in, run_of, server_before};
+ghost use Rattle.grub_steps.specs.Said.{charge_in, is_asleep, is_joined, is_kept, is_left, is_refused, is_refusing_reply, is_retired, is_waiting, is_woken, lateness, lateness_in, least_after, recharges_in, run_of, server_before};
 
 use crate::book_steps::{Change, Step};
 use grub_book::{Op, Reply};
@@ -71,6 +71,7 @@ pub fn recharges_in(answer: Answer) -> u32
     }
 }
 
+/// The answer tells of a join.
 pub fn is_joined(answer: Answer) -> bool
     ensures { result ≡ is_joined answer }
 {
@@ -80,6 +81,7 @@ pub fn is_joined(answer: Answer) -> bool
     }
 }
 
+/// The answer tells of a wake.
 pub fn is_woken(answer: Answer) -> bool
     ensures { result ≡ is_woken answer }
 {
@@ -89,6 +91,7 @@ pub fn is_woken(answer: Answer) -> bool
     }
 }
 
+/// The answer tells that the task left a runqueue.
 pub fn is_left(answer: Answer) -> bool
     ensures { result ≡ is_left answer }
 {
@@ -98,6 +101,7 @@ pub fn is_left(answer: Answer) -> bool
     }
 }
 
+/// The answer tells of a block before the 0-lag moment.
 pub fn is_waiting(answer: Answer) -> bool
     ensures { result ≡ is_waiting answer }
 {
@@ -107,6 +111,7 @@ pub fn is_waiting(answer: Answer) -> bool
     }
 }
 
+/// The answer tells of a block at the 0-lag moment or after it.
 pub fn is_asleep(answer: Answer) -> bool
     ensures { result ≡ is_asleep answer }
 {
@@ -116,6 +121,7 @@ pub fn is_asleep(answer: Answer) -> bool
     }
 }
 
+/// The answer tells that the 0-lag moment came while the task waited.
 pub fn is_retired(answer: Answer) -> bool
     ensures { result ≡ is_retired answer }
 {
@@ -135,6 +141,7 @@ pub fn server_before(change: Option<Change>) -> Server
     }
 }
 
+/// The answer tells of a join or a wake that found this server, and left it.
 pub fn is_kept(server: Server, answer: Answer) -> bool
     ensures { result ≡ is_kept server answer }
 {
@@ -155,6 +162,7 @@ fn lateness(d: u32, m: u32, answer: Answer) -> u32
     }
 }
 
+/// How long after the deadline a block came, and of every other step 0.
 pub fn lateness_in(x: &Step) -> u32
     ensures { result ≡ lateness_in x.now }
 {
@@ -165,6 +173,7 @@ pub fn lateness_in(x: &Step) -> u32
     )
 }
 
+/// The least budget so far, with this answer's.
 pub fn least_after(least: u32, answer: Answer) -> u32
     ensures { result ≡ least_after least answer }
 {
@@ -205,6 +214,7 @@ fn is_refusing_reply(reply: Reply) -> bool
     }
 }
 
+/// The answer refuses; after a wake that finds the task elsewhere it moves, and that counts as none.
 pub fn is_refused(ask: Ask, answer: Answer) -> bool
     ensures { result ≡ is_refused ask answer }
 {

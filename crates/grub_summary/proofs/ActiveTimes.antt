@@ -1,6 +1,6 @@
 -- running_bw over time is of the tasks, each for as long as it is active.
 use Rattle.std.proofs.Common.{◌≡◌, ◌≢◌, ℕ, ◌+◌, ◌-◌, ◌*◌, ◌<◌, ◌&&◌, ◌==◌, nat_lt, Bool, true, false, cond, Option, Some, None, List, [], ◌∷◌, length, get_or, set, zero, suc, refl, sym, ◌∙◌, ap, subst, arith, add-one}
-use Rattle.std.specs.List.{sum_by}
+use Rattle.std.specs.List.{sum_by, range_with_len}
 use Rattle.std.proofs.Math.Nat.{add-mul}
 use Rattle.std.proofs.lemmas.Bool.{ne_eqb, eqb-true, eqb-false}
 use Rattle.std.proofs.lemmas.List.{length-map, length-set, get_or-set_same}
@@ -31,10 +31,9 @@ use Rattle.grub_trace.specs.declared.entry.Ask.{Ask}
 use Rattle.grub_trace.specs.declared.entry.Ask.TheVariants.{Call, Read}
 use Rattle.grub_timeline.specs.TimeLines.{AreWithin}
 use Rattle.grub_timeline.specs.declared.told.Told.{Told}
-use Rattle.grub_views.specs.ActiveTimes.{active_from, active_of}
-use Rattle.grub_views.specs.Replay.{book_after, queue_or, queue_seen, step_of, steps_from, steps_of}
-use Rattle.grub_views.specs.Summary.{count_up}
-use Rattle.grub_views.specs.Usage.{no_reading, reading_after, running_from, usage_of}
+use Rattle.grub_summary.specs.ActiveTimes.{active_from, active_of}
+use Rattle.grub_steps.specs.Replay.{book_after, queue_or, queue_seen, step_of, steps_from, steps_of}
+use Rattle.grub_summary.specs.Usage.{no_reading, reading_after, running_from, usage_of}
 
 -- ---- a step touches no runqueue but the one that is seen after it
 
@@ -134,16 +133,16 @@ sum_same : (f g : ℕ → ℕ) → ((t : ℕ) → f t ≡ g t) → (ts : List �
 sum_same f g same [] = refl
 sum_same f g same (t ∷ ts) = rw (sum_by-cons f t ts, sum_by-cons g t ts, same t, sum_same f g same ts) refl
 
-sum_shifted : (f : ℕ → ℕ) (k n : ℕ) → sum_by f (count_up (k + 1) n) ≡ sum_by (λ t. f (t + 1)) (count_up k n)
+sum_shifted : (f : ℕ → ℕ) (k n : ℕ) → sum_by f (range_with_len (k + 1) n) ≡ sum_by (λ t. f (t + 1)) (range_with_len k n)
 sum_shifted f k zero = refl
 sum_shifted f k (suc n) =
-    rw (sum_by-cons f (k + 1) (count_up (k + 1 + 1) n), sum_by-cons (λ t. f (t + 1)) k (count_up (k + 1) n), sum_shifted f (k + 1) n) refl
+    rw (sum_by-cons f (k + 1) (range_with_len (k + 1 + 1) n), sum_by-cons (λ t. f (t + 1)) k (range_with_len (k + 1) n), sum_shifted f (k + 1) n) refl
 
-sum_by_number : {X : Type 0} (f : X → ℕ) (d : X) (xs : List X) → sum_by (λ t. f (get_or xs t d)) (count_up 0 (length xs)) ≡ sum_by f xs
+sum_by_number : {X : Type 0} (f : X → ℕ) (d : X) (xs : List X) → sum_by (λ t. f (get_or xs t d)) (range_with_len 0 (length xs)) ≡ sum_by f xs
 sum_by_number f d [] = refl
 sum_by_number {X} f d (x ∷ xs) =
-    sum_by-cons (λ t. f (get_or (x ∷ xs) t d)) 0 (count_up 1 (length xs))
-    ∙ rw (sum_shifted (λ t. f (get_or (x ∷ xs) t d)) 0 (length xs), sum_by-cons f x xs) (ap (λ n. f x + n) (sum_same (λ t. f (get_or (x ∷ xs) (t + 1) d)) (λ t. f (get_or xs t d)) (λ t. rw add-one refl) (count_up 0 (length xs)) ∙ sum_by_number f d xs))
+    sum_by-cons (λ t. f (get_or (x ∷ xs) t d)) 0 (range_with_len 1 (length xs))
+    ∙ rw (sum_shifted (λ t. f (get_or (x ∷ xs) t d)) 0 (length xs), sum_by-cons f x xs) (ap (λ n. f x + n) (sum_same (λ t. f (get_or (x ∷ xs) (t + 1) d)) (λ t. f (get_or xs t d)) (λ t. rw add-one refl) (range_with_len 0 (length xs)) ∙ sum_by_number f d xs))
 
 -- ---- the law
 
@@ -156,8 +155,8 @@ length_after s book Read = refl
 length_after s book (Call t op) = length_replied book t (refused (record_at book t).place (record_at book t).count op) (moved s book t op)
 
 area : (s : Machine) (r : ℕ) (book : Records) (now : Reading) (from : ℕ) (told : List Told) → now ≡ reading_of book r → length book ≡ length s.tasks → AreWithin s told
-    → running_from r now from (steps_from s book told) ≡ sum_by (λ (t : ℕ). active_from s r t book from told) (count_up 0 (length book))
-area s r book now from [] at len within = sym (sum_zero (count_up 0 (length book)))
+    → running_from r now from (steps_from s book told) ≡ sum_by (λ (t : ℕ). active_from s r t book from told) (range_with_len 0 (length book))
+area s r book now from [] at len within = sym (sum_zero (range_with_len 0 (length book)))
 area s r book now from (x ∷ told) at len within =
     let then = book_after s book x.entry.ask in
     let gap = x.entry.m - from in
@@ -168,14 +167,14 @@ area s r book now from (x ∷ told) at len within =
     let next : reading_after r now (step_of s book x) ≡ reading_of then r =
     after_test (queue == r) r queue now book then refl at (seen_alone s book x.r x.entry.ask r of) in
     let rest = area s r then (reading_after r now (step_of s book x)) x.entry.m told next (same ∙ len) (All-tail In x told within) in
-    let tasks : sum_by (λ t. share_of (is_active_on r) (record_at book t)) (count_up 0 (length book)) ≡ running_of book r = sum_by_number (share_of (is_active_on r)) _ book in
-    let here : now.running ≡ sum_by (λ t. share_of (is_active_on r) (record_at book t)) (count_up 0 (length book)) = ap (λ (y : Reading). y.running) at ∙ sym tasks in
-    let left : running_from r (reading_after r now (step_of s book x)) x.entry.m (steps_from s then told) ≡ sum_by (λ (t : ℕ). active_from s r t then x.entry.m told) (count_up 0 (length book)) =
-    rest ∙ ap (λ n. sum_by (λ (t : ℕ). active_from s r t then x.entry.m told) (count_up 0 n)) same in
-    rw (left, here) (sym (sum_weighted (λ t. share_of (is_active_on r) (record_at book t)) (λ t. active_from s r t then x.entry.m told) gap (count_up 0 (length book))))
+    let tasks : sum_by (λ t. share_of (is_active_on r) (record_at book t)) (range_with_len 0 (length book)) ≡ running_of book r = sum_by_number (share_of (is_active_on r)) _ book in
+    let here : now.running ≡ sum_by (λ t. share_of (is_active_on r) (record_at book t)) (range_with_len 0 (length book)) = ap (λ (y : Reading). y.running) at ∙ sym tasks in
+    let left : running_from r (reading_after r now (step_of s book x)) x.entry.m (steps_from s then told) ≡ sum_by (λ (t : ℕ). active_from s r t then x.entry.m told) (range_with_len 0 (length book)) =
+    rest ∙ ap (λ n. sum_by (λ (t : ℕ). active_from s r t then x.entry.m told) (range_with_len 0 n)) same in
+    rw (left, here) (sym (sum_weighted (λ t. share_of (is_active_on r) (record_at book t)) (λ t. active_from s r t then x.entry.m told) gap (range_with_len 0 (length book))))
 
 pub running_area : (s : Machine) (told : List Told) (r : ℕ) → AreWithin s told → (usage_of r (steps_of s told)).running ≡ active_of s r told
 unfolding steps_of
 running_area s told r within =
     let len : length (opening_book s) ≡ length s.tasks = length-map s.tasks opening_record in
-    area s r (opening_book s) no_reading 0 told (sym (opening_totals s r)) len within ∙ ap (λ n. sum_by (λ (t : ℕ). active_from s r t (opening_book s) 0 told) (count_up 0 n)) len
+    area s r (opening_book s) no_reading 0 told (sym (opening_totals s r)) len within ∙ ap (λ n. sum_by (λ (t : ℕ). active_from s r t (opening_book s) 0 told) (range_with_len 0 n)) len

@@ -1,6 +1,6 @@
 -- One step more of what is counted.
 use Rattle.std.proofs.Common.{◌≡◌, ◌≢◌, ℕ, zero, suc, ◌+◌, ◌-◌, ◌*◌, ◌<◌, ◌≤◌, ◌==◌, Bool, true, false, cond, max, List, [], ◌∷◌, ◌++◌, length, get_or, set, map, take, drop, nat_lt, refl, ap, ◌∙◌, sym, subst, arith, Some, None, IfSome, All}
-use Rattle.std.specs.List.{fold}
+use Rattle.std.specs.List.{fold, range_with_len}
 use Rattle.std.proofs.lemmas.Bool.{ne_eqb, eqb-true, eqb-false}
 use Rattle.std.proofs.lemmas.List.{append-nil, ext_get_or, drop_more, drop_all, get_or_at, get_or_default, get_or-set_same, get_or-set_other, length-map, length-set, length-take, take_all, take_more_set}
 use Rattle.std.proofs.lemmas.List.Edits.{map_over_more}
@@ -10,22 +10,23 @@ use Rattle.grub_book.specs.History.{is_reading}
 use Rattle.grub_bw.specs.Bandwidth.{Capacity, Reservation}
 use Rattle.grub_book.specs.Machine.{Machine, queue_at, task_at}
 use Rattle.grub_book.specs.declared.event.Reading.{Reading}
-use Rattle.grub_views.specs.Summary.{count_up, queue_row, row_of_queue, row_of_task, task_row}
-use Rattle.grub_views.specs.Tallies.{charge_in, is_asleep, is_change_of, is_joined, is_kept, is_left, is_refused, is_retired, is_waiting, is_woken, lateness_in, least_after, own_steps, recharges_in, run_of, server_before, tally_of}
-use Rattle.grub_views.specs.Usage.{changes_from, no_reading, reading_after, running_from, running_most_from, this_from, this_most_from}
+use Rattle.grub_summary.specs.Summary.{queue_row, row_of_queue, row_of_task, task_row}
+use Rattle.grub_steps.specs.Said.{charge_in, is_asleep, is_change_of, is_joined, is_kept, is_left, is_refused, is_retired, is_waiting, is_woken, lateness_in, least_after, own_steps, recharges_in, run_of, server_before}
+use Rattle.grub_summary.specs.Tallies.{tally_of}
+use Rattle.grub_summary.specs.Usage.{changes_from, no_reading, reading_after, running_from, running_most_from, this_from, this_most_from}
 use Rattle.grub_book.specs.Sums.{Records}
 use Rattle.grub_trace.specs.declared.entry.Ask.{Ask}
 use Rattle.grub_trace.specs.declared.entry.Ask.TheVariants.{Call, Read}
 use Rattle.grub_timeline.specs.declared.told.Told.{Told}
-use Rattle.grub_views.specs.Replay.{book_after, change_of, step_of}
-use Rattle.grub_views.specs.inside.Fitting.{IsAskIn, IsToldIn}
-use Rattle.grub_views.specs.inside.Adding.{meter_after, meter_of, meters_of, tally_after, tallies_of, IsWithin, IsMeterWithin}
-use Rattle.grub_views.specs.declared.book_steps.Change.{Change}
-use Rattle.grub_views.specs.declared.book_steps.Step.{Step}
-use Rattle.grub_views.specs.declared.table.Cell.{Cell}
-use Rattle.grub_views.specs.declared.tally.Tally.{Tally}
-use Rattle.grub_views.specs.declared.usage.Meter.{Meter}
-use Rattle.grub_views.proofs.Counting.{map_more}
+use Rattle.grub_steps.specs.Replay.{book_after, change_of, step_of}
+use Rattle.grub_steps.specs.Fitting.{IsAskIn, IsToldIn}
+use Rattle.grub_summary.specs.inside.Adding.{meter_after, meter_of, meters_of, tally_after, tallies_of, IsWithin, IsMeterWithin}
+use Rattle.grub_steps.specs.declared.book_steps.Change.{Change}
+use Rattle.grub_steps.specs.declared.book_steps.Step.{Step}
+use Rattle.grub_summary.specs.declared.table.Cell.{Cell}
+use Rattle.grub_summary.specs.declared.tally.Tally.{Tally}
+use Rattle.grub_summary.specs.declared.usage.Meter.{Meter}
+use Rattle.grub_summary.proofs.Counting.{map_more}
 
 -- ---- a task
 
@@ -56,11 +57,11 @@ own_same t steps x is = filter-append (λ (y : Step). is_change_of t y.change) s
 
 -- ---- what is made of each number
 
-length_up : (k n : ℕ) → length (count_up k n) ≡ n
+length_up : (k n : ℕ) → length (range_with_len k n) ≡ n
 length_up k zero = refl
 length_up k (suc n) = ap suc (length_up (k + 1) n)
 
-up_at : {A : Type 0} (g : ℕ → A) (k n i : ℕ) (d : A) → i < n → get_or (map g (count_up k n)) i d ≡ g (k + i)
+up_at : {A : Type 0} (g : ℕ → A) (k n i : ℕ) (d : A) → i < n → get_or (map g (range_with_len k n)) i d ≡ g (k + i)
 up_at g k zero i d below = absurd (omega arith)
 up_at g k (suc n) zero d below = let none : k + 0 ≡ k = omega arith in rw none refl
 up_at g k (suc n) (suc i) d below =
@@ -68,32 +69,32 @@ up_at g k (suc n) (suc i) d below =
     let same : (k + 1) + i ≡ k + suc i = omega arith in
     up_at g (k + 1) n i d less ∙ ap g same
 
-made_at : {A : Type 0} (g : ℕ → A) (n i : ℕ) (d : A) → i < n → get_or (map g (count_up 0 n)) i d ≡ g i
+made_at : {A : Type 0} (g : ℕ → A) (n i : ℕ) (d : A) → i < n → get_or (map g (range_with_len 0 n)) i d ≡ g i
 made_at g n i d below = up_at g 0 n i d below ∙ ap g (omega arith)
 
-made_length : {A : Type 0} (g : ℕ → A) (n : ℕ) → length (map g (count_up 0 n)) ≡ n
-made_length g n = length-map (count_up 0 n) g ∙ length_up 0 n
+made_length : {A : Type 0} (g : ℕ → A) (n : ℕ) → length (map g (range_with_len 0 n)) ≡ n
+made_length g n = length-map (range_with_len 0 n) g ∙ length_up 0 n
 
 made_same : {A : Type 0} (f g : ℕ → A) (ts : List ℕ) → ((t : ℕ) → f t ≡ g t) → map f ts ≡ map g ts
 made_same f g [] same = refl
 made_same f g (t ∷ ts) same = rw (same t, made_same f g ts same) refl
 
 at_either : {A : Type 0} (f g : ℕ → A) (n t : ℕ) (y : A) (i : ℕ) (b : Bool) → (i == t) ≡ b → t < n → y ≡ g t → ((i : ℕ) → i ≢ t → f i ≡ g i) → i < n
-    → get_or (set (map f (count_up 0 n)) t y) i y ≡ get_or (map g (count_up 0 n)) i y
+    → get_or (set (map f (range_with_len 0 n)) t y) i y ≡ get_or (map g (range_with_len 0 n)) i y
 at_either {A = A} f g n t y i true e below is others under =
     let same : i ≡ t = eqb-true i t e in
-    let there : t < length (map f (count_up 0 n)) = subst (λ m. t < m) (sym (made_length f n)) below in
-    subst (λ k. get_or (set (map f (count_up 0 n)) t y) k y ≡ get_or (map g (count_up 0 n)) k y) (sym same)
-    (get_or-set_same (map f (count_up 0 n)) t y y there ∙ is ∙ sym (made_at g n t y below))
+    let there : t < length (map f (range_with_len 0 n)) = subst (λ m. t < m) (sym (made_length f n)) below in
+    subst (λ k. get_or (set (map f (range_with_len 0 n)) t y) k y ≡ get_or (map g (range_with_len 0 n)) k y) (sym same)
+    (get_or-set_same (map f (range_with_len 0 n)) t y y there ∙ is ∙ sym (made_at g n t y below))
 at_either {A = A} f g n t y i false e below is others under =
     let other : i ≢ t = eqb-false i t e in
-    get_or-set_other (map f (count_up 0 n)) t i y y other ∙ made_at f n i y under ∙ others i other ∙ sym (made_at g n i y under)
+    get_or-set_other (map f (range_with_len 0 n)) t i y y other ∙ made_at f n i y under ∙ others i other ∙ sym (made_at g n i y under)
 
 -- one of them is another now
-made_set : {A : Type 0} (f g : ℕ → A) (n t : ℕ) (y : A) → t < n → y ≡ g t → ((i : ℕ) → i ≢ t → f i ≡ g i) → set (map f (count_up 0 n)) t y ≡ map g (count_up 0 n)
+made_set : {A : Type 0} (f g : ℕ → A) (n t : ℕ) (y : A) → t < n → y ≡ g t → ((i : ℕ) → i ≢ t → f i ≡ g i) → set (map f (range_with_len 0 n)) t y ≡ map g (range_with_len 0 n)
 made_set {A = A} f g n t y below is others =
-    let long : length (set (map f (count_up 0 n)) t y) ≡ n = length-set (map f (count_up 0 n)) t y ∙ made_length f n in
-    ext_get_or y (set (map f (count_up 0 n)) t y) (map g (count_up 0 n)) (long ∙ sym (made_length g n))
+    let long : length (set (map f (range_with_len 0 n)) t y) ≡ n = length-set (map f (range_with_len 0 n)) t y ∙ made_length f n in
+    ext_get_or y (set (map f (range_with_len 0 n)) t y) (map g (range_with_len 0 n)) (long ∙ sym (made_length g n))
     (λ i under. at_either f g n t y i (i == t) refl below is others (subst (λ m. i < m) long under))
 
 -- ---- the tasks
@@ -128,7 +129,7 @@ tallies_more s steps x change ys y d is there y_is ys_is =
 pub tallies_same : (s : Machine) (steps : List Step) (x : Step) (ys : List Tally) → x.change ≡ None → ys ≡ tallies_of s steps → ys ≡ tallies_of s (steps ++ x ∷ [])
 unfolding tallies_of
 tallies_same s steps x ys is ys_is =
-    ys_is ∙ made_same (λ (k : ℕ). tally_of (task_at s k).runtime (own_steps k steps)) (λ (k : ℕ). tally_of (task_at s k).runtime (own_steps k (steps ++ x ∷ []))) (count_up 0 (length s.tasks))
+    ys_is ∙ made_same (λ (k : ℕ). tally_of (task_at s k).runtime (own_steps k steps)) (λ (k : ℕ). tally_of (task_at s k).runtime (own_steps k (steps ++ x ∷ []))) (range_with_len 0 (length s.tasks))
     (λ t. ap (tally_of (task_at s t).runtime) (sym (own_same t steps x (ap (is_change_of t) is))))
 
 -- ---- a runqueue
@@ -178,7 +179,7 @@ each_more (r ∷ rs) steps x = rw (meter_more r steps x, each_more rs steps x) r
 
 pub meters_more : (s : Machine) (steps : List Step) (x : Step) (ys zs : List Meter) → zs ≡ map (λ (y : Meter). meter_after y x) ys → ys ≡ meters_of s steps → zs ≡ meters_of s (steps ++ x ∷ [])
 unfolding meters_of
-meters_more s steps x ys zs zs_is ys_is = zs_is ∙ ap (map (λ (y : Meter). meter_after y x)) ys_is ∙ each_more (count_up 0 (length s.queues)) steps x
+meters_more s steps x ys zs zs_is ys_is = zs_is ∙ ap (map (λ (y : Meter). meter_after y x)) ys_is ∙ each_more (range_with_len 0 (length s.queues)) steps x
 
 pub meters_length : (s : Machine) (steps : List Step) → length (meters_of s steps) ≡ length s.queues
 unfolding meters_of
@@ -191,10 +192,10 @@ meter_at s steps r d below = made_at (λ r. meter_of r steps) (length s.queues) 
 -- ---- vectors that a loop writes
 
 -- with one more of what is numbered
-pub one_more : {A : Type 0} (f : ℕ → A) (n : ℕ) (old : List A) (y : A) → old ≡ map f (count_up 0 n) → y ≡ f n → old ++ y ∷ [] ≡ map f (count_up 0 (n + 1))
+pub one_more : {A : Type 0} (f : ℕ → A) (n : ℕ) (old : List A) (y : A) → old ≡ map f (range_with_len 0 n) → y ≡ f n → old ++ y ∷ [] ≡ map f (range_with_len 0 (n + 1))
 one_more f n old y is y_is =
     let zero_add : 0 + n ≡ n = omega arith in
-    rw (is, y_is) (ap (λ (k : ℕ). map f (count_up 0 n) ++ f k ∷ []) (sym zero_add) ∙ map_more f 0 n)
+    rw (is, y_is) (ap (λ (k : ℕ). map f (range_with_len 0 n) ++ f k ∷ []) (sym zero_add) ∙ map_more f 0 n)
 
 -- what is written next is as it was
 over_at : {X : Type 0} (f : X → X) (xs ys : List X) (i : ℕ) (d : X) → i < length xs → ys ≡ map f (take i xs) ++ drop i xs → get_or ys i d ≡ get_or xs i d
@@ -266,7 +267,7 @@ tally_fits runtime = record {
 pub tallies_fit : (s : Machine) (ys : List Tally) → ys ≡ tallies_of s [] → All (IsWithin 0) ys
 unfolding tallies_of
 tallies_fit s ys is = subst (λ zs. All (IsWithin 0) zs) (sym is)
-    (All-map (IsWithin 0) (λ t. tally_of (task_at s t).runtime []) (count_up 0 (length s.tasks)) (λ k d below. tally_fits (task_at s (get_or (count_up 0 (length s.tasks)) k d)).runtime))
+    (All-map (IsWithin 0) (λ t. tally_of (task_at s t).runtime []) (range_with_len 0 (length s.tasks)) (λ k d below. tally_fits (task_at s (get_or (range_with_len 0 (length s.tasks)) k d)).runtime))
 
 meter_fits : (r : ℕ) → IsMeterWithin 0 (meter_of r [])
 meter_fits r = record { changes = omega arith; running = omega arith; this = omega arith }
@@ -274,7 +275,7 @@ meter_fits r = record { changes = omega arith; running = omega arith; this = ome
 pub meters_fit : (s : Machine) (ys : List Meter) → ys ≡ meters_of s [] → All (IsMeterWithin 0) ys
 unfolding meters_of
 meters_fit s ys is = subst (λ zs. All (IsMeterWithin 0) zs) (sym is)
-    (All-map (IsMeterWithin 0) (λ r. meter_of r []) (count_up 0 (length s.queues)) (λ k d below. meter_fits (get_or (count_up 0 (length s.queues)) k d)))
+    (All-map (IsMeterWithin 0) (λ r. meter_of r []) (range_with_len 0 (length s.queues)) (λ k d below. meter_fits (get_or (range_with_len 0 (length s.queues)) k d)))
 
 -- a step's task is there
 change_there : (s : Machine) (book then : Records) (n : ℕ) (ask : Ask) → n ≡ length s.tasks → IsAskIn s ask → IfSome (change_of book then ask) (λ change. change.t < n)

@@ -29,9 +29,9 @@ use Rattle.grub_asks.specs.Answers.{IsAnswered, event_told}
 use Rattle.grub_timeline.specs.TimeLines.{AreAnswered, history_of}
 use Rattle.grub_timeline.specs.declared.told.Told.{Told}
 use Rattle.grub_book.specs.declared.event.Event.{Event}
-use Rattle.grub_views.specs.Replay.{book_after, step_of, steps_from, steps_of}
-use Rattle.grub_views.specs.Tallies.{charge_in, is_change_of, own_steps, run_of}
-use Rattle.grub_views.specs.declared.book_steps.Step.{Step}
+use Rattle.grub_steps.specs.Replay.{book_after, step_of, steps_from, steps_of}
+use Rattle.grub_steps.specs.Said.{charge_in, is_change_of, own_steps, run_of}
+use Rattle.grub_steps.specs.declared.book_steps.Step.{Step}
 
 -- a charge at a rate of at most the most bandwidth
 charge_most : (dt u running this : ℕ) (c : Capacity) → u ≤ c.most → charge_of dt u c running this ≤ dt

@@ -1,16 +1,17 @@
 -- The summary: a table of the tasks, and one of the runqueues.
-use Rattle.std.specs.Prelude.{ℕ, zero, suc, ◌+◌, ◌-◌, ◌*◌, ◌/◌, ◌^◌, ◌==◌, true, false, List, [], ◌∷◌, ◌++◌, length, map, codes, if◌then◌else◌}
-use Rattle.std.specs.List.{flat_map, fold}
+use Rattle.std.specs.Prelude.{ℕ, ◌-◌, ◌*◌, ◌/◌, ◌^◌, ◌==◌, true, false, List, [], ◌∷◌, ◌++◌, length, map, codes, if◌then◌else◌}
+use Rattle.std.specs.List.{flat_map, fold, range_with_len}
 use Rattle.grub_bw.specs.Bandwidth.{Reservation, Capacity, bandwidth_of}
 use Rattle.grub_book.specs.Machine.{Machine, queue_at, task_at}
-use Rattle.grub_views.specs.Tables.{table_text}
-use Rattle.grub_views.specs.Tallies.{own_steps, tally_of}
-use Rattle.grub_views.specs.Usage.{usage_of}
-use Rattle.grub_views.specs.declared.book_steps.Step.{Step}
-use Rattle.grub_views.specs.declared.table.Cell.{Cell}
-use Rattle.grub_views.specs.declared.table.Cell.TheVariants.{Head, Name, Number, Percent}
-use Rattle.grub_views.specs.declared.tally.Tally.{Tally}
-use Rattle.grub_views.specs.declared.usage.Usage.{Usage}
+use Rattle.grub_summary.specs.Tables.{table_text}
+use Rattle.grub_steps.specs.Said.{own_steps}
+use Rattle.grub_summary.specs.Tallies.{tally_of}
+use Rattle.grub_summary.specs.Usage.{usage_of}
+use Rattle.grub_steps.specs.declared.book_steps.Step.{Step}
+use Rattle.grub_summary.specs.declared.table.Cell.{Cell}
+use Rattle.grub_summary.specs.declared.table.Cell.TheVariants.{Head, Name, Number, Percent}
+use Rattle.grub_summary.specs.declared.tally.Tally.{Tally}
+use Rattle.grub_summary.specs.declared.usage.Usage.{Usage}
 
 -- hundredths of a percent of the whole processor, rounded down
 abbrev pub percent_of : ℕ → ℕ
@@ -22,11 +23,6 @@ mean_of area span = if span == 0 then 0 else area / span
 -- the moment of the last step
 abbrev pub span_of : List Step → ℕ
 span_of steps = fold (λ (m : ℕ) (x : Step). x.told.entry.m) 0 steps
-
--- the numbers from k on, so many
-abbrev pub count_up : ℕ → ℕ → List ℕ
-count_up k zero = []
-count_up k (suc n) = k ∷ count_up (k + 1) n
 
 abbrev pub task_row : ℕ → Reservation → Tally → List Cell
 task_row t p x =
@@ -46,10 +42,10 @@ abbrev pub row_of_queue : Machine → List Step → ℕ → List Cell
 row_of_queue s steps r = queue_row r (queue_at s r) (span_of steps) (usage_of r steps)
 
 abbrev pub task_cells : Machine → List Step → List Cell
-task_cells s steps = map Head (count_up 0 19) ++ flat_map (row_of_task s steps) (count_up 0 (length s.tasks))
+task_cells s steps = map Head (range_with_len 0 19) ++ flat_map (row_of_task s steps) (range_with_len 0 (length s.tasks))
 
 abbrev pub queue_cells : Machine → List Step → List Cell
-queue_cells s steps = map Head (count_up 19 9) ++ flat_map (row_of_queue s steps) (count_up 0 (length s.queues))
+queue_cells s steps = map Head (range_with_len 19 9) ++ flat_map (row_of_queue s steps) (range_with_len 0 (length s.queues))
 
 -- the two tables, with an empty line between them
 unfoldable pub summary_text : Machine → List (List ℕ) → List Step → List ℕ

@@ -1,8 +1,8 @@
 -- Tables for people: cells in rows of so many, in columns that are aligned by spaces.
 use Rattle.std.specs.Prelude.{ℕ, ◌+◌, ◌-◌, ◌/◌, ◌%◌, ◌==◌, ◌&&◌, max, Bool, true, false, List, [], ◌∷◌, ◌++◌, length, map, codes, decimal, replicate, slice_index_or, if◌then◌else◌}
 use Rattle.grub_trace.specs.Plans.{name_at}
-use Rattle.grub_views.specs.declared.table.Cell.{Cell}
-use Rattle.grub_views.specs.declared.table.Cell.TheVariants.{Head, Name, Number, Percent}
+use Rattle.grub_summary.specs.declared.table.Cell.{Cell}
+use Rattle.grub_summary.specs.declared.table.Cell.TheVariants.{Head, Name, Number, Percent}
 
 -- the names of the columns: of tasks, and then of runqueues
 abbrev pub heads : List (List ℕ)

@@ -2,8 +2,8 @@
 use Rattle.std.specs.Prelude.{ℕ, ◌+◌, ◌-◌, ◌*◌, ◌==◌, max, List, [], ◌∷◌, if◌then◌else◌}
 use Rattle.grub_book.specs.History.{is_reading}
 use Rattle.grub_book.specs.declared.event.Reading.{Reading}
-use Rattle.grub_views.specs.declared.book_steps.Step.{Step}
-use Rattle.grub_views.specs.declared.usage.Usage.{Usage}
+use Rattle.grub_steps.specs.declared.book_steps.Step.{Step}
+use Rattle.grub_summary.specs.declared.usage.Usage.{Usage}
 
 abbrev pub no_reading : Reading
 no_reading = record { running = 0; this = 0 }

@@ -5,10 +5,11 @@ ghost use Rattle.grub_book.specs.Machine.{IsMachine, Machine};
 ghost use Rattle.grub_book.specs.History.{IsLegal};
 ghost use Rattle.grub_timeline.specs.TimeLines.{AreAnswered, AreWithin, history_of};
 ghost use Rattle.grub_timeline.specs.declared.told.Told.{Told};
-ghost use Rattle.grub_views.specs.ActiveTimes.{active_of};
-ghost use Rattle.grub_views.specs.Replay.{steps_of};
-ghost use Rattle.grub_views.specs.Tallies.{own_steps, tally_of};
-ghost use Rattle.grub_views.specs.Usage.{usage_of};
+ghost use Rattle.grub_summary.specs.ActiveTimes.{active_of};
+ghost use Rattle.grub_steps.specs.Replay.{steps_of};
+ghost use Rattle.grub_steps.specs.Said.{own_steps};
+ghost use Rattle.grub_summary.specs.Tallies.{tally_of};
+ghost use Rattle.grub_summary.specs.Usage.{usage_of};
 
 /// What is charged for a task is at most what it executed, so that nothing less than nothing is reclaimed: running_bw is
 /// at most this_bw, and this_bw at most Umax, so that the rate of a charge is at most one.

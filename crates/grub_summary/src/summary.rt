@@ -1,20 +1,21 @@
 //! The summary of a time line: a table of its tasks and one of its runqueues.
 
 ghost use Rattle.std.specs.Prelude.{◌≡◌, ◌+◌, ◌<◌, ◌^◌, List, map, length, IfOk};
+ghost use Rattle.std.specs.List.{range_with_len};
 ghost use Rattle.grub_timeline.specs.TimeLines.{AreWithin, IsTimeLine};
-ghost use Rattle.grub_views.specs.declared.book_steps.Step.{Step};
-ghost use Rattle.grub_views.specs.inside.Adding.{meters_of, tallies_of};
-ghost use Rattle.grub_views.specs.inside.Fitting.{AreToldIn};
-ghost use Rattle.grub_views.specs.Replay.{steps_of};
-ghost use Rattle.grub_views.specs.Summary.{count_up, mean_of, percent_of, queue_cells, queue_row, summary_text, task_cells, task_row};
-ghost use Rattle.grub_views.specs.declared.table.Cell.TheVariants.{Head};
+ghost use Rattle.grub_steps.specs.declared.book_steps.Step.{Step};
+ghost use Rattle.grub_summary.specs.inside.Adding.{meters_of, tallies_of};
+ghost use Rattle.grub_steps.specs.Fitting.{AreToldIn};
+ghost use Rattle.grub_steps.specs.Replay.{steps_of};
+ghost use Rattle.grub_summary.specs.Summary.{mean_of, percent_of, queue_cells, queue_row, summary_text, task_cells, task_row};
+ghost use Rattle.grub_summary.specs.declared.table.Cell.TheVariants.{Head};
 
-use crate::fault::ViewFault;
 use crate::sums::sums_of;
 use crate::table::{Cell, put_table};
 use crate::tally::Tally;
 use crate::usage::{Meter, Usage};
 use grub_bw::{BW_UNIT, Params, Queue};
+use grub_steps::ViewFault;
 use grub_timeline::TimeLine;
 use grub_trace::Plan;
 use std::alloc::{AllocError, Global};
@@ -51,7 +52,7 @@ fn text_of(alloc: Global, plan: &Plan, line: &TimeLine) -> Result<Vec<u8>, Alloc
 /// The names of so many columns.
 fn heads_of(alloc: Global, from: u32, count: u32) -> Result<Vec<Cell>, AllocError>
     requires { from + count < 2 ^ 32 }
-    ensures { IfOk result (λ v. v.items ≡ map Head (count_up from count)) }
+    ensures { IfOk result (λ v. v.items ≡ map Head (range_with_len from count)) }
 {
     let mut cells = Vec::new(alloc);
     for k in 0..count {

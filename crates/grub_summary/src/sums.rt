@@ -3,15 +3,15 @@
 ghost use Rattle.std.specs.Prelude.{◌≡◌, ◌+◌, ◌<◌, ◌≤◌, ◌^◌, ◌++◌, ◌∷◌, [], ℕ, List, All, IfOk, IfSome, length, vec_capacity};
 ghost use Rattle.grub_book.specs.Machine.{Machine};
 ghost use Rattle.grub_book.specs.Sums.{opening_book};
-ghost use Rattle.grub_views.specs.Replay.{steps_of};
-ghost use Rattle.grub_views.specs.declared.book_steps.Step.{Step};
-ghost use Rattle.grub_views.specs.inside.Adding.{IsMeterWithin, IsWithin, meters_of, tallies_of};
-ghost use Rattle.grub_views.specs.inside.Fitting.{AreToldIn};
+ghost use Rattle.grub_steps.specs.Replay.{steps_of};
+ghost use Rattle.grub_steps.specs.declared.book_steps.Step.{Step};
+ghost use Rattle.grub_summary.specs.inside.Adding.{IsMeterWithin, IsWithin, meters_of, tallies_of};
+ghost use Rattle.grub_steps.specs.Fitting.{AreToldIn};
 
-use crate::book_steps::{Step, step_after};
 use crate::tally::Tally;
 use crate::usage::Meter;
 use grub_book::{Book, Setup};
+use grub_steps::{Step, step_after};
 use grub_timeline::Told;
 use std::alloc::{AllocError, Global};
 

@@ -2,7 +2,7 @@
 
 ghost use Rattle.std.specs.Prelude.{◌≡◌, ◌++◌, ◌-◌, ◌+◌, ◌%◌, ◌<◌, ◌≤◌, OnOk, IfOk, length, max, decimal, slice_index_or, if◌then◌else◌, ◌==◌, ◌&&◌, [], codes};
 ghost use Rattle.grub_trace.specs.Plans.{name_at};
-ghost use Rattle.grub_views.specs.Tables.{aligned, cell_text, heads, lengths_of, percent_text, placed_text, spaces, table_text, width_from};
+ghost use Rattle.grub_summary.specs.Tables.{aligned, cell_text, heads, lengths_of, percent_text, placed_text, spaces, table_text, width_from};
 
 use grub_trace::Plan;
 use itoa::Buffer;

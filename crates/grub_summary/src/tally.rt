@@ -1,15 +1,13 @@
 //! What is counted of a task over a time line.
 
-ghost use Rattle.std.specs.Prelude.{◌≡◌, ◌+◌, ◌<◌, ◌≤◌, ◌^◌, ℕ, [], IfOk, if◌then◌else◌};
-ghost use Rattle.grub_views.specs.Tallies.{is_change_of, own_steps, tally_of};
-ghost use Rattle.grub_views.specs.inside.Adding.{IsWithin, tally_after};
+ghost use Rattle.std.specs.Prelude.{◌≡◌, ◌+◌, ◌<◌, ◌≤◌, ◌^◌, ℕ, [], if◌then◌else◌};
+ghost use Rattle.grub_summary.specs.Tallies.{tally_of};
+ghost use Rattle.grub_summary.specs.inside.Adding.{IsWithin, tally_after};
 
-use crate::book_steps::{Change, Step};
-use crate::said::{
-    charge_in, is_asleep, is_joined, is_kept, is_left, is_refused, is_retired, is_waiting,
+use grub_steps::{
+    Step, charge_in, is_asleep, is_joined, is_kept, is_left, is_refused, is_retired, is_waiting,
     is_woken, lateness_in, least_after, recharges_in, run_of, server_before,
 };
-use std::alloc::{AllocError, Global};
 
 /// What is counted of a task.
 #[derive(Clone, Copy, Debug, PartialEq, Eq)]
@@ -110,24 +108,4 @@ fn count(holds: bool) -> usize
     ensures most { result ≤ 1 }
 {
     if holds { 1 } else { 0 }
-}
-
-/// The steps of one task, in order. It is refused where the allocator refused.
-pub fn steps_of_task(alloc: Global, t: u32, steps: &[Step]) -> Result<Vec<Step>, AllocError>
-    ensures { IfOk result (λ v. v.items ≡ own_steps t steps.now) }
-{
-    steps
-        .iter()
-        .copied()
-        .filter(|x| is_change_of(t, x.change))
-        .collect(alloc)
-}
-
-fn is_change_of(t: u32, change: Option<Change>) -> bool
-    ensures { result ≡ is_change_of t change }
-{
-    match change {
-        Some(change) => change.t == t,
-        None => false,
-    }
 }

@@ -2,11 +2,11 @@
 
 ghost use Rattle.std.specs.Prelude.{◌≡◌, ◌<◌, ◌≤◌, ◌*◌, ◌+◌, ◌^◌, ℕ, [], max, if◌then◌else◌};
 ghost use Rattle.grub_book.specs.History.{is_reading};
-ghost use Rattle.grub_views.specs.Usage.{reading_after};
-ghost use Rattle.grub_views.specs.inside.Adding.{IsMeterWithin, meter_after, meter_of};
+ghost use Rattle.grub_summary.specs.Usage.{reading_after};
+ghost use Rattle.grub_summary.specs.inside.Adding.{IsMeterWithin, meter_after, meter_of};
 
-use crate::book_steps::Step;
 use grub_book::Reading;
+use grub_steps::Step;
 
 /// What is counted of a runqueue.
 #[derive(Clone, Copy, Debug, PartialEq, Eq)]

@@ -1,9 +1,9 @@
 -- A bar that has begun: when it ends, and which comes after it.
 use Rattle.std.specs.Prelude.{ℕ, List, [], ◌∷◌, Option, Some, None, if◌then◌else◌}
 use Rattle.grub_book.specs.declared.place.State.{State}
-use Rattle.grub_views.specs.declared.bars.Bar.{Bar}
-use Rattle.grub_views.specs.declared.bars.Begun.{Begun}
-use Rattle.grub_views.specs.Bars.{is_still}
+use Rattle.grub_picture.specs.declared.bars.Bar.{Bar}
+use Rattle.grub_picture.specs.declared.bars.Begun.{Begun}
+use Rattle.grub_picture.specs.Bars.{is_still}
 
 abbrev pub opened_bar : Option State → ℕ → Option Begun
 opened_bar (Some state) m = Some (record { state = state; from = m })

@@ -1,14 +1,16 @@
 -- One step more of what is counted.
 use Rattle.std.specs.Prelude.{ℕ, ◌+◌, ◌-◌, ◌*◌, ◌≤◌, nat_lt, max, Bool, List, length, map, fold, if◌then◌else◌}
+use Rattle.std.specs.List.{range_with_len}
 use Rattle.grub_book.specs.History.{is_reading}
 use Rattle.grub_book.specs.Machine.{Machine, task_at}
 use Rattle.grub_book.specs.declared.event.Reading.{Reading}
-use Rattle.grub_views.specs.Summary.{count_up, span_of}
-use Rattle.grub_views.specs.Tallies.{charge_in, is_asleep, is_joined, is_kept, is_left, is_refused, is_retired, is_waiting, is_woken, lateness_in, least_after, own_steps, recharges_in, run_of, server_before, tally_of}
-use Rattle.grub_views.specs.Usage.{no_reading, reading_after, usage_of}
-use Rattle.grub_views.specs.declared.book_steps.Step.{Step}
-use Rattle.grub_views.specs.declared.tally.Tally.{Tally}
-use Rattle.grub_views.specs.declared.usage.Meter.{Meter}
+use Rattle.grub_summary.specs.Summary.{span_of}
+use Rattle.grub_steps.specs.Said.{charge_in, is_asleep, is_joined, is_kept, is_left, is_refused, is_retired, is_waiting, is_woken, lateness_in, least_after, own_steps, recharges_in, run_of, server_before}
+use Rattle.grub_summary.specs.Tallies.{tally_of}
+use Rattle.grub_summary.specs.Usage.{no_reading, reading_after, usage_of}
+use Rattle.grub_steps.specs.declared.book_steps.Step.{Step}
+use Rattle.grub_summary.specs.declared.tally.Tally.{Tally}
+use Rattle.grub_summary.specs.declared.usage.Meter.{Meter}
 
 abbrev pub one_if : Bool → ℕ
 one_if holds = if holds then 1 else 0
@@ -49,7 +51,7 @@ pub record IsWithin (n : ℕ) (y : Tally) : Type 0 where
 
 -- the numbers of each task over these steps
 unfoldable pub tallies_of : Machine → List Step → List Tally
-tallies_of s steps = map (λ t. tally_of (task_at s t).runtime (own_steps t steps)) (count_up 0 (length s.tasks))
+tallies_of s steps = map (λ t. tally_of (task_at s t).runtime (own_steps t steps)) (range_with_len 0 (length s.tasks))
 
 -- the reading of runqueue r after these steps
 abbrev pub reading_in : ℕ → List Step → Reading
@@ -84,4 +86,4 @@ pub record IsMeterWithin (n : ℕ) (y : Meter) : Type 0 where
 
 -- what is counted of each runqueue over these steps
 unfoldable pub meters_of : Machine → List Step → List Meter
-meters_of s steps = map (λ r. meter_of r steps) (count_up 0 (length s.queues))
+meters_of s steps = map (λ r. meter_of r steps) (range_with_len 0 (length s.queues))

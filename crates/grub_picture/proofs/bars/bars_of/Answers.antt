@@ -1,9 +1,9 @@
 use Rattle.std.proofs.Common.{◌++◌, List, refl, ap, sym, ◌∙◌}
 use Rattle.std.proofs.lemmas.List.{drop_all}
-use Rattle.grub_views.specs.Bars.{bars_of}
-use Rattle.grub_views.specs.declared.bars.Bar.{Bar}
-use Rattle.grub_views.proofs.Barring.{all_bars, one_step}
-use Rattle.grub_views.proofs.bars.bars_of.Goals as goal
+use Rattle.grub_picture.specs.Bars.{bars_of}
+use Rattle.grub_picture.specs.declared.bars.Bar.{Bar}
+use Rattle.grub_picture.proofs.Barring.{all_bars, one_step}
+use Rattle.grub_picture.proofs.bars.bars_of.Goals as goal
 
 pub loop-x-init : goal.loop-x-init
 unfolding bars_of

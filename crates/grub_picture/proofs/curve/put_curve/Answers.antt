@@ -1,9 +1,9 @@
 use Rattle.std.proofs.Common.{[], ◌∷◌}
 use Rattle.std.specs.Prelude.{codes, decimal}
-use Rattle.grub_views.specs.Curves.{class_of, curve_text, lasts, points_of, points_text, word_of}
-use Rattle.grub_views.specs.Frames.{x_of}
-use Rattle.grub_views.proofs.Pieces.{pieces_put}
-use Rattle.grub_views.proofs.curve.put_curve.Goals as goal
+use Rattle.grub_picture.specs.Curves.{class_of, curve_text, lasts, points_of, points_text, word_of}
+use Rattle.grub_picture.specs.Frames.{x_of}
+use Rattle.grub_picture.proofs.Pieces.{pieces_put}
+use Rattle.grub_picture.proofs.curve.put_curve.Goals as goal
 
 pub returns : goal.returns
 unfolding curve_text

@@ -1,6 +1,6 @@
 use Rattle.std.proofs.Common.{◌≡◌, ◌++◌, drop}
-use Rattle.grub_views.specs.Curves.{lasts, points_of, points_text}
-use Rattle.grub_views.proofs.curve.put_points.Given as goal
+use Rattle.grub_picture.specs.Curves.{lasts, points_of, points_text}
+use Rattle.grub_picture.proofs.curve.put_points.Given as goal
 
 abbrev pub invariant-loop-x : goal.invariant-loop-x
 invariant-loop-x l =

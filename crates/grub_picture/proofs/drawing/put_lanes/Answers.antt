@@ -1,9 +1,9 @@
 use Rattle.std.proofs.Common.{◌≡◌, ◌+◌, ◌*◌, ◌<◌, ◌++◌, ℕ, List, length, ap, sym, ◌∙◌, arith, true, false}
-use Rattle.grub_views.specs.Picture.{has_lane, lanes_text}
-use Rattle.grub_views.specs.inside.Scenes.{drawn_of}
-use Rattle.grub_views.proofs.Laning.{lane_counted, lane_drawn, lane_left, lane_same, lanes_begin}
-use Rattle.grub_views.proofs.drawing.put_lanes.Goals as goal
-use Rattle.grub_views.proofs.drawing.put_lanes.Goals.{then-are_seen+in_ok-put_lane, else-are_seen}
+use Rattle.grub_picture.specs.Picture.{has_lane, lanes_text}
+use Rattle.grub_picture.specs.inside.Scenes.{drawn_of}
+use Rattle.grub_picture.proofs.Laning.{lane_counted, lane_drawn, lane_left, lane_same, lanes_begin}
+use Rattle.grub_picture.proofs.drawing.put_lanes.Goals as goal
+use Rattle.grub_picture.proofs.drawing.put_lanes.Goals.{then-are_seen+in_ok-put_lane, else-are_seen}
 
 pub loop-t-init : goal.loop-t-init
 loop-t-init c =

@@ -1,10 +1,10 @@
 use Rattle.std.proofs.Common.{[], ◌∷◌}
 use Rattle.std.specs.Prelude.{codes, decimal, unwrap_or}
-use Rattle.grub_views.specs.Bars.{postponed}
-use Rattle.grub_views.specs.Frames.{x_of}
-use Rattle.grub_views.specs.Lanes.{tick_text}
-use Rattle.grub_views.proofs.Pieces.{pieces_put}
-use Rattle.grub_views.proofs.drawing.put_tick.Goals as goal
+use Rattle.grub_picture.specs.Bars.{postponed}
+use Rattle.grub_picture.specs.Frames.{x_of}
+use Rattle.grub_picture.specs.Lanes.{tick_text}
+use Rattle.grub_picture.proofs.Pieces.{pieces_put}
+use Rattle.grub_picture.proofs.drawing.put_tick.Goals as goal
 
 pub returns : goal.returns
 unfolding tick_text

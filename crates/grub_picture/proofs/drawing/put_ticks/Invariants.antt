@@ -1,10 +1,10 @@
 use Rattle.std.proofs.Common.{◌≡◌, ◌++◌, drop}
 use Rattle.std.specs.Prelude.{filter}
 use Rattle.std.specs.List.{flat_map}
-use Rattle.grub_views.specs.declared.book_steps.Step.{Step}
-use Rattle.grub_views.specs.Frames.{firsts, x_of}
-use Rattle.grub_views.specs.Lanes.{is_tick, tick_text}
-use Rattle.grub_views.proofs.drawing.put_ticks.Given as goal
+use Rattle.grub_steps.specs.declared.book_steps.Step.{Step}
+use Rattle.grub_picture.specs.Frames.{firsts, x_of}
+use Rattle.grub_picture.specs.Lanes.{is_tick, tick_text}
+use Rattle.grub_picture.proofs.drawing.put_ticks.Given as goal
 
 abbrev pub invariant-loop-step : goal.invariant-loop-step
 invariant-loop-step l =

@@ -1,6 +1,6 @@
 use Rattle.std.proofs.Common.{refl}
-use Rattle.grub_views.specs.Picture.{drawing}
-use Rattle.grub_views.proofs.picture.drawn.Goals as goal
+use Rattle.grub_picture.specs.Picture.{drawing}
+use Rattle.grub_picture.proofs.picture.drawn.Goals as goal
 
 pub returns : goal.returns
 unfolding drawing

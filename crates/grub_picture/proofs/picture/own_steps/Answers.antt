@@ -1,7 +1,7 @@
 use Rattle.std.proofs.Common.{refl}
-use Rattle.grub_views.specs.inside.Scenes.{owns_of}
-use Rattle.grub_views.proofs.Showing.{owns_more}
-use Rattle.grub_views.proofs.picture.own_steps.Goals as goal
+use Rattle.grub_picture.specs.inside.Scenes.{owns_of}
+use Rattle.grub_picture.proofs.Showing.{owns_more}
+use Rattle.grub_picture.proofs.picture.own_steps.Goals as goal
 
 pub loop-t-init : goal.loop-t-init
 unfolding owns_of

@@ -1,8 +1,8 @@
 use Rattle.std.proofs.Common.{◌<◌, ◌++◌, ℕ, List, length, ap, arith}
-use Rattle.grub_views.specs.Picture.{queues_end, queues_text}
-use Rattle.grub_views.specs.inside.Scenes.{drawn_of}
-use Rattle.grub_views.proofs.Laning.{all_left, queue_drawn, queue_ended}
-use Rattle.grub_views.proofs.picture.put_queues.Goals as goal
+use Rattle.grub_picture.specs.Picture.{queues_end, queues_text}
+use Rattle.grub_picture.specs.inside.Scenes.{drawn_of}
+use Rattle.grub_picture.proofs.Laning.{all_left, queue_drawn, queue_ended}
+use Rattle.grub_picture.proofs.picture.put_queues.Goals as goal
 
 pub loop-r-init : goal.loop-r-init
 loop-r-init c =

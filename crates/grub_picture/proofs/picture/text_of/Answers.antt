@@ -2,10 +2,10 @@ use Rattle.std.proofs.Common.{◌≡◌, ℕ, List, Option, ap, sym, ◌∙◌, 
 use Rattle.std.specs.Prelude.{unwrap_or}
 use Rattle.std.proofs.lemmas.List.{drop_all}
 use Rattle.std.proofs.lemmas.Result.{IfOk-weaker}
-use Rattle.grub_views.specs.Picture.{blank, drawing_at, is_small, picture_of}
-use Rattle.grub_views.specs.declared.picture.TheConstants.{UNITS}
-use Rattle.grub_views.proofs.Finding.{made_here, made_later, not_small, small}
-use Rattle.grub_views.proofs.picture.text_of.Goals as goal
+use Rattle.grub_picture.specs.Picture.{blank, drawing_at, is_small, picture_of}
+use Rattle.grub_picture.specs.declared.picture.TheConstants.{UNITS}
+use Rattle.grub_picture.proofs.Finding.{made_here, made_later, not_small, small}
+use Rattle.grub_picture.proofs.picture.text_of.Goals as goal
 
 pub returns-then-len-lt-SIZE_LIMIT-clause-text : goal.returns-then-len-lt-SIZE_LIMIT-clause-text
 unfolding picture_of

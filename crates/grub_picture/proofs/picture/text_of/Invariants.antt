@@ -1,8 +1,8 @@
 use Rattle.std.proofs.Common.{◌≡◌, drop, map}
 use Rattle.std.specs.Prelude.{find}
-use Rattle.grub_views.specs.Picture.{drawing_at, is_small, units}
-use Rattle.grub_views.specs.declared.picture.TheConstants.{UNITS}
-use Rattle.grub_views.proofs.picture.text_of.Given as goal
+use Rattle.grub_picture.specs.Picture.{drawing_at, is_small, units}
+use Rattle.grub_picture.specs.declared.picture.TheConstants.{UNITS}
+use Rattle.grub_picture.proofs.picture.text_of.Given as goal
 
 abbrev pub invariant-loop-unit : goal.invariant-loop-unit
 invariant-loop-unit l =

@@ -1,7 +1,6 @@
 use Rattle.std.proofs.Common.{refl, ◌∙◌, rules}
-use Rattle.grub_views.proofs.Chunking.{past_left}
-use Rattle.grub_views.proofs.Stepping.{next_step}
-use Rattle.grub_views.proofs.book_steps.fill_steps.Goals as goal
+use Rattle.grub_steps.proofs.Stepping.{next_step, past_left}
+use Rattle.grub_steps.proofs.book_steps.fill_steps.Goals as goal
 
 pub loop-x-preserved : goal.loop-x-preserved
 loop-x-preserved c =

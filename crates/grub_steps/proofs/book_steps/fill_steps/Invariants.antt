@@ -1,7 +1,7 @@
 use Rattle.std.proofs.Common.{◌≡◌, ◌++◌, drop, vec_len, vec_capacity}
-use Rattle.grub_views.specs.inside.Past.{book_past}
-use Rattle.grub_views.specs.Replay.{steps_from}
-use Rattle.grub_views.proofs.book_steps.fill_steps.Given as goal
+use Rattle.grub_steps.specs.Past.{book_past}
+use Rattle.grub_steps.specs.Replay.{steps_from}
+use Rattle.grub_steps.proofs.book_steps.fill_steps.Given as goal
 
 abbrev pub invariant-loop-x : goal.invariant-loop-x
 invariant-loop-x l = record {

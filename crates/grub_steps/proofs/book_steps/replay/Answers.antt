@@ -1,8 +1,8 @@
 use Rattle.std.proofs.Common.{refl, sym, ◌∙◌, rules}
 use Rattle.std.proofs.lemmas.List.{drop_all, append-nil}
-use Rattle.grub_views.specs.Replay.{steps_of}
-use Rattle.grub_views.proofs.Stepping.{next_step, steps_in}
-use Rattle.grub_views.proofs.book_steps.replay.Goals as goal
+use Rattle.grub_steps.specs.Replay.{steps_of}
+use Rattle.grub_steps.proofs.Stepping.{next_step, steps_in}
+use Rattle.grub_steps.proofs.book_steps.replay.Goals as goal
 
 pub loop-x-init : goal.loop-x-init
 unfolding steps_of

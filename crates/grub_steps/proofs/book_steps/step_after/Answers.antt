@@ -1,6 +1,6 @@
 use Rattle.std.proofs.Common.{ap}
-use Rattle.grub_views.proofs.Stepping.{call_step}
-use Rattle.grub_views.proofs.book_steps.step_after.Goals as goal
+use Rattle.grub_steps.proofs.Stepping.{call_step}
+use Rattle.grub_steps.proofs.book_steps.step_after.Goals as goal
 
 pub returns-clause-records : goal.returns-clause-records
 returns-clause-records c = rw c.in-Call.is (ap (λ p. p.0) c.apply.ensures.step)

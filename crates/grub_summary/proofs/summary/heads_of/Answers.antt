@@ -1,8 +1,8 @@
 use Rattle.std.proofs.Common.{◌++◌, ◌∷◌, [], ap, ◌∙◌, List, ◌+◌}
-use Rattle.grub_views.specs.declared.table.Cell.{Cell}
-use Rattle.grub_views.specs.declared.table.Cell.TheVariants.{Head}
-use Rattle.grub_views.proofs.Counting.{map_more}
-use Rattle.grub_views.proofs.summary.heads_of.Goals as goal
+use Rattle.grub_summary.specs.declared.table.Cell.{Cell}
+use Rattle.grub_summary.specs.declared.table.Cell.TheVariants.{Head}
+use Rattle.grub_summary.proofs.Counting.{map_more}
+use Rattle.grub_summary.proofs.summary.heads_of.Goals as goal
 
 pub loop-k-preserved : goal.loop-k-preserved
 loop-k-preserved c =

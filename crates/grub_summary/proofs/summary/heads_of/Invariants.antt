@@ -1,7 +1,7 @@
 use Rattle.std.proofs.Common.{◌≡◌, map}
-use Rattle.grub_views.specs.Summary.{count_up}
-use Rattle.grub_views.specs.declared.table.Cell.TheVariants.{Head}
-use Rattle.grub_views.proofs.summary.heads_of.Given as goal
+use Rattle.std.specs.List.{range_with_len}
+use Rattle.grub_summary.specs.declared.table.Cell.TheVariants.{Head}
+use Rattle.grub_summary.proofs.summary.heads_of.Given as goal
 
 abbrev pub invariant-loop-k : goal.invariant-loop-k
-invariant-loop-k l = l.cells.items ≡ map Head (count_up l.from l.k)
+invariant-loop-k l = l.cells.items ≡ map Head (range_with_len l.from l.k)

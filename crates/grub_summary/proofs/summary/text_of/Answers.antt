@@ -1,9 +1,9 @@
 use Rattle.std.proofs.Common.{◌≡◌, ◌∙◌, ap, length, refl}
-use Rattle.grub_views.specs.Replay.{steps_of}
-use Rattle.grub_views.specs.Summary.{queue_cells, summary_text, task_cells}
-use Rattle.grub_views.specs.inside.Adding.{meters_of, tallies_of}
-use Rattle.grub_views.proofs.Adding.{meters_length, tallies_length}
-use Rattle.grub_views.proofs.summary.text_of.Goals as goal
+use Rattle.grub_steps.specs.Replay.{steps_of}
+use Rattle.grub_summary.specs.Summary.{queue_cells, summary_text, task_cells}
+use Rattle.grub_summary.specs.inside.Adding.{meters_of, tallies_of}
+use Rattle.grub_summary.proofs.Adding.{meters_length, tallies_length}
+use Rattle.grub_summary.proofs.summary.text_of.Goals as goal
 
 pub task_cells-requires : goal.task_cells-requires
 task_cells-requires c =

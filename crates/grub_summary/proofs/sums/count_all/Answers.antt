@@ -1,12 +1,12 @@
 use Rattle.std.proofs.Common.{◌++◌, ◌∷◌, [], ◌∙◌, refl, ap, sym, rules}
 use Rattle.std.proofs.lemmas.List.{append-nil, drop_all}
 use Rattle.std.proofs.lemmas.List.Elements.{All-get_or}
-use Rattle.grub_views.specs.Replay.{steps_of}
-use Rattle.grub_views.specs.inside.Adding.{meters_of, tallies_of}
-use Rattle.grub_views.specs.inside.Fitting.{IsToldIn}
-use Rattle.grub_views.proofs.Adding.{meters_fit, tallies_fit, task_there}
-use Rattle.grub_views.proofs.Stepping.{next_step}
-use Rattle.grub_views.proofs.sums.count_all.Goals as goal
+use Rattle.grub_steps.specs.Replay.{steps_of}
+use Rattle.grub_summary.specs.inside.Adding.{meters_of, tallies_of}
+use Rattle.grub_steps.specs.Fitting.{IsToldIn}
+use Rattle.grub_summary.proofs.Adding.{meters_fit, tallies_fit, task_there}
+use Rattle.grub_steps.proofs.Stepping.{next_step}
+use Rattle.grub_summary.proofs.sums.count_all.Goals as goal
 
 pub loop-x-init : goal.loop-x-init
 unfolding steps_of

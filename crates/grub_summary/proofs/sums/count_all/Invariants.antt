@@ -1,8 +1,8 @@
 use Rattle.std.proofs.Common.{◌≡◌, ◌++◌, List, All, drop}
-use Rattle.grub_views.specs.Replay.{steps_from, steps_of}
-use Rattle.grub_views.specs.declared.book_steps.Step.{Step}
-use Rattle.grub_views.specs.inside.Adding.{IsMeterWithin, IsWithin, meters_of, tallies_of}
-use Rattle.grub_views.proofs.sums.count_all.Given as goal
+use Rattle.grub_steps.specs.Replay.{steps_from, steps_of}
+use Rattle.grub_steps.specs.declared.book_steps.Step.{Step}
+use Rattle.grub_summary.specs.inside.Adding.{IsMeterWithin, IsWithin, meters_of, tallies_of}
+use Rattle.grub_summary.proofs.sums.count_all.Given as goal
 
 -- the steps so far, which nobody keeps, and what is counted over them
 abbrev pub invariant-loop-x : goal.invariant-loop-x

@@ -1,9 +1,9 @@
 use Rattle.std.proofs.Common.{◌≤◌, ◌+◌, List, All, length, subst, sym}
 use Rattle.std.proofs.lemmas.List.{take_all}
-use Rattle.grub_views.specs.declared.usage.Meter.{Meter}
-use Rattle.grub_views.specs.inside.Adding.{IsMeterWithin, meter_after}
-use Rattle.grub_views.proofs.Adding.{meters_more, over_all, over_more, over_within}
-use Rattle.grub_views.proofs.sums.count_queues.Goals as goal
+use Rattle.grub_summary.specs.declared.usage.Meter.{Meter}
+use Rattle.grub_summary.specs.inside.Adding.{IsMeterWithin, meter_after}
+use Rattle.grub_summary.proofs.Adding.{meters_more, over_all, over_more, over_within}
+use Rattle.grub_summary.proofs.sums.count_queues.Goals as goal
 
 pub loop-meter-preserved : goal.loop-meter-preserved
 loop-meter-preserved c =

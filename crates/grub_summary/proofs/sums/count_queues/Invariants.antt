@@ -1,6 +1,6 @@
 use Rattle.std.proofs.Common.{◌≡◌, ℕ, ◌+◌, ◌++◌, All, map, take, drop}
-use Rattle.grub_views.specs.inside.Adding.{IsMeterWithin, meter_after}
-use Rattle.grub_views.proofs.sums.count_queues.Given as goal
+use Rattle.grub_summary.specs.inside.Adding.{IsMeterWithin, meter_after}
+use Rattle.grub_summary.proofs.sums.count_queues.Given as goal
 
 abbrev pub invariant-loop-meter : goal.invariant-loop-meter
 invariant-loop-meter l = record {

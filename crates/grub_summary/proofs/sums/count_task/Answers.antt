@@ -1,5 +1,5 @@
-use Rattle.grub_views.proofs.Adding.{tallies_more, tallies_same, tallies_wider, tallies_within}
-use Rattle.grub_views.proofs.sums.count_task.Goals as goal
+use Rattle.grub_summary.proofs.Adding.{tallies_more, tallies_same, tallies_wider, tallies_within}
+use Rattle.grub_summary.proofs.sums.count_task.Goals as goal
 
 pub returns-in-Some-clause-value : goal.returns-in-Some-clause-value
 returns-in-Some-clause-value c = λ s steps is.

@@ -1,6 +1,6 @@
 use Rattle.std.proofs.Common.{◌≡◌, ◌++◌, List, ℕ, append_assoc, ◌∙◌, refl}
-use Rattle.grub_views.specs.Tables.{placed_text}
-use Rattle.grub_views.proofs.table.put_placed.Goals as goal
+use Rattle.grub_summary.specs.Tables.{placed_text}
+use Rattle.grub_summary.proofs.table.put_placed.Goals as goal
 
 joined : (o a b d : List ℕ) → ((o ++ a) ++ b) ++ d ≡ o ++ (a ++ b ++ d)
 joined o a b d = simp append_assoc

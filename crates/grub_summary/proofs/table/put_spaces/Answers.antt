@@ -1,6 +1,6 @@
 use Rattle.std.proofs.Common.{◌++◌, ◌∷◌, [], ap, ◌∙◌, List, ℕ}
-use Rattle.grub_views.proofs.Counting.{spaces_more}
-use Rattle.grub_views.proofs.table.put_spaces.Goals as goal
+use Rattle.grub_summary.proofs.Counting.{spaces_more}
+use Rattle.grub_summary.proofs.table.put_spaces.Goals as goal
 
 pub loop-k-preserved : goal.loop-k-preserved
 loop-k-preserved c =

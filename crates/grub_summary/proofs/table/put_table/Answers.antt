@@ -1,7 +1,7 @@
 use Rattle.std.proofs.Common.{◌∙◌, sym}
 use Rattle.std.proofs.lemmas.List.{drop_all, append-nil}
-use Rattle.grub_views.specs.Tables.{table_text}
-use Rattle.grub_views.proofs.table.put_table.Goals as goal
+use Rattle.grub_summary.specs.Tables.{table_text}
+use Rattle.grub_summary.proofs.table.put_table.Goals as goal
 
 pub returns : goal.returns
 unfolding table_text

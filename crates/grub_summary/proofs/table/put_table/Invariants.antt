@@ -1,6 +1,6 @@
 use Rattle.std.proofs.Common.{◌≡◌, ◌++◌, drop}
-use Rattle.grub_views.specs.Tables.{cells_from, lengths_of}
-use Rattle.grub_views.proofs.table.put_table.Given as goal
+use Rattle.grub_summary.specs.Tables.{cells_from, lengths_of}
+use Rattle.grub_summary.proofs.table.put_table.Given as goal
 
 abbrev pub invariant-loop-k : goal.invariant-loop-k
 invariant-loop-k l =

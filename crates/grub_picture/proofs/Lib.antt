@@ -1,0 +1,5 @@
+pub mod Pieces
+pub mod Showing
+pub mod Barring
+pub mod Laning
+pub mod Finding
