@@ -2,12 +2,12 @@
 use Rattle.std.proofs.Common.{◌≡◌, ℕ, ◌+◌, ◌<◌, Bool, true, false, List, [], ◌∷◌, ◌++◌, length, get_or, drop, refl, ap, ◌∙◌, sym, append_assoc, Option, Some, None}
 use Rattle.grub_book.specs.declared.place.State.{State}
 use Rattle.grub_book.specs.declared.place.State.TheVariants.{Contending, NonContending, Inactive}
-use Rattle.grub_picture.specs.declared.bars.Bar.{Bar}
+use Rattle.grub_shapes.specs.declared.shape.Bar.{Bar}
 use Rattle.grub_picture.specs.declared.bars.Begun.{Begun}
 use Rattle.grub_steps.specs.declared.book_steps.Step.{Step}
 use Rattle.grub_picture.specs.Bars.{bars_from, is_state, state_on, until}
 use Rattle.grub_picture.specs.inside.Begun.{begun_after, ended_bar, last_bar}
-use Rattle.grub_steps.proofs.Counting.{next_left}
+use Rattle.grub_shapes.proofs.Finding.{next_left}
 
 -- the bars that are left, with the one that has begun
 abbrev pub rest_of : ℕ → ℕ → Option Begun → List Step → List Bar

@@ -1,5 +1,4 @@
-pub mod Pieces
 pub mod Showing
 pub mod Barring
 pub mod Laning
-pub mod Finding
+pub mod Sizes

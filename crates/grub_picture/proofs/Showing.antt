@@ -1,23 +1,16 @@
 -- One more of what is drawn.
-use Rattle.std.proofs.Common.{◌≡◌, ℕ, zero, suc, ◌+◌, ◌-◌, ◌<◌, List, [], ◌∷◌, ◌++◌, length, refl, ap, ◌∙◌, sym, append_assoc, arith}
+use Rattle.std.proofs.Common.{◌≡◌, ℕ, zero, suc, ◌+◌, ◌-◌, ◌<◌, List, [], ◌∷◌, ◌++◌, length, refl, ap, ◌∙◌, sym, arith}
 use Rattle.std.specs.Prelude.{Some, map, slice_get}
-use Rattle.std.specs.List.{flat_map, range_with_len}
+use Rattle.std.specs.List.{range_with_len}
 use Rattle.grub_steps.specs.Said.{own_steps}
 use Rattle.grub_steps.specs.declared.book_steps.Step.{Step}
 use Rattle.grub_picture.specs.inside.Scenes.{owns_of}
-use Rattle.grub_steps.proofs.Counting.{count_more, map_more}
-use Rattle.std.proofs.lemmas.Grind.{flat_map-append}
-use Rattle.std.proofs.lemmas.List.{map-append, append-nil, length-map}
+use Rattle.std.proofs.lemmas.List.{map-append, length-map}
+use Rattle.std.proofs.lemmas.List.FromFn.{map-range_with_len_more}
 
 -- the numbers that are left, less one
 pub count_left : (k n : ℕ) → k < n → range_with_len k (n - k) ≡ k ∷ range_with_len (k + 1) (n - (k + 1))
 count_left k n below = let one : n - k ≡ suc (n - (k + 1)) = omega arith in rw one refl
-
--- and what is made of them, with one more
-pub marks_more : (o : List ℕ) (g : ℕ → List ℕ) (f : ℕ → ℕ) (n : ℕ) → (o ++ flat_map g (map f (range_with_len 0 n))) ++ g (f n) ≡ o ++ flat_map g (map f (range_with_len 0 (n + 1)))
-marks_more o g f n =
-    let zero_add : 0 + n ≡ n = omega arith in
-    rw (count_more 0 n, map-append f (range_with_len 0 n) ((0 + n) ∷ []), zero_add, flat_map-append g (map f (range_with_len 0 n)) (f n ∷ []), append-nil (g (f n))) (append_assoc o (flat_map g (map f (range_with_len 0 n))) (g (f n)))
 
 count_length : (k n : ℕ) → length (range_with_len k n) ≡ n
 count_length k zero = refl
@@ -52,4 +45,4 @@ unfolding owns_of
 owns_more owns f own n steps is own_is =
     let zero_add : 0 + n ≡ n = omega arith in
     map-append f owns (own ∷ []) ∙ ap (λ (xs : List (List Step)). xs ++ f own ∷ []) is
-    ∙ ap (λ (x : List Step). map (λ (k : ℕ). own_steps k steps) (range_with_len 0 n) ++ x ∷ []) (own_is ∙ ap (λ (k : ℕ). own_steps k steps) (sym zero_add)) ∙ map_more (λ (k : ℕ). own_steps k steps) 0 n
+    ∙ ap (λ (x : List Step). map (λ (k : ℕ). own_steps k steps) (range_with_len 0 n) ++ x ∷ []) (own_is ∙ ap (λ (k : ℕ). own_steps k steps) (sym zero_add)) ∙ sym (map-range_with_len_more (λ (k : ℕ). own_steps k steps) 0 n (0 + n) refl)

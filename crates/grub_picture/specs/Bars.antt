@@ -1,5 +1,5 @@
 -- When a task was on a runqueue and in which state, by its own steps, and when its deadline was postponed.
-use Rattle.std.specs.Prelude.{ℕ, ◌-◌, ◌==◌, nat_le, nat_lt, ◌&&◌, Bool, true, false, List, [], ◌∷◌, ◌++◌, Option, Some, None, if◌then◌else◌}
+use Rattle.std.specs.Prelude.{ℕ, ◌==◌, nat_le, nat_lt, ◌&&◌, Bool, true, false, List, [], ◌∷◌, ◌++◌, Option, Some, None, if◌then◌else◌}
 use Rattle.grub_book.specs.declared.place.Place.{Place}
 use Rattle.grub_book.specs.declared.place.Place.TheVariants.{On, Away, Gone}
 use Rattle.grub_book.specs.declared.place.State.{State}
@@ -7,11 +7,10 @@ use Rattle.grub_book.specs.declared.place.State.TheVariants.{Contending, NonCont
 use Rattle.grub_book.specs.declared.reply.Reply.TheVariants.{Charged}
 use Rattle.grub_trace.specs.declared.entry.Answer.{Answer}
 use Rattle.grub_trace.specs.declared.entry.Answer.TheVariants.{Replied}
-use Rattle.grub_picture.specs.declared.bars.Bar.{Bar}
+use Rattle.grub_shapes.specs.declared.shape.Bar.{Bar}
 use Rattle.grub_steps.specs.declared.book_steps.Change.{Change}
 use Rattle.grub_steps.specs.declared.book_steps.Step.{Step}
-use Rattle.grub_picture.specs.declared.frame.Frame.{Frame}
-use Rattle.grub_picture.specs.Frames.{x_of}
+use Rattle.grub_shapes.specs.declared.frame.Frame.{Frame}
 
 abbrev pub state_at : ℕ → Place → Option State
 state_at r (On s state) = if s == r then Some state else None
@@ -63,9 +62,6 @@ bars_of r end own = bars_from r end None own
 -- a bar lies in the span, if only in part
 abbrev pub is_seen : Frame → Bar → Bool
 is_seen f bar = nat_le bar.from f.to && nat_le f.from bar.to
-
-abbrev pub width_of : Frame → Bar → ℕ
-width_of f bar = x_of f bar.to - x_of f bar.from
 
 -- the deadline to which an answer postpones that of a task: a recharge does
 abbrev pub deadline_postponed : Answer → Option ℕ

@@ -2,8 +2,8 @@
 use Rattle.std.specs.Prelude.{ℕ, ◌-◌, ◌==◌, nat_le, nat_lt, ◌&&◌, Bool, true, false, List, [], ◌∷◌, ◌++◌, codes, decimal, map, filter, if◌then◌else◌}
 use Rattle.grub_book.specs.declared.event.Reading.{Reading}
 use Rattle.grub_steps.specs.declared.book_steps.Step.{Step}
-use Rattle.grub_picture.specs.declared.frame.Frame.{Frame}
-use Rattle.grub_picture.specs.Frames.{height_of, x_of}
+use Rattle.grub_shapes.specs.declared.frame.Frame.{Frame}
+use Rattle.grub_shapes.specs.Frames.{height_of, x_of}
 
 -- a bandwidth, and the column in which it was read
 pub record Point : Type 0 where

@@ -5,12 +5,12 @@ use Rattle.grub_book.specs.Machine.{Machine, queue_at}
 use Rattle.grub_timeline.specs.declared.told.Told.{Told}
 use Rattle.grub_trace.specs.Plans.{name_at}
 use Rattle.grub_steps.specs.declared.book_steps.Step.{Step}
-use Rattle.grub_picture.specs.declared.frame.Frame.{Frame}
-use Rattle.grub_picture.specs.declared.mark.Mark.{Mark}
+use Rattle.grub_shapes.specs.declared.frame.Frame.{Frame}
+use Rattle.grub_shapes.specs.declared.mark.Mark.{Mark}
 use Rattle.grub_picture.specs.Curves.{curve_text}
-use Rattle.grub_picture.specs.Elements.{axis_text, head_text, scale_text, umax_text}
+use Rattle.grub_shapes.specs.Elements.{axis_text, head_text, scale_text, umax_text}
 use Rattle.grub_picture.specs.Lanes.{is_shown, lane_text}
-use Rattle.grub_picture.specs.Marks.{legend_of}
+use Rattle.grub_shapes.specs.Marks.{legend_of}
 use Rattle.grub_steps.specs.Said.{own_steps}
 
 -- the moment of the last entry

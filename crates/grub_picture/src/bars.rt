@@ -5,19 +5,11 @@ ghost use Rattle.std.specs.List.{list_any};
 ghost use Rattle.grub_picture.specs.Bars.{bars_of, is_seen, is_state, is_still, postponed, state_at, state_on};
 ghost use Rattle.grub_picture.specs.inside.Begun.{begun_after, ended_bar, last_bar, opened_bar};
 
-use crate::frame::Frame;
 use grub_book::{Place, Reply, State};
+use grub_shapes::{Bar, Frame};
 use grub_steps::{Change, Step};
 use grub_trace::Answer;
 use std::alloc::{AllocError, Global};
-
-/// A time in which a task kept its state on a runqueue.
-#[derive(Clone, Copy)]
-pub struct Bar {
-    pub state: State,
-    pub from: u32,
-    pub to: u32,
-}
 
 /// A bar that has begun and not ended.
 #[derive(Clone, Copy)]

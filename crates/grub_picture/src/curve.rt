@@ -3,9 +3,8 @@
 ghost use Rattle.std.specs.Prelude.{◌≡◌, ◌++◌, OnOk};
 ghost use Rattle.grub_picture.specs.Curves.{bandwidth_in, class_of, curve_text, is_read, lasts, point_text, points_of, points_text, word_of};
 
-use crate::frame::{Frame, LEFT, height_of};
-use crate::text::put_number;
 use grub_book::Reading;
+use grub_shapes::{Frame, LEFT, height_of, put_number};
 use grub_steps::Step;
 use std::alloc::AllocError;
 

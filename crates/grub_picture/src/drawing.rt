@@ -3,19 +3,17 @@
 ghost use Rattle.std.specs.Prelude.{◌≡◌, ◌+◌, ◌*◌, ◌<◌, ◌≤◌, ◌^◌, ◌++◌, OnOk, IfOk, Some, length, map, slice_get};
 ghost use Rattle.std.specs.List.{flat_map};
 ghost use Rattle.grub_trace.specs.Plans.{name_at};
-ghost use Rattle.grub_picture.specs.Bars.{bars_of, width_of};
-ghost use Rattle.grub_picture.specs.Lanes.{bar_text, bars_text, is_tick, lane_text, look_of, rect_text, shape_text, tick_text, ticks_text, title_text};
+ghost use Rattle.grub_picture.specs.Bars.{bars_of};
+ghost use Rattle.grub_picture.specs.Lanes.{is_tick, lane_text, tick_text, ticks_text};
 ghost use Rattle.grub_picture.specs.Picture.{lanes_of, lanes_text, queue_end, queue_text};
 ghost use Rattle.grub_steps.specs.Said.{own_steps};
 ghost use Rattle.grub_picture.specs.inside.Scenes.{drawn_of, owns_of};
 
-use crate::bars::{Bar, are_seen, bars_of, postponed};
+use crate::bars::{are_seen, bars_of, postponed};
 use crate::curve::put_curve;
-use crate::frame::{Frame, is_next};
-use crate::head::{put_scale, put_umax};
-use crate::mark::{Mark, put_marks};
-use crate::text::{put_number, put_text};
-use grub_book::State;
+use grub_shapes::{
+    Bar, Frame, Mark, is_next, put_bars, put_marks, put_number, put_scale, put_text, put_umax,
+};
 use grub_steps::Step;
 use grub_trace::Plan;
 use std::alloc::{AllocError, Global};
@@ -132,153 +130,6 @@ fn own_of(owns: &[Vec<Step>], t: u32) -> &[Step]
     ensures { slice_get (map (λ v. v.items) owns.now) t ≡ Some result.now }
 {
     owns[t as usize].as_slice()
-}
-
-/// The name of a task, and its bars.
-#[tactic(auto, unfolding(crate::specs::Lanes::bars_text))]
-fn put_bars(
-    out: &mut Vec<u8>,
-    frame: Frame,
-    r: u32,
-    name: &str,
-    bars: &[Bar],
-    y: u32,
-) -> Result<(), AllocError>
-    ensures { OnOk result (out.new.items ≡ out.old.items ++ bars_text frame r name.now y bars.now) }
-{
-    put_number(out, b"<text class=\"n\" x=\"126\" y=\"", u64::from(y) + 12)?;
-    out.extend_from_slice(b"\">")?;
-    put_text(out, name)?;
-    out.extend_from_slice(b"</text>\n")?;
-    put_each_bar(out, frame, r, name, bars, y)?;
-    Ok(())
-}
-
-fn put_each_bar(
-    out: &mut Vec<u8>,
-    frame: Frame,
-    r: u32,
-    name: &str,
-    bars: &[Bar],
-    y: u32,
-) -> Result<(), AllocError>
-    ensures { OnOk result (out.new.items ≡ out.old.items ++ flat_map (bar_text frame r name.now y) bars.now) }
-{
-    for bar in bars {
-        put_bar(out, frame, r, name, *bar, y)?;
-    }
-    Ok(())
-}
-
-/// A bar, where it is a unit wide or more.
-#[tactic(auto, unfolding(crate::specs::Lanes::bar_text))]
-fn put_bar(
-    out: &mut Vec<u8>,
-    frame: Frame,
-    r: u32,
-    name: &str,
-    bar: Bar,
-    y: u32,
-) -> Result<(), AllocError>
-    ensures { OnOk result (out.new.items ≡ out.old.items ++ bar_text frame r name.now y bar) }
-{
-    if width_of(frame, bar) == 0 {
-        Ok(())
-    } else {
-        put_rect(out, frame, r, name, bar, y)
-    }
-}
-
-fn width_of(frame: Frame, bar: Bar) -> u64
-    ensures { result ≡ width_of frame bar }
-{
-    let left = frame.x(u64::from(bar.from));
-    frame.x(u64::from(bar.to)).saturating_sub(left)
-}
-
-fn put_rect(
-    out: &mut Vec<u8>,
-    frame: Frame,
-    r: u32,
-    name: &str,
-    bar: Bar,
-    y: u32,
-) -> Result<(), AllocError>
-    ensures { OnOk result (out.new.items ≡ out.old.items ++ rect_text frame r name.now y bar) }
-{
-    put_shape(out, frame, bar, y)?;
-    put_title(out, r, name, bar)?;
-    Ok(())
-}
-
-fn put_shape(out: &mut Vec<u8>, frame: Frame, bar: Bar, y: u32) -> Result<(), AllocError>
-    ensures { OnOk result (out.new.items ≡ out.old.items ++ shape_text frame y bar) }
-{
-    let look = look_of(bar.state);
-    out.extend_from_slice(b"<rect class=\"")?;
-    out.extend_from_slice(look.class)?;
-    put_number(out, b"\" x=\"", frame.x(u64::from(bar.from)))?;
-    put_number(out, b"\" y=\"", u64::from(y) + u64::from(look.top))?;
-    put_number(out, b"\" width=\"", width_of(frame, bar))?;
-    put_number(out, b"\" height=\"", u64::from(look.height))?;
-    out.extend_from_slice(b"\">")?;
-    Ok(())
-}
-
-/// What a bar is, from when to when.
-fn put_title(out: &mut Vec<u8>, r: u32, name: &str, bar: Bar) -> Result<(), AllocError>
-    ensures { OnOk result (out.new.items ≡ out.old.items ++ title_text r name.now bar) }
-{
-    out.extend_from_slice(b"<title>")?;
-    put_text(out, name)?;
-    out.extend_from_slice(b" ")?;
-    out.extend_from_slice(look_of(bar.state).word)?;
-    put_number(out, b" on runqueue ", u64::from(r))?;
-    put_number(out, b", from ", u64::from(bar.from))?;
-    put_number(out, b" to ", u64::from(bar.to))?;
-    out.extend_from_slice(b"</title></rect>\n")?;
-    Ok(())
-}
-
-/// How a state is drawn.
-#[derive(Clone, Copy)]
-struct Look {
-    class: &'static [u8],
-
-    /// How far below the lane's top.
-    top: u32,
-
-    height: u32,
-
-    word: &'static [u8],
-}
-
-fn look_of(state: State) -> Look
-    ensures class { result.class.now ≡ (look_of state).class }
-    ensures top { result.top ≡ (look_of state).top }
-    ensures height { result.height ≡ (look_of state).height }
-    ensures word { result.word.now ≡ (look_of state).word }
-{
-    match state {
-        State::Contending => Look {
-            class: b"c",
-            top: 2,
-            height: 12,
-            word: b"contending",
-        },
-        State::NonContending => Look {
-            class: b"w",
-            top: 5,
-            height: 7,
-            word: b"waiting for its 0-lag moment",
-        },
-        State::Inactive => Look {
-            class: b"i",
-            top: 8,
-            height: 2,
-            word: b"inactive",
-        },
-    }
 }
 
 /// A tick where the deadline of a task was postponed, one a unit at most.

@@ -4,11 +4,6 @@
 mod bars;
 mod curve;
 mod drawing;
-mod frame;
-mod head;
-mod mark;
 mod picture;
-mod text;
 
-pub use mark::Mark;
 pub use picture::{end_of, marked_picture_text, picture_text};

@@ -8,9 +8,7 @@ ghost use Rattle.grub_picture.specs.Picture.{drawing, last_moment, picture_of, q
 ghost use Rattle.grub_steps.specs.Replay.{steps_of};
 
 use crate::drawing::{Scene, put_queue};
-use crate::frame::Frame;
-use crate::head::{put_axis, put_head};
-use crate::mark::{Mark, put_legend};
+use grub_shapes::{Frame, Mark, put_axis, put_head, put_legend};
 use grub_steps::{Step, ViewFault, replay, steps_of_task};
 use grub_timeline::{TimeLine, Told};
 use grub_trace::Plan;

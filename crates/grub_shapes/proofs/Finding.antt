@@ -1,9 +1,12 @@
 -- The first that passes, in a loop that looks for it.
-use Rattle.std.proofs.Common.{◌≡◌, ℕ, ◌+◌, ◌<◌, ◌≤◌, Bool, true, false, List, ◌∷◌, length, get_or, drop, refl, ap, ◌∙◌, sym, Option, Some}
+use Rattle.std.proofs.Common.{◌≡◌, ℕ, ◌+◌, ◌<◌, ◌≤◌, Bool, true, false, List, ◌∷◌, length, get_or, drop, refl, ap, add-one, ◌∙◌, sym, Option, Some}
 use Rattle.std.specs.Prelude.{find, map, nat_le}
-use Rattle.std.proofs.lemmas.Bool.{lt-ltb, le-ltb, le-leb, lt-leb}
-use Rattle.grub_picture.specs.Picture.{is_small}
-use Rattle.grub_steps.proofs.Counting.{next_left}
+use Rattle.std.proofs.lemmas.Bool.{le-leb, lt-leb}
+use Rattle.std.proofs.Math.Seq.{drop-cons}
+
+-- what is left, less one
+pub next_left : {X : Type 0} (xs : List X) (i : ℕ) (d : X) → i < length xs → drop i xs ≡ get_or xs i d ∷ drop (i + 1) xs
+next_left xs i d below = drop-cons xs i d below ∙ rw add-one refl
 
 pub find_here : {X : Type 0} (p : X → Bool) (xs : List X) (i : ℕ) (d : X) (whole : Option X) → i < length xs → p (get_or xs i d) ≡ true
     → find p (drop i xs) ≡ whole → whole ≡ Some (get_or xs i d)
@@ -35,9 +38,3 @@ few n below = le-leb n 12 below
 
 pub many : (n : ℕ) → 12 < n → nat_le n 12 ≡ false
 many n above = lt-leb n 12 above
-
-pub small : (text drawn : List ℕ) → text ≡ drawn → length text < 4194304 → is_small drawn ≡ true
-small text drawn is below = rw (← is) (lt-ltb (length text) 4194304 below)
-
-pub not_small : (text drawn : List ℕ) → text ≡ drawn → 4194304 ≤ length text → is_small drawn ≡ false
-not_small text drawn is above = rw (← is) (le-ltb (length text) 4194304 above)

@@ -1,8 +1,8 @@
 -- The head of a picture, its legend and its time axis; a runqueue's scale and the line at its Umax.
 use Rattle.std.specs.Prelude.{ℕ, ◌+◌, ◌-◌, ◌*◌, ◌/◌, ◌^◌, nat_le, max, List, [], ◌∷◌, ◌++◌, codes, decimal, map, find, unwrap_or}
 use Rattle.std.specs.List.{flat_map, range_with_len}
-use Rattle.grub_picture.specs.declared.frame.Frame.{Frame}
-use Rattle.grub_picture.specs.Frames.{height_of, x_of}
+use Rattle.grub_shapes.specs.declared.frame.Frame.{Frame}
+use Rattle.grub_shapes.specs.Frames.{height_of, x_of}
 
 abbrev pub span_text : Frame → List ℕ
 span_text f = codes "Time line from " ++ decimal f.from ++ codes " to " ++ decimal f.to

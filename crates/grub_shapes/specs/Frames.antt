@@ -1,6 +1,6 @@
 -- Where moments and bandwidths lie in a picture.
 use Rattle.std.specs.Prelude.{ℕ, ◌+◌, ◌-◌, ◌*◌, ◌/◌, ◌&&◌, nat_le, nat_lt, min, max, Bool, List, [], ◌∷◌, if◌then◌else◌}
-use Rattle.grub_picture.specs.declared.frame.Frame.{Frame}
+use Rattle.grub_shapes.specs.declared.frame.Frame.{Frame}
 
 -- how far right a moment lies, in whole units: what is outside of the span lies at its ends
 unfoldable pub x_of : Frame → ℕ → ℕ

@@ -1,9 +1,9 @@
 -- The marks in the lanes of tasks.
 use Rattle.std.specs.Prelude.{ℕ, ◌-◌, ◌==◌, ◌&&◌, Bool, true, false, List, [], ◌++◌, codes, decimal, Option, Some, None, unwrap_or, filter, length, if◌then◌else◌}
 use Rattle.std.specs.List.{flat_map}
-use Rattle.grub_picture.specs.declared.frame.Frame.{Frame}
-use Rattle.grub_picture.specs.declared.mark.Mark.{Mark}
-use Rattle.grub_picture.specs.Frames.{firsts, is_in, x_of}
+use Rattle.grub_shapes.specs.declared.frame.Frame.{Frame}
+use Rattle.grub_shapes.specs.declared.mark.Mark.{Mark}
+use Rattle.grub_shapes.specs.Frames.{firsts, is_in, x_of}
 
 -- where a mark stands: at the moment that was told, or else at the block
 abbrev pub moment_of : Mark → ℕ

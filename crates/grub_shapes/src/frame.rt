@@ -1,8 +1,8 @@
 //! Where moments and bandwidths lie in a picture.
 
 ghost use Rattle.std.specs.Prelude.{◌≡◌, ◌<◌, ◌^◌, ◌&&◌, nat_lt};
-ghost use Rattle.grub_picture.specs.Elements.{first_multiple, mark_step, multiples};
-ghost use Rattle.grub_picture.specs.Frames.{height_of, is_in, x_of};
+ghost use Rattle.grub_shapes.specs.Elements.{first_multiple, mark_step, multiples};
+ghost use Rattle.grub_shapes.specs.Frames.{height_of, is_in, x_of};
 
 use grub_bw::BW_UNIT;
 
@@ -59,7 +59,7 @@ impl Frame {
     }
 
     /// How far apart the marks of the time axis are: 1, 2 or 5 times a power of ten, such that there are at most 12.
-    pub fn mark_step(self) -> u32
+    pub(crate) fn mark_step(self) -> u32
         ensures { result ≡ mark_step self }
     {
         for step in MARK_STEPS {
@@ -71,14 +71,14 @@ impl Frame {
     }
 
     /// By which a step is multiplied for the first multiple in the span or after it.
-    pub fn first_multiple(self, step: u32) -> u64
+    pub(crate) fn first_multiple(self, step: u32) -> u64
         ensures { result ≡ first_multiple self step }
     {
         (u64::from(self.from) + u64::from(step)).saturating_sub(1) / u64::from(step.max(1))
     }
 
     /// How many multiples of a step lie in the span.
-    pub fn multiples(self, step: u32) -> u64
+    pub(crate) fn multiples(self, step: u32) -> u64
         ensures value { result ≡ multiples self step }
     {
         let last = u64::from(self.to / step.max(1));

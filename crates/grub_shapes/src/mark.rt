@@ -1,7 +1,7 @@
 //! Marks that a picture shows in the lanes of tasks.
 
 ghost use Rattle.std.specs.Prelude.{◌≡◌, ◌++◌, OnOk, true, false};
-ghost use Rattle.grub_picture.specs.Marks.{arrow_text, column_of, is_mark_of, kind_text, legend_of, mark_class, mark_text, marks_legend, marks_text, moment_of, told_text, waits_text};
+ghost use Rattle.grub_shapes.specs.Marks.{arrow_text, column_of, is_mark_of, kind_text, legend_of, mark_class, mark_text, marks_legend, marks_text, moment_of, told_text, waits_text};
 
 use crate::frame::{Frame, is_next};
 use crate::text::{put_number, put_text};

@@ -9,8 +9,8 @@ use grub_book::{Op, Reading, Reply};
 use grub_bw::Server;
 use grub_events::{Event, Placed};
 use grub_facts::Fact;
+use grub_steps::{Change, Step, charge_in, run_of, server_before};
 use grub_trace::{Answer, Ask};
-use grub_views::{Change, Step, charge_in, run_of, server_before};
 use std::alloc::{AllocError, Global};
 
 /// An event of the trace as the book answered it.

@@ -9,8 +9,8 @@ use grub_book::{Op, Reading, Reply, Setup};
 use grub_bw::{Params, Queue};
 use grub_events::{Act, Placed, Source, Standing};
 use grub_facts::{Fact, What};
+use grub_steps::{Step, recharges_in};
 use grub_trace::{Answer, Ask};
-use grub_views::{Step, recharges_in};
 use std::alloc::{AllocError, Global};
 
 /// 1 where a fact is that the kernel cancelled the timer of a task that was seen before, else 0.

@@ -1,8 +1,8 @@
 use Rattle.std.proofs.Common.{[], ◌∷◌}
 use Rattle.std.specs.Prelude.{codes, decimal}
 use Rattle.grub_picture.specs.Curves.{class_of, curve_text, lasts, points_of, points_text, word_of}
-use Rattle.grub_picture.specs.Frames.{x_of}
-use Rattle.grub_picture.proofs.Pieces.{pieces_put}
+use Rattle.grub_shapes.specs.Frames.{x_of}
+use Rattle.grub_shapes.proofs.Pieces.{pieces_put}
 use Rattle.grub_picture.proofs.curve.put_curve.Goals as goal
 
 pub returns : goal.returns

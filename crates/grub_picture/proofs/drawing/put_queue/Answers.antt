@@ -1,11 +1,11 @@
 use Rattle.std.proofs.Common.{[], false, true, ◌+◌, ◌∷◌}
 use Rattle.std.specs.Prelude.{codes, decimal}
 use Rattle.grub_picture.specs.Curves.{curve_text}
-use Rattle.grub_picture.specs.Elements.{scale_text, umax_text}
+use Rattle.grub_shapes.specs.Elements.{scale_text, umax_text}
 use Rattle.grub_picture.specs.Picture.{lanes_of, lanes_text, queue_text}
 use Rattle.grub_picture.specs.inside.Scenes.{drawn_of}
 use Rattle.grub_book.specs.Machine.{queue_at}
-use Rattle.grub_picture.proofs.Pieces.{pieces_put}
+use Rattle.grub_shapes.proofs.Pieces.{pieces_put}
 use Rattle.grub_picture.proofs.drawing.put_queue.Goals as goal
 
 pub returns-clause-text : goal.returns-clause-text

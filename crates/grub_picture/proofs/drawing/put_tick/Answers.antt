@@ -1,9 +1,9 @@
 use Rattle.std.proofs.Common.{[], ◌∷◌}
 use Rattle.std.specs.Prelude.{codes, decimal, unwrap_or}
 use Rattle.grub_picture.specs.Bars.{postponed}
-use Rattle.grub_picture.specs.Frames.{x_of}
+use Rattle.grub_shapes.specs.Frames.{x_of}
 use Rattle.grub_picture.specs.Lanes.{tick_text}
-use Rattle.grub_picture.proofs.Pieces.{pieces_put}
+use Rattle.grub_shapes.proofs.Pieces.{pieces_put}
 use Rattle.grub_picture.proofs.drawing.put_tick.Goals as goal
 
 pub returns : goal.returns

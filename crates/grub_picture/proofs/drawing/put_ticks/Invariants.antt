@@ -2,7 +2,7 @@ use Rattle.std.proofs.Common.{◌≡◌, ◌++◌, drop}
 use Rattle.std.specs.Prelude.{filter}
 use Rattle.std.specs.List.{flat_map}
 use Rattle.grub_steps.specs.declared.book_steps.Step.{Step}
-use Rattle.grub_picture.specs.Frames.{firsts, x_of}
+use Rattle.grub_shapes.specs.Frames.{firsts, x_of}
 use Rattle.grub_picture.specs.Lanes.{is_tick, tick_text}
 use Rattle.grub_picture.proofs.drawing.put_ticks.Given as goal
 

@@ -4,7 +4,8 @@ use Rattle.std.proofs.lemmas.List.{drop_all}
 use Rattle.std.proofs.lemmas.Result.{IfOk-weaker}
 use Rattle.grub_picture.specs.Picture.{blank, drawing_at, is_small, picture_of}
 use Rattle.grub_picture.specs.declared.picture.TheConstants.{UNITS}
-use Rattle.grub_picture.proofs.Finding.{made_here, made_later, not_small, small}
+use Rattle.grub_shapes.proofs.Finding.{made_here, made_later}
+use Rattle.grub_picture.proofs.Sizes.{not_small, small}
 use Rattle.grub_picture.proofs.picture.text_of.Goals as goal
 
 pub returns-then-len-lt-SIZE_LIMIT-clause-text : goal.returns-then-len-lt-SIZE_LIMIT-clause-text

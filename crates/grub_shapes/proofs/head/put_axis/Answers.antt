@@ -1,10 +1,10 @@
 use Rattle.std.proofs.Common.{[], ◌+◌, ◌∷◌}
 use Rattle.std.specs.Prelude.{codes, decimal}
-use Rattle.grub_picture.specs.Elements.{axis_mark_text, axis_moments, axis_text, mark_step}
-use Rattle.grub_picture.specs.Frames.{x_of}
+use Rattle.grub_shapes.specs.Elements.{axis_mark_text, axis_moments, axis_text, mark_step}
+use Rattle.grub_shapes.specs.Frames.{x_of}
 use Rattle.std.specs.List.{flat_map}
-use Rattle.grub_picture.proofs.Pieces.{pieces_put}
-use Rattle.grub_picture.proofs.head.put_axis.Goals as goal
+use Rattle.grub_shapes.proofs.Pieces.{pieces_put}
+use Rattle.grub_shapes.proofs.head.put_axis.Goals as goal
 
 pub returns : goal.returns
 unfolding axis_text

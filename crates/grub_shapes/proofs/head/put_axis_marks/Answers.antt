@@ -1,7 +1,7 @@
 use Rattle.std.proofs.Common.{◌+◌, ◌*◌, ℕ}
-use Rattle.grub_picture.specs.Elements.{axis_mark_text, first_multiple}
-use Rattle.grub_picture.proofs.Showing.{marks_more}
-use Rattle.grub_picture.proofs.head.put_axis_marks.Goals as goal
+use Rattle.grub_shapes.specs.Elements.{axis_mark_text, first_multiple}
+use Rattle.grub_shapes.proofs.Axis.{marks_more}
+use Rattle.grub_shapes.proofs.head.put_axis_marks.Goals as goal
 
 pub loop-k-preserved : goal.loop-k-preserved
 loop-k-preserved c =

@@ -1,7 +1,7 @@
 use Rattle.std.proofs.Common.{◌≡◌, ◌+◌, ◌*◌, ◌++◌, map}
 use Rattle.std.specs.List.{flat_map, range_with_len}
-use Rattle.grub_picture.specs.Elements.{axis_mark_text, first_multiple}
-use Rattle.grub_picture.proofs.head.put_axis_marks.Given as goal
+use Rattle.grub_shapes.specs.Elements.{axis_mark_text, first_multiple}
+use Rattle.grub_shapes.proofs.head.put_axis_marks.Given as goal
 
 abbrev pub invariant-loop-k : goal.invariant-loop-k
 invariant-loop-k l =

@@ -1,8 +1,8 @@
 use Rattle.std.proofs.Common.{[], ◌+◌, ◌∷◌}
 use Rattle.std.specs.Prelude.{codes, decimal}
-use Rattle.grub_picture.specs.Elements.{head_text, legend, span_text, style}
-use Rattle.grub_picture.proofs.Pieces.{pieces_put}
-use Rattle.grub_picture.proofs.head.put_head.Goals as goal
+use Rattle.grub_shapes.specs.Elements.{head_text, legend, span_text, style}
+use Rattle.grub_shapes.proofs.Pieces.{pieces_put}
+use Rattle.grub_shapes.proofs.head.put_head.Goals as goal
 
 pub returns : goal.returns
 unfolding head_text

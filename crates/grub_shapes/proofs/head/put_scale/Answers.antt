@@ -1,8 +1,8 @@
 use Rattle.std.proofs.Common.{[], ◌∷◌}
 use Rattle.std.specs.Prelude.{codes}
-use Rattle.grub_picture.specs.Elements.{scale_mark_text, scale_text}
-use Rattle.grub_picture.proofs.Pieces.{pieces_put}
-use Rattle.grub_picture.proofs.head.put_scale.Goals as goal
+use Rattle.grub_shapes.specs.Elements.{scale_mark_text, scale_text}
+use Rattle.grub_shapes.proofs.Pieces.{pieces_put}
+use Rattle.grub_shapes.proofs.head.put_scale.Goals as goal
 
 pub returns : goal.returns
 unfolding scale_text

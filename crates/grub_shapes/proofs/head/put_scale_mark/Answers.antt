@@ -1,9 +1,9 @@
 use Rattle.std.proofs.Common.{[], ◌+◌, ◌-◌, ◌∷◌}
 use Rattle.std.specs.Prelude.{codes, decimal}
-use Rattle.grub_picture.specs.Elements.{scale_mark_text}
-use Rattle.grub_picture.specs.Frames.{x_of}
-use Rattle.grub_picture.proofs.Pieces.{pieces_put}
-use Rattle.grub_picture.proofs.head.put_scale_mark.Goals as goal
+use Rattle.grub_shapes.specs.Elements.{scale_mark_text}
+use Rattle.grub_shapes.specs.Frames.{x_of}
+use Rattle.grub_shapes.proofs.Pieces.{pieces_put}
+use Rattle.grub_shapes.proofs.head.put_scale_mark.Goals as goal
 
 pub returns : goal.returns
 unfolding scale_mark_text

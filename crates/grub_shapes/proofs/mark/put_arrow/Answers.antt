@@ -1,8 +1,8 @@
 use Rattle.std.proofs.Common.{[], ◌-◌, ◌∷◌}
 use Rattle.std.specs.Prelude.{codes, decimal}
-use Rattle.grub_picture.specs.Marks.{arrow_text, column_of, mark_class}
-use Rattle.grub_picture.proofs.Pieces.{pieces_put}
-use Rattle.grub_picture.proofs.mark.put_arrow.Goals as goal
+use Rattle.grub_shapes.specs.Marks.{arrow_text, column_of, mark_class}
+use Rattle.grub_shapes.proofs.Pieces.{pieces_put}
+use Rattle.grub_shapes.proofs.mark.put_arrow.Goals as goal
 
 pub returns : goal.returns
 unfolding arrow_text

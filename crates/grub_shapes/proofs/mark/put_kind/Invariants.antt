@@ -1,9 +1,9 @@
 use Rattle.std.proofs.Common.{◌≡◌, ◌++◌, drop}
 use Rattle.std.specs.Prelude.{filter}
 use Rattle.std.specs.List.{flat_map}
-use Rattle.grub_picture.specs.Frames.{firsts}
-use Rattle.grub_picture.specs.Marks.{column_of, is_mark_of, mark_text}
-use Rattle.grub_picture.proofs.mark.put_kind.Given as goal
+use Rattle.grub_shapes.specs.Frames.{firsts}
+use Rattle.grub_shapes.specs.Marks.{column_of, is_mark_of, mark_text}
+use Rattle.grub_shapes.proofs.mark.put_kind.Given as goal
 
 abbrev pub invariant-loop-mark : goal.invariant-loop-mark
 invariant-loop-mark l =

@@ -1,7 +1,7 @@
 use Rattle.std.proofs.Common.{[], ◌∷◌}
-use Rattle.grub_picture.specs.Marks.{arrow_text, mark_text, told_text}
-use Rattle.grub_picture.proofs.Pieces.{pieces_put}
-use Rattle.grub_picture.proofs.mark.put_mark.Goals as goal
+use Rattle.grub_shapes.specs.Marks.{arrow_text, mark_text, told_text}
+use Rattle.grub_shapes.proofs.Pieces.{pieces_put}
+use Rattle.grub_shapes.proofs.mark.put_mark.Goals as goal
 
 pub returns : goal.returns
 unfolding mark_text

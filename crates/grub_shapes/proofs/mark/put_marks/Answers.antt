@@ -1,7 +1,7 @@
 use Rattle.std.proofs.Common.{[], false, true, ◌∷◌}
-use Rattle.grub_picture.specs.Marks.{kind_text, marks_text}
-use Rattle.grub_picture.proofs.Pieces.{pieces_put}
-use Rattle.grub_picture.proofs.mark.put_marks.Goals as goal
+use Rattle.grub_shapes.specs.Marks.{kind_text, marks_text}
+use Rattle.grub_shapes.proofs.Pieces.{pieces_put}
+use Rattle.grub_shapes.proofs.mark.put_marks.Goals as goal
 
 pub returns : goal.returns
 unfolding marks_text

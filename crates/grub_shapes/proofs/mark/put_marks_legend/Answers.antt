@@ -1,8 +1,8 @@
 use Rattle.std.proofs.Common.{[], ◌∷◌}
 use Rattle.std.specs.Prelude.{codes}
-use Rattle.grub_picture.specs.Marks.{marks_legend}
-use Rattle.grub_picture.proofs.Pieces.{pieces_put}
-use Rattle.grub_picture.proofs.mark.put_marks_legend.Goals as goal
+use Rattle.grub_shapes.specs.Marks.{marks_legend}
+use Rattle.grub_shapes.proofs.Pieces.{pieces_put}
+use Rattle.grub_shapes.proofs.mark.put_marks_legend.Goals as goal
 
 pub returns : goal.returns
 unfolding marks_legend

@@ -1,8 +1,8 @@
 use Rattle.std.proofs.Common.{[], ◌∷◌}
 use Rattle.std.specs.Prelude.{codes, decimal}
-use Rattle.grub_picture.specs.Marks.{told_text, waits_text}
-use Rattle.grub_picture.proofs.Pieces.{pieces_put}
-use Rattle.grub_picture.proofs.mark.put_told.Goals as goal
+use Rattle.grub_shapes.specs.Marks.{told_text, waits_text}
+use Rattle.grub_shapes.proofs.Pieces.{pieces_put}
+use Rattle.grub_shapes.proofs.mark.put_told.Goals as goal
 
 pub returns : goal.returns
 unfolding told_text

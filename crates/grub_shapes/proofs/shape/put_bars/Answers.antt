@@ -1,9 +1,9 @@
 use Rattle.std.proofs.Common.{[], ◌+◌, ◌∷◌}
 use Rattle.std.specs.Prelude.{codes, decimal}
-use Rattle.grub_picture.specs.Lanes.{bar_text, bars_text}
+use Rattle.grub_shapes.specs.Shapes.{bar_text, bars_text}
 use Rattle.std.specs.List.{flat_map}
-use Rattle.grub_picture.proofs.Pieces.{pieces_put}
-use Rattle.grub_picture.proofs.drawing.put_bars.Goals as goal
+use Rattle.grub_shapes.proofs.Pieces.{pieces_put}
+use Rattle.grub_shapes.proofs.shape.put_bars.Goals as goal
 
 pub returns : goal.returns
 unfolding bars_text

@@ -1,7 +1,7 @@
 use Rattle.std.proofs.Common.{◌≡◌, ◌++◌, drop}
 use Rattle.std.specs.List.{flat_map}
-use Rattle.grub_picture.specs.Lanes.{bar_text}
-use Rattle.grub_picture.proofs.drawing.put_each_bar.Given as goal
+use Rattle.grub_shapes.specs.Shapes.{bar_text}
+use Rattle.grub_shapes.proofs.shape.put_each_bar.Given as goal
 
 abbrev pub invariant-loop-bar : goal.invariant-loop-bar
 invariant-loop-bar l =

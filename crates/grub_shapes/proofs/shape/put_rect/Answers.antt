@@ -1,7 +1,7 @@
 use Rattle.std.proofs.Common.{[], ◌∷◌}
-use Rattle.grub_picture.specs.Lanes.{shape_text, title_text}
-use Rattle.grub_picture.proofs.Pieces.{pieces_put}
-use Rattle.grub_picture.proofs.drawing.put_rect.Goals as goal
+use Rattle.grub_shapes.specs.Shapes.{shape_text, title_text}
+use Rattle.grub_shapes.proofs.Pieces.{pieces_put}
+use Rattle.grub_shapes.proofs.shape.put_rect.Goals as goal
 
 pub returns : goal.returns
 returns c =

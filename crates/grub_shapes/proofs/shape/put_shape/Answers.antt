@@ -1,10 +1,10 @@
 use Rattle.std.proofs.Common.{[], ◌+◌, ◌∷◌}
 use Rattle.std.specs.Prelude.{codes, decimal}
-use Rattle.grub_picture.specs.Bars.{width_of}
-use Rattle.grub_picture.specs.Frames.{x_of}
-use Rattle.grub_picture.specs.Lanes.{look_of, shape_text}
-use Rattle.grub_picture.proofs.Pieces.{pieces_put}
-use Rattle.grub_picture.proofs.drawing.put_shape.Goals as goal
+use Rattle.grub_shapes.specs.Shapes.{width_of}
+use Rattle.grub_shapes.specs.Frames.{x_of}
+use Rattle.grub_shapes.specs.Shapes.{look_of, shape_text}
+use Rattle.grub_shapes.proofs.Pieces.{pieces_put}
+use Rattle.grub_shapes.proofs.shape.put_shape.Goals as goal
 
 pub returns : goal.returns
 unfolding shape_text

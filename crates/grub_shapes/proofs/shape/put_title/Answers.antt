@@ -1,8 +1,8 @@
 use Rattle.std.proofs.Common.{[], ◌∷◌}
 use Rattle.std.specs.Prelude.{codes, decimal}
-use Rattle.grub_picture.specs.Lanes.{look_of, title_text}
-use Rattle.grub_picture.proofs.Pieces.{pieces_put}
-use Rattle.grub_picture.proofs.drawing.put_title.Goals as goal
+use Rattle.grub_shapes.specs.Shapes.{look_of, title_text}
+use Rattle.grub_shapes.proofs.Pieces.{pieces_put}
+use Rattle.grub_shapes.proofs.shape.put_title.Goals as goal
 
 pub returns : goal.returns
 unfolding title_text

@@ -1,10 +1,10 @@
 use Rattle.std.proofs.Common.{ℕ, Option, ap, sym}
 use Rattle.std.specs.Prelude.{nat_le, unwrap_or}
 use Rattle.std.proofs.lemmas.List.{drop_all}
-use Rattle.grub_picture.specs.Elements.{mark_step, multiples}
-use Rattle.grub_picture.specs.declared.frame.TheConstants.{MARK_STEPS}
-use Rattle.grub_picture.proofs.Finding.{few, find_here, find_later, many}
-use Rattle.grub_picture.proofs.frame.Frame.mark_step.Goals as goal
+use Rattle.grub_shapes.specs.Elements.{mark_step, multiples}
+use Rattle.grub_shapes.specs.declared.frame.TheConstants.{MARK_STEPS}
+use Rattle.grub_shapes.proofs.Finding.{few, find_here, find_later, many}
+use Rattle.grub_shapes.proofs.frame.Frame.mark_step.Goals as goal
 
 pub returns-then-multiples-le12 : goal.returns-then-multiples-le12
 unfolding mark_step
