@@ -10,10 +10,10 @@ use Rattle.grub_trace.specs.Naming.{plan_of}
 use Rattle.grub_plan.specs.Plans.{PlanView}
 use Rattle.grub_trace.specs.Tree.{Tree}
 use Rattle.grub_views.specs.Lines.{timeline_lines}
-use Rattle.grub_views.specs.Picture.{last_moment, picture_of}
-use Rattle.grub_views.specs.Replay.{steps_of}
+use Rattle.grub_picture.specs.Picture.{last_moment, picture_of}
+use Rattle.grub_steps.specs.Replay.{steps_of}
 use Rattle.grub_views.specs.Rows.{step_rows}
-use Rattle.grub_views.specs.Summary.{summary_text}
+use Rattle.grub_summary.specs.Summary.{summary_text}
 use Rattle.grub_show.specs.declared.view.View.{View}
 use Rattle.grub_show.specs.declared.view.View.TheVariants.{Timeline, Steps, Summary, Picture}
 

@@ -16,11 +16,14 @@ ghost use Rattle.grub_show.specs.inside.Showing.{BeginsLine, IsFaultOfLine, Writ
 use crate::fault::ShowFault;
 use crate::ready::Ready;
 use grub_book::Book;
-use grub_plan::{Plan, write_buffer};
+use grub_picture::{end_of, picture_text};
 use grub_run::GrubFault;
+use grub_steps::Step;
+use grub_summary::summary_text;
 use grub_timeline::play;
+use grub_plan::{Plan, write_buffer};
 use grub_trace::read_files_by_threads;
-use grub_views::{Step, end_of, picture_text, summary_text, write_steps, write_timeline};
+use grub_views::{write_steps, write_timeline};
 use std::alloc::Global;
 use std::io;
 use std::io::Write;

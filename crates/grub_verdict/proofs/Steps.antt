@@ -10,7 +10,7 @@ use Rattle.grub_events.specs.declared.standing.Standing.TheVariants.{Unseen}
 use Rattle.grub_events.specs.declared.event.Placed.{Placed}
 use Rattle.grub_events.specs.Rules.{standing_after}
 use Rattle.grub_facts.specs.declared.fact.Fact.{Fact}
-use Rattle.grub_views.specs.declared.book_steps.Step.{Step}
+use Rattle.grub_steps.specs.declared.book_steps.Step.{Step}
 use Rattle.grub_verdict.specs.declared.answered.Answered.{Answered}
 use Rattle.grub_verdict.specs.declared.heading.Heading.{Heading}
 use Rattle.grub_verdict.specs.declared.case.Case.{Case}

@@ -11,8 +11,8 @@ use Rattle.grub_plan.specs.declared.entry.Ask.{Ask}
 use Rattle.grub_plan.specs.declared.entry.Ask.TheVariants.{Call}
 use Rattle.grub_plan.specs.declared.entry.Answer.{Answer}
 use Rattle.grub_plan.specs.declared.entry.Answer.TheVariants.{Replied}
-use Rattle.grub_views.specs.declared.book_steps.Step.{Step}
-use Rattle.grub_views.specs.Tallies.{charge_in, is_change_of, run_of, server_before}
+use Rattle.grub_steps.specs.declared.book_steps.Step.{Step}
+use Rattle.grub_steps.specs.Said.{charge_in, is_change_of, run_of, server_before}
 use Rattle.grub_verdict.specs.declared.answered.Answered.{Answered}
 use Rattle.grub_verdict.specs.declared.sign.Sign.{Sign}
 use Rattle.grub_verdict.specs.Signs.{no_sign, sign_before}

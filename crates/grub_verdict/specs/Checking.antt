@@ -15,8 +15,8 @@ use Rattle.grub_convert.specs.declared.options.Options.{Options}
 use Rattle.grub_convert.specs.declared.pieces.Input.{Input}
 use Rattle.grub_convert.specs.declared.serving.Target.{Target}
 use Rattle.grub_files.specs.Source.{Opener, Reader}
-use Rattle.grub_views.specs.Picture.{last_moment, picture_of}
-use Rattle.grub_views.specs.Replay.{steps_of}
+use Rattle.grub_picture.specs.Picture.{last_moment, picture_of}
+use Rattle.grub_steps.specs.Replay.{steps_of}
 use Rattle.grub_verdict.specs.Judging.{IsJudged}
 use Rattle.grub_verdict.specs.Marking.{marks_of}
 use Rattle.grub_verdict.specs.declared.case.Case.{Case}

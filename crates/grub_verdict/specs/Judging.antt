@@ -8,8 +8,8 @@ use Rattle.grub_events.specs.declared.files.Declared.{Declared}
 use Rattle.grub_events.specs.declared.standing.Standing.TheVariants.{Unseen}
 use Rattle.grub_plan.specs.declared.entry.Ask.{Ask}
 use Rattle.grub_plan.specs.declared.entry.Ask.TheVariants.{Call, Read}
-use Rattle.grub_views.specs.declared.book_steps.Step.{Step}
-use Rattle.grub_views.specs.Tallies.{recharges_in}
+use Rattle.grub_steps.specs.declared.book_steps.Step.{Step}
+use Rattle.grub_steps.specs.Said.{recharges_in}
 use Rattle.grub_verdict.specs.Answered.{answered_all, answers_of, events_of, facts_of, is_no_room}
 use Rattle.grub_verdict.specs.Counting.{cancelled_from, is_exit, is_left_charge, is_own_charge, is_run, is_told_wake}
 use Rattle.grub_verdict.specs.Observed.{no_watch, observed}

@@ -1,7 +1,7 @@
 -- The marks of a trace's picture: one at each 0-lag timer of the kernel, and one at each block that deviates.
 use Rattle.std.specs.Prelude.{ℕ, ◌+◌, ◌-◌, ◌/◌, ◌||◌, min, List, Option, is_some, option_map, option_and_then, slice_get, if◌then◌else◌, None}
 use Rattle.std.specs.List.{filter_map}
-use Rattle.grub_views.specs.declared.mark.Mark.{Mark}
+use Rattle.grub_shapes.specs.declared.mark.Mark.{Mark}
 use Rattle.grub_verdict.specs.Agreement.{deviates, moment_of_book, moment_of_kernel}
 use Rattle.grub_verdict.specs.Judging.{number_of, observations, yardstick}
 use Rattle.grub_verdict.specs.declared.case.Case.{Case}

@@ -1,7 +1,7 @@
 //! What the book answered to the events of a task.
 
 ghost use Rattle.std.specs.Prelude.{◌≡◌, IfOk, min};
-ghost use Rattle.grub_views.specs.Tallies.{charge_in, is_change_of, run_of, server_before};
+ghost use Rattle.grub_steps.specs.Said.{charge_in, is_change_of, run_of, server_before};
 ghost use Rattle.grub_verdict.specs.Answered.{with_answer, answered_all, answers_of, ends_line, events_of, facts_of, is_answer_to, is_last, is_no_room, server_after, zero_lag_of};
 
 use crate::sign::{Sign, signs_before};
@@ -9,8 +9,8 @@ use grub_book::{Op, Reading, Reply};
 use grub_bw::Server;
 use grub_events::{Event, Placed};
 use grub_facts::Fact;
+use grub_steps::{Change, Step, charge_in, run_of, server_before};
 use grub_plan::{Answer, Ask};
-use grub_views::{Change, Step, charge_in, run_of, server_before};
 use std::alloc::{AllocError, Global};
 
 /// An event of the trace as the book answered it.

@@ -3,14 +3,14 @@
 ghost use Rattle.std.specs.Prelude.{◌≡◌, ◌&&◌, not, IfOk, count_by, sum_by, replicate, slice_index_or, slice_set, if◌then◌else◌};
 ghost use Rattle.grub_events.specs.declared.standing.Standing.TheVariants.{Unseen};
 ghost use Rattle.grub_verdict.specs.Counting.{cancelled_from, cancels, charged_in, is_exit, is_left_charge, is_own_charge, is_run, is_told_wake, is_unseen, what_is_left};
-ghost use Rattle.grub_views.specs.Tallies.{recharges_in};
+ghost use Rattle.grub_steps.specs.Said.{recharges_in};
 
 use grub_book::{Op, Reading, Reply, Setup};
 use grub_bw::{Params, Queue};
 use grub_events::{Act, Placed, Source, Standing};
 use grub_facts::{Fact, What};
+use grub_steps::{Step, recharges_in};
 use grub_plan::{Answer, Ask};
-use grub_views::{Step, recharges_in};
 use std::alloc::{AllocError, Global};
 
 /// 1 where a fact is that the kernel cancelled the timer of a task that was seen before, else 0.

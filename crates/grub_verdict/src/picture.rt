@@ -13,8 +13,9 @@ use crate::played::Played;
 use grub_book::MOMENT_MAX;
 use grub_convert::{Options, event_files};
 use grub_facts::Facts;
+use grub_picture::{end_of, marked_picture_text};
+use grub_shapes::Mark;
 use grub_plan::Plan;
-use grub_views::{Mark, end_of, marked_picture_text};
 use std::alloc::{AllocError, Global};
 
 /// A moment in microseconds, or the last in which an event file may have a line.

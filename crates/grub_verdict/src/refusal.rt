@@ -6,8 +6,8 @@ ghost use Rattle.grub_verdict.specs.Judging.{earlier, first_of, first_refusal, i
 use crate::answered::{Answered, is_no_room};
 use crate::case::{Case, Overfull};
 use grub_events::Declared;
+use grub_steps::Step;
 use grub_plan::{Ask, Plan};
-use grub_views::Step;
 use std::alloc::AllocError;
 
 /// An event of the trace for which there is no room.

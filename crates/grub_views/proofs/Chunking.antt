@@ -1,6 +1,5 @@
 -- The steps of entries that are played some at a time.
-use Rattle.std.proofs.Common.{◌≡◌, ℕ, ◌+◌, ◌<◌, List, [], ◌∷◌, ◌++◌, ◌∙◌, length, get_or, drop, refl, ap, subst, add-one, append_assoc}
-use Rattle.std.proofs.Math.Seq.{drop-cons}
+use Rattle.std.proofs.Common.{◌≡◌, ℕ, ◌<◌, List, [], ◌∷◌, ◌++◌, ◌∙◌, length, refl, ap, subst, append_assoc}
 use Rattle.std.proofs.lemmas.Grind.{flat_map-append}
 use Rattle.std.proofs.lemmas.List.Elements.{All-append, All-tail}
 use Rattle.std.specs.List.{All, flat_map}
@@ -11,19 +10,11 @@ use Rattle.grub_plan.specs.Plans.{PlanView}
 use Rattle.grub_plan.specs.Texts.{IsAskOf}
 use Rattle.grub_timeline.specs.TimeLines.{AreAnswered, AreWithin, history_of}
 use Rattle.grub_timeline.specs.declared.told.Told.{Told}
-use Rattle.grub_views.specs.inside.Fitting.{AreToldIn, IsToldIn}
-use Rattle.grub_views.specs.inside.Past.{book_past}
-use Rattle.grub_views.specs.Replay.{book_after, step_of, steps_from, steps_of}
+use Rattle.grub_steps.specs.Fitting.{AreToldIn, IsToldIn}
+use Rattle.grub_steps.specs.Past.{book_past}
+use Rattle.grub_steps.specs.Replay.{book_after, step_of, steps_from, steps_of}
 use Rattle.grub_views.specs.Rows.{step_row}
-use Rattle.grub_views.proofs.Viewing.{legal_within}
-
--- the steps of what is left, less one
-pub past_left : (s : Machine) (book then : Records) (i : ℕ) (told : List Told) (d : Told) → i < length told
-    → then ≡ book_after s book (get_or told i d).entry.ask
-    → book_past s then (drop (i + 1) told) ≡ book_past s book (drop i told)
-past_left s book then i told d below then_is =
-    let whole : drop i told ≡ get_or told i d ∷ drop (i + 1) told = drop-cons told i d below ∙ rw add-one refl in
-    rw (whole, then_is) refl
+use Rattle.grub_steps.proofs.Viewing.{legal_within}
 
 pub steps_more : (s : Machine) (book : Records) (xs ys : List Told) → steps_from s book (xs ++ ys) ≡ steps_from s book xs ++ steps_from s (book_past s book xs) ys
 steps_more s book [] ys = refl

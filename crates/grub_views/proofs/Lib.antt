@@ -1,15 +1,4 @@
-pub mod Counting
 pub mod Rowing
-pub mod Stepping
-pub mod Viewing
-pub mod ActiveTimes
-pub mod Adding
-pub mod Charging
 pub mod Handing
 pub mod Closing
-pub mod Pieces
-pub mod Showing
-pub mod Barring
-pub mod Laning
-pub mod Finding
 pub mod Chunking

@@ -1,17 +1,2 @@
-pub mod ActiveTimes
-pub mod Bars
-pub mod Curves
-pub mod Elements
-pub mod Frames
-pub mod Lanes
 pub mod Lines
-pub mod Marks
-pub mod Messages
-pub mod Picture
-pub mod Replay
 pub mod Rows
-pub mod Summary
-pub mod Tables
-pub mod Tallies
-pub mod Usage
-pub mod inside

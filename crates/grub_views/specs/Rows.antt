@@ -15,8 +15,8 @@ use Rattle.grub_plan.specs.Texts.{ask_text, reply_text}
 use Rattle.grub_plan.specs.Writing.{HandsOn, HandsPart}
 use Rattle.grub_timeline.specs.TimeLines.{IsTimeLine}
 use Rattle.grub_timeline.specs.declared.told.Told.{Told}
-use Rattle.grub_views.specs.Replay.{steps_of}
-use Rattle.grub_views.specs.declared.book_steps.Step.{Step}
+use Rattle.grub_steps.specs.Replay.{steps_of}
+use Rattle.grub_steps.specs.declared.book_steps.Step.{Step}
 use Rattle.grub_views.specs.declared.row.Numbers.{Numbers}
 
 abbrev pub first_word : List ℕ → List ℕ

@@ -3,11 +3,11 @@
 ghost use Rattle.std.specs.Prelude.{◌≡◌, ◌+◌, ◌≤◌, ◌++◌, ◌∷◌, length, decimal, codes, vec_len, vec_capacity};
 ghost use Rattle.std.specs.List.{flat_map, join_with_byte};
 ghost use Rattle.grub_plan.specs.Texts.{IsAskOf};
-ghost use Rattle.grub_views.specs.inside.Fitting.{IsToldIn};
+ghost use Rattle.grub_steps.specs.Fitting.{IsToldIn};
 ghost use Rattle.grub_views.specs.Rows.{answer_numbers, answer_word, arg_field, ask_word, asked_fields, number_field, number_fields, reply_numbers, reply_word, step_row, task_field};
 
-use crate::book_steps::Step;
 use grub_book::{Op, Reply};
+use grub_steps::Step;
 use grub_plan::{Answer, Ask, LINE_MAX, Plan, append, append_number};
 
 /// The numbers of an answer, where it has them.

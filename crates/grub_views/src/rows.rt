@@ -4,19 +4,19 @@ ghost use Rattle.std.specs.Prelude.{◌≡◌, ◌+◌, ◌≤◌, [], OnOk, OnE
 ghost use Rattle.std.specs.List.{flat_map};
 ghost use Rattle.grub_book.specs.Sums.{opening_book};
 ghost use Rattle.grub_plan.specs.Writing.{HandsOn, HandsPart};
-ghost use Rattle.grub_views.specs.inside.Fitting.{AreToldIn, IsToldIn};
-ghost use Rattle.grub_views.specs.inside.Past.{book_past};
-ghost use Rattle.grub_views.specs.Replay.{steps_from, steps_of};
+ghost use Rattle.grub_steps.specs.Fitting.{AreToldIn, IsToldIn};
+ghost use Rattle.grub_steps.specs.Past.{book_past};
+ghost use Rattle.grub_steps.specs.Replay.{steps_from, steps_of};
 ghost use Rattle.grub_views.specs.Rows.{HandsOnSteps, HandsPartOfSteps, header, step_row, step_rows};
 
 use crate::beside::play_beside;
-use crate::book_steps::{Step, fill_steps};
 use crate::rest::play_out;
 use crate::row::append_step;
 use grub_book::Book;
 use grub_lines::{Blocks, Line, write_lines};
-use grub_plan::{LINE_MAX, Plan, append, make_room};
+use grub_steps::{Step, fill_steps};
 use grub_timeline::{Playing, Told};
+use grub_plan::{LINE_MAX, Plan, append, make_room};
 use std::io;
 use std::io::Write;
 use std::thread::Threads;

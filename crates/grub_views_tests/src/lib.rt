@@ -1,4 +1,4 @@
-//! Tests of grub_views.
+//! Tests of grub_views, grub_picture, grub_summary and grub_steps.
 #![tactic(auto)]
 
 #[cfg(test)]

@@ -1,7 +1,7 @@
 use Rattle.std.proofs.Common.{refl}
 use Rattle.std.proofs.lemmas.Result.{on_ok_weaker, on_err_weaker}
 use Rattle.grub_plan.proofs.Handing.{on_err}
-use Rattle.grub_views.specs.Replay.{steps_of}
+use Rattle.grub_steps.specs.Replay.{steps_of}
 use Rattle.grub_views.specs.Rows.{step_rows}
 use Rattle.grub_show.proofs.Handed.{begun, drained, drained_part}
 use Rattle.grub_show.proofs.view.rows_through.Goals as goal

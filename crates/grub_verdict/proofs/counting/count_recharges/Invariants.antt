@@ -1,6 +1,6 @@
 use Rattle.std.proofs.Common.{◌≡◌, ◌*◌, ◌≤◌, take}
 use Rattle.std.specs.List.{sum_by}
-use Rattle.grub_views.specs.Tallies.{recharges_in}
+use Rattle.grub_steps.specs.Said.{recharges_in}
 use Rattle.grub_verdict.proofs.counting.count_recharges.Given as goal
 
 abbrev pub invariant-loop-x : goal.invariant-loop-x

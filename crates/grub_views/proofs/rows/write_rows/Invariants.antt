@@ -6,10 +6,10 @@ use Rattle.grub_timeline.specs.TimeLines.{AreWithin}
 use Rattle.grub_timeline.specs.declared.told.Told.{Told}
 use Rattle.grub_plan.specs.declared.pieces.TheConstants.{LINE_MAX}
 use Rattle.grub_plan.specs.Writing.{HandsOn}
-use Rattle.grub_views.specs.Replay.{steps_of}
+use Rattle.grub_steps.specs.Replay.{steps_of}
 use Rattle.grub_views.specs.Rows.{step_row}
-use Rattle.grub_views.specs.inside.Fitting.{AreToldIn}
-use Rattle.grub_views.specs.inside.Past.{book_past}
+use Rattle.grub_steps.specs.Fitting.{AreToldIn}
+use Rattle.grub_steps.specs.Past.{book_past}
 use Rattle.grub_views.proofs.rows.write_rows.Given as goal
 
 -- the rows of the entries before the latest, and the book after them

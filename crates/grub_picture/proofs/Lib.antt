@@ -1,0 +1,4 @@
+pub mod Showing
+pub mod Barring
+pub mod Laning
+pub mod Sizes

@@ -1,0 +1,4 @@
+pub mod Elements
+pub mod Frames
+pub mod Marks
+pub mod Shapes

@@ -1,0 +1,5 @@
+pub mod Fitting
+pub mod Messages
+pub mod Past
+pub mod Replay
+pub mod Said

@@ -1,0 +1,232 @@
+//! What a step says of its task.
+
+ghost use Rattle.std.specs.Prelude.{◌≡◌};
+ghost use Rattle.grub_steps.specs.Said.{charge_in, is_asleep, is_joined, is_kept, is_left, is_refused, is_refusing_reply, is_retired, is_waiting, is_woken, lateness, lateness_in, least_after, recharges_in, run_of, server_before};
+
+use crate::book_steps::{Change, Step};
+use grub_book::{Op, Reply};
+use grub_bw::Server;
+use grub_plan::{Answer, Ask};
+
+/// How long the task ran, in moments, where a step charges a run, and else 0.
+pub fn run_of(ask: Ask, answer: Answer) -> u32
+    ensures { result ≡ run_of ask answer }
+{
+    match (ask, answer) {
+        (
+            Ask::Call {
+                t: _,
+                op: Op::Charge { r: _, dt },
+            },
+            Answer::Replied(
+                Reply::Charged {
+                    dq: _,
+                    k: _,
+                    q: _,
+                    d: _,
+                },
+            ),
+        ) => dt,
+        _ => 0,
+    }
+}
+
+/// What a step charges, in moments of budget, and where it charges nothing 0.
+pub fn charge_in(ask: Ask, answer: Answer) -> u64
+    ensures { result ≡ charge_in ask answer }
+{
+    match (ask, answer) {
+        (
+            Ask::Call {
+                t: _,
+                op: Op::Charge { r: _, dt: _ },
+            },
+            Answer::Replied(
+                Reply::Charged {
+                    dq,
+                    k: _,
+                    q: _,
+                    d: _,
+                },
+            ),
+        ) => dq,
+        _ => 0,
+    }
+}
+
+/// How often a charge recharged the budget.
+pub fn recharges_in(answer: Answer) -> u32
+    ensures { result ≡ recharges_in answer }
+{
+    match answer {
+        Answer::Replied(
+            Reply::Charged {
+                dq: _,
+                k,
+                q: _,
+                d: _,
+            },
+        ) => k,
+        _ => 0,
+    }
+}
+
+/// The answer tells of a join.
+pub fn is_joined(answer: Answer) -> bool
+    ensures { result ≡ is_joined answer }
+{
+    match answer {
+        Answer::Replied(Reply::Joined { q: _, d: _ }) => true,
+        _ => false,
+    }
+}
+
+/// The answer tells of a wake.
+pub fn is_woken(answer: Answer) -> bool
+    ensures { result ≡ is_woken answer }
+{
+    match answer {
+        Answer::Replied(Reply::Woken { q: _, d: _ }) => true,
+        _ => false,
+    }
+}
+
+/// The answer tells that the task left a runqueue.
+pub fn is_left(answer: Answer) -> bool
+    ensures { result ≡ is_left answer }
+{
+    match answer {
+        Answer::Replied(Reply::Left { r: _ }) => true,
+        _ => false,
+    }
+}
+
+/// The answer tells of a block before the 0-lag moment.
+pub fn is_waiting(answer: Answer) -> bool
+    ensures { result ≡ is_waiting answer }
+{
+    match answer {
+        Answer::Replied(Reply::Waiting { ticket: _, z: _ }) => true,
+        _ => false,
+    }
+}
+
+/// The answer tells of a block at the 0-lag moment or after it.
+pub fn is_asleep(answer: Answer) -> bool
+    ensures { result ≡ is_asleep answer }
+{
+    match answer {
+        Answer::Replied(Reply::Asleep) => true,
+        _ => false,
+    }
+}
+
+/// The answer tells that the 0-lag moment came while the task waited.
+pub fn is_retired(answer: Answer) -> bool
+    ensures { result ≡ is_retired answer }
+{
+    match answer {
+        Answer::Replied(Reply::Retired) => true,
+        _ => false,
+    }
+}
+
+/// The task's server before a step that changes one, and else a server of nothing.
+pub fn server_before(change: Option<Change>) -> Server
+    ensures { result ≡ server_before change }
+{
+    match change {
+        Some(change) => change.server,
+        None => Server { q: 0, d: 0 },
+    }
+}
+
+/// The answer tells of a join or a wake that found this server, and left it.
+pub fn is_kept(server: Server, answer: Answer) -> bool
+    ensures { result ≡ is_kept server answer }
+{
+    match answer {
+        Answer::Replied(Reply::Joined { q, d } | Reply::Woken { q, d }) => {
+            q == server.q && d == server.d
+        }
+        _ => false,
+    }
+}
+
+fn lateness(d: u32, m: u32, answer: Answer) -> u32
+    ensures { result ≡ lateness d m answer }
+{
+    match answer {
+        Answer::Replied(Reply::Waiting { ticket: _, z: _ } | Reply::Asleep) => m.saturating_sub(d),
+        _ => 0,
+    }
+}
+
+/// How long after the deadline a block came, and of every other step 0.
+pub fn lateness_in(x: &Step) -> u32
+    ensures { result ≡ lateness_in x.now }
+{
+    lateness(
+        server_before(x.change).d,
+        x.told.entry.m,
+        x.told.entry.answer,
+    )
+}
+
+/// The least budget so far, with this answer's.
+pub fn least_after(least: u32, answer: Answer) -> u32
+    ensures { result ≡ least_after least answer }
+{
+    match answer {
+        Answer::Replied(
+            Reply::Joined { q, d: _ }
+            | Reply::Woken { q, d: _ }
+            | Reply::Charged {
+                dq: _,
+                k: _,
+                q,
+                d: _,
+            },
+        ) => least.min(q),
+        _ => least,
+    }
+}
+
+fn is_refusing_reply(reply: Reply) -> bool
+    ensures { result ≡ is_refusing_reply reply }
+{
+    match reply {
+        Reply::Joined { q: _, d: _ }
+        | Reply::Woken { q: _, d: _ }
+        | Reply::Waiting { ticket: _, z: _ }
+        | Reply::Asleep
+        | Reply::Left { r: _ }
+        | Reply::Retired
+        | Reply::Ended
+        | Reply::Charged {
+            dq: _,
+            k: _,
+            q: _,
+            d: _,
+        }
+        | Reply::Retuned => false,
+        _ => true,
+    }
+}
+
+/// The answer refuses; after a wake that finds the task elsewhere it moves, and that counts as none.
+pub fn is_refused(ask: Ask, answer: Answer) -> bool
+    ensures { result ≡ is_refused ask answer }
+{
+    match (ask, answer) {
+        (
+            Ask::Call {
+                t: _,
+                op: Op::Wake { r: _, m: _ },
+            },
+            Answer::Replied(Reply::Elsewhere(_)),
+        ) => false,
+        (_, Answer::Replied(reply)) => is_refusing_reply(reply),
+        _ => false,
+    }
+}

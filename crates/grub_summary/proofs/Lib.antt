@@ -1,0 +1,4 @@
+pub mod Counting
+pub mod ActiveTimes
+pub mod Adding
+pub mod Charging

@@ -1,0 +1,152 @@
+//! The summary of a time line: a table of its tasks and one of its runqueues.
+
+ghost use Rattle.std.specs.Prelude.{◌≡◌, ◌+◌, ◌<◌, ◌^◌, List, map, length, IfOk};
+ghost use Rattle.std.specs.List.{range_with_len};
+ghost use Rattle.grub_timeline.specs.TimeLines.{AreWithin, IsTimeLine};
+ghost use Rattle.grub_steps.specs.declared.book_steps.Step.{Step};
+ghost use Rattle.grub_summary.specs.inside.Adding.{meters_of, tallies_of};
+ghost use Rattle.grub_steps.specs.Fitting.{AreToldIn};
+ghost use Rattle.grub_steps.specs.Replay.{steps_of};
+ghost use Rattle.grub_summary.specs.Summary.{mean_of, percent_of, queue_cells, queue_row, summary_text, task_cells, task_row};
+ghost use Rattle.grub_summary.specs.declared.table.Cell.TheVariants.{Head};
+
+use crate::sums::sums_of;
+use crate::table::{Cell, put_table};
+use crate::tally::Tally;
+use crate::usage::{Meter, Usage};
+use grub_bw::{BW_UNIT, Params, Queue};
+use grub_steps::ViewFault;
+use grub_timeline::TimeLine;
+use grub_plan::Plan;
+use std::alloc::{AllocError, Global};
+
+/// How many columns the table of tasks has, and that of runqueues.
+const TASK_COLUMNS: usize = 19;
+
+const QUEUE_COLUMNS: usize = 9;
+
+/// The summary of a time line of the plan: a table of the tasks, an empty line, and a table of the runqueues.
+/// It is refused with 48 where the allocator refused.
+pub fn summary_text(alloc: Global, plan: &Plan, line: &TimeLine) -> Result<Vec<u8>, ViewFault>
+    requires line { IsTimeLine plan.now line.now.told.items line.now.closing.items }
+    requires within { AreWithin plan.now.setup line.now.told.items }
+    ensures { IfOk result (λ v. v.items ≡ summary_text plan.now.setup plan.now.names (steps_of plan.now.setup line.now.told.items)) }
+{
+    text_of(alloc, plan, line).map_err(|_| ViewFault::NoMemory)
+}
+
+fn text_of(alloc: Global, plan: &Plan, line: &TimeLine) -> Result<Vec<u8>, AllocError>
+    requires { AreToldIn plan.now.setup line.now.told.items }
+    ensures { IfOk result (λ v. v.items ≡ summary_text plan.now.setup plan.now.names (steps_of plan.now.setup line.now.told.items)) }
+{
+    let sums = sums_of(alloc, plan.setup(), &line.told)?;
+    let tasks = task_cells(alloc, plan, &sums.tallies)?;
+    let queues = queue_cells(alloc, plan, &sums.meters)?;
+    let mut out = Vec::new(alloc);
+    put_table(alloc, &mut out, plan, true, TASK_COLUMNS, &tasks)?;
+    out.extend_from_slice(b"\n")?;
+    put_table(alloc, &mut out, plan, false, QUEUE_COLUMNS, &queues)?;
+    Ok(out)
+}
+
+/// The names of so many columns.
+fn heads_of(alloc: Global, from: u32, count: u32) -> Result<Vec<Cell>, AllocError>
+    requires { from + count < 2 ^ 32 }
+    ensures { IfOk result (λ v. v.items ≡ map Head (range_with_len from count)) }
+{
+    let mut cells = Vec::new(alloc);
+    for k in 0..count {
+        cells.push(Cell::Head(from + k))?;
+    }
+    Ok(cells)
+}
+
+/// The names of the columns, and a row for each task.
+fn task_cells(alloc: Global, plan: &Plan, tallies: &[Tally]) -> Result<Vec<Cell>, AllocError>
+    requires { length tallies.now ≡ length plan.now.setup.tasks }
+    ensures { (steps : List Step) → tallies.now ≡ tallies_of plan.now.setup steps → IfOk result (λ v. v.items ≡ task_cells plan.now.setup steps) }
+{
+    let setup = plan.setup();
+    let mut cells = heads_of(alloc, 0, 19)?;
+    for t in 0..setup.task_count() {
+        let row = task_row(t, setup.params(t), tallies[t as usize]);
+        cells.extend_from_slice(&row)?;
+    }
+    Ok(cells)
+}
+
+fn task_row(t: u32, params: Params, x: Tally) -> [Cell; 19]
+    ensures { result ≡ task_row t params x }
+{
+    [
+        Cell::Name(t),
+        Cell::Number(u128::from(params.runtime())),
+        Cell::Number(u128::from(params.period())),
+        Cell::Percent(percent_of(u128::from(params.bw()))),
+        Cell::Number(x.executed),
+        Cell::Number(x.charged),
+        Cell::Number(x.executed.saturating_sub(x.charged)),
+        Cell::Number(x.recharges),
+        Cell::Number(x.joins as u128),
+        Cell::Number(x.wakes as u128),
+        Cell::Number(x.kept as u128),
+        Cell::Number(x.moves as u128),
+        Cell::Number(x.waits as u128),
+        Cell::Number(x.sleeps as u128),
+        Cell::Number(x.retired as u128),
+        Cell::Number(u128::from(x.least)),
+        Cell::Number(x.late as u128),
+        Cell::Number(u128::from(x.worst)),
+        Cell::Number(x.refused as u128),
+    ]
+}
+
+/// The names of the columns, and a row for each runqueue.
+fn queue_cells(alloc: Global, plan: &Plan, meters: &[Meter]) -> Result<Vec<Cell>, AllocError>
+    requires { length meters.now ≡ length plan.now.setup.queues }
+    ensures { (steps : List Step) → meters.now ≡ meters_of plan.now.setup steps → IfOk result (λ v. v.items ≡ queue_cells plan.now.setup steps) }
+{
+    let setup = plan.setup();
+    let mut cells = heads_of(alloc, 19, 9)?;
+    for r in 0..setup.queue_count() {
+        let meter = meters[r as usize];
+        let row = queue_row(r, setup.queue(r), meter.from, meter.usage);
+        cells.extend_from_slice(&row)?;
+    }
+    Ok(cells)
+}
+
+fn queue_row(r: u32, queue: Queue, span: u32, x: Usage) -> [Cell; 9]
+    ensures { result ≡ queue_row r queue span x }
+{
+    [
+        Cell::Number(u128::from(r)),
+        Cell::Number(u128::from(queue.umax())),
+        Cell::Number(u128::from(queue.uextra())),
+        Cell::Number(u128::from(span)),
+        Cell::Number(x.changes as u128),
+        Cell::Percent(percent_of(mean_of(x.running, span))),
+        Cell::Percent(percent_of(u128::from(x.most.running))),
+        Cell::Percent(percent_of(mean_of(x.this, span))),
+        Cell::Percent(percent_of(u128::from(x.most.this))),
+    ]
+}
+
+/// A bandwidth of 1/2^20 in hundredths of a percent of the processor, rounded down.
+fn percent_of(bandwidth: u128) -> u128
+    ensures { result ≡ percent_of bandwidth }
+{
+    // Whole processors first, so that no product is too great.
+    let unit = u128::from(BW_UNIT);
+    bandwidth / unit * 10000 + bandwidth % unit * 10000 / unit
+}
+
+fn mean_of(area: u128, span: u32) -> u128
+    ensures { result ≡ mean_of area span }
+{
+    if span == 0 {
+        0
+    } else {
+        area / u128::from(span)
+    }
+}

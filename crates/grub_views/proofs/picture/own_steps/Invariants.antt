@@ -1,6 +1,0 @@
-use Rattle.std.proofs.Common.{◌≡◌, map}
-use Rattle.grub_views.specs.inside.Scenes.{owns_of}
-use Rattle.grub_views.proofs.picture.own_steps.Given as goal
-
-abbrev pub invariant-loop-t : goal.invariant-loop-t
-invariant-loop-t l = map (λ own. own.items) l.owns.items ≡ owns_of l.t l.steps
