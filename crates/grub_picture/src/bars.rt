@@ -6,9 +6,9 @@ ghost use Rattle.grub_picture.specs.Bars.{bars_of, is_seen, is_state, is_still, 
 ghost use Rattle.grub_picture.specs.inside.Begun.{begun_after, ended_bar, last_bar, opened_bar};
 
 use grub_book::{Place, Reply, State};
+use grub_plan::Answer;
 use grub_shapes::{Bar, Frame};
 use grub_steps::{Change, Step};
-use grub_plan::Answer;
 use std::alloc::{AllocError, Global};
 
 /// A bar that has begun and not ended.

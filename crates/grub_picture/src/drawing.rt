@@ -11,11 +11,11 @@ ghost use Rattle.grub_picture.specs.inside.Scenes.{drawn_of, owns_of};
 
 use crate::bars::{are_seen, bars_of, postponed};
 use crate::curve::put_curve;
+use grub_plan::Plan;
 use grub_shapes::{
     Bar, Frame, Mark, is_next, put_bars, put_marks, put_number, put_scale, put_text, put_umax,
 };
 use grub_steps::Step;
-use grub_plan::Plan;
 use std::alloc::{AllocError, Global};
 
 /// What is drawn.

@@ -8,10 +8,10 @@ ghost use Rattle.grub_picture.specs.Picture.{drawing, last_moment, picture_of, q
 ghost use Rattle.grub_steps.specs.Replay.{steps_of};
 
 use crate::drawing::{Scene, put_queue};
+use grub_plan::Plan;
 use grub_shapes::{Frame, Mark, put_axis, put_head, put_legend};
 use grub_steps::{Step, ViewFault, replay, steps_of_task};
 use grub_timeline::{TimeLine, Told};
-use grub_plan::Plan;
 use std::alloc::{AllocError, Global};
 
 /// A picture is smaller than this, in bytes.

@@ -15,9 +15,9 @@ use crate::table::{Cell, put_table};
 use crate::tally::Tally;
 use crate::usage::{Meter, Usage};
 use grub_bw::{BW_UNIT, Params, Queue};
+use grub_plan::Plan;
 use grub_steps::ViewFault;
 use grub_timeline::TimeLine;
-use grub_plan::Plan;
 use std::alloc::{AllocError, Global};
 
 /// How many columns the table of tasks has, and that of runqueues.

@@ -9,8 +9,8 @@ use grub_book::{Op, Reading, Reply};
 use grub_bw::Server;
 use grub_events::{Event, Placed};
 use grub_facts::Fact;
-use grub_steps::{Change, Step, charge_in, run_of, server_before};
 use grub_plan::{Answer, Ask};
+use grub_steps::{Change, Step, charge_in, run_of, server_before};
 use std::alloc::{AllocError, Global};
 
 /// An event of the trace as the book answered it.
@@ -102,7 +102,7 @@ fn zero_lag_of(answer: Answer) -> Option<u32>
 }
 
 /// Whether the book answers that there is no room for what was asked.
-pub fn is_no_room(answer: Answer) -> bool
+pub(crate) fn is_no_room(answer: Answer) -> bool
     ensures { result ≡ is_no_room answer }
 {
     matches!(
@@ -181,7 +181,7 @@ fn answered_all(
 }
 
 /// What the book answered to the events of a given task, whose number in the event files is `t`.
-pub fn answered_of(
+pub(crate) fn answered_of(
     alloc: Global,
     task: usize,
     t: u32,

@@ -2,8 +2,8 @@
 
 use grub_events::{Placed, Setting};
 use grub_facts::Facts;
-use grub_steps::Step;
 use grub_plan::Plan;
+use grub_steps::Step;
 
 /// A trace, its events, and the event files made of them as they were played.
 #[derive(Clone, Copy)]

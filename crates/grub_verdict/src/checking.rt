@@ -42,7 +42,7 @@ pub enum CheckFault<'a> {
 }
 
 /// The plan of the event files that a trace tells.
-pub fn plan_of(alloc: Global, files: &[Vec<u8>]) -> Result<Plan, AllocError>
+pub(crate) fn plan_of(alloc: Global, files: &[Vec<u8>]) -> Result<Plan, AllocError>
     ensures { IfOk result (AreReadAs (contents files.now)) }
 {
     match read_files(alloc, files) {

@@ -9,8 +9,8 @@ use grub_book::{Op, Reading, Reply, Setup};
 use grub_bw::{Params, Queue};
 use grub_events::{Act, Placed, Source, Standing};
 use grub_facts::{Fact, What};
-use grub_steps::{Step, recharges_in};
 use grub_plan::{Answer, Ask};
+use grub_steps::{Step, recharges_in};
 use std::alloc::{AllocError, Global};
 
 /// 1 where a fact is that the kernel cancelled the timer of a task that was seen before, else 0.
@@ -24,7 +24,11 @@ fn cancelled_now(what: What, standing: Standing) -> usize
 }
 
 /// How many 0-lag timers the kernel cancelled, of tasks that were seen before. It is refused where the allocator refused.
-pub fn count_cancelled(alloc: Global, tasks: usize, facts: &[Fact]) -> Result<usize, AllocError>
+pub(crate) fn count_cancelled(
+    alloc: Global,
+    tasks: usize,
+    facts: &[Fact],
+) -> Result<usize, AllocError>
     ensures { IfOk result (λ n. n ≡ cancelled_from (replicate tasks Unseen) facts.now) }
 {
     let mut standings = Vec::from_elem(alloc, Standing::Unseen, tasks)?;
@@ -70,20 +74,20 @@ fn is_exit(placed: &Placed) -> bool
 }
 
 /// How many wakes the trace shows.
-pub fn count_wakes(placed: &[Placed]) -> usize
+pub(crate) fn count_wakes(placed: &[Placed]) -> usize
     ensures { result ≡ count_by is_told_wake placed.now }
 {
     placed.iter().filter(|p| is_told_wake(p)).count()
 }
 
-pub fn count_runs(placed: &[Placed]) -> usize
+pub(crate) fn count_runs(placed: &[Placed]) -> usize
     ensures { result ≡ count_by is_run placed.now }
 {
     placed.iter().filter(|p| is_run(p)).count()
 }
 
 /// How many blocks are of tasks that end.
-pub fn count_exits(placed: &[Placed]) -> usize
+pub(crate) fn count_exits(placed: &[Placed]) -> usize
     ensures { result ≡ count_by is_exit placed.now }
 {
     placed.iter().filter(|p| is_exit(p)).count()
@@ -142,7 +146,7 @@ fn is_left_charge(setup: &Setup, queue: Queue, step: &Step) -> bool
 }
 
 /// How many charges went by the task's own bandwidth, on runqueues of these constants.
-pub fn count_own_charges(setup: &Setup, queue: Queue, steps: &[Step]) -> usize
+pub(crate) fn count_own_charges(setup: &Setup, queue: Queue, steps: &[Step]) -> usize
     ensures { result ≡ count_by (is_own_charge setup.now.tasks queue) steps.now }
 {
     steps
@@ -152,7 +156,7 @@ pub fn count_own_charges(setup: &Setup, queue: Queue, steps: &[Step]) -> usize
 }
 
 /// How many charges went by what reclaiming leaves.
-pub fn count_left_charges(setup: &Setup, queue: Queue, steps: &[Step]) -> usize
+pub(crate) fn count_left_charges(setup: &Setup, queue: Queue, steps: &[Step]) -> usize
     ensures { result ≡ count_by (is_left_charge setup.now.tasks queue) steps.now }
 {
     steps
@@ -162,7 +166,7 @@ pub fn count_left_charges(setup: &Setup, queue: Queue, steps: &[Step]) -> usize
 }
 
 /// How often budgets were recharged.
-pub fn count_recharges(steps: &[Step]) -> u128
+pub(crate) fn count_recharges(steps: &[Step]) -> u128
     ensures { result ≡ sum_by (λ x. recharges_in x.told.entry.answer) steps.now }
 {
     let mut recharges: u128 = 0;

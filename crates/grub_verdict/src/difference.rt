@@ -26,7 +26,7 @@ impl Difference {
 }
 
 /// Appends a text.
-pub fn put(out: &mut Vec<u8>, text: &[u8]) -> Result<(), AllocError>
+pub(crate) fn put(out: &mut Vec<u8>, text: &[u8]) -> Result<(), AllocError>
     ensures { OnOk result (out.new.items ≡ out.old.items ++ text.now) }
 {
     out.extend_from_slice(text)?;
@@ -34,7 +34,7 @@ pub fn put(out: &mut Vec<u8>, text: &[u8]) -> Result<(), AllocError>
 }
 
 /// Appends a text and then a number, in plain decimal.
-pub fn put_number(out: &mut Vec<u8>, text: &[u8], n: u128) -> Result<(), AllocError>
+pub(crate) fn put_number(out: &mut Vec<u8>, text: &[u8], n: u128) -> Result<(), AllocError>
     ensures { OnOk result (out.new.items ≡ out.old.items ++ (text.now ++ decimal n)) }
 {
     let mut buffer = Buffer::new();
@@ -67,7 +67,7 @@ fn put_three(out: &mut Vec<u8>, n: u128) -> Result<(), AllocError>
 
 /// Appends a number of thousandths, as 13.258.
 #[tactic(auto, unfolding(crate::specs::Numbers::thousandths))]
-pub fn put_thousandths(out: &mut Vec<u8>, n: u128) -> Result<(), AllocError>
+pub(crate) fn put_thousandths(out: &mut Vec<u8>, n: u128) -> Result<(), AllocError>
     ensures { OnOk result (out.new.items ≡ out.old.items ++ thousandths n) }
 {
     put_number(out, b"", n / 1000)?;
@@ -89,7 +89,7 @@ fn put_hundredths(out: &mut Vec<u8>, n: u128) -> Result<(), AllocError>
 
 /// Appends a moment of the trace's clock in seconds, with six digits that are cut off.
 #[tactic(auto, unfolding(crate::specs::Numbers::seconds))]
-pub fn put_seconds(out: &mut Vec<u8>, at: u64) -> Result<(), AllocError>
+pub(crate) fn put_seconds(out: &mut Vec<u8>, at: u64) -> Result<(), AllocError>
     ensures { OnOk result (out.new.items ≡ out.old.items ++ seconds at) }
 {
     put_number(out, b"", u128::from(at / 1_000_000_000))?;
@@ -110,7 +110,7 @@ fn put_sign(out: &mut Vec<u8>, below: bool) -> Result<(), AllocError>
 
 /// Appends a difference in nanoseconds, in microseconds.
 #[tactic(auto, unfolding(crate::specs::Numbers::micros))]
-pub fn put_micros(out: &mut Vec<u8>, d: Difference) -> Result<(), AllocError>
+pub(crate) fn put_micros(out: &mut Vec<u8>, d: Difference) -> Result<(), AllocError>
     ensures { OnOk result (out.new.items ≡ out.old.items ++ micros d) }
 {
     put_sign(out, d.is_below)?;
@@ -131,7 +131,7 @@ fn share(nanos: u128, executed: u64) -> u128
 
 /// Appends the rate in percent of a charge in nanoseconds to a run of so many microseconds.
 #[tactic(auto, unfolding(crate::specs::Numbers::rate))]
-pub fn put_rate(out: &mut Vec<u8>, d: Difference, executed: u64) -> Result<(), AllocError>
+pub(crate) fn put_rate(out: &mut Vec<u8>, d: Difference, executed: u64) -> Result<(), AllocError>
     requires { d.size < 2 ^ 110 }
     ensures { OnOk result (out.new.items ≡ out.old.items ++ rate d executed) }
 {

@@ -36,7 +36,7 @@ struct Answers {
 }
 
 /// The number of a name in the plan.
-pub fn number_in(plan: &Plan, name: &[u8]) -> Option<u32>
+pub(crate) fn number_in(plan: &Plan, name: &[u8]) -> Option<u32>
     ensures { result ≡ number_from 0 name.now plan.now.names }
 {
     for t in 0..plan.setup().task_count() {
@@ -84,7 +84,10 @@ fn answers_of(alloc: Global, case: &Case<'_>) -> Result<Answers, AllocError>
 }
 
 /// The observations of a case. It is refused where the allocator refused.
-pub fn observations_of(alloc: Global, case: &Case<'_>) -> Result<Vec<Observation>, AllocError>
+pub(crate) fn observations_of(
+    alloc: Global,
+    case: &Case<'_>,
+) -> Result<Vec<Observation>, AllocError>
     ensures { IfOk result (λ v. v.items ≡ observations case.now) }
 {
     let Answers {
@@ -112,7 +115,7 @@ fn first_wake(facts: &[Fact]) -> u64
     0
 }
 
-pub fn yardstick(case: &Case<'_>) -> Yardstick
+pub(crate) fn yardstick(case: &Case<'_>) -> Yardstick
     ensures { result ≡ yardstick case.now }
 {
     Yardstick {

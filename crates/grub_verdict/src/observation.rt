@@ -45,7 +45,7 @@ pub struct Observation {
 }
 
 /// A moment of the event files, in nanoseconds from 2000 us before the beginning of the trace's clock.
-pub fn moment_of_book(first: u64, z: u32) -> u128
+pub(crate) fn moment_of_book(first: u64, z: u32) -> u128
     ensures value { result ≡ moment_of_book first z }
     ensures limit { result < 2 ^ 75 }
 {
@@ -53,7 +53,7 @@ pub fn moment_of_book(first: u64, z: u32) -> u128
 }
 
 /// A moment of the trace's clock, in nanoseconds from 2000 us before its beginning.
-pub fn moment_of_kernel(armed: u64) -> u128
+pub(crate) fn moment_of_kernel(armed: u64) -> u128
     ensures value { result ≡ moment_of_kernel armed }
     ensures limit { result < 2 ^ 65 }
 {

@@ -14,8 +14,8 @@ use grub_book::MOMENT_MAX;
 use grub_convert::{Options, event_files};
 use grub_facts::Facts;
 use grub_picture::{end_of, marked_picture_text};
-use grub_shapes::Mark;
 use grub_plan::Plan;
+use grub_shapes::Mark;
 use std::alloc::{AllocError, Global};
 
 /// A moment in microseconds, or the last in which an event file may have a line.
@@ -114,7 +114,7 @@ fn drawn(
 
 /// The picture of what the facts of a trace tell, where nothing is wrong with them. It is refused where the allocator
 /// refused.
-pub fn picture_facts(
+pub(crate) fn picture_facts(
     alloc: Global,
     question: Question<'_>,
     options: &Options<'_>,

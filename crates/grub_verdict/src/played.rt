@@ -9,9 +9,9 @@ use crate::checking::Question;
 use grub_convert::{Options, events_told, setting_of};
 use grub_events::{Placed, Setting};
 use grub_facts::Facts;
+use grub_plan::Plan;
 use grub_steps::{Step, played_steps};
 use grub_timeline::{TimeLine, play};
-use grub_plan::Plan;
 use std::alloc::{AllocError, Global};
 
 /// The events that the facts of a trace tell, and the time line of their event files with its steps.
@@ -25,7 +25,7 @@ pub struct Played {
 
 impl Played {
     /// Plays the plan that the event files of these facts are read as. It is refused where the allocator refused.
-    pub fn new(
+    pub(crate) fn new(
         alloc: Global,
         options: &Options<'_>,
         facts: &Facts,

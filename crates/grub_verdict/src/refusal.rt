@@ -6,8 +6,8 @@ ghost use Rattle.grub_verdict.specs.Judging.{earlier, first_of, first_refusal, i
 use crate::answered::{Answered, is_no_room};
 use crate::case::{Case, Overfull};
 use grub_events::Declared;
-use grub_steps::Step;
 use grub_plan::{Ask, Plan};
+use grub_steps::Step;
 use std::alloc::AllocError;
 
 /// An event of the trace for which there is no room.
@@ -34,7 +34,11 @@ fn put_refusal(out: &mut Vec<Refusal>, t: u32, x: &Answered) -> Result<(), Alloc
 }
 
 /// Puts the events of a task, whose number in the plan is `t`, for which there is no room.
-pub fn put_refusals(out: &mut Vec<Refusal>, t: u32, answered: &[Answered]) -> Result<(), AllocError>
+pub(crate) fn put_refusals(
+    out: &mut Vec<Refusal>,
+    t: u32,
+    answered: &[Answered],
+) -> Result<(), AllocError>
     ensures { OnOk result (out.new.items ≡ out.old.items ++ map (refusal t) (filter is_refused answered.now)) }
 {
     for x in answered {
@@ -121,7 +125,7 @@ fn task_of(ask: Ask) -> u32
 
 /// The answer by which there is no verdict, if there is one: that to a server of fair tasks, or else the first of these by
 /// the line of the trace.
-pub fn no_room(case: &Case<'_>, refusals: &[Refusal]) -> Option<Overfull>
+pub(crate) fn no_room(case: &Case<'_>, refusals: &[Refusal]) -> Option<Overfull>
     ensures { result ≡ first_of (find (refuses_server case.now) case.now.steps.now) (first_refusal refusals.now) }
 {
     match (server_refused(case), first_refusal(refusals)) {

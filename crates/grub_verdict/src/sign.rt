@@ -72,7 +72,7 @@ fn go_to(facts: &[Fact], from: usize, sign: Sign, line: u64) -> (usize, Sign)
 
 /// What the kernel did with a task's timer before the line of each of its events. The facts are those of the task; they
 /// are gone through once, where the events stand in the order of their lines.
-pub fn signs_before(
+pub(crate) fn signs_before(
     alloc: Global,
     facts: &[Fact],
     events: &[Placed],

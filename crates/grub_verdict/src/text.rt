@@ -31,7 +31,7 @@ fn put_small(out: &mut Vec<u8>, text: &[u8], n: u32) -> Result<(), AllocError>
 }
 
 #[tactic(auto, unfolding(crate::specs::Texts::trace_line))]
-pub fn put_trace(
+pub(crate) fn put_trace(
     out: &mut Vec<u8>,
     trace: &[u8],
     h: &Heading,
@@ -53,7 +53,7 @@ pub fn put_trace(
 }
 
 #[tactic(auto, unfolding(crate::specs::Texts::clock_line))]
-pub fn put_clock(out: &mut Vec<u8>, clock: u64) -> Result<(), AllocError>
+pub(crate) fn put_clock(out: &mut Vec<u8>, clock: u64) -> Result<(), AllocError>
     ensures { OnOk result (out.new.items ≡ out.old.items ++ clock_line clock) }
 {
     put(out, b"clock: the timers' now is within ")?;
@@ -63,7 +63,7 @@ pub fn put_clock(out: &mut Vec<u8>, clock: u64) -> Result<(), AllocError>
 }
 
 #[tactic(auto, unfolding(crate::specs::Texts::runqueues_line))]
-pub fn put_runqueues(out: &mut Vec<u8>, h: &Heading) -> Result<(), AllocError>
+pub(crate) fn put_runqueues(out: &mut Vec<u8>, h: &Heading) -> Result<(), AllocError>
     ensures { OnOk result (out.new.items ≡ out.old.items ++ runqueues_line h.now) }
 {
     put_small(out, b"runqueues: ", h.runqueues)?;
@@ -74,7 +74,7 @@ pub fn put_runqueues(out: &mut Vec<u8>, h: &Heading) -> Result<(), AllocError>
 }
 
 #[tactic(auto, unfolding(crate::specs::Texts::task_line))]
-pub fn put_task(out: &mut Vec<u8>, name: &[u8], params: Params) -> Result<(), AllocError>
+pub(crate) fn put_task(out: &mut Vec<u8>, name: &[u8], params: Params) -> Result<(), AllocError>
     ensures { OnOk result (out.new.items ≡ out.old.items ++ task_line name.now params) }
 {
     put(out, b"task ")?;
@@ -87,7 +87,7 @@ pub fn put_task(out: &mut Vec<u8>, name: &[u8], params: Params) -> Result<(), Al
 }
 
 #[tactic(auto, unfolding(crate::specs::Texts::covered_line))]
-pub fn put_covered(out: &mut Vec<u8>, h: &Heading) -> Result<(), AllocError>
+pub(crate) fn put_covered(out: &mut Vec<u8>, h: &Heading) -> Result<(), AllocError>
     ensures { OnOk result (out.new.items ≡ out.old.items ++ covered_line h.now) }
 {
     put_count(out, b"covered: ", h.own_charges)?;
@@ -103,7 +103,7 @@ pub fn put_covered(out: &mut Vec<u8>, h: &Heading) -> Result<(), AllocError>
 }
 
 #[tactic(auto, unfolding(crate::specs::Texts::timers_line))]
-pub fn put_timers(
+pub(crate) fn put_timers(
     out: &mut Vec<u8>,
     blocks: usize,
     armed: usize,
@@ -148,7 +148,7 @@ fn put_moments_line(
 }
 
 /// Appends the least, the median and the greatest of sorted deviations, where there are some.
-pub fn put_moments(
+pub(crate) fn put_moments(
     out: &mut Vec<u8>,
     leads: &[u128],
     beyond: usize,
@@ -163,7 +163,7 @@ pub fn put_moments(
 }
 
 #[tactic(auto, unfolding(crate::specs::Texts::agrees_line))]
-pub fn put_agrees(out: &mut Vec<u8>, within: u32) -> Result<(), AllocError>
+pub(crate) fn put_agrees(out: &mut Vec<u8>, within: u32) -> Result<(), AllocError>
     ensures { OnOk result (out.new.items ≡ out.old.items ++ agrees_line within) }
 {
     put_small(out, b"agrees: no block beyond ", within)?;
@@ -351,7 +351,7 @@ fn put_runqueue(out: &mut Vec<u8>, o: &Observation) -> Result<(), AllocError>
 
 /// Appends what a person needs to find the cause of a deviation.
 #[tactic(auto, unfolding(crate::specs::Texts::deviation_text))]
-pub fn put_deviation(
+pub(crate) fn put_deviation(
     out: &mut Vec<u8>,
     first: u64,
     o: &Observation,

@@ -53,7 +53,7 @@ fn sum(a: u64, b: u64) -> u64
 
 impl Watch {
     /// Before anything was seen of the task.
-    pub fn new() -> Watch
+    pub(crate) fn new() -> Watch
         ensures { result ≡ no_watch }
     {
         Watch {
@@ -153,7 +153,7 @@ impl Watch {
 
 /// Puts what the events of a task observe. The first line of the events that are read is at the moment `first`, in
 /// nanoseconds.
-pub fn put_observed(
+pub(crate) fn put_observed(
     out: &mut Vec<Observation>,
     params: Params,
     first: u64,

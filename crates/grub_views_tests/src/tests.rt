@@ -3,10 +3,10 @@
 use grub_book::Book;
 use grub_lines::Blocks;
 use grub_picture::*;
+use grub_plan::{Plan, report_buffer, write_buffer};
 use grub_steps::*;
 use grub_summary::*;
 use grub_timeline::{Playing, play};
-use grub_plan::{Plan, report_buffer, write_buffer};
 use grub_trace::read_files;
 use grub_views::*;
 use std::alloc::{AllocError, Global};

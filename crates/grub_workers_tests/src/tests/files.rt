@@ -54,7 +54,7 @@ fn text_of(alloc: Global, plan: &Plan, outcome: &Outcome) -> Result<Vec<u8>, Ref
 }
 
 /// Runs such files, and gives the texts of their reports.
-pub fn run_files<R: Threads + Wait, G: Gate>(
+pub(crate) fn run_files<R: Threads + Wait, G: Gate>(
     rt: &R,
     alloc: Global,
     all: &[&[u8]],

@@ -25,7 +25,7 @@ pub struct Holds {
 }
 
 impl Holds {
-    pub fn new(holds: [Option<Hold>; 4]) -> Holds {
+    pub(crate) fn new(holds: [Option<Hold>; 4]) -> Holds {
         Holds {
             holds,
             answered: [AtomicU64::new(0), AtomicU64::new(0)],
@@ -34,7 +34,7 @@ impl Holds {
     }
 
     /// How often the limit of turns was met.
-    pub fn missed(&self) -> u64 {
+    pub(crate) fn missed(&self) -> u64 {
         self.missed.load(SeqCst)
     }
 
@@ -76,7 +76,7 @@ pub struct Count {
 }
 
 impl Count {
-    pub fn new() -> Count {
+    pub(crate) fn new() -> Count {
         Count {
             before: AtomicU64::new(0),
             after: AtomicU64::new(0),
@@ -85,7 +85,7 @@ impl Count {
     }
 
     /// How many calls were begun, how many were answered, and the number of the latest.
-    pub fn counts(&self) -> (u64, u64, u64) {
+    pub(crate) fn counts(&self) -> (u64, u64, u64) {
         (
             self.before.load(SeqCst),
             self.after.load(SeqCst),
