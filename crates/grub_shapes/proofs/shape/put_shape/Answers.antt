@@ -1,8 +1,7 @@
 use Rattle.std.proofs.Common.{[], ◌+◌, ◌∷◌}
 use Rattle.std.specs.Prelude.{codes, decimal}
-use Rattle.grub_shapes.specs.Shapes.{width_of}
 use Rattle.grub_shapes.specs.Frames.{x_of}
-use Rattle.grub_shapes.specs.Shapes.{look_of, shape_text}
+use Rattle.grub_shapes.specs.Shapes.{look_of, shape_text, width_of}
 use Rattle.grub_shapes.proofs.Pieces.{pieces_put}
 use Rattle.grub_shapes.proofs.shape.put_shape.Goals as goal
 
