@@ -224,6 +224,7 @@ class Trial:
             say(f"edit {it.label}: BAD: {it.bad}")
         failed = len(wrong)
         status, said = self.check([]) if left else (0, "")
+        stands = time.time() - self.began
         if status:
             say(f"{self.crate.name} is not proved as it stands, so none of its edits was tried:\n{said[-2000:]}")
             return 0, failed + len(left)
@@ -241,7 +242,8 @@ class Trial:
                 for edit in batch:
                     edit.is_alone = edit not in found
         passed = len(edits) - failed
-        say(f"edits: {self.crate.name}: {passed} of {len(edits)} refused, {self.checks} checks, {time.time() - self.began:.0f} s")
+        took = time.time() - self.began
+        say(f"edits: {self.crate.name}: {passed} of {len(edits)} refused, {self.checks} checks, {took:.0f} s, {stands:.0f} of them as it stands")
         shutil.rmtree(self.room, ignore_errors=True)
         return passed, failed
 
