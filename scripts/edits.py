@@ -4,7 +4,7 @@
 edits.py [--look] [NAME | NAME/EDIT]..: those of these crates, or these edits, or all. Each crate is checked over the libraries
 that `rt ci` or scripts/build.sh left in crates/*/out, first as it stands and then with as many edits at once as turn different
 functions: a function is proved from the contracts of those that it calls, so what one edit turns takes no proof from another.
-An edit for which that tells nothing is tried alone. With --look none is tried: it says which cannot be applied. The last line
+An edit for which two such checks tell nothing is tried alone. With --look none is tried: it says which cannot be applied. The last line
 is 'N passed, M failed'.
 """
 import os
@@ -73,7 +73,7 @@ class Edit:
 
     def __init__(self, crate, name):
         self.label, self.lines, self.functions, self.bad = f"{crate.name}/{name.removesuffix('.edit')}", {}, set(), None
-        self.is_alone = False
+        self.untold = 0
         path = old = None
         now = {}
         for line in text_of(f"{crate.folder}/edits/{name}").split("\n"):
@@ -99,7 +99,7 @@ class Edit:
 
     def is_beside(self, other):
         """Whether this edit can be tried at once with another."""
-        free = None not in self.functions | other.functions and not (self.is_alone or other.is_alone)
+        free = None not in self.functions | other.functions and max(self.untold, other.untold) < 2
         return free and not (self.functions & other.functions or self.lines.keys() & other.lines.keys())
 
 
@@ -240,7 +240,7 @@ class Trial:
             left = [it for it in left if it not in found]
             if not any(kind == "bad" for kind, _ in found.values()):
                 for edit in batch:
-                    edit.is_alone = edit not in found
+                    edit.untold += edit not in found
         passed = len(edits) - failed
         took = time.time() - self.began
         say(f"edits: {self.crate.name}: {passed} of {len(edits)} refused, {self.checks} checks, {took:.0f} s, {stands:.0f} of them as it stands")
