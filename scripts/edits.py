@@ -29,7 +29,8 @@ VERDICT = re.compile(r"^fn (\S+): (?:not proved|no proof|could not tell)(.*)$", 
 UNPROVED = re.compile(r"^note: (src/\S+?):(\d+):\d+: it is not proved", re.M)
 CALLEES = re.compile(r"[:;] it (?:calls .*, which (?:is|are) not proved|waits for the proof of .*)$")
 # A text that cannot be read: then no contract was tried.
-UNREAD = re.compile(r"^(?:\./)?(src/\S+?):(\d+):\d+: error: (?!`).*$|^.*\berror\[[\w-]+\].*$", re.M)
+MISREAD = r"is not in scope|has no field|is no name|operand is missing|expected the end|cannot continue"
+UNREAD = re.compile(rf"^(?:\./)?src/\S+?:\d+:\d+: error(?:\[|: (?!`)|: .*(?:{MISREAD})).*$", re.M)
 PLACE = re.compile(r"(src/[\w/]+\.rt):(\d+)")
 # A proof file that names what an edit took away: then a proof is refused, and no contract was tried.
 LACKS = re.compile(r"has no field|is not in scope|has no `|was not admitted")
@@ -200,7 +201,7 @@ class Trial:
     def judge(self, edits):
         """What a check with these edits tells of each: 'refused', 'proved', 'bad' or, where it tells nothing, None."""
         status, said = self.check(edits)
-        bad = [it[0] for it in UNREAD.finditer(said)]
+        bad = UNREAD.findall(said)
         if status == 1 and bad:
             at = {(path, int(line) - 1) for it in bad for path, line in PLACE.findall(it)}
             of = [it for it in edits if it.lines.keys() & at] or (edits if len(edits) == 1 else [])
