@@ -105,7 +105,7 @@ class Edit:
 
 
 class Function(NamedTuple):
-    """A function of a crate: how its name begins, the type that it is of, its name, and its file with its first and last line."""
+    """A function of a crate: its module, the type that it is of, its name, and its file with its first and last line."""
 
     module: str
     of: str
@@ -115,7 +115,8 @@ class Function(NamedTuple):
     last: int
 
     def is_named(self, name):
-        return name.startswith(self.module) and name.endswith("::" + self.name) and self.of in name
+        """Whether the prover calls it so. A method has the module of its type, wherever its `impl` stands."""
+        return name.endswith(f"::{self.of}::{self.name}") if self.of else name.startswith(self.module) and name.endswith("::" + self.name)
 
     def has(self, path, line):
         return self.path == path and self.first <= line <= self.last
