@@ -21,6 +21,3 @@ pub use names::{fair_name, names_of};
 pub use order::{OrderFault, Place};
 pub use setting::{queue_of, umax_of};
 pub use standing::Standing;
-
-#[cfg(test)]
-mod tests;
