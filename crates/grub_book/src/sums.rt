@@ -25,7 +25,7 @@ pub fn shifted(reading: Reading, r: u32, old: &Record, new: &Record) -> Reading
 }
 
 /// What a task adds to a sum: its bandwidth, where it counts.
-pub(crate) fn share(counts: bool, params: Params) -> u32
+fn share(counts: bool, params: Params) -> u32
     ensures value { result ≡ (if counts then bandwidth_of params else 0) }
     ensures most { result ≤ 2 ^ 20 }
 {

@@ -5,11 +5,7 @@
 mod chains;
 mod fault;
 mod node;
-#[cfg(test)]
-mod plain;
 mod scan;
-#[cfg(test)]
-mod tests;
 mod timer;
 mod used;
 mod wheel;

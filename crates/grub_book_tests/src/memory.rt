@@ -3,7 +3,7 @@
 ghost use Rattle.std.specs.Prelude.{◌≡◌, IfOk};
 
 use crate::tests::setup_of;
-use crate::{Book, BookFault, CheckFault, Event, Op, Reading, Reply, Setup, check};
+use grub_book::{Book, BookFault, CheckFault, Event, Op, Reading, Reply, Setup, check};
 use grub_bw::{Params, Queue};
 use std::alloc::{AllocError, Global};
 use std::test::Fail;

@@ -1,6 +1,6 @@
 //! The plain wheel, which searches all its timers for each answer. Tests compare `Wheel` with it.
 
-use crate::timer::Timer;
+use grub_wheel::Timer;
 use std::alloc::{AllocError, Global};
 
 /// The armed timers, in no order.

@@ -4,7 +4,7 @@ ghost use Rattle.std.specs.Prelude.{◌≡◌};
 
 use crate::plain::PlainBook;
 use crate::tests::setup_of;
-use crate::{Book, Op, Reply, Setup};
+use grub_book::{Book, Op, Reply, Setup};
 use std::process::Abort;
 use std::test::Fail;
 

@@ -3,8 +3,8 @@
 ghost use Rattle.std.specs.Prelude.{◌↔◌, ◌<◌, ◌≤◌, IsTrue, IfSome};
 ghost use Rattle.std.specs.Bool.{IsFalse};
 
-use super::*;
 use crate::plain::PlainWheel;
+use grub_wheel::{Timer, Wheel, WheelFault};
 use std::alloc::Global;
 use std::process::Abort;
 use std::test::Fail;
