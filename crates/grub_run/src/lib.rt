@@ -7,6 +7,3 @@ mod texts;
 
 pub use fault::GrubFault;
 pub use texts::run_texts;
-
-#[cfg(test)]
-mod tests;

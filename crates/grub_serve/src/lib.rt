@@ -10,6 +10,3 @@ pub use fault::{ProgramFault, STATUS_FILE, STATUS_SYSTEM, STATUS_USAGE};
 pub use reports::print_reports;
 pub use serving::{serve_files, serve_view};
 pub use views::print_view;
-
-#[cfg(test)]
-mod tests;

@@ -7,6 +7,3 @@ mod view;
 
 pub use fault::ShowFault;
 pub use view::{View, write_view};
-
-#[cfg(test)]
-mod tests;

@@ -10,7 +10,7 @@ use self::files::{
     DOCUMENTATION, DOCUMENTATION_REPORT, FAR_TIMER, FAR_TIMER_REPORT, FIRST, FIRST_REPORT, LEAVES,
     LEAVES_REPORT, NO_EVENTS, NO_EVENTS_REPORT, RETUNES, RETUNES_REPORT,
 };
-use crate::{GrubFault, run_texts};
+use grub_run::{GrubFault, run_texts};
 use grub_trace::{Kind, TraceFault};
 use std::alloc::{AllocError, Global};
 use std::sync::Wait;

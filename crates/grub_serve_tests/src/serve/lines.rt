@@ -1,8 +1,8 @@
 //! The line and the status of each fault of memory, of threads and of the writer.
 
-use crate::ProgramFault;
 use grub_plan::TextFault;
 use grub_run::GrubFault;
+use grub_serve::ProgramFault;
 use grub_trace::{Kind, TraceFault};
 use grub_workers::RunFault;
 use std::test::Fail;

@@ -2,7 +2,7 @@
 
 use super::files::{DOCUMENTATION, DOCUMENTATION_REPORT};
 use super::files_of;
-use crate::{GrubFault, run_texts};
+use grub_run::{GrubFault, run_texts};
 use std::alloc::Global;
 use std::io;
 use std::io::{ErrorKind, Write};

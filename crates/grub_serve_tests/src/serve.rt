@@ -2,8 +2,8 @@
 
 mod lines;
 
-use crate::{STATUS_FILE, STATUS_SYSTEM, serve_files};
 use grub_files::Source;
+use grub_serve::{STATUS_FILE, STATUS_SYSTEM, serve_files};
 use std::alloc::{AllocError, Global};
 use std::io::{ErrorKind, Read, Write};
 use std::rt::Files;

@@ -2,8 +2,8 @@
 
 use super::files::{DOCUMENTATION, DOCUMENTATION_REPORT, FIRST, FIRST_REPORT};
 use super::files_of;
-use crate::{GrubFault, run_texts};
 use grub_plan::TextFault;
+use grub_run::{GrubFault, run_texts};
 use grub_trace::TraceFault;
 use grub_workers::RunFault;
 use std::alloc::{AllocError, Global};

@@ -1,7 +1,7 @@
 //! Views from the bytes of files: with refused growths, and with a writer that fails.
 
-use crate::{ShowFault, View, write_view};
 use grub_run::GrubFault;
+use grub_show::{ShowFault, View, write_view};
 use grub_trace::TraceFault;
 use std::alloc::{AllocError, Global};
 use std::io;

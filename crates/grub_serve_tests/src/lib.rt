@@ -1,0 +1,9 @@
+//! Tests of grub_run, grub_show and grub_serve, which all read the same libraries.
+#![tactic(auto)]
+
+#[cfg(test)]
+mod run;
+#[cfg(test)]
+mod serve;
+#[cfg(test)]
+mod show;
