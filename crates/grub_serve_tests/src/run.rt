@@ -2,11 +2,10 @@
 
 ghost use Rattle.std.specs.Prelude.{◌≤◌};
 
-mod files;
 mod growths;
 mod writers;
 
-use self::files::{
+use crate::files::{
     DOCUMENTATION, DOCUMENTATION_REPORT, FAR_TIMER, FAR_TIMER_REPORT, FIRST, FIRST_REPORT, LEAVES,
     LEAVES_REPORT, NO_EVENTS, NO_EVENTS_REPORT, RETUNES, RETUNES_REPORT,
 };

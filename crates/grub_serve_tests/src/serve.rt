@@ -2,6 +2,7 @@
 
 mod lines;
 
+use crate::files::{FIRST, FIRST_REPORT};
 use grub_files::Source;
 use grub_serve::{STATUS_FILE, STATUS_SYSTEM, serve_files};
 use std::alloc::{AllocError, Global};
@@ -11,27 +12,6 @@ use std::sync::Wait;
 use std::test::Fail;
 use std::thread::Threads;
 use std::{fs, io};
-
-const FIRST: &str = "\
-grub 1
-queue 1048576 0
-task A 4 8
-at 0 join A
-at 0 block A
-at 0 read
-at 3 wake A
-at 3 read
-";
-
-const FIRST_REPORT: &str = "\
-runqueue 0
-at 0 join A: joined q=4 d=8
-at 0 block A: asleep
-at 0 read: running=0 this=524288
-at 3 wake A: woken q=4 d=11
-at 3 read: running=524288 this=524288
-close running=524288 this=524288
-";
 
 /// The status on the files of these names in the folder that the test runs in.
 fn served<R: Files + Threads + Wait + Sync, W: Write, E: Write>(

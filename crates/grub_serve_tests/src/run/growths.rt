@@ -1,7 +1,7 @@
 //! What a run answers where a growth is refused.
 
-use super::files::{DOCUMENTATION, DOCUMENTATION_REPORT, FIRST, FIRST_REPORT};
 use super::files_of;
+use crate::files::{DOCUMENTATION, DOCUMENTATION_REPORT, FIRST, FIRST_REPORT};
 use grub_plan::TextFault;
 use grub_run::{GrubFault, run_texts};
 use grub_trace::TraceFault;

@@ -1,7 +1,7 @@
 //! Writers that fail, and writers that take all.
 
-use super::files::{DOCUMENTATION, DOCUMENTATION_REPORT};
 use super::files_of;
+use crate::files::{DOCUMENTATION, DOCUMENTATION_REPORT};
 use grub_run::{GrubFault, run_texts};
 use std::alloc::Global;
 use std::io;
