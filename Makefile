@@ -12,14 +12,14 @@ WORDS ?= tasks
 
 # Proves both programs with all that they stand on, and builds them. What is proved is told crate by crate.
 build:
-	@scripts/build.sh
+	@python3 scripts/build.py
 
 # grubrun alone, and grubtrace alone.
 runner:
-	@scripts/build.sh grubrun
+	@python3 scripts/build.py grubrun
 
 tracer:
-	@scripts/build.sh grubtrace
+	@python3 scripts/build.py grubtrace
 
 # Plays the event files FILES, one runqueue each, and prints their reports.
 run: runner

@@ -1,9 +1,9 @@
 #!/usr/bin/env python3
 """Tries the must-fail edits in crates/NAME/edits: the prover must refuse each in a function that it turns.
 
-edits.py [--look] [NAME | NAME/EDIT]..: those of these crates, or these edits, or all. Each crate is checked over the libraries
-that `rt ci` or scripts/build.sh left in crates/*/out, first as it stands and then with as many edits at once as turn different
-functions: a function is proved from the contracts of those that it calls, so what one edit turns takes no proof from another.
+edits.py [--look] [NAME | NAME/EDIT]..: those of these crates, or these edits, or all. Each crate is checked over the libraries that
+`rt ci` or scripts/build.py left, first as it stands and then with as many edits at once as turn different functions: a function
+is proved from the contracts of those that it calls, so what one edit turns takes no proof from another.
 An edit for which two such checks tell nothing is tried alone. With --look none is tried: it says which cannot be applied. The last line
 is 'N passed, M failed'.
 """
@@ -17,7 +17,8 @@ import time
 from concurrent.futures import ThreadPoolExecutor
 from typing import NamedTuple
 
-ROOT = os.path.dirname(os.path.dirname(os.path.abspath(__file__)))
+from crates import ROOT, crates, kit_folder, lanes, text_of
+
 PARTS = ("src", "specs", "proofs")
 # A check takes up to so many kB of memory, and no check that goes well so many seconds.
 ROOM, LONGEST = 2_500_000, 1800
@@ -36,37 +37,23 @@ PLACE = re.compile(r"(src/[\w/]+\.rt):(\d+)")
 LACKS = re.compile(r"has no field|is not in scope|has no `|was not admitted")
 
 
-def text_of(path):
-    with open(path, encoding="utf-8") as it:
-        return it.read()
-
-
 def say(text):
     print(text, flush=True)
 
 
-class Crate:
-    def __init__(self, name, uses, crates):
-        self.name, self.folder, self.uses = name, f"{ROOT}/crates/{name}", uses
-        self.below = list(dict.fromkeys(lib for use in uses if use in crates for lib in [*crates[use].below, use]))
-        self.of_kit = ["std", *[it for it in uses if it not in crates]]
+def edits_of(crate):
+    folder = f"{crate.folder}/edits"
+    names = sorted(os.listdir(folder)) if os.path.isdir(folder) else []
+    return [Edit(crate, it) for it in names]
 
-    def edits(self):
-        folder = f"{self.folder}/edits"
-        names = sorted(os.listdir(folder)) if os.path.isdir(folder) else []
-        return [Edit(self, it) for it in names]
 
-    def words(self, kit):
-        top = "main" if os.path.isfile(f"{self.folder}/src/main.rt") else "lib"
-        words = ["check", "--crate-name", self.name, f"src/{top}.rt", "-L", f"dependency={kit}/rlibs"]
-        for name in self.of_kit:
-            words += ["--extern", f"{name}={kit}/rlibs/{name}.rlib"]
-        for name in self.below:
-            at = f"{ROOT}/crates/{name}/out/rlib"
-            words += ["-L", f"dependency={at}"]
-            words += ["--extern", f"{name}={at}/{name}.rlib"] if name in self.uses else []
-        words += ["--antt-project", f"{kit}/rattle/logic/antt-project.json", "--logic-built", f"{kit}/logic_built"]
-        return [*words, "--jobs", "1"]
+def libraries_for(names):
+    """Where the libraries of these crates lie, all as `rt ci` left them or all as scripts/build.py did, or None."""
+    for folder in (f"{ROOT}/crates/%s/out/rlib", f"{ROOT}/out/build/rlib"):
+        found = {it: folder.replace("%s", it) for it in names}
+        if all(os.path.isdir(f"{at}/{it}.rlib") for it, at in found.items()):
+            return found
+    return None
 
 
 class Edit:
@@ -159,8 +146,8 @@ def is_refused(functions, said):
 class Trial:
     """The checks of one crate."""
 
-    def __init__(self, crate, kit, room):
-        self.crate, self.kit, self.room, self.checks, self.began = crate, kit, f"{room}/{crate.name}", 0, time.time()
+    def __init__(self, crate, kit, libraries, room):
+        self.crate, self.kit, self.libraries, self.room, self.checks, self.began = crate, kit, libraries, f"{room}/{crate.name}", 0, time.time()
 
     def check(self, edits):
         """Checks a copy of the crate with these edits over what was proved of it as it stands."""
@@ -183,7 +170,7 @@ class Trial:
             shutil.copytree(f"{self.room}/seed", kept, copy_function=link)
         else:
             self.plant_seed()
-        words = [f"{self.kit}/bin/rattle", *self.crate.words(self.kit), "--incremental", kept if edits else f"{self.room}/seed"]
+        words = [f"{self.kit}/bin/rattle", "check", *self.crate.words(self.kit, self.libraries), "--jobs", "1", "--incremental", kept if edits else f"{self.room}/seed"]
         how = {"cwd": tree, "stdin": subprocess.DEVNULL, "stdout": subprocess.PIPE, "stderr": subprocess.STDOUT, "errors": "replace"}
         try:
             ran = subprocess.run(words, timeout=LONGEST, **how)
@@ -257,31 +244,9 @@ def link(one, other):
     return shutil.copy2(one, other)
 
 
-def crates():
-    found = {}
-    lines = [it.split("#")[0].split(":") for it in text_of(f"{ROOT}/crates.txt").split("\n")]
-    uses = {it[0].split()[0]: it[1].split() for it in lines if len(it) == 2}
-
-    def add(name):
-        if name not in found:
-            for it in uses[name]:
-                if it in uses:
-                    add(it)
-            found[name] = Crate(name, uses[name], {it: found[it] for it in uses if it in found})
-
-    for name in uses:
-        add(name)
-    return found
-
-
-def lanes():
-    free = int(re.search(r"MemAvailable:\s+(\d+)", text_of("/proc/meminfo"))[1])
-    return max(1, min(len(os.sched_getaffinity(0)), free // ROOM))
-
-
 def chosen(words, known):
     """The edits that these words name, or all, by their crates."""
-    of = {name: crate.edits() for name, crate in known.items()}
+    of = {name: edits_of(crate) for name, crate in known.items()}
     lacking = set(words) - of.keys() - {it.label for edits in of.values() for it in edits}
     if lacking:
         sys.exit(f"edits: there is no {' and no '.join(sorted(lacking))}\n0 passed, 1 failed")
@@ -300,16 +265,15 @@ def look(of):
 
 def try_all(of, known):
     """Tries edits, crates side by side, those that take longest first."""
-    unbuilt = sorted({low for it in of for low in known[it].below if not os.path.isdir(f"{ROOT}/crates/{low}/out/rlib/{low}.rlib")})
-    if unbuilt:
-        say(f"edits: {' '.join(unbuilt)} must be built first, by rt ci or scripts/build.sh")
+    libraries = libraries_for({low for it in of for low in known[it].below})
+    if libraries is None:
+        say("edits: the libraries must be built first, by rt ci or scripts/build.py")
         return 0, 1
-    doc = subprocess.run(["rt", "doc"], stdout=subprocess.PIPE, text=True, check=True).stdout
-    kit = os.path.dirname(os.path.realpath(doc.strip()))
+    kit = kit_folder()
     order = sorted(of, key=lambda it: -len(of[it]) * (1 + len(known[it].below)))
     os.makedirs(f"{ROOT}/out", exist_ok=True)
-    with tempfile.TemporaryDirectory(prefix="edits-", dir=f"{ROOT}/out") as room, ThreadPoolExecutor(lanes()) as pool:
-        told = list(pool.map(lambda it: Trial(known[it], kit, room).run(of[it]), order))
+    with tempfile.TemporaryDirectory(prefix="edits-", dir=f"{ROOT}/out") as room, ThreadPoolExecutor(lanes(ROOM)) as pool:
+        told = list(pool.map(lambda it: Trial(known[it], kit, libraries, room).run(of[it]), order))
     return tuple(sum(it) for it in zip((0, 0), *told))
 
 

@@ -1,0 +1,187 @@
+#!/usr/bin/env python3
+"""Proves grubrun and grubtrace with the crates that they stand on, and builds them into crates/PROGRAM/out.
+
+build.py [PROGRAM]..: those named, or both. A crate is proved once those below it are, and crates that do not stand on each other side by
+side: as many as there are processors, and 2.5 GB of free memory for each. It says on standard error what it proved and how long that took;
+all else is in out/build/CRATE.log, which is named where a proof fails. A crate that reads what it read before is not proved again.
+
+It calls the kit's `rattle` and not `rt`, which lets no second run into a crate or into one below it, and whose libraries hold their proofs,
+for every crate above to read. These hold their statements alone, as in the gate, and lie in out/build, apart from what `rt check` keeps.
+"""
+import fcntl
+import hashlib
+import os
+import shutil
+import signal
+import subprocess
+import sys
+import time
+
+from crates import ROOT, crates, kit_folder, lanes, text_of
+
+BUILD = f"{ROOT}/out/build"
+LIBRARIES = f"{BUILD}/rlib"
+ROOM = 2_500_000
+
+
+def say(text):
+    print(text, file=sys.stderr, flush=True)
+
+
+def files_below(folder):
+    """The files below a folder, or the file at this path."""
+    if os.path.isfile(folder):
+        return [folder]
+    return sorted(f"{at}/{name}" for at, _, names in os.walk(folder) for name in names)
+
+
+def sum_of(*folders):
+    """One sum of all files below these folders, with their names."""
+    total = hashlib.sha256()
+    for path in (it for folder in folders for it in files_below(folder)):
+        with open(path, "rb") as it:
+            total.update(f"{os.path.relpath(path, ROOT)}\n".encode() + hashlib.sha256(it.read()).digest())
+    return total.hexdigest()
+
+
+class Work:
+    """The proof of one crate: what it reads, what it makes, and the process that is at it."""
+
+    def __init__(self, crate, kit):
+        self.crate, self.kit, self.state, self.looked = crate, kit, "waits", False
+        self.made = f"{LIBRARIES}/{crate.name}.rlib" if not crate.is_program else f"{crate.folder}/out/{crate.name}"
+        self.log, self.noted = f"{BUILD}/{crate.name}.log", f"{BUILD}/{crate.name}.made"
+        own = [it for part in ("src", "specs", "proofs") for it in files_below(f"{crate.folder}/{part}")]
+        self.lines = sum(text_of(it).count("\n") for it in own)
+
+    def reads(self):
+        """A sum of all that its proof reads: its text, the libraries below it, and the kit."""
+        own = sum_of(*[f"{self.crate.folder}/{it}" for it in ("src", "specs", "proofs")])
+        low = [f"{BUILD}/{it}.made" for it in self.crate.below]
+        low = [text_of(it).split()[-1] if os.path.isfile(it) else "" for it in low]
+        read = [own, " ".join(self.crate.uses), *low, text_of(f"{self.kit}/KIT-ID")]
+        return hashlib.sha256("\n".join(read).encode()).hexdigest()
+
+    def is_made(self):
+        """Whether what it makes is there, and was made from what it would read now."""
+        self.looked = True
+        if not os.path.isfile(self.noted) or not os.path.exists(self.made):
+            return False
+        return text_of(self.noted) == f"{self.reads()} {sum_of(self.made)}"
+
+    def begin(self, share, jobs):
+        """Starts the proof, and of a program also the build, on this share of the processors."""
+        self.state, self.share, self.began, self.read = "runs", share, time.time(), self.reads()
+        words = [*self.crate.words(self.kit, dict.fromkeys(self.crate.below, LIBRARIES)), "--jobs", str(jobs)]
+        if self.crate.is_program:
+            words += ["--toolchain", f"{self.kit}/toolchain", "--backend", "llvm", "-o", f"{BUILD}/{self.crate.name}.o"]
+        else:
+            words += ["--statements", "-o", self.made]
+        how = {"cwd": self.crate.folder, "stdin": subprocess.DEVNULL, "stderr": subprocess.STDOUT, "start_new_session": True}
+        with open(self.log, "w", encoding="utf-8") as out:
+            self.process = subprocess.Popen([f"{self.kit}/bin/rattle", "build", *words], stdout=out, **how)
+
+    def link(self):
+        os.makedirs(os.path.dirname(self.made), exist_ok=True)
+        words = ["--target", "x86_64-unknown-linux-gnu", "--toolchain", f"{self.kit}/toolchain", "-o", self.made]
+        words += [f"{BUILD}/{self.crate.name}.o", f"{self.kit}/c/libos_c.a", f"{self.kit}/c/liblibc_c.a"]
+        with open(self.log, "a", encoding="utf-8") as out:
+            return subprocess.run([f"{self.kit}/bin/rattle-link", *words], stdout=out, stderr=subprocess.STDOUT, check=False).returncode
+
+    def end(self):
+        """Tells how the proof ended, and keeps what was made."""
+        took = f"{time.time() - self.began:.0f} s"
+        proved = self.process.returncode == 0 and "\nlogic=proved " in f"\n{text_of(self.log)}"
+        if not proved or self.crate.is_program and self.link():
+            self.state = "failed"
+            said = "\n".join(text_of(self.log).split("\n")[-13:])
+            say(f"build: {self.crate.name} was not proved, after {took}; the last lines of {os.path.relpath(self.log, ROOT)}:\n{said}")
+        elif self.read != self.reads():
+            self.state = "failed"
+            say(f"build: a file of {self.crate.name} was changed meanwhile: start it again")
+        else:
+            self.state = "made"
+            with open(self.noted, "w", encoding="utf-8") as it:
+                it.write(f"{self.read} {sum_of(self.made)}")
+            say(f"proved {self.crate.name} in {took}")
+
+    def stop(self):
+        if self.state == "runs" and self.process.poll() is None:
+            os.killpg(self.process.pid, signal.SIGTERM)
+
+
+def in_order(works):
+    """Those that most has to be proved after, first: a crate's lines, and those of the longest way from it to a program."""
+    behind = dict.fromkeys(works, 0)
+    for name in sorted(works, key=lambda it: -len(works[it].crate.below)):
+        for low in works[name].crate.below:
+            behind[low] = max(behind[low], behind[name] + works[name].lines)
+    return sorted(works, key=lambda it: -behind[it] - works[it].lines)
+
+
+def begin_more(works, order, most):
+    """Starts what can be proved now, and says whether something was found that need not be. The free processors are shared out; the first in order
+    of all that is left, for which most others wait, gets a job for each processor."""
+    left = [works[it] for it in order if works[it].state in ("waits", "runs")]
+    ready = [it for it in left if it.state == "waits" and all(works[low].state == "made" for low in it.crate.below)]
+    made = [it for it in ready if not it.looked and it.is_made()]
+    for work in made:
+        work.state = "made"
+    free = most - sum(it.share for it in left if it.state == "runs")
+    for at, work in enumerate([] if made else ready):
+        share = -(-free // (len(ready) - at))
+        if share > 0:
+            work.begin(share, most if work is left[0] else share)
+            free -= share
+    return bool(made)
+
+
+def build(works, most):
+    """Proves all, or up to the first that fails."""
+    order, told = in_order(works), False
+    try:
+        while any(it.state in ("waits", "runs") for it in works.values()):
+            failed = any(it.state == "failed" for it in works.values())
+            if not failed and begin_more(works, order, most):
+                continue
+            if not told and any(it.state == "runs" for it in works.values()):
+                told = True
+                say(f"build: proving {len(works)} crates, {most} at a time")
+            running = [it for it in works.values() if it.state == "runs"]
+            if not running:
+                break
+            time.sleep(0.2)
+            for work in running:
+                if work.process.poll() is not None:
+                    work.end()
+    finally:
+        for work in works.values():
+            work.stop()
+    return all(it.state == "made" for it in works.values())
+
+
+def main(programs):
+    known = crates()
+    programs = programs or ["grubrun", "grubtrace"]
+    for name in programs:
+        if name not in known or not known[name].is_program:
+            sys.exit(f"build: there is no program {name}")
+    if not shutil.which("rt"):
+        sys.exit("build: there is no rt, the command of the kit")
+    os.makedirs(LIBRARIES, exist_ok=True)
+    with open(f"{BUILD}/lock", "w", encoding="utf-8") as lock:
+        try:
+            fcntl.flock(lock, fcntl.LOCK_EX | fcntl.LOCK_NB)
+        except BlockingIOError:
+            say("build: waiting for another build")
+            fcntl.flock(lock, fcntl.LOCK_EX)
+        kit, most = kit_folder(), lanes(ROOM)
+        names = list(dict.fromkeys(low for it in programs for low in [*known[it].below, it]))
+        works = {it: Work(known[it], kit) for it in names}
+        return 0 if build(works, most) else 1
+
+
+if __name__ == "__main__":
+    for number in (signal.SIGTERM, signal.SIGHUP):
+        signal.signal(number, lambda *_: sys.exit(130))
+    sys.exit(main(sys.argv[1:]))

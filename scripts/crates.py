@@ -1,0 +1,61 @@
+"""The crates that crates.txt lists, and the words by which the kit's rattle reads one."""
+import os
+import subprocess
+
+ROOT = os.path.dirname(os.path.dirname(os.path.abspath(__file__)))
+
+
+def text_of(path):
+    with open(path, encoding="utf-8") as it:
+        return it.read()
+
+
+class Crate:
+    """A crate, its folder, what it uses, and all crates of the repository below it, each after those that it uses."""
+
+    def __init__(self, name, uses, crates):
+        self.name, self.folder, self.uses = name, f"{ROOT}/crates/{name}", uses
+        self.below = list(dict.fromkeys(low for use in uses if use in crates for low in [*crates[use].below, use]))
+        self.of_kit = ["std", *[it for it in uses if it not in crates]]
+        self.is_program = os.path.isfile(f"{self.folder}/src/main.rt")
+
+    def words(self, kit, libraries):
+        """The words for a check or a build, where the libraries below, by their names, lie in these folders."""
+        words = ["--crate-name", self.name, f"src/{'main' if self.is_program else 'lib'}.rt", "-L", f"dependency={kit}/rlibs"]
+        for name in self.of_kit:
+            words += ["--extern", f"{name}={kit}/rlibs/{name}.rlib"]
+        for folder in dict.fromkeys(libraries[name] for name in self.below):
+            words += ["-L", f"dependency={folder}"]
+        for name in self.below:
+            words += ["--extern", f"{name}={libraries[name]}/{name}.rlib"] if name in self.uses else []
+        return [*words, "--antt-project", f"{kit}/rattle/logic/antt-project.json", "--logic-built", f"{kit}/logic_built"]
+
+
+def crates():
+    """All crates, by their names."""
+    found = {}
+    lines = [it.split("#")[0].split(":") for it in text_of(f"{ROOT}/crates.txt").split("\n")]
+    uses = {it[0].split()[0]: it[1].split() for it in lines if len(it) == 2}
+
+    def add(name):
+        if name not in found:
+            for it in uses[name]:
+                if it in uses:
+                    add(it)
+            found[name] = Crate(name, uses[name], {it: found[it] for it in uses if it in found})
+
+    for name in uses:
+        add(name)
+    return found
+
+
+def kit_folder():
+    """The folder of the kit, whose first page `rt doc` names."""
+    page = subprocess.run(["rt", "doc"], stdout=subprocess.PIPE, text=True, check=True).stdout
+    return os.path.dirname(os.path.realpath(page.strip()))
+
+
+def lanes(room):
+    """How many jobs may run at once, where each takes so many kB of memory."""
+    free = next(int(it.split()[1]) for it in text_of("/proc/meminfo").split("\n") if it.startswith("MemAvailable:"))
+    return max(1, min(len(os.sched_getaffinity(0)), free // room))
