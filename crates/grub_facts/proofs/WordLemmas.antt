@@ -6,6 +6,7 @@ use Rattle.std.specs.List.{slice_split, onto_first, position, position_or_len, s
 use Rattle.std.proofs.lemmas.List.Splits.{slice_split_first}
 use Rattle.grub_facts.specs.Words.{is_space, place_from}
 use Rattle.std.proofs.lemmas.Bool.{ltb-true, ltb-false}
+use Rattle.std.proofs.lemmas.Option.{cond_some}
 
 -- a list has a first part
 pub has_part : {X : Type 0} (p : X → Bool) (xs : List X) → (y : List X) × (ys : List (List X)) × (slice_split p xs ≡ y ∷ ys)
@@ -27,47 +28,34 @@ none_passes {X} p (x ∷ xs) h =
     ] in
     go (p x) refl
 
-pub rest_is : (xs : List ℕ) (k : ℕ) → take (length xs - k) (drop k xs) ≡ drop k xs
-rest_is xs k = take_rest xs k
+-- nowhere, and at the first place, an element passes
+no_place : (b : Bool) (i : ℕ) → cond b (Some i) None ≡ None → b ≡ false
+no_place true i e = absurd cc
+no_place false i e = refl
 
--- the parts, where the first element that passes is known
-pub split_none : (p : ℕ → Bool) (xs : List ℕ) → position p xs ≡ None → slice_split p xs ≡ xs ∷ []
-split_none p xs e = none_passes p xs (ltb-false _ _ (not_some (ltb (position_or_len p xs) (length xs)) (position_or_len p xs) e))
-  where
-    not_some : (b : Bool) (i : ℕ) → cond b (Some i) None ≡ None → b ≡ false
-    not_some true i e = absurd cc
-    not_some false i e = refl
+pub none_at : {X : Type 0} (p : X → Bool) (xs : List X) → position p xs ≡ None → length xs ≡ position_or_len p xs
+none_at p xs e =
+    let h = ltb-false _ _ (no_place (ltb (position_or_len p xs) (length xs)) (position_or_len p xs) e) in
+    let k : position_or_len p xs ≤ length xs = prefix_len-le-length (λ x. not (p x)) xs in
+    omega (arith, h)
 
-pub split_some : (p : ℕ → Bool) (xs : List ℕ) (i : ℕ) → position p xs ≡ Some i → slice_split p xs ≡ take i xs ∷ slice_split p (take (length xs - (i + 1)) (drop (i + 1) xs))
-split_some p xs i e =
-    let k = some_is (ltb (position_or_len p xs) (length xs)) (position_or_len p xs) i e in
-    let lt : position_or_len p xs < length xs = ltb-true _ _ k.0 in
-    let first : slice_split p xs ≡ take i xs ∷ slice_split p (drop (i + 1) xs) = subst (λ (j : ℕ). slice_split p xs ≡ take j xs ∷ slice_split p (drop (j + 1) xs)) k.1 (slice_split_first p xs 0 lt) in
-    rw (rest_is xs (i + 1)) first
-  where
-    some_is : (b : Bool) (i j : ℕ) → cond b (Some i) None ≡ Some j → (b ≡ true) × (i ≡ j)
-    some_is true i j e = (refl, cc)
-    some_is false i j e = absurd cc
-
--- where nothing passes, all of a text does not
-pub none_len : (p : ℕ → Bool) (xs : List ℕ) → position p xs ≡ None → length xs ≤ position_or_len p xs
-none_len p xs e = ltb-false _ _ (not_some (ltb (position_or_len p xs) (length xs)) (position_or_len p xs) e)
-  where
-    not_some : (b : Bool) (i : ℕ) → cond b (Some i) None ≡ None → b ≡ false
-    not_some true i e = absurd cc
-    not_some false i e = refl
-
--- the first place that passes
-pub some_len : (p : ℕ → Bool) (xs : List ℕ) (i : ℕ) → position p xs ≡ Some i → (i < length xs) × (i ≡ position_or_len p xs)
-some_len p xs i e =
-    let k = some_is (ltb (position_or_len p xs) (length xs)) (position_or_len p xs) i e in
+pub some_at : {X : Type 0} (p : X → Bool) (xs : List X) (i : ℕ) → position p xs ≡ Some i → (i < length xs) × (i ≡ position_or_len p xs)
+some_at p xs i e =
+    let k = cond_some (ltb (position_or_len p xs) (length xs)) (position_or_len p xs) i e in
     let lt : position_or_len p xs < length xs = ltb-true _ _ k.0 in
     let same : position_or_len p xs ≡ i = k.1 in
     (omega arith, sym same)
-  where
-    some_is : (b : Bool) (i j : ℕ) → cond b (Some i) None ≡ Some j → (b ≡ true) × (i ≡ j)
-    some_is true i j e = (refl, cc)
-    some_is false i j e = absurd cc
+
+-- the parts, where the first element that passes is known
+pub split_none : (p : ℕ → Bool) (xs : List ℕ) → position p xs ≡ None → slice_split p xs ≡ xs ∷ []
+split_none p xs e = none_passes p xs (let h = none_at p xs e in omega (arith, h))
+
+pub split_some : (p : ℕ → Bool) (xs : List ℕ) (i : ℕ) → position p xs ≡ Some i → slice_split p xs ≡ take i xs ∷ slice_split p (take (length xs - (i + 1)) (drop (i + 1) xs))
+split_some p xs i e =
+    let at = some_at p xs i e in
+    let first : slice_split p xs ≡ take i xs ∷ slice_split p (drop (i + 1) xs) =
+    subst (λ (j : ℕ). slice_split p xs ≡ take j xs ∷ slice_split p (drop (j + 1) xs)) (sym at.1) (slice_split_first p xs 0 (subst (λ (j : ℕ). j < length xs) at.1 at.0)) in
+    rw (take_rest xs (i + 1)) first
 
 -- no space, no key
 pub place_none : (n : ℕ) (key xs : List ℕ) → length xs ≤ position_or_len is_space xs → place_from n key xs ≡ None
@@ -97,14 +85,14 @@ place_some n key (x ∷ xs) i m k at lt em ek =
 -- one step of a search for a key
 pub place_step : (n : ℕ) (key xs : List ℕ) (i : ℕ) (b : Bool) → position is_space xs ≡ Some i → b ≡ starts_with nat_eq (take (length xs - (i + 1)) (drop (i + 1) xs)) key → place_from n key xs ≡ cond b (Some (n + i)) (place_from (n + (i + 1)) key (take (length xs - (i + 1)) (drop (i + 1) xs)))
 place_step n key xs i b at is =
-    let here = some_len is_space xs i at in
+    let here = some_at is_space xs i at in
     let same : suc i ≡ i + 1 = omega arith in
     let step : place_from n key xs ≡ cond (starts_with nat_eq (drop (i + 1) xs) key) (Some (n + i)) (place_from (n + (i + 1)) key (drop (i + 1) xs)) =
     subst (λ (j : ℕ). place_from n key xs ≡ cond (starts_with nat_eq (drop j xs) key) (Some (n + i)) (place_from (n + (i + 1)) key (drop j xs))) same (place_some n key xs i (n + i) (n + (i + 1)) here.1 here.0 refl (omega arith)) in
-    rw (is, rest_is xs (i + 1)) step
+    rw (is, take_rest xs (i + 1)) step
 
 pub left_len : (xs : List ℕ) (k : ℕ) → length (take (length xs - k) (drop k xs)) ≡ length xs - k
-left_len xs k = ap length (rest_is xs k) ∙ length-drop k xs
+left_len xs k = ap length (take_rest xs k) ∙ length-drop k xs
 
 -- what is left of a text behind its first i bytes and one more
 pub left_sum : (n i t : ℕ) (xs : List ℕ) → i < length xs → n + length xs ≡ t → n + (i + 1) + length (take (length xs - (i + 1)) (drop (i + 1) xs)) ≡ t
@@ -113,24 +101,3 @@ left_sum n i t xs lt all = (let k = left_len xs (i + 1) in omega arith)
 pub none_of : (o : Option ℕ) → ((x : ℕ) → o ≡ Some x → ⊥) → o ≡ None
 none_of None h = refl
 none_of (Some x) h = absurd (h x refl)
-
--- the same for any list: nowhere, and somewhere
-
-pub none_at : {X : Type 0} (p : X → Bool) (xs : List X) → position p xs ≡ None → length xs ≡ position_or_len p xs
-none_at p xs e = (let h : length xs ≤ position_or_len p xs = ltb-false _ _ (not_some (ltb (position_or_len p xs) (length xs)) (position_or_len p xs) e) in
-    let k : position_or_len p xs ≤ length xs = prefix_len-le-length (λ x. not (p x)) xs in omega arith)
-  where
-    not_some : (b : Bool) (i : ℕ) → cond b (Some i) None ≡ None → b ≡ false
-    not_some true i e = absurd cc
-    not_some false i e = refl
-
-pub some_at : {X : Type 0} (p : X → Bool) (xs : List X) (i : ℕ) → position p xs ≡ Some i → (i < length xs) × (i ≡ position_or_len p xs)
-some_at p xs i e =
-    let k = some_is (ltb (position_or_len p xs) (length xs)) (position_or_len p xs) i e in
-    let lt : position_or_len p xs < length xs = ltb-true _ _ k.0 in
-    let same : position_or_len p xs ≡ i = k.1 in
-    (omega arith, sym same)
-  where
-    some_is : (b : Bool) (i j : ℕ) → cond b (Some i) None ≡ Some j → (b ≡ true) × (i ≡ j)
-    some_is true i j e = (refl, cc)
-    some_is false i j e = absurd cc

@@ -48,20 +48,16 @@ shown_by comm_key pid_key fields =
 abbrev pub task_of : List ℕ → Option ShownWith
 task_of fields = shown_by (codes "comm=") (codes "pid=") fields
 
-abbrev pub woken_of : Shown (List ℕ) → Option Bool → Option ℕ → Option (Event (List ℕ))
-woken_of task deadline cpu = option_and_then (λ d. option_map (λ c. Woken task d c) cpu) deadline
-
 abbrev pub woken_with : Shown (List ℕ) → List ℕ → Option (Event (List ℕ))
-woken_with task fields = woken_of task (deadline_field (codes "prio=") fields) (cpu_field (codes "target_cpu=") fields)
+woken_with task fields =
+    option_and_then (λ d. option_map (λ c. Woken task d c) (cpu_field (codes "target_cpu=") fields)) (deadline_field (codes "prio=") fields)
 
 abbrev pub woken : List ℕ → Option (Event (List ℕ))
 woken fields = option_and_then (λ s. woken_with s.0 s.1) (task_of fields)
 
-abbrev pub migrated_of : Shown (List ℕ) → Option Bool → Option ℕ → Option (Event (List ℕ))
-migrated_of task deadline cpu = option_and_then (λ d. option_map (λ c. Migrated task d c) cpu) deadline
-
 abbrev pub migrated_with : Shown (List ℕ) → List ℕ → Option (Event (List ℕ))
-migrated_with task fields = migrated_of task (deadline_field (codes "prio=") fields) (cpu_field (codes "dest_cpu=") fields)
+migrated_with task fields =
+    option_and_then (λ d. option_map (λ c. Migrated task d c) (cpu_field (codes "dest_cpu=") fields)) (deadline_field (codes "prio=") fields)
 
 abbrev pub migrated : List ℕ → Option (Event (List ℕ))
 migrated fields = option_and_then (λ s. migrated_with s.0 s.1) (task_of fields)
@@ -69,12 +65,9 @@ migrated fields = option_and_then (λ s. migrated_with s.0 s.1) (task_of fields)
 abbrev pub ran : List ℕ → Option (Event (List ℕ))
 ran fields = option_and_then (λ s. option_map (λ n. Ran s.0 n) (number_field (codes "runtime=") s.1)) (task_of fields)
 
-abbrev pub switched_of : Shown (List ℕ) → Option Bool → Option (List ℕ) → Option (Event (List ℕ))
-switched_of task deadline state = option_and_then (λ d. option_map (λ t. Switched task d t) state) deadline
-
 abbrev pub switched_with : Shown (List ℕ) → List ℕ → Option (Event (List ℕ))
 switched_with task fields =
-    switched_of task (deadline_field (codes "prev_prio=") fields) (value_of (codes "prev_state=") fields)
+    option_and_then (λ d. option_map (λ t. Switched task d t) (value_of (codes "prev_state=") fields)) (deadline_field (codes "prev_prio=") fields)
 
 abbrev pub switched : List ℕ → Option (Event (List ℕ))
 switched fields = option_and_then (λ s. switched_with s.0 s.1) (shown_by (codes "prev_comm=") (codes "prev_pid=") fields)

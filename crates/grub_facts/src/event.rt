@@ -1,7 +1,7 @@
 //! What the events of a trace say.
 
 ghost use Rattle.std.specs.Prelude.{◌≡◌, ◌≤◌, length, option_map};
-ghost use Rattle.grub_facts.specs.Events.{armed, bare, cancelled, event_of, expired, is_zero_lag, migrated, migrated_of, migrated_with, ran, said_of, shown_at, shown_by, started, switched, switched_of, switched_with, verb_named, verb_of, woken, woken_of, woken_with};
+ghost use Rattle.grub_facts.specs.Events.{armed, bare, cancelled, event_of, expired, is_zero_lag, migrated, migrated_with, ran, said_of, shown_at, shown_by, started, switched, switched_with, verb_named, verb_of, woken, woken_with};
 ghost use Rattle.grub_facts.specs.inside.Events.{event_text, said_text, shown_text, shown_with_text};
 ghost use Rattle.grub_facts.specs.Words.{text_of};
 ghost use Rattle.grub_facts.specs.inside.OpeningFits.{StartsWithin};
@@ -157,31 +157,16 @@ fn shown_by<'a>(
     shown_at(pid_key, text, place)
 }
 
-fn woken_of<'a>(
-    task: Shown<&'a [u8]>,
-    is_deadline: Option<bool>,
-    cpu: Option<u32>,
-) -> Option<Event<&'a [u8]>>
-    ensures { option_map event_text result ≡ woken_of (shown_text task.entry) is_deadline cpu }
-{
-    match (is_deadline, cpu) {
-        (Some(is_deadline), Some(cpu)) => Some(Event::Woken {
-            task,
-            is_deadline,
-            cpu,
-        }),
-        _ => None,
-    }
-}
-
 fn woken_with<'a>(task: Shown<&'a [u8]>, rest: &'a [u8]) -> Option<Event<&'a [u8]>>
     ensures { option_map event_text result ≡ woken_with (shown_text task.entry) rest.now }
 {
-    woken_of(
+    let is_deadline = deadline_field(b"prio=", rest)?;
+    let cpu = cpu_field(b"target_cpu=", rest)?;
+    Some(Event::Woken {
         task,
-        deadline_field(b"prio=", rest),
-        cpu_field(b"target_cpu=", rest),
-    )
+        is_deadline,
+        cpu,
+    })
 }
 
 fn woken(fields: &[u8]) -> Option<Event<&[u8]>>
@@ -191,31 +176,16 @@ fn woken(fields: &[u8]) -> Option<Event<&[u8]>>
     woken_with(task, rest)
 }
 
-fn migrated_of<'a>(
-    task: Shown<&'a [u8]>,
-    is_deadline: Option<bool>,
-    cpu: Option<u32>,
-) -> Option<Event<&'a [u8]>>
-    ensures { option_map event_text result ≡ migrated_of (shown_text task.entry) is_deadline cpu }
-{
-    match (is_deadline, cpu) {
-        (Some(is_deadline), Some(cpu)) => Some(Event::Migrated {
-            task,
-            is_deadline,
-            cpu,
-        }),
-        _ => None,
-    }
-}
-
 fn migrated_with<'a>(task: Shown<&'a [u8]>, rest: &'a [u8]) -> Option<Event<&'a [u8]>>
     ensures { option_map event_text result ≡ migrated_with (shown_text task.entry) rest.now }
 {
-    migrated_of(
+    let is_deadline = deadline_field(b"prio=", rest)?;
+    let cpu = cpu_field(b"dest_cpu=", rest)?;
+    Some(Event::Migrated {
         task,
-        deadline_field(b"prio=", rest),
-        cpu_field(b"dest_cpu=", rest),
-    )
+        is_deadline,
+        cpu,
+    })
 }
 
 fn migrated(fields: &[u8]) -> Option<Event<&[u8]>>
@@ -233,31 +203,16 @@ fn ran(fields: &[u8]) -> Option<Event<&[u8]>>
     Some(Event::Ran { task, nanos })
 }
 
-fn switched_of<'a>(
-    task: Shown<&'a [u8]>,
-    is_deadline: Option<bool>,
-    state: Option<&'a [u8]>,
-) -> Option<Event<&'a [u8]>>
-    ensures { option_map event_text result ≡ switched_of (shown_text task.entry) is_deadline (option_map text_of state.entry) }
-{
-    match (is_deadline, state) {
-        (Some(is_deadline), Some(state)) => Some(Event::Switched {
-            task,
-            is_deadline,
-            state,
-        }),
-        _ => None,
-    }
-}
-
 fn switched_with<'a>(task: Shown<&'a [u8]>, rest: &'a [u8]) -> Option<Event<&'a [u8]>>
     ensures { option_map event_text result ≡ switched_with (shown_text task.entry) rest.now }
 {
-    switched_of(
+    let is_deadline = deadline_field(b"prev_prio=", rest)?;
+    let state = value_of(b"prev_state=", rest)?;
+    Some(Event::Switched {
         task,
-        deadline_field(b"prev_prio=", rest),
-        value_of(b"prev_state=", rest),
-    )
+        is_deadline,
+        state,
+    })
 }
 
 fn switched(fields: &[u8]) -> Option<Event<&[u8]>>

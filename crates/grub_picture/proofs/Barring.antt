@@ -1,5 +1,6 @@
 -- One step more of the bars of a task.
 use Rattle.std.proofs.Common.{◌≡◌, ℕ, ◌+◌, ◌<◌, Bool, true, false, List, [], ◌∷◌, ◌++◌, length, get_or, drop, refl, ap, ◌∙◌, sym, append_assoc, Option, Some, None}
+use Rattle.std.proofs.lemmas.List.{drop_more}
 use Rattle.grub_book.specs.declared.place.State.{State}
 use Rattle.grub_book.specs.declared.place.State.TheVariants.{Contending, NonContending, Inactive}
 use Rattle.grub_shapes.specs.declared.shape.Bar.{Bar}
@@ -7,7 +8,6 @@ use Rattle.grub_picture.specs.declared.bars.Begun.{Begun}
 use Rattle.grub_steps.specs.declared.book_steps.Step.{Step}
 use Rattle.grub_picture.specs.Bars.{bars_from, is_state, state_on, until}
 use Rattle.grub_picture.specs.inside.Begun.{begun_after, ended_bar, last_bar}
-use Rattle.grub_shapes.proofs.Finding.{next_left}
 
 -- the bars that are left, with the one that has begun
 abbrev pub rest_of : ℕ → ℕ → Option Begun → List Step → List Bar
@@ -49,7 +49,7 @@ one_step r end i own d current after next o new whole below next_is after_is new
     = next_bars r end current next x (drop (i + 1) own) (sym next_is) in
     rw (new_is, after_is)
     (append_assoc o (ended_bar current next x.told.entry.m) (rest_of r end (begun_after current next x.told.entry.m) (drop (i + 1) own))
-    ∙ ap (λ (t : List Bar). o ++ t) (sym here) ∙ ap (λ (ys : List Step). o ++ rest_of r end current ys) (sym (next_left own i d below)) ∙ is)
+    ∙ ap (λ (t : List Bar). o ++ t) (sym here) ∙ ap (λ (ys : List Step). o ++ rest_of r end current ys) (sym (drop_more own i d below)) ∙ is)
 
 pub all_bars : (r end : ℕ) (current : Option Begun) → rest_of r end current [] ≡ last_bar current end
 all_bars r end None = refl

@@ -7,7 +7,7 @@ use Rattle.grub_run.specs.Written.{AppendsPrefix}
 
 -- a beginning of a beginning
 pub prefix_of : (a b : Option (List ℕ)) (text rest whole : List ℕ) → HandsPart a b [] text → whole ≡ text ++ rest → AppendsPrefix a b whole
-prefix_of None b text rest whole h is = tt
+prefix_of None b text rest whole h is = (0, tt)
 prefix_of (Some xs) None text rest whole h is = absurd (h.1)
 prefix_of (Some xs) (Some ys) text rest whole h is =
     let told = h.1.0 in
@@ -16,7 +16,7 @@ prefix_of (Some xs) (Some ys) text rest whole h is =
 
 -- all of it, and a flush that failed
 pub prefix_flushed : (a b c : Option (List ℕ)) (text : List ℕ) → Appends a b text → Keeps b c → AppendsPrefix a c text
-prefix_flushed None b c text h k = tt
+prefix_flushed None b c text h k = (0, tt)
 prefix_flushed (Some xs) None c text h k = absurd h
 prefix_flushed (Some xs) (Some ys) None text h k = absurd k
 prefix_flushed (Some xs) (Some ys) (Some zs) text h k = (length text, k ∙ h ∙ ap (λ l. xs ++ l) (sym (take-length text)))

@@ -46,17 +46,15 @@ pub record IsOutput (tries : ℕ) (files : List (List ℕ)) (text : List ℕ) : 
 
 -- known bytes grow by a beginning of the text
 abbrev pub AppendsPrefix : Option (List ℕ) → Option (List ℕ) → List ℕ → Type 0
-AppendsPrefix None new text = ⊤
-AppendsPrefix (Some xs) None text = ⊥
-AppendsPrefix (Some xs) (Some ys) text = (k : ℕ) × (ys ≡ xs ++ take k text)
+AppendsPrefix old new text = (k : ℕ) × Appends old new (take k text)
 
 -- what was written is the text of a run, and nothing else
-abbrev pub WritesText : ℕ → List (List ℕ) → Option (List ℕ) → Option (List ℕ) → Type 0
-WritesText tries files old new = (text : List ℕ) × IsOutput tries files text × Appends old new text
+abbrev pub WritesText : ℕ → Option (List ℕ) → Option (List ℕ) → List (List ℕ) → Type 0
+WritesText tries old new files = (text : List ℕ) × IsOutput tries files text × Appends old new text
 
 -- what was written is a beginning of the text of a run
-abbrev pub WritesPrefix : ℕ → List (List ℕ) → Option (List ℕ) → Option (List ℕ) → Type 0
-WritesPrefix tries files old new = (text : List ℕ) × IsOutput tries files text × AppendsPrefix old new text
+abbrev pub WritesPrefix : ℕ → Option (List ℕ) → Option (List ℕ) → List (List ℕ) → Type 0
+WritesPrefix tries old new files = (text : List ℕ) × IsOutput tries files text × AppendsPrefix old new text
 
 -- a fault of the files is the one that their reader answers
 abbrev pub IsFaultOf : List (List ℕ) → GrubFault → Type 0

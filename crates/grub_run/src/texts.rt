@@ -40,8 +40,8 @@ pub fn run_texts<R: Threads + Wait + Sync, W: Write>(
 ) -> Result<(), GrubFault>
     requires { 1 ≤ rounds }
 
-    ensures text { OnOk result (WritesText tries (contents files.items) (W.contents out.old) (W.contents out.new)) }
-    ensures prefix { IfErr result (λ e. e ≡ faults.WriteFault → WritesPrefix tries (contents files.items) (W.contents out.old) (W.contents out.new)) }
+    ensures text { OnOk result (WritesText tries (W.contents out.old) (W.contents out.new) (contents files.items)) }
+    ensures prefix { IfErr result (λ e. e ≡ faults.WriteFault → WritesPrefix tries (W.contents out.old) (W.contents out.new) (contents files.items)) }
     ensures nothing { IfErr result (λ e. (e ≡ faults.WriteFault → ⊥) → out.new ≡ out.old) }
 
     // A fault of the files is the reader's, and where there is one it is answered, memory aside.

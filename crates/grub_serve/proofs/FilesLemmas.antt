@@ -66,4 +66,4 @@ opened_whole o g source name bytes few holds = let (after, (last, reads, end)) =
 pub many_told : {O N D : Type 0} (o : Opener O D) (g : Reader N D) (source : Source O N) (paths : List (Bor (List ℕ))) (files : List (List ℕ)) (r : ProgramFault) → 64 < length paths → HoldAll o g source (names_of paths) files → IsPlaced (names_of paths) (run.Trace (trace.At OutOfRange 64 1)) r → Tells o g source (names_of paths) r
 many_told o g source paths files r many hold (path, is, named) =
     let all : 64 < length files = rw (← length_all_zip (Holds o g source) (names_of paths) files hold, length-map) many in
-    subst (Tells o g source (names_of paths)) (sym is) (record { files = files; hold = hold; kind = OutOfRange; file = 64; is = too_many all; told = refl; named = named })
+    subst (Tells o g source (names_of paths)) (sym is) (record { files = files; hold = hold; says = record { kind = OutOfRange; file = 64; is = too_many all; told = refl; named = named } })

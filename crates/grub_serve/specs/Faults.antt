@@ -28,6 +28,18 @@ status_of faults.NoMemory = 3
 abbrev pub names_of : List (Bor (List ℕ)) → List (List ℕ)
 names_of paths = map (λ path. path.now) paths
 
+-- this is the fault of the lines of the files: in this line of the file of this name
+pub record IsFaultInLine (names : List (List ℕ)) (name : List ℕ) (line : ℕ) (fault : GrubFault) (files : List (List ℕ)) : Type 0 where
+  pub kind : Kind
+  pub file : ℕ
+  pub is : IsFault files kind file line
+  pub told : fault ≡ run.Trace (trace.At kind file line)
+  pub named : name ≡ slice_index_or names file []
+
+-- a picture of the time line of these files would not begin before it ends
+abbrev pub HasNoSpan : View → List (List ℕ) → Type 0
+HasNoSpan view files = (first end : ℕ) × HasEmptySpan view files first end
+
 module _ {O N D : Type 0} (o : Opener O D) (g : Reader N D) (source : Source O N) where
   -- the files of these names may be read as these bytes
   abbrev pub HoldAll : List (List ℕ) → List (List ℕ) → Type 0
@@ -41,32 +53,26 @@ module _ {O N D : Type 0} (o : Opener O D) (g : Reader N D) (source : Source O N
     pub hold : HoldAll (take at names) before
     pub says : P name
 
-  -- all files may be read whole, and this is then the fault of their lines: in this line of the file of this name
-  pub record FaultInLine (names : List (List ℕ)) (name : List ℕ) (line : ℕ) (fault : GrubFault) : Type 0 where
+  -- all files may be read whole, and this is said of what they may be read as
+  pub record Whole (P : List (List ℕ) → Type 0) (names : List (List ℕ)) : Type 0 where
     pub files : List (List ℕ)
     pub hold : HoldAll names files
-    pub kind : Kind
-    pub file : ℕ
-    pub is : IsFault files kind file line
-    pub told : fault ≡ run.Trace (trace.At kind file line)
-    pub named : name ≡ slice_index_or names file []
-
-  -- all files may be read whole, and the picture of their time line would go from this moment to this one, not after it
-  pub record EmptySpanIn (view : View) (names : List (List ℕ)) (first end : ℕ) : Type 0 where
-    pub files : List (List ℕ)
-    pub hold : HoldAll names files
-    pub empty : HasEmptySpan view files first end
+    pub says : P files
 
   -- what a fault tells of the files of these names
   abbrev pub Tells : List (List ℕ) → ProgramFault → Type 0
   Tells names (faults.TooLong path) = First (IsLonger o g source) names path.now
   Tells names (faults.Unreadable path) = First (IsUnreadable o g source) names path.now
-  Tells names (faults.Line path line fault) = FaultInLine names path.now line fault
+  Tells names (faults.Line path line fault) = Whole (IsFaultInLine names path.now line fault) names
   Tells names (faults.Run fault) = IsNoFileFault fault
   Tells names (faults.EmptySpan first end) = ⊥
   Tells names faults.NoMemory = (name : List ℕ) × First (IsOpened o g source) names name
 
   -- and what one of a view of their time line tells
   abbrev pub TellsOfView : View → List (List ℕ) → ProgramFault → Type 0
-  TellsOfView view names (faults.EmptySpan first end) = EmptySpanIn view names first end
+  TellsOfView view names (faults.EmptySpan first end) = Whole (λ files. HasEmptySpan view files first end) names
   TellsOfView view names fault = Tells names fault
+
+  -- one of these files may be at fault
+  abbrev pub HasFileFault : List (List ℕ) → Type 0
+  HasFileFault names = (fault : ProgramFault) × (status_of fault ≡ 1) × Tells names fault

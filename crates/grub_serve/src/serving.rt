@@ -1,8 +1,9 @@
 //! The reports of files, a view of them, or the line of a fault, and the program's status.
 
 ghost use Rattle.std.specs.Prelude.{◌≡◌, ◌≤◌, ◌⊎◌};
-ghost use Rattle.grub_serve.specs.Faults.{names_of, status_of};
-ghost use Rattle.grub_serve.specs.Printed.{HasEmptySpan, HasFileFault, PrintsBeginning, PrintsReports, PrintsView, PrintsViewBeginning};
+ghost use Rattle.grub_serve.specs.Faults.{HasFileFault, HasNoSpan, Whole, names_of, status_of};
+ghost use Rattle.grub_run.specs.Written.{WritesPrefix, WritesText};
+ghost use Rattle.grub_show.specs.Shown.{Shows, ShowsBeginning};
 
 use crate::fault::{ProgramFault, STATUS_FILE, STATUS_SYSTEM, STATUS_USAGE};
 use crate::reports::print_reports;
@@ -38,10 +39,10 @@ pub fn serve_files<
     requires open { O.IsAlwaysCallable source.now.open }
     requires read { N.IsAlwaysCallable source.now.read }
     ensures status { (result ≡ 0) ⊎ (result ≡ STATUS_FILE) ⊎ (result ≡ STATUS_SYSTEM) }
-    ensures done { result ≡ 0 → PrintsReports O.Fn N.Fn source.now tries (names_of paths.now) (W.contents out.old) (W.contents out.new) }
+    ensures done { result ≡ 0 → Whole O.Fn N.Fn source.now (WritesText tries (W.contents out.old) (W.contents out.new)) (names_of paths.now) }
     ensures file { result ≡ STATUS_FILE → HasFileFault O.Fn N.Fn source.now (names_of paths.now) }
     ensures nothing { result ≡ STATUS_FILE → out.new ≡ out.old }
-    ensures failed { result ≡ STATUS_SYSTEM → (out.new ≡ out.old) ⊎ PrintsBeginning O.Fn N.Fn source.now tries (names_of paths.now) (W.contents out.old) (W.contents out.new) }
+    ensures failed { result ≡ STATUS_SYSTEM → (out.new ≡ out.old) ⊎ Whole O.Fn N.Fn source.now (WritesPrefix tries (W.contents out.old) (W.contents out.new)) (names_of paths.now) }
 {
     match print_reports(rt, alloc, tries, rounds, source, paths, out) {
         Ok(()) => 0,
@@ -71,11 +72,11 @@ pub fn serve_view<
     requires open { O.IsAlwaysCallable source.now.open }
     requires read { N.IsAlwaysCallable source.now.read }
     ensures status { (result ≡ 0) ⊎ (result ≡ STATUS_FILE) ⊎ (result ≡ STATUS_USAGE) ⊎ (result ≡ STATUS_SYSTEM) }
-    ensures done { result ≡ 0 → PrintsView O.Fn N.Fn source.now view (names_of paths.now) (W.contents out.old) (W.contents out.new) }
+    ensures done { result ≡ 0 → Whole O.Fn N.Fn source.now (Shows view (W.contents out.old) (W.contents out.new)) (names_of paths.now) }
     ensures file { result ≡ STATUS_FILE → HasFileFault O.Fn N.Fn source.now (names_of paths.now) }
-    ensures usage { result ≡ STATUS_USAGE → HasEmptySpan O.Fn N.Fn source.now view (names_of paths.now) }
+    ensures usage { result ≡ STATUS_USAGE → Whole O.Fn N.Fn source.now (HasNoSpan view) (names_of paths.now) }
     ensures nothing { (result ≡ STATUS_FILE) ⊎ (result ≡ STATUS_USAGE) → out.new ≡ out.old }
-    ensures failed { result ≡ STATUS_SYSTEM → (out.new ≡ out.old) ⊎ PrintsViewBeginning O.Fn N.Fn source.now view (names_of paths.now) (W.contents out.old) (W.contents out.new) }
+    ensures failed { result ≡ STATUS_SYSTEM → (out.new ≡ out.old) ⊎ Whole O.Fn N.Fn source.now (ShowsBeginning view (W.contents out.old) (W.contents out.new)) (names_of paths.now) }
 {
     match print_view(rt, alloc, view, source, paths, out) {
         Ok(()) => 0,

@@ -8,7 +8,7 @@ use Rattle.grub_run.specs.Written.{AppendsPrefix}
 use Rattle.grub_run.proofs.Known.{prefix_of}
 
 pub handed_part : (a b : Option (List ℕ)) (text : List ℕ) → HandsPart a b text [] → AppendsPrefix a b text
-handed_part None b text h = tt
+handed_part None b text h = (0, tt)
 handed_part (Some xs) None text h = absurd (h.1)
 handed_part (Some xs) (Some ys) text h =
     let told = h.1.0 in
@@ -29,9 +29,9 @@ drained (Some xs) (Some ys) (Some zs) text left h k =
 
 -- a beginning of what was left was written
 pub drained_part : (a b c : Option (List ℕ)) (text left : List ℕ) → HandsOn a b [] text left → AppendsPrefix b c left → AppendsPrefix a c text
-drained_part None b c text left h k = tt
+drained_part None b c text left h k = (0, tt)
 drained_part (Some xs) None c text left h k = absurd h
-drained_part (Some xs) (Some ys) None text left h k = absurd k
+drained_part (Some xs) (Some ys) None text left h k = absurd k.1
 drained_part (Some xs) (Some ys) (Some zs) text left h k =
     let told = h.0 ++ take k.0 left in
     let more : zs ≡ xs ++ told = k.1 ∙ ap (λ l. l ++ take k.0 left) h.1 ∙ append_assoc xs h.0 (take k.0 left) in

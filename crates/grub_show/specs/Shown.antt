@@ -43,9 +43,9 @@ pub record IsShown (view : View) (files : List (List ℕ)) (text : List ℕ) : T
   pub whole : IsViewOf view (plan_of trees) told closing text
 
 -- what was written is such a text, and nothing else
-abbrev pub Shows : View → List (List ℕ) → Option (List ℕ) → Option (List ℕ) → Type 0
-Shows view files old new = (text : List ℕ) × IsShown view files text × Appends old new text
+abbrev pub Shows : View → Option (List ℕ) → Option (List ℕ) → List (List ℕ) → Type 0
+Shows view old new files = (text : List ℕ) × IsShown view files text × Appends old new text
 
 -- what was written is a beginning of such a text
-abbrev pub ShowsBeginning : View → List (List ℕ) → Option (List ℕ) → Option (List ℕ) → Type 0
-ShowsBeginning view files old new = (text : List ℕ) × IsShown view files text × AppendsPrefix old new text
+abbrev pub ShowsBeginning : View → Option (List ℕ) → Option (List ℕ) → List (List ℕ) → Type 0
+ShowsBeginning view old new files = (text : List ℕ) × IsShown view files text × AppendsPrefix old new text

@@ -60,8 +60,8 @@ pub fn write_view<R: Threads + Sync, W: Write>(
     view: View,
     out: &mut W,
 ) -> Result<(), ShowFault>
-    ensures text { OnOk result (Shows view (contents files.items) (W.contents out.old) (W.contents out.new)) }
-    ensures prefix { IfErr result (λ e. e ≡ write_fault → ShowsBeginning view (contents files.items) (W.contents out.old) (W.contents out.new)) }
+    ensures text { OnOk result (Shows view (W.contents out.old) (W.contents out.new) (contents files.items)) }
+    ensures prefix { IfErr result (λ e. e ≡ write_fault → ShowsBeginning view (W.contents out.old) (W.contents out.new) (contents files.items)) }
     ensures nothing { IfErr result (λ e. (e ≡ write_fault → ⊥) → out.new ≡ out.old) }
 
     // A fault of the files is the reader's, and where there is one it is answered, memory aside. An empty span is told

@@ -6,6 +6,7 @@ use Rattle.std.proofs.lemmas.Bool.{ne_eqb, eqb-true, eqb-false}
 use Rattle.std.proofs.lemmas.List.{length-map, length-set, get_or-set_same}
 use Rattle.std.proofs.lemmas.List.Elements.{All-head, All-tail}
 use Rattle.std.proofs.lemmas.List.Sums.{sum_by-cons}
+use Rattle.grub_book.proofs.Tells.{length_replied}
 use Rattle.grub_bw.specs.Bandwidth.{Reservation, Capacity, bandwidth_of}
 use Rattle.grub_bw.specs.Server.{charge_of, depleted_of}
 use Rattle.grub_bw.specs.declared.server.Server.{Server}
@@ -23,7 +24,7 @@ use Rattle.grub_book.specs.declared.place.State.TheVariants.{Contending, NonCont
 use Rattle.grub_book.specs.declared.reply.Reply.{Reply}
 use Rattle.grub_book.specs.declared.reply.Reply.TheVariants.{Asleep, Full, Retired, Retuned, Waiting}
 use Rattle.grub_book.proofs.Cases.{of_either, of_timer}
-use Rattle.grub_book.proofs.Readings.{AddAlike, CountAlike, same_reading}
+use Rattle.grub_book.proofs.Readings.{AddAlike, CountAlike, same_reading, off}
 use Rattle.grub_book.proofs.Soundness.{moved, on_it}
 use Rattle.grub_book.proofs.Totals.{opening_totals}
 use Rattle.grub_plan.specs.Texts.{IsAskOf}
@@ -76,11 +77,6 @@ stays queue now x (Retune q p) a state free is =
     of_either (λ (m : Record × Reply). Stays a m.0.place) (is_inactive x.place && nat_lt (queue.most + bandwidth_of x.params) (now.this + bandwidth_of params)) (x, Full) (tuned, Retuned) here here
 
 -- on another runqueue a task counts as if it were away
-off : (k r : ℕ) (state : State) → r ≢ k → CountAlike k (On r state) Away
-off k r Contending ne = (ne_eqb r k ne, ne_eqb r k ne)
-off k r NonContending ne = (ne_eqb r k ne, ne_eqb r k ne)
-off k r Inactive ne = (ne_eqb r k ne, refl)
-
 off_after : (k w : ℕ) (place : Place) → queue_or place w ≢ k → CountAlike k place Away
 off_after k w Away ne = (refl, refl)
 off_after k w Gone ne = (refl, refl)
@@ -145,10 +141,6 @@ sum_by_number {X} f d (x ∷ xs) =
     ∙ rw (sum_shifted (λ t. f (get_or (x ∷ xs) t d)) 0 (length xs), sum_by-cons f x xs) (ap (λ n. f x + n) (sum_same (λ t. f (get_or (x ∷ xs) (t + 1) d)) (λ t. f (get_or xs t d)) (λ t. rw add-one refl) (range_with_len 0 (length xs)) ∙ sum_by_number f d xs))
 
 -- ---- the law
-
-length_replied : (book : Records) (t : ℕ) (o : Option Reply) (m : Record × Reply) → length (replied book t o m).0 ≡ length book
-length_replied book t (Some reply) m = refl
-length_replied book t None m = length-set book t m.0
 
 length_after : (s : Machine) (book : Records) (ask : Ask) → length (book_after s book ask) ≡ length book
 length_after s book Read = refl

@@ -6,6 +6,7 @@ use Rattle.std.proofs.lemmas.List.{append-nil, ext_get_or, drop_more, drop_all, 
 use Rattle.std.proofs.lemmas.List.Edits.{map_over_more}
 use Rattle.std.proofs.lemmas.List.Elements.{All-get_or, All-map, All-push, All-set, All-weaker, filter-append}
 use Rattle.std.proofs.lemmas.List.Sums.{fold-append, sum_by_push}
+use Rattle.std.proofs.lemmas.List.FromFn.{get_or-map-range_with_len, length-map-range_with_len, map-range_with_len_more}
 use Rattle.grub_book.specs.History.{is_reading}
 use Rattle.grub_bw.specs.Bandwidth.{Capacity, Reservation}
 use Rattle.grub_book.specs.Machine.{Machine, queue_at, task_at}
@@ -26,7 +27,6 @@ use Rattle.grub_steps.specs.declared.book_steps.Step.{Step}
 use Rattle.grub_summary.specs.declared.table.Cell.{Cell}
 use Rattle.grub_summary.specs.declared.tally.Tally.{Tally}
 use Rattle.grub_summary.specs.declared.usage.Meter.{Meter}
-use Rattle.grub_summary.proofs.Counting.{map_more}
 
 -- ---- a task
 
@@ -57,23 +57,8 @@ own_same t steps x is = filter-append (λ (y : Step). is_change_of t y.change) s
 
 -- ---- what is made of each number
 
-length_up : (k n : ℕ) → length (range_with_len k n) ≡ n
-length_up k zero = refl
-length_up k (suc n) = ap suc (length_up (k + 1) n)
-
-up_at : {A : Type 0} (g : ℕ → A) (k n i : ℕ) (d : A) → i < n → get_or (map g (range_with_len k n)) i d ≡ g (k + i)
-up_at g k zero i d below = absurd (omega arith)
-up_at g k (suc n) zero d below = let none : k + 0 ≡ k = omega arith in rw none refl
-up_at g k (suc n) (suc i) d below =
-    let less : i < n = omega arith in
-    let same : (k + 1) + i ≡ k + suc i = omega arith in
-    up_at g (k + 1) n i d less ∙ ap g same
-
 made_at : {A : Type 0} (g : ℕ → A) (n i : ℕ) (d : A) → i < n → get_or (map g (range_with_len 0 n)) i d ≡ g i
-made_at g n i d below = up_at g 0 n i d below ∙ ap g (omega arith)
-
-made_length : {A : Type 0} (g : ℕ → A) (n : ℕ) → length (map g (range_with_len 0 n)) ≡ n
-made_length g n = length-map (range_with_len 0 n) g ∙ length_up 0 n
+made_at g n i d below = get_or-map-range_with_len g 0 n i i d below (omega arith)
 
 made_same : {A : Type 0} (f g : ℕ → A) (ts : List ℕ) → ((t : ℕ) → f t ≡ g t) → map f ts ≡ map g ts
 made_same f g [] same = refl
@@ -83,7 +68,7 @@ at_either : {A : Type 0} (f g : ℕ → A) (n t : ℕ) (y : A) (i : ℕ) (b : Bo
     → get_or (set (map f (range_with_len 0 n)) t y) i y ≡ get_or (map g (range_with_len 0 n)) i y
 at_either {A = A} f g n t y i true e below is others under =
     let same : i ≡ t = eqb-true i t e in
-    let there : t < length (map f (range_with_len 0 n)) = subst (λ m. t < m) (sym (made_length f n)) below in
+    let there : t < length (map f (range_with_len 0 n)) = subst (λ m. t < m) (sym (length-map-range_with_len f 0 n)) below in
     subst (λ k. get_or (set (map f (range_with_len 0 n)) t y) k y ≡ get_or (map g (range_with_len 0 n)) k y) (sym same)
     (get_or-set_same (map f (range_with_len 0 n)) t y y there ∙ is ∙ sym (made_at g n t y below))
 at_either {A = A} f g n t y i false e below is others under =
@@ -93,15 +78,15 @@ at_either {A = A} f g n t y i false e below is others under =
 -- one of them is another now
 made_set : {A : Type 0} (f g : ℕ → A) (n t : ℕ) (y : A) → t < n → y ≡ g t → ((i : ℕ) → i ≢ t → f i ≡ g i) → set (map f (range_with_len 0 n)) t y ≡ map g (range_with_len 0 n)
 made_set {A = A} f g n t y below is others =
-    let long : length (set (map f (range_with_len 0 n)) t y) ≡ n = length-set (map f (range_with_len 0 n)) t y ∙ made_length f n in
-    ext_get_or y (set (map f (range_with_len 0 n)) t y) (map g (range_with_len 0 n)) (long ∙ sym (made_length g n))
+    let long : length (set (map f (range_with_len 0 n)) t y) ≡ n = length-set (map f (range_with_len 0 n)) t y ∙ length-map-range_with_len f 0 n in
+    ext_get_or y (set (map f (range_with_len 0 n)) t y) (map g (range_with_len 0 n)) (long ∙ sym (length-map-range_with_len g 0 n))
     (λ i under. at_either f g n t y i (i == t) refl below is others (subst (λ m. i < m) long under))
 
 -- ---- the tasks
 
 pub tallies_length : (s : Machine) (steps : List Step) → length (tallies_of s steps) ≡ length s.tasks
 unfolding tallies_of
-tallies_length s steps = made_length (λ t. tally_of (task_at s t).runtime (own_steps t steps)) (length s.tasks)
+tallies_length s steps = length-map-range_with_len (λ t. tally_of (task_at s t).runtime (own_steps t steps)) 0 (length s.tasks)
 
 pub tally_at : (s : Machine) (steps : List Step) (t : ℕ) (d : Tally) → t < length s.tasks → get_or (tallies_of s steps) t d ≡ tally_of (task_at s t).runtime (own_steps t steps)
 unfolding tallies_of
@@ -118,7 +103,7 @@ tallies_more s steps x change ys y d is there y_is ys_is =
     let t = change.t in
     let f = λ (k : ℕ). tally_of (task_at s k).runtime (own_steps k steps) in
     let g = λ (k : ℕ). tally_of (task_at s k).runtime (own_steps k (steps ++ x ∷ [])) in
-    let below : t < length s.tasks = subst (λ n. t < n) (ap length ys_is ∙ made_length f (length s.tasks)) there in
+    let below : t < length s.tasks = subst (λ n. t < n) (ap length ys_is ∙ length-map-range_with_len f 0 (length s.tasks)) there in
     let own : is_change_of t x.change ≡ true = ap (is_change_of t) is ∙ same_number t in
     let here : y ≡ g t = y_is ∙ ap (λ (zs : List Tally). tally_after (get_or zs t d) x) ys_is ∙ ap (λ (z : Tally). tally_after z x) (made_at f (length s.tasks) t d below)
     ∙ tally_more (task_at s t).runtime (own_steps t steps) x ∙ ap (tally_of (task_at s t).runtime) (sym (own_more t steps x own)) in
@@ -183,7 +168,7 @@ meters_more s steps x ys zs zs_is ys_is = zs_is ∙ ap (map (λ (y : Meter). met
 
 pub meters_length : (s : Machine) (steps : List Step) → length (meters_of s steps) ≡ length s.queues
 unfolding meters_of
-meters_length s steps = made_length (λ r. meter_of r steps) (length s.queues)
+meters_length s steps = length-map-range_with_len (λ r. meter_of r steps) 0 (length s.queues)
 
 pub meter_at : (s : Machine) (steps : List Step) (r : ℕ) (d : Meter) → r < length s.queues → get_or (meters_of s steps) r d ≡ meter_of r steps
 unfolding meters_of
@@ -194,8 +179,7 @@ meter_at s steps r d below = made_at (λ r. meter_of r steps) (length s.queues) 
 -- with one more of what is numbered
 pub one_more : {A : Type 0} (f : ℕ → A) (n : ℕ) (old : List A) (y : A) → old ≡ map f (range_with_len 0 n) → y ≡ f n → old ++ y ∷ [] ≡ map f (range_with_len 0 (n + 1))
 one_more f n old y is y_is =
-    let zero_add : 0 + n ≡ n = omega arith in
-    rw (is, y_is) (ap (λ (k : ℕ). map f (range_with_len 0 n) ++ f k ∷ []) (sym zero_add) ∙ map_more f 0 n)
+    rw (is, y_is) (sym (map-range_with_len_more f 0 n n (omega arith)))
 
 -- what is written next is as it was
 over_at : {X : Type 0} (f : X → X) (xs ys : List X) (i : ℕ) (d : X) → i < length xs → ys ≡ map f (take i xs) ++ drop i xs → get_or ys i d ≡ get_or xs i d

@@ -7,7 +7,8 @@ use Rattle.grub_book.specs.History.{IsLegal, book_of}
 use Rattle.grub_book.specs.declared.event.Event.{Event}
 use Rattle.grub_book.specs.declared.event.Reading.{Reading}
 use Rattle.std.specs.List.{All}
-use Rattle.std.proofs.lemmas.List.Elements.{All-tail}
+use Rattle.std.proofs.lemmas.List.Elements.{All-drop}
+use Rattle.std.proofs.Math.Seq.{drop-append_seam}
 use Rattle.grub_plan.specs.Plans.{PlanView}
 use Rattle.grub_plan.specs.Texts.{IsAskOf}
 use Rattle.grub_timeline.specs.declared.told.Told.{Told}
@@ -35,8 +36,7 @@ time_line_of plan p closing played all = record {
 }
 
 all_end : {X : Type 0} (P : X → Type 0) (xs ys : List X) → All P (xs ++ ys) → All P ys
-all_end P [] ys h = h
-all_end P (x ∷ xs) ys h = all_end P xs ys (All-tail P x (xs ++ ys) h)
+all_end P xs ys a = subst (All P) (drop-append_seam xs ys) (All-drop P (length xs) (xs ++ ys) a)
 
 -- the latest entries are of runqueues and tasks that are there
 pub within_chunk : (plan : PlanView) (p : Player) (done : List ℕ) → IsMidway plan p done → AreWithin plan.setup p.chunk.items

@@ -15,7 +15,7 @@ use Rattle.grub_timeline.specs.Order.{IsNotLater, IsSorted, left, lines_of, scri
 use Rattle.grub_timeline.specs.TimeLines.{AsksPlaced}
 use Rattle.grub_timeline.specs.inside.Playing.{IsNotPast, IsPlayed, IsPlaying}
 use Rattle.grub_timeline.specs.inside.Merge.{IsFirst, IsMidway, NoHead, head_at, placed}
-use Rattle.grub_timeline.proofs.Sooner.{head_within, not_later-trans}
+use Rattle.grub_timeline.proofs.Sooner.{head_within, not_later-trans, some_same}
 
 -- ---- lists of lines in their order
 pub each_push : {X : Type 0} (P : X → Type 0) (xs : List X) (x : X) → AllByRecursion P xs → P x → AllByRecursion P (xs ++ x ∷ [])
@@ -57,10 +57,7 @@ pub record LineFits (n : ℕ) (line : Line) : Type 0 where
 
 line_fits : (n low : ℕ) (script : List Line) (k : ℕ) (line : Line) → ScriptFits n low script → slice_get script k ≡ Some line → LineFits n line
 line_fits n low [] k line fits at = absurd (cc)
-line_fits n low (l ∷ ls) zero line fits at = let same : l ≡ line = from_some at in subst (LineFits n) same (record { moment = fits.1; act = fits.2 })
-  where
-    from_some : Some l ≡ Some line → l ≡ line
-    from_some is = ap (λ o. unwrap_or o l) is
+line_fits n low (l ∷ ls) zero line fits at = let same : l ≡ line = some_same l line at in subst (LineFits n) same (record { moment = fits.1; act = fits.2 })
 line_fits n low (l ∷ ls) (suc k) line fits at = line_fits n l.m ls k line fits.3 at
 
 next_after : (n low : ℕ) (script : List Line) (k : ℕ) (a b : Line) → ScriptFits n low script → slice_get script k ≡ Some a → slice_get script (k + 1) ≡ Some b → a.m ≤ b.m

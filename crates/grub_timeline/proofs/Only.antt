@@ -1,10 +1,11 @@
 -- A plan has one time line.
-use Rattle.std.proofs.Common.{◌≡◌, ℕ, List, [], ◌∷◌, ◌++◌, get_or, drop, refl, sym, ap, ◌∙◌, subst, arith, append-nil}
+use Rattle.std.proofs.Common.{◌≡◌, ℕ, List, [], ◌∷◌, ◌++◌, get_or, drop, refl, sym, ap, ◌∙◌, subst, arith, append-nil, length}
 use Rattle.std.specs.List.{All, FoldsTo}
 use Rattle.std.proofs.lemmas.Grind.{common_steps}
-use Rattle.std.proofs.lemmas.List.{ext_get_or}
-use Rattle.std.proofs.lemmas.List.Elements.{All-cons, All-head, All-nil, All-tail}
+use Rattle.std.proofs.lemmas.List.{ext_get_or, append_cancel_left}
+use Rattle.std.proofs.lemmas.List.Elements.{All-cons, All-head, All-nil, All-tail, All-take}
 use Rattle.std.proofs.lemmas.Option.{slice_get-get_or}
+use Rattle.std.proofs.Math.Seq.{take-append_seam}
 use Rattle.grub_book.specs.Machine.{Machine}
 use Rattle.grub_book.specs.Sums.{opening_book}
 use Rattle.grub_book.specs.History.{IsLegal, StartsWith}
@@ -28,8 +29,7 @@ entries_append : (xs ys : List Told) → entries_of (xs ++ ys) ≡ entries_of xs
 entries_append xs ys = grind (arith, common_steps)
 
 all_first : {X : Type 0} (P : X → Type 0) (xs ys : List X) → All P (xs ++ ys) → All P xs
-all_first P [] ys a = All-nil P
-all_first P (x ∷ xs) ys a = All-cons P x xs (All-head P x (xs ++ ys) a) (all_first P xs ys (All-tail P x (xs ++ ys) a))
+all_first P xs ys a = subst (All P) (take-append_seam xs ys) (All-take P (length xs) (xs ++ ys) a)
 
 -- a book gave the entries, and each was answered
 pub record IsGiven (s : Machine) (told : List Told) : Type 0 where
@@ -45,10 +45,6 @@ given_first s later earlier starts g = record {
 pub lines_start : (order : List Placed) (before after : List Told) → FoldsTo AsksPlaced before order after → StartsWith after before
 lines_start [] before after f = ([], sym f ∙ sym (append-nil before))
 lines_start (p ∷ ps) before after f = starts_after after f.0 before (lines_start ps f.0 after f.2) (f.1.more, f.1.list)
-
-same_left : {X : Type 0} (xs ys zs : List X) → xs ++ ys ≡ xs ++ zs → ys ≡ zs
-same_left [] ys zs is = is
-same_left (x ∷ xs) ys zs is = same_left xs ys zs (ap (drop 1) is)
 
 -- the runqueues of more entries are determined by the entries
 same_runqueues : (r : ℕ) (before xs ys : List Told) → entries_of xs ≡ entries_of ys → AreOf r before xs → AreOf r before ys → xs ≡ ys
@@ -76,7 +72,7 @@ module _ (s : Machine) where
       (by_line p before j f a) (by_line p before k g b) in
       let both : entries_of before ++ entries_of f.more ≡ entries_of before ++ entries_of g.more
       = sym (ap entries_of f.list ∙ entries_append before f.more) ∙ same ∙ (ap entries_of g.list ∙ entries_append before g.more) in
-      f.list ∙ ap (λ l. before ++ l) (same_runqueues p.r before f.more g.more (same_left (entries_of before) (entries_of f.more) (entries_of g.more) both) f.runqueues g.runqueues) ∙ sym g.list
+      f.list ∙ ap (λ l. before ++ l) (same_runqueues p.r before f.more g.more (append_cancel_left (entries_of before) (entries_of f.more) (entries_of g.more) both) f.runqueues g.runqueues) ∙ sym g.list
 
   order_alike : (order : List Placed) (before j k : List Told) → FoldsTo AsksPlaced before order j → FoldsTo AsksPlaced before order k → IsGiven s j → IsGiven s k → j ≡ k
   order_alike [] before j k f g a b = sym f ∙ g

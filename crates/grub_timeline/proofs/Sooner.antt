@@ -1,5 +1,5 @@
 -- The file whose line is next of all files.
-use Rattle.std.proofs.Common.{◌≡◌, ◌≢◌, ℕ, ◌+◌, ◌<◌, ◌≤◌, Bool, true, false, cond, min, nat_lt, List, [], length, get_or, set, Option, Some, None, unwrap_or, refl, sym, ap, ◌∙◌, subst, ⊎_elim, inl, inr, arith, get_or-set_other}
+use Rattle.std.proofs.Common.{◌≡◌, ◌≢◌, ℕ, ◌+◌, ◌<◌, ◌≤◌, Bool, true, false, cond, min, nat_lt, List, [], length, get_or, set, Option, Some, None, refl, sym, ap, ◌∙◌, subst, ⊎_elim, inl, inr, arith, get_or-set_other}
 use Rattle.std.specs.Prelude.{IfSome, MatchOption, slice_get}
 use Rattle.std.specs.Option.{IsSomeAnd}
 use Rattle.std.proofs.lemmas.Bool.{ltb-true, ltb-false}
@@ -12,8 +12,8 @@ use Rattle.grub_timeline.specs.declared.order.Placed.{Placed}
 use Rattle.grub_timeline.specs.Order.{IsNotLater, script_at}
 use Rattle.grub_timeline.specs.inside.Merge.{IsAhead, IsBefore, IsBehind, IsFirst, IsLeader, IsNext, NoHead, head_at, leader_of, placed}
 
-some_same : {X : Type 0} (x y : X) → Some x ≡ Some y → x ≡ y
-some_same x y is = ap (λ o. unwrap_or o x) is
+pub some_same : {X : Type 0} (x y : X) → Some x ≡ Some y → x ≡ y
+some_same x y is = cc
 
 pub not_later-refl : (p : Placed) → IsNotLater p p
 not_later-refl p = inr (refl, omega arith)

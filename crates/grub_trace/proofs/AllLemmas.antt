@@ -9,15 +9,14 @@ use Rattle.std.specs.Prelude.{string_bytes}
 use Rattle.grub_trace.specs.declared.tasks.Task.{Task}
 use Rattle.grub_trace.specs.declared.tasks.Tasks.{Tasks}
 use Rattle.grub_trace.specs.declared.fault.Kind.{Kind}
-use Rattle.grub_trace.specs.declared.fault.Halt.{Halt}
-use Rattle.grub_trace.specs.declared.fault.Halt.TheVariants as halt
+use Rattle.grub_trace.specs.declared.fault.TraceFault.{TraceFault}
+use Rattle.grub_trace.specs.declared.fault.TraceFault.TheVariants as fault
 use Rattle.grub_plan.specs.Plans.{Line}
-use Rattle.grub_trace.specs.inside.Halts.{fault_of}
 use Rattle.grub_trace.specs.Tree.{names_of, params_of}
 use Rattle.grub_trace.proofs.Elsewhere.{not_zero}
 use Rattle.std.proofs.lemmas.Bool.{le-ltb}
 use Rattle.grub_plan.specs.Contents.{contents}
-use Rattle.grub_trace.specs.inside.Reading.{Halts, Faults, AllRead, Body, read_file, read_from, script_from, scripts_from, unknown_in, plan_from, declarations, task_view, ◌>>=◌}
+use Rattle.grub_trace.specs.inside.Reading.{Faults, AllRead, Body, in_file, read_file, read_from, script_from, scripts_from, unknown_in, plan_from, declarations, task_view, with_file, ◌>>=◌}
 use Rattle.grub_trace.specs.inside.Lines.{AreBodies, IsBody, script_in}
 use Rattle.grub_trace.proofs.Loops.{ScriptsLeft, ScriptsSoFar}
 use Rattle.grub_trace.specs.Naming.{plan_with}
@@ -83,14 +82,17 @@ scripts_done scripts yielded files le on t bs are =
 
 -- ---- all files
 
-pub files_stop : (h : Halt) (all : AllRead) (f : ℕ) (files : List (Vec ℕ)) (bytes : Vec ℕ) (total : Result AllRead (Kind × ℕ × ℕ)) → f < length files → bytes ≡ get_or files f bytes → Halts h (read_file all.declared bytes.items)
-    → read_from all f (contents (drop f files)) ≡ total → Faults (fault_of h f) total
+-- the fault of a step is that of the steps from it on
+pub faults_then : {X Y : Type 0} (e : TraceFault) (r : Result X (Kind × ℕ × ℕ)) (k : X → Result Y (Kind × ℕ × ℕ)) → Faults e r → Faults e (r >>= k)
+faults_then fault.NoMemory r k h = tt
+faults_then (fault.At j f n) r k h = ap (λ x. x >>= k) h
+
+pub files_stop : (e : TraceFault) (all : AllRead) (f : ℕ) (files : List (Vec ℕ)) (bytes : Vec ℕ) (total : Result AllRead (Kind × ℕ × ℕ)) → f < length files → bytes ≡ get_or files f bytes → Faults e (in_file f (read_file all.declared bytes.items))
+    → read_from all f (contents (drop f files)) ≡ total → Faults e total
 unfolding read_from
-files_stop halt.Memory all f files bytes total lt item is so_far = tt
-files_stop (halt.At k n) all f files bytes total lt item is so_far =
-    let e = drop_item files f bytes lt item in
-    let m : read_from all f (contents (drop f files)) ≡ Err (k, f, n) = rw (e, is) refl in
-    sym so_far ∙ m
+files_stop e all f files bytes total lt item is so_far =
+    subst (Faults e) (sym (ap (λ (vs : List (Vec ℕ)). read_from all f (contents vs)) (drop_item files f bytes lt item)) ∙ so_far)
+    (faults_then e (in_file f (read_file all.declared bytes.items)) (λ r. read_from (with_file all r) (f + 1) (contents (drop (f + 1) files))) is)
 
 pub files_done : (all : AllRead) (f : ℕ) (files : List (Vec ℕ)) (total : Result AllRead (Kind × ℕ × ℕ)) → length files ≤ f → read_from all f (contents (drop f files)) ≡ total → total ≡ Ok all
 unfolding read_from

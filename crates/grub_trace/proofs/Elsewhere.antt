@@ -9,8 +9,8 @@ use Rattle.grub_trace.specs.Tree.{Declaration}
 use Rattle.grub_trace.specs.Forms.{Form, at_moment, form_of, parts_of, queue, task, value, words_of}
 use Rattle.grub_trace.specs.Faults.{form_fault}
 use Rattle.grub_trace.specs.inside.Forms.{begins_with_task, is_task}
-use Rattle.grub_trace.specs.inside.Heads.{IsHead, body_from, read_body}
-use Rattle.grub_trace.specs.inside.Reading.{Read, act_map, adds, at_line, opened, read_lines, take_form, take_line, take_option, times_of, unless, ◌>>=◌}
+use Rattle.grub_trace.specs.inside.Heads.{IsHead, body_from, lines_below, read_body}
+use Rattle.grub_trace.specs.inside.Reading.{Read, act_map, adds, at_line, in_file, opened, read_lines, take_form, take_line, take_option, times_of, unless, ◌>>=◌}
 use Rattle.grub_trace.proofs.LineLemmas.{unless_ok}
 use Rattle.grub_trace.proofs.WordLemmas.{has_part}
 
@@ -72,13 +72,13 @@ lines_elsewhere (line ∷ next ∷ more) ds r n below =
     step (Err k) rest = refl
 
 -- the lines below a head, with these tasks and with none
-pub head_elsewhere : (ds : List Declaration) (h : Head) → IsHead h → read_lines (opened h.version ds) h.first (parts_of h.below.now) ≡ with_tasks ds (read_lines (opened h.version []) h.first (parts_of h.below.now))
+pub head_elsewhere : (ds : List Declaration) (h : Head) → IsHead h → lines_below ds h ≡ with_tasks ds (lines_below [] h)
 head_elsewhere ds h is = lines_elsewhere (parts_of h.below.now) ds (opened h.version []) h.first (λ task. absurd (let x = sym task ∙ is.below in cc))
 
 pub body_elsewhere : (ds : List Declaration) (h : Head) → IsHead h → read_body ds h ≡ read_body [] h
-body_elsewhere ds h is = ap (λ (x : Result Read (Kind × ℕ)). x >>= λ r. Ok (body_from h r)) (head_elsewhere ds h is) ∙ same (read_lines (opened h.version []) h.first (parts_of h.below.now))
+body_elsewhere ds h is = ap (λ (x : Result Read (Kind × ℕ)). in_file h.file x >>= λ r. Ok (body_from h r)) (head_elsewhere ds h is) ∙ same (lines_below [] h)
   where
-    same : (x : Result Read (Kind × ℕ)) → (with_tasks ds x >>= λ r. Ok (body_from h r)) ≡ (x >>= λ r. Ok (body_from h r))
+    same : (x : Result Read (Kind × ℕ)) → (in_file h.file (with_tasks ds x) >>= λ r. Ok (body_from h r)) ≡ (in_file h.file x >>= λ r. Ok (body_from h r))
     same (Ok r) = refl
     same (Err e) = refl
 

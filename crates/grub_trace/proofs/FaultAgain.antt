@@ -9,7 +9,6 @@ use Rattle.std.proofs.lemmas.List.{append-nil, map-append}
 use Rattle.std.proofs.lemmas.List.Splits.{join_with_byte-slice_split}
 use Rattle.grub_trace.specs.declared.version.Version.{Version}
 use Rattle.grub_trace.specs.declared.fault.Kind.{Kind}
-use Rattle.grub_trace.specs.declared.fault.Halt.TheVariants as halt
 use Rattle.grub_trace.specs.declared.fault.Kind.TheVariants.{CutShort, BadHeader, MissingQueue, BadLine, UnknownTask}
 use Rattle.grub_trace.specs.Tree.{Declaration, Happening, Tree, text, line, header, head_text, queue_words, declaration_words, happening_words, names_of}
 use Rattle.grub_trace.specs.Faults.{line_fault, fault_of_form, header_fault, queue_fault}
@@ -20,7 +19,7 @@ use Rattle.grub_trace.specs.Naming.{all_tasks, line_in, script_of}
 use Rattle.grub_trace.specs.inside.Reading.{Read, FileRead, AllRead, with_file, in_file, read_file, read_first, read_as, opened, file_from, read_second, read_lines, read_from, queue_of, take_option, unless, adds, at_line, ◌>>=◌, times_of, script_from, scripts_from, option_or_err, unknown_in, plan_from}
 use Rattle.grub_trace.proofs.PlanLaws.{body_of_tree}
 use Rattle.grub_trace.proofs.WordLemmas.{has_part}
-use Rattle.grub_trace.proofs.LineLemmas.{first_known, second_halts}
+use Rattle.grub_trace.proofs.LineLemmas.{first_known, second_then}
 use Rattle.grub_trace.proofs.FormLemmas.{version_again}
 use Rattle.grub_trace.proofs.FileLaws.{small_queue}
 use Rattle.grub_trace.proofs.Printed.{queue_again, queue_one_line}
@@ -97,7 +96,8 @@ line_again ds bytes k n f =
     f.front ∙ append_assoc (head_text t.version t.queue) body f.rest ∙ append_assoc (header t.version) (10 ∷ (second ++ 10 ∷ [])) (body ++ f.rest) in
     let parts : parts_of rest ≡ second ∷ parts_of (body ++ f.rest) = ap parts_of (append_assoc second (10 ∷ []) (body ++ f.rest)) ∙ parts_again second (body ++ f.rest) (queue_one_line t.queue small.0 small.1) in
     after_header t.version ds bytes rest whole
-    ∙ second_halts (halt.At k (3 + length t.tasks + length t.happenings)) t.version ds rest second (body ++ f.rest) t.queue parts (queue_again t.queue small.0 small.1 f.is.queue) (lines_stop ds t f.rest k f.is f.more f.fault)
+    ∙ second_then t.version ds rest second (body ++ f.rest) t.queue parts (queue_again t.queue small.0 small.1 f.is.queue)
+    ∙ ap (λ (x : Result Read (Kind × ℕ)). x >>= λ r. Ok (file_from t.queue (3 + (length r.declared - length ds)) r)) (lines_stop ds t f.rest k f.is f.more f.fault)
     ∙ ap (λ (m : ℕ). Err (k, m)) (sym f.number)
 
 pub file_fault_again : (ds : List Declaration) (bytes : List ℕ) (k : Kind) (n : ℕ) → FileFault (names_of ds) bytes k n → read_file ds bytes ≡ Err (k, n)

@@ -1,5 +1,5 @@
 -- Reading heads first, and then what stands below each, is reading one file after the other.
-use Rattle.std.proofs.Common.{◌≡◌, ℕ, false, suc, ◌+◌, ◌-◌, ◌<◌, ◌≤◌, List, [], ◌∷◌, ◌++◌, All, length, get_or, map, drop, Option, Some, None, Result, Ok, Err, IfOk, refl, sym, ap, ◌∙◌, arith, cond, subst}
+use Rattle.std.proofs.Common.{◌≡◌, ℕ, false, ◌+◌, ◌-◌, ◌<◌, ◌≤◌, List, [], ◌∷◌, ◌++◌, All, length, get_or, map, drop, Option, Some, None, Result, Ok, Err, IfOk, refl, sym, ap, ◌∙◌, arith, cond, subst}
 use Rattle.std.specs.Result.{is_err, is_ok}
 use Rattle.std.specs.Global.{Vec}
 use Rattle.std.proofs.lemmas.List.{drop_all, length_push}
@@ -7,8 +7,6 @@ use Rattle.std.proofs.lemmas.List.Elements.{All-cons, All-get_or, All-head, All-
 use Rattle.grub_bw.specs.Bandwidth.{Capacity}
 use Rattle.grub_trace.specs.declared.version.Version.{Version}
 use Rattle.grub_trace.specs.declared.fault.Kind.{Kind}
-use Rattle.grub_trace.specs.declared.fault.Halt.{Halt}
-use Rattle.grub_trace.specs.declared.fault.Halt.TheVariants as halt
 use Rattle.grub_trace.specs.declared.fault.TraceFault.{TraceFault}
 use Rattle.grub_trace.specs.declared.below.Below.{Below}
 use Rattle.grub_trace.specs.declared.raw.Head.{Head}
@@ -18,14 +16,13 @@ use Rattle.grub_plan.specs.Contents.{contents}
 use Rattle.grub_trace.specs.Tree.{Declaration, names_of}
 use Rattle.grub_trace.specs.Faults.{form_fault}
 use Rattle.grub_trace.specs.Forms.{form_of, parts_of, reservation_value, task, version_of, words_of}
-use Rattle.grub_trace.specs.inside.Halts.{fault_of}
 use Rattle.grub_trace.specs.inside.Bodies.{AreRead, HaveHeads, IsRead, head_of}
 use Rattle.grub_trace.specs.inside.Lines.{AreBodies}
-use Rattle.grub_trace.specs.inside.Heads.{EndsWith, GiveTogether, GivesHead, GivesTasks, IsHead, bodies_from, body_from, read_body}
-use Rattle.grub_trace.specs.inside.Reading.{AllRead, Body, Faults, FileRead, Halts, IsIndexed, Read, adds, at_line, declarations, file_from, in_file, opened, read_file, read_from, read_lines, read_queue, read_second, take_form, take_line, take_option, with_file, ◌>>=◌}
-use Rattle.grub_trace.proofs.AllLemmas.{bodies_and, drop_item, files_done, files_stop}
+use Rattle.grub_trace.specs.inside.Heads.{EndsWith, GiveTogether, GivesHead, GivesTasks, IsHead, bodies_from, body_from, lines_below, read_body}
+use Rattle.grub_trace.specs.inside.Reading.{AllRead, Body, Faults, FileRead, IsIndexed, Read, adds, declarations, file_from, in_file, opened, read_file, read_from, read_lines, read_queue, read_second, take_form, take_line, take_option, with_file, ◌>>=◌}
+use Rattle.grub_trace.proofs.AllLemmas.{bodies_and, drop_item, faults_then, files_done, files_stop}
 use Rattle.grub_trace.proofs.Elsewhere.{body_elsewhere, head_elsewhere, redeclare, with_tasks}
-use Rattle.grub_trace.proofs.LineLemmas.{first_known, goes_on, queue_then, second_halts, second_step, unless_ok}
+use Rattle.grub_trace.proofs.LineLemmas.{first_known, goes_on, second_stops, second_then, unless_ok}
 use Rattle.grub_trace.proofs.Loops.{TasksOn}
 
 -- ---- one step after another
@@ -59,18 +56,14 @@ tasks_next version old a b first rest text line after n q p parts shorter form t
     }
 
 -- the lines below the tasks, after the second line
-pub gives_second : (r : Result Head Halt) (version : Version) (queue : Capacity) (old new : List Declaration) (text line rest : List ℕ) → parts_of text ≡ line ∷ parts_of rest → read_queue line ≡ Ok queue
-    → IfOk r IsHead → GivesTasks r version queue old new (parts_of rest) → GivesHead r new (read_second version old (parts_of text))
-unfolding queue_then
-gives_second (Err e) version queue old new text line rest parts is head gives = second_halts e version old text line rest queue parts is gives
-gives_second (Ok h) version queue old new text line rest parts is head gives =
-    let below = read_lines (opened h.version new) h.first (parts_of h.below.now) in
-    let whole : read_second version old (parts_of text) ≡ queue_then version old line (parts_of rest) = ap (read_second version old) parts ∙ second_step version old line rest in
-    let queued : queue_then version old line (parts_of rest) ≡ (read_lines (opened version old) 3 (parts_of rest) >>= λ r. Ok (file_from queue (3 + (length r.declared - length old)) r)) =
-    ap (λ (x : Result Capacity Kind). at_line 2 x >>= λ q. read_lines (opened version old) 3 (parts_of rest) >>= λ r. Ok (file_from q (3 + (length r.declared - length old)) r)) is in
-    let lines : read_lines (opened version old) 3 (parts_of rest) ≡ below = sym gives.3 ∙ ap (λ (v : Version). read_lines (opened v new) h.first (parts_of h.below.now)) (sym gives.0) in
-    whole ∙ queued ∙ ap (λ (x : Result Read (Kind × ℕ)). x >>= λ r. Ok (file_from queue (3 + (length r.declared - length old)) r)) (lines ∙ head_elsewhere new h head)
-    ∙ same (read_lines (opened h.version []) h.first (parts_of h.below.now))
+pub gives_second : (r : Result Head TraceFault) (f : ℕ) (version : Version) (queue : Capacity) (old new : List Declaration) (text line rest : List ℕ) → parts_of text ≡ line ∷ parts_of rest → read_queue line ≡ Ok queue
+    → IfOk r IsHead → GivesTasks r f version queue old new (parts_of rest) → GivesHead r f new (read_second version old (parts_of text))
+gives_second (Err e) f version queue old new text line rest parts is head gives = second_stops e f version old text line rest queue parts is gives
+gives_second (Ok h) f version queue old new text line rest parts is head gives =
+    let lines : read_lines (opened version old) 3 (parts_of rest) ≡ lines_below new h = sym gives.3 ∙ ap (λ (v : Version). read_lines (opened v new) h.first (parts_of h.below.now)) (sym gives.0) in
+    second_then version old text line rest queue parts is
+    ∙ ap (λ (x : Result Read (Kind × ℕ)). x >>= λ r. Ok (file_from queue (3 + (length r.declared - length old)) r)) (lines ∙ head_elsewhere new h head)
+    ∙ same (lines_below [] h)
     ∙ ap (λ (x : Result Read (Kind × ℕ)). x >>= λ r. Ok (file_from h.queue h.first r)) (sym (head_elsewhere new h head))
   where
     same : (x : Result Read (Kind × ℕ)) → (with_tasks new x >>= λ r. Ok (file_from queue (3 + (length r.declared - length old)) r)) ≡ (with_tasks new x >>= λ r. Ok (file_from h.queue h.first r))
@@ -79,16 +72,16 @@ gives_second (Ok h) version queue old new text line rest parts is head gives =
         let number : 3 + (length new - length old) ≡ h.first = omega (arith, gives.2, head.third) in
         ap (λ (n : ℕ). Ok (file_from queue n (redeclare new r))) number ∙ ap (λ (q : Capacity). Ok (file_from q h.first (redeclare new r))) (sym gives.1)
 
-pub gives_first : (r : Result Head Halt) (version : Version) (old new : List Declaration) (text line rest : List ℕ) → parts_of text ≡ line ∷ parts_of rest → version_of line ≡ Some version → GivesHead r new (read_second version old (parts_of rest)) → GivesHead r new (read_file old text)
-gives_first r version old new text line rest parts known h = subst (λ (x : Result FileRead (Kind × ℕ)). GivesHead r new x) (sym (first_known version old text line rest parts known)) h
+pub gives_first : (r : Result Head TraceFault) (f : ℕ) (version : Version) (old new : List Declaration) (text line rest : List ℕ) → parts_of text ≡ line ∷ parts_of rest → version_of line ≡ Some version
+    → GivesHead r f new (read_second version old (parts_of rest)) → GivesHead r f new (read_file old text)
+gives_first r f version old new text line rest parts known h = subst (λ (x : Result FileRead (Kind × ℕ)). GivesHead r f new x) (sym (first_known version old text line rest parts known)) h
 
 -- what stands below a head, with whatever tasks it was read
-pub body_halts : (e : Halt) (ds : List Declaration) (h : Head) → IsHead h → Halts e (read_lines (opened h.version ds) h.first (parts_of h.below.now)) → Halts e (read_body [] h)
-body_halts halt.Memory ds h is halts = tt
-body_halts (halt.At k n) ds h is halts = sym (body_elsewhere ds h is) ∙ ap (λ (x : Result Read (Kind × ℕ)). x >>= λ r. Ok (body_from h r)) halts
+pub body_stops : (e : TraceFault) (ds : List Declaration) (h : Head) → IsHead h → Faults e (in_file h.file (lines_below ds h)) → Faults e (read_body [] h)
+body_stops e ds h is stops = subst (Faults e) (body_elsewhere ds h is) (faults_then e (in_file h.file (lines_below ds h)) (λ r. Ok (body_from h r)) stops)
 
-pub body_gives : (ds : List Declaration) (h : Head) (r : Read) → IsHead h → read_lines (opened h.version ds) h.first (parts_of h.below.now) ≡ Ok r → read_body [] h ≡ Ok (body_from h r)
-body_gives ds h r is gives = sym (body_elsewhere ds h is) ∙ ap (λ (x : Result Read (Kind × ℕ)). x >>= λ r. Ok (body_from h r)) gives
+pub body_gives : (ds : List Declaration) (h : Head) (r : Read) → IsHead h → in_file h.file (lines_below ds h) ≡ Ok r → read_body [] h ≡ Ok (body_from h r)
+body_gives ds h r is gives = sym (body_elsewhere ds h is) ∙ ap (λ (x : Result Read (Kind × ℕ × ℕ)). x >>= λ r. Ok (body_from h r)) gives
 
 -- ---- heads, one after the other
 
@@ -97,9 +90,9 @@ pub record HeadsOn (tasks : Tasks) (hs : List Head) (file : ℕ) (files : List (
   pub indexed : IsIndexed tasks
   pub heads : All IsHead hs
   pub count : length hs ≡ file
-  pub so_far : read_from (record { declared = []; files = [] }) 0 (contents files) ≡ (bodies_from [] 0 hs >>= λ bs. read_from (record { declared = declarations tasks; files = bs }) file (contents (drop file files)))
+  pub so_far : read_from (record { declared = []; files = [] }) 0 (contents files) ≡ (bodies_from [] hs >>= λ bs. read_from (record { declared = declarations tasks; files = bs }) file (contents (drop file files)))
 
-pub none_before : (hs : List Head) (k : List Body → Result AllRead (Kind × ℕ × ℕ)) → length hs ≡ 0 → (bodies_from [] 0 hs >>= k) ≡ k []
+pub none_before : (hs : List Head) (k : List Body → Result AllRead (Kind × ℕ × ℕ)) → length hs ≡ 0 → (bodies_from [] hs >>= k) ≡ k []
 unfolding bodies_from
 none_before [] k none = refl
 none_before (h ∷ hs) k none = absurd (omega (arith, none))
@@ -113,67 +106,59 @@ heads_none tasks hs files none empty indexed = record {
 }
 
 -- what stands below one head more
-bodies_push : (hs : List Head) (h : Head) (done : List Body) (f : ℕ) → bodies_from done f (hs ++ h ∷ []) ≡ (bodies_from done f hs >>= λ bs. in_file (f + length hs) (read_body [] h) >>= λ b. Ok (bs ++ b ∷ []))
+bodies_push : (hs : List Head) (h : Head) (done : List Body) → bodies_from done (hs ++ h ∷ []) ≡ (bodies_from done hs >>= λ bs. read_body [] h >>= λ b. Ok (bs ++ b ∷ []))
 unfolding bodies_from
-bodies_push [] h done f = ap (λ (n : ℕ). in_file n (read_body [] h) >>= λ b. Ok (done ++ b ∷ [])) (omega arith)
-bodies_push (g ∷ hs) h done f = go (in_file f (read_body [] g)) (λ b. bodies_push hs h (done ++ b ∷ []) (f + 1))
-  where
-    go : (r : Result Body (Kind × ℕ × ℕ)) → ((b : Body) → bodies_from (done ++ b ∷ []) (f + 1) (hs ++ h ∷ []) ≡ (bodies_from (done ++ b ∷ []) (f + 1) hs >>= λ bs. in_file (f + 1 + length hs) (read_body [] h) >>= λ b. Ok (bs ++ b ∷ [])))
-        → (r >>= λ b. bodies_from (done ++ b ∷ []) (f + 1) (hs ++ h ∷ [])) ≡ ((r >>= λ b. bodies_from (done ++ b ∷ []) (f + 1) hs) >>= λ bs. in_file (f + suc (length hs)) (read_body [] h) >>= λ b. Ok (bs ++ b ∷ []))
-    go (Err e) rest = refl
-    go (Ok b) rest = rest b
-        ∙ ap (λ (n : ℕ). bodies_from (done ++ b ∷ []) (f + 1) hs >>= λ bs. in_file n (read_body [] h) >>= λ b. Ok (bs ++ b ∷ [])) (omega arith)
+bodies_push [] h done = refl
+bodies_push (g ∷ hs) h done =
+    bind_ext (read_body [] g) _ _ (λ b. bodies_push hs h (done ++ b ∷ [])) ∙ sym (bind_assoc (read_body [] g) (λ b. bodies_from (done ++ b ∷ []) hs) (λ bs. read_body [] h >>= λ b. Ok (bs ++ b ∷ [])))
 
-bodies_then : (hs : List Head) (h : Head) (f : ℕ) (k : List Body → Result AllRead (Kind × ℕ × ℕ)) → length hs ≡ f
-    → (bodies_from [] 0 (hs ++ h ∷ []) >>= k) ≡ (bodies_from [] 0 hs >>= λ bs. in_file f (read_body [] h) >>= λ b. k (bs ++ b ∷ []))
-bodies_then hs h f k count =
-    let one : (bs : List Body) → Result (List Body) (Kind × ℕ × ℕ) = λ bs. in_file (0 + length hs) (read_body [] h) >>= λ b. Ok (bs ++ b ∷ []) in
-    let place : 0 + length hs ≡ f = omega (arith, count) in
-    ap (λ (x : Result (List Body) (Kind × ℕ × ℕ)). x >>= k) (bodies_push hs h [] 0) ∙ bind_assoc (bodies_from [] 0 hs) one k
-    ∙ bind_ext (bodies_from [] 0 hs) (λ bs. one bs >>= k) (λ bs. in_file f (read_body [] h) >>= λ b. k (bs ++ b ∷ []))
-    (λ bs. bind_assoc (in_file (0 + length hs) (read_body [] h)) (λ b. Ok (bs ++ b ∷ [])) k ∙ ap (λ (n : ℕ). in_file n (read_body [] h) >>= λ b. k (bs ++ b ∷ [])) place)
+bodies_then : (hs : List Head) (h : Head) (k : List Body → Result AllRead (Kind × ℕ × ℕ)) → (bodies_from [] (hs ++ h ∷ []) >>= k) ≡ (bodies_from [] hs >>= λ bs. read_body [] h >>= λ b. k (bs ++ b ∷ []))
+bodies_then hs h k =
+    let one : (bs : List Body) → Result (List Body) (Kind × ℕ × ℕ) = λ bs. read_body [] h >>= λ b. Ok (bs ++ b ∷ []) in
+    ap (λ (x : Result (List Body) (Kind × ℕ × ℕ)). x >>= k) (bodies_push hs h []) ∙ bind_assoc (bodies_from [] hs) one k
+    ∙ bind_ext (bodies_from [] hs) (λ bs. one bs >>= k) (λ bs. read_body [] h >>= λ b. k (bs ++ b ∷ [])) (λ bs. bind_assoc (read_body [] h) (λ b. Ok (bs ++ b ∷ [])) k)
 
 -- a file whose head was read
-file_step : (ds more : List Declaration) (h : Head) (f : ℕ) (bytes : List ℕ) (rest : List (List ℕ)) (bs : List Body) → IsHead h → GivesHead (Ok h) more (read_file ds bytes)
-    → read_from (record { declared = ds; files = bs }) f (bytes ∷ rest) ≡ (in_file f (read_body [] h) >>= λ b. read_from (record { declared = more; files = bs ++ b ∷ [] }) (f + 1) rest)
+file_step : (ds more : List Declaration) (h : Head) (f : ℕ) (bytes : List ℕ) (rest : List (List ℕ)) (bs : List Body) → IsHead h → h.file ≡ f → GivesHead (Ok h) f more (read_file ds bytes)
+    → read_from (record { declared = ds; files = bs }) f (bytes ∷ rest) ≡ (read_body [] h >>= λ b. read_from (record { declared = more; files = bs ++ b ∷ [] }) (f + 1) rest)
 unfolding read_from
-file_step ds more h f bytes rest bs head gives =
+file_step ds more h f bytes rest bs head place gives =
     ap (λ (x : Result FileRead (Kind × ℕ)). in_file f x >>= λ r. read_from (with_file (record { declared = ds; files = bs }) r) (f + 1) rest)
     (gives ∙ ap (λ (x : Result Read (Kind × ℕ)). x >>= λ r. Ok (file_from h.queue h.first r)) (head_elsewhere more h head))
-    ∙ go (read_lines (opened h.version []) h.first (parts_of h.below.now))
+    ∙ go (lines_below [] h) ∙ ap (λ (g : ℕ). in_file g (lines_below [] h) >>= (λ r. Ok (body_from h r)) >>= λ b. read_from (record { declared = more; files = bs ++ b ∷ [] }) (f + 1) rest) (sym place)
   where
     go : (x : Result Read (Kind × ℕ)) → (in_file f (with_tasks more x >>= λ r. Ok (file_from h.queue h.first r)) >>= λ r. read_from (with_file (record { declared = ds; files = bs }) r) (f + 1) rest)
-        ≡ (in_file f (x >>= λ r. Ok (body_from h r)) >>= λ b. read_from (record { declared = more; files = bs ++ b ∷ [] }) (f + 1) rest)
+        ≡ (in_file f x >>= (λ r. Ok (body_from h r)) >>= λ b. read_from (record { declared = more; files = bs ++ b ∷ [] }) (f + 1) rest)
     go (Ok r) = refl
     go (Err e) = refl
 
-pub heads_next : (a b : Tasks) (hs : List Head) (h : Head) (f : ℕ) (files : List (Vec ℕ)) (bytes : Vec ℕ) → f < length files → bytes ≡ get_or files f bytes → IsHead h → IsIndexed b → GivesHead (Ok h) (declarations b) (read_file (declarations a) bytes.items)
+pub heads_next : (a b : Tasks) (hs : List Head) (h : Head) (f : ℕ) (files : List (Vec ℕ)) (bytes : Vec ℕ) → f < length files → bytes ≡ get_or files f bytes → IsHead h → h.file ≡ f → IsIndexed b → GivesHead (Ok h) f (declarations b) (read_file (declarations a) bytes.items)
     → HeadsOn a hs f files → HeadsOn b (hs ++ h ∷ []) (f + 1) files
-heads_next a b hs h f files bytes lt item head indexed gives on =
+heads_next a b hs h f files bytes lt item head place indexed gives on =
     let next : List Body → Result AllRead (Kind × ℕ × ℕ) = λ bs. read_from (record { declared = declarations b; files = bs }) (f + 1) (contents (drop (f + 1) files)) in
-    let step : (bs : List Body) → read_from (record { declared = declarations a; files = bs }) f (contents (drop f files)) ≡ (in_file f (read_body [] h) >>= λ b. next (bs ++ b ∷ [])) =
+    let step : (bs : List Body) → read_from (record { declared = declarations a; files = bs }) f (contents (drop f files)) ≡ (read_body [] h >>= λ b. next (bs ++ b ∷ [])) =
     λ bs. ap (λ (vs : List (Vec ℕ)). read_from (record { declared = declarations a; files = bs }) f (contents vs)) (drop_item files f bytes lt item)
-    ∙ file_step (declarations a) (declarations b) h f bytes.items (contents (drop (f + 1) files)) bs head gives in
+    ∙ file_step (declarations a) (declarations b) h f bytes.items (contents (drop (f + 1) files)) bs head place gives in
     record {
       indexed = indexed;
       heads = All-push IsHead hs h on.heads head;
       count = omega (arith, length_push hs h, on.count);
-      so_far = on.so_far ∙ bind_ext (bodies_from [] 0 hs) _ (λ bs. in_file f (read_body [] h) >>= λ b. next (bs ++ b ∷ [])) step ∙ sym (bodies_then hs h f next on.count);
+      so_far = on.so_far ∙ bind_ext (bodies_from [] hs) _ (λ bs. read_body [] h >>= λ b. next (bs ++ b ∷ [])) step ∙ sym (bodies_then hs h next);
     }
 
 -- a head that is wrong
-pub heads_stop : (e : Halt) (ds : List Declaration) (a : Tasks) (hs : List Head) (f : ℕ) (files : List (Vec ℕ)) (bytes : Vec ℕ) → f < length files → bytes ≡ get_or files f bytes → Halts e (read_file (declarations a) bytes.items)
-    → HeadsOn a hs f files → GiveTogether ds hs (Some (fault_of e f)) (read_from (record { declared = []; files = [] }) 0 (contents files))
-heads_stop e ds a hs f files bytes lt item halts on = record {
+pub heads_stop : (e : TraceFault) (ds : List Declaration) (a : Tasks) (hs : List Head) (f : ℕ) (files : List (Vec ℕ)) (bytes : Vec ℕ) → f < length files → bytes ≡ get_or files f bytes → Faults e (in_file f (read_file (declarations a) bytes.items))
+    → HeadsOn a hs f files → GiveTogether ds hs (Some e) (read_from (record { declared = []; files = [] }) 0 (contents files))
+heads_stop e ds a hs f files bytes lt item stops on = record {
   end = λ bs. read_from (record { declared = declarations a; files = bs }) f (contents (drop f files));
-  end_is = λ bs. files_stop e (record { declared = declarations a; files = bs }) f files bytes _ lt item halts refl;
+  end_is = λ bs. files_stop e (record { declared = declarations a; files = bs }) f files bytes _ lt item stops refl;
   total_is = on.so_far;
 }
 
 -- the first of all
-pub first_stop : (e : Halt) (a : Tasks) (hs : List Head) (f : ℕ) (files : List (Vec ℕ)) (bytes : Vec ℕ) → f ≡ 0 → f < length files → bytes ≡ get_or files f bytes → Halts e (read_file (declarations a) bytes.items)
-    → HeadsOn a hs f files → Faults (fault_of e f) (read_from (record { declared = []; files = [] }) 0 (contents files))
-first_stop e a hs f files bytes zero lt item halts on = files_stop e (record { declared = declarations a; files = [] }) f files bytes _ lt item halts (sym (none_before hs _ (omega (arith, on.count, zero))) ∙ sym on.so_far)
+pub first_stop : (e : TraceFault) (a : Tasks) (hs : List Head) (f : ℕ) (files : List (Vec ℕ)) (bytes : Vec ℕ) → f ≡ 0 → f < length files → bytes ≡ get_or files f bytes → Faults e (in_file f (read_file (declarations a) bytes.items))
+    → HeadsOn a hs f files → Faults e (read_from (record { declared = []; files = [] }) 0 (contents files))
+first_stop e a hs f files bytes zero lt item stops on = files_stop e (record { declared = declarations a; files = [] }) f files bytes _ lt item stops (sym (none_before hs _ (omega (arith, on.count, zero))) ∙ sym on.so_far)
 
 -- all heads
 pub heads_done : (a : Tasks) (hs : List Head) (f : ℕ) (files : List (Vec ℕ)) → length files ≤ f → HeadsOn a hs f files → GiveTogether (declarations a) hs None (read_from (record { declared = []; files = [] }) 0 (contents files))
@@ -193,50 +178,38 @@ have_heads (b ∷ bs) all = All-cons (λ b. IsHead b.head) b bs (All-head IsHead
 pub record CollectsOn (t : Tasks) (files : List RawFile) (yielded bodies : List Below) : Type 0 where
   pub done : List Body
   pub are : AreBodies t done files
-  pub so_far : bodies_from done (length yielded) (map head_of (drop (length yielded) bodies)) ≡ bodies_from [] 0 (map head_of bodies)
-  pub count : length files ≡ length yielded
+  pub so_far : bodies_from done (map head_of (drop (length yielded) bodies)) ≡ bodies_from [] (map head_of bodies)
 
 pub collects_none : (t : Tasks) (files : List RawFile) (bodies : List Below) → files ≡ [] → CollectsOn t files [] bodies
-collects_none t files bodies none = record { done = []; are = subst (AreBodies t []) (sym none) tt; so_far = refl; count = ap length none }
+collects_none t files bodies none = record { done = []; are = subst (AreBodies t []) (sym none) tt; so_far = refl }
 
 -- what was read of one head
 read_one : (t : Tasks) (bodies : List Below) (body : Below) (n : ℕ) → n < length bodies → body ≡ get_or bodies n body → AreRead t bodies → IsRead t body
 read_one t bodies body n lt item are = subst (IsRead t) (sym item) (All-get_or (IsRead t) bodies n body lt are)
 
+-- the bodies from one on
+from_here : (t : Tasks) (files : List RawFile) (yielded bodies : List Below) (body : Below) → length yielded < length bodies → body ≡ get_or bodies (length yielded) body → (on : CollectsOn t files yielded bodies)
+    → (read_body [] body.head >>= λ b. bodies_from (on.done ++ b ∷ []) (map head_of (drop (length yielded + 1) bodies))) ≡ bodies_from [] (map head_of bodies)
+unfolding bodies_from
+from_here t files yielded bodies body lt item on = ap (λ (xs : List Below). bodies_from on.done (map head_of xs)) (sym (drop_item bodies (length yielded) body lt item)) ∙ on.so_far
+
 pub collects_next : (t : Tasks) (files : List RawFile) (yielded bodies : List Below) (file : RawFile) (body : Below) → length yielded < length bodies → body ≡ get_or bodies (length yielded) body → body.file ≡ Ok file
     → AreRead t bodies → CollectsOn t files yielded bodies → CollectsOn t (files ++ file ∷ []) (yielded ++ body ∷ []) bodies
-unfolding bodies_from
 collects_next t files yielded bodies file body lt item is are on =
-    let n = length yielded in
-    let more = length_push yielded body in
-    let rest = drop (n + 1) bodies in
-    let read = rw is at (read_one t bodies body n lt item are) in
-    let step : bodies_from on.done n (body.head ∷ map head_of rest) ≡ bodies_from (on.done ++ read.0 ∷ []) (n + 1) (map head_of rest) =
-    ap (λ (x : Result Body (Kind × ℕ)). in_file n x >>= λ b. bodies_from (on.done ++ b ∷ []) (n + 1) (map head_of rest)) read.1 in
-    let next : bodies_from (on.done ++ read.0 ∷ []) (n + 1) (map head_of rest) ≡ bodies_from [] 0 (map head_of bodies) =
-    sym step ∙ ap (λ (xs : List Below). bodies_from on.done n (map head_of xs)) (sym (drop_item bodies n body lt item)) ∙ on.so_far in
+    let read = rw is at (read_one t bodies body (length yielded) lt item are) in
     record {
       done = on.done ++ read.0 ∷ [];
       are = bodies_and t on.done files read.0 file on.are read.2;
-      so_far = ap (λ k. bodies_from (on.done ++ read.0 ∷ []) k (map head_of (drop k bodies))) more ∙ next;
-      count = omega (arith, length_push files file, more, on.count);
+      so_far = ap (λ k. bodies_from (on.done ++ read.0 ∷ []) (map head_of (drop k bodies))) (length_push yielded body)
+          ∙ sym (ap (λ (x : Result Body (Kind × ℕ × ℕ)). x >>= λ b. bodies_from (on.done ++ b ∷ []) (map head_of (drop (length yielded + 1) bodies))) read.1) ∙ from_here t files yielded bodies body lt item on;
     }
 
-halted : (e : Halt) (done : List Body) (f : ℕ) (h : Head) (hs : List Head) (end : List Body → Result AllRead (Kind × ℕ × ℕ)) → Halts e (read_body [] h) → Faults (fault_of e f) (bodies_from done f (h ∷ hs) >>= end)
-unfolding bodies_from
-halted halt.Memory done f h hs end is = tt
-halted (halt.At k n) done f h hs end is = ap (λ (x : Result Body (Kind × ℕ)). (in_file f x >>= λ b. bodies_from (done ++ b ∷ []) (f + 1) hs) >>= end) is
-
-pub collects_stop : (e : Halt) (t : Tasks) (ds : List Declaration) (files : List RawFile) (yielded bodies : List Below) (body : Below) (f : ℕ) (fault : Option TraceFault) (total : Result AllRead (Kind × ℕ × ℕ)) → length yielded < length bodies
-    → body ≡ get_or bodies (length yielded) body → body.file ≡ Err e → f ≡ length files → AreRead t bodies → GiveTogether ds (map head_of bodies) fault total → CollectsOn t files yielded bodies → Faults (fault_of e f) total
-collects_stop e t ds files yielded bodies body f fault total lt item is place are together on =
-    let n = length yielded in
-    let read = rw is at (read_one t bodies body n lt item are) in
-    let front = drop_item bodies n body lt item in
-    let stops = halted e on.done n body.head (map head_of (drop (n + 1) bodies)) together.end read in
-    let whole : (bodies_from on.done n (body.head ∷ map head_of (drop (n + 1) bodies)) >>= together.end) ≡ total =
-    ap (λ (x : Result (List Body) (Kind × ℕ × ℕ)). x >>= together.end) (ap (λ (xs : List Below). bodies_from on.done n (map head_of xs)) (sym front) ∙ on.so_far) ∙ sym together.total_is in
-    subst (λ k. Faults (fault_of e k) total) (omega (arith, on.count, place)) (subst (λ x. Faults (fault_of e n) x) whole stops)
+pub collects_stop : (e : TraceFault) (t : Tasks) (ds : List Declaration) (files : List RawFile) (yielded bodies : List Below) (body : Below) (fault : Option TraceFault) (total : Result AllRead (Kind × ℕ × ℕ)) → length yielded < length bodies
+    → body ≡ get_or bodies (length yielded) body → body.file ≡ Err e → AreRead t bodies → GiveTogether ds (map head_of bodies) fault total → CollectsOn t files yielded bodies → Faults e total
+collects_stop e t ds files yielded bodies body fault total lt item is are together on =
+    let read = rw is at (read_one t bodies body (length yielded) lt item are) in
+    subst (Faults e) (sym together.total_is)
+    (faults_then e (bodies_from [] (map head_of bodies)) together.end (subst (Faults e) (from_here t files yielded bodies body lt item on) (faults_then e (read_body [] body.head) _ read)))
 
 -- all of them
 pub collects_all : (t : Tasks) (ds : List Declaration) (files : List RawFile) (yielded bodies : List Below) (fault : Option TraceFault) (total : Result AllRead (Kind × ℕ × ℕ)) → length bodies ≤ length yielded
@@ -244,6 +217,6 @@ pub collects_all : (t : Tasks) (ds : List Declaration) (files : List RawFile) (y
 unfolding bodies_from
 collects_all t ds files yielded bodies fault total le together on =
     let none : drop (length yielded) bodies ≡ [] = drop_all (length yielded) bodies le in
-    let bodies_are : bodies_from [] 0 (map head_of bodies) ≡ Ok on.done = sym on.so_far ∙ ap (λ (xs : List Below). bodies_from on.done (length yielded) (map head_of xs)) none in
+    let bodies_are : bodies_from [] (map head_of bodies) ≡ Ok on.done = sym on.so_far ∙ ap (λ (xs : List Below). bodies_from on.done (map head_of xs)) none in
     let is : total ≡ together.end on.done = together.total_is ∙ ap (λ (x : Result (List Body) (Kind × ℕ × ℕ)). x >>= together.end) bodies_are in
     subst (λ x. EndsWith fault ds on.done x) (sym is) (together.end_is on.done)

@@ -1,15 +1,16 @@
 -- Reading lines one after the other.
 use Rattle.std.proofs.Common.{◌≡◌, ℕ, Bool, true, false, ◌+◌, ◌≤◌, ◌<◌, List, [], ◌∷◌, length, Result, Ok, Err, refl, sym, ap, ◌∙◌, arith, cond, not, ◌&&◌, eqb, subst}
+use Rattle.std.specs.Prelude.{MatchResult}
 use Rattle.grub_bw.specs.Bandwidth.{Capacity}
 use Rattle.grub_trace.specs.declared.version.Version.{Version}
 use Rattle.grub_trace.specs.declared.fault.Kind.{Kind}
 use Rattle.grub_trace.specs.declared.fault.Kind.TheVariants.{CutShort, BadHeader, BadLine, BadNumber, OutOfRange, MomentGoesBack}
-use Rattle.grub_trace.specs.inside.Reading.{Read, FileRead, act_map, read_queue, read_second, read_first, read_as, read_file, file_from, opened, unless, adds, take_option, times_of, read_lines, take_line, at_line, ◌>>=◌, Halts, two_fault, IsRun, IsRetune, take_form}
+use Rattle.grub_trace.specs.inside.Reading.{Read, FileRead, act_map, read_queue, read_second, read_first, read_as, read_file, file_from, opened, unless, adds, take_option, times_of, read_lines, take_line, at_line, in_file, ◌>>=◌, Faults, two_fault, IsRun, IsRetune, take_form}
 use Rattle.grub_trace.specs.Forms.{parts_of, Form, queue, task, at_moment, words_of, form_of, is_number, version_of, value, reservation_value}
 use Rattle.std.proofs.Common.{◌-◌, Option, Some, None}
 use Rattle.std.proofs.lemmas.List.{length_push}
-use Rattle.grub_trace.specs.declared.fault.Halt.{Halt}
-use Rattle.grub_trace.specs.declared.fault.Halt.TheVariants as halt
+use Rattle.grub_trace.specs.declared.fault.TraceFault.{TraceFault}
+use Rattle.grub_trace.specs.declared.fault.TraceFault.TheVariants as fault
 use Rattle.grub_trace.specs.Tree.{Declaration, names_of, is_moment, is_span, may_retune}
 use Rattle.grub_plan.specs.declared.line.Act.TheVariants.{Run, Retune}
 use Rattle.grub_trace.specs.Faults.{form_fault, is_allowed, is_timely, reservation_fits}
@@ -24,11 +25,27 @@ goes_on r s n text line rest total parts taken so_far =
     let one : read_lines r n (parts_of text) ≡ read_lines s (n + 1) (parts_of rest) = ap (read_lines r n) parts ∙ lines_step r n line rest ∙ ap (λ (x : Result Read Kind). at_line n x >>= λ s. read_lines s (n + 1) (parts_of rest)) taken in
     sym one ∙ so_far
 
-pub stops : (e : Halt) (r : Read) (n : ℕ) (text line rest : List ℕ) (total : Result Read (Kind × ℕ)) → parts_of text ≡ line ∷ parts_of rest → Halts e (at_line n (take_line r line)) → read_lines r n (parts_of text) ≡ total → Halts e total
-stops halt.Memory r n text line rest total parts taken so_far = tt
-stops (halt.At k m) r n text line rest total parts taken so_far =
-    let one : read_lines r n (parts_of text) ≡ Err (k, m) = ap (read_lines r n) parts ∙ lines_step r n line rest ∙ ap (λ (x : Result Read (Kind × ℕ)). x >>= λ s. read_lines s (n + 1) (parts_of rest)) taken in
-    sym so_far ∙ one
+-- the fault of a step is that of the steps from it on
+faults_then : {X Y : Type 0} (e : TraceFault) (f : ℕ) (r : Result X (Kind × ℕ)) (k : X → Result Y (Kind × ℕ)) → Faults e (in_file f r) → Faults e (in_file f (r >>= k))
+faults_then fault.NoMemory f r k h = tt
+faults_then (fault.At j g n) f (Ok x) k h = absurd cc
+faults_then {X = X} {Y = Y} (fault.At j g n) f (Err d) k h = let p = same_error (d.0, f, d.1) (j, g, n) h in ap (λ (x : Kind × ℕ × ℕ). Err x) p
+  where
+    same_error : (x y : Kind × ℕ × ℕ) → ◌≡◌ {A = Result X (Kind × ℕ × ℕ)} (Err x) (Err y) → x ≡ y
+    same_error x y e = cc
+
+-- what was answered of a line whose fault got its place
+pub placed_ok : {X : Type 0} (r : Result X Kind) (x : X) → MatchResult r (λ y. ◌≡◌ {A = Result X TraceFault} (Ok x) (Ok y)) (λ k. ⊥) → r ≡ Ok x
+placed_ok (Ok y) x h = let p : y ≡ x = cc in ap Ok p
+placed_ok (Err k) x h = absurd h
+
+pub placed_err : {X : Type 0} {Q : Kind → Type 0} (r : Result X Kind) (f n : ℕ) (e : TraceFault) → ((k : Kind) → Q k → e ≡ fault.At k f n) → MatchResult r (λ y. ◌≡◌ {A = Result X TraceFault} (Err e) (Ok y)) Q → (k : Kind) × (r ≡ Err k) × (e ≡ fault.At k f n)
+placed_err (Ok y) f n e is h = absurd cc
+placed_err (Err k) f n e is h = (k, refl, is k h)
+
+pub stops : (e : TraceFault) (f : ℕ) (r : Read) (n : ℕ) (text line rest : List ℕ) (total : Result Read (Kind × ℕ)) → parts_of text ≡ line ∷ parts_of rest → Faults e (in_file f (at_line n (take_line r line))) → read_lines r n (parts_of text) ≡ total → Faults e (in_file f total)
+stops e f r n text line rest total parts taken so_far =
+    subst (λ x. Faults e (in_file f x)) (sym (ap (read_lines r n) parts ∙ lines_step r n line rest) ∙ so_far) (faults_then e f (at_line n (take_line r line)) (λ s. read_lines s (n + 1) (parts_of rest)) taken)
 
 pub last_line : (r : Read) (n : ℕ) (text : List ℕ) (total : Result Read (Kind × ℕ)) → parts_of text ≡ text ∷ [] → read_lines r n (parts_of text) ≡ total → total ≡ cond (eqb (length text) 0) (Ok r) (Err (CutShort, n))
 unfolding read_lines
@@ -94,15 +111,15 @@ pub second_err : (version : Version) (ds : List Declaration) (text line rest : L
 unfolding queue_then
 second_err version ds text line rest k parts q = ap (read_second version ds) parts ∙ second_step version ds line rest ∙ rw q refl
 
-pub second_halts : (e : Halt) (version : Version) (ds : List Declaration) (text line rest : List ℕ) (q : Capacity) → parts_of text ≡ line ∷ parts_of rest → read_queue line ≡ Ok q → Halts e (read_lines (opened version ds) 3 (parts_of rest)) → Halts e (read_second version ds (parts_of text))
+-- what follows a right second line
+pub second_then : (version : Version) (ds : List Declaration) (text line rest : List ℕ) (q : Capacity) → parts_of text ≡ line ∷ parts_of rest → read_queue line ≡ Ok q
+    → read_second version ds (parts_of text) ≡ (read_lines (opened version ds) 3 (parts_of rest) >>= λ r. Ok (file_from q (3 + (length r.declared - length ds)) r))
 unfolding queue_then
-second_halts halt.Memory version ds text line rest q parts is h = tt
-second_halts (halt.At k n) version ds text line rest q parts is h = ap (read_second version ds) parts ∙ second_step version ds line rest ∙ rw (is, h) refl
+second_then version ds text line rest q parts is = ap (read_second version ds) parts ∙ second_step version ds line rest ∙ rw is refl
 
-pub second_ok : (version : Version) (ds : List Declaration) (text line rest : List ℕ) (q : Capacity) (r : Read) → parts_of text ≡ line ∷ parts_of rest → read_queue line ≡ Ok q → read_lines (opened version ds) 3 (parts_of rest) ≡ Ok r
-    → read_second version ds (parts_of text) ≡ Ok (file_from q (3 + (length r.declared - length ds)) r)
-unfolding queue_then
-second_ok version ds text line rest q r parts is h = ap (read_second version ds) parts ∙ second_step version ds line rest ∙ rw (is, h) refl
+pub second_stops : (e : TraceFault) (f : ℕ) (version : Version) (ds : List Declaration) (text line rest : List ℕ) (q : Capacity) → parts_of text ≡ line ∷ parts_of rest → read_queue line ≡ Ok q
+    → Faults e (in_file f (read_lines (opened version ds) 3 (parts_of rest))) → Faults e (in_file f (read_second version ds (parts_of text)))
+second_stops e f version ds text line rest q parts is h = subst (λ x. Faults e (in_file f x)) (sym (second_then version ds text line rest q parts is)) (faults_then e f (read_lines (opened version ds) 3 (parts_of rest)) _ h)
 
 pub first_step : (ds : List Declaration) (text line rest : List ℕ) → parts_of text ≡ line ∷ parts_of rest → read_file ds text ≡ read_as (version_of line) ds (parts_of rest)
 unfolding read_file read_first
@@ -116,7 +133,8 @@ header_err ds text line rest parts unknown = first_step ds text line rest parts 
 
 pub second_view : (version : Version) (ds : List Declaration) (text line rest : List ℕ) (q : Capacity) (r : Read) (k : ℕ) → parts_of text ≡ line ∷ parts_of rest → read_queue line ≡ Ok q → read_lines (opened version ds) 3 (parts_of rest) ≡ Ok r
     → k ≡ 3 + (length r.declared - length ds) → read_second version ds (parts_of text) ≡ Ok (file_from q (k) r)
-second_view version ds text line rest q r k parts is h e = second_ok version ds text line rest q r parts is h ∙ ap (λ (n : ℕ). Ok (file_from q (n) r)) (sym e)
+second_view version ds text line rest q r k parts is h e =
+    second_then version ds text line rest q parts is ∙ ap (λ (x : Result Read (Kind × ℕ)). x >>= λ r. Ok (file_from q (3 + (length r.declared - length ds)) r)) h ∙ ap (λ (n : ℕ). Ok (file_from q (n) r)) (sym e)
 
 -- ---- each line is a declaration or a moment
 

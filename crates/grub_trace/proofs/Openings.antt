@@ -5,20 +5,17 @@ use Rattle.std.proofs.lemmas.List.Elements.{All-head, All-tail}
 use Rattle.grub_bw.specs.Bandwidth.{Capacity}
 use Rattle.grub_trace.specs.declared.version.Version.{Version}
 use Rattle.grub_trace.specs.declared.fault.Kind.{Kind}
-use Rattle.grub_trace.specs.declared.fault.Halt.{Halt}
 use Rattle.grub_trace.specs.declared.fault.TraceFault.TheVariants as fault
 use Rattle.grub_trace.specs.declared.fault.TraceFault.{TraceFault}
-use Rattle.grub_trace.specs.declared.fault.Halt.TheVariants as halt
 use Rattle.grub_trace.specs.declared.raw.Head.{Head}
 use Rattle.grub_trace.specs.declared.tasks.Tasks.{Tasks}
-use Rattle.grub_trace.specs.inside.Halts.{fault_of}
-use Rattle.grub_trace.specs.inside.Heads.{IsHead, bodies_from, body_from, read_body}
+use Rattle.grub_trace.specs.inside.Heads.{IsHead, bodies_from, body_from, lines_below, read_body}
 use Rattle.grub_trace.specs.Tree.{Declaration}
 use Rattle.grub_trace.specs.FirstFault.{HeaderFault, QueueFault, FileFault, OpeningFault}
 use Rattle.grub_trace.specs.Forms.{parts_of}
 use Rattle.grub_plan.specs.Contents.{contents}
-use Rattle.grub_trace.specs.inside.Reading.{Body, FileRead, AllRead, declarations, with_file, in_file, file_from, opened, read_queue, read_lines, read_second, read_file, read_from, at_line, ◌>>=◌, GivesOpening, AnswersOpening}
-use Rattle.grub_trace.proofs.LineLemmas.{second_step, queue_then}
+use Rattle.grub_trace.specs.inside.Reading.{Body, FileRead, AllRead, declarations, with_file, in_file, file_from, opened, read_queue, read_lines, read_second, read_file, read_from, ◌>>=◌, AnswersOpening}
+use Rattle.grub_trace.proofs.LineLemmas.{second_then}
 use Rattle.grub_trace.proofs.Runs.{broke}
 use Rattle.grub_trace.proofs.AllLemmas.{drop_item, files_done}
 use Rattle.grub_trace.proofs.HeadLaws.{HeadsOn, none_before}
@@ -28,28 +25,24 @@ use Rattle.grub_trace.proofs.FaultAgain.{file_fault_again}
 
 -- ---- the first two lines
 
-same_pair : {X : Type 0} (x y : Kind × ℕ) → ◌≡◌ {A = Result X (Kind × ℕ)} (Err x) (Err y) → x ≡ y
-same_pair x y e = cc
+same_where : {X : Type 0} (x y : Kind × ℕ × ℕ) → ◌≡◌ {A = Result X (Kind × ℕ × ℕ)} (Err x) (Err y) → x ≡ y
+same_where x y e = cc
+
+pub same_fault : {X : Type 0} (x y : TraceFault) → ◌≡◌ {A = Result X TraceFault} (Err x) (Err y) → x ≡ y
+same_fault x y e = cc
 
 -- the fault that reading gives
-pub opening_is : {U X : Type 0} (k : Kind) (n : ℕ) (total : Result X (Kind × ℕ)) → total ≡ Err (k, n) → GivesOpening {U = U} {X = X} (Err (halt.At k n)) total
-opening_is k n total is = λ j m le e. let p = same_pair (k, n) (j, m) (sym is ∙ e) in ap (λ (x : Kind × ℕ). Err (halt.At x.0 x.1)) p
-
--- where reading stops later, if at all, the opening says nothing
-pub opening_late : {U X : Type 0} (r : Result U Halt) (total : Result X (Kind × ℕ)) → ((k : Kind) (n : ℕ) → total ≡ Err (k, n) → 3 ≤ n) → GivesOpening r total
-opening_late r total late = λ k n le e. absurd (let l = late k n e in omega arith)
+pub opening_is : {U X : Type 0} (k : Kind) (f n : ℕ) (total : Result X (Kind × ℕ × ℕ)) → total ≡ Err (k, f, n) → AnswersOpening {U = U} {X = X} (Err (fault.At k f n)) total
+opening_is k f n total is = λ j m le e. let p = same_where (k, f, n) (j, 0, m) (sym is ∙ e) in ap (λ (x : Kind × ℕ × ℕ). Err (fault.At x.0 x.1 x.2)) p
 
 -- below a right second line nothing stops before line 3
-pub second_late : (version : Version) (ds : List Declaration) (text line rest : List ℕ) (q : Capacity) (k : Kind) (n : ℕ) → parts_of text ≡ line ∷ parts_of rest → read_queue line ≡ Ok q → read_second version ds (parts_of text) ≡ Err (k, n) → 3 ≤ n
-unfolding queue_then
-second_late version ds text line rest q k n parts queue e =
-    let whole : queue_then version ds line (parts_of rest) ≡ Err (k, n) = sym (ap (read_second version ds) parts ∙ second_step version ds line rest) ∙ e in
-    let g = λ (p : Capacity). read_lines (opened version ds) 3 (parts_of rest) >>= λ r. Ok (file_from p (3 + (length r.declared - length ds)) r) in
-    let below : g q ≡ Err (k, n) = sym (ap (λ (r : Result Capacity Kind). at_line 2 r >>= g) queue) ∙ whole in
-    elim (bind_err (read_lines (opened version ds) 3 (parts_of rest)) (λ r. Ok (file_from q (3 + (length r.declared - length ds)) r)) (k, n) below) [
-      | inl x ↦ let b = broke (parts_of rest) (opened version ds) 3 n k x in omega (arith, b.number)
-      | inr x ↦ absurd (let y = x.2 in cc)
-    ]
+pub second_late : {U : Type 0} (r : Result U TraceFault) (f : ℕ) (version : Version) (ds : List Declaration) (text line rest : List ℕ) (q : Capacity) → parts_of text ≡ line ∷ parts_of rest → read_queue line ≡ Ok q
+    → AnswersOpening r (in_file f (read_second version ds (parts_of text)))
+second_late r f version ds text line rest q parts queue = λ k n le e.
+    absurd (elim (bind_err (read_lines (opened version ds) 3 (parts_of rest)) (λ r. Ok (file_from q (3 + (length r.declared - length ds)) r)) (k, n) (sym (second_then version ds text line rest q parts queue) ∙ (in_file_err f _ k 0 n e).0)) [
+      | inl x ↦ let b = broke (parts_of rest) (opened version ds) 3 n k x in omega (arith, b.number, le)
+      | inr x ↦ let y = x.2 in cc
+    ])
 
 -- ---- files
 
@@ -60,25 +53,20 @@ Wrong k f n = Err (k, f, n)
 from_late : (files : List (List ℕ)) (all : AllRead) (f g : ℕ) (k : Kind) (n : ℕ) → read_from all f files ≡ Err (k, g, n) → f ≤ g
 from_late files all f g k n e = let u = files_fault files all f k g n e in omega (arith, u.2)
 
-from_first : (all : AllRead) (f : ℕ) (k : Kind) (n : ℕ) (bytes : List ℕ) (more : List (List ℕ)) → read_from all f (bytes ∷ more) ≡ Err (k, 0, n) → (read_file all.declared bytes ≡ Err (k, n)) × (0 ≡ f)
+from_first : (all : AllRead) (f : ℕ) (k : Kind) (n : ℕ) (bytes : List ℕ) (more : List (List ℕ)) → read_from all f (bytes ∷ more) ≡ Err (k, 0, n) → in_file f (read_file all.declared bytes) ≡ Err (k, 0, n)
 unfolding read_from
 from_first all f k n bytes more e =
     elim (bind_file_err (in_file f (read_file all.declared bytes)) (λ r. read_from (with_file all r) (f + 1) more) (k, 0, n) e) [
-      | inl x ↦ in_file_err f (read_file all.declared bytes) k 0 n x
+      | inl x ↦ x
       | inr x ↦ absurd (let late = from_late more (with_file all x.0) (f + 1) 0 k n x.2 in omega arith)
     ]
 
 -- a file that stops
-pub opening_stop : {U X : Type 0} (h : Halt) (all : AllRead) (f : ℕ) (files : List (Vec ℕ)) (bytes : Vec ℕ) (total : Result AllRead (Kind × ℕ × ℕ)) → f < length files → bytes ≡ get_or files f bytes
-    → GivesOpening {U = U} {X = FileRead} (Err h) (read_file all.declared bytes.items) → read_from all f (contents (drop f files)) ≡ total → AnswersOpening {U = X} {X = AllRead} (Err (fault_of h f)) total
-opening_stop {U} {X} h all f files bytes total lt item opening so_far = λ k n le e.
-    let here : read_from all f (bytes.items ∷ contents (drop (f + 1) files)) ≡ Err (k, 0, n) = sym (ap (λ (vs : List (Vec ℕ)). read_from all f (contents vs)) (drop_item files f bytes lt item)) ∙ so_far ∙ e in
-    let x = from_first all f k n bytes.items (contents (drop (f + 1) files)) here in
-    let is : h ≡ halt.At k n = same h (halt.At k n) (opening k n le x.0) in
-    ap (λ (y : Halt). Err (fault_of y f)) is ∙ ap (λ (i : ℕ). Err (fault.At k i n)) (sym x.1)
-  where
-    same : (x y : Halt) → ◌≡◌ {A = Result U Halt} (Err x) (Err y) → x ≡ y
-    same x y e = cc
+pub opening_stop : {U X : Type 0} (e : TraceFault) (all : AllRead) (f : ℕ) (files : List (Vec ℕ)) (bytes : Vec ℕ) (total : Result AllRead (Kind × ℕ × ℕ)) → f < length files → bytes ≡ get_or files f bytes
+    → AnswersOpening {U = U} {X = FileRead} (Err e) (in_file f (read_file all.declared bytes.items)) → read_from all f (contents (drop f files)) ≡ total → AnswersOpening {U = X} {X = AllRead} (Err e) total
+opening_stop {U} e all f files bytes total lt item opening so_far = λ k n le is.
+    let here : read_from all f (bytes.items ∷ contents (drop (f + 1) files)) ≡ Err (k, 0, n) = sym (ap (λ (vs : List (Vec ℕ)). read_from all f (contents vs)) (drop_item files f bytes lt item)) ∙ so_far ∙ is in
+    ap Err (same_fault {X = U} e (fault.At k 0 n) (opening k n le (from_first all f k n bytes.items (contents (drop (f + 1) files)) here)))
 
 -- where all is read, there is none
 pub opening_none : {X Y : Type 0} (x : X) (t : Result Y TraceFault) (total : Result X (Kind × ℕ × ℕ)) → total ≡ Ok x → AnswersOpening t total
@@ -87,34 +75,34 @@ opening_none x t total is = λ k n le e. absurd (let y = sym is ∙ e in cc)
 -- ---- heads
 
 -- below a head nothing stops before line 3
-body_late : (h : Head) (k : Kind) (n : ℕ) → IsHead h → read_body [] h ≡ Err (k, n) → 3 ≤ n
-body_late h k n is e =
-    elim (bind_err (read_lines (opened h.version []) h.first (parts_of h.below.now)) (λ r. Ok (body_from h r)) (k, n) e) [
-      | inl x ↦ let b = broke (parts_of h.below.now) (opened h.version []) h.first n k x in omega (arith, b.number, is.third)
+body_late : (h : Head) (k : Kind) (g n : ℕ) → IsHead h → read_body [] h ≡ Err (k, g, n) → 3 ≤ n
+body_late h k g n is e =
+    elim (bind_file_err (in_file h.file (lines_below [] h)) (λ r. Ok (body_from h r)) (k, g, n) e) [
+      | inl x ↦ let b = broke (parts_of h.below.now) (opened h.version []) h.first n k (in_file_err h.file (lines_below [] h) k g n x).0 in omega (arith, b.number, is.third)
       | inr x ↦ absurd (let y = x.2 in cc)
     ]
 
-bodies_late : (hs : List Head) (done : List Body) (f : ℕ) (k : Kind) (g n : ℕ) → All IsHead hs → bodies_from done f hs ≡ Err (k, g, n) → 3 ≤ n
+bodies_late : (hs : List Head) (done : List Body) (k : Kind) (g n : ℕ) → All IsHead hs → bodies_from done hs ≡ Err (k, g, n) → 3 ≤ n
 unfolding bodies_from
-bodies_late [] done f k g n are e = absurd cc
-bodies_late (h ∷ hs) done f k g n are e =
-    elim (bind_file_err (in_file f (read_body [] h)) (λ b. bodies_from (done ++ b ∷ []) (f + 1) hs) (k, g, n) e) [
-      | inl x ↦ body_late h k n (All-head IsHead h hs are) (in_file_err f (read_body [] h) k g n x).0
-      | inr x ↦ bodies_late hs (done ++ x.0 ∷ []) (f + 1) k g n (All-tail IsHead h hs are) x.2
+bodies_late [] done k g n are e = absurd cc
+bodies_late (h ∷ hs) done k g n are e =
+    elim (bind_file_err (read_body [] h) (λ b. bodies_from (done ++ b ∷ []) hs) (k, g, n) e) [
+      | inl x ↦ body_late h k g n (All-head IsHead h hs are) x
+      | inr x ↦ bodies_late hs (done ++ x.0 ∷ []) k g n (All-tail IsHead h hs are) x.2
     ]
 
 -- behind the first head no opening is left
 pub heads_past : {X : Type 0} (a : Tasks) (hs : List Head) (f : ℕ) (files : List (Vec ℕ)) (t : Result X TraceFault) → 0 < f → HeadsOn a hs f files → AnswersOpening t (read_from (record { declared = []; files = [] }) 0 (contents files))
 heads_past a hs f files t later on = λ k n le e.
     let end = λ (bs : List Body). read_from (record { declared = declarations a; files = bs }) f (contents (drop f files)) in
-    absurd (elim (bind_file_err (bodies_from [] 0 hs) end (k, 0, n) (sym on.so_far ∙ e)) [
-      | inl x ↦ let late = bodies_late hs [] 0 k 0 n on.heads x in omega (arith, late, le)
+    absurd (elim (bind_file_err (bodies_from [] hs) end (k, 0, n) (sym on.so_far ∙ e)) [
+      | inl x ↦ let late = bodies_late hs [] k 0 n on.heads x in omega (arith, late, le)
       | inr x ↦ let late = from_late (contents (drop f files)) (record { declared = declarations a; files = x.0 }) f 0 k n x.2 in omega (arith, late, later)
     ])
 
 -- a head that is wrong
-pub heads_opening : {U X : Type 0} (e : Halt) (a : Tasks) (hs : List Head) (f : ℕ) (files : List (Vec ℕ)) (bytes : Vec ℕ) → f < length files → bytes ≡ get_or files f bytes
-    → GivesOpening {U = U} {X = FileRead} (Err e) (read_file (declarations a) bytes.items) → HeadsOn a hs f files → AnswersOpening {U = X} {X = AllRead} (Err (fault_of e f)) (read_from (record { declared = []; files = [] }) 0 (contents files))
+pub heads_opening : {U X : Type 0} (e : TraceFault) (a : Tasks) (hs : List Head) (f : ℕ) (files : List (Vec ℕ)) (bytes : Vec ℕ) → f < length files → bytes ≡ get_or files f bytes
+    → AnswersOpening {U = U} {X = FileRead} (Err e) (in_file f (read_file (declarations a) bytes.items)) → HeadsOn a hs f files → AnswersOpening {U = X} {X = AllRead} (Err e) (read_from (record { declared = []; files = [] }) 0 (contents files))
 heads_opening e a hs zero files bytes lt item opening on = opening_stop e (record { declared = declarations a; files = [] }) zero files bytes _ lt item opening (sym (none_before hs _ on.count) ∙ sym on.so_far)
 heads_opening e a hs (suc f) files bytes lt item opening on = heads_past a hs (suc f) files _ (omega arith) on
 

@@ -22,6 +22,8 @@ use Rattle.grub_trace.specs.inside.Reading.{AllRead, Answers, AnswersOpening, Fa
 use Rattle.grub_trace.specs.Naming.{plan_with}
 use Rattle.grub_trace.specs.Tree.{names_of}
 use Rattle.grub_trace.proofs.Elsewhere.{not_zero}
+use Rattle.grub_trace.proofs.AllLemmas.{faults_then}
+use Rattle.grub_trace.proofs.Openings.{same_fault}
 
 -- ---- one body after the other
 
@@ -52,10 +54,6 @@ plan_after : (files : List (List ℕ)) → 0 < length files → length files ≤
 unfolding plan_from
 plan_after files some few = rw (le-ltb 64 (length files) few, not_zero (length files) some) refl
 
-faults_then : {X Y : Type 0} (e : TraceFault) (r : Result X (Kind × ℕ × ℕ)) (k : X → Result Y (Kind × ℕ × ℕ)) → Faults e r → Faults e (r >>= k)
-faults_then fault.NoMemory r k h = tt
-faults_then (fault.At j f n) r k h = ap (λ x. x >>= k) h
-
 -- a fault of reading is the plan's
 pub read_fault : (e : TraceFault) (files : List (List ℕ)) → 0 < length files → length files ≤ 64 → Faults e (read_from (record { declared = []; files = [] }) 0 files) → Faults e (plan_from files)
 read_fault e files some few h = subst (Faults e) (sym (plan_after files some few)) (faults_then e _ (λ all. plan_of_read all) h)
@@ -65,9 +63,6 @@ pub name_fault : (e : TraceFault) (files : List (List ℕ)) (t : Tasks) (bs : Li
     → Faults e (scripts_from (names_of (declarations t)) [] 0 bs) → Faults e (plan_from files)
 name_fault e files t bs some few read h =
     subst (Faults e) (sym (plan_after files some few ∙ ap (λ (r : Result AllRead (Kind × ℕ × ℕ)). r >>= λ all. plan_of_read all) read)) (faults_then e _ (λ scripts. Ok (plan_with (map (λ b. b.queue) bs) (declarations t) scripts)) h)
-
-pub same_fault : {X : Type 0} (x y : TraceFault) → ◌≡◌ {A = Result X TraceFault} (Err x) (Err y) → x ≡ y
-same_fault x y e = cc
 
 -- too many files, or none
 pub planned_count : (files : List (List ℕ)) (e : TraceFault) → (64 < length files → e ≡ fault.At OutOfRange 64 1) → (length files ≡ 0 → e ≡ fault.At MissingQueue 0 1)

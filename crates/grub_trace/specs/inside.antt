@@ -1,7 +1,6 @@
 pub mod Bodies
 pub mod Faults
 pub mod Forms
-pub mod Halts
 pub mod Heads
 pub mod Lines
 pub mod Planning

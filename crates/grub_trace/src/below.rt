@@ -6,16 +6,16 @@ ghost use Rattle.grub_trace.specs.inside.Heads.{IsHead};
 ghost use Rattle.grub_trace.specs.inside.Reading.{IsIndexed};
 
 use crate::body::read_body;
-use crate::fault::Halt;
+use crate::fault::TraceFault;
 use crate::raw::{Head, RawFile};
 use crate::tasks::Tasks;
 use std::alloc::Global;
 
-/// A head, and what was read below it; before that, `Memory`.
+/// A head, and what was read below it; before that, `NoMemory`.
 #[derive(Drop)]
 pub struct Below<'a> {
     pub head: Head<'a>,
-    pub file: Result<RawFile, Halt>,
+    pub file: Result<RawFile, TraceFault>,
 }
 
 impl<'a> Below<'a> {

@@ -1,15 +1,13 @@
 //! What stands below a head: what each line says, and the script that the lines are.
 
 ghost use Rattle.std.specs.Prelude.{◌≡◌, ◌≤◌, [], map, false};
-ghost use Rattle.grub_trace.specs.inside.Reading.{IsIndexed, IsMoment, IsRetune, IsRun, declarations, line_view, opened, read_lines};
+ghost use Rattle.grub_trace.specs.inside.Reading.{IsIndexed, IsMoment, IsRetune, IsRun, declarations, in_file, line_view};
 ghost use Rattle.grub_trace.specs.Faults.{last_of};
-ghost use Rattle.grub_trace.specs.Forms.{parts_of};
 ghost use Rattle.grub_trace.specs.Tree.{names_of};
-ghost use Rattle.grub_trace.specs.inside.Forms.{begins_with_task};
-ghost use Rattle.grub_trace.specs.inside.Heads.{IsHead, read_body};
+ghost use Rattle.grub_trace.specs.inside.Heads.{IsHead, lines_below, read_body};
 ghost use Rattle.grub_trace.specs.inside.Lines.{GivesBody, GivesScript, IsTimely, SaysMore, TakesAct, TakesLine};
 
-use crate::fault::{Halt, Kind};
+use crate::fault::{Kind, Location, TraceFault};
 use crate::form::{Form, form_of};
 use crate::naming::act_in;
 use crate::number::number;
@@ -145,47 +143,40 @@ fn say(
     Ok(())
 }
 
-/// Reads the lines from number `first` on. The room for all of them is taken at once, so that they are never copied.
-fn read_lines(
-    alloc: Global,
-    version: Version,
-    tasks: &Tasks,
-    first: usize,
-    text: &[u8],
-) -> Result<RawScript, Halt>
+/// Reads the lines below a head. The room for all of them is taken at once, so that they are never copied.
+fn read_lines(alloc: Global, tasks: &Tasks, head: &Head<'_>) -> Result<RawScript, TraceFault>
     requires indexed { IsIndexed tasks.now }
-    requires below { begins_with_task (parts_of text.now) ≡ false }
-    requires few { first ≤ 259 }
-    ensures { GivesScript result tasks.now first (read_lines (opened version (declarations tasks.now)) first (parts_of text.now)) }
+    requires head { IsHead head.now }
+    ensures { GivesScript result tasks.now head.now.first (in_file head.now.file (lines_below (declarations tasks.now) head.now)) }
 {
     let mut script = RawScript {
-        lines: Vec::with_capacity(alloc, text.len() / LINE_MIN)?,
+        lines: Vec::with_capacity(alloc, head.below.len() / LINE_MIN)?,
         unknown: None,
     };
-    let mut rest = text;
-    let mut number = first;
-    while let Some((line, after)) = first_line(rest) {
-        let said = match take_line(version, last(&script.lines), line) {
-            Ok(said) => said,
-            Err(kind) => return Err(Halt::At(kind, number)),
-        };
-        say(tasks, &mut script, number, said)?;
+    let file = head.file;
+    let mut rest = head.below;
+    let mut line = head.first;
+    while let Some((text, after)) = first_line(rest) {
+        let here = Location { file, line };
+        let last = last(&script.lines);
+        let said = take_line(head.version, last, text).map_err(|kind| here.fault(kind))?;
+        say(tasks, &mut script, line, said)?;
         rest = after;
-        number += 1;
+        line += 1;
     }
     if !rest.is_empty() {
-        return Err(Halt::At(Kind::CutShort, number));
+        return Err(Location { file, line }.fault(Kind::CutShort));
     }
     Ok(script)
 }
 
 /// Reads what stands below a head, where all tasks are declared.
-pub fn read_body(alloc: Global, tasks: &Tasks, head: &Head<'_>) -> Result<RawFile, Halt>
+pub fn read_body(alloc: Global, tasks: &Tasks, head: &Head<'_>) -> Result<RawFile, TraceFault>
     requires indexed { IsIndexed tasks.now }
     requires head { IsHead head.now }
     ensures { GivesBody result tasks.now (read_body [] head.now) }
 {
-    let script = read_lines(alloc, head.version, tasks, head.first, head.below)?;
+    let script = read_lines(alloc, tasks, head)?;
     Ok(RawFile {
         queue: head.queue,
         script,

@@ -1,13 +1,13 @@
 //! The head of a file: its version, its runqueue, and the tasks that it declares.
 
 ghost use Rattle.std.specs.Prelude.{◌≡◌, Err, IfOk, IfSome, is_some};
-ghost use Rattle.grub_trace.specs.declared.fault.Halt.TheVariants.{Memory};
+ghost use Rattle.grub_trace.specs.declared.fault.TraceFault.TheVariants.{NoMemory};
 ghost use Rattle.grub_trace.specs.Faults.{capacity_fits};
 ghost use Rattle.grub_trace.specs.Forms.{parts_of, version_of};
 ghost use Rattle.grub_trace.specs.inside.Heads.{GivesHead, GivesTasks, IsHead};
-ghost use Rattle.grub_trace.specs.inside.Reading.{GivesOpening, GivesQueue, IsIndexed, declarations, read_file, read_queue, read_second};
+ghost use Rattle.grub_trace.specs.inside.Reading.{AnswersOpening, GivesQueue, IsIndexed, declarations, in_file, read_file, read_queue, read_second};
 
-use crate::fault::{Halt, Kind};
+use crate::fault::{Kind, Location, TraceFault};
 use crate::form::{Form, form_of};
 use crate::number::number;
 use crate::raw::Head;
@@ -20,15 +20,17 @@ use std::alloc::Global;
 /// Reads the task lines, which stand below the second.
 fn read_tasks<'a>(
     alloc: Global,
+    file: usize,
     version: Version,
     queue: Queue,
     tasks: &mut Tasks,
     text: &'a [u8],
-) -> Result<Head<'a>, Halt>
+) -> Result<Head<'a>, TraceFault>
     requires indexed { IsIndexed tasks.old }
-    ensures gives { GivesTasks result version queue (declarations tasks.old) (declarations tasks.new) (parts_of text.now) }
+    ensures gives { GivesTasks result file version queue (declarations tasks.old) (declarations tasks.new) (parts_of text.now) }
     ensures head { IfOk result IsHead }
-    ensures indexed { (result ≡ Err Memory → ⊥) → IsIndexed tasks.new }
+    ensures file { IfOk result (λ h. h.file ≡ file) }
+    ensures indexed { (result ≡ Err NoMemory → ⊥) → IsIndexed tasks.new }
 {
     let mut rest = text;
     let mut first = 3;
@@ -36,11 +38,13 @@ fn read_tasks<'a>(
         let Some(Form::Task(name, runtime, period)) = form_of(line) else {
             break;
         };
-        declare(alloc, tasks, first, name, runtime, period)?;
+        let line = Location { file, line: first };
+        declare(alloc, tasks, line, name, runtime, period)?;
         rest = after;
         first += 1;
     }
     Ok(Head {
+        file,
         version,
         queue,
         first,
@@ -79,51 +83,59 @@ fn read_queue(line: &[u8]) -> Result<Queue, Kind>
 /// Reads the second line and the task lines below it.
 fn read_second<'a>(
     alloc: Global,
+    file: usize,
     version: Version,
     tasks: &mut Tasks,
     text: &'a [u8],
-) -> Result<Head<'a>, Halt>
+) -> Result<Head<'a>, TraceFault>
     requires indexed { IsIndexed tasks.old }
-    ensures gives { GivesHead result (declarations tasks.new) (read_second version (declarations tasks.old) (parts_of text.now)) }
-    ensures opening { GivesOpening result (read_second version (declarations tasks.old) (parts_of text.now)) }
+    ensures gives { GivesHead result file (declarations tasks.new) (read_second version (declarations tasks.old) (parts_of text.now)) }
+    ensures opening { AnswersOpening result (in_file file (read_second version (declarations tasks.old) (parts_of text.now))) }
     ensures head { IfOk result IsHead }
-    ensures indexed { (result ≡ Err Memory → ⊥) → IsIndexed tasks.new }
+    ensures file { IfOk result (λ h. h.file ≡ file) }
+    ensures indexed { (result ≡ Err NoMemory → ⊥) → IsIndexed tasks.new }
 {
+    let second = Location { file, line: 2 };
     let Some((line, rest)) = first_line(text) else {
         let kind = if text.is_empty() {
             Kind::MissingQueue
         } else {
             Kind::CutShort
         };
-        return Err(Halt::At(kind, 2));
+        return Err(second.fault(kind));
     };
-    match read_queue(line) {
-        Ok(queue) => read_tasks(alloc, version, queue, tasks, rest),
-        Err(kind) => Err(Halt::At(kind, 2)),
-    }
+    let queue = read_queue(line).map_err(|kind| second.fault(kind))?;
+    read_tasks(alloc, file, version, queue, tasks, rest)
 }
 
 #[tactic(auto, unfolding(crate::specs::inside::Reading::read_file, crate::specs::inside::Reading::read_first))]
-/// Reads the head of a file, after the tasks of the files before it.
-pub fn read_head<'a>(alloc: Global, tasks: &mut Tasks, bytes: &'a [u8]) -> Result<Head<'a>, Halt>
+/// Reads the head of the file of this number, after the tasks of the files before it.
+pub fn read_head<'a>(
+    alloc: Global,
+    file: usize,
+    tasks: &mut Tasks,
+    bytes: &'a [u8],
+) -> Result<Head<'a>, TraceFault>
     requires indexed { IsIndexed tasks.old }
-    ensures gives { GivesHead result (declarations tasks.new) (read_file (declarations tasks.old) bytes.now) }
-    ensures opening { GivesOpening result (read_file (declarations tasks.old) bytes.now) }
+    ensures gives { GivesHead result file (declarations tasks.new) (read_file (declarations tasks.old) bytes.now) }
+    ensures opening { AnswersOpening result (in_file file (read_file (declarations tasks.old) bytes.now)) }
     ensures head { IfOk result IsHead }
-    ensures indexed { (result ≡ Err Memory → ⊥) → IsIndexed tasks.new }
+    ensures file { IfOk result (λ h. h.file ≡ file) }
+    ensures indexed { (result ≡ Err NoMemory → ⊥) → IsIndexed tasks.new }
 {
+    let first = Location { file, line: 1 };
     let Some((line, rest)) = first_line(bytes) else {
         let kind = if bytes.is_empty() {
             Kind::BadHeader
         } else {
             Kind::CutShort
         };
-        return Err(Halt::At(kind, 1));
+        return Err(first.fault(kind));
     };
     let Some(version) = version_of(line) else {
-        return Err(Halt::At(Kind::BadHeader, 1));
+        return Err(first.fault(Kind::BadHeader));
     };
-    read_second(alloc, version, tasks, rest)
+    read_second(alloc, file, version, tasks, rest)
 }
 
 /// The version that a first line names.

@@ -8,7 +8,7 @@ ghost use Rattle.grub_trace.specs.inside.Heads.{GiveTogether};
 ghost use Rattle.grub_trace.specs.inside.Reading.{AnswersOpening, Faults, IsIndexed, declarations, read_from};
 
 use crate::below::Below;
-use crate::fault::{Halt, Kind, TraceFault};
+use crate::fault::{Kind, TraceFault};
 use crate::head::read_head;
 use crate::tasks::Tasks;
 use grub_book::QUEUES_MAX;
@@ -65,12 +65,12 @@ fn heads_of(alloc: Global, files: &[Vec<u8>]) -> Result<Heads<'_>, TraceFault>
     let mut tasks = Tasks::new(alloc);
     let mut bodies = Vec::new(alloc);
     for (file, bytes) in files.iter().enumerate() {
-        let head = match read_head(alloc, &mut tasks, bytes) {
+        let head = match read_head(alloc, file, &mut tasks, bytes) {
             Ok(head) => head,
-            Err(Halt::Memory) => return Err(TraceFault::NoMemory),
-            Err(halt) if file == 0 => return Err(halt.in_file(file)),
-            Err(halt) => {
-                let fault = Some(halt.in_file(file));
+            Err(TraceFault::NoMemory) => return Err(TraceFault::NoMemory),
+            Err(fault) if file == 0 => return Err(fault),
+            Err(fault) => {
+                let fault = Some(fault);
                 return Ok(Heads {
                     tasks,
                     bodies,
@@ -78,7 +78,7 @@ fn heads_of(alloc: Global, files: &[Vec<u8>]) -> Result<Heads<'_>, TraceFault>
                 });
             }
         };
-        let file = Err(Halt::Memory);
+        let file = Err(TraceFault::NoMemory);
         if bodies.push(Below { head, file }).is_err() {
             return Err(TraceFault::NoMemory);
         }

@@ -44,10 +44,7 @@ fn collect(
     let mut files = Vec::with_capacity(alloc, bodies.len())?;
     for body in bodies {
         let Below { head: _, file } = body;
-        match file {
-            Ok(file) => files.push(file)?,
-            Err(halt) => return Err(halt.in_file(files.len())),
-        }
+        files.push(file?)?;
     }
     match fault {
         Some(fault) => Err(fault),

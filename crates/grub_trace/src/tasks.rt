@@ -7,7 +7,7 @@ ghost use Rattle.grub_trace.specs.Naming.{task_of};
 ghost use Rattle.grub_trace.specs.Faults.{reservation_fits};
 ghost use Rattle.grub_trace.specs.inside.Reading.{Declares, declarations, IsIndexed};
 
-use crate::fault::{Halt, Kind};
+use crate::fault::{Kind, Location, TraceFault};
 use crate::number::number;
 use grub_book::TASKS_MAX;
 use grub_bw::Params;
@@ -73,31 +73,31 @@ pub fn reservation(runtime: u32, period: u32) -> Option<Params>
     Params::new(runtime, period).ok()
 }
 
-/// Declares the task of a line of this number.
+/// Declares the task of this line.
 pub fn declare(
     alloc: Global,
     tasks: &mut Tasks,
-    line: usize,
+    line: Location,
     name: &[u8],
     runtime: &[u8],
     period: &[u8],
-) -> Result<(), Halt>
+) -> Result<(), TraceFault>
     requires indexed { IsIndexed tasks.old }
     requires name_in { is_name name.now ≡ true }
     ensures takes { Declares result line (declarations tasks.old) (declarations tasks.new) name.now runtime.now period.now }
-    ensures indexed { (result ≡ Err Halt.Memory → ⊥) → IsIndexed tasks.new }
+    ensures indexed { (result ≡ Err TraceFault.NoMemory → ⊥) → IsIndexed tasks.new }
 {
     let (Some(runtime), Some(period)) = (number(runtime), number(period)) else {
-        return Err(Halt::At(Kind::BadNumber, line));
+        return Err(line.fault(Kind::BadNumber));
     };
     if tasks.list.len() >= TASKS_MAX {
-        return Err(Halt::At(Kind::OutOfRange, line));
+        return Err(line.fault(Kind::OutOfRange));
     }
     let Some(params) = reservation(runtime, period) else {
-        return Err(Halt::At(Kind::OutOfRange, line));
+        return Err(line.fault(Kind::OutOfRange));
     };
     if tasks.find(name).is_some() {
-        return Err(Halt::At(Kind::DuplicateTask, line));
+        return Err(line.fault(Kind::DuplicateTask));
     }
     let Ok(name) = str::from_utf8(name) else {
         unreachable!();

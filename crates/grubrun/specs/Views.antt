@@ -13,20 +13,14 @@ abbrev pub wanted_picture : Option ℕ → Option ℕ → Wanted
 wanted_picture from None = View (views.Picture from None)
 wanted_picture from (Some end) = if nat_le end (unwrap_or from 0) then EmptySpan (unwrap_or from 0) end else View (views.Picture from (Some end))
 
--- what is asked for where no span is given
-abbrev pub view_of : Option ViewWord → Wanted
-view_of None = Reports
-view_of (Some Timeline) = View views.Timeline
-view_of (Some Steps) = View views.Steps
-view_of (Some Summary) = View views.Summary
-view_of (Some Picture) = wanted_picture None None
-view_of (Some Unknown) = NoView
-
 -- what is asked for; a span is of a picture alone
 abbrev pub wanted_of : Option ViewWord → Option ℕ → Option ℕ → Wanted
 wanted_of (Some Picture) from to = wanted_picture from to
 wanted_of (Some Unknown) from to = NoView
-wanted_of view None None = view_of view
+wanted_of None None None = Reports
+wanted_of (Some Timeline) None None = View views.Timeline
+wanted_of (Some Steps) None None = View views.Steps
+wanted_of (Some Summary) None None = View views.Summary
 wanted_of view from to = NoPicture
 
 -- what there is nothing of

@@ -7,9 +7,9 @@ ghost use Rattle.clap.specs.Values.{kind_of};
 ghost use Rattle.clap.specs.Words.{FailsBy, fault_of, found_of, matches_of, rows_of};
 ghost use Rattle.clap.specs.declared.error.kind.ErrorKind.TheVariants as kinds;
 ghost use Rattle.std.specs.declared.io.ErrorKind.TheVariants as io_kinds;
-ghost use Rattle.grub_serve.specs.Printed.{HasFileFault};
+ghost use Rattle.grub_serve.specs.Faults.{HasFileFault, Whole};
 ghost use Rattle.grub_command.specs.CommandLine.{TriesNamed, command_line, files_named, names_among};
-ghost use Rattle.grubrun.specs.Statuses.{AsksForNoSpan, BeginsOf, HasNoSpan, PrintsAsked, PrintsOf, PrintsRun, PrintsSome};
+ghost use Rattle.grubrun.specs.Statuses.{AsksFor, Begins, HasNoSpan, PrintsAsked, Writes};
 ghost use Rattle.grubrun.specs.inside.Statuses.{PrintsKind};
 ghost use Rattle.grubrun.specs.Views.{IsMistake, IsRefused, Wants};
 
@@ -45,10 +45,10 @@ pub fn serve<
     // The status of a file's fault comes only where, by what the calls of `source` may answer, a file that the words name is at fault.
     ensures file { result ≡ STATUS_FILE → HasFileFault O.Fn N.Fn source.now (files_named (map string_bytes words.now)) }
     // Right words are not answered as wrong, and are done once what they ask for is printed of the files that they name.
-    ensures usage { result ≡ STATUS_USAGE → IsRefused (map string_bytes words.now) ⊎ AsksForNoSpan O.Fn N.Fn source.now (map string_bytes words.now) }
-    ensures done { result ≡ 0 → IsRefused (map string_bytes words.now) ⊎ PrintsRun O.Fn N.Fn source.now (map string_bytes words.now) (W.contents out.old) (W.contents out.new) }
+    ensures usage { result ≡ STATUS_USAGE → IsRefused (map string_bytes words.now) ⊎ AsksFor O.Fn N.Fn source.now HasNoSpan (map string_bytes words.now) }
+    ensures done { result ≡ 0 → IsRefused (map string_bytes words.now) ⊎ AsksFor O.Fn N.Fn source.now (Writes (W.contents out.old) (W.contents out.new)) (map string_bytes words.now) }
     // Where the system failed on right words, nothing or a beginning of this was printed.
-    ensures failed { result ≡ STATUS_SYSTEM → IsRefused (map string_bytes words.now) ⊎ (out.new ≡ out.old) ⊎ PrintsSome O.Fn N.Fn source.now (map string_bytes words.now) (W.contents out.old) (W.contents out.new) }
+    ensures failed { result ≡ STATUS_SYSTEM → IsRefused (map string_bytes words.now) ⊎ (out.new ≡ out.old) ⊎ AsksFor O.Fn N.Fn source.now (Begins (W.contents out.old) (W.contents out.new)) (map string_bytes words.now) }
     // Of the words that are refused, only those that ask for the help or the version are done, and it was printed.
     ensures help { IsRefused (map string_bytes words.now) → result ≡ 0 → PrintsAsked (map string_bytes words.now) (W.contents out.old) (W.contents out.new) }
 {
@@ -90,11 +90,11 @@ fn serve_options<
     requires open { O.IsAlwaysCallable source.now.open }
     requires read { N.IsAlwaysCallable source.now.read }
     ensures status { (result ≡ 0) ⊎ (result ≡ STATUS_FILE) ⊎ (result ≡ STATUS_USAGE) ⊎ (result ≡ STATUS_SYSTEM) }
-    ensures done { result ≡ 0 → PrintsOf O.Fn N.Fn source.now wanted options.now.tries (names_among (rows_of (found_of options.now.matches))) (W.contents out.old) (W.contents out.new) }
+    ensures done { result ≡ 0 → Whole O.Fn N.Fn source.now (Writes (W.contents out.old) (W.contents out.new) wanted options.now.tries) (names_among (rows_of (found_of options.now.matches))) }
     ensures file { result ≡ STATUS_FILE → HasFileFault O.Fn N.Fn source.now (names_among (rows_of (found_of options.now.matches))) }
-    ensures usage { result ≡ STATUS_USAGE → IsMistake wanted ⊎ HasNoSpan O.Fn N.Fn source.now wanted (names_among (rows_of (found_of options.now.matches))) }
+    ensures usage { result ≡ STATUS_USAGE → IsMistake wanted ⊎ Whole O.Fn N.Fn source.now (HasNoSpan wanted options.now.tries) (names_among (rows_of (found_of options.now.matches))) }
     ensures nothing { (result ≡ STATUS_FILE) ⊎ (result ≡ STATUS_USAGE) → out.new ≡ out.old }
-    ensures failed { result ≡ STATUS_SYSTEM → (out.new ≡ out.old) ⊎ BeginsOf O.Fn N.Fn source.now wanted options.now.tries (names_among (rows_of (found_of options.now.matches))) (W.contents out.old) (W.contents out.new) }
+    ensures failed { result ≡ STATUS_SYSTEM → (out.new ≡ out.old) ⊎ Whole O.Fn N.Fn source.now (Begins (W.contents out.old) (W.contents out.new) wanted options.now.tries) (names_among (rows_of (found_of options.now.matches))) }
 {
     let paths = options.matches.get_strs("FILE").unwrap_or(&[]);
     match wanted {

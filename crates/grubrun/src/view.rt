@@ -1,7 +1,7 @@
 //! What the words ask to be printed: reports, or a view of the time line.
 
-ghost use Rattle.std.specs.Prelude.{◌≡◌};
-ghost use Rattle.grubrun.specs.Views.{view_of, wanted_of, wanted_picture};
+ghost use Rattle.std.specs.Prelude.{◌≡◌, None};
+ghost use Rattle.grubrun.specs.Views.{wanted_of, wanted_picture};
 
 use grub_command::ViewWord;
 use grub_show::View;
@@ -58,7 +58,7 @@ fn picture_by(from: Option<u32>, to: Option<u32>) -> Wanted
 
 /// What is asked for by the word after `--view` alone.
 fn view_by(view: Option<ViewWord>) -> Wanted
-    ensures { result ≡ view_of view }
+    ensures { result ≡ wanted_of view None None }
 {
     match view {
         None => Wanted::Reports,

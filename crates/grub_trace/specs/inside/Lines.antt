@@ -1,7 +1,7 @@
 -- What lines below a head say, and the script that they are.
 use Rattle.std.specs.Prelude.{◌≡◌, ◌<◌, ◌≤◌, ℕ, true, List, [], Option, Some, None, Result, Ok, Err, length, map, ◌+◌, ◌++◌, ◌∷◌}
 use Rattle.std.specs.Borrow.{Bor}
-use Rattle.grub_trace.specs.declared.fault.Halt.{Halt}
+use Rattle.grub_trace.specs.declared.fault.TraceFault.{TraceFault}
 use Rattle.grub_trace.specs.declared.fault.Kind.{Kind}
 use Rattle.grub_trace.specs.declared.fault.Kind.TheVariants.{MomentGoesBack}
 use Rattle.grub_plan.specs.declared.line.Act.{Act}
@@ -15,7 +15,7 @@ use Rattle.grub_trace.specs.Forms.{at_moment, form_of, words_of}
 use Rattle.grub_plan.specs.Plans.{Line}
 use Rattle.grub_trace.specs.Tree.{Happening, names_of}
 use Rattle.grub_trace.specs.inside.Forms.{is_task}
-use Rattle.grub_trace.specs.inside.Reading.{Body, Halts, Read, declarations, line_view, raw_view, says, script_from, take_form, take_line, times_of}
+use Rattle.grub_trace.specs.inside.Reading.{Body, Faults, Read, declarations, line_view, raw_view, says, script_from, take_form, take_line, times_of}
 
 -- the next moment is not before the last one
 abbrev pub IsTimely : {U : Type 0} → Result U Kind → ℕ → ℕ → Type 0
@@ -52,9 +52,9 @@ SaysMore (Ok u) names old new n h = (first : ℕ) (happenings : List Happening) 
 SaysMore (Err e) names old new n h = Unit {0}
 
 -- the script of what was read, or the fault
-abbrev pub GivesScript : Result RawScript Halt → Tasks → ℕ → Result Read (Kind × ℕ) → Type 0
+abbrev pub GivesScript : Result RawScript TraceFault → Tasks → ℕ → Result Read (Kind × ℕ × ℕ) → Type 0
 GivesScript (Ok s) t first total = (r : Read) × (total ≡ Ok r) × IsScript (names_of (declarations t)) first r.happenings s.lines.items s.unknown
-GivesScript (Err e) t first total = Halts e total
+GivesScript (Err e) t first total = Faults e total
 
 -- the file that stands below a head
 pub record IsBody (t : Tasks) (b : Body) (f : RawFile) : Type 0 where
@@ -68,6 +68,6 @@ AreBodies t (b ∷ bs) [] = ⊥
 AreBodies t (b ∷ bs) (f ∷ fs) = IsBody t b f × AreBodies t bs fs
 
 -- what was read below a head, or its fault
-abbrev pub GivesBody : Result RawFile Halt → Tasks → Result Body (Kind × ℕ) → Type 0
+abbrev pub GivesBody : Result RawFile TraceFault → Tasks → Result Body (Kind × ℕ × ℕ) → Type 0
 GivesBody (Ok f) t total = (b : Body) × (total ≡ Ok b) × IsBody t b f
-GivesBody (Err e) t total = Halts e total
+GivesBody (Err e) t total = Faults e total

@@ -14,8 +14,7 @@ use Rattle.grub_trace.specs.declared.fault.TraceFault.TheVariants as fault
 use Rattle.grub_plan.specs.declared.line.Line as lines
 use Rattle.grub_plan.specs.declared.line.Act.{Act}
 use Rattle.grub_plan.specs.declared.line.Act.TheVariants as act
-use Rattle.grub_trace.specs.declared.fault.Halt.{Halt}
-use Rattle.grub_trace.specs.declared.fault.Halt.TheVariants as halt
+use Rattle.grub_trace.specs.declared.fault.Location.{Location}
 use Rattle.grub_trace.specs.declared.tasks.Task.{Task}
 use Rattle.grub_trace.specs.declared.tasks.Tasks.{Tasks}
 use Rattle.grub_trace.specs.Forms.{parts_of, version_of, Form, queue, task, at_moment, words_of, form_of, is_filled, is_number, value, reservation_value, capacity_value}
@@ -113,10 +112,14 @@ abbrev pub at_line : {X : Type 0} → ℕ → Result X Kind → Result X (Kind �
 at_line n (Ok x) = Ok x
 at_line n (Err k) = Err (k, n)
 
--- what a function returned is what reading gives, unless memory ran out
-abbrev pub Halts : {X : Type 0} → Halt → Result X (Kind × ℕ) → Type 0
-Halts halt.Memory r = Unit {0}
-Halts (halt.At k n) r = r ≡ Err (k, n)
+abbrev pub in_file : {X : Type 0} → ℕ → Result X (Kind × ℕ) → Result X (Kind × ℕ × ℕ)
+in_file f (Ok x) = Ok x
+in_file f (Err e) = Err (e.0, f, e.1)
+
+-- the fault that a function answered is the one that reading gives, unless memory ran out
+abbrev pub Faults : {X : Type 0} → TraceFault → Result X (Kind × ℕ × ℕ) → Type 0
+Faults fault.NoMemory r = Unit {0}
+Faults (fault.At k f n) r = r ≡ Err (k, f, n)
 
 -- ---- what the code keeps
 
@@ -131,14 +134,10 @@ pub record IsIndexed (t : Tasks) : Type 0 where
   pub few : length (declarations t) ≤ 256
   pub found : (q : List ℕ) → get_by_text t.index q ≡ task_of (names_of (declarations t)) q
 
--- what a step at line n returned, and what it left, are what reading gives, unless memory ran out
-abbrev pub Takes : {U X : Type 0} → Result U Halt → ℕ → X → Result X Kind → Type 0
-Takes (Ok u) n new r = r ≡ Ok new
-Takes (Err e) n new r = Halts e (at_line n r)
-
--- what became of the declarations, where a task line stands before the first moment
-abbrev pub Declares : {U : Type 0} → Result U Halt → ℕ → List Declaration → List Declaration → List ℕ → List ℕ → List ℕ → Type 0
-Declares r line old new n q p = (version : Version) → Takes r line (opened version new) (take_form (opened version old) (task n q p))
+-- what became of the declarations, where a task line stands before the first moment; or its fault
+abbrev pub Declares : {U : Type 0} → Result U TraceFault → Location → List Declaration → List Declaration → List ℕ → List ℕ → List ℕ → Type 0
+Declares (Ok u) line old new n q p = (version : Version) → take_form (opened version old) (task n q p) ≡ Ok (opened version new)
+Declares (Err e) line old new n q p = (version : Version) → Faults e (in_file line.file (at_line line.line (take_form (opened version old) (task n q p))))
 
 abbrev pub moment_fault : List ℕ → Option Kind
 moment_fault w = if not (is_number w) then Some BadNumber else (if is_moment (value w) then None else Some OutOfRange)
@@ -214,14 +213,6 @@ read_first ds (line ∷ next ∷ more) = read_as (version_of line) ds (next ∷ 
 unfoldable pub read_file : List Declaration → List ℕ → Result FileRead (Kind × ℕ)
 read_file ds bytes = read_first ds (parts_of bytes)
 
-abbrev pub Gives : {U X : Type 0} → Result U Halt → (U → X) → Result X (Kind × ℕ) → Type 0
-Gives (Ok u) view r = r ≡ Ok (view u)
-Gives (Err e) view r = Halts e r
-
--- a fault of the first two lines is answered, since nothing grows before it
-abbrev pub GivesOpening : {U X : Type 0} → Result U Halt → Result X (Kind × ℕ) → Type 0
-GivesOpening r total = (k : Kind) (n : ℕ) → n ≤ 2 → total ≡ Err (k, n) → r ≡ Err (halt.At k n)
-
 abbrev pub GivesQueue : Result Capacity Kind → List ℕ → Type 0
 GivesQueue r line = r ≡ read_queue line
 
@@ -240,10 +231,6 @@ pub record AllRead : Type 0 where
   pub declared : List Declaration
   pub files : List Body
 
-abbrev pub in_file : {X : Type 0} → ℕ → Result X (Kind × ℕ) → Result X (Kind × ℕ × ℕ)
-in_file f (Ok x) = Ok x
-in_file f (Err e) = Err (e.0, f, e.1)
-
 abbrev pub with_file : AllRead → FileRead → AllRead
 with_file all r = record { declared = r.declared; files = all.files ++ body_of r ∷ [] }
 
@@ -252,15 +239,11 @@ unfoldable pub read_from : AllRead → ℕ → List (List ℕ) → Result AllRea
 read_from all f [] = Ok all
 read_from all f (bytes ∷ more) = in_file f (read_file all.declared bytes) >>= λ r. read_from (with_file all r) (f + 1) more
 
-abbrev pub Faults : {X : Type 0} → TraceFault → Result X (Kind × ℕ × ℕ) → Type 0
-Faults fault.NoMemory r = Unit {0}
-Faults (fault.At k f n) r = r ≡ Err (k, f, n)
-
 abbrev pub Answers : {U X : Type 0} → Result U TraceFault → (U → X) → Result X (Kind × ℕ × ℕ) → Type 0
 Answers (Ok u) view r = r ≡ Ok (view u)
 Answers (Err e) view r = Faults e r
 
--- the same of the first two lines of the first file
+-- a fault of the first two lines of the first file is answered, since nothing grows before it
 abbrev pub AnswersOpening : {U X : Type 0} → Result U TraceFault → Result X (Kind × ℕ × ℕ) → Type 0
 AnswersOpening r total = (k : Kind) (n : ℕ) → n ≤ 2 → total ≡ Err (k, 0, n) → r ≡ Err (fault.At k 0 n)
 
