@@ -13,17 +13,26 @@ use Rattle.grub_trace.specs.inside.Reading.{Answers, plan_from}
 use Rattle.grub_trace.specs.declared.fault.Kind.{Kind}
 use Rattle.grub_trace.proofs.PlanLaws.{plan_read, plan_fault}
 use Rattle.grub_trace.proofs.Again.{plan_again}
+use Rattle.grub_plan.specs.Limits.{PlanFits}
+use Rattle.grub_trace.specs.PlanOrFault.{IsPlanOrFault}
+use Rattle.grub_trace.specs.inside.Planning.{IsPlanned}
+use Rattle.grub_trace.proofs.LimitLaws.{plan_from_fits}
+use Rattle.grub_trace.proofs.Openings.{opening_if}
 
-pub found : (files : List (List ℕ)) (r : Result PlanView TraceFault) → Answers r (λ p. p) (plan_from files) → IfOk r (λ p. (trees : List Tree) × Reads files trees × (p ≡ plan_of trees))
+found : (files : List (List ℕ)) (r : Result PlanView TraceFault) → Answers r (λ p. p) (plan_from files) → IfOk r (λ p. (trees : List Tree) × Reads files trees × (p ≡ plan_of trees))
 found files (Ok p) h = plan_read files p h
 found files (Err e) h = tt
 
-pub fault_is : (files : List (List ℕ)) (r : Result PlanView TraceFault) → Answers r (λ p. p) (plan_from files) → IfErr r (IsTraceFault files)
+keeps_limits : (files : List (List ℕ)) (r : Result PlanView TraceFault) → Answers r (λ p. p) (plan_from files) → IfOk r PlanFits
+keeps_limits files (Ok p) h = plan_from_fits files p h
+keeps_limits files (Err e) h = tt
+
+fault_is : (files : List (List ℕ)) (r : Result PlanView TraceFault) → Answers r (λ p. p) (plan_from files) → IfErr r (IsTraceFault files)
 fault_is files (Ok p) h = tt
 fault_is files (Err trace.NoMemory) h = tt
 fault_is files (Err (trace.At k f n)) h = plan_fault files k f n h
 
-pub read_if : (files : List (List ℕ)) (r : Result PlanView TraceFault) → Answers r (λ p. p) (plan_from files) → (trees : List Tree) → Reads files trees → MatchResult r (λ p. p ≡ plan_of trees) (λ e. e ≡ trace.NoMemory)
+read_if : (files : List (List ℕ)) (r : Result PlanView TraceFault) → Answers r (λ p. p) (plan_from files) → (trees : List Tree) → Reads files trees → MatchResult r (λ p. p ≡ plan_of trees) (λ e. e ≡ trace.NoMemory)
 read_if files (Ok p) h trees is = same (plan_of trees) p (sym (plan_again files trees is) ∙ h)
   where
     same : (p q : PlanView) → ◌≡◌ {A = Result PlanView (Kind × ℕ × ℕ)} (Ok p) (Ok q) → q ≡ p
@@ -31,7 +40,7 @@ read_if files (Ok p) h trees is = same (plan_of trees) p (sym (plan_again files 
 read_if files (Err trace.NoMemory) h trees is = refl
 read_if files (Err (trace.At k f n)) h trees is = absurd (let e : ◌≡◌ {A = Result PlanView (Kind × ℕ × ℕ)} (Ok (plan_of trees)) (Err (k, f, n)) = sym (plan_again files trees is) ∙ h in cc)
 
-pub fault_if : (files : List (List ℕ)) (r : Result PlanView TraceFault) → Answers r (λ p. p) (plan_from files) → (k : Kind) (f n : ℕ) → IsFault files k f n → MatchResult r (λ _. ⊥) (λ e. IsOnly e k f n)
+fault_if : (files : List (List ℕ)) (r : Result PlanView TraceFault) → Answers r (λ p. p) (plan_from files) → (k : Kind) (f n : ℕ) → IsFault files k f n → MatchResult r (λ _. ⊥) (λ e. IsOnly e k f n)
 fault_if files (Ok p) h k f n is = absurd (let e : ◌≡◌ {A = Result PlanView (Kind × ℕ × ℕ)} (Ok p) (Err (k, f, n)) = sym h ∙ plan_fault_again files k f n is in cc)
 fault_if files (Err trace.NoMemory) h k f n is = tt
 fault_if files (Err (trace.At j g m)) h k f n is =
@@ -40,3 +49,15 @@ fault_if files (Err (trace.At j g m)) h k f n is =
   where
     same : (x y : Kind × ℕ × ℕ) → ◌≡◌ {A = Result PlanView (Kind × ℕ × ℕ)} (Err x) (Err y) → x ≡ y
     same x y e = cc
+
+pub plan_or_fault : (files : List (List ℕ)) (r : Result PlanView TraceFault) → IsPlanned files r → IsPlanOrFault files r
+plan_or_fault files r is = record {
+  read = found files r is.answers;
+  only = read_if files r is.answers;
+  limits = keeps_limits files r is.answers;
+  fault = fault_is files r is.answers;
+  answered = fault_if files r is.answers;
+  many = is.many;
+  nothing = is.nothing;
+  opening = opening_if files r is.opening;
+}

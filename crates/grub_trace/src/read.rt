@@ -1,19 +1,15 @@
 //! The plan of event files.
 
-ghost use Rattle.std.specs.Prelude.{◌≡◌, ◌<◌, ℕ, List, MatchResult, IfOk, IfErr, [], length, map, string_bytes};
+ghost use Rattle.std.specs.Prelude.{◌≡◌, IfOk, IfErr, [], map, string_bytes};
 ghost use Rattle.grub_plan.specs.Contents.{contents};
 ghost use Rattle.grub_trace.specs.inside.Bodies.{AreRead, head_of};
 ghost use Rattle.grub_trace.specs.inside.Heads.{GiveTogether};
 ghost use Rattle.grub_trace.specs.inside.Planning.{AreTogether, Collects, IsPlanned};
 ghost use Rattle.grub_trace.specs.inside.Reading.{Answers, declarations, scripts_from, plan_from};
 ghost use Rattle.grub_trace.specs.inside.Lines.{AreBodies};
-ghost use Rattle.grub_trace.specs.Tree.{Tree, names_of};
-ghost use Rattle.grub_trace.specs.Meaning.{Reads};
-ghost use Rattle.grub_trace.specs.FirstFault.{IsTraceFault, IsFault, IsOnly, OpeningFault};
-ghost use Rattle.grub_trace.specs.declared.fault.Kind.{Kind};
+ghost use Rattle.grub_trace.specs.Tree.{names_of};
+ghost use Rattle.grub_trace.specs.PlanOrFault.{IsPlanOrFault};
 ghost use Rattle.grub_trace.specs.declared.tasks.Tasks.{Tasks};
-ghost use Rattle.grub_trace.specs.Naming.{plan_of};
-ghost use Rattle.grub_plan.specs.Limits.{PlanFits};
 
 use crate::below::Below;
 use crate::fault::{Kind, TraceFault};
@@ -158,21 +154,7 @@ fn plan_by_threads<R: Threads + Sync>(
 /// Faults 28 to 36 come with the file and the line. The first fault is answered, in the order of the files and of the lines
 /// of each; names that no file declares come last. It is refused with 37 where the allocator refused.
 pub fn read_files(alloc: Global, files: &[Vec<u8>]) -> Result<Plan, TraceFault>
-    // What is read is the plan of trees whose texts the files are.
-    ensures read { IfOk result (λ p. (trees : List Tree) × Reads (contents files.now) trees × (p ≡ plan_of trees)) }
-    // Texts of such trees are read, unless memory runs out.
-    ensures only { (trees : List Tree) → Reads (contents files.now) trees → MatchResult result (λ p. p ≡ plan_of trees) (λ e. e ≡ TraceFault.NoMemory) }
-    // What is read keeps the limits.
-    ensures limits { IfOk result PlanFits }
-    // Which fault it is.
-    ensures fault { IfErr result (IsTraceFault (contents files.now)) }
-    // Where there is a fault, it is answered and no other, unless memory runs out.
-    ensures answered { (k : Kind) (f n : ℕ) → IsFault (contents files.now) k f n → MatchResult result (λ _. ⊥) (λ e. IsOnly e k f n) }
-
-    // Nothing grows before the first two lines were read, so these faults are answered, whatever memory there is.
-    ensures many { 64 < length files.now → result ≡ Err (TraceFault.At Kind.OutOfRange 64 1) }
-    ensures nothing { length files.now ≡ 0 → result ≡ Err (TraceFault.At Kind.MissingQueue 0 1) }
-    ensures opening { (k : Kind) (n : ℕ) → OpeningFault (contents files.now) k n → result ≡ Err (TraceFault.At k 0 n) }
+    ensures { IsPlanOrFault (contents files.now) result }
 {
     plan(alloc, files)
 }
@@ -183,21 +165,7 @@ pub fn read_files_by_threads<R: Threads + Sync>(
     alloc: Global,
     files: &[Vec<u8>],
 ) -> Result<Plan, TraceFault>
-    // What is read is the plan of trees whose texts the files are.
-    ensures read { IfOk result (λ p. (trees : List Tree) × Reads (contents files.now) trees × (p ≡ plan_of trees)) }
-    // Texts of such trees are read, unless memory runs out.
-    ensures only { (trees : List Tree) → Reads (contents files.now) trees → MatchResult result (λ p. p ≡ plan_of trees) (λ e. e ≡ TraceFault.NoMemory) }
-    // What is read keeps the limits.
-    ensures limits { IfOk result PlanFits }
-    // Which fault it is.
-    ensures fault { IfErr result (IsTraceFault (contents files.now)) }
-    // Where there is a fault, it is answered and no other, unless memory runs out.
-    ensures answered { (k : Kind) (f n : ℕ) → IsFault (contents files.now) k f n → MatchResult result (λ _. ⊥) (λ e. IsOnly e k f n) }
-
-    // Nothing grows before the first two lines were read, so these faults are answered, whatever memory there is.
-    ensures many { 64 < length files.now → result ≡ Err (TraceFault.At Kind.OutOfRange 64 1) }
-    ensures nothing { length files.now ≡ 0 → result ≡ Err (TraceFault.At Kind.MissingQueue 0 1) }
-    ensures opening { (k : Kind) (n : ℕ) → OpeningFault (contents files.now) k n → result ≡ Err (TraceFault.At k 0 n) }
+    ensures { IsPlanOrFault (contents files.now) result }
 {
     plan_by_threads(rt, alloc, files)
 }
