@@ -16,11 +16,11 @@ use Rattle.grub_trace.specs.declared.fault.Kind.TheVariants.{CutShort, BadHeader
 use Rattle.grub_trace.specs.Tree.{Declaration, Tree, text, line, header, head_text, queue_words, declaration_words, happening_words, names_of}
 use Rattle.grub_trace.specs.FirstFault.{front_fault, LineFault, QueueFault, FileFault, IsTree}
 use Rattle.grub_trace.specs.inside.Tree.{declaration_line, happening_line}
-use Rattle.grub_trace.specs.inside.Reading.{Read, FileRead, read_file, read_first, read_as, read_second, file_from, opened, read_lines, read_queue, queue_of, unless, at_line, ◌>>=◌}
+use Rattle.grub_trace.specs.inside.Reading.{Read, FileRead, read_file, read_first, read_as, read_second, file_from, opened, read_lines, read_queue, queue_of, ok_unless, at_line, ◌>>=◌}
 use Rattle.grub_trace.proofs.FormLemmas.{form_is, number_is, version_is}
 use Rattle.grub_trace.proofs.LineLemmas.{bind_ok, at_line_ok, none_if}
 use Rattle.grub_trace.proofs.LineMeaning.{two}
-use Rattle.grub_trace.proofs.Runs.{ended, printed, broke, Printed, Follows, Tail}
+use Rattle.grub_trace.proofs.LinesInTurn.{ended, printed, broke, Printed, Follows, Tail}
 use Rattle.grub_trace.proofs.FileMeaning.{front, fronts, ended_lines, lines_append, declared_text, said_text}
 
 -- ---- the runqueue's line
@@ -29,11 +29,11 @@ pub record IsQueueLine (l : List ℕ) (q : Capacity) : Type 0 where
   pub spelled : l ≡ join_with_byte 32 (queue_words q)
   pub fits : IsCapacity q
 
-unless_is : {X : Type 0} (o : Option Kind) (x y : X) → unless o x ≡ Ok y → (o ≡ None) × (x ≡ y)
+unless_is : {X : Type 0} (o : Option Kind) (x y : X) → ok_unless o x ≡ Ok y → (o ≡ None) × (x ≡ y)
 unless_is None x y e = (refl, cc)
 unless_is (Some k) x y e = absurd cc
 
-unless_not : {X : Type 0} (o : Option Kind) (x : X) (k : Kind) → unless o x ≡ Err k → o ≡ Some k
+unless_not : {X : Type 0} (o : Option Kind) (x : X) (k : Kind) → ok_unless o x ≡ Err k → o ≡ Some k
 unless_not None x k e = absurd cc
 unless_not (Some j) x k e = let h : j ≡ k = cc in ap Some h
 

@@ -2,7 +2,7 @@
 use Rattle.std.proofs.Common.{◌≡◌, ℕ, zero, suc, get_or, ◌+◌, ◌^◌, ◌<◌, ◌≤◌, Bool, true, false, cond, List, [], ◌∷◌, ◌++◌, length, map, Option, Some, None, option_map, refl, ap, ◌∙◌, sym, arith, subst}
 use Rattle.std.specs.Prelude.{IsSome, Ok}
 use Rattle.grub_trace.specs.inside.Reading.{plan_from}
-use Rattle.grub_trace.proofs.Together.{in_turn}
+use Rattle.grub_trace.proofs.TreesTogether.{in_turn}
 use Rattle.grub_trace.proofs.PlanLaws.{plan_read}
 use Rattle.std.specs.Str.{bytes_eq}
 use Rattle.std.specs.List.{AllByRecursion, filter_map, cons_option}

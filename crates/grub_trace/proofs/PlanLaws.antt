@@ -12,9 +12,9 @@ use Rattle.grub_plan.specs.Plans.{Line, PlanView}
 use Rattle.grub_trace.specs.Naming.{line_in, script_of, all_tasks, plan_of, plan_with}
 use Rattle.grub_trace.specs.Meaning.{AreKnown, Reads}
 use Rattle.grub_trace.specs.FirstFault.{AreTrees, FileFault, UnknownIn, FirstFault, UnknownFault, IsFault, too_many, no_file, first, unknown}
-use Rattle.grub_trace.specs.inside.Reading.{AllRead, FileRead, Body, body_of, with_file, in_file, read_file, read_from, ◌>>=◌, script_from, option_or_err, scripts_from, unknown_in, plan_from, plan_of_read}
+use Rattle.grub_trace.specs.inside.Reading.{AllRead, FileRead, Body, body_of, with_file, of_file, read_file, read_from, ◌>>=◌, script_from, option_or_err, scripts_from, unknown_in, plan_from, plan_of_read}
 use Rattle.grub_trace.proofs.LineLemmas.{bind_ok}
-use Rattle.grub_trace.proofs.Together.{together}
+use Rattle.grub_trace.proofs.TreesTogether.{together}
 use Rattle.grub_trace.proofs.FileLaws.{file_read, file_fault, FileIs}
 
 -- ---- names to numbers
@@ -125,13 +125,13 @@ pub record AllIs (all : AllRead) (files : List (List ℕ)) (res : AllRead) : Typ
   pub declared_is : res.declared ≡ all.declared ++ all_tasks trees
   pub bodies_are : res.files ≡ all.files ++ map body_of_tree trees
 
-in_file_ok : {X : Type 0} (f : ℕ) (r : Result X (Kind × ℕ)) (x : X) → in_file f r ≡ Ok x → r ≡ Ok x
-in_file_ok f (Ok y) x e = let h : y ≡ x = cc in ap Ok h
-in_file_ok f (Err n) x e = absurd cc
+of_file_ok : {X : Type 0} (f : ℕ) (r : Result X (Kind × ℕ)) (x : X) → of_file f r ≡ Ok x → r ≡ Ok x
+of_file_ok f (Ok y) x e = let h : y ≡ x = cc in ap Ok h
+of_file_ok f (Err n) x e = absurd cc
 
-pub in_file_err : {X : Type 0} (f : ℕ) (r : Result X (Kind × ℕ)) (k : Kind) (g n : ℕ) → in_file f r ≡ Err (k, g, n) → (r ≡ Err (k, n)) × (g ≡ f)
-in_file_err f (Ok x) k g n e = absurd cc
-in_file_err {X} f (Err m) k g n e =
+pub of_file_err : {X : Type 0} (f : ℕ) (r : Result X (Kind × ℕ)) (k : Kind) (g n : ℕ) → of_file f r ≡ Err (k, g, n) → (r ≡ Err (k, n)) × (g ≡ f)
+of_file_err f (Ok x) k g n e = absurd cc
+of_file_err {X} f (Err m) k g n e =
     let p = same_where X (m.0, f, m.1) (k, g, n) e in
     (ap (λ (x : Where). Err (x.0, x.2)) p, sym (ap (λ (x : Where). x.1) p))
 
@@ -147,8 +147,8 @@ files_read [] all res f e =
     let h : all ≡ res = cc in
     record { trees = []; texts = refl; trees_are = tt; declared_is = ap (λ (x : AllRead). x.declared) (sym h) ∙ sym (append-nil all.declared); bodies_are = ap (λ (x : AllRead). x.files) (sym h) ∙ sym (append-nil all.files) }
 files_read (bytes ∷ more) all res f e =
-    let a = bind_ok (in_file f (read_file all.declared bytes)) (λ r. read_from (with_file all r) (f + 1) more) res e in
-    let t = file_read all.declared bytes a.0 (in_file_ok f (read_file all.declared bytes) a.0 a.1) in
+    let a = bind_ok (of_file f (read_file all.declared bytes)) (λ r. read_from (with_file all r) (f + 1) more) res e in
+    let t = file_read all.declared bytes a.0 (of_file_ok f (read_file all.declared bytes) a.0 a.1) in
     let h = files_read more (with_file all a.0) res (f + 1) a.2 in
     record {
       trees = t.tree ∷ h.trees;
@@ -162,8 +162,8 @@ pub files_fault : (files : List (List ℕ)) (all : AllRead) (f : ℕ) (k : Kind)
 unfolding read_from
 files_fault [] all f k g n e = absurd cc
 files_fault (bytes ∷ more) all f k g n e =
-    elim (bind_err (in_file f (read_file all.declared bytes)) (λ r. read_from (with_file all r) (f + 1) more) (k, g, n) e) [
-      | inl x ↦ let u = in_file_err f (read_file all.declared bytes) k g n x in (
+    elim (bind_err (of_file f (read_file all.declared bytes)) (λ r. read_from (with_file all r) (f + 1) more) (k, g, n) e) [
+      | inl x ↦ let u = of_file_err f (read_file all.declared bytes) k g n x in (
         0,
         record {
           fronts = [];
@@ -176,7 +176,7 @@ files_fault (bytes ∷ more) all f k g n e =
         },
         omega (arith, u.1),
       )
-      | inr x ↦ let t = file_read all.declared bytes x.0 (in_file_ok f (read_file all.declared bytes) x.0 x.1) in
+      | inr x ↦ let t = file_read all.declared bytes x.0 (of_file_ok f (read_file all.declared bytes) x.0 x.1) in
           let h = files_fault more (with_file all x.0) (f + 1) k g n x.2 in
           let u = h.1 in
           let ns = names_after all.declared t.tree.tasks x.0 t.declared_is in (

@@ -20,7 +20,7 @@ use Rattle.grub_plan.specs.Names.{is_name, is_name_byte}
 use Rattle.grub_trace.specs.Tree.{Declaration, Happening, act_words, queue_words, is_moment, names_of}
 use Rattle.grub_trace.specs.Faults.{form_fault, last_of, queue_fault, queue_form_fault, begins_with_queue, is_allowed, is_in_range, is_fresh, is_timely}
 use Rattle.grub_trace.specs.Forms.{Form, queue, task, at_moment, words_of, form_of, is_filled, act_of, is_number, value, numbers_of}
-use Rattle.grub_trace.specs.inside.Reading.{Read, act_map, take_line, take_option, unless, adds, declares, says, times_of, read_queue, queue_of}
+use Rattle.grub_trace.specs.inside.Reading.{Read, act_map, take_line, take_option, ok_unless, adds, declares, says, times_of, read_queue, queue_of}
 use Rattle.grub_trace.specs.Meaning.{IsAct, IsHappeningFrom}
 use Rattle.grub_trace.specs.FirstFault.{IsDeclaration}
 use Rattle.grub_trace.specs.inside.Tree.{declaration_line, happening_line}
@@ -146,7 +146,7 @@ one_number : (m : ℕ) → m < 2 ^ 64 → list_all is_number (decimal m ∷ []) 
 one_number m h = rw (number_again m h) refl
 
 taken_form : (r : Read) (line : List ℕ) (f : Form) → form_of (words_of line) ≡ Some f → form_fault r.version (names_of r.declared) (times_of r.happenings) f ≡ None → take_line r line ≡ Ok (adds f r)
-taken_form r line f is none = ap (take_option r) is ∙ ap (λ (o : Option Kind). unless o (adds f r)) none
+taken_form r line f is none = ap (take_option r) is ∙ ap (λ (o : Option Kind). ok_unless o (adds f r)) none
 
 name_filled : (w : List ℕ) → is_name w ≡ true → is_filled w ≡ true
 name_filled [] h = absurd cc
@@ -273,7 +273,7 @@ queue_again c hu hx fits =
     let none : queue_fault (join_with_byte 32 (queue_words c)) ≡ None =
     ap (λ (ws : List (List ℕ)). cond (not (begins_with_queue ws)) (Some MissingQueue) (queue_form_fault (form_of ws))) words
     ∙ ap queue_form_fault (queue_form (decimal u) (decimal x) (decimal_filled u hu) (decimal_filled x hx)) ∙ right in
-    ap (λ (o : Option Kind). unless o (queue_of (form_of (words_of (join_with_byte 32 (queue_words c)))))) none
+    ap (λ (o : Option Kind). ok_unless o (queue_of (form_of (words_of (join_with_byte 32 (queue_words c)))))) none
     ∙ ap (λ (o : Option Form). Ok (queue_of o)) form
     ∙ ap (λ (n : ℕ). Ok (record { most = n; extra = value (decimal x) })) (value_again u hu)
     ∙ ap (λ (n : ℕ). Ok (record { most = u; extra = n })) (value_again x hx)

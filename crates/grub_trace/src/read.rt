@@ -2,10 +2,10 @@
 
 ghost use Rattle.std.specs.Prelude.{◌≡◌, IfOk, IfErr, [], map, string_bytes};
 ghost use Rattle.grub_plan.specs.Contents.{contents};
-ghost use Rattle.grub_trace.specs.inside.Bodies.{AreRead, head_of};
+ghost use Rattle.grub_trace.specs.inside.Bodies.{AreRead, head_above};
 ghost use Rattle.grub_trace.specs.inside.Heads.{GiveTogether};
-ghost use Rattle.grub_trace.specs.inside.Planning.{AreTogether, Collects, IsPlanned};
-ghost use Rattle.grub_trace.specs.inside.Reading.{Answers, declarations, scripts_from, plan_from};
+ghost use Rattle.grub_trace.specs.inside.Planning.{FilesGive, Collects, IsPlanned};
+ghost use Rattle.grub_trace.specs.inside.Reading.{AnswersAs, declarations, scripts_from, plan_from};
 ghost use Rattle.grub_trace.specs.inside.Lines.{AreBodies};
 ghost use Rattle.grub_trace.specs.Tree.{names_of};
 ghost use Rattle.grub_trace.specs.PlanOrFault.{IsPlanOrFault};
@@ -35,7 +35,7 @@ fn collect(
     fault: Option<TraceFault>,
 ) -> Result<AllRead, TraceFault>
     requires read { AreRead tasks bodies.items }
-    ensures { (total : _) → GiveTogether (declarations tasks) (map head_of bodies.entry.items) fault total → Collects result total }
+    ensures { (total : _) → GiveTogether (declarations tasks) (map head_above bodies.entry.items) fault total → Collects result total }
 {
     let mut files = Vec::with_capacity(alloc, bodies.len())?;
     for body in bodies {
@@ -50,7 +50,7 @@ fn collect(
 
 /// The scripts of all files, where no line names a task that none declares. Their lines are kept where they are.
 fn scripts(alloc: Global, files: Vec<RawFile>) -> Result<Vec<Vec<Line>>, TraceFault>
-    ensures { (tasks : Tasks) (bodies : _) → AreBodies tasks bodies files.items → Answers result (λ v. map (λ s. s.items) v.items) (scripts_from (names_of (declarations tasks)) [] 0 bodies) }
+    ensures { (tasks : Tasks) (bodies : _) → AreBodies tasks bodies files.items → AnswersAs result (λ v. map (λ s. s.items) v.items) (scripts_from (names_of (declarations tasks)) [] 0 bodies) }
 {
     let mut scripts = Vec::with_capacity(alloc, files.len())?;
     for file in files {
@@ -107,8 +107,8 @@ fn names(alloc: Global, tasks: Vec<Task>) -> Result<Vec<String>, TraceFault>
 /// The plan of what was read, where nothing is wrong with it.
 fn plan_of(alloc: Global, heads: Heads<'_>) -> Result<Plan, TraceFault>
     requires read { AreRead heads.tasks heads.bodies.items }
-    requires files { (files : _) × AreTogether files heads.tasks (map head_of heads.bodies.items) heads.fault }
-    ensures { (files : _) → AreTogether files heads.entry.tasks (map head_of heads.entry.bodies.items) heads.entry.fault → Answers result (λ p. p) (plan_from files) }
+    requires files { (files : _) × FilesGive files heads.tasks (map head_above heads.bodies.items) heads.fault }
+    ensures { (files : _) → FilesGive files heads.entry.tasks (map head_above heads.entry.bodies.items) heads.entry.fault → AnswersAs result (λ p. p) (plan_from files) }
 {
     let Heads {
         tasks,

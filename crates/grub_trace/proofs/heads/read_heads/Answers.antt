@@ -1,8 +1,8 @@
 use Rattle.std.proofs.Common.{arith, inl, inr}
 use Rattle.std.proofs.lemmas.List.{length-map}
 use Rattle.grub_plan.specs.Contents.{contents}
-use Rattle.grub_trace.proofs.Planned.{heads_are, heads_planned, planned_count}
-use Rattle.grub_trace.proofs.Openings.{same_fault}
+use Rattle.grub_trace.proofs.PlanOfHeads.{heads_are, heads_planned, planned_count}
+use Rattle.grub_trace.proofs.OpeningFaults.{same_fault}
 use Rattle.grub_trace.proofs.heads.read_heads.Goals as goal
 
 pub returns-in-Err-clause-fault : goal.returns-in-Err-clause-fault

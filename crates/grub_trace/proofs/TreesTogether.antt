@@ -1,4 +1,4 @@
--- Trees one after the other, and all at once.
+-- Trees that may stand one after the other, as they are read, are those that may stand together, as Reads says.
 use Rattle.std.proofs.Common.{◌≡◌, ℕ, ◌+◌, ◌≤◌, Bool, true, false, cond, List, [], ◌∷◌, ◌++◌, length, Option, Some, None, option_map, refl, ◌∙◌, sym, arith, subst, append_assoc}
 use Rattle.std.specs.Str.{bytes_eq}
 use Rattle.std.specs.List.{AllByRecursion}

@@ -1,4 +1,4 @@
--- A fault by the definitions is the one that reading gives, so there is one at most.
+-- A fault by the definitions is the one that reading gives, so there is one at most: the `answered` of IsPlanOrFault.
 use Rattle.std.proofs.Common.{◌≡◌, ℕ, ◌+◌, ◌-◌, ◌<◌, ◌≤◌, Bool, true, false, cond, eqb, inl, inr, List, [], ◌∷◌, ◌++◌, length, map, Option, Some, None, Result, Ok, Err, refl, ap, ◌∙◌, sym, arith, subst, append_assoc}
 use Rattle.std.specs.Prelude.{IsSome, is_none}
 use Rattle.std.proofs.lemmas.Bool.{le-ltb, lt-ltb}
@@ -16,21 +16,21 @@ use Rattle.grub_trace.specs.Forms.{Form, form_of, words_of, version_of, parts_of
 use Rattle.grub_trace.specs.Meaning.{AreKnown}
 use Rattle.grub_trace.specs.FirstFault.{front_fault, LineFault, FileFault, IsTree, AreTrees, UnknownIn, UnknownFault, IsFault, too_many, no_file, first, unknown}
 use Rattle.grub_trace.specs.Naming.{all_tasks, line_in, script_of}
-use Rattle.grub_trace.specs.inside.Reading.{Read, FileRead, AllRead, with_file, in_file, read_file, read_first, read_as, opened, file_from, read_second, read_lines, read_from, queue_of, take_option, unless, adds, at_line, ◌>>=◌, times_of, script_from, scripts_from, option_or_err, unknown_in, plan_from}
+use Rattle.grub_trace.specs.inside.Reading.{Read, FileRead, AllRead, with_file, of_file, read_file, read_first, read_as, opened, file_from, read_second, read_lines, read_from, queue_of, take_option, ok_unless, adds, at_line, ◌>>=◌, times_of, script_from, scripts_from, option_or_err, unknown_in, plan_from}
 use Rattle.grub_trace.proofs.PlanLaws.{body_of_tree}
 use Rattle.grub_trace.proofs.WordLemmas.{has_part}
 use Rattle.grub_trace.proofs.LineLemmas.{first_known, second_then}
 use Rattle.grub_trace.proofs.FormLemmas.{version_again}
 use Rattle.grub_trace.proofs.FileLaws.{small_queue}
 use Rattle.grub_trace.proofs.Printed.{queue_again, queue_one_line}
-use Rattle.grub_trace.proofs.Again.{script_again, files_again, parts_again, header_one_line, declared_run, said_run, file_again, file_of}
+use Rattle.grub_trace.proofs.TreesAreRead.{script_again, files_again, parts_again, header_one_line, declared_run, said_run, file_again, file_of}
 
 same_kind : (a b : Kind) → Some a ≡ Some b → a ≡ b
 same_kind a b e = cc
 
 faulty : (o : Option Form) (r : Read) (k : Kind) → fault_of_form r.version (names_of r.declared) (times_of r.happenings) o ≡ Some k → take_option r o ≡ Err k
 faulty None r k e = ap (λ (x : Kind). Err x) (same_kind BadLine k e)
-faulty (Some f) r k e = ap (λ (o : Option Kind). unless o (adds f r)) e
+faulty (Some f) r k e = ap (λ (o : Option Kind). ok_unless o (adds f r)) e
 
 one_part : (rest last : List ℕ) → parts_of rest ≡ last ∷ [] → rest ≡ last
 one_part rest last e = sym (join_with_byte-slice_split 10 rest) ∙ ap (join_with_byte 10) e
@@ -77,7 +77,7 @@ second_again : (version : Version) (ds : List Declaration) (parts : List (List �
 unfolding read_second
 second_again version ds [] k e = ap (λ (j : Kind). Err (j, 2)) (same_kind MissingQueue k e)
 second_again version ds (l ∷ []) k e = ap (λ (j : Kind). Err (j, 2)) (same_kind _ k e)
-second_again version ds (l ∷ t ∷ more) k e = ap (λ (o : Option Kind). at_line 2 (unless o (queue_of (form_of (words_of l)))) >>= λ q. read_lines (opened version ds) 3 (t ∷ more) >>= λ r. Ok (file_from q (3 + (length r.declared - length ds)) r)) e
+second_again version ds (l ∷ t ∷ more) k e = ap (λ (o : Option Kind). at_line 2 (ok_unless o (queue_of (form_of (words_of l)))) >>= λ q. read_lines (opened version ds) 3 (t ∷ more) >>= λ r. Ok (file_from q (3 + (length r.declared - length ds)) r)) e
 
 -- after a right first line
 after_header : (version : Version) (ds : List Declaration) (bytes rest : List ℕ) → bytes ≡ header version ++ 10 ∷ rest → read_file ds bytes ≡ read_second version ds (parts_of rest)
@@ -111,12 +111,12 @@ pub first_fault_again : (fronts : List Tree) (all : AllRead) (g : ℕ) (bytes : 
 unfolding read_from
 first_fault_again [] all g bytes more k n are f =
     let h = file_fault_again all.declared bytes k n (subst (λ (ns : List (List ℕ)). FileFault ns bytes k n) (append-nil (names_of all.declared)) f) in
-    ap (λ (x : Result FileRead (Kind × ℕ)). in_file g x >>= λ r. read_from (with_file all r) (g + 1) more) h ∙ ap (λ (m : ℕ). Err (k, m, n)) (omega arith)
+    ap (λ (x : Result FileRead (Kind × ℕ)). of_file g x >>= λ r. read_from (with_file all r) (g + 1) more) h ∙ ap (λ (m : ℕ). Err (k, m, n)) (omega arith)
 first_fault_again (t ∷ ts) all g bytes more k n are f =
     let names : names_of (all.declared ++ t.tasks) ≡ names_of all.declared ++ names_of t.tasks = map-append (λ (d : Declaration). d.name) all.declared t.tasks in
     let same : names_of (all.declared ++ t.tasks) ++ names_of (all_tasks ts) ≡ names_of all.declared ++ names_of (all_tasks (t ∷ ts)) =
     ap (λ (xs : List (List ℕ)). xs ++ names_of (all_tasks ts)) names ∙ append_assoc (names_of all.declared) (names_of t.tasks) (names_of (all_tasks ts)) ∙ ap (λ (xs : List (List ℕ)). names_of all.declared ++ xs) (sym (map-append (λ (d : Declaration). d.name) t.tasks (all_tasks ts))) in
-    ap (λ (x : Result FileRead (Kind × ℕ)). in_file g x >>= λ r. read_from (with_file all r) (g + 1) (map text ts ++ bytes ∷ more)) (file_again all.declared t are.0)
+    ap (λ (x : Result FileRead (Kind × ℕ)). of_file g x >>= λ r. read_from (with_file all r) (g + 1) (map text ts ++ bytes ∷ more)) (file_again all.declared t are.0)
     ∙ first_fault_again ts (with_file all (file_of all.declared t)) (g + 1) bytes more k n (subst (λ (ns : List (List ℕ)). AreTrees ns ts) (sym names) are.1) (subst (λ (ns : List (List ℕ)). FileFault ns bytes k n) (sym same) f)
     ∙ ap (λ (m : ℕ). Err (k, m, n)) (omega arith)
 
