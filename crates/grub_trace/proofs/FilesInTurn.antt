@@ -23,9 +23,6 @@ use Rattle.grub_trace.specs.Naming.{plan_with}
 pub drop_item : {X : Type 0} (xs : List X) (i : ℕ) (x : X) → i < length xs → x ≡ get_or xs i x → drop i xs ≡ x ∷ drop (i + 1) xs
 drop_item xs i x lt is = rw add-one (drop-cons xs i x lt) ∙ ap (λ y. y ∷ drop (i + 1) xs) (sym is)
 
-drop_rest : {X : Type 0} (xs : List X) (i : ℕ) → length xs ≤ i → drop i xs ≡ []
-drop_rest xs i le = drop_all i xs le
-
 -- ---- all scripts
 
 -- the bodies of the files that are left, after the scripts of those before them
@@ -83,7 +80,7 @@ scripts_stop scripts yielded files file n line lt item unknown place on t bs are
 pub scripts_done : (scripts : List (Vec Line)) (yielded files : List RawFile) → length files ≤ length yielded → ScriptsSoFar scripts yielded files → (t : Tasks) (bs : List Body) → AreBodies t bs files → scripts_from (names_of (declarations t)) [] 0 bs ≡ Ok (map (λ s. s.items) scripts)
 unfolding scripts_from
 scripts_done scripts yielded files le on t bs are =
-    let left = subst (λ left. ScriptsLeft t (map (λ s. s.items) scripts) (length yielded) left (scripts_from (names_of (declarations t)) [] 0 bs)) (drop_rest files (length yielded) le) (on.so_far t bs are) in
+    let left = subst (λ left. ScriptsLeft t (map (λ s. s.items) scripts) (length yielded) left (scripts_from (names_of (declarations t)) [] 0 bs)) (drop_all (length yielded) files le) (on.so_far t bs are) in
     go left.bodies left.are left.so_far
   where
     go : (cs : List Body) → AreBodies t cs [] → scripts_from (names_of (declarations t)) (map (λ s. s.items) scripts) (length yielded) cs ≡ scripts_from (names_of (declarations t)) [] 0 bs → scripts_from (names_of (declarations t)) [] 0 bs ≡ Ok (map (λ s. s.items) scripts)
@@ -106,7 +103,7 @@ files_stop e all f files bytes total lt item is so_far =
 
 pub files_done : (all : AllRead) (f : ℕ) (files : List (Vec ℕ)) (total : Result AllRead (Kind × ℕ × ℕ)) → length files ≤ f → read_from all f (contents (drop f files)) ≡ total → total ≡ Ok all
 unfolding read_from
-files_done all f files total le so_far = sym so_far ∙ rw (drop_rest files f le) refl
+files_done all f files total le so_far = sym so_far ∙ rw (drop_all f files le) refl
 
 pub bodies_and : (t : Tasks) (bs : List Body) (fs : List RawFile) (b : Body) (f : RawFile) → AreBodies t bs fs → IsBody t b f → AreBodies t (bs ++ b ∷ []) (fs ++ f ∷ [])
 bodies_and t [] [] b f are is = (is, tt)

@@ -1,5 +1,6 @@
 -- The plan of trees keeps the limits.
 use Rattle.std.proofs.Common.{◌≡◌, ℕ, zero, suc, get_or, ◌+◌, ◌^◌, ◌<◌, ◌≤◌, Bool, true, false, cond, List, [], ◌∷◌, ◌++◌, length, map, Option, Some, None, option_map, refl, ap, ◌∙◌, sym, arith, subst}
+use Rattle.std.proofs.lemmas.Option.{same_Some}
 use Rattle.std.specs.Prelude.{IsSome, Ok}
 use Rattle.grub_trace.specs.inside.Reading.{plan_from}
 use Rattle.grub_trace.proofs.TreesTogether.{in_turn}
@@ -24,13 +25,10 @@ place_below : (names : List (List ℕ)) (n : List ℕ) (t : ℕ) → task_of nam
 place_below [] n t e = absurd cc
 place_below (x ∷ xs) n t e = go (bytes_eq x n) (task_of xs n) (λ i h. place_below xs n i h) e
   where
-    some_is : (a b : ℕ) → Some a ≡ Some b → a ≡ b
-    some_is a b e = cc
-
     go : (b : Bool) (o : Option ℕ) → ((i : ℕ) → o ≡ Some i → i < length xs) → cond b (Some 0) (option_map (λ i. i + 1) o) ≡ Some t → t < length (x ∷ xs)
-    go true o h e = let p = some_is 0 t e in omega arith
+    go true o h e = let p = same_Some 0 t e in omega arith
     go false None h e = absurd cc
-    go false (Some i) h e = let p = some_is (i + 1) t e in omega (arith, h i refl)
+    go false (Some i) h e = let p = same_Some (i + 1) t e in omega (arith, h i refl)
 
 mapped : {A : Type 0} (f : ℕ → A) (o : Option ℕ) (a : A) → option_map f o ≡ Some a → (t : ℕ) × (o ≡ Some t) × (f t ≡ a)
 mapped f None a e = absurd cc

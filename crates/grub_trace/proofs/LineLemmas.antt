@@ -7,7 +7,7 @@ use Rattle.grub_trace.specs.declared.fault.Kind.{Kind}
 use Rattle.grub_trace.specs.declared.fault.Kind.TheVariants.{CutShort, BadHeader, BadLine, BadNumber, OutOfRange, MomentGoesBack}
 use Rattle.grub_trace.specs.inside.Reading.{Read, FileRead, act_map, read_queue, read_second, read_first, read_as, read_file, file_from, opened, ok_unless, adds, take_option, times_of, read_lines, take_line, at_line, of_file, ◌>>=◌, Faults, two_fault, IsRunOf, IsRetuneOf, take_form}
 use Rattle.grub_trace.specs.Forms.{parts_of, Form, queue, task, at_moment, words_of, form_of, is_number, version_of, value, reservation_value}
-use Rattle.std.proofs.Common.{◌-◌, Option, Some, None}
+use Rattle.std.proofs.Common.{◌-◌, ◌⊎◌, inl, inr, Option, Some, None}
 use Rattle.std.proofs.lemmas.List.{length_push}
 use Rattle.grub_trace.specs.declared.fault.TraceFault.{TraceFault}
 use Rattle.grub_trace.specs.declared.fault.TraceFault.TheVariants as fault
@@ -15,6 +15,24 @@ use Rattle.grub_trace.specs.Tree.{Declaration, names_of, is_moment, is_span, may
 use Rattle.grub_plan.specs.declared.line.Act.TheVariants.{Run, Retune}
 use Rattle.grub_trace.specs.Faults.{form_fault, is_allowed, is_timely, reservation_fits}
 use Rattle.grub_trace.proofs.WordLemmas.{has_part}
+
+-- ---- one step after another
+
+pub same_value : {X E : Type 0} (x y : X) → ◌≡◌ {A = Result X E} (Ok x) (Ok y) → x ≡ y
+same_value x y e = cc
+
+pub same_error : {X E : Type 0} (x y : E) → ◌≡◌ {A = Result X E} (Err x) (Err y) → x ≡ y
+same_error x y e = cc
+
+pub bind_ok : {A B E : Type 0} (r : Result A E) (f : A → Result B E) (y : B) → (r >>= f) ≡ Ok y → (x : A) × (r ≡ Ok x) × (f x ≡ Ok y)
+bind_ok (Ok x) f y e = (x, refl, e)
+bind_ok (Err d) f y e = absurd cc
+
+pub bind_err : {A B E : Type 0} (r : Result A E) (f : A → Result B E) (e : E) → (r >>= f) ≡ Err e → (r ≡ Err e) ⊎ ((x : A) × (r ≡ Ok x) × (f x ≡ Err e))
+bind_err (Ok x) f e h = inr (x, refl, h)
+bind_err {B = B} (Err d) f e h = inl (ap Err (same_error {X = B} d e h))
+
+-- ---- lines
 
 pub lines_step : (r : Read) (n : ℕ) (line rest : List ℕ) → read_lines r n (line ∷ parts_of rest) ≡ (at_line n (take_line r line) >>= λ s. read_lines s (n + 1) (parts_of rest))
 unfolding read_lines
@@ -29,10 +47,7 @@ goes_on r s n text line rest total parts taken so_far =
 faults_then : {X Y : Type 0} (e : TraceFault) (f : ℕ) (r : Result X (Kind × ℕ)) (k : X → Result Y (Kind × ℕ)) → Faults e (of_file f r) → Faults e (of_file f (r >>= k))
 faults_then fault.NoMemory f r k h = tt
 faults_then (fault.At j g n) f (Ok x) k h = absurd cc
-faults_then {X = X} {Y = Y} (fault.At j g n) f (Err d) k h = let p = same_error (d.0, f, d.1) (j, g, n) h in ap (λ (x : Kind × ℕ × ℕ). Err x) p
-  where
-    same_error : (x y : Kind × ℕ × ℕ) → ◌≡◌ {A = Result X (Kind × ℕ × ℕ)} (Err x) (Err y) → x ≡ y
-    same_error x y e = cc
+faults_then {X = X} {Y = Y} (fault.At j g n) f (Err d) k h = let p = same_error {X = X} (d.0, f, d.1) (j, g, n) h in ap (λ (x : Kind × ℕ × ℕ). Err x) p
 
 -- what was answered of a line whose fault got its place
 pub placed_ok : {X : Type 0} (r : Result X Kind) (x : X) → MatchResult r (λ y. ◌≡◌ {A = Result X TraceFault} (Ok x) (Ok y)) (λ k. ⊥) → r ≡ Ok x
@@ -59,6 +74,10 @@ ends_whole r n text total parts none so_far = last_line r n text total parts so_
 
 -- ---- what is read is only added to
 
+pub unless_err : {X : Type 0} (o : Option Kind) (x : X) (k : Kind) → ok_unless o x ≡ Err k → o ≡ Some k
+unless_err {X = X} None x k e = absurd cc
+unless_err {X = X} (Some j) x k e = ap Some (same_error {X = X} j k e)
+
 pub unless_ok : {X : Type 0} (o : Option Kind) (x y : X) → ok_unless o x ≡ Ok y → (o ≡ None) × (x ≡ y)
 unless_ok None x y e = (refl, cc)
 unless_ok (Some k) x y e = absurd cc
@@ -74,10 +93,6 @@ adds_grows : (f : Form) (r : Read) → length r.declared ≤ length (adds f r).d
 adds_grows (queue a b) r = omega arith
 adds_grows (task n q p) r = omega (arith, length_push r.declared (record { name = n; params = reservation_value q p }))
 adds_grows (at_moment m a) r = omega arith
-
-pub bind_ok : {A B E : Type 0} (r : Result A E) (f : A → Result B E) (y : B) → (r >>= f) ≡ Ok y → (x : A) × (r ≡ Ok x) × (f x ≡ Ok y)
-bind_ok (Ok x) f y e = (x, refl, e)
-bind_ok (Err d) f y e = absurd cc
 
 pub at_line_ok : {X : Type 0} (n : ℕ) (r : Result X Kind) (x : X) → at_line n r ≡ Ok x → r ≡ Ok x
 at_line_ok n (Ok y) x e = let h : y ≡ x = cc in ap Ok h

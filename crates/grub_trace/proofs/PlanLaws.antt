@@ -13,7 +13,7 @@ use Rattle.grub_trace.specs.Naming.{line_in, script_of, all_tasks, plan_of, plan
 use Rattle.grub_trace.specs.Meaning.{AreKnown, Reads}
 use Rattle.grub_trace.specs.FirstFault.{AreTrees, FileFault, UnknownIn, FirstFault, UnknownFault, IsFault, too_many, no_file, first, unknown}
 use Rattle.grub_trace.specs.inside.Reading.{AllRead, FileRead, Body, body_of, with_file, of_file, read_file, read_from, ◌>>=◌, script_from, option_or_err, scripts_from, unknown_in, plan_from, plan_of_read}
-use Rattle.grub_trace.proofs.LineLemmas.{bind_ok}
+use Rattle.grub_trace.proofs.LineLemmas.{bind_err, bind_ok, same_error, same_value}
 use Rattle.grub_trace.proofs.TreesTogether.{together}
 use Rattle.grub_trace.proofs.FileLaws.{file_read, file_fault, FileIs}
 
@@ -86,17 +86,10 @@ pub record ScriptsStop (names : List (List ℕ)) (bs : List Body) (k : Kind) (g 
 abbrev Where : Type 0
 Where = Kind × ℕ × ℕ
 
-pub bind_err : {A B : Type 0} (r : Result A Where) (f : A → Result B Where) (e : Where) → (r >>= f) ≡ Err e → (r ≡ Err e) ⊎ ((x : A) × (r ≡ Ok x) × (f x ≡ Err e))
-bind_err (Ok x) f e h = inr (x, refl, h)
-bind_err {A} (Err d) f e h = inl (let p : d ≡ e = cc in ap (λ (x : Where). Err x) p)
-
-same_where : (X : Type 0) (x y : Where) → ◌≡◌ {A = Result X Where} (Err x) (Err y) → x ≡ y
-same_where X x y e = cc
-
 unknown_err : (f : ℕ) (r : Result (List Line) ℕ) (k : Kind) (g n : ℕ) → unknown_in f r ≡ Err (k, g, n) → (r ≡ Err n) × (k ≡ UnknownTask) × (g ≡ f)
 unknown_err f (Ok x) k g n e = absurd cc
 unknown_err f (Err m) k g n e =
-    let p = same_where (List Line) (UnknownTask, f, m) (k, g, n) e in
+    let p = same_error {X = List Line} (UnknownTask, f, m) (k, g, n) e in
     (ap (λ (x : Where). Err x.2) p, sym (ap (λ (x : Where). x.0) p), sym (ap (λ (x : Where). x.1) p))
 
 pub scripts_stops : (names : List (List ℕ)) (bs : List Body) (done : List (List Line)) (f : ℕ) (k : Kind) (g n : ℕ) → scripts_from names done f bs ≡ Err (k, g, n) → (i : ℕ) × ScriptsStop names bs k i n × (g ≡ f + i)
@@ -132,7 +125,7 @@ of_file_ok f (Err n) x e = absurd cc
 pub of_file_err : {X : Type 0} (f : ℕ) (r : Result X (Kind × ℕ)) (k : Kind) (g n : ℕ) → of_file f r ≡ Err (k, g, n) → (r ≡ Err (k, n)) × (g ≡ f)
 of_file_err f (Ok x) k g n e = absurd cc
 of_file_err {X} f (Err m) k g n e =
-    let p = same_where X (m.0, f, m.1) (k, g, n) e in
+    let p = same_error {X = X} (m.0, f, m.1) (k, g, n) e in
     (ap (λ (x : Where). Err (x.0, x.2)) p, sym (ap (λ (x : Where). x.1) p))
 
 body_is : (ds : List Declaration) (bytes : List ℕ) (r : FileRead) (h : FileIs ds bytes r) → body_of r ≡ body_of_tree h.tree
@@ -233,9 +226,6 @@ counts files p e = many (ltb 64 (length files)) refl e
     many true is e = inl (ltb-true 64 (length files) is, sym e)
     many false is e = none (eqb (length files) 0) (ltb-false 64 (length files) is) refl e
 
-same_plan : (p q : PlanView) → ◌≡◌ {A = Result PlanView Where} (Ok p) (Ok q) → p ≡ q
-same_plan p q e = cc
-
 ok_or_err : (p : PlanView) (w : Where) → ◌≡◌ {A = Result PlanView Where} (Ok p) (Err w) → ⊥
 ok_or_err p w e = cc
 
@@ -261,7 +251,7 @@ plan_read files p e =
                 together = together t.trees t.trees_are;
                 known = subst (λ (ns : List (List ℕ)). AllByRecursion (λ (t : Tree). AreKnown ns t.happenings) t.trees) names (known_bodies (names_of a.0.declared) t.trees known);
               },
-              sym (same_plan (plan_with (map (λ b. b.queue) a.0.files) (a.0.declared) (b.0)) p b.2)
+              sym (same_value {E = Where} (plan_with (map (λ b. b.queue) a.0.files) (a.0.declared) (b.0)) p b.2)
                   ∙ ap (λ (ss : List (List Line)). plan_with (map (λ b. b.queue) a.0.files) (a.0.declared) (ss)) s.0
                   ∙ ap (λ (bs : List Body). plan_with (map (λ b. b.queue) bs) (a.0.declared) (map (λ (b : Body). filter_map (line_in (names_of a.0.declared)) b.happenings) bs)) t.bodies_are
                   ∙ ap (λ (qs : List Capacity). plan_with (qs) (a.0.declared) (map (λ (b : Body). filter_map (line_in (names_of a.0.declared)) b.happenings) (map body_of_tree t.trees))) (queues_are t.trees)
@@ -275,10 +265,10 @@ plan_read files p e =
 pub plan_fault : (files : List (List ℕ)) (k : Kind) (f n : ℕ) → plan_from files ≡ Err (k, f, n) → IsFault files k f n
 plan_fault files k f n e =
     elim (counts files (Err (k, f, n)) e) [
-      | inl h ↦ let p = same_where PlanView (OutOfRange, 64, 1) (k, f, n) (sym h.1) in
+      | inl h ↦ let p = same_error {X = PlanView} (OutOfRange, 64, 1) (k, f, n) (sym h.1) in
           subst (λ (w : Where). IsFault files w.0 w.1 w.2) p (too_many h.0)
       | inr h ↦ elim h [
-        | inl h ↦ let p = same_where PlanView (MissingQueue, 0, 1) (k, f, n) (sym h.1) in
+        | inl h ↦ let p = same_error {X = PlanView} (MissingQueue, 0, 1) (k, f, n) (sym h.1) in
             subst (λ (w : Where). IsFault files w.0 w.1 w.2) p (no_file h.0)
         | inr h ↦ elim (bind_err (read_from (record { declared = []; files = [] }) 0 files) (λ all. plan_of_read all) (k, f, n) h.2) [
           | inl x ↦ let u = files_fault files (record { declared = []; files = [] }) 0 k f n x in

@@ -23,7 +23,7 @@ use Rattle.grub_trace.specs.Naming.{plan_with}
 use Rattle.grub_trace.specs.Tree.{names_of}
 use Rattle.grub_trace.proofs.Elsewhere.{not_zero}
 use Rattle.grub_trace.proofs.FilesInTurn.{faults_then}
-use Rattle.grub_trace.proofs.OpeningFaults.{same_fault}
+use Rattle.grub_trace.proofs.LineLemmas.{same_error}
 
 -- ---- one body after the other
 
@@ -92,7 +92,7 @@ planned_fault files e some few faulty opening = record {
   answers = read_fault e files some few faulty;
   many = λ h. absurd (omega (arith, h, few));
   nothing = λ h. absurd (omega (arith, h, some));
-  opening = λ _ _ k n le is. ap Err (same_fault {X = Heads} e (fault.At k 0 n) (opening k n le is));
+  opening = λ _ _ k n le is. ap Err (same_error {X = Heads} e (fault.At k 0 n) (opening k n le is));
 }
 
 -- and what follows right heads

@@ -1,5 +1,6 @@
 -- A printed line is read again.
-use Rattle.std.proofs.Common.{◌≡◌, ℕ, zero, suc, ◌^◌, ◌<◌, ◌≤◌, Bool, true, false, not, ◌&&◌, ◌||◌, cond, eqb, List, [], ◌∷◌, ◌++◌, length, get_or, Option, Some, None, Ok, option_map, refl, ap, ◌∙◌, arith, rules}
+use Rattle.std.proofs.Common.{◌≡◌, ℕ, zero, suc, ◌^◌, ◌<◌, Bool, true, false, not, ◌&&◌, ◌||◌, cond, eqb, List, [], ◌∷◌, ◌++◌, length, get_or, Option, Some, None, Ok, option_map, refl, ap, ◌∙◌, arith, rules}
+use Rattle.std.proofs.lemmas.Bool.{and_parts, le-leb}
 use Rattle.std.specs.Prelude.{codes, decimal, nat_le}
 use Rattle.std.specs.Char.{is_ascii_digit}
 use Rattle.std.specs.List.{list_all, join_with_byte, AllByRecursion}
@@ -31,10 +32,6 @@ use Rattle.grub_trace.proofs.LineMeaning.{small_period, small_moment, small_span
 -- each byte is above the space
 abbrev pub IsPlain : List ℕ → Type 0
 IsPlain w = AllByRecursion (λ b. 32 < b) w
-
-and_parts : (a b : Bool) → (a && b) ≡ true → (a ≡ true) × (b ≡ true)
-and_parts true b h = (refl, h)
-and_parts false b h = absurd cc
 
 digit_above : (b : ℕ) → is_ascii_digit b ≡ true → 32 < b
 digit_above b h = grind (arith, nat_tests)
@@ -132,9 +129,6 @@ keyword_queue = search rules
 -- a form that passes the five tests
 pub no_fault : (version : Version) (names : List (List ℕ)) (moments : List ℕ) (f : Form) → is_allowed version moments f ≡ true → list_all is_number (numbers_of f) ≡ true → is_in_range (length names) f ≡ true → is_fresh names f ≡ true → is_timely moments f ≡ true → form_fault version names moments f ≡ None
 no_fault version names moments f a b c d e = rw (a, b, c, d, e) refl
-
-le_true : (a b : ℕ) → a ≤ b → nat_le a b ≡ true
-le_true a b h = grind (arith, nat_tests)
 
 both_numbers : (m n : ℕ) → m < 2 ^ 64 → n < 2 ^ 64 → list_all is_number (decimal m ∷ decimal n ∷ []) ≡ true
 both_numbers m n h k = rw (number_again m h, number_again n k) refl
@@ -259,7 +253,7 @@ happening_again r h is =
     let p = act_printed r.version (times_of r.happenings) (length (names_of r.declared)) h.m h.act small within is.act in
     let words = words_again (codes "at") (decimal h.m ∷ act_words decimal h.act) keyword_at (decimal_plain h.m small, words_plain r.version h.act is.act) in
     taken_form r (happening_line h) f (ap form_of words ∙ p.form)
-    (no_fault r.version (names_of r.declared) (times_of r.happenings) f p.allowed p.spelled p.in_range refl (rw (value_again h.m small) (le_true (last_of (times_of r.happenings)) h.m is.after)))
+    (no_fault r.version (names_of r.declared) (times_of r.happenings) f p.allowed p.spelled p.in_range refl (rw (value_again h.m small) (le-leb (last_of (times_of r.happenings)) h.m is.after)))
     ∙ ap (λ (m : ℕ). Ok (says (record { m = m; act = act_map (λ n. n) value (act_map (λ n. n) decimal h.act) }) r)) (value_again h.m small)
     ∙ ap (λ (a : Act (List ℕ) ℕ). Ok (says (record { m = h.m; act = a }) r)) p.values
 

@@ -106,7 +106,7 @@ files_again (t ∷ ts) all f are =
     ∙ ap (λ (ds : List Declaration). Ok (record { declared = ds; files = (all.files ++ body_of_tree t ∷ []) ++ map body_of_tree ts })) (append_assoc all.declared t.tasks (all_tasks ts))
     ∙ ap (λ (bs : List Body). Ok (record { declared = all.declared ++ all_tasks (t ∷ ts); files = bs })) (append_assoc all.files (body_of_tree t ∷ []) (map body_of_tree ts))
 
-some_is : (o : Option Line) → IsSome o → (l : Line) × (o ≡ Some l)
+pub some_is : (o : Option Line) → IsSome o → (l : Line) × (o ≡ Some l)
 some_is None h = absurd cc
 some_is (Some l) h = (l, refl)
 

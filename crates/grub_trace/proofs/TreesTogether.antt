@@ -1,5 +1,6 @@
 -- Trees that may stand one after the other, as they are read, are those that may stand together, as Reads says.
-use Rattle.std.proofs.Common.{◌≡◌, ℕ, ◌+◌, ◌≤◌, Bool, true, false, cond, List, [], ◌∷◌, ◌++◌, length, Option, Some, None, option_map, refl, ◌∙◌, sym, arith, subst, append_assoc}
+use Rattle.std.proofs.Common.{◌≡◌, ℕ, ◌+◌, ◌≤◌, Bool, false, cond, List, [], ◌∷◌, ◌++◌, length, Option, Some, None, option_map, refl, ◌∙◌, sym, arith, subst, append_assoc}
+use Rattle.grub_trace.proofs.TaskLemmas.{none_at}
 use Rattle.std.specs.Str.{bytes_eq}
 use Rattle.std.specs.List.{AllByRecursion}
 use Rattle.std.specs.Cmp.Lexicographic.{nat_list_eq_equiv}
@@ -15,11 +16,6 @@ Differ m n = bytes_eq m n ≡ false
 -- a name is not among these
 abbrev Absent : List (List ℕ) → List ℕ → Type 0
 Absent names n = task_of names n ≡ None
-
-none_at : (b : Bool) (o : Option ℕ) → cond b (Some 0) (option_map (λ i. i + 1) o) ≡ None → (b ≡ false) × (o ≡ None)
-none_at true o e = absurd cc
-none_at false None e = (refl, refl)
-none_at false (Some i) e = absurd cc
 
 none_from : (b : Bool) (o : Option ℕ) → b ≡ false → o ≡ None → cond b (Some 0) (option_map (λ i. i + 1) o) ≡ None
 none_from b o h k = rw (h, k) refl
