@@ -15,8 +15,8 @@ use Rattle.grub_trace.specs.declared.fault.Kind.TheVariants.{CutShort, BadHeader
 use Rattle.grub_trace.specs.Tree.{Declaration, Happening, Tree, text, line, header, head_text, queue_words, declaration_words, happening_words, names_of}
 use Rattle.grub_trace.specs.Faults.{line_fault, fault_of_form, header_fault, queue_fault}
 use Rattle.grub_trace.specs.Forms.{Form, form_of, words_of, version_of, parts_of}
-use Rattle.grub_trace.specs.Meaning.{AreKnown}
-use Rattle.grub_trace.specs.FirstFault.{front_fault, LineFault, FileFault, IsTree, AreTrees, UnknownIn, UnknownFault, IsFault, too_many, no_file, first, unknown}
+use Rattle.grub_trace.specs.Meaning.{AreKnown, IsTree, AreTrees}
+use Rattle.grub_trace.specs.FirstFault.{front_fault, LineFault, FileFault, UnknownIn, UnknownFault, IsFault, too_many, no_file, first, unknown}
 use Rattle.grub_trace.specs.Naming.{all_tasks, line_in, script_of}
 use Rattle.grub_trace.specs.inside.Reading.{Read, FileRead, AllRead, with_file, of_file, read_file, read_first, read_as, opened, file_from, read_second, read_lines, read_from, queue_of, take_option, ok_unless, adds, at_line, ◌>>=◌, times_of, script_from, scripts_from, option_or_err, unknown_in, plan_from}
 use Rattle.grub_trace.proofs.PlanLaws.{body_of_tree}

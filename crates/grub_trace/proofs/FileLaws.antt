@@ -1,4 +1,5 @@
 -- The two laws of reading a file: what is read is the text of a tree, and a fault is the first one.
+use Rattle.grub_trace.specs.Meaning.{IsTree}
 use Rattle.std.proofs.Common.{◌≡◌, ℕ, ◌+◌, ◌-◌, ◌^◌, ◌<◌, Bool, true, false, cond, eqb, ◌⊎◌, inl, inr, List, [], ◌∷◌, ◌++◌, length, map, Option, Some, None, Result, Ok, Err, refl, ap, ◌∙◌, sym, arith, subst, append_assoc}
 use Rattle.std.specs.Prelude.{codes, decimal}
 use Rattle.std.specs.List.{join_with_byte, flat_map, list_all}
@@ -14,7 +15,7 @@ use Rattle.grub_trace.specs.declared.version.Version.{Version}
 use Rattle.grub_trace.specs.declared.fault.Kind.{Kind}
 use Rattle.grub_trace.specs.declared.fault.Kind.TheVariants.{CutShort, BadHeader, MissingQueue, BadNumber, OutOfRange}
 use Rattle.grub_trace.specs.Tree.{Declaration, Tree, text, line, header, head_text, queue_words, declaration_words, happening_words, names_of}
-use Rattle.grub_trace.specs.FirstFault.{front_fault, LineFault, QueueFault, FileFault, IsTree}
+use Rattle.grub_trace.specs.FirstFault.{front_fault, LineFault, QueueFault, FileFault}
 use Rattle.grub_trace.specs.inside.Tree.{declaration_line, happening_line}
 use Rattle.grub_trace.specs.inside.Reading.{Read, FileRead, read_file, read_first, read_as, read_second, file_from, opened, read_lines, read_queue, queue_of, at_line, ◌>>=◌}
 use Rattle.grub_trace.proofs.FormLemmas.{form_is, number_is, version_is}

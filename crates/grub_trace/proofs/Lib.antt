@@ -20,6 +20,5 @@ pub mod Printed
 pub mod TreesAreRead
 pub mod LimitLaws
 pub mod FaultsAreGiven
-pub mod TreesTogether
 pub mod OpeningFaults
 pub mod PlanOfHeads

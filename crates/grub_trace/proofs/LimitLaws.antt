@@ -3,7 +3,6 @@ use Rattle.std.proofs.Common.{◌≡◌, ℕ, zero, suc, get_or, ◌+◌, ◌^�
 use Rattle.std.proofs.lemmas.Option.{same_Some}
 use Rattle.std.specs.Prelude.{IsSome, Ok}
 use Rattle.grub_trace.specs.inside.Reading.{plan_from}
-use Rattle.grub_trace.proofs.TreesTogether.{in_turn}
 use Rattle.grub_trace.proofs.PlanLaws.{plan_read}
 use Rattle.std.specs.Str.{bytes_eq}
 use Rattle.std.specs.List.{AllByRecursion, filter_map, cons_option}
@@ -17,8 +16,7 @@ use Rattle.grub_plan.specs.Names.{is_name}
 use Rattle.grub_trace.specs.Tree.{Declaration, Happening, Tree, names_of, params_of, is_span, is_moment, text}
 use Rattle.grub_plan.specs.Plans.{Line, PlanView}
 use Rattle.grub_trace.specs.Naming.{task_of, line_in, act_in, script_of, all_tasks, plan_of}
-use Rattle.grub_trace.specs.Meaning.{GoOn, IsAct, AreKnown, Reads}
-use Rattle.grub_trace.specs.FirstFault.{AreDeclared, AreTrees}
+use Rattle.grub_trace.specs.Meaning.{GoOn, IsAct, AreKnown, Reads, AreDeclared, AreTrees}
 use Rattle.grub_plan.specs.Limits.{ActFits, ScriptFits, PlanFits}
 
 place_below : (names : List (List ℕ)) (n : List ℕ) (t : ℕ) → task_of names n ≡ Some t → t < length names
@@ -119,19 +117,18 @@ plan_fits files ts is =
     let queues : length (map (λ (t : Tree). t.queue) ts) ≡ length ts = length-map ts (λ (t : Tree). t.queue) in
     let named : length all ≡ length tasks = length-map tasks (λ (d : Declaration). d.name) in
     let reserved : length (params_of tasks) ≡ length tasks = length-map tasks (λ (d : Declaration). d.params) in
-    let trees = in_turn ts is.together in
     record {
       setup = record {
         queues_some = omega (arith, is.some);
         queues_most = omega (arith, is.few);
-        tasks_most = omega (arith, few_tasks ts [] (omega arith) trees);
-        capacities = λ r there. each_at IsCapacity (map (λ (t : Tree). t.queue) ts) r _ (queues_fit ts [] trees) there;
-        reservations = λ t there. each_at IsReservation (params_of tasks) t _ (tasks_fit ts [] trees) there;
+        tasks_most = omega (arith, few_tasks ts [] (omega arith) is.together);
+        capacities = λ r there. each_at IsCapacity (map (λ (t : Tree). t.queue) ts) r _ (queues_fit ts [] is.together) there;
+        reservations = λ t there. each_at IsReservation (params_of tasks) t _ (tasks_fit ts [] is.together) there;
       };
       each = scripts ∙ sym queues;
       named = named ∙ sym reserved;
-      names = names_fit ts [] trees;
-      scripts = subst (λ (n : ℕ). AllByRecursion (ScriptFits n 0) (map (script_of all) ts)) (named ∙ sym reserved) (scripts_fit all ts [] trees is.known);
+      names = names_fit ts [] is.together;
+      scripts = subst (λ (n : ℕ). AllByRecursion (ScriptFits n 0) (map (script_of all) ts)) (named ∙ sym reserved) (scripts_fit all ts [] is.together is.known);
     }
 
 pub plan_from_fits : (files : List (List ℕ)) (p : PlanView) → plan_from files ≡ Ok p → PlanFits p

@@ -18,8 +18,7 @@ use Rattle.grub_trace.specs.Forms.{Form, queue, task, at_moment, words_of, is_nu
 use Rattle.grub_trace.specs.Naming.{task_of}
 use Rattle.grub_trace.specs.inside.Faults.{is_act_named, is_named}
 use Rattle.grub_trace.specs.inside.Reading.{Read, act_map, take_line, declares, says, adds, times_of}
-use Rattle.grub_trace.specs.Meaning.{IsAct, IsHappeningFrom}
-use Rattle.grub_trace.specs.FirstFault.{IsDeclaration}
+use Rattle.grub_trace.specs.Meaning.{IsAct, IsHappeningFrom, IsDeclaration}
 use Rattle.grub_trace.specs.inside.Tree.{declaration_line, happening_line}
 use Rattle.grub_trace.proofs.FormLemmas.{form_is, form_words, number_is}
 use Rattle.grub_trace.proofs.LineLemmas.{taken, none_if}

@@ -10,11 +10,10 @@ use Rattle.grub_trace.specs.declared.fault.Kind.TheVariants.{UnknownTask, OutOfR
 use Rattle.grub_trace.specs.Tree.{Declaration, Happening, Tree, text, names_of}
 use Rattle.grub_plan.specs.Plans.{Line, PlanView}
 use Rattle.grub_trace.specs.Naming.{line_in, script_of, all_tasks, plan_of, plan_with}
-use Rattle.grub_trace.specs.Meaning.{AreKnown, Reads}
-use Rattle.grub_trace.specs.FirstFault.{AreTrees, FileFault, UnknownIn, FirstFault, UnknownFault, IsFault, too_many, no_file, first, unknown}
+use Rattle.grub_trace.specs.Meaning.{AreKnown, Reads, AreTrees}
+use Rattle.grub_trace.specs.FirstFault.{FileFault, UnknownIn, FirstFault, UnknownFault, IsFault, too_many, no_file, first, unknown}
 use Rattle.grub_trace.specs.inside.Reading.{AllRead, FileRead, Body, body_of, with_file, of_file, read_file, read_from, ◌>>=◌, script_from, option_or_err, scripts_from, unknown_in, plan_from, plan_of_read}
 use Rattle.grub_trace.proofs.LineLemmas.{bind_err, bind_ok, same_error, same_value}
-use Rattle.grub_trace.proofs.TreesTogether.{together}
 use Rattle.grub_trace.proofs.FileLaws.{file_read, file_fault, FileIs}
 
 -- ---- names to numbers
@@ -248,7 +247,7 @@ plan_read files p e =
                 some = h.0;
                 few = h.1;
                 texts = t.texts;
-                together = together t.trees t.trees_are;
+                together = t.trees_are;
                 known = subst (λ (ns : List (List ℕ)). AllByRecursion (λ (t : Tree). AreKnown ns t.happenings) t.trees) names (known_bodies (names_of a.0.declared) t.trees known);
               },
               sym (same_value {E = Where} (plan_with (map (λ b. b.queue) a.0.files) (a.0.declared) (b.0)) p b.2)

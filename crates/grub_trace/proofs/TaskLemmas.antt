@@ -13,7 +13,7 @@ use Rattle.grub_trace.specs.Naming.{task_of}
 abbrev next : ℕ → ℕ
 next i = i + 1
 
-pub none_at : (b : Bool) (o : Option ℕ) → cond b (Some 0) (option_map (λ i. i + 1) o) ≡ None → (b ≡ false) × (o ≡ None)
+none_at : (b : Bool) (o : Option ℕ) → cond b (Some 0) (option_map (λ i. i + 1) o) ≡ None → (b ≡ false) × (o ≡ None)
 none_at true o e = absurd cc
 none_at false None e = (refl, refl)
 none_at false (Some i) e = absurd cc

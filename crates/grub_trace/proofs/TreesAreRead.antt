@@ -15,8 +15,7 @@ use Rattle.grub_trace.specs.Tree.{Declaration, Happening, Tree, text, line, head
 use Rattle.grub_trace.specs.Faults.{last_of}
 use Rattle.grub_trace.specs.Forms.{parts_of}
 use Rattle.grub_trace.specs.Naming.{line_in, script_of, all_tasks, plan_of, plan_with}
-use Rattle.grub_trace.specs.Meaning.{GoOn, AreKnown, Reads}
-use Rattle.grub_trace.specs.FirstFault.{AreDeclared, IsTree, AreTrees}
+use Rattle.grub_trace.specs.Meaning.{GoOn, AreKnown, Reads, AreDeclared, IsTree, AreTrees}
 use Rattle.grub_trace.specs.inside.Tree.{declaration_line, happening_line}
 use Rattle.grub_trace.specs.inside.Reading.{Read, FileRead, AllRead, Body, with_file, of_file, read_lines, read_file, opened, read_from, take_line, at_line, ◌>>=◌, times_of, script_from, scripts_from, option_or_err, unknown_in, plan_from, declares, says}
 use Rattle.grub_trace.proofs.Elsewhere.{not_zero}
@@ -24,7 +23,6 @@ use Rattle.grub_trace.proofs.LineLemmas.{lines_step, first_known, second_view}
 use Rattle.grub_trace.proofs.FormLemmas.{version_again}
 use Rattle.grub_trace.proofs.FileLaws.{small_queue}
 use Rattle.grub_trace.proofs.LinesInTurn.{last_push}
-use Rattle.grub_trace.proofs.TreesTogether.{in_turn}
 use Rattle.grub_trace.proofs.PlanLaws.{body_of_tree, queues_are}
 use Rattle.grub_trace.proofs.Printed.{IsOneLine, declaration_again, happening_again, queue_again, declaration_one_line, happening_one_line, queue_one_line}
 
@@ -132,6 +130,6 @@ pub plan_again : (files : List (List ℕ)) (ts : List Tree) → Reads files ts �
 unfolding plan_from
 plan_again files ts is =
     let names = names_of (all_tasks ts) in
-    let read : read_from (record { declared = []; files = [] }) 0 files ≡ Ok (record { declared = all_tasks ts; files = map body_of_tree ts }) = ap (read_from (record { declared = []; files = [] }) 0) is.texts ∙ files_again ts (record { declared = []; files = [] }) 0 (in_turn ts is.together) in
+    let read : read_from (record { declared = []; files = [] }) 0 files ≡ Ok (record { declared = all_tasks ts; files = map body_of_tree ts }) = ap (read_from (record { declared = []; files = [] }) 0) is.texts ∙ files_again ts (record { declared = []; files = [] }) 0 is.together in
     rw (le-ltb 64 (length files) is.few, not_zero (length files) is.some, read, scripts_again names ts [] 0 is.known)
     (ap (λ (qs : List Capacity). Ok (plan_with qs (all_tasks ts) (map (script_of names) ts))) (queues_are ts))
