@@ -10,7 +10,7 @@ use Rattle.grub_trace.specs.Forms.{Form, at_moment, form_of, parts_of, queue, ta
 use Rattle.grub_trace.specs.Faults.{form_fault}
 use Rattle.grub_trace.specs.inside.Forms.{begins_with_task, is_task}
 use Rattle.grub_trace.specs.inside.Heads.{IsHead, body_from, lines_below, read_body}
-use Rattle.grub_trace.specs.inside.Reading.{Read, act_map, adds, at_line, in_file, opened, read_lines, take_form, take_line, take_option, times_of, unless, ◌>>=◌}
+use Rattle.grub_trace.specs.inside.Reading.{Read, act_map, adds, at_line, of_file, opened, read_lines, take_form, take_line, take_option, times_of, ok_unless, ◌>>=◌}
 use Rattle.grub_trace.proofs.LineLemmas.{unless_ok}
 use Rattle.grub_trace.proofs.WordLemmas.{has_part}
 
@@ -22,7 +22,7 @@ abbrev pub with_tasks : {E : Type 0} → List Declaration → Result Read E → 
 with_tasks ds (Ok r) = Ok (redeclare ds r)
 with_tasks ds (Err e) = Err e
 
-unless_with : (ds : List Declaration) (o : Option Kind) (r : Read) → unless o (redeclare ds r) ≡ with_tasks ds (unless o r)
+unless_with : (ds : List Declaration) (o : Option Kind) (r : Read) → ok_unless o (redeclare ds r) ≡ with_tasks ds (ok_unless o r)
 unless_with ds None r = refl
 unless_with ds (Some k) r = refl
 
@@ -76,9 +76,9 @@ pub head_elsewhere : (ds : List Declaration) (h : Head) → IsHead h → lines_b
 head_elsewhere ds h is = lines_elsewhere (parts_of h.below.now) ds (opened h.version []) h.first (λ task. absurd (let x = sym task ∙ is.below in cc))
 
 pub body_elsewhere : (ds : List Declaration) (h : Head) → IsHead h → read_body ds h ≡ read_body [] h
-body_elsewhere ds h is = ap (λ (x : Result Read (Kind × ℕ)). in_file h.file x >>= λ r. Ok (body_from h r)) (head_elsewhere ds h is) ∙ same (lines_below [] h)
+body_elsewhere ds h is = ap (λ (x : Result Read (Kind × ℕ)). of_file h.file x >>= λ r. Ok (body_from h r)) (head_elsewhere ds h is) ∙ same (lines_below [] h)
   where
-    same : (x : Result Read (Kind × ℕ)) → (in_file h.file (with_tasks ds x) >>= λ r. Ok (body_from h r)) ≡ (in_file h.file x >>= λ r. Ok (body_from h r))
+    same : (x : Result Read (Kind × ℕ)) → (of_file h.file (with_tasks ds x) >>= λ r. Ok (body_from h r)) ≡ (of_file h.file x >>= λ r. Ok (body_from h r))
     same (Ok r) = refl
     same (Err e) = refl
 

@@ -1,4 +1,5 @@
 -- The two laws of reading a file: what is read is the text of a tree, and a fault is the first one.
+use Rattle.grub_trace.specs.Meaning.{IsTree}
 use Rattle.std.proofs.Common.{◌≡◌, ℕ, ◌+◌, ◌-◌, ◌^◌, ◌<◌, Bool, true, false, cond, eqb, ◌⊎◌, inl, inr, List, [], ◌∷◌, ◌++◌, length, map, Option, Some, None, Result, Ok, Err, refl, ap, ◌∙◌, sym, arith, subst, append_assoc}
 use Rattle.std.specs.Prelude.{codes, decimal}
 use Rattle.std.specs.List.{join_with_byte, flat_map, list_all}
@@ -14,13 +15,13 @@ use Rattle.grub_trace.specs.declared.version.Version.{Version}
 use Rattle.grub_trace.specs.declared.fault.Kind.{Kind}
 use Rattle.grub_trace.specs.declared.fault.Kind.TheVariants.{CutShort, BadHeader, MissingQueue, BadNumber, OutOfRange}
 use Rattle.grub_trace.specs.Tree.{Declaration, Tree, text, line, header, head_text, queue_words, declaration_words, happening_words, names_of}
-use Rattle.grub_trace.specs.FirstFault.{front_fault, LineFault, QueueFault, FileFault, IsTree}
+use Rattle.grub_trace.specs.FirstFault.{front_fault, LineFault, QueueFault, FileFault}
 use Rattle.grub_trace.specs.inside.Tree.{declaration_line, happening_line}
-use Rattle.grub_trace.specs.inside.Reading.{Read, FileRead, read_file, read_first, read_as, read_second, file_from, opened, read_lines, read_queue, queue_of, unless, at_line, ◌>>=◌}
+use Rattle.grub_trace.specs.inside.Reading.{Read, FileRead, read_file, read_first, read_as, read_second, file_from, opened, read_lines, read_queue, queue_of, at_line, ◌>>=◌}
 use Rattle.grub_trace.proofs.FormLemmas.{form_is, number_is, version_is}
-use Rattle.grub_trace.proofs.LineLemmas.{bind_ok, at_line_ok, none_if}
+use Rattle.grub_trace.proofs.LineLemmas.{bind_err, bind_ok, at_line_ok, none_if, same_error, unless_err, unless_ok}
 use Rattle.grub_trace.proofs.LineMeaning.{two}
-use Rattle.grub_trace.proofs.Runs.{ended, printed, broke, Printed, Follows, Tail}
+use Rattle.grub_trace.proofs.LinesInTurn.{ended, printed, broke, Printed, Follows, Tail}
 use Rattle.grub_trace.proofs.FileMeaning.{front, fronts, ended_lines, lines_append, declared_text, said_text}
 
 -- ---- the runqueue's line
@@ -28,14 +29,6 @@ use Rattle.grub_trace.proofs.FileMeaning.{front, fronts, ended_lines, lines_appe
 pub record IsQueueLine (l : List ℕ) (q : Capacity) : Type 0 where
   pub spelled : l ≡ join_with_byte 32 (queue_words q)
   pub fits : IsCapacity q
-
-unless_is : {X : Type 0} (o : Option Kind) (x y : X) → unless o x ≡ Ok y → (o ≡ None) × (x ≡ y)
-unless_is None x y e = (refl, cc)
-unless_is (Some k) x y e = absurd cc
-
-unless_not : {X : Type 0} (o : Option Kind) (x : X) (k : Kind) → unless o x ≡ Err k → o ≡ Some k
-unless_not None x k e = absurd cc
-unless_not (Some j) x k e = let h : j ≡ k = cc in ap Some h
 
 pub small_queue : (c : Capacity) → IsCapacity c → (c.most < 2 ^ 64) × (c.extra < 2 ^ 64)
 small_queue c is = (omega (arith, is.most_most), omega (arith, is.most_most, is.extra_most))
@@ -60,7 +53,7 @@ queue_form l (Some (queue a b)) q is none e =
 
 pub queue_line : (l : List ℕ) (q : Capacity) → read_queue l ≡ Ok q → IsQueueLine l q
 queue_line l q e =
-    let u = unless_is (queue_fault l) (queue_of (form_of (words_of l))) q e in
+    let u = unless_ok (queue_fault l) (queue_of (form_of (words_of l))) q e in
     let v = none_if (begins_with_queue (words_of l)) MissingQueue _ u.0 in
     queue_form l (form_of (words_of l)) q refl v.1 u.1
 
@@ -157,21 +150,11 @@ file_read ds bytes r h = first_read ds bytes (parts_of bytes) r refl h
 
 -- ---- what is wrong
 
-pub bind_err : {A B : Type 0} (r : Result A (Kind × ℕ)) (f : A → Result B (Kind × ℕ)) (e : Kind × ℕ) → (r >>= f) ≡ Err e → (r ≡ Err e) ⊎ ((x : A) × (r ≡ Ok x) × (f x ≡ Err e))
-bind_err (Ok x) f e h = inr (x, refl, h)
-bind_err {A} (Err d) f e h = inl (let p : d ≡ e = cc in ap (λ (x : Kind × ℕ). Err x) p)
-
-same_pair : (X : Type 0) (x y : Kind × ℕ) → ◌≡◌ {A = Result X (Kind × ℕ)} (Err x) (Err y) → x ≡ y
-same_pair X x y e = cc
-
 at_line_err : {X : Type 0} (n m : ℕ) (r : Result X Kind) (k : Kind) → at_line n r ≡ Err (k, m) → (r ≡ Err k) × (m ≡ n)
 at_line_err n m (Ok x) k e = absurd cc
 at_line_err {X} n m (Err j) k e =
-    let p = same_pair X (j, n) (k, m) e in
+    let p = same_error {X = X} (j, n) (k, m) e in
     (ap (λ (x : Kind × ℕ). Err x.0) p, sym (ap (λ (x : Kind × ℕ). x.1) p))
-
-pair_is : (x y : Kind × ℕ) → ◌≡◌ {A = Result FileRead (Kind × ℕ)} (Err x) (Err y) → x ≡ y
-pair_is x y e = cc
 
 tail_fault : (u : List ℕ) (us : List (List ℕ)) (s : Read) (k : Kind) → Tail (u ∷ us) s k → front_fault CutShort (line_fault s.version (names_of s.declared) (times_of s.happenings)) (u ∷ us) ≡ Some k
 tail_fault u [] s k h = go (eqb (length u) 0)
@@ -215,12 +198,12 @@ second_fault : (version : Version) (ds : List Declaration) (bytes rest : List �
 unfolding read_second
 second_fault version ds bytes rest [] k n e p h = absurd (let w = has_part (λ b. eqb b 10) rest in let x : [] ≡ w.0 ∷ w.1 = sym p ∙ w.2 in cc)
 second_fault version ds bytes rest (l ∷ []) k n e p h =
-    let x = pair_is (cond (eqb (length l) 0) MissingQueue CutShort, 2) (k, n) h in
+    let x = same_error {X = FileRead} (cond (eqb (length l) 0) MissingQueue CutShort, 2) (k, n) h in
     inl (record { version = version; rest = rest; number = sym (ap (λ (y : Kind × ℕ). y.1) x); front = e; fault = rw p (ap (λ (y : Kind × ℕ). Some y.0) x) })
 second_fault version ds bytes rest (l ∷ t ∷ more) k n e p h =
     elim (bind_err (at_line 2 (read_queue l)) (λ q. read_lines (opened version ds) 3 (t ∷ more) >>= λ r. Ok (file_from q (3 + (length r.declared - length ds)) r)) (k, n) h) [
       | inl a ↦ let x = at_line_err 2 n (read_queue l) k a in
-          inl (record { version = version; rest = rest; number = x.1; front = e; fault = rw p (unless_not (queue_fault l) (queue_of (form_of (words_of l))) k x.0) })
+          inl (record { version = version; rest = rest; number = x.1; front = e; fault = rw p (unless_err (queue_fault l) (queue_of (form_of (words_of l))) k x.0) })
       | inr a ↦ elim (bind_err (read_lines (opened version ds) 3 (t ∷ more)) (λ r. Ok (file_from a.0 (3 + (length r.declared - length ds)) r)) (k, n) a.2) [
         | inl b ↦ let x = broke (t ∷ more) (opened version ds) 3 n k b in
             let f = front rest l t more p in
@@ -236,13 +219,13 @@ first_fault : (ds : List Declaration) (bytes : List ℕ) (parts : List (List ℕ
 unfolding read_first
 first_fault ds bytes [] k n p h = absurd (let w = has_part (λ b. eqb b 10) bytes in let x : [] ≡ w.0 ∷ w.1 = sym p ∙ w.2 in cc)
 first_fault ds bytes (l ∷ []) k n p h =
-    let x = pair_is (cond (eqb (length l) 0) BadHeader CutShort, 1) (k, n) h in
+    let x = same_error {X = FileRead} (cond (eqb (length l) 0) BadHeader CutShort, 1) (k, n) h in
     inl (sym (ap (λ (y : Kind × ℕ). y.1) x), rw p (ap (λ (y : Kind × ℕ). Some y.0) x))
 first_fault ds bytes (l ∷ t ∷ more) k n p h = go (version_of l) refl h
   where
     go : (o : Option Version) → version_of l ≡ o → read_as o ds (t ∷ more) ≡ Err (k, n) → FileFault (names_of ds) bytes k n
     go None is h =
-        let x = pair_is (BadHeader, 1) (k, n) h in
+        let x = same_error {X = FileRead} (BadHeader, 1) (k, n) h in
         inl (sym (ap (λ (y : Kind × ℕ). y.1) x), rw (p, is) (ap (λ (y : Kind × ℕ). Some y.0) x))
     go (Some version) is h =
         let f = front bytes l t more p in

@@ -1,5 +1,7 @@
 -- The words of a form, and the line that they make.
 use Rattle.std.proofs.Common.{map, ◌≤◌, ◌≡◌, ℕ, ◌^◌, ◌<◌, Bool, true, false, not, ◌&&◌, ◌||◌, cond, eqb, ◌⊎◌, inl, inr, List, [], ◌∷◌, length, get_or, Option, Some, None, option_map, refl, ap, ◌∙◌, sym, arith, subst}
+use Rattle.std.proofs.lemmas.Option.{cond_some}
+use Rattle.std.proofs.lemmas.Bool.{and_parts}
 use Rattle.std.specs.Prelude.{codes, decimal, IfSome}
 use Rattle.std.specs.Str.{bytes_eq}
 use Rattle.std.specs.Char.{is_ascii_digit}
@@ -18,10 +20,6 @@ use Rattle.grub_trace.specs.Forms.{Form, queue, task, at_moment, form_of, shape_
 use Rattle.grub_trace.specs.inside.Faults.{is_act_named, is_named}
 use Rattle.grub_trace.specs.inside.Reading.{form_view}
 use Rattle.grub_trace.proofs.NumberLemmas.{numerals}
-
-pub both : (a b : Bool) → (a && b) ≡ true → (a ≡ true) × (b ≡ true)
-both true b h = (refl, h)
-both false b h = absurd cc
 
 abbrev pub form_words : Form → List (List ℕ)
 form_words (queue a b) = codes "queue" ∷ a ∷ b ∷ []
@@ -81,10 +79,6 @@ four true u x o f e = inl (refl, cc)
 four false true x o f e = inr (refl, e)
 four false false x o f e = absurd cc
 
-five : (t : Bool) (x f : Form) → cond t (Some x) None ≡ Some f → (t ≡ true) × (x ≡ f)
-five true x f e = (refl, cc)
-five false x f e = absurd cc
-
 shape_is : (ws : List (List ℕ)) (f : Form) → shape_of ws ≡ Some f → IsForm ws f
 shape_is [] f e = absurd cc
 shape_is (k ∷ []) f e = absurd cc
@@ -92,30 +86,30 @@ shape_is (k ∷ a ∷ []) f e = absurd cc
 shape_is (k ∷ a ∷ b ∷ []) f e =
     elim (three (bytes_eq k (codes "queue")) (bytes_eq k (codes "at") && bytes_eq b (codes "read")) (queue a b) (at_moment a act.Read) f e) [
       | inl h ↦ subst (IsForm (k ∷ a ∷ b ∷ [])) h.1 (ap (λ (w : List ℕ). w ∷ a ∷ b ∷ []) (text_is k (codes "queue") h.0), refl)
-      | inr h ↦ let p = both (bytes_eq k (codes "at")) (bytes_eq b (codes "read")) h.0 in
+      | inr h ↦ let p = and_parts (bytes_eq k (codes "at")) (bytes_eq b (codes "read")) h.0 in
           subst (IsForm (k ∷ a ∷ b ∷ [])) h.1
           (ap (λ (w : List ℕ). w ∷ a ∷ b ∷ []) (text_is k (codes "at") p.0) ∙ ap (λ (w : List ℕ). codes "at" ∷ a ∷ w ∷ []) (text_is b (codes "read") p.1), refl)
     ]
 shape_is (k ∷ a ∷ b ∷ c ∷ []) f e =
     elim (four (bytes_eq k (codes "task") && is_name a) (bytes_eq k (codes "at") && is_name c) (task a b c) (option_map (at_moment a) (act_of b c)) f e) [
-      | inl h ↦ let p = both (bytes_eq k (codes "task")) (is_name a) h.0 in
+      | inl h ↦ let p = and_parts (bytes_eq k (codes "task")) (is_name a) h.0 in
           subst (IsForm (k ∷ a ∷ b ∷ c ∷ [])) h.1 (ap (λ (w : List ℕ). w ∷ a ∷ b ∷ c ∷ []) (text_is k (codes "task") p.0), p.1)
-      | inr h ↦ let p = both (bytes_eq k (codes "at")) (is_name c) h.0 in
+      | inr h ↦ let p = and_parts (bytes_eq k (codes "at")) (is_name c) h.0 in
           let v = mapped (at_moment a) (act_of b c) f h.1 in
           let is = act_is b c v.0 v.1 in
           subst (IsForm (k ∷ a ∷ b ∷ c ∷ [])) v.2
           (ap (λ (w : List ℕ). w ∷ a ∷ b ∷ c ∷ []) (text_is k (codes "at") p.0) ∙ ap (λ (ws : List (List ℕ)). codes "at" ∷ a ∷ ws) is.0, is.1 p.1)
     ]
 shape_is (k ∷ a ∷ b ∷ c ∷ d ∷ []) f e =
-    let h = five (bytes_eq k (codes "at") && bytes_eq b (codes "run") && is_name c) (at_moment a (act.Run c d)) f e in
-    let p = both (bytes_eq k (codes "at") && bytes_eq b (codes "run")) (is_name c) h.0 in
-    let q = both (bytes_eq k (codes "at")) (bytes_eq b (codes "run")) p.0 in
+    let h = cond_some (bytes_eq k (codes "at") && bytes_eq b (codes "run") && is_name c) (at_moment a (act.Run c d)) f e in
+    let p = and_parts (bytes_eq k (codes "at") && bytes_eq b (codes "run")) (is_name c) h.0 in
+    let q = and_parts (bytes_eq k (codes "at")) (bytes_eq b (codes "run")) p.0 in
     subst (IsForm (k ∷ a ∷ b ∷ c ∷ d ∷ [])) h.1
     (ap (λ (w : List ℕ). w ∷ a ∷ b ∷ c ∷ d ∷ []) (text_is k (codes "at") q.0) ∙ ap (λ (w : List ℕ). codes "at" ∷ a ∷ w ∷ c ∷ d ∷ []) (text_is b (codes "run") q.1), p.1)
 shape_is (k ∷ a ∷ b ∷ c ∷ d ∷ x ∷ []) f e =
-    let h = five (bytes_eq k (codes "at") && bytes_eq b (codes "retune") && is_name c) (at_moment a (act.Retune c d x)) f e in
-    let p = both (bytes_eq k (codes "at") && bytes_eq b (codes "retune")) (is_name c) h.0 in
-    let q = both (bytes_eq k (codes "at")) (bytes_eq b (codes "retune")) p.0 in
+    let h = cond_some (bytes_eq k (codes "at") && bytes_eq b (codes "retune") && is_name c) (at_moment a (act.Retune c d x)) f e in
+    let p = and_parts (bytes_eq k (codes "at") && bytes_eq b (codes "retune")) (is_name c) h.0 in
+    let q = and_parts (bytes_eq k (codes "at")) (bytes_eq b (codes "retune")) p.0 in
     subst (IsForm (k ∷ a ∷ b ∷ c ∷ d ∷ x ∷ [])) h.1
     (ap (λ (w : List ℕ). w ∷ a ∷ b ∷ c ∷ d ∷ x ∷ []) (text_is k (codes "at") q.0) ∙ ap (λ (w : List ℕ). codes "at" ∷ a ∷ w ∷ c ∷ d ∷ x ∷ []) (text_is b (codes "retune") q.1), p.1)
 shape_is (k ∷ a ∷ b ∷ c ∷ d ∷ x ∷ y ∷ ys) f e = absurd cc
@@ -217,7 +211,7 @@ version_again Two = refl
 
 digits_part : (w : List ℕ) → is_number w ≡ true → list_all is_ascii_digit w ≡ true
 digits_part [] h = absurd cc
-digits_part (c ∷ cs) h = (both (list_all is_ascii_digit (c ∷ cs)) (not (eqb c 48) || eqb (length cs) 0) h).0
+digits_part (c ∷ cs) h = (and_parts (list_all is_ascii_digit (c ∷ cs)) (not (eqb c 48) || eqb (length cs) 0) h).0
 
 some_part : (w : List ℕ) → is_number w ≡ true → 0 < length w
 some_part [] h = absurd cc
@@ -225,7 +219,7 @@ some_part (c ∷ cs) h = omega arith
 
 lone_zero : (w : List ℕ) → is_number w ≡ true → get_or w 0 0 ≡ 48 → length w ≡ 1
 lone_zero [] h z = absurd cc
-lone_zero (c ∷ cs) h z = let p = (both (list_all is_ascii_digit (c ∷ cs)) (not (eqb c 48) || eqb (length cs) 0) h).1 in grind (arith, nat_tests)
+lone_zero (c ∷ cs) h z = let p = (and_parts (list_all is_ascii_digit (c ∷ cs)) (not (eqb c 48) || eqb (length cs) 0) h).1 in grind (arith, nat_tests)
 
 -- the one spelling of a number
 pub number_is : (w : List ℕ) → is_number w ≡ true → value w < 2 ^ 64 → decimal (value w) ≡ w

@@ -16,14 +16,13 @@ use Rattle.grub_plan.specs.Contents.{contents}
 use Rattle.grub_trace.specs.Tree.{Declaration, names_of}
 use Rattle.grub_trace.specs.Faults.{form_fault}
 use Rattle.grub_trace.specs.Forms.{form_of, parts_of, reservation_value, task, version_of, words_of}
-use Rattle.grub_trace.specs.inside.Bodies.{AreRead, HaveHeads, IsRead, head_of}
+use Rattle.grub_trace.specs.inside.Bodies.{AreRead, HaveHeads, IsRead, head_above}
 use Rattle.grub_trace.specs.inside.Lines.{AreBodies}
-use Rattle.grub_trace.specs.inside.Heads.{EndsWith, GiveTogether, GivesHead, GivesTasks, IsHead, bodies_from, body_from, lines_below, read_body}
-use Rattle.grub_trace.specs.inside.Reading.{AllRead, Body, Faults, FileRead, IsIndexed, Read, adds, declarations, file_from, in_file, opened, read_file, read_from, read_lines, read_queue, read_second, take_form, take_line, take_option, with_file, ◌>>=◌}
-use Rattle.grub_trace.proofs.AllLemmas.{bodies_and, drop_item, faults_then, files_done, files_stop}
+use Rattle.grub_trace.specs.inside.Heads.{EndsAs, GiveTogether, GivesHead, GivesTasks, IsHead, bodies_from, body_from, lines_below, read_body}
+use Rattle.grub_trace.specs.inside.Reading.{AllRead, Body, Faults, FileRead, IsIndexed, Read, adds, declarations, file_from, of_file, opened, read_file, read_from, read_lines, read_queue, read_second, take_form, take_line, take_option, with_file, ◌>>=◌}
+use Rattle.grub_trace.proofs.FilesInTurn.{bodies_and, drop_item, faults_then, files_done, files_stop}
 use Rattle.grub_trace.proofs.Elsewhere.{body_elsewhere, head_elsewhere, redeclare, with_tasks}
 use Rattle.grub_trace.proofs.LineLemmas.{first_known, goes_on, second_stops, second_then, unless_ok}
-use Rattle.grub_trace.proofs.Loops.{TasksOn}
 
 -- ---- one step after another
 
@@ -40,6 +39,14 @@ pushed (Ok u) new more same is e = e
 pushed (Err e) new more same is p = absurd cc
 
 -- ---- the task lines of a file
+
+-- the tasks so far, and what is still read
+pub record TasksOn (version : Version) (old : List Declaration) (tasks : Tasks) (first : ℕ) (rest text : List ℕ) : Type 0 where
+  pub indexed : IsIndexed tasks
+  pub so_far : read_lines (opened version (declarations tasks)) first (parts_of rest) ≡ read_lines (opened version old) 3 (parts_of text)
+  pub count : first + length rest ≤ 3 + length text
+  pub number : first + length old ≡ 3 + length (declarations tasks)
+  pub third : 3 ≤ first
 
 pub tasks_next : (version : Version) (old : List Declaration) (a b : Tasks) (first : ℕ) (rest text line after n q p : List ℕ) → parts_of rest ≡ line ∷ parts_of after → length after < length rest → Some (task n q p) ≡ form_of (words_of line)
     → take_form (opened version (declarations a)) (task n q p) ≡ Ok (opened version (declarations b)) → IsIndexed b → TasksOn version old a first rest text → TasksOn version old b (first + 1) after text
@@ -77,10 +84,10 @@ pub gives_first : (r : Result Head TraceFault) (f : ℕ) (version : Version) (ol
 gives_first r f version old new text line rest parts known h = subst (λ (x : Result FileRead (Kind × ℕ)). GivesHead r f new x) (sym (first_known version old text line rest parts known)) h
 
 -- what stands below a head, with whatever tasks it was read
-pub body_stops : (e : TraceFault) (ds : List Declaration) (h : Head) → IsHead h → Faults e (in_file h.file (lines_below ds h)) → Faults e (read_body [] h)
-body_stops e ds h is stops = subst (Faults e) (body_elsewhere ds h is) (faults_then e (in_file h.file (lines_below ds h)) (λ r. Ok (body_from h r)) stops)
+pub body_stops : (e : TraceFault) (ds : List Declaration) (h : Head) → IsHead h → Faults e (of_file h.file (lines_below ds h)) → Faults e (read_body [] h)
+body_stops e ds h is stops = subst (Faults e) (body_elsewhere ds h is) (faults_then e (of_file h.file (lines_below ds h)) (λ r. Ok (body_from h r)) stops)
 
-pub body_gives : (ds : List Declaration) (h : Head) (r : Read) → IsHead h → in_file h.file (lines_below ds h) ≡ Ok r → read_body [] h ≡ Ok (body_from h r)
+pub body_gives : (ds : List Declaration) (h : Head) (r : Read) → IsHead h → of_file h.file (lines_below ds h) ≡ Ok r → read_body [] h ≡ Ok (body_from h r)
 body_gives ds h r is gives = sym (body_elsewhere ds h is) ∙ ap (λ (x : Result Read (Kind × ℕ × ℕ)). x >>= λ r. Ok (body_from h r)) gives
 
 -- ---- heads, one after the other
@@ -123,12 +130,12 @@ file_step : (ds more : List Declaration) (h : Head) (f : ℕ) (bytes : List ℕ)
     → read_from (record { declared = ds; files = bs }) f (bytes ∷ rest) ≡ (read_body [] h >>= λ b. read_from (record { declared = more; files = bs ++ b ∷ [] }) (f + 1) rest)
 unfolding read_from
 file_step ds more h f bytes rest bs head place gives =
-    ap (λ (x : Result FileRead (Kind × ℕ)). in_file f x >>= λ r. read_from (with_file (record { declared = ds; files = bs }) r) (f + 1) rest)
+    ap (λ (x : Result FileRead (Kind × ℕ)). of_file f x >>= λ r. read_from (with_file (record { declared = ds; files = bs }) r) (f + 1) rest)
     (gives ∙ ap (λ (x : Result Read (Kind × ℕ)). x >>= λ r. Ok (file_from h.queue h.first r)) (head_elsewhere more h head))
-    ∙ go (lines_below [] h) ∙ ap (λ (g : ℕ). in_file g (lines_below [] h) >>= (λ r. Ok (body_from h r)) >>= λ b. read_from (record { declared = more; files = bs ++ b ∷ [] }) (f + 1) rest) (sym place)
+    ∙ go (lines_below [] h) ∙ ap (λ (g : ℕ). of_file g (lines_below [] h) >>= (λ r. Ok (body_from h r)) >>= λ b. read_from (record { declared = more; files = bs ++ b ∷ [] }) (f + 1) rest) (sym place)
   where
-    go : (x : Result Read (Kind × ℕ)) → (in_file f (with_tasks more x >>= λ r. Ok (file_from h.queue h.first r)) >>= λ r. read_from (with_file (record { declared = ds; files = bs }) r) (f + 1) rest)
-        ≡ (in_file f x >>= (λ r. Ok (body_from h r)) >>= λ b. read_from (record { declared = more; files = bs ++ b ∷ [] }) (f + 1) rest)
+    go : (x : Result Read (Kind × ℕ)) → (of_file f (with_tasks more x >>= λ r. Ok (file_from h.queue h.first r)) >>= λ r. read_from (with_file (record { declared = ds; files = bs }) r) (f + 1) rest)
+        ≡ (of_file f x >>= (λ r. Ok (body_from h r)) >>= λ b. read_from (record { declared = more; files = bs ++ b ∷ [] }) (f + 1) rest)
     go (Ok r) = refl
     go (Err e) = refl
 
@@ -147,7 +154,7 @@ heads_next a b hs h f files bytes lt item head place indexed gives on =
     }
 
 -- a head that is wrong
-pub heads_stop : (e : TraceFault) (ds : List Declaration) (a : Tasks) (hs : List Head) (f : ℕ) (files : List (Vec ℕ)) (bytes : Vec ℕ) → f < length files → bytes ≡ get_or files f bytes → Faults e (in_file f (read_file (declarations a) bytes.items))
+pub heads_stop : (e : TraceFault) (ds : List Declaration) (a : Tasks) (hs : List Head) (f : ℕ) (files : List (Vec ℕ)) (bytes : Vec ℕ) → f < length files → bytes ≡ get_or files f bytes → Faults e (of_file f (read_file (declarations a) bytes.items))
     → HeadsOn a hs f files → GiveTogether ds hs (Some e) (read_from (record { declared = []; files = [] }) 0 (contents files))
 heads_stop e ds a hs f files bytes lt item stops on = record {
   end = λ bs. read_from (record { declared = declarations a; files = bs }) f (contents (drop f files));
@@ -156,7 +163,7 @@ heads_stop e ds a hs f files bytes lt item stops on = record {
 }
 
 -- the first of all
-pub first_stop : (e : TraceFault) (a : Tasks) (hs : List Head) (f : ℕ) (files : List (Vec ℕ)) (bytes : Vec ℕ) → f ≡ 0 → f < length files → bytes ≡ get_or files f bytes → Faults e (in_file f (read_file (declarations a) bytes.items))
+pub first_stop : (e : TraceFault) (a : Tasks) (hs : List Head) (f : ℕ) (files : List (Vec ℕ)) (bytes : Vec ℕ) → f ≡ 0 → f < length files → bytes ≡ get_or files f bytes → Faults e (of_file f (read_file (declarations a) bytes.items))
     → HeadsOn a hs f files → Faults e (read_from (record { declared = []; files = [] }) 0 (contents files))
 first_stop e a hs f files bytes zero lt item stops on = files_stop e (record { declared = declarations a; files = [] }) f files bytes _ lt item stops (sym (none_before hs _ (omega (arith, on.count, zero))) ∙ sym on.so_far)
 
@@ -170,15 +177,15 @@ heads_done a hs f files le on = record {
 
 -- ---- what stands below them
 
-pub have_heads : (bs : List Below) → All IsHead (map head_of bs) → HaveHeads bs
+pub have_heads : (bs : List Below) → All IsHead (map head_above bs) → HaveHeads bs
 have_heads [] all = All-nil (λ b. IsHead b.head)
-have_heads (b ∷ bs) all = All-cons (λ b. IsHead b.head) b bs (All-head IsHead b.head (map head_of bs) all) (have_heads bs (All-tail IsHead b.head (map head_of bs) all))
+have_heads (b ∷ bs) all = All-cons (λ b. IsHead b.head) b bs (All-head IsHead b.head (map head_above bs) all) (have_heads bs (All-tail IsHead b.head (map head_above bs) all))
 
 -- so many files were collected, and what is left is still to come
 pub record CollectsOn (t : Tasks) (files : List RawFile) (yielded bodies : List Below) : Type 0 where
   pub done : List Body
   pub are : AreBodies t done files
-  pub so_far : bodies_from done (map head_of (drop (length yielded) bodies)) ≡ bodies_from [] (map head_of bodies)
+  pub so_far : bodies_from done (map head_above (drop (length yielded) bodies)) ≡ bodies_from [] (map head_above bodies)
 
 pub collects_none : (t : Tasks) (files : List RawFile) (bodies : List Below) → files ≡ [] → CollectsOn t files [] bodies
 collects_none t files bodies none = record { done = []; are = subst (AreBodies t []) (sym none) tt; so_far = refl }
@@ -189,9 +196,9 @@ read_one t bodies body n lt item are = subst (IsRead t) (sym item) (All-get_or (
 
 -- the bodies from one on
 from_here : (t : Tasks) (files : List RawFile) (yielded bodies : List Below) (body : Below) → length yielded < length bodies → body ≡ get_or bodies (length yielded) body → (on : CollectsOn t files yielded bodies)
-    → (read_body [] body.head >>= λ b. bodies_from (on.done ++ b ∷ []) (map head_of (drop (length yielded + 1) bodies))) ≡ bodies_from [] (map head_of bodies)
+    → (read_body [] body.head >>= λ b. bodies_from (on.done ++ b ∷ []) (map head_above (drop (length yielded + 1) bodies))) ≡ bodies_from [] (map head_above bodies)
 unfolding bodies_from
-from_here t files yielded bodies body lt item on = ap (λ (xs : List Below). bodies_from on.done (map head_of xs)) (sym (drop_item bodies (length yielded) body lt item)) ∙ on.so_far
+from_here t files yielded bodies body lt item on = ap (λ (xs : List Below). bodies_from on.done (map head_above xs)) (sym (drop_item bodies (length yielded) body lt item)) ∙ on.so_far
 
 pub collects_next : (t : Tasks) (files : List RawFile) (yielded bodies : List Below) (file : RawFile) (body : Below) → length yielded < length bodies → body ≡ get_or bodies (length yielded) body → body.file ≡ Ok file
     → AreRead t bodies → CollectsOn t files yielded bodies → CollectsOn t (files ++ file ∷ []) (yielded ++ body ∷ []) bodies
@@ -200,23 +207,23 @@ collects_next t files yielded bodies file body lt item is are on =
     record {
       done = on.done ++ read.0 ∷ [];
       are = bodies_and t on.done files read.0 file on.are read.2;
-      so_far = ap (λ k. bodies_from (on.done ++ read.0 ∷ []) (map head_of (drop k bodies))) (length_push yielded body)
-          ∙ sym (ap (λ (x : Result Body (Kind × ℕ × ℕ)). x >>= λ b. bodies_from (on.done ++ b ∷ []) (map head_of (drop (length yielded + 1) bodies))) read.1) ∙ from_here t files yielded bodies body lt item on;
+      so_far = ap (λ k. bodies_from (on.done ++ read.0 ∷ []) (map head_above (drop k bodies))) (length_push yielded body)
+          ∙ sym (ap (λ (x : Result Body (Kind × ℕ × ℕ)). x >>= λ b. bodies_from (on.done ++ b ∷ []) (map head_above (drop (length yielded + 1) bodies))) read.1) ∙ from_here t files yielded bodies body lt item on;
     }
 
 pub collects_stop : (e : TraceFault) (t : Tasks) (ds : List Declaration) (files : List RawFile) (yielded bodies : List Below) (body : Below) (fault : Option TraceFault) (total : Result AllRead (Kind × ℕ × ℕ)) → length yielded < length bodies
-    → body ≡ get_or bodies (length yielded) body → body.file ≡ Err e → AreRead t bodies → GiveTogether ds (map head_of bodies) fault total → CollectsOn t files yielded bodies → Faults e total
+    → body ≡ get_or bodies (length yielded) body → body.file ≡ Err e → AreRead t bodies → GiveTogether ds (map head_above bodies) fault total → CollectsOn t files yielded bodies → Faults e total
 collects_stop e t ds files yielded bodies body fault total lt item is are together on =
     let read = rw is at (read_one t bodies body (length yielded) lt item are) in
     subst (Faults e) (sym together.total_is)
-    (faults_then e (bodies_from [] (map head_of bodies)) together.end (subst (Faults e) (from_here t files yielded bodies body lt item on) (faults_then e (read_body [] body.head) _ read)))
+    (faults_then e (bodies_from [] (map head_above bodies)) together.end (subst (Faults e) (from_here t files yielded bodies body lt item on) (faults_then e (read_body [] body.head) _ read)))
 
 -- all of them
 pub collects_all : (t : Tasks) (ds : List Declaration) (files : List RawFile) (yielded bodies : List Below) (fault : Option TraceFault) (total : Result AllRead (Kind × ℕ × ℕ)) → length bodies ≤ length yielded
-    → GiveTogether ds (map head_of bodies) fault total → (on : CollectsOn t files yielded bodies) → EndsWith fault ds on.done total
+    → GiveTogether ds (map head_above bodies) fault total → (on : CollectsOn t files yielded bodies) → EndsAs fault ds on.done total
 unfolding bodies_from
 collects_all t ds files yielded bodies fault total le together on =
     let none : drop (length yielded) bodies ≡ [] = drop_all (length yielded) bodies le in
-    let bodies_are : bodies_from [] (map head_of bodies) ≡ Ok on.done = sym on.so_far ∙ ap (λ (xs : List Below). bodies_from on.done (map head_of xs)) none in
+    let bodies_are : bodies_from [] (map head_above bodies) ≡ Ok on.done = sym on.so_far ∙ ap (λ (xs : List Below). bodies_from on.done (map head_above xs)) none in
     let is : total ≡ together.end on.done = together.total_is ∙ ap (λ (x : Result (List Body) (Kind × ℕ × ℕ)). x >>= together.end) bodies_are in
-    subst (λ x. EndsWith fault ds on.done x) (sym is) (together.end_is on.done)
+    subst (λ x. EndsAs fault ds on.done x) (sym is) (together.end_is on.done)

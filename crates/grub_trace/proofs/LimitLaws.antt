@@ -1,8 +1,8 @@
 -- The plan of trees keeps the limits.
 use Rattle.std.proofs.Common.{◌≡◌, ℕ, zero, suc, get_or, ◌+◌, ◌^◌, ◌<◌, ◌≤◌, Bool, true, false, cond, List, [], ◌∷◌, ◌++◌, length, map, Option, Some, None, option_map, refl, ap, ◌∙◌, sym, arith, subst}
+use Rattle.std.proofs.lemmas.Option.{same_Some}
 use Rattle.std.specs.Prelude.{IsSome, Ok}
 use Rattle.grub_trace.specs.inside.Reading.{plan_from}
-use Rattle.grub_trace.proofs.Together.{in_turn}
 use Rattle.grub_trace.proofs.PlanLaws.{plan_read}
 use Rattle.std.specs.Str.{bytes_eq}
 use Rattle.std.specs.List.{AllByRecursion, filter_map, cons_option}
@@ -16,21 +16,17 @@ use Rattle.grub_plan.specs.Names.{is_name}
 use Rattle.grub_trace.specs.Tree.{Declaration, Happening, Tree, names_of, params_of, is_span, is_moment, text}
 use Rattle.grub_plan.specs.Plans.{Line, PlanView}
 use Rattle.grub_trace.specs.Naming.{task_of, line_in, act_in, script_of, all_tasks, plan_of}
-use Rattle.grub_trace.specs.Meaning.{GoOn, IsAct, AreKnown, Reads}
-use Rattle.grub_trace.specs.FirstFault.{AreDeclared, AreTrees}
+use Rattle.grub_trace.specs.Meaning.{GoOn, IsAct, AreKnown, Reads, AreDeclared, AreTrees}
 use Rattle.grub_plan.specs.Limits.{ActFits, ScriptFits, PlanFits}
 
 place_below : (names : List (List ℕ)) (n : List ℕ) (t : ℕ) → task_of names n ≡ Some t → t < length names
 place_below [] n t e = absurd cc
 place_below (x ∷ xs) n t e = go (bytes_eq x n) (task_of xs n) (λ i h. place_below xs n i h) e
   where
-    some_is : (a b : ℕ) → Some a ≡ Some b → a ≡ b
-    some_is a b e = cc
-
     go : (b : Bool) (o : Option ℕ) → ((i : ℕ) → o ≡ Some i → i < length xs) → cond b (Some 0) (option_map (λ i. i + 1) o) ≡ Some t → t < length (x ∷ xs)
-    go true o h e = let p = some_is 0 t e in omega arith
+    go true o h e = let p = same_Some 0 t e in omega arith
     go false None h e = absurd cc
-    go false (Some i) h e = let p = some_is (i + 1) t e in omega (arith, h i refl)
+    go false (Some i) h e = let p = same_Some (i + 1) t e in omega (arith, h i refl)
 
 mapped : {A : Type 0} (f : ℕ → A) (o : Option ℕ) (a : A) → option_map f o ≡ Some a → (t : ℕ) × (o ≡ Some t) × (f t ≡ a)
 mapped f None a e = absurd cc
@@ -121,19 +117,18 @@ plan_fits files ts is =
     let queues : length (map (λ (t : Tree). t.queue) ts) ≡ length ts = length-map ts (λ (t : Tree). t.queue) in
     let named : length all ≡ length tasks = length-map tasks (λ (d : Declaration). d.name) in
     let reserved : length (params_of tasks) ≡ length tasks = length-map tasks (λ (d : Declaration). d.params) in
-    let trees = in_turn ts is.together in
     record {
       setup = record {
         queues_some = omega (arith, is.some);
         queues_most = omega (arith, is.few);
-        tasks_most = omega (arith, few_tasks ts [] (omega arith) trees);
-        capacities = λ r there. each_at IsCapacity (map (λ (t : Tree). t.queue) ts) r _ (queues_fit ts [] trees) there;
-        reservations = λ t there. each_at IsReservation (params_of tasks) t _ (tasks_fit ts [] trees) there;
+        tasks_most = omega (arith, few_tasks ts [] (omega arith) is.together);
+        capacities = λ r there. each_at IsCapacity (map (λ (t : Tree). t.queue) ts) r _ (queues_fit ts [] is.together) there;
+        reservations = λ t there. each_at IsReservation (params_of tasks) t _ (tasks_fit ts [] is.together) there;
       };
       each = scripts ∙ sym queues;
       named = named ∙ sym reserved;
-      names = names_fit ts [] trees;
-      scripts = subst (λ (n : ℕ). AllByRecursion (ScriptFits n 0) (map (script_of all) ts)) (named ∙ sym reserved) (scripts_fit all ts [] trees is.known);
+      names = names_fit ts [] is.together;
+      scripts = subst (λ (n : ℕ). AllByRecursion (ScriptFits n 0) (map (script_of all) ts)) (named ∙ sym reserved) (scripts_fit all ts [] is.together is.known);
     }
 
 pub plan_from_fits : (files : List (List ℕ)) (p : PlanView) → plan_from files ≡ Ok p → PlanFits p

@@ -5,9 +5,9 @@ use Rattle.grub_bw.specs.Bandwidth.{Capacity}
 use Rattle.grub_trace.specs.declared.version.Version.{Version}
 use Rattle.grub_trace.specs.declared.fault.Kind.{Kind}
 use Rattle.grub_trace.specs.declared.fault.Kind.TheVariants.{CutShort, BadHeader, BadLine, BadNumber, OutOfRange, MomentGoesBack}
-use Rattle.grub_trace.specs.inside.Reading.{Read, FileRead, act_map, read_queue, read_second, read_first, read_as, read_file, file_from, opened, unless, adds, take_option, times_of, read_lines, take_line, at_line, in_file, ◌>>=◌, Faults, two_fault, IsRun, IsRetune, take_form}
+use Rattle.grub_trace.specs.inside.Reading.{Read, FileRead, act_map, read_queue, read_second, read_first, read_as, read_file, file_from, opened, ok_unless, adds, take_option, times_of, read_lines, take_line, at_line, of_file, ◌>>=◌, Faults, two_fault, IsRunOf, IsRetuneOf, take_form}
 use Rattle.grub_trace.specs.Forms.{parts_of, Form, queue, task, at_moment, words_of, form_of, is_number, version_of, value, reservation_value}
-use Rattle.std.proofs.Common.{◌-◌, Option, Some, None}
+use Rattle.std.proofs.Common.{◌-◌, ◌⊎◌, inl, inr, Option, Some, None}
 use Rattle.std.proofs.lemmas.List.{length_push}
 use Rattle.grub_trace.specs.declared.fault.TraceFault.{TraceFault}
 use Rattle.grub_trace.specs.declared.fault.TraceFault.TheVariants as fault
@@ -15,6 +15,24 @@ use Rattle.grub_trace.specs.Tree.{Declaration, names_of, is_moment, is_span, may
 use Rattle.grub_plan.specs.declared.line.Act.TheVariants.{Run, Retune}
 use Rattle.grub_trace.specs.Faults.{form_fault, is_allowed, is_timely, reservation_fits}
 use Rattle.grub_trace.proofs.WordLemmas.{has_part}
+
+-- ---- one step after another
+
+pub same_value : {X E : Type 0} (x y : X) → ◌≡◌ {A = Result X E} (Ok x) (Ok y) → x ≡ y
+same_value x y e = cc
+
+pub same_error : {X E : Type 0} (x y : E) → ◌≡◌ {A = Result X E} (Err x) (Err y) → x ≡ y
+same_error x y e = cc
+
+pub bind_ok : {A B E : Type 0} (r : Result A E) (f : A → Result B E) (y : B) → (r >>= f) ≡ Ok y → (x : A) × (r ≡ Ok x) × (f x ≡ Ok y)
+bind_ok (Ok x) f y e = (x, refl, e)
+bind_ok (Err d) f y e = absurd cc
+
+pub bind_err : {A B E : Type 0} (r : Result A E) (f : A → Result B E) (e : E) → (r >>= f) ≡ Err e → (r ≡ Err e) ⊎ ((x : A) × (r ≡ Ok x) × (f x ≡ Err e))
+bind_err (Ok x) f e h = inr (x, refl, h)
+bind_err {B = B} (Err d) f e h = inl (ap Err (same_error {X = B} d e h))
+
+-- ---- lines
 
 pub lines_step : (r : Read) (n : ℕ) (line rest : List ℕ) → read_lines r n (line ∷ parts_of rest) ≡ (at_line n (take_line r line) >>= λ s. read_lines s (n + 1) (parts_of rest))
 unfolding read_lines
@@ -26,13 +44,10 @@ goes_on r s n text line rest total parts taken so_far =
     sym one ∙ so_far
 
 -- the fault of a step is that of the steps from it on
-faults_then : {X Y : Type 0} (e : TraceFault) (f : ℕ) (r : Result X (Kind × ℕ)) (k : X → Result Y (Kind × ℕ)) → Faults e (in_file f r) → Faults e (in_file f (r >>= k))
+faults_then : {X Y : Type 0} (e : TraceFault) (f : ℕ) (r : Result X (Kind × ℕ)) (k : X → Result Y (Kind × ℕ)) → Faults e (of_file f r) → Faults e (of_file f (r >>= k))
 faults_then fault.NoMemory f r k h = tt
 faults_then (fault.At j g n) f (Ok x) k h = absurd cc
-faults_then {X = X} {Y = Y} (fault.At j g n) f (Err d) k h = let p = same_error (d.0, f, d.1) (j, g, n) h in ap (λ (x : Kind × ℕ × ℕ). Err x) p
-  where
-    same_error : (x y : Kind × ℕ × ℕ) → ◌≡◌ {A = Result X (Kind × ℕ × ℕ)} (Err x) (Err y) → x ≡ y
-    same_error x y e = cc
+faults_then {X = X} {Y = Y} (fault.At j g n) f (Err d) k h = let p = same_error {X = X} (d.0, f, d.1) (j, g, n) h in ap (λ (x : Kind × ℕ × ℕ). Err x) p
 
 -- what was answered of a line whose fault got its place
 pub placed_ok : {X : Type 0} (r : Result X Kind) (x : X) → MatchResult r (λ y. ◌≡◌ {A = Result X TraceFault} (Ok x) (Ok y)) (λ k. ⊥) → r ≡ Ok x
@@ -43,9 +58,9 @@ pub placed_err : {X : Type 0} {Q : Kind → Type 0} (r : Result X Kind) (f n : �
 placed_err (Ok y) f n e is h = absurd cc
 placed_err (Err k) f n e is h = (k, refl, is k h)
 
-pub stops : (e : TraceFault) (f : ℕ) (r : Read) (n : ℕ) (text line rest : List ℕ) (total : Result Read (Kind × ℕ)) → parts_of text ≡ line ∷ parts_of rest → Faults e (in_file f (at_line n (take_line r line))) → read_lines r n (parts_of text) ≡ total → Faults e (in_file f total)
+pub stops : (e : TraceFault) (f : ℕ) (r : Read) (n : ℕ) (text line rest : List ℕ) (total : Result Read (Kind × ℕ)) → parts_of text ≡ line ∷ parts_of rest → Faults e (of_file f (at_line n (take_line r line))) → read_lines r n (parts_of text) ≡ total → Faults e (of_file f total)
 stops e f r n text line rest total parts taken so_far =
-    subst (λ x. Faults e (in_file f x)) (sym (ap (read_lines r n) parts ∙ lines_step r n line rest) ∙ so_far) (faults_then e f (at_line n (take_line r line)) (λ s. read_lines s (n + 1) (parts_of rest)) taken)
+    subst (λ x. Faults e (of_file f x)) (sym (ap (read_lines r n) parts ∙ lines_step r n line rest) ∙ so_far) (faults_then e f (at_line n (take_line r line)) (λ s. read_lines s (n + 1) (parts_of rest)) taken)
 
 pub last_line : (r : Read) (n : ℕ) (text : List ℕ) (total : Result Read (Kind × ℕ)) → parts_of text ≡ text ∷ [] → read_lines r n (parts_of text) ≡ total → total ≡ cond (eqb (length text) 0) (Ok r) (Err (CutShort, n))
 unfolding read_lines
@@ -59,7 +74,11 @@ ends_whole r n text total parts none so_far = last_line r n text total parts so_
 
 -- ---- what is read is only added to
 
-pub unless_ok : {X : Type 0} (o : Option Kind) (x y : X) → unless o x ≡ Ok y → (o ≡ None) × (x ≡ y)
+pub unless_err : {X : Type 0} (o : Option Kind) (x : X) (k : Kind) → ok_unless o x ≡ Err k → o ≡ Some k
+unless_err {X = X} None x k e = absurd cc
+unless_err {X = X} (Some j) x k e = ap Some (same_error {X = X} j k e)
+
+pub unless_ok : {X : Type 0} (o : Option Kind) (x y : X) → ok_unless o x ≡ Ok y → (o ≡ None) × (x ≡ y)
 unless_ok None x y e = (refl, cc)
 unless_ok (Some k) x y e = absurd cc
 
@@ -74,10 +93,6 @@ adds_grows : (f : Form) (r : Read) → length r.declared ≤ length (adds f r).d
 adds_grows (queue a b) r = omega arith
 adds_grows (task n q p) r = omega (arith, length_push r.declared (record { name = n; params = reservation_value q p }))
 adds_grows (at_moment m a) r = omega arith
-
-pub bind_ok : {A B E : Type 0} (r : Result A E) (f : A → Result B E) (y : B) → (r >>= f) ≡ Ok y → (x : A) × (r ≡ Ok x) × (f x ≡ Ok y)
-bind_ok (Ok x) f y e = (x, refl, e)
-bind_ok (Err d) f y e = absurd cc
 
 pub at_line_ok : {X : Type 0} (n : ℕ) (r : Result X Kind) (x : X) → at_line n r ≡ Ok x → r ≡ Ok x
 at_line_ok n (Ok y) x e = let h : y ≡ x = cc in ap Ok h
@@ -118,8 +133,8 @@ unfolding queue_then
 second_then version ds text line rest q parts is = ap (read_second version ds) parts ∙ second_step version ds line rest ∙ rw is refl
 
 pub second_stops : (e : TraceFault) (f : ℕ) (version : Version) (ds : List Declaration) (text line rest : List ℕ) (q : Capacity) → parts_of text ≡ line ∷ parts_of rest → read_queue line ≡ Ok q
-    → Faults e (in_file f (read_lines (opened version ds) 3 (parts_of rest))) → Faults e (in_file f (read_second version ds (parts_of text)))
-second_stops e f version ds text line rest q parts is h = subst (λ x. Faults e (in_file f x)) (sym (second_then version ds text line rest q parts is)) (faults_then e f (read_lines (opened version ds) 3 (parts_of rest)) _ h)
+    → Faults e (of_file f (read_lines (opened version ds) 3 (parts_of rest))) → Faults e (of_file f (read_second version ds (parts_of text)))
+second_stops e f version ds text line rest q parts is h = subst (λ x. Faults e (of_file f x)) (sym (second_then version ds text line rest q parts is)) (faults_then e f (read_lines (opened version ds) 3 (parts_of rest)) _ h)
 
 pub first_step : (ds : List Declaration) (text line rest : List ℕ) → parts_of text ≡ line ∷ parts_of rest → read_file ds text ≡ read_as (version_of line) ds (parts_of rest)
 unfolding read_file read_first
@@ -175,16 +190,16 @@ all_three : (a b c : Bool) → (a && (b && (c && true))) ≡ (a && b && c)
 all_three true b c = all_two b c
 all_three false b c = refl
 
-pub run_stops : (k : Kind) (r : Read) (m n d : List ℕ) → IsRun (Err k) m d → take_form r (at_moment m (Run n d)) ≡ Err k
+pub run_stops : (k : Kind) (r : Read) (m n d : List ℕ) → IsRunOf (Err k) m d → take_form r (at_moment m (Run n d)) ≡ Err k
 run_stops k r m n d h =
     let f = at_moment m (Run n d) in
     let late = cond (not (is_timely (times_of r.happenings) f)) (Some MomentGoesBack) None in
     let within = is_moment (value m) && is_span (value d) in
     let fault : form_fault r.version (names_of r.declared) (times_of r.happenings) f ≡ Some k =
     ap (λ (s : Bool). cond (not s) (Some BadNumber) (cond (not within) (Some OutOfRange) late)) (all_two (is_number m) (is_number d)) ∙ fault_from (is_number m && is_number d) within late k h in
-    ap (λ (o : Option Kind). unless o (adds f r)) fault
+    ap (λ (o : Option Kind). ok_unless o (adds f r)) fault
 
-pub retune_stops : (k : Kind) (r : Read) (m n q p : List ℕ) → may_retune r.version ≡ true → IsRetune (Err k) m q p → take_form r (at_moment m (Retune n q p)) ≡ Err k
+pub retune_stops : (k : Kind) (r : Read) (m n q p : List ℕ) → may_retune r.version ≡ true → IsRetuneOf (Err k) m q p → take_form r (at_moment m (Retune n q p)) ≡ Err k
 retune_stops k r m n q p may h =
     let f = at_moment m (Retune n q p) in
     let late = cond (not (is_timely (times_of r.happenings) f)) (Some MomentGoesBack) None in
@@ -193,4 +208,4 @@ retune_stops k r m n q p may h =
     ap (λ (b : Bool). cond (not b) (Some BadLine) (cond (not (is_number m && (is_number q && (is_number p && true)))) (Some BadNumber) (cond (not within) (Some OutOfRange) late))) may
     ∙ ap (λ (s : Bool). cond (not s) (Some BadNumber) (cond (not within) (Some OutOfRange) late)) (all_three (is_number m) (is_number q) (is_number p))
     ∙ fault_from (is_number m && is_number q && is_number p) within late k h in
-    ap (λ (o : Option Kind). unless o (adds f r)) fault
+    ap (λ (o : Option Kind). ok_unless o (adds f r)) fault

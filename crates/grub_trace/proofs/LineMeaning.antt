@@ -1,11 +1,11 @@
 -- What a line that was taken means.
-use Rattle.std.proofs.Common.{◌≡◌, ℕ, ◌^◌, ◌<◌, ◌≤◌, true, ◌⊎◌, inl, inr, List, [], ◌∷◌, length, Option, Some, None, Ok, refl, ap, ◌∙◌, sym, arith}
-use Rattle.std.specs.Prelude.{codes, decimal, nat_le, nat_lt, is_none}
+use Rattle.std.proofs.Common.{◌≡◌, ℕ, ◌^◌, ◌<◌, true, ◌⊎◌, inl, inr, List, [], ◌∷◌, length, Option, Some, None, Ok, refl, ap, ◌∙◌, sym, arith}
+use Rattle.std.specs.Prelude.{codes, decimal, nat_lt, is_none}
 use Rattle.std.specs.List.{list_all, join_with_byte}
 use Rattle.std.proofs.lemmas.List.Splits.{join_with_byte-slice_split}
 use Rattle.std.proofs.lemmas.List.{length-map}
 use Rattle.std.proofs.lemmas.Bool.Decides.{nat_tests}
-use Rattle.std.proofs.lemmas.Bool.{eqb-true, ltb-true}
+use Rattle.std.proofs.lemmas.Bool.{and_parts, eqb-true, leb-true, ltb-true}
 use Rattle.grub_bw.specs.Bandwidth.{Reservation, IsReservation}
 use Rattle.grub_trace.proofs.LimitTests.{reservation_is}
 use Rattle.grub_trace.specs.declared.version.Version.{Version}
@@ -18,10 +18,9 @@ use Rattle.grub_trace.specs.Forms.{Form, queue, task, at_moment, words_of, is_nu
 use Rattle.grub_trace.specs.Naming.{task_of}
 use Rattle.grub_trace.specs.inside.Faults.{is_act_named, is_named}
 use Rattle.grub_trace.specs.inside.Reading.{Read, act_map, take_line, declares, says, adds, times_of}
-use Rattle.grub_trace.specs.Meaning.{IsAct, IsHappeningFrom}
-use Rattle.grub_trace.specs.FirstFault.{IsDeclaration}
+use Rattle.grub_trace.specs.Meaning.{IsAct, IsHappeningFrom, IsDeclaration}
 use Rattle.grub_trace.specs.inside.Tree.{declaration_line, happening_line}
-use Rattle.grub_trace.proofs.FormLemmas.{form_is, form_words, number_is, both}
+use Rattle.grub_trace.proofs.FormLemmas.{form_is, form_words, number_is}
 use Rattle.grub_trace.proofs.LineLemmas.{taken, none_if}
 
 pub record Declares (r : Read) (line : List ℕ) (s : Read) : Type 0 where
@@ -63,21 +62,18 @@ small_moment m h = grind (arith, nat_tests)
 pub small_span : (n : ℕ) → is_span n ≡ true → n < 2 ^ 64
 small_span n h = grind (arith, nat_tests)
 
-le_test : (a b : ℕ) → nat_le a b ≡ true → a ≤ b
-le_test a b h = grind (arith, nat_tests)
-
 no_task : (o : Option ℕ) → is_none o ≡ true → o ≡ None
 no_task None h = refl
 no_task (Some x) h = absurd cc
 
 one : (w : List ℕ) → list_all is_number (w ∷ []) ≡ true → is_number w ≡ true
-one w h = (both (is_number w) true h).0
+one w h = (and_parts (is_number w) true h).0
 
 pub two : (v w : List ℕ) → list_all is_number (v ∷ w ∷ []) ≡ true → (is_number v ≡ true) × (is_number w ≡ true)
-two v w h = let p = both (is_number v) (list_all is_number (w ∷ [])) h in (p.0, one w p.1)
+two v w h = let p = and_parts (is_number v) (list_all is_number (w ∷ [])) h in (p.0, one w p.1)
 
 three : (u v w : List ℕ) → list_all is_number (u ∷ v ∷ w ∷ []) ≡ true → (is_number u ≡ true) × (is_number v ≡ true) × (is_number w ≡ true)
-three u v w h = let p = both (is_number u) (list_all is_number (v ∷ w ∷ [])) h in let q = two v w p.1 in (p.0, q.0, q.1)
+three u v w h = let p = and_parts (is_number u) (list_all is_number (v ∷ w ∷ [])) h in let q = two v w p.1 in (p.0, q.0, q.1)
 
 -- an act that passes the tests, once its numbers are read
 pub record Means (version : Version) (m : List ℕ) (a : Act (List ℕ) (List ℕ)) : Type 0 where
@@ -94,11 +90,11 @@ act_means version names moments m (act.Leave n) name t = record { moment = one m
 act_means version names moments m (act.Exit n) name t = record { moment = one m t.spelled; within = t.in_range; act = name; words = refl }
 act_means version names moments m (act.Run n d) name t =
     let w = two m d t.spelled in
-    let x = both (is_moment (value m)) (is_span (value d)) t.in_range in
+    let x = and_parts (is_moment (value m)) (is_span (value d)) t.in_range in
     record { moment = w.0; within = x.0; act = (name, x.1); words = ap (λ (u : List ℕ). codes "run" ∷ n ∷ u ∷ []) (sym (number_is d w.1 (small_span (value d) x.1))) }
 act_means version names moments m (act.Retune n q p) name t =
     let w = three m q p t.spelled in
-    let x = both (is_moment (value m)) (reservation_fits (reservation_value q p)) t.in_range in
+    let x = and_parts (is_moment (value m)) (reservation_fits (reservation_value q p)) t.in_range in
     let fits = reservation_is (reservation_value q p) x.1 in
     let small = small_period (reservation_value q p) fits in
     record {
@@ -114,7 +110,7 @@ pub form_means : (r s : Read) (line : List ℕ) (f : Form) → line ≡ join_wit
 form_means r s line (queue a b) is name p e = absurd (let h = p.allowed in cc)
 form_means r s line (task n q p) is name t e =
     let w = two q p t.spelled in
-    let x = both (nat_lt (length (names_of r.declared)) 256) (reservation_fits (reservation_value q p)) t.in_range in
+    let x = and_parts (nat_lt (length (names_of r.declared)) 256) (reservation_fits (reservation_value q p)) t.in_range in
     let fits = reservation_is (reservation_value q p) x.1 in
     let small = small_period (reservation_value q p) fits in
     inl (record {
@@ -129,7 +125,7 @@ form_means r s line (at_moment m a) is name t e =
     let h = act_means r.version (names_of r.declared) (times_of r.happenings) m a name t in
     inr (record {
       happening = record { m = value m; act = act_map (λ n. n) value a };
-      is = record { after = le_test _ _ t.timely; within = h.within; act = h.act };
+      is = record { after = leb-true _ _ t.timely; within = h.within; act = h.act };
       spelled = is ∙ ap (λ (u : List ℕ). join_with_byte 32 (codes "at" ∷ u ∷ act_words (λ w. w) a)) (sym (number_is m h.moment (small_moment (value m) h.within)))
           ∙ ap (λ (ws : List (List ℕ)). join_with_byte 32 (codes "at" ∷ decimal (value m) ∷ ws)) h.words;
       added = e;

@@ -10,11 +10,10 @@ use Rattle.grub_trace.specs.declared.fault.Kind.TheVariants.{UnknownTask, OutOfR
 use Rattle.grub_trace.specs.Tree.{Declaration, Happening, Tree, text, names_of}
 use Rattle.grub_plan.specs.Plans.{Line, PlanView}
 use Rattle.grub_trace.specs.Naming.{line_in, script_of, all_tasks, plan_of, plan_with}
-use Rattle.grub_trace.specs.Meaning.{AreKnown, Reads}
-use Rattle.grub_trace.specs.FirstFault.{AreTrees, FileFault, UnknownIn, FirstFault, UnknownFault, IsFault, too_many, no_file, first, unknown}
-use Rattle.grub_trace.specs.inside.Reading.{AllRead, FileRead, Body, body_of, with_file, in_file, read_file, read_from, ◌>>=◌, script_from, option_or_err, scripts_from, unknown_in, plan_from, plan_of_read}
-use Rattle.grub_trace.proofs.LineLemmas.{bind_ok}
-use Rattle.grub_trace.proofs.Together.{together}
+use Rattle.grub_trace.specs.Meaning.{AreKnown, Reads, AreTrees}
+use Rattle.grub_trace.specs.FirstFault.{FileFault, UnknownIn, FirstFault, UnknownFault, IsFault, too_many, no_file, first, unknown}
+use Rattle.grub_trace.specs.inside.Reading.{AllRead, FileRead, Body, body_of, with_file, of_file, read_file, read_from, ◌>>=◌, script_from, option_or_err, scripts_from, unknown_in, plan_from, plan_of_read}
+use Rattle.grub_trace.proofs.LineLemmas.{bind_err, bind_ok, same_error, same_value}
 use Rattle.grub_trace.proofs.FileLaws.{file_read, file_fault, FileIs}
 
 -- ---- names to numbers
@@ -86,17 +85,10 @@ pub record ScriptsStop (names : List (List ℕ)) (bs : List Body) (k : Kind) (g 
 abbrev Where : Type 0
 Where = Kind × ℕ × ℕ
 
-pub bind_err : {A B : Type 0} (r : Result A Where) (f : A → Result B Where) (e : Where) → (r >>= f) ≡ Err e → (r ≡ Err e) ⊎ ((x : A) × (r ≡ Ok x) × (f x ≡ Err e))
-bind_err (Ok x) f e h = inr (x, refl, h)
-bind_err {A} (Err d) f e h = inl (let p : d ≡ e = cc in ap (λ (x : Where). Err x) p)
-
-same_where : (X : Type 0) (x y : Where) → ◌≡◌ {A = Result X Where} (Err x) (Err y) → x ≡ y
-same_where X x y e = cc
-
 unknown_err : (f : ℕ) (r : Result (List Line) ℕ) (k : Kind) (g n : ℕ) → unknown_in f r ≡ Err (k, g, n) → (r ≡ Err n) × (k ≡ UnknownTask) × (g ≡ f)
 unknown_err f (Ok x) k g n e = absurd cc
 unknown_err f (Err m) k g n e =
-    let p = same_where (List Line) (UnknownTask, f, m) (k, g, n) e in
+    let p = same_error {X = List Line} (UnknownTask, f, m) (k, g, n) e in
     (ap (λ (x : Where). Err x.2) p, sym (ap (λ (x : Where). x.0) p), sym (ap (λ (x : Where). x.1) p))
 
 pub scripts_stops : (names : List (List ℕ)) (bs : List Body) (done : List (List Line)) (f : ℕ) (k : Kind) (g n : ℕ) → scripts_from names done f bs ≡ Err (k, g, n) → (i : ℕ) × ScriptsStop names bs k i n × (g ≡ f + i)
@@ -125,14 +117,14 @@ pub record AllIs (all : AllRead) (files : List (List ℕ)) (res : AllRead) : Typ
   pub declared_is : res.declared ≡ all.declared ++ all_tasks trees
   pub bodies_are : res.files ≡ all.files ++ map body_of_tree trees
 
-in_file_ok : {X : Type 0} (f : ℕ) (r : Result X (Kind × ℕ)) (x : X) → in_file f r ≡ Ok x → r ≡ Ok x
-in_file_ok f (Ok y) x e = let h : y ≡ x = cc in ap Ok h
-in_file_ok f (Err n) x e = absurd cc
+of_file_ok : {X : Type 0} (f : ℕ) (r : Result X (Kind × ℕ)) (x : X) → of_file f r ≡ Ok x → r ≡ Ok x
+of_file_ok f (Ok y) x e = let h : y ≡ x = cc in ap Ok h
+of_file_ok f (Err n) x e = absurd cc
 
-pub in_file_err : {X : Type 0} (f : ℕ) (r : Result X (Kind × ℕ)) (k : Kind) (g n : ℕ) → in_file f r ≡ Err (k, g, n) → (r ≡ Err (k, n)) × (g ≡ f)
-in_file_err f (Ok x) k g n e = absurd cc
-in_file_err {X} f (Err m) k g n e =
-    let p = same_where X (m.0, f, m.1) (k, g, n) e in
+pub of_file_err : {X : Type 0} (f : ℕ) (r : Result X (Kind × ℕ)) (k : Kind) (g n : ℕ) → of_file f r ≡ Err (k, g, n) → (r ≡ Err (k, n)) × (g ≡ f)
+of_file_err f (Ok x) k g n e = absurd cc
+of_file_err {X} f (Err m) k g n e =
+    let p = same_error {X = X} (m.0, f, m.1) (k, g, n) e in
     (ap (λ (x : Where). Err (x.0, x.2)) p, sym (ap (λ (x : Where). x.1) p))
 
 body_is : (ds : List Declaration) (bytes : List ℕ) (r : FileRead) (h : FileIs ds bytes r) → body_of r ≡ body_of_tree h.tree
@@ -147,8 +139,8 @@ files_read [] all res f e =
     let h : all ≡ res = cc in
     record { trees = []; texts = refl; trees_are = tt; declared_is = ap (λ (x : AllRead). x.declared) (sym h) ∙ sym (append-nil all.declared); bodies_are = ap (λ (x : AllRead). x.files) (sym h) ∙ sym (append-nil all.files) }
 files_read (bytes ∷ more) all res f e =
-    let a = bind_ok (in_file f (read_file all.declared bytes)) (λ r. read_from (with_file all r) (f + 1) more) res e in
-    let t = file_read all.declared bytes a.0 (in_file_ok f (read_file all.declared bytes) a.0 a.1) in
+    let a = bind_ok (of_file f (read_file all.declared bytes)) (λ r. read_from (with_file all r) (f + 1) more) res e in
+    let t = file_read all.declared bytes a.0 (of_file_ok f (read_file all.declared bytes) a.0 a.1) in
     let h = files_read more (with_file all a.0) res (f + 1) a.2 in
     record {
       trees = t.tree ∷ h.trees;
@@ -162,8 +154,8 @@ pub files_fault : (files : List (List ℕ)) (all : AllRead) (f : ℕ) (k : Kind)
 unfolding read_from
 files_fault [] all f k g n e = absurd cc
 files_fault (bytes ∷ more) all f k g n e =
-    elim (bind_err (in_file f (read_file all.declared bytes)) (λ r. read_from (with_file all r) (f + 1) more) (k, g, n) e) [
-      | inl x ↦ let u = in_file_err f (read_file all.declared bytes) k g n x in (
+    elim (bind_err (of_file f (read_file all.declared bytes)) (λ r. read_from (with_file all r) (f + 1) more) (k, g, n) e) [
+      | inl x ↦ let u = of_file_err f (read_file all.declared bytes) k g n x in (
         0,
         record {
           fronts = [];
@@ -176,7 +168,7 @@ files_fault (bytes ∷ more) all f k g n e =
         },
         omega (arith, u.1),
       )
-      | inr x ↦ let t = file_read all.declared bytes x.0 (in_file_ok f (read_file all.declared bytes) x.0 x.1) in
+      | inr x ↦ let t = file_read all.declared bytes x.0 (of_file_ok f (read_file all.declared bytes) x.0 x.1) in
           let h = files_fault more (with_file all x.0) (f + 1) k g n x.2 in
           let u = h.1 in
           let ns = names_after all.declared t.tree.tasks x.0 t.declared_is in (
@@ -233,9 +225,6 @@ counts files p e = many (ltb 64 (length files)) refl e
     many true is e = inl (ltb-true 64 (length files) is, sym e)
     many false is e = none (eqb (length files) 0) (ltb-false 64 (length files) is) refl e
 
-same_plan : (p q : PlanView) → ◌≡◌ {A = Result PlanView Where} (Ok p) (Ok q) → p ≡ q
-same_plan p q e = cc
-
 ok_or_err : (p : PlanView) (w : Where) → ◌≡◌ {A = Result PlanView Where} (Ok p) (Err w) → ⊥
 ok_or_err p w e = cc
 
@@ -258,10 +247,10 @@ plan_read files p e =
                 some = h.0;
                 few = h.1;
                 texts = t.texts;
-                together = together t.trees t.trees_are;
+                together = t.trees_are;
                 known = subst (λ (ns : List (List ℕ)). AllByRecursion (λ (t : Tree). AreKnown ns t.happenings) t.trees) names (known_bodies (names_of a.0.declared) t.trees known);
               },
-              sym (same_plan (plan_with (map (λ b. b.queue) a.0.files) (a.0.declared) (b.0)) p b.2)
+              sym (same_value {E = Where} (plan_with (map (λ b. b.queue) a.0.files) (a.0.declared) (b.0)) p b.2)
                   ∙ ap (λ (ss : List (List Line)). plan_with (map (λ b. b.queue) a.0.files) (a.0.declared) (ss)) s.0
                   ∙ ap (λ (bs : List Body). plan_with (map (λ b. b.queue) bs) (a.0.declared) (map (λ (b : Body). filter_map (line_in (names_of a.0.declared)) b.happenings) bs)) t.bodies_are
                   ∙ ap (λ (qs : List Capacity). plan_with (qs) (a.0.declared) (map (λ (b : Body). filter_map (line_in (names_of a.0.declared)) b.happenings) (map body_of_tree t.trees))) (queues_are t.trees)
@@ -275,10 +264,10 @@ plan_read files p e =
 pub plan_fault : (files : List (List ℕ)) (k : Kind) (f n : ℕ) → plan_from files ≡ Err (k, f, n) → IsFault files k f n
 plan_fault files k f n e =
     elim (counts files (Err (k, f, n)) e) [
-      | inl h ↦ let p = same_where PlanView (OutOfRange, 64, 1) (k, f, n) (sym h.1) in
+      | inl h ↦ let p = same_error {X = PlanView} (OutOfRange, 64, 1) (k, f, n) (sym h.1) in
           subst (λ (w : Where). IsFault files w.0 w.1 w.2) p (too_many h.0)
       | inr h ↦ elim h [
-        | inl h ↦ let p = same_where PlanView (MissingQueue, 0, 1) (k, f, n) (sym h.1) in
+        | inl h ↦ let p = same_error {X = PlanView} (MissingQueue, 0, 1) (k, f, n) (sym h.1) in
             subst (λ (w : Where). IsFault files w.0 w.1 w.2) p (no_file h.0)
         | inr h ↦ elim (bind_err (read_from (record { declared = []; files = [] }) 0 files) (λ all. plan_of_read all) (k, f, n) h.2) [
           | inl x ↦ let u = files_fault files (record { declared = []; files = [] }) 0 k f n x in

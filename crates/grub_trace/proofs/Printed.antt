@@ -1,5 +1,6 @@
 -- A printed line is read again.
-use Rattle.std.proofs.Common.{◌≡◌, ℕ, zero, suc, ◌^◌, ◌<◌, ◌≤◌, Bool, true, false, not, ◌&&◌, ◌||◌, cond, eqb, List, [], ◌∷◌, ◌++◌, length, get_or, Option, Some, None, Ok, option_map, refl, ap, ◌∙◌, arith, rules}
+use Rattle.std.proofs.Common.{◌≡◌, ℕ, zero, suc, ◌^◌, ◌<◌, Bool, true, false, not, ◌&&◌, ◌||◌, cond, eqb, List, [], ◌∷◌, ◌++◌, length, get_or, Option, Some, None, Ok, option_map, refl, ap, ◌∙◌, arith, rules}
+use Rattle.std.proofs.lemmas.Bool.{and_parts, le-leb}
 use Rattle.std.specs.Prelude.{codes, decimal, nat_le}
 use Rattle.std.specs.Char.{is_ascii_digit}
 use Rattle.std.specs.List.{list_all, join_with_byte, AllByRecursion}
@@ -20,9 +21,8 @@ use Rattle.grub_plan.specs.Names.{is_name, is_name_byte}
 use Rattle.grub_trace.specs.Tree.{Declaration, Happening, act_words, queue_words, is_moment, names_of}
 use Rattle.grub_trace.specs.Faults.{form_fault, last_of, queue_fault, queue_form_fault, begins_with_queue, is_allowed, is_in_range, is_fresh, is_timely}
 use Rattle.grub_trace.specs.Forms.{Form, queue, task, at_moment, words_of, form_of, is_filled, act_of, is_number, value, numbers_of}
-use Rattle.grub_trace.specs.inside.Reading.{Read, act_map, take_line, take_option, unless, adds, declares, says, times_of, read_queue, queue_of}
-use Rattle.grub_trace.specs.Meaning.{IsAct, IsHappeningFrom}
-use Rattle.grub_trace.specs.FirstFault.{IsDeclaration}
+use Rattle.grub_trace.specs.inside.Reading.{Read, act_map, take_line, take_option, ok_unless, adds, declares, says, times_of, read_queue, queue_of}
+use Rattle.grub_trace.specs.Meaning.{IsAct, IsHappeningFrom, IsDeclaration}
 use Rattle.grub_trace.specs.inside.Tree.{declaration_line, happening_line}
 use Rattle.grub_trace.proofs.NumberLemmas.{numerals}
 use Rattle.grub_trace.proofs.FormLemmas.{form_again}
@@ -31,10 +31,6 @@ use Rattle.grub_trace.proofs.LineMeaning.{small_period, small_moment, small_span
 -- each byte is above the space
 abbrev pub IsPlain : List ℕ → Type 0
 IsPlain w = AllByRecursion (λ b. 32 < b) w
-
-and_parts : (a b : Bool) → (a && b) ≡ true → (a ≡ true) × (b ≡ true)
-and_parts true b h = (refl, h)
-and_parts false b h = absurd cc
 
 digit_above : (b : ℕ) → is_ascii_digit b ≡ true → 32 < b
 digit_above b h = grind (arith, nat_tests)
@@ -133,9 +129,6 @@ keyword_queue = search rules
 pub no_fault : (version : Version) (names : List (List ℕ)) (moments : List ℕ) (f : Form) → is_allowed version moments f ≡ true → list_all is_number (numbers_of f) ≡ true → is_in_range (length names) f ≡ true → is_fresh names f ≡ true → is_timely moments f ≡ true → form_fault version names moments f ≡ None
 no_fault version names moments f a b c d e = rw (a, b, c, d, e) refl
 
-le_true : (a b : ℕ) → a ≤ b → nat_le a b ≡ true
-le_true a b h = grind (arith, nat_tests)
-
 both_numbers : (m n : ℕ) → m < 2 ^ 64 → n < 2 ^ 64 → list_all is_number (decimal m ∷ decimal n ∷ []) ≡ true
 both_numbers m n h k = rw (number_again m h, number_again n k) refl
 
@@ -146,7 +139,7 @@ one_number : (m : ℕ) → m < 2 ^ 64 → list_all is_number (decimal m ∷ []) 
 one_number m h = rw (number_again m h) refl
 
 taken_form : (r : Read) (line : List ℕ) (f : Form) → form_of (words_of line) ≡ Some f → form_fault r.version (names_of r.declared) (times_of r.happenings) f ≡ None → take_line r line ≡ Ok (adds f r)
-taken_form r line f is none = ap (take_option r) is ∙ ap (λ (o : Option Kind). unless o (adds f r)) none
+taken_form r line f is none = ap (take_option r) is ∙ ap (λ (o : Option Kind). ok_unless o (adds f r)) none
 
 name_filled : (w : List ℕ) → is_name w ≡ true → is_filled w ≡ true
 name_filled [] h = absurd cc
@@ -259,7 +252,7 @@ happening_again r h is =
     let p = act_printed r.version (times_of r.happenings) (length (names_of r.declared)) h.m h.act small within is.act in
     let words = words_again (codes "at") (decimal h.m ∷ act_words decimal h.act) keyword_at (decimal_plain h.m small, words_plain r.version h.act is.act) in
     taken_form r (happening_line h) f (ap form_of words ∙ p.form)
-    (no_fault r.version (names_of r.declared) (times_of r.happenings) f p.allowed p.spelled p.in_range refl (rw (value_again h.m small) (le_true (last_of (times_of r.happenings)) h.m is.after)))
+    (no_fault r.version (names_of r.declared) (times_of r.happenings) f p.allowed p.spelled p.in_range refl (rw (value_again h.m small) (le-leb (last_of (times_of r.happenings)) h.m is.after)))
     ∙ ap (λ (m : ℕ). Ok (says (record { m = m; act = act_map (λ n. n) value (act_map (λ n. n) decimal h.act) }) r)) (value_again h.m small)
     ∙ ap (λ (a : Act (List ℕ) ℕ). Ok (says (record { m = h.m; act = a }) r)) p.values
 
@@ -273,7 +266,7 @@ queue_again c hu hx fits =
     let none : queue_fault (join_with_byte 32 (queue_words c)) ≡ None =
     ap (λ (ws : List (List ℕ)). cond (not (begins_with_queue ws)) (Some MissingQueue) (queue_form_fault (form_of ws))) words
     ∙ ap queue_form_fault (queue_form (decimal u) (decimal x) (decimal_filled u hu) (decimal_filled x hx)) ∙ right in
-    ap (λ (o : Option Kind). unless o (queue_of (form_of (words_of (join_with_byte 32 (queue_words c)))))) none
+    ap (λ (o : Option Kind). ok_unless o (queue_of (form_of (words_of (join_with_byte 32 (queue_words c)))))) none
     ∙ ap (λ (o : Option Form). Ok (queue_of o)) form
     ∙ ap (λ (n : ℕ). Ok (record { most = n; extra = value (decimal x) })) (value_again u hu)
     ∙ ap (λ (n : ℕ). Ok (record { most = u; extra = n })) (value_again x hx)

@@ -1,43 +1,16 @@
 -- Which fault of event files is answered: the first one.
-use Rattle.std.specs.Prelude.{◌≡◌, ℕ, ◌≤◌, ◌<◌, true, List, [], ◌∷◌, ◌++◌, length, map, None, Option, Some, ◌==◌, ◌+◌, ◌⊎◌, if◌then◌else◌}
+use Rattle.std.specs.Prelude.{◌≡◌, ℕ, ◌≤◌, ◌<◌, List, [], ◌∷◌, ◌++◌, length, map, None, Option, Some, ◌==◌, ◌+◌, ◌⊎◌, if◌then◌else◌}
 use Rattle.std.specs.List.{AllByRecursion}
-use Rattle.grub_bw.specs.Bandwidth.{IsReservation, IsCapacity}
 use Rattle.grub_trace.specs.declared.version.Version.{Version}
 use Rattle.grub_trace.specs.declared.fault.Kind.{Kind}
 use Rattle.grub_trace.specs.declared.fault.Kind.TheVariants.{BadHeader, MissingQueue, CutShort, UnknownTask, OutOfRange}
 use Rattle.grub_trace.specs.declared.fault.TraceFault.{TraceFault}
 use Rattle.grub_trace.specs.declared.fault.TraceFault.TheVariants as trace
-use Rattle.grub_plan.specs.Names.{is_name}
-use Rattle.grub_trace.specs.Tree.{Declaration, Happening, header, Tree, text, names_of}
+use Rattle.grub_trace.specs.Tree.{Happening, header, Tree, text, names_of}
 use Rattle.grub_trace.specs.Forms.{parts_of}
 use Rattle.grub_trace.specs.Faults.{line_fault, header_fault, queue_fault}
-use Rattle.grub_trace.specs.Naming.{task_of, line_in, all_tasks}
-use Rattle.grub_trace.specs.Meaning.{GoOn, AreKnown}
-
--- ---- trees after the names that were declared before them
-
--- a declaration that may stand after these names
-pub record IsDeclaration (names : List (List ℕ)) (d : Declaration) : Type 0 where
-  pub name : is_name d.name ≡ true
-  pub fits : IsReservation d.params
-  pub few : length names < 256
-  pub fresh : task_of names d.name ≡ None
-
--- each is declared after these names, and the names that are declared before it
-abbrev pub AreDeclared : List (List ℕ) → List Declaration → Type 0
-AreDeclared names [] = Unit {0}
-AreDeclared names (d ∷ ds) = IsDeclaration names d × AreDeclared (names ++ d.name ∷ []) ds
-
--- a tree that may stand after these names
-pub record IsTree (names : List (List ℕ)) (t : Tree) : Type 0 where
-  pub queue : IsCapacity t.queue
-  pub tasks : AreDeclared names t.tasks
-  pub happenings : GoOn t.version 0 t.happenings
-
--- trees that may stand one after the other, after these names
-abbrev pub AreTrees : List (List ℕ) → List Tree → Type 0
-AreTrees names [] = Unit {0}
-AreTrees names (t ∷ ts) = IsTree names t × AreTrees (names ++ names_of t.tasks) ts
+use Rattle.grub_trace.specs.Naming.{line_in, all_tasks}
+use Rattle.grub_trace.specs.Meaning.{AreKnown, AreTrees, IsTree}
 
 -- ---- the first fault of a file
 

@@ -4,5 +4,6 @@ pub mod Forms
 pub mod Meaning
 pub mod Messages
 pub mod Naming
+pub mod PlanOrFault
 pub mod Tree
 pub mod inside

@@ -1,5 +1,5 @@
 -- What event files mean: the trees whose texts they are.
-use Rattle.std.specs.Prelude.{◌≡◌, ℕ, ◌≤◌, true, List, [], ◌∷◌, length, map, None, IsSome}
+use Rattle.std.specs.Prelude.{◌≡◌, ℕ, ◌≤◌, ◌<◌, true, List, [], ◌∷◌, ◌++◌, length, map, None, IsSome}
 use Rattle.std.specs.List.{AllByRecursion}
 use Rattle.grub_bw.specs.Bandwidth.{IsReservation, IsCapacity}
 use Rattle.grub_trace.specs.declared.version.Version.{Version}
@@ -31,23 +31,28 @@ abbrev pub GoOn : Version → ℕ → List Happening → Type 0
 GoOn version low [] = Unit {0}
 GoOn version low (h ∷ hs) = IsHappeningFrom version low h × GoOn version h.m hs
 
--- a declaration by itself, and a tree by itself
-abbrev pub IsGood : Declaration → Type 0
-IsGood d = (is_name d.name ≡ true) × IsReservation d.params
+-- a declaration that may stand after these names: none stands twice, and there are at most 256
+pub record IsDeclaration (names : List (List ℕ)) (d : Declaration) : Type 0 where
+  pub name : is_name d.name ≡ true
+  pub fits : IsReservation d.params
+  pub few : length names < 256
+  pub fresh : task_of names d.name ≡ None
 
-abbrev pub IsAlone : Tree → Type 0
-IsAlone t = IsCapacity t.queue × AllByRecursion IsGood t.tasks × GoOn t.version 0 t.happenings
+-- each may stand after these names, and those that are declared before it
+abbrev pub AreDeclared : List (List ℕ) → List Declaration → Type 0
+AreDeclared names [] = Unit {0}
+AreDeclared names (d ∷ ds) = IsDeclaration names d × AreDeclared (names ++ d.name ∷ []) ds
 
--- no name stands twice
-abbrev pub AreDistinct : List (List ℕ) → Type 0
-AreDistinct [] = Unit {0}
-AreDistinct (n ∷ ns) = (task_of ns n ≡ None) × AreDistinct ns
+-- a tree that may stand after these names
+pub record IsTree (names : List (List ℕ)) (t : Tree) : Type 0 where
+  pub queue : IsCapacity t.queue
+  pub tasks : AreDeclared names t.tasks
+  pub happenings : GoOn t.version 0 t.happenings
 
--- trees that may stand in one run
-pub record AreTogether (ts : List Tree) : Type 0 where
-  pub each : AllByRecursion IsAlone ts
-  pub few : length (names_of (all_tasks ts)) ≤ 256
-  pub once : AreDistinct (names_of (all_tasks ts))
+-- trees that may stand one after the other, after these names
+abbrev pub AreTrees : List (List ℕ) → List Tree → Type 0
+AreTrees names [] = Unit {0}
+AreTrees names (t ∷ ts) = IsTree names t × AreTrees (names ++ names_of t.tasks) ts
 
 -- each task that is named is declared
 abbrev pub AreKnown : List (List ℕ) → List Happening → Type 0
@@ -58,5 +63,5 @@ pub record Reads (files : List (List ℕ)) (trees : List Tree) : Type 0 where
   pub some : 1 ≤ length files
   pub few : length files ≤ 64
   pub texts : files ≡ map text trees
-  pub together : AreTogether trees
+  pub together : AreTrees [] trees
   pub known : AllByRecursion (λ t. AreKnown (names_of (all_tasks trees)) t.happenings) trees

@@ -1,11 +1,11 @@
 //! What stands below a head: what each line says, and the script that the lines are.
 
 ghost use Rattle.std.specs.Prelude.{◌≡◌, ◌≤◌, [], map, false};
-ghost use Rattle.grub_trace.specs.inside.Reading.{IsIndexed, IsMoment, IsRetune, IsRun, declarations, in_file, line_view};
+ghost use Rattle.grub_trace.specs.inside.Reading.{IsIndexed, IsMomentOf, IsRetuneOf, IsRunOf, declarations, of_file, line_view};
 ghost use Rattle.grub_trace.specs.Faults.{last_of};
 ghost use Rattle.grub_trace.specs.Tree.{names_of};
 ghost use Rattle.grub_trace.specs.inside.Heads.{IsHead, lines_below, read_body};
-ghost use Rattle.grub_trace.specs.inside.Lines.{GivesBody, GivesScript, IsTimely, SaysMore, TakesAct, TakesLine};
+ghost use Rattle.grub_trace.specs.inside.Lines.{GivesBody, GivesScript, IsNotBefore, SaysMore, TakesAct, TakesLine};
 
 use crate::fault::{Kind, Location, TraceFault};
 use crate::form::{Form, form_of};
@@ -34,7 +34,7 @@ fn last(lines: &[Line]) -> u32
 
 /// The moment that a word spells.
 fn moment(word: &[u8]) -> Result<u32, Kind>
-    ensures { IsMoment result word.now }
+    ensures { IsMomentOf result word.now }
 {
     match number(word) {
         None => Err(Kind::BadNumber),
@@ -45,7 +45,7 @@ fn moment(word: &[u8]) -> Result<u32, Kind>
 
 /// The moment and the length of a run.
 fn run(at: &[u8], span: &[u8]) -> Result<(u32, u32), Kind>
-    ensures { IsRun result at.now span.now }
+    ensures { IsRunOf result at.now span.now }
 {
     let (Some(at), Some(span)) = (number(at), number(span)) else {
         return Err(Kind::BadNumber);
@@ -58,7 +58,7 @@ fn run(at: &[u8], span: &[u8]) -> Result<(u32, u32), Kind>
 
 /// The moment and the new reservation of a retune.
 fn retune(at: &[u8], runtime: &[u8], period: &[u8]) -> Result<(u32, u32, u32), Kind>
-    ensures { IsRetune result at.now runtime.now period.now }
+    ensures { IsRetuneOf result at.now runtime.now period.now }
 {
     let (Some(at), Some(runtime), Some(period)) = (number(at), number(runtime), number(period))
     else {
@@ -72,7 +72,7 @@ fn retune(at: &[u8], runtime: &[u8], period: &[u8]) -> Result<(u32, u32, u32), K
 
 /// Whether a moment does not go back behind the last one.
 fn timely(last: u32, at: u32) -> Result<(), Kind>
-    ensures { IsTimely result last at }
+    ensures { IsNotBefore result last at }
 {
     if at < last {
         return Err(Kind::MomentGoesBack);
@@ -147,7 +147,7 @@ fn say(
 fn read_lines(alloc: Global, tasks: &Tasks, head: &Head<'_>) -> Result<RawScript, TraceFault>
     requires indexed { IsIndexed tasks.now }
     requires head { IsHead head.now }
-    ensures { GivesScript result tasks.now head.now.first (in_file head.now.file (lines_below (declarations tasks.now) head.now)) }
+    ensures { GivesScript result tasks.now head.now.first (of_file head.now.file (lines_below (declarations tasks.now) head.now)) }
 {
     let mut script = RawScript {
         lines: Vec::with_capacity(alloc, head.below.len() / LINE_MIN)?,

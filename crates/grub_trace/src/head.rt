@@ -5,7 +5,7 @@ ghost use Rattle.grub_trace.specs.declared.fault.TraceFault.TheVariants.{NoMemor
 ghost use Rattle.grub_trace.specs.Faults.{capacity_fits};
 ghost use Rattle.grub_trace.specs.Forms.{parts_of, version_of};
 ghost use Rattle.grub_trace.specs.inside.Heads.{GivesHead, GivesTasks, IsHead};
-ghost use Rattle.grub_trace.specs.inside.Reading.{AnswersOpening, GivesQueue, IsIndexed, declarations, in_file, read_file, read_queue, read_second};
+ghost use Rattle.grub_trace.specs.inside.Reading.{AnswersOpening, GivesQueue, IsIndexed, declarations, of_file, read_file, read_queue, read_second};
 
 use crate::fault::{Kind, Location, TraceFault};
 use crate::form::{Form, form_of};
@@ -90,7 +90,7 @@ fn read_second<'a>(
 ) -> Result<Head<'a>, TraceFault>
     requires indexed { IsIndexed tasks.old }
     ensures gives { GivesHead result file (declarations tasks.new) (read_second version (declarations tasks.old) (parts_of text.now)) }
-    ensures opening { AnswersOpening result (in_file file (read_second version (declarations tasks.old) (parts_of text.now))) }
+    ensures opening { AnswersOpening result (of_file file (read_second version (declarations tasks.old) (parts_of text.now))) }
     ensures head { IfOk result IsHead }
     ensures file { IfOk result (λ h. h.file ≡ file) }
     ensures indexed { (result ≡ Err NoMemory → ⊥) → IsIndexed tasks.new }
@@ -118,7 +118,7 @@ pub fn read_head<'a>(
 ) -> Result<Head<'a>, TraceFault>
     requires indexed { IsIndexed tasks.old }
     ensures gives { GivesHead result file (declarations tasks.new) (read_file (declarations tasks.old) bytes.now) }
-    ensures opening { AnswersOpening result (in_file file (read_file (declarations tasks.old) bytes.now)) }
+    ensures opening { AnswersOpening result (of_file file (read_file (declarations tasks.old) bytes.now)) }
     ensures head { IfOk result IsHead }
     ensures file { IfOk result (λ h. h.file ≡ file) }
     ensures indexed { (result ≡ Err NoMemory → ⊥) → IsIndexed tasks.new }

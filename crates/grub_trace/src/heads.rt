@@ -2,7 +2,7 @@
 
 ghost use Rattle.std.specs.Prelude.{◌≡◌, ◌<◌, ◌≤◌, ◌⊎◌, [], Err, IfErr, IfOk, OnErr, OnOk, length, map};
 ghost use Rattle.grub_plan.specs.Contents.{contents};
-ghost use Rattle.grub_trace.specs.inside.Bodies.{AreRead, HaveHeads, head_of};
+ghost use Rattle.grub_trace.specs.inside.Bodies.{AreRead, HaveHeads, head_above};
 ghost use Rattle.grub_trace.specs.inside.Planning.{AreHeadsOf, IsPlanned};
 ghost use Rattle.grub_trace.specs.inside.Heads.{GiveTogether};
 ghost use Rattle.grub_trace.specs.inside.Reading.{AnswersOpening, Faults, IsIndexed, declarations, read_from};
@@ -56,7 +56,7 @@ fn check_count(files: &[Vec<u8>]) -> Result<(), TraceFault>
 /// Reads the heads of files, one after the other, up to the first that is wrong. If that is the first of all, its fault is
 /// answered, before memory is taken.
 fn heads_of(alloc: Global, files: &[Vec<u8>]) -> Result<Heads<'_>, TraceFault>
-    ensures together { IfOk result (λ h. GiveTogether (declarations h.tasks) (map head_of h.bodies.items) h.fault (read_from (record { declared = []; files = [] }) 0 (contents files.now))) }
+    ensures together { IfOk result (λ h. GiveTogether (declarations h.tasks) (map head_above h.bodies.items) h.fault (read_from (record { declared = []; files = [] }) 0 (contents files.now))) }
     ensures fault { IfErr result (λ e. Faults e (read_from (record { declared = []; files = [] }) 0 (contents files.now))) }
     ensures opening { AnswersOpening result (read_from (record { declared = []; files = [] }) 0 (contents files.now)) }
     ensures heads { IfOk result (λ h. HaveHeads h.bodies.items) }
@@ -106,7 +106,7 @@ pub fn read_heads(alloc: Global, files: &[Vec<u8>]) -> Result<Heads<'_>, TraceFa
 pub fn read_in_turn(alloc: Global, tasks: &Tasks, bodies: &mut [Below<'_>])
     requires indexed { IsIndexed tasks.now }
     requires heads { HaveHeads bodies.old }
-    ensures heads { map head_of bodies.new ≡ map head_of bodies.old }
+    ensures heads { map head_above bodies.new ≡ map head_above bodies.old }
     ensures read { AreRead tasks.now bodies.new }
 {
     for i in 0..bodies.len() {
@@ -123,7 +123,7 @@ pub fn read_by_threads<R: Threads + Sync>(
 )
     requires indexed { IsIndexed tasks.now }
     requires heads { HaveHeads bodies.old }
-    ensures heads { map head_of bodies.new ≡ map head_of bodies.old }
+    ensures heads { map head_above bodies.new ≡ map head_above bodies.old }
     ensures read { AreRead tasks.now bodies.new }
 {
     thread::for_each_mut(rt, bodies, FILES_MAX, &|_, body| body.read(alloc, tasks));

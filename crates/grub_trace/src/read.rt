@@ -1,19 +1,15 @@
 //! The plan of event files.
 
-ghost use Rattle.std.specs.Prelude.{◌≡◌, ◌<◌, ℕ, List, MatchResult, IfOk, IfErr, [], length, map, string_bytes};
+ghost use Rattle.std.specs.Prelude.{◌≡◌, IfOk, IfErr, [], map, string_bytes};
 ghost use Rattle.grub_plan.specs.Contents.{contents};
-ghost use Rattle.grub_trace.specs.inside.Bodies.{AreRead, head_of};
+ghost use Rattle.grub_trace.specs.inside.Bodies.{AreRead, head_above};
 ghost use Rattle.grub_trace.specs.inside.Heads.{GiveTogether};
-ghost use Rattle.grub_trace.specs.inside.Planning.{AreTogether, Collects, IsPlanned};
-ghost use Rattle.grub_trace.specs.inside.Reading.{Answers, declarations, scripts_from, plan_from};
+ghost use Rattle.grub_trace.specs.inside.Planning.{FilesGive, Collects, IsPlanned};
+ghost use Rattle.grub_trace.specs.inside.Reading.{AnswersAs, declarations, scripts_from, plan_from};
 ghost use Rattle.grub_trace.specs.inside.Lines.{AreBodies};
-ghost use Rattle.grub_trace.specs.Tree.{Tree, names_of};
-ghost use Rattle.grub_trace.specs.Meaning.{Reads};
-ghost use Rattle.grub_trace.specs.FirstFault.{IsTraceFault, IsFault, IsOnly, OpeningFault};
-ghost use Rattle.grub_trace.specs.declared.fault.Kind.{Kind};
+ghost use Rattle.grub_trace.specs.Tree.{names_of};
+ghost use Rattle.grub_trace.specs.PlanOrFault.{IsPlanOrFault};
 ghost use Rattle.grub_trace.specs.declared.tasks.Tasks.{Tasks};
-ghost use Rattle.grub_trace.specs.Naming.{plan_of};
-ghost use Rattle.grub_plan.specs.Limits.{PlanFits};
 
 use crate::below::Below;
 use crate::fault::{Kind, TraceFault};
@@ -39,7 +35,7 @@ fn collect(
     fault: Option<TraceFault>,
 ) -> Result<AllRead, TraceFault>
     requires read { AreRead tasks bodies.items }
-    ensures { (total : _) → GiveTogether (declarations tasks) (map head_of bodies.entry.items) fault total → Collects result total }
+    ensures { (total : _) → GiveTogether (declarations tasks) (map head_above bodies.entry.items) fault total → Collects result total }
 {
     let mut files = Vec::with_capacity(alloc, bodies.len())?;
     for body in bodies {
@@ -54,7 +50,7 @@ fn collect(
 
 /// The scripts of all files, where no line names a task that none declares. Their lines are kept where they are.
 fn scripts(alloc: Global, files: Vec<RawFile>) -> Result<Vec<Vec<Line>>, TraceFault>
-    ensures { (tasks : Tasks) (bodies : _) → AreBodies tasks bodies files.items → Answers result (λ v. map (λ s. s.items) v.items) (scripts_from (names_of (declarations tasks)) [] 0 bodies) }
+    ensures { (tasks : Tasks) (bodies : _) → AreBodies tasks bodies files.items → AnswersAs result (λ v. map (λ s. s.items) v.items) (scripts_from (names_of (declarations tasks)) [] 0 bodies) }
 {
     let mut scripts = Vec::with_capacity(alloc, files.len())?;
     for file in files {
@@ -111,8 +107,8 @@ fn names(alloc: Global, tasks: Vec<Task>) -> Result<Vec<String>, TraceFault>
 /// The plan of what was read, where nothing is wrong with it.
 fn plan_of(alloc: Global, heads: Heads<'_>) -> Result<Plan, TraceFault>
     requires read { AreRead heads.tasks heads.bodies.items }
-    requires files { (files : _) × AreTogether files heads.tasks (map head_of heads.bodies.items) heads.fault }
-    ensures { (files : _) → AreTogether files heads.entry.tasks (map head_of heads.entry.bodies.items) heads.entry.fault → Answers result (λ p. p) (plan_from files) }
+    requires files { (files : _) × FilesGive files heads.tasks (map head_above heads.bodies.items) heads.fault }
+    ensures { (files : _) → FilesGive files heads.entry.tasks (map head_above heads.entry.bodies.items) heads.entry.fault → AnswersAs result (λ p. p) (plan_from files) }
 {
     let Heads {
         tasks,
@@ -158,21 +154,7 @@ fn plan_by_threads<R: Threads + Sync>(
 /// Faults 28 to 36 come with the file and the line. The first fault is answered, in the order of the files and of the lines
 /// of each; names that no file declares come last. It is refused with 37 where the allocator refused.
 pub fn read_files(alloc: Global, files: &[Vec<u8>]) -> Result<Plan, TraceFault>
-    // What is read is the plan of trees whose texts the files are.
-    ensures read { IfOk result (λ p. (trees : List Tree) × Reads (contents files.now) trees × (p ≡ plan_of trees)) }
-    // Texts of such trees are read, unless memory runs out.
-    ensures only { (trees : List Tree) → Reads (contents files.now) trees → MatchResult result (λ p. p ≡ plan_of trees) (λ e. e ≡ TraceFault.NoMemory) }
-    // What is read keeps the limits.
-    ensures limits { IfOk result PlanFits }
-    // Which fault it is.
-    ensures fault { IfErr result (IsTraceFault (contents files.now)) }
-    // Where there is a fault, it is answered and no other, unless memory runs out.
-    ensures answered { (k : Kind) (f n : ℕ) → IsFault (contents files.now) k f n → MatchResult result (λ _. ⊥) (λ e. IsOnly e k f n) }
-
-    // Nothing grows before the first two lines were read, so these faults are answered, whatever memory there is.
-    ensures many { 64 < length files.now → result ≡ Err (TraceFault.At Kind.OutOfRange 64 1) }
-    ensures nothing { length files.now ≡ 0 → result ≡ Err (TraceFault.At Kind.MissingQueue 0 1) }
-    ensures opening { (k : Kind) (n : ℕ) → OpeningFault (contents files.now) k n → result ≡ Err (TraceFault.At k 0 n) }
+    ensures { IsPlanOrFault (contents files.now) result }
 {
     plan(alloc, files)
 }
@@ -183,21 +165,7 @@ pub fn read_files_by_threads<R: Threads + Sync>(
     alloc: Global,
     files: &[Vec<u8>],
 ) -> Result<Plan, TraceFault>
-    // What is read is the plan of trees whose texts the files are.
-    ensures read { IfOk result (λ p. (trees : List Tree) × Reads (contents files.now) trees × (p ≡ plan_of trees)) }
-    // Texts of such trees are read, unless memory runs out.
-    ensures only { (trees : List Tree) → Reads (contents files.now) trees → MatchResult result (λ p. p ≡ plan_of trees) (λ e. e ≡ TraceFault.NoMemory) }
-    // What is read keeps the limits.
-    ensures limits { IfOk result PlanFits }
-    // Which fault it is.
-    ensures fault { IfErr result (IsTraceFault (contents files.now)) }
-    // Where there is a fault, it is answered and no other, unless memory runs out.
-    ensures answered { (k : Kind) (f n : ℕ) → IsFault (contents files.now) k f n → MatchResult result (λ _. ⊥) (λ e. IsOnly e k f n) }
-
-    // Nothing grows before the first two lines were read, so these faults are answered, whatever memory there is.
-    ensures many { 64 < length files.now → result ≡ Err (TraceFault.At Kind.OutOfRange 64 1) }
-    ensures nothing { length files.now ≡ 0 → result ≡ Err (TraceFault.At Kind.MissingQueue 0 1) }
-    ensures opening { (k : Kind) (n : ℕ) → OpeningFault (contents files.now) k n → result ≡ Err (TraceFault.At k 0 n) }
+    ensures { IsPlanOrFault (contents files.now) result }
 {
     plan_by_threads(rt, alloc, files)
 }

@@ -6,8 +6,8 @@ use Rattle.grub_trace.specs.declared.tasks.Tasks.{Tasks}
 use Rattle.grub_trace.specs.inside.Heads.{IsHead, read_body}
 use Rattle.grub_trace.specs.inside.Lines.{GivesBody}
 
-abbrev pub head_of : Below → Head
-head_of b = b.head
+abbrev pub head_above : Below → Head
+head_above b = b.head
 
 abbrev pub HaveHeads : List Below → Type 0
 HaveHeads bs = All (λ b. IsHead b.head) bs

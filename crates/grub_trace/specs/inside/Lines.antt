@@ -18,22 +18,22 @@ use Rattle.grub_trace.specs.inside.Forms.{is_task}
 use Rattle.grub_trace.specs.inside.Reading.{Body, Faults, Read, declarations, line_view, raw_view, says, script_from, take_form, take_line, times_of}
 
 -- the next moment is not before the last one
-abbrev pub IsTimely : {U : Type 0} → Result U Kind → ℕ → ℕ → Type 0
-IsTimely (Ok u) last at = last ≤ at
-IsTimely (Err k) last at = (k ≡ MomentGoesBack) × (at < last)
+abbrev pub IsNotBefore : {U : Type 0} → Result U Kind → ℕ → ℕ → Type 0
+IsNotBefore (Ok u) last at = last ≤ at
+IsNotBefore (Err k) last at = (k ≡ MomentGoesBack) × (at < last)
 
 -- what a line says is said, or has this fault
-abbrev pub IsTaken : Result (lines.Line (Bor (List ℕ))) Kind → Read → Result Read Kind → Type 0
-IsTaken (Ok l) r total = total ≡ Ok (says (line_view l) r)
-IsTaken (Err k) r total = total ≡ Err k
+abbrev pub GivesLine : Result (lines.Line (Bor (List ℕ))) Kind → Read → Result Read Kind → Type 0
+GivesLine (Ok l) r total = total ≡ Ok (says (line_view l) r)
+GivesLine (Err k) r total = total ≡ Err k
 
 -- what is said to happen, after whatever was read of the file
 abbrev pub TakesAct : Result (lines.Line (Bor (List ℕ))) Kind → Version → ℕ → List ℕ → Act (Bor (List ℕ)) (Bor (List ℕ)) → Type 0
-TakesAct result version last at act = (r : Read) → r.version ≡ version → last_of (times_of r.happenings) ≡ last → IsTaken result r (take_form r (at_moment at (raw_view act)))
+TakesAct result version last at act = (r : Read) → r.version ≡ version → last_of (times_of r.happenings) ≡ last → GivesLine result r (take_form r (at_moment at (raw_view act)))
 
 -- the same of a line, which is no task's above the first moment
 abbrev pub TakesLine : Result (lines.Line (Bor (List ℕ))) Kind → Version → ℕ → List ℕ → Type 0
-TakesLine result version last line = (r : Read) → r.version ≡ version → last_of (times_of r.happenings) ≡ last → (is_task (form_of (words_of line)) ≡ true → 0 < length r.happenings) → IsTaken result r (take_line r line)
+TakesLine result version last line = (r : Read) → r.version ≡ version → last_of (times_of r.happenings) ≡ last → (is_task (form_of (words_of line)) ≡ true → 0 < length r.happenings) → GivesLine result r (take_line r line)
 
 -- the lines, or the first of them that names a task which no file declares
 abbrev pub script_in : List Line → Option ℕ → Result (List Line) ℕ

@@ -7,23 +7,23 @@ use Rattle.grub_trace.specs.declared.fault.TraceFault.TheVariants.{At}
 use Rattle.grub_trace.specs.declared.heads.Heads.{Heads}
 use Rattle.grub_trace.specs.declared.raw.Head.{Head}
 use Rattle.grub_trace.specs.declared.tasks.Tasks.{Tasks}
-use Rattle.grub_trace.specs.inside.Bodies.{HaveHeads, head_of}
+use Rattle.grub_trace.specs.inside.Bodies.{HaveHeads, head_above}
 use Rattle.grub_trace.specs.inside.Heads.{GiveTogether}
 use Rattle.grub_trace.specs.declared.read.AllRead.{AllRead}
 use Rattle.grub_trace.specs.declared.fault.Kind.{Kind}
 use Rattle.grub_trace.specs.inside.Lines.{AreBodies}
 use Rattle.grub_trace.specs.inside.Reading as read
-use Rattle.grub_trace.specs.inside.Reading.{Body, Faults, Answers, AnswersOpening, IsIndexed, declarations, plan_from, read_from}
+use Rattle.grub_trace.specs.inside.Reading.{Body, Faults, AnswersAs, AnswersOpening, IsIndexed, declarations, plan_from, read_from}
 
 -- the plan, or the first fault; faults that come before memory is taken are answered, whatever memory there is
 pub record IsPlanned (files : List (List ℕ)) (r : Result PlanView TraceFault) : Type 0 where
-  pub answers : Answers r (λ p. p) (plan_from files)
+  pub answers : AnswersAs r (λ p. p) (plan_from files)
   pub many : 64 < length files → r ≡ Err (At OutOfRange 64 1)
   pub nothing : length files ≡ 0 → r ≡ Err (At MissingQueue 0 1)
   pub opening : 0 < length files → length files ≤ 64 → AnswersOpening r (read_from (record { declared = []; files = [] }) 0 files)
 
 -- as many files as may be, with these tasks and heads
-pub record AreTogether (files : List (List ℕ)) (t : Tasks) (hs : List Head) (fault : Option TraceFault) : Type 0 where
+pub record FilesGive (files : List (List ℕ)) (t : Tasks) (hs : List Head) (fault : Option TraceFault) : Type 0 where
   pub some : 0 < length files
   pub few : length files ≤ 64
   pub together : GiveTogether (declarations t) hs fault (read_from (record { declared = []; files = [] }) 0 files)
@@ -35,7 +35,7 @@ Collects (Err e) total = Faults e total
 
 -- their heads, behind which no fault of an opening is left
 pub record AreHeadsOf (files : List (List ℕ)) (h : Heads) : Type 0 where
-  pub together : AreTogether files h.tasks (map head_of h.bodies.items) h.fault
+  pub together : FilesGive files h.tasks (map head_above h.bodies.items) h.fault
   pub opening : AnswersOpening {U = Heads} (Ok h) (read_from (record { declared = []; files = [] }) 0 files)
   pub heads : HaveHeads h.bodies.items
   pub indexed : IsIndexed h.tasks

@@ -58,14 +58,14 @@ form_view (code.Task n q p) = task n.now q.now p.now
 form_view (code.At m a) = at_moment m.now (raw_view a)
 
 -- the number that the word spells, or the greatest of 32 bits where it is greater
-abbrev pub IsNumber : Option ℕ → List ℕ → Type 0
-IsNumber None w = is_number w ≡ false
-IsNumber (Some n) w = (is_number w ≡ true) × (n ≡ min (value w) 4294967295)
+abbrev pub IsNumberOf : Option ℕ → List ℕ → Type 0
+IsNumberOf None w = is_number w ≡ false
+IsNumberOf (Some n) w = (is_number w ≡ true) × (n ≡ min (value w) 4294967295)
 
 -- the same of digits, whatever the first
-abbrev pub IsDigits : Option ℕ → List ℕ → Type 0
-IsDigits None w = list_all is_ascii_digit w ≡ false
-IsDigits (Some n) w = (list_all is_ascii_digit w ≡ true) × (n ≡ min (value w) 4294967295)
+abbrev pub IsDigitsOf : Option ℕ → List ℕ → Type 0
+IsDigitsOf None w = list_all is_ascii_digit w ≡ false
+IsDigitsOf (Some n) w = (list_all is_ascii_digit w ≡ true) × (n ≡ min (value w) 4294967295)
 
 -- ---- the lines below the second
 
@@ -94,12 +94,12 @@ adds (at_moment m a) r = says (record { m = value m; act = act_map (λ n. n) val
 abbrev pub times_of : List Happening → List ℕ
 times_of hs = map (λ h. h.m) hs
 
-abbrev pub unless : {X : Type 0} → Option Kind → X → Result X Kind
-unless None x = Ok x
-unless (Some k) x = Err k
+abbrev pub ok_unless : {X : Type 0} → Option Kind → X → Result X Kind
+ok_unless None x = Ok x
+ok_unless (Some k) x = Err k
 
 abbrev pub take_form : Read → Form → Result Read Kind
-take_form r f = unless (form_fault r.version (names_of r.declared) (times_of r.happenings) f) (adds f r)
+take_form r f = ok_unless (form_fault r.version (names_of r.declared) (times_of r.happenings) f) (adds f r)
 
 abbrev pub take_option : Read → Option Form → Result Read Kind
 take_option r None = Err BadLine
@@ -112,9 +112,9 @@ abbrev pub at_line : {X : Type 0} → ℕ → Result X Kind → Result X (Kind �
 at_line n (Ok x) = Ok x
 at_line n (Err k) = Err (k, n)
 
-abbrev pub in_file : {X : Type 0} → ℕ → Result X (Kind × ℕ) → Result X (Kind × ℕ × ℕ)
-in_file f (Ok x) = Ok x
-in_file f (Err e) = Err (e.0, f, e.1)
+abbrev pub of_file : {X : Type 0} → ℕ → Result X (Kind × ℕ) → Result X (Kind × ℕ × ℕ)
+of_file f (Ok x) = Ok x
+of_file f (Err e) = Err (e.0, f, e.1)
 
 -- the fault that a function answered is the one that reading gives, unless memory ran out
 abbrev pub Faults : {X : Type 0} → TraceFault → Result X (Kind × ℕ × ℕ) → Type 0
@@ -137,28 +137,28 @@ pub record IsIndexed (t : Tasks) : Type 0 where
 -- what became of the declarations, where a task line stands before the first moment; or its fault
 abbrev pub Declares : {U : Type 0} → Result U TraceFault → Location → List Declaration → List Declaration → List ℕ → List ℕ → List ℕ → Type 0
 Declares (Ok u) line old new n q p = (version : Version) → take_form (opened version old) (task n q p) ≡ Ok (opened version new)
-Declares (Err e) line old new n q p = (version : Version) → Faults e (in_file line.file (at_line line.line (take_form (opened version old) (task n q p))))
+Declares (Err e) line old new n q p = (version : Version) → Faults e (of_file line.file (at_line line.line (take_form (opened version old) (task n q p))))
 
 abbrev pub moment_fault : List ℕ → Option Kind
 moment_fault w = if not (is_number w) then Some BadNumber else (if is_moment (value w) then None else Some OutOfRange)
 
-abbrev pub IsMoment : Result ℕ Kind → List ℕ → Type 0
-IsMoment (Ok at) w = (is_number w ≡ true) × (value w ≡ at) × (at ≤ 2147483647)
-IsMoment (Err k) w = moment_fault w ≡ Some k
+abbrev pub IsMomentOf : Result ℕ Kind → List ℕ → Type 0
+IsMomentOf (Ok at) w = (is_number w ≡ true) × (value w ≡ at) × (at ≤ 2147483647)
+IsMomentOf (Err k) w = moment_fault w ≡ Some k
 
 -- what is wrong with a number that is to be this, and within that limit
 abbrev pub two_fault : Bool → Bool → Option Kind
 two_fault spelled within = if not spelled then Some BadNumber else (if within then None else Some OutOfRange)
 
 -- the moment and the length of a run
-abbrev pub IsRun : Result (ℕ × ℕ) Kind → List ℕ → List ℕ → Type 0
-IsRun (Ok x) m d = (is_number m ≡ true) × (is_number d ≡ true) × (value m ≡ x.0) × (value d ≡ x.1) × (x.0 ≤ 2147483647) × (1 ≤ x.1) × (x.1 ≤ 16777216)
-IsRun (Err k) m d = two_fault (is_number m && is_number d) (is_moment (value m) && is_span (value d)) ≡ Some k
+abbrev pub IsRunOf : Result (ℕ × ℕ) Kind → List ℕ → List ℕ → Type 0
+IsRunOf (Ok x) m d = (is_number m ≡ true) × (is_number d ≡ true) × (value m ≡ x.0) × (value d ≡ x.1) × (x.0 ≤ 2147483647) × (1 ≤ x.1) × (x.1 ≤ 16777216)
+IsRunOf (Err k) m d = two_fault (is_number m && is_number d) (is_moment (value m) && is_span (value d)) ≡ Some k
 
 -- the moment and the new reservation of a retune
-abbrev pub IsRetune : Result (ℕ × ℕ × ℕ) Kind → List ℕ → List ℕ → List ℕ → Type 0
-IsRetune (Ok x) m q p = (is_number m ≡ true) × (is_number q ≡ true) × (is_number p ≡ true) × (value m ≡ x.0) × (value q ≡ x.1) × (value p ≡ x.2) × (x.0 ≤ 2147483647) × (reservation_fits (reservation_value q p) ≡ true)
-IsRetune (Err k) m q p = two_fault (is_number m && is_number q && is_number p) (is_moment (value m) && reservation_fits (reservation_value q p)) ≡ Some k
+abbrev pub IsRetuneOf : Result (ℕ × ℕ × ℕ) Kind → List ℕ → List ℕ → List ℕ → Type 0
+IsRetuneOf (Ok x) m q p = (is_number m ≡ true) × (is_number q ≡ true) × (is_number p ≡ true) × (value m ≡ x.0) × (value q ≡ x.1) × (value p ≡ x.2) × (x.0 ≤ 2147483647) × (reservation_fits (reservation_value q p) ≡ true)
+IsRetuneOf (Err k) m q p = two_fault (is_number m && is_number q && is_number p) (is_moment (value m) && reservation_fits (reservation_value q p)) ≡ Some k
 
 -- ---- a file
 
@@ -178,7 +178,7 @@ queue_of (Some (queue a b)) = capacity_value a b
 queue_of form = record { most = 0; extra = 0 }
 
 abbrev pub read_queue : List ℕ → Result Capacity Kind
-read_queue line = unless (queue_fault line) (queue_of (form_of (words_of line)))
+read_queue line = ok_unless (queue_fault line) (queue_of (form_of (words_of line)))
 
 -- a runqueue, what was read of the file, and the line of its first moment
 pub record FileRead : Type 0 where
@@ -237,11 +237,11 @@ with_file all r = record { declared = r.declared; files = all.files ++ body_of r
 -- the files from number f on, after what was read of those before them
 unfoldable pub read_from : AllRead → ℕ → List (List ℕ) → Result AllRead (Kind × ℕ × ℕ)
 read_from all f [] = Ok all
-read_from all f (bytes ∷ more) = in_file f (read_file all.declared bytes) >>= λ r. read_from (with_file all r) (f + 1) more
+read_from all f (bytes ∷ more) = of_file f (read_file all.declared bytes) >>= λ r. read_from (with_file all r) (f + 1) more
 
-abbrev pub Answers : {U X : Type 0} → Result U TraceFault → (U → X) → Result X (Kind × ℕ × ℕ) → Type 0
-Answers (Ok u) view r = r ≡ Ok (view u)
-Answers (Err e) view r = Faults e r
+abbrev pub AnswersAs : {U X : Type 0} → Result U TraceFault → (U → X) → Result X (Kind × ℕ × ℕ) → Type 0
+AnswersAs (Ok u) view r = r ≡ Ok (view u)
+AnswersAs (Err e) view r = Faults e r
 
 -- a fault of the first two lines of the first file is answered, since nothing grows before it
 abbrev pub AnswersOpening : {U X : Type 0} → Result U TraceFault → Result X (Kind × ℕ × ℕ) → Type 0

@@ -1,6 +1,6 @@
 use Rattle.std.proofs.Common.{length}
 use Rattle.grub_trace.specs.inside.Reading.{declarations}
-use Rattle.grub_trace.proofs.Loops.{TasksOn}
+use Rattle.grub_trace.proofs.HeadLaws.{TasksOn}
 use Rattle.grub_trace.proofs.head.read_tasks.Given as goal
 
 abbrev pub invariant-loop-line : goal.invariant-loop-line

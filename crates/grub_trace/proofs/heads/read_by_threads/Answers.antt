@@ -1,5 +1,5 @@
 use Rattle.std.proofs.Common.{arith}
-use Rattle.grub_trace.proofs.Planned.{same_heads}
+use Rattle.grub_trace.proofs.PlanOfHeads.{same_heads}
 use Rattle.grub_trace.proofs.heads.read_by_threads.Goals as goal
 
 pub returns-clause-heads : goal.returns-clause-heads

@@ -1,14 +1,14 @@
 use Rattle.std.proofs.Common.{arith, inl, inr}
 use Rattle.std.proofs.lemmas.List.{length-map}
 use Rattle.grub_plan.specs.Contents.{contents}
-use Rattle.grub_trace.proofs.Planned.{heads_are, heads_planned, planned_count}
-use Rattle.grub_trace.proofs.Openings.{same_fault}
+use Rattle.grub_trace.proofs.PlanOfHeads.{heads_are, heads_planned, planned_count}
+use Rattle.grub_trace.proofs.LineLemmas.{same_error}
 use Rattle.grub_trace.proofs.heads.read_heads.Goals as goal
 
 pub returns-in-Err-clause-fault : goal.returns-in-Err-clause-fault
 returns-in-Err-clause-fault c =
     let len = length-map c.args.files.now (λ v. v.items) in
-    planned_count (contents c.args.files.now) c.in-Err.fault (λ h. same_fault {X = Unit {0}} _ _ (c.in-Err.ensures.many (omega (arith, len, h)))) (λ h. same_fault {X = Unit {0}} _ _ (c.in-Err.ensures.nothing (omega (arith, len, h))))
+    planned_count (contents c.args.files.now) c.in-Err.fault (λ h. same_error {X = Unit {0}} _ _ (c.in-Err.ensures.many (omega (arith, len, h)))) (λ h. same_error {X = Unit {0}} _ _ (c.in-Err.ensures.nothing (omega (arith, len, h))))
     (elim c.in-Err.ensures.exact [ inl h ↦ inl (omega (arith, len, h)) | inr h ↦ inr (omega (arith, len, h)) ])
 
 pub returns-clause-heads : goal.returns-clause-heads

@@ -1,5 +1,5 @@
 use Rattle.grub_plan.specs.Contents.{contents}
-use Rattle.grub_trace.proofs.Planned.{planned_then, still_together}
+use Rattle.grub_trace.proofs.PlanOfHeads.{planned_then, still_together}
 use Rattle.grub_trace.proofs.read.plan.Goals as goal
 
 pub returns : goal.returns

@@ -1,8 +1,8 @@
 use Rattle.std.proofs.Common.{◌∙◌, ap, map}
 use Rattle.std.proofs.lemmas.Result.{err_from_is_err_and}
-use Rattle.grub_trace.proofs.AllLemmas.{plan_made}
+use Rattle.grub_trace.proofs.FilesInTurn.{plan_made}
 use Rattle.grub_trace.proofs.LimitLaws.{plan_from_fits}
-use Rattle.grub_trace.proofs.Planned.{name_fault, read_fault}
+use Rattle.grub_trace.proofs.PlanOfHeads.{name_fault, read_fault}
 use Rattle.grub_trace.proofs.read.plan_of.Goals as goal
 
 pub new-requires : goal.new-requires

@@ -1,8 +1,10 @@
--- A fault by the definitions is the one that reading gives, so there is one at most.
+-- A fault by the definitions is the one that reading gives, so there is one at most: the `answered` of IsPlanOrFault.
 use Rattle.std.proofs.Common.{◌≡◌, ℕ, ◌+◌, ◌-◌, ◌<◌, ◌≤◌, Bool, true, false, cond, eqb, inl, inr, List, [], ◌∷◌, ◌++◌, length, map, Option, Some, None, Result, Ok, Err, refl, ap, ◌∙◌, sym, arith, subst, append_assoc}
-use Rattle.std.specs.Prelude.{IsSome, is_none}
+use Rattle.grub_trace.proofs.LinesInTurn.{failed}
+use Rattle.grub_trace.proofs.Elsewhere.{not_zero}
+use Rattle.std.proofs.lemmas.Option.{same_Some}
+use Rattle.std.specs.Prelude.{is_none}
 use Rattle.std.proofs.lemmas.Bool.{le-ltb, lt-ltb}
-use Rattle.std.proofs.lemmas.Bool.Decides.{nat_tests}
 use Rattle.grub_plan.specs.Plans.{Line}
 use Rattle.std.specs.List.{join_with_byte, flat_map, AllByRecursion}
 use Rattle.std.proofs.lemmas.List.{append-nil, map-append}
@@ -13,42 +15,33 @@ use Rattle.grub_trace.specs.declared.fault.Kind.TheVariants.{CutShort, BadHeader
 use Rattle.grub_trace.specs.Tree.{Declaration, Happening, Tree, text, line, header, head_text, queue_words, declaration_words, happening_words, names_of}
 use Rattle.grub_trace.specs.Faults.{line_fault, fault_of_form, header_fault, queue_fault}
 use Rattle.grub_trace.specs.Forms.{Form, form_of, words_of, version_of, parts_of}
-use Rattle.grub_trace.specs.Meaning.{AreKnown}
-use Rattle.grub_trace.specs.FirstFault.{front_fault, LineFault, FileFault, IsTree, AreTrees, UnknownIn, UnknownFault, IsFault, too_many, no_file, first, unknown}
+use Rattle.grub_trace.specs.Meaning.{AreKnown, IsTree, AreTrees}
+use Rattle.grub_trace.specs.FirstFault.{front_fault, LineFault, FileFault, UnknownIn, UnknownFault, IsFault, too_many, no_file, first, unknown}
 use Rattle.grub_trace.specs.Naming.{all_tasks, line_in, script_of}
-use Rattle.grub_trace.specs.inside.Reading.{Read, FileRead, AllRead, with_file, in_file, read_file, read_first, read_as, opened, file_from, read_second, read_lines, read_from, queue_of, take_option, unless, adds, at_line, ◌>>=◌, times_of, script_from, scripts_from, option_or_err, unknown_in, plan_from}
+use Rattle.grub_trace.specs.inside.Reading.{Read, FileRead, AllRead, with_file, of_file, read_file, read_first, read_as, opened, file_from, read_second, read_lines, read_from, queue_of, take_option, ok_unless, adds, at_line, ◌>>=◌, times_of, script_from, scripts_from, option_or_err, unknown_in, plan_from}
 use Rattle.grub_trace.proofs.PlanLaws.{body_of_tree}
 use Rattle.grub_trace.proofs.WordLemmas.{has_part}
 use Rattle.grub_trace.proofs.LineLemmas.{first_known, second_then}
 use Rattle.grub_trace.proofs.FormLemmas.{version_again}
 use Rattle.grub_trace.proofs.FileLaws.{small_queue}
 use Rattle.grub_trace.proofs.Printed.{queue_again, queue_one_line}
-use Rattle.grub_trace.proofs.Again.{script_again, files_again, parts_again, header_one_line, declared_run, said_run, file_again, file_of}
-
-same_kind : (a b : Kind) → Some a ≡ Some b → a ≡ b
-same_kind a b e = cc
+use Rattle.grub_trace.proofs.TreesAreRead.{some_is, script_again, files_again, parts_again, header_one_line, declared_run, said_run, file_again, file_of}
 
 faulty : (o : Option Form) (r : Read) (k : Kind) → fault_of_form r.version (names_of r.declared) (times_of r.happenings) o ≡ Some k → take_option r o ≡ Err k
-faulty None r k e = ap (λ (x : Kind). Err x) (same_kind BadLine k e)
-faulty (Some f) r k e = ap (λ (o : Option Kind). unless o (adds f r)) e
+faulty None r k e = ap (λ (x : Kind). Err x) (same_Some BadLine k e)
+faulty (Some f) r k e = ap (λ (o : Option Kind). ok_unless o (adds f r)) e
 
 one_part : (rest last : List ℕ) → parts_of rest ≡ last ∷ [] → rest ≡ last
 one_part rest last e = sym (join_with_byte-slice_split 10 rest) ∙ ap (join_with_byte 10) e
 
-abbrev failed : Kind × ℕ → Result Read (Kind × ℕ)
-failed x = Err x
-
-no_zero : (n : ℕ) → 0 < n → eqb n 0 ≡ false
-no_zero n h = grind (arith, nat_tests)
-
 stop_here : (r : Read) (n : ℕ) (rest : List ℕ) (parts : List (List ℕ)) (k : Kind) → 0 < length rest → parts_of rest ≡ parts → front_fault CutShort (line_fault r.version (names_of r.declared) (times_of r.happenings)) parts ≡ Some k → read_lines r n parts ≡ Err (k, n)
 unfolding read_lines
 stop_here r n rest [] k some p e = absurd (let w = has_part (λ b. eqb b 10) rest in let x : [] ≡ w.0 ∷ w.1 = sym p ∙ w.2 in cc)
-stop_here r n rest (last ∷ []) k some p e = go (eqb (length last) 0) (no_zero (length last) (subst (λ (l : List ℕ). 0 < length l) (one_part rest last p) some)) e
+stop_here r n rest (last ∷ []) k some p e = go (eqb (length last) 0) (not_zero (length last) (subst (λ (l : List ℕ). 0 < length l) (one_part rest last p) some)) e
   where
     go : (b : Bool) → b ≡ false → Some (cond b CutShort CutShort) ≡ Some k → cond b (Ok r) (failed (CutShort, n)) ≡ failed (k, n)
     go true h e = absurd cc
-    go false h e = ap (λ (j : Kind). failed (j, n)) (same_kind CutShort k e)
+    go false h e = ap (λ (j : Kind). failed (j, n)) (same_Some CutShort k e)
 stop_here r n rest (l ∷ t ∷ more) k some p e = ap (λ (x : Result Read Kind). at_line n x >>= λ s. read_lines s (n + 1) (t ∷ more)) (faulty (form_of (words_of l)) r k e)
 
 lines_stop : (ds : List Declaration) (t : Tree) (rest : List ℕ) (k : Kind) → IsTree (names_of ds) t → 0 < length rest
@@ -65,19 +58,19 @@ lines_stop ds t rest k is some e =
 
 header_again : (ds : List Declaration) (parts : List (List ℕ)) (k : Kind) → front_fault BadHeader header_fault parts ≡ Some k → read_first ds parts ≡ Err (k, 1)
 unfolding read_first
-header_again ds [] k e = ap (λ (j : Kind). Err (j, 1)) (same_kind BadHeader k e)
-header_again ds (l ∷ []) k e = ap (λ (j : Kind). Err (j, 1)) (same_kind _ k e)
+header_again ds [] k e = ap (λ (j : Kind). Err (j, 1)) (same_Some BadHeader k e)
+header_again ds (l ∷ []) k e = ap (λ (j : Kind). Err (j, 1)) (same_Some _ k e)
 header_again ds (l ∷ t ∷ more) k e = go (version_of l) e
   where
     go : (o : Option Version) → cond (is_none o) (Some BadHeader) None ≡ Some k → read_as o ds (t ∷ more) ≡ Err (k, 1)
-    go None e = ap (λ (j : Kind). Err (j, 1)) (same_kind BadHeader k e)
+    go None e = ap (λ (j : Kind). Err (j, 1)) (same_Some BadHeader k e)
     go (Some version) e = absurd cc
 
 second_again : (version : Version) (ds : List Declaration) (parts : List (List ℕ)) (k : Kind) → front_fault MissingQueue queue_fault parts ≡ Some k → read_second version ds parts ≡ Err (k, 2)
 unfolding read_second
-second_again version ds [] k e = ap (λ (j : Kind). Err (j, 2)) (same_kind MissingQueue k e)
-second_again version ds (l ∷ []) k e = ap (λ (j : Kind). Err (j, 2)) (same_kind _ k e)
-second_again version ds (l ∷ t ∷ more) k e = ap (λ (o : Option Kind). at_line 2 (unless o (queue_of (form_of (words_of l)))) >>= λ q. read_lines (opened version ds) 3 (t ∷ more) >>= λ r. Ok (file_from q (3 + (length r.declared - length ds)) r)) e
+second_again version ds [] k e = ap (λ (j : Kind). Err (j, 2)) (same_Some MissingQueue k e)
+second_again version ds (l ∷ []) k e = ap (λ (j : Kind). Err (j, 2)) (same_Some _ k e)
+second_again version ds (l ∷ t ∷ more) k e = ap (λ (o : Option Kind). at_line 2 (ok_unless o (queue_of (form_of (words_of l)))) >>= λ q. read_lines (opened version ds) 3 (t ∷ more) >>= λ r. Ok (file_from q (3 + (length r.declared - length ds)) r)) e
 
 -- after a right first line
 after_header : (version : Version) (ds : List Declaration) (bytes rest : List ℕ) → bytes ≡ header version ++ 10 ∷ rest → read_file ds bytes ≡ read_second version ds (parts_of rest)
@@ -111,26 +104,22 @@ pub first_fault_again : (fronts : List Tree) (all : AllRead) (g : ℕ) (bytes : 
 unfolding read_from
 first_fault_again [] all g bytes more k n are f =
     let h = file_fault_again all.declared bytes k n (subst (λ (ns : List (List ℕ)). FileFault ns bytes k n) (append-nil (names_of all.declared)) f) in
-    ap (λ (x : Result FileRead (Kind × ℕ)). in_file g x >>= λ r. read_from (with_file all r) (g + 1) more) h ∙ ap (λ (m : ℕ). Err (k, m, n)) (omega arith)
+    ap (λ (x : Result FileRead (Kind × ℕ)). of_file g x >>= λ r. read_from (with_file all r) (g + 1) more) h ∙ ap (λ (m : ℕ). Err (k, m, n)) (omega arith)
 first_fault_again (t ∷ ts) all g bytes more k n are f =
     let names : names_of (all.declared ++ t.tasks) ≡ names_of all.declared ++ names_of t.tasks = map-append (λ (d : Declaration). d.name) all.declared t.tasks in
     let same : names_of (all.declared ++ t.tasks) ++ names_of (all_tasks ts) ≡ names_of all.declared ++ names_of (all_tasks (t ∷ ts)) =
     ap (λ (xs : List (List ℕ)). xs ++ names_of (all_tasks ts)) names ∙ append_assoc (names_of all.declared) (names_of t.tasks) (names_of (all_tasks ts)) ∙ ap (λ (xs : List (List ℕ)). names_of all.declared ++ xs) (sym (map-append (λ (d : Declaration). d.name) t.tasks (all_tasks ts))) in
-    ap (λ (x : Result FileRead (Kind × ℕ)). in_file g x >>= λ r. read_from (with_file all r) (g + 1) (map text ts ++ bytes ∷ more)) (file_again all.declared t are.0)
+    ap (λ (x : Result FileRead (Kind × ℕ)). of_file g x >>= λ r. read_from (with_file all r) (g + 1) (map text ts ++ bytes ∷ more)) (file_again all.declared t are.0)
     ∙ first_fault_again ts (with_file all (file_of all.declared t)) (g + 1) bytes more k n (subst (λ (ns : List (List ℕ)). AreTrees ns ts) (sym names) are.1) (subst (λ (ns : List (List ℕ)). FileFault ns bytes k n) (sym same) f)
     ∙ ap (λ (m : ℕ). Err (k, m, n)) (omega arith)
 
 -- ---- names that are not declared
 
-is_line : (o : Option Line) → IsSome o → (l : Line) × (o ≡ Some l)
-is_line None h = absurd cc
-is_line (Some l) h = (l, refl)
-
 script_stop_again : (names : List (List ℕ)) (before : List Happening) (m : Happening) (after : List Happening) (done : List Line) (n : ℕ) → AreKnown names before → line_in names m ≡ None → script_from names done n (before ++ m ∷ after) ≡ Err (n + length before)
 unfolding script_from
 script_stop_again names [] m after done n known none = ap (λ (o : Option Line). option_or_err n o >>= λ l. script_from names (done ++ l ∷ []) (n + 1) after) none ∙ ap (λ (k : ℕ). Err k) (omega arith)
 script_stop_again names (b ∷ bs) m after done n known none =
-    let s = is_line (line_in names b) known.0 in
+    let s = some_is (line_in names b) known.0 in
     ap (λ (o : Option Line). option_or_err n o >>= λ l. script_from names (done ++ l ∷ []) (n + 1) (bs ++ m ∷ after)) s.1
     ∙ script_stop_again names bs m after (done ++ s.0 ∷ []) (n + 1) known.1 none ∙ ap (λ (k : ℕ). Err k) (omega arith)
 
@@ -143,9 +132,6 @@ scripts_stop_again names [] t more done f place known u =
 scripts_stop_again names (x ∷ xs) t more done f place known u =
     ap (λ (r : Result (List Line) ℕ). unknown_in f r >>= λ s. scripts_from names (done ++ s ∷ []) (f + 1) (map body_of_tree (xs ++ t ∷ more))) (script_again names x.happenings [] (3 + length x.tasks) known.0)
     ∙ scripts_stop_again names xs t more (done ++ script_of names x ∷ []) (f + 1) place known.1 u ∙ ap (λ (g : ℕ). Err (UnknownTask, g, 3 + length t.tasks + place)) (omega arith)
-
-not_zero : (n : ℕ) → 1 ≤ n → eqb n 0 ≡ false
-not_zero n h = grind (arith, nat_tests)
 
 unknown_again : (files : List (List ℕ)) (k : Kind) (f n : ℕ) → 1 ≤ length files → length files ≤ 64 → UnknownFault files k f n → plan_from files ≡ Err (k, f, n)
 unfolding plan_from

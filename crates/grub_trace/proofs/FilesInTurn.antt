@@ -1,4 +1,4 @@
--- Going over files by their numbers.
+-- Files, and then their scripts, one after the other: what the loops over them come to, up to the plan of what was read.
 use Rattle.std.proofs.Common.{◌≡◌, ℕ, ◌+◌, ◌≤◌, ◌<◌, List, [], ◌∷◌, ◌++◌, length, get_or, drop, map, Result, Ok, Err, Some, None, refl, sym, ap, ◌∙◌, add-one, arith, drop-cons, subst}
 use Rattle.std.specs.Global.{Vec}
 use Rattle.std.proofs.lemmas.List.{drop_all, length_push, map_push}
@@ -16,18 +16,25 @@ use Rattle.grub_trace.specs.Tree.{names_of, params_of}
 use Rattle.grub_trace.proofs.Elsewhere.{not_zero}
 use Rattle.std.proofs.lemmas.Bool.{le-ltb}
 use Rattle.grub_plan.specs.Contents.{contents}
-use Rattle.grub_trace.specs.inside.Reading.{Faults, AllRead, Body, in_file, read_file, read_from, script_from, scripts_from, unknown_in, plan_from, declarations, task_view, with_file, ◌>>=◌}
+use Rattle.grub_trace.specs.inside.Reading.{Faults, AllRead, Body, of_file, read_file, read_from, script_from, scripts_from, unknown_in, plan_from, declarations, task_view, with_file, ◌>>=◌}
 use Rattle.grub_trace.specs.inside.Lines.{AreBodies, IsBody, script_in}
-use Rattle.grub_trace.proofs.Loops.{ScriptsLeft, ScriptsSoFar}
 use Rattle.grub_trace.specs.Naming.{plan_with}
 
 pub drop_item : {X : Type 0} (xs : List X) (i : ℕ) (x : X) → i < length xs → x ≡ get_or xs i x → drop i xs ≡ x ∷ drop (i + 1) xs
 drop_item xs i x lt is = rw add-one (drop-cons xs i x lt) ∙ ap (λ y. y ∷ drop (i + 1) xs) (sym is)
 
-drop_rest : {X : Type 0} (xs : List X) (i : ℕ) → length xs ≤ i → drop i xs ≡ []
-drop_rest xs i le = drop_all i xs le
-
 -- ---- all scripts
+
+-- the bodies of the files that are left, after the scripts of those before them
+pub record ScriptsLeft (t : Tasks) (done : List (List Line)) (f : ℕ) (left : List RawFile) (total : Result (List (List Line)) (Kind × ℕ × ℕ)) : Type 0 where
+  pub bodies : List Body
+  pub are : AreBodies t bodies left
+  pub so_far : scripts_from (names_of (declarations t)) done f bodies ≡ total
+
+-- so many files have their scripts, whatever the bodies are
+pub record ScriptsSoFar (scripts : List (Vec Line)) (yielded files : List RawFile) : Type 0 where
+  pub so_far : (t : Tasks) (bs : List Body) → AreBodies t bs files → ScriptsLeft t (map (λ s. s.items) scripts) (length yielded) (drop (length yielded) files) (scripts_from (names_of (declarations t)) [] 0 bs)
+  pub count : length scripts ≡ length yielded
 
 scripts_one : (t : Tasks) (done : List (List Line)) (f : ℕ) (file : RawFile) (left : List RawFile) (total : Result (List (List Line)) (Kind × ℕ × ℕ)) → file.script.unknown ≡ None → ScriptsLeft t done f (file ∷ left) total → ScriptsLeft t (done ++ file.script.lines.items ∷ []) (f + 1) left total
 unfolding scripts_from
@@ -73,7 +80,7 @@ scripts_stop scripts yielded files file n line lt item unknown place on t bs are
 pub scripts_done : (scripts : List (Vec Line)) (yielded files : List RawFile) → length files ≤ length yielded → ScriptsSoFar scripts yielded files → (t : Tasks) (bs : List Body) → AreBodies t bs files → scripts_from (names_of (declarations t)) [] 0 bs ≡ Ok (map (λ s. s.items) scripts)
 unfolding scripts_from
 scripts_done scripts yielded files le on t bs are =
-    let left = subst (λ left. ScriptsLeft t (map (λ s. s.items) scripts) (length yielded) left (scripts_from (names_of (declarations t)) [] 0 bs)) (drop_rest files (length yielded) le) (on.so_far t bs are) in
+    let left = subst (λ left. ScriptsLeft t (map (λ s. s.items) scripts) (length yielded) left (scripts_from (names_of (declarations t)) [] 0 bs)) (drop_all (length yielded) files le) (on.so_far t bs are) in
     go left.bodies left.are left.so_far
   where
     go : (cs : List Body) → AreBodies t cs [] → scripts_from (names_of (declarations t)) (map (λ s. s.items) scripts) (length yielded) cs ≡ scripts_from (names_of (declarations t)) [] 0 bs → scripts_from (names_of (declarations t)) [] 0 bs ≡ Ok (map (λ s. s.items) scripts)
@@ -87,16 +94,16 @@ pub faults_then : {X Y : Type 0} (e : TraceFault) (r : Result X (Kind × ℕ × 
 faults_then fault.NoMemory r k h = tt
 faults_then (fault.At j f n) r k h = ap (λ x. x >>= k) h
 
-pub files_stop : (e : TraceFault) (all : AllRead) (f : ℕ) (files : List (Vec ℕ)) (bytes : Vec ℕ) (total : Result AllRead (Kind × ℕ × ℕ)) → f < length files → bytes ≡ get_or files f bytes → Faults e (in_file f (read_file all.declared bytes.items))
+pub files_stop : (e : TraceFault) (all : AllRead) (f : ℕ) (files : List (Vec ℕ)) (bytes : Vec ℕ) (total : Result AllRead (Kind × ℕ × ℕ)) → f < length files → bytes ≡ get_or files f bytes → Faults e (of_file f (read_file all.declared bytes.items))
     → read_from all f (contents (drop f files)) ≡ total → Faults e total
 unfolding read_from
 files_stop e all f files bytes total lt item is so_far =
     subst (Faults e) (sym (ap (λ (vs : List (Vec ℕ)). read_from all f (contents vs)) (drop_item files f bytes lt item)) ∙ so_far)
-    (faults_then e (in_file f (read_file all.declared bytes.items)) (λ r. read_from (with_file all r) (f + 1) (contents (drop (f + 1) files))) is)
+    (faults_then e (of_file f (read_file all.declared bytes.items)) (λ r. read_from (with_file all r) (f + 1) (contents (drop (f + 1) files))) is)
 
 pub files_done : (all : AllRead) (f : ℕ) (files : List (Vec ℕ)) (total : Result AllRead (Kind × ℕ × ℕ)) → length files ≤ f → read_from all f (contents (drop f files)) ≡ total → total ≡ Ok all
 unfolding read_from
-files_done all f files total le so_far = sym so_far ∙ rw (drop_rest files f le) refl
+files_done all f files total le so_far = sym so_far ∙ rw (drop_all f files le) refl
 
 pub bodies_and : (t : Tasks) (bs : List Body) (fs : List RawFile) (b : Body) (f : RawFile) → AreBodies t bs fs → IsBody t b f → AreBodies t (bs ++ b ∷ []) (fs ++ f ∷ [])
 bodies_and t [] [] b f are is = (is, tt)

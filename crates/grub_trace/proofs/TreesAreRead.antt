@@ -1,4 +1,4 @@
--- Texts of trees are read.
+-- Texts of trees are read as the plan of these trees: the `only` of IsPlanOrFault.
 use Rattle.std.proofs.Common.{◌≡◌, ℕ, ◌+◌, false, eqb, List, [], ◌∷◌, ◌++◌, length, map, Option, Some, None, Result, Ok, refl, ap, ◌∙◌, sym, arith, rules, subst, append_assoc}
 use Rattle.std.specs.Prelude.{IsSome}
 use Rattle.std.specs.List.{join_with_byte, flat_map, filter_map, cons_option, AllByRecursion}
@@ -15,16 +15,14 @@ use Rattle.grub_trace.specs.Tree.{Declaration, Happening, Tree, text, line, head
 use Rattle.grub_trace.specs.Faults.{last_of}
 use Rattle.grub_trace.specs.Forms.{parts_of}
 use Rattle.grub_trace.specs.Naming.{line_in, script_of, all_tasks, plan_of, plan_with}
-use Rattle.grub_trace.specs.Meaning.{GoOn, AreKnown, Reads}
-use Rattle.grub_trace.specs.FirstFault.{AreDeclared, IsTree, AreTrees}
+use Rattle.grub_trace.specs.Meaning.{GoOn, AreKnown, Reads, AreDeclared, IsTree, AreTrees}
 use Rattle.grub_trace.specs.inside.Tree.{declaration_line, happening_line}
-use Rattle.grub_trace.specs.inside.Reading.{Read, FileRead, AllRead, Body, with_file, in_file, read_lines, read_file, opened, read_from, take_line, at_line, ◌>>=◌, times_of, script_from, scripts_from, option_or_err, unknown_in, plan_from, declares, says}
+use Rattle.grub_trace.specs.inside.Reading.{Read, FileRead, AllRead, Body, with_file, of_file, read_lines, read_file, opened, read_from, take_line, at_line, ◌>>=◌, times_of, script_from, scripts_from, option_or_err, unknown_in, plan_from, declares, says}
 use Rattle.grub_trace.proofs.Elsewhere.{not_zero}
 use Rattle.grub_trace.proofs.LineLemmas.{lines_step, first_known, second_view}
 use Rattle.grub_trace.proofs.FormLemmas.{version_again}
 use Rattle.grub_trace.proofs.FileLaws.{small_queue}
-use Rattle.grub_trace.proofs.Runs.{last_push}
-use Rattle.grub_trace.proofs.Together.{in_turn}
+use Rattle.grub_trace.proofs.LinesInTurn.{last_push}
 use Rattle.grub_trace.proofs.PlanLaws.{body_of_tree, queues_are}
 use Rattle.grub_trace.proofs.Printed.{IsOneLine, declaration_again, happening_again, queue_again, declaration_one_line, happening_one_line, queue_one_line}
 
@@ -101,12 +99,12 @@ unfolding read_from
 files_again [] all f are = ap (λ (ds : List Declaration). Ok (record { declared = ds; files = all.files })) (sym (append-nil all.declared)) ∙ ap (λ (bs : List Body). Ok (record { declared = all.declared ++ []; files = bs })) (sym (append-nil all.files))
 files_again (t ∷ ts) all f are =
     let names : names_of (all.declared ++ t.tasks) ≡ names_of all.declared ++ names_of t.tasks = map-append (λ (d : Declaration). d.name) all.declared t.tasks in
-    ap (λ (x : Result FileRead (Kind × ℕ)). in_file f x >>= λ r. read_from (with_file all r) (f + 1) (map text ts)) (file_again all.declared t are.0)
+    ap (λ (x : Result FileRead (Kind × ℕ)). of_file f x >>= λ r. read_from (with_file all r) (f + 1) (map text ts)) (file_again all.declared t are.0)
     ∙ files_again ts (with_file all (file_of all.declared t)) (f + 1) (subst (λ (ns : List (List ℕ)). AreTrees ns ts) (sym names) are.1)
     ∙ ap (λ (ds : List Declaration). Ok (record { declared = ds; files = (all.files ++ body_of_tree t ∷ []) ++ map body_of_tree ts })) (append_assoc all.declared t.tasks (all_tasks ts))
     ∙ ap (λ (bs : List Body). Ok (record { declared = all.declared ++ all_tasks (t ∷ ts); files = bs })) (append_assoc all.files (body_of_tree t ∷ []) (map body_of_tree ts))
 
-some_is : (o : Option Line) → IsSome o → (l : Line) × (o ≡ Some l)
+pub some_is : (o : Option Line) → IsSome o → (l : Line) × (o ≡ Some l)
 some_is None h = absurd cc
 some_is (Some l) h = (l, refl)
 
@@ -132,6 +130,6 @@ pub plan_again : (files : List (List ℕ)) (ts : List Tree) → Reads files ts �
 unfolding plan_from
 plan_again files ts is =
     let names = names_of (all_tasks ts) in
-    let read : read_from (record { declared = []; files = [] }) 0 files ≡ Ok (record { declared = all_tasks ts; files = map body_of_tree ts }) = ap (read_from (record { declared = []; files = [] }) 0) is.texts ∙ files_again ts (record { declared = []; files = [] }) 0 (in_turn ts is.together) in
+    let read : read_from (record { declared = []; files = [] }) 0 files ≡ Ok (record { declared = all_tasks ts; files = map body_of_tree ts }) = ap (read_from (record { declared = []; files = [] }) 0) is.texts ∙ files_again ts (record { declared = []; files = [] }) 0 is.together in
     rw (le-ltb 64 (length files) is.few, not_zero (length files) is.some, read, scripts_again names ts [] 0 is.known)
     (ap (λ (qs : List Capacity). Ok (plan_with qs (all_tasks ts) (map (script_of names) ts))) (queues_are ts))

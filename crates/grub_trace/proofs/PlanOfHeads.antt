@@ -1,4 +1,4 @@
--- The plan of files whose heads were read first.
+-- The plan of files whose heads were read first: what `plan` and `plan_by_threads` answer.
 use Rattle.std.proofs.Common.{◌≡◌, ℕ, suc, true, ◌+◌, ◌<◌, ◌≤◌, ◌⊎◌, inl, inr, List, [], ◌∷◌, ◌++◌, drop, length, get_or, map, take, Result, Ok, Err, IfOk, refl, sym, ap, ◌∙◌, arith, set, subst}
 use Rattle.std.specs.Prelude.{IfErr, nat_lt}
 use Rattle.std.proofs.lemmas.Bool.Decides.{nat_tests}
@@ -15,23 +15,23 @@ use Rattle.grub_trace.specs.declared.fault.Kind.TheVariants.{MissingQueue, OutOf
 use Rattle.grub_trace.specs.declared.heads.Heads.{Heads}
 use Rattle.grub_trace.specs.declared.raw.Head.{Head}
 use Rattle.grub_trace.specs.declared.tasks.Tasks.{Tasks}
-use Rattle.grub_trace.specs.inside.Bodies.{AreRead, HaveHeads, IsRead, head_of}
+use Rattle.grub_trace.specs.inside.Bodies.{AreRead, HaveHeads, IsRead, head_above}
 use Rattle.grub_trace.specs.inside.Heads.{GiveTogether, IsHead}
-use Rattle.grub_trace.specs.inside.Planning.{AreHeadsOf, AreTogether, IsPlanned}
-use Rattle.grub_trace.specs.inside.Reading.{AllRead, Answers, AnswersOpening, Faults, Body, IsIndexed, declarations, plan_from, plan_of_read, read_from, scripts_from, ◌>>=◌}
+use Rattle.grub_trace.specs.inside.Planning.{AreHeadsOf, FilesGive, IsPlanned}
+use Rattle.grub_trace.specs.inside.Reading.{AllRead, AnswersAs, AnswersOpening, Faults, Body, IsIndexed, declarations, plan_from, plan_of_read, read_from, scripts_from, ◌>>=◌}
 use Rattle.grub_trace.specs.Naming.{plan_with}
 use Rattle.grub_trace.specs.Tree.{names_of}
 use Rattle.grub_trace.proofs.Elsewhere.{not_zero}
-use Rattle.grub_trace.proofs.AllLemmas.{faults_then}
-use Rattle.grub_trace.proofs.Openings.{same_fault}
+use Rattle.grub_trace.proofs.FilesInTurn.{faults_then}
+use Rattle.grub_trace.proofs.LineLemmas.{same_error}
 
 -- ---- one body after the other
 
 pub bodies_next : (t : Tasks) (bs : List Below) (i : ℕ) (b old : Below) → i < length bs → old ≡ get_or bs i old → b.head ≡ old.head → IsRead t b → HaveHeads bs → AreRead t (take i bs)
-    → (map head_of (set bs i b) ≡ map head_of bs) × HaveHeads (set bs i b) × AreRead t (take (i + 1) (set bs i b))
+    → (map head_above (set bs i b) ≡ map head_above bs) × HaveHeads (set bs i b) × AreRead t (take (i + 1) (set bs i b))
 bodies_next t bs i b old lt item same read heads before =
-    let place : (get_or bs i old).head ≡ b.head = ap head_of (sym item) ∙ sym same in (
-      map-set_same head_of bs i b old (sym place),
+    let place : (get_or bs i old).head ≡ b.head = ap head_above (sym item) ∙ sym same in (
+      map-set_same head_above bs i b old (sym place),
       All-set (λ x. IsHead x.head) bs i b (subst IsHead place (All-get_or (λ x. IsHead x.head) bs i old lt heads)) heads,
       All-more (IsRead t) (set bs i b) i old (subst (λ n. i < n) (sym (length-set bs i b)) lt) (subst (AreRead t) (sym (take-set bs i b)) before) (subst (IsRead t) (sym (get_or-set_same bs i b old lt)) read),
     )
@@ -40,13 +40,13 @@ pub all_taken : (t : Tasks) (bs : List Below) (i : ℕ) → length bs ≤ i → 
 all_taken t bs i le are = subst (AreRead t) (take_all i bs le) are
 
 -- the same heads, place by place
-pub same_heads : (old new : List Below) → length new ≡ length old → ((i : ℕ) (d : Below) → i < length old → (get_or new i d).head ≡ (get_or old i d).head) → map head_of new ≡ map head_of old
+pub same_heads : (old new : List Below) → length new ≡ length old → ((i : ℕ) (d : Below) → i < length old → (get_or new i d).head ≡ (get_or old i d).head) → map head_above new ≡ map head_above old
 same_heads [] [] len each = refl
 same_heads [] (n ∷ ns) len each = absurd (omega (arith, len))
 same_heads (o ∷ os) [] len each = absurd (omega (arith, len))
 same_heads (o ∷ os) (n ∷ ns) len each =
     let here : n.head ≡ o.head = each 0 n (omega arith) in
-    ap (λ (h : Head). h ∷ map head_of ns) here ∙ ap (λ (hs : List Head). o.head ∷ hs) (same_heads os ns (omega (arith, len)) (λ i d lt. each (suc i) d (omega (arith, lt))))
+    ap (λ (h : Head). h ∷ map head_above ns) here ∙ ap (λ (hs : List Head). o.head ∷ hs) (same_heads os ns (omega (arith, len)) (λ i d lt. each (suc i) d (omega (arith, lt))))
 
 -- ---- as many files as may be
 
@@ -92,11 +92,11 @@ planned_fault files e some few faulty opening = record {
   answers = read_fault e files some few faulty;
   many = λ h. absurd (omega (arith, h, few));
   nothing = λ h. absurd (omega (arith, h, some));
-  opening = λ _ _ k n le is. ap Err (same_fault {X = Heads} e (fault.At k 0 n) (opening k n le is));
+  opening = λ _ _ k n le is. ap Err (same_error {X = Heads} e (fault.At k 0 n) (opening k n le is));
 }
 
 -- and what follows right heads
-pub planned_then : (files : List (List ℕ)) (h : Heads) (r : Result PlanView TraceFault) → AreHeadsOf files h → Answers r (λ p. p) (plan_from files) → IsPlanned files r
+pub planned_then : (files : List (List ℕ)) (h : Heads) (r : Result PlanView TraceFault) → AreHeadsOf files h → AnswersAs r (λ p. p) (plan_from files) → IsPlanned files r
 planned_then files h r heads answers = record {
   answers = answers;
   many = λ many. absurd (omega (arith, many, heads.together.few));
@@ -109,15 +109,15 @@ pub heads_planned : (files : List (List ℕ)) (r : Result Heads TraceFault) → 
 heads_planned files (Ok h) some few faulty opening = tt
 heads_planned files (Err e) some few faulty opening = planned_fault files e some few faulty opening
 
-pub heads_are : (files : List (List ℕ)) (r : Result Heads TraceFault) → 0 < length files → length files ≤ 64 → IfOk r (λ h. GiveTogether (declarations h.tasks) (map head_of h.bodies.items) h.fault (read_from (record { declared = []; files = [] }) 0 files))
+pub heads_are : (files : List (List ℕ)) (r : Result Heads TraceFault) → 0 < length files → length files ≤ 64 → IfOk r (λ h. GiveTogether (declarations h.tasks) (map head_above h.bodies.items) h.fault (read_from (record { declared = []; files = [] }) 0 files))
     → AnswersOpening r (read_from (record { declared = []; files = [] }) 0 files) → IfOk r (λ h. HaveHeads h.bodies.items) → IfOk r (λ h. IsIndexed h.tasks) → IfOk r (AreHeadsOf files)
 heads_are files (Ok h) some few together opening heads indexed = record { together = record { some = some; few = few; together = together }; opening = opening; heads = heads; indexed = indexed }
 heads_are files (Err e) some few together opening heads indexed = tt
 
 -- the heads stay where what stands below them is written
-pub still_together : (files : List (List ℕ)) (h : Heads) (old new : List Below) → AreHeadsOf files h → old ≡ h.bodies.items → length new ≡ length old → map head_of new ≡ map head_of old
-    → AreTogether files h.tasks (map head_of (take h.bodies.len (new ++ drop (length new) h.bodies.items))) h.fault
+pub still_together : (files : List (List ℕ)) (h : Heads) (old new : List Below) → AreHeadsOf files h → old ≡ h.bodies.items → length new ≡ length old → map head_above new ≡ map head_above old
+    → FilesGive files h.tasks (map head_above (take h.bodies.len (new ++ drop (length new) h.bodies.items))) h.fault
 still_together files h old new are value len same =
     let rest : drop (length new) h.bodies.items ≡ [] = drop_all (length new) h.bodies.items (omega (arith, len, ap length value)) in
     let whole : take h.bodies.len (new ++ drop (length new) h.bodies.items) ≡ new = ap (λ (xs : List Below). take h.bodies.len (new ++ xs)) rest ∙ ap (take h.bodies.len) (append-nil new) ∙ take_all h.bodies.len new (omega (arith, len, ap length value, h.bodies.ok.0)) in
-    subst (λ hs. AreTogether files h.tasks hs h.fault) (sym (ap (map head_of) whole ∙ same ∙ ap (map head_of) value)) are.together
+    subst (λ hs. FilesGive files h.tasks hs h.fault) (sym (ap (map head_above) whole ∙ same ∙ ap (map head_above) value)) are.together
