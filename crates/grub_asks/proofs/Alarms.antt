@@ -1,6 +1,6 @@
 -- The timers of a worker, as its entries tell of them.
-use Rattle.std.proofs.Common.{◌≡◌, ℕ, zero, suc, ◌+◌, ◌<◌, ◌≤◌, Bool, true, false, cond, nat_eq, List, Option, Some, None, refl, sym, ap, ◌∙◌, ◌-◌, subst, unwrap_or, arith, eq-eqb}
-use Rattle.std.specs.Prelude.{option_map, is_some, IsTrue, IsSomeAnd, IfSome}
+use Rattle.std.proofs.Common.{◌≡◌, ℕ, zero, suc, ◌+◌, ◌<◌, ◌≤◌, Bool, true, false, cond, nat_eq, List, Option, Some, None, refl, sym, ap, ◌∙◌, ◌-◌, subst, arith, eq-eqb}
+use Rattle.std.specs.Prelude.{is_some, IsTrue, IsSomeAnd, IfSome}
 use mathlib.Core.Logic.{dite}
 use native.Mathlib.Decide.{ℕ_discrete}
 use Rattle.std.specs.Bool.{OnTrue}
@@ -15,28 +15,25 @@ use Rattle.grub_book.specs.declared.op.Op.TheVariants as ops
 use Rattle.grub_book.specs.declared.reply.Reply.TheVariants as replies
 use Rattle.grub_plan.specs.declared.entry.Answer.TheVariants as answers
 use Rattle.grub_plan.specs.declared.entry.Entry.{Entry}
-use Rattle.grub_asks.specs.Timers.{Alarm, leaves, disarms, arms, alarm_after, alarm_at, armed, touch_of_call, IsNextDue, NoneDue}
-use Rattle.grub_asks.specs.Keeping.{IsBlock, IsBlockBefore, IsTouched, alarm_of, places_of}
+use Rattle.grub_asks.specs.Timers.{Alarm, leaves, disarms, arms, alarm_after, armed, touch_of_call, IsNextDue, NoneDue}
+use Rattle.grub_asks.specs.Keeping.{IsBlock, IsBlockBefore, IsTouched, places_of}
 
 key_eq : (u t : ℕ) → eq_by_cmp nat_cmp u t ≡ nat_eq u t
 key_eq u t = grind (arith, nat_tests)
 
-abbrev pub alarm : ℕ × ℕ → Alarm
-alarm p = record { z = p.0; ticket = p.1 }
-
-touched_none : (b : Bool) (o : Option (ℕ × ℕ)) → option_map alarm (cond b None o) ≡ alarm_after (cond b disarms leaves) (option_map alarm o)
+touched_none : (b : Bool) (o : Option Alarm) → cond b None o ≡ alarm_after (cond b disarms leaves) o
 touched_none true o = refl
 touched_none false o = refl
 
-touched_some : (b : Bool) (z k : ℕ) (o : Option (ℕ × ℕ)) → option_map alarm (cond b (Some (z, k)) o) ≡ alarm_after (cond b (arms (alarm_at z k)) leaves) (option_map alarm o)
-touched_some true z k o = refl
-touched_some false z k o = refl
+touched_some : (b : Bool) (new : Alarm) (o : Option Alarm) → cond b (Some new) o ≡ alarm_after (cond b (arms new) leaves) o
+touched_some true new o = refl
+touched_some false new o = refl
 
 -- a timer was taken out
 pub touched_removed : (old new : TimerBag) (t : ℕ) → new ≡ map.remove old t → IsTouched old new t disarms
 touched_removed old new t is u =
-    ap (λ m. alarm_of m u) is
-    ∙ ap (option_map alarm) (map.get-remove nat_cmp_total old t u ∙ ap (λ b. cond b None (map.get old u)) (key_eq u t))
+    ap (λ m. map.get m u) is
+    ∙ (map.get-remove nat_cmp_total old t u ∙ ap (λ b. cond b None (map.get old u)) (key_eq u t))
     ∙ touched_none (nat_eq u t) (map.get old u)
 
 pub removed_none : (old new : TimerBag) (t : ℕ) → new ≡ map.remove old t → map.get new t ≡ None
@@ -51,13 +48,13 @@ both_touched true a new = refl
 both_touched false a new = refl
 
 -- a timer was armed in place of another
-pub touched_armed : (old between new : TimerBag) (t z k : ℕ) → IsTouched old between t disarms → new ≡ map.insert between t (z, k) → IsTouched old new t (arms (alarm_at z k))
+pub touched_armed : (old between new : TimerBag) (t z k : ℕ) → IsTouched old between t disarms → new ≡ map.insert between t (z, k) → IsTouched old new t (arms (z, k))
 touched_armed old between new t z k before is u =
-    ap (λ m. alarm_of m u) is
-    ∙ ap (option_map alarm) (map.get-insert nat_cmp_total between t (z, k) u ∙ ap (λ b. cond b (Some (z, k)) (map.get between u)) (key_eq u t))
-    ∙ touched_some (nat_eq u t) z k (map.get between u)
-    ∙ ap (alarm_after (cond (nat_eq u t) (arms (alarm_at z k)) leaves)) (before u)
-    ∙ both_touched (nat_eq u t) (alarm_of old u) (alarm_at z k)
+    ap (λ m. map.get m u) is
+    ∙ (map.get-insert nat_cmp_total between t (z, k) u ∙ ap (λ b. cond b (Some (z, k)) (map.get between u)) (key_eq u t))
+    ∙ touched_some (nat_eq u t) (z, k) (map.get between u)
+    ∙ ap (alarm_after (cond (nat_eq u t) (arms (z, k)) leaves)) (before u)
+    ∙ both_touched (nat_eq u t) (map.get old u) (z, k)
 
 -- `cancel` took out a timer that was armed with its ticket
 pub cancelled : (old new : WheelState) (x : WheelTimer) (t : ℕ) (answer : Bool) → IsArmed old.timers x → x.t ≡ t → (IsArmedWith old.timers t x.ticket → IsTrue answer) → OnTrue answer (new ≡ after_taking old t) → new ≡ after_taking old t
@@ -75,7 +72,7 @@ pub later_than : (last : Option ℕ) (z : ℕ) → ((m : ℕ) → last ≡ Some 
 later_than None z f = tt
 later_than (Some m) z f = f m refl
 
-pub touch_waits : (op : Op) (z ticket : ℕ) → IsBlockBefore z op → touch_of_call op (answers.Replied (replies.Waiting ticket z)) ≡ arms (alarm_at z ticket)
+pub touch_waits : (op : Op) (z ticket : ℕ) → IsBlockBefore z op → touch_of_call op (answers.Replied (replies.Waiting ticket z)) ≡ arms (z, ticket)
 touch_waits (ops.Block r m) z ticket h = refl
 touch_waits op z ticket h = absurd h
 
@@ -138,19 +135,13 @@ few_timers (suc n) timers none =
     at true k l is low = omega (arith, is, low)
     at false k l is low = omega (arith, is, low)
 
-from_alarm : (o : Option (ℕ × ℕ)) (z k : ℕ) → option_map alarm o ≡ Some (alarm_at z k) → o ≡ Some (z, k)
-from_alarm None z k is = absurd (cc)
-from_alarm (Some p) z k is =
-    let same : alarm p ≡ alarm_at z k = ap (λ o. unwrap_or o (alarm_at 0 0)) is in
-    λ i. Some ((same i).z, (same i).ticket)
-
 -- the timer that `due` took out is the next one that the entries leave
-pub next_due : (timers : TimerBag) (entries : List Entry) (m : ℕ) (x : WheelTimer) → ((t : ℕ) → alarm_of timers t ≡ armed entries t) → IsArmed timers x → x.z ≤ m → IsLeast timers x → IsNextDue (armed entries) m x.z x.t x.ticket
+pub next_due : (timers : TimerBag) (entries : List Entry) (m : ℕ) (x : WheelTimer) → ((t : ℕ) → map.get timers t ≡ armed entries t) → IsArmed timers x → x.z ≤ m → IsLeast timers x → IsNextDue (armed entries) m x
 next_due timers entries m x same at due least = record {
-  armed = sym (same x.t) ∙ ap (option_map alarm) at;
+  armed = sym (same x.t) ∙ at;
   due = due;
-  least = λ z t k there low. least (record { z = z; t = t; ticket = k }) (from_alarm (map.get timers t) z k (same t ∙ there));
+  least = λ y there low. least y (same y.t ∙ there);
 }
 
-pub none_due : (timers : TimerBag) (entries : List Entry) (m : ℕ) → ((t : ℕ) → alarm_of timers t ≡ armed entries t) → AreLater timers m → NoneDue (armed entries) m
-none_due timers entries m same later z t k there = later (record { z = z; t = t; ticket = k }) (from_alarm (map.get timers t) z k (same t ∙ there))
+pub none_due : (timers : TimerBag) (entries : List Entry) (m : ℕ) → ((t : ℕ) → map.get timers t ≡ armed entries t) → AreLater timers m → NoneDue (armed entries) m
+none_due timers entries m same later x there = later x (same x.t ∙ there)

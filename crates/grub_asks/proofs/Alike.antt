@@ -12,8 +12,10 @@ use Rattle.grub_plan.specs.declared.entry.Ask.TheVariants.{Call}
 use Rattle.grub_plan.specs.declared.entry.Answer.{Answer}
 use Rattle.grub_plan.specs.declared.entry.Answer.TheVariants.{Replied}
 use Rattle.grub_plan.specs.declared.entry.Entry.{Entry}
-use Rattle.grub_asks.specs.Asked.{AsksLine, AsksTimer, Follows, JoinsAfter, Timer, ask_of, entry}
-use Rattle.grub_asks.specs.Timers.{IsNotAfter, NoneDue, alarm_at, armed}
+use Rattle.grub_asks.specs.Asked.{AsksLine, AsksTimer, Follows, JoinsAfter, ask_of, entry}
+use Rattle.grub_wheel.specs.declared.timer.Timer.{Timer}
+use Rattle.grub_wheel.specs.TimerBag.{IsNotAfter}
+use Rattle.grub_asks.specs.Timers.{NoneDue, armed}
 use Rattle.grub_asks.proofs.Starts.{follows_start, joins_start, next_start, script_start, timers_start}
 
 -- ---- lines of runqueue own; P holds of what is answered by a book, and of each beginning of it
@@ -36,26 +38,26 @@ module _
       b)
       a
 
-  first_alike : (z t k z' t' k' : ℕ) → IsNotAfter z t k z' t' k' → IsNotAfter z' t' k' z t k → (z ≡ z') × ((t ≡ t') × (k ≡ k'))
-  first_alike z t k z' t' k' a b = ⊎_elim
-      (λ (h : z < z'). ⊎_elim (λ (l : z' < z). absurd (omega arith)) (λ (l : (z' ≡ z) × ((t' < t) ⊎ ((t' ≡ t) × (k' ≤ k)))). let same = l.0 in absurd (omega (arith, h, same))) b)
-      (λ (h : (z ≡ z') × ((t < t') ⊎ ((t ≡ t') × (k ≤ k')))). ⊎_elim
-      (λ (l : z' < z). let same = h.0 in absurd (omega (arith, l, same)))
-      (λ (l : (z' ≡ z) × ((t' < t) ⊎ ((t' ≡ t) × (k' ≤ k)))). (h.0, tasks_alike t k t' k' h.1 l.1))
+  first_alike : (x y : Timer) → IsNotAfter x y → IsNotAfter y x → (x.z ≡ y.z) × ((x.t ≡ y.t) × (x.ticket ≡ y.ticket))
+  first_alike x y a b = ⊎_elim
+      (λ (h : x.z < y.z). ⊎_elim (λ (l : y.z < x.z). absurd (omega arith)) (λ (l : (y.z ≡ x.z) × ((y.t < x.t) ⊎ ((y.t ≡ x.t) × (y.ticket ≤ x.ticket)))). let same = l.0 in absurd (omega (arith, h, same))) b)
+      (λ (h : (x.z ≡ y.z) × ((x.t < y.t) ⊎ ((x.t ≡ y.t) × (x.ticket ≤ y.ticket)))). ⊎_elim
+      (λ (l : y.z < x.z). let same = h.0 in absurd (omega (arith, l, same)))
+      (λ (l : (y.z ≡ x.z) × ((y.t < x.t) ⊎ ((y.t ≡ x.t) × (y.ticket ≤ x.ticket)))). (h.0, tasks_alike x.t x.ticket y.t y.ticket h.1 l.1))
       b)
       a
 
   due_alike : (m : ℕ) (xs ys : List Timer) (before j k : List Entry) → FoldsTo (AsksTimer m) before xs j → FoldsTo (AsksTimer m) before ys k → NoneDue (armed j) m → NoneDue (armed k) m → P j → P k → j ≡ k
   due_alike m [] [] before j k f g none none' p q = sym f ∙ g
   due_alike m [] (y ∷ ys) before j k f g none none' p q =
-      let late : m < y.z = none y.z y.t y.ticket (subst (λ es. armed es y.t ≡ Some (alarm_at y.z y.ticket)) f g.1.next.armed) in
+      let late : m < y.z = none y (subst (λ es. armed es y.t ≡ Some (y.z, y.ticket)) f g.1.next.armed) in
       let due = g.1.next.due in absurd (omega (arith, late, due))
   due_alike m (x ∷ xs) [] before j k f g none none' p q =
-      let late : m < x.z = none' x.z x.t x.ticket (subst (λ es. armed es x.t ≡ Some (alarm_at x.z x.ticket)) g f.1.next.armed) in
+      let late : m < x.z = none' x (subst (λ es. armed es x.t ≡ Some (x.z, x.ticket)) g f.1.next.armed) in
       let due = f.1.next.due in absurd (omega (arith, late, due))
   due_alike m (x ∷ xs) (y ∷ ys) before j k f g none none' p q =
       let one = f.1.next in let two = g.1.next in
-      let alike = first_alike x.z x.t x.ticket y.z y.t y.ticket (one.least y.z y.t y.ticket two.armed two.due) (two.least x.z x.t x.ticket one.armed one.due) in
+      let alike = first_alike x y (one.least y two.armed two.due) (two.least x one.armed one.due) in
       let ask : ℕ → ℕ → ℕ → Answer → Entry = λ z t ticket answer. entry z (Call t (ops.Timer ticket z)) answer in
       let list : g.0 ≡ before ++ ask x.z x.t x.ticket g.1.goes_on.answer ∷ [] = g.1.goes_on.list ∙ λ i. before ++ ask (sym alike.0 i) (sym alike.1.0 i) (sym alike.1.1 i) g.1.goes_on.answer ∷ [] in
       let plain = prefix j f.0 (timers_start m xs f.0 j f.2) p in

@@ -1,6 +1,5 @@
 -- The timers after one more entry.
 use Rattle.std.proofs.Common.{◌≡◌, ℕ, ◌<◌, Bool, true, false, cond, nat_eq, List, [], ◌∷◌, ◌++◌, Option, Some, None, length, refl, sym, ap, ◌∙◌, subst, arith}
-use Rattle.std.specs.Prelude.{option_map}
 use Rattle.std.specs.Ordering.{nat_cmp}
 use Rattle.std.specs.FinMap as map
 use Rattle.std.proofs.lemmas.Bool.{eqb-true}
@@ -16,7 +15,6 @@ use Rattle.grub_asks.specs.Asked.{entry}
 use Rattle.grub_asks.specs.Timers.{Alarm, alarm_after, armed, armed_from, leaves, touch, touch_of_call}
 use Rattle.grub_asks.specs.Keeping.{IsTouched}
 use Rattle.grub_asks.specs.inside.Keeping.{IsKept}
-use Rattle.grub_asks.proofs.Alarms.{alarm}
 
 armed_from-more : (t : ℕ) (a : Option Alarm) (es : List Entry) (e : Entry) → armed_from t a (es ++ e ∷ []) ≡ alarm_after (touch t e.ask e.answer) (armed_from t a es)
 armed_from-more t a [] e = refl
@@ -47,6 +45,6 @@ kept_look s m reading old new timers kept list = record {
 -- a wheel with no timer, before the first entry
 pub kept_nothing : (s : Machine) (es : List Entry) (timers : TimerBag) → es ≡ [] → timers ≡ map.empty → IsKept s es timers
 kept_nothing s es timers none empty = record {
-  armed_are = λ t. ap (option_map alarm) (ap (λ m. map.get m t) empty ∙ map.get-empty nat_cmp t) ∙ sym (ap (λ l. armed l t) none);
+  armed_are = λ t. ap (λ m. map.get m t) empty ∙ map.get-empty nat_cmp t ∙ sym (ap (λ l. armed l t) none);
   tasks = λ t a at. let bad : None ≡ Some a = sym (ap (λ l. armed l t) none) ∙ at in absurd (cc);
 }

@@ -11,6 +11,7 @@ use Rattle.grub_plan.specs.declared.entry.Ask.TheVariants.{Call, Read}
 use Rattle.grub_plan.specs.declared.entry.Answer.{Answer}
 use Rattle.grub_plan.specs.declared.entry.Answer.TheVariants.{Replied}
 use Rattle.grub_plan.specs.declared.entry.Entry.{Entry}
+use Rattle.grub_wheel.specs.declared.timer.Timer.{Timer}
 use Rattle.grub_asks.specs.Timers.{armed, IsNextDue, NoneDue}
 
 abbrev pub entry : ℕ → Ask → Answer → Entry
@@ -21,15 +22,9 @@ pub record GoesOn (m : ℕ) (ask : Ask) (before after : List Entry) : Type 0 whe
   pub answer : Answer
   pub list : after ≡ before ++ entry m ask answer ∷ []
 
--- a timer: when it is due, its task and its ticket
-pub record Timer : Type 0 where
-  pub z : ℕ
-  pub t : ℕ
-  pub ticket : ℕ
-
 -- the next timer that is due by m is asked for, at its own moment
 pub record AsksTimer (m : ℕ) (before : List Entry) (timer : Timer) (after : List Entry) : Type 0 where
-  pub next : IsNextDue (armed before) m timer.z timer.t timer.ticket
+  pub next : IsNextDue (armed before) m timer
   pub goes_on : GoesOn timer.z (Call timer.t (ops.Timer timer.ticket timer.z)) before after
 
 -- timers that are due by m are asked for until none is left

@@ -15,7 +15,8 @@ use Rattle.grub_table.specs.inside.Between.{IsSeatOf, Tells}
 use Rattle.grub_table.specs.Layout.{queue_word_at}
 use Rattle.grub_table.specs.inside.Tellings.{Turns, Of, OfQueue, IsReadingFor}
 use Rattle.grub_table.specs.declared.view.Trail.{Trail}
-use Rattle.grub_table.specs.Trails.{first_made, head_made}
+use Rattle.grub_table.specs.Trails.{first_made}
+use Rattle.grub_table.specs.inside.Trails.{head_made}
 use Rattle.grub_table.specs.inside.Trails.{each_after, known, lone, trail}
 use Rattle.grub_table.specs.Views.{first_of}
 use Rattle.grub_table.specs.inside.Views.{alone}

@@ -18,7 +18,7 @@ use Rattle.grub_table.specs.declared.view.Mark.{Mark}
 use Rattle.grub_table.specs.declared.view.Share.{Share}
 use Rattle.grub_table.specs.declared.view.Terms.{Terms}
 use Rattle.grub_table.specs.declared.view.View.{View}
-use Rattle.grub_table.specs.Calls.{share_of, terms, number_of, IsClosed}
+use Rattle.grub_table.specs.Calls.{share_of, number_of, IsClosed}
 use Rattle.grub_table.specs.Knowing.{Knows}
 use Rattle.grub_table.specs.Histories.{reading_in}
 use Rattle.grub_table.specs.Layout.{queue_word_at}
@@ -62,16 +62,16 @@ is_reading_of words r found now at fits is = record { fits = fits; word = get_at
 
 -- what is known of the rule's words at the end, and of the shares that stand together
 module _ {S : Type 0} (self : Shared) (s : State S View) (id : ℕ) (v : View) (ps : List Pass) (words : List ℕ) (readings : List Reading) (kept : Kept self.table.inner.shared.key s) (at : get_elem? s.views id ≡ some v)
-    (shares : v.shares ≡ map share_of ps) (same : s.words ≡ words) (all : (terms self).passes ≤ length ps) where
+    (shares : v.shares ≡ map share_of ps) (same : s.words ≡ words) (all : self.terms.passes ≤ length ps) where
   rule : Kept self.terms s
   rule = subst (λ (T : Terms). Kept T s) self.kept kept
 
-  pub word_fits : (r : ℕ) → r < length (terms self).setup.queues → (now : Reading) × QueueFits now × (get_or words (queue_word_at r) 0 ≡ queue_word now)
+  pub word_fits : (r : ℕ) → r < length self.terms.setup.queues → (now : Reading) × QueueFits now × (get_or words (queue_word_at r) 0 ≡ queue_word now)
   word_fits r lt =
       let k = rule in
       (reading_in self.terms k.history r, reading_fits self.terms k.history r k.limited k.is_history lt, ap (λ l. get_or l (queue_word_at r) 0) (sym same) ∙ k.written.queues r lt)
 
-  pub closes : length readings ≡ length (terms self).setup.queues → ((r : ℕ) (d : Reading) → r < length readings → IsReadingOf words r (get_or readings r d)) → IsClosed self ps readings
+  pub closes : length readings ≡ length self.terms.setup.queues → ((r : ℕ) (d : Reading) → r < length readings → IsReadingOf words r (get_or readings r d)) → IsClosed self ps readings
   closes room told =
       let k = rule in
       let T = self.terms in

@@ -13,7 +13,7 @@ use Rattle.grub_table.specs.declared.view.Terms.{Terms}
 use Rattle.grub_table.specs.declared.view.Trail.{Trail}
 use Rattle.grub_table.specs.declared.view.View.{View}
 use Rattle.grub_table.specs.inside.Rule.{Kept}
-use Rattle.grub_table.specs.Trails.{Accesses, head_made}
+use Rattle.grub_table.specs.inside.Trails.{Accesses, head_made}
 use Rattle.grub_table.specs.inside.Trails.{KeptOf, each_after, joined, known, known_state, left_trail, only_made, right_trail, spent, tail_made, trail}
 use Rattle.grub_table.specs.inside.Views.{behind, both_of, nothing, only_first, without_first}
 

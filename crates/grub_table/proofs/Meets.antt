@@ -13,7 +13,7 @@ use Rattle.grub_table.specs.Accesses.{meeting_loads}
 use Rattle.grub_table.specs.Calls.{accesses, share_of}
 use Rattle.grub_table.specs.Knowing.{GoesOn}
 use Rattle.grub_table.specs.Marks.{marker_of}
-use Rattle.grub_table.specs.Trails.{Accesses}
+use Rattle.grub_table.specs.inside.Trails.{Accesses}
 use Rattle.grub_table.specs.inside.Trails.{each_after, joined, known, left_trail, lone, right_trail, trail}
 use Rattle.grub_table.specs.Views.{first_of}
 use Rattle.grub_table.specs.inside.Views.{StandTogether, view}

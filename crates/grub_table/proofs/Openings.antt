@@ -23,7 +23,7 @@ use Rattle.grub_table.specs.declared.view.View.{View}
 use Rattle.grub_table.specs.Layout.{task_word_at}
 use Rattle.grub_table.specs.inside.Layout.{server_word_at, params_word_at}
 use Rattle.grub_table.specs.Marks.{marker_of}
-use Rattle.grub_table.specs.Views.{share}
+use Rattle.grub_table.specs.inside.Views.{share}
 use Rattle.grub_table.specs.inside.Views.{fresh, first_view, MarkedBy}
 use Rattle.grub_table.specs.inside.FirstWords.{AreOpeningWords}
 use Rattle.grub_table.specs.inside.Rule.{AreLimited, Stands, Apart, loose, Grasps, TaskShows, Written, Kept}

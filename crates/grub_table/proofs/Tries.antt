@@ -27,7 +27,7 @@ use Rattle.grub_table.specs.declared.view.Share.{Share}
 use Rattle.grub_table.specs.declared.view.Stored.{Stored}
 use Rattle.grub_table.specs.declared.view.Terms.{Terms}
 use Rattle.grub_table.specs.inside.Between.{HoldsFor, HoldsMade, Tells}
-use Rattle.grub_table.specs.Calls.{seen, marks, share_on, share_of, ComesFrom, claim_number, claim_share, claim_seen, claim_queue, claim_changes_sum, IsClaimOf, IsDone, IsLost, IsFinished}
+use Rattle.grub_table.specs.Calls.{seen, marks, share_on, share_of, ComesFrom, claim_share, claim_queue, claim_changes_sum, IsClaimOf, IsDone, IsLost, IsFinished}
 use Rattle.grub_table.specs.Histories.{WasBefore, record_in}
 use Rattle.grub_table.specs.Knowing.{GoesOn, Learns}
 use Rattle.grub_table.specs.inside.Layout.{stored_of}
@@ -148,7 +148,6 @@ module _ (s : Shared) (c : Claim) (is : IsClaimOf s c) where
             unrefused = ap (λ (p : Record × Op). refused p.0.place p.0.count p.1) (λ i. (held_is i, op_is i)) ∙ is.unrefused;
             timely = ap (λ (p : Record × Op). early p.0 p.1) (λ i. (held_is i, op_is i)) ∙ is.timely;
           };
-          number = number;
           task = task_is;
           op = op_is;
           held = held_is;
@@ -165,7 +164,7 @@ module _ (s : Shared) (c : Claim) (is : IsClaimOf s c) where
 
   pub lost_none : claim_changes_sum c ≡ true → IsLost s c 0 c
   lost_none sum = record {
-    still = record { of = is; number = refl; task = refl; op = refl; held = refl; marks = refl };
+    still = record { of = is; task = refl; op = refl; held = refl; marks = refl };
     learns = learns_none mine;
     sum = sum;
     changes = changed_none s.terms.setup (claim_queue c) mine.seen mine.seen (starts_whole mine.seen);
@@ -176,9 +175,9 @@ lost_done : (s : Shared) (c d : Claim) (n m : ℕ) (q : Pass) (reply : Reply) �
 lost_done s c d n m q reply a b =
     let same = a.still in record {
       of = b.of;
-      learns = learns_twice (claim_share c) (claim_share d) (share_of q) [] (Call (claim_number c) c.task c.op reply ∷ []) [] (Given (claim_number c) c.task ∷ []) a.learns
-          (subst (λ (p : ℕ × ℕ × Op). Learns (claim_share d) (share_of q) (Call p.0 p.1 p.2 reply ∷ []) (Given p.0 p.1 ∷ [])) (λ i. (same.number i, same.task i, same.op i)) b.learns);
-      before = subst (λ (p : ℕ × ℕ × Op × Record). WasBefore s.terms p.1 p.3 (Call p.0 p.1 p.2 reply) (seen q)) (λ i. (same.number i, same.task i, same.op i, same.held i)) b.before;
+      learns = learns_twice (claim_share c) (claim_share d) (share_of q) [] (Call (claim_share c).number c.task c.op reply ∷ []) [] (Given (claim_share c).number c.task ∷ []) a.learns
+          (subst (λ (p : ℕ × ℕ × Op). Learns (claim_share d) (share_of q) (Call p.0 p.1 p.2 reply ∷ []) (Given p.0 p.1 ∷ [])) (λ i. (a.learns.number i, same.task i, same.op i)) b.learns);
+      before = subst (λ (p : ℕ × ℕ × Op × Record). WasBefore s.terms p.1 p.3 (Call p.0 p.1 p.2 reply) (seen q)) (λ i. (a.learns.number i, same.task i, same.op i, same.held i)) b.before;
       claimed = b.claimed;
       tried = λ sum. let one = b.tried (ap (λ (p : Record × Op). changes_sum p.0 p.1) (λ i. (same.held i, same.op i)) ∙ sum) in omega (arith, one);
     }
@@ -187,11 +186,11 @@ lost_lost : (s : Shared) (c d e : Claim) (n m : ℕ) → IsLost s c n d → IsLo
 lost_lost s c d e n m a b =
     let x = a.still in
     let y = b.still in record {
-      still = record { of = y.of; number = y.number ∙ x.number; task = y.task ∙ x.task; op = y.op ∙ x.op; held = y.held ∙ x.held; marks = y.marks ∙ x.marks };
+      still = record { of = y.of; task = y.task ∙ x.task; op = y.op ∙ x.op; held = y.held ∙ x.held; marks = y.marks ∙ x.marks };
       learns = learns_twice (claim_share c) (claim_share d) (claim_share e) [] [] [] [] a.learns b.learns;
       sum = a.sum;
-      changes = changed_more s.terms.setup (claim_queue c) (claim_seen c) (claim_seen d) (claim_seen e) n m a.changes
-          (subst (λ (p : Record × Op). HasChanged s.terms.setup (runqueue_of p.0.place p.1) (claim_seen d) (claim_seen e) m) (λ i. (x.held i, x.op i)) b.changes);
+      changes = changed_more s.terms.setup (claim_queue c) (claim_share c).seen (claim_share d).seen (claim_share e).seen n m a.changes
+          (subst (λ (p : Record × Op). HasChanged s.terms.setup (runqueue_of p.0.place p.1) (claim_share d).seen (claim_share e).seen m) (λ i. (x.held i, x.op i)) b.changes);
     }
 
 pub tried_more : (s : Shared) (c d : Claim) (n m : ℕ) (r : Finished) → IsLost s c n d → IsFinished s d m r → IsFinished s c (n + m) r

@@ -3,14 +3,13 @@ use Rattle.std.specs.Prelude.{Bool, true, false, IsTrue, ◌≡◌, ◌≢◌, �
 use Rattle.std.specs.List.{All, Any}
 use Rattle.grub_book.specs.Machine.{Machine}
 use Rattle.grub_book.specs.Op.{IsOp}
-use Rattle.grub_book.specs.History.{StartsWith, HasChanged, pass_of}
+use Rattle.grub_book.specs.History.{StartsWith, HasChanged}
 use Rattle.grub_book.specs.Sound.{IsKept}
 use Rattle.grub_book.specs.Step.{early, refused, runqueue_of, changes_sum, is_under_claim}
 use Rattle.grub_book.specs.declared.event.Event.{Event}
 use Rattle.grub_book.specs.declared.event.Event.TheVariants.{Call}
 use Rattle.grub_book.specs.declared.event.Reading.{Reading}
 use Rattle.grub_book.specs.declared.op.Op.{Op}
-use Rattle.grub_book.specs.declared.place.Record.{Record}
 use Rattle.grub_book.specs.declared.reply.Reply.{Reply}
 use Rattle.grub_book.specs.declared.reply.Reply.TheVariants.{Early}
 use Rattle.grub_table.specs.declared.view.Access.{Access}
@@ -32,7 +31,7 @@ use Rattle.grub_table.specs.declared.pass.Finished.TheVariants.{Done, Held}
 use Rattle.grub_table.specs.declared.pass.CloseFault.{CloseFault}
 use Rattle.grub_table.specs.declared.pass.CloseWhy.{CloseWhy}
 use Rattle.grub_table.specs.declared.pass.CloseWhy.TheVariants.{Missing, NoMemory}
-use Rattle.grub_table.specs.Marks.{AreLawful, marker_of}
+use Rattle.grub_table.specs.Marks.{AreLawful}
 use Rattle.grub_table.specs.Knowing.{GoesOn, Knows, Learns}
 use Rattle.grub_table.specs.Accesses.{FinishesBriefly, lost_tries}
 use Rattle.grub_table.specs.Layout.{queue_word_at, shown}
@@ -69,36 +68,13 @@ accesses p = made_on p.seated
 abbrev pub claim_share : Claim → Share
 claim_share c = share_on c.seated
 
-abbrev pub claim_number : Claim → ℕ
-claim_number c = (claim_share c).number
-
-abbrev pub claim_task : Claim → ℕ
-claim_task c = c.task
-
-abbrev pub claim_op : Claim → Op
-claim_op c = c.op
-
--- the record of the task that is held
-abbrev pub claim_record : Claim → Record
-claim_record c = c.held
-
 -- the runqueue that its op is about
 abbrev pub claim_queue : Claim → ℕ
 claim_queue c = runqueue_of c.held.place c.op
 
-abbrev pub claim_seen : Claim → List Event
-claim_seen c = (claim_share c).seen
-
-abbrev pub claim_marks : Claim → List Mark
-claim_marks c = (claim_share c).marks
-
 -- its own and those of its pass before it
 abbrev pub claim_accesses : Claim → List Access
 claim_accesses c = made_on c.seated
-
--- what the table was opened for
-abbrev pub terms : Shared → Terms
-terms s = s.terms
 
 -- the seat comes from this table
 pub record ComesFrom (s : Shared) (x : Seated) : Type 0 where
@@ -114,12 +90,12 @@ IsPassOf s p = ComesFrom s p.seated
 -- the claim comes from this table, and holds a task whose record is the one that it names, for an op that neither the record nor the server refuses
 pub record IsClaimOf (s : Shared) (c : Claim) : Type 0 where
   pub of : ComesFrom s c.seated
-  pub task : claim_task c < length s.terms.setup.tasks
-  pub op : IsOp s.terms.setup (claim_op c)
-  pub held : record_in s.terms (claim_seen c) (claim_task c) ≡ claim_record c
-  pub kept : IsKept s.terms.setup (claim_record c)
-  pub unrefused : refused (claim_record c).place (claim_record c).count (claim_op c) ≡ None
-  pub timely : early (claim_record c) (claim_op c) ≡ None
+  pub task : c.task < length s.terms.setup.tasks
+  pub op : IsOp s.terms.setup c.op
+  pub held : record_in s.terms (claim_share c).seen c.task ≡ c.held
+  pub kept : IsKept s.terms.setup c.held
+  pub unrefused : refused c.held.place c.held.count c.op ≡ None
+  pub timely : early c.held c.op ≡ None
 
 -- ---- opening
 -- a new pass of this number, which has seen nothing
@@ -135,8 +111,8 @@ AreNew s ps = (i : ℕ) (d : Pass) → i < length ps → IsNew s i (slice_index_
 
 -- a table and its passes, for these runqueues and tasks
 pub record IsOpened (s : Shared) (ps : List Pass) (machine : Machine) (n : ℕ) : Type 0 where
-  pub setup : (terms s).setup ≡ machine
-  pub passes : (terms s).passes ≡ n
+  pub setup : s.terms.setup ≡ machine
+  pub passes : s.terms.passes ≡ n
   pub count : length ps ≡ n
   pub of : All (IsPassOf s) ps
   pub new : AreNew s ps
@@ -149,12 +125,9 @@ pub record IsSame (s : Shared) (p q : Pass) : Type 0 where
   pub seen : seen q ≡ seen p
   pub marks : marks q ≡ marks p
 
--- q has seen what p has, and of p no other events; and the same of the marks
-abbrev pub IsBehind : Pass → Pass → Type 0
-IsBehind p q = GoesOn pass_of (number_of p) (seen p) (seen q) []
-
-abbrev pub IsMarkedBehind : Pass → Pass → Type 0
-IsMarkedBehind p q = GoesOn marker_of (number_of p) (marks p) (marks q) []
+-- q knows what p does, and nothing more of p's own: of the events that are seen, or of the marks
+abbrev pub IsBehind : {X : Type 0} → (X → ℕ) → (Pass → List X) → Pass → Pass → Type 0
+IsBehind by known p q = GoesOn by (number_of p) (known p) (known q) []
 
 -- ---- closing
 -- one reading for each runqueue, of the book after the history
@@ -165,16 +138,16 @@ pub record AreReadings (T : Terms) (h : List Event) (readings : List Reading) : 
 -- the whole history and all marks of a table, from its passes and its readings at the end
 pub record IsClosed (s : Shared) (ps : List Pass) (last : List Reading) : Type 0 where
   pub history : List Event
-  pub is_history : IsHistory (terms s) history
+  pub is_history : IsHistory s.terms history
   pub marks : List Mark
-  pub lawful : AreLawful (terms s).passes marks
+  pub lawful : AreLawful s.terms.passes marks
   pub knows : All (λ p. Knows (share_of p) history marks) ps
-  pub readings : AreReadings (terms s) history last
-  pub whole : (i : ℕ) → i < (terms s).passes → Any (λ p. number_of p ≡ i) ps
+  pub readings : AreReadings s.terms history last
+  pub whole : (i : ℕ) → i < s.terms.passes → Any (λ p. number_of p ≡ i) ps
 
 abbrev pub IsReason : Shared → List Pass → CloseWhy → Type 0
-IsReason s ps (Missing n) = (length ps < (terms s).passes) × (n ≡ (terms s).passes - length ps)
-IsReason s ps NoMemory = (terms s).passes ≤ length ps
+IsReason s ps (Missing n) = (length ps < s.terms.passes) × (n ≡ s.terms.passes - length ps)
+IsReason s ps NoMemory = s.terms.passes ≤ length ps
 
 -- all is given back, with the reason
 pub record IsRefusal (s : Shared) (ps : List Pass) (f : CloseFault) : Type 0 where
@@ -202,8 +175,8 @@ pub record IsAnswered (s : Shared) (p : Pass) (t : ℕ) (op : Op) (q : Pass) (re
 -- `start` took the task
 pub record IsTaken (s : Shared) (p : Pass) (t : ℕ) (asked : Op) (c : Claim) : Type 0 where
   pub of : IsClaimOf s c
-  pub task : claim_task c ≡ t
-  pub op : claim_op c ≡ asked
+  pub task : c.task ≡ t
+  pub op : c.op ≡ asked
   pub learns : Learns (share_of p) (claim_share c) [] (Taken (number_of p) t ∷ [])
 
 -- the task word of t was seen with its claim bit, and another pass has t
@@ -228,7 +201,7 @@ IsSighting T i t before after known (Changed loaded found) = IsChangedSighting T
 pub record IsBusy (s : Shared) (p : Pass) (t : ℕ) (q : Pass) (sighting : Sighting) : Type 0 where
   pub of : IsPassOf s q
   pub learns : Learns (share_of p) (share_of q) [] []
-  pub sight : IsSighting (terms s) (number_of p) t (seen p) (seen q) (marks q) sighting
+  pub sight : IsSighting s.terms (number_of p) t (seen p) (seen q) (marks q) sighting
 
 abbrev pub IsStarted : Shared → Pass → ℕ → Op → Started → Type 0
 IsStarted s p t op (Answered q reply) = IsAnswered s p t op q reply
@@ -243,31 +216,30 @@ started_accesses (Busy q sighting) = accesses q
 
 -- whether the op of a claim changes a sum of its runqueue
 abbrev pub claim_changes_sum : Claim → Bool
-claim_changes_sum c = changes_sum (claim_record c) (claim_op c)
+claim_changes_sum c = changes_sum c.held c.op
 
 -- `finish` made the call on the record that the claim names; with no try it makes only one that changes no sum
 pub record IsDone (s : Shared) (c : Claim) (tries : ℕ) (q : Pass) (reply : Reply) : Type 0 where
   pub of : IsPassOf s q
-  pub learns : Learns (claim_share c) (share_of q) (Call (claim_number c) (claim_task c) (claim_op c) reply ∷ []) (Given (claim_number c) (claim_task c) ∷ [])
-  pub before : WasBefore (terms s) (claim_task c) (claim_record c) (Call (claim_number c) (claim_task c) (claim_op c) reply) (seen q)
+  pub learns : Learns (claim_share c) (share_of q) (Call (claim_share c).number c.task c.op reply ∷ []) (Given (claim_share c).number c.task ∷ [])
+  pub before : WasBefore s.terms c.task c.held (Call (claim_share c).number c.task c.op reply) (seen q)
   pub claimed : is_under_claim reply ≡ true
   pub tried : claim_changes_sum c ≡ true → 1 ≤ tries
 
 -- the claim is as it was, and knows more of the history
 pub record IsStill (s : Shared) (c d : Claim) : Type 0 where
   pub of : IsClaimOf s d
-  pub number : claim_number d ≡ claim_number c
-  pub task : claim_task d ≡ claim_task c
-  pub op : claim_op d ≡ claim_op c
-  pub held : claim_record d ≡ claim_record c
-  pub marks : claim_marks d ≡ claim_marks c
+  pub task : d.task ≡ c.task
+  pub op : d.op ≡ c.op
+  pub held : d.held ≡ c.held
+  pub marks : (claim_share d).marks ≡ (claim_share c).marks
 
 -- `finish` gave the claim back, after so many tries, each lost to a change of the runqueue's reading
 pub record IsLost (s : Shared) (c : Claim) (tries : ℕ) (d : Claim) : Type 0 where
   pub still : IsStill s c d
   pub learns : Learns (claim_share c) (claim_share d) [] []
   pub sum : claim_changes_sum c ≡ true
-  pub changes : HasChanged (terms s).setup (claim_queue c) (claim_seen c) (claim_seen d) tries
+  pub changes : HasChanged s.terms.setup (claim_queue c) (claim_share c).seen (claim_share d).seen tries
 
 abbrev pub IsFinished : Shared → Claim → ℕ → Finished → Type 0
 IsFinished s c tries (Done q reply) = IsDone s c tries q reply
@@ -281,4 +253,4 @@ IsWithin c tries (Held d) = claim_accesses d ≡ claim_accesses c ++ lost_tries 
 -- `cancel` gave the task back
 pub record IsCancelled (s : Shared) (c : Claim) (q : Pass) : Type 0 where
   pub of : IsPassOf s q
-  pub learns : Learns (claim_share c) (share_of q) [] (Given (claim_number c) (claim_task c) ∷ [])
+  pub learns : Learns (claim_share c) (share_of q) [] (Given (claim_share c).number c.task ∷ [])

@@ -2,7 +2,7 @@
 ghost use Rattle.std.specs.Prelude.{◌≡◌, ◌<◌, ◌+◌, ◌↔◌, [], IsTrue, IfOk, OnOk, IsErrOf, length};
 ghost use Rattle.grub_book.specs.Machine.{IsMachine};
 ghost use Rattle.grub_book.specs.Op.{IsOp};
-ghost use Rattle.grub_table.specs.Calls.{terms, number_of, AreNew, IsOpened};
+ghost use Rattle.grub_table.specs.Calls.{number_of, AreNew, IsOpened};
 ghost use Rattle.grub_table.specs.inside.FirstWords.{AreOpeningWords};
 ghost use Rattle.grub_table.specs.inside.Rule.{AreLimited};
 ghost use Rattle.grub_table.specs.inside.Trails.{first_trail};
@@ -76,8 +76,8 @@ fn dealt(
     mut seat: Seat<Note, Trail>,
 ) -> Result<Vec<Pass>, AllocError>
     requires of { seat.table_id ≡ shared.now.table.inner.shared.table_id }
-    requires whole { seat.me ≡ (first_trail (terms shared.now), []) }
-    ensures count { IfOk result (λ passes. length passes.items ≡ (terms shared.now).passes) }
+    requires whole { seat.me ≡ (first_trail shared.now.terms, []) }
+    ensures count { IfOk result (λ passes. length passes.items ≡ shared.now.terms.passes) }
     ensures new { IfOk result (λ passes. AreNew shared.now passes.items) }
 {
     let mut passes = Vec::new(alloc);
@@ -132,21 +132,21 @@ impl Shared {
 
     /// Whether there is a task of this number.
     pub fn has_task(&self, t: u32) -> bool
-        ensures { IsTrue result ↔ (t < length (terms self.now).setup.tasks) }
+        ensures { IsTrue result ↔ (t < length self.now.terms.setup.tasks) }
     {
         self.terms.setup.has_task(t)
     }
 
     /// Whether there is a runqueue of this number.
     pub fn has_queue(&self, r: u32) -> bool
-        ensures { IsTrue result ↔ (r < length (terms self.now).setup.queues) }
+        ensures { IsTrue result ↔ (r < length self.now.terms.setup.queues) }
     {
         self.terms.setup.has_queue(r)
     }
 
     /// Whether the op's runqueue is there, and its numbers are within the limits.
     pub fn fits(&self, op: &Op) -> bool
-        ensures { IsTrue result ↔ IsOp (terms self.now).setup op.now }
+        ensures { IsTrue result ↔ IsOp self.now.terms.setup op.now }
     {
         op.fits(&self.terms.setup)
     }

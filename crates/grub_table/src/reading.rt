@@ -4,7 +4,9 @@ ghost use Rattle.grub_book.specs.declared.event.Event.TheVariants.{Look};
 ghost use Rattle.grub_words.specs.Words.{queue_word, QueueFits};
 ghost use Rattle.grub_table.specs.declared.view.Access.TheVariants.{Load};
 ghost use Rattle.grub_table.specs.inside.Between.{IsSeatOf, Tells};
-ghost use Rattle.grub_table.specs.Calls.{terms, number_of, share_of, claim_share, seen, marks, accesses, claim_accesses, claim_number, claim_seen, IsPassOf, IsClaimOf, IsStill, IsSame, IsBehind, IsMarkedBehind, made_on};
+ghost use Rattle.grub_book.specs.History.{pass_of};
+ghost use Rattle.grub_table.specs.Marks.{marker_of};
+ghost use Rattle.grub_table.specs.Calls.{number_of, share_of, claim_share, seen, marks, accesses, claim_accesses, IsPassOf, IsClaimOf, IsStill, IsSame, IsBehind, made_on};
 ghost use Rattle.grub_table.specs.Layout.{queue_word_at};
 ghost use Rattle.grub_table.specs.inside.Tellings.{Of, OfQueue, SawReading};
 ghost use Rattle.grub_table.specs.Accesses.{meeting_loads};
@@ -27,7 +29,7 @@ impl Shared {
     /// The bandwidths of a runqueue, in 1/2^20: running_bw of its active tasks, and this_bw of all its tasks. One load.
     pub fn read(&self, pass: &mut Pass, r: u32) -> Reading
         requires of { IsPassOf self.now pass.old }
-        requires queue { r < length (terms self.now).setup.queues }
+        requires queue { r < length self.now.terms.setup.queues }
         ensures of { IsPassOf self.now pass.new }
         ensures learns { Learns (share_of pass.old) (share_of pass.new) (Look (number_of pass.old) r result ∷ []) [] }
         ensures last { EndsWith (seen pass.new) (Look (number_of pass.old) r result) }
@@ -40,10 +42,10 @@ impl Shared {
     /// A reading, as in `read`, by a pass that holds a claim.
     pub fn read_held(&self, claim: &mut Claim, r: u32) -> Reading
         requires of { IsClaimOf self.now claim.old }
-        requires queue { r < length (terms self.now).setup.queues }
+        requires queue { r < length self.now.terms.setup.queues }
         ensures still { IsStill self.now claim.old claim.new }
-        ensures learns { Learns (claim_share claim.old) (claim_share claim.new) (Look (claim_number claim.old) r result ∷ []) [] }
-        ensures last { EndsWith (claim_seen claim.new) (Look (claim_number claim.old) r result) }
+        ensures learns { Learns (claim_share claim.old) (claim_share claim.new) (Look (claim_share claim.old).number r result ∷ []) [] }
+        ensures last { EndsWith (claim_share claim.new).seen (Look (claim_share claim.old).number r result) }
         ensures made { claim_accesses claim.new ≡ claim_accesses claim.old ++ Load (queue_word_at r) ∷ [] }
     {
         self.look(&mut claim.seated, r)
@@ -55,8 +57,8 @@ impl Shared {
         requires second { IsPassOf self.now second }
         ensures first { IsSame self.now first result.0 }
         ensures second { IsSame self.now second result.1 }
-        ensures met { IsBehind result.0 result.1 ⊎ IsBehind result.1 result.0 }
-        ensures marks { IsMarkedBehind result.0 result.1 ⊎ IsMarkedBehind result.1 result.0 }
+        ensures met { IsBehind pass_of seen result.0 result.1 ⊎ IsBehind pass_of seen result.1 result.0 }
+        ensures marks { IsBehind marker_of marks result.0 result.1 ⊎ IsBehind marker_of marks result.1 result.0 }
         ensures made { (accesses result.0 ≡ accesses first ++ meeting_loads) × (accesses result.1 ≡ accesses second ++ meeting_loads) }
     {
         let Seated {
@@ -88,7 +90,7 @@ impl Shared {
 
     fn look(&self, seated: &mut Seated, r: u32) -> Reading
         requires seat { IsSeatOf self.now seated.old }
-        requires queue { r < length (terms self.now).setup.queues }
+        requires queue { r < length self.now.terms.setup.queues }
         ensures told { Tells self.now (SawReading r result) seated.old seated.new }
         ensures made { made_on seated.new ≡ made_on seated.old ++ Load (queue_word_at r) ∷ [] }
     {

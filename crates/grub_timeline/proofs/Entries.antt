@@ -1,6 +1,5 @@
 -- One more entry of a player.
 use Rattle.std.proofs.Common.{◌≡◌, ℕ, ◌+◌, ◌<◌, ◌≤◌, List, [], ◌∷◌, ◌++◌, Option, Some, None, length, refl, sym, ap, ◌∙◌, subst, arith, append_assoc}
-use Rattle.std.specs.Prelude.{option_map}
 use Rattle.std.specs.FinMap as map
 use Rattle.std.proofs.lemmas.Grind.{common_steps}
 use Rattle.std.proofs.lemmas.List.Elements.{All-push}
@@ -75,7 +74,7 @@ few_armed s entries timers kept = few_timers (length s.tasks) timers (λ t past.
     none : (t : ℕ) → length s.tasks ≤ t → (o : Option (ℕ × ℕ)) → map.get timers t ≡ o → map.get timers t ≡ None
     none t past None is = is
     none t past (Some p) is =
-        let low = kept.tasks t _ (sym (kept.armed_are t) ∙ ap (λ (o : Option (ℕ × ℕ)). option_map (λ (p : ℕ × ℕ). record { z = p.0; ticket = p.1 }) o) is) in
+        let low = kept.tasks t _ (sym (kept.armed_are t) ∙ is) in
         absurd (omega (arith, past, low))
 
 pub room_for_one : (s : Machine) (entries : List Entry) (w : WheelState) → IsKept s entries w.timers → length s.tasks + 1 ≤ places_of w → (now : WheelState) → now ≡ w → 1 ≤ now.spare

@@ -8,7 +8,6 @@ use Rattle.std.proofs.lemmas.List.Sorted.{IsNonDecreasingBy-push, IsNonDecreasin
 use Rattle.grub_book.specs.History.{StartsWith}
 use Rattle.grub_book.specs.declared.op.Op.{Op}
 use Rattle.grub_book.specs.declared.op.Op.TheVariants as ops
-use Rattle.grub_book.specs.declared.reply.Reply.{Reply}
 use Rattle.grub_book.specs.declared.reply.Reply.TheVariants as replies
 use Rattle.grub_plan.specs.declared.line.Act.{Act}
 use Rattle.grub_plan.specs.declared.line.Act.TheVariants as acts
@@ -18,10 +17,12 @@ use Rattle.grub_plan.specs.declared.entry.Ask.TheVariants.{Call, Read}
 use Rattle.grub_plan.specs.declared.entry.Answer.{Answer}
 use Rattle.grub_plan.specs.declared.entry.Answer.TheVariants.{Replied}
 use Rattle.grub_plan.specs.declared.entry.Entry.{Entry}
-use Rattle.grub_asks.specs.Asked.{AsksLine, AsksTimer, Follows, JoinsAfter, Timer, ask_of, entry}
+use Rattle.grub_asks.specs.Asked.{AsksLine, AsksTimer, Follows, JoinsAfter, ask_of, entry}
 use Rattle.grub_asks.specs.Keeping.{WaitsRightly}
 use Rattle.grub_asks.specs.inside.Keeping.{IsLineOp}
-use Rattle.grub_asks.specs.Timers.{Alarm, IsNotAfter, NoneDue, Touch, alarm_after, alarm_at, armed, arms, disarms, leaves, touch, touch_of_answer, touch_of_call, touch_of_reply}
+use Rattle.grub_wheel.specs.declared.timer.Timer.{Timer}
+use Rattle.grub_wheel.specs.TimerBag.{IsNotAfter}
+use Rattle.grub_asks.specs.Timers.{Alarm, NoneDue, Touch, alarm_after, armed, arms, disarms, leaves, touch, touch_of_call}
 use Rattle.grub_asks.proofs.Kept.{armed-more}
 use Rattle.grub_asks.proofs.Starts.{follows_start, joins_start}
 
@@ -29,7 +30,7 @@ use Rattle.grub_asks.proofs.Starts.{follows_start, joins_start}
 pub record Rises (m : ℕ) (es : List Entry) : Type 0 where
   pub up : IsNonDecreasingBy (λ (e : Entry). e.m) es
   pub most : All (λ (e : Entry). e.m ≤ m) es
-  pub ahead : (t : ℕ) (a : Alarm) → armed es t ≡ Some a → m ≤ a.z
+  pub ahead : (t : ℕ) (a : Alarm) → armed es t ≡ Some a → m ≤ a.0
 
 pub rises_nothing : Rises 0 []
 rises_nothing = record {
@@ -39,7 +40,7 @@ rises_nothing = record {
 }
 
 -- one more entry, at a moment that is no earlier
-rises_more : (m n : ℕ) (es : List Entry) (e : Entry) → Rises m es → m ≤ n → e.m ≡ n → ((t : ℕ) (a : Alarm) → armed (es ++ e ∷ []) t ≡ Some a → n ≤ a.z) → Rises n (es ++ e ∷ [])
+rises_more : (m n : ℕ) (es : List Entry) (e : Entry) → Rises m es → m ≤ n → e.m ≡ n → ((t : ℕ) (a : Alarm) → armed (es ++ e ∷ []) t ≡ Some a → n ≤ a.0) → Rises n (es ++ e ∷ [])
 rises_more m n es e was low at ahead = record {
   up = IsNonDecreasingBy-push (λ (k : Entry). k.m) es e was.up (λ d some. let last = was.most (length es - 1) d (omega (arith, some)) in omega (arith, last, low, at));
   most = All-push (λ (k : Entry). k.m ≤ n) es e (All-weaker (λ (k : Entry). k.m ≤ m) (λ (k : Entry). k.m ≤ n) (λ k h. omega (arith, h, low)) es was.most) (omega (arith, at));
@@ -47,24 +48,24 @@ rises_more m n es e was low at ahead = record {
 }
 
 -- ---- timers
-not_before : (z t k z' t' k' : ℕ) → IsNotAfter z t k z' t' k' → z ≤ z'
-not_before z t k z' t' k' a = ⊎_elim (λ (h : z < z'). omega arith) (λ (h : (z ≡ z') × ((t < t') ⊎ ((t ≡ t') × (k ≤ k')))). let same = h.0 in omega (arith, same)) a
+not_before : (x y : Timer) → IsNotAfter x y → x.z ≤ y.z
+not_before x y a = ⊎_elim (λ (h : x.z < y.z). omega arith) (λ (h : (x.z ≡ y.z) × ((x.t < y.t) ⊎ ((x.t ≡ y.t) × (x.ticket ≤ y.ticket)))). let same = h.0 in omega (arith, same)) a
 
 timer_rises : (m n : ℕ) (es after : List Entry) (x : Timer) → Rises m es → AsksTimer n es x after → Rises x.z after
 timer_rises m n es after x was f =
-    subst (Rises x.z) (sym f.goes_on.list) (rises_more m x.z es e was (was.ahead x.t (alarm_at x.z x.ticket) f.next.armed) refl
+    subst (Rises x.z) (sym f.goes_on.list) (rises_more m x.z es e was (was.ahead x.t (x.z, x.ticket) f.next.armed) refl
     (λ t a at. go t a (nat_eq t x.t) (sym (armed-more t es e) ∙ at)))
   where
     e : Entry
     e = entry x.z (Call x.t (ops.Timer x.ticket x.z)) f.goes_on.answer
 
-    later : (t : ℕ) (a : Alarm) → armed es t ≡ Some a → (b : Bool) → nat_lt n a.z ≡ b → x.z ≤ a.z
-    later t a at true is = let due = f.next.due in let past = ltb-true n a.z is in omega (arith, due, past)
-    later t a at false is = not_before x.z x.t x.ticket a.z t a.ticket (f.next.least a.z t a.ticket at (ltb-false n a.z is))
+    later : (t : ℕ) (a : Alarm) → armed es t ≡ Some a → (b : Bool) → nat_lt n a.0 ≡ b → x.z ≤ a.0
+    later t a at true is = let due = f.next.due in let past = ltb-true n a.0 is in omega (arith, due, past)
+    later t a at false is = let y : Timer = record { z = a.0; t = t; ticket = a.1 } in not_before x y (f.next.least y at (ltb-false n a.0 is))
 
-    go : (t : ℕ) (a : Alarm) (b : Bool) → alarm_after (cond b disarms leaves) (armed es t) ≡ Some a → x.z ≤ a.z
+    go : (t : ℕ) (a : Alarm) (b : Bool) → alarm_after (cond b disarms leaves) (armed es t) ≡ Some a → x.z ≤ a.0
     go t a true at = absurd (cc)
-    go t a false at = later t a at (nat_lt n a.z) refl
+    go t a false at = later t a at (nat_lt n a.0) refl
 
 due_rises : (m n : ℕ) (xs : List Timer) (es after : List Entry) → m ≤ n → Rises m es → FoldsTo (AsksTimer n) es xs after → (k : ℕ) × (k ≤ n) × Rises k after
 due_rises m n [] es after low was f = (m, low, subst (Rises m) f was)
@@ -74,7 +75,7 @@ raised : (k n : ℕ) (es : List Entry) → k ≤ n → Rises k es → NoneDue (a
 raised k n es low was none = record {
   up = was.up;
   most = All-weaker (λ (e : Entry). e.m ≤ k) (λ (e : Entry). e.m ≤ n) (λ e h. omega (arith, h, low)) es was.most;
-  ahead = λ t a at. let past = none a.z t a.ticket at in omega (arith, past);
+  ahead = λ t a at. let past = none (record { z = a.0; t = t; ticket = a.1 }) at in omega (arith, past);
 }
 
 -- ---- asks of a line
@@ -86,44 +87,22 @@ abbrev pub AnswersRightly : Ask → Answer → Type 0
 AnswersRightly (Call t op) answer = WaitsRightly op answer
 AnswersRightly Read answer = Unit {0}
 
-abbrev IsNo : Touch → Type 0
-IsNo leaves = Unit {0}
-IsNo disarms = Unit {0}
-IsNo (arms a) = ⊥
-
-no_reply : (reply : Reply) → IsNo (touch_of_reply reply)
-no_reply (replies.Joined q d) = tt
-no_reply reply = tt
-
-no_answer : (answer : Answer) → IsNo (touch_of_answer touch_of_reply answer)
-no_answer (Replied reply) = no_reply reply
-no_answer answer = tt
-
 -- what an ask of a line at m arms is later than m
 abbrev IsLate : ℕ → Touch → Type 0
 IsLate m leaves = Unit {0}
 IsLate m disarms = Unit {0}
-IsLate m (arms a) = m < a.z
-
-late_none : (m : ℕ) (t : Touch) → IsNo t → IsLate m t
-late_none m leaves is = tt
-late_none m disarms is = tt
-late_none m (arms a) is = absurd is
+IsLate m (arms a) = m < a.0
 
 late_block : (m r : ℕ) (answer : Answer) → WaitsRightly (ops.Block r m) answer → IsLate m (touch_of_call (ops.Block r m) answer)
 late_block m r (Replied (replies.Waiting ticket z)) waits = waits ticket z refl
-late_block m r (Replied reply) waits = late_none m (touch_of_reply reply) (no_reply reply)
+late_block m r (Replied (replies.Joined q d)) waits = tt
 late_block m r answer waits = tt
 
 late_call : (m : ℕ) (op : Op) (answer : Answer) → IsLineOp m op → WaitsRightly op answer → IsLate m (touch_of_call op answer)
 late_call m (ops.Block r k) answer at waits = subst (λ n. IsLate n (touch_of_call (ops.Block r k) answer)) at (late_block k r answer waits)
 late_call m (ops.Timer ticket k) answer at waits = absurd at
-late_call m (ops.Join r k) answer at waits = late_none m (touch_of_answer touch_of_reply answer) (no_answer answer)
-late_call m (ops.Wake r k) answer at waits = late_none m (touch_of_answer touch_of_reply answer) (no_answer answer)
-late_call m ops.Leave answer at waits = late_none m (touch_of_answer touch_of_reply answer) (no_answer answer)
-late_call m ops.Exit answer at waits = late_none m (touch_of_answer touch_of_reply answer) (no_answer answer)
-late_call m (ops.Charge r dt) answer at waits = late_none m (touch_of_answer touch_of_reply answer) (no_answer answer)
-late_call m (ops.Retune q p) answer at waits = late_none m (touch_of_answer touch_of_reply answer) (no_answer answer)
+late_call m op (Replied (replies.Joined q d)) at waits = tt
+late_call m op answer at waits = tt
 
 late_touch : (m t : ℕ) (ask : Ask) (answer : Answer) → IsLineAsk m ask → AnswersRightly ask answer → IsLate m (touch t ask answer)
 late_touch m t (Call u op) answer at right = go (nat_eq t u)
@@ -133,10 +112,10 @@ late_touch m t (Call u op) answer at right = go (nat_eq t u)
     go false = tt
 late_touch m t Read answer at right = tt
 
-after_touch : (m : ℕ) (t : Touch) (old : Option Alarm) (a : Alarm) → IsLate m t → ((b : Alarm) → old ≡ Some b → m ≤ b.z) → alarm_after t old ≡ Some a → m ≤ a.z
+after_touch : (m : ℕ) (t : Touch) (old : Option Alarm) (a : Alarm) → IsLate m t → ((b : Alarm) → old ≡ Some b → m ≤ b.0) → alarm_after t old ≡ Some a → m ≤ a.0
 after_touch m leaves old a late was at = was a at
 after_touch m disarms old a late was at = absurd (cc)
-after_touch m (arms b) old a late was at = let same : b.z ≡ a.z = ap (λ o. (unwrap_or o b).z) at in omega (arith, late, same)
+after_touch m (arms b) old a late was at = let same : b.0 ≡ a.0 = ap (λ o. (unwrap_or o b).0) at in omega (arith, late, same)
 
 ask_rises : (m : ℕ) (ask : Ask) (answer : Answer) (es after : List Entry) → IsLineAsk m ask → AnswersRightly ask answer → Rises m es → after ≡ es ++ entry m ask answer ∷ [] → Rises m after
 ask_rises m ask answer es after at right was list =

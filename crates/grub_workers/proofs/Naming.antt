@@ -15,8 +15,9 @@ use Rattle.grub_plan.specs.declared.entry.Ask.TheVariants.{Call, Read}
 use Rattle.grub_plan.specs.declared.entry.Answer.{Answer}
 use Rattle.grub_plan.specs.declared.entry.Answer.TheVariants.{Replied}
 use Rattle.grub_plan.specs.declared.entry.Entry.{Entry}
-use Rattle.grub_asks.specs.Asked.{Asked, AsksLine, AsksTimer, Follows, JoinsAfter, Timer, ask_of, entry}
-use Rattle.grub_asks.specs.Timers.{Alarm, alarm_after, alarm_at, armed_from, leaves, touch, touch_of_call}
+use Rattle.grub_asks.specs.Asked.{Asked, AsksLine, AsksTimer, Follows, JoinsAfter, ask_of, entry}
+use Rattle.grub_wheel.specs.declared.timer.Timer.{Timer}
+use Rattle.grub_asks.specs.Timers.{Alarm, alarm_after, armed_from, leaves, touch, touch_of_call}
 use Rattle.grub_workers.specs.Apart.{Names, task_of}
 
 -- the op names no runqueue, or one for which Q holds
@@ -60,7 +61,7 @@ module _ (r : ℕ) (N : ℕ → Type 0) where
   timers_own : (m : ℕ) (xs : List Timer) (before after : List Entry) → FoldsTo (AsksTimer m) before xs after → AreOwn before → AreOwn after
   timers_own m [] before after f own = subst AreOwn f own
   timers_own m (x ∷ xs) before after f own =
-      let there : N x.t = armed_own x.t before None (alarm_at x.z x.ticket) own (λ b none. absurd (cc)) f.1.next.armed in
+      let there : N x.t = armed_own x.t before None (x.z, x.ticket) own (λ b none. absurd (cc)) f.1.next.armed in
       timers_own m xs f.0 after f.2 (own_more before f.0 x.z (Call x.t (ops.Timer x.ticket x.z)) f.1.goes_on.answer f.1.goes_on.list (there, tt) own)
 
   act_own : (m : ℕ) (act : Act ℕ ℕ) → ((t : ℕ) → task_of act ≡ Some t → N t) → IsOwnAsk r N (ask_of r m act)

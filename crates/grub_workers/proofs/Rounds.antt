@@ -22,7 +22,7 @@ use Rattle.grub_table.specs.Layout.{shown}
 use Rattle.grub_table.specs.Histories.{IsHistory, EndsWith, record_in}
 use Rattle.grub_table.specs.Knowing.{GoesOn, Learns}
 use Rattle.grub_table.proofs.Growths.{learns_none, learns_twice}
-use Rattle.grub_table.specs.Calls.{IsPassOf, IsTaken, IsBusy, IsDone, IsLost, IsCancelled, IsSighting, IsClaimedSighting, number_of, share_of, claim_number, claim_share, claim_task, claim_op, claim_record, claim_queue, claim_changes_sum, seen, marks, claim_seen, marks_of_call, terms}
+use Rattle.grub_table.specs.Calls.{IsPassOf, IsTaken, IsBusy, IsDone, IsLost, IsCancelled, IsSighting, IsClaimedSighting, number_of, share_of, claim_share, claim_queue, claim_changes_sum, seen, marks, marks_of_call}
 use Rattle.grub_plan.specs.declared.entry.Ask.TheVariants.{Call}
 use Rattle.grub_plan.specs.declared.entry.Answer.TheVariants.{Replied, Lost}
 use Rattle.grub_workers.specs.inside.Evidence.{ShowsHolder}
@@ -59,10 +59,10 @@ module _ (s : Shared) (p : Pass) (t : ℕ) (asked : Op) where
   pub busy_round : (round : ℕ) (now q : Pass) (sighting : Sighting) → IsFree s round p t now → IsBusy s now t q sighting → IsFree s (round + 1) p t q
   busy_round round now q sighting a b =
       let g = subst (λ n. GoesOn pass_of n (seen now) (seen q) []) a.learns.number b.learns.seen in
-      let sight = subst (λ n. IsSighting (terms s) n t (seen now) (seen q) (marks q) sighting) a.learns.number b.sight in record {
+      let sight = subst (λ n. IsSighting s.terms n t (seen now) (seen q) (marks q) sighting) a.learns.number b.sight in record {
         of = b.of;
         learns = learns_twice (share_of p) (share_of now) (share_of q) [] [] [] [] a.learns b.learns;
-        busy = λ _. sight_shows (terms s) (number_of p) t (seen now) (seen q) (marks q) sighting b.of.history g sight;
+        busy = λ _. sight_shows s.terms (number_of p) t (seen now) (seen q) (marks q) sighting b.of.history g sight;
       }
 
   -- ---- a round that took the task
@@ -77,7 +77,7 @@ module _ (s : Shared) (p : Pass) (t : ℕ) (asked : Op) where
   -- ---- a round whose tries were lost
   pub lost_round : (tries : ℕ) (c d : Claim) → IsHolding s p t asked c → IsLost s c tries d → HasLost s tries p t asked d
   lost_round tries c d a b =
-      let g = subst (λ n. GoesOn pass_of n (claim_seen c) (claim_seen d) []) a.learns.number b.learns.seen in
+      let g = subst (λ n. GoesOn pass_of n (claim_share c).seen (claim_share d).seen []) a.learns.number b.learns.seen in
       let same : claim_changes_sum c ≡ claim_changes_sum d = ap (λ (k : Record × Op). changes_sum k.0 k.1) (λ j. (sym b.still.held j, sym b.still.op j)) in
       let queue : claim_queue c ≡ claim_queue d = ap (λ (k : Record × Op). runqueue_of k.0.place k.1) (λ j. (sym b.still.held j, sym b.still.op j)) in record {
         holding = record {
@@ -87,9 +87,9 @@ module _ (s : Shared) (p : Pass) (t : ℕ) (asked : Op) where
           learns = learns_twice (share_of p) (claim_share c) (claim_share d) [] [] (Taken (number_of p) t ∷ []) [] a.learns b.learns;
         };
         sum = sym same ∙ b.sum;
-        earlier = claim_seen c;
-        none_own = g.own ∙ append-nil (calls_of (number_of p) (claim_seen c));
-        changes = subst (λ r. HasChanged (machine s) r (claim_seen c) (claim_seen d) tries) queue b.changes;
+        earlier = (claim_share c).seen;
+        none_own = g.own ∙ append-nil (calls_of (number_of p) (claim_share c).seen);
+        changes = subst (λ r. HasChanged (machine s) r (claim_share c).seen (claim_share d).seen tries) queue b.changes;
       }
 
   -- ---- a round that made the call
@@ -107,7 +107,7 @@ module _ (s : Shared) (p : Pass) (t : ℕ) (asked : Op) where
   pub done_waits : (tried : ℕ) (c : Claim) (q : Pass) (reply : Reply) → IsHolding s p t asked c → IsDone s c tried q reply → WaitsRightly asked (Replied reply)
   done_waits tried c q reply a b ticket z is =
       let same : reply ≡ replies.Waiting ticket z = cc in
-      subst (IsBlockBefore z) a.op (waits_last (terms s) (claim_number c) (claim_task c) (claim_op c) reply (seen q) b.of.history (b.before.0, b.before.1) ticket z same)
+      subst (IsBlockBefore z) a.op (waits_last s.terms (claim_share c).number c.task c.op reply (seen q) b.of.history (b.before.0, b.before.1) ticket z same)
 
   -- ---- after the last round
 
@@ -115,19 +115,19 @@ module _ (s : Shared) (p : Pass) (t : ℕ) (asked : Op) where
   gave_up_lost tries c q a b =
       let h = a.holding in
       let gave = subst (λ (k : ℕ × ℕ). Learns (claim_share c) (share_of q) [] (Given k.0 k.1 ∷ [])) (λ j. (h.learns.number j, h.task j)) b.learns in
-      let found : record_at (book_of (machine s) (claim_seen c)) t ≡ claim_record c = ap (record_in (terms s) (claim_seen c)) (sym h.task) ∙ h.of.held in
-      let asks : (claim_op c) ≡ asked = h.op in record {
+      let found : record_at (book_of (machine s) (claim_share c).seen) t ≡ c.held = ap (record_in s.terms (claim_share c).seen) (sym h.task) ∙ h.of.held in
+      let asks : c.op ≡ asked = h.op in record {
         of = b.of;
         learns = learns_twice (share_of p) (claim_share c) (share_of q) [] [] (Taken (number_of p) t ∷ []) (Given (number_of p) t ∷ []) h.learns gave;
         backed = record {
-          point = claim_seen c;
+          point = (claim_share c).seen;
           in_history = b.learns.seen.starts;
-          x = claim_record c;
+          x = c.held;
           found = found;
-          unrefused = subst (λ o. refused (claim_record c).place (claim_record c).count o ≡ None) asks h.of.unrefused;
-          would_change = subst (λ o. changes_sum (claim_record c) o ≡ true) asks a.sum;
+          unrefused = subst (λ o. refused c.held.place c.held.count o ≡ None) asks h.of.unrefused;
+          would_change = subst (λ o. changes_sum c.held o ≡ true) asks a.sum;
           earlier = a.earlier;
           none_own = a.none_own;
-          changes = subst (λ o. HasChanged (machine s) (runqueue_of (claim_record c).place o) a.earlier (claim_seen c) tries) asks a.changes;
+          changes = subst (λ o. HasChanged (machine s) (runqueue_of c.held.place o) a.earlier (claim_share c).seen tries) asks a.changes;
         };
       }

@@ -19,7 +19,7 @@ use Rattle.grub_table.specs.declared.view.Mark.TheVariants.{Taken, Given}
 use Rattle.grub_table.specs.declared.pass.Pass.{Pass}
 use Rattle.grub_table.specs.declared.pass.Shared.{Shared}
 use Rattle.grub_table.specs.Marks.{AreLawful, AreLawfulFrom, Holders, after_mark, nobody_holds, marker_of}
-use Rattle.grub_table.specs.Calls.{IsClosed, IsPassOf, number_of, marks, seen, terms}
+use Rattle.grub_table.specs.Calls.{IsClosed, IsPassOf, number_of, marks, seen}
 use Rattle.grub_plan.specs.declared.entry.Ask.{Ask}
 use Rattle.grub_plan.specs.declared.entry.Ask.TheVariants.{Call, Read}
 use Rattle.grub_plan.specs.declared.entry.Answer.{Answer}
@@ -80,7 +80,7 @@ module _ (s : Shared) (tries : ℕ) (scripts : List (List Line)) (ps : List Pass
   pub all_of : All (IsPassOf s) ps
   all_of = λ i d low. (all.each i d (some_of rs i (omega (arith, all.reports_len, all.passes_len, low))) (omega (arith, all.passes_len, low))).told.of
 
-  module _ (last : List Reading) (closed : IsClosed s ps last) (many : (terms s).passes ≡ length scripts) where
+  module _ (last : List Reading) (closed : IsClosed s ps last) (many : s.terms.passes ≡ length scripts) where
     calls_at : (i : ℕ) (r : Report) → i < length scripts → calls_of i closed.history ≡ events_told i (entries_of (get_or rs i r))
     calls_at i r low =
         let there : i < length ps = omega (arith, all.passes_len, low) in

@@ -8,7 +8,7 @@ use Rattle.grub_table.specs.declared.pass.Pass.{Pass}
 use Rattle.grub_table.specs.declared.pass.Claim.{Claim}
 use Rattle.grub_table.specs.declared.pass.Shared.{Shared}
 use Rattle.grub_table.specs.Knowing.{Learns}
-use Rattle.grub_table.specs.Calls.{IsPassOf, IsClaimOf, number_of, share_of, claim_share, claim_task, claim_op, claim_queue, claim_changes_sum, seen, marks, claim_seen}
+use Rattle.grub_table.specs.Calls.{IsPassOf, IsClaimOf, number_of, share_of, claim_share, claim_queue, claim_changes_sum, seen, marks}
 use Rattle.grub_workers.specs.declared.asking.Turn.{Turn}
 use Rattle.grub_workers.specs.declared.asking.Turn.TheVariants as turns
 use Rattle.grub_workers.specs.inside.Evidence.{ShowsHolder}
@@ -23,8 +23,8 @@ pub record IsFree (s : Shared) (round : ℕ) (p : Pass) (t : ℕ) (now : Pass) :
 -- the pass holds the task for this ask, and nothing of it is in the history
 pub record IsHolding (s : Shared) (p : Pass) (t : ℕ) (asked : Op) (c : Claim) : Type 0 where
   pub of : IsClaimOf s c
-  pub task : claim_task c ≡ t
-  pub op : claim_op c ≡ asked
+  pub task : c.task ≡ t
+  pub op : c.op ≡ asked
   pub learns : Learns (share_of p) (claim_share c) [] (Taken (number_of p) t ∷ [])
 
 -- the same, and all tries of the last round were lost
@@ -32,8 +32,8 @@ pub record HasLost (s : Shared) (tries : ℕ) (p : Pass) (t : ℕ) (asked : Op) 
   pub holding : IsHolding s p t asked c
   pub sum : claim_changes_sum c ≡ true
   pub earlier : List Event
-  pub none_own : calls_of (number_of p) (claim_seen c) ≡ calls_of (number_of p) earlier
-  pub changes : HasChanged (machine s) (claim_queue c) earlier (claim_seen c) tries
+  pub none_own : calls_of (number_of p) (claim_share c).seen ≡ calls_of (number_of p) earlier
+  pub changes : HasChanged (machine s) (claim_queue c) earlier (claim_share c).seen tries
 
 abbrev pub IsTurn : Shared → ℕ → ℕ → Pass → ℕ → Op → Turn → Type 0
 IsTurn s tries round p t op (turns.Free now) = IsFree s round p t now

@@ -6,11 +6,11 @@ use Rattle.grub_book.specs.declared.op.Op.TheVariants as ops
 use Rattle.grub_plan.specs.declared.entry.Entry.{Entry}
 use Rattle.grub_wheel.specs.TimerBag.{TimerBag}
 use Rattle.grub_asks.specs.Timers.{Alarm, armed}
-use Rattle.grub_asks.specs.Keeping.{alarm_of}
+use Rattle.std.specs.FinMap as map
 
 -- the wheel has the timers that the entries leave, all of tasks that are there
 pub record IsKept (s : Machine) (entries : List Entry) (timers : TimerBag) : Type 0 where
-  pub armed_are : (t : ℕ) → alarm_of timers t ≡ armed entries t
+  pub armed_are : (t : ℕ) → map.get timers t ≡ armed entries t
   pub tasks : (t : ℕ) (a : Alarm) → armed entries t ≡ Some a → t < length s.tasks
 
 -- an op that a line at moment m asks for

@@ -1,5 +1,5 @@
 -- What each pass knows and the accesses that it made, and how this is cut and joined with its seat.
-use Rattle.std.specs.Prelude.{◌≡◌, ◌==◌, ℕ, List, [], ◌∷◌, ◌++◌, map}
+use Rattle.std.specs.Prelude.{◌≡◌, ◌==◌, ℕ, List, [], ◌∷◌, ◌++◌, map, slice_index_or}
 use Rattle.atomic_table.specs.Table.{Me, State, Step}
 use Rattle.grub_table.specs.declared.view.Access.{Access}
 use Rattle.grub_table.specs.declared.view.Access.TheVariants.{Load, Store, Exchange}
@@ -9,7 +9,13 @@ use Rattle.grub_table.specs.declared.view.Trail.{Trail}
 use Rattle.grub_table.specs.declared.view.View.{View}
 use Rattle.grub_table.specs.inside.Rule.{Kept}
 use Rattle.grub_table.specs.inside.Views.{alone, both_of, first_view, nothing, only_first, without_first}
-use Rattle.grub_table.specs.Trails.{Accesses}
+
+abbrev pub Accesses : Type 0
+Accesses = List Access
+
+-- the accesses of the first pass
+abbrev pub head_made : List Accesses → Accesses
+head_made made = slice_index_or made 0 []
 
 abbrev pub trail : View → List Accesses → Trail
 trail v made = record { view = v; made = made }

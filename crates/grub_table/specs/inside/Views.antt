@@ -13,10 +13,12 @@ use Rattle.grub_table.specs.declared.view.View.{View}
 use Rattle.grub_table.specs.Marks.{marker_of}
 use Rattle.grub_table.specs.Knowing.{GoesOn}
 use Rattle.grub_table.specs.Histories.{IsHistory}
-use Rattle.grub_table.specs.Views.{share}
 
 abbrev pub view : List Share → View
 view xs = record { shares = xs }
+
+abbrev pub share : Terms → ℕ → List Event → Hold → List Mark → Share
+share T i seen hold marks = record { terms = T; number = i; seen = seen; hold = hold; marks = marks }
 
 -- the share of the same pass, with what it knows now
 abbrev pub holding : Share → List Event → Hold → List Mark → Share

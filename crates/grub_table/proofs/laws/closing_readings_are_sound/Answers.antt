@@ -3,16 +3,15 @@ use Rattle.grub_book.specs.History.{book_of}
 use Rattle.grub_book.specs.Machine.{queue_at}
 use Rattle.grub_book.specs.declared.event.Reading.{Reading}
 use Rattle.grub_book.proofs.Tallies.{running_le_this}
-use Rattle.grub_table.specs.Calls.{terms}
 use Rattle.grub_table.proofs.Moves.{sound}
 use Rattle.grub_table.proofs.laws.closing_readings_are_sound.Goals as goal
 
 pub returns-clause-running : goal.returns-clause-running
 returns-clause-running c = λ s ps last r d closed low.
-    let there : r < length (terms s).setup.queues = omega (arith, low, closed.readings.one_each) in
-    subst (λ (x : Reading). x.running ≤ x.this) (sym (closed.readings.value r d there)) (running_le_this (book_of (terms s).setup closed.history) r)
+    let there : r < length s.terms.setup.queues = omega (arith, low, closed.readings.one_each) in
+    subst (λ (x : Reading). x.running ≤ x.this) (sym (closed.readings.value r d there)) (running_le_this (book_of s.terms.setup closed.history) r)
 
 pub returns-clause-admitted : goal.returns-clause-admitted
 returns-clause-admitted c = λ s ps last r d closed low.
-    let there : r < length (terms s).setup.queues = omega (arith, low, closed.readings.one_each) in
-    subst (λ (x : Reading). x.this ≤ (queue_at (terms s).setup r).most) (sym (closed.readings.value r d there)) ((sound (terms s) closed.history s.limited closed.is_history).admitted r there)
+    let there : r < length s.terms.setup.queues = omega (arith, low, closed.readings.one_each) in
+    subst (λ (x : Reading). x.this ≤ (queue_at s.terms.setup r).most) (sym (closed.readings.value r d there)) ((sound s.terms closed.history s.limited closed.is_history).admitted r there)

@@ -3,11 +3,11 @@ use Rattle.std.proofs.lemmas.List.{length_push}
 use Rattle.std.proofs.lemmas.List.Elements.{All-nil}
 use Rattle.grub_book.specs.History.{pass_of}
 use Rattle.grub_table.specs.declared.view.View.{View}
-use Rattle.grub_table.specs.Calls.{terms, AreNew}
+use Rattle.grub_table.specs.Calls.{AreNew}
 use Rattle.grub_table.specs.Histories.{IsHistory}
 use Rattle.grub_table.specs.Marks.{AreLawful}
 use Rattle.grub_table.specs.declared.view.Access.TheVariants.{Load}
-use Rattle.grub_table.specs.Trails.{head_made}
+use Rattle.grub_table.specs.inside.Trails.{head_made}
 use Rattle.grub_table.specs.inside.Trails.{each_after, known, trail}
 use Rattle.grub_table.specs.Views.{first_of}
 use Rattle.grub_table.specs.inside.Views.{view, alone, only_first, without_first}
@@ -22,13 +22,13 @@ split_seat-one-requires c =
     let i = c.loop-number.invariant in
     let some = s.limited.queues_some in
     let words = s.words in
-    let whole = ap (λ m. m.0) i.left ∙ ap view (fresh_next (terms s) c.loop-number.number (terms s).passes c.loop-number-test.true) in
+    let whole = ap (λ m. m.0) i.left ∙ ap view (fresh_next s.terms c.loop-number.number s.terms.passes c.loop-number-test.true) in
     (i.table, omega (arith, words, some), split_allowed_as _ _ _ _ _ whole)
 
 pub invariant_of-seated : goal.invariant_of-seated
 invariant_of-seated c =
     let s = c.args.shared.now in
-    let whole = ap (λ m. m.0) c.loop-number.invariant.left ∙ ap view (fresh_next (terms s) c.loop-number.number (terms s).passes c.loop-number-test.true) in
+    let whole = ap (λ m. m.0) c.loop-number.invariant.left ∙ ap view (fresh_next s.terms c.loop-number.number s.terms.passes c.loop-number-test.true) in
     let one = ap known c.split_seat-one.ensures.right ∙ ap (λ (v : View). (only_first v, [])) whole in
     let each = c.loop-number.invariant.each in
     let many = ap (λ (v : View). length v.shares) whole in
@@ -40,13 +40,13 @@ invariant_of-seated c =
 pub invariant_of-push : goal.invariant_of-push
 invariant_of-push c =
     let s = c.args.shared.now in
-    let whole = ap (λ m. m.0) c.loop-number.invariant.left ∙ ap view (fresh_next (terms s) c.loop-number.number (terms s).passes c.loop-number-test.true) in
+    let whole = ap (λ m. m.0) c.loop-number.invariant.left ∙ ap view (fresh_next s.terms c.loop-number.number s.terms.passes c.loop-number-test.true) in
     record { free = ap (λ m. (first_of m.0).hold) (ap known c.split_seat-one.ensures.right ∙ ap (λ (v : View). (only_first v, [])) whole) }
 
 pub loop-number-preserved : goal.loop-number-preserved
 loop-number-preserved c =
     let s = c.args.shared.now in
-    let T = terms s in
+    let T = s.terms in
     let i = c.loop-number.invariant in
     let whole = ap (λ m. m.0) i.left ∙ ap view (fresh_next T c.loop-number.number T.passes c.loop-number-test.true) in
     let one = ap known c.split_seat-one.ensures.right ∙ ap (λ (v : View). (only_first v, [])) whole in

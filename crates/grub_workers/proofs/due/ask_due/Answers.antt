@@ -29,8 +29,8 @@ loop-timer-preserved g c =
       },
       (λ k at. let same : Some c.args.m ≡ Some k = sym last ∙ at in grind rules),
       (
-        inv.2.0 ++ record { z = x.z; t = x.t; ticket = x.ticket } ∷ [],
-        FoldsTo-push (AsksTimer c.args.m) _ inv.2.0 before.entries.items (record { z = x.z; t = x.t; ticket = x.ticket }) _ inv.2.1 (record { next = due; goes_on = record { answer = _; list = put.list } }),
+        inv.2.0 ++ x ∷ [],
+        FoldsTo-push (AsksTimer c.args.m) _ inv.2.0 before.entries.items x _ inv.2.1 (record { next = due; goes_on = record { answer = _; list = put.list } }),
       ),
     )
 

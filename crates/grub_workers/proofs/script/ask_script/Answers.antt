@@ -1,7 +1,6 @@
 use Rattle.std.proofs.Common.{◌≡◌, ◌+◌, [], ◌∷◌, List, length, rules, take, drop, get_or, Some, sym, ◌∙◌, subst, add-one, drop-cons}
 use Rattle.std.proofs.lemmas.Fn.{FoldsTo-push}
 use Rattle.std.proofs.lemmas.List.{take_more}
-use Rattle.grub_table.specs.Calls.{terms}
 use Rattle.grub_plan.specs.Plans.{Line}
 use Rattle.grub_plan.specs.declared.line.Act.TheVariants as acts
 use Rattle.grub_asks.specs.Asked.{AsksLine}
@@ -12,7 +11,7 @@ use Rattle.grub_workers.proofs.script.ask_script.Goals as goal
 pub loop-line-preserved : goal.loop-line-preserved
 loop-line-preserved g c =
     let inv = c.loop-line.invariant in let done = c.in_ok-pass.ensures in let i = c.loop-line.line-index in let script = c.args.script.now in
-    let low = c.loop-line-test.true in let n = length (terms c.args.desk.now.table.now).setup.tasks in
+    let low = c.loop-line-test.true in let n = length c.args.desk.now.table.now.terms.setup.tasks in
     let first : Line = record { m = 0; act = acts.Join 0 } in
     let here : Line = get_or script i first in
     let left : drop i script ≡ here ∷ drop (i + 1) script = rw (add-one, drop-cons script i first) in

@@ -1,6 +1,5 @@
 use Rattle.std.proofs.Common.{ℕ, [], length, take, drop}
 use Rattle.std.specs.List.{FoldsTo}
-use Rattle.grub_table.specs.Calls.{terms}
 use Rattle.grub_asks.specs.Asked.{AsksLine}
 use Rattle.grub_plan.specs.Limits.{ScriptFits}
 use Rattle.grub_workers.specs.inside.Working.{IsAtWork, IsNotPast}
@@ -11,4 +10,4 @@ abbrev pub invariant-loop-line : goal.invariant-loop-line
 invariant-loop-line g l =
     IsAtWork l.desk.table.now l.desk.tries l.desk.number l.pass l.progress
     × FoldsTo (AsksLine l.desk.number) [] (take l.line-index l.script) l.progress.entries.items
-    × ((low : ℕ) × IsNotPast low l.progress × ScriptFits (length (terms l.desk.table.now).setup.tasks) low (drop l.line-index l.script))
+    × ((low : ℕ) × IsNotPast low l.progress × ScriptFits (length l.desk.table.now.terms.setup.tasks) low (drop l.line-index l.script))
