@@ -4,7 +4,7 @@
 
 ghost use Rattle.std.specs.Prelude.{◌≡◌, ◌<◌, ◌≤◌, length, IfSome};
 ghost use Rattle.grub_book.specs.Machine.{queue_at};
-ghost use Rattle.grub_table.specs.Calls.{IsPassOf};
+ghost use Rattle.grub_table.specs.Calls.{terms, IsPassOf};
 
 use grub_book::{Op, Reading, Setup};
 use grub_bw::{Params, Queue};
@@ -30,7 +30,7 @@ impl<'a> Promise<Pass> for OfTable<'a> {
 /// Puts the task on the first runqueue, where nobody else holds it or wins each try.
 pub fn join(shared: &Shared, pass: Pass, t: u32) -> Pass
     requires of { IsPassOf shared.now pass }
-    requires task { t < length shared.now.terms.setup.tasks }
+    requires task { t < length (terms shared.now).setup.tasks }
     ensures of { IsPassOf shared.now result }
 {
     match shared.start(pass, t, Op::Join { r: 0, m: 0 }) {
@@ -51,20 +51,20 @@ pub fn join_both<R: Threads + Wait>(
 ) -> Option<(Pass, Pass)>
     requires near { IsPassOf shared.now near }
     requires far { IsPassOf shared.now far }
-    requires tasks { 1 < length shared.now.terms.setup.tasks }
+    requires tasks { 1 < length (terms shared.now).setup.tasks }
     ensures { IfSome result (λ passes. IsPassOf shared.now passes.0 × IsPassOf shared.now passes.1) }
 {
     thread::scope(
         thread::scope_env(),
         rt,
         |scope| -> Option<(Pass, Pass)>
-            requires { IsPassOf shared.now near × IsPassOf shared.now far × (1 < length shared.now.terms.setup.tasks) }
+            requires { IsPassOf shared.now near × IsPassOf shared.now far × (1 < length (terms shared.now).setup.tasks) }
             ensures { IfSome result (λ passes. IsPassOf shared.entry.now passes.0 × IsPassOf shared.entry.now passes.1) }
         {
             let handle = scope.spawn_with(
                 OfTable { shared },
                 move || -> Pass
-                    requires { IsPassOf shared.now far × (1 < length shared.now.terms.setup.tasks) }
+                    requires { IsPassOf shared.now far × (1 < length (terms shared.now).setup.tasks) }
                     ensures { IsPassOf shared.entry.now result }
                 { join(shared, far, 1) },
             );

@@ -5,7 +5,7 @@ use lib.ListN.{get_elem?}
 use Rattle.atomic_table.specs.Table.{State, keeps, stepped}
 use Rattle.grub_book.specs.Op.{IsOp}
 use Rattle.grub_book.specs.declared.op.Op.{Op}
-use Rattle.grub_table.specs.declared.pass.Shared.{Shared}
+use Rattle.grub_table.specs.declared.shared.Shared.{Shared}
 use Rattle.grub_table.specs.declared.seated.Seated.{Seated}
 use Rattle.grub_table.specs.declared.view.Note.{Note}
 use Rattle.grub_table.specs.declared.view.Share.{Share}

@@ -4,7 +4,7 @@ use Rattle.grub_book.specs.declared.event.Reading.{Reading}
 use Rattle.grub_book.specs.declared.place.Record.{Record}
 use Rattle.grub_words.specs.Words.{QueueFits}
 use Rattle.atomic_table.specs.declared.shared.Seat.{Seat}
-use Rattle.grub_table.specs.declared.pass.Shared.{Shared}
+use Rattle.grub_table.specs.declared.shared.Shared.{Shared}
 use Rattle.grub_table.specs.declared.seated.Seated.{Seated}
 use Rattle.grub_table.specs.declared.view.Note.{Note}
 use Rattle.grub_table.specs.declared.view.Access.{Access}

@@ -32,7 +32,7 @@ use Rattle.grub_book.proofs.Totals.{counts_each, shifted_set}
 use Rattle.grub_words.specs.Words.{queue_word, server_word, params_word, QueueFits, ServerFits}
 use Rattle.grub_words.proofs.Bounds.{ServerFits-kept}
 use Rattle.grub_words.proofs.Halves.{same_queue}
-use Rattle.grub_table.specs.declared.pass.Shared.{Shared}
+use Rattle.grub_table.specs.declared.shared.Shared.{Shared}
 use Rattle.grub_table.specs.declared.seated.Seated.{Seated}
 use Rattle.grub_table.specs.declared.view.Hold.{Hold}
 use Rattle.grub_table.specs.declared.view.Hold.TheVariants.{Undecided, Decided}

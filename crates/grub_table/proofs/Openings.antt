@@ -15,7 +15,7 @@ use Rattle.grub_book.specs.History.{pass_of}
 use Rattle.grub_book.proofs.Totals.{opening_totals}
 use Rattle.grub_words.specs.Words.{queue_word, task_word}
 use Rattle.grub_table.specs.declared.pass.Pass.{Pass}
-use Rattle.grub_table.specs.declared.pass.Shared.{Shared}
+use Rattle.grub_table.specs.declared.shared.Shared.{Shared}
 use Rattle.grub_table.specs.declared.view.Hold.TheVariants.{Free}
 use Rattle.grub_table.specs.declared.view.Share.{Share}
 use Rattle.grub_table.specs.declared.view.Terms.{Terms}

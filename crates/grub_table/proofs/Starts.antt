@@ -11,7 +11,7 @@ use Rattle.grub_words.specs.Words.{task_word, PlaceFits}
 use Rattle.grub_words.specs.declared.task.TaskWord.{TaskWord}
 use Rattle.grub_words.proofs.Bounds.{PlaceFits-kept}
 use Rattle.grub_words.proofs.Tasks.{same_fields}
-use Rattle.grub_table.specs.declared.pass.Shared.{Shared}
+use Rattle.grub_table.specs.declared.shared.Shared.{Shared}
 use Rattle.grub_table.specs.declared.view.Mark.TheVariants.{Taken, Given}
 use Rattle.grub_table.specs.Calls.{IsEarly, marks_of_call}
 use Rattle.grub_table.specs.Layout.{shown}

@@ -23,7 +23,7 @@ use Rattle.grub_book.proofs.Histories.{book_push, starts_whole, starts_next}
 use Rattle.grub_book.proofs.Soundness.{moved}
 use Rattle.grub_words.specs.Words.{queue_word, task_word, QueueFits}
 use Rattle.grub_words.proofs.Tasks.{task_word-claimed, claims_apart}
-use Rattle.grub_table.specs.declared.pass.Shared.{Shared}
+use Rattle.grub_table.specs.declared.shared.Shared.{Shared}
 use Rattle.grub_table.specs.declared.seated.Seated.{Seated}
 use Rattle.grub_table.specs.declared.view.Hold.{Hold}
 use Rattle.grub_table.specs.declared.view.Hold.TheVariants.{Free, Undecided}

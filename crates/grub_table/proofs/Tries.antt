@@ -15,12 +15,12 @@ use Rattle.grub_book.specs.declared.place.Record.{Record}
 use Rattle.grub_book.specs.declared.reply.Reply.{Reply}
 use Rattle.grub_book.proofs.Changes.{changed_none, changed_more}
 use Rattle.grub_book.proofs.Histories.{starts_whole}
-use Rattle.grub_table.specs.declared.pass.Claim.{Claim}
+use Rattle.grub_table.specs.declared.claim.Claim.{Claim}
 use Rattle.grub_table.specs.declared.pass.Pass.{Pass}
-use Rattle.grub_table.specs.declared.pass.Shared.{Shared}
+use Rattle.grub_table.specs.declared.shared.Shared.{Shared}
 use Rattle.grub_table.specs.declared.seated.Seated.{Seated}
-use Rattle.grub_table.specs.declared.pass.Finished.{Finished}
-use Rattle.grub_table.specs.declared.pass.Finished.TheVariants.{Done, Held}
+use Rattle.grub_table.specs.declared.answer.Finished.{Finished}
+use Rattle.grub_table.specs.declared.answer.Finished.TheVariants.{Done, Held}
 use Rattle.grub_table.specs.declared.view.Mark.{Mark}
 use Rattle.grub_table.specs.declared.view.Mark.TheVariants.{Given}
 use Rattle.grub_table.specs.declared.view.Share.{Share}

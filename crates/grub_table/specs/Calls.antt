@@ -19,18 +19,18 @@ use Rattle.grub_table.specs.declared.view.Terms.{Terms}
 use Rattle.grub_table.specs.declared.view.Share.{Share}
 use Rattle.grub_table.specs.declared.seated.Seated.{Seated}
 use Rattle.grub_table.specs.declared.pass.Pass.{Pass}
-use Rattle.grub_table.specs.declared.pass.Claim.{Claim}
-use Rattle.grub_table.specs.declared.pass.Shared.{Shared}
-use Rattle.grub_table.specs.declared.pass.Sighting.{Sighting}
-use Rattle.grub_table.specs.declared.pass.Sighting.TheVariants.{Claimed, Changed}
-use Rattle.grub_table.specs.declared.pass.Started.{Started}
-use Rattle.grub_table.specs.declared.pass.Started.TheVariants as started
-use Rattle.grub_table.specs.declared.pass.Started.TheVariants.{Answered, Busy}
-use Rattle.grub_table.specs.declared.pass.Finished.{Finished}
-use Rattle.grub_table.specs.declared.pass.Finished.TheVariants.{Done, Held}
-use Rattle.grub_table.specs.declared.pass.CloseFault.{CloseFault}
-use Rattle.grub_table.specs.declared.pass.CloseWhy.{CloseWhy}
-use Rattle.grub_table.specs.declared.pass.CloseWhy.TheVariants.{Missing, NoMemory}
+use Rattle.grub_table.specs.declared.claim.Claim.{Claim}
+use Rattle.grub_table.specs.declared.shared.Shared.{Shared}
+use Rattle.grub_table.specs.declared.answer.Sighting.{Sighting}
+use Rattle.grub_table.specs.declared.answer.Sighting.TheVariants.{Claimed, Changed}
+use Rattle.grub_table.specs.declared.answer.Started.{Started}
+use Rattle.grub_table.specs.declared.answer.Started.TheVariants as started
+use Rattle.grub_table.specs.declared.answer.Started.TheVariants.{Answered, Busy}
+use Rattle.grub_table.specs.declared.answer.Finished.{Finished}
+use Rattle.grub_table.specs.declared.answer.Finished.TheVariants.{Done, Held}
+use Rattle.grub_table.specs.declared.fault.CloseFault.{CloseFault}
+use Rattle.grub_table.specs.declared.fault.CloseWhy.{CloseWhy}
+use Rattle.grub_table.specs.declared.fault.CloseWhy.TheVariants.{Missing, NoMemory}
 use Rattle.grub_table.specs.Marks.{AreLawful}
 use Rattle.grub_table.specs.Knowing.{GoesOn, Knows, Learns}
 use Rattle.grub_table.specs.Accesses.{FinishesBriefly, lost_tries}
@@ -68,6 +68,13 @@ accesses p = made_on p.seated
 abbrev pub claim_share : Claim → Share
 claim_share c = share_on c.seated
 
+-- the task that it holds, and the op that it is for
+abbrev pub claim_task : Claim → ℕ
+claim_task c = c.task
+
+abbrev pub claim_op : Claim → Op
+claim_op c = c.op
+
 -- the runqueue that its op is about
 abbrev pub claim_queue : Claim → ℕ
 claim_queue c = runqueue_of c.held.place c.op
@@ -75,6 +82,10 @@ claim_queue c = runqueue_of c.held.place c.op
 -- its own and those of its pass before it
 abbrev pub claim_accesses : Claim → List Access
 claim_accesses c = made_on c.seated
+
+-- what the table was opened for
+abbrev pub terms : Shared → Terms
+terms s = s.terms
 
 -- the seat comes from this table
 pub record ComesFrom (s : Shared) (x : Seated) : Type 0 where

@@ -1,10 +1,10 @@
 -- What each fault prints: its number and its name.
 use Rattle.std.specs.Prelude.{ℕ, List, codes, ◌++◌, decimal}
-use Rattle.grub_table.specs.declared.pass.OpenFault.{OpenFault}
-use Rattle.grub_table.specs.declared.pass.OpenFault.TheVariants as opens
-use Rattle.grub_table.specs.declared.pass.CloseFault.{CloseFault}
-use Rattle.grub_table.specs.declared.pass.CloseWhy.{CloseWhy}
-use Rattle.grub_table.specs.declared.pass.CloseWhy.TheVariants.{Missing, NoMemory}
+use Rattle.grub_table.specs.declared.fault.OpenFault.{OpenFault}
+use Rattle.grub_table.specs.declared.fault.OpenFault.TheVariants as opens
+use Rattle.grub_table.specs.declared.fault.CloseFault.{CloseFault}
+use Rattle.grub_table.specs.declared.fault.CloseWhy.{CloseWhy}
+use Rattle.grub_table.specs.declared.fault.CloseWhy.TheVariants.{Missing, NoMemory}
 
 abbrev pub open_fault_text : OpenFault → List ℕ
 open_fault_text opens.NoPass = codes "23 NoPass"

@@ -1,11 +1,13 @@
 //! A table is closed: its last readings.
 ghost use Rattle.std.specs.Prelude.{◌≡◌, ◌<◌, ◌≤◌, IfOk, IfErr, OnOk, length};
 ghost use Rattle.std.specs.List.{All};
-ghost use Rattle.grub_table.specs.Calls.{IsPassOf, IsClosed, IsRefusal};
+ghost use Rattle.grub_table.specs.Calls.{terms, IsPassOf, IsClosed, IsRefusal};
 
-use crate::pass::{CloseFault, CloseWhy, Pass, Shared};
+use crate::fault::{CloseFault, CloseWhy};
+use crate::pass::Pass;
 use crate::row::{SPACING, reading_in};
 use crate::seated::Seated;
+use crate::shared::Shared;
 use grub_book::Reading;
 use std::alloc::Global;
 
@@ -15,7 +17,7 @@ impl Shared {
     pub fn close(self, alloc: Global, passes: Vec<Pass>) -> Result<Vec<Reading>, CloseFault>
         requires { All (IsPassOf self) passes.items }
         ensures closed { IfOk result (λ readings. IsClosed self passes.items readings.items) }
-        ensures all { OnOk result (self.terms.passes ≤ length passes.items) }
+        ensures all { OnOk result ((terms self).passes ≤ length passes.items) }
         ensures refused { IfErr result (λ f. IsRefusal self passes.items f) }
     {
         let count = passes.len();
@@ -48,9 +50,9 @@ impl Shared {
     /// The last pass takes in all others, and the table ends with it.
     fn end(self, mut passes: Vec<Pass>, mut readings: Vec<Reading>) -> Vec<Reading>
         requires of { All (IsPassOf self) passes.items }
-        requires all { self.terms.passes ≤ length passes.items }
+        requires all { (terms self).passes ≤ length passes.items }
         requires some { 0 < length passes.items }
-        requires room { length readings.items ≡ length self.terms.setup.queues }
+        requires room { length readings.items ≡ length (terms self).setup.queues }
         ensures { IsClosed self passes.items result.items }
     {
         let Some(last) = passes.pop() else {

@@ -9,45 +9,25 @@ ghost use Rattle.grub_words.specs.Words.{queue_word, server_word, params_word, Q
 ghost use Rattle.grub_table.specs.declared.view.Access.TheVariants.{Store, Load, Exchange};
 ghost use Rattle.grub_table.specs.declared.view.Stored.{Stored};
 ghost use Rattle.grub_table.specs.inside.Between.{HoldsFor, HoldsMade, Tells};
-ghost use Rattle.grub_table.specs.Calls.{accesses, claim_accesses, claim_changes_sum, made_on, seen, share_on, IsCancelled, IsClaimOf, IsFinished, IsWithin, claim_share};
+ghost use Rattle.grub_table.specs.Calls.{terms, claim_task, claim_op, accesses, claim_accesses, claim_changes_sum, made_on, seen, share_on, IsCancelled, IsClaimOf, IsFinished, IsWithin, claim_share};
 ghost use Rattle.grub_table.specs.Layout.{queue_word_at, task_word_at};
 ghost use Rattle.grub_table.specs.inside.Layout.{stored_of, server_word_at, params_word_at};
 ghost use Rattle.grub_table.specs.inside.Tellings.{is_decided_at_load, outcome, Of, OfQueue, SawQueue, ChangedQueue, SettledServer, StoredServer, StoredParams, Gives, GaveUp, GaveBack};
 ghost use Rattle.grub_table.specs.inside.Brief.{changed_store, TriesOnce};
 ghost use Rattle.grub_table.specs.inside.Tries.{half_stored, is_charge, Knows, Tried};
 
-use crate::pass::{Claim, Finished, Pass, Shared};
+use crate::answer::Finished;
+use crate::claim::Claim;
+use crate::pass::Pass;
 use crate::row::{
     free_word, params_word_at, queue_word_at, reading_in, server_word_at, task_word_at,
 };
 use crate::rule::Telling;
 use crate::seated::Seated;
+use crate::shared::Shared;
 use grub_book::{Op, Reading, Record, Reply, changes_sum, runqueue, settle, shifted};
 use grub_bw::{Params, Server};
 use grub_words::{pack_params, pack_queue, pack_server};
-
-impl Claim {
-    /// The task that it holds.
-    pub fn task(&self) -> u32
-        ensures { result ≡ self.now.task }
-    {
-        self.task
-    }
-
-    /// The op that it is held for.
-    pub fn op(&self) -> Op
-        ensures { result ≡ self.now.op }
-    {
-        self.op
-    }
-
-    /// The number of its pass.
-    pub fn number(&self) -> u32
-        ensures { result ≡ (claim_share self.now).number }
-    {
-        self.seated.number
-    }
-}
 
 /// Whether the reply stands as soon as the runqueue's word is loaded.
 fn is_decided_at_load(reply: Reply) -> bool
@@ -129,7 +109,7 @@ impl Shared {
     pub fn cancel(&self, claim: Claim) -> Pass
         requires { IsClaimOf self.now claim }
         ensures cancelled { IsCancelled self.now claim result }
-        ensures made { accesses result ≡ claim_accesses claim ++ Store (task_word_at self.now.terms.setup claim.task) ∷ [] }
+        ensures made { accesses result ≡ claim_accesses claim ++ Store (task_word_at (terms self.now).setup (claim_task claim)) ∷ [] }
     {
         let Claim {
             seated,
@@ -159,7 +139,7 @@ impl Shared {
     /// One try.
     fn attempt(&self, claim: Claim) -> Finished
         requires of { IsClaimOf self.now claim }
-        requires about { claim_changes_sum claim ≡ false → is_charge claim.op ≡ true }
+        requires about { claim_changes_sum claim ≡ false → is_charge (claim_op claim) ≡ true }
         ensures finished { IsFinished self.now claim 1 result }
         ensures within { IsWithin claim 1 result }
     {
@@ -207,7 +187,7 @@ impl Shared {
     fn finish_quiet(&self, claim: Claim) -> Finished
         requires of { IsClaimOf self.now claim }
         requires sum { claim_changes_sum claim ≡ false }
-        requires charge { is_charge claim.op ≡ false }
+        requires charge { is_charge (claim_op claim) ≡ false }
         ensures finished { (tries : ℕ) → IsFinished self.now claim tries result }
         ensures within { (tries : ℕ) → IsWithin claim tries result }
     {
@@ -236,10 +216,10 @@ impl Shared {
         next: &Record,
     ) -> Pass
         requires held { HoldsMade self.now seated task next.now (half_stored held.now next.now) }
-        requires kept { IsKept self.now.terms.setup next.now }
+        requires kept { IsKept (terms self.now).setup next.now }
         ensures told { Tells self.now (Gives task) seated result.seated }
         ensures seen { seen result ≡ (share_on seated).seen }
-        ensures made { accesses result ≡ made_on seated ++ changed_store (params_word_at self.now.terms.setup task) held.now.params next.now.params ++ Store (task_word_at self.now.terms.setup task) ∷ [] }
+        ensures made { accesses result ≡ made_on seated ++ changed_store (params_word_at (terms self.now).setup task) held.now.params next.now.params ++ Store (task_word_at (terms self.now).setup task) ∷ [] }
     {
         self.store_changed(&mut seated, task, held, next);
         self.give_back(seated, task, next)
@@ -250,7 +230,7 @@ impl Shared {
         requires { HoldsMade self.now seated.old task next.now (half_stored held.now next.now) }
         ensures knows { Tells self.now Knows seated.old seated.new }
         ensures stored { HoldsMade self.now seated.new task next.now (stored_of next.now) }
-        ensures made { made_on seated.new ≡ made_on seated.old ++ changed_store (params_word_at self.now.terms.setup task) held.now.params next.now.params }
+        ensures made { made_on seated.new ≡ made_on seated.old ++ changed_store (params_word_at (terms self.now).setup task) held.now.params next.now.params }
     {
         if pack_params(next.params) != pack_params(held.params) {
             self.store_params(seated, task, next.params);
@@ -268,7 +248,7 @@ impl Shared {
 
     /// Makes the reading `new` where it is still `old`, and says whether it was.
     fn change_queue(&self, seated: &mut Seated, r: u32, old: Reading, new: Reading) -> bool
-        requires held { (t : ℕ) × (op : Op) × (rec : Record) × HoldsFor self.now seated.old t op rec × (r ≡ runqueue_of rec.place op) × (new ≡ shifted_of old r rec (outcome self.now.terms r old rec op).0) }
+        requires held { (t : ℕ) × (op : Op) × (rec : Record) × HoldsFor self.now seated.old t op rec × (r ≡ runqueue_of rec.place op) × (new ≡ shifted_of old r rec (outcome (terms self.now) r old rec op).0) }
         requires old { QueueFits old }
         requires new { QueueFits new }
         ensures told { Tells self.now (ChangedQueue r old result) seated.old seated.new }
@@ -284,7 +264,7 @@ impl Shared {
         requires held { (op : Op) × (rec : Record) × HoldsFor self.now seated.old t op rec × (changes_sum rec op ≡ false) × ¬ LooksAtQueue rec.place op }
         requires fits { ServerFits server }
         ensures told { Tells self.now (SettledServer (server_word server)) seated.old seated.new }
-        ensures made { made_on seated.new ≡ made_on seated.old ++ Store (server_word_at self.now.terms.setup t) ∷ [] }
+        ensures made { made_on seated.new ≡ made_on seated.old ++ Store (server_word_at (terms self.now).setup t) ∷ [] }
     {
         let at = server_word_at(&self.terms.setup, t);
         self.store::<SettleServer>(seated, at, pack_server(server));
@@ -294,7 +274,7 @@ impl Shared {
         requires held { (now : Record) × (stored : Stored) × HoldsMade self.now seated.old t now stored }
         requires fits { ServerFits server }
         ensures told { Tells self.now (StoredServer (server_word server)) seated.old seated.new }
-        ensures made { made_on seated.new ≡ made_on seated.old ++ Store (server_word_at self.now.terms.setup t) ∷ [] }
+        ensures made { made_on seated.new ≡ made_on seated.old ++ Store (server_word_at (terms self.now).setup t) ∷ [] }
     {
         let at = server_word_at(&self.terms.setup, t);
         self.store::<StoreServer>(seated, at, pack_server(server));
@@ -303,7 +283,7 @@ impl Shared {
     fn store_params(&self, seated: &mut Seated, t: u32, params: Params)
         requires { (now : Record) × (stored : Stored) × HoldsMade self.now seated.old t now stored }
         ensures told { Tells self.now (StoredParams (params_word params)) seated.old seated.new }
-        ensures made { made_on seated.new ≡ made_on seated.old ++ Store (params_word_at self.now.terms.setup t) ∷ [] }
+        ensures made { made_on seated.new ≡ made_on seated.old ++ Store (params_word_at (terms self.now).setup t) ∷ [] }
     {
         let at = params_word_at(&self.terms.setup, t);
         self.store::<StoreParams>(seated, at, pack_params(params));
@@ -312,9 +292,9 @@ impl Shared {
     /// Gives a task back whose call is made and stored.
     fn give_back(&self, mut seated: Seated, t: u32, now: &Record) -> Pass
         requires held { HoldsMade self.now seated t now.now (stored_of now.now) }
-        requires kept { IsKept self.now.terms.setup now.now }
+        requires kept { IsKept (terms self.now).setup now.now }
         ensures told { Tells self.now GaveBack seated result.seated }
-        ensures made { accesses result ≡ made_on seated ++ Store (task_word_at self.now.terms.setup t) ∷ [] }
+        ensures made { accesses result ≡ made_on seated ++ Store (task_word_at (terms self.now).setup t) ∷ [] }
     {
         let at = task_word_at(&self.terms.setup, t);
         self.store::<GiveBack>(&mut seated, at, free_word(now));
@@ -325,7 +305,7 @@ impl Shared {
     pub(crate) fn give_up(&self, mut seated: Seated, t: u32, held: &Record) -> Pass
         requires { (op : Op) × HoldsFor self.now seated t op held.now }
         ensures told { Tells self.now GaveUp seated result.seated }
-        ensures made { accesses result ≡ made_on seated ++ Store (task_word_at self.now.terms.setup t) ∷ [] }
+        ensures made { accesses result ≡ made_on seated ++ Store (task_word_at (terms self.now).setup t) ∷ [] }
     {
         let at = task_word_at(&self.terms.setup, t);
         self.store::<GiveUp>(&mut seated, at, free_word(held));

@@ -8,9 +8,9 @@ ghost use Rattle.grub_book.specs.declared.event.Reading.{Reading};
 ghost use Rattle.grub_table.specs.Histories.{IsHistory};
 ghost use Rattle.grub_table.specs.Knowing.{GoesOn, Knows, Learns};
 ghost use Rattle.grub_table.specs.Marks.{marker_of};
-ghost use Rattle.grub_table.specs.Calls.{IsClosed};
+ghost use Rattle.grub_table.specs.Calls.{terms, IsClosed};
 ghost use Rattle.grub_table.specs.declared.pass.Pass.{Pass};
-ghost use Rattle.grub_table.specs.declared.pass.Shared.{Shared};
+ghost use Rattle.grub_table.specs.declared.shared.Shared.{Shared};
 ghost use Rattle.grub_table.specs.declared.view.Mark.{Mark};
 ghost use Rattle.grub_table.specs.declared.view.Share.{Share};
 ghost use Rattle.grub_table.specs.declared.view.Terms.{Terms};
@@ -21,7 +21,7 @@ pub fn closing_readings_are_sound()
     ensures running { (s : Shared) (ps : List Pass) (last : List Reading) (r : ℕ) (d : Reading) → IsClosed s ps last
         → r < length last → let x = slice_index_or last r d in x.running ≤ x.this }
     ensures admitted { (s : Shared) (ps : List Pass) (last : List Reading) (r : ℕ) (d : Reading) → IsClosed s ps last
-        → r < length last → let x = slice_index_or last r d in x.this ≤ (queue_at s.terms.setup r).most }
+        → r < length last → let x = slice_index_or last r d in x.this ≤ (queue_at (terms s).setup r).most }
 {}
 
 /// Calls one after another: what a pass learns by the first and then by the next it learns by both together, and what it

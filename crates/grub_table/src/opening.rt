@@ -2,15 +2,17 @@
 ghost use Rattle.std.specs.Prelude.{◌≡◌, ◌<◌, ◌+◌, ◌↔◌, [], IsTrue, IfOk, OnOk, IsErrOf, length};
 ghost use Rattle.grub_book.specs.Machine.{IsMachine};
 ghost use Rattle.grub_book.specs.Op.{IsOp};
-ghost use Rattle.grub_table.specs.Calls.{number_of, AreNew, IsOpened};
+ghost use Rattle.grub_table.specs.Calls.{terms, number_of, AreNew, IsOpened};
 ghost use Rattle.grub_table.specs.inside.FirstWords.{AreOpeningWords};
 ghost use Rattle.grub_table.specs.inside.Rule.{AreLimited};
 ghost use Rattle.grub_table.specs.inside.Trails.{first_trail};
 
 use crate::counted::CountedTable;
-use crate::pass::{OpenFault, Pass, Shared};
+use crate::fault::OpenFault;
+use crate::pass::Pass;
 use crate::row::{SPACING, params_word_at, server_word_at};
 use crate::seated::Seated;
+use crate::shared::Shared;
 use crate::view::{Note, Terms, Trail};
 use atomic_table::Seat;
 use grub_book::{Op, Setup};
@@ -76,8 +78,8 @@ fn dealt(
     mut seat: Seat<Note, Trail>,
 ) -> Result<Vec<Pass>, AllocError>
     requires of { seat.table_id ≡ shared.now.table.inner.shared.table_id }
-    requires whole { seat.me ≡ (first_trail shared.now.terms, []) }
-    ensures count { IfOk result (λ passes. length passes.items ≡ shared.now.terms.passes) }
+    requires whole { seat.me ≡ (first_trail (terms shared.now), []) }
+    ensures count { IfOk result (λ passes. length passes.items ≡ (terms shared.now).passes) }
     ensures new { IfOk result (λ passes. AreNew shared.now passes.items) }
 {
     let mut passes = Vec::new(alloc);
@@ -104,15 +106,6 @@ fn made(alloc: Global, setup: &Setup, n: u32) -> Result<(Shared, Vec<Pass>), All
     Ok((shared, passes))
 }
 
-impl Pass {
-    /// Its number: passes count from 0.
-    pub fn number(&self) -> u32
-        ensures { result ≡ number_of self.now }
-    {
-        self.seated.number
-    }
-}
-
 impl Shared {
     /// A table of the setup's runqueues and tasks, each task away with a full budget, and `n` passes, numbered from 0.
     /// `NoPass` (23) is answered for `n = 0`, `TooManyPasses` (24) for more than 64, and `NoMemory` (25) where a growth was refused.
@@ -132,21 +125,21 @@ impl Shared {
 
     /// Whether there is a task of this number.
     pub fn has_task(&self, t: u32) -> bool
-        ensures { IsTrue result ↔ (t < length self.now.terms.setup.tasks) }
+        ensures { IsTrue result ↔ (t < length (terms self.now).setup.tasks) }
     {
         self.terms.setup.has_task(t)
     }
 
     /// Whether there is a runqueue of this number.
     pub fn has_queue(&self, r: u32) -> bool
-        ensures { IsTrue result ↔ (r < length self.now.terms.setup.queues) }
+        ensures { IsTrue result ↔ (r < length (terms self.now).setup.queues) }
     {
         self.terms.setup.has_queue(r)
     }
 
     /// Whether the op's runqueue is there, and its numbers are within the limits.
     pub fn fits(&self, op: &Op) -> bool
-        ensures { IsTrue result ↔ IsOp self.now.terms.setup op.now }
+        ensures { IsTrue result ↔ IsOp (terms self.now).setup op.now }
     {
         op.fits(&self.terms.setup)
     }

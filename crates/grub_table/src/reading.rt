@@ -6,17 +6,19 @@ ghost use Rattle.grub_table.specs.declared.view.Access.TheVariants.{Load};
 ghost use Rattle.grub_table.specs.inside.Between.{IsSeatOf, Tells};
 ghost use Rattle.grub_book.specs.History.{pass_of};
 ghost use Rattle.grub_table.specs.Marks.{marker_of};
-ghost use Rattle.grub_table.specs.Calls.{number_of, share_of, claim_share, seen, marks, accesses, claim_accesses, IsPassOf, IsClaimOf, IsStill, IsSame, IsBehind, made_on};
+ghost use Rattle.grub_table.specs.Calls.{terms, number_of, share_of, claim_share, seen, marks, accesses, claim_accesses, IsPassOf, IsClaimOf, IsStill, IsSame, IsBehind, made_on};
 ghost use Rattle.grub_table.specs.Layout.{queue_word_at};
 ghost use Rattle.grub_table.specs.inside.Tellings.{Of, OfQueue, SawReading};
 ghost use Rattle.grub_table.specs.Accesses.{meeting_loads};
 ghost use Rattle.grub_table.specs.Histories.{EndsWith};
 ghost use Rattle.grub_table.specs.Knowing.{Learns};
 
-use crate::pass::{Claim, Pass, Shared};
+use crate::claim::Claim;
+use crate::pass::Pass;
 use crate::row::{queue_word_at, reading_in};
 use crate::rule::{Compare, Telling};
 use crate::seated::Seated;
+use crate::shared::Shared;
 use grub_book::Reading;
 
 pub(crate) struct Looks;
@@ -29,7 +31,7 @@ impl Shared {
     /// The bandwidths of a runqueue, in 1/2^20: running_bw of its active tasks, and this_bw of all its tasks. One load.
     pub fn read(&self, pass: &mut Pass, r: u32) -> Reading
         requires of { IsPassOf self.now pass.old }
-        requires queue { r < length self.now.terms.setup.queues }
+        requires queue { r < length (terms self.now).setup.queues }
         ensures of { IsPassOf self.now pass.new }
         ensures learns { Learns (share_of pass.old) (share_of pass.new) (Look (number_of pass.old) r result ∷ []) [] }
         ensures last { EndsWith (seen pass.new) (Look (number_of pass.old) r result) }
@@ -42,7 +44,7 @@ impl Shared {
     /// A reading, as in `read`, by a pass that holds a claim.
     pub fn read_held(&self, claim: &mut Claim, r: u32) -> Reading
         requires of { IsClaimOf self.now claim.old }
-        requires queue { r < length self.now.terms.setup.queues }
+        requires queue { r < length (terms self.now).setup.queues }
         ensures still { IsStill self.now claim.old claim.new }
         ensures learns { Learns (claim_share claim.old) (claim_share claim.new) (Look (claim_share claim.old).number r result ∷ []) [] }
         ensures last { EndsWith (claim_share claim.new).seen (Look (claim_share claim.old).number r result) }
@@ -90,7 +92,7 @@ impl Shared {
 
     fn look(&self, seated: &mut Seated, r: u32) -> Reading
         requires seat { IsSeatOf self.now seated.old }
-        requires queue { r < length self.now.terms.setup.queues }
+        requires queue { r < length (terms self.now).setup.queues }
         ensures told { Tells self.now (SawReading r result) seated.old seated.new }
         ensures made { made_on seated.new ≡ made_on seated.old ++ Load (queue_word_at r) ∷ [] }
     {

@@ -8,16 +8,19 @@ ghost use Rattle.grub_words.specs.Words.{TaskFits, server_word, params_word, tas
 ghost use Rattle.grub_table.specs.declared.view.Access.TheVariants.{Load, Exchange};
 ghost use Rattle.grub_table.specs.declared.view.Hold.TheVariants.{Free};
 ghost use Rattle.grub_table.specs.inside.Between.{hold_of, IsSeatOf, HoldsFor, Tells, SawTask, SawRecord};
-ghost use Rattle.grub_table.specs.Calls.{accesses, made_on, started_accesses, IsPassOf, IsStarted};
+ghost use Rattle.grub_table.specs.Calls.{terms, accesses, made_on, started_accesses, IsPassOf, IsStarted};
 ghost use Rattle.grub_table.specs.Layout.{task_word_at};
 ghost use Rattle.grub_table.specs.inside.Layout.{server_word_at, params_word_at};
 ghost use Rattle.grub_table.specs.inside.Tellings.{note_of, Of, LoadedTask, TookClaim, SawParams, SawServer};
 ghost use Rattle.grub_table.specs.Accesses.{StartsBriefly};
 
-use crate::pass::{Claim, Pass, Shared, Sighting, Started};
+use crate::answer::{Sighting, Started};
+use crate::claim::Claim;
+use crate::pass::Pass;
 use crate::row::{params_in, params_word_at, server_in, server_word_at, task_word_at, unclaimed};
 use crate::rule::Telling;
 use crate::seated::Seated;
+use crate::shared::Shared;
 use crate::view::Note;
 use grub_book::{Op, Record, early, refusal};
 use grub_bw::{Params, Server};
@@ -67,11 +70,11 @@ impl Shared {
     fn load_task<J: Asked>(&self, seated: &mut Seated, t: u32, op: Op) -> u64
         requires seat { IsSeatOf self.now seated.old }
         requires free { hold_of seated.old ≡ Free }
-        requires task { t < length self.now.terms.setup.tasks }
-        requires op { IsOp self.now.terms.setup op }
+        requires task { t < length (terms self.now).setup.tasks }
+        requires op { IsOp (terms self.now).setup op }
         requires note { J.note ≡ record { task = t; op = op } }
         ensures told { Tells self.now (LoadedTask J.note result) seated.old seated.new }
-        ensures made { made_on seated.new ≡ made_on seated.old ++ Load (task_word_at self.now.terms.setup t) ∷ [] }
+        ensures made { made_on seated.new ≡ made_on seated.old ++ Load (task_word_at (terms self.now).setup t) ∷ [] }
     {
         let at = task_word_at(&self.terms.setup, t);
         self.load::<LoadTask<J>>(seated, at)
@@ -81,11 +84,11 @@ impl Shared {
     fn take_claim(&self, seated: &mut Seated, t: u32, op: Op, shown: TaskWord) -> u64
         requires seat { IsSeatOf self.now seated.old }
         requires free { hold_of seated.old ≡ Free }
-        requires task { t < length self.now.terms.setup.tasks }
+        requires task { t < length (terms self.now).setup.tasks }
         requires fits { TaskFits shown }
         requires unclaimed { shown.claimed ≡ false }
         ensures told { Tells self.now (TookClaim (record { task = t; op = op }) (task_word shown.place shown.count false) result) seated.old seated.new }
-        ensures made { made_on seated.new ≡ made_on seated.old ++ Exchange (task_word_at self.now.terms.setup t) (result == task_word shown.place shown.count false) ∷ [] }
+        ensures made { made_on seated.new ≡ made_on seated.old ++ Exchange (task_word_at (terms self.now).setup t) (result == task_word shown.place shown.count false) ∷ [] }
     {
         let loaded = pack_task(shown);
         let claimed = pack_task(TaskWord {
@@ -101,7 +104,7 @@ impl Shared {
     pub(crate) fn load_params(&self, seated: &mut Seated, t: u32) -> Params
         requires { (op : Op) × (rec : Record) × HoldsFor self.now seated.old t op rec }
         ensures told { Tells self.now (SawParams result) seated.old seated.new }
-        ensures made { made_on seated.new ≡ made_on seated.old ++ Load (params_word_at self.now.terms.setup t) ∷ [] }
+        ensures made { made_on seated.new ≡ made_on seated.old ++ Load (params_word_at (terms self.now).setup t) ∷ [] }
     {
         let at = params_word_at(&self.terms.setup, t);
         let word = self.load::<LoadParams>(seated, at);
@@ -111,7 +114,7 @@ impl Shared {
     fn load_server(&self, seated: &mut Seated, t: u32) -> Server
         requires { (op : Op) × (rec : Record) × HoldsFor self.now seated.old t op rec }
         ensures told { Tells self.now (SawServer result) seated.old seated.new }
-        ensures made { made_on seated.new ≡ made_on seated.old ++ Load (server_word_at self.now.terms.setup t) ∷ [] }
+        ensures made { made_on seated.new ≡ made_on seated.old ++ Load (server_word_at (terms self.now).setup t) ∷ [] }
     {
         let at = server_word_at(&self.terms.setup, t);
         let word = self.load::<LoadServer>(seated, at);
@@ -122,11 +125,11 @@ impl Shared {
     fn look_at_task<J: Asked>(&self, seated: &mut Seated, t: u32, op: Op) -> Result<TaskWord, u64>
         requires seat { IsSeatOf self.now seated.old }
         requires free { hold_of seated.old ≡ Free }
-        requires task { t < length self.now.terms.setup.tasks }
-        requires op { IsOp self.now.terms.setup op }
+        requires task { t < length (terms self.now).setup.tasks }
+        requires op { IsOp (terms self.now).setup op }
         requires note { J.note ≡ record { task = t; op = op } }
         ensures told { Tells self.now (SawTask t op result) seated.old seated.new }
-        ensures made { made_on seated.new ≡ made_on seated.old ++ Load (task_word_at self.now.terms.setup t) ∷ [] }
+        ensures made { made_on seated.new ≡ made_on seated.old ++ Load (task_word_at (terms self.now).setup t) ∷ [] }
         ensures free { IfOk result (λ w. TaskFits w × (w.claimed ≡ false)) }
     {
         let word = self.load_task::<J>(seated, t, op);
@@ -140,7 +143,7 @@ impl Shared {
     fn load_record(&self, seated: &mut Seated, t: u32, shown: TaskWord) -> Record
         requires { (op : Op) × (rec : Record) × HoldsFor self.now seated.old t op rec × (shown.place ≡ rec.place) × (shown.count ≡ rec.count) }
         ensures told { Tells self.now (SawRecord result) seated.old seated.new }
-        ensures made { made_on seated.new ≡ made_on seated.old ++ Load (params_word_at self.now.terms.setup t) ∷ Load (server_word_at self.now.terms.setup t) ∷ [] }
+        ensures made { made_on seated.new ≡ made_on seated.old ++ Load (params_word_at (terms self.now).setup t) ∷ Load (server_word_at (terms self.now).setup t) ∷ [] }
     {
         let params = self.load_params(seated, t);
         let server = self.load_server(seated, t);
@@ -156,10 +159,10 @@ impl Shared {
     /// Where another pass has the task, or changed it meanwhile, the answer is `Busy` with what was seen.
     pub fn start(&self, pass: Pass, t: u32, op: Op) -> Started
         requires of { IsPassOf self.now pass }
-        requires task { t < length self.now.terms.setup.tasks }
-        requires op { IsOp self.now.terms.setup op }
+        requires task { t < length (terms self.now).setup.tasks }
+        requires op { IsOp (terms self.now).setup op }
         ensures started { IsStarted self.now pass t op result }
-        ensures brief { StartsBriefly (task_word_at self.now.terms.setup t) (accesses pass) (started_accesses result) }
+        ensures brief { StartsBriefly (task_word_at (terms self.now).setup t) (accesses pass) (started_accesses result) }
     {
         let Pass { mut seated } = pass;
         let shown = match self.look_at_task::<Brand>(&mut seated, t, op) {

@@ -6,9 +6,9 @@ ghost use Rattle.grub_table.specs.declared.view.Access.TheVariants.{Load, Store,
 ghost use Rattle.grub_table.specs.inside.Between.{made_step, IsAllowed, IsSeatOf, Tells};
 ghost use Rattle.grub_table.specs.Calls.{made_on};
 
-use crate::pass::Shared;
 use crate::rule::{Telling, Turn};
 use crate::seated::Seated;
+use crate::shared::Shared;
 use crate::view::Note;
 
 impl Shared {

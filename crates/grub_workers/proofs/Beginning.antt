@@ -4,7 +4,7 @@ use Rattle.std.proofs.lemmas.List.Elements.{All-nil}
 use Rattle.std.specs.FinMap as map
 use Rattle.grub_book.specs.History.{calls_of}
 use Rattle.grub_table.specs.declared.pass.Pass.{Pass}
-use Rattle.grub_table.specs.declared.pass.Shared.{Shared}
+use Rattle.grub_table.specs.declared.shared.Shared.{Shared}
 use Rattle.grub_table.specs.Calls.{IsNew, marks, seen}
 use Rattle.grub_plan.specs.declared.entry.Entry.{Entry}
 use Rattle.grub_plan.specs.Texts.{IsAskOf}

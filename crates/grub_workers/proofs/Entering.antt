@@ -5,7 +5,7 @@ use Rattle.std.proofs.lemmas.Grind.{common_steps}
 use Rattle.grub_book.specs.declared.event.Reading.{Reading}
 use Rattle.grub_book.specs.declared.event.Event.TheVariants as events
 use Rattle.grub_table.specs.declared.pass.Pass.{Pass}
-use Rattle.grub_table.specs.declared.pass.Shared.{Shared}
+use Rattle.grub_table.specs.declared.shared.Shared.{Shared}
 use Rattle.grub_table.specs.Knowing.{GoesOn, Learns}
 use Rattle.grub_table.specs.Marks.{marker_of}
 use Rattle.grub_book.specs.History.{pass_of}

@@ -14,10 +14,10 @@ use Rattle.grub_table.specs.declared.view.Mark.{Mark}
 use Rattle.grub_table.specs.declared.view.Mark.TheVariants.{Taken, Given}
 use Rattle.grub_table.specs.declared.view.Terms.{Terms}
 use Rattle.grub_table.specs.declared.pass.Pass.{Pass}
-use Rattle.grub_table.specs.declared.pass.Claim.{Claim}
-use Rattle.grub_table.specs.declared.pass.Shared.{Shared}
-use Rattle.grub_table.specs.declared.pass.Sighting.{Sighting}
-use Rattle.grub_table.specs.declared.pass.Sighting.TheVariants.{Claimed, Changed}
+use Rattle.grub_table.specs.declared.claim.Claim.{Claim}
+use Rattle.grub_table.specs.declared.shared.Shared.{Shared}
+use Rattle.grub_table.specs.declared.answer.Sighting.{Sighting}
+use Rattle.grub_table.specs.declared.answer.Sighting.TheVariants.{Claimed, Changed}
 use Rattle.grub_table.specs.Layout.{shown}
 use Rattle.grub_table.specs.Histories.{IsHistory, EndsWith, record_in}
 use Rattle.grub_table.specs.Knowing.{GoesOn, Learns}

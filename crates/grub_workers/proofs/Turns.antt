@@ -5,8 +5,8 @@ use Rattle.grub_book.specs.declared.event.Event.{Event}
 use Rattle.grub_book.specs.declared.op.Op.{Op}
 use Rattle.grub_table.specs.declared.view.Mark.TheVariants.{Taken}
 use Rattle.grub_table.specs.declared.pass.Pass.{Pass}
-use Rattle.grub_table.specs.declared.pass.Claim.{Claim}
-use Rattle.grub_table.specs.declared.pass.Shared.{Shared}
+use Rattle.grub_table.specs.declared.claim.Claim.{Claim}
+use Rattle.grub_table.specs.declared.shared.Shared.{Shared}
 use Rattle.grub_table.specs.Knowing.{Learns}
 use Rattle.grub_table.specs.Calls.{IsPassOf, IsClaimOf, number_of, share_of, claim_share, claim_queue, claim_changes_sum, seen, marks}
 use Rattle.grub_workers.specs.declared.asking.Turn.{Turn}

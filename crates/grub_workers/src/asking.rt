@@ -1,7 +1,7 @@
 //! One ask of an op: rounds of `start` and `finish`.
 ghost use Rattle.std.specs.Prelude.{◌<◌, ◌≤◌, length};
 ghost use Rattle.grub_book.specs.Op.{IsOp};
-ghost use Rattle.grub_table.specs.Calls.{IsPassOf};
+ghost use Rattle.grub_table.specs.Calls.{terms, IsPassOf};
 ghost use Rattle.grub_plan.specs.declared.entry.Ask.TheVariants.{Call};
 ghost use Rattle.grub_asks.specs.Keeping.{WaitsRightly};
 ghost use Rattle.grub_workers.specs.inside.Working.{IsAsked};
@@ -27,8 +27,8 @@ pub fn ask<G: Gate>(
     op: Op,
 ) -> (Pass, Answer)
     requires of { IsPassOf desk.now.table.now pass }
-    requires task { t < length desk.now.table.now.terms.setup.tasks }
-    requires op { IsOp desk.now.table.now.terms.setup op }
+    requires task { t < length (terms desk.now.table.now).setup.tasks }
+    requires op { IsOp (terms desk.now.table.now).setup op }
     requires rounds { 1 ≤ desk.now.rounds }
     ensures asked { IsAsked desk.now.table.now desk.now.tries pass (Call t op) result.0 result.1 }
     ensures waits { WaitsRightly op result.1 }

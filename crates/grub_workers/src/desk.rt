@@ -3,7 +3,7 @@ ghost use Rattle.std.specs.Prelude.{◌<◌, [], ◌∷◌, length};
 ghost use Rattle.grub_book.specs.Op.{IsOp};
 ghost use Rattle.grub_book.specs.declared.event.Event.TheVariants.{Look};
 ghost use Rattle.grub_table.specs.Knowing.{Learns};
-ghost use Rattle.grub_table.specs.Calls.{IsCancelled, IsClaimOf, IsFinished, IsPassOf, IsStarted, number_of, share_of};
+ghost use Rattle.grub_table.specs.Calls.{terms, IsCancelled, IsClaimOf, IsFinished, IsPassOf, IsStarted, number_of, share_of};
 
 use crate::gate::Gate;
 use grub_book::{Op, Reading};
@@ -23,8 +23,8 @@ impl<G: Gate> Desk<'_, G> {
     /// `start` of the table. It is one more call of the worker.
     pub fn start(&self, calls: &mut u64, pass: Pass, t: u32, op: Op) -> Started
         requires of { IsPassOf self.now.table.now pass }
-        requires task { t < length self.now.table.now.terms.setup.tasks }
-        requires op { IsOp self.now.table.now.terms.setup op }
+        requires task { t < length (terms self.now.table.now).setup.tasks }
+        requires op { IsOp (terms self.now.table.now).setup op }
         ensures { IsStarted self.now.table.now pass t op result }
     {
         self.before(calls);
@@ -58,7 +58,7 @@ impl<G: Gate> Desk<'_, G> {
     /// `read` of the table, of the worker's own runqueue.
     pub fn read(&self, calls: &mut u64, pass: &mut Pass) -> Reading
         requires of { IsPassOf self.now.table.now pass.old }
-        requires queue { self.now.number < length self.now.table.now.terms.setup.queues }
+        requires queue { self.now.number < length (terms self.now.table.now).setup.queues }
         ensures of { IsPassOf self.now.table.now pass.new }
         ensures learns { Learns (share_of pass.old) (share_of pass.new) (Look (number_of pass.old) self.now.number result ∷ []) [] }
     {

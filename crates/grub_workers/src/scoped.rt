@@ -1,6 +1,6 @@
 //! A thread for each file.
 ghost use Rattle.std.specs.Prelude.{◌≡◌, ℕ, ◌<◌, ◌≤◌, None, length, IfOk, vec_len, slice_index_or};
-ghost use Rattle.grub_table.specs.Calls.{AreNew, IsNew};
+ghost use Rattle.grub_table.specs.Calls.{terms, AreNew, IsNew};
 ghost use Rattle.grub_plan.specs.Limits.{ScriptFits};
 ghost use Rattle.grub_workers.specs.inside.Working.{IsWorked};
 ghost use Rattle.grub_workers.specs.inside.Handles.{AllFit, AllWorked, Handle, HasRoom, IsOf};
@@ -105,7 +105,7 @@ fn start_all<'s, 'e, G: Gate>(
         let handle = scope.spawn_with(
             promise,
             move || -> Result<Worked, AllocError>
-                requires { IsNew table.now number pass × ScriptFits (length table.now.terms.setup.tasks) 0 script.now × (number < length table.now.terms.setup.queues) × (1 ≤ rounds) }
+                requires { IsNew table.now number pass × ScriptFits (length (terms table.now).setup.tasks) 0 script.now × (number < length (terms table.now).setup.queues) × (1 ≤ rounds) }
                 ensures { IfOk result (λ w. IsWorked table.entry.now tries number script.entry.now w.pass w.report.entries.items) }
             {
                 let desk = Desk {

@@ -2,6 +2,7 @@
 ghost use Rattle.std.specs.Prelude.{◌≡◌, ◌<◌, ◌≤◌, ◌^◌, [], Some, None, IfOk, length};
 ghost use Rattle.grub_asks.specs.Asked.{Asked, AsksLine, Follows, JoinsAfter};
 ghost use Rattle.grub_plan.specs.Limits.{ActFits, ScriptFits};
+ghost use Rattle.grub_table.specs.Calls.{terms};
 ghost use Rattle.grub_workers.specs.inside.Working.{IsAtWork, IsNotPast};
 
 use crate::desk::Desk;
@@ -24,8 +25,8 @@ fn join_here<G: Gate>(
     answer: Answer,
 ) -> Result<Pass, AllocError>
     requires at_work { IsAtWork desk.now.table.now desk.now.tries desk.now.number pass progress.old }
-    requires task { t < length desk.now.table.now.terms.setup.tasks }
-    requires queue { desk.now.number < length desk.now.table.now.terms.setup.queues }
+    requires task { t < length (terms desk.now.table.now).setup.tasks }
+    requires queue { desk.now.number < length (terms desk.now.table.now).setup.queues }
     requires moment { m < 2 ^ 31 }
     requires rounds { 1 ≤ desk.now.rounds }
     requires last { progress.old.wheel.last ≡ Some m }
@@ -53,8 +54,8 @@ fn follow<G: Gate>(
     answer: Answer,
 ) -> Result<Pass, AllocError>
     requires at_work { IsAtWork desk.now.table.now desk.now.tries desk.now.number pass progress.old }
-    requires act { ActFits (length desk.now.table.now.terms.setup.tasks) act }
-    requires queue { desk.now.number < length desk.now.table.now.terms.setup.queues }
+    requires act { ActFits (length (terms desk.now.table.now).setup.tasks) act }
+    requires queue { desk.now.number < length (terms desk.now.table.now).setup.queues }
     requires moment { m < 2 ^ 31 }
     requires rounds { 1 ≤ desk.now.rounds }
     requires last { progress.old.wheel.last ≡ Some m }
@@ -79,8 +80,8 @@ fn ask_line<G: Gate>(
     line: Line,
 ) -> Result<Pass, AllocError>
     requires at_work { IsAtWork desk.now.table.now desk.now.tries desk.now.number pass progress.old }
-    requires act { ActFits (length desk.now.table.now.terms.setup.tasks) line.act }
-    requires queue { desk.now.number < length desk.now.table.now.terms.setup.queues }
+    requires act { ActFits (length (terms desk.now.table.now).setup.tasks) line.act }
+    requires queue { desk.now.number < length (terms desk.now.table.now).setup.queues }
     requires moment { line.m < 2 ^ 31 }
     requires rounds { 1 ≤ desk.now.rounds }
     requires not_past { IsNotPast line.m progress.old }
@@ -108,8 +109,8 @@ pub fn ask_script<G: Gate>(
 ) -> Result<Pass, AllocError>
     requires at_work { IsAtWork desk.now.table.now desk.now.tries desk.now.number pass progress.old }
     requires empty { progress.old.entries.items ≡ [] }
-    requires fits { ScriptFits (length desk.now.table.now.terms.setup.tasks) 0 script.now }
-    requires queue { desk.now.number < length desk.now.table.now.terms.setup.queues }
+    requires fits { ScriptFits (length (terms desk.now.table.now).setup.tasks) 0 script.now }
+    requires queue { desk.now.number < length (terms desk.now.table.now).setup.queues }
     requires rounds { 1 ≤ desk.now.rounds }
     requires last { progress.old.wheel.last ≡ None }
     ensures at_work { IfOk result (λ p. IsAtWork desk.now.table.now desk.now.tries desk.now.number p progress.new) }

@@ -1,6 +1,6 @@
 //! The work of one thread, and what its join promises.
 ghost use Rattle.std.specs.Prelude.{◌<◌, ◌≤◌, IfOk, length};
-ghost use Rattle.grub_table.specs.Calls.{IsNew};
+ghost use Rattle.grub_table.specs.Calls.{terms, IsNew};
 ghost use Rattle.grub_plan.specs.Limits.{ScriptFits};
 ghost use Rattle.grub_workers.specs.inside.Working.{IsWorked};
 
@@ -42,8 +42,8 @@ pub fn work_through<G: Gate>(
     pass: Pass,
 ) -> Result<Worked, AllocError>
     requires fresh { IsNew desk.now.table.now desk.now.number pass }
-    requires fits { ScriptFits (length desk.now.table.now.terms.setup.tasks) 0 script.now }
-    requires queue { desk.now.number < length desk.now.table.now.terms.setup.queues }
+    requires fits { ScriptFits (length (terms desk.now.table.now).setup.tasks) 0 script.now }
+    requires queue { desk.now.number < length (terms desk.now.table.now).setup.queues }
     requires rounds { 1 ≤ desk.now.rounds }
     ensures { IfOk result (λ w. IsWorked desk.now.table.now desk.now.tries desk.now.number script.now w.pass w.report.entries.items) }
 {

@@ -5,6 +5,7 @@ ghost use Rattle.grub_plan.specs.declared.entry.Ask.TheVariants.{Call, Read};
 ghost use Rattle.grub_asks.specs.Asked.{GoesOn, entry};
 ghost use Rattle.grub_asks.specs.Keeping.{WaitsRightly};
 ghost use Rattle.grub_asks.specs.inside.Keeping.{IsLineOp};
+ghost use Rattle.grub_table.specs.Calls.{terms};
 ghost use Rattle.grub_workers.specs.inside.Working.{IsAtWork, IsToldBy};
 
 use crate::asking::ask;
@@ -36,8 +37,8 @@ pub fn put<G: Gate>(
     op: Op,
 ) -> Result<(Pass, Answer), AllocError>
     requires told { IsToldBy desk.now.table.now desk.now.tries desk.now.number pass progress.old.entries.items }
-    requires task { t < length desk.now.table.now.terms.setup.tasks }
-    requires op { IsOp desk.now.table.now.terms.setup op }
+    requires task { t < length (terms desk.now.table.now).setup.tasks }
+    requires op { IsOp (terms desk.now.table.now).setup op }
     requires rounds { 1 ≤ desk.now.rounds }
     ensures told { IfOk result (λ r. IsToldBy desk.now.table.now desk.now.tries desk.now.number r.0 progress.new.entries.items) }
     ensures list { IfOk result (λ r. progress.new.entries.items ≡ progress.old.entries.items ++ entry m (Call t op) r.1 ∷ []) }
@@ -64,8 +65,8 @@ pub fn call<G: Gate>(
     op: Op,
 ) -> Result<(Pass, Answer), AllocError>
     requires at_work { IsAtWork desk.now.table.now desk.now.tries desk.now.number pass progress.old }
-    requires task { t < length desk.now.table.now.terms.setup.tasks }
-    requires op { IsOp desk.now.table.now.terms.setup op }
+    requires task { t < length (terms desk.now.table.now).setup.tasks }
+    requires op { IsOp (terms desk.now.table.now).setup op }
     requires line { IsLineOp m op }
     requires rounds { 1 ≤ desk.now.rounds }
     requires last { progress.old.wheel.last ≡ Some m }
@@ -87,7 +88,7 @@ pub fn look<G: Gate>(
     m: u32,
 ) -> Result<Pass, AllocError>
     requires at_work { IsAtWork desk.now.table.now desk.now.tries desk.now.number pass progress.old }
-    requires queue { desk.now.number < length desk.now.table.now.terms.setup.queues }
+    requires queue { desk.now.number < length (terms desk.now.table.now).setup.queues }
     ensures at_work { IfOk result (λ p. IsAtWork desk.now.table.now desk.now.tries desk.now.number p progress.new) }
     ensures last { IfOk result (λ p. progress.new.wheel.last ≡ progress.old.wheel.last) }
     ensures goes_on { IfOk result (λ p. GoesOn m Read progress.old.entries.items progress.new.entries.items) }

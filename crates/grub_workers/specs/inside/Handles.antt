@@ -3,8 +3,9 @@ use Rattle.std.specs.Prelude.{◌≡◌, ℕ, ◌<◌, ◌≤◌, List, [], leng
 use Rattle.std.specs.declared.alloc.AllocError.{AllocError}
 use Rattle.std.specs.declared.vec.Vec.{Vec}
 use Rattle.std.specs.declared.thread.PromisedHandle.{PromisedHandle}
+use Rattle.grub_table.specs.Calls.{terms}
 use Rattle.grub_table.specs.declared.pass.Pass.{Pass}
-use Rattle.grub_table.specs.declared.pass.Shared.{Shared}
+use Rattle.grub_table.specs.declared.shared.Shared.{Shared}
 use Rattle.grub_plan.specs.declared.entry.Report.{Report}
 use Rattle.grub_plan.specs.Plans.{Line, PlanView}
 use Rattle.grub_workers.specs.declared.work.WorkOf.{WorkOf}
@@ -24,7 +25,7 @@ pub record IsOf (s : Shared) (tries : ℕ) (scripts : List (List Line)) (i : ℕ
 
 -- the table has a runqueue for each file, and its tasks
 pub record AllFit (s : Shared) (plan : PlanView) : Type 0 where
-  pub setup : s.terms.setup ≡ plan.setup
+  pub setup : (terms s).setup ≡ plan.setup
   pub queues : length plan.scripts ≡ length plan.setup.queues
 
 -- two empty lists that take n without growing

@@ -3,9 +3,9 @@ use Rattle.std.specs.Prelude.{◌≡◌, ◌≤◌, ℕ, Some, List}
 use Rattle.grub_book.specs.Machine.{Machine}
 use Rattle.grub_book.specs.History.{calls_of}
 use Rattle.grub_table.specs.declared.pass.Pass.{Pass}
-use Rattle.grub_table.specs.declared.pass.Shared.{Shared}
+use Rattle.grub_table.specs.declared.shared.Shared.{Shared}
 use Rattle.grub_table.specs.Knowing.{Learns}
-use Rattle.grub_table.specs.Calls.{IsPassOf, number_of, share_of, seen, marks}
+use Rattle.grub_table.specs.Calls.{terms, IsPassOf, number_of, share_of, seen, marks}
 use Rattle.grub_plan.specs.Plans.{Line}
 use Rattle.grub_plan.specs.declared.entry.Ask.{Ask}
 use Rattle.grub_plan.specs.declared.entry.Answer.{Answer}
@@ -18,7 +18,7 @@ use Rattle.grub_workers.specs.inside.Entries.{mark_told, marks_of, marks_told}
 use Rattle.grub_workers.specs.inside.Evidence.{IsBacked, AreBacked}
 
 abbrev pub machine : Shared → Machine
-machine s = s.terms.setup
+machine s = (terms s).setup
 
 -- one ask of the pass was answered so
 pub record IsAsked (s : Shared) (tries : ℕ) (p : Pass) (ask : Ask) (q : Pass) (answer : Answer) : Type 0 where

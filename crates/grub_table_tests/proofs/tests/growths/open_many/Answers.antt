@@ -2,8 +2,8 @@ use Rattle.std.proofs.Common.{Result, Ok, Err, IfOk, Vec, Global}
 use Rattle.std.specs.List.{All}
 use Rattle.grub_book.specs.Machine.{Machine}
 use Rattle.grub_table.specs.declared.pass.Pass.{Pass}
-use Rattle.grub_table.specs.declared.pass.Shared.{Shared}
-use Rattle.grub_table.specs.declared.pass.OpenFault.{OpenFault}
+use Rattle.grub_table.specs.declared.shared.Shared.{Shared}
+use Rattle.grub_table.specs.declared.fault.OpenFault.{OpenFault}
 use Rattle.grub_table.specs.Calls.{IsOpened, IsPassOf}
 use Rattle.grub_table_tests.proofs.tests.growths.open_many.Goals as goal
 

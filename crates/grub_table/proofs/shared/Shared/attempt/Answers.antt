@@ -1,0 +1,73 @@
+use Rattle.std.proofs.Common.{ℕ, ◌≤◌, sym, refl, subst, ◌∙◌, arith}
+use Rattle.grub_book.specs.declared.place.Record.{Record}
+use Rattle.grub_book.specs.declared.event.Event.{Event}
+use Rattle.grub_book.specs.declared.event.Event.TheVariants.{Call}
+use Rattle.grub_book.specs.declared.reply.Reply.{Reply}
+use Rattle.grub_words.proofs.Bounds.{ServerFits-kept}
+use Rattle.grub_table.specs.declared.claim.Claim.{Claim}
+use Rattle.grub_table.specs.declared.shared.Shared.{Shared}
+use Rattle.grub_table.specs.declared.seated.Seated.{Seated}
+use Rattle.grub_table.specs.declared.view.Stored.{Stored}
+use Rattle.grub_table.specs.Calls.{claim_share}
+use Rattle.grub_table.specs.Histories.{WasBefore}
+use Rattle.grub_table.specs.inside.Between.{Tells}
+use Rattle.grub_table.specs.inside.Tellings.{Finishes, StoredServer}
+use Rattle.grub_table.proofs.Brief.{made_by_try}
+use Rattle.grub_table.proofs.Tries.{IsMade, done, lost, tried}
+use Rattle.grub_table.proofs.shared.Shared.attempt.Goals as goal
+
+-- the server's word is stored after the event
+stored_server : (s : Shared) (c : Claim) (p : Record × Reply) (stored : Stored) (old new : Seated) (n : ℕ) → IsMade s c p stored old → Tells s (StoredServer n) old new → IsMade s c p (record { server = n; params = stored.params }) new
+stored_server s c p stored old new n made told =
+    let x = claim_share c in
+    let e : Event = Call x.number c.task c.op p.1 in
+    let h = made.holds in
+    let w = told.of c.task h.hold.0 p.0 stored h.hold.1 in record {
+      holds = record { seat_of = told.seat; task = h.task; hold = (h.hold.0, w.2) };
+      number = told.number ∙ made.number;
+      marks = w.1 ∙ made.marks;
+      calls = subst (Finishes s.terms x.number x.seen e) (sym w.0) made.calls;
+      was = subst (WasBefore s.terms c.task c.held e) (sym w.0) made.was;
+      kept = made.kept;
+      claimed = made.claimed;
+    }
+
+-- ---- the answers
+pub invariant_of-result : goal.invariant_of-result
+invariant_of-result c =
+    let q = c.args.claim in
+    let tells = c.in_default.ensures.told in
+    record { holds = (tells.of q.task q.op q.held q.holds).1.1 ∙ q.holds }
+
+pub returns-in_default-clause-finished : goal.returns-in_default-clause-finished
+returns-in_default-clause-finished c = lost c.args.self.now c.args.claim c.requires.of c.decide.new.seated _ refl refl refl refl c.in_default.ensures.told
+
+pub store_server-requires-clause-held : goal.store_server-requires-clause-held
+store_server-requires-clause-held c =
+    let made = tried c.args.self.now c.args.claim c.requires.of (c.in-Some.next, c.in-Some.reply) c.decide.new.seated c.in-Some.ensures.told in
+    (c.in-Some.next, _, made.holds)
+
+pub store_server-requires-clause-fits : goal.store_server-requires-clause-fits
+store_server-requires-clause-fits c =
+    let made = tried c.args.self.now c.args.claim c.requires.of (c.in-Some.next, c.in-Some.reply) c.decide.new.seated c.in-Some.ensures.told in
+    (ServerFits-kept _ _ made.kept).0
+
+pub hand_back-pass-requires-clause-held : goal.hand_back-pass-requires-clause-held
+hand_back-pass-requires-clause-held c =
+    let made = tried c.args.self.now c.args.claim c.requires.of (c.in-Some.next, c.in-Some.reply) c.decide.new.seated c.in-Some.ensures.told in
+    (stored_server c.args.self.now c.args.claim _ _ c.decide.new.seated c.store_server.new.seated _ made c.store_server.ensures.told).holds
+
+pub hand_back-pass-requires-clause-kept : goal.hand_back-pass-requires-clause-kept
+hand_back-pass-requires-clause-kept c = (tried c.args.self.now c.args.claim c.requires.of (c.in-Some.next, c.in-Some.reply) c.decide.new.seated c.in-Some.ensures.told).kept
+
+pub returns-clause-finished : goal.returns-clause-finished
+returns-clause-finished c =
+    let made = tried c.args.self.now c.args.claim c.requires.of (c.in-Some.next, c.in-Some.reply) c.decide.new.seated c.in-Some.ensures.told in
+    let stored = stored_server c.args.self.now c.args.claim _ _ c.decide.new.seated c.store_server.new.seated _ made c.store_server.ensures.told in
+    done c.args.self.now c.args.claim c.requires.of _ _ c.store_server.new.seated stored 1 _ c.hand_back-pass.ensures.seen c.hand_back-pass.ensures.told (λ _. one)
+  where
+    one : 1 ≤ 1
+    one = omega arith
+
+pub returns-clause-within : goal.returns-clause-within
+returns-clause-within c = made_by_try _ _ _ _ _ _ _ (c.in-Some.next, c.in-Some.reply) _ _ _ _ c.in-Some.ensures.made c.store_server.ensures.made c.hand_back-pass.ensures.made

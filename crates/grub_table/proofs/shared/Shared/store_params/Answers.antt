@@ -1,0 +1,11 @@
+use Rattle.std.proofs.Common.{subst}
+use Rattle.grub_table.specs.inside.Between.{Tells}
+use Rattle.grub_table.specs.inside.Tellings.{StoredParams}
+use Rattle.grub_table.proofs.StoreTurns.{store_params_allowed}
+use Rattle.grub_table.proofs.shared.Shared.store_params.Goals as goal
+
+pub store-requires-clause-allowed : goal.store-requires-clause-allowed
+store-requires-clause-allowed c = store_params_allowed c.args.self.now c.args.seated.now c.args.t _ _ _ c.requires.2 _ c.params_word_at-at.ensures.value
+
+pub returns-clause-told : goal.returns-clause-told
+returns-clause-told c = subst (λ n. Tells c.args.self.now (StoredParams n) c.args.seated.now c.store.new.seated) c.pack_params.ensures c.store.ensures.told
