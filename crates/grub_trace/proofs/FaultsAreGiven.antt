@@ -123,26 +123,25 @@ script_stop_again names (b ∷ bs) m after done n known none =
     ap (λ (o : Option Line). option_or_err n o >>= λ l. script_from names (done ++ l ∷ []) (n + 1) (bs ++ m ∷ after)) s.1
     ∙ script_stop_again names bs m after (done ++ s.0 ∷ []) (n + 1) known.1 none ∙ ap (λ (k : ℕ). Err k) (omega arith)
 
-scripts_stop_again : (names : List (List ℕ)) (fronts : List Tree) (t : Tree) (more : List Tree) (done : List (List Line)) (f place : ℕ) → AllByRecursion (λ (t : Tree). AreKnown names t.happenings) fronts → UnknownIn names t.happenings place
-    → scripts_from names done f (map body_of_tree (fronts ++ t ∷ more)) ≡ Err (UnknownTask, f + length fronts, 3 + length t.tasks + place)
+scripts_stop_again : (names : List (List ℕ)) (fronts : List Tree) (t : Tree) (more : List Tree) (done : List (List Line)) (f : ℕ) → AllByRecursion (λ (t : Tree). AreKnown names t.happenings) fronts → (u : UnknownIn names t.happenings)
+    → scripts_from names done f (map body_of_tree (fronts ++ t ∷ more)) ≡ Err (UnknownTask, f + length fronts, 3 + length t.tasks + length u.before)
 unfolding scripts_from
-scripts_stop_again names [] t more done f place known u =
-    let s = ap (script_from names [] (3 + length t.tasks)) u.happenings_are ∙ script_stop_again names u.before u.happening u.after [] (3 + length t.tasks) u.known u.unknown ∙ ap (λ (k : ℕ). Err (3 + length t.tasks + k)) (sym u.line) in
-    ap (λ (r : Result (List Line) ℕ). unknown_in f r >>= λ s. scripts_from names (done ++ s ∷ []) (f + 1) (map body_of_tree more)) s ∙ ap (λ (g : ℕ). Err (UnknownTask, g, 3 + length t.tasks + place)) (omega arith)
-scripts_stop_again names (x ∷ xs) t more done f place known u =
+scripts_stop_again names [] t more done f known u =
+    let s = ap (script_from names [] (3 + length t.tasks)) u.happenings_are ∙ script_stop_again names u.before u.happening u.after [] (3 + length t.tasks) u.known u.unknown in
+    ap (λ (r : Result (List Line) ℕ). unknown_in f r >>= λ s. scripts_from names (done ++ s ∷ []) (f + 1) (map body_of_tree more)) s ∙ ap (λ (g : ℕ). Err (UnknownTask, g, 3 + length t.tasks + length u.before)) (omega arith)
+scripts_stop_again names (x ∷ xs) t more done f known u =
     ap (λ (r : Result (List Line) ℕ). unknown_in f r >>= λ s. scripts_from names (done ++ s ∷ []) (f + 1) (map body_of_tree (xs ++ t ∷ more))) (script_again names x.happenings [] (3 + length x.tasks) known.0)
-    ∙ scripts_stop_again names xs t more (done ++ script_of names x ∷ []) (f + 1) place known.1 u ∙ ap (λ (g : ℕ). Err (UnknownTask, g, 3 + length t.tasks + place)) (omega arith)
+    ∙ scripts_stop_again names xs t more (done ++ script_of names x ∷ []) (f + 1) known.1 u ∙ ap (λ (g : ℕ). Err (UnknownTask, g, 3 + length t.tasks + length u.before)) (omega arith)
 
-unknown_again : (files : List (List ℕ)) (k : Kind) (f n : ℕ) → 1 ≤ length files → length files ≤ 64 → UnknownFault files k f n → plan_from files ≡ Err (k, f, n)
+unknown_again : (files : List (List ℕ)) (f n : ℕ) → 1 ≤ length files → length files ≤ 64 → UnknownFault files f n → plan_from files ≡ Err (UnknownTask, f, n)
 unfolding plan_from
-unknown_again files k f n some few u =
+unknown_again files f n some few u =
     let read : read_from (record { declared = []; files = [] }) 0 files ≡ Ok (record { declared = all_tasks u.trees; files = map body_of_tree u.trees }) = ap (read_from (record { declared = []; files = [] }) 0) u.texts ∙ files_again u.trees (record { declared = []; files = [] }) 0 u.trees_are in
-    let stop : scripts_from (names_of (all_tasks u.trees)) [] 0 (map body_of_tree u.trees) ≡ Err (k, f, n) =
+    let stop : scripts_from (names_of (all_tasks u.trees)) [] 0 (map body_of_tree u.trees) ≡ Err (UnknownTask, f, n) =
     ap (λ (ts : List Tree). scripts_from (names_of (all_tasks u.trees)) [] 0 (map body_of_tree ts)) u.split
-    ∙ scripts_stop_again (names_of (all_tasks u.trees)) u.fronts u.tree u.more [] 0 u.place u.known u.unknown
-    ∙ ap (λ (j : Kind). Err (j, 0 + length u.fronts, 3 + length u.tree.tasks + u.place)) (sym u.kind)
-    ∙ ap (λ (g : ℕ). Err (k, g, 3 + length u.tree.tasks + u.place)) (omega (arith, u.file))
-    ∙ ap (λ (m : ℕ). Err (k, f, m)) (sym u.line) in
+    ∙ scripts_stop_again (names_of (all_tasks u.trees)) u.fronts u.tree u.more [] 0 u.known u.unknown
+    ∙ ap (λ (g : ℕ). Err (UnknownTask, g, 3 + length u.tree.tasks + length u.unknown.before)) (omega (arith, u.file))
+    ∙ ap (λ (m : ℕ). Err (UnknownTask, f, m)) (sym u.line) in
     rw (le-ltb 64 (length files) few, not_zero (length files) some, read, stop) refl
 
 -- the fault that the definitions say is the one that reading gives
@@ -154,4 +153,4 @@ plan_fault_again files _ _ _ (first k f n some few x) =
     let stop : read_from (record { declared = []; files = [] }) 0 files ≡ Err (k, f, n) =
     ap (read_from (record { declared = []; files = [] }) 0) x.files_are ∙ first_fault_again x.fronts (record { declared = []; files = [] }) 0 x.bytes x.more k n x.fronts_are x.fault ∙ ap (λ (g : ℕ). Err (k, g, n)) (omega (arith, x.file)) in
     rw (le-ltb 64 (length files) few, not_zero (length files) some, stop) refl
-plan_fault_again files _ _ _ (unknown k f n some few x) = unknown_again files k f n some few x
+plan_fault_again files _ _ _ (unknown f n some few x) = unknown_again files f n some few x

@@ -12,7 +12,8 @@ use Rattle.grub_trace.specs.declared.fault.Kind.{Kind}
 use Rattle.grub_trace.specs.declared.fault.TraceFault.{TraceFault}
 use Rattle.grub_trace.specs.declared.fault.TraceFault.TheVariants as fault
 use Rattle.grub_plan.specs.Plans.{Line}
-use Rattle.grub_trace.specs.Tree.{names_of, params_of}
+use Rattle.grub_trace.specs.Tree.{names_of}
+use Rattle.grub_trace.specs.inside.Tree.{params_of}
 use Rattle.grub_trace.proofs.Elsewhere.{not_zero}
 use Rattle.std.proofs.lemmas.Bool.{le-ltb}
 use Rattle.grub_plan.specs.Contents.{contents}

@@ -13,7 +13,8 @@ use Rattle.grub_trace.specs.declared.version.Version.{Version}
 use Rattle.grub_plan.specs.declared.line.Act.{Act}
 use Rattle.grub_plan.specs.declared.line.Act.TheVariants as act
 use Rattle.grub_plan.specs.Names.{is_name}
-use Rattle.grub_trace.specs.Tree.{Declaration, Happening, Tree, names_of, params_of, is_span, is_moment, text}
+use Rattle.grub_trace.specs.Tree.{Declaration, Happening, Tree, names_of, is_span, is_moment, text}
+use Rattle.grub_trace.specs.inside.Tree.{params_of}
 use Rattle.grub_plan.specs.Plans.{Line, PlanView}
 use Rattle.grub_trace.specs.Naming.{task_of, line_in, act_in, script_of, all_tasks, plan_of}
 use Rattle.grub_trace.specs.Meaning.{GoOn, IsAct, AreKnown, Reads, AreDeclared, AreTrees}

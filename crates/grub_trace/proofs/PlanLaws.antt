@@ -32,18 +32,17 @@ script_read names (m ∷ more) done s n e = go (λ l h. script_read names more (
           (subst (λ (o : Option Line). IsSome o) (sym is) refl, h.1),
         )
 
-pub script_stops : (names : List (List ℕ)) (ms : List Happening) (done : List Line) (n m : ℕ) → script_from names done n ms ≡ Err m → (place : ℕ) × UnknownIn names ms place × (m ≡ n + place)
+pub script_stops : (names : List (List ℕ)) (ms : List Happening) (done : List Line) (n m : ℕ) → script_from names done n ms ≡ Err m → (u : UnknownIn names ms) × (m ≡ n + length u.before)
 unfolding script_from
 script_stops names [] done n m e = absurd cc
 script_stops names (x ∷ more) done n m e = go (λ l h. script_stops names more (done ++ l ∷ []) (n + 1) m h) (line_in names x) refl e
   where
-    go : ((l : Line) → script_from names (done ++ l ∷ []) (n + 1) more ≡ Err m → (place : ℕ) × UnknownIn names more place × (m ≡ n + 1 + place))
-        → (o : Option Line) → line_in names x ≡ o → (option_or_err n o >>= λ l. script_from names (done ++ l ∷ []) (n + 1) more) ≡ Err m → (place : ℕ) × UnknownIn names (x ∷ more) place × (m ≡ n + place)
-    go rest None is e = (0, record { before = []; happening = x; after = more; happenings_are = refl; known = tt; unknown = is; line = refl }, let h : n ≡ m = cc in omega (arith, h))
+    go : ((l : Line) → script_from names (done ++ l ∷ []) (n + 1) more ≡ Err m → (u : UnknownIn names more) × (m ≡ n + 1 + length u.before))
+        → (o : Option Line) → line_in names x ≡ o → (option_or_err n o >>= λ l. script_from names (done ++ l ∷ []) (n + 1) more) ≡ Err m → (u : UnknownIn names (x ∷ more)) × (m ≡ n + length u.before)
+    go rest None is e = (record { before = []; happening = x; after = more; happenings_are = refl; known = tt; unknown = is }, let h : n ≡ m = cc in omega (arith, h))
     go rest (Some l) is e =
         let h = rest l e in
-        let u = h.1 in (
-          suc h.0,
+        let u = h.0 in (
           record {
             before = x ∷ u.before;
             happening = u.happening;
@@ -51,9 +50,8 @@ script_stops names (x ∷ more) done n m e = go (λ l h. script_stops names more
             happenings_are = ap (λ (xs : List Happening). x ∷ xs) u.happenings_are;
             known = (subst (λ (o : Option Line). IsSome o) (sym is) refl, u.known);
             unknown = u.unknown;
-            line = ap suc u.line;
           },
-          omega (arith, h.2),
+          omega (arith, h.1),
         )
 
 unknown_ok : {X : Type 0} (f : ℕ) (r : Result X ℕ) (x : X) → unknown_in f r ≡ Ok x → r ≡ Ok x
@@ -78,9 +76,8 @@ pub record ScriptsStop (names : List (List ℕ)) (bs : List Body) (k : Kind) (g 
   pub split : bs ≡ fronts ++ body ∷ more
   pub known : AllByRecursion (λ (b : Body). AreKnown names b.happenings) fronts
   pub file : g ≡ length fronts
-  pub place : ℕ
-  pub unknown : UnknownIn names body.happenings place
-  pub line : n ≡ body.first + place
+  pub unknown : UnknownIn names body.happenings
+  pub line : n ≡ body.first + length unknown.before
 
 abbrev Where : Type 0
 Where = Kind × ℕ × ℕ
@@ -98,11 +95,11 @@ scripts_stops names (b ∷ more) done f k g n e =
     elim (bind_err (unknown_in f (script_from names [] b.first b.happenings)) (λ s. scripts_from names (done ++ s ∷ []) (f + 1) more) (k, g, n) e) [
       | inl x ↦ let u = unknown_err f (script_from names [] b.first b.happenings) k g n x in
           let s = script_stops names b.happenings [] b.first n u.0 in
-          (0, record { kind = u.1; fronts = []; body = b; more = more; split = refl; known = tt; file = refl; place = s.0; unknown = s.1; line = s.2 }, omega (arith, u.2))
+          (0, record { kind = u.1; fronts = []; body = b; more = more; split = refl; known = tt; file = refl; unknown = s.0; line = s.1 }, omega (arith, u.2))
       | inr x ↦ let s = script_read names b.happenings [] x.0 b.first (unknown_ok f (script_from names [] b.first b.happenings) x.0 x.1) in
           let h = scripts_stops names more (done ++ x.0 ∷ []) (f + 1) k g n x.2 in
           let u = h.1 in
-          (suc h.0, record { kind = u.kind; fronts = b ∷ u.fronts; body = u.body; more = u.more; split = ap (λ (xs : List Body). b ∷ xs) u.split; known = (s.1, u.known); file = ap suc u.file; place = u.place; unknown = u.unknown; line = u.line }, omega (arith, h.2))
+          (suc h.0, record { kind = u.kind; fronts = b ∷ u.fronts; body = u.body; more = u.more; split = ap (λ (xs : List Body). b ∷ xs) u.split; known = (s.1, u.known); file = ap suc u.file; unknown = u.unknown; line = u.line }, omega (arith, h.2))
     ]
 
 -- ---- files
@@ -275,12 +272,12 @@ plan_fault files k f n e =
               first k f n h.0 h.1 (subst (λ (i : ℕ). FirstFault [] files k i n) same u.1)
           | inr x ↦
               let t = files_read files (record { declared = []; files = [] }) x.0 0 x.1 in
-              unknown k f n h.0 h.1 (unknown_fault files k f n x.0 t x.2)
+              let u = unknown_fault files k f n x.0 t x.2 in subst (λ j. IsFault files j f n) (sym u.0) (unknown f n h.0 h.1 u.1)
         ]
       ]
     ]
   where
-    unknown_fault : (files : List (List ℕ)) (k : Kind) (f n : ℕ) (all : AllRead) (t : AllIs (record { declared = []; files = [] }) files all) → plan_of_read all ≡ Err (k, f, n) → UnknownFault files k f n
+    unknown_fault : (files : List (List ℕ)) (k : Kind) (f n : ℕ) (all : AllRead) (t : AllIs (record { declared = []; files = [] }) files all) → plan_of_read all ≡ Err (k, f, n) → (k ≡ UnknownTask) × UnknownFault files f n
     unknown_fault files k f n all t e =
         elim (bind_err (scripts_from (names_of all.declared) [] 0 all.files) (λ ss. Ok (plan_with (map (λ b. b.queue) all.files) (all.declared) (ss))) (k, f, n) e) [
           | inr x ↦ absurd (let y = x.2 in cc)
@@ -289,20 +286,27 @@ plan_fault files k f n e =
               let v = u.1 in
               let s = split_trees t.trees v.fronts v.body v.more (sym t.bodies_are ∙ v.split) in
               let names : names_of all.declared ≡ names_of (all_tasks t.trees) = ap names_of t.declared_is in
-              let known = known_bodies (names_of all.declared) s.0 (subst (λ (bs : List Body). AllByRecursion (λ (b : Body). AreKnown (names_of all.declared) b.happenings) bs) (sym s.4) v.known) in
-              record {
-                kind = v.kind;
-                trees = t.trees;
-                texts = t.texts;
-                trees_are = t.trees_are;
-                fronts = s.0;
-                tree = s.1;
-                more = s.2;
-                split = s.3;
-                file = omega (arith, u.2, v.file, ap length s.4, length-map s.0 body_of_tree);
-                known = subst (λ (ns : List (List ℕ)). AllByRecursion (λ (t : Tree). AreKnown ns t.happenings) s.0) names known;
-                place = v.place;
-                unknown = subst (λ (ns : List (List ℕ)). UnknownIn ns s.1.happenings v.place) names (subst (λ (b : Body). UnknownIn (names_of all.declared) b.happenings v.place) (sym s.5) v.unknown);
-                line = v.line ∙ ap (λ (b : Body). b.first + v.place) (sym s.5);
-              }
+              let known = known_bodies (names_of all.declared) s.0 (subst (λ (bs : List Body). AllByRecursion (λ (b : Body). AreKnown (names_of all.declared) b.happenings) bs) (sym s.4) v.known) in (
+                v.kind,
+                record {
+                  trees = t.trees;
+                  texts = t.texts;
+                  trees_are = t.trees_are;
+                  fronts = s.0;
+                  tree = s.1;
+                  more = s.2;
+                  split = s.3;
+                  file = omega (arith, u.2, v.file, ap length s.4, length-map s.0 body_of_tree);
+                  known = subst (λ (ns : List (List ℕ)). AllByRecursion (λ (t : Tree). AreKnown ns t.happenings) s.0) names known;
+                  unknown = record {
+                    before = v.unknown.before;
+                    happening = v.unknown.happening;
+                    after = v.unknown.after;
+                    happenings_are = ap (λ (b : Body). b.happenings) s.5 ∙ v.unknown.happenings_are;
+                    known = subst (λ (ns : List (List ℕ)). AreKnown ns v.unknown.before) names v.unknown.known;
+                    unknown = subst (λ (ns : List (List ℕ)). line_in ns v.unknown.happening ≡ None) names v.unknown.unknown;
+                  };
+                  line = v.line ∙ ap (λ (b : Body). b.first + length v.unknown.before) (sym s.5);
+                },
+              )
         ]

@@ -59,18 +59,16 @@ pub record FirstFault (names : List (List ℕ)) (files : List (List ℕ)) (k : K
   pub fault : FileFault (names ++ names_of (all_tasks fronts)) bytes k n
 
 -- the first happening that names a task which is not declared
-pub record UnknownIn (names : List (List ℕ)) (hs : List Happening) (n : ℕ) : Type 0 where
+pub record UnknownIn (names : List (List ℕ)) (hs : List Happening) : Type 0 where
   pub before : List Happening
   pub happening : Happening
   pub after : List Happening
   pub happenings_are : hs ≡ before ++ happening ∷ after
   pub known : AreKnown names before
   pub unknown : line_in names happening ≡ None
-  pub line : n ≡ length before
 
 -- all files have trees, and this is the first line that names a task that none declares
-pub record UnknownFault (files : List (List ℕ)) (k : Kind) (f n : ℕ) : Type 0 where
-  pub kind : k ≡ UnknownTask
+pub record UnknownFault (files : List (List ℕ)) (f n : ℕ) : Type 0 where
   pub trees : List Tree
   pub texts : files ≡ map text trees
   pub trees_are : AreTrees [] trees
@@ -80,16 +78,15 @@ pub record UnknownFault (files : List (List ℕ)) (k : Kind) (f n : ℕ) : Type 
   pub split : trees ≡ fronts ++ tree ∷ more
   pub file : f ≡ length fronts
   pub known : AllByRecursion (λ t. AreKnown (names_of (all_tasks trees)) t.happenings) fronts
-  pub place : ℕ
-  pub unknown : UnknownIn (names_of (all_tasks trees)) tree.happenings place
-  pub line : n ≡ 3 + length tree.tasks + place
+  pub unknown : UnknownIn (names_of (all_tasks trees)) tree.happenings
+  pub line : n ≡ 3 + length tree.tasks + length unknown.before
 
 -- the fault that is answered
 pub data IsFault (files : List (List ℕ)) : Kind → ℕ → ℕ → Type 0 where
   too_many : 64 < length files → IsFault files OutOfRange 64 1
   no_file : length files ≡ 0 → IsFault files MissingQueue 0 1
   first : (k : Kind) (f n : ℕ) → 1 ≤ length files → length files ≤ 64 → FirstFault [] files k f n → IsFault files k f n
-  unknown : (k : Kind) (f n : ℕ) → 1 ≤ length files → length files ≤ 64 → UnknownFault files k f n → IsFault files k f n
+  unknown : (f n : ℕ) → 1 ≤ length files → length files ≤ 64 → UnknownFault files f n → IsFault files UnknownTask f n
 
 abbrev pub IsTraceFault : List (List ℕ) → TraceFault → Type 0
 IsTraceFault files trace.NoMemory = Unit {0}

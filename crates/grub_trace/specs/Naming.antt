@@ -6,7 +6,7 @@ use Rattle.std.specs.List.{filter_map, flat_map}
 use Rattle.std.specs.Str.{bytes_eq}
 use Rattle.grub_plan.specs.declared.line.Act.{Act}
 use Rattle.grub_plan.specs.declared.line.Act.TheVariants as act
-use Rattle.grub_trace.specs.Tree.{Declaration, Happening, Tree, names_of, params_of}
+use Rattle.grub_trace.specs.Tree.{Declaration, Happening, Tree, names_of}
 
 -- ---- names to numbers
 
@@ -39,7 +39,7 @@ all_tasks ts = flat_map (λ t. t.tasks) ts
 
 -- the plan of these parts
 abbrev pub plan_with : List Capacity → List Declaration → List (List Line) → PlanView
-plan_with queues tasks scripts = record { setup = record { queues = queues; tasks = params_of tasks }; names = names_of tasks; scripts = scripts }
+plan_with queues tasks scripts = record { setup = record { queues = queues; tasks = map (λ d. d.params) tasks }; names = names_of tasks; scripts = scripts }
 
 abbrev pub plan_of : List Tree → PlanView
 plan_of ts = plan_with (map (λ t. t.queue) ts) (all_tasks ts) (map (script_of (names_of (all_tasks ts))) ts)

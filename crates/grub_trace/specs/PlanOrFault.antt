@@ -11,18 +11,16 @@ use Rattle.grub_trace.specs.Meaning.{Reads}
 use Rattle.grub_trace.specs.Naming.{plan_of}
 use Rattle.grub_trace.specs.Tree.{Tree}
 
+-- What is read is the plan of trees whose texts the files are (`read`), and keeps the limits; texts of such trees are read, unless
+-- memory runs out (`only`). A fault is by the definitions (`fault`), and where there is one, it is answered and no other, unless
+-- memory runs out (`answered`). Nothing grows before the first two lines were read, so too `many` files, `nothing`, and a fault in the
+-- `opening` lines are answered, whatever memory there is.
 pub record IsPlanOrFault (files : List (List ℕ)) (result : Result PlanView TraceFault) : Type 0 where
-  -- What is read is the plan of trees whose texts the files are.
   pub read : IfOk result (λ p. (trees : List Tree) × Reads files trees × (p ≡ plan_of trees))
-  -- Texts of such trees are read, unless memory runs out.
   pub only : (trees : List Tree) → Reads files trees → MatchResult result (λ p. p ≡ plan_of trees) (λ e. e ≡ NoMemory)
-  -- What is read keeps the limits.
   pub limits : IfOk result PlanFits
-  -- Which fault it is.
   pub fault : IfErr result (IsTraceFault files)
-  -- Where there is a fault, it is answered and no other, unless memory runs out.
   pub answered : (k : Kind) (f n : ℕ) → IsFault files k f n → MatchResult result (λ _. ⊥) (λ e. IsOnly e k f n)
-  -- Nothing grows before the first two lines were read, so these faults are answered, whatever memory there is.
   pub many : 64 < length files → result ≡ Err (At OutOfRange 64 1)
   pub nothing : length files ≡ 0 → result ≡ Err (At MissingQueue 0 1)
   pub opening : (k : Kind) (n : ℕ) → OpeningFault files k n → result ≡ Err (At k 0 n)

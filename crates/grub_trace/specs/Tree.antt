@@ -24,6 +24,9 @@ pub record Tree : Type 0 where
   pub tasks : List Declaration
   pub happenings : List Happening
 
+abbrev pub names_of : List Declaration → List (List ℕ)
+names_of ds = map (λ d. d.name) ds
+
 -- ---- the text of a tree
 
 -- the first line
@@ -74,11 +77,3 @@ is_span n = nat_le 1 n && nat_le n 16777216
 abbrev pub may_retune : Version → Bool
 may_retune One = false
 may_retune Two = true
-
--- ---- parts of declarations
-
-abbrev pub names_of : List Declaration → List (List ℕ)
-names_of ds = map (λ d. d.name) ds
-
-abbrev pub params_of : List Declaration → List Reservation
-params_of ds = map (λ d. d.params) ds

@@ -1,10 +1,10 @@
 //! What stands below a head: what each line says, and the script that the lines are.
 
 ghost use Rattle.std.specs.Prelude.{◌≡◌, ◌≤◌, [], map, false};
-ghost use Rattle.grub_trace.specs.inside.Reading.{IsIndexed, IsMomentOf, IsRetuneOf, IsRunOf, declarations, of_file, line_view};
+ghost use Rattle.grub_trace.specs.inside.Reading.{IsIndexed, IsMomentOf, IsRetuneOf, IsRunOf, declarations, line_view};
 ghost use Rattle.grub_trace.specs.Faults.{last_of};
 ghost use Rattle.grub_trace.specs.Tree.{names_of};
-ghost use Rattle.grub_trace.specs.inside.Heads.{IsHead, lines_below, read_body};
+ghost use Rattle.grub_trace.specs.inside.Heads.{IsHead, read_body};
 ghost use Rattle.grub_trace.specs.inside.Lines.{GivesBody, GivesScript, IsNotBefore, SaysMore, TakesAct, TakesLine};
 
 use crate::fault::{Kind, Location, TraceFault};
@@ -147,7 +147,7 @@ fn say(
 fn read_lines(alloc: Global, tasks: &Tasks, head: &Head<'_>) -> Result<RawScript, TraceFault>
     requires indexed { IsIndexed tasks.now }
     requires head { IsHead head.now }
-    ensures { GivesScript result tasks.now head.now.first (of_file head.now.file (lines_below (declarations tasks.now) head.now)) }
+    ensures { GivesScript result tasks.now head.now }
 {
     let mut script = RawScript {
         lines: Vec::with_capacity(alloc, head.below.len() / LINE_MIN)?,

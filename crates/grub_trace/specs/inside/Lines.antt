@@ -6,7 +6,9 @@ use Rattle.grub_trace.specs.declared.fault.Kind.{Kind}
 use Rattle.grub_trace.specs.declared.fault.Kind.TheVariants.{MomentGoesBack}
 use Rattle.grub_plan.specs.declared.line.Act.{Act}
 use Rattle.grub_plan.specs.declared.line.Line as lines
+use Rattle.grub_trace.specs.declared.raw.Head.{Head}
 use Rattle.grub_trace.specs.declared.raw.RawFile.{RawFile}
+use Rattle.grub_trace.specs.inside.Heads.{lines_below}
 use Rattle.grub_trace.specs.declared.raw.RawScript.{RawScript}
 use Rattle.grub_trace.specs.declared.tasks.Tasks.{Tasks}
 use Rattle.grub_trace.specs.declared.version.Version.{Version}
@@ -15,7 +17,7 @@ use Rattle.grub_trace.specs.Forms.{at_moment, form_of, words_of}
 use Rattle.grub_plan.specs.Plans.{Line}
 use Rattle.grub_trace.specs.Tree.{Happening, names_of}
 use Rattle.grub_trace.specs.inside.Forms.{is_task}
-use Rattle.grub_trace.specs.inside.Reading.{Body, Faults, Read, declarations, line_view, raw_view, says, script_from, take_form, take_line, times_of}
+use Rattle.grub_trace.specs.inside.Reading.{Body, Faults, of_file, Read, declarations, line_view, raw_view, says, script_from, take_form, take_line, times_of}
 
 -- the next moment is not before the last one
 abbrev pub IsNotBefore : {U : Type 0} → Result U Kind → ℕ → ℕ → Type 0
@@ -51,10 +53,10 @@ SaysMore (Ok u) names old new n h = (first : ℕ) (happenings : List Happening) 
     → IsScript names first (happenings ++ h ∷ []) new.lines.items new.unknown
 SaysMore (Err e) names old new n h = Unit {0}
 
--- the script of what was read, or the fault
-abbrev pub GivesScript : Result RawScript TraceFault → Tasks → ℕ → Result Read (Kind × ℕ × ℕ) → Type 0
-GivesScript (Ok s) t first total = (r : Read) × (total ≡ Ok r) × IsScript (names_of (declarations t)) first r.happenings s.lines.items s.unknown
-GivesScript (Err e) t first total = Faults e total
+-- the script of what stands below a head, or the fault
+abbrev pub GivesScript : Result RawScript TraceFault → Tasks → Head → Type 0
+GivesScript (Ok s) t h = (r : Read) × (of_file h.file (lines_below (declarations t) h) ≡ Ok r) × IsScript (names_of (declarations t)) h.first r.happenings s.lines.items s.unknown
+GivesScript (Err e) t h = Faults e (of_file h.file (lines_below (declarations t) h))
 
 -- the file that stands below a head
 pub record IsBody (t : Tasks) (b : Body) (f : RawFile) : Type 0 where
