@@ -20,8 +20,7 @@ use Rattle.clap.specs.declared.builder.value_parser.ValueParser.{ValueParser}
 use Rattle.clap.specs.declared.builder.value_parser.Reading.{Reading}
 use Rattle.clap.specs.declared.parser.matches.ArgMatches.{ArgMatches}
 use Rattle.clap.specs.declared.parser.matches.MatchedArg.{MatchedArg}
-use Rattle.grub_command.specs.Rounds.{rounds_id, rounds_parser}
-use Rattle.grub_command.specs.inside.Rounds.{IsOf, TakesRounds}
+use Rattle.grub_command.specs.inside.Rounds.{IsOf, TakesRounds, rounds_id, rounds_parser}
 
 All-get_at : {X : Type 0} (P : X → Type 0) (xs : List X) (k : ℕ) (x : X) → k < length xs → slice_index_or xs k x ≡ x → All P xs → P x
 All-get_at P xs k x below at all = subst P at (all k x below)

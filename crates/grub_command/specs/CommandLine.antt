@@ -9,7 +9,6 @@ use Rattle.clap.specs.declared.error.kind.ErrorKind.TheVariants as kinds
 use Rattle.clap.specs.declared.builder.action.ArgAction.TheVariants.{Append}
 use Rattle.clap.specs.declared.builder.value_parser.ValueParser.TheVariants as parsers
 use Rattle.grub_command.specs.declared.view_word.ViewWord.{ViewWord}
-use Rattle.grub_command.specs.Rounds.{rounds_id, rounds_parser}
 use Rattle.grub_command.specs.Views.{view_word}
 
 -- a number from 0 to 255, 8 where it is not given
@@ -18,18 +17,15 @@ tries_rule = record (new_rule (codes "tries")) { long = Some (codes "tries"); va
 
 -- a number from 1 to 65535, 64 where it is not given
 abbrev pub rounds_rule : Rule
-rounds_rule = record (new_rule rounds_id) { long = Some (codes "rounds"); value_names = 1; defaults = codes "64" ∷ []; parser = Some rounds_parser }
+rounds_rule = record (new_rule (codes "rounds")) { long = Some (codes "rounds"); value_names = 1; defaults = codes "64" ∷ []; parser = Some (parsers.Signed (pos 1) (pos 65535)) }
 
 -- a word that names a view
 abbrev pub view_rule : Rule
 view_rule = record (new_rule (codes "view")) { long = Some (codes "view"); value_names = 1 }
 
--- the moments at which a picture begins and ends, each a number of 32 bits
-abbrev pub from_rule : Rule
-from_rule = record (new_rule (codes "from")) { long = Some (codes "from"); value_names = 1; parser = Some (parsers.Signed (pos 0) (pos 4294967295)) }
-
-abbrev pub to_rule : Rule
-to_rule = record (new_rule (codes "to")) { long = Some (codes "to"); value_names = 1; parser = Some (parsers.Signed (pos 0) (pos 4294967295)) }
+-- a moment at which a picture begins or ends: a number of 32 bits
+abbrev pub moment_rule : Text → Rule
+moment_rule id = record (new_rule id) { long = Some id; value_names = 1; parser = Some (parsers.Signed (pos 0) (pos 4294967295)) }
 
 -- one file or more
 abbrev pub files_rule : Rule
@@ -40,7 +36,7 @@ abbrev pub with_version : App → App
 with_version app = on_top (λ s. record s { has_version = true }) app
 
 abbrev pub command_line : App
-command_line = with_rule (with_rule (with_rule (with_rule (with_rule (with_rule (with_version (new_app (codes "grubrun"))) tries_rule) rounds_rule) view_rule) from_rule) to_rule) files_rule
+command_line = with_rule (with_rule (with_rule (with_rule (with_rule (with_rule (with_version (new_app (codes "grubrun"))) tries_rule) rounds_rule) view_rule) (moment_rule (codes "from"))) (moment_rule (codes "to"))) files_rule
 
 -- the values of the argument for files, among those of all arguments
 abbrev pub names_among : List Row → List Text
@@ -70,7 +66,7 @@ TriesNamed words n = SpellsOr 8 8 (codes "tries") (matches_of command_line words
 
 -- and for so many rounds
 abbrev pub RoundsNamed : List Text → ℕ → Type 0
-RoundsNamed words n = SpellsOr 64 16 rounds_id (matches_of command_line words) n
+RoundsNamed words n = SpellsOr 64 16 (codes "rounds") (matches_of command_line words) n
 
 -- these words name this view
 abbrev pub view_named : List Text → Option ViewWord

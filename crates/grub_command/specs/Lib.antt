@@ -1,4 +1,3 @@
 pub mod CommandLine
-pub mod Rounds
 pub mod Views
 pub mod inside

@@ -3,9 +3,8 @@
 ghost use Rattle.std.specs.Prelude.{◌≡◌, ◌≤◌, IfOk, IfSome, codes, pos, Some, map, string_bytes};
 ghost use Rattle.clap.specs.declared.builder.value_parser.ValueParser.TheVariants as parsers;
 ghost use Rattle.clap.specs.Words.{app_of, one_of, rule_of, rows_of, found_of, matches_of, fault_of, FailsBy};
-ghost use Rattle.grub_command.specs.CommandLine.{MomentNamed, ReadsNumber, RoundsNamed, TriesNamed, tries_rule, rounds_rule, view_rule, from_rule, to_rule, files_rule, command_line, view_named};
-ghost use Rattle.grub_command.specs.Rounds.{rounds_id};
-ghost use Rattle.grub_command.specs.inside.Rounds.{IsOf, TakesRounds};
+ghost use Rattle.grub_command.specs.CommandLine.{MomentNamed, ReadsNumber, RoundsNamed, TriesNamed, tries_rule, rounds_rule, view_rule, moment_rule, files_rule, command_line, view_named};
+ghost use Rattle.grub_command.specs.inside.Rounds.{IsOf, TakesRounds, rounds_id};
 
 use crate::texts::VERSION;
 use crate::view_word::ViewWord;
@@ -63,7 +62,7 @@ fn view_arg<'a>(alloc: Global) -> Arg<'a>
 
 fn from_arg<'a>(alloc: Global) -> Arg<'a>
     ensures is { IsOf (codes "from") result }
-    ensures rule { rule_of result ≡ from_rule }
+    ensures rule { rule_of result ≡ moment_rule (codes "from") }
 {
     Arg::new(alloc, "from")
         .long("from")
@@ -73,7 +72,7 @@ fn from_arg<'a>(alloc: Global) -> Arg<'a>
 
 fn to_arg<'a>(alloc: Global) -> Arg<'a>
     ensures is { IsOf (codes "to") result }
-    ensures rule { rule_of result ≡ to_rule }
+    ensures rule { rule_of result ≡ moment_rule (codes "to") }
 {
     Arg::new(alloc, "to")
         .long("to")

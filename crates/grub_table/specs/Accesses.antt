@@ -11,10 +11,6 @@ abbrev pub is_exchange_of : ℕ → Access → Bool
 is_exchange_of w (Exchange v won) = v == w
 is_exchange_of w access = false
 
--- how many of the accesses load the word w
-abbrev pub loads_of : ℕ → List Access → ℕ
-loads_of w made = count_by (is_load_of w) made
-
 -- how many of the accesses are exchanges of the word w, won or lost
 abbrev pub exchanges_of : ℕ → List Access → ℕ
 exchanges_of w made = count_by (is_exchange_of w) made
@@ -32,7 +28,7 @@ meeting_loads = Load 0 ∷ Load 0 ∷ Load 0 ∷ []
 pub record StartsBriefly (w : ℕ) (before after : List Access) : Type 0 where
   pub made : List Access
   pub grown : after ≡ before ++ made
-  pub load : loads_of w made ≡ 1
+  pub load : count_by (is_load_of w) made ≡ 1
   pub exchange : exchanges_of w made ≤ 1
   pub few : length made ≤ 5
 

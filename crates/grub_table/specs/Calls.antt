@@ -109,12 +109,16 @@ pub record IsClaimOf (s : Shared) (c : Claim) : Type 0 where
   pub timely : early c.held c.op ≡ None
 
 -- ---- opening
--- a new pass of this number, which has seen nothing
-pub record IsNew (s : Shared) (k : ℕ) (p : Pass) : Type 0 where
+-- the pass of this number, which has seen just these events and knows just these marks
+pub record IsPassWith (s : Shared) (k : ℕ) (events : List Event) (known : List Mark) (p : Pass) : Type 0 where
   pub of : IsPassOf s p
   pub number : number_of p ≡ k
-  pub seen : seen p ≡ []
-  pub marks : marks p ≡ []
+  pub seen : seen p ≡ events
+  pub marks : marks p ≡ known
+
+-- a new pass of this number, which has seen nothing
+abbrev pub IsNew : Shared → ℕ → Pass → Type 0
+IsNew s k p = IsPassWith s k [] [] p
 
 -- new passes, in the order of their numbers
 abbrev pub AreNew : Shared → List Pass → Type 0
@@ -129,13 +133,6 @@ pub record IsOpened (s : Shared) (ps : List Pass) (machine : Machine) (n : ℕ) 
   pub new : AreNew s ps
 
 -- ---- meeting
--- the same pass: it knows what it knew
-pub record IsSame (s : Shared) (p q : Pass) : Type 0 where
-  pub of : IsPassOf s q
-  pub number : number_of q ≡ number_of p
-  pub seen : seen q ≡ seen p
-  pub marks : marks q ≡ marks p
-
 -- q knows what p does, and nothing more of p's own: of the events that are seen, or of the marks
 abbrev pub IsBehind : {X : Type 0} → (X → ℕ) → (Pass → List X) → Pass → Pass → Type 0
 IsBehind by known p q = GoesOn by (number_of p) (known p) (known q) []

@@ -6,7 +6,7 @@ ghost use Rattle.grub_table.specs.declared.view.Access.TheVariants.{Load};
 ghost use Rattle.grub_table.specs.inside.Between.{IsSeatOf, Tells};
 ghost use Rattle.grub_book.specs.History.{pass_of};
 ghost use Rattle.grub_table.specs.Marks.{marker_of};
-ghost use Rattle.grub_table.specs.Calls.{terms, number_of, share_of, claim_share, seen, marks, accesses, claim_accesses, IsPassOf, IsClaimOf, IsStill, IsSame, IsBehind, made_on};
+ghost use Rattle.grub_table.specs.Calls.{terms, number_of, share_of, claim_share, seen, marks, accesses, claim_accesses, IsPassOf, IsClaimOf, IsPassWith, IsStill, IsBehind, made_on};
 ghost use Rattle.grub_table.specs.Layout.{queue_word_at};
 ghost use Rattle.grub_table.specs.inside.Tellings.{Of, OfQueue, SawReading};
 ghost use Rattle.grub_table.specs.Accesses.{meeting_loads};
@@ -57,8 +57,8 @@ impl Shared {
     pub fn meet(&self, first: Pass, second: Pass) -> (Pass, Pass)
         requires first { IsPassOf self.now first }
         requires second { IsPassOf self.now second }
-        ensures first { IsSame self.now first result.0 }
-        ensures second { IsSame self.now second result.1 }
+        ensures first { IsPassWith self.now (number_of first) (seen first) (marks first) result.0 }
+        ensures second { IsPassWith self.now (number_of second) (seen second) (marks second) result.1 }
         ensures met { IsBehind pass_of seen result.0 result.1 ⊎ IsBehind pass_of seen result.1 result.0 }
         ensures marks { IsBehind marker_of marks result.0 result.1 ⊎ IsBehind marker_of marks result.1 result.0 }
         ensures made { (accesses result.0 ≡ accesses first ++ meeting_loads) × (accesses result.1 ≡ accesses second ++ meeting_loads) }

@@ -30,7 +30,7 @@ use Rattle.grub_book.proofs.Cases.{of_either, of_timer}
 use Rattle.grub_book.proofs.Refusals.{settled_alike}
 use Rattle.grub_book.proofs.Soundness.{moved}
 use Rattle.grub_book.proofs.Totals.{same_sums, step_shifts}
-use Rattle.grub_workers.proofs.Naming.{NamesAt}
+use Rattle.grub_workers.proofs.OnlyNamed.{NamesAt}
 use Rattle.grub_workers.proofs.Others.{replied_else}
 
 -- the task is nowhere, or on a runqueue for which Q holds

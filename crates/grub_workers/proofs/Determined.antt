@@ -17,7 +17,7 @@ use Rattle.grub_plan.specs.declared.entry.Answer.TheVariants.{Replied, Seen, Bus
 use Rattle.grub_plan.specs.declared.entry.Entry.{Entry}
 use Rattle.grub_asks.specs.Asked.{AsksLine, entry}
 use Rattle.grub_asks.specs.Answers.{IsAnswered, event_told, events_told}
-use Rattle.grub_workers.proofs.Finding.{all_left, all_right}
+use Rattle.grub_workers.proofs.Elements.{all_left, all_right}
 use Rattle.grub_asks.proofs.Starts.{events_more, events_told-append}
 use Rattle.grub_asks.proofs.Alike.{script_alike as alike}
 

@@ -19,7 +19,7 @@ use Rattle.grub_table.specs.declared.view.Mark.{Mark}
 use Rattle.grub_table.specs.declared.view.Mark.TheVariants.{Taken, Given}
 use Rattle.grub_table.specs.Marks.{Holders, nobody_holds, handed, held_from, holder_of}
 use Rattle.grub_workers.specs.inside.Evidence.{TakesElse, CallsElse}
-use Rattle.grub_workers.proofs.Finding.{Somewhere, any_of, append_none, filter_none, somewhere_left, somewhere_right, all_left, all_right}
+use Rattle.grub_workers.proofs.Elements.{Somewhere, any_of, append_none, filter_none, somewhere_left, somewhere_right, all_left, all_right}
 
 not_own : (i : ℕ) (e : Event) → (pass_of e == i) ≡ false → pass_of e ≢ i
 not_own i e off is = let on : (pass_of e == i) ≡ true = eq-eqb (pass_of e) i is in absurd (cc)

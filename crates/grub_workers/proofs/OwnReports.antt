@@ -39,10 +39,10 @@ use Rattle.grub_workers.specs.Runs.{HeldElsewhere, IsNotVain, IsOnlyRun, IsRepor
 use Rattle.grub_workers.specs.Apart.{AllApart, IsAnsweredAt, IsApart, IsOnlyReport, Names}
 use Rattle.grub_workers.proofs.Apart.{Agrees, IsAt, IsOneSided, IsSameAt, Splits, reading_after, retune_at, same_get, splits, timer_at}
 use Rattle.grub_workers.proofs.Determined.{IsPlain, script_alike}
-use Rattle.grub_workers.proofs.Finding.{all_left, all_right}
-use Rattle.grub_workers.proofs.Naming.{IsOwnAsk, NamesAt, script_own}
+use Rattle.grub_workers.proofs.Elements.{all_left, all_right}
+use Rattle.grub_workers.proofs.OnlyNamed.{IsOwnAsk, NamesAt, script_own}
 use Rattle.grub_workers.proofs.Others.{ChangesElse, changed_else, changes_later}
-use Rattle.grub_workers.proofs.Steps.{some_of}
+use Rattle.grub_workers.proofs.ListsGoneThrough.{some_of}
 
 -- ---- whose each event of a run is
 -- the event tells of a task and a runqueue that its file names
@@ -184,8 +184,9 @@ module _ (plan : PlanView) (tries : ℕ) (rs : List Report) (last : List Reading
         go e.ask e.answer asks held.held.4
       where
         go : (ask : Ask) (answer : Answer) → IsOwnAsk held.number (Names (script_at plan.scripts held.number)) ask → HeldTask t ask answer → ⊥
-        go Read answer asks is = is
-        go (Call u op) answer asks is = apart held.number t held.other own (subst (Names (script_at plan.scripts held.number)) is.0 asks.0)
+        go (Call u op) (Replied reply) asks is = apart held.number t held.other own (subst (Names (script_at plan.scripts held.number)) is.0 asks.0)
+        go (Call u op) Lost asks is = apart held.number t held.other own (subst (Names (script_at plan.scripts held.number)) is asks.0)
+        go ask answer asks is = is
 
     -- no other file's worker changed the reading of its runqueue
     not_changed : ChangesElse plan.setup i i run.history → ⊥

@@ -25,11 +25,13 @@ use Rattle.grub_table.proofs.Growths.{learns_none, learns_twice}
 use Rattle.grub_table.specs.Calls.{IsPassOf, IsTaken, IsBusy, IsDone, IsLost, IsCancelled, IsSighting, IsClaimedSighting, number_of, share_of, claim_share, claim_queue, claim_changes_sum, seen, marks, marks_of_call}
 use Rattle.grub_plan.specs.declared.entry.Ask.TheVariants.{Call}
 use Rattle.grub_plan.specs.declared.entry.Answer.TheVariants.{Replied, Lost}
+use Rattle.grub_workers.specs.declared.asking.Turn.{Turn}
+use Rattle.grub_workers.specs.declared.asking.Turn.TheVariants as turns
 use Rattle.grub_workers.specs.inside.Evidence.{ShowsHolder}
 use Rattle.grub_asks.specs.Keeping.{IsBlockBefore, WaitsRightly}
 use Rattle.grub_workers.specs.inside.Working.{IsAsked, machine}
 use Rattle.grub_workers.proofs.Others.{calls_between, held_else}
-use Rattle.grub_workers.proofs.Turns.{IsFree, IsHolding, HasLost}
+use Rattle.grub_workers.proofs.BetweenRounds.{HasLost, IsFree, IsTurn}
 use Rattle.grub_asks.proofs.Waits.{waits_step}
 
 -- ---- what a busy call saw
@@ -66,7 +68,7 @@ module _ (s : Shared) (p : Pass) (t : ℕ) (asked : Op) where
       }
 
   -- ---- a round that took the task
-  pub taken_round : (round : ℕ) (now : Pass) (c : Claim) → IsFree s round p t now → IsTaken s now t asked c → IsHolding s p t asked c
+  pub taken_round : (round : ℕ) (now : Pass) (c : Claim) → IsFree s round p t now → IsTaken s now t asked c → IsTaken s p t asked c
   taken_round round now c a b = record {
     of = b.of;
     task = b.task;
@@ -74,8 +76,17 @@ module _ (s : Shared) (p : Pass) (t : ℕ) (asked : Op) where
     learns = learns_twice (share_of p) (share_of now) (claim_share c) [] [] [] (Taken (number_of p) t ∷ []) a.learns (subst (λ n. Learns (share_of now) (claim_share c) [] (Taken n t ∷ [])) a.learns.number b.learns);
   }
 
+  -- it holds the task for its tries, by the claim that it took now, or that the last round left it
+  pub holds_taken : (tries round : ℕ) (turn : Turn) (now : Pass) (c d : Claim) → turn ≡ turns.Free now → IsTurn s tries round p t asked turn → IsTaken s now t asked c → d ≡ c → IsTaken s p t asked d
+  holds_taken tries round turn now c d is was taken same = subst (IsTaken s p t asked) (sym same) (taken_round round now c (subst (IsTurn s tries round p t asked) is was) taken)
+
+  pub holds_left : (tries round : ℕ) (turn : Turn) (c d : Claim) → turn ≡ turns.Held c → IsTurn s tries round p t asked turn → d ≡ c → IsTaken s p t asked d
+  holds_left tries round turn c d is was same =
+      let lost : HasLost s tries p t asked c = subst (IsTurn s tries round p t asked) is was in
+      subst (IsTaken s p t asked) (sym same) lost.holding
+
   -- ---- a round whose tries were lost
-  pub lost_round : (tries : ℕ) (c d : Claim) → IsHolding s p t asked c → IsLost s c tries d → HasLost s tries p t asked d
+  pub lost_round : (tries : ℕ) (c d : Claim) → IsTaken s p t asked c → IsLost s c tries d → HasLost s tries p t asked d
   lost_round tries c d a b =
       let g = subst (λ n. GoesOn pass_of n (claim_share c).seen (claim_share d).seen []) a.learns.number b.learns.seen in
       let same : claim_changes_sum c ≡ claim_changes_sum d = ap (λ (k : Record × Op). changes_sum k.0 k.1) (λ j. (sym b.still.held j, sym b.still.op j)) in
@@ -93,7 +104,7 @@ module _ (s : Shared) (p : Pass) (t : ℕ) (asked : Op) where
       }
 
   -- ---- a round that made the call
-  pub done_round : (tries tried : ℕ) (c : Claim) (q : Pass) (reply : Reply) → IsHolding s p t asked c → IsDone s c tried q reply → IsAsked s tries p (Call t asked) q (Replied reply)
+  pub done_round : (tries tried : ℕ) (c : Claim) (q : Pass) (reply : Reply) → IsTaken s p t asked c → IsDone s c tried q reply → IsAsked s tries p (Call t asked) q (Replied reply)
   done_round tries tried c q reply a b =
       let i = number_of p in
       let made = subst (λ (k : ℕ × ℕ × Op). Learns (claim_share c) (share_of q) (events.Call k.0 k.1 k.2 reply ∷ []) (Given k.0 k.1 ∷ [])) (λ j. (a.learns.number j, a.task j, a.op j)) b.learns in
@@ -104,7 +115,7 @@ module _ (s : Shared) (p : Pass) (t : ℕ) (asked : Op) where
         backed = tt;
       }
 
-  pub done_waits : (tried : ℕ) (c : Claim) (q : Pass) (reply : Reply) → IsHolding s p t asked c → IsDone s c tried q reply → WaitsRightly asked (Replied reply)
+  pub done_waits : (tried : ℕ) (c : Claim) (q : Pass) (reply : Reply) → IsTaken s p t asked c → IsDone s c tried q reply → WaitsRightly asked (Replied reply)
   done_waits tried c q reply a b ticket z is =
       let same : reply ≡ replies.Waiting ticket z = cc in
       subst (IsBlockBefore z) a.op (waits_last s.terms (claim_share c).number c.task c.op reply (seen q) b.of.history (b.before.0, b.before.1) ticket z same)

@@ -1,13 +1,20 @@
 -- The argument of the rounds, among the others of a command.
-use Rattle.std.specs.Prelude.{◌≡◌, ℕ, List, true, false, Some}
+use Rattle.std.specs.Prelude.{◌≡◌, ℕ, List, codes, pos, true, false, Some}
 use Rattle.std.specs.List.{All}
 use Rattle.std.specs.Str.{bytes_eq}
 use Rattle.clap.specs.Facts.{args_of}
 use Rattle.clap.specs.Built.{IsPlain, IsPlainArg}
 use Rattle.clap.specs.declared.builder.arg.Arg.{Arg}
 use Rattle.clap.specs.declared.builder.command.Command.{Command}
+use Rattle.clap.specs.declared.builder.value_parser.ValueParser.{ValueParser}
+use Rattle.clap.specs.declared.builder.value_parser.ValueParser.TheVariants as parsers
 use Rattle.clap.specs.declared.builder.command.Command.TheViews.{out-Command}
-use Rattle.grub_command.specs.Rounds.{rounds_id, rounds_parser}
+
+abbrev pub rounds_id : List ℕ
+rounds_id = codes "rounds"
+
+abbrev pub rounds_parser : ValueParser
+rounds_parser = parsers.Signed (pos 1) (pos 65535)
 
 -- an argument with this id, which excludes no other
 pub record IsOf (id : List ℕ) (a : Arg) : Type 0 where

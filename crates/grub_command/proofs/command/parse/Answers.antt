@@ -4,7 +4,7 @@ use Rattle.clap.specs.Matches.{found_of, one_text}
 use Rattle.clap.specs.Words.{app_of, fault_of, is_simple, is_simple_and_free, matches_of}
 use Rattle.clap.specs.Kinds.{HasKind}
 use Rattle.clap.proofs.CallerReads.{signed_reads}
-use Rattle.grub_command.specs.Rounds.{rounds_id}
+use Rattle.grub_command.specs.inside.Rounds.{rounds_id}
 use Rattle.grub_command.proofs.CommandLemmas.{fails_again, number_read}
 use Rattle.grub_command.proofs.RoundsLemmas.{rounds_read}
 use Rattle.grub_command.proofs.command.parse.Goals as goal

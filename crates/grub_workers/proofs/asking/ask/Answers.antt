@@ -1,6 +1,7 @@
-use Rattle.std.proofs.Common.{sym, subst}
-use Rattle.grub_workers.proofs.Turns.{IsTurn, IsFree, IsHolding, HasLost}
-use Rattle.grub_workers.proofs.Rounds.{busy_round, taken_round, lost_round, done_round, done_waits, gave_up_lost}
+use Rattle.std.proofs.Common.{subst}
+use Rattle.grub_table.specs.Calls.{IsTaken}
+use Rattle.grub_workers.proofs.BetweenRounds.{HasLost, IsFree, IsTurn}
+use Rattle.grub_workers.proofs.Rounds.{busy_round, done_round, done_waits, gave_up_lost, holds_left, holds_taken, lost_round}
 use Rattle.grub_workers.proofs.asking.ask.Goals as goal
 use Rattle.grub_workers.proofs.asking.ask.Goals.{in-Free+in-Held-start, in-Held}
 
@@ -13,39 +14,27 @@ loop-preserved-in-Busy g c =
 pub returns-in-Done-clause-asked : goal.returns-in-Done-clause-asked
 returns-in-Done-clause-asked g c =
     let a = c.args in let s = a.desk.now.table.now in let tries = a.desk.now.tries in
-    let holds : IsHolding s a.pass a.t a.op c.match-turn.claim = elim c.match-turn.branch [
-      | in-Free+in-Held-start w ↦
-          let free : IsFree s c.loop.counter a.pass a.t w.in-Free.pass = subst (IsTurn s tries c.loop.counter a.pass a.t a.op) w.in-Free.is c.loop.invariant in
-          subst (IsHolding s a.pass a.t a.op) (sym w.claim-is) (taken_round s a.pass a.t a.op c.loop.counter w.in-Free.pass w.in-Held-start.claim free w.in-Held-start.ensures)
-      | in-Held w ↦
-          let lost : HasLost s tries a.pass a.t a.op w.in-Held.claim = subst (IsTurn s tries c.loop.counter a.pass a.t a.op) w.in-Held.is c.loop.invariant in
-          subst (IsHolding s a.pass a.t a.op) (sym w.claim-is) lost.holding
+    let holds : IsTaken s a.pass a.t a.op c.match-turn.claim = elim c.match-turn.branch [
+      | in-Free+in-Held-start w ↦ holds_taken s a.pass a.t a.op tries c.loop.counter _ _ _ _ w.in-Free.is c.loop.invariant w.in-Held-start.ensures w.claim-is
+      | in-Held w ↦ holds_left s a.pass a.t a.op tries c.loop.counter _ _ _ w.in-Held.is c.loop.invariant w.claim-is
     ] in
     done_round s a.pass a.t a.op tries tries c.match-turn.claim c.in-Done.pass c.in-Done.reply holds c.in-Done.ensures
 
 pub returns-in-Done-clause-waits : goal.returns-in-Done-clause-waits
 returns-in-Done-clause-waits g c =
     let a = c.args in let s = a.desk.now.table.now in let tries = a.desk.now.tries in
-    let holds : IsHolding s a.pass a.t a.op c.match-turn.claim = elim c.match-turn.branch [
-      | in-Free+in-Held-start w ↦
-          let free : IsFree s c.loop.counter a.pass a.t w.in-Free.pass = subst (IsTurn s tries c.loop.counter a.pass a.t a.op) w.in-Free.is c.loop.invariant in
-          subst (IsHolding s a.pass a.t a.op) (sym w.claim-is) (taken_round s a.pass a.t a.op c.loop.counter w.in-Free.pass w.in-Held-start.claim free w.in-Held-start.ensures)
-      | in-Held w ↦
-          let lost : HasLost s tries a.pass a.t a.op w.in-Held.claim = subst (IsTurn s tries c.loop.counter a.pass a.t a.op) w.in-Held.is c.loop.invariant in
-          subst (IsHolding s a.pass a.t a.op) (sym w.claim-is) lost.holding
+    let holds : IsTaken s a.pass a.t a.op c.match-turn.claim = elim c.match-turn.branch [
+      | in-Free+in-Held-start w ↦ holds_taken s a.pass a.t a.op tries c.loop.counter _ _ _ _ w.in-Free.is c.loop.invariant w.in-Held-start.ensures w.claim-is
+      | in-Held w ↦ holds_left s a.pass a.t a.op tries c.loop.counter _ _ _ w.in-Held.is c.loop.invariant w.claim-is
     ] in
     done_waits s a.pass a.t a.op tries c.match-turn.claim c.in-Done.pass c.in-Done.reply holds c.in-Done.ensures
 
 pub loop-preserved : goal.loop-preserved
 loop-preserved g c =
     let a = c.args in let s = a.desk.now.table.now in let tries = a.desk.now.tries in
-    let holds : IsHolding s a.pass a.t a.op c.match-turn.claim = elim c.match-turn.branch [
-      | in-Free+in-Held-start w ↦
-          let free : IsFree s c.loop.counter a.pass a.t w.in-Free.pass = subst (IsTurn s tries c.loop.counter a.pass a.t a.op) w.in-Free.is c.loop.invariant in
-          subst (IsHolding s a.pass a.t a.op) (sym w.claim-is) (taken_round s a.pass a.t a.op c.loop.counter w.in-Free.pass w.in-Held-start.claim free w.in-Held-start.ensures)
-      | in-Held w ↦
-          let lost : HasLost s tries a.pass a.t a.op w.in-Held.claim = subst (IsTurn s tries c.loop.counter a.pass a.t a.op) w.in-Held.is c.loop.invariant in
-          subst (IsHolding s a.pass a.t a.op) (sym w.claim-is) lost.holding
+    let holds : IsTaken s a.pass a.t a.op c.match-turn.claim = elim c.match-turn.branch [
+      | in-Free+in-Held-start w ↦ holds_taken s a.pass a.t a.op tries c.loop.counter _ _ _ _ w.in-Free.is c.loop.invariant w.in-Held-start.ensures w.claim-is
+      | in-Held w ↦ holds_left s a.pass a.t a.op tries c.loop.counter _ _ _ w.in-Held.is c.loop.invariant w.claim-is
     ] in
     lost_round s a.pass a.t a.op tries c.match-turn.claim c.in-Held-finish.claim holds c.in-Held-finish.ensures
 

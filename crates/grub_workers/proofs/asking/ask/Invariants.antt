@@ -1,4 +1,4 @@
-use Rattle.grub_workers.proofs.Turns.{IsTurn}
+use Rattle.grub_workers.proofs.BetweenRounds.{IsTurn}
 use Rattle.grub_workers.proofs.asking.ask.Given as goal
 
 abbrev pub invariant-loop : goal.invariant-loop

@@ -1,5 +1,5 @@
 use Rattle.std.proofs.Common.{length, sym, ap, refl, ◌∙◌}
-use Rattle.grub_workers.proofs.Ties.{all_of, run_of}
+use Rattle.grub_workers.proofs.ClosingOwners.{all_of, run_of}
 use Rattle.grub_workers.proofs.OneFile.{alone_of_run, charges_of_run, only_run, tasks_of_run}
 use Rattle.grub_workers.proofs.OwnReports.{answered_own, only_own, whole_own}
 use Rattle.grub_workers.proofs.outcome.run.Goals as goal

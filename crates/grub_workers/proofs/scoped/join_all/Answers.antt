@@ -4,7 +4,7 @@ use Rattle.grub_plan.specs.declared.entry.Report.{Report}
 use Rattle.grub_workers.specs.Handles.{script_at}
 use Rattle.grub_workers.specs.inside.Handles.{Handle, IsOf}
 use Rattle.grub_workers.specs.inside.Working.{IsWorked}
-use Rattle.grub_workers.proofs.Steps.{shifted, taken, grown_both}
+use Rattle.grub_workers.proofs.ListsGoneThrough.{shifted, taken, grown_both}
 use Rattle.grub_workers.proofs.scoped.join_all.Goals as goal
 
 -- The handle that was joined stood first among the rest, so its promise is that of the next worker.

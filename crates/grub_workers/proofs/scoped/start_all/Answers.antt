@@ -5,7 +5,7 @@ use Rattle.grub_table.specs.Calls.{IsNew}
 use Rattle.grub_workers.specs.declared.work.WorkOf.{WorkOf}
 use Rattle.grub_workers.specs.Handles.{script_at}
 use Rattle.grub_workers.specs.inside.Handles.{Handle, IsOf}
-use Rattle.grub_workers.proofs.Steps.{shifted, taken, grown}
+use Rattle.grub_workers.proofs.ListsGoneThrough.{shifted, taken, grown}
 use Rattle.grub_workers.proofs.scoped.start_all.Goals as goal
 
 -- The pass that was taken stood first among the rest, so its worker is the next one.

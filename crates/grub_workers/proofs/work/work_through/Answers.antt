@@ -1,6 +1,6 @@
 use Rattle.std.proofs.Common.{ap}
 use Rattle.grub_wheel.specs.TimerBag.{WheelState}
-use Rattle.grub_workers.proofs.Beginning.{at_work_first}
+use Rattle.grub_workers.proofs.NothingAsked.{at_work_first}
 use Rattle.grub_workers.proofs.work.work_through.Goals as goal
 
 pub ask_script-requires-clause-at_work : goal.ask_script-requires-clause-at_work

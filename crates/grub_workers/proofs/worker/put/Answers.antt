@@ -1,6 +1,6 @@
 use Rattle.std.proofs.Common.{rules}
 use Rattle.grub_plan.specs.declared.entry.Ask.TheVariants.{Call}
-use Rattle.grub_workers.proofs.Entering.{entered}
+use Rattle.grub_workers.proofs.OneMoreEntry.{entered}
 use Rattle.grub_workers.proofs.worker.put.Goals as goal
 
 pub returns-clause-told : goal.returns-clause-told

@@ -28,16 +28,16 @@ use Rattle.grub_plan.specs.declared.entry.Entry.{Entry}
 use Rattle.grub_plan.specs.declared.entry.Report.{Report}
 use Rattle.grub_plan.specs.Plans.{Line, PlanView}
 use Rattle.grub_asks.specs.Answers.{event_told, events_told}
-use Rattle.grub_workers.specs.Entries.{HeldTask, has_held}
+use Rattle.grub_workers.specs.Entries.{HeldTask}
 use Rattle.grub_workers.specs.inside.Entries.{mark_told, marks_of, marks_told}
 use Rattle.grub_workers.specs.inside.Evidence.{AreBacked, CallsElse, IsBacked, ShowsHolder, TakesElse}
 use Rattle.grub_workers.specs.inside.Working.{machine}
 use Rattle.grub_workers.specs.Handles.{script_at}
 use Rattle.grub_workers.specs.inside.Handles.{AllWorked}
 use Rattle.grub_workers.specs.Runs.{HeldElsewhere, IsNotVain, IsReportOf, IsRun, entries_of}
-use Rattle.grub_workers.proofs.Finding.{Somewhere, any_of, found, somewhere_of, somewhere_filter, somewhere_flat, somewhere_weaker}
-use Rattle.grub_workers.proofs.Advancing.{all_backed_later}
-use Rattle.grub_workers.proofs.Steps.{some_of}
+use Rattle.grub_workers.proofs.Elements.{Somewhere, any_of, found, somewhere_of, somewhere_filter, somewhere_flat, somewhere_weaker}
+use Rattle.grub_workers.proofs.KnowingMore.{all_backed_later}
+use Rattle.grub_workers.proofs.ListsGoneThrough.{some_of}
 
 -- ---- lists
 markers_below : (n : ℕ) (g : Holders) (ms : List Mark) → AreLawfulFrom n g ms → All (λ m. marker_of m < n) ms
@@ -68,13 +68,14 @@ held_by_call i j t u op reply same on Read (Replied r) a = absurd a
 held_by_call i j t u op reply same on Read Busy a = absurd a
 held_by_call i j t u op reply same on Read Lost a = absurd a
 
+taken_by : (i j t u v : ℕ) (b : Bool) → u ≡ t → Somewhere (λ m. m ≡ Taken j u) (cond b (Taken i v ∷ Given i v ∷ []) []) → (v ≡ t) × IsTrue b
+taken_by i j t u v true same k = ⊎_elim (λ (is : Taken i v ≡ Taken j u). (ap mark_task is ∙ same, refl)) (λ l. ⊎_elim (λ (is : Given i v ≡ Taken j u). absurd (cc)) (λ z. absurd z) l) k
+taken_by i j t u v false same k = absurd k
+
 held_by_mark : (i j t u : ℕ) → u ≡ t → (ask : Ask) (answer : Answer) → Somewhere (λ m. m ≡ Taken j u) (mark_told i ask answer) → HeldTask t ask answer
-held_by_mark i j t u same Read answer a = absurd a
-held_by_mark i j t u same (Call v o) answer a = go (has_held answer) refl a
-  where
-    go : (b : Bool) → has_held answer ≡ b → Somewhere (λ m. m ≡ Taken j u) (cond b (Taken i v ∷ Given i v ∷ []) []) → (v ≡ t) × IsTrue (has_held answer)
-    go true on k = ⊎_elim (λ (is : Taken i v ≡ Taken j u). (ap mark_task is ∙ same, on)) (λ l. ⊎_elim (λ (is : Given i v ≡ Taken j u). absurd (cc)) (λ z. absurd z) l) k
-    go false off k = absurd k
+held_by_mark i j t u same (Call v o) (Replied reply) a = taken_by i j t u v (is_under_claim reply) same a
+held_by_mark i j t u same (Call v o) Lost a = (taken_by i j t u v true same a).0
+held_by_mark i j t u same ask answer a = absurd a
 
 module _ (s : Shared) (tries : ℕ) (scripts : List (List Line)) (ps : List Pass) (rs : List Report) (all : AllWorked s tries scripts ps rs) where
   pub all_of : All (IsPassOf s) ps

@@ -15,7 +15,7 @@ use Rattle.grub_plan.specs.declared.entry.Answer.TheVariants.{Replied, Seen, Bus
 use Rattle.grub_plan.specs.declared.entry.Entry.{Entry}
 use Rattle.grub_workers.specs.Evidence.{IsOvertaken}
 use Rattle.grub_workers.specs.inside.Evidence.{AreBacked, CallsElse, IsBacked, ShowsHolder, TakesElse}
-use Rattle.grub_workers.proofs.Finding.{Somewhere, any_of, somewhere_of, somewhere_left}
+use Rattle.grub_workers.proofs.Elements.{Somewhere, any_of, somewhere_of, somewhere_left}
 
 any_later : {X : Type 0} (P : X → Type 0) (xs ys : List X) → StartsWith ys xs → Any P xs → Any P ys
 any_later P xs ys starts a = any_of P ys (subst (λ l. Somewhere P l) (sym starts.1) (somewhere_left P xs starts.0 (somewhere_of P xs a)))

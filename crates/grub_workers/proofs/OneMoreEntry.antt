@@ -22,7 +22,7 @@ use Rattle.grub_workers.specs.inside.Entries.{mark_told, marks_told}
 use Rattle.grub_workers.specs.inside.Evidence.{AreBacked, IsBacked}
 use Rattle.grub_workers.specs.inside.Working.{IsAsked, IsToldBy, machine}
 use Rattle.grub_asks.proofs.Starts.{events_more}
-use Rattle.grub_workers.proofs.Advancing.{all_backed_later}
+use Rattle.grub_workers.proofs.KnowingMore.{all_backed_later}
 
 marks_more : (i : ℕ) (es : List Entry) (e : Entry) → marks_told i (es ++ e ∷ []) ≡ marks_told i es ++ mark_told i e.ask e.answer
 marks_more i es e = grind (arith, common_steps)

@@ -1,14 +1,13 @@
 -- What a worker holds between two rounds of an ask.
-use Rattle.std.proofs.Common.{◌≡◌, ℕ, ◌≤◌, true, List, [], ◌∷◌}
+use Rattle.std.proofs.Common.{◌≡◌, ℕ, ◌≤◌, true, List, []}
 use Rattle.grub_book.specs.History.{HasChanged, calls_of}
 use Rattle.grub_book.specs.declared.event.Event.{Event}
 use Rattle.grub_book.specs.declared.op.Op.{Op}
-use Rattle.grub_table.specs.declared.view.Mark.TheVariants.{Taken}
 use Rattle.grub_table.specs.declared.pass.Pass.{Pass}
 use Rattle.grub_table.specs.declared.claim.Claim.{Claim}
 use Rattle.grub_table.specs.declared.shared.Shared.{Shared}
 use Rattle.grub_table.specs.Knowing.{Learns}
-use Rattle.grub_table.specs.Calls.{IsPassOf, IsClaimOf, number_of, share_of, claim_share, claim_queue, claim_changes_sum, seen, marks}
+use Rattle.grub_table.specs.Calls.{IsPassOf, IsTaken, number_of, share_of, claim_share, claim_queue, claim_changes_sum, seen, marks}
 use Rattle.grub_workers.specs.declared.asking.Turn.{Turn}
 use Rattle.grub_workers.specs.declared.asking.Turn.TheVariants as turns
 use Rattle.grub_workers.specs.inside.Evidence.{ShowsHolder}
@@ -20,16 +19,9 @@ pub record IsFree (s : Shared) (round : ℕ) (p : Pass) (t : ℕ) (now : Pass) :
   pub learns : Learns (share_of p) (share_of now) [] []
   pub busy : 1 ≤ round → ShowsHolder (number_of p) t (seen now) (marks now)
 
--- the pass holds the task for this ask, and nothing of it is in the history
-pub record IsHolding (s : Shared) (p : Pass) (t : ℕ) (asked : Op) (c : Claim) : Type 0 where
-  pub of : IsClaimOf s c
-  pub task : c.task ≡ t
-  pub op : c.op ≡ asked
-  pub learns : Learns (share_of p) (claim_share c) [] (Taken (number_of p) t ∷ [])
-
--- the same, and all tries of the last round were lost
+-- the pass holds the task for this ask, nothing of which is in the history, and all tries of the last round were lost
 pub record HasLost (s : Shared) (tries : ℕ) (p : Pass) (t : ℕ) (asked : Op) (c : Claim) : Type 0 where
-  pub holding : IsHolding s p t asked c
+  pub holding : IsTaken s p t asked c
   pub sum : claim_changes_sum c ≡ true
   pub earlier : List Event
   pub none_own : calls_of (number_of p) (claim_share c).seen ≡ calls_of (number_of p) earlier
