@@ -13,17 +13,12 @@ use Rattle.std.specs.Str.Pattern.{RFindsChar}
 use Rattle.std.proofs.lemmas.Bool.{cases_eq, cond-true, cond-false}
 use Rattle.std.proofs.lemmas.Str.{len_utf8_ascii}
 use Rattle.std.proofs.lemmas.Str.Pattern.{NoCharPasses-char}
-use Rattle.std.proofs.lemmas.Str.Parse.{IsDigitsTest, IsNumeralModel, numerals_by_value, parse_digits}
+use Rattle.std.proofs.lemmas.Str.Parse.{parse_digits}
+use Rattle.grub_trace.proofs.NumberLemmas.{numerals}
 use Rattle.grub_trace.specs.Forms.{value}
 use Rattle.grub_convert.specs.Options.{Task, given_task, has_name, number_in, task_in, tasks_in, tasks_on, text_of}
 use Rattle.grub_convert.specs.declared.options.Given.{Given}
 use Rattle.grub_convert.specs.inside.Words.{is_named, texts_of}
-
-tells : IsDigitsTest (λ ds. list_all is_ascii_digit ds ≡ true)
-tells = search rules
-
-numerals : IsNumeralModel (λ ds. list_all is_ascii_digit ds ≡ true) value
-numerals = numerals_by_value _ tells
 
 numbered : {E : Type 0} (bs : List ℕ) (r : Result ℕ E) → list_all is_ascii_digit bs ≡ true → OkIff r ((0 < length bs) × (value bs < 2 ^ 64)) (value bs) → result_ok r ≡ number_in bs
 numbered bs (Ok n) digits ok = grind (arith, nat_tests, digits, ok.0.0, ok.0.1, ok.1)

@@ -2,3 +2,4 @@ pub mod Rowing
 pub mod Handing
 pub mod Closing
 pub mod Chunking
+pub mod Viewed

@@ -1,11 +1,10 @@
 -- The text of a time line.
 use Rattle.std.specs.Prelude.{ℕ, ◌+◌, List, [], ◌∷◌, ◌++◌, Option, codes, decimal}
 use Rattle.std.specs.List.{flat_map}
+use Rattle.grub_views.specs.Views.{HandsOnView, HandsPartOfView}
 use Rattle.grub_book.specs.declared.event.Reading.{Reading}
 use Rattle.grub_plan.specs.Texts.{ask_text, answer_text, reading_text}
 use Rattle.grub_plan.specs.Plans.{PlanView}
-use Rattle.grub_plan.specs.Writing.{HandsOn, HandsPart}
-use Rattle.grub_timeline.specs.TimeLines.{IsTimeLine}
 use Rattle.grub_timeline.specs.declared.told.Told.{Told}
 
 -- the line of an entry, where the tasks have these names
@@ -27,15 +26,9 @@ unfoldable pub timeline_lines : List (List ℕ) → List Told → List Reading �
 timeline_lines names told closing = flat_map (told_line names) told ++ close_lines 0 closing
 
 -- the lines of the time line of the plan were handed on, behind what was kept
-pub record HandsOnTimeline (plan : PlanView) (a b : Option (List ℕ)) (kept left : List ℕ) : Type 0 where
-  pub told : List Told
-  pub closing : List Reading
-  pub line : IsTimeLine plan told closing
-  pub handed : HandsOn a b kept (timeline_lines plan.names told closing) left
+abbrev pub HandsOnTimeline : PlanView → Option (List ℕ) → Option (List ℕ) → List ℕ → List ℕ → Type 0
+HandsOnTimeline plan a b kept left = HandsOnView (timeline_lines plan.names) plan a b kept left
 
 -- or a part of them
-pub record HandsPartOfTimeline (plan : PlanView) (a b : Option (List ℕ)) (kept : List ℕ) : Type 0 where
-  pub told : List Told
-  pub closing : List Reading
-  pub line : IsTimeLine plan told closing
-  pub handed : HandsPart a b kept (timeline_lines plan.names told closing)
+abbrev pub HandsPartOfTimeline : PlanView → Option (List ℕ) → Option (List ℕ) → List ℕ → Type 0
+HandsPartOfTimeline plan a b kept = HandsPartOfView (timeline_lines plan.names) plan a b kept

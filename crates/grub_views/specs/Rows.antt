@@ -1,6 +1,7 @@
 -- The steps as a table: rows of fields, with a tab between each two.
 use Rattle.std.specs.Prelude.{ℕ, List, [], ◌∷◌, ◌++◌, ◌==◌, codes, decimal, Option, Some, None}
 use Rattle.std.specs.List.{flat_map, before_first, join_with_byte}
+use Rattle.grub_views.specs.Views.{HandsOnView, HandsPartOfView}
 use Rattle.grub_book.specs.declared.event.Reading.{Reading}
 use Rattle.grub_book.specs.declared.op.Op.{Op}
 use Rattle.grub_book.specs.declared.op.Op.TheVariants.{Join, Wake, Block, Leave, Timer, Exit, Charge, Retune}
@@ -12,8 +13,6 @@ use Rattle.grub_plan.specs.declared.entry.Answer.{Answer}
 use Rattle.grub_plan.specs.declared.entry.Answer.TheVariants.{Replied, Seen, Busy, Lost}
 use Rattle.grub_plan.specs.Plans.{PlanView, name_at}
 use Rattle.grub_plan.specs.Texts.{ask_text, reply_text}
-use Rattle.grub_plan.specs.Writing.{HandsOn, HandsPart}
-use Rattle.grub_timeline.specs.TimeLines.{IsTimeLine}
 use Rattle.grub_timeline.specs.declared.told.Told.{Told}
 use Rattle.grub_steps.specs.Replay.{steps_of}
 use Rattle.grub_steps.specs.declared.book_steps.Step.{Step}
@@ -99,16 +98,13 @@ step_row names x = row (asked_fields names x ++ number_fields (answer_numbers x.
 unfoldable pub step_rows : List (List ℕ) → List Step → List ℕ
 step_rows names steps = header ++ flat_map (step_row names) steps
 
+abbrev pub rows_of : PlanView → List Told → List Reading → List ℕ
+rows_of plan told closing = step_rows plan.names (steps_of plan.setup told)
+
 -- the rows of the time line of the plan were handed on, behind what was kept
-pub record HandsOnSteps (plan : PlanView) (a b : Option (List ℕ)) (kept left : List ℕ) : Type 0 where
-  pub told : List Told
-  pub closing : List Reading
-  pub line : IsTimeLine plan told closing
-  pub handed : HandsOn a b kept (step_rows plan.names (steps_of plan.setup told)) left
+abbrev pub HandsOnSteps : PlanView → Option (List ℕ) → Option (List ℕ) → List ℕ → List ℕ → Type 0
+HandsOnSteps plan a b kept left = HandsOnView (rows_of plan) plan a b kept left
 
 -- or a part of them
-pub record HandsPartOfSteps (plan : PlanView) (a b : Option (List ℕ)) (kept : List ℕ) : Type 0 where
-  pub told : List Told
-  pub closing : List Reading
-  pub line : IsTimeLine plan told closing
-  pub handed : HandsPart a b kept (step_rows plan.names (steps_of plan.setup told))
+abbrev pub HandsPartOfSteps : PlanView → Option (List ℕ) → Option (List ℕ) → List ℕ → Type 0
+HandsPartOfSteps plan a b kept = HandsPartOfView (rows_of plan) plan a b kept

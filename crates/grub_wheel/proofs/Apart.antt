@@ -6,7 +6,7 @@ use Rattle.std.specs.FinMap as map
 use Rattle.grub_wheel.specs.declared.timer.Timer.{Timer}
 use Rattle.grub_wheel.specs.declared.node.Node.{Node}
 use Rattle.grub_wheel.specs.inside.Nodes.{node_at, Armed, tasks, keys, timers_of, AreInSlots, AreOthersKept, IsArmedNode}
-use Rattle.grub_wheel.proofs.Numbers.{some_is, no_both, key_tasks}
+use Rattle.grub_wheel.proofs.Keys.{some_is, no_both, key_tasks}
 use Rattle.grub_wheel.proofs.Looks.{look, bag_of, bag-insert, bag-remove}
 
 abbrev pub Apart : List Node → Type 0

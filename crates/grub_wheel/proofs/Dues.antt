@@ -6,7 +6,7 @@ use Rattle.grub_wheel.specs.TimerBag.{WheelState, IsArmed, IsLeast, AreLater}
 use Rattle.grub_wheel.specs.inside.Firsts.{IsFront}
 use Rattle.grub_wheel.specs.inside.Nodes.{node_at, Armed, keys, tasks, moments, timers_of, AreInSlots, IsFirstOf, AreOthersKept}
 use Rattle.std.proofs.lemmas.Bool.{cases_lt}
-use Rattle.grub_wheel.proofs.Numbers.{no_both, key_parts}
+use Rattle.grub_wheel.proofs.Keys.{no_both, key_parts}
 use Rattle.grub_wheel.proofs.Bags.{not_after}
 use Rattle.grub_wheel.proofs.Views.{state_of, looks, is_armed}
 use Rattle.grub_wheel.proofs.Apart.{IsEntry, look_at, look_is}

@@ -5,7 +5,7 @@ use Rattle.std.proofs.lemmas.List.Sums.{sum_by-set, sum_by-cons}
 use Rattle.grub_wheel.specs.declared.node.Node.{Node}
 use Rattle.grub_wheel.specs.inside.Nodes.{free_node, node_at, Armed, links, AreOthersKept, AreFree, armed_count, one_if_armed}
 use Rattle.std.proofs.lemmas.Bool.{cases_eq}
-use Rattle.grub_wheel.proofs.Numbers.{some_is, no_both}
+use Rattle.grub_wheel.proofs.Keys.{some_is, no_both}
 
 -- the first of the free places, and the rest
 pub record IsFreeHead (ns : List Node) (spare i : ℕ) : Type 0 where

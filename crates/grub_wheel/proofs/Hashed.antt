@@ -11,7 +11,7 @@ use Rattle.grub_wheel.specs.declared.node.Node.{Node}
 use Rattle.grub_wheel.specs.inside.Firsts.{IsFirst, Behind}
 use Rattle.grub_wheel.specs.inside.Nodes.{free_node, node_at, Armed, timers_of, key_of, slot_of, keys, slots, moments, links, tasks, head_of, AreInSlots, AreChained, AreOthersKept, IsArmedNode, IsFreed, AreFree, armed_count, one_if_armed, IsHashed}
 use Rattle.std.proofs.lemmas.Bool.{cases_eq, cases_lt}
-use Rattle.grub_wheel.proofs.Numbers.{no_both}
+use Rattle.grub_wheel.proofs.Keys.{no_both}
 use Rattle.grub_wheel.proofs.Links.{IsSame, first_as, behind_as, behind_to}
 use Rattle.grub_wheel.proofs.Looks.{bag_of, bag-same}
 use Rattle.grub_wheel.specs.TimerBag.{WheelState}

@@ -1,4 +1,4 @@
-pub mod Numbers
+pub mod Keys
 pub mod Looks
 pub mod Views
 pub mod NodeReads

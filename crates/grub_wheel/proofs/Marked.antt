@@ -6,7 +6,7 @@ use Rattle.grub_wheel.specs.declared.timer.Timer.{Timer}
 use Rattle.grub_wheel.specs.inside.Nodes.{Armed, AreOthersKept, IsArmedNode, node_at, tasks}
 use Rattle.grub_wheel.specs.inside.Used.{AreMarked, mark_of}
 use Rattle.grub_wheel.proofs.Apart.{Apart}
-use Rattle.grub_wheel.proofs.Numbers.{no_both}
+use Rattle.grub_wheel.proofs.Keys.{no_both}
 
 -- the map says the same of all tasks but t
 abbrev pub AreSameBut : ℕ → List ℕ → List ℕ → Type 0

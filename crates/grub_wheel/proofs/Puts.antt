@@ -4,7 +4,7 @@ use Rattle.std.specs.Prelude.{MatchOption}
 use Rattle.grub_wheel.specs.declared.timer.Timer.{Timer}
 use Rattle.grub_wheel.specs.declared.node.Node.{Node}
 use Rattle.grub_wheel.specs.inside.Nodes.{free_node, node_at, Armed, key_of, slot_of, keys, slots, links, head_of, tasks, AreInSlots, AreChained, IsLastOf, IsPointed, IsRelinked, AreOthersKept, IsArmedNode}
-use Rattle.grub_wheel.proofs.Numbers.{no_both, key_tasks}
+use Rattle.grub_wheel.proofs.Keys.{no_both, key_tasks}
 use Rattle.grub_wheel.proofs.Apart.{keys_apart, apart_put, narrow_put, apart_take, narrow_take}
 use Rattle.grub_wheel.proofs.Links.{IsSame, IsAdded, IsLinkedIn, IsPassedOver, add_chained, take_chained}
 

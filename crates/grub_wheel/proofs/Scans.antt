@@ -6,7 +6,7 @@ use Rattle.grub_wheel.specs.declared.node.Node.{Node}
 use Rattle.grub_wheel.specs.inside.Nodes.{free_node, node_at, Armed, keys, slots, tasks, moments, head_of, AreInSlots, IsFirstOf, IsSooner}
 use Rattle.grub_wheel.specs.inside.Used.{IsMapped, mark_of}
 use Rattle.std.proofs.lemmas.Bool.{cases_lt, cases_eq}
-use Rattle.grub_wheel.proofs.Numbers.{some_is, no_both, key_moments, later_key}
+use Rattle.grub_wheel.proofs.Keys.{some_is, no_both, key_moments, later_key}
 
 off_here : (z f k : ℕ) → f ≤ z → k < 256 → z % 256 ≡ (f + k) % 256 → (z - f) % 256 ≡ k
 off_here z f k le lt e = omega arith

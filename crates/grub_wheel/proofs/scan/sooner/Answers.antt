@@ -1,7 +1,7 @@
 use Rattle.std.proofs.Common.{ℕ, Option, sym, ◌∙◌, subst}
 use Rattle.std.specs.Prelude.{IfSome}
 use Rattle.grub_wheel.specs.inside.Nodes.{node_at, tasks, IsNarrowNode}
-use Rattle.grub_wheel.proofs.Numbers.{before_key}
+use Rattle.grub_wheel.proofs.Keys.{before_key}
 use Rattle.grub_wheel.proofs.Scans.{best_is_sooner}
 use Rattle.grub_wheel.proofs.scan.sooner.Goals as goal
 
