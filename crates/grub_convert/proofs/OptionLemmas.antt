@@ -1,5 +1,5 @@
 -- What the words of options say.
-use Rattle.std.proofs.Common.{◌≡◌, ℕ, zero, suc, ◌+◌, ◌-◌, ◌^◌, ◌<◌, ◌≤◌, true, ◌||◌, List, [], ◌∷◌, map, length, take, drop, get_or, if◌then◌else◌, ◌++◌, false, Option, Some, None, MatchOption, Result, Ok, Err, Bor, refl, sym, ap, ◌∙◌, ⊎_elim, arith, rules, eq-eqb, ne_eqb, get_or-drop, length-drop, option_map}
+use Rattle.std.proofs.Common.{◌≡◌, ℕ, zero, suc, ◌+◌, ◌-◌, ◌^◌, ◌<◌, ◌≤◌, true, ◌||◌, List, [], ◌∷◌, map, length, take, drop, get_or, if◌then◌else◌, ◌++◌, false, Option, Some, None, MatchOption, Result, Ok, Err, Bor, refl, sym, ap, ◌∙◌, ⊎_elim, arith, eq-eqb, ne_eqb, get_or-drop, length-drop, option_map}
 use Rattle.std.specs.Option.{option_and_then}
 use Rattle.std.proofs.lemmas.List.{at_drop_more, map-append}
 use Rattle.std.specs.Char.{is_ascii_digit}

@@ -2,8 +2,8 @@
 use Rattle.std.proofs.Common.{◌≡◌, ◌≢◌, ℕ, ◌+◌, ◌-◌, ◌*◌, ◌<◌, ◌&&◌, ◌==◌, nat_lt, Bool, true, false, cond, Option, Some, None, List, [], ◌∷◌, length, get_or, set, zero, suc, refl, sym, ◌∙◌, ap, subst, arith, add-one}
 use Rattle.std.specs.List.{sum_by, range_with_len}
 use Rattle.std.proofs.Math.Nat.{add-mul}
-use Rattle.std.proofs.lemmas.Bool.{ne_eqb, eqb-true, eqb-false}
-use Rattle.std.proofs.lemmas.List.{length-map, length-set, get_or-set_same}
+use Rattle.std.proofs.lemmas.Bool.{eqb-true, eqb-false}
+use Rattle.std.proofs.lemmas.List.{length-map, get_or-set_same}
 use Rattle.std.proofs.lemmas.List.Elements.{All-head, All-tail}
 use Rattle.std.proofs.lemmas.List.Sums.{sum_by-cons}
 use Rattle.grub_book.proofs.Tells.{length_replied}
@@ -20,7 +20,7 @@ use Rattle.grub_book.specs.declared.place.Place.{Place}
 use Rattle.grub_book.specs.declared.place.Place.TheVariants.{Away, Gone, On}
 use Rattle.grub_book.specs.declared.place.Record.{Record}
 use Rattle.grub_book.specs.declared.place.State.{State}
-use Rattle.grub_book.specs.declared.place.State.TheVariants.{Contending, NonContending, Inactive}
+use Rattle.grub_book.specs.declared.place.State.TheVariants.{NonContending, Inactive}
 use Rattle.grub_book.specs.declared.reply.Reply.{Reply}
 use Rattle.grub_book.specs.declared.reply.Reply.TheVariants.{Asleep, Full, Retired, Retuned, Waiting}
 use Rattle.grub_book.proofs.Cases.{of_either, of_timer}

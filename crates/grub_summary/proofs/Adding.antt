@@ -1,5 +1,5 @@
 -- One step more of what is counted.
-use Rattle.std.proofs.Common.{◌≡◌, ◌≢◌, ℕ, zero, suc, ◌+◌, ◌-◌, ◌*◌, ◌<◌, ◌≤◌, ◌==◌, Bool, true, false, cond, max, List, [], ◌∷◌, ◌++◌, length, get_or, set, map, take, drop, nat_lt, refl, ap, ◌∙◌, sym, subst, arith, Some, None, IfSome, All}
+use Rattle.std.proofs.Common.{◌≡◌, ◌≢◌, ℕ, ◌+◌, ◌-◌, ◌*◌, ◌<◌, ◌≤◌, ◌==◌, Bool, true, false, cond, max, List, [], ◌∷◌, ◌++◌, length, get_or, set, map, take, drop, nat_lt, refl, ap, ◌∙◌, sym, subst, arith, Some, None, IfSome, All}
 use Rattle.std.specs.List.{fold, range_with_len}
 use Rattle.std.proofs.lemmas.Bool.{ne_eqb, eqb-true, eqb-false}
 use Rattle.std.proofs.lemmas.List.{append-nil, ext_get_or, drop_more, drop_all, get_or_at, get_or_default, get_or-set_same, get_or-set_other, length-map, length-set, length-take, take_all, take_more_set}

@@ -1,2 +1,2 @@
 pub mod Earliest
-pub mod Steps
+pub mod FromFront

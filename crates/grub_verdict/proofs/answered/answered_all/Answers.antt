@@ -1,5 +1,5 @@
 use Rattle.std.proofs.Common.{arith}
-use Rattle.grub_verdict.proofs.Steps.{answered_end}
+use Rattle.grub_verdict.proofs.FromFront.{answered_end}
 use Rattle.grub_verdict.proofs.answered.answered_all.Goals as goal
 
 pub returns : goal.returns

@@ -1,6 +1,6 @@
 use Rattle.std.proofs.Common.{rules}
 use Rattle.grub_facts.specs.declared.fact.What.TheVariants.{Wakes}
-use Rattle.grub_verdict.proofs.Steps.{cancelled_step}
+use Rattle.grub_verdict.proofs.FromFront.{cancelled_step}
 use Rattle.grub_verdict.proofs.counting.count_cancelled.Goals as goal
 
 pub loop-fact-preserved : goal.loop-fact-preserved

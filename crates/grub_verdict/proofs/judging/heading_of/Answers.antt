@@ -1,4 +1,4 @@
-use Rattle.grub_verdict.proofs.Steps.{heading_is}
+use Rattle.grub_verdict.proofs.FromFront.{heading_is}
 use Rattle.grub_verdict.proofs.judging.heading_of.Goals as goal
 
 pub returns : goal.returns

@@ -1,5 +1,5 @@
 use Rattle.std.proofs.Common.{rules}
-use Rattle.grub_verdict.proofs.Steps.{number_found, number_passed}
+use Rattle.grub_verdict.proofs.FromFront.{number_found, number_passed}
 use Rattle.grub_verdict.proofs.judging.number_in.Goals as goal
 
 pub returns-then-eq : goal.returns-then-eq

@@ -1,4 +1,4 @@
--- One element more, from the front.
+-- Lists that a loop goes through from the front, with one element more: cancelled timers, answers, headings and signs.
 use Rattle.std.proofs.Common.{◌≡◌, ◌<◌, ◌≤◌, ◌+◌, ◌++◌, ◌&&◌, not, ℕ, suc, List, [], ◌∷◌, ◌⊎◌, inl, inr, true, false, Option, Some, length, drop, get_or, set, map, min, refl, sym, ◌∙◌, arith, add_assoc, add-one, if◌then◌else◌}
 use Rattle.std.proofs.Math.Seq.{drop-cons}
 use Rattle.std.proofs.lemmas.List.{append-nil, drop_all, length-map}
