@@ -1,5 +1,5 @@
 -- Elements of lists at which something holds.
-use Rattle.std.proofs.Common.{◌≡◌, ◌⊎◌, ℕ, zero, suc, ◌<◌, cond, Bool, true, false, List, [], ◌∷◌, ◌++◌, length, get_or, drop, filter, refl, sym, ap, ◌∙◌, subst, ⊎_elim, inl, inr, arith}
+use Rattle.std.proofs.Common.{◌≡◌, ◌⊎◌, ℕ, zero, suc, ◌<◌, cond, Bool, true, false, List, [], ◌∷◌, ◌++◌, length, get_or, filter, refl, sym, ap, ◌∙◌, subst, ⊎_elim, inl, inr, arith}
 use Rattle.std.specs.List.{flat_map, All, Any}
 use Rattle.std.proofs.lemmas.List.Elements.{All-cons, All-nil, All-head, All-tail}
 
@@ -67,10 +67,6 @@ found P Q (x ∷ xs) a b = ⊎_elim
     (λ h. record { element = x; is = h; also = All-head Q x xs b; inside = inl refl })
     (λ h. let f = found P Q xs h (All-tail Q x xs b) in record { element = f.element; is = f.is; also = f.also; inside = inr f.inside })
     a
-
-pub append_none : {X : Type 0} (xs ys : List X) → xs ++ ys ≡ xs → ys ≡ []
-append_none [] ys is = is
-append_none (x ∷ xs) ys is = append_none xs ys (ap (drop 1) is)
 
 -- what a filter that keeps nothing says of each element
 pub filter_none : {X : Type 0} (p : X → Bool) (xs : List X) → filter p xs ≡ [] → All (λ x. p x ≡ false) xs

@@ -1,6 +1,7 @@
 -- What another pass must have done where a task's record was found changed, or a reading.
-use Rattle.std.proofs.Common.{◌≡◌, ◌≢◌, ◌⊎◌, ℕ, ◌+◌, ◌≤◌, cond, Bool, true, false, ◌==◌, ◌&&◌, List, [], ◌∷◌, ◌++◌, refl, sym, ap, ◌∙◌, subst, ⊎_elim, inl, inr, arith, unwrap_or, eq-eqb, ne_eqb, append_assoc, get_or-set_other, Option, Some, None}
+use Rattle.std.proofs.Common.{◌≡◌, ◌≢◌, ◌⊎◌, ℕ, ◌+◌, ◌≤◌, cond, Bool, true, false, ◌==◌, ◌&&◌, List, [], ◌∷◌, ◌++◌, refl, sym, ap, ◌∙◌, subst, ⊎_elim, inl, inr, arith, unwrap_or, eq-eqb, append_assoc, get_or-set_other, Option, Some, None}
 use Rattle.std.specs.List.{All, Any}
+use Rattle.std.proofs.lemmas.List.{append-nil, append_cancel_left}
 use Rattle.std.proofs.lemmas.List.Elements.{All-weaker, All-head, All-tail}
 use mathlib.Core.Logic.{dite}
 use native.Mathlib.Decide.{ℕ_discrete}
@@ -18,8 +19,9 @@ use Rattle.grub_book.proofs.Claims.{outside_same}
 use Rattle.grub_table.specs.declared.view.Mark.{Mark}
 use Rattle.grub_table.specs.declared.view.Mark.TheVariants.{Taken, Given}
 use Rattle.grub_table.specs.Marks.{Holders, nobody_holds, handed, held_from, holder_of}
+use Rattle.grub_table.proofs.Marks.{handed_else, handed_here}
 use Rattle.grub_workers.specs.inside.Evidence.{TakesElse, CallsElse}
-use Rattle.grub_workers.proofs.Elements.{Somewhere, any_of, append_none, filter_none, somewhere_left, somewhere_right, all_left, all_right}
+use Rattle.grub_workers.proofs.Elements.{Somewhere, any_of, filter_none, somewhere_left, somewhere_right, all_left, all_right}
 
 not_own : (i : ℕ) (e : Event) → (pass_of e == i) ≡ false → pass_of e ≢ i
 not_own i e off is = let on : (pass_of e == i) ≡ true = eq-eqb (pass_of e) i is in absurd (cc)
@@ -27,7 +29,7 @@ not_own i e off is = let on : (pass_of e == i) ≡ true = eq-eqb (pass_of e) i i
 -- where the calls of a pass stay, no later event is its own
 pub others_only : (i : ℕ) (h more : List Event) → calls_of i (h ++ more) ≡ calls_of i h → All (λ e. pass_of e ≢ i) more
 others_only i h more is = All-weaker (λ e. (pass_of e == i) ≡ false) (λ e. pass_of e ≢ i) (not_own i) more
-    (filter_none (λ e. pass_of e == i) more (append_none (calls_of i h) (calls_of i more) (sym (calls_append i h more) ∙ is)))
+    (filter_none (λ e. pass_of e == i) more (append_cancel_left (calls_of i h) (calls_of i more) [] (sym (calls_append i h more) ∙ is ∙ sym (append-nil (calls_of i h)))))
 
 pub replied_else : (t : ℕ) (book : Records) (u : ℕ) → t ≢ u → (o : Option Reply) (m : Record × Reply) → record_at (replied book u o m).0 t ≡ record_at book t
 replied_else t book u ne (Some reply) m = refl
@@ -70,25 +72,19 @@ calls_between s i t before after a b legal grows own from x y ne =
     any_of (CallsElse i t) after (subst (Somewhere (CallsElse i t)) (sym whole) (somewhere_right (CallsElse i t) (before ++ from.0) (x.0 ++ y.0) (somewhere_left (CallsElse i t) x.0 y.0 found)))
 
 -- ---- a task that is held was taken
-hand_here : (g : Holders) (t : ℕ) (to : Option ℕ) → handed g t to t ≡ to
-hand_here g t to = ap (λ b. cond b to (g t)) (eq-eqb t t refl)
-
-hand_other : (g : Holders) (t : ℕ) (to : Option ℕ) (u : ℕ) → u ≢ t → handed g t to u ≡ g u
-hand_other g t to u ne = ap (λ b. cond b to (g u)) (ne_eqb u t ne)
-
 taken_else : (i t j : ℕ) → j ≢ i → (g : Holders) (ms : List Mark) → held_from g ms t ≡ Some j → (g t ≡ Some j) ⊎ Somewhere (TakesElse i t) ms
 taken_else i t j ne g [] is = inl is
 taken_else i t j ne g (Taken k u ∷ ms) is = ⊎_elim
     (λ (h : handed g u (Some k) t ≡ Some j). dite (ℕ_discrete t u)
-    (λ same. let here : Some k ≡ Some j = sym (hand_here g u (Some k)) ∙ ap (λ v. handed g u (Some k) v) (sym same) ∙ h in
+    (λ same. let here : Some k ≡ Some j = sym (handed_here g u (Some k)) ∙ ap (λ v. handed g u (Some k) v) (sym same) ∙ h in
     let by : k ≡ j = ap (λ o. unwrap_or o 0) here in inr (inl (sym same, (λ e. ne (sym by ∙ e)))))
-    (λ other. inl (sym (hand_other g u (Some k) t other) ∙ h)))
+    (λ other. inl (sym (handed_else g u (Some k) t other) ∙ h)))
     (λ h. inr (inr h))
     (taken_else i t j ne (handed g u (Some k)) ms is)
 taken_else i t j ne g (Given k u ∷ ms) is = ⊎_elim
     (λ (h : handed g u None t ≡ Some j). dite (ℕ_discrete t u)
-    (λ same. let here : None ≡ Some j = sym (hand_here g u None) ∙ ap (λ v. handed g u None v) (sym same) ∙ h in absurd (cc))
-    (λ other. inl (sym (hand_other g u None t other) ∙ h)))
+    (λ same. let here : None ≡ Some j = sym (handed_here g u None) ∙ ap (λ v. handed g u None v) (sym same) ∙ h in absurd (cc))
+    (λ other. inl (sym (handed_else g u None t other) ∙ h)))
     (λ h. inr (inr h))
     (taken_else i t j ne (handed g u None) ms is)
 
