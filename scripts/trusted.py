@@ -69,7 +69,7 @@ def definitions_in(crate, module, text):
     """The definitions of a module, in order."""
     found, comment, current = [], 0, None
     for line in text.split("\n"):
-        if line.startswith("--"):
+        if line.lstrip().startswith("--"):
             comment += 1
             continue
         head = None if line.startswith(("use ", "pub mod")) else HEAD.match(line)
