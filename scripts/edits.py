@@ -1,11 +1,11 @@
 #!/usr/bin/env python3
 """Tries the must-fail edits in crates/NAME/edits: the prover must refuse each in a function that it turns.
 
-edits.py [--look] [NAME | NAME/EDIT]..: those of these crates, or these edits, or all. Each crate is checked over the libraries that
+edits.py [--look] [--minutes N] [NAME | NAME/EDIT]..: those of these crates, or these edits, or all. Each crate is checked over the libraries that
 `rt ci` or scripts/build.py left, first as it stands and then with as many edits at once as turn different functions: a function
 is proved from the contracts of those that it calls, so what one edit turns takes no proof from another.
-An edit for which two such checks tell nothing is tried alone. With --look none is tried: it says which cannot be applied. The last line
-is 'N passed, M failed'.
+An edit for which two such checks tell nothing is tried alone. With --look none is tried: it says which cannot be applied. What was not
+tried when N minutes are over has failed. The last line is 'N passed, M failed'.
 """
 import os
 import re
@@ -146,7 +146,8 @@ def is_refused(functions, said):
 class Trial:
     """The checks of one crate."""
 
-    def __init__(self, crate, kit, libraries, room):
+    def __init__(self, crate, kit, libraries, room, end):
+        self.end = end
         self.crate, self.kit, self.libraries, self.room, self.checks, self.began = crate, kit, libraries, f"{room}/{crate.name}", 0, time.time()
 
     def check(self, edits):
@@ -172,10 +173,11 @@ class Trial:
             self.plant_seed()
         words = [f"{self.kit}/bin/rattle", "check", *self.crate.words(self.kit, self.libraries), "--jobs", "1", "--incremental", kept if edits else f"{self.room}/seed"]
         how = {"cwd": tree, "stdin": subprocess.DEVNULL, "stdout": subprocess.PIPE, "stderr": subprocess.STDOUT, "errors": "replace"}
+        most = max(1, min(LONGEST, self.end - time.time()))
         try:
-            ran = subprocess.run(words, timeout=LONGEST, **how)
+            ran = subprocess.run(words, timeout=most, **how)
         except subprocess.TimeoutExpired:
-            return 3, f"no end after {LONGEST} s"
+            return 3, f"no end after {most:.0f} s"
         return ran.returncode, ran.stdout
 
     def plant_seed(self):
@@ -212,17 +214,19 @@ class Trial:
         for it in wrong:
             say(f"edit {it.label}: BAD: {it.bad}")
         failed = len(wrong)
-        status, said = self.check([]) if left else (0, "")
+        status, said = self.check([]) if left and time.time() < self.end else (0, "")
         stands = time.time() - self.began
-        if status:
+        if status and time.time() < self.end:
             say(f"{self.crate.name} is not proved as it stands, so none of its edits was tried:\n{said[-2000:]}")
             return 0, failed + len(left)
-        while left:
+        while left and time.time() < self.end:
             batch = []
             for edit in left:
                 if all(edit.is_beside(it) for it in batch):
                     batch.append(edit)
             found = self.judge(batch)
+            if time.time() >= self.end:
+                found = {edit: it for edit, it in found.items() if it[0] == "refused"}
             for edit, (kind, why) in found.items():
                 say(f"edit {edit.label}: {kind}, {why}" if kind == "refused" else f"edit {edit.label}: {kind.upper()}: {why}")
                 failed += kind != "refused"
@@ -230,6 +234,9 @@ class Trial:
             if not any(kind == "bad" for kind, _ in found.values()):
                 for edit in batch:
                     edit.untold += edit not in found
+        for edit in left:
+            say(f"edit {edit.label}: NOT TRIED: the time was over")
+        failed += len(left)
         passed = len(edits) - failed
         took = time.time() - self.began
         say(f"edits: {self.crate.name}: {passed} of {len(edits)} refused, {self.checks} checks, {took:.0f} s, {stands:.0f} of them as it stands")
@@ -263,8 +270,8 @@ def look(of):
     return len(edits) - len(wrong), len(wrong)
 
 
-def try_all(of, known):
-    """Tries edits, crates side by side, those that take longest first."""
+def try_all(of, known, end):
+    """Tries edits until this time, crates side by side, those that take longest first."""
     libraries = libraries_for({low for it in of for low in known[it].below})
     if libraries is None:
         say("edits: the libraries must be built first, by rt ci or scripts/build.py")
@@ -273,14 +280,18 @@ def try_all(of, known):
     order = sorted(of, key=lambda it: -len(of[it]) * (1 + len(known[it].below)))
     os.makedirs(f"{ROOT}/out", exist_ok=True)
     with tempfile.TemporaryDirectory(prefix="edits-", dir=f"{ROOT}/out") as room, ThreadPoolExecutor(lanes(ROOM)) as pool:
-        told = list(pool.map(lambda it: Trial(known[it], kit, libraries, room).run(of[it]), order))
+        told = list(pool.map(lambda it: Trial(known[it], kit, libraries, room, end).run(of[it]), order))
     return tuple(sum(it) for it in zip((0, 0), *told))
 
 
 def main(words):
-    known = crates()
+    known, end = crates(), float("inf")
+    if "--minutes" in words:
+        at = words.index("--minutes")
+        end = time.time() + 60 * float(words[at + 1])
+        words = words[:at] + words[at + 2 :]
     of = chosen([it for it in words if it != "--look"], known)
-    passed, failed = look(of) if "--look" in words else try_all(of, known)
+    passed, failed = look(of) if "--look" in words else try_all(of, known, end)
     say(f"{passed} passed, {failed} failed")
     return 1 if failed else 0
 
