@@ -146,7 +146,8 @@ def build(works, most):
                 continue
             if not told and any(it.state == "runs" for it in works.values()):
                 told = True
-                say(f"build: proving {len(works)} crates, {most} at a time")
+                left = sum(it.state != "made" for it in works.values())
+                say(f"build: {left} of {len(works)} crates to prove, {most} at a time")
             running = [it for it in works.values() if it.state == "runs"]
             if not running:
                 break
