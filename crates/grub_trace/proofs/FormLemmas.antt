@@ -155,40 +155,6 @@ many_words f (a ∷ b ∷ c ∷ d ∷ e ∷ []) h = absurd (omega arith)
 many_words f (a ∷ b ∷ c ∷ d ∷ e ∷ g ∷ []) h = absurd (omega arith)
 many_words f (a ∷ b ∷ c ∷ d ∷ e ∷ g ∷ i ∷ ws) h = refl
 
-pub three_words : {X : Type 0} (f : X → List ℕ) (ws : List X) (d : X) → 3 ≤ length ws → length ws < 4 → bytes_eq (f (get_or ws 0 d)) (codes "queue") ≡ false → (bytes_eq (f (get_or ws 0 d)) (codes "at") && bytes_eq (f (get_or ws 2 d)) (codes "read")) ≡ false → shape_of (map f ws) ≡ None
-three_words f [] d m l x y = absurd (omega arith)
-three_words f (a ∷ []) d m l x y = absurd (omega arith)
-three_words f (a ∷ b ∷ []) d m l x y = absurd (omega arith)
-three_words f (a ∷ b ∷ c ∷ []) d m l x y = rw (x, y) refl
-three_words f (a ∷ b ∷ c ∷ e ∷ ws) d m l x y = absurd (omega arith)
-
-pub four_words : {X : Type 0} (f : X → List ℕ) (ws : List X) (d : X) → 4 ≤ length ws → length ws < 5 → (bytes_eq (f (get_or ws 0 d)) (codes "task") && is_name (f (get_or ws 1 d))) ≡ false → (bytes_eq (f (get_or ws 0 d)) (codes "at") && is_name (f (get_or ws 3 d))) ≡ false → shape_of (map f ws) ≡ None
-four_words f [] d m l x y = absurd (omega arith)
-four_words f (a ∷ []) d m l x y = absurd (omega arith)
-four_words f (a ∷ b ∷ []) d m l x y = absurd (omega arith)
-four_words f (a ∷ b ∷ c ∷ []) d m l x y = absurd (omega arith)
-four_words f (a ∷ b ∷ c ∷ e ∷ []) d m l x y = rw (x, y) refl
-four_words f (a ∷ b ∷ c ∷ e ∷ g ∷ ws) d m l x y = absurd (omega arith)
-
-pub five_words : {X : Type 0} (f : X → List ℕ) (ws : List X) (d : X) → 5 ≤ length ws → length ws < 6 → (bytes_eq (f (get_or ws 0 d)) (codes "at") && bytes_eq (f (get_or ws 2 d)) (codes "run") && is_name (f (get_or ws 3 d))) ≡ false → shape_of (map f ws) ≡ None
-five_words f [] d m l x = absurd (omega arith)
-five_words f (a ∷ []) d m l x = absurd (omega arith)
-five_words f (a ∷ b ∷ []) d m l x = absurd (omega arith)
-five_words f (a ∷ b ∷ c ∷ []) d m l x = absurd (omega arith)
-five_words f (a ∷ b ∷ c ∷ e ∷ []) d m l x = absurd (omega arith)
-five_words f (a ∷ b ∷ c ∷ e ∷ g ∷ []) d m l x = rw (x) refl
-five_words f (a ∷ b ∷ c ∷ e ∷ g ∷ i ∷ ws) d m l x = absurd (omega arith)
-
-pub six_words : {X : Type 0} (f : X → List ℕ) (ws : List X) (d : X) → 6 ≤ length ws → length ws < 7 → (bytes_eq (f (get_or ws 0 d)) (codes "at") && bytes_eq (f (get_or ws 2 d)) (codes "retune") && is_name (f (get_or ws 3 d))) ≡ false → shape_of (map f ws) ≡ None
-six_words f [] d m l x = absurd (omega arith)
-six_words f (a ∷ []) d m l x = absurd (omega arith)
-six_words f (a ∷ b ∷ []) d m l x = absurd (omega arith)
-six_words f (a ∷ b ∷ c ∷ []) d m l x = absurd (omega arith)
-six_words f (a ∷ b ∷ c ∷ e ∷ []) d m l x = absurd (omega arith)
-six_words f (a ∷ b ∷ c ∷ e ∷ g ∷ []) d m l x = absurd (omega arith)
-six_words f (a ∷ b ∷ c ∷ e ∷ g ∷ i ∷ []) d m l x = rw (x) refl
-six_words f (a ∷ b ∷ c ∷ e ∷ g ∷ i ∷ j ∷ ws) d m l x = absurd (omega arith)
-
 -- ---- the first line
 
 version_from : (a b : Bool) (v : Version) → cond a (Some One) (cond b (Some Two) None) ≡ Some v → ((a ≡ true) × (One ≡ v)) ⊎ ((b ≡ true) × (Two ≡ v))
