@@ -4,16 +4,25 @@ use Rattle.std.specs.Prelude.{MatchResult}
 use Rattle.grub_bw.specs.Bandwidth.{Capacity}
 use Rattle.grub_trace.specs.declared.version.Version.{Version}
 use Rattle.grub_trace.specs.declared.fault.Kind.{Kind}
-use Rattle.grub_trace.specs.declared.fault.Kind.TheVariants.{CutShort, BadHeader, BadLine, BadNumber, OutOfRange, MomentGoesBack}
-use Rattle.grub_trace.specs.inside.Reading.{Read, FileRead, act_map, read_queue, read_second, read_first, read_as, read_file, file_from, opened, ok_unless, adds, take_option, times_of, read_lines, take_line, at_line, of_file, ◌>>=◌, Faults, two_fault, IsRunOf, IsRetuneOf, take_form}
+use Rattle.grub_trace.specs.declared.fault.Kind.TheVariants.{CutShort, BadHeader, BadLine, BadNumber, OutOfRange, DuplicateTask, MomentGoesBack}
+use Rattle.grub_trace.specs.inside.Reading.{Read, FileRead, act_map, read_queue, read_second, read_first, read_as, read_file, file_from, opened, ok_unless, adds, take_option, times_of, read_lines, take_line, at_line, of_file, ◌>>=◌, Faults, two_fault, IsRunOf, IsRetuneOf, take_form, line_view, says, task_fault}
 use Rattle.grub_trace.specs.Forms.{parts_of, Form, queue, task, at_moment, words_of, form_of, is_number, version_of, value, reservation_value}
 use Rattle.std.proofs.Common.{◌-◌, ◌⊎◌, inl, inr, Option, Some, None}
-use Rattle.std.proofs.lemmas.List.{length_push}
+use Rattle.std.proofs.lemmas.List.{length_push, length-map}
 use Rattle.grub_trace.specs.declared.fault.TraceFault.{TraceFault}
 use Rattle.grub_trace.specs.declared.fault.TraceFault.TheVariants as fault
 use Rattle.grub_trace.specs.Tree.{Declaration, names_of, is_moment, is_span, may_retune}
+use Rattle.grub_plan.specs.declared.line.Act.{Act}
+use Rattle.grub_plan.specs.declared.line.Act.TheVariants as act
 use Rattle.grub_plan.specs.declared.line.Act.TheVariants.{Run, Retune}
-use Rattle.grub_trace.specs.Faults.{form_fault, is_allowed, is_timely, reservation_fits}
+use Rattle.grub_plan.specs.declared.line.Line as lines
+use Rattle.std.specs.Borrow.{Bor}
+use Rattle.std.specs.Prelude.{nat_le, nat_lt, is_none, ◌++◌}
+use Rattle.std.proofs.lemmas.Bool.Decides.{nat_tests}
+use Rattle.grub_bw.specs.Bandwidth.{Reservation}
+use Rattle.grub_trace.specs.Naming.{task_of}
+use Rattle.grub_trace.specs.inside.Lines.{GivesLine, TakesAct, plain_fault}
+use Rattle.grub_trace.specs.Faults.{form_fault, is_allowed, is_timely, last_of, reservation_fits}
 use Rattle.grub_trace.proofs.WordLemmas.{has_part}
 
 -- ---- one step after another
@@ -209,3 +218,71 @@ retune_stops k r m n q p may h =
     ∙ ap (λ (s : Bool). cond (not s) (Some BadNumber) (cond (not within) (Some OutOfRange) late)) (all_three (is_number m) (is_number q) (is_number p))
     ∙ fault_from (is_number m && is_number q && is_number p) within late k h in
     ap (λ (o : Option Kind). ok_unless o (adds f r)) fault
+
+-- ---- lines with no number but the moment
+
+abbrev is_plain : Act (Bor (List ℕ)) (Bor (List ℕ)) → Bool
+is_plain (act.Run n d) = false
+is_plain (act.Retune n q p) = false
+is_plain a = true
+
+-- the line of such an act
+abbrev plain_line : List ℕ → Act (Bor (List ℕ)) (Bor (List ℕ)) → lines.Line (Bor (List ℕ))
+plain_line w a = record { m = value w; act = act_map (λ n. n) (λ v. value v.now) a }
+
+plain_said : (o : Option Kind) (r s : Read) (l : lines.Line (Bor (List ℕ))) → s ≡ says (line_view l) r → GivesLine (ok_unless o l) r (ok_unless o s)
+plain_said None r s l e = ap Ok e
+plain_said (Some k) r s l e = refl
+
+and_true : (b : Bool) → (b && true) ≡ b
+and_true true = refl
+and_true false = refl
+
+plain_gives : (last : ℕ) (w : List ℕ) (r s : Read) (l : lines.Line (Bor (List ℕ))) → last_of (times_of r.happenings) ≡ last → s ≡ says (line_view l) r
+    → GivesLine (ok_unless (plain_fault last w) l) r (ok_unless (cond (not (is_number w && true)) (Some BadNumber) (cond (not (is_moment (value w))) (Some OutOfRange) (cond (not (nat_le (last_of (times_of r.happenings)) (value w))) (Some MomentGoesBack) None))) s)
+plain_gives last w r s l is said = rw (and_true (is_number w), is) (plain_said (plain_fault last w) r s l said)
+
+pub plain_takes : (version : Version) (last : ℕ) (w : List ℕ) (a : Act (Bor (List ℕ)) (Bor (List ℕ))) → is_plain a ≡ true → TakesAct (ok_unless (plain_fault last w) (plain_line w a)) version last w a
+plain_takes version last w (act.Join n) plain = λ r v is. plain_gives last w r _ (plain_line w (act.Join n)) is refl
+plain_takes version last w (act.Wake n) plain = λ r v is. plain_gives last w r _ (plain_line w (act.Wake n)) is refl
+plain_takes version last w (act.Block n) plain = λ r v is. plain_gives last w r _ (plain_line w (act.Block n)) is refl
+plain_takes version last w (act.Leave n) plain = λ r v is. plain_gives last w r _ (plain_line w (act.Leave n)) is refl
+plain_takes version last w (act.Exit n) plain = λ r v is. plain_gives last w r _ (plain_line w (act.Exit n)) is refl
+plain_takes version last w (act.Run n d) plain = absurd cc
+plain_takes version last w (act.Retune n q p) plain = absurd cc
+plain_takes version last w act.Read plain = λ r v is. plain_gives last w r _ (plain_line w act.Read) is refl
+
+-- ---- lines of tasks
+
+task_fault_is : (version : Version) (ns : List (List ℕ)) (n q p : List ℕ) → form_fault version ns [] (task n q p) ≡ task_fault ns n q p
+task_fault_is version ns n q p =
+    ap (λ (s : Bool). cond (not s) (Some BadNumber) (cond (not (nat_lt (length ns) 256 && reservation_fits (reservation_value q p))) (Some OutOfRange) (cond (not (is_none (task_of ns n))) (Some DuplicateTask) None))) (all_two (is_number q) (is_number p))
+
+take_task : (version : Version) (ds : List Declaration) (n q p : List ℕ) → take_form (opened version ds) (task n q p) ≡ ok_unless (task_fault (names_of ds) n q p) (opened version (ds ++ record { name = n; params = reservation_value q p } ∷ []))
+take_task version ds n q p = ap (λ (o : Option Kind). ok_unless o (opened version (ds ++ record { name = n; params = reservation_value q p } ∷ []))) (task_fault_is version (names_of ds) n q p)
+
+pub task_stops : (k : Kind) (version : Version) (ds : List Declaration) (n q p : List ℕ) → Err k ≡ ok_unless (task_fault (names_of ds) n q p) (reservation_value q p) → take_form (opened version ds) (task n q p) ≡ Err k
+task_stops k version ds n q p h = take_task version ds n q p ∙ ap (λ (o : Option Kind). ok_unless o (opened version (ds ++ record { name = n; params = reservation_value q p } ∷ []))) (unless_err (task_fault (names_of ds) n q p) (reservation_value q p) k (sym h))
+
+pub task_taken : (params : Reservation) (version : Version) (ds : List Declaration) (n q p : List ℕ) → Ok params ≡ ok_unless (task_fault (names_of ds) n q p) (reservation_value q p) → take_form (opened version ds) (task n q p) ≡ Ok (opened version (ds ++ record { name = n; params = params } ∷ []))
+task_taken params version ds n q p h =
+    let t = unless_ok (task_fault (names_of ds) n q p) (reservation_value q p) params (sym h) in
+    take_task version ds n q p ∙ ap (λ (o : Option Kind). ok_unless o (opened version (ds ++ record { name = n; params = reservation_value q p } ∷ []))) t.0 ∙ ap (λ (x : Reservation). Ok (opened version (ds ++ record { name = n; params = x } ∷ []))) t.1
+
+fresh_task : (a b c d : Bool) → cond (not a) (Some BadNumber) (cond (not (b && c)) (Some OutOfRange) (cond (not d) (Some DuplicateTask) None)) ≡ None → (b ≡ true) × (d ≡ true)
+fresh_task false b c d h = absurd cc
+fresh_task true false c d h = absurd cc
+fresh_task true true false d h = absurd cc
+fresh_task true true true false h = absurd cc
+fresh_task true true true true h = (refl, refl)
+
+-- there is room for such a task, and its name is new
+pub task_fits : (params : Reservation) (ds : List Declaration) (n q p : List ℕ) → Ok params ≡ ok_unless (task_fault (names_of ds) n q p) (reservation_value q p) → (length ds < 256) × (task_of (names_of ds) n ≡ None)
+task_fits params ds n q p h =
+    let t = fresh_task (is_number q && is_number p) (nat_lt (length (names_of ds)) 256) (reservation_fits (reservation_value q p)) (is_none (task_of (names_of ds) n)) (unless_ok (task_fault (names_of ds) n q p) (reservation_value q p) params (sym h)).0 in
+    let few : length (names_of ds) < 256 = grind (arith, nat_tests, t.0) in
+    (omega (arith, few, length-map ds (λ (d : Declaration). d.name)), none_of (task_of (names_of ds) n) t.1)
+  where
+    none_of : (o : Option ℕ) → is_none o ≡ true → o ≡ None
+    none_of None e = refl
+    none_of (Some i) e = absurd cc

@@ -114,10 +114,18 @@ pub heads_are : (files : List (List ℕ)) (r : Result Heads TraceFault) → 0 < 
 heads_are files (Ok h) some few together opening heads indexed = record { together = record { some = some; few = few; together = together }; opening = opening; heads = heads; indexed = indexed }
 heads_are files (Err e) some few together opening heads indexed = tt
 
+-- what was written over all bodies is what they are
+written : (h : Heads) (old new : List Below) → old ≡ h.bodies.items → length new ≡ length old → take h.bodies.len (new ++ drop (length new) h.bodies.items) ≡ new
+written h old new value len =
+    let rest : drop (length new) h.bodies.items ≡ [] = drop_all (length new) h.bodies.items (omega (arith, len, ap length value)) in
+    ap (λ (xs : List Below). take h.bodies.len (new ++ xs)) rest ∙ ap (take h.bodies.len) (append-nil new) ∙ take_all h.bodies.len new (omega (arith, len, ap length value, h.bodies.ok.0))
+
 -- the heads stay where what stands below them is written
 pub still_together : (files : List (List ℕ)) (h : Heads) (old new : List Below) → AreHeadsOf files h → old ≡ h.bodies.items → length new ≡ length old → map head_above new ≡ map head_above old
     → FilesGive files h.tasks (map head_above (take h.bodies.len (new ++ drop (length new) h.bodies.items))) h.fault
 still_together files h old new are value len same =
-    let rest : drop (length new) h.bodies.items ≡ [] = drop_all (length new) h.bodies.items (omega (arith, len, ap length value)) in
-    let whole : take h.bodies.len (new ++ drop (length new) h.bodies.items) ≡ new = ap (λ (xs : List Below). take h.bodies.len (new ++ xs)) rest ∙ ap (take h.bodies.len) (append-nil new) ∙ take_all h.bodies.len new (omega (arith, len, ap length value, h.bodies.ok.0)) in
-    subst (λ hs. FilesGive files h.tasks hs h.fault) (sym (ap (map head_above) whole ∙ same ∙ ap (map head_above) value)) are.together
+    subst (λ hs. FilesGive files h.tasks hs h.fault) (sym (ap (map head_above) (written h old new value len) ∙ same ∙ ap (map head_above) value)) are.together
+
+-- and all of it is read
+pub all_read : (t : Tasks) (h : Heads) (old new : List Below) → old ≡ h.bodies.items → length new ≡ length old → AreRead t new → AreRead t (take h.bodies.len (new ++ drop (length new) h.bodies.items))
+all_read t h old new value len are = subst (AreRead t) (sym (written h old new value len)) are

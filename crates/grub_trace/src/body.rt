@@ -1,11 +1,12 @@
 //! What stands below a head: what each line says, and the script that the lines are.
 
 ghost use Rattle.std.specs.Prelude.{◌≡◌, ◌≤◌, [], map, false};
-ghost use Rattle.grub_trace.specs.inside.Reading.{IsIndexed, IsMomentOf, IsRetuneOf, IsRunOf, declarations, line_view};
+ghost use Rattle.grub_trace.specs.inside.Reading.{IsIndexed, IsMomentOf, IsRetuneOf, IsRunOf, declarations, line_view, ok_unless};
 ghost use Rattle.grub_trace.specs.Faults.{last_of};
+ghost use Rattle.grub_trace.specs.Forms.{value};
 ghost use Rattle.grub_trace.specs.Tree.{names_of};
 ghost use Rattle.grub_trace.specs.inside.Heads.{IsHead, read_body};
-ghost use Rattle.grub_trace.specs.inside.Lines.{GivesBody, GivesScript, IsNotBefore, SaysMore, TakesAct, TakesLine};
+ghost use Rattle.grub_trace.specs.inside.Lines.{GivesBody, GivesScript, IsNotBefore, SaysMore, TakesAct, TakesLine, plain_fault};
 
 use crate::fault::{Kind, Location, TraceFault};
 use crate::form::{Form, form_of};
@@ -80,6 +81,50 @@ fn timely(last: u32, at: u32) -> Result<(), Kind>
     Ok(())
 }
 
+/// What happens at a moment, with no number but that, after the last one.
+fn take_moment<'a>(last: u32, at: &[u8], act: Act<&'a [u8]>) -> Result<Line<&'a [u8]>, Kind>
+    ensures { result ≡ ok_unless (plain_fault last at.now) (record { m = value at.now; act = act.entry }) }
+{
+    let m = moment(at)?;
+    timely(last, m)?;
+    Ok(Line { m, act })
+}
+
+/// A run that ends at a moment, after the last one.
+fn take_run<'a>(
+    last: u32,
+    at: &[u8],
+    name: &'a [u8],
+    span: &'a [u8],
+) -> Result<Line<&'a [u8]>, Kind>
+    ensures { (version : _) → TakesAct result version last at.now (Act.Run name.entry span.entry) }
+{
+    let (m, span) = run(at, span)?;
+    timely(last, m)?;
+    let act = Act::Run(name, span);
+    Ok(Line { m, act })
+}
+
+/// A retune at a moment, after the last one.
+fn take_retune<'a>(
+    version: Version,
+    last: u32,
+    at: &[u8],
+    name: &'a [u8],
+    runtime: &'a [u8],
+    period: &'a [u8],
+) -> Result<Line<&'a [u8]>, Kind>
+    ensures { TakesAct result version last at.now (Act.Retune name.entry runtime.entry period.entry) }
+{
+    if !version.may_retune() {
+        return Err(Kind::BadLine);
+    }
+    let (m, runtime, period) = retune(at, runtime, period)?;
+    timely(last, m)?;
+    let act = Act::Retune(name, runtime, period);
+    Ok(Line { m, act })
+}
+
 /// What is said to happen at a moment, after the last one.
 fn take_act<'a>(
     version: Version,
@@ -89,27 +134,18 @@ fn take_act<'a>(
 ) -> Result<Line<&'a [u8]>, Kind>
     ensures { TakesAct result version last at.now act.entry }
 {
-    let (m, act) = match act {
-        Act::Join(name) => (moment(at)?, Act::Join(name)),
-        Act::Wake(name) => (moment(at)?, Act::Wake(name)),
-        Act::Block(name) => (moment(at)?, Act::Block(name)),
-        Act::Leave(name) => (moment(at)?, Act::Leave(name)),
-        Act::Exit(name) => (moment(at)?, Act::Exit(name)),
-        Act::Run(name, span) => {
-            let (m, span) = run(at, span)?;
-            (m, Act::Run(name, span))
-        }
+    match act {
+        Act::Join(name) => take_moment(last, at, Act::Join(name)),
+        Act::Wake(name) => take_moment(last, at, Act::Wake(name)),
+        Act::Block(name) => take_moment(last, at, Act::Block(name)),
+        Act::Leave(name) => take_moment(last, at, Act::Leave(name)),
+        Act::Exit(name) => take_moment(last, at, Act::Exit(name)),
+        Act::Run(name, span) => take_run(last, at, name, span),
         Act::Retune(name, runtime, period) => {
-            if !version.may_retune() {
-                return Err(Kind::BadLine);
-            }
-            let (m, runtime, period) = retune(at, runtime, period)?;
-            (m, Act::Retune(name, runtime, period))
+            take_retune(version, last, at, name, runtime, period)
         }
-        Act::Read => (moment(at)?, Act::Read),
-    };
-    timely(last, m)?;
-    Ok(Line { m, act })
+        Act::Read => take_moment(last, at, Act::Read),
+    }
 }
 
 /// What a line below a head says, after the last moment. No task is declared there.

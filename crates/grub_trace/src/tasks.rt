@@ -5,7 +5,8 @@ ghost use Rattle.grub_plan.specs.Names.{is_name};
 ghost use Rattle.grub_trace.specs.Tree.{names_of};
 ghost use Rattle.grub_trace.specs.Naming.{task_of};
 ghost use Rattle.grub_trace.specs.Faults.{reservation_fits};
-ghost use Rattle.grub_trace.specs.inside.Reading.{Declares, declarations, IsIndexed};
+ghost use Rattle.grub_trace.specs.inside.Reading.{Declares, declarations, IsIndexed, ok_unless, task_fault};
+ghost use Rattle.grub_trace.specs.Forms.{reservation_value};
 
 use crate::fault::{Kind, Location, TraceFault};
 use crate::number::number;
@@ -73,6 +74,31 @@ pub fn reservation(runtime: u32, period: u32) -> Option<Params>
     Params::new(runtime, period).ok()
 }
 
+/// The reservation of a task that may be declared after these.
+fn declared_params(
+    tasks: &Tasks,
+    name: &[u8],
+    runtime: &[u8],
+    period: &[u8],
+) -> Result<Params, Kind>
+    requires { IsIndexed tasks.now }
+    ensures { result ≡ ok_unless (task_fault (names_of (declarations tasks.now)) name.now runtime.now period.now) (reservation_value runtime.now period.now) }
+{
+    let (Some(runtime), Some(period)) = (number(runtime), number(period)) else {
+        return Err(Kind::BadNumber);
+    };
+    if tasks.list.len() >= TASKS_MAX {
+        return Err(Kind::OutOfRange);
+    }
+    let Some(params) = reservation(runtime, period) else {
+        return Err(Kind::OutOfRange);
+    };
+    if tasks.find(name).is_some() {
+        return Err(Kind::DuplicateTask);
+    }
+    Ok(params)
+}
+
 /// Declares the task of this line.
 pub fn declare(
     alloc: Global,
@@ -87,18 +113,10 @@ pub fn declare(
     ensures takes { Declares result line (declarations tasks.old) (declarations tasks.new) name.now runtime.now period.now }
     ensures indexed { (result ≡ Err TraceFault.NoMemory → ⊥) → IsIndexed tasks.new }
 {
-    let (Some(runtime), Some(period)) = (number(runtime), number(period)) else {
-        return Err(line.fault(Kind::BadNumber));
+    let params = match declared_params(tasks, name, runtime, period) {
+        Ok(params) => params,
+        Err(kind) => return Err(line.fault(kind)),
     };
-    if tasks.list.len() >= TASKS_MAX {
-        return Err(line.fault(Kind::OutOfRange));
-    }
-    let Some(params) = reservation(runtime, period) else {
-        return Err(line.fault(Kind::OutOfRange));
-    };
-    if tasks.find(name).is_some() {
-        return Err(line.fault(Kind::DuplicateTask));
-    }
     let Ok(name) = str::from_utf8(name) else {
         unreachable!();
     };

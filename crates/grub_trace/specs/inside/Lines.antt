@@ -1,9 +1,9 @@
 -- What lines below a head say, and the script that they are.
-use Rattle.std.specs.Prelude.{◌≡◌, ◌<◌, ◌≤◌, ℕ, true, List, [], Option, Some, None, Result, Ok, Err, length, map, ◌+◌, ◌++◌, ◌∷◌}
+use Rattle.std.specs.Prelude.{◌≡◌, ◌<◌, ◌≤◌, ℕ, true, List, [], Option, Some, None, Result, Ok, Err, length, map, ◌+◌, ◌++◌, ◌∷◌, not, nat_le, if◌then◌else◌}
 use Rattle.std.specs.Borrow.{Bor}
 use Rattle.grub_trace.specs.declared.fault.TraceFault.{TraceFault}
 use Rattle.grub_trace.specs.declared.fault.Kind.{Kind}
-use Rattle.grub_trace.specs.declared.fault.Kind.TheVariants.{MomentGoesBack}
+use Rattle.grub_trace.specs.declared.fault.Kind.TheVariants.{BadNumber, MomentGoesBack, OutOfRange}
 use Rattle.grub_plan.specs.declared.line.Act.{Act}
 use Rattle.grub_plan.specs.declared.line.Line as lines
 use Rattle.grub_trace.specs.declared.raw.Head.{Head}
@@ -13,9 +13,9 @@ use Rattle.grub_trace.specs.declared.raw.RawScript.{RawScript}
 use Rattle.grub_trace.specs.declared.tasks.Tasks.{Tasks}
 use Rattle.grub_trace.specs.declared.version.Version.{Version}
 use Rattle.grub_trace.specs.Faults.{last_of}
-use Rattle.grub_trace.specs.Forms.{at_moment, form_of, words_of}
+use Rattle.grub_trace.specs.Forms.{at_moment, form_of, is_number, value, words_of}
 use Rattle.grub_plan.specs.Plans.{Line}
-use Rattle.grub_trace.specs.Tree.{Happening, names_of}
+use Rattle.grub_trace.specs.Tree.{Happening, is_moment, names_of}
 use Rattle.grub_trace.specs.inside.Forms.{is_task}
 use Rattle.grub_trace.specs.inside.Reading.{Body, Faults, of_file, Read, declarations, line_view, raw_view, says, script_from, take_form, take_line, times_of}
 
@@ -23,6 +23,10 @@ use Rattle.grub_trace.specs.inside.Reading.{Body, Faults, of_file, Read, declara
 abbrev pub IsNotBefore : {U : Type 0} → Result U Kind → ℕ → ℕ → Type 0
 IsNotBefore (Ok u) last at = last ≤ at
 IsNotBefore (Err k) last at = (k ≡ MomentGoesBack) × (at < last)
+
+-- what is wrong with a moment after the last one
+abbrev pub plain_fault : ℕ → List ℕ → Option Kind
+plain_fault last w = if not (is_number w) then Some BadNumber else (if not (is_moment (value w)) then Some OutOfRange else (if not (nat_le last (value w)) then Some MomentGoesBack else None))
 
 -- what a line says is said, or has this fault
 abbrev pub GivesLine : Result (lines.Line (Bor (List ℕ))) Kind → Read → Result Read Kind → Type 0

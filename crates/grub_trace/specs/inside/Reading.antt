@@ -1,6 +1,6 @@
 -- The reader as a function of the bytes, and what the code holds of a file between its steps.
 use Rattle.std.specs.Prelude.{take, ◌≡◌, ℕ, min, List, [], ◌∷◌, Option, Some, None, true, Result, Ok, Err, if◌then◌else◌}
-use Rattle.std.specs.Prelude.{◌++◌, map, string_bytes, false, ◌≤◌, nat_lt, Bool, not, ◌&&◌, ◌-◌, length, ◌==◌, ◌+◌}
+use Rattle.std.specs.Prelude.{◌++◌, map, string_bytes, false, ◌≤◌, nat_lt, Bool, not, ◌&&◌, ◌-◌, length, ◌==◌, ◌+◌, is_none}
 use Rattle.std.specs.Borrow.{Bor}
 use Rattle.std.specs.List.{list_all}
 use Rattle.std.specs.Char.{is_ascii_digit}
@@ -8,7 +8,7 @@ use Rattle.std.specs.HashMap.{get_by_text}
 use Rattle.grub_bw.specs.Bandwidth.{Capacity}
 use Rattle.grub_trace.specs.declared.version.Version.{Version}
 use Rattle.grub_trace.specs.declared.fault.Kind.{Kind}
-use Rattle.grub_trace.specs.declared.fault.Kind.TheVariants.{BadLine, BadNumber, OutOfRange, CutShort, MissingQueue, BadHeader, UnknownTask}
+use Rattle.grub_trace.specs.declared.fault.Kind.TheVariants.{BadLine, BadNumber, OutOfRange, DuplicateTask, CutShort, MissingQueue, BadHeader, UnknownTask}
 use Rattle.grub_trace.specs.declared.fault.TraceFault.{TraceFault}
 use Rattle.grub_trace.specs.declared.fault.TraceFault.TheVariants as fault
 use Rattle.grub_plan.specs.declared.line.Line as lines
@@ -133,6 +133,13 @@ declarations t = map task_view t.list.items
 pub record IsIndexed (t : Tasks) : Type 0 where
   pub few : length (declarations t) ≤ 256
   pub found : (q : List ℕ) → get_by_text t.index q ≡ task_of (names_of (declarations t)) q
+
+-- what is wrong with a task that is declared after these names
+abbrev pub task_fault : List (List ℕ) → List ℕ → List ℕ → List ℕ → Option Kind
+task_fault names n q p =
+    if not (is_number q && is_number p) then Some BadNumber
+    else (if not (nat_lt (length names) 256 && reservation_fits (reservation_value q p)) then Some OutOfRange
+    else (if not (is_none (task_of names n)) then Some DuplicateTask else None))
 
 -- what became of the declarations, where a task line stands before the first moment; or its fault
 abbrev pub Declares : {U : Type 0} → Result U TraceFault → Location → List Declaration → List Declaration → List ℕ → List ℕ → List ℕ → Type 0

@@ -1,15 +1,22 @@
-use Rattle.std.proofs.Common.{sym, ◌∙◌, ap}
-use Rattle.std.proofs.lemmas.Result.{err_from_is_err_and}
-use Rattle.grub_trace.specs.Tree.{may_retune}
-use Rattle.grub_trace.proofs.LineLemmas.{run_stops, retune_stops}
+use Rattle.std.proofs.Common.{refl}
+use Rattle.grub_plan.specs.declared.line.Act.TheVariants as act
+use Rattle.grub_trace.proofs.LineLemmas.{plain_takes}
 use Rattle.grub_trace.proofs.body.take_act.Goals as goal
 
-pub returns-in_err-m-in-Run : goal.returns-in_err-m-in-Run
-returns-in_err-m-in-Run c =
-    let p = err_from_is_err_and c.from_residual-in_err-m-in-Run.result c.from_residual-in_err-m-in-Run.ensures.1 in
-    λ r version last. rw (p.1, p.2, c.in-Run.is) (run_stops c.in_err-m-in-Run.field-0.0 r c.args.at.now c.in-Run.name.now c.in-Run.span.now c.in_err-m-in-Run.ensures)
+pub returns-in-Join : goal.returns-in-Join
+returns-in-Join c = rw (c.take_moment.ensures, c.in-Join.is) (plain_takes c.args.version c.args.last c.args.at.now (act.Join c.in-Join.name) refl)
 
-pub returns-in_err-m-in-Retune : goal.returns-in_err-m-in-Retune
-returns-in_err-m-in-Retune c =
-    let p = err_from_is_err_and c.from_residual-in_err-m-in-Retune.result c.from_residual-in_err-m-in-Retune.ensures.1 in
-    λ r version last. rw (p.1, p.2, c.in-Retune.is) (retune_stops c.in_err-m-in-Retune.field-0.0 r c.args.at.now c.in-Retune.name.now c.in-Retune.runtime.now c.in-Retune.period.now (ap may_retune version ∙ sym c.may_retune.ensures ∙ c.if-not-may_retune.false) c.in_err-m-in-Retune.ensures)
+pub returns-in-Wake : goal.returns-in-Wake
+returns-in-Wake c = rw (c.take_moment-in-Wake.ensures, c.in-Wake.is) (plain_takes c.args.version c.args.last c.args.at.now (act.Wake c.in-Wake.name) refl)
+
+pub returns-in-Block : goal.returns-in-Block
+returns-in-Block c = rw (c.take_moment-in-Block.ensures, c.in-Block.is) (plain_takes c.args.version c.args.last c.args.at.now (act.Block c.in-Block.name) refl)
+
+pub returns-in-Leave : goal.returns-in-Leave
+returns-in-Leave c = rw (c.take_moment-in-Leave.ensures, c.in-Leave.is) (plain_takes c.args.version c.args.last c.args.at.now (act.Leave c.in-Leave.name) refl)
+
+pub returns-in-Exit : goal.returns-in-Exit
+returns-in-Exit c = rw (c.take_moment-in-Exit.ensures, c.in-Exit.is) (plain_takes c.args.version c.args.last c.args.at.now (act.Exit c.in-Exit.name) refl)
+
+pub returns-in-Read : goal.returns-in-Read
+returns-in-Read c = rw (c.take_moment-in-Read.ensures, c.in-Read.is) (plain_takes c.args.version c.args.last c.args.at.now act.Read refl)
