@@ -155,6 +155,42 @@ many_words f (a ∷ b ∷ c ∷ d ∷ e ∷ []) h = absurd (omega arith)
 many_words f (a ∷ b ∷ c ∷ d ∷ e ∷ g ∷ []) h = absurd (omega arith)
 many_words f (a ∷ b ∷ c ∷ d ∷ e ∷ g ∷ i ∷ ws) h = refl
 
+-- ---- words by their number
+
+pub three_words : {X : Type 0} (f : X → List ℕ) (ws : List X) (d : X) → 3 ≤ length ws → length ws < 4 → map f ws ≡ f (get_or ws 0 d) ∷ f (get_or ws 1 d) ∷ f (get_or ws 2 d) ∷ []
+three_words f [] d m l = absurd (omega arith)
+three_words f (a ∷ []) d m l = absurd (omega arith)
+three_words f (a ∷ b ∷ []) d m l = absurd (omega arith)
+three_words f (a ∷ b ∷ c ∷ []) d m l = refl
+three_words f (a ∷ b ∷ c ∷ e ∷ ws) d m l = absurd (omega arith)
+
+pub four_words : {X : Type 0} (f : X → List ℕ) (ws : List X) (d : X) → 4 ≤ length ws → length ws < 5 → map f ws ≡ f (get_or ws 0 d) ∷ f (get_or ws 1 d) ∷ f (get_or ws 2 d) ∷ f (get_or ws 3 d) ∷ []
+four_words f [] d m l = absurd (omega arith)
+four_words f (a ∷ []) d m l = absurd (omega arith)
+four_words f (a ∷ b ∷ []) d m l = absurd (omega arith)
+four_words f (a ∷ b ∷ c ∷ []) d m l = absurd (omega arith)
+four_words f (a ∷ b ∷ c ∷ e ∷ []) d m l = refl
+four_words f (a ∷ b ∷ c ∷ e ∷ g ∷ ws) d m l = absurd (omega arith)
+
+pub five_words : {X : Type 0} (f : X → List ℕ) (ws : List X) (d : X) → 5 ≤ length ws → length ws < 6 → map f ws ≡ f (get_or ws 0 d) ∷ f (get_or ws 1 d) ∷ f (get_or ws 2 d) ∷ f (get_or ws 3 d) ∷ f (get_or ws 4 d) ∷ []
+five_words f [] d m l = absurd (omega arith)
+five_words f (a ∷ []) d m l = absurd (omega arith)
+five_words f (a ∷ b ∷ []) d m l = absurd (omega arith)
+five_words f (a ∷ b ∷ c ∷ []) d m l = absurd (omega arith)
+five_words f (a ∷ b ∷ c ∷ e ∷ []) d m l = absurd (omega arith)
+five_words f (a ∷ b ∷ c ∷ e ∷ g ∷ []) d m l = refl
+five_words f (a ∷ b ∷ c ∷ e ∷ g ∷ h ∷ ws) d m l = absurd (omega arith)
+
+pub six_words : {X : Type 0} (f : X → List ℕ) (ws : List X) (d : X) → 6 ≤ length ws → length ws < 7 → map f ws ≡ f (get_or ws 0 d) ∷ f (get_or ws 1 d) ∷ f (get_or ws 2 d) ∷ f (get_or ws 3 d) ∷ f (get_or ws 4 d) ∷ f (get_or ws 5 d) ∷ []
+six_words f [] d m l = absurd (omega arith)
+six_words f (a ∷ []) d m l = absurd (omega arith)
+six_words f (a ∷ b ∷ []) d m l = absurd (omega arith)
+six_words f (a ∷ b ∷ c ∷ []) d m l = absurd (omega arith)
+six_words f (a ∷ b ∷ c ∷ e ∷ []) d m l = absurd (omega arith)
+six_words f (a ∷ b ∷ c ∷ e ∷ g ∷ []) d m l = absurd (omega arith)
+six_words f (a ∷ b ∷ c ∷ e ∷ g ∷ h ∷ []) d m l = refl
+six_words f (a ∷ b ∷ c ∷ e ∷ g ∷ h ∷ i ∷ ws) d m l = absurd (omega arith)
+
 -- ---- the first line
 
 version_from : (a b : Bool) (v : Version) → cond a (Some One) (cond b (Some Two) None) ≡ Some v → ((a ≡ true) × (One ≡ v)) ⊎ ((b ≡ true) × (Two ≡ v))

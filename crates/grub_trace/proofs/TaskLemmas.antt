@@ -1,7 +1,7 @@
 -- Tasks by their names.
-use Rattle.std.proofs.Common.{◌≡◌, ℕ, suc, ◌+◌, Bool, true, false, cond, List, [], ◌∷◌, ◌++◌, length, map, Option, Some, None, option_map, refl, ap, ◌∙◌, sym, arith, subst}
+use Rattle.std.proofs.Common.{◌≡◌, ℕ, suc, ◌+◌, Bool, true, false, cond, List, [], ◌∷◌, ◌++◌, length, map, get_or, take, ◌<◌, ◌≤◌, Option, Some, None, option_map, refl, ap, ◌∙◌, sym, arith, subst}
 use Rattle.std.specs.Prelude.{string_bytes}
-use Rattle.std.proofs.lemmas.List.{map_push, length-map}
+use Rattle.std.proofs.lemmas.List.{map_push, length-map, take_all, take_more}
 use Rattle.std.specs.Str.{bytes_eq, IsUtf8}
 use Rattle.std.proofs.lemmas.Str.{IsUtf8-string_bytes}
 use Rattle.grub_trace.specs.Tree.{Declaration, names_of}
@@ -75,3 +75,13 @@ map_same g (y ∷ ys) = ap (λ (ns : List (List ℕ)). g y ∷ ns) (map_same g y
 
 pub same_names_all : {X Y : Type 0} (f : X → List ℕ) (g : Y → List ℕ) (xs : List X) (ys zs : List Y) → map f xs ≡ map g ys → map (λ y. y) ys ≡ zs → map f xs ≡ map g zs
 same_names_all f g xs ys zs so_far all = so_far ∙ sym (map_same g ys) ∙ ap (map g) all
+
+-- ---- a list of what each element has
+
+pub mapped_next : {X Y : Type 0} (f : X → Y) (xs : List X) (i : ℕ) (x : X) (ys more : List Y) → i < length xs → x ≡ get_or xs i x → ys ≡ map f (take i xs) → more ≡ ys ++ f x ∷ [] → more ≡ map f (take (i + 1) xs)
+mapped_next f xs i x ys more lt is so_far pushed =
+    let front : take (i + 1) xs ≡ take i xs ++ x ∷ [] = take_more xs i x lt ∙ ap (λ y. take i xs ++ y ∷ []) (sym is) in
+    pushed ∙ ap (λ zs. zs ++ f x ∷ []) so_far ∙ sym (ap (map f) front ∙ map_push f (take i xs) x)
+
+pub mapped_all : {X Y : Type 0} (f : X → Y) (xs : List X) (i : ℕ) (ys : List Y) → length xs ≤ i → ys ≡ map f (take i xs) → ys ≡ map f xs
+mapped_all f xs i ys le so_far = so_far ∙ ap (map f) (take_all i xs le)
