@@ -21,21 +21,13 @@ use grub_plan::{Line, Plan};
 use std::alloc::Global;
 use std::thread::Threads;
 
-#[derive(Drop)]
-struct AllRead {
-    tasks: Tasks,
-    files: Vec<RawFile>,
-}
-
 /// All files, where nothing is wrong with them; else the first fault: of what stands below the heads, or of a head.
 fn collect(
     alloc: Global,
-    tasks: Tasks,
     bodies: Vec<Below<'_>>,
     fault: Option<TraceFault>,
-) -> Result<AllRead, TraceFault>
-    requires read { AreRead tasks bodies.items }
-    ensures { (total : _) → GiveTogether (declarations tasks) (map head_above bodies.entry.items) fault total → Collects result total }
+) -> Result<Vec<RawFile>, TraceFault>
+    ensures { (tasks : Tasks) → AreRead tasks bodies.entry.items → (total : _) → GiveTogether (declarations tasks) (map head_above bodies.entry.items) fault total → Collects result tasks total }
 {
     let mut files = Vec::with_capacity(alloc, bodies.len())?;
     for body in bodies {
@@ -44,7 +36,7 @@ fn collect(
     }
     match fault {
         Some(fault) => Err(fault),
-        None => Ok(AllRead { tasks, files }),
+        None => Ok(files),
     }
 }
 
@@ -115,8 +107,7 @@ fn plan_of(alloc: Global, heads: Heads<'_>) -> Result<Plan, TraceFault>
         bodies,
         fault,
     } = heads;
-    let all = collect(alloc, tasks, bodies, fault)?;
-    let AllRead { tasks, files } = all;
+    let files = collect(alloc, bodies, fault)?;
     let queues = queues(alloc, &files)?;
     let params = params(alloc, &tasks.list)?;
     let scripts = scripts(alloc, files)?;

@@ -9,11 +9,11 @@ use Rattle.grub_trace.specs.declared.raw.Head.{Head}
 use Rattle.grub_trace.specs.declared.tasks.Tasks.{Tasks}
 use Rattle.grub_trace.specs.inside.Bodies.{HaveHeads, head_above}
 use Rattle.grub_trace.specs.inside.Heads.{GiveTogether}
-use Rattle.grub_trace.specs.declared.read.AllRead.{AllRead}
+use Rattle.grub_trace.specs.declared.raw.RawFile.{RawFile}
+use Rattle.std.specs.Global.{Vec}
 use Rattle.grub_trace.specs.declared.fault.Kind.{Kind}
 use Rattle.grub_trace.specs.inside.Lines.{AreBodies}
-use Rattle.grub_trace.specs.inside.Reading as read
-use Rattle.grub_trace.specs.inside.Reading.{Body, Faults, AnswersAs, AnswersOpening, IsIndexed, declarations, plan_from, read_from}
+use Rattle.grub_trace.specs.inside.Reading.{AllRead, Body, Faults, AnswersAs, AnswersOpening, IsIndexed, declarations, plan_from, read_from}
 
 -- the plan, or the first fault; faults that come before memory is taken are answered, whatever memory there is
 pub record IsPlanned (files : List (List ℕ)) (r : Result PlanView TraceFault) : Type 0 where
@@ -28,10 +28,10 @@ pub record FilesGive (files : List (List ℕ)) (t : Tasks) (hs : List Head) (fau
   pub few : length files ≤ 64
   pub together : GiveTogether (declarations t) hs fault (read_from (record { declared = []; files = [] }) 0 files)
 
--- all that was read, or the first fault
-abbrev pub Collects : Result AllRead TraceFault → Result read.AllRead (Kind × ℕ × ℕ) → Type 0
-Collects (Ok a) total = (bs : List Body) × AreBodies a.tasks bs a.files.items × (total ≡ Ok (record { declared = declarations a.tasks; files = bs }))
-Collects (Err e) total = Faults e total
+-- all files, behind these tasks, or the first fault
+abbrev pub Collects : Result (Vec RawFile) TraceFault → Tasks → Result AllRead (Kind × ℕ × ℕ) → Type 0
+Collects (Ok files) t total = (bs : List Body) × AreBodies t bs files.items × (total ≡ Ok (record { declared = declarations t; files = bs }))
+Collects (Err e) t total = Faults e total
 
 -- their heads, behind which no fault of an opening is left
 pub record AreHeadsOf (files : List (List ℕ)) (h : Heads) : Type 0 where
