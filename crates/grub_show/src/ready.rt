@@ -30,10 +30,10 @@ impl<'a> Ready<'a> {
     pub fn new(alloc: Global, plan: &'a Plan) -> Option<Ready<'a>>
         ensures plan { IfSome result (λ x. x.playing.plan ≡ plan.now) }
     {
+        let buffer = report_buffer(alloc).ok()?;
+        let blocks = Blocks::new(alloc).ok()?;
         let playing = Playing::new(alloc, plan).ok()?;
         let latest = Vec::with_capacity(alloc, playing.most()).ok()?;
-        let blocks = Blocks::new(alloc).ok()?;
-        let buffer = report_buffer(alloc).ok()?;
         Some(Ready {
             playing,
             latest,

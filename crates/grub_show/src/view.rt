@@ -161,14 +161,13 @@ fn write_rows<R: Threads + Sync, W: Write>(
     ensures nothing { IfErr result (λ e. (e ≡ write_fault → ⊥) → out.new ≡ out.old) }
     ensures fault { IfErr result (IsFaultOfLine View.Steps plan.now) }
 {
+    let Ok(book) = Book::new(alloc, plan.setup()) else {
+        return Err(ShowFault::Grub(GrubFault::View));
+    };
     let Some(ready) = Ready::new(alloc, plan) else {
         return Err(ShowFault::Grub(GrubFault::View));
     };
-    let room = ready.latest.capacity();
-    let Ok(steps) = Vec::with_capacity(alloc, room) else {
-        return Err(ShowFault::Grub(GrubFault::View));
-    };
-    let Ok(book) = Book::new(alloc, plan.setup()) else {
+    let Ok(steps) = Vec::with_capacity(alloc, ready.latest.capacity()) else {
         return Err(ShowFault::Grub(GrubFault::View));
     };
     match rows_through(rt, ready, plan, book, steps, out) {
