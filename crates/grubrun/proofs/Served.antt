@@ -124,8 +124,11 @@ module _ (words : List Text) (kind : ErrorKind) (has : (kind ≡ kinds.OutOfMemo
     | inr among ↦ among
   ]
 
-  pub wrong_few : n ≤ 2 → IsRefused words
-  wrong_few few = among_refused (among_else few)
+  pub wrong_usage : n ≡ 2 → IsRefused words
+  wrong_usage two = among_refused (among_else (omega arith))
+
+  pub wrong_done : n ≡ 0 → IsRefused words
+  wrong_done zero = among_refused (among_else (omega arith))
 
   pub wrong_failed : {A : Type 0} → IsRefused words ⊎ (new ≡ old) ⊎ A
   wrong_failed = elim has [
@@ -133,8 +136,23 @@ module _ (words : List Text) (kind : ErrorKind) (has : (kind ≡ kinds.OutOfMemo
     | inr among ↦ inl (among_refused among)
   ]
 
-  pub wrong_help : (before after : Option (List ℕ)) → n ≤ 2 → PrintsKind kind before after → PrintsAsked words before after
-  wrong_help before after few prints = elim prints [
-    | inl help ↦ inl (subst (λ k. IsAmong k (fault_of command_line words)) help.0 (among_else few), help.1)
-    | inr version ↦ inr (subst (λ k. IsAmong k (fault_of command_line words)) version.0 (among_else few), version.1)
-  ]
+  pub wrong_help : (before after : Option (List ℕ)) → n ≡ 0 → PrintsKind kind before after → PrintsAsked words before after
+  wrong_help before after zero prints =
+      let among = among_else (omega arith) in
+      elim prints [
+        | inl help ↦ inl (subst (λ k. IsAmong k (fault_of command_line words)) help.0 among, help.1)
+        | inr version ↦ inr (subst (λ k. IsAmong k (fault_of command_line words)) version.0 among, version.1)
+      ]
+
+-- and the status is of no file
+pub wrong_most : (n : ℕ) → (n ≡ 0) ⊎ (n ≡ 2) ⊎ (n ≡ 3) → n ≤ 3
+wrong_most n status = omega arith
+
+pub wrong_file : {A : Type 0} (n : ℕ) → (n ≡ 0) ⊎ (n ≡ 2) ⊎ (n ≡ 3) → n ≡ 1 → A
+wrong_file n status one = absurd (omega arith)
+
+pub wrong_nothing : {A : Type 0} (n : ℕ) → (n ≡ 0) ⊎ (n ≡ 2) ⊎ (n ≡ 3) → (n ≡ 2 → A) → (n ≡ 1) ⊎ (n ≡ 2) → A
+wrong_nothing n status nothing either = elim either [
+  | inl one ↦ wrong_file n status one
+  | inr two ↦ nothing two
+]
