@@ -1,12 +1,14 @@
 -- What is read of the words, argument by argument.
-use Rattle.std.proofs.Common.{◌≡◌, ◌∙◌, ℕ, List, false, Option, Some, None, Ok, Err, option_map, ap, sym, subst, refl}
+use Rattle.std.proofs.Common.{◌≡◌, ◌∙◌, ℕ, List, false, Option, Some, None, Ok, Err, option_map, ap, sym, subst, refl, inl}
 use Rattle.std.specs.Str.Parse.{ParsesUnsigned}
 use Rattle.std.specs.declared.result.Result.{Result}
 use Rattle.clap.proofs.WalkLemmas.{one_text-rows}
 use Rattle.std.specs.Result.{IsErrAnd}
 use Rattle.clap.specs.Built.{AddsArg}
 use Rattle.clap.specs.Kinds.{FailsBy, HasKind, Kinds}
+use Rattle.clap.specs.Values.{kind_of}
 use Rattle.clap.specs.declared.error.Error.{Error}
+use Rattle.clap.specs.declared.error.kind.ErrorKind.TheVariants.{OutOfMemory}
 use Rattle.clap.specs.Words.{App, ReadsOne, Rule, app_of, one_of, one_text, rows_of, rule_of, with_rule}
 use Rattle.clap.specs.declared.builder.arg.Arg.{Arg}
 use Rattle.clap.specs.declared.builder.command.Command.{Command}
@@ -44,3 +46,8 @@ line_more old new a app rule added local is ruled = added.shape local ∙ (ap (�
 pub fails_again : {T : Type 0} (kinds : Kinds) (e : Error) (r : Result T Error) → HasKind kinds e → IsErrAnd r (λ x. x ≡ e) → FailsBy kinds r
 fails_again kinds e (Ok x) has same = absurd same
 fails_again kinds e (Err x) has same = subst (HasKind kinds) (sym same) has
+
+-- and one that says that memory ran out is among any kinds
+pub fails_memory : {T : Type 0} (kinds : Kinds) (r : Result T Error) → IsErrAnd r (λ x. kind_of x ≡ OutOfMemory) → FailsBy kinds r
+fails_memory kinds (Ok x) out = absurd out
+fails_memory kinds (Err x) out = inl out

@@ -10,6 +10,7 @@ use Rattle.std.proofs.lemmas.Slice.Eq.{bytes_eq-Decides}
 use Rattle.clap.specs.Facts.{args_of, groups_of, Entry, EntryPasses, PassesArg, HasReading, parser_of, parser_of_value}
 use Rattle.clap.specs.Built.{AddsArg, BuildsTo, IsAuto, IsParsedFrom, IsPlainArg}
 use Rattle.clap.specs.Matches.{found_of, matched_of, one_text}
+use Rattle.clap.specs.Words.{App, Rule, rule_of, with_rule}
 use Rattle.clap.specs.Values.{Accepts, IsSignedIn, read_as, reading_of}
 use Rattle.clap.specs.Lexer.{without_minus}
 use Rattle.clap.proofs.CallerLemmas.{added_plain, entry_by_id}
@@ -20,7 +21,8 @@ use Rattle.clap.specs.declared.builder.value_parser.ValueParser.{ValueParser}
 use Rattle.clap.specs.declared.builder.value_parser.Reading.{Reading}
 use Rattle.clap.specs.declared.parser.matches.ArgMatches.{ArgMatches}
 use Rattle.clap.specs.declared.parser.matches.MatchedArg.{MatchedArg}
-use Rattle.grub_command.specs.inside.Rounds.{IsOf, TakesRounds, rounds_id, rounds_parser}
+use Rattle.grub_command.specs.inside.Rounds.{IsCommand, IsOf, TakesRounds, rounds_id, rounds_parser}
+use Rattle.grub_command.proofs.CommandLemmas.{line_more}
 
 All-get_at : {X : Type 0} (P : X → Type 0) (xs : List X) (k : ℕ) (x : X) → k < length xs → slice_index_or xs k x ≡ x → All P xs → P x
 All-get_at P xs k x below at all = subst P at (all k x below)
@@ -61,7 +63,7 @@ reading_in c r all (k, a, below, at, (same, is)) =
 
 -- ---- the command, argument by argument
 
-takes_none : (c : Command) → args_of c ≡ [] → groups_of c ≡ [] → (out-Command c).has_globals ≡ false → TakesRounds c
+pub takes_none : (c : Command) → args_of c ≡ [] → groups_of c ≡ [] → (out-Command c).has_globals ≡ false → TakesRounds c
 takes_none c args groups local = record {
   plain = (subst (All IsPlainArg) (sym args) (All-nil IsPlainArg), groups);
   local = local;
@@ -78,18 +80,15 @@ takes_more old new id a added takes is parses = record {
 other_parses : (id : List ℕ) (a : Arg) → IsOf id a → bytes_eq id rounds_id ≡ false → Parses a
 other_parses id a is differs = λ same. let bad : bytes_eq id rounds_id ≡ true = rw is.id_is at same in let no : false ≡ true = sym differs ∙ bad in cc
 
--- the command of the six arguments
-pub takes_rounds : (start one two three four five six : Command) (tries rounds view from to files : Arg) → args_of start ≡ [] → groups_of start ≡ [] → (out-Command start).has_globals ≡ false
-    → IsOf (codes "tries") tries → IsOf rounds_id rounds → IsOf (codes "view") view → IsOf (codes "from") from → IsOf (codes "to") to → IsOf (codes "FILE") files → rounds.value_parser ≡ Some rounds_parser
-    → AddsArg start tries one → AddsArg one rounds two → AddsArg two view three → AddsArg three from four → AddsArg four to five → AddsArg five files six → TakesRounds six
-takes_rounds start one two three four five six tries rounds view from to files args groups local is_tries is_rounds is_view is_from is_to is_files parser first second third fourth fifth sixth =
-    let none = takes_none start args groups local in
-    let with_tries = takes_more start one _ tries first none is_tries (other_parses _ tries is_tries refl) in
-    let with_rounds = takes_more one two _ rounds second with_tries is_rounds (λ same. parser) in
-    let with_view = takes_more two three _ view third with_rounds is_view (other_parses _ view is_view refl) in
-    let with_from = takes_more three four _ from fourth with_view is_from (other_parses _ from is_from refl) in
-    let with_to = takes_more four five _ to fifth with_from is_to (other_parses _ to is_to refl) in
-    takes_more five six _ files sixth with_to is_files (other_parses _ files is_files refl)
+-- a command is one of a longer line with one argument more
+command_more : (old new : Command) (id : List ℕ) (a : Arg) (app : App) (rule : Rule) → AddsArg old a new → IsCommand app old → IsOf id a → Parses a → rule_of a ≡ rule → IsCommand (with_rule app rule) new
+command_more old new id a app rule added is of parses ruled = record { rounds = takes_more old new id a added is.rounds of parses; line = line_more old new a app rule added of.local is.line ruled }
+
+pub with_rounds : (old new : Command) (a : Arg) (app : App) (rule : Rule) → AddsArg old a new → IsCommand app old → IsOf rounds_id a → a.value_parser ≡ Some rounds_parser → rule_of a ≡ rule → IsCommand (with_rule app rule) new
+with_rounds old new a app rule added is of parser ruled = command_more old new rounds_id a app rule added is of (λ same. parser) ruled
+
+pub with_other : (old new : Command) (id : List ℕ) (a : Arg) (app : App) (rule : Rule) → bytes_eq id rounds_id ≡ false → AddsArg old a new → IsCommand app old → IsOf id a → rule_of a ≡ rule → IsCommand (with_rule app rule) new
+with_other old new id a app rule differs added is of ruled = command_more old new id a app rule added is of (other_parses id a of differs) ruled
 
 -- ---- what is read after a parse
 

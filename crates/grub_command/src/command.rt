@@ -2,9 +2,9 @@
 
 ghost use Rattle.std.specs.Prelude.{◌≡◌, ◌≤◌, IfOk, IfSome, codes, pos, Some, map, string_bytes};
 ghost use Rattle.clap.specs.declared.builder.value_parser.ValueParser.TheVariants as parsers;
-ghost use Rattle.clap.specs.Words.{app_of, one_of, rule_of, rows_of, found_of, matches_of, fault_of, FailsBy};
+ghost use Rattle.clap.specs.Words.{one_of, rule_of, rows_of, found_of, matches_of, fault_of, FailsBy};
 ghost use Rattle.grub_command.specs.CommandLine.{MomentNamed, ReadsNumber, RoundsNamed, TriesNamed, tries_rule, rounds_rule, view_rule, moment_rule, files_rule, command_line, view_named};
-ghost use Rattle.grub_command.specs.inside.Rounds.{IsOf, TakesRounds, rounds_id};
+ghost use Rattle.grub_command.specs.inside.Rounds.{IsCommand, IsOf, rounds_id, run_line, view_line};
 
 use crate::texts::VERSION;
 use crate::view_word::ViewWord;
@@ -90,20 +90,32 @@ fn files_arg<'a>(alloc: Global) -> Arg<'a>
         .action(ArgAction::Append)
 }
 
-/// `grubrun [--tries N] [--rounds N] [--view V] [--from M] [--to M] FILE...`: numbers in their ranges, a word, and at
-/// least one file; or `--help` or `--version`.
-fn command<'a>(alloc: Global) -> Result<Command<'a>, AllocError>
-    ensures rounds { IfOk result TakesRounds }
-    ensures line { IfOk result (λ c. app_of c ≡ command_line) }
+/// The command with the options of a run alone.
+fn run_command<'a>(alloc: Global) -> Result<Command<'a>, AllocError>
+    ensures { IfOk result (IsCommand run_line) }
 {
     Command::new(alloc, "grubrun")
         .version(VERSION)
         .arg(tries_arg(alloc))?
-        .arg(rounds_arg(alloc))?
+        .arg(rounds_arg(alloc))
+}
+
+/// With those of a view too.
+fn view_command<'a>(alloc: Global) -> Result<Command<'a>, AllocError>
+    ensures { IfOk result (IsCommand view_line) }
+{
+    run_command(alloc)?
         .arg(view_arg(alloc))?
         .arg(from_arg(alloc))?
-        .arg(to_arg(alloc))?
-        .arg(files_arg(alloc))
+        .arg(to_arg(alloc))
+}
+
+/// `grubrun [--tries N] [--rounds N] [--view V] [--from M] [--to M] FILE...`: numbers in their ranges, a word, and at
+/// least one file; or `--help` or `--version`.
+fn command<'a>(alloc: Global) -> Result<Command<'a>, AllocError>
+    ensures { IfOk result (IsCommand command_line) }
+{
+    view_command(alloc)?.arg(files_arg(alloc))
 }
 
 /// The matches of the words, and the rounds among them, which are at least 1 by their range.

@@ -103,14 +103,39 @@ lost_then w v n tries sum on before mid after same one lt is f' =
       few = omega (arith, all, few, length-append (lost_tries w n) f.made, lost_length w n);
     }
 
--- ---- the start of a call that is early
+-- ---- the start of a call
+-- that ends at the load of the task's word
+pub starts_at_load : (w : ℕ) (before after : List Access) → after ≡ before ++ Load w ∷ [] → StartsBriefly w before after
+starts_at_load w before after is = record { made = Load w ∷ []; grown = is; load = omega (arith, counts_one w); exchange = omega arith; few = omega arith }
+
+two_and : (w : ℕ) (won : Bool) (before one two : List Access) → one ≡ before ++ Load w ∷ [] → two ≡ one ++ Exchange w won ∷ [] → two ≡ before ++ Load w ∷ Exchange w won ∷ []
+two_and w won before one two a b = b ∙ ap (λ l. l ++ Exchange w won ∷ []) a ∙ append_assoc before (Load w ∷ []) (Exchange w won ∷ [])
+
+-- at an exchange of it that is lost
+pub starts_lost : (w : ℕ) (won : Bool) (before one two : List Access) → one ≡ before ++ Load w ∷ [] → two ≡ one ++ Exchange w won ∷ [] → StartsBriefly w before two
+starts_lost w won before one two a b = record { made = Load w ∷ Exchange w won ∷ []; grown = two_and w won before one two a b; load = omega (arith, counts_one w); exchange = omega (arith, counts_one w); few = omega arith }
+
+-- with the claim
+pub starts_held : (w p s : ℕ) (won : Bool) (before one two three : List Access) → one ≡ before ++ Load w ∷ [] → two ≡ one ++ Exchange w won ∷ [] → three ≡ two ++ Load p ∷ Load s ∷ [] → p ≡ w + 2 → s ≡ w + 1 → StartsBriefly w before three
+starts_held w p s won before one two three a b c at_p at_s =
+    let not_p = counts_none p w (λ same. omega (arith, same, at_p)) in
+    let not_s = counts_none s w (λ same. omega (arith, same, at_s)) in
+    record {
+      made = Load w ∷ Exchange w won ∷ Load p ∷ Load s ∷ [];
+      grown = c ∙ ap (λ l. l ++ Load p ∷ Load s ∷ []) (two_and w won before one two a b) ∙ append_assoc before (Load w ∷ Exchange w won ∷ []) (Load p ∷ Load s ∷ []);
+      load = omega (arith, counts_one w, not_p, not_s);
+      exchange = omega (arith, counts_one w);
+      few = omega arith;
+    }
+
+-- that is early
 pub starts_early : (w p s : ℕ) (held : Reservation) (won : Bool) (before one two three after : List Access) → one ≡ before ++ Load w ∷ [] → two ≡ one ++ Exchange w won ∷ [] → three ≡ two ++ Load p ∷ Load s ∷ [] → after ≡ three ++ changed_store p held held ++ Store w ∷ [] → p ≡ w + 2 → s ≡ w + 1 → StartsBriefly w before after
 starts_early w p s held won before one two three after a b c d at_p at_s =
     let not_p = counts_none p w (λ same. omega (arith, same, at_p)) in
     let not_s = counts_none s w (λ same. omega (arith, same, at_s)) in
     record {
       made = Load w ∷ Exchange w won ∷ Load p ∷ Load s ∷ Store w ∷ [];
-      grown = d ∙ append_assoc three (changed_store p held held) (Store w ∷ []) ∙ ap (λ same. three ++ stored_if p w same) (eq-eqb (params_word held) (params_word held) refl) ∙ ap (λ l. l ++ Store w ∷ []) (c ∙ ap (λ l. l ++ Load p ∷ Load s ∷ []) (b ∙ ap (λ l. l ++ Exchange w won ∷ []) a ∙ append_assoc before (Load w ∷ []) (Exchange w won ∷ [])) ∙ append_assoc before (Load w ∷ Exchange w won ∷ []) (Load p ∷ Load s ∷ []))
+      grown = d ∙ append_assoc three (changed_store p held held) (Store w ∷ []) ∙ ap (λ same. three ++ stored_if p w same) (eq-eqb (params_word held) (params_word held) refl) ∙ ap (λ l. l ++ Store w ∷ []) (c ∙ ap (λ l. l ++ Load p ∷ Load s ∷ []) (two_and w won before one two a b) ∙ append_assoc before (Load w ∷ Exchange w won ∷ []) (Load p ∷ Load s ∷ []))
           ∙ append_assoc before (Load w ∷ Exchange w won ∷ Load p ∷ Load s ∷ []) (Store w ∷ []);
       load = omega (arith, counts_one w, not_p, not_s);
       exchange = omega (arith, counts_one w);

@@ -7,11 +7,11 @@ ghost use Rattle.clap.specs.Values.{kind_of};
 ghost use Rattle.clap.specs.Words.{FailsBy, fault_of, found_of, matches_of, rows_of};
 ghost use Rattle.clap.specs.declared.error.kind.ErrorKind.TheVariants as kinds;
 ghost use Rattle.std.specs.declared.io.ErrorKind.TheVariants as io_kinds;
-ghost use Rattle.grub_serve.specs.Faults.{HasFileFault, Whole};
+ghost use Rattle.grub_serve.specs.Faults.{HasFileFault};
 ghost use Rattle.grub_command.specs.CommandLine.{TriesNamed, command_line, files_named, names_among};
 ghost use Rattle.grubrun.specs.Statuses.{AsksFor, Begins, HasNoSpan, PrintsAsked, Writes};
-ghost use Rattle.grubrun.specs.inside.Statuses.{PrintsKind};
-ghost use Rattle.grubrun.specs.Views.{IsMistake, IsRefused, Wants};
+ghost use Rattle.grubrun.specs.inside.Statuses.{IsServed, PrintsKind};
+ghost use Rattle.grubrun.specs.Views.{IsRefused, Wants};
 
 use crate::view::{Wanted, wanted_by};
 use clap::Error;
@@ -89,12 +89,7 @@ fn serve_options<
 ) -> u8
     requires open { O.IsAlwaysCallable source.now.open }
     requires read { N.IsAlwaysCallable source.now.read }
-    ensures status { (result ≡ 0) ⊎ (result ≡ STATUS_FILE) ⊎ (result ≡ STATUS_USAGE) ⊎ (result ≡ STATUS_SYSTEM) }
-    ensures done { result ≡ 0 → Whole O.Fn N.Fn source.now (Writes (W.contents out.old) (W.contents out.new) wanted options.now.tries) (names_among (rows_of (found_of options.now.matches))) }
-    ensures file { result ≡ STATUS_FILE → HasFileFault O.Fn N.Fn source.now (names_among (rows_of (found_of options.now.matches))) }
-    ensures usage { result ≡ STATUS_USAGE → IsMistake wanted ⊎ Whole O.Fn N.Fn source.now (HasNoSpan wanted options.now.tries) (names_among (rows_of (found_of options.now.matches))) }
-    ensures nothing { (result ≡ STATUS_FILE) ⊎ (result ≡ STATUS_USAGE) → out.new ≡ out.old }
-    ensures failed { result ≡ STATUS_SYSTEM → (out.new ≡ out.old) ⊎ Whole O.Fn N.Fn source.now (Begins (W.contents out.old) (W.contents out.new) wanted options.now.tries) (names_among (rows_of (found_of options.now.matches))) }
+    ensures { IsServed O.Fn N.Fn source.now W.contents out.old out.new wanted options.now.tries (names_among (rows_of (found_of options.now.matches))) result }
 {
     let paths = options.matches.get_strs("FILE").unwrap_or(&[]);
     match wanted {

@@ -7,7 +7,7 @@ use grub_command::ViewWord;
 use grub_show::View;
 
 /// What the words ask to be printed.
-#[derive(Clone, Copy, Debug, PartialEq, Eq)]
+#[derive(Clone, Copy)]
 pub enum Wanted {
     /// The reports of a run.
     Reports,

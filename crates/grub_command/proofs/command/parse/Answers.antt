@@ -1,11 +1,12 @@
-use Rattle.std.proofs.Common.{◌≡◌, ◌≤◌, ◌∙◌, ap, subst, map, string_bytes, true, ℕ, List, Option, Some, None, IfSome, arith, refl}
+use Rattle.std.proofs.Common.{◌≡◌, ◌≤◌, ◌∙◌, ap, subst, sym, map, string_bytes, true, ℕ, List, Option, Some, None, IfSome, arith, refl}
+use Rattle.std.proofs.lemmas.Result.{IfOk-from_err}
 use Rattle.std.specs.Str.Parse.{ParsesUnsigned, ExplainsUnsignedError, HasUnsignedDigitsIfOk}
 use Rattle.clap.specs.Matches.{found_of, one_text}
 use Rattle.clap.specs.Words.{app_of, fault_of, is_simple, is_simple_and_free, matches_of}
 use Rattle.clap.specs.Kinds.{HasKind}
 use Rattle.clap.proofs.CallerReads.{signed_reads}
 use Rattle.grub_command.specs.inside.Rounds.{rounds_id}
-use Rattle.grub_command.proofs.CommandLemmas.{fails_again, number_read}
+use Rattle.grub_command.proofs.CommandLemmas.{fails_again, fails_memory, number_read}
 use Rattle.grub_command.proofs.RoundsLemmas.{rounds_read}
 use Rattle.grub_command.proofs.command.parse.Goals as goal
 
@@ -39,3 +40,29 @@ returns-in_err-matches-clause-faults c =
     let line = c.in_ok-command.ensures.line in
     let kinds = c.in_err-matches.ensures.kinds (ap is_simple_and_free line) in
     fails_again _ c.in_err-matches.field-0.0 _ (subst (λ a. HasKind (fault_of a (map string_bytes c.args.words.now)) c.in_err-matches.field-0.0) line kinds) c.from_residual-in_err-matches.ensures.1
+
+pub returns-in_err-command-clause-rounds : goal.returns-in_err-command-clause-rounds
+returns-in_err-command-clause-rounds c = IfOk-from_err _ _ c.from_residual.ensures.0
+
+pub returns-in_err-command-clause-number : goal.returns-in_err-command-clause-number
+returns-in_err-command-clause-number c = IfOk-from_err _ _ c.from_residual.ensures.0
+
+pub returns-in_err-command-clause-matches : goal.returns-in_err-command-clause-matches
+returns-in_err-command-clause-matches c = IfOk-from_err _ _ c.from_residual.ensures.0
+
+pub returns-in_err-matches-clause-rounds : goal.returns-in_err-matches-clause-rounds
+returns-in_err-matches-clause-rounds c = IfOk-from_err _ _ c.from_residual-in_err-matches.ensures.0
+
+pub returns-in_err-matches-clause-number : goal.returns-in_err-matches-clause-number
+returns-in_err-matches-clause-number c = IfOk-from_err _ _ c.from_residual-in_err-matches.ensures.0
+
+pub returns-in_err-matches-clause-matches : goal.returns-in_err-matches-clause-matches
+returns-in_err-matches-clause-matches c = IfOk-from_err _ _ c.from_residual-in_err-matches.ensures.0
+
+pub returns-in_err-command-clause-faults : goal.returns-in_err-command-clause-faults
+returns-in_err-command-clause-faults c = fails_memory _ _ c.from_residual.ensures.1
+
+pub returns-clause-faults : goal.returns-clause-faults
+returns-clause-faults c =
+    let line = c.in_ok-command.ensures.line in
+    ap (λ a. fault_of a (map string_bytes c.args.words.now)) (sym line) ∙ c.in_ok-matches.ensures.kinds (ap is_simple_and_free line)

@@ -1,4 +1,4 @@
-use Rattle.std.proofs.Common.{ap, sym, subst, ◌∙◌, arith, Some, None, ◌≡◌, ℕ, ◌<◌, Bool, true, false, length, set}
+use Rattle.std.proofs.Common.{ap, sym, subst, ◌∙◌, arith, Some, None, ◌≡◌, ℕ, ◌<◌, Bool, true, false, List, [], ◌∷◌, ◌++◌, append_assoc, inl, inr, length, set}
 use Rattle.grub_bw.specs.Bandwidth.{Capacity}
 use Rattle.grub_book.specs.Step.{settled, step, changes_sum, is_under_claim, runqueue_of}
 use Rattle.grub_book.specs.Totals.{shifted_of}
@@ -25,10 +25,14 @@ use Rattle.grub_words.specs.Words.{QueueFits}
 use Rattle.grub_words.proofs.Bounds.{QueueFits-sound}
 use Rattle.grub_table.specs.declared.shared.Shared.{Shared}
 use Rattle.grub_table.specs.declared.seated.Seated.{Seated}
+use Rattle.grub_table.specs.declared.view.Access.{Access}
+use Rattle.grub_table.specs.declared.view.Access.TheVariants.{Load, Exchange}
 use Rattle.grub_table.specs.declared.view.Share.{Share}
 use Rattle.grub_table.specs.declared.view.Terms.{Terms}
 use Rattle.grub_table.specs.Calls.{share_on}
 use Rattle.grub_table.specs.Histories.{WasBefore, record_in, reading_in}
+use Rattle.grub_table.specs.Layout.{queue_word_at}
+use Rattle.grub_table.specs.inside.Brief.{TriesOnce}
 use Rattle.grub_table.specs.inside.Layout.{stored_of}
 use Rattle.grub_table.proofs.Moves.{sound}
 use Rattle.grub_table.proofs.Turns.{under}
@@ -100,6 +104,9 @@ module _ (s : Shared) (t : ℕ) (op : Op) (rec : Record) (r : ℕ) (now : Readin
       abbrev b : Records
       b = book_of T.setup m.seen
 
+      sum_changes : (changes_sum rec op ≡ false → is_charge op ≡ true) → changes_sum rec op ≡ true
+      sum_changes sums = lost_changes (queue_at T.setup r) now rec op sums off
+
       new_fits : (new : Reading) → new ≡ shifted_of now r rec q.0 → QueueFits new
       new_fits new moved =
           let is_sound : IsSound T.setup b = sound T m.seen s.limited still.0.0 in
@@ -132,10 +139,37 @@ module _ (s : Shared) (t : ℕ) (op : Op) (rec : Record) (r : ℕ) (now : Readin
               seat = changed.seat;
               number = changed.number ∙ saw.number;
               of = under x.hold t op rec (λ t op rec. (y.marks ≡ x.marks) × TriedAs r None T x t op rec y) h.hold
-                  (l.0 ∙ told.0, (sees_after T x m y saw.number still.0 l.1, l.2 ∙ still.1, l.4, change, lost_changes (queue_at T.setup r) now rec op sums off));
+                  (l.0 ∙ told.0, (sees_after T x m y saw.number still.0 l.1, l.2 ∙ still.1, l.4, change, sum_changes sums));
             })
 
+-- ---- what a try makes
+made_at_load : (r v : ℕ) (sum : Bool) (q : Record × Reply) (before after : List Access) → r ≡ v → after ≡ before ++ Load (queue_word_at r) ∷ [] → TriesOnce (queue_word_at v) sum (Some q) before after
+made_at_load r v sum q before after about made = inl (subst (λ u. after ≡ before ++ Load (queue_word_at u) ∷ []) about made)
+
+made_both : (r v : ℕ) (b won : Bool) (before mid after : List Access) → r ≡ v → won ≡ b → mid ≡ before ++ Load (queue_word_at r) ∷ [] → after ≡ mid ++ Exchange (queue_word_at r) won ∷ [] → after ≡ before ++ Load (queue_word_at v) ∷ Exchange (queue_word_at v) b ∷ []
+made_both r v b won before mid after about is to_mid to_after =
+    let here : after ≡ before ++ Load (queue_word_at r) ∷ Exchange (queue_word_at r) won ∷ [] = to_after ∙ ap (λ l. l ++ Exchange (queue_word_at r) won ∷ []) to_mid ∙ append_assoc before (Load (queue_word_at r) ∷ []) (Exchange (queue_word_at r) won ∷ []) in
+    subst (λ (p : ℕ × Bool). after ≡ before ++ Load (queue_word_at p.0) ∷ Exchange (queue_word_at p.0) p.1 ∷ []) (λ i. (about i, is i)) here
+
 -- ---- the answers
+pub load_queue-now-requires : goal.load_queue-now-requires
+load_queue-now-requires c = (c.requires.held.0, c.args.op, c.args.held.now, c.requires.held.1, c.runqueue-r.ensures)
+
+pub queue-requires : goal.queue-requires
+queue-requires c = there _ c.requires.held.0 _ _ _ _ _ _ c.requires.held.1 c.runqueue-r.ensures c.load_queue-now.ensures.told
+
+pub settle-next-requires-clause-not_refused : goal.settle-next-requires-clause-not_refused
+settle-next-requires-clause-not_refused c = c.requires.held.1.unrefused
+
+pub settle-next-requires-clause-fits : goal.settle-next-requires-clause-fits
+settle-next-requires-clause-fits c = c.requires.held.1.kept.server.fits
+
+pub settle-next-requires-clause-count : goal.settle-next-requires-clause-count
+settle-next-requires-clause-count c = c.requires.held.1.kept.count
+
+pub settle-next-requires-clause-timely : goal.settle-next-requires-clause-timely
+settle-next-requires-clause-timely c = c.requires.held.1.op.1
+
 pub settle-next-requires-clause-running : goal.settle-next-requires-clause-running
 settle-next-requires-clause-running c = (reading_is _ c.requires.held.0 _ _ _ _ _ _ c.requires.held.1 c.runqueue-r.ensures c.load_queue-now.ensures.told).running
 
@@ -176,3 +210,14 @@ returns-then-change_queue-clause-told c =
 pub returns-else-change_queue-clause-told : goal.returns-else-change_queue-clause-told
 returns-else-change_queue-clause-told c =
     tried_lost _ c.requires.held.0 _ _ _ _ _ _ c.requires.held.1 c.runqueue-r.ensures c.load_queue-now.ensures.told _ c.queue.ensures.value _ c.settle-next.ensures _ c.is_decided_at_load.ensures c.if-is_decided_at_load.false _ _ c.change_queue.ensures.told c.if-change_queue.false c.requires.about
+
+pub returns-then-is_decided_at_load-clause-made : goal.returns-then-is_decided_at_load-clause-made
+returns-then-is_decided_at_load-clause-made c = made_at_load _ _ _ c.settle-next.result _ _ c.runqueue-r.ensures c.load_queue-now.ensures.made
+
+pub returns-then-change_queue-clause-made : goal.returns-then-change_queue-clause-made
+returns-then-change_queue-clause-made c =
+    let sum = sum_changes _ c.requires.held.0 _ _ _ _ _ _ c.requires.held.1 c.runqueue-r.ensures c.load_queue-now.ensures.told _ c.queue.ensures.value _ c.settle-next.ensures _ c.is_decided_at_load.ensures c.if-is_decided_at_load.false c.requires.about in
+    inr (made_both _ _ true _ _ _ _ c.runqueue-r.ensures c.if-change_queue.true c.load_queue-now.ensures.made c.change_queue.ensures.made, sum)
+
+pub returns-else-change_queue-clause-made : goal.returns-else-change_queue-clause-made
+returns-else-change_queue-clause-made c = made_both _ _ false _ _ _ _ c.runqueue-r.ensures c.if-change_queue.false c.load_queue-now.ensures.made c.change_queue.ensures.made

@@ -9,6 +9,7 @@ use Rattle.grub_book.proofs.Claims.{settled_under}
 use Rattle.grub_book.proofs.Refusals.{settled_alike}
 use Rattle.grub_book.proofs.Soundness.{kept_settled}
 use Rattle.grub_words.specs.Words.{server_word, params_word}
+use Rattle.grub_words.proofs.Bounds.{ServerFits-kept}
 use Rattle.grub_table.specs.declared.claim.Claim.{Claim}
 use Rattle.grub_table.specs.declared.shared.Shared.{Shared}
 use Rattle.grub_table.specs.declared.seated.Seated.{Seated}
@@ -17,8 +18,11 @@ use Rattle.grub_table.specs.Calls.{share_on, claim_share, claim_changes_sum, IsC
 use Rattle.grub_table.specs.inside.Tellings.{settled_quietly, Decides, SettledServer}
 use Rattle.grub_table.specs.inside.Tries.{is_charge, half_stored}
 use Rattle.grub_table.proofs.Brief.{made_by_store}
-use Rattle.grub_table.proofs.Tries.{is_not, quiet_blind, IsMade, done}
+use Rattle.grub_table.proofs.Tries.{is_not, quiet_blind, claim_holds, IsMade, done}
 use Rattle.grub_table.proofs.shared.Shared.finish_quiet.Goals as goal
+
+next_kept : (s : Shared) (c : Claim) (is : IsClaimOf s c) (queue : Capacity) (now : Reading) (p : Record × Reply) → p ≡ settled c.held queue now c.op → IsKept s.terms.setup p.0
+next_kept s c is queue now p settles = subst (λ (q : Record × Reply). IsKept s.terms.setup q.0) (sym settles) (kept_settled s.terms.setup queue now c.held c.op is.op is.unrefused is.kept)
 
 -- the call is made by the store of the server word
 quietly : (s : Shared) (c : Claim) (is : IsClaimOf s c) (mid : Seated) (queue : Capacity) (now : Reading) (p : Record × Reply) → p ≡ settled c.held queue now c.op → claim_changes_sum c ≡ false → is_charge c.op ≡ false → Tells s (SettledServer (server_word p.0.server)) c.seated mid
@@ -34,13 +38,36 @@ quietly s c is mid queue now p settles quiet blind tells =
       marks = w.0;
       calls = d.0;
       was = d.2;
-      kept = subst (λ (q : Record × Reply). IsKept s.terms.setup q.0) (sym settles) (kept_settled s.terms.setup queue now c.held c.op is.op is.unrefused is.kept);
+      kept = next_kept s c is queue now p settles;
       claimed = ap (λ (q : Record × Reply). is_under_claim q.1) settles ∙ settled_under queue now c.held c.op;
     }
 
--- ---- the answers
 abbrev unseen : Reading
 unseen = record { running = 0; this = 0 }
+
+-- ---- the answers
+pub queue-requires : goal.queue-requires
+queue-requires c = c.args.self.now.limited.queues_some
+
+pub settle-reply-requires-clause-not_refused : goal.settle-reply-requires-clause-not_refused
+settle-reply-requires-clause-not_refused c = c.requires.of.unrefused
+
+pub settle-reply-requires-clause-fits : goal.settle-reply-requires-clause-fits
+settle-reply-requires-clause-fits c = c.requires.of.kept.server.fits
+
+pub settle-reply-requires-clause-count : goal.settle-reply-requires-clause-count
+settle-reply-requires-clause-count c = c.requires.of.kept.count
+
+pub settle-reply-requires-clause-timely : goal.settle-reply-requires-clause-timely
+settle-reply-requires-clause-timely c = c.requires.of.op.1
+
+pub settle_server-requires-clause-held : goal.settle_server-requires-clause-held
+settle_server-requires-clause-held c =
+    let claim = c.args.claim in
+    (claim.op, claim.held, claim_holds c.args.self.now claim c.requires.of, c.requires.sum, quiet_blind claim.held claim.op c.requires.sum c.requires.charge)
+
+pub settle_server-requires-clause-fits : goal.settle_server-requires-clause-fits
+settle_server-requires-clause-fits c = (ServerFits-kept _ _ (next_kept c.args.self.now c.args.claim c.requires.of c.queue.result unseen c.settle-reply.result c.settle-reply.ensures)).0
 
 pub hand_back-pass-requires-clause-held : goal.hand_back-pass-requires-clause-held
 hand_back-pass-requires-clause-held c = (quietly c.args.self.now c.args.claim c.requires.of c.settle_server.new.seated c.queue.result unseen c.settle-reply.result c.settle-reply.ensures c.requires.sum c.requires.charge c.settle_server.ensures.told).holds

@@ -1,6 +1,6 @@
 use Rattle.std.proofs.Common.{refl, sym, ap, ◌∙◌, ◌≡◌, ◌≢◌, ℕ, ◌<◌, false, Option, Some, None, Ok, [], ◌∷◌, length, subst, inl, inr, ⊎_elim}
 use Rattle.grub_words.specs.Words.{task_word, PlaceFits}
-use Rattle.grub_table.proofs.Brief.{starts_early}
+use Rattle.grub_table.proofs.Brief.{starts_at_load, starts_lost, starts_held, starts_early}
 use Rattle.grub_book.specs.Op.{IsOp}
 use Rattle.grub_book.specs.Sound.{IsKept}
 use Rattle.grub_book.specs.Step.{early, refused}
@@ -202,6 +202,39 @@ module _ (s : Shared) (p : Pass) (t : ℕ) (op : Op) where
             }
 
 -- ---- the answers
+pub look_at_task-requires-clause-seat : goal.look_at_task-requires-clause-seat
+look_at_task-requires-clause-seat c = record { home = c.requires.of.home; terms = c.requires.of.terms }
+
+pub look_at_task-requires-clause-free : goal.look_at_task-requires-clause-free
+look_at_task-requires-clause-free c = c.args.pass.free
+
+pub look_at_task-requires-clause-note : goal.look_at_task-requires-clause-note
+look_at_task-requires-clause-note c = refl
+
+pub returns-in-Err-clause-brief : goal.returns-in-Err-clause-brief
+returns-in-Err-clause-brief c = starts_at_load _ _ _ c.in-Err.ensures.made
+
+pub returns-in-Some-clause-brief : goal.returns-in-Some-clause-brief
+returns-in-Some-clause-brief c = starts_at_load _ _ _ c.in-Ok.ensures.made
+
+pub returns-then-found-loaded-clause-brief : goal.returns-then-found-loaded-clause-brief
+returns-then-found-loaded-clause-brief c = starts_lost _ _ _ _ _ c.in-Ok.ensures.made c.take_claim-found.ensures.made
+
+pub returns-clause-brief : goal.returns-clause-brief
+returns-clause-brief c = starts_held _ _ _ _ _ _ _ _ c.in-Ok.ensures.made c.take_claim-found.ensures.made c.load_record-held.ensures.made refl refl
+
+pub take_claim-found-requires-clause-seat : goal.take_claim-found-requires-clause-seat
+take_claim-found-requires-clause-seat c = c.in-Ok.ensures.told.seat
+
+pub take_claim-found-requires-clause-free : goal.take_claim-found-requires-clause-free
+take_claim-found-requires-clause-free c = c.in-Ok.ensures.told.of.0 ∙ c.args.pass.free
+
+pub take_claim-found-requires-clause-fits : goal.take_claim-found-requires-clause-fits
+take_claim-found-requires-clause-fits c = c.in-Ok.ensures.free.0
+
+pub take_claim-found-requires-clause-unclaimed : goal.take_claim-found-requires-clause-unclaimed
+take_claim-found-requires-clause-unclaimed c = c.in-Ok.ensures.free.1
+
 pub returns-in-Some-clause-started : goal.returns-in-Some-clause-started
 returns-in-Some-clause-started c = answered c.args.self.now c.args.pass c.args.t c.args.op _ c.in-Ok.shown c.in-Some.reply c.in-Ok.ensures.told (sym c.refusal.ensures ∙ c.in-Some.is)
 
