@@ -44,21 +44,20 @@ fn prints<R: Threads + Wait + Sync>(
 #[test]
 fn one_file(rt: HostRuntime) -> Result<(), Fail> {
     let alloc = rt.alloc();
-    assert!(rt; prints(&rt, alloc, [FIRST].as_slice(), 8, 64, FIRST_REPORT)?);
-    assert!(rt; prints(&rt, alloc, [LEAVES].as_slice(), 1, 1, LEAVES_REPORT)?);
-    assert!(rt; prints(&rt, alloc, [FAR_TIMER].as_slice(), 8, 64, FAR_TIMER_REPORT)?);
-    assert!(rt; prints(&rt, alloc, [RETUNES].as_slice(), 8, 64, RETUNES_REPORT)?);
-    assert!(rt; prints(&rt, alloc, [NO_EVENTS].as_slice(), 0, 1, NO_EVENTS_REPORT)?);
-    assert!(rt;
-        prints(
-            &rt,
-            alloc,
-            [DOCUMENTATION].as_slice(),
-            4,
-            100,
-            DOCUMENTATION_REPORT
-        )?
-    );
+    for (file, tries, rounds, text) in [
+        (FIRST, 8, 64u16, FIRST_REPORT),
+        (LEAVES, 1, 1, LEAVES_REPORT),
+        (FAR_TIMER, 8, 64, FAR_TIMER_REPORT),
+        (RETUNES, 8, 64, RETUNES_REPORT),
+        (NO_EVENTS, 0, 1, NO_EVENTS_REPORT),
+        (DOCUMENTATION, 4, 100, DOCUMENTATION_REPORT),
+    ] {
+        let files = [file];
+        assert!(rt;
+            rounds >= 1 && prints(&rt, alloc, files.as_slice(), tries, rounds, text)?,
+            "{file}"
+        );
+    }
     Ok(())
 }
 
@@ -87,16 +86,26 @@ const CUTS: [(usize, usize, &str); 11] = [
     (12, 10, "close running=1048576 this=1048576\n"),
 ];
 
+/// Whether so many lines of the documentation's file have so many lines of its report, and this closing reading.
+fn prints_cut<R: Threads + Wait + Sync>(
+    rt: &R,
+    alloc: Global,
+    lines: usize,
+    reported: usize,
+    close: &str,
+) -> Result<bool, AllocError> {
+    let file = first_lines(alloc, DOCUMENTATION, lines)?;
+    let mut text = first_lines(alloc, DOCUMENTATION_REPORT, reported)?;
+    text.push_str(close)?;
+    prints(rt, alloc, [file.as_str()].as_slice(), 8, 64, &text)
+}
+
 /// A file that is cut between two lines has the report of its whole lines.
 #[test]
 fn cuts_between_lines(rt: HostRuntime) -> Result<(), Fail> {
-    let alloc = rt.alloc();
     for (lines, reported, close) in CUTS {
-        let file = first_lines(alloc, DOCUMENTATION, lines)?;
-        let mut text = first_lines(alloc, DOCUMENTATION_REPORT, reported)?;
-        text.push_str(close)?;
         assert!(rt;
-            prints(&rt, alloc, [file.as_str()].as_slice(), 8, 64, &text)?,
+            prints_cut(&rt, rt.alloc(), lines, reported, close)?,
             "{lines}"
         );
     }
@@ -165,21 +174,29 @@ fn lengthened(
     Ok(text)
 }
 
+/// A file of so many readings.
+fn readings(alloc: Global, count: usize) -> Result<String, AllocError> {
+    lengthened(alloc, "grub 1\nqueue 1 0\n", "at 0 read\n", count, "")
+}
+
+/// The report of three files of so many readings.
+fn report_of_readings(alloc: Global, counts: [usize; 3]) -> Result<String, AllocError> {
+    let (answer, close) = ("at 0 read: running=0 this=0\n", "close running=0 this=0\n");
+    let heads = ["runqueue 0\n", "runqueue 1\n", "runqueue 2\n"];
+    let mut text = String::new(alloc);
+    for (head, count) in heads.iter().zip(counts.iter()) {
+        text.push_str(&lengthened(alloc, head, answer, *count, close)?)?;
+    }
+    Ok(text)
+}
+
 /// Reports that are so long that several threads make their lines, with one between them that none is started for.
 #[test]
 fn long_reports(rt: HostRuntime) -> Result<(), Fail> {
     let alloc = rt.alloc();
-    let (head, ask, answer) = (
-        "grub 1\nqueue 1 0\n",
-        "at 0 read\n",
-        "at 0 read: running=0 this=0\n",
-    );
-    let close = "close running=0 this=0\n";
-    let long = lengthened(alloc, head, ask, 33_000, "")?;
-    let short = lengthened(alloc, head, ask, 1023, "")?;
-    let mut text = lengthened(alloc, "runqueue 0\n", answer, 33_000, close)?;
-    text.push_str(&lengthened(alloc, "runqueue 1\n", answer, 1023, close)?)?;
-    text.push_str(&lengthened(alloc, "runqueue 2\n", answer, 33_000, close)?)?;
+    let long = readings(alloc, 33_000)?;
+    let short = readings(alloc, 1023)?;
+    let text = report_of_readings(alloc, [33_000, 1023, 33_000])?;
     let files = [long.as_str(), short.as_str(), long.as_str()];
     assert!(rt; prints(&rt, alloc, files.as_slice(), 8, 64, &text)?);
     Ok(())
@@ -188,11 +205,12 @@ fn long_reports(rt: HostRuntime) -> Result<(), Fail> {
 #[test]
 fn faults_before_anything_is_written(rt: HostRuntime) -> Result<(), Fail> {
     let alloc = rt.alloc();
-    for (count, kind, file) in [(0, Kind::MissingQueue, 0usize), (65, Kind::OutOfRange, 64)] {
-        let mut files = Vec::new(alloc);
-        for _ in 0..count {
-            files.push(b"grub 1\nqueue 1 0\n".to_vec(alloc)?)?;
-        }
+    let texts = ["grub 1\nqueue 1 0\n"; 65];
+    for (texts, kind, file) in [
+        (&texts[..0], Kind::MissingQueue, 0usize),
+        (texts.as_slice(), Kind::OutOfRange, 64),
+    ] {
+        let files = files_of(alloc, texts)?;
         let mut out: Vec<u8> = Vec::new(alloc);
         let result = run_texts(&rt, alloc, files, 8, 64, &mut out);
         let fault = TraceFault::At {
