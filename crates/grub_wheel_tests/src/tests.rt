@@ -111,20 +111,24 @@ enum Step {
     Cancel(u32, u32, bool),
 }
 
+/// Takes a step, and tells whether it is answered as it says.
+fn is_answered(rt: &impl Abort, wheel: &mut Pair, step: Step) -> bool {
+    match step {
+        Step::Put(z, t, ticket) => {
+            wheel.put(rt, z, t, ticket);
+            true
+        }
+        Step::Due(m, z, t, ticket) => wheel.due(rt, m) == timer(z, t, ticket),
+        Step::NoneDue(m) => wheel.due(rt, m).is_none(),
+        Step::Cancel(t, ticket, is_armed) => wheel.cancel(rt, t, ticket) == is_armed,
+    }
+}
+
 /// Takes the steps on a new wheel, and expects their answers.
 fn follow(rt: &impl Abort, alloc: Global, steps: &[Step]) {
     let mut wheel = Pair::new(rt, alloc);
-    for step in steps {
-        match *step {
-            Step::Put(z, t, ticket) => wheel.put(rt, z, t, ticket),
-            Step::Due(m, z, t, ticket) => {
-                assert_eq!(rt; wheel.due(rt, m), timer(z, t, ticket), "at {m}");
-            }
-            Step::NoneDue(m) => assert_eq!(rt; wheel.due(rt, m), None, "at {m}"),
-            Step::Cancel(t, ticket, is_armed) => {
-                assert_eq!(rt; wheel.cancel(rt, t, ticket), is_armed, "of task {t}");
-            }
-        }
+    for (i, step) in steps.iter().enumerate() {
+        assert!(rt; is_answered(rt, &mut wheel, *step), "step {i}");
     }
 }
 
