@@ -158,34 +158,44 @@ close running=524288 this=524288
     Ok(())
 }
 
-/// A text with so many lines between a head and an end.
-fn lengthened(
-    alloc: Global,
+/// So many readings that several threads make their lines.
+const LONG: usize = 33_000;
+
+/// So few readings that no thread is started for their lines.
+const SHORT: usize = 1023;
+
+/// Adds so many lines between a head and an end.
+fn push_lines(
+    text: &mut String,
     head: &str,
     line: &str,
     lines: usize,
     end: &str,
-) -> Result<String, AllocError> {
-    let mut text = String::from_str(alloc, head)?;
+) -> Result<(), AllocError> {
+    text.push_str(head)?;
     for _ in 0..lines {
         text.push_str(line)?;
     }
-    text.push_str(end)?;
-    Ok(text)
+    text.push_str(end)
 }
 
 /// A file of so many readings.
 fn readings(alloc: Global, count: usize) -> Result<String, AllocError> {
-    lengthened(alloc, "grub 1\nqueue 1 0\n", "at 0 read\n", count, "")
+    let mut text = String::new(alloc);
+    push_lines(&mut text, "grub 1\nqueue 1 0\n", "at 0 read\n", count, "")?;
+    Ok(text)
 }
 
-/// The report of three files of so many readings.
-fn report_of_readings(alloc: Global, counts: [usize; 3]) -> Result<String, AllocError> {
+/// The report of a long file, a short and a long one.
+fn report_of_readings(alloc: Global) -> Result<String, AllocError> {
     let (answer, close) = ("at 0 read: running=0 this=0\n", "close running=0 this=0\n");
-    let heads = ["runqueue 0\n", "runqueue 1\n", "runqueue 2\n"];
     let mut text = String::new(alloc);
-    for (head, count) in heads.iter().zip(counts.iter()) {
-        text.push_str(&lengthened(alloc, head, answer, *count, close)?)?;
+    for (head, count) in [
+        ("runqueue 0\n", LONG),
+        ("runqueue 1\n", SHORT),
+        ("runqueue 2\n", LONG),
+    ] {
+        push_lines(&mut text, head, answer, count, close)?;
     }
     Ok(text)
 }
@@ -194,9 +204,9 @@ fn report_of_readings(alloc: Global, counts: [usize; 3]) -> Result<String, Alloc
 #[test]
 fn long_reports(rt: HostRuntime) -> Result<(), Fail> {
     let alloc = rt.alloc();
-    let long = readings(alloc, 33_000)?;
-    let short = readings(alloc, 1023)?;
-    let text = report_of_readings(alloc, [33_000, 1023, 33_000])?;
+    let long = readings(alloc, LONG)?;
+    let short = readings(alloc, SHORT)?;
+    let text = report_of_readings(alloc)?;
     let files = [long.as_str(), short.as_str(), long.as_str()];
     assert!(rt; prints(&rt, alloc, files.as_slice(), 8, 64, &text)?);
     Ok(())
