@@ -1,6 +1,8 @@
 //! What each event tells.
 
-use crate::tests::fixtures::{ARM, CANCEL, FIRE, SWITCH, WAKE, joined, place, read, tells};
+use crate::tests::fixtures::{
+    ARM, CANCEL, FIRE, SWITCH, WAKE, joined, numbers_of, place, read, tells,
+};
 use grub_facts::{Fact, Stop, What};
 use std::alloc::{AllocError, Global};
 use std::test::Fail;
@@ -118,13 +120,8 @@ fn a_state_is_told_by_its_first_letter(rt: HostRuntime) -> Result<(), Fail> {
 #[test]
 fn other_priorities_and_states_are_no_facts(rt: HostRuntime) -> Result<(), Fail> {
     let alloc = rt.alloc();
-    let none = read(
-        alloc,
-        b"a-1 [3] 1.000001: sched_wakeup: comm=gr_0 pid=8 prio=120 target_cpu=003\n",
-    )?;
-    assert_eq!(rt; none.facts.len(), 0);
-    assert_eq!(rt; none.runqueues, 4);
-    assert_eq!(rt; place(&none.fault), (0, 0));
+    let none = b"a-1 [3] 1.000001: sched_wakeup: comm=gr_0 pid=8 prio=120 target_cpu=003\n";
+    assert_eq!(rt; numbers_of(alloc, none)?, Some((0, 4, 1)));
     assert!(rt;
         tells(
             alloc,
@@ -150,8 +147,6 @@ fn a_timer_is_that_of_the_task_that_armed_it_last(rt: HostRuntime) -> Result<(),
         ]
         .as_slice(),
     )?;
-    let told = read(alloc, text.as_slice())?;
-    assert_eq!(rt; told.facts.len(), 1);
-    assert_eq!(rt; place(&told.fault), (0, 0));
+    assert_eq!(rt; numbers_of(alloc, text.as_slice())?, Some((1, 1, 4)));
     Ok(())
 }

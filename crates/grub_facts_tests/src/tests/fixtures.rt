@@ -54,6 +54,18 @@ pub(crate) fn fault_of(alloc: Global, text: &[u8]) -> Result<(u64, u64), AllocEr
     Ok(place(&read(alloc, text)?.fault))
 }
 
+/// How many facts, runqueues and lines a text tells, if it has no fault.
+pub(crate) fn numbers_of(
+    alloc: Global,
+    text: &[u8],
+) -> Result<Option<(usize, u32, u64)>, AllocError> {
+    let told = read(alloc, text)?;
+    if told.fault.is_some() {
+        return Ok(None);
+    }
+    Ok(Some((told.facts.len(), told.runqueues, told.counts.lines)))
+}
+
 /// Whether a text tells this one fact and no other.
 pub(crate) fn tells(
     alloc: Global,

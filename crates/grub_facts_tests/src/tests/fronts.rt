@@ -1,6 +1,6 @@
 //! What stands in front of an event, comms, and the ends of lines.
 
-use crate::tests::fixtures::{joined, place, read, tells};
+use crate::tests::fixtures::{joined, numbers_of, read, tells};
 use grub_facts::{Stop, What};
 use std::alloc::{AllocError, Global};
 use std::test::Fail;
@@ -50,10 +50,7 @@ fn lines_end_as_they_may(rt: HostRuntime) -> Result<(), Fail> {
             What::Wakes { cpu: 3 }
         )?
     );
-    let told = read(alloc, b"\n\r\n# x\na\n")?;
-    assert_eq!(rt; told.counts.lines, 1);
-    assert_eq!(rt; told.runqueues, 1);
-    assert_eq!(rt; place(&told.fault), (0, 0));
+    assert_eq!(rt; numbers_of(alloc, b"\n\r\n# x\na\n")?, Some((0, 1, 1)));
     Ok(())
 }
 

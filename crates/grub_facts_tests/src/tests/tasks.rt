@@ -41,13 +41,22 @@ fn is_of_a_second_a(fault: &Option<LineFault>) -> bool {
 
 #[test]
 fn names_and_pids(rt: HostRuntime) -> Result<(), Fail> {
-    let told = read_names(rt.alloc())?;
-    assert_eq!(rt; place(&told.fault), (5, 50));
-    assert!(rt; is_of_a_second_a(&told.fault));
-    assert!(rt; matches!(told.found.as_slice(), [None, Some(_), Some(_), None, None]));
-    assert!(rt; told.facts.len() == 1 && told.facts[0].task == 2);
-    assert_eq!(rt; told.runqueues, 2);
+    assert!(rt; names_are_told(rt.alloc())?);
     Ok(())
+}
+
+/// Whether the two names that the lines have are found, with one fact of them, up to the fault.
+fn names_are_told(alloc: Global) -> Result<bool, AllocError> {
+    let told = read_names(alloc)?;
+    let are_found = matches!(told.found.as_slice(), [None, Some(_), Some(_), None, None]);
+    Ok(
+        place(&told.fault) == (5, 50)
+            && is_of_a_second_a(&told.fault)
+            && are_found
+            && told.facts.len() == 1
+            && told.facts[0].task == 2
+            && told.runqueues == 2,
+    )
 }
 
 /// The tasks of five lines; None at a fault.
@@ -65,15 +74,26 @@ fn read_tasks(alloc: Global) -> Result<Option<Vec<Counted>>, AllocError> {
     Ok(reader.end().ok())
 }
 
+/// Whether a trace shows the one task that is meant, with its wakes, blocks and processors.
+fn a_task_is_counted(alloc: Global) -> Result<bool, AllocError> {
+    let Some(tasks) = read_tasks(alloc)? else {
+        return Ok(false);
+    };
+    let [task] = tasks.as_slice() else {
+        return Ok(false);
+    };
+    Ok(
+        task.comm.as_slice() == b"a b".as_slice()
+            && task.pid == 8
+            && task.line == 2
+            && task.wakes == 1
+            && task.blocks == 1
+            && task.cpus.as_slice() == [1, 2, 4].as_slice(),
+    )
+}
+
 #[test]
 fn tasks_of_a_trace(rt: HostRuntime) -> Result<(), Fail> {
-    let Some(tasks) = read_tasks(rt.alloc())? else {
-        panic!(rt; "a fault")
-    };
-    assert_eq!(rt; tasks.len(), 1);
-    let task = &tasks[0];
-    assert!(rt; task.comm.as_slice() == b"a b".as_slice() && task.pid == 8 && task.line == 2);
-    assert!(rt; task.wakes == 1 && task.blocks == 1);
-    assert_eq!(rt; task.cpus.as_slice(), [1, 2, 4].as_slice());
+    assert!(rt; a_task_is_counted(rt.alloc())?);
     Ok(())
 }
