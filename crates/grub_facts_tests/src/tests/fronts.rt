@@ -1,7 +1,7 @@
 //! What stands in front of an event, comms, and the ends of lines.
 
 use crate::tests::fixtures::{joined, numbers_of, read, tells};
-use grub_facts::{Stop, What};
+use grub_facts::{Facts, Stop, What};
 use std::alloc::{AllocError, Global};
 use std::test::Fail;
 
@@ -18,24 +18,24 @@ fn a_comm_may_be_anything(rt: HostRuntime) -> Result<(), Fail> {
     Ok(())
 }
 
-/// Whether a comm that looks like the fields after it is told whole.
-fn a_comm_of_words_is_told(alloc: Global) -> Result<bool, AllocError> {
-    let line =
-        b"a-1 [3] 1.000001: sched_switch: prev_comm=a prev b prev_pid=77 prev_prio=-1 prev_state=S ==> next_comm=prev_state=R next_pid=1\n";
+/// Whether a text tells that the task of this comm blocks, and that it was found.
+fn is_found_blocking(told: &Facts, comm: &[u8]) -> bool {
     let stop = What::Stops {
         cpu: 3,
         state: Stop::Blocks,
     };
-    let told = read(alloc, line)?;
     let ([fact], [_, Some(found)]) = (told.facts.as_slice(), told.found.as_slice()) else {
-        return Ok(false);
+        return false;
     };
-    Ok(
-        fact.what == stop
-            && found.comm.as_slice() == b"a prev b".as_slice()
-            && found.pid == 77
-            && found.line == 1,
-    )
+    fact.what == stop && found.comm.as_slice() == comm && found.pid == 77 && found.line == 1
+}
+
+/// Whether a comm that looks like the fields after it is told whole.
+fn a_comm_of_words_is_told(alloc: Global) -> Result<bool, AllocError> {
+    let line =
+        b"a-1 [3] 1.000001: sched_switch: prev_comm=a prev b prev_pid=77 prev_prio=-1 prev_state=S ==> next_comm=prev_state=R next_pid=1\n";
+    let told = read(alloc, line)?;
+    Ok(is_found_blocking(&told, b"a prev b"))
 }
 
 #[test]

@@ -46,17 +46,17 @@ fn names_and_pids(rt: HostRuntime) -> Result<(), Fail> {
 }
 
 /// Whether the two names that the lines have are found, with one fact of them, up to the fault.
+fn are_names(told: &Facts) -> bool {
+    place(&told.fault) == (5, 50)
+        && is_of_a_second_a(&told.fault)
+        && matches!(told.found.as_slice(), [None, Some(_), Some(_), None, None])
+        && told.facts.len() == 1
+        && told.facts[0].task == 2
+        && told.runqueues == 2
+}
+
 fn names_are_told(alloc: Global) -> Result<bool, AllocError> {
-    let told = read_names(alloc)?;
-    let are_found = matches!(told.found.as_slice(), [None, Some(_), Some(_), None, None]);
-    Ok(
-        place(&told.fault) == (5, 50)
-            && is_of_a_second_a(&told.fault)
-            && are_found
-            && told.facts.len() == 1
-            && told.facts[0].task == 2
-            && told.runqueues == 2,
-    )
+    Ok(are_names(&read_names(alloc)?))
 }
 
 /// The tasks of five lines; None at a fault.
@@ -74,22 +74,24 @@ fn read_tasks(alloc: Global) -> Result<Option<Vec<Counted>>, AllocError> {
     Ok(reader.end().ok())
 }
 
-/// Whether a trace shows the one task that is meant, with its wakes, blocks and processors.
+/// Whether these are the one task that is meant, with its wakes, blocks and processors.
+fn are_one_task(tasks: &[Counted]) -> bool {
+    let [task] = tasks else {
+        return false;
+    };
+    task.comm.as_slice() == b"a b".as_slice()
+        && task.pid == 8
+        && task.line == 2
+        && task.wakes == 1
+        && task.blocks == 1
+        && task.cpus.as_slice() == [1, 2, 4].as_slice()
+}
+
 fn a_task_is_counted(alloc: Global) -> Result<bool, AllocError> {
-    let Some(tasks) = read_tasks(alloc)? else {
-        return Ok(false);
-    };
-    let [task] = tasks.as_slice() else {
-        return Ok(false);
-    };
-    Ok(
-        task.comm.as_slice() == b"a b".as_slice()
-            && task.pid == 8
-            && task.line == 2
-            && task.wakes == 1
-            && task.blocks == 1
-            && task.cpus.as_slice() == [1, 2, 4].as_slice(),
-    )
+    match read_tasks(alloc)? {
+        Some(tasks) => Ok(are_one_task(&tasks)),
+        None => Ok(false),
+    }
 }
 
 #[test]
