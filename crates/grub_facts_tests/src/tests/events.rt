@@ -1,7 +1,7 @@
 //! What each event tells.
 
 use crate::tests::fixtures::{
-    ARM, CANCEL, FIRE, SWITCH, WAKE, joined, numbers_of, place, read, tells,
+    ARM, CANCEL, FIRE, SWITCH, WAKE, are_told, joined, numbers_of, read, tells,
 };
 use grub_facts::{Fact, Stop, What};
 use std::alloc::{AllocError, Global};
@@ -77,12 +77,7 @@ fn timers_are_told(alloc: Global) -> Result<bool, AllocError> {
             what: What::Fired { now: 1020411634000 },
         },
     ];
-    Ok(
-        told.facts.as_slice() == wanted.as_slice()
-            && place(&told.fault) == (0, 0)
-            && told.counts.clock == 1000
-            && told.counts.has_timers,
-    )
+    Ok(are_told(&told, wanted.as_slice()) && told.counts.clock == 1000 && told.counts.has_timers)
 }
 
 /// Whether a switch away from a task in this state is told as this stop.
