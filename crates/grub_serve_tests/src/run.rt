@@ -44,21 +44,20 @@ fn prints<R: Threads + Wait + Sync>(
 #[test]
 fn one_file(rt: HostRuntime) -> Result<(), Fail> {
     let alloc = rt.alloc();
-    assert!(rt; prints(&rt, alloc, [FIRST].as_slice(), 8, 64, FIRST_REPORT)?);
-    assert!(rt; prints(&rt, alloc, [LEAVES].as_slice(), 1, 1, LEAVES_REPORT)?);
-    assert!(rt; prints(&rt, alloc, [FAR_TIMER].as_slice(), 8, 64, FAR_TIMER_REPORT)?);
-    assert!(rt; prints(&rt, alloc, [RETUNES].as_slice(), 8, 64, RETUNES_REPORT)?);
-    assert!(rt; prints(&rt, alloc, [NO_EVENTS].as_slice(), 0, 1, NO_EVENTS_REPORT)?);
-    assert!(rt;
-        prints(
-            &rt,
-            alloc,
-            [DOCUMENTATION].as_slice(),
-            4,
-            100,
-            DOCUMENTATION_REPORT
-        )?
-    );
+    for (file, tries, rounds, text) in [
+        (FIRST, 8, 64u16, FIRST_REPORT),
+        (LEAVES, 1, 1, LEAVES_REPORT),
+        (FAR_TIMER, 8, 64, FAR_TIMER_REPORT),
+        (RETUNES, 8, 64, RETUNES_REPORT),
+        (NO_EVENTS, 0, 1, NO_EVENTS_REPORT),
+        (DOCUMENTATION, 4, 100, DOCUMENTATION_REPORT),
+    ] {
+        let files = [file];
+        assert!(rt;
+            rounds >= 1 && prints(&rt, alloc, files.as_slice(), tries, rounds, text)?,
+            "{file}"
+        );
+    }
     Ok(())
 }
 
@@ -87,16 +86,26 @@ const CUTS: [(usize, usize, &str); 11] = [
     (12, 10, "close running=1048576 this=1048576\n"),
 ];
 
+/// Whether so many lines of the documentation's file have so many lines of its report, and this closing reading.
+fn prints_cut<R: Threads + Wait + Sync>(
+    rt: &R,
+    alloc: Global,
+    lines: usize,
+    reported: usize,
+    close: &str,
+) -> Result<bool, AllocError> {
+    let file = first_lines(alloc, DOCUMENTATION, lines)?;
+    let mut text = first_lines(alloc, DOCUMENTATION_REPORT, reported)?;
+    text.push_str(close)?;
+    prints(rt, alloc, [file.as_str()].as_slice(), 8, 64, &text)
+}
+
 /// A file that is cut between two lines has the report of its whole lines.
 #[test]
 fn cuts_between_lines(rt: HostRuntime) -> Result<(), Fail> {
-    let alloc = rt.alloc();
     for (lines, reported, close) in CUTS {
-        let file = first_lines(alloc, DOCUMENTATION, lines)?;
-        let mut text = first_lines(alloc, DOCUMENTATION_REPORT, reported)?;
-        text.push_str(close)?;
         assert!(rt;
-            prints(&rt, alloc, [file.as_str()].as_slice(), 8, 64, &text)?,
+            prints_cut(&rt, rt.alloc(), lines, reported, close)?,
             "{lines}"
         );
     }
@@ -149,19 +158,45 @@ close running=524288 this=524288
     Ok(())
 }
 
-/// A text with so many lines between a head and an end.
-fn lengthened(
-    alloc: Global,
+/// So many readings that several threads make their lines.
+const LONG: usize = 33_000;
+
+/// So few readings that no thread is started for their lines.
+const SHORT: usize = 1023;
+
+/// Adds so many lines between a head and an end.
+fn push_lines(
+    text: &mut String,
     head: &str,
     line: &str,
     lines: usize,
     end: &str,
-) -> Result<String, AllocError> {
-    let mut text = String::from_str(alloc, head)?;
+) -> Result<(), AllocError> {
+    text.push_str(head)?;
     for _ in 0..lines {
         text.push_str(line)?;
     }
-    text.push_str(end)?;
+    text.push_str(end)
+}
+
+/// A file of so many readings.
+fn readings(alloc: Global, count: usize) -> Result<String, AllocError> {
+    let mut text = String::new(alloc);
+    push_lines(&mut text, "grub 1\nqueue 1 0\n", "at 0 read\n", count, "")?;
+    Ok(text)
+}
+
+/// The report of a long file, a short and a long one.
+fn report_of_readings(alloc: Global) -> Result<String, AllocError> {
+    let (answer, close) = ("at 0 read: running=0 this=0\n", "close running=0 this=0\n");
+    let mut text = String::new(alloc);
+    for (head, count) in [
+        ("runqueue 0\n", LONG),
+        ("runqueue 1\n", SHORT),
+        ("runqueue 2\n", LONG),
+    ] {
+        push_lines(&mut text, head, answer, count, close)?;
+    }
     Ok(text)
 }
 
@@ -169,17 +204,9 @@ fn lengthened(
 #[test]
 fn long_reports(rt: HostRuntime) -> Result<(), Fail> {
     let alloc = rt.alloc();
-    let (head, ask, answer) = (
-        "grub 1\nqueue 1 0\n",
-        "at 0 read\n",
-        "at 0 read: running=0 this=0\n",
-    );
-    let close = "close running=0 this=0\n";
-    let long = lengthened(alloc, head, ask, 33_000, "")?;
-    let short = lengthened(alloc, head, ask, 1023, "")?;
-    let mut text = lengthened(alloc, "runqueue 0\n", answer, 33_000, close)?;
-    text.push_str(&lengthened(alloc, "runqueue 1\n", answer, 1023, close)?)?;
-    text.push_str(&lengthened(alloc, "runqueue 2\n", answer, 33_000, close)?)?;
+    let long = readings(alloc, LONG)?;
+    let short = readings(alloc, SHORT)?;
+    let text = report_of_readings(alloc)?;
     let files = [long.as_str(), short.as_str(), long.as_str()];
     assert!(rt; prints(&rt, alloc, files.as_slice(), 8, 64, &text)?);
     Ok(())
@@ -188,11 +215,12 @@ fn long_reports(rt: HostRuntime) -> Result<(), Fail> {
 #[test]
 fn faults_before_anything_is_written(rt: HostRuntime) -> Result<(), Fail> {
     let alloc = rt.alloc();
-    for (count, kind, file) in [(0, Kind::MissingQueue, 0usize), (65, Kind::OutOfRange, 64)] {
-        let mut files = Vec::new(alloc);
-        for _ in 0..count {
-            files.push(b"grub 1\nqueue 1 0\n".to_vec(alloc)?)?;
-        }
+    let texts = ["grub 1\nqueue 1 0\n"; 65];
+    for (texts, kind, file) in [
+        (&texts[..0], Kind::MissingQueue, 0usize),
+        (texts.as_slice(), Kind::OutOfRange, 64),
+    ] {
+        let files = files_of(alloc, texts)?;
         let mut out: Vec<u8> = Vec::new(alloc);
         let result = run_texts(&rt, alloc, files, 8, 64, &mut out);
         let fault = TraceFault::At {

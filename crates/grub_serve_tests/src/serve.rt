@@ -43,20 +43,27 @@ fn serves<R: Files + Threads + Wait + Sync>(
     got == status && out.as_slice() == text.as_bytes() && faults.as_slice() == fault.as_bytes()
 }
 
+/// The same where there is a file of these bytes at one path meanwhile.
+fn serves_with<R: Files + Threads + Wait + Sync>(
+    rt: &R,
+    alloc: Global,
+    (path, bytes): (&str, &[u8]),
+    paths: &[&str],
+    status: u8,
+    text: &str,
+    fault: &str,
+) -> io::Result<bool> {
+    fs::write(rt, path, bytes)?;
+    let is_served = serves(rt, alloc, paths, status, text, fault);
+    fs::remove_file(rt, path)?;
+    Ok(is_served)
+}
+
 #[test]
 fn one_file(rt: HostRuntime) -> Result<(), Fail> {
-    fs::write(&rt, "one.grub", FIRST.as_bytes())?;
-    assert!(rt;
-        serves(
-            &rt,
-            rt.alloc(),
-            ["one.grub"].as_slice(),
-            0,
-            FIRST_REPORT,
-            ""
-        )
-    );
-    fs::remove_file(&rt, "one.grub")?;
+    let file = ("one.grub", FIRST.as_bytes());
+    let paths = ["one.grub"];
+    assert!(rt; serves_with(&rt, rt.alloc(), file, paths.as_slice(), 0, FIRST_REPORT, "")?);
     Ok(())
 }
 
@@ -91,61 +98,85 @@ fn faults_of_files(rt: HostRuntime) -> Result<(), Fail> {
         ("grub 1\n", "grubrun: a file.grub:2: 35 MissingQueue\n"),
         ("grub 1\nqueue 1 0", "grubrun: a file.grub:2: 36 CutShort\n"),
     ] {
-        fs::write(&rt, "a file.grub", text.as_bytes())?;
+        let file = ("a file.grub", text.as_bytes());
+        let paths = ["a file.grub"];
         assert!(rt;
-            serves(
+            serves_with(
                 &rt,
                 rt.alloc(),
-                ["a file.grub"].as_slice(),
+                file,
+                paths.as_slice(),
                 STATUS_FILE,
                 "",
                 fault
-            ),
+            )?,
             "{fault}"
         );
     }
-    fs::remove_file(&rt, "a file.grub")?;
     Ok(())
 }
 
 #[test]
 fn many_files(rt: HostRuntime) -> Result<(), Fail> {
-    fs::write(&rt, "empty.grub", b"grub 1\nqueue 1 0\n")?;
+    let file = ("empty.grub", b"grub 1\nqueue 1 0\n".as_slice());
     let mut words = ["empty.grub"; 65];
-    words[64] = "./empty.grub";
-    let line = "grubrun: ./empty.grub:1: 31 OutOfRange\n";
-    assert!(rt; serves(&rt, rt.alloc(), words.as_slice(), STATUS_FILE, "", line));
-    words[64] = "not there";
-    let line = "grubrun: not there: 46 ReadFault\n";
-    assert!(rt; serves(&rt, rt.alloc(), words.as_slice(), STATUS_SYSTEM, "", line));
-    fs::remove_file(&rt, "empty.grub")?;
+    for (last, status, line) in [
+        (
+            "./empty.grub",
+            STATUS_FILE,
+            "grubrun: ./empty.grub:1: 31 OutOfRange\n",
+        ),
+        (
+            "not there",
+            STATUS_SYSTEM,
+            "grubrun: not there: 46 ReadFault\n",
+        ),
+    ] {
+        words[64] = last;
+        assert!(rt;
+            serves_with(&rt, rt.alloc(), file, words.as_slice(), status, "", line)?,
+            "{line}"
+        );
+    }
     Ok(())
+}
+
+/// Whether files, of which long.grub has so many bytes, are answered by this status and line of a fault.
+fn serves_long<R: Files + Threads + Wait + Sync>(
+    rt: &R,
+    alloc: Global,
+    len: usize,
+    paths: &[&str],
+    status: u8,
+    fault: &str,
+) -> io::Result<bool> {
+    let text = Vec::from_elem(alloc, b'7', len)?;
+    let file = ("long.grub", text.as_slice());
+    serves_with(rt, alloc, file, paths, status, "", fault)
 }
 
 #[test]
 fn long_files(rt: HostRuntime) -> Result<(), Fail> {
-    for (len, fault) in [
-        (16777216, "grubrun: long.grub:1: 36 CutShort\n"),
-        (16777217, "grubrun: long.grub: 44 FileTooLong\n"),
+    let words = ["long.grub"; 65];
+    for (len, paths, fault) in [
+        (16777216, &words[..1], "grubrun: long.grub:1: 36 CutShort\n"),
+        (
+            16777217,
+            &words[..1],
+            "grubrun: long.grub: 44 FileTooLong\n",
+        ),
+        // Too many files are too long before they are too many.
+        (
+            16777217,
+            words.as_slice(),
+            "grubrun: long.grub: 44 FileTooLong\n",
+        ),
     ] {
-        let text = Vec::from_elem(rt.alloc(), b'7', len)?;
-        fs::write(&rt, "long.grub", text.as_slice())?;
         assert!(rt;
-            serves(
-                &rt,
-                rt.alloc(),
-                ["long.grub"].as_slice(),
-                STATUS_FILE,
-                "",
-                fault
-            )
+            serves_long(&rt, rt.alloc(), len, paths, STATUS_FILE, fault)?,
+            "{fault}"
         );
     }
-    // Too many files are too long before they are too many.
-    let words = ["long.grub"; 65];
-    let fault = "grubrun: long.grub: 44 FileTooLong\n";
-    assert!(rt; serves(&rt, rt.alloc(), words.as_slice(), STATUS_FILE, "", fault));
-    fs::remove_file(&rt, "long.grub")?;
     Ok(())
 }
 
@@ -154,9 +185,8 @@ fn no_read(_file: &mut usize, _room: &mut [u8]) -> io::Result<usize> {
     Err(io::Error::from(ErrorKind::Other))
 }
 
-#[test]
-fn broken_reads(rt: HostRuntime) -> Result<(), Fail> {
-    let alloc = rt.alloc();
+/// Whether a file that opens, and cannot be read, is answered as unreadable.
+fn broken_read_is_told<R: Threads + Wait + Sync>(rt: &R, alloc: Global) -> bool {
     let source = Source {
         open: |_path: &str| Ok(0usize),
         read: |file: &mut usize, room: &mut [u8]| no_read(file, room),
@@ -165,7 +195,7 @@ fn broken_reads(rt: HostRuntime) -> Result<(), Fail> {
     let mut faults: Vec<u8> = Vec::new(alloc);
     let paths = ["x"];
     let status = serve_files(
-        &rt,
+        rt,
         alloc,
         8,
         64,
@@ -174,22 +204,32 @@ fn broken_reads(rt: HostRuntime) -> Result<(), Fail> {
         &mut out,
         &mut faults,
     );
-    assert_eq!(rt; status, STATUS_SYSTEM);
-    assert!(rt; out.is_empty() && faults.as_slice() == b"grubrun: x: 46 ReadFault\n".as_slice());
+    let line = b"grubrun: x: 46 ReadFault\n".as_slice();
+    status == STATUS_SYSTEM && out.is_empty() && faults.as_slice() == line
+}
+
+#[test]
+fn broken_reads(rt: HostRuntime) -> Result<(), Fail> {
+    assert!(rt; broken_read_is_told(&rt, rt.alloc()));
     fs::create_dir(&rt, "folder")?;
     let line = "grubrun: folder: 46 ReadFault\n";
-    assert!(rt; serves(&rt, alloc, ["folder"].as_slice(), STATUS_SYSTEM, "", line));
+    let is_told = serves(
+        &rt,
+        rt.alloc(),
+        ["folder"].as_slice(),
+        STATUS_SYSTEM,
+        "",
+        line,
+    );
     fs::remove_dir(&rt, "folder")?;
+    assert!(rt; is_told);
     Ok(())
 }
 
 /// A folder of two files, the second of which cannot be opened: the first decides where it is too long.
 #[test]
 fn the_first_unread_file_is_told(rt: HostRuntime) -> Result<(), Fail> {
-    let alloc = rt.alloc();
     fs::write(&rt, "short.grub", FIRST.as_bytes())?;
-    let text = Vec::from_elem(alloc, b'7', 16777217)?;
-    fs::write(&rt, "long.grub", text.as_slice())?;
     let long = "grubrun: long.grub: 44 FileTooLong\n";
     let gone = "grubrun: not there: 46 ReadFault\n";
     for (words, status, line) in [
@@ -200,10 +240,10 @@ fn the_first_unread_file_is_told(rt: HostRuntime) -> Result<(), Fail> {
             gone,
         ),
     ] {
-        assert!(rt; serves(&rt, alloc, words.as_slice(), status, "", line));
+        let is_told = serves_long(&rt, rt.alloc(), 16777217, words.as_slice(), status, line)?;
+        assert!(rt; is_told, "{line}");
     }
     fs::remove_file(&rt, "short.grub")?;
-    fs::remove_file(&rt, "long.grub")?;
     Ok(())
 }
 
@@ -221,22 +261,23 @@ impl Write for Closed {
     }
 }
 
+/// Whether a report that cannot be written is told as such.
+fn closed_output_is_told<R: Files + Threads + Wait + Sync>(
+    rt: &R,
+    alloc: Global,
+    path: &str,
+) -> bool {
+    let mut faults: Vec<u8> = Vec::new(alloc);
+    let status = served(rt, alloc, [path].as_slice(), &mut Closed, &mut faults);
+    status == STATUS_SYSTEM && faults.as_slice() == b"grubrun: 45 WriteFault\n".as_slice()
+}
+
 #[test]
 fn closed_output(rt: HostRuntime) -> Result<(), Fail> {
-    let alloc = rt.alloc();
     fs::write(&rt, "closed.grub", FIRST.as_bytes())?;
-    let mut out = Closed;
-    let mut faults: Vec<u8> = Vec::new(alloc);
-    let status = served(
-        &rt,
-        alloc,
-        ["closed.grub"].as_slice(),
-        &mut out,
-        &mut faults,
-    );
-    assert_eq!(rt; status, STATUS_SYSTEM);
-    assert_eq!(rt; faults.as_slice(), b"grubrun: 45 WriteFault\n".as_slice());
+    let is_told = closed_output_is_told(&rt, rt.alloc(), "closed.grub");
     fs::remove_file(&rt, "closed.grub")?;
+    assert!(rt; is_told);
     Ok(())
 }
 
@@ -249,34 +290,30 @@ const REFUSALS: [&[u8]; 5] = [
     b"grubrun: 47 NoMemory\n",
 ];
 
-/// Passes with ample memory, and with any one of its growths refused: `scripts/refused-growths.sh` runs it so once for
-/// each. The program ends as with ample memory, or with status 3 and the line of a refusal.
-#[test]
-fn refused_growths(rt: HostRuntime) {
-    let alloc = rt.alloc();
-    let Ok(()) = fs::write(&rt, "refused.grub", FIRST.as_bytes()) else {
-        return;
-    };
+/// Whether the program answers the first file as with ample memory, or with status 3 and the line of a refusal. True too
+/// where the room for its answers is refused.
+fn reports_or_refuses<R: Files + Threads + Wait + Sync>(rt: &R, alloc: Global, path: &str) -> bool {
     let (Ok(mut out), Ok(mut faults)) = (
         Vec::with_capacity(alloc, 1000),
         Vec::with_capacity(alloc, 1000),
     ) else {
+        return true;
+    };
+    let status = served(rt, alloc, [path].as_slice(), &mut out, &mut faults);
+    if status == 0 {
+        return out.as_slice() == FIRST_REPORT.as_bytes() && faults.is_empty();
+    }
+    status == 3 && out.is_empty() && REFUSALS.iter().any(|line| *line == faults.as_slice())
+}
+
+/// Passes with ample memory, and with any one of its growths refused: `scripts/refused-growths.sh` runs it so once for
+/// each.
+#[test]
+fn refused_growths(rt: HostRuntime) {
+    let Ok(()) = fs::write(&rt, "refused.grub", FIRST.as_bytes()) else {
         return;
     };
-    let status = served(
-        &rt,
-        alloc,
-        ["refused.grub"].as_slice(),
-        &mut out,
-        &mut faults,
-    );
+    let is_right = reports_or_refuses(&rt, rt.alloc(), "refused.grub");
     let _ = fs::remove_file(&rt, "refused.grub");
-    if status == 0 {
-        assert_eq!(rt; out.as_slice(), FIRST_REPORT.as_bytes());
-        assert!(rt; faults.is_empty());
-        return;
-    }
-    assert_eq!(rt; status, 3);
-    assert!(rt; out.is_empty());
-    assert!(rt; REFUSALS.iter().any(|line| *line == faults.as_slice()));
+    assert!(rt; is_right);
 }

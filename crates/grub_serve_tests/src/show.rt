@@ -92,6 +92,19 @@ fn shown<R: Abort + Threads + Sync>(rt: &R, alloc: Global, view: View) -> Option
     }
 }
 
+/// Whether a view of the two files is this text, or is refused.
+fn shows_or_refuses<R: Abort + Threads + Sync>(
+    rt: &R,
+    alloc: Global,
+    view: View,
+    text: &str,
+) -> bool {
+    match shown(rt, alloc, view) {
+        Some(out) => out.as_slice() == text.as_bytes(),
+        None => true,
+    }
+}
+
 /// Whether the fault is a want of memory.
 fn is_refusal(fault: ShowFault) -> bool {
     match fault {
@@ -106,23 +119,17 @@ fn is_refusal(fault: ShowFault) -> bool {
 
 #[test]
 fn refused_growths_of_the_lines(rt: HostRuntime) {
-    if let Some(text) = shown(&rt, rt.alloc(), View::Timeline) {
-        assert_eq!(rt; text.as_slice(), LINES.as_bytes());
-    }
+    assert!(rt; shows_or_refuses(&rt, rt.alloc(), View::Timeline, LINES));
 }
 
 #[test]
 fn refused_growths_of_the_steps(rt: HostRuntime) {
-    if let Some(text) = shown(&rt, rt.alloc(), View::Steps) {
-        assert_eq!(rt; text.as_slice(), STEPS.as_bytes());
-    }
+    assert!(rt; shows_or_refuses(&rt, rt.alloc(), View::Steps, STEPS));
 }
 
 #[test]
 fn refused_growths_of_the_summary(rt: HostRuntime) {
-    if let Some(text) = shown(&rt, rt.alloc(), View::Summary) {
-        assert_eq!(rt; text.as_slice(), SUMMARY.as_bytes());
-    }
+    assert!(rt; shows_or_refuses(&rt, rt.alloc(), View::Summary, SUMMARY));
 }
 
 #[test]
@@ -162,6 +169,29 @@ impl Write for Short {
     }
 }
 
+/// Whether a writer that takes so many bytes gets the beginning of this text by a view of the files, and fails if that is
+/// not all of it.
+fn gets<R: Threads + Sync>(
+    rt: &R,
+    alloc: Global,
+    files: Vec<Vec<u8>>,
+    view: View,
+    room: usize,
+    text: &[u8],
+) -> bool {
+    let mut out = Short {
+        taken: Vec::new(alloc),
+        room,
+    };
+    let result = write_view(rt, alloc, files, view, &mut out);
+    let wanted = if room < text.len() {
+        Err(ShowFault::Grub(GrubFault::WriteFault))
+    } else {
+        Ok(())
+    };
+    result == wanted && text.get(..room.min(text.len())) == Some(out.taken.as_slice())
+}
+
 /// A writer that fails has taken a beginning of the view.
 #[test]
 fn a_writer_that_fails(rt: HostRuntime) -> Result<(), Fail> {
@@ -173,58 +203,54 @@ fn a_writer_that_fails(rt: HostRuntime) -> Result<(), Fail> {
     ] {
         for room in [0usize, 1, 100, text.len().saturating_sub(1)] {
             let (files, _) = input_of(alloc)?;
-            let mut out = Short {
-                taken: Vec::new(alloc),
-                room,
-            };
-            let result = write_view(&rt, alloc, files, view, &mut out);
-            assert!(rt; result == Err(ShowFault::Grub(GrubFault::WriteFault)));
-            assert_eq!(rt; out.taken.len(), room);
-            assert!(rt; text.as_bytes().starts_with(out.taken.as_slice()));
+            assert!(rt;
+                gets(&rt, alloc, files, view, room, text.as_bytes()),
+                "{room}"
+            );
         }
     }
     Ok(())
 }
 
-/// A file of so many readings, and the text of this view of its time line.
-fn readings(alloc: Global, count: u32, view: View) -> Result<(Vec<u8>, Vec<u8>), AllocError> {
+/// A file of so many readings.
+fn readings(alloc: Global, count: u32) -> Result<Vec<u8>, AllocError> {
     let mut file = b"grub 1\nqueue 1048576 0\n".to_vec(alloc)?;
-    let mut text = Vec::new(alloc);
-    if view == View::Steps {
-        text.extend_from_slice(
-            b"moment\trunqueue\task\ttask\targ\tanswer\tdq\tk\tq\td\tz\trunning\tthis\n",
-        )?;
-    }
     for m in 0..count {
-        let line = match view {
-            View::Steps => format!(in alloc; "{m}\t0\tread\t\t\tread\t\t\t\t\t\t0\t0\n")?,
-            _ => format!(in alloc; "at {m} on 0 read: running=0 this=0\n")?,
-        };
-        text.extend_from_slice(line.as_bytes())?;
         file.extend_from_slice(format!(in alloc; "at {m} read\n")?.as_bytes())?;
     }
-    if view == View::Timeline {
-        text.extend_from_slice(b"close 0 running=0 this=0\n")?;
-    }
-    Ok((file, text))
+    Ok(file)
 }
 
-/// What a writer that takes so many bytes got of a view of the file, and whether that was all of it.
-fn taken<R: Threads + Sync>(
-    rt: &R,
-    alloc: Global,
-    file: &[u8],
-    view: View,
-    room: usize,
-) -> Result<(Vec<u8>, bool), AllocError> {
+/// The bytes of one file.
+fn files_of(alloc: Global, file: &[u8]) -> Result<Vec<Vec<u8>>, AllocError> {
     let mut files = Vec::with_capacity(alloc, 1)?;
     files.push(file.to_vec(alloc)?)?;
-    let mut out = Short {
-        taken: Vec::new(alloc),
-        room,
+    Ok(files)
+}
+
+/// The line of the reading at a moment.
+fn line_of(alloc: Global, m: u32, view: View) -> Result<String, AllocError> {
+    match view {
+        View::Steps => format!(in alloc; "{m}\t0\tread\t\t\tread\t\t\t\t\t\t0\t0\n"),
+        _ => format!(in alloc; "at {m} on 0 read: running=0 this=0\n"),
+    }
+}
+
+/// The text of this view of so many readings.
+fn text_of_readings(alloc: Global, count: u32, view: View) -> Result<Vec<u8>, AllocError> {
+    let (head, end) = match view {
+        View::Steps => (
+            "moment\trunqueue\task\ttask\targ\tanswer\tdq\tk\tq\td\tz\trunning\tthis\n",
+            "",
+        ),
+        _ => ("", "close 0 running=0 this=0\n"),
     };
-    let result = write_view(rt, alloc, files, view, &mut out);
-    Ok((out.taken, result.is_ok()))
+    let mut text = head.as_bytes().to_vec(alloc)?;
+    for m in 0..count {
+        text.extend_from_slice(line_of(alloc, m, view)?.as_bytes())?;
+    }
+    text.extend_from_slice(end.as_bytes())?;
+    Ok(text)
 }
 
 /// More entries than are played at a time, to a writer that takes all of them, and to writers that fail among the first,
@@ -233,7 +259,8 @@ fn taken<R: Threads + Sync>(
 fn a_view_of_many_entries(rt: HostRuntime) -> Result<(), Fail> {
     let alloc = rt.alloc();
     for view in [View::Timeline, View::Steps] {
-        let (file, text) = readings(alloc, 70_000, view)?;
+        let file = readings(alloc, 70_000)?;
+        let text = text_of_readings(alloc, 70_000, view)?;
         for room in [
             usize::MAX,
             500_000,
@@ -241,9 +268,8 @@ fn a_view_of_many_entries(rt: HostRuntime) -> Result<(), Fail> {
             2_000_000,
             text.len().saturating_sub(1),
         ] {
-            let (out, whole) = taken(&rt, alloc, &file, view, room)?;
-            assert_eq!(rt; whole, room >= text.len());
-            assert!(rt; text.get(..room.min(text.len())) == Some(out.as_slice()));
+            let files = files_of(alloc, &file)?;
+            assert!(rt; gets(&rt, alloc, files, view, room, &text), "{room}");
         }
     }
     Ok(())
@@ -255,10 +281,9 @@ fn a_view_of_a_chunk_of_entries(rt: HostRuntime) -> Result<(), Fail> {
     let alloc = rt.alloc();
     for view in [View::Timeline, View::Steps] {
         for count in [1023, 1024, 32_765, 32_766, 32_767] {
-            let (file, text) = readings(alloc, count, view)?;
-            let (out, whole) = taken(&rt, alloc, &file, view, usize::MAX)?;
-            assert!(rt; whole);
-            assert!(rt; out == text, "{count}");
+            let text = text_of_readings(alloc, count, view)?;
+            let files = files_of(alloc, &readings(alloc, count)?)?;
+            assert!(rt; gets(&rt, alloc, files, view, usize::MAX, &text), "{count}");
         }
     }
     Ok(())

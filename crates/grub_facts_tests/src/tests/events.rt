@@ -1,93 +1,105 @@
 //! What each event tells.
 
-use crate::tests::fixtures::{ARM, CANCEL, FIRE, SWITCH, WAKE, joined, place, read, tells};
+use crate::tests::fixtures::{
+    ARM, CANCEL, FIRE, SWITCH, WAKE, are_told, joined, numbers_of, read, tells,
+};
 use grub_facts::{Fact, Stop, What};
+use std::alloc::{AllocError, Global};
 use std::test::Fail;
 
 #[test]
 fn each_event_tells_its_fact(rt: HostRuntime) -> Result<(), Fail> {
-    let alloc = rt.alloc();
-    assert!(rt; tells(alloc, WAKE, 1020402803000, 0, What::Wakes { cpu: 2 })?);
-    assert!(rt;
-        tells(
-            alloc,
+    for (line, at, task, what) in [
+        (WAKE, 1020402803000, 0, What::Wakes { cpu: 2 }),
+        (
             SWITCH,
             1020381451000,
             0,
             What::Stops {
                 cpu: 0,
-                state: Stop::Blocks
-            }
-        )?
-    );
-    assert!(rt;
-        tells(
-            alloc,
-            b"a-1 [3] x 1.000001: sched_wakeup_new: comm=b pid=77 prio=-1 target_cpu=1\n",
+                state: Stop::Blocks,
+            },
+        ),
+        (
+            b"a-1 [3] x 1.000001: sched_wakeup_new: comm=b pid=77 prio=-1 target_cpu=1\n".as_slice(),
             1000001000,
             1,
-            What::Wakes { cpu: 1 }
-        )?
-    );
-    assert!(rt;
-        tells(
-            alloc,
-            b" gr_3-9 [0] d 1.0000001: sched_migrate_task: comm=gr_0 pid=8 prio=-1 orig_cpu=1 dest_cpu=02\n",
+            What::Wakes { cpu: 1 },
+        ),
+        (
+            b" gr_3-9 [0] d 1.0000001: sched_migrate_task: comm=gr_0 pid=8 prio=-1 orig_cpu=1 dest_cpu=02\n".as_slice(),
             1000000100,
             0,
-            What::Sent { cpu: 2 }
-        )?
-    );
-    assert!(rt;
-        tells(
-            alloc,
-            b"x-9 [0] d 1.00000001: sched_stat_runtime: comm=gr_0 pid=8 runtime=2499546 [ns]\n",
+            What::Sent { cpu: 2 },
+        ),
+        (
+            b"x-9 [0] d 1.00000001: sched_stat_runtime: comm=gr_0 pid=8 runtime=2499546 [ns]\n".as_slice(),
             1000000010,
             0,
-            What::Ran { nanos: 2499546 }
-        )?
-    );
+            What::Ran { nanos: 2499546 },
+        ),
+    ] {
+        assert!(rt; tells(rt.alloc(), line, at, task, what)?, "{at}");
+    }
+    assert!(rt; timers_are_told(rt.alloc())?);
+    Ok(())
+}
+
+/// Whether a timer that is armed, cancelled and fired after a wake is told so, by a clock that is 1000 ns off.
+fn timers_are_told(alloc: Global) -> Result<bool, AllocError> {
     let text = joined(alloc, [WAKE, ARM, CANCEL, FIRE].as_slice())?;
     let told = read(alloc, text.as_slice())?;
-    assert_eq!(rt; place(&told.fault), (0, 0));
-    assert_eq!(rt; told.facts.len(), 4);
-    assert_eq!(rt;
-        told.facts[1],
+    let wanted = [
+        Fact {
+            line: 1,
+            at: 1020402803000,
+            task: 0,
+            what: What::Wakes { cpu: 2 },
+        },
         Fact {
             line: 2,
             at: 1020411178000,
             task: 0,
             what: What::Armed {
-                expires: 1020411632855
-            }
-        }
-    );
-    assert_eq!(rt;
-        told.facts[2],
+                expires: 1020411632855,
+            },
+        },
         Fact {
             line: 3,
             at: 1020411200000,
             task: 0,
-            what: What::Cancelled
-        }
-    );
-    assert_eq!(rt;
-        told.facts[3],
+            what: What::Cancelled,
+        },
         Fact {
             line: 4,
             at: 1020411633000,
             task: 0,
-            what: What::Fired { now: 1020411634000 }
-        }
-    );
-    assert_eq!(rt; told.counts.clock, 1000);
-    assert!(rt; told.counts.has_timers);
-    Ok(())
+            what: What::Fired { now: 1020411634000 },
+        },
+    ];
+    Ok(are_told(&told, wanted.as_slice()) && told.counts.clock == 1000 && told.counts.has_timers)
+}
+
+/// Whether a switch away from a task in this state is told as this stop.
+fn tells_stop(alloc: Global, state: &[u8], stop: Stop) -> Result<bool, AllocError> {
+    let text = joined(
+        alloc,
+        [
+            b"a-1 [3] 1.000001: sched_switch: prev_comm=b prev_pid=77 prev_prio=-1 prev_state=".as_slice(),
+            state,
+            b" ==> x\n".as_slice(),
+        ]
+        .as_slice(),
+    )?;
+    let what = What::Stops {
+        cpu: 3,
+        state: stop,
+    };
+    tells(alloc, text.as_slice(), 1000001000, 1, what)
 }
 
 #[test]
 fn a_state_is_told_by_its_first_letter(rt: HostRuntime) -> Result<(), Fail> {
-    let alloc = rt.alloc();
     for (state, stop) in [
         (b"R+", Stop::Ready),
         (b"P ", Stop::Ready),
@@ -95,27 +107,7 @@ fn a_state_is_told_by_its_first_letter(rt: HostRuntime) -> Result<(), Fail> {
         (b"X ", Stop::Ends),
         (b"Z|", Stop::Ends),
     ] {
-        let text = joined(
-            alloc,
-            [
-                b"a-1 [3] 1.000001: sched_switch: prev_comm=b prev_pid=77 prev_prio=-1 prev_state=".as_slice(),
-                state.as_slice(),
-                b" ==> x\n".as_slice(),
-            ]
-            .as_slice(),
-        )?;
-        assert!(rt;
-            tells(
-                alloc,
-                text.as_slice(),
-                1000001000,
-                1,
-                What::Stops {
-                    cpu: 3,
-                    state: stop
-                }
-            )?
-        );
+        assert!(rt; tells_stop(rt.alloc(), state.as_slice(), stop)?);
     }
     Ok(())
 }
@@ -123,13 +115,8 @@ fn a_state_is_told_by_its_first_letter(rt: HostRuntime) -> Result<(), Fail> {
 #[test]
 fn other_priorities_and_states_are_no_facts(rt: HostRuntime) -> Result<(), Fail> {
     let alloc = rt.alloc();
-    let none = read(
-        alloc,
-        b"a-1 [3] 1.000001: sched_wakeup: comm=gr_0 pid=8 prio=120 target_cpu=003\n",
-    )?;
-    assert_eq!(rt; none.facts.len(), 0);
-    assert_eq!(rt; none.runqueues, 4);
-    assert_eq!(rt; place(&none.fault), (0, 0));
+    let none = b"a-1 [3] 1.000001: sched_wakeup: comm=gr_0 pid=8 prio=120 target_cpu=003\n";
+    assert_eq!(rt; numbers_of(alloc, none)?, Some((0, 4, 1)));
     assert!(rt;
         tells(
             alloc,
@@ -155,8 +142,6 @@ fn a_timer_is_that_of_the_task_that_armed_it_last(rt: HostRuntime) -> Result<(),
         ]
         .as_slice(),
     )?;
-    let told = read(alloc, text.as_slice())?;
-    assert_eq!(rt; told.facts.len(), 1);
-    assert_eq!(rt; place(&told.fault), (0, 0));
+    assert_eq!(rt; numbers_of(alloc, text.as_slice())?, Some((1, 1, 4)));
     Ok(())
 }

@@ -7,100 +7,67 @@ use std::test::Fail;
 
 #[test]
 fn faults_of_lines(rt: HostRuntime) -> Result<(), Fail> {
-    let alloc = rt.alloc();
-    assert_eq!(rt;
-        fault_of(
-            alloc,
-            b"\na-1 [3] 1.000001: sched_wakeup: comm=gr_2 pid=12928 prio=-1 target_cpu=003\n"
-        )?,
-        (2, 50)
-    );
-    assert_eq!(rt;
-        fault_of(
-            alloc,
-            b"a-1 [3] 1.000001: hrtimer_expire_entry: hrtimer=1 function=inactive_task_timer now=1001001000\n"
-        )?,
-        (0, 0)
-    );
-    assert_eq!(rt;
-        fault_of(
-            alloc,
-            b"a-1 [3] 1.000001: hrtimer_expire_entry: hrtimer=1 function=inactive_task_timer now=1001001001\n"
-        )?,
-        (1, 51)
-    );
-    assert_eq!(rt;
-        fault_of(
-            alloc,
-            b"a-1 [3] 2.000001: hrtimer_expire_entry: hrtimer=1 function=inactive_task_timer now=1\n"
-        )?,
-        (1, 51)
-    );
-    assert_eq!(rt;
-        fault_of(
-            alloc,
-            b"a-1 [3] 2.000001: hrtimer_expire_entry: hrtimer=1 function=hrtimer_wakeup now=1\n"
-        )?,
-        (0, 0)
-    );
-    assert_eq!(rt;
-        fault_of(
-            alloc,
-            b"# tracer: nop\n#\n# entries-in-buffer/entries-written: 9/10   #P:4\n"
-        )?,
-        (3, 52)
-    );
-    assert_eq!(rt;
-        fault_of(
-            alloc,
-            b"# entries-in-buffer/entries-written: 010/10   #P:4\n"
-        )?,
-        (0, 0)
-    );
-    assert_eq!(rt; fault_of(alloc, b"CPU:2 [LOST 12 EVENTS]\n")?, (1, 52));
-    assert_eq!(rt; fault_of(alloc, b"CPU:2 [LOST EVENTS]")?, (1, 52));
-    assert_eq!(rt;
-        fault_of(
-            alloc,
-            b" perf  1 [001]   1.456789: PERF_RECORD_LOST_SAMPLES lost 5\n"
-        )?,
-        (1, 52)
-    );
-    assert_eq!(rt; fault_of(alloc, b"#P:0 x\n")?, (0, 0));
-    assert_eq!(rt; fault_of(alloc, b"# x #P:0\n")?, (1, 54));
-    assert_eq!(rt; fault_of(alloc, b"# x #P:65\n")?, (1, 54));
-    assert_eq!(rt;
-        fault_of(alloc, b"a-1 [064] 1.000001: hrtimer_cancel: hrtimer=1\n")?,
-        (1, 54)
-    );
-    assert_eq!(rt;
-        fault_of(
-            alloc,
-            b"a-1 [0] 1.000001: sched_wakeup: comm=b pid=1 prio=120 target_cpu=64\n"
-        )?,
-        (1, 54)
-    );
-    assert_eq!(rt;
-        fault_of(
-            alloc,
-            b"# #P:2\na-1 [3] 1.000001: sched_wakeup: comm=b pid=77 prio=-1 target_cpu=2\n"
-        )?,
-        (2, 54)
-    );
-    assert_eq!(rt;
-        fault_of(
-            alloc,
-            b"# #P:2\na-1 [3] 1.000001: sched_migrate_task: comm=b pid=77 prio=-1 dest_cpu=2\n"
-        )?,
-        (2, 54)
-    );
-    assert_eq!(rt;
-        fault_of(
-            alloc,
-            b"# #P:2\na-1 [3] 1.000001: sched_migrate_task: comm=b pid=78 prio=-1 dest_cpu=2\n"
-        )?,
-        (0, 0)
-    );
+    for (text, fault) in [
+        (
+            b"\na-1 [3] 1.000001: sched_wakeup: comm=gr_2 pid=12928 prio=-1 target_cpu=003\n".as_slice(),
+            (2u64, 50u64),
+        ),
+        (
+            b"a-1 [3] 1.000001: hrtimer_expire_entry: hrtimer=1 function=inactive_task_timer now=1001001000\n".as_slice(),
+            (0, 0),
+        ),
+        (
+            b"a-1 [3] 1.000001: hrtimer_expire_entry: hrtimer=1 function=inactive_task_timer now=1001001001\n".as_slice(),
+            (1, 51),
+        ),
+        (
+            b"a-1 [3] 2.000001: hrtimer_expire_entry: hrtimer=1 function=inactive_task_timer now=1\n".as_slice(),
+            (1, 51),
+        ),
+        (
+            b"a-1 [3] 2.000001: hrtimer_expire_entry: hrtimer=1 function=hrtimer_wakeup now=1\n".as_slice(),
+            (0, 0),
+        ),
+        (
+            b"# tracer: nop\n#\n# entries-in-buffer/entries-written: 9/10   #P:4\n".as_slice(),
+            (3, 52),
+        ),
+        (
+            b"# entries-in-buffer/entries-written: 010/10   #P:4\n".as_slice(),
+            (0, 0),
+        ),
+        (b"CPU:2 [LOST 12 EVENTS]\n".as_slice(), (1, 52)),
+        (b"CPU:2 [LOST EVENTS]".as_slice(), (1, 52)),
+        (
+            b" perf  1 [001]   1.456789: PERF_RECORD_LOST_SAMPLES lost 5\n".as_slice(),
+            (1, 52),
+        ),
+        (b"#P:0 x\n".as_slice(), (0, 0)),
+        (b"# x #P:0\n".as_slice(), (1, 54)),
+        (b"# x #P:65\n".as_slice(), (1, 54)),
+        (
+            b"a-1 [064] 1.000001: hrtimer_cancel: hrtimer=1\n".as_slice(),
+            (1, 54),
+        ),
+        (
+            b"a-1 [0] 1.000001: sched_wakeup: comm=b pid=1 prio=120 target_cpu=64\n".as_slice(),
+            (1, 54),
+        ),
+        (
+            b"# #P:2\na-1 [3] 1.000001: sched_wakeup: comm=b pid=77 prio=-1 target_cpu=2\n".as_slice(),
+            (2, 54),
+        ),
+        (
+            b"# #P:2\na-1 [3] 1.000001: sched_migrate_task: comm=b pid=77 prio=-1 dest_cpu=2\n".as_slice(),
+            (2, 54),
+        ),
+        (
+            b"# #P:2\na-1 [3] 1.000001: sched_migrate_task: comm=b pid=78 prio=-1 dest_cpu=2\n".as_slice(),
+            (0, 0),
+        ),
+    ] {
+        assert_eq!(rt; fault_of(rt.alloc(), text)?, fault);
+    }
     Ok(())
 }
 
@@ -140,6 +107,16 @@ fn lines_that_lack_something(rt: HostRuntime) -> Result<(), Fail> {
     Ok(())
 }
 
+/// The fault of the lines of a wake and a switch, cut after so many bytes.
+fn fault_after(k: usize) -> (u64, u64) {
+    match k {
+        0 => (0, 0),
+        _ if k == WAKE.len() => (0, 0),
+        _ if k < WAKE.len() => (1, 55),
+        _ => (2, 55),
+    }
+}
+
 #[test]
 fn a_text_that_is_cut(rt: HostRuntime) -> Result<(), Fail> {
     let alloc = rt.alloc();
@@ -147,13 +124,7 @@ fn a_text_that_is_cut(rt: HostRuntime) -> Result<(), Fail> {
     let whole = text.as_slice();
     for k in 0..whole.len() {
         let (front, _) = whole.split_at(k);
-        let wanted = match k {
-            0 => (0, 0),
-            _ if k == WAKE.len() => (0, 0),
-            _ if k < WAKE.len() => (1, 55),
-            _ => (2, 55),
-        };
-        assert_eq!(rt; fault_of(alloc, front)?, wanted);
+        assert_eq!(rt; fault_of(alloc, front)?, fault_after(k));
     }
     assert_eq!(rt; fault_of(alloc, whole)?, (0, 0));
     Ok(())
@@ -171,6 +142,12 @@ fn fault_counted(alloc: Global, text: &[u8]) -> Result<(u64, u64), AllocError> {
     }
 }
 
+/// The same of a line between a wake and a switch.
+fn fault_between(alloc: Global, line: &[u8]) -> Result<(u64, u64), AllocError> {
+    let text = joined(alloc, [WAKE, line, SWITCH].as_slice())?;
+    fault_counted(alloc, text.as_slice())
+}
+
 /// The tasks of a trace are told with its faults: 51, 52, 54 and 55.
 #[test]
 fn faults_of_the_tasks(rt: HostRuntime) -> Result<(), Fail> {
@@ -179,13 +156,7 @@ fn faults_of_the_tasks(rt: HostRuntime) -> Result<(), Fail> {
     let whole = text.as_slice();
     for k in 0..whole.len() {
         let (front, _) = whole.split_at(k);
-        let wanted = match k {
-            0 => (0, 0),
-            _ if k == WAKE.len() => (0, 0),
-            _ if k < WAKE.len() => (1, 55),
-            _ => (2, 55),
-        };
-        assert_eq!(rt; fault_counted(alloc, front)?, wanted);
+        assert_eq!(rt; fault_counted(alloc, front)?, fault_after(k));
     }
     for (line, number) in [
         (
@@ -202,8 +173,7 @@ fn faults_of_the_tasks(rt: HostRuntime) -> Result<(), Fail> {
             55,
         ),
     ] {
-        let text = joined(alloc, [WAKE, line, SWITCH].as_slice())?;
-        assert_eq!(rt; fault_counted(alloc, text.as_slice())?, (2, number));
+        assert_eq!(rt; fault_between(alloc, line)?, (2, number));
     }
     Ok(())
 }

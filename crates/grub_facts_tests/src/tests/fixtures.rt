@@ -54,6 +54,23 @@ pub(crate) fn fault_of(alloc: Global, text: &[u8]) -> Result<(u64, u64), AllocEr
     Ok(place(&read(alloc, text)?.fault))
 }
 
+/// How many facts, runqueues and lines a text tells, if it has no fault.
+pub(crate) fn numbers_of(
+    alloc: Global,
+    text: &[u8],
+) -> Result<Option<(usize, u32, u64)>, AllocError> {
+    let told = read(alloc, text)?;
+    if told.fault.is_some() {
+        return Ok(None);
+    }
+    Ok(Some((told.facts.len(), told.runqueues, told.counts.lines)))
+}
+
+/// Whether these facts are told and no other, and no fault.
+pub(crate) fn are_told(told: &Facts, facts: &[Fact]) -> bool {
+    told.facts.as_slice() == facts && told.fault.is_none()
+}
+
 /// Whether a text tells this one fact and no other.
 pub(crate) fn tells(
     alloc: Global,
@@ -62,14 +79,13 @@ pub(crate) fn tells(
     task: usize,
     what: What,
 ) -> Result<bool, AllocError> {
-    let told = read(alloc, text)?;
     let wanted = Fact {
         line: 1,
         at,
         task,
         what,
     };
-    Ok(told.facts.as_slice() == [wanted].as_slice() && place(&told.fault) == (0, 0))
+    Ok(are_told(&read(alloc, text)?, [wanted].as_slice()))
 }
 
 pub(crate) fn joined(alloc: Global, lines: &[&[u8]]) -> Result<Vec<u8>, AllocError> {

@@ -18,21 +18,25 @@ fn input_of(alloc: Global, file: &str) -> Result<(Vec<Vec<u8>>, Vec<u8>), AllocE
     Ok((files, out))
 }
 
-/// Expects that a run of this file writes this text, or that it answers a refusal and writes nothing. Its own input is
-/// made a second time where a growth of it was refused.
+/// The same, made a second time where a growth of it was refused.
+fn input_after_all(rt: &impl Abort, alloc: Global, file: &str) -> (Vec<Vec<u8>>, Vec<u8>) {
+    if let Ok(made) = input_of(alloc, file) {
+        return made;
+    }
+    match input_of(alloc, file) {
+        Ok(made) => made,
+        Err(_) => panic!(rt; "refused twice"),
+    }
+}
+
+/// Expects that a run of this file writes this text, or that it answers a refusal and writes nothing.
 fn expect_text_or_refusal<R: Abort + Threads + Wait + Sync>(
     rt: &R,
     alloc: Global,
     file: &str,
     text: &str,
 ) {
-    let made = match input_of(alloc, file) {
-        Ok(made) => Ok(made),
-        Err(_) => input_of(alloc, file),
-    };
-    let Ok((files, mut out)) = made else {
-        panic!(rt; "refused twice")
-    };
+    let (files, mut out) = input_after_all(rt, alloc, file);
     match run_texts(rt, alloc, files, 8, 64, &mut out) {
         Ok(()) => assert_eq!(rt; out.as_slice(), text.as_bytes()),
         Err(fault) => {

@@ -3,10 +3,12 @@
 use super::files_of;
 use crate::files::{DOCUMENTATION, DOCUMENTATION_REPORT};
 use grub_run::{GrubFault, run_texts};
-use std::alloc::Global;
+use std::alloc::{AllocError, Global};
 use std::io;
 use std::io::{ErrorKind, Write};
+use std::sync::Wait;
 use std::test::Fail;
+use std::thread::Threads;
 
 /// How a `Narrow` writer goes on after its calls are used up.
 #[derive(Clone, Copy, PartialEq, Eq, Drop)]
@@ -58,25 +60,36 @@ impl Write for Narrow {
     }
 }
 
+/// Whether a run of the documentation's file into this writer ends so, when the writer has taken this text.
+fn ends<R: Threads + Wait + Sync>(
+    rt: &R,
+    alloc: Global,
+    mut out: Narrow,
+    end: Result<(), GrubFault>,
+    text: &[u8],
+) -> Result<bool, AllocError> {
+    let files = files_of(alloc, [DOCUMENTATION].as_slice())?;
+    let result = run_texts(rt, alloc, files, 8, 64, &mut out);
+    Ok(result == end && out.text.as_slice() == text)
+}
+
 #[test]
 fn writers_that_fail(rt: HostRuntime) -> Result<(), Fail> {
     let alloc = rt.alloc();
+    let fails = Err(GrubFault::WriteFault);
     let whole = DOCUMENTATION_REPORT.as_bytes();
     let whole_calls = whole.len().div_ceil(7);
     for then in [Then::Fails, Then::TakesNothing, Then::FailsInFlush] {
         for calls in 0..whole_calls {
-            let mut out = Narrow::new(alloc, 7, calls, then);
-            let files = files_of(alloc, [DOCUMENTATION].as_slice())?;
-            let result = run_texts(&rt, alloc, files, 8, 64, &mut out);
-            assert!(rt; result == Err(GrubFault::WriteFault));
-            assert_eq!(rt; out.text.as_slice(), &whole[..calls * 7]);
+            let out = Narrow::new(alloc, 7, calls, then);
+            assert!(rt;
+                ends(&rt, alloc, out, fails, &whole[..calls * 7])?,
+                "{calls}"
+            );
         }
     }
-    let mut out = Narrow::new(alloc, 10, 1, Then::Fails);
-    let files = files_of(alloc, [DOCUMENTATION].as_slice())?;
-    let result = run_texts(&rt, alloc, files, 8, 64, &mut out);
-    assert!(rt; result == Err(GrubFault::WriteFault));
-    assert_eq!(rt; out.text.as_slice(), b"runqueue 0".as_slice());
+    let out = Narrow::new(alloc, 10, 1, Then::Fails);
+    assert!(rt; ends(&rt, alloc, out, fails, b"runqueue 0")?);
     Ok(())
 }
 
@@ -88,11 +101,9 @@ fn writers_that_take_all(rt: HostRuntime) -> Result<(), Fail> {
         (1000, Then::TakesNothing, Ok(())),
         (1000, Then::FailsInFlush, Err(GrubFault::WriteFault)),
     ] {
-        let mut out = Narrow::new(alloc, each, 1000, then);
-        let files = files_of(alloc, [DOCUMENTATION].as_slice())?;
-        let result = run_texts(&rt, alloc, files, 8, 64, &mut out);
-        assert!(rt; result == want);
-        assert_eq!(rt; out.text.as_slice(), DOCUMENTATION_REPORT.as_bytes());
+        let out = Narrow::new(alloc, each, 1000, then);
+        let text = DOCUMENTATION_REPORT.as_bytes();
+        assert!(rt; ends(&rt, alloc, out, want, text)?, "{each}");
     }
     Ok(())
 }

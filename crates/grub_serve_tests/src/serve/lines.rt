@@ -5,7 +5,19 @@ use grub_run::GrubFault;
 use grub_serve::ProgramFault;
 use grub_trace::{Kind, TraceFault};
 use grub_workers::RunFault;
+use std::alloc::{AllocError, Global};
 use std::test::Fail;
+
+/// Whether a fault has this status, and is printed so.
+fn is_told(
+    alloc: Global,
+    fault: &ProgramFault,
+    status: u8,
+    text: &str,
+) -> Result<bool, AllocError> {
+    let printed = format!(in alloc; "{fault}")?;
+    Ok(fault.status() == status && printed.as_str() == text)
+}
 
 #[test]
 fn faults_of_the_system(rt: HostRuntime) -> Result<(), Fail> {
@@ -33,9 +45,7 @@ fn faults_of_the_system(rt: HostRuntime) -> Result<(), Fail> {
         ),
         (ProgramFault::NoMemory, "47 NoMemory"),
     ] {
-        assert_eq!(rt; fault.status(), 3);
-        let text = format!(in rt.alloc(); "{fault}")?;
-        assert_eq!(rt; text.as_str(), line);
+        assert!(rt; is_told(rt.alloc(), &fault, 3, line)?, "{line}");
     }
     Ok(())
 }
@@ -61,8 +71,7 @@ fn faults_of_a_file(rt: HostRuntime) -> Result<(), Fail> {
             "a file:7: 31 OutOfRange",
         ),
     ] {
-        assert_eq!(rt; fault.status(), 1);
-        assert_eq!(rt; format!(in rt.alloc(); "{fault}")?.as_str(), text);
+        assert!(rt; is_told(rt.alloc(), &fault, 1, text)?, "{text}");
     }
     Ok(())
 }
@@ -71,7 +80,6 @@ fn faults_of_a_file(rt: HostRuntime) -> Result<(), Fail> {
 fn an_empty_span(rt: HostRuntime) -> Result<(), Fail> {
     let fault = ProgramFault::EmptySpan { from: 20, to: 10 };
     let text = "a picture from 20 to 10 is empty: it has to begin before it ends";
-    assert_eq!(rt; fault.status(), 2);
-    assert_eq!(rt; format!(in rt.alloc(); "{fault}")?.as_str(), text);
+    assert!(rt; is_told(rt.alloc(), &fault, 2, text)?);
     Ok(())
 }
