@@ -3,7 +3,7 @@
 use grub_convert::{
     Input, Options, Target, event_files, options_of, read_facts, serve_events, serve_tasks,
 };
-use std::alloc::Global;
+use std::alloc::{AllocError, Global};
 use std::io;
 use std::test::Fail;
 
@@ -18,23 +18,21 @@ fn read_text(text: &[u8], at: &mut usize, room: &mut [u8]) -> io::Result<usize> 
     Ok(count)
 }
 
-fn options<'a>(alloc: Global, tasks: &[&'a str]) -> Result<Options<'a>, Fail> {
-    match options_of(alloc, tasks, None, "950000:1000000", "50000:1000000")? {
-        Some(options) => Ok(options),
-        None => Err(Fail::new("no options")),
-    }
+fn options<'a>(alloc: Global, tasks: &[&'a str]) -> Result<Option<Options<'a>>, AllocError> {
+    options_of(alloc, tasks, None, "950000:1000000", "50000:1000000")
 }
 
 /// Whether a trace tells these event files.
-fn tells(alloc: Global, tasks: &[&str], text: &str, files: &[&str]) -> Result<bool, Fail> {
+fn tells(alloc: Global, tasks: &[&str], text: &str, files: &[&str]) -> Result<bool, AllocError> {
     let input = Input {
         open: |_path: &str| Ok(0usize),
         read: |at: &mut usize, room: &mut [u8]| read_text(text.as_bytes(), at, room),
     };
-    let options = options(alloc, tasks)?;
-    let facts = match read_facts(alloc, &input, "t", &options) {
-        Ok(facts) => facts,
-        Err(_) => return Ok(false),
+    let Some(options) = options(alloc, tasks)? else {
+        return Ok(false);
+    };
+    let Ok(facts) = read_facts(alloc, &input, "t", &options) else {
+        return Ok(false);
     };
     let Ok(made) = event_files(alloc, &options, &facts) else {
         return Ok(false);
@@ -230,7 +228,7 @@ fn refuses(
     text: &str,
     status: u8,
     line: &str,
-) -> Result<bool, Fail> {
+) -> Result<bool, AllocError> {
     let input = Input {
         open: |_path: &str| Ok(0usize),
         read: |at: &mut usize, room: &mut [u8]| read_text(text.as_bytes(), at, room),
@@ -239,10 +237,24 @@ fn refuses(
         exists: |path: &str| path == "out.cpu1.grub",
         make: |_path: &str, _bytes: &[u8]| Err(io::Error::from(io::ErrorKind::Other)),
     };
-    let options = options(alloc, tasks)?;
+    let Some(options) = options(alloc, tasks)? else {
+        return Ok(false);
+    };
     let mut faults: Vec<u8> = Vec::new(alloc);
     let given = serve_events(alloc, &input, &target, "t", "out", &options, &mut faults);
     Ok(given == status && faults.as_slice() == line.as_bytes())
+}
+
+/// The same of a trace in three pieces.
+fn refuses_pieces(
+    alloc: Global,
+    tasks: &[&str],
+    (head, text, more): (&str, &str, &str),
+    status: u8,
+    line: &str,
+) -> Result<bool, AllocError> {
+    let trace = format!(in alloc; "{head}{text}{more}")?;
+    refuses(alloc, tasks, trace.as_str(), status, line)
 }
 
 #[test]
@@ -257,70 +269,83 @@ fn faults(rt: HostRuntime) -> Result<(), Fail> {
     let lost = "CPU:0 [LOST 3 EVENTS]\n";
     let other = " x-1 [000] d. 2.000000: sched_wakeup: comm=b c pid=8 prio=-1 target_cpu=000\n";
     let cut = " x-1 [000] d. 1.000000: sched_wakeup: comm=a pid=7 prio=-1\n";
-    let alloc = rt.alloc();
-    for (head, text, more, line) in [
-        ("", wake, "", "grubtrace: t: 49 NoSuchTask q\n"),
-        ("# #P:1\n", sleep, cut, "grubtrace: t:2: 54 TooLong\n"),
-        (wake, sleep, cut, "grubtrace: t:2: 54 TooLong\n"),
-        (wake, run, other, "grubtrace: t:3: 54 TooLong\n"),
-        (wake, cut, sleep, "grubtrace: t:2: 55 BadTraceLine\n"),
-        (wake, fires, cut, "grubtrace: t:2: 51 WrongClock\n"),
-        (wake, lost, cut, "grubtrace: t:2: 52 LostEvents\n"),
+    let two = " a-7 [001] d. 1.000100: sched_stat_runtime: comm=a pid=7 runtime=5 [ns]\n";
+    let tasks = ["a=1000:10000", "q=1000:10000"];
+    let (all, first) = (tasks.as_slice(), &tasks[..1]);
+    for (tasks, trace, status, line) in [
+        (all, ("", wake, ""), 1, "grubtrace: t: 49 NoSuchTask q\n"),
         (
-            wake,
-            other,
-            run,
+            all,
+            ("# #P:1\n", sleep, cut),
+            1,
+            "grubtrace: t:2: 54 TooLong\n",
+        ),
+        (all, (wake, sleep, cut), 1, "grubtrace: t:2: 54 TooLong\n"),
+        (all, (wake, run, other), 1, "grubtrace: t:3: 54 TooLong\n"),
+        (
+            all,
+            (wake, cut, sleep),
+            1,
+            "grubtrace: t:2: 55 BadTraceLine\n",
+        ),
+        (
+            all,
+            (wake, fires, cut),
+            1,
+            "grubtrace: t:2: 51 WrongClock\n",
+        ),
+        (all, (wake, lost, cut), 1, "grubtrace: t:2: 52 LostEvents\n"),
+        (
+            all,
+            (wake, other, run),
+            1,
             "grubtrace: t:2: 50 UnknownTask b c (pid 8)\n",
         ),
+        (
+            first,
+            (wake, two, ""),
+            1,
+            "grubtrace: out.cpu1.grub: 56 FileExists\n",
+        ),
+        (first, (wake, "", ""), 3, "grubtrace: 45 WriteFault\n"),
     ] {
-        let text = format!(in alloc; "{head}{text}{more}")?;
-        let tasks = ["a=1000:10000", "q=1000:10000"];
         assert!(rt;
-            refuses(alloc, tasks.as_slice(), text.as_str(), 1, line)?,
+            refuses_pieces(rt.alloc(), tasks, trace, status, line)?,
             "{line}"
         );
     }
-    let tasks = ["a=1000:10000"];
-    let two = " a-7 [001] d. 1.000100: sched_stat_runtime: comm=a pid=7 runtime=5 [ns]\n";
-    let text = format!(in alloc; "{wake}{two}")?;
-    let line = "grubtrace: out.cpu1.grub: 56 FileExists\n";
-    assert!(rt; refuses(alloc, tasks.as_slice(), text.as_str(), 1, line)?);
-    let line = "grubtrace: 45 WriteFault\n";
-    assert!(rt; refuses(alloc, tasks.as_slice(), wake, 3, line)?);
     Ok(())
 }
 
 /// Whether options are taken.
-fn takes(alloc: Global, tasks: &[&str], limit: &str, fair: &str) -> Result<bool, Fail> {
+fn takes(alloc: Global, tasks: &[&str], limit: &str, fair: &str) -> Result<bool, AllocError> {
     let made = options_of(alloc, tasks, None, limit, fair)?;
     Ok(made.is_some())
 }
 
 #[test]
 fn wrong_options(rt: HostRuntime) -> Result<(), Fail> {
-    let alloc = rt.alloc();
-    assert!(rt; !takes(alloc, [].as_slice(), "1:1", "none")?);
-    assert!(rt; !takes(alloc, ["a"].as_slice(), "1:1", "none")?);
-    assert!(rt; !takes(alloc, ["a=1"].as_slice(), "1:1", "none")?);
-    assert!(rt; !takes(alloc, ["a=2:1"].as_slice(), "1:1", "none")?);
-    assert!(rt; !takes(alloc, ["a=+1:10"].as_slice(), "1:1", "none")?);
-    assert!(rt;
-        !takes(
-            alloc,
+    let right = ["a=b=1:10"];
+    for (tasks, limit, fair, is_right) in [
+        ([].as_slice(), "1:1", "none", false),
+        (["a"].as_slice(), "1:1", "none", false),
+        (["a=1"].as_slice(), "1:1", "none", false),
+        (["a=2:1"].as_slice(), "1:1", "none", false),
+        (["a=+1:10"].as_slice(), "1:1", "none", false),
+        (
             ["a=1:10", "b=1:10", "a=2:10"].as_slice(),
             "1:1",
-            "none"
-        )?
-    );
-    for (limit, fair, is_right) in [
-        ("1:1", "none", true),
-        ("2000001:2000000", "1:10", true),
-        ("2:1", "none", false),
-        ("0:1", "none", false),
-        ("1:0", "none", false),
-        ("1:1", "all", false),
+            "none",
+            false,
+        ),
+        (right.as_slice(), "1:1", "none", true),
+        (right.as_slice(), "2000001:2000000", "1:10", true),
+        (right.as_slice(), "2:1", "none", false),
+        (right.as_slice(), "0:1", "none", false),
+        (right.as_slice(), "1:0", "none", false),
+        (right.as_slice(), "1:1", "all", false),
     ] {
-        let taken = takes(alloc, ["a=b=1:10"].as_slice(), limit, fair)?;
+        let taken = takes(rt.alloc(), tasks, limit, fair)?;
         assert_eq!(rt; taken, is_right, "{limit} {fair}");
     }
     Ok(())

@@ -1,5 +1,5 @@
 -- The text that a run writes, and what a writer took of it.
-use Rattle.std.specs.Prelude.{◌≡◌, ◌≤◌, ℕ, ◌+◌, ◌++◌, List, [], ◌∷◌, length, take, ⊤, Option, Some, None}
+use Rattle.std.specs.Prelude.{◌≡◌, ◌≤◌, ℕ, ◌+◌, ◌++◌, List, [], ◌∷◌, length, take, ⊤, Option}
 use Rattle.std.specs.Io.KnownBytes.{Appends}
 use Rattle.grub_book.specs.declared.event.Reading.{Reading}
 use Rattle.grub_trace.specs.Meaning.{Reads}

@@ -1,4 +1,4 @@
-use Rattle.std.proofs.Common.{rules, ℕ, ◌≡◌, ◌≤◌, ◌<◌, List, length, slice_index_or, Some, subst}
+use Rattle.std.proofs.Common.{rules, ℕ, ◌≤◌, ◌<◌, List, length, slice_index_or, Some, subst}
 use Rattle.grub_book.specs.Machine.{Machine, queue_at}
 use Rattle.grub_book.specs.declared.event.Reading.{Reading}
 use Rattle.grub_table.specs.declared.pass.Pass.{Pass}
