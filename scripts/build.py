@@ -17,7 +17,7 @@ import subprocess
 import sys
 import time
 
-from crates import ROOT, crates, kit_folder, lanes, text_of
+from crates import ROOT, crates, files_below, kit_folder, lanes, sum_of, text_of
 
 BUILD = f"{ROOT}/out/build"
 LIBRARIES = f"{BUILD}/rlib"
@@ -26,22 +26,6 @@ ROOM = 2_500_000
 
 def say(text):
     print(text, file=sys.stderr, flush=True)
-
-
-def files_below(folder):
-    """The files below a folder, or the file at this path."""
-    if os.path.isfile(folder):
-        return [folder]
-    return sorted(f"{at}/{name}" for at, _, names in os.walk(folder) for name in names)
-
-
-def sum_of(*folders):
-    """One sum of all files below these folders, with their names."""
-    total = hashlib.sha256()
-    for path in (it for folder in folders for it in files_below(folder)):
-        with open(path, "rb") as it:
-            total.update(f"{os.path.relpath(path, ROOT)}\n".encode() + hashlib.sha256(it.read()).digest())
-    return total.hexdigest()
 
 
 class Work:

@@ -1,4 +1,5 @@
 """The crates that crates.txt lists, and the words by which the kit's rattle reads one."""
+import hashlib
 import os
 import subprocess
 
@@ -8,6 +9,22 @@ ROOT = os.path.dirname(os.path.dirname(os.path.abspath(__file__)))
 def text_of(path):
     with open(path, encoding="utf-8") as it:
         return it.read()
+
+
+def files_below(folder):
+    """The files below a folder, or the file at this path."""
+    if os.path.isfile(folder):
+        return [folder]
+    return sorted(f"{at}/{name}" for at, _, names in os.walk(folder) for name in names)
+
+
+def sum_of(*folders, start=ROOT):
+    """One sum of all files below these folders, with their names from this folder on."""
+    total = hashlib.sha256()
+    for path in (it for folder in folders for it in files_below(folder)):
+        with open(path, "rb") as it:
+            total.update(f"{os.path.relpath(path, start)}\n".encode() + hashlib.sha256(it.read()).digest())
+    return total.hexdigest()
 
 
 class Crate:

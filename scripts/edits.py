@@ -1,11 +1,12 @@
 #!/usr/bin/env python3
 """Tries the must-fail edits in crates/NAME/edits: the prover must refuse each in a function that it turns.
 
-edits.py [--look] [--minutes N] [NAME | NAME/EDIT]..: those of these crates, or these edits, or all. Each crate is checked over the libraries that
+edits.py [--look] [--anew] [--minutes N] [NAME | NAME/EDIT]..: those of these crates, or these edits, or all. Each crate is checked over the libraries that
 `rt ci` or scripts/build.py left, first as it stands and then with as many edits at once as turn different functions: a function
 is proved from the contracts of those that it calls, so what one edit turns takes no proof from another.
-An edit for which two such checks tell nothing is tried alone. With --look none is tried: it says which cannot be applied. What was not
-tried when N minutes are over has failed. The last line is 'N passed, M failed'.
+An edit for which two such checks tell nothing is tried alone. What was refused is kept on this machine, and not tried again, but with --anew,
+until something changes that its check read. With --look none is tried: it says which cannot be applied. What was not tried when N minutes
+are over has failed. The last line is 'N passed, M failed'.
 """
 import os
 import re
@@ -18,6 +19,7 @@ from concurrent.futures import ThreadPoolExecutor
 from typing import NamedTuple
 
 from crates import ROOT, crates, kit_folder, lanes, text_of
+from kept import Kept, forget_old
 
 PARTS = ("src", "specs", "proofs")
 # A check takes up to so many kB of memory, and no check that goes well so many seconds.
@@ -146,8 +148,8 @@ def is_refused(functions, said):
 class Trial:
     """The checks of one crate."""
 
-    def __init__(self, crate, kit, libraries, room, end):
-        self.end = end
+    def __init__(self, crate, kit, libraries, room, end, anew):
+        self.end, self.anew, self.kept = end, anew, Kept(crate, kit, libraries)
         self.crate, self.kit, self.libraries, self.room, self.checks, self.began = crate, kit, libraries, f"{room}/{crate.name}", 0, time.time()
 
     def check(self, edits):
@@ -207,13 +209,21 @@ class Trial:
                 found[edit] = ("proved", "the crate is still proved") if status == 0 else ("bad", f"the check ended with status {status}")
         return found
 
+    def was_refused(self, edit):
+        """Whether an earlier run refused this edit, which is told then."""
+        why = None if self.anew else self.kept.find(edit)
+        if why:
+            say(f"edit {edit.label}: refused earlier, {why}")
+        return why is not None
+
     def run(self, edits):
         """Tries these edits, and returns how many were refused, and how many were not."""
         wrong = [it for it in edits if it.bad]
-        left = [it for it in edits if not it.bad]
         for it in wrong:
             say(f"edit {it.label}: BAD: {it.bad}")
         failed = len(wrong)
+        left = [it for it in edits if not it.bad and not self.was_refused(it)]
+        earlier = len(edits) - failed - len(left)
         status, said = self.check([]) if left and time.time() < self.end else (0, "")
         stands = time.time() - self.began
         if status and time.time() < self.end:
@@ -230,6 +240,8 @@ class Trial:
             for edit, (kind, why) in found.items():
                 say(f"edit {edit.label}: {kind}, {why}" if kind == "refused" else f"edit {edit.label}: {kind.upper()}: {why}")
                 failed += kind != "refused"
+                if kind == "refused":
+                    self.kept.keep(edit, why)
             left = [it for it in left if it not in found]
             if not any(kind == "bad" for kind, _ in found.values()):
                 for edit in batch:
@@ -239,7 +251,8 @@ class Trial:
         failed += len(left)
         passed = len(edits) - failed
         took = time.time() - self.began
-        say(f"edits: {self.crate.name}: {passed} of {len(edits)} refused, {self.checks} checks, {took:.0f} s, {stands:.0f} of them as it stands")
+        told = f"{self.checks} checks, {took:.0f} s, {stands:.0f} of them as it stands" + (f"; {earlier} refused by an earlier run" if earlier else "")
+        say(f"edits: {self.crate.name}: {passed} of {len(edits)} refused, {told}")
         shutil.rmtree(self.room, ignore_errors=True)
         return passed, failed
 
@@ -270,7 +283,7 @@ def look(of):
     return len(edits) - len(wrong), len(wrong)
 
 
-def try_all(of, known, end):
+def try_all(of, known, end, anew):
     """Tries edits until this time, crates side by side, those that take longest first."""
     libraries = libraries_for({low for it in of for low in known[it].below})
     if libraries is None:
@@ -279,8 +292,9 @@ def try_all(of, known, end):
     kit = kit_folder()
     order = sorted(of, key=lambda it: -len(of[it]) * (1 + len(known[it].below)))
     os.makedirs(f"{ROOT}/out", exist_ok=True)
+    forget_old()
     with tempfile.TemporaryDirectory(prefix="edits-", dir=f"{ROOT}/out") as room, ThreadPoolExecutor(lanes(ROOM)) as pool:
-        told = list(pool.map(lambda it: Trial(known[it], kit, libraries, room, end).run(of[it]), order))
+        told = list(pool.map(lambda it: Trial(known[it], kit, libraries, room, end, anew).run(of[it]), order))
     return tuple(sum(it) for it in zip((0, 0), *told))
 
 
@@ -290,8 +304,8 @@ def main(words):
         at = words.index("--minutes")
         end = time.time() + 60 * float(words[at + 1])
         words = words[:at] + words[at + 2 :]
-    of = chosen([it for it in words if it != "--look"], known)
-    passed, failed = look(of) if "--look" in words else try_all(of, known, end)
+    of = chosen([it for it in words if it not in ("--look", "--anew")], known)
+    passed, failed = look(of) if "--look" in words else try_all(of, known, end, "--anew" in words)
     say(f"{passed} passed, {failed} failed")
     return 1 if failed else 0
 
