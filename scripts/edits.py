@@ -1,9 +1,9 @@
 #!/usr/bin/env python3
 """Tries the must-fail edits in crates/NAME/edits: the prover must refuse each in a function that it turns.
 
-edits.py [--look] [--anew] [--minutes N] [NAME | NAME/EDIT]..: those of these crates, or these edits, or all. Each crate is checked over the libraries that
-`rt ci` or scripts/build.py left, first as it stands and then with as many edits at once as turn different functions: a function
-is proved from the contracts of those that it calls, so what one edit turns takes no proof from another.
+edits.py [--look] [--anew] [--minutes N] [NAME | NAME/EDIT]..: those of these crates, or these edits, or all. Each crate is checked
+over the libraries that `rt ci` or scripts/build.py left, first as it stands and then with as many edits at once as turn different
+functions: a function is proved from the contracts of those that it calls, so what one edit turns takes no proof from another.
 An edit for which two such checks tell nothing is tried alone. What was refused is kept on this machine, and not tried again, but with --anew,
 until something changes that its check read. With --look none is tried: it says which cannot be applied. What was not tried when N minutes
 are over has failed. The last line is 'N passed, M failed'.
