@@ -2,7 +2,7 @@
 use Rattle.std.proofs.Common.{◌≡◌, ◌≢◌, ◌⊎◌, ℕ, ◌+◌, ◌<◌, nat_lt, ◌&&◌, cond, true, false, List, [], ◌∷◌, length, set, Option, Some, None, refl, sym, ap, ◌∙◌, subst, ⊎_elim, arith, eq-eqb, ne_eqb, get_or-set_other, get_or, unwrap_or}
 use Rattle.std.specs.List.{All, slice_get}
 use Rattle.std.proofs.lemmas.Option.{slice_get-get_or, slice_get_within, unwrap_or-slice_get}
-use Rattle.std.proofs.lemmas.List.{get_or-set_same, length-set}
+use Rattle.std.proofs.lemmas.List.{get_or-set_same}
 use Rattle.std.proofs.lemmas.List.Elements.{All-head, All-tail}
 use mathlib.Core.Logic.{dite}
 use native.Mathlib.Decide.{ℕ_discrete}
@@ -29,6 +29,7 @@ use Rattle.grub_book.specs.declared.event.Reading.{Reading}
 use Rattle.grub_book.proofs.Cases.{of_either, of_timer}
 use Rattle.grub_book.proofs.Refusals.{settled_alike}
 use Rattle.grub_book.proofs.Soundness.{moved}
+use Rattle.grub_book.proofs.Tells.{length_replied}
 use Rattle.grub_book.proofs.Totals.{same_sums, step_shifts}
 use Rattle.grub_workers.proofs.OnlyNamed.{NamesAt}
 use Rattle.grub_workers.proofs.Others.{replied_else}
@@ -103,10 +104,6 @@ module _ (Q : ℕ → Type 0) where
       (at_replied book t (refused x.place x.count op) (moved s book t op) low here
       (λ free. settled_at x (queue_at s (runqueue_of x.place op)) (reading_of book (runqueue_of x.place op)) op free here (named same))))
       (λ other. subst (λ (x : Record). IsAt Q x.place) (sym (replied_else u book t other (refused (record_at book t).place (record_at book t).count op) (moved s book t op))) at)
-
-pub length_replied : (book : Records) (t : ℕ) (o : Option Reply) (m : Record × Reply) → length (replied book t o m).0 ≡ length book
-length_replied book t (Some reply) m = refl
-length_replied book t None m = length-set book t m.0
 
 pub length_step : (s : Machine) (book : Records) (t : ℕ) (op : Op) → length (step s book t op).0 ≡ length book
 length_step s book t op = length_replied book t (refused (record_at book t).place (record_at book t).count op) (moved s book t op)
