@@ -4,7 +4,8 @@
 edits.py [--look] [--anew] [--minutes N] [NAME | NAME/EDIT]..: those of these crates, or these edits, or all. Each crate is checked
 over the libraries that `rt ci` or scripts/build.py left, first as it stands and then with as many edits at once as turn different
 functions: a function is proved from the contracts of those that it calls, so what one edit turns takes no proof from another.
-An edit for which two such checks tell nothing is tried alone. What was refused is kept on this machine, and not tried again, but with --anew,
+Of the crate only the functions that edits turn are checked, with those that they call. An edit for which two such checks tell
+nothing is tried alone, in a check of all. What was refused is kept on this machine, and not tried again, but with --anew,
 until something changes that its check read. With --look none is tried: it says which cannot be applied. What was not tried when N minutes
 are over has failed. The last line is 'N passed, M failed'.
 """
@@ -35,8 +36,9 @@ CALLEES = re.compile(r"[:;] it (?:calls .*, which (?:is|are) not proved|waits fo
 MISREAD = r"is not in scope|has no field|is no name|operand is missing|expected the end|cannot continue"
 UNREAD = re.compile(rf"^(?:\./)?src/\S+?:\d+:\d+: error(?:\[|: (?!`)|: .*(?:{MISREAD})).*$", re.M)
 PLACE = re.compile(r"(src/[\w/]+\.rt):(\d+)")
-# A proof file that names what an edit took away: then a proof is refused, and no contract was tried.
-LACKS = re.compile(r"has no field|is not in scope|has no `|was not admitted")
+# A proof file that names what the edit took away, or what another edit did: then a proof is refused, and no contract was tried.
+GONE = re.compile(r"has no field|is not in scope|has no `")
+LACKS = re.compile(rf"{GONE.pattern}|was not admitted")
 
 
 def say(text):
@@ -103,8 +105,15 @@ class Function(NamedTuple):
     first: int
     last: int
 
+    @property
+    def path_in_crate(self):
+        """What `--only` knows it by. A method's type is enough, wherever that stands."""
+        return f"{self.of}::{self.name}" if self.of else f"{self.module.partition('::')[2]}{self.name}"
+
     def is_named(self, name):
-        """Whether the prover calls it so. A method has the module of its type, wherever its `impl` stands."""
+        """Whether the prover calls it so, or a closure of it. A method has the module of its type, wherever its `impl` stands."""
+        if name.startswith(self.module) and f"fn::{self.name}::" in name:
+            return True
         return name.endswith(f"::{self.of}::{self.name}") if self.of else name.startswith(self.module) and name.endswith("::" + self.name)
 
     def has(self, path, line):
@@ -132,8 +141,8 @@ def function_at(crate, path, lines, at):
     return Function("::".join([crate, *module]) + "::", of, head[2], path, first, last)
 
 
-def is_refused(functions, said):
-    """Whether the prover refuses one of these functions for itself, and not for one that it calls, by the function's name."""
+def refused_at(functions, said):
+    """Where the prover refuses one of these functions for itself, and not for one that it calls, or None."""
     places = [(path, int(line) - 1) for path, line in UNPROVED.findall(said)]
     for name, why in VERDICT.findall(said):
         if any(it.is_named(name) for it in functions if it) and (CALLEES.sub("", why) or not why):
@@ -141,7 +150,9 @@ def is_refused(functions, said):
             told = re.findall(rf"^\./proofs/{path}/\w+\.antt:\d+:\d+: error: (.*)$", said, re.M)
             at_goal = any(it.has(*place) for it in functions if it for place in places)
             if at_goal or not told or not all(LACKS.search(it) for it in told):
-                return name
+                return f"at {name}"
+            if any(GONE.search(it) for it in told):
+                return f"at the proof of {name}, which names what the edit takes away"
     return None
 
 
@@ -149,11 +160,11 @@ class Trial:
     """The checks of one crate."""
 
     def __init__(self, crate, kit, libraries, room, end, anew):
-        self.end, self.anew, self.kept = end, anew, Kept(crate, kit, libraries)
+        self.end, self.anew, self.kept, self.by_name = end, anew, Kept(crate, kit, libraries), True
         self.crate, self.kit, self.libraries, self.room, self.checks, self.began = crate, kit, libraries, f"{room}/{crate.name}", 0, time.time()
 
-    def check(self, edits):
-        """Checks a copy of the crate with these edits over what was proved of it as it stands."""
+    def check(self, edits, functions):
+        """Checks these functions, or all if there are none, in a copy of the crate with these edits, over what was proved of it as it stands."""
         self.checks += 1
         tree, kept = f"{self.room}/tree", f"{self.room}/kept"
         for it in (tree, kept):
@@ -174,6 +185,7 @@ class Trial:
         else:
             self.plant_seed()
         words = [f"{self.kit}/bin/rattle", "check", *self.crate.words(self.kit, self.libraries), "--jobs", "1", "--incremental", kept if edits else f"{self.room}/seed"]
+        words += [word for it in sorted({of.path_in_crate for of in functions}) for word in ("--only", it)]
         how = {"cwd": tree, "stdin": subprocess.DEVNULL, "stdout": subprocess.PIPE, "stderr": subprocess.STDOUT, "errors": "replace"}
         most = max(1, min(LONGEST, self.end - time.time()))
         try:
@@ -190,9 +202,20 @@ class Trial:
         else:
             os.makedirs(f"{self.room}/seed")
 
+    def check_as_it_stands(self, edits):
+        """Checks the functions that these edits turn, or all where an edit turns none, or where the prover does not know one by its name."""
+        turned = {of for it in edits for of in it.functions}
+        status, said = self.check([], turned if None not in turned else set())
+        if status == 2:
+            self.by_name = False
+            status, said = self.check([], set())
+        return status, said
+
     def judge(self, edits):
         """What a check with these edits tells of each: 'refused', 'proved', 'bad' or, where it tells nothing, None."""
-        status, said = self.check(edits)
+        turned = {of for it in edits for of in it.functions}
+        alone = len(edits) == 1 and (edits[0].untold == 2 or None in turned)
+        status, said = self.check(edits, turned if self.by_name and not alone else set())
         bad = UNREAD.findall(said)
         if status == 1 and bad:
             at = {(path, int(line) - 1) for it in bad for path, line in PLACE.findall(it)}
@@ -200,12 +223,12 @@ class Trial:
             return {it: ("bad", bad[0][:200]) for it in of}
         found = {}
         for edit in edits:
-            name = is_refused(edit.functions, said) if status in (1, 3) else None
-            if name:
-                found[edit] = "refused", f"at {name}"
-            elif len(edits) == 1 and status == 1 and "logic=not-proved" in said:
+            place = refused_at(edit.functions, said) if status in (1, 3) else None
+            if place:
+                found[edit] = "refused", place
+            elif alone and status == 1 and "logic=not-proved" in said:
                 found[edit] = "refused", "at what stands on it"
-            elif len(edits) == 1:
+            elif alone:
                 found[edit] = ("proved", "the crate is still proved") if status == 0 else ("bad", f"the check ended with status {status}")
         return found
 
@@ -224,7 +247,7 @@ class Trial:
         failed = len(wrong)
         left = [it for it in edits if not it.bad and not self.was_refused(it)]
         earlier = len(edits) - failed - len(left)
-        status, said = self.check([]) if left and time.time() < self.end else (0, "")
+        status, said = self.check_as_it_stands(left) if left and time.time() < self.end else (0, "")
         stands = time.time() - self.began
         if status and time.time() < self.end:
             say(f"{self.crate.name} is not proved as it stands, so none of its edits was tried:\n{said[-2000:]}")
@@ -245,7 +268,7 @@ class Trial:
             left = [it for it in left if it not in found]
             if not any(kind == "bad" for kind, _ in found.values()):
                 for edit in batch:
-                    edit.untold += edit not in found
+                    edit.untold = 2 if len(batch) == 1 else edit.untold + (edit not in found)
         for edit in left:
             say(f"edit {edit.label}: NOT TRIED: the time was over")
         failed += len(left)
