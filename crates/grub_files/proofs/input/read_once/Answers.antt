@@ -1,9 +1,6 @@
-use Rattle.std.proofs.Common.{arith, refl, Ok, Err}
+use Rattle.std.proofs.Common.{refl, Ok, Err}
 use Rattle.grub_files.proofs.SourceLemmas.{answered}
 use Rattle.grub_files.proofs.input.read_once.Goals as goal
-
-pub returns-in-Ok-clause-gives : goal.returns-in-Ok-clause-gives
-returns-in-Ok-clause-gives g c = record { count = c.in-Ok.count; room = c.read.new.arg3; answers = answered _ _ _ _ _ c.in-Ok.ensures c.requires.has_room; fits = omega arith; are = refl }
 
 pub returns-in_default-clause-fails : goal.returns-in_default-clause-fails
 returns-in_default-clause-fails g c = (refl, record { answer = Ok c.in-Ok.count; room = c.read.new.arg3; answers = answered _ _ _ _ _ c.in-Ok.ensures c.requires.has_room; claims = c.if-count-room.false })

@@ -34,13 +34,3 @@ returns-in-None-fault c =
     let made = c.into_iter-body-iterator.ensures.into_iter_gives in
     let all = YieldsList-end (YieldsList-from_vec {s = c.into_iter-body-iterator.result} _ made.0 (made.1 ∙ c.args.bodies.ok.0)) c.loop-body.yielded c.loop-body.body-iterator c.loop-body.yielded_by _ c.next.new.self c.in-None.is c.next.ensures.steps in
     λ t are total together. ((c.loop-body.invariant t are).done, (c.loop-body.invariant t are).are, rw c.in-None-fault.is at (collects_all t (declarations t) c.loop-body.files.items c.loop-body.yielded c.args.bodies.items c.args.fault total (omega (arith, all.1)) together (c.loop-body.invariant t are)))
-
-pub returns-in_err-files : goal.returns-in_err-files
-returns-in_err-files c =
-    let p = err_from_is_err_and c.from_residual.result c.from_residual.ensures.1 in
-    λ t are total together. rw (p.1, p.2) tt
-
-pub returns-in_err-push : goal.returns-in_err-push
-returns-in_err-push c =
-    let p = err_from_is_err_and c.from_residual-in_err-push.result c.from_residual-in_err-push.ensures.1 in
-    λ t are total together. rw (p.1, p.2) tt

@@ -7,6 +7,3 @@ loop-file-preserved c = mapped_next (λ f. f.queue) c.args.files.now c.loop-file
 
 pub returns-clause-queues : goal.returns-clause-queues
 returns-clause-queues c = mapped_all (λ f. f.queue) c.args.files.now c.loop-file.file-index c.loop-file.queues.items (omega arith) c.loop-file.invariant
-
-pub offset_bounds-files-file-index : goal.offset_bounds-files-file-index
-offset_bounds-files-file-index c = omega arith

@@ -85,18 +85,3 @@ returns-in_default-2-clause-answer c =
 
 pub place_of-requires : goal.place_of-requires
 place_of-requires c = rw c.deref.ensures.value c.self.invariant.marked
-
-pub index-requires : goal.index-requires
-index-requires c = let w = rw c.deref.ensures.value at c.in-Some.ensures.within in omega (arith, w, c.self.inside.nodes.ok.0)
-
-pub take-requires-clause-sound : goal.take-requires-clause-sound
-take-requires-clause-sound c = rw (c.deref_mut.ensures.value, c.deref_mut-in-Some.ensures.value) c.self.invariant.hashed.sound
-
-pub take-requires-clause-mapped : goal.take-requires-clause-mapped
-take-requires-clause-mapped c = rw c.deref_mut-in-Some.ensures.value c.self.invariant.mapped
-
-pub take-requires-clause-within : goal.take-requires-clause-within
-take-requires-clause-within c = let w = rw c.deref.ensures.value at c.in-Some.ensures.within in rw c.deref_mut.ensures.value w
-
-pub take-requires-clause-armed : goal.take-requires-clause-armed
-take-requires-clause-armed c = let a = rw c.deref.ensures.value at c.in-Some.ensures.armed in rw c.deref_mut.ensures.value a
