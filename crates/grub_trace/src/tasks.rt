@@ -93,7 +93,8 @@ fn declared_params(
     let Some(params) = reservation(runtime, period) else {
         return Err(Kind::OutOfRange);
     };
-    if tasks.find(name).is_some() {
+    let known = tasks.find(name);
+    if known.is_some() {
         return Err(Kind::DuplicateTask);
     }
     Ok(params)

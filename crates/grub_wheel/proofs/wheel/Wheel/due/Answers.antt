@@ -1,5 +1,6 @@
 use Rattle.std.proofs.Common.{◌≡◌, Some, refl, sym, ◌∙◌, ap, ◌<◌, ◌+◌, List, length, subst, arith}
 use Rattle.grub_wheel.specs.declared.node.Node.{Node}
+use Rattle.grub_wheel.specs.TimerBag.{WheelState}
 use Rattle.grub_wheel.specs.inside.Nodes.{moments, timers_of, AreOthersKept}
 use Rattle.grub_wheel.proofs.NodeReads.{node_read, lent_back}
 use Rattle.grub_wheel.proofs.Apart.{bag_take}
@@ -79,3 +80,63 @@ returns-clause-taken c =
     ap (λ (x : List Node). state_of (timers_of x) (c.self.inside.spare + 1) (Some c.args.m)) (lent_back c.self.inside.nodes.len ms ns (omega (arith, size, c.self.inside.nodes.ok.0)))
     ∙ taking_state (timers_of ns) (timers_of ms) c.index.result.now.timer.t c.self.inside.spare c.self.inside.last (Some c.args.m) _ c.self.view_is
     (bag_take ns ms i others c.take.ensures.here.armed c.index.result.now.timer.t c.self.invariant.hashed.sound.apart d.armed (ap (λ (x : Node). x.timer.t) n))
+
+pub invariant_of-self : goal.invariant_of-self
+invariant_of-self c = record { hashed = c.self.invariant.hashed; mapped = c.self.invariant.mapped; marked = c.self.invariant.marked }
+
+pub returns-then-from-self-clause-kept : goal.returns-then-from-self-clause-kept
+returns-then-from-self-clause-kept c = ap (λ (w : WheelState). record { timers = w.timers; spare = w.spare; last = Some c.args.m }) c.self.view_is
+
+pub earliest-requires-clause-sound : goal.earliest-requires-clause-sound
+earliest-requires-clause-sound c = rw (c.deref.ensures.value, c.deref-2.ensures.value) c.self.invariant.hashed.sound
+
+pub earliest-requires-clause-mapped : goal.earliest-requires-clause-mapped
+earliest-requires-clause-mapped c = rw c.deref-2.ensures.value c.self.invariant.mapped
+
+pub earliest-requires-clause-after : goal.earliest-requires-clause-after
+earliest-requires-clause-after c = rw c.deref.ensures.value c.self.invariant.hashed.after
+
+pub bound_after-self-inside-requires-clause-sound : goal.bound_after-self-inside-requires-clause-sound
+bound_after-self-inside-requires-clause-sound c = rw (c.deref-in_default.ensures.value, c.deref-in_default-2.ensures.value) c.self.invariant.hashed.sound
+
+pub bound_after-self-inside-requires-clause-mapped : goal.bound_after-self-inside-requires-clause-mapped
+bound_after-self-inside-requires-clause-mapped c = rw c.deref-in_default-2.ensures.value c.self.invariant.mapped
+
+pub bound_after-self-inside-requires-clause-later : goal.bound_after-self-inside-requires-clause-later
+bound_after-self-inside-requires-clause-later c = rw c.deref-in_default.ensures.value (none_due c.self.inside.nodes.items c.deref.result.now c.args.m c.earliest.result c.deref.ensures.value c.earliest.ensures c.in_default.is)
+
+pub invariant_of-self-in_default : goal.invariant_of-self-in_default
+invariant_of-self-in_default c =
+    let inside = c.self.inside in
+    let bound = rw c.deref-in_default.ensures.value at c.bound_after-self-inside.ensures.bound in
+    record { hashed = moved_on inside.nodes.items inside.heads.items inside.free inside.spare inside.from c.bound_after-self-inside.result c.self.invariant.hashed bound; mapped = c.self.invariant.mapped; marked = c.self.invariant.marked }
+
+pub returns-in_default-clause-kept : goal.returns-in_default-clause-kept
+returns-in_default-clause-kept c = ap (λ (w : WheelState). record { timers = w.timers; spare = w.spare; last = Some c.args.m }) c.self.view_is
+
+pub index-requires : goal.index-requires
+index-requires c =
+    let ns = c.self.inside.nodes.items in
+    let i = c.in-Some.first in
+    let d = due_is ns c.deref.result.now c.args.m i c.earliest.result c.deref.ensures.value c.earliest.ensures c.in-Some.is in
+    omega (arith, armed_within ns i d.armed, c.self.inside.nodes.ok.0)
+
+pub take-requires-clause-sound : goal.take-requires-clause-sound
+take-requires-clause-sound c = rw (c.deref_mut.ensures.value, c.deref_mut-2.ensures.value) c.self.invariant.hashed.sound
+
+pub take-requires-clause-mapped : goal.take-requires-clause-mapped
+take-requires-clause-mapped c = rw c.deref_mut-2.ensures.value c.self.invariant.mapped
+
+pub take-requires-clause-within : goal.take-requires-clause-within
+take-requires-clause-within c =
+    let ns = c.self.inside.nodes.items in
+    let i = c.in-Some.first in
+    let d = due_is ns c.deref.result.now c.args.m i c.earliest.result c.deref.ensures.value c.earliest.ensures c.in-Some.is in
+    rw c.deref_mut.ensures.value (armed_within ns i d.armed)
+
+pub take-requires-clause-armed : goal.take-requires-clause-armed
+take-requires-clause-armed c =
+    let ns = c.self.inside.nodes.items in
+    let i = c.in-Some.first in
+    let d = due_is ns c.deref.result.now c.args.m i c.earliest.result c.deref.ensures.value c.earliest.ensures c.in-Some.is in
+    rw c.deref_mut.ensures.value d.armed
