@@ -1,6 +1,7 @@
 -- What a writer holds after the reports went to it.
-use Rattle.std.proofs.Common.{◌≡◌, ℕ, ◌++◌, List, [], take, append_assoc, ap, ◌∙◌, sym, Option, Some, None, length}
+use Rattle.std.proofs.Common.{◌≡◌, ℕ, ◌++◌, List, [], take, append_assoc, ap, ◌∙◌, sym, Option, Some, None, length, Result, Ok, Err}
 use Rattle.std.proofs.Math.Seq.{take-append_seam, take-length}
+use Rattle.std.specs.Prelude.{OnOk}
 use Rattle.std.specs.Io.KnownBytes.{Appends, Keeps}
 use Rattle.grub_plan.specs.Writing.{HandsPart}
 use Rattle.grub_run.specs.Written.{AppendsPrefix}
@@ -20,3 +21,15 @@ prefix_flushed None b c text h k = (0, tt)
 prefix_flushed (Some xs) None c text h k = absurd h
 prefix_flushed (Some xs) (Some ys) None text h k = absurd k
 prefix_flushed (Some xs) (Some ys) (Some zs) text h k = (length text, k ∙ h ∙ ap (λ l. xs ++ l) (sym (take-length text)))
+
+-- all of it, and a flush
+pub flushed : (a b c : Option (List ℕ)) (text : List ℕ) → Appends a b text → Keeps b c → Appends a c text
+flushed None b c text h k = tt
+flushed (Some xs) None c text h k = absurd h
+flushed (Some xs) (Some ys) None text h k = absurd k
+flushed (Some xs) (Some ys) (Some zs) text h k = k ∙ h
+
+-- what holds, holds of a success
+pub on_ok : {U E P : Type 0} (r : Result U E) → P → OnOk r P
+on_ok (Ok u) p = p
+on_ok (Err e) p = tt

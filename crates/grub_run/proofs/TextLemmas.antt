@@ -10,7 +10,10 @@ use Rattle.grub_plan.specs.Plans.{PlanView}
 use Rattle.grub_trace.specs.Tree.{Tree, names_of, text as tree_text}
 use Rattle.grub_workers.specs.Apart.{AllApart, AreOwn}
 use Rattle.grub_workers.specs.Runs.{IsOnlyRun, IsRun, entries_of}
-use Rattle.grub_run.specs.Written.{IsOnlyText, IsOutput, texts_from}
+use Rattle.grub_run.specs.Written.{IsFaultOf, IsNoFileFault, IsOnlyText, IsOutput, texts_from}
+use Rattle.grub_run.specs.inside.Ran.{IsFaultOfRun, IsRunText}
+use Rattle.grub_run.specs.declared.fault.GrubFault.{GrubFault}
+use Rattle.grub_run.specs.declared.fault.GrubFault.TheVariants as faults
 
 pub texts_push : (names : List (List ℕ)) (r : ℕ) (xs : List Report) (cs : List Reading) (x : Report) (c : Reading) → length xs ≡ length cs
     → texts_from names r (xs ++ x ∷ []) (cs ++ c ∷ []) ≡ texts_from names r xs cs ++ report_text names (r + length xs) x.entries.items c
@@ -97,3 +100,24 @@ output_of tries files plan reports closing text trees read is every run only own
       only_text files plan reports closing text every (only alone some) whole;
   apart = λ apart some. only_text files plan reports closing text every ((own some).whole (subst AllApart (sym is) (apart trees read))) whole;
 }
+
+-- and where that text is told by the run alone
+pub output_of_run : (tries : ℕ) (files : List (List ℕ)) (plan : PlanView) (text : List ℕ)
+    → (trees : List Tree) → Reads files trees → plan ≡ plan_of trees → ((others : List Tree) → Reads files others → plan ≡ plan_of others)
+    → IsRunText plan tries text → IsOutput tries files text
+output_of_run tries files plan text trees read is every x = output_of tries files plan x.reports x.closing text trees read is every x.run x.same x.apart x.whole
+
+-- no fault of a run is one of its files
+pub fault_of_run : (files : List (List ℕ)) (fault : GrubFault) → IsFaultOfRun fault → IsFaultOf files fault
+fault_of_run files (faults.Trace fault) none = absurd none
+fault_of_run files (faults.Run fault) none = tt
+fault_of_run files (faults.Text fault) none = tt
+fault_of_run files faults.View none = tt
+fault_of_run files faults.WriteFault none = tt
+
+pub no_file_fault : (fault : GrubFault) → IsFaultOfRun fault → IsNoFileFault fault
+no_file_fault (faults.Trace fault) none = absurd none
+no_file_fault (faults.Run fault) none = tt
+no_file_fault (faults.Text fault) none = tt
+no_file_fault faults.View none = tt
+no_file_fault faults.WriteFault none = tt

@@ -37,10 +37,9 @@ impl fmt::Display for Placeless<'_> {
     ghost output = { λ p. Some (placeless_text p.0.now) };
 
     fn fmt<W: fmt::Write>(&self, f: &mut fmt::Formatter<W>) -> fmt::Result {
-        let fault = self.0;
-        match fault {
-            TraceFault::At { kind, .. } => write!(f, "{kind}"),
-            TraceFault::NoMemory => write!(f, "{fault}"),
+        match self.0 {
+            TraceFault::At { kind, .. } => fmt::Display::fmt(kind, f),
+            TraceFault::NoMemory => fmt::Display::fmt(self.0, f),
         }
     }
 }

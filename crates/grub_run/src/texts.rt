@@ -9,6 +9,7 @@ ghost use Rattle.grub_trace.specs.Tree.{Tree};
 ghost use Rattle.grub_trace.specs.declared.fault.Kind.{Kind};
 ghost use Rattle.grub_workers.specs.Runs.{AllAsksOf};
 ghost use Rattle.grub_run.specs.Written.{IsFaultOf, IsNoFileFault, IsOnlyFault, WritesText, WritesPrefix, AppendsPrefix, texts_from};
+ghost use Rattle.grub_run.specs.inside.Ran.{BeginsRun, IsFaultOfRun, WritesRun};
 ghost use Rattle.grub_run.specs.declared.fault.GrubFault.TheVariants as faults;
 
 use crate::fault::GrubFault;
@@ -54,7 +55,26 @@ pub fn run_texts<R: Threads + Wait + Sync, W: Write>(
         Err(fault) => return Err(GrubFault::Trace(fault)),
     };
     drop(files);
-    let outcome = match run(rt, alloc, &plan, tries, rounds, &NoGate) {
+    write_run(rt, alloc, &plan, tries, rounds, out)
+}
+
+/// Runs the plan, and writes the texts of its reports.
+fn write_run<R: Threads + Wait + Sync, W: Write>(
+    rt: &R,
+    alloc: Global,
+    plan: &Plan,
+    tries: u8,
+    rounds: u16,
+    out: &mut W,
+) -> Result<(), GrubFault>
+    requires few { length plan.now.scripts ≤ 64 }
+    requires rounds { 1 ≤ rounds }
+    ensures text { OnOk result (WritesRun plan.now tries (W.contents out.old) (W.contents out.new)) }
+    ensures prefix { IfErr result (λ e. e ≡ faults.WriteFault → BeginsRun plan.now tries (W.contents out.old) (W.contents out.new)) }
+    ensures nothing { IfErr result (λ e. (e ≡ faults.WriteFault → ⊥) → out.new ≡ out.old) }
+    ensures fault { IfErr result IsFaultOfRun }
+{
+    let outcome = match run(rt, alloc, plan, tries, rounds, &NoGate) {
         Ok(outcome) => outcome,
         Err(fault) => return Err(GrubFault::Run(fault)),
     };
@@ -70,7 +90,7 @@ pub fn run_texts<R: Threads + Wait + Sync, W: Write>(
         blocks,
         buffer,
         out,
-        &plan,
+        plan,
         &outcome.reports,
         &outcome.closing,
     ) {

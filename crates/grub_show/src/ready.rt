@@ -30,10 +30,18 @@ impl<'a> Ready<'a> {
     pub fn new(alloc: Global, plan: &'a Plan) -> Option<Ready<'a>>
         ensures plan { IfSome result (λ x. x.playing.plan ≡ plan.now) }
     {
-        let buffer = report_buffer(alloc).ok()?;
-        let blocks = Blocks::new(alloc).ok()?;
-        let playing = Playing::new(alloc, plan).ok()?;
-        let latest = Vec::with_capacity(alloc, playing.most()).ok()?;
+        let Ok(buffer) = report_buffer(alloc) else {
+            return None;
+        };
+        let Ok(blocks) = Blocks::new(alloc) else {
+            return None;
+        };
+        let Ok(playing) = Playing::new(alloc, plan) else {
+            return None;
+        };
+        let Ok(latest) = Vec::with_capacity(alloc, playing.most()) else {
+            return None;
+        };
         Some(Ready {
             playing,
             latest,

@@ -47,14 +47,11 @@ pub fn replay(alloc: Global, setup: &Setup, told: &[Told]) -> Result<Vec<Step>, 
     ensures steps { IfOk result (λ v. v.items ≡ steps_of setup.now told.now) }
     ensures fits { IfOk result (λ v. AreStepsIn setup.now v.items) }
 {
-    let mut book = match Book::new(alloc, setup) {
-        Ok(book) => book,
-        Err(_) => return Err(AllocError),
+    let mut steps = Vec::with_capacity(alloc, told.len())?;
+    let Ok(mut book) = Book::new(alloc, setup) else {
+        return Err(AllocError);
     };
-    let mut steps = Vec::new(alloc);
-    for x in told {
-        steps.push(step_after(&mut book, x))?;
-    }
+    fill_steps(&mut steps, &mut book, told);
     Ok(steps)
 }
 

@@ -10,7 +10,7 @@ use grub_book::{Op, Reading};
 use grub_table::{Claim, Finished, Pass, Shared, Started};
 
 /// The table and the gate, the number of the worker, which is that of its file, runqueue and pass, and how often an ask is tried.
-#[derive_where(Clone, Copy)]
+#[derive(Drop)]
 pub struct Desk<'a, G> {
     pub table: &'a Shared,
     pub gate: &'a G,

@@ -1,26 +1,25 @@
-use Rattle.std.proofs.Common.{refl}
-use Rattle.grub_run.specs.Written.{texts_from}
-use Rattle.grub_run.proofs.TextLemmas.{output_of}
+use Rattle.std.proofs.lemmas.Result.{MatchResult-weaker, on_ok_weaker}
+use Rattle.grub_plan.specs.Contents.{contents}
+use Rattle.grub_run.proofs.TextLemmas.{fault_of_run, no_file_fault, output_of_run}
 use Rattle.grub_run.proofs.texts.run_texts.Goals as goal
 
-pub returns-in-Ok-write_reports-clause-text : goal.returns-in-Ok-write_reports-clause-text
-returns-in-Ok-write_reports-clause-text g c =
+pub write_run-requires-clause-few : goal.write_run-requires-clause-few
+write_run-requires-clause-few g c κs within = let fits = c.in-Ok.ensures.limits in rw fits.each fits.setup.queues_most
+
+pub returns-clause-text : goal.returns-clause-text
+returns-clause-text g c =
     let read = rw c.deref.ensures.value at c.in-Ok.ensures.read in
     let only = rw c.deref.ensures.value at c.in-Ok.ensures.only in
-    let text = texts_from c.in-Ok.plan.names 0 c.in-Ok-run.outcome.reports.items c.in-Ok-run.outcome.closing.items in (
-      text,
-      output_of c.args.tries _ c.in-Ok.plan c.in-Ok-run.outcome.reports.items c.in-Ok-run.outcome.closing.items text
-          read.0 read.1 read.2 (λ others reads. only others reads) c.in-Ok-run.ensures.run c.in-Ok-run.ensures.same c.in-Ok-run.ensures.apart refl,
-      rw (c.deref-2.ensures.value, c.deref-3.ensures.value) at c.in-Ok-write_reports.ensures.whole,
-    )
+    on_ok_weaker c.write_run.result (λ x. (x.0, output_of_run c.args.tries (contents c.args.files.items) c.in-Ok.plan x.0 read.0 read.1 read.2 (λ others reads. only others reads) x.1, x.2)) c.write_run.ensures.text
 
 pub returns-clause-prefix : goal.returns-clause-prefix
-returns-clause-prefix g c = λ _.
+returns-clause-prefix g c =
     let read = rw c.deref.ensures.value at c.in-Ok.ensures.read in
     let only = rw c.deref.ensures.value at c.in-Ok.ensures.only in
-    let text = texts_from c.in-Ok.plan.names 0 c.in-Ok-run.outcome.reports.items c.in-Ok-run.outcome.closing.items in (
-      text,
-      output_of c.args.tries _ c.in-Ok.plan c.in-Ok-run.outcome.reports.items c.in-Ok-run.outcome.closing.items text
-          read.0 read.1 read.2 (λ others reads. only others reads) c.in-Ok-run.ensures.run c.in-Ok-run.ensures.same c.in-Ok-run.ensures.apart refl,
-      rw (c.deref-2.ensures.value, c.deref-3.ensures.value) at c.in-Err-write_reports.ensures.part,
-    )
+    MatchResult-weaker c.write_run.result c.write_run.ensures.prefix (λ _ done. done) (λ _ begun is. let x = begun is in (x.0, output_of_run c.args.tries (contents c.args.files.items) c.in-Ok.plan x.0 read.0 read.1 read.2 (λ others reads. only others reads) x.1, x.2))
+
+pub returns-clause-fault : goal.returns-clause-fault
+returns-clause-fault g c = MatchResult-weaker c.write_run.result c.write_run.ensures.fault (λ _ done. done) (fault_of_run (contents c.args.files.items))
+
+pub returns-clause-readable : goal.returns-clause-readable
+returns-clause-readable g c = λ trees reads. MatchResult-weaker c.write_run.result c.write_run.ensures.fault (λ _ done. done) no_file_fault
