@@ -1,3 +1,4 @@
 pub mod Pieces
 pub mod Finding
 pub mod Axis
+pub mod Columns

@@ -29,15 +29,23 @@ pub fn sums_of(alloc: Global, setup: &Setup, told: &[Told]) -> Result<Sums, Allo
     ensures tallies { IfOk result (λ v. v.tallies.items ≡ tallies_of setup.now (steps_of setup.now told.now)) }
     ensures meters { IfOk result (λ v. v.meters.items ≡ meters_of setup.now (steps_of setup.now told.now)) }
 {
-    let mut book = match Book::new(alloc, setup) {
-        Ok(book) => book,
-        Err(_) => return Err(AllocError),
+    let mut sums = sums_of_none(alloc, setup)?;
+    let Ok(mut book) = Book::new(alloc, setup) else {
+        return Err(AllocError);
     };
+    count_all(&mut book, told, &mut sums.tallies, &mut sums.meters);
+    Ok(sums)
+}
+
+/// What is counted over no step.
+fn sums_of_none(alloc: Global, setup: &Setup) -> Result<Sums, AllocError>
+    ensures tallies { IfOk result (λ v. v.tallies.items ≡ tallies_of setup.now []) }
+    ensures meters { IfOk result (λ v. v.meters.items ≡ meters_of setup.now []) }
+{
     let mut tallies = Vec::with_capacity(alloc, setup.task_count() as usize)?;
     let mut meters = Vec::with_capacity(alloc, setup.queue_count() as usize)?;
     fill_tallies(setup, &mut tallies);
     fill_meters(setup, &mut meters);
-    count_all(&mut book, told, &mut tallies, &mut meters);
     Ok(Sums { tallies, meters })
 }
 

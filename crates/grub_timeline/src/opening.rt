@@ -1,5 +1,6 @@
 //! A player that has asked nothing yet. All memory that playing wants is taken here.
 ghost use Rattle.std.specs.Prelude.{◌≡◌, ◌≤◌, ◌+◌, [], None, IfOk, length, vec_capacity};
+ghost use Rattle.std.specs.Bool.{OnTrue};
 ghost use Rattle.std.specs.FinMap as map;
 ghost use Rattle.grub_timeline.specs.inside.Playing.{IsPlaying};
 
@@ -51,10 +52,21 @@ fn wheel_of(alloc: Global, tasks: u32) -> Result<Wheel, AllocError>
     let Ok(mut wheel) = Wheel::new(alloc) else {
         return Err(AllocError);
     };
-    for _ in 0..u64::from(tasks) + 1 {
+    if add_places(&mut wheel, u64::from(tasks) + 1) {
+        Ok(wheel)
+    } else {
+        Err(AllocError)
+    }
+}
+
+/// Adds so many places, and tells whether there was memory for them.
+fn add_places(wheel: &mut Wheel, count: u64) -> bool
+    ensures places { OnTrue result (wheel.new ≡ record wheel.old { spare = wheel.old.spare + count }) }
+{
+    for _ in 0..count {
         if wheel.add_place().is_err() {
-            return Err(AllocError);
+            return false;
         }
     }
-    Ok(wheel)
+    true
 }

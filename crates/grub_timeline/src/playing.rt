@@ -133,9 +133,9 @@ fn playing_of<'a>(alloc: Global, plan: &'a Plan) -> Result<Playing<'a>, AllocErr
     ensures nothing { IfOk result (λ x. x.told ≡ []) }
 {
     let files = plan.files() as usize;
-    let player = player_of(alloc, plan)?;
     let done = vec![in alloc; 0; files]?;
     let closing = Vec::with_capacity(alloc, files)?;
+    let player = player_of(alloc, plan)?;
     Ok(Playing {
         plan,
         player,
