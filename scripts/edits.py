@@ -111,8 +111,8 @@ class Function(NamedTuple):
         return f"{self.of}::{self.name}" if self.of else f"{self.module.partition('::')[2]}{self.name}"
 
     def is_named(self, name):
-        """Whether the prover calls it so, or a closure of it. A method has the module of its type, wherever its `impl` stands."""
-        if name.startswith(self.module) and f"fn::{self.name}::" in name:
+        """Whether the prover calls it so, or a closure of it, where it is no method. A method has the module of its type, wherever its `impl` stands."""
+        if not self.of and name.startswith(f"{self.module}fn::{self.name}::"):
             return True
         return name.endswith(f"::{self.of}::{self.name}") if self.of else name.startswith(self.module) and name.endswith("::" + self.name)
 
