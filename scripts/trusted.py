@@ -2,8 +2,9 @@
 """Which definitions a reader must trust: those that public contracts reach, and how many lines they have, crate by crate.
 
 In each crate specs/ holds these and nothing else; definitions that only proofs and private functions need lie in
-specs/inside/; and docs/READING.md names each file of the former. The last line is 'N passed, M failed': a definition at
-its place, or not. With --list it prints each trusted definition with its crate and module.
+specs/inside/; and docs/READING.md names each file of the former. No line of a contract has more than 100 columns. The last
+line is 'N passed, M failed': a definition at its place, or not. With --list it prints each trusted definition with its
+crate and module.
 """
 import os
 import re
@@ -14,6 +15,7 @@ WORD = re.compile(r"[^\W\d][\w'?]*")
 HEAD = re.compile(r"^(?:(?:abbrev|unfoldable|opaque|instance|pub)\s+)+(?:(?:record|data)\s+)?([^\s:{(]+)|^(?:record|data|module)\s+([^\s:{(]+)")
 INNER = {"data": re.compile(r"\s+(?:pub\s+)?([\w']+)\s*:"), "module": re.compile(r"  (?:abbrev |unfoldable )?pub (?:record |data )?([\w']+)")}
 IMPORT = re.compile(r"\buse\s+Rattle\.(\w+)\.specs\.([\w.]+?)(?:\.\{([^}]*)\}|\s+as\s+(\w+))?\s*;?\s*$", re.M)
+WIDEST = 100
 PUBLIC_USE = re.compile(r"\bpub use ([\w:]+)(?:::\{([^}]*)\})?;", re.S)
 
 
@@ -219,6 +221,19 @@ def unread(reached):
     return sorted({(it.crate, it.module) for it in reached} - named - {(it, "Messages") for it in crates()})
 
 
+def too_wide():
+    """The lines of contracts that are too long to be read at a glance, which nothing else wraps."""
+    for crate in crates():
+        for path in files_below(f"{ROOT}/crates/{crate}/src", ".rt"):
+            text = text_of(path)
+            for clause in CLAUSE.finditer(text):
+                end = clause.end() + len(braces(text, clause.end() - 1))
+                first = text.rindex("\n", 0, clause.start()) + 1
+                for at, line in enumerate(text[first:text.index("\n", end)].split("\n")):
+                    if len(line) > WIDEST:
+                        yield f"{os.path.relpath(path, ROOT)}:{text.count(chr(10), 0, first) + at + 1}"
+
+
 def main():
     found, imports, files = read_specs()
     definitions = list(dict.fromkeys(found.values()))
@@ -233,6 +248,9 @@ def main():
     missing = unread(reached)
     for crate, module in missing:
         print(f"trusted: docs/READING.md does not name {crate}/specs/{module}")
+    wide = list(too_wide())
+    for it in wide:
+        print(f"trusted: {it} has more than {WIDEST} columns")
     total = 0
     for crate in crates():
         mine = [it for it in reached if it.crate == crate]
@@ -241,7 +259,7 @@ def main():
         if mine:
             print(f"trusted: {crate}: {len(mine)} definitions, {lines} lines, {sum(it.comments for it in mine)} lines of comment")
     print(f"trusted: in all {len(reached)} definitions, {total} lines")
-    failed = len(wrong) + len(missing)
+    failed = len(wrong) + len(missing) + len(wide)
     print(f"{len(definitions) - len(wrong)} passed, {failed} failed")
     return 1 if failed else 0
 

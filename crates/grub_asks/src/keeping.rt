@@ -13,7 +13,8 @@ use std::alloc::AllocError;
 /// Makes a place for the timer that a block may need.
 pub fn make_room(wheel: &mut Wheel, op: Op) -> Result<(), AllocError>
     ensures room { OnOk result (IsBlock op → 1 ≤ wheel.new.spare) }
-    ensures same { OnOk result ((wheel.new.timers ≡ wheel.old.timers) × (wheel.new.last ≡ wheel.old.last)) }
+    ensures same { OnOk result ((wheel.new.timers ≡ wheel.old.timers)
+        × (wheel.new.last ≡ wheel.old.last)) }
 {
     match op {
         Op::Block { r: _, m: _ } => match wheel.reserve_one() {

@@ -8,7 +8,8 @@ use grub_plan::Act;
 
 /// The task and the op that a line of runqueue `r` asks for at moment `m`, where it is no reading.
 pub fn call_of(r: u32, m: u32, act: Act) -> Option<(u32, Op)>
-    ensures { MatchOption result (ask_of r m act ≡ asks.Read) (λ c. ask_of r m act ≡ asks.Call c.0 c.1) }
+    ensures { MatchOption result (ask_of r m act ≡ asks.Read)
+        (λ c. ask_of r m act ≡ asks.Call c.0 c.1) }
 {
     match act {
         Act::Join(t) => Some((t, Op::Join { r, m })),

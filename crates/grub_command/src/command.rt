@@ -121,8 +121,10 @@ fn command<'a>(alloc: Global) -> Result<Command<'a>, AllocError>
 /// The matches of the words, and the rounds among them, which are at least 1 by their range.
 fn parse<'a>(alloc: Global, words: &'a [String]) -> Result<(ArgMatches<'a>, Option<u16>), Error>
     ensures rounds { IfOk result (λ r. IfSome r.1 (λ n. 1 ≤ n)) }
-    ensures number { IfOk result (λ r. ReadsNumber 16 (one_of rounds_id (rows_of (found_of r.0))) r.1) }
-    ensures matches { IfOk result (λ r. rows_of (found_of r.0) ≡ matches_of command_line (map string_bytes words.now)) }
+    ensures number { IfOk result
+        (λ r. ReadsNumber 16 (one_of rounds_id (rows_of (found_of r.0))) r.1) }
+    ensures matches { IfOk result
+        (λ r. rows_of (found_of r.0) ≡ matches_of command_line (map string_bytes words.now)) }
     ensures faults { FailsBy (fault_of command_line (map string_bytes words.now)) result }
 {
     let matches = command(alloc)?.try_get_matches_from(words)?;
@@ -135,9 +137,11 @@ pub fn options_of<'a>(alloc: Global, words: &'a [String]) -> Result<Options<'a>,
     ensures tries { IfOk result (λ o. TriesNamed (map string_bytes words.now) o.tries) }
     ensures rounds { IfOk result (λ o. RoundsNamed (map string_bytes words.now) o.rounds) }
     ensures view { IfOk result (λ o. o.view ≡ view_named (map string_bytes words.now)) }
-    ensures from { IfOk result (λ o. MomentNamed (codes "from") (map string_bytes words.now) o.from) }
+    ensures from { IfOk result
+        (λ o. MomentNamed (codes "from") (map string_bytes words.now) o.from) }
     ensures to { IfOk result (λ o. MomentNamed (codes "to") (map string_bytes words.now) o.to) }
-    ensures matches { IfOk result (λ o. rows_of (found_of o.matches) ≡ matches_of command_line (map string_bytes words.now)) }
+    ensures matches { IfOk result
+        (λ o. rows_of (found_of o.matches) ≡ matches_of command_line (map string_bytes words.now)) }
     ensures faults { FailsBy (fault_of command_line (map string_bytes words.now)) result }
 {
     let (matches, rounds) = parse(alloc, words)?;

@@ -110,7 +110,8 @@ fn names(tasks: &[Given<'_>], name: &str) -> bool
 
 /// The tasks of these words; none where one of them says no task, or one name comes twice, or there are none.
 fn tasks_of<'a>(alloc: Global, words: &[&'a str]) -> Result<Option<Vec<Given<'a>>>, AllocError>
-    ensures { IfOk result (λ made. option_map (λ v. map given_task v.items) made ≡ tasks_in (map text_of words.now)) }
+    ensures { IfOk result
+        (λ made. option_map (λ v. map given_task v.items) made ≡ tasks_in (map text_of words.now)) }
 {
     if words.is_empty() {
         return Ok(None);
@@ -147,7 +148,8 @@ pub fn options_of<'a>(
     rt: &str,
     fair: &str,
 ) -> Result<Option<Options<'a>>, AllocError>
-    ensures { IfOk result (λ made. option_map said_by made ≡ said_in (map text_of tasks.now) cpus rt.now fair.now) }
+    ensures { IfOk result
+        (λ made. option_map said_by made ≡ said_in (map text_of tasks.now) cpus rt.now fair.now) }
 {
     let Some(tasks) = tasks_of(alloc, tasks)? else {
         return Ok(None);

@@ -84,7 +84,9 @@ fn read_piece<'a, D, N: Fn(&mut D, &mut [u8]) -> io::Result<usize>, T: Takes>(
     requires callable { N.IsAlwaysCallable read.now }
     requires has_room { 0 < length room.old }
     ensures room { length room.new ≡ length room.old }
-    ensures piece { IfOk result (λ more. (piece : List ℕ) × Gives N.Fn read.now file.old piece file.new × T.takes taker.old piece taker.new × (more ≡ false → (piece ≡ []) ⊎ T.is_done taker.new)) }
+    ensures piece { IfOk result
+        (λ more. (piece : List ℕ) × Gives N.Fn read.now file.old piece file.new
+        × T.takes taker.old piece taker.new × (more ≡ false → (piece ≡ []) ⊎ T.is_done taker.new)) }
     ensures fault { IfErr result IsOfReading }
 {
     let Ok(count) = read_once(read, file, room) else {
@@ -106,7 +108,8 @@ fn take_pieces<'a, D, N: Fn(&mut D, &mut [u8]) -> io::Result<usize>, T: Takes>(
 ) -> Result<(), TraceFault<'a>>
     requires callable { N.IsAlwaysCallable read.now }
     requires has_room { 0 < length room.old }
-    ensures taken { OnOk result (TookAll N.Fn read.now T.takes file.old taker.old taker.new ⊎ TookEnough N.Fn read.now T.takes T.is_done file.old taker.old taker.new) }
+    ensures taken { OnOk result (TookAll N.Fn read.now T.takes file.old taker.old taker.new
+        ⊎ TookEnough N.Fn read.now T.takes T.is_done file.old taker.old taker.new) }
     ensures fault { IfErr result IsOfReading }
 {
     for _ in 0..u64::MAX {
@@ -127,7 +130,8 @@ fn read_pieces<
 >(alloc: Global, input: &Input<O, N>, path: &'a str, taker: &mut T) -> Result<(), TraceFault<'a>>
     requires open { O.IsAlwaysCallable input.now.open }
     requires read { N.IsAlwaysCallable input.now.read }
-    ensures taken { OnOk result (TookFrom O.Fn N.Fn input.now T.takes T.is_done path.now taker.old taker.new) }
+    ensures taken { OnOk result
+        (TookFrom O.Fn N.Fn input.now T.takes T.is_done path.now taker.old taker.new) }
     ensures fault { IfErr result IsOfReading }
 {
     let Ok(mut room) = Vec::from_elem(alloc, 0u8, PIECE_BYTES) else {

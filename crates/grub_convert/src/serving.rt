@@ -69,7 +69,8 @@ fn write_files<'a, M: Fn(&str, &[u8]) -> io::Result<()>>(
 ) -> Result<(), TraceFault<'a>>
     requires callable { M.IsAlwaysCallable make.now }
     requires same { length paths.now ≡ length files.now }
-    ensures made { OnOk result (AreMade M.Fn make.now (map string_bytes paths.now) (contents files.now)) }
+    ensures made { OnOk result
+        (AreMade M.Fn make.now (map string_bytes paths.now) (contents files.now)) }
     ensures fault { IfErr result (λ e. e ≡ faults.Write) }
 {
     for i in 0..files.len() {
@@ -120,8 +121,10 @@ fn write_events<
     requires read { N.IsAlwaysCallable input.now.read }
     requires exists { X.IsAlwaysCallable target.now.exists }
     requires make { M.IsAlwaysCallable target.now.make }
-    ensures done { OnOk result (MakesEvents O.Fn N.Fn X.Fn M.Fn input.now target.now path.now prefix.now options.now) }
-    ensures nothing { IfErr result (λ e. status_of e ≡ 1 → HasNoEvents O.Fn N.Fn X.Fn M.Fn input.now target.now path.now prefix.now options.now) }
+    ensures done { OnOk result
+        (MakesEvents O.Fn N.Fn X.Fn M.Fn input.now target.now path.now prefix.now options.now) }
+    ensures nothing { IfErr result (λ e. status_of e ≡ 1
+        → HasNoEvents O.Fn N.Fn X.Fn M.Fn input.now target.now path.now prefix.now options.now) }
 {
     let mut facts = read_facts(alloc, input, path, options)?;
     let files = match event_files(alloc, options, &facts) {
@@ -149,7 +152,8 @@ fn print_tasks<
 >(alloc: Global, input: &Input<O, N>, path: &'a str, out: &mut W) -> Result<(), TraceFault<'a>>
     requires open { O.IsAlwaysCallable input.now.open }
     requires read { N.IsAlwaysCallable input.now.read }
-    ensures done { OnOk result (PrintsTasks O.Fn N.Fn input.now path.now (W.contents out.old) (W.contents out.new)) }
+    ensures done { OnOk result
+        (PrintsTasks O.Fn N.Fn input.now path.now (W.contents out.old) (W.contents out.new)) }
     ensures nothing { IfErr result (λ e. status_of e ≡ 1 → out.new ≡ out.old) }
 {
     let tasks = read_tasks(alloc, input, path)?;
@@ -188,7 +192,8 @@ pub fn serve_tasks<
     requires read { N.IsAlwaysCallable input.now.read }
     ensures status { (result ≡ 0) ⊎ (result ≡ STATUS_FILE) ⊎ (result ≡ STATUS_SYSTEM) }
     // At 0 the text of the tasks that the trace shows was printed, and where the trace is at fault nothing was.
-    ensures done { result ≡ 0 → PrintsTasks O.Fn N.Fn input.now path.now (W.contents out.old) (W.contents out.new) }
+    ensures done { result ≡ 0
+        → PrintsTasks O.Fn N.Fn input.now path.now (W.contents out.old) (W.contents out.new) }
     ensures nothing { result ≡ 1 → out.new ≡ out.old }
 {
     let done = print_tasks(alloc, input, path, out);
@@ -217,8 +222,10 @@ pub fn serve_events<
     requires exists { X.IsAlwaysCallable target.now.exists }
     requires make { M.IsAlwaysCallable target.now.make }
     // At 0 the event files of what the trace tells were made at paths where nothing was; at 1 it is at fault, or something was there.
-    ensures done { result ≡ 0 → MakesEvents O.Fn N.Fn X.Fn M.Fn input.now target.now path.now prefix.now options.now }
-    ensures nothing { result ≡ 1 → HasNoEvents O.Fn N.Fn X.Fn M.Fn input.now target.now path.now prefix.now options.now }
+    ensures done { result ≡ 0
+        → MakesEvents O.Fn N.Fn X.Fn M.Fn input.now target.now path.now prefix.now options.now }
+    ensures nothing { result ≡ 1
+        → HasNoEvents O.Fn N.Fn X.Fn M.Fn input.now target.now path.now prefix.now options.now }
     ensures status { (result ≡ 0) ⊎ (result ≡ STATUS_FILE) ⊎ (result ≡ STATUS_SYSTEM) }
 {
     let done = write_events(alloc, input, target, path, prefix, options);

@@ -39,7 +39,8 @@ pub fn place_facts(
     requires { All (λ f. f.task < tasks) facts.now }
     ensures placed { IfOk result (λ v. v.items ≡ events_of_facts runqueues tasks facts.now) }
     ensures within { IfOk result (λ v. find (is_beyond runqueues) v.items ≡ None) }
-    ensures beyond { IfErr result (FirstBeyond runqueues (events_of_facts runqueues tasks facts.now)) }
+    ensures beyond { IfErr result
+        (FirstBeyond runqueues (events_of_facts runqueues tasks facts.now)) }
 {
     let Ok(events) = events_of(alloc, tasks, facts) else {
         return Err(OrderFault::NoMemory);

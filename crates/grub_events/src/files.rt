@@ -107,7 +107,8 @@ fn put_named(out: &mut Vec<u8>, verb: &[u8], name: &[u8]) -> Result<(), AllocErr
 }
 
 fn put_run(out: &mut Vec<u8>, name: &[u8], micros: u64) -> Result<(), AllocError>
-    ensures { OnOk result (out.new.items ≡ out.old.items ++ (codes " run " ++ name.now ++ codes " " ++ decimal micros)) }
+    ensures { OnOk result (out.new.items
+        ≡ out.old.items ++ (codes " run " ++ name.now ++ codes " " ++ decimal micros)) }
 {
     put_named(out, b" run ", name)?;
     put_number(out, b" ", micros)?;
@@ -187,7 +188,8 @@ fn put_fair_join(
 }
 
 fn put_joinings(out: &mut Vec<u8>, tasks: &[Declared], events: &[Placed]) -> Result<(), AllocError>
-    ensures { OnOk result (out.new.items ≡ out.old.items ++ flat_map (joining_text tasks.now) events.now) }
+    ensures { OnOk result
+        (out.new.items ≡ out.old.items ++ flat_map (joining_text tasks.now) events.now) }
 {
     for placed in events {
         put_joining(out, tasks, placed)?;
@@ -196,7 +198,8 @@ fn put_joinings(out: &mut Vec<u8>, tasks: &[Declared], events: &[Placed]) -> Res
 }
 
 fn put_events(out: &mut Vec<u8>, tasks: &[Declared], events: &[Placed]) -> Result<(), AllocError>
-    ensures { OnOk result (out.new.items ≡ out.old.items ++ flat_map (event_text tasks.now) events.now) }
+    ensures { OnOk result
+        (out.new.items ≡ out.old.items ++ flat_map (event_text tasks.now) events.now) }
 {
     for placed in events {
         put_event(out, tasks, placed)?;

@@ -87,7 +87,8 @@ fn is_beyond(runqueues: u32, moment: u64, event: &Event) -> bool
 
 /// Puts an event at its moment.
 fn push(placed: &mut Vec<Placed>, moment: u32, event: &Event) -> Result<(), AllocError>
-    ensures { OnOk result (placed.new.items ≡ placed.old.items ++ (record { moment = moment; event = event.now }) ∷ []) }
+    ensures { OnOk result (placed.new.items
+        ≡ placed.old.items ++ (record { moment = moment; event = event.now }) ∷ []) }
 {
     placed.push(Placed {
         moment,
@@ -115,9 +116,11 @@ pub fn place_all(
     tasks: usize,
     events: &[Event],
 ) -> Result<Vec<Placed>, OrderFault>
-    ensures placed { IfOk result (λ v. v.items ≡ moments_of first (replicate runqueues 0) (replicate tasks nowhere) events.now) }
+    ensures placed { IfOk result (λ v. v.items
+        ≡ moments_of first (replicate runqueues 0) (replicate tasks nowhere) events.now) }
     ensures within { IfOk result (λ v. find (is_beyond runqueues) v.items ≡ None) }
-    ensures beyond { IfErr result (FirstBeyond runqueues (moments_of first (replicate runqueues 0) (replicate tasks nowhere) events.now)) }
+    ensures beyond { IfErr result (FirstBeyond runqueues
+        (moments_of first (replicate runqueues 0) (replicate tasks nowhere) events.now)) }
 {
     let Ok(mut files) = Vec::from_elem(alloc, 0u32, runqueues as usize) else {
         return Err(OrderFault::NoMemory);

@@ -68,7 +68,8 @@ fn put_one(
     act: Act,
     source: Source,
 ) -> Result<(), AllocError>
-    ensures { OnOk result (events.new.items ≡ events.old.items ++ event_of fact runqueue act source ∷ []) }
+    ensures { OnOk result
+        (events.new.items ≡ events.old.items ++ event_of fact runqueue act source ∷ []) }
 {
     events.push(event(fact, runqueue, act, source))?;
     Ok(())
@@ -82,7 +83,8 @@ fn put_told(
     sent: Option<u32>,
     standing: Standing,
 ) -> Result<(), AllocError>
-    ensures { OnOk result (events.new.items ≡ events.old.items ++ told fact sent fact.what standing) }
+    ensures { OnOk result
+        (events.new.items ≡ events.old.items ++ told fact sent fact.what standing) }
 {
     match (fact.what, standing) {
         (What::Wakes { cpu }, Standing::Unseen) => {

@@ -10,7 +10,8 @@ use grub_bw::{BW_UNIT, Params, Queue};
 /// `sched_rt_runtime_us` and `sched_rt_period_us` are these; none where it is not 1 to 2^20.
 pub fn umax_of(runtime: u64, period: u64) -> Option<u32>
     ensures some { IfSome result (λ most. (most ≡ runtime * 2 ^ 20 / period) × IsMost most) }
-    ensures none { IfNone result ((period ≡ 0) ⊎ ((runtime * 2 ^ 20 / period ≡ 0) ⊎ (2 ^ 20 < runtime * 2 ^ 20 / period))) }
+    ensures none { IfNone result ((period ≡ 0)
+        ⊎ ((runtime * 2 ^ 20 / period ≡ 0) ⊎ (2 ^ 20 < runtime * 2 ^ 20 / period))) }
 {
     if period == 0 {
         return None;
@@ -40,7 +41,8 @@ fn total_of(tasks: &[Params]) -> u64
 pub fn queue_of(most: u32, fair: Option<Params>, tasks: &[Params], runqueues: u32) -> Option<Queue>
     requires some { 1 ≤ runqueues }
     requires few { length tasks.now < 2 ^ 32 }
-    ensures made { IfSome result (λ q. q ≡ record { most = most; extra = extra_of most fair tasks.now runqueues }) }
+    ensures made { IfSome result
+        (λ q. q ≡ record { most = most; extra = extra_of most fair tasks.now runqueues }) }
     ensures refused { IfNone result (¬ IsMost most) }
 {
     let fair = match fair {

@@ -123,7 +123,8 @@ fn put_number(numbers: &mut Vec<u32>, number: u32) -> Result<(), AllocError>
 impl Counted {
     /// A task that this line is the first to show.
     fn new(alloc: Global, line: u64, task: &Shown<&[u8]>) -> Result<Counted, AllocError>
-        ensures { IfOk result (λ counted. tally_text counted ≡ tally_first line (shown_text task.now)) }
+        ensures { IfOk result
+            (λ counted. tally_text counted ≡ tally_first line (shown_text task.now)) }
     {
         let comm = Vec::from_slice(alloc, task.comm)?;
         Ok(Counted {
@@ -137,7 +138,8 @@ impl Counted {
     }
 
     fn add(&mut self, sighting: &Sighting<'_>) -> Result<(), AllocError>
-        ensures { OnOk result (tally_text self.new ≡ tally_with (sighting_text sighting.now) (tally_text self.old)) }
+        ensures { OnOk result
+            (tally_text self.new ≡ tally_with (sighting_text sighting.now) (tally_text self.old)) }
     {
         self.wakes = self.wakes.saturating_add(sighting.wakes);
         self.blocks = self.blocks.saturating_add(sighting.blocks);
@@ -163,7 +165,9 @@ impl Census {
 
     /// Counts a line of a task that is not counted yet.
     fn begin(&mut self, line: u64, sighting: &Sighting<'_>) -> Result<(), AllocError>
-        ensures { OnOk result (census_text self.new ≡ census_text self.old ++ tally_with (sighting_text sighting.now) (tally_first line (sighting_text sighting.now).task) ∷ []) }
+        ensures { OnOk result
+            (census_text self.new ≡ census_text self.old ++ tally_with (sighting_text sighting.now)
+            (tally_first line (sighting_text sighting.now).task) ∷ []) }
     {
         let mut task = Counted::new(self.alloc, line, &sighting.task)?;
         task.add(sighting)?;
@@ -173,7 +177,8 @@ impl Census {
 
     /// Counts a line of a task.
     fn count(&mut self, line: u64, sighting: &Sighting<'_>) -> Result<(), AllocError>
-        ensures { OnOk result (census_text self.new ≡ tallied line (sighting_text sighting.now) (census_text self.old)) }
+        ensures { OnOk result (census_text self.new
+            ≡ tallied line (sighting_text sighting.now) (census_text self.old)) }
     {
         match place_of_pid(&self.tasks, sighting.task.pid) {
             None => self.begin(line, sighting)?,
@@ -184,7 +189,8 @@ impl Census {
 
     /// Takes what a line says.
     fn take(&mut self, line: u64, said: &Said<&[u8]>) -> Result<(), AllocError>
-        ensures { OnOk result (census_text self.new ≡ seen line (sighting_of said.now.cpu (event_text said.now.event)) (census_text self.old)) }
+        ensures { OnOk result (census_text self.new ≡ seen line
+            (sighting_of said.now.cpu (event_text said.now.event)) (census_text self.old)) }
     {
         if let Some(sighting) = sighting_of(said.cpu, &said.event) {
             if !is_sugov(sighting.task.comm) {

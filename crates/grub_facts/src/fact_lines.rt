@@ -172,7 +172,8 @@ impl FactLines {
 
     /// Takes what a line of an event says.
     fn take_said(&mut self, line: u64, said: &Said<&[u8]>) -> Result<Option<Wrong>, AllocError>
-        ensures { IfOk result (λ wrong. after_of wrong (told_text self.new) ≡ event_line line (said_text said.now) (told_text self.old)) }
+        ensures { IfOk result (λ wrong. after_of wrong (told_text self.new)
+            ≡ event_line line (said_text said.now) (told_text self.old)) }
     {
         self.counts = counted(said, self.counts);
         let runqueues = self.runqueues_told().unwrap_or(64);
@@ -188,7 +189,8 @@ impl FactLines {
 
     /// Takes a line, without the byte that ends it, and answers what is wrong with it.
     pub(crate) fn take(&mut self, line: u64, text: &[u8]) -> Result<Option<Wrong>, AllocError>
-        ensures { IfOk result (λ wrong. after_of wrong (told_text self.new) ≡ fact_step line text.now (told_text self.old)) }
+        ensures { IfOk result (λ wrong. after_of wrong (told_text self.new)
+            ≡ fact_step line text.now (told_text self.old)) }
     {
         match line_of(text) {
             Line::Wrong(flaw) => Ok(Some(Wrong::of_flaw(flaw))),

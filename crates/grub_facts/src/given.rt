@@ -114,7 +114,8 @@ impl Tasks {
 
     /// One more task. Of two tasks with one pid the second is none that the trace shows.
     fn give(&mut self, name: &[u8]) -> Result<(), AllocError>
-        ensures { OnOk result (tasks_text self.new ≡ tasks_text self.old ++ given_by (number name.now) name.now (tasks_text self.old) ∷ []) }
+        ensures { OnOk result (tasks_text self.new ≡ tasks_text self.old
+            ++ given_by (number name.now) name.now (tasks_text self.old) ∷ []) }
     {
         let given = self.given_by(name)?;
         self.given.push(given)?;
@@ -123,7 +124,8 @@ impl Tasks {
 
     /// The task of this name, behind these.
     fn given_by(&self, name: &[u8]) -> Result<Given, AllocError>
-        ensures { IfOk result (λ given. given_text given ≡ given_by (number name.now) name.now (tasks_text self.now)) }
+        ensures { IfOk result (λ given. given_text given
+            ≡ given_by (number name.now) name.now (tasks_text self.now)) }
     {
         match number(name) {
             None => Ok(Given {
@@ -189,8 +191,10 @@ impl Tasks {
 
     /// The index of the task that a line shows, which is noted where it is the first to show it.
     fn show(&mut self, line: u64, shown: &Shown<&[u8]>) -> Result<Option<usize>, AllocError>
-        ensures tasks { OnOk result (tasks_text self.new ≡ showing line (shown_text shown.now) (tasks_text self.old)) }
-        ensures index { IfOk result (λ i. i ≡ shown_index (tasks_text self.old) (shown_text shown.now)) }
+        ensures tasks { OnOk result
+            (tasks_text self.new ≡ showing line (shown_text shown.now) (tasks_text self.old)) }
+        ensures index { IfOk result
+            (λ i. i ≡ shown_index (tasks_text self.old) (shown_text shown.now)) }
     {
         let index = self.settle(shown);
         let Some(i) = index else {
@@ -221,8 +225,10 @@ impl Tasks {
 
     /// Makes an hrtimer the 0-lag timer of the task with this pid, and of no other.
     fn arm(&mut self, timer: &[u8], pid: u64) -> Result<Option<usize>, AllocError>
-        ensures tasks { OnOk result (tasks_text self.new ≡ arming timer.now pid (tasks_text self.old)) }
-        ensures index { IfOk result (λ i. i ≡ index_of (disowned timer.now (tasks_text self.old)) pid) }
+        ensures tasks { OnOk result
+            (tasks_text self.new ≡ arming timer.now pid (tasks_text self.old)) }
+        ensures index { IfOk result
+            (λ i. i ≡ index_of (disowned timer.now (tasks_text self.old)) pid) }
     {
         self.disown(timer);
         let index = self.index_of(pid);
@@ -234,8 +240,11 @@ impl Tasks {
     }
 
     fn note_shown(&mut self, line: u64, shown: &Shown<&[u8]>) -> Result<Option<usize>, AllocError>
-        ensures tasks { OnOk result (tasks_text self.new ≡ (if is_sugov shown.now.comm.now then tasks_text self.old else showing line (shown_text shown.now) (tasks_text self.old))) }
-        ensures index { IfOk result (λ i. i ≡ index_shown (tasks_text self.old) (shown_text shown.now)) }
+        ensures tasks { OnOk result
+            (tasks_text self.new ≡ (if is_sugov shown.now.comm.now then tasks_text self.old
+            else showing line (shown_text shown.now) (tasks_text self.old))) }
+        ensures index { IfOk result
+            (λ i. i ≡ index_shown (tasks_text self.old) (shown_text shown.now)) }
     {
         if is_sugov(shown.comm) {
             return Ok(None);
@@ -249,8 +258,10 @@ impl Tasks {
         line: u64,
         event: &Event<&[u8]>,
     ) -> Result<Option<usize>, AllocError>
-        ensures tasks { OnOk result (tasks_text self.new ≡ tasks_after line (event_text event.now) (tasks_text self.old)) }
-        ensures index { IfOk result (λ i. i ≡ index_told (event_text event.now) (tasks_text self.old)) }
+        ensures tasks { OnOk result
+            (tasks_text self.new ≡ tasks_after line (event_text event.now) (tasks_text self.old)) }
+        ensures index { IfOk result
+            (λ i. i ≡ index_told (event_text event.now) (tasks_text self.old)) }
     {
         match *event {
             Event::Woken {
@@ -286,7 +297,8 @@ impl Tasks {
 
     /// Where each task was first shown.
     pub(crate) fn finish(self) -> Result<Vec<Option<Found>>, AllocError>
-        ensures { IfOk result (λ found. map (option_map finding_text) found.items ≡ map (λ (t : Task). t.found) (tasks_text self)) }
+        ensures { IfOk result (λ found. map (option_map finding_text) found.items
+            ≡ map (λ (t : Task). t.found) (tasks_text self)) }
     {
         let Tasks { alloc, given } = self;
         let mut found = Vec::with_capacity(alloc, given.len())?;

@@ -154,7 +154,8 @@ fn woken_by<'a>(event: &Event<&'a [u8]>) -> Shown<&'a [u8]>
 
 /// The fault of a wake of a task that was not given.
 fn unknown(alloc: Global, event: &Event<&[u8]>) -> Result<Wrong, AllocError>
-    ensures { IfOk result (λ wrong. Some (problem_of wrong) ≡ problem_of_trouble (event_text event.now) Unknown) }
+    ensures { IfOk result
+        (λ wrong. Some (problem_of wrong) ≡ problem_of_trouble (event_text event.now) Unknown) }
 {
     let task = woken_by(event);
     let comm = Vec::from_slice(alloc, task.comm)?;
@@ -167,7 +168,8 @@ fn unknown(alloc: Global, event: &Event<&[u8]>) -> Result<Wrong, AllocError>
 impl Keeper {
     /// A keeper of the tasks with these names.
     pub(crate) fn new(alloc: Global, names: &[&[u8]]) -> Result<Keeper, AllocError>
-        ensures tasks { IfOk result (λ keeper. (kept_text keeper).tasks ≡ tasks_given (map text_of names.now)) }
+        ensures tasks { IfOk result
+            (λ keeper. (kept_text keeper).tasks ≡ tasks_given (map text_of names.now)) }
         ensures facts { IfOk result (λ keeper. (kept_text keeper).facts ≡ []) }
     {
         let tasks = Tasks::new(alloc, names)?;
@@ -185,7 +187,8 @@ impl Keeper {
         task: Option<usize>,
         what: Option<What>,
     ) -> Result<(), AllocError>
-        ensures facts { OnOk result (self.new.facts.items ≡ self.old.facts.items ++ fact_told line at task what) }
+        ensures facts { OnOk result
+            (self.new.facts.items ≡ self.old.facts.items ++ fact_told line at task what) }
         ensures tasks { tasks_text self.new.tasks ≡ tasks_text self.old.tasks }
     {
         if let Some(task) = task {
@@ -208,8 +211,12 @@ impl Keeper {
         said: &Said<&[u8]>,
         runqueues: u32,
     ) -> Result<Option<Wrong>, AllocError>
-        ensures fault { IfOk result (λ wrong. option_map problem_of wrong ≡ problem_of_trouble (event_text said.now.event) (trouble_of (said_text said.now) (kept_text self.old).tasks runqueues)) }
-        ensures kept { IfOk result (λ wrong. kept_text self.new ≡ kept_by line (said_text said.now) (kept_text self.old) (trouble_of (said_text said.now) (kept_text self.old).tasks runqueues)) }
+        ensures fault { IfOk result
+            (λ wrong. option_map problem_of wrong ≡ problem_of_trouble (event_text said.now.event)
+            (trouble_of (said_text said.now) (kept_text self.old).tasks runqueues)) }
+        ensures kept { IfOk result
+            (λ wrong. kept_text self.new ≡ kept_by line (said_text said.now) (kept_text self.old)
+            (trouble_of (said_text said.now) (kept_text self.old).tasks runqueues)) }
     {
         let task = self.tasks.note(line, &said.event)?;
         match trouble_told(&said.event, task, runqueues) {
@@ -225,7 +232,8 @@ impl Keeper {
     /// The facts, and where each given task was first shown.
     pub(crate) fn finish(self) -> Result<(Vec<Fact>, Vec<Option<Found>>), AllocError>
         ensures facts { IfOk result (λ r. r.0.items ≡ (kept_text self).facts) }
-        ensures found { IfOk result (λ r. map (option_map finding_text) r.1.items ≡ map (λ (t : Task). t.found) (kept_text self).tasks) }
+        ensures found { IfOk result (λ r. map (option_map finding_text) r.1.items
+            ≡ map (λ (t : Task). t.found) (kept_text self).tasks) }
     {
         let Keeper {
             alloc: _,

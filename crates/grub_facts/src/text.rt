@@ -24,7 +24,8 @@ pub trait Lines {
 
     /// Takes a line, without the byte that ends it, and answers what is wrong with it.
     fn take_line(&mut self, line: u64, text: &[u8]) -> Result<Option<Wrong>, AllocError>
-        ensures { IfOk result (λ wrong. after_of wrong (told self.new) ≡ step line text.now (told self.old)) };
+        ensures { IfOk result
+            (λ wrong. after_of wrong (told self.new) ≡ step line text.now (told self.old)) };
 }
 
 /// The lines of a text that comes in pieces, up to the first fault.
@@ -85,7 +86,8 @@ impl Text {
     /// Takes the next line, behind which nothing came.
     fn take<L: Lines>(&mut self, lines: &mut L, text: &[u8]) -> Result<(), AllocError>
         requires { self.old.carry.items ≡ [] }
-        ensures { OnOk result (progress self.new (L.told lines.new) ≡ line_ended L.step (progress self.old (L.told lines.old)) text.now) }
+        ensures { OnOk result (progress self.new (L.told lines.new)
+            ≡ line_ended L.step (progress self.old (L.told lines.old)) text.now) }
     {
         self.line = self.line.saturating_add(1);
         let wrong = lines.take_line(self.line, without_return(text))?;
@@ -95,7 +97,8 @@ impl Text {
 
     /// Takes the line that ends with this text, behind what came before.
     fn end_line<L: Lines>(&mut self, lines: &mut L, last: &[u8]) -> Result<(), AllocError>
-        ensures { OnOk result (progress self.new (L.told lines.new) ≡ line_ended L.step (progress self.old (L.told lines.old)) (self.old.carry.items ++ last.now)) }
+        ensures { OnOk result (progress self.new (L.told lines.new) ≡ line_ended L.step
+            (progress self.old (L.told lines.old)) (self.old.carry.items ++ last.now)) }
     {
         if self.carry.is_empty() {
             return self.take(lines, last);
@@ -108,7 +111,8 @@ impl Text {
 
     /// Takes a piece. Behind the first fault nothing is read any more.
     pub(crate) fn feed<L: Lines>(&mut self, lines: &mut L, piece: &[u8]) -> Result<(), AllocError>
-        ensures { OnOk result (progress self.new (L.told lines.new) ≡ further L.step (progress self.old (L.told lines.old)) piece.now) }
+        ensures { OnOk result (progress self.new (L.told lines.new)
+            ≡ further L.step (progress self.old (L.told lines.old)) piece.now) }
     {
         let mut rest = piece;
         while self.fault.is_none() {
@@ -131,7 +135,8 @@ impl Text {
 
     /// The first fault, where the text ends here.
     pub(crate) fn end(self) -> Option<LineFault>
-        ensures { option_map fault_text result ≡ fault_at_end (option_map fault_text self.fault) self.line self.carry.items }
+        ensures { option_map fault_text result
+            ≡ fault_at_end (option_map fault_text self.fault) self.line self.carry.items }
     {
         let Text { carry, line, fault } = self;
         if fault.is_some() || carry.is_empty() {

@@ -12,9 +12,11 @@ pub(crate) fn space_in(text: &[u8]) -> Option<usize>
 
 /// The first word, and what follows its space.
 pub(crate) fn first_word(text: &[u8]) -> (&[u8], Option<&[u8]>)
-    ensures words { MatchOption result.1 (words_of text.now ≡ result.0.now ∷ []) (λ rest. words_of text.now ≡ result.0.now ∷ words_of rest.now) }
+    ensures words { MatchOption result.1 (words_of text.now ≡ result.0.now ∷ [])
+        (λ rest. words_of text.now ≡ result.0.now ∷ words_of rest.now) }
     ensures word { result.0.now ≡ word_of text.now }
-    ensures len { MatchOption result.1 (length result.0.now ≡ length text.now) (λ rest. length result.0.now + 1 + length rest.now ≡ length text.now) }
+    ensures len { MatchOption result.1 (length result.0.now ≡ length text.now)
+        (λ rest. length result.0.now + 1 + length rest.now ≡ length text.now) }
 {
     match space_in(text) {
         None => (text, None),
@@ -30,7 +32,8 @@ fn end_in(text: &[u8]) -> Option<usize>
 
 /// The first line, without the byte that ends it, and what follows; none where no byte ends it.
 pub(crate) fn first_line(text: &[u8]) -> Option<(&[u8], &[u8])>
-    ensures parts { MatchOption result (parts_of text.now ≡ text.now ∷ []) (λ x. parts_of text.now ≡ x.0.now ∷ parts_of x.1.now) }
+    ensures parts { MatchOption result (parts_of text.now ≡ text.now ∷ [])
+        (λ x. parts_of text.now ≡ x.0.now ∷ parts_of x.1.now) }
     ensures len { IfSome result (λ x. length x.1.now < length text.now) }
 {
     match end_in(text) {

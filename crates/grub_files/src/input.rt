@@ -42,9 +42,12 @@ pub fn read_file<
     requires read { N.IsAlwaysCallable source.now.read }
     ensures few { IfOk result (λ v. vec_len v ≤ file_bytes_most) }
     ensures whole { IfOk result (λ v. Holds O.Fn N.Fn source.now path.now v.items) }
-    ensures unreadable { IfErr result (λ e. e ≡ faults.Read → IsUnreadable O.Fn N.Fn source.now path.now) }
-    ensures too_long { IfErr result (λ e. e ≡ faults.TooLong → IsLonger O.Fn N.Fn source.now path.now) }
-    ensures memory { IfErr result (λ e. e ≡ faults.NoMemory → IsOpened O.Fn N.Fn source.now path.now) }
+    ensures unreadable { IfErr result
+        (λ e. e ≡ faults.Read → IsUnreadable O.Fn N.Fn source.now path.now) }
+    ensures too_long { IfErr result
+        (λ e. e ≡ faults.TooLong → IsLonger O.Fn N.Fn source.now path.now) }
+    ensures memory { IfErr result
+        (λ e. e ≡ faults.NoMemory → IsOpened O.Fn N.Fn source.now path.now) }
 {
     match (source.open)(path) {
         Ok(file) => {
@@ -83,7 +86,8 @@ fn read_behind<D, N: Fn(&mut D, &mut [u8]) -> io::Result<usize>>(
     requires callable { N.IsAlwaysCallable read.now }
     requires has_room { filled < length room.old }
     ensures fits { IfOk result (λ n. filled + n ≤ length room.new) }
-    ensures gives { IfOk result (λ n. (piece : List ℕ) × Gives N.Fn read.now file.old piece file.new × (length piece ≡ n) × (take (filled + n) room.new ≡ take filled room.old ++ piece)) }
+    ensures gives { IfOk result (λ n. (piece : List ℕ) × Gives N.Fn read.now file.old piece file.new
+        × (length piece ≡ n) × (take (filled + n) room.new ≡ take filled room.old ++ piece)) }
     ensures fails { IfErr result (λ e. (e ≡ faults.Read) × Fails N.Fn read.now file.old file.new) }
 {
     read_once(read, file, &mut room[filled..])
@@ -117,7 +121,9 @@ fn read_more<D, N: Fn(&mut D, &mut [u8]) -> io::Result<usize>>(
     requires within { vec_len bytes.old ≤ file_bytes_most + 1 }
     ensures fits { IfOk result (λ n. filled + n ≤ vec_len bytes.new) }
     ensures within { IfOk result (λ n. vec_len bytes.new ≤ file_bytes_most + 1) }
-    ensures gives { IfOk result (λ n. (piece : List ℕ) × Gives N.Fn read.now file.old piece file.new × (length piece ≡ n) × (take (filled + n) bytes.new.items ≡ take filled bytes.old.items ++ piece)) }
+    ensures gives { IfOk result
+        (λ n. (piece : List ℕ) × Gives N.Fn read.now file.old piece file.new × (length piece ≡ n)
+        × (take (filled + n) bytes.new.items ≡ take filled bytes.old.items ++ piece)) }
     ensures fails { IfErr result (λ e. e ≡ faults.Read → Fails N.Fn read.now file.old file.new) }
     ensures memory { IfErr result (λ e. e ≡ faults.NoMemory → file.new ≡ file.old) }
     ensures kinds { IfErr result (λ e. (e ≡ faults.Read) ⊎ (e ≡ faults.NoMemory)) }
@@ -138,9 +144,12 @@ pub fn read_all<D, N: Fn(&mut D, &mut [u8]) -> io::Result<usize>>(
     requires { N.IsAlwaysCallable read.now }
     ensures few { IfOk result (λ v. vec_len v ≤ file_bytes_most) }
     ensures whole { IfOk result (λ v. ReadsWhole N.Fn read.now file.old v.items file.new) }
-    ensures broken { IfErr result (λ e. e ≡ faults.Read → BreaksOff N.Fn read.now file.old file.new) }
-    ensures too_long { IfErr result (λ e. e ≡ faults.TooLong → Exceeds N.Fn read.now file.old file.new) }
-    ensures memory { IfErr result (λ e. e ≡ faults.NoMemory → StopsWithin N.Fn read.now file.old file.new) }
+    ensures broken { IfErr result
+        (λ e. e ≡ faults.Read → BreaksOff N.Fn read.now file.old file.new) }
+    ensures too_long { IfErr result
+        (λ e. e ≡ faults.TooLong → Exceeds N.Fn read.now file.old file.new) }
+    ensures memory { IfErr result
+        (λ e. e ≡ faults.NoMemory → StopsWithin N.Fn read.now file.old file.new) }
 {
     let mut bytes = Vec::new(alloc);
     let mut filled = 0;

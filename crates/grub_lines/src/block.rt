@@ -41,7 +41,8 @@ pub fn make_block<X, L: Line<X>>(
 )
     requires fits { All (λ x. L.fits lines.now x) items.now }
     requires room { size * LINE_MAX ≤ vec_capacity block.old }
-    ensures text { block.new.items ≡ flat_map (L.line lines.now) (slice_chunk items.now size number) }
+    ensures text { block.new.items
+        ≡ flat_map (L.line lines.now) (slice_chunk items.now size number) }
     ensures room { vec_capacity block.old ≤ vec_capacity block.new }
 {
     // The vectors of a round stand side by side. Each is filled out of its place, since a thread that counted its bytes there

@@ -55,8 +55,10 @@ impl Blocks {
     ) -> io::Result<()>
         requires fits { All (λ x. L.fits lines.now x) items.now }
         requires most { length items.now ≤ ROUND_MAX }
-        ensures whole { OnOk result (HandsOn (W.contents out.old) (W.contents out.new) [] (flat_map (L.line lines.now) items.now) []) }
-        ensures part { OnErr result (HandsPart (W.contents out.old) (W.contents out.new) [] (flat_map (L.line lines.now) items.now)) }
+        ensures whole { OnOk result (HandsOn (W.contents out.old) (W.contents out.new) []
+            (flat_map (L.line lines.now) items.now) []) }
+        ensures part { OnErr result (HandsPart (W.contents out.old) (W.contents out.new) []
+            (flat_map (L.line lines.now) items.now)) }
     {
         make_blocks(
             rt,
@@ -80,8 +82,11 @@ fn make_blocks<R: Threads + Sync, X: Sync, L: Line<X> + Sync>(
     requires some { 0 < length blocks.old }
     requires fits { All (λ x. L.fits lines.now x) items.now }
     requires room { All (λ b. size * LINE_MAX ≤ vec_capacity b) blocks.old }
-    ensures text { (i : ℕ) (d : _) → i < length blocks.old → (slice_index_or blocks.new i d).items ≡ flat_map (L.line lines.now) (slice_chunk items.now size i) }
-    ensures room { (i : ℕ) (d : _) → i < length blocks.old → vec_capacity (slice_index_or blocks.old i d) ≤ vec_capacity (slice_index_or blocks.new i d) }
+    ensures text { (i : ℕ) (d : _) → i < length blocks.old → (slice_index_or blocks.new i d).items
+        ≡ flat_map (L.line lines.now) (slice_chunk items.now size i) }
+    ensures room { (i : ℕ) (d : _) → i < length blocks.old
+        → vec_capacity (slice_index_or blocks.old i d)
+        ≤ vec_capacity (slice_index_or blocks.new i d) }
 {
     thread::for_each_mut(
         rt,
@@ -93,8 +98,10 @@ fn make_blocks<R: Threads + Sync, X: Sync, L: Line<X> + Sync>(
 
 /// Writes the blocks in order. After a failing write, or one that took nothing, a beginning of them was written.
 fn write_blocks<W: Write>(blocks: &[Vec<u8>], out: &mut W) -> io::Result<()>
-    ensures whole { OnOk result (HandsOn (W.contents out.old) (W.contents out.new) [] (flat_map (λ b. b.items) blocks.now) []) }
-    ensures part { OnErr result (HandsPart (W.contents out.old) (W.contents out.new) [] (flat_map (λ b. b.items) blocks.now)) }
+    ensures whole { OnOk result (HandsOn (W.contents out.old) (W.contents out.new) []
+        (flat_map (λ b. b.items) blocks.now) []) }
+    ensures part { OnErr result (HandsPart (W.contents out.old) (W.contents out.new) []
+        (flat_map (λ b. b.items) blocks.now)) }
 {
     for block in blocks {
         write_bytes(block, out)?;

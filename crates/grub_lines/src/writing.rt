@@ -27,8 +27,10 @@ pub fn write_lines<R: Threads + Sync, W: Write, X: Sync, L: Line<X> + Sync>(
 ) -> io::Result<()>
     requires fits { All (λ x. L.fits lines.now x) items.now }
     requires room { LINE_MAX ≤ vec_capacity buffer.old }
-    ensures whole { OnOk result (HandsOn (W.contents out.old) (W.contents out.new) buffer.old.items (flat_map (L.line lines.now) items.now) buffer.new.items) }
-    ensures part { OnErr result (HandsPart (W.contents out.old) (W.contents out.new) buffer.old.items (flat_map (L.line lines.now) items.now)) }
+    ensures whole { OnOk result (HandsOn (W.contents out.old) (W.contents out.new) buffer.old.items
+        (flat_map (L.line lines.now) items.now) buffer.new.items) }
+    ensures part { OnErr result (HandsPart (W.contents out.old)
+        (W.contents out.new) buffer.old.items (flat_map (L.line lines.now) items.now)) }
     ensures room { LINE_MAX ≤ vec_capacity buffer.new }
 {
     if items.len() < MANY {
@@ -47,8 +49,10 @@ fn write_few<W: Write, X, L: Line<X>>(
 ) -> io::Result<()>
     requires fits { All (λ x. L.fits lines.now x) items.now }
     requires room { LINE_MAX ≤ vec_capacity buffer.old }
-    ensures whole { OnOk result (HandsOn (W.contents out.old) (W.contents out.new) buffer.old.items (flat_map (L.line lines.now) items.now) buffer.new.items) }
-    ensures part { OnErr result (HandsPart (W.contents out.old) (W.contents out.new) buffer.old.items (flat_map (L.line lines.now) items.now)) }
+    ensures whole { OnOk result (HandsOn (W.contents out.old) (W.contents out.new) buffer.old.items
+        (flat_map (L.line lines.now) items.now) buffer.new.items) }
+    ensures part { OnErr result (HandsPart (W.contents out.old)
+        (W.contents out.new) buffer.old.items (flat_map (L.line lines.now) items.now)) }
     ensures room { LINE_MAX ≤ vec_capacity buffer.new }
 {
     for item in items {
@@ -66,8 +70,10 @@ fn write_many<R: Threads + Sync, W: Write, X: Sync, L: Line<X> + Sync>(
     lines: &L,
 ) -> io::Result<()>
     requires fits { All (λ x. L.fits lines.now x) items.now }
-    ensures whole { OnOk result (HandsOn (W.contents out.old) (W.contents out.new) [] (flat_map (L.line lines.now) items.now) []) }
-    ensures part { OnErr result (HandsPart (W.contents out.old) (W.contents out.new) [] (flat_map (L.line lines.now) items.now)) }
+    ensures whole { OnOk result (HandsOn (W.contents out.old) (W.contents out.new) []
+        (flat_map (L.line lines.now) items.now) []) }
+    ensures part { OnErr result (HandsPart (W.contents out.old) (W.contents out.new) []
+        (flat_map (L.line lines.now) items.now)) }
 {
     let mut at = 0;
     while at < items.len() {

@@ -18,7 +18,8 @@ pub fn put_curve(
     base: u32,
     running: bool,
 ) -> Result<(), AllocError>
-    ensures { OnOk result (out.new.items ≡ out.old.items ++ curve_text frame r steps.now base running) }
+    ensures { OnOk result
+        (out.new.items ≡ out.old.items ++ curve_text frame r steps.now base running) }
 {
     out.extend_from_slice(b"<path class=\"")?;
     out.extend_from_slice(class_of(running))?;
@@ -42,7 +43,8 @@ fn put_points(
     base: u32,
     running: bool,
 ) -> Result<(), AllocError>
-    ensures { OnOk result (out.new.items ≡ out.old.items ++ points_text base 0 (lasts 130 0 (points_of frame running r steps.now))) }
+    ensures { OnOk result (out.new.items
+        ≡ out.old.items ++ points_text base 0 (lasts 130 0 (points_of frame running r steps.now))) }
 {
     let mut column = LEFT;
     let mut now = 0;
@@ -81,7 +83,8 @@ fn bandwidth_in(running: bool, reading: Reading) -> u32
 /// A step of a curve, where it changes.
 #[tactic(auto, unfolding(crate::specs::Curves::point_text))]
 fn put_point(out: &mut Vec<u8>, x: u64, base: u32, shown: u32, now: u32) -> Result<(), AllocError>
-    ensures { OnOk result (out.new.items ≡ out.old.items ++ point_text base shown (record { x = x; bandwidth = now })) }
+    ensures { OnOk result (out.new.items
+        ≡ out.old.items ++ point_text base shown (record { x = x; bandwidth = now })) }
 {
     if shown == now {
         return Ok(());

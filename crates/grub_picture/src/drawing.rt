@@ -40,7 +40,8 @@ impl<'a> Scene<'a> {
     /// The steps of task `t`.
     fn own(&self, t: u32) -> &'a [Step]
         requires there { t < length self.now.plan.now.setup.tasks }
-        requires owns { map (λ v. v.items) self.now.owns.now ≡ owns_of (length self.now.plan.now.setup.tasks) self.now.steps.now }
+        requires owns { map (λ v. v.items) self.now.owns.now
+            ≡ owns_of (length self.now.plan.now.setup.tasks) self.now.steps.now }
         ensures { result.now ≡ own_steps t self.now.steps.now }
     {
         own_of(self.owns, t)
@@ -59,8 +60,10 @@ pub fn put_queue(
 ) -> Result<u32, AllocError>
     requires there { r < length scene.now.plan.now.setup.queues }
     requires room { y + 4194 < 2 ^ 32 }
-    requires owns { map (λ v. v.items) scene.now.owns.now ≡ owns_of (length scene.now.plan.now.setup.tasks) scene.now.steps.now }
-    ensures text { OnOk result (out.new.items ≡ out.old.items ++ queue_text (drawn_of scene.now) r y) }
+    requires owns { map (λ v. v.items) scene.now.owns.now
+        ≡ owns_of (length scene.now.plan.now.setup.tasks) scene.now.steps.now }
+    ensures text { OnOk result
+        (out.new.items ≡ out.old.items ++ queue_text (drawn_of scene.now) r y) }
     ensures end { IfOk result (λ e. e ≡ queue_end (drawn_of scene.now) r y) }
     ensures most { IfOk result (λ e. e ≤ y + 4194) }
 {
@@ -86,8 +89,10 @@ fn put_lanes(
     y: u32,
 ) -> Result<u32, AllocError>
     requires room { y + 4096 < 2 ^ 32 }
-    requires owns { map (λ v. v.items) scene.now.owns.now ≡ owns_of (length scene.now.plan.now.setup.tasks) scene.now.steps.now }
-    ensures text { OnOk result (out.new.items ≡ out.old.items ++ lanes_text (drawn_of scene.now) r y (lanes_of (drawn_of scene.now) r)) }
+    requires owns { map (λ v. v.items) scene.now.owns.now
+        ≡ owns_of (length scene.now.plan.now.setup.tasks) scene.now.steps.now }
+    ensures text { OnOk result (out.new.items
+        ≡ out.old.items ++ lanes_text (drawn_of scene.now) r y (lanes_of (drawn_of scene.now) r)) }
     ensures end { IfOk result (λ e. e ≡ y + 16 * length (lanes_of (drawn_of scene.now) r)) }
     ensures most { IfOk result (λ e. e ≤ y + 4096) }
 {
@@ -112,9 +117,13 @@ fn put_lane(
     y: u32,
 ) -> Result<(), AllocError>
     requires there { of.1 < length scene.now.plan.now.setup.tasks }
-    requires owns { map (λ v. v.items) scene.now.owns.now ≡ owns_of (length scene.now.plan.now.setup.tasks) scene.now.steps.now }
-    requires bars { bars.now ≡ bars_of of.0 scene.now.frame.to (own_steps of.1 scene.now.steps.now) }
-    ensures { OnOk result (out.new.items ≡ out.old.items ++ lane_text scene.now.frame scene.now.marks.now of.0 of.1 (name_at scene.now.plan.now.names of.1) (own_steps of.1 scene.now.steps.now) y) }
+    requires owns { map (λ v. v.items) scene.now.owns.now
+        ≡ owns_of (length scene.now.plan.now.setup.tasks) scene.now.steps.now }
+    requires bars { bars.now
+        ≡ bars_of of.0 scene.now.frame.to (own_steps of.1 scene.now.steps.now) }
+    ensures { OnOk result
+        (out.new.items ≡ out.old.items ++ lane_text scene.now.frame scene.now.marks.now of.0 of.1
+        (name_at scene.now.plan.now.names of.1) (own_steps of.1 scene.now.steps.now) y) }
 {
     let (r, t) = of;
     let name = scene.plan.name(t);

@@ -54,7 +54,8 @@ pub fn picture_text(
     requires line { IsTimeLine plan.now line.now.told.items line.now.closing.items }
     requires within { AreWithin plan.now.setup line.now.told.items }
     requires span { from < to }
-    ensures text { IfOk result (λ v. v.items ≡ picture_of plan.now.setup plan.now.names (steps_of plan.now.setup line.now.told.items) [] from to) }
+    ensures text { IfOk result (λ v. v.items ≡ picture_of plan.now.setup plan.now.names
+        (steps_of plan.now.setup line.now.told.items) [] from to) }
     ensures short { IfOk result (λ v. vec_len v < 2 ^ 22) }
 {
     text_of(alloc, plan, line, from, to, &[]).map_err(|_| ViewFault::NoMemory)
@@ -72,7 +73,8 @@ pub fn marked_picture_text(
     requires line { IsTimeLine plan.now line.now.told.items line.now.closing.items }
     requires within { AreWithin plan.now.setup line.now.told.items }
     requires span { from < to }
-    ensures text { IfOk result (λ v. v.items ≡ picture_of plan.now.setup plan.now.names (steps_of plan.now.setup line.now.told.items) marks.now from to) }
+    ensures text { IfOk result (λ v. v.items ≡ picture_of plan.now.setup plan.now.names
+        (steps_of plan.now.setup line.now.told.items) marks.now from to) }
     ensures short { IfOk result (λ v. vec_len v < 2 ^ 22) }
 {
     text_of(alloc, plan, line, from, to, marks).map_err(|_| ViewFault::NoMemory)
@@ -87,7 +89,8 @@ fn text_of(
     marks: &[Mark],
 ) -> Result<Vec<u8>, AllocError>
     requires { AreToldIn plan.now.setup line.now.told.items }
-    ensures text { IfOk result (λ v. v.items ≡ picture_of plan.now.setup plan.now.names (steps_of plan.now.setup line.now.told.items) marks.now from to) }
+    ensures text { IfOk result (λ v. v.items ≡ picture_of plan.now.setup plan.now.names
+        (steps_of plan.now.setup line.now.told.items) marks.now from to) }
     ensures short { IfOk result (λ v. vec_len v < 2 ^ 22) }
 {
     let steps = replay(alloc, plan.setup(), &line.told)?;
@@ -110,7 +113,8 @@ fn text_of(
 
 /// The steps of each task.
 fn own_steps(alloc: Global, plan: &Plan, steps: &[Step]) -> Result<Vec<Vec<Step>>, AllocError>
-    ensures { IfOk result (λ v. map (λ own. own.items) v.items ≡ owns_of (length plan.now.setup.tasks) steps.now) }
+    ensures { IfOk result
+        (λ v. map (λ own. own.items) v.items ≡ owns_of (length plan.now.setup.tasks) steps.now) }
 {
     let mut owns = Vec::new(alloc);
     for t in 0..plan.setup().task_count() {
@@ -122,7 +126,8 @@ fn own_steps(alloc: Global, plan: &Plan, steps: &[Step]) -> Result<Vec<Vec<Step>
 /// The whole document.
 #[tactic(auto, unfolding(crate::specs::Picture::drawing))]
 fn drawn(alloc: Global, scene: &Scene) -> Result<Vec<u8>, AllocError>
-    requires { map (λ v. v.items) scene.now.owns.now ≡ owns_of (length scene.now.plan.now.setup.tasks) scene.now.steps.now }
+    requires { map (λ v. v.items) scene.now.owns.now
+        ≡ owns_of (length scene.now.plan.now.setup.tasks) scene.now.steps.now }
     ensures { IfOk result (λ v. v.items ≡ drawing (drawn_of scene.now)) }
 {
     let mut queues = Vec::new(alloc);
@@ -138,9 +143,12 @@ fn drawn(alloc: Global, scene: &Scene) -> Result<Vec<u8>, AllocError>
 
 /// The runqueues, one below the other. The answer is where the last of them ends.
 fn put_queues(alloc: Global, out: &mut Vec<u8>, scene: &Scene) -> Result<u32, AllocError>
-    requires { map (λ v. v.items) scene.now.owns.now ≡ owns_of (length scene.now.plan.now.setup.tasks) scene.now.steps.now }
-    ensures text { OnOk result (out.new.items ≡ out.old.items ++ queues_text (drawn_of scene.now) 76 (queues_of (drawn_of scene.now))) }
-    ensures end { IfOk result (λ e. e ≡ queues_end (drawn_of scene.now) 76 (queues_of (drawn_of scene.now))) }
+    requires { map (λ v. v.items) scene.now.owns.now
+        ≡ owns_of (length scene.now.plan.now.setup.tasks) scene.now.steps.now }
+    ensures text { OnOk result (out.new.items
+        ≡ out.old.items ++ queues_text (drawn_of scene.now) 76 (queues_of (drawn_of scene.now))) }
+    ensures end { IfOk result
+        (λ e. e ≡ queues_end (drawn_of scene.now) 76 (queues_of (drawn_of scene.now))) }
 {
     let mut y = 76;
     for r in 0..scene.plan.setup().queue_count() {

@@ -49,7 +49,8 @@ pub fn append_number(out: &mut Vec<u8>, piece: &[u8], n: u64)
 
 fn append_pair(out: &mut Vec<u8>, first: &[u8], x: u32, second: &[u8], y: u32)
     requires { vec_len out.old + length first.now + length second.now + 40 ≤ vec_capacity out.old }
-    ensures text { out.new.items ≡ out.old.items ++ (first.now ++ decimal x ++ second.now ++ decimal y) }
+    ensures text { out.new.items
+        ≡ out.old.items ++ (first.now ++ decimal x ++ second.now ++ decimal y) }
     ensures len { vec_len out.new ≤ vec_len out.old + length first.now + length second.now + 40 }
     ensures room { vec_capacity out.old ≤ vec_capacity out.new }
 {
@@ -69,7 +70,8 @@ pub fn append_reading(out: &mut Vec<u8>, reading: Reading)
 
 fn append_charged(out: &mut Vec<u8>, dq: u64, k: u32, q: u32, d: u32)
     requires { vec_len out.old + ANSWER_MAX ≤ vec_capacity out.old }
-    ensures text { out.new.items ≡ out.old.items ++ server_text (codes "charged dq=" ++ decimal dq ++ codes " k=" ++ decimal k ++ codes " ") q d }
+    ensures text { out.new.items ≡ out.old.items ++ server_text (codes "charged dq=" ++ decimal dq
+        ++ codes " k=" ++ decimal k ++ codes " ") q d }
     ensures len { vec_len out.new ≤ vec_len out.old + ANSWER_MAX }
     ensures room { vec_capacity out.old ≤ vec_capacity out.new }
 {
@@ -139,7 +141,8 @@ fn append_named(out: &mut Vec<u8>, verb: &[u8], name: &str)
 
 fn append_named_number(out: &mut Vec<u8>, verb: &[u8], name: &str, n: u32)
     requires { vec_len out.old + length verb.now + length name.now + 21 ≤ vec_capacity out.old }
-    ensures text { out.new.items ≡ out.old.items ++ (verb.now ++ name.now ++ codes " " ++ decimal n) }
+    ensures text { out.new.items
+        ≡ out.old.items ++ (verb.now ++ name.now ++ codes " " ++ decimal n) }
     ensures len { vec_len out.new ≤ vec_len out.old + length verb.now + length name.now + 21 }
     ensures room { vec_capacity out.old ≤ vec_capacity out.new }
 {
@@ -149,7 +152,8 @@ fn append_named_number(out: &mut Vec<u8>, verb: &[u8], name: &str, n: u32)
 
 fn append_retune(out: &mut Vec<u8>, name: &str, q: u32, p: u32)
     requires { vec_len out.old + length name.now + 49 ≤ vec_capacity out.old }
-    ensures text { out.new.items ≡ out.old.items ++ (codes "retune " ++ name.now ++ codes " " ++ decimal q ++ codes " " ++ decimal p) }
+    ensures text { out.new.items ≡ out.old.items
+        ++ (codes "retune " ++ name.now ++ codes " " ++ decimal q ++ codes " " ++ decimal p) }
     ensures len { vec_len out.new ≤ vec_len out.old + length name.now + 49 }
     ensures room { vec_capacity out.old ≤ vec_capacity out.new }
 {

@@ -25,9 +25,17 @@ impl Model for Plan {
 
     ghost use Rattle.grub_plan.specs.Limits.{PlanFits};
 
-    ghost view = { λ p. record { setup = p.setup; names = map string_bytes p.names.items; scripts = map (λ s. s.items) p.scripts.items } };
+    ghost view = { λ p. record {
+      setup = p.setup;
+      names = map string_bytes p.names.items;
+      scripts = map (λ s. s.items) p.scripts.items;
+    } };
 
-    ghost invariant = { λ p. PlanFits (record { setup = p.setup; names = map string_bytes p.names.items; scripts = map (λ s. s.items) p.scripts.items }) };
+    ghost invariant = { λ p. PlanFits (record {
+      setup = p.setup;
+      names = map string_bytes p.names.items;
+      scripts = map (λ s. s.items) p.scripts.items;
+    }) };
 }
 
 impl Plan {
@@ -38,8 +46,16 @@ impl Plan {
         names: Vec<String>,
         scripts: Vec<Vec<Line>>,
     ) -> Plan
-        requires { PlanFits (record { setup = record { queues = queues.items; tasks = tasks.items }; names = map string_bytes names.items; scripts = map (λ s. s.items) scripts.items }) }
-        ensures { result ≡ record { setup = record { queues = queues.items; tasks = tasks.items }; names = map string_bytes names.items; scripts = map (λ s. s.items) scripts.items } }
+        requires { PlanFits (record {
+          setup = record { queues = queues.items; tasks = tasks.items };
+          names = map string_bytes names.items;
+          scripts = map (λ s. s.items) scripts.items;
+        }) }
+        ensures { result ≡ record {
+          setup = record { queues = queues.items; tasks = tasks.items };
+          names = map string_bytes names.items;
+          scripts = map (λ s. s.items) scripts.items;
+        } }
     {
         let Ok(setup) = Setup::new(queues, tasks) else {
             unreachable!();

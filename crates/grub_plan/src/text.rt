@@ -82,7 +82,8 @@ pub fn report_of(
     closing: Reading,
 ) -> Result<Vec<u8>, TextFault>
     requires { All (λ e. IsAskOf (length plan.now.setup.tasks) e.ask) report.now.entries.items }
-    ensures { IfOk result (λ v. v.items ≡ report_text plan.now.names r report.now.entries.items closing) }
+    ensures { IfOk result
+        (λ v. v.items ≡ report_text plan.now.names r report.now.entries.items closing) }
 {
     let mut text = Vec::with_capacity(alloc, LINE_MAX)?;
     append_head(&mut text, r);

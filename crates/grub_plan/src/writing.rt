@@ -23,7 +23,8 @@ pub fn report_buffer(alloc: Global) -> Result<Vec<u8>, TextFault>
 
 /// Writes the bytes. After a failing write, or one that took nothing, a beginning of them was written.
 pub fn write_bytes<W: Write>(bytes: &[u8], out: &mut W) -> io::Result<()>
-    ensures whole { OnOk result (HandsOn (W.contents out.old) (W.contents out.new) bytes.now [] []) }
+    ensures whole { OnOk result
+        (HandsOn (W.contents out.old) (W.contents out.new) bytes.now [] []) }
     ensures part { OnErr result (HandsPart (W.contents out.old) (W.contents out.new) bytes.now []) }
 {
     let mut at = 0;
@@ -39,9 +40,11 @@ pub fn write_bytes<W: Write>(bytes: &[u8], out: &mut W) -> io::Result<()>
 
 /// Writes what the buffer keeps. After a failing write, or one that took nothing, a beginning of it was written.
 pub fn write_buffer<W: Write>(buffer: &mut Vec<u8>, out: &mut W) -> io::Result<()>
-    ensures whole { OnOk result (HandsOn (W.contents out.old) (W.contents out.new) buffer.old.items [] []) }
+    ensures whole { OnOk result
+        (HandsOn (W.contents out.old) (W.contents out.new) buffer.old.items [] []) }
     ensures empty { OnOk result (buffer.new.items ≡ []) }
-    ensures part { OnErr result (HandsPart (W.contents out.old) (W.contents out.new) buffer.old.items []) }
+    ensures part { OnErr result
+        (HandsPart (W.contents out.old) (W.contents out.new) buffer.old.items []) }
     ensures room { vec_capacity buffer.new ≡ vec_capacity buffer.old }
 {
     write_bytes(buffer, out)?;
@@ -53,9 +56,11 @@ pub fn write_buffer<W: Write>(buffer: &mut Vec<u8>, out: &mut W) -> io::Result<(
 /// a beginning of its bytes was written.
 pub fn make_room<W: Write>(buffer: &mut Vec<u8>, out: &mut W) -> io::Result<()>
     requires { LINE_MAX ≤ vec_capacity buffer.old }
-    ensures whole { OnOk result (HandsOn (W.contents out.old) (W.contents out.new) buffer.old.items [] buffer.new.items) }
+    ensures whole { OnOk result
+        (HandsOn (W.contents out.old) (W.contents out.new) buffer.old.items [] buffer.new.items) }
     ensures line { OnOk result (vec_len buffer.new + LINE_MAX ≤ vec_capacity buffer.new) }
-    ensures part { OnErr result (HandsPart (W.contents out.old) (W.contents out.new) buffer.old.items []) }
+    ensures part { OnErr result
+        (HandsPart (W.contents out.old) (W.contents out.new) buffer.old.items []) }
     ensures room { LINE_MAX ≤ vec_capacity buffer.new }
 {
     if buffer.capacity() - buffer.len() < LINE_MAX {

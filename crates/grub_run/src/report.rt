@@ -24,10 +24,13 @@ pub fn write_report<R: Threads + Sync, W: Write>(
     report: &Report,
     closing: Reading,
 ) -> io::Result<()>
-    requires tasks { All (λ e. IsAskOf (length plan.now.setup.tasks) e.ask) report.now.entries.items }
+    requires tasks { All
+        (λ e. IsAskOf (length plan.now.setup.tasks) e.ask) report.now.entries.items }
     requires room { LINE_MAX ≤ vec_capacity buffer.old }
-    ensures whole { OnOk result (HandsOn (W.contents out.old) (W.contents out.new) buffer.old.items (report_text plan.now.names r report.now.entries.items closing) buffer.new.items) }
-    ensures part { OnErr result (HandsPart (W.contents out.old) (W.contents out.new) buffer.old.items (report_text plan.now.names r report.now.entries.items closing)) }
+    ensures whole { OnOk result (HandsOn (W.contents out.old) (W.contents out.new) buffer.old.items
+        (report_text plan.now.names r report.now.entries.items closing) buffer.new.items) }
+    ensures part { OnErr result (HandsPart (W.contents out.old) (W.contents out.new)
+        buffer.old.items (report_text plan.now.names r report.now.entries.items closing)) }
     ensures room { LINE_MAX ≤ vec_capacity buffer.new }
 {
     write_head(buffer, out, r)?;
@@ -38,8 +41,10 @@ pub fn write_report<R: Threads + Sync, W: Write>(
 
 fn write_head<W: Write>(buffer: &mut Vec<u8>, out: &mut W, r: u32) -> io::Result<()>
     requires { LINE_MAX ≤ vec_capacity buffer.old }
-    ensures whole { OnOk result (HandsOn (W.contents out.old) (W.contents out.new) buffer.old.items (head_line r) buffer.new.items) }
-    ensures part { OnErr result (HandsPart (W.contents out.old) (W.contents out.new) buffer.old.items (head_line r)) }
+    ensures whole { OnOk result (HandsOn (W.contents out.old) (W.contents out.new) buffer.old.items
+        (head_line r) buffer.new.items) }
+    ensures part { OnErr result
+        (HandsPart (W.contents out.old) (W.contents out.new) buffer.old.items (head_line r)) }
     ensures room { LINE_MAX ≤ vec_capacity buffer.new }
 {
     make_room(buffer, out)?;
@@ -49,8 +54,10 @@ fn write_head<W: Write>(buffer: &mut Vec<u8>, out: &mut W, r: u32) -> io::Result
 
 fn write_close<W: Write>(buffer: &mut Vec<u8>, out: &mut W, closing: Reading) -> io::Result<()>
     requires { LINE_MAX ≤ vec_capacity buffer.old }
-    ensures whole { OnOk result (HandsOn (W.contents out.old) (W.contents out.new) buffer.old.items (close_line closing) buffer.new.items) }
-    ensures part { OnErr result (HandsPart (W.contents out.old) (W.contents out.new) buffer.old.items (close_line closing)) }
+    ensures whole { OnOk result (HandsOn (W.contents out.old) (W.contents out.new) buffer.old.items
+        (close_line closing) buffer.new.items) }
+    ensures part { OnErr result (HandsPart (W.contents out.old)
+        (W.contents out.new) buffer.old.items (close_line closing)) }
     ensures room { LINE_MAX ≤ vec_capacity buffer.new }
 {
     make_room(buffer, out)?;

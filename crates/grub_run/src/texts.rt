@@ -41,14 +41,18 @@ pub fn run_texts<R: Threads + Wait + Sync, W: Write>(
 ) -> Result<(), GrubFault>
     requires { 1 ≤ rounds }
 
-    ensures text { OnOk result (WritesText tries (W.contents out.old) (W.contents out.new) (contents files.items)) }
-    ensures prefix { IfErr result (λ e. e ≡ faults.WriteFault → WritesPrefix tries (W.contents out.old) (W.contents out.new) (contents files.items)) }
+    ensures text { OnOk result
+        (WritesText tries (W.contents out.old) (W.contents out.new) (contents files.items)) }
+    ensures prefix { IfErr result (λ e. e ≡ faults.WriteFault
+        → WritesPrefix tries (W.contents out.old) (W.contents out.new) (contents files.items)) }
     ensures nothing { IfErr result (λ e. (e ≡ faults.WriteFault → ⊥) → out.new ≡ out.old) }
 
     // A fault of the files is the reader's, and where there is one it is answered, memory aside.
     ensures fault { IfErr result (IsFaultOf (contents files.items)) }
-    ensures answered { (k : Kind) (f n : ℕ) → IsFault (contents files.items) k f n → MatchResult result (λ _. ⊥) (λ e. IsOnlyFault e k f n) }
-    ensures readable { (trees : List Tree) → Reads (contents files.items) trees → IfErr result IsNoFileFault }
+    ensures answered { (k : Kind) (f n : ℕ) → IsFault (contents files.items) k f n
+        → MatchResult result (λ _. ⊥) (λ e. IsOnlyFault e k f n) }
+    ensures readable { (trees : List Tree) → Reads (contents files.items) trees
+        → IfErr result IsNoFileFault }
 {
     let plan = match read_files_by_threads(rt, alloc, &files) {
         Ok(plan) => plan,
@@ -69,8 +73,10 @@ fn write_run<R: Threads + Wait + Sync, W: Write>(
 ) -> Result<(), GrubFault>
     requires few { length plan.now.scripts ≤ 64 }
     requires rounds { 1 ≤ rounds }
-    ensures text { OnOk result (WritesRun plan.now tries (W.contents out.old) (W.contents out.new)) }
-    ensures prefix { IfErr result (λ e. e ≡ faults.WriteFault → BeginsRun plan.now tries (W.contents out.old) (W.contents out.new)) }
+    ensures text { OnOk result
+        (WritesRun plan.now tries (W.contents out.old) (W.contents out.new)) }
+    ensures prefix { IfErr result (λ e. e ≡ faults.WriteFault
+        → BeginsRun plan.now tries (W.contents out.old) (W.contents out.new)) }
     ensures nothing { IfErr result (λ e. (e ≡ faults.WriteFault → ⊥) → out.new ≡ out.old) }
     ensures fault { IfErr result IsFaultOfRun }
 {
@@ -114,8 +120,10 @@ fn write_reports<R: Threads + Sync, W: Write>(
     requires one_each { length reports.now ≡ length closing.now }
     requires most { length reports.now ≤ 64 }
     requires tasks { AllAsksOf plan.now reports.now }
-    ensures whole { OnOk result (Appends (W.contents out.old) (W.contents out.new) (texts_from plan.now.names 0 reports.now closing.now)) }
-    ensures part { OnErr result (AppendsPrefix (W.contents out.old) (W.contents out.new) (texts_from plan.now.names 0 reports.now closing.now)) }
+    ensures whole { OnOk result (Appends (W.contents out.old) (W.contents out.new)
+        (texts_from plan.now.names 0 reports.now closing.now)) }
+    ensures part { OnErr result (AppendsPrefix (W.contents out.old) (W.contents out.new)
+        (texts_from plan.now.names 0 reports.now closing.now)) }
 {
     let mut blocks = blocks;
     let mut buffer = buffer;

@@ -49,7 +49,8 @@ fn read_each<
 >(alloc: Global, source: &Source<O, N>, paths: &[&'a str]) -> Result<(), ProgramFault<'a>>
     requires open { O.IsAlwaysCallable source.now.open }
     requires read { N.IsAlwaysCallable source.now.read }
-    ensures files { OnOk result ((files : List (List ℕ)) × HoldAll O.Fn N.Fn source.now (names_of paths.now) files) }
+    ensures files { OnOk result ((files : List (List ℕ))
+        × HoldAll O.Fn N.Fn source.now (names_of paths.now) files) }
     ensures fault { IfErr result (Tells O.Fn N.Fn source.now (names_of paths.now)) }
     ensures reading { IfErr result IsOfReading }
 {
@@ -71,7 +72,8 @@ pub(crate) fn read_files<
 >(alloc: Global, source: &Source<O, N>, paths: &[&'a str]) -> Result<Vec<Vec<u8>>, ProgramFault<'a>>
     requires open { O.IsAlwaysCallable source.now.open }
     requires read { N.IsAlwaysCallable source.now.read }
-    ensures files { IfOk result (λ v. HoldAll O.Fn N.Fn source.now (names_of paths.now) (contents v.items)) }
+    ensures files { IfOk result
+        (λ v. HoldAll O.Fn N.Fn source.now (names_of paths.now) (contents v.items)) }
     ensures fault { IfErr result (Tells O.Fn N.Fn source.now (names_of paths.now)) }
     ensures reading { IfErr result IsOfReading }
 {
@@ -150,11 +152,15 @@ pub fn print_reports<
     requires rounds { 1 ≤ rounds }
     requires open { O.IsAlwaysCallable source.now.open }
     requires read { N.IsAlwaysCallable source.now.read }
-    ensures done { OnOk result (Whole O.Fn N.Fn source.now (WritesText tries (W.contents out.old) (W.contents out.new)) (names_of paths.now)) }
+    ensures done { OnOk result (Whole O.Fn N.Fn source.now
+        (WritesText tries (W.contents out.old) (W.contents out.new)) (names_of paths.now)) }
     ensures fault { IfErr result (Tells O.Fn N.Fn source.now (names_of paths.now)) }
     // On every fault but that of the writer nothing was printed, and on that one a beginning of the reports.
-    ensures nothing { IfErr result (λ e. (e ≡ faults.Run run_faults.WriteFault → ⊥) → out.new ≡ out.old) }
-    ensures beginning { IfErr result (λ e. e ≡ faults.Run run_faults.WriteFault → Whole O.Fn N.Fn source.now (WritesPrefix tries (W.contents out.old) (W.contents out.new)) (names_of paths.now)) }
+    ensures nothing { IfErr result
+        (λ e. (e ≡ faults.Run run_faults.WriteFault → ⊥) → out.new ≡ out.old) }
+    ensures beginning { IfErr result
+        (λ e. e ≡ faults.Run run_faults.WriteFault → Whole O.Fn N.Fn source.now
+        (WritesPrefix tries (W.contents out.old) (W.contents out.new)) (names_of paths.now)) }
 {
     if paths.len() > FILES_MAX {
         return Err(too_many(alloc, source, paths));

@@ -39,10 +39,12 @@ pub fn serve_files<
     requires open { O.IsAlwaysCallable source.now.open }
     requires read { N.IsAlwaysCallable source.now.read }
     ensures status { (result ≡ 0) ⊎ (result ≡ STATUS_FILE) ⊎ (result ≡ STATUS_SYSTEM) }
-    ensures done { result ≡ 0 → Whole O.Fn N.Fn source.now (WritesText tries (W.contents out.old) (W.contents out.new)) (names_of paths.now) }
+    ensures done { result ≡ 0 → Whole O.Fn N.Fn source.now
+        (WritesText tries (W.contents out.old) (W.contents out.new)) (names_of paths.now) }
     ensures file { result ≡ STATUS_FILE → HasFileFault O.Fn N.Fn source.now (names_of paths.now) }
     ensures nothing { result ≡ STATUS_FILE → out.new ≡ out.old }
-    ensures failed { result ≡ STATUS_SYSTEM → (out.new ≡ out.old) ⊎ Whole O.Fn N.Fn source.now (WritesPrefix tries (W.contents out.old) (W.contents out.new)) (names_of paths.now) }
+    ensures failed { result ≡ STATUS_SYSTEM → (out.new ≡ out.old) ⊎ Whole O.Fn N.Fn source.now
+        (WritesPrefix tries (W.contents out.old) (W.contents out.new)) (names_of paths.now) }
 {
     match print_reports(rt, alloc, tries, rounds, source, paths, out) {
         Ok(()) => 0,
@@ -71,12 +73,16 @@ pub fn serve_view<
 ) -> u8
     requires open { O.IsAlwaysCallable source.now.open }
     requires read { N.IsAlwaysCallable source.now.read }
-    ensures status { (result ≡ 0) ⊎ (result ≡ STATUS_FILE) ⊎ (result ≡ STATUS_USAGE) ⊎ (result ≡ STATUS_SYSTEM) }
-    ensures done { result ≡ 0 → Whole O.Fn N.Fn source.now (Shows view (W.contents out.old) (W.contents out.new)) (names_of paths.now) }
+    ensures status { (result ≡ 0) ⊎ (result ≡ STATUS_FILE) ⊎ (result ≡ STATUS_USAGE)
+        ⊎ (result ≡ STATUS_SYSTEM) }
+    ensures done { result ≡ 0 → Whole O.Fn N.Fn source.now
+        (Shows view (W.contents out.old) (W.contents out.new)) (names_of paths.now) }
     ensures file { result ≡ STATUS_FILE → HasFileFault O.Fn N.Fn source.now (names_of paths.now) }
-    ensures usage { result ≡ STATUS_USAGE → Whole O.Fn N.Fn source.now (HasNoSpan view) (names_of paths.now) }
+    ensures usage { result ≡ STATUS_USAGE
+        → Whole O.Fn N.Fn source.now (HasNoSpan view) (names_of paths.now) }
     ensures nothing { (result ≡ STATUS_FILE) ⊎ (result ≡ STATUS_USAGE) → out.new ≡ out.old }
-    ensures failed { result ≡ STATUS_SYSTEM → (out.new ≡ out.old) ⊎ Whole O.Fn N.Fn source.now (ShowsBeginning view (W.contents out.old) (W.contents out.new)) (names_of paths.now) }
+    ensures failed { result ≡ STATUS_SYSTEM → (out.new ≡ out.old) ⊎ Whole O.Fn N.Fn source.now
+        (ShowsBeginning view (W.contents out.old) (W.contents out.new)) (names_of paths.now) }
 {
     match print_view(rt, alloc, view, source, paths, out) {
         Ok(()) => 0,

@@ -36,11 +36,15 @@ pub fn print_view<
 ) -> Result<(), ProgramFault<'a>>
     requires open { O.IsAlwaysCallable source.now.open }
     requires read { N.IsAlwaysCallable source.now.read }
-    ensures done { OnOk result (Whole O.Fn N.Fn source.now (Shows view (W.contents out.old) (W.contents out.new)) (names_of paths.now)) }
+    ensures done { OnOk result (Whole O.Fn N.Fn source.now
+        (Shows view (W.contents out.old) (W.contents out.new)) (names_of paths.now)) }
     ensures fault { IfErr result (TellsOfView O.Fn N.Fn source.now view (names_of paths.now)) }
     // On every fault but that of the writer nothing was printed, and on that one a beginning of the view.
-    ensures nothing { IfErr result (λ e. (e ≡ faults.Run run_faults.WriteFault → ⊥) → out.new ≡ out.old) }
-    ensures beginning { IfErr result (λ e. e ≡ faults.Run run_faults.WriteFault → Whole O.Fn N.Fn source.now (ShowsBeginning view (W.contents out.old) (W.contents out.new)) (names_of paths.now)) }
+    ensures nothing { IfErr result
+        (λ e. (e ≡ faults.Run run_faults.WriteFault → ⊥) → out.new ≡ out.old) }
+    ensures beginning { IfErr result
+        (λ e. e ≡ faults.Run run_faults.WriteFault → Whole O.Fn N.Fn source.now
+        (ShowsBeginning view (W.contents out.old) (W.contents out.new)) (names_of paths.now)) }
 {
     if paths.len() > FILES_MAX {
         return Err(too_many(alloc, source, paths));

@@ -105,7 +105,8 @@ pub fn put_axis(out: &mut Vec<u8>, frame: Frame, y: u32) -> Result<(), AllocErro
 }
 
 fn put_axis_marks(out: &mut Vec<u8>, frame: Frame, y: u32, step: u32) -> Result<(), AllocError>
-    ensures { OnOk result (out.new.items ≡ out.old.items ++ flat_map (axis_mark_text frame y) (axis_moments frame step)) }
+    ensures { OnOk result (out.new.items
+        ≡ out.old.items ++ flat_map (axis_mark_text frame y) (axis_moments frame step)) }
 {
     let first = frame.first_multiple(step);
     for k in 0..frame.multiples(step) {
@@ -149,7 +150,8 @@ fn put_scale_mark(
     height: u32,
     percent: &[u8],
 ) -> Result<(), AllocError>
-    ensures { OnOk result (out.new.items ≡ out.old.items ++ scale_mark_text frame base height percent.now) }
+    ensures { OnOk result
+        (out.new.items ≡ out.old.items ++ scale_mark_text frame base height percent.now) }
 {
     let y = u64::from(base.saturating_sub(height));
     put_number(out, b"<path class=\"g\" d=\"M130 ", y)?;

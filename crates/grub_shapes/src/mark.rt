@@ -73,7 +73,8 @@ pub fn put_marks(
     name: &str,
     y: u32,
 ) -> Result<(), AllocError>
-    ensures { OnOk result (out.new.items ≡ out.old.items ++ marks_text frame marks.now of.0 of.1 name.now y) }
+    ensures { OnOk result
+        (out.new.items ≡ out.old.items ++ marks_text frame marks.now of.0 of.1 name.now y) }
 {
     put_kind(out, frame, marks, (of.0, of.1, false), name, y)?;
     put_kind(out, frame, marks, (of.0, of.1, true), name, y)?;
@@ -88,7 +89,8 @@ fn put_kind(
     name: &str,
     y: u32,
 ) -> Result<(), AllocError>
-    ensures { OnOk result (out.new.items ≡ out.old.items ++ kind_text frame marks.now of.0 of.1 of.2 name.now y) }
+    ensures { OnOk result
+        (out.new.items ≡ out.old.items ++ kind_text frame marks.now of.0 of.1 of.2 name.now y) }
 {
     let mut last = 0;
     for mark in marks {

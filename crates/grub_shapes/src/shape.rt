@@ -50,7 +50,8 @@ fn put_each_bar(
     bars: &[Bar],
     y: u32,
 ) -> Result<(), AllocError>
-    ensures { OnOk result (out.new.items ≡ out.old.items ++ flat_map (bar_text frame r name.now y) bars.now) }
+    ensures { OnOk result
+        (out.new.items ≡ out.old.items ++ flat_map (bar_text frame r name.now y) bars.now) }
 {
     for bar in bars {
         put_bar(out, frame, r, name, *bar, y)?;

@@ -52,19 +52,23 @@ pub fn join_both<R: Threads + Wait>(
     requires near { IsPassOf shared.now near }
     requires far { IsPassOf shared.now far }
     requires tasks { 1 < length (terms shared.now).setup.tasks }
-    ensures { IfSome result (λ passes. IsPassOf shared.now passes.0 × IsPassOf shared.now passes.1) }
+    ensures { IfSome result
+        (λ passes. IsPassOf shared.now passes.0 × IsPassOf shared.now passes.1) }
 {
     thread::scope(
         thread::scope_env(),
         rt,
         |scope| -> Option<(Pass, Pass)>
-            requires { IsPassOf shared.now near × IsPassOf shared.now far × (1 < length (terms shared.now).setup.tasks) }
-            ensures { IfSome result (λ passes. IsPassOf shared.entry.now passes.0 × IsPassOf shared.entry.now passes.1) }
+            requires { IsPassOf shared.now near × IsPassOf shared.now far
+                × (1 < length (terms shared.now).setup.tasks) }
+            ensures { IfSome result (λ passes. IsPassOf shared.entry.now passes.0
+                × IsPassOf shared.entry.now passes.1) }
         {
             let handle = scope.spawn_with(
                 OfTable { shared },
                 move || -> Pass
-                    requires { IsPassOf shared.now far × (1 < length (terms shared.now).setup.tasks) }
+                    requires { IsPassOf shared.now far
+                        × (1 < length (terms shared.now).setup.tasks) }
                     ensures { IsPassOf shared.entry.now result }
                 { join(shared, far, 1) },
             );

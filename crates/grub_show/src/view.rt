@@ -60,15 +60,19 @@ pub fn write_view<R: Threads + Sync, W: Write>(
     view: View,
     out: &mut W,
 ) -> Result<(), ShowFault>
-    ensures text { OnOk result (Shows view (W.contents out.old) (W.contents out.new) (contents files.items)) }
-    ensures prefix { IfErr result (λ e. e ≡ write_fault → ShowsBeginning view (W.contents out.old) (W.contents out.new) (contents files.items)) }
+    ensures text { OnOk result
+        (Shows view (W.contents out.old) (W.contents out.new) (contents files.items)) }
+    ensures prefix { IfErr result (λ e. e ≡ write_fault
+        → ShowsBeginning view (W.contents out.old) (W.contents out.new) (contents files.items)) }
     ensures nothing { IfErr result (λ e. (e ≡ write_fault → ⊥) → out.new ≡ out.old) }
 
     // A fault of the files is the reader's, and where there is one it is answered, memory aside. An empty span is told
     // where the span of a picture is empty.
     ensures fault { IfErr result (IsFaultOfView view (contents files.items)) }
-    ensures answered { (k : Kind) (f n : ℕ) → IsFault (contents files.items) k f n → MatchResult result (λ _. ⊥) (λ e. IsOnlyFaultOfFile e k f n) }
-    ensures readable { (trees : List Tree) → Reads (contents files.items) trees → IfErr result IsNoFaultOfFile }
+    ensures answered { (k : Kind) (f n : ℕ) → IsFault (contents files.items) k f n
+        → MatchResult result (λ _. ⊥) (λ e. IsOnlyFaultOfFile e k f n) }
+    ensures readable { (trees : List Tree) → Reads (contents files.items) trees
+        → IfErr result IsNoFaultOfFile }
 {
     let plan = match read_files_by_threads(rt, alloc, &files) {
         Ok(plan) => plan,
@@ -86,8 +90,10 @@ fn write_played<R: Threads + Sync, W: Write>(
     view: View,
     out: &mut W,
 ) -> Result<(), ShowFault>
-    ensures text { OnOk result (WritesLine view plan.now (W.contents out.old) (W.contents out.new)) }
-    ensures prefix { IfErr result (λ e. e ≡ write_fault → BeginsLine view plan.now (W.contents out.old) (W.contents out.new)) }
+    ensures text { OnOk result
+        (WritesLine view plan.now (W.contents out.old) (W.contents out.new)) }
+    ensures prefix { IfErr result (λ e. e ≡ write_fault
+        → BeginsLine view plan.now (W.contents out.old) (W.contents out.new)) }
     ensures nothing { IfErr result (λ e. (e ≡ write_fault → ⊥) → out.new ≡ out.old) }
     ensures fault { IfErr result (IsFaultOfLine view plan.now) }
 {
@@ -106,8 +112,10 @@ fn write_lines<R: Threads + Sync, W: Write>(
     plan: &Plan,
     out: &mut W,
 ) -> Result<(), ShowFault>
-    ensures text { OnOk result (WritesLine View.Timeline plan.now (W.contents out.old) (W.contents out.new)) }
-    ensures prefix { IfErr result (λ e. e ≡ write_fault → BeginsLine View.Timeline plan.now (W.contents out.old) (W.contents out.new)) }
+    ensures text { OnOk result
+        (WritesLine View.Timeline plan.now (W.contents out.old) (W.contents out.new)) }
+    ensures prefix { IfErr result (λ e. e ≡ write_fault
+        → BeginsLine View.Timeline plan.now (W.contents out.old) (W.contents out.new)) }
     ensures nothing { IfErr result (λ e. (e ≡ write_fault → ⊥) → out.new ≡ out.old) }
     ensures fault { IfErr result (IsFaultOfLine View.Timeline plan.now) }
 {
@@ -128,8 +136,10 @@ fn lines_through<R: Threads + Sync, W: Write>(
     out: &mut W,
 ) -> io::Result<()>
     requires plan { ready.playing.plan ≡ plan.now }
-    ensures whole { OnOk result (WritesLine View.Timeline plan.now (W.contents out.old) (W.contents out.new)) }
-    ensures part { OnErr result (BeginsLine View.Timeline plan.now (W.contents out.old) (W.contents out.new)) }
+    ensures whole { OnOk result
+        (WritesLine View.Timeline plan.now (W.contents out.old) (W.contents out.new)) }
+    ensures part { OnErr result
+        (BeginsLine View.Timeline plan.now (W.contents out.old) (W.contents out.new)) }
 {
     let Ready {
         playing,
@@ -156,8 +166,10 @@ fn write_rows<R: Threads + Sync, W: Write>(
     plan: &Plan,
     out: &mut W,
 ) -> Result<(), ShowFault>
-    ensures text { OnOk result (WritesLine View.Steps plan.now (W.contents out.old) (W.contents out.new)) }
-    ensures prefix { IfErr result (λ e. e ≡ write_fault → BeginsLine View.Steps plan.now (W.contents out.old) (W.contents out.new)) }
+    ensures text { OnOk result
+        (WritesLine View.Steps plan.now (W.contents out.old) (W.contents out.new)) }
+    ensures prefix { IfErr result (λ e. e ≡ write_fault
+        → BeginsLine View.Steps plan.now (W.contents out.old) (W.contents out.new)) }
     ensures nothing { IfErr result (λ e. (e ≡ write_fault → ⊥) → out.new ≡ out.old) }
     ensures fault { IfErr result (IsFaultOfLine View.Steps plan.now) }
 {
@@ -190,8 +202,10 @@ fn rows_through<R: Threads + Sync, W: Write>(
     requires book { book.records ≡ opening_book plan.now.setup }
     requires steps { ready.playing.most ≤ vec_capacity steps }
     requires waiting { vec_capacity ready.latest ≤ vec_capacity steps }
-    ensures whole { OnOk result (WritesLine View.Steps plan.now (W.contents out.old) (W.contents out.new)) }
-    ensures part { OnErr result (BeginsLine View.Steps plan.now (W.contents out.old) (W.contents out.new)) }
+    ensures whole { OnOk result
+        (WritesLine View.Steps plan.now (W.contents out.old) (W.contents out.new)) }
+    ensures part { OnErr result
+        (BeginsLine View.Steps plan.now (W.contents out.old) (W.contents out.new)) }
 {
     let Ready {
         playing,
@@ -217,8 +231,10 @@ fn rows_through<R: Threads + Sync, W: Write>(
 
 /// Plays the plan, and writes the summary of its time line.
 fn write_summary<W: Write>(alloc: Global, plan: &Plan, out: &mut W) -> Result<(), ShowFault>
-    ensures text { OnOk result (WritesLine View.Summary plan.now (W.contents out.old) (W.contents out.new)) }
-    ensures prefix { IfErr result (λ e. e ≡ write_fault → BeginsLine View.Summary plan.now (W.contents out.old) (W.contents out.new)) }
+    ensures text { OnOk result
+        (WritesLine View.Summary plan.now (W.contents out.old) (W.contents out.new)) }
+    ensures prefix { IfErr result (λ e. e ≡ write_fault
+        → BeginsLine View.Summary plan.now (W.contents out.old) (W.contents out.new)) }
     ensures nothing { IfErr result (λ e. (e ≡ write_fault → ⊥) → out.new ≡ out.old) }
     ensures fault { IfErr result (IsFaultOfLine View.Summary plan.now) }
 {
@@ -242,8 +258,10 @@ fn write_picture<W: Write>(
     to: Option<u32>,
     out: &mut W,
 ) -> Result<(), ShowFault>
-    ensures text { OnOk result (WritesLine (View.Picture from to) plan.now (W.contents out.old) (W.contents out.new)) }
-    ensures prefix { IfErr result (λ e. e ≡ write_fault → BeginsLine (View.Picture from to) plan.now (W.contents out.old) (W.contents out.new)) }
+    ensures text { OnOk result
+        (WritesLine (View.Picture from to) plan.now (W.contents out.old) (W.contents out.new)) }
+    ensures prefix { IfErr result (λ e. e ≡ write_fault
+        → BeginsLine (View.Picture from to) plan.now (W.contents out.old) (W.contents out.new)) }
     ensures nothing { IfErr result (λ e. (e ≡ write_fault → ⊥) → out.new ≡ out.old) }
     ensures fault { IfErr result (IsFaultOfLine (View.Picture from to) plan.now) }
 {
@@ -270,7 +288,8 @@ fn write_picture<W: Write>(
 /// Writes a whole text, and flushes.
 fn write_text<W: Write>(text: Vec<u8>, out: &mut W) -> io::Result<()>
     ensures whole { OnOk result (Appends (W.contents out.old) (W.contents out.new) text.items) }
-    ensures part { OnErr result (AppendsPrefix (W.contents out.old) (W.contents out.new) text.items) }
+    ensures part { OnErr result
+        (AppendsPrefix (W.contents out.old) (W.contents out.new) text.items) }
 {
     let mut text = text;
     write_buffer(&mut text, out)?;

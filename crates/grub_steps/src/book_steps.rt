@@ -75,7 +75,8 @@ fn steps_in(alloc: Global, plan: &Plan, line: &TimeLine) -> Result<Vec<Step>, Al
 pub fn step_after(book: &mut Book, x: &Told) -> Step
     requires { IsToldIn book.old.setup x.now }
     ensures setup { book.new.setup ≡ book.old.setup }
-    ensures records { book.new.records ≡ book_after book.old.setup book.old.records x.now.entry.ask }
+    ensures records { book.new.records
+        ≡ book_after book.old.setup book.old.records x.now.entry.ask }
     ensures value { result ≡ step_of book.old.setup book.old.records x.now }
     ensures told { result.told ≡ x.now }
 {

@@ -14,8 +14,10 @@ ghost use Rattle.grub_summary.specs.Usage.{usage_of};
 /// What is charged for a task is at most what it executed, so that nothing less than nothing is reclaimed: running_bw is
 /// at most this_bw, and this_bw at most Umax, so that the rate of a charge is at most one.
 pub fn charged_is_at_most_executed()
-    ensures { (s : Machine) (told : List Told) (t runtime : ℕ) → IsMachine s → IsLegal s (history_of told) → AreAnswered told
-        → let own = own_steps t (steps_of s told) in (tally_of runtime own).charged ≤ (tally_of runtime own).executed }
+    ensures { (s : Machine) (told : List Told) (t runtime : ℕ) → IsMachine s
+        → IsLegal s (history_of told) → AreAnswered told
+        → let own = own_steps t (steps_of s told)
+        in (tally_of runtime own).charged ≤ (tally_of runtime own).executed }
 {}
 
 /// The area under running_bw of a runqueue, of which the summary tells the mean, is that of its tasks: of each its

@@ -30,14 +30,16 @@ const QUEUE_COLUMNS: usize = 9;
 pub fn summary_text(alloc: Global, plan: &Plan, line: &TimeLine) -> Result<Vec<u8>, ViewFault>
     requires line { IsTimeLine plan.now line.now.told.items line.now.closing.items }
     requires within { AreWithin plan.now.setup line.now.told.items }
-    ensures { IfOk result (λ v. v.items ≡ summary_text plan.now.setup plan.now.names (steps_of plan.now.setup line.now.told.items)) }
+    ensures { IfOk result (λ v. v.items ≡ summary_text plan.now.setup plan.now.names
+        (steps_of plan.now.setup line.now.told.items)) }
 {
     text_of(alloc, plan, line).map_err(|_| ViewFault::NoMemory)
 }
 
 fn text_of(alloc: Global, plan: &Plan, line: &TimeLine) -> Result<Vec<u8>, AllocError>
     requires { AreToldIn plan.now.setup line.now.told.items }
-    ensures { IfOk result (λ v. v.items ≡ summary_text plan.now.setup plan.now.names (steps_of plan.now.setup line.now.told.items)) }
+    ensures { IfOk result (λ v. v.items ≡ summary_text plan.now.setup plan.now.names
+        (steps_of plan.now.setup line.now.told.items)) }
 {
     let sums = sums_of(alloc, plan.setup(), &line.told)?;
     let tasks = task_cells(alloc, plan, &sums.tallies)?;
@@ -64,7 +66,8 @@ fn heads_of(alloc: Global, from: u32, count: u32) -> Result<Vec<Cell>, AllocErro
 /// The names of the columns, and a row for each task.
 fn task_cells(alloc: Global, plan: &Plan, tallies: &[Tally]) -> Result<Vec<Cell>, AllocError>
     requires { length tallies.now ≡ length plan.now.setup.tasks }
-    ensures { (steps : List Step) → tallies.now ≡ tallies_of plan.now.setup steps → IfOk result (λ v. v.items ≡ task_cells plan.now.setup steps) }
+    ensures { (steps : List Step) → tallies.now ≡ tallies_of plan.now.setup steps
+        → IfOk result (λ v. v.items ≡ task_cells plan.now.setup steps) }
 {
     let setup = plan.setup();
     let mut cells = heads_of(alloc, 0, 19)?;
@@ -104,7 +107,8 @@ fn task_row(t: u32, params: Params, x: Tally) -> [Cell; 19]
 /// The names of the columns, and a row for each runqueue.
 fn queue_cells(alloc: Global, plan: &Plan, meters: &[Meter]) -> Result<Vec<Cell>, AllocError>
     requires { length meters.now ≡ length plan.now.setup.queues }
-    ensures { (steps : List Step) → meters.now ≡ meters_of plan.now.setup steps → IfOk result (λ v. v.items ≡ queue_cells plan.now.setup steps) }
+    ensures { (steps : List Step) → meters.now ≡ meters_of plan.now.setup steps
+        → IfOk result (λ v. v.items ≡ queue_cells plan.now.setup steps) }
 {
     let setup = plan.setup();
     let mut cells = heads_of(alloc, 19, 9)?;

@@ -26,8 +26,10 @@ pub struct Sums {
 /// the allocator refused.
 pub fn sums_of(alloc: Global, setup: &Setup, told: &[Told]) -> Result<Sums, AllocError>
     requires { AreToldIn setup.now told.now }
-    ensures tallies { IfOk result (λ v. v.tallies.items ≡ tallies_of setup.now (steps_of setup.now told.now)) }
-    ensures meters { IfOk result (λ v. v.meters.items ≡ meters_of setup.now (steps_of setup.now told.now)) }
+    ensures tallies { IfOk result
+        (λ v. v.tallies.items ≡ tallies_of setup.now (steps_of setup.now told.now)) }
+    ensures meters { IfOk result
+        (λ v. v.meters.items ≡ meters_of setup.now (steps_of setup.now told.now)) }
 {
     let mut sums = sums_of_none(alloc, setup)?;
     let Ok(mut book) = Book::new(alloc, setup) else {
@@ -91,7 +93,8 @@ fn count_all(book: &mut Book, told: &[Told], tallies: &mut [Tally], meters: &mut
 fn count_task(tallies: &mut [Tally], x: &Step)
     requires there { IfSome x.now.change (λ change. change.t < length tallies.old) }
     requires room { (n : ℕ) × (n + 1 < 2 ^ 64) × All (IsWithin n) tallies.old }
-    ensures value { (s : Machine) (steps : List Step) → tallies.old ≡ tallies_of s steps → tallies.new ≡ tallies_of s (steps ++ x.now ∷ []) }
+    ensures value { (s : Machine) (steps : List Step) → tallies.old ≡ tallies_of s steps
+        → tallies.new ≡ tallies_of s (steps ++ x.now ∷ []) }
     ensures within { (n : ℕ) → All (IsWithin n) tallies.old → All (IsWithin (n + 1)) tallies.new }
 {
     match x.change {
@@ -106,8 +109,10 @@ fn count_task(tallies: &mut [Tally], x: &Step)
 /// Adds a step to what is counted of each runqueue: time passes on all of them.
 fn count_queues(meters: &mut [Meter], x: &Step)
     requires room { (n : ℕ) × (n + 1 < 2 ^ 64) × All (IsMeterWithin n) meters.old }
-    ensures value { (s : Machine) (steps : List Step) → meters.old ≡ meters_of s steps → meters.new ≡ meters_of s (steps ++ x.now ∷ []) }
-    ensures within { (n : ℕ) → All (IsMeterWithin n) meters.old → All (IsMeterWithin (n + 1)) meters.new }
+    ensures value { (s : Machine) (steps : List Step) → meters.old ≡ meters_of s steps
+        → meters.new ≡ meters_of s (steps ++ x.now ∷ []) }
+    ensures within { (n : ℕ) → All (IsMeterWithin n) meters.old
+        → All (IsMeterWithin (n + 1)) meters.new }
 {
     for meter in meters.iter_mut() {
         *meter = meter.and(x);

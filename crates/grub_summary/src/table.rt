@@ -33,7 +33,8 @@ pub fn put_table(
     cells: &[Cell],
 ) -> Result<(), AllocError>
     requires { 1 ≤ columns }
-    ensures { OnOk result (out.new.items ≡ out.old.items ++ table_text plan.now.names left columns cells.now) }
+    ensures { OnOk result
+        (out.new.items ≡ out.old.items ++ table_text plan.now.names left columns cells.now) }
 {
     let lengths = lengths_of(alloc, plan, cells)?;
     for (k, cell) in cells.iter().enumerate() {
@@ -68,7 +69,8 @@ fn put_placed(
     requires some { 1 ≤ columns }
     requires there { k < length lengths.now }
     requires length { slice_index_or lengths.now k 0 ≡ length (cell_text plan.now.names cell) }
-    ensures { OnOk result (out.new.items ≡ out.old.items ++ placed_text left columns lengths.now k (cell_text plan.now.names cell)) }
+    ensures { OnOk result (out.new.items
+        ≡ out.old.items ++ placed_text left columns lengths.now k (cell_text plan.now.names cell)) }
 {
     let column = k % columns;
     let gap = width(columns, column, lengths).saturating_sub(lengths[k]);
@@ -85,7 +87,8 @@ fn stands_left(left: bool, column: usize) -> bool
 }
 
 fn put_separator(out: &mut Vec<u8>, column: usize) -> Result<(), AllocError>
-    ensures { OnOk result (out.new.items ≡ out.old.items ++ (if column == 0 then [] else codes " ")) }
+    ensures { OnOk result
+        (out.new.items ≡ out.old.items ++ (if column == 0 then [] else codes " ")) }
 {
     if column == 0 {
         Ok(())
@@ -96,7 +99,8 @@ fn put_separator(out: &mut Vec<u8>, column: usize) -> Result<(), AllocError>
 
 fn put_end(out: &mut Vec<u8>, column: usize, columns: usize) -> Result<(), AllocError>
     requires { column < columns }
-    ensures { OnOk result (out.new.items ≡ out.old.items ++ (if column + 1 == columns then codes "\n" else [])) }
+    ensures { OnOk result
+        (out.new.items ≡ out.old.items ++ (if column + 1 == columns then codes "\n" else [])) }
 {
     if column + 1 == columns {
         out.extend_from_slice(b"\n")
@@ -131,7 +135,8 @@ fn put_aligned(
     gap: usize,
     cell: Cell,
 ) -> Result<(), AllocError>
-    ensures { OnOk result (out.new.items ≡ out.old.items ++ aligned left gap (cell_text plan.now.names cell)) }
+    ensures { OnOk result
+        (out.new.items ≡ out.old.items ++ aligned left gap (cell_text plan.now.names cell)) }
 {
     if left {
         put_cell(out, plan, cell)?;

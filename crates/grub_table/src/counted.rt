@@ -40,9 +40,13 @@ impl CountedTable {
     }
 
     pub(crate) fn load<P: Play<Note, View>>(&self, seat: &mut Seat<Note, Trail>, word: usize) -> u64
-        requires { (seat.old.table_id ≡ self.now.inner.shared.table_id) × (word < self.now.inner.shared.table_id.words) × Allows (Kept self.now.inner.shared.key) self.now.inner.shared.table_id.slots seat.old.id (known seat.old.me) word (λ n. n) (P.then (step self.now.inner.shared.table_id.slots word 0 0 none) (known seat.old.me)) }
+        requires { (seat.old.table_id ≡ self.now.inner.shared.table_id) × (word
+            < self.now.inner.shared.table_id.words) × Allows (Kept self.now.inner.shared.key)
+            self.now.inner.shared.table_id.slots seat.old.id (known seat.old.me) word (λ n. n)
+            (P.then (step self.now.inner.shared.table_id.slots word 0 0 none) (known seat.old.me)) }
         ensures home { seat.new.table_id ≡ seat.old.table_id }
-        ensures told { P.then (step self.now.inner.shared.table_id.slots word 0 0 none) (known seat.old.me) result (known seat.new.me) }
+        ensures told { P.then (step self.now.inner.shared.table_id.slots word 0 0 none)
+            (known seat.old.me) result (known seat.new.me) }
         ensures made { seat.new.me.0.made ≡ each_after seat.old.me.0.made (Load word) }
     {
         self.inner.shared.load::<Loads<P>>(seat, word)
@@ -54,9 +58,14 @@ impl CountedTable {
         word: usize,
         new: u64,
     )
-        requires { (seat.old.table_id ≡ self.now.inner.shared.table_id) × (word < self.now.inner.shared.table_id.words) × Allows (Kept self.now.inner.shared.key) self.now.inner.shared.table_id.slots seat.old.id (known seat.old.me) word (λ _. new) (λ _. P.then (step self.now.inner.shared.table_id.slots word new 0 none) (known seat.old.me) new) }
+        requires { (seat.old.table_id ≡ self.now.inner.shared.table_id) × (word
+            < self.now.inner.shared.table_id.words) × Allows (Kept self.now.inner.shared.key)
+            self.now.inner.shared.table_id.slots seat.old.id (known seat.old.me) word (λ _. new)
+            (λ _. P.then (step self.now.inner.shared.table_id.slots word new 0 none)
+            (known seat.old.me) new) }
         ensures home { seat.new.table_id ≡ seat.old.table_id }
-        ensures told { P.then (step self.now.inner.shared.table_id.slots word new 0 none) (known seat.old.me) new (known seat.new.me) }
+        ensures told { P.then (step self.now.inner.shared.table_id.slots word new 0 none)
+            (known seat.old.me) new (known seat.new.me) }
         ensures made { seat.new.me.0.made ≡ each_after seat.old.me.0.made (Store word) }
     {
         self.inner.shared.store::<Stores<P>>(seat, word, new)
@@ -69,10 +78,16 @@ impl CountedTable {
         old: u64,
         new: u64,
     ) -> u64
-        requires { (seat.old.table_id ≡ self.now.inner.shared.table_id) × (word < self.now.inner.shared.table_id.words) × Allows (Kept self.now.inner.shared.key) self.now.inner.shared.table_id.slots seat.old.id (known seat.old.me) word (λ n. either (n == old) new n) (P.then (step self.now.inner.shared.table_id.slots word old new none) (known seat.old.me)) }
+        requires { (seat.old.table_id ≡ self.now.inner.shared.table_id)
+            × (word < self.now.inner.shared.table_id.words)
+            × Allows (Kept self.now.inner.shared.key) self.now.inner.shared.table_id.slots
+            seat.old.id (known seat.old.me) word (λ n. either (n == old) new n) (P.then
+            (step self.now.inner.shared.table_id.slots word old new none) (known seat.old.me)) }
         ensures home { seat.new.table_id ≡ seat.old.table_id }
-        ensures told { P.then (step self.now.inner.shared.table_id.slots word old new none) (known seat.old.me) result (known seat.new.me) }
-        ensures made { seat.new.me.0.made ≡ each_after seat.old.me.0.made (Exchange word (result == old)) }
+        ensures told { P.then (step self.now.inner.shared.table_id.slots word old new none)
+            (known seat.old.me) result (known seat.new.me) }
+        ensures made { seat.new.me.0.made
+            ≡ each_after seat.old.me.0.made (Exchange word (result == old)) }
     {
         self.inner
             .shared
@@ -87,10 +102,17 @@ impl CountedTable {
         new: u64,
         said: &Note,
     ) -> u64
-        requires { (seat.old.table_id ≡ self.now.inner.shared.table_id) × (word < self.now.inner.shared.table_id.words) × Allows (Kept self.now.inner.shared.key) self.now.inner.shared.table_id.slots seat.old.id (known seat.old.me) word (λ n. either (n == old) new n) (P.then (step self.now.inner.shared.table_id.slots word old new (some said.now)) (known seat.old.me)) }
+        requires { (seat.old.table_id ≡ self.now.inner.shared.table_id)
+            × (word < self.now.inner.shared.table_id.words)
+            × Allows (Kept self.now.inner.shared.key) self.now.inner.shared.table_id.slots
+            seat.old.id (known seat.old.me) word (λ n. either (n == old) new n)
+            (P.then (step self.now.inner.shared.table_id.slots word old new (some said.now))
+            (known seat.old.me)) }
         ensures home { seat.new.table_id ≡ seat.old.table_id }
-        ensures told { P.then (step self.now.inner.shared.table_id.slots word old new (some said.now)) (known seat.old.me) result (known seat.new.me) }
-        ensures made { seat.new.me.0.made ≡ each_after seat.old.me.0.made (Exchange word (result == old)) }
+        ensures told { P.then (step self.now.inner.shared.table_id.slots word old new
+            (some said.now)) (known seat.old.me) result (known seat.new.me) }
+        ensures made { seat.new.me.0.made
+            ≡ each_after seat.old.me.0.made (Exchange word (result == old)) }
     {
         self.inner
             .shared
@@ -99,7 +121,10 @@ impl CountedTable {
 
     /// The first pass of the seat gets a seat of its own. One load of word 0.
     pub(crate) fn split_seat(&self, seat: &mut Seat<Note, Trail>) -> Seat<Note, Trail>
-        requires { (seat.old.table_id ≡ self.now.inner.shared.table_id) × (0 < self.now.inner.shared.table_id.words) × Splits (Kept self.now.inner.shared.key {S = Note}) seat.old.id seat.old.me.0.view (without_first seat.old.me.0.view) (only_first seat.old.me.0.view) }
+        requires { (seat.old.table_id ≡ self.now.inner.shared.table_id)
+            × (0 < self.now.inner.shared.table_id.words)
+            × Splits (Kept self.now.inner.shared.key {S = Note}) seat.old.id seat.old.me.0.view
+            (without_first seat.old.me.0.view) (only_first seat.old.me.0.view) }
         ensures home { seat.new.table_id ≡ seat.old.table_id }
         ensures left { seat.new.me ≡ (left_trail seat.old.me.0, seat.old.me.1) }
         ensures other { result.table_id ≡ seat.old.table_id }
@@ -110,7 +135,11 @@ impl CountedTable {
 
     /// The seat takes in the passes of another. One load of word 0.
     pub(crate) fn join_seat(&self, seat: &mut Seat<Note, Trail>, other: Seat<Note, Trail>)
-        requires { (seat.old.table_id ≡ self.now.inner.shared.table_id) × (other.table_id ≡ self.now.inner.shared.table_id) × (other.me.1 ≡ []) × (0 < self.now.inner.shared.table_id.words) × Joins (Kept self.now.inner.shared.key {S = Note}) seat.old.id seat.old.me.0.view other.id other.me.0.view (both_of seat.old.me.0.view other.me.0.view) nothing }
+        requires { (seat.old.table_id ≡ self.now.inner.shared.table_id)
+            × (other.table_id ≡ self.now.inner.shared.table_id) × (other.me.1 ≡ [])
+            × (0 < self.now.inner.shared.table_id.words)
+            × Joins (Kept self.now.inner.shared.key {S = Note}) seat.old.id seat.old.me.0.view
+            other.id other.me.0.view (both_of seat.old.me.0.view other.me.0.view) nothing }
         ensures home { seat.new.table_id ≡ seat.old.table_id }
         ensures both { seat.new.me ≡ (joined seat.old.me.0 other.me.0, seat.old.me.1) }
     {
@@ -120,8 +149,11 @@ impl CountedTable {
     /// The words at the end, with what the seat knows.
     pub(crate) fn close_with(self, seat: Seat<Note, Trail>) -> Closed<Note, Global>
         requires { seat.table_id ≡ self.inner.shared.table_id }
-        ensures counts { (slots_len result.words ≡ self.inner.shared.table_id.words) × (slots_len result.slots ≡ self.inner.shared.table_id.slots) }
-        ensures values { IsFull result.words × IsFull result.slots × Final (Seen (Kept self.inner.shared.key {S = Note}) seat.id seat.me.0.view) (slots_items result.words) (slots_items result.slots) }
+        ensures counts { (slots_len result.words ≡ self.inner.shared.table_id.words)
+            × (slots_len result.slots ≡ self.inner.shared.table_id.slots) }
+        ensures values { IsFull result.words × IsFull result.slots
+            × Final (Seen (Kept self.inner.shared.key {S = Note}) seat.id seat.me.0.view)
+            (slots_items result.words) (slots_items result.slots) }
     {
         let CountedTable { inner } = self;
         inner.close_with(seat)

@@ -54,7 +54,8 @@ impl Telling for LoadQueue {
 pub(crate) struct ChangeQueue;
 
 impl Telling for ChangeQueue {
-    ghost tells = { λ st found. OfQueue st.word (λ r. Of queue_word QueueFits (λ now. ChangedQueue r now (found == st.first)) st.first) };
+    ghost tells = { λ st found. OfQueue st.word
+        (λ r. Of queue_word QueueFits (λ now. ChangedQueue r now (found == st.first)) st.first) };
 }
 
 pub(crate) struct SettleServer;
@@ -109,7 +110,8 @@ impl Shared {
     pub fn cancel(&self, claim: Claim) -> Pass
         requires { IsClaimOf self.now claim }
         ensures cancelled { IsCancelled self.now claim result }
-        ensures made { accesses result ≡ claim_accesses claim ++ Store (task_word_at (terms self.now).setup (claim_task claim)) ∷ [] }
+        ensures made { accesses result ≡ claim_accesses claim
+            ++ Store (task_word_at (terms self.now).setup (claim_task claim)) ∷ [] }
     {
         let Claim {
             seated,
@@ -166,8 +168,10 @@ impl Shared {
     fn decide(&self, seated: &mut Seated, op: Op, held: &Record) -> Option<(Record, Reply)>
         requires held { (t : ℕ) × HoldsFor self.now seated.old t op held.now }
         requires about { changes_sum held.now op ≡ false → is_charge op ≡ true }
-        ensures told { Tells self.now (Tried (runqueue_of held.now.place op) result) seated.old seated.new }
-        ensures made { TriesOnce (queue_word_at (runqueue_of held.now.place op)) (changes_sum held.now op) result (made_on seated.old) (made_on seated.new) }
+        ensures told { Tells self.now
+            (Tried (runqueue_of held.now.place op) result) seated.old seated.new }
+        ensures made { TriesOnce (queue_word_at (runqueue_of held.now.place op))
+            (changes_sum held.now op) result (made_on seated.old) (made_on seated.new) }
     {
         let r = runqueue(held.place, op);
         let now = self.load_queue(seated, r);
@@ -219,7 +223,9 @@ impl Shared {
         requires kept { IsKept (terms self.now).setup next.now }
         ensures told { Tells self.now (Gives task) seated result.seated }
         ensures seen { seen result ≡ (share_on seated).seen }
-        ensures made { accesses result ≡ made_on seated ++ changed_store (params_word_at (terms self.now).setup task) held.now.params next.now.params ++ Store (task_word_at (terms self.now).setup task) ∷ [] }
+        ensures made { accesses result ≡ made_on seated ++ changed_store
+            (params_word_at (terms self.now).setup task) held.now.params next.now.params
+            ++ Store (task_word_at (terms self.now).setup task) ∷ [] }
     {
         self.store_changed(&mut seated, task, held, next);
         self.give_back(seated, task, next)
@@ -230,7 +236,8 @@ impl Shared {
         requires { HoldsMade self.now seated.old task next.now (half_stored held.now next.now) }
         ensures knows { Tells self.now Knows seated.old seated.new }
         ensures stored { HoldsMade self.now seated.new task next.now (stored_of next.now) }
-        ensures made { made_on seated.new ≡ made_on seated.old ++ changed_store (params_word_at (terms self.now).setup task) held.now.params next.now.params }
+        ensures made { made_on seated.new ≡ made_on seated.old ++ changed_store
+            (params_word_at (terms self.now).setup task) held.now.params next.now.params }
     {
         if pack_params(next.params) != pack_params(held.params) {
             self.store_params(seated, task, next.params);
@@ -238,7 +245,8 @@ impl Shared {
     }
 
     fn load_queue(&self, seated: &mut Seated, r: u32) -> Reading
-        requires { (t : ℕ) × (op : Op) × (rec : Record) × HoldsFor self.now seated.old t op rec × (r ≡ runqueue_of rec.place op) }
+        requires { (t : ℕ) × (op : Op) × (rec : Record) × HoldsFor self.now seated.old t op rec
+            × (r ≡ runqueue_of rec.place op) }
         ensures told { Tells self.now (SawQueue r result) seated.old seated.new }
         ensures made { made_on seated.new ≡ made_on seated.old ++ Load (queue_word_at r) ∷ [] }
     {
@@ -248,11 +256,14 @@ impl Shared {
 
     /// Makes the reading `new` where it is still `old`, and says whether it was.
     fn change_queue(&self, seated: &mut Seated, r: u32, old: Reading, new: Reading) -> bool
-        requires held { (t : ℕ) × (op : Op) × (rec : Record) × HoldsFor self.now seated.old t op rec × (r ≡ runqueue_of rec.place op) × (new ≡ shifted_of old r rec (outcome (terms self.now) r old rec op).0) }
+        requires held { (t : ℕ) × (op : Op) × (rec : Record) × HoldsFor self.now seated.old t op rec
+            × (r ≡ runqueue_of rec.place op)
+            × (new ≡ shifted_of old r rec (outcome (terms self.now) r old rec op).0) }
         requires old { QueueFits old }
         requires new { QueueFits new }
         ensures told { Tells self.now (ChangedQueue r old result) seated.old seated.new }
-        ensures made { made_on seated.new ≡ made_on seated.old ++ Exchange (queue_word_at r) result ∷ [] }
+        ensures made { made_on seated.new
+            ≡ made_on seated.old ++ Exchange (queue_word_at r) result ∷ [] }
     {
         let loaded = pack_queue(old);
         let found = self.exchange::<ChangeQueue>(seated, queue_word_at(r), loaded, pack_queue(new));
@@ -261,20 +272,24 @@ impl Shared {
 
     /// The server of an op that changes no sum: its transition.
     fn settle_server(&self, seated: &mut Seated, t: u32, server: Server)
-        requires held { (op : Op) × (rec : Record) × HoldsFor self.now seated.old t op rec × (changes_sum rec op ≡ false) × ¬ LooksAtQueue rec.place op }
+        requires held { (op : Op) × (rec : Record) × HoldsFor self.now seated.old t op rec
+            × (changes_sum rec op ≡ false) × ¬ LooksAtQueue rec.place op }
         requires fits { ServerFits server }
         ensures told { Tells self.now (SettledServer (server_word server)) seated.old seated.new }
-        ensures made { made_on seated.new ≡ made_on seated.old ++ Store (server_word_at (terms self.now).setup t) ∷ [] }
+        ensures made { made_on seated.new
+            ≡ made_on seated.old ++ Store (server_word_at (terms self.now).setup t) ∷ [] }
     {
         let at = server_word_at(&self.terms.setup, t);
         self.store::<SettleServer>(seated, at, pack_server(server));
     }
 
     fn store_server(&self, seated: &mut Seated, t: u32, server: Server)
-        requires held { (now : Record) × (stored : Stored) × HoldsMade self.now seated.old t now stored }
+        requires held { (now : Record) × (stored : Stored)
+            × HoldsMade self.now seated.old t now stored }
         requires fits { ServerFits server }
         ensures told { Tells self.now (StoredServer (server_word server)) seated.old seated.new }
-        ensures made { made_on seated.new ≡ made_on seated.old ++ Store (server_word_at (terms self.now).setup t) ∷ [] }
+        ensures made { made_on seated.new
+            ≡ made_on seated.old ++ Store (server_word_at (terms self.now).setup t) ∷ [] }
     {
         let at = server_word_at(&self.terms.setup, t);
         self.store::<StoreServer>(seated, at, pack_server(server));
@@ -283,7 +298,8 @@ impl Shared {
     fn store_params(&self, seated: &mut Seated, t: u32, params: Params)
         requires { (now : Record) × (stored : Stored) × HoldsMade self.now seated.old t now stored }
         ensures told { Tells self.now (StoredParams (params_word params)) seated.old seated.new }
-        ensures made { made_on seated.new ≡ made_on seated.old ++ Store (params_word_at (terms self.now).setup t) ∷ [] }
+        ensures made { made_on seated.new
+            ≡ made_on seated.old ++ Store (params_word_at (terms self.now).setup t) ∷ [] }
     {
         let at = params_word_at(&self.terms.setup, t);
         self.store::<StoreParams>(seated, at, pack_params(params));
@@ -294,7 +310,8 @@ impl Shared {
         requires held { HoldsMade self.now seated t now.now (stored_of now.now) }
         requires kept { IsKept (terms self.now).setup now.now }
         ensures told { Tells self.now GaveBack seated result.seated }
-        ensures made { accesses result ≡ made_on seated ++ Store (task_word_at (terms self.now).setup t) ∷ [] }
+        ensures made { accesses result
+            ≡ made_on seated ++ Store (task_word_at (terms self.now).setup t) ∷ [] }
     {
         let at = task_word_at(&self.terms.setup, t);
         self.store::<GiveBack>(&mut seated, at, free_word(now));
@@ -305,7 +322,8 @@ impl Shared {
     pub(crate) fn give_up(&self, mut seated: Seated, t: u32, held: &Record) -> Pass
         requires { (op : Op) × HoldsFor self.now seated t op held.now }
         ensures told { Tells self.now GaveUp seated result.seated }
-        ensures made { accesses result ≡ made_on seated ++ Store (task_word_at (terms self.now).setup t) ∷ [] }
+        ensures made { accesses result
+            ≡ made_on seated ++ Store (task_word_at (terms self.now).setup t) ∷ [] }
     {
         let at = task_word_at(&self.terms.setup, t);
         self.store::<GiveUp>(&mut seated, at, free_word(held));

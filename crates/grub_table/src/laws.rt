@@ -18,22 +18,24 @@ ghost use Rattle.grub_table.specs.declared.view.Terms.{Terms};
 /// The readings of a closed table are sound: on each runqueue running_bw is at most this_bw, and this_bw at most what the
 /// runqueue admits.
 pub fn closing_readings_are_sound()
-    ensures running { (s : Shared) (ps : List Pass) (last : List Reading) (r : ℕ) (d : Reading) → IsClosed s ps last
-        → r < length last → let x = slice_index_or last r d in x.running ≤ x.this }
-    ensures admitted { (s : Shared) (ps : List Pass) (last : List Reading) (r : ℕ) (d : Reading) → IsClosed s ps last
-        → r < length last → let x = slice_index_or last r d in x.this ≤ (queue_at (terms s).setup r).most }
+    ensures running { (s : Shared) (ps : List Pass) (last : List Reading) (r : ℕ) (d : Reading)
+        → IsClosed s ps last → r < length last
+        → let x = slice_index_or last r d in x.running ≤ x.this }
+    ensures admitted { (s : Shared) (ps : List Pass) (last : List Reading) (r : ℕ) (d : Reading)
+        → IsClosed s ps last → r < length last
+        → let x = slice_index_or last r d in x.this ≤ (queue_at (terms s).setup r).most }
 {}
 
 /// Calls one after another: what a pass learns by the first and then by the next it learns by both together, and what it
 /// has learned at last stands in each history and in all marks that it knows then, so in those of a closed table.
 pub fn passes_learn_on()
     ensures nothing { (x : Share) → Learns x x [] [] }
-    ensures twice { (x y z : Share) (a b : List Event) (m n : List Mark) → Learns x y a m → Learns y z b n
-        → Learns x z (a ++ b) (m ++ n) }
-    ensures events { (x y : Share) (h : List Event) (ms : List Mark) (a : List Event) (m : List Mark) → Learns x y a m
-        → Knows y h ms → GoesOn pass_of x.number x.seen h a }
-    ensures marks { (x y : Share) (h : List Event) (ms : List Mark) (a : List Event) (m : List Mark) → Learns x y a m
-        → Knows y h ms → GoesOn marker_of x.number x.marks ms m }
+    ensures twice { (x y z : Share) (a b : List Event) (m n : List Mark) → Learns x y a m
+        → Learns y z b n → Learns x z (a ++ b) (m ++ n) }
+    ensures events { (x y : Share) (h : List Event) (ms : List Mark) (a : List Event)
+        (m : List Mark) → Learns x y a m → Knows y h ms → GoesOn pass_of x.number x.seen h a }
+    ensures marks { (x y : Share) (h : List Event) (ms : List Mark) (a : List Event) (m : List Mark)
+        → Learns x y a m → Knows y h ms → GoesOn marker_of x.number x.marks ms m }
 {}
 
 /// With one pass a table is the book of one thread: the whole history is what that pass has done.

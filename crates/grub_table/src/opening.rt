@@ -58,7 +58,8 @@ fn copied(alloc: Global, setup: &Setup) -> Result<Setup, AllocError>
 
 /// The words of tasks that are all away, with a full budget each.
 fn opening_words(alloc: Global, setup: &Setup) -> Result<Vec<u64>, AllocError>
-    ensures { IfOk result (λ words. AreOpeningWords setup.now (length setup.now.tasks) words.items) }
+    ensures { IfOk result
+        (λ words. AreOpeningWords setup.now (length setup.now.tasks) words.items) }
 {
     let mut words = Vec::new(alloc);
     let count = setup.queue_count() as usize + setup.task_count() as usize;

@@ -24,7 +24,8 @@ use grub_book::Reading;
 pub(crate) struct Looks;
 
 impl Telling for Looks {
-    ghost tells = { λ st found. OfQueue st.word (λ r. Of queue_word QueueFits (SawReading r) found) };
+    ghost tells = { λ st found. OfQueue st.word
+        (λ r. Of queue_word QueueFits (SawReading r) found) };
 }
 
 impl Shared {
@@ -33,7 +34,8 @@ impl Shared {
         requires of { IsPassOf self.now pass.old }
         requires queue { r < length (terms self.now).setup.queues }
         ensures of { IsPassOf self.now pass.new }
-        ensures learns { Learns (share_of pass.old) (share_of pass.new) (Look (number_of pass.old) r result ∷ []) [] }
+        ensures learns { Learns (share_of pass.old) (share_of pass.new)
+            (Look (number_of pass.old) r result ∷ []) [] }
         ensures last { EndsWith (seen pass.new) (Look (number_of pass.old) r result) }
         ensures marks { marks pass.new ≡ marks pass.old }
         ensures made { accesses pass.new ≡ accesses pass.old ++ Load (queue_word_at r) ∷ [] }
@@ -46,9 +48,12 @@ impl Shared {
         requires of { IsClaimOf self.now claim.old }
         requires queue { r < length (terms self.now).setup.queues }
         ensures still { IsStill self.now claim.old claim.new }
-        ensures learns { Learns (claim_share claim.old) (claim_share claim.new) (Look (claim_share claim.old).number r result ∷ []) [] }
-        ensures last { EndsWith (claim_share claim.new).seen (Look (claim_share claim.old).number r result) }
-        ensures made { claim_accesses claim.new ≡ claim_accesses claim.old ++ Load (queue_word_at r) ∷ [] }
+        ensures learns { Learns (claim_share claim.old) (claim_share claim.new)
+            (Look (claim_share claim.old).number r result ∷ []) [] }
+        ensures last { EndsWith (claim_share claim.new).seen
+            (Look (claim_share claim.old).number r result) }
+        ensures made { claim_accesses claim.new
+            ≡ claim_accesses claim.old ++ Load (queue_word_at r) ∷ [] }
     {
         self.look(&mut claim.seated, r)
     }
@@ -58,10 +63,14 @@ impl Shared {
         requires first { IsPassOf self.now first }
         requires second { IsPassOf self.now second }
         ensures first { IsPassWith self.now (number_of first) (seen first) (marks first) result.0 }
-        ensures second { IsPassWith self.now (number_of second) (seen second) (marks second) result.1 }
-        ensures met { IsBehind pass_of seen result.0 result.1 ⊎ IsBehind pass_of seen result.1 result.0 }
-        ensures marks { IsBehind marker_of marks result.0 result.1 ⊎ IsBehind marker_of marks result.1 result.0 }
-        ensures made { (accesses result.0 ≡ accesses first ++ meeting_loads) × (accesses result.1 ≡ accesses second ++ meeting_loads) }
+        ensures second { IsPassWith self.now (number_of second) (seen second)
+            (marks second) result.1 }
+        ensures met { IsBehind pass_of seen result.0 result.1
+            ⊎ IsBehind pass_of seen result.1 result.0 }
+        ensures marks { IsBehind marker_of marks result.0 result.1
+            ⊎ IsBehind marker_of marks result.1 result.0 }
+        ensures made { (accesses result.0 ≡ accesses first ++ meeting_loads)
+            × (accesses result.1 ≡ accesses second ++ meeting_loads) }
     {
         let Seated {
             seat: one,

@@ -82,8 +82,10 @@ pub(crate) fn params_in(word: u64) -> Params
 
 /// What the word of a free task says; none where the claim bit is set.
 pub(crate) fn unclaimed(word: u64) -> Option<TaskWord>
-    ensures found { IfSome result (λ w. TaskFits w × (w.claimed ≡ false) × (task_word w.place w.count false ≡ word)) }
-    ensures none { IsNone result → (p : Place) (n : ℕ) → PlaceFits p → n ≤ count_most → task_word p n false ≢ word }
+    ensures found { IfSome result
+        (λ w. TaskFits w × (w.claimed ≡ false) × (task_word w.place w.count false ≡ word)) }
+    ensures none { IsNone result → (p : Place) (n : ℕ) → PlaceFits p → n ≤ count_most
+        → task_word p n false ≢ word }
 {
     let Some(shown) = unpack_task(word) else {
         return None;

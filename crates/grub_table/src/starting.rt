@@ -74,7 +74,8 @@ impl Shared {
         requires op { IsOp (terms self.now).setup op }
         requires note { J.note ≡ record { task = t; op = op } }
         ensures told { Tells self.now (LoadedTask J.note result) seated.old seated.new }
-        ensures made { made_on seated.new ≡ made_on seated.old ++ Load (task_word_at (terms self.now).setup t) ∷ [] }
+        ensures made { made_on seated.new
+            ≡ made_on seated.old ++ Load (task_word_at (terms self.now).setup t) ∷ [] }
     {
         let at = task_word_at(&self.terms.setup, t);
         self.load::<LoadTask<J>>(seated, at)
@@ -87,8 +88,11 @@ impl Shared {
         requires task { t < length (terms self.now).setup.tasks }
         requires fits { TaskFits shown }
         requires unclaimed { shown.claimed ≡ false }
-        ensures told { Tells self.now (TookClaim (record { task = t; op = op }) (task_word shown.place shown.count false) result) seated.old seated.new }
-        ensures made { made_on seated.new ≡ made_on seated.old ++ Exchange (task_word_at (terms self.now).setup t) (result == task_word shown.place shown.count false) ∷ [] }
+        ensures told { Tells self.now (TookClaim (record { task = t; op = op })
+            (task_word shown.place shown.count false) result) seated.old seated.new }
+        ensures made { made_on seated.new
+            ≡ made_on seated.old ++ Exchange (task_word_at (terms self.now).setup t)
+            (result == task_word shown.place shown.count false) ∷ [] }
     {
         let loaded = pack_task(shown);
         let claimed = pack_task(TaskWord {
@@ -104,7 +108,8 @@ impl Shared {
     pub(crate) fn load_params(&self, seated: &mut Seated, t: u32) -> Params
         requires { (op : Op) × (rec : Record) × HoldsFor self.now seated.old t op rec }
         ensures told { Tells self.now (SawParams result) seated.old seated.new }
-        ensures made { made_on seated.new ≡ made_on seated.old ++ Load (params_word_at (terms self.now).setup t) ∷ [] }
+        ensures made { made_on seated.new
+            ≡ made_on seated.old ++ Load (params_word_at (terms self.now).setup t) ∷ [] }
     {
         let at = params_word_at(&self.terms.setup, t);
         let word = self.load::<LoadParams>(seated, at);
@@ -114,7 +119,8 @@ impl Shared {
     fn load_server(&self, seated: &mut Seated, t: u32) -> Server
         requires { (op : Op) × (rec : Record) × HoldsFor self.now seated.old t op rec }
         ensures told { Tells self.now (SawServer result) seated.old seated.new }
-        ensures made { made_on seated.new ≡ made_on seated.old ++ Load (server_word_at (terms self.now).setup t) ∷ [] }
+        ensures made { made_on seated.new
+            ≡ made_on seated.old ++ Load (server_word_at (terms self.now).setup t) ∷ [] }
     {
         let at = server_word_at(&self.terms.setup, t);
         let word = self.load::<LoadServer>(seated, at);
@@ -129,7 +135,8 @@ impl Shared {
         requires op { IsOp (terms self.now).setup op }
         requires note { J.note ≡ record { task = t; op = op } }
         ensures told { Tells self.now (SawTask t op result) seated.old seated.new }
-        ensures made { made_on seated.new ≡ made_on seated.old ++ Load (task_word_at (terms self.now).setup t) ∷ [] }
+        ensures made { made_on seated.new
+            ≡ made_on seated.old ++ Load (task_word_at (terms self.now).setup t) ∷ [] }
         ensures free { IfOk result (λ w. TaskFits w × (w.claimed ≡ false)) }
     {
         let word = self.load_task::<J>(seated, t, op);
@@ -141,9 +148,12 @@ impl Shared {
 
     /// The record of a task that was taken, whose word said this.
     fn load_record(&self, seated: &mut Seated, t: u32, shown: TaskWord) -> Record
-        requires { (op : Op) × (rec : Record) × HoldsFor self.now seated.old t op rec × (shown.place ≡ rec.place) × (shown.count ≡ rec.count) }
+        requires { (op : Op) × (rec : Record) × HoldsFor self.now seated.old t op rec
+            × (shown.place ≡ rec.place) × (shown.count ≡ rec.count) }
         ensures told { Tells self.now (SawRecord result) seated.old seated.new }
-        ensures made { made_on seated.new ≡ made_on seated.old ++ Load (params_word_at (terms self.now).setup t) ∷ Load (server_word_at (terms self.now).setup t) ∷ [] }
+        ensures made { made_on seated.new
+            ≡ made_on seated.old ++ Load (params_word_at (terms self.now).setup t)
+            ∷ Load (server_word_at (terms self.now).setup t) ∷ [] }
     {
         let params = self.load_params(seated, t);
         let server = self.load_server(seated, t);
@@ -162,7 +172,8 @@ impl Shared {
         requires task { t < length (terms self.now).setup.tasks }
         requires op { IsOp (terms self.now).setup op }
         ensures started { IsStarted self.now pass t op result }
-        ensures brief { StartsBriefly (task_word_at (terms self.now).setup t) (accesses pass) (started_accesses result) }
+        ensures brief { StartsBriefly (task_word_at (terms self.now).setup t) (accesses pass)
+            (started_accesses result) }
     {
         let Pass { mut seated } = pass;
         let shown = match self.look_at_task::<Brand>(&mut seated, t, op) {

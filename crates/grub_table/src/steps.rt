@@ -15,8 +15,10 @@ impl Shared {
     /// One load by the pass whose seat this is.
     pub(crate) fn load<T: Telling>(&self, seated: &mut Seated, word: usize) -> u64
         requires of { IsSeatOf self.now seated.old }
-        requires allowed { IsAllowed self.now seated.old word (λ n. n) (T.tells (made_step self.now word 0 0 none)) }
-        ensures told { Tells self.now (T.tells (made_step self.now word 0 0 none) result) seated.old seated.new }
+        requires allowed { IsAllowed self.now seated.old word
+            (λ n. n) (T.tells (made_step self.now word 0 0 none)) }
+        ensures told { Tells self.now
+            (T.tells (made_step self.now word 0 0 none) result) seated.old seated.new }
         ensures made { made_on seated.new ≡ made_on seated.old ++ Load word ∷ [] }
     {
         self.table.load::<Turn<T>>(&mut seated.seat, word)
@@ -24,8 +26,10 @@ impl Shared {
 
     pub(crate) fn store<T: Telling>(&self, seated: &mut Seated, word: usize, new: u64)
         requires of { IsSeatOf self.now seated.old }
-        requires allowed { IsAllowed self.now seated.old word (λ _. new) (λ _. T.tells (made_step self.now word new 0 none) new) }
-        ensures told { Tells self.now (T.tells (made_step self.now word new 0 none) new) seated.old seated.new }
+        requires allowed { IsAllowed self.now seated.old word (λ _. new)
+            (λ _. T.tells (made_step self.now word new 0 none) new) }
+        ensures told { Tells self.now
+            (T.tells (made_step self.now word new 0 none) new) seated.old seated.new }
         ensures made { made_on seated.new ≡ made_on seated.old ++ Store word ∷ [] }
     {
         self.table.store::<Turn<T>>(&mut seated.seat, word, new);
@@ -39,9 +43,12 @@ impl Shared {
         new: u64,
     ) -> u64
         requires of { IsSeatOf self.now seated.old }
-        requires allowed { IsAllowed self.now seated.old word (λ n. either (n == old) new n) (T.tells (made_step self.now word old new none)) }
-        ensures told { Tells self.now (T.tells (made_step self.now word old new none) result) seated.old seated.new }
-        ensures made { made_on seated.new ≡ made_on seated.old ++ Exchange word (result == old) ∷ [] }
+        requires allowed { IsAllowed self.now seated.old word
+            (λ n. either (n == old) new n) (T.tells (made_step self.now word old new none)) }
+        ensures told { Tells self.now
+            (T.tells (made_step self.now word old new none) result) seated.old seated.new }
+        ensures made { made_on seated.new
+            ≡ made_on seated.old ++ Exchange word (result == old) ∷ [] }
     {
         self.table
             .compare_exchange::<Turn<T>>(&mut seated.seat, word, old, new)
@@ -57,9 +64,12 @@ impl Shared {
         said: &Note,
     ) -> u64
         requires of { IsSeatOf self.now seated.old }
-        requires allowed { IsAllowed self.now seated.old word (λ n. either (n == old) new n) (T.tells (made_step self.now word old new (some said.now))) }
-        ensures told { Tells self.now (T.tells (made_step self.now word old new (some said.now)) result) seated.old seated.new }
-        ensures made { made_on seated.new ≡ made_on seated.old ++ Exchange word (result == old) ∷ [] }
+        requires allowed { IsAllowed self.now seated.old word (λ n. either (n == old) new n)
+            (T.tells (made_step self.now word old new (some said.now))) }
+        ensures told { Tells self.now (T.tells (made_step self.now word old new
+            (some said.now)) result) seated.old seated.new }
+        ensures made { made_on seated.new
+            ≡ made_on seated.old ++ Exchange word (result == old) ∷ [] }
     {
         self.table
             .compare_exchange_with::<Turn<T>>(&mut seated.seat, word, old, new, said)

@@ -13,14 +13,17 @@ pub fn ask_due(player: &mut Player<'_>, m: u32)
     requires playing { IsPlaying player.old }
     requires moment { m < 2 ^ 31 }
     requires not_past { IsNotPast m player.old }
-    requires room { vec_len player.old.chunk + map.len player.old.wheel.timers ≤ vec_capacity player.old.chunk }
+    requires room { vec_len player.old.chunk + map.len player.old.wheel.timers
+        ≤ vec_capacity player.old.chunk }
     ensures playing { IsPlaying player.new }
     ensures setup { player.new.book.setup ≡ player.old.book.setup }
     ensures last { player.new.wheel.last ≡ Some m }
-    ensures asked { AsksDue m (entries_of player.old.told.items) (entries_of player.new.told.items) }
+    ensures asked { AsksDue m (entries_of player.old.told.items)
+        (entries_of player.new.told.items) }
     ensures goes_on { GoesOnAt player.old.told.items player.new.told.items }
     ensures start { player.new.start.value.items ≡ player.old.start.value.items }
-    ensures most { vec_len player.new.chunk ≤ vec_len player.old.chunk + map.len player.old.wheel.timers }
+    ensures most { vec_len player.new.chunk
+        ≤ vec_len player.old.chunk + map.len player.old.wheel.timers }
     ensures room { vec_capacity player.new.chunk ≡ vec_capacity player.old.chunk }
 {
     while let Some(timer) = player.wheel.due(m) {

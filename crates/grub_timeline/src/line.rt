@@ -23,7 +23,8 @@ fn join_here(player: &mut Player<'_>, r: u32, m: u32, t: u32, answer: Answer)
     ensures playing { IsPlaying player.new }
     ensures setup { player.new.book.setup ≡ player.old.book.setup }
     ensures last { player.new.wheel.last ≡ Some m }
-    ensures joins { JoinsAfter r m t answer (entries_of player.old.told.items) (entries_of player.new.told.items) }
+    ensures joins { JoinsAfter r m t answer (entries_of player.old.told.items)
+        (entries_of player.new.told.items) }
     ensures goes_on { GoesOnOf r player.old.told.items player.new.told.items }
     ensures start { player.new.start.value.items ≡ player.old.start.value.items }
     ensures most { vec_len player.new.chunk ≤ vec_len player.old.chunk + 1 }
@@ -48,7 +49,8 @@ fn follow(player: &mut Player<'_>, r: u32, m: u32, act: Act, answer: Answer)
     ensures playing { IsPlaying player.new }
     ensures setup { player.new.book.setup ≡ player.old.book.setup }
     ensures last { player.new.wheel.last ≡ Some m }
-    ensures follows { Follows r m act answer (entries_of player.old.told.items) (entries_of player.new.told.items) }
+    ensures follows { Follows r m act answer (entries_of player.old.told.items)
+        (entries_of player.new.told.items) }
     ensures goes_on { GoesOnOf r player.old.told.items player.new.told.items }
     ensures start { player.new.start.value.items ≡ player.old.start.value.items }
     ensures most { vec_len player.new.chunk ≤ vec_len player.old.chunk + 2 }
@@ -74,7 +76,8 @@ fn ask(player: &mut Player<'_>, r: u32, line: Line)
     ensures playing { IsPlaying player.new }
     ensures setup { player.new.book.setup ≡ player.old.book.setup }
     ensures last { player.new.wheel.last ≡ Some line.m }
-    ensures line { IsLineAsked r line (entries_of player.old.told.items) (entries_of player.new.told.items) }
+    ensures line { IsLineAsked r line (entries_of player.old.told.items)
+        (entries_of player.new.told.items) }
     ensures goes_on { GoesOnOf r player.old.told.items player.new.told.items }
     ensures start { player.new.start.value.items ≡ player.old.start.value.items }
     ensures most { vec_len player.new.chunk ≤ vec_len player.old.chunk + 3 }
@@ -97,7 +100,8 @@ pub fn ask_line(player: &mut Player<'_>, placed: Placed)
     requires queue { placed.r < length player.old.book.setup.queues }
     requires moment { placed.line.m < 2 ^ 31 }
     requires not_past { IsNotPast placed.line.m player.old }
-    requires room { vec_len player.old.chunk + (length player.old.book.setup.tasks + 3) ≤ vec_capacity player.old.chunk }
+    requires room { vec_len player.old.chunk + (length player.old.book.setup.tasks + 3)
+        ≤ vec_capacity player.old.chunk }
     ensures playing { IsPlaying player.new }
     ensures setup { player.new.book.setup ≡ player.old.book.setup }
     ensures last { player.new.wheel.last ≡ Some placed.line.m }

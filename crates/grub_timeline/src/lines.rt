@@ -14,11 +14,13 @@ use grub_plan::Plan;
 pub fn ask_lines(player: &mut Player<'_>, plan: &Plan, done: &mut Vec<usize>) -> bool
     requires midway { IsMidway plan.now player.old done.old.items }
     requires fits { PlanFits plan.now }
-    requires room { vec_len player.old.chunk + (length plan.now.setup.tasks + 3) ≤ vec_capacity player.old.chunk }
+    requires room { vec_len player.old.chunk + (length plan.now.setup.tasks + 3)
+        ≤ vec_capacity player.old.chunk }
     ensures midway { IsMidway plan.now player.new done.new.items }
     ensures start { player.new.start.value.items ≡ player.old.start.value.items }
     ensures room { vec_capacity player.new.chunk ≡ vec_capacity player.old.chunk }
-    ensures fewer { OnTrue result (left plan.now.scripts done.new.items < left plan.now.scripts done.old.items) }
+    ensures fewer { OnTrue result
+        (left plan.now.scripts done.new.items < left plan.now.scripts done.old.items) }
     ensures over { OnFalse result (NoHead plan.now.scripts done.new.items) }
     ensures same { OnFalse result (player.new ≡ player.old) }
     ensures undone { OnFalse result (done.new ≡ done.old) }
@@ -38,7 +40,8 @@ pub fn ask_lines(player: &mut Player<'_>, plan: &Plan, done: &mut Vec<usize>) ->
 
 /// Whether what a line asks is sure to have room: a timer of each task, and three asks.
 fn has_room(player: &Player<'_>) -> bool
-    ensures { OnTrue result (vec_len player.now.chunk + (length player.now.armers.items + 3) ≤ vec_capacity player.now.chunk) }
+    ensures { OnTrue result (vec_len player.now.chunk + (length player.now.armers.items + 3)
+        ≤ vec_capacity player.now.chunk) }
 {
     player.chunk.capacity() - player.chunk.len() >= player.armers.len() + 3
 }
@@ -47,7 +50,8 @@ fn has_room(player: &Player<'_>) -> bool
 fn ask_while_led(player: &mut Player<'_>, plan: &Plan, done: &mut [usize], lead: Lead)
     requires midway { IsMidway plan.now player.old done.old }
     requires fits { PlanFits plan.now }
-    requires room { vec_len player.old.chunk + (length plan.now.setup.tasks + 3) ≤ vec_capacity player.old.chunk }
+    requires room { vec_len player.old.chunk + (length plan.now.setup.tasks + 3)
+        ≤ vec_capacity player.old.chunk }
     requires ahead { IsAhead plan.now.scripts done.old lead }
     requires next { IsNext plan.now.scripts done.old lead }
     ensures midway { IsMidway plan.now player.new done.new }
@@ -65,7 +69,8 @@ fn ask_while_led(player: &mut Player<'_>, plan: &Plan, done: &mut [usize], lead:
 fn ask_next(player: &mut Player<'_>, plan: &Plan, done: &mut [usize], lead: Lead)
     requires midway { IsMidway plan.now player.old done.old }
     requires fits { PlanFits plan.now }
-    requires room { vec_len player.old.chunk + (length plan.now.setup.tasks + 3) ≤ vec_capacity player.old.chunk }
+    requires room { vec_len player.old.chunk + (length plan.now.setup.tasks + 3)
+        ≤ vec_capacity player.old.chunk }
     requires ahead { IsAhead plan.now.scripts done.old lead }
     requires next { IsNext plan.now.scripts done.old lead }
     ensures midway { IsMidway plan.now player.new done.new }

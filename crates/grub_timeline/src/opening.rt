@@ -61,7 +61,8 @@ fn wheel_of(alloc: Global, tasks: u32) -> Result<Wheel, AllocError>
 
 /// Adds so many places, and tells whether there was memory for them.
 fn add_places(wheel: &mut Wheel, count: u64) -> bool
-    ensures places { OnTrue result (wheel.new ≡ record wheel.old { spare = wheel.old.spare + count }) }
+    ensures places { OnTrue result
+        (wheel.new ≡ record wheel.old { spare = wheel.old.spare + count }) }
 {
     for _ in 0..count {
         if wheel.add_place().is_err() {

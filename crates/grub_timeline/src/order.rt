@@ -24,7 +24,8 @@ pub struct Lead {
 /// The file whose line is next: the earliest, and of those at one moment that of the first file.
 pub fn first(plan: &Plan, done: &[usize]) -> Option<Lead>
     requires { length done.now ≡ length plan.now.scripts }
-    ensures none { MatchOption result (NoHead plan.now.scripts done.now) (IsAhead plan.now.scripts done.now) }
+    ensures none { MatchOption result (NoHead plan.now.scripts done.now)
+        (IsAhead plan.now.scripts done.now) }
     ensures next { IfSome result (IsNext plan.now.scripts done.now) }
 {
     let mut lead = None;

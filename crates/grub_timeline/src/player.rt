@@ -43,8 +43,10 @@ pub fn put(player: &mut Player<'_>, r: u32, m: u32, t: u32, op: Op) -> Answer
     requires room { vec_len player.old.chunk + 1 ≤ vec_capacity player.old.chunk }
     ensures told { IsToldBy player.new }
     ensures setup { player.new.book.setup ≡ player.old.book.setup }
-    ensures list { player.new.told.items ≡ player.old.told.items ++ told_of r m (Call t op) result ∷ [] }
-    ensures chunk { player.new.chunk.items ≡ player.old.chunk.items ++ told_of r m (Call t op) result ∷ [] }
+    ensures list { player.new.told.items
+        ≡ player.old.told.items ++ told_of r m (Call t op) result ∷ [] }
+    ensures chunk { player.new.chunk.items
+        ≡ player.old.chunk.items ++ told_of r m (Call t op) result ∷ [] }
     ensures start { player.new.start.value.items ≡ player.old.start.value.items }
     ensures waits { WaitsRightly op result }
     ensures wheel { player.new.wheel ≡ player.old.wheel }
@@ -80,7 +82,8 @@ pub fn call(player: &mut Player<'_>, r: u32, m: u32, t: u32, op: Op) -> Answer
     ensures playing { IsPlaying player.new }
     ensures setup { player.new.book.setup ≡ player.old.book.setup }
     ensures last { player.new.wheel.last ≡ Some m }
-    ensures list { player.new.told.items ≡ player.old.told.items ++ told_of r m (Call t op) result ∷ [] }
+    ensures list { player.new.told.items
+        ≡ player.old.told.items ++ told_of r m (Call t op) result ∷ [] }
     ensures start { player.new.start.value.items ≡ player.old.start.value.items }
     ensures one { vec_len player.new.chunk ≡ vec_len player.old.chunk + 1 }
     ensures room { vec_capacity player.new.chunk ≡ vec_capacity player.old.chunk }

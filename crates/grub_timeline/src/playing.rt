@@ -40,7 +40,13 @@ impl<'a> Model for Playing<'a> {
 
     ghost Value = { PlayState };
 
-    ghost view = { λ x. record { plan = x.plan.now; told = x.player.told.items; chunk = x.player.chunk.items; most = vec_capacity x.player.chunk; left = left x.plan.now.scripts x.done.items } };
+    ghost view = { λ x. record {
+      plan = x.plan.now;
+      told = x.player.told.items;
+      chunk = x.player.chunk.items;
+      most = vec_capacity x.player.chunk;
+      left = left x.plan.now.scripts x.done.items;
+    } };
 
     ghost invariant = { λ x. IsUnderWay x.plan.now x.player x.done.items x.closing };
 }
@@ -118,7 +124,8 @@ impl<'a> Playing<'a> {
         ensures time_line { IsTimeLine self.entry.plan self.entry.told result.items }
         ensures only { IsOnlyTimeLine self.entry.plan self.entry.told result.items }
         ensures moments { DoNotGoBack self.entry.told }
-        ensures one_file { length self.entry.plan.scripts ≡ 1 → IsOneRun self.entry.plan.setup (script_at self.entry.plan.scripts 0) self.entry.told }
+        ensures one_file { length self.entry.plan.scripts ≡ 1
+            → IsOneRun self.entry.plan.setup (script_at self.entry.plan.scripts 0) self.entry.told }
         ensures within { AreWithin self.entry.plan.setup self.entry.told }
     {
         let mut closing = self.closing;

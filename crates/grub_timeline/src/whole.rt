@@ -14,7 +14,8 @@ pub fn play(alloc: Global, plan: &Plan) -> Result<TimeLine, PlayFault>
     ensures time_line { IfOk result (λ t. IsTimeLine plan.now t.told.items t.closing.items) }
     ensures only { IfOk result (λ t. IsOnlyTimeLine plan.now t.told.items t.closing.items) }
     ensures moments { IfOk result (λ t. DoNotGoBack t.told.items) }
-    ensures one_file { IfOk result (λ t. length plan.now.scripts ≡ 1 → IsOneRun plan.now.setup (script_at plan.now.scripts 0) t.told.items) }
+    ensures one_file { IfOk result (λ t. length plan.now.scripts ≡ 1
+        → IsOneRun plan.now.setup (script_at plan.now.scripts 0) t.told.items) }
     ensures within { IfOk result (λ t. AreWithin plan.now.setup t.told.items) }
 {
     let mut playing = Playing::new(alloc, plan)?;

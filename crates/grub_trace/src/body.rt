@@ -83,7 +83,8 @@ fn timely(last: u32, at: u32) -> Result<(), Kind>
 
 /// What happens at a moment, with no number but that, after the last one.
 fn take_moment<'a>(last: u32, at: &[u8], act: Act<&'a [u8]>) -> Result<Line<&'a [u8]>, Kind>
-    ensures { result ≡ ok_unless (plain_fault last at.now) (record { m = value at.now; act = act.entry }) }
+    ensures { result
+        ≡ ok_unless (plain_fault last at.now) (record { m = value at.now; act = act.entry }) }
 {
     let m = moment(at)?;
     timely(last, m)?;
@@ -114,7 +115,8 @@ fn take_retune<'a>(
     runtime: &'a [u8],
     period: &'a [u8],
 ) -> Result<Line<&'a [u8]>, Kind>
-    ensures { TakesAct result version last at.now (Act.Retune name.entry runtime.entry period.entry) }
+    ensures { TakesAct result version last at.now
+        (Act.Retune name.entry runtime.entry period.entry) }
 {
     if !version.may_retune() {
         return Err(Kind::BadLine);
@@ -166,7 +168,8 @@ fn say(
     line: Line<&[u8]>,
 ) -> Result<(), AllocError>
     requires { IsIndexed tasks.now }
-    ensures { SaysMore result (names_of (declarations tasks.now)) script.old script.new number (line_view line.entry) }
+    ensures { SaysMore result (names_of (declarations tasks.now)) script.old script.new number
+        (line_view line.entry) }
 {
     let act = match act_in(tasks, line.act) {
         Some(act) => act,

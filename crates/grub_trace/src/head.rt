@@ -27,7 +27,8 @@ fn read_tasks<'a>(
     text: &'a [u8],
 ) -> Result<Head<'a>, TraceFault>
     requires indexed { IsIndexed tasks.old }
-    ensures gives { GivesTasks result file version queue (declarations tasks.old) (declarations tasks.new) (parts_of text.now) }
+    ensures gives { GivesTasks result file version queue (declarations tasks.old)
+        (declarations tasks.new) (parts_of text.now) }
     ensures head { IfOk result IsHead }
     ensures file { IfOk result (λ h. h.file ≡ file) }
     ensures indexed { (result ≡ Err NoMemory → ⊥) → IsIndexed tasks.new }
@@ -89,8 +90,10 @@ fn read_second<'a>(
     text: &'a [u8],
 ) -> Result<Head<'a>, TraceFault>
     requires indexed { IsIndexed tasks.old }
-    ensures gives { GivesHead result file (declarations tasks.new) (read_second version (declarations tasks.old) (parts_of text.now)) }
-    ensures opening { AnswersOpening result (of_file file (read_second version (declarations tasks.old) (parts_of text.now))) }
+    ensures gives { GivesHead result file (declarations tasks.new)
+        (read_second version (declarations tasks.old) (parts_of text.now)) }
+    ensures opening { AnswersOpening result
+        (of_file file (read_second version (declarations tasks.old) (parts_of text.now))) }
     ensures head { IfOk result IsHead }
     ensures file { IfOk result (λ h. h.file ≡ file) }
     ensures indexed { (result ≡ Err NoMemory → ⊥) → IsIndexed tasks.new }
@@ -117,8 +120,10 @@ pub fn read_head<'a>(
     bytes: &'a [u8],
 ) -> Result<Head<'a>, TraceFault>
     requires indexed { IsIndexed tasks.old }
-    ensures gives { GivesHead result file (declarations tasks.new) (read_file (declarations tasks.old) bytes.now) }
-    ensures opening { AnswersOpening result (of_file file (read_file (declarations tasks.old) bytes.now)) }
+    ensures gives { GivesHead result file (declarations tasks.new)
+        (read_file (declarations tasks.old) bytes.now) }
+    ensures opening { AnswersOpening result
+        (of_file file (read_file (declarations tasks.old) bytes.now)) }
     ensures head { IfOk result IsHead }
     ensures file { IfOk result (λ h. h.file ≡ file) }
     ensures indexed { (result ≡ Err NoMemory → ⊥) → IsIndexed tasks.new }

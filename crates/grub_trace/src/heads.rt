@@ -56,9 +56,13 @@ fn check_count(files: &[Vec<u8>]) -> Result<(), TraceFault>
 /// Reads the heads of files, one after the other, up to the first that is wrong. If that is the first of all, its fault is
 /// answered, before memory is taken.
 fn heads_of(alloc: Global, files: &[Vec<u8>]) -> Result<Heads<'_>, TraceFault>
-    ensures together { IfOk result (λ h. GiveTogether (declarations h.tasks) (map head_above h.bodies.items) h.fault (read_from (record { declared = []; files = [] }) 0 (contents files.now))) }
-    ensures fault { IfErr result (λ e. Faults e (read_from (record { declared = []; files = [] }) 0 (contents files.now))) }
-    ensures opening { AnswersOpening result (read_from (record { declared = []; files = [] }) 0 (contents files.now)) }
+    ensures together { IfOk result
+        (λ h. GiveTogether (declarations h.tasks) (map head_above h.bodies.items) h.fault
+        (read_from (record { declared = []; files = [] }) 0 (contents files.now))) }
+    ensures fault { IfErr result
+        (λ e. Faults e (read_from (record { declared = []; files = [] }) 0 (contents files.now))) }
+    ensures opening { AnswersOpening result
+        (read_from (record { declared = []; files = [] }) 0 (contents files.now)) }
     ensures heads { IfOk result (λ h. HaveHeads h.bodies.items) }
     ensures indexed { IfOk result (λ h. IsIndexed h.tasks) }
 {

@@ -27,7 +27,9 @@ fn collect(
     bodies: Vec<Below<'_>>,
     fault: Option<TraceFault>,
 ) -> Result<Vec<RawFile>, TraceFault>
-    ensures { (tasks : Tasks) → AreRead tasks bodies.entry.items → (total : _) → GiveTogether (declarations tasks) (map head_above bodies.entry.items) fault total → Collects result tasks total }
+    ensures { (tasks : Tasks) → AreRead tasks bodies.entry.items → (total : _)
+        → GiveTogether (declarations tasks) (map head_above bodies.entry.items) fault total
+        → Collects result tasks total }
 {
     let mut files = Vec::with_capacity(alloc, bodies.len())?;
     for body in bodies {
@@ -42,7 +44,9 @@ fn collect(
 
 /// The scripts of all files, where no line names a task that none declares. Their lines are kept where they are.
 fn scripts(alloc: Global, files: Vec<RawFile>) -> Result<Vec<Vec<Line>>, TraceFault>
-    ensures { (tasks : Tasks) (bodies : _) → AreBodies tasks bodies files.items → AnswersAs result (λ v. map (λ s. s.items) v.items) (scripts_from (names_of (declarations tasks)) [] 0 bodies) }
+    ensures { (tasks : Tasks) (bodies : _) → AreBodies tasks bodies files.items
+        → AnswersAs result (λ v. map (λ s. s.items) v.items)
+        (scripts_from (names_of (declarations tasks)) [] 0 bodies) }
 {
     let mut scripts = Vec::with_capacity(alloc, files.len())?;
     for file in files {
@@ -85,7 +89,8 @@ fn params(alloc: Global, tasks: &[Task]) -> Result<Vec<Params>, TraceFault>
 
 /// The name of each task.
 fn names(alloc: Global, tasks: Vec<Task>) -> Result<Vec<String>, TraceFault>
-    ensures names { IfOk result (λ v. map string_bytes v.items ≡ map (λ t. string_bytes t.name) tasks.items) }
+    ensures names { IfOk result
+        (λ v. map string_bytes v.items ≡ map (λ t. string_bytes t.name) tasks.items) }
     ensures memory { IfErr result (λ e. e ≡ TraceFault.NoMemory) }
 {
     let mut names = Vec::with_capacity(alloc, tasks.len())?;
@@ -99,8 +104,11 @@ fn names(alloc: Global, tasks: Vec<Task>) -> Result<Vec<String>, TraceFault>
 /// The plan of what was read, where nothing is wrong with it.
 fn plan_of(alloc: Global, heads: Heads<'_>) -> Result<Plan, TraceFault>
     requires read { AreRead heads.tasks heads.bodies.items }
-    requires files { (files : _) × FilesGive files heads.tasks (map head_above heads.bodies.items) heads.fault }
-    ensures { (files : _) → FilesGive files heads.entry.tasks (map head_above heads.entry.bodies.items) heads.entry.fault → AnswersAs result (λ p. p) (plan_from files) }
+    requires files { (files : _)
+        × FilesGive files heads.tasks (map head_above heads.bodies.items) heads.fault }
+    ensures { (files : _) → FilesGive files heads.entry.tasks
+        (map head_above heads.entry.bodies.items) heads.entry.fault
+        → AnswersAs result (λ p. p) (plan_from files) }
 {
     let Heads {
         tasks,

@@ -54,7 +54,8 @@ impl Tasks {
         requires indexed { IsIndexed self.old }
         requires room { length (declarations self.old) < 256 }
         requires fresh { task_of (names_of (declarations self.old)) name.now ≡ None }
-        ensures declared { OnOk result (declarations self.new ≡ declarations self.old ++ record { name = name.now; params = params } ∷ []) }
+        ensures declared { OnOk result (declarations self.new
+            ≡ declarations self.old ++ record { name = name.now; params = params } ∷ []) }
         ensures indexed { OnOk result (IsIndexed self.new) }
     {
         let number = self.list.len() as u32;
@@ -69,7 +70,8 @@ impl Tasks {
 /// The reservation, where it is one.
 pub fn reservation(runtime: u32, period: u32) -> Option<Params>
     ensures value { IfSome result (λ p. p ≡ record { runtime = runtime; period = period }) }
-    ensures exact { is_some result ≡ reservation_fits (record { runtime = runtime; period = period }) }
+    ensures exact { is_some result
+        ≡ reservation_fits (record { runtime = runtime; period = period }) }
 {
     Params::new(runtime, period).ok()
 }
@@ -82,7 +84,9 @@ fn declared_params(
     period: &[u8],
 ) -> Result<Params, Kind>
     requires { IsIndexed tasks.now }
-    ensures { result ≡ ok_unless (task_fault (names_of (declarations tasks.now)) name.now runtime.now period.now) (reservation_value runtime.now period.now) }
+    ensures { result
+        ≡ ok_unless (task_fault (names_of (declarations tasks.now)) name.now runtime.now period.now)
+        (reservation_value runtime.now period.now) }
 {
     let (Some(runtime), Some(period)) = (number(runtime), number(period)) else {
         return Err(Kind::BadNumber);
@@ -111,7 +115,8 @@ pub fn declare(
 ) -> Result<(), TraceFault>
     requires indexed { IsIndexed tasks.old }
     requires name_in { is_name name.now ≡ true }
-    ensures takes { Declares result line (declarations tasks.old) (declarations tasks.new) name.now runtime.now period.now }
+    ensures takes { Declares result line (declarations tasks.old)
+        (declarations tasks.new) name.now runtime.now period.now }
     ensures indexed { (result ≡ Err TraceFault.NoMemory → ⊥) → IsIndexed tasks.new }
 {
     let params = match declared_params(tasks, name, runtime, period) {

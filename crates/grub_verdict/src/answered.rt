@@ -189,7 +189,8 @@ pub(crate) fn answered_of(
     placed: &[Placed],
     steps: &[Step],
 ) -> Result<Vec<Answered>, AllocError>
-    ensures { IfOk result (λ v. v.items ≡ answered_all (facts_of task facts.now) (events_of task placed.now) (answers_of t steps.now)) }
+    ensures { IfOk result (λ v. v.items ≡ answered_all (facts_of task facts.now)
+        (events_of task placed.now) (answers_of t steps.now)) }
 {
     let facts = facts_of(alloc, task, facts)?;
     let events = events_of(alloc, task, placed)?;

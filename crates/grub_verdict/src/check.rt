@@ -81,7 +81,8 @@ fn read_verdict<
     requires read { N.IsAlwaysCallable input.now.read }
     requires exists { X.IsAlwaysCallable target.now.exists }
     requires make { M.IsAlwaysCallable target.now.make }
-    ensures { IfOk result (λ said. IsSaid O.Fn N.Fn X.Fn M.Fn input.now target.now question.entry options.now said.0 said.1.items) }
+    ensures { IfOk result (λ said. IsSaid O.Fn N.Fn X.Fn M.Fn input.now target.now question.entry
+        options.now said.0 said.1.items) }
 {
     let mut facts = read_facts(alloc, input, question.path, options)?;
     match check_facts(alloc, question, options, &facts) {
@@ -121,10 +122,15 @@ pub fn serve_check<
     requires read { N.IsAlwaysCallable input.now.read }
     requires exists { X.IsAlwaysCallable target.now.exists }
     requires make { M.IsAlwaysCallable target.now.make }
-    ensures status { (result ≡ 0) ⊎ (result ≡ STATUS_DIFFERS) ⊎ (result ≡ STATUS_FILE) ⊎ (result ≡ STATUS_SYSTEM) }
+    ensures status { (result ≡ 0) ⊎ (result ≡ STATUS_DIFFERS) ⊎ (result ≡ STATUS_FILE)
+        ⊎ (result ≡ STATUS_SYSTEM) }
     // The verdict on what the trace tells was printed: at 0 it says that it agrees, and at 4 that it differs.
-    ensures agrees { result ≡ 0 → Prints O.Fn N.Fn X.Fn M.Fn input.now target.now question.entry options.now true (W.contents out.old) (W.contents out.new) }
-    ensures differs { result ≡ 4 → Prints O.Fn N.Fn X.Fn M.Fn input.now target.now question.entry options.now false (W.contents out.old) (W.contents out.new) }
+    ensures agrees { result ≡ 0
+        → Prints O.Fn N.Fn X.Fn M.Fn input.now target.now question.entry options.now true
+        (W.contents out.old) (W.contents out.new) }
+    ensures differs { result ≡ 4
+        → Prints O.Fn N.Fn X.Fn M.Fn input.now target.now question.entry options.now false
+        (W.contents out.old) (W.contents out.new) }
     // Where the trace is at fault, nothing was printed.
     ensures nothing { result ≡ 1 → out.new ≡ out.old }
 {

@@ -55,8 +55,11 @@ fn put_answers(
     i: usize,
     task: &Declared,
 ) -> Result<(), AllocError>
-    ensures observations { OnOk result (answers.new.observations.items ≡ answers.old.observations.items ++ observed task.now.params (first_line case.now) no_watch (answered_by case.now i (number_of case.now task.now))) }
-    ensures refusals { OnOk result (answers.new.refusals.items ≡ answers.old.refusals.items ++ refused_by case.now i (number_of case.now task.now)) }
+    ensures observations { OnOk result
+        (answers.new.observations.items ≡ answers.old.observations.items ++ observed task.now.params
+        (first_line case.now) no_watch (answered_by case.now i (number_of case.now task.now))) }
+    ensures refusals { OnOk result (answers.new.refusals.items
+        ≡ answers.old.refusals.items ++ refused_by case.now i (number_of case.now task.now)) }
 {
     let Some(t) = number_in(case.plan, &task.name) else {
         return Ok(());
@@ -71,7 +74,8 @@ fn put_answers(
 /// The observations of a case, and the events for which there was no room.
 fn answers_of(alloc: Global, case: &Case<'_>) -> Result<Answers, AllocError>
     ensures observations { IfOk result (λ a. a.observations.items ≡ observations case.now) }
-    ensures refusals { IfOk result (λ a. a.refusals.items ≡ refused_from case.now 0 case.now.setting.now.tasks.items) }
+    ensures refusals { IfOk result
+        (λ a. a.refusals.items ≡ refused_from case.now 0 case.now.setting.now.tasks.items) }
 {
     let mut answers = Answers {
         observations: Vec::new(alloc),

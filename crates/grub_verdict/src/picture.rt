@@ -72,7 +72,8 @@ fn put_mark(
     by: Yardstick,
     o: &Observation,
 ) -> Result<(), AllocError>
-    ensures { OnOk result (marks.new.items ≡ marks.old.items ++ filter_map (mark_of case.now by) (o.now ∷ [])) }
+    ensures { OnOk result
+        (marks.new.items ≡ marks.old.items ++ filter_map (mark_of case.now by) (o.now ∷ [])) }
 {
     if let Some(mark) = mark_of(case, by, o) {
         marks.push(mark)?;
@@ -101,7 +102,8 @@ fn drawn(
     facts: &Facts,
     plan: &Plan,
 ) -> Result<Vec<u8>, AllocError>
-    ensures { IfOk result (λ v. IsPictureOfPlan question.entry options.now facts.now plan.now v.items) }
+    ensures { IfOk result
+        (λ v. IsPictureOfPlan question.entry options.now facts.now plan.now v.items) }
 {
     let played = Played::new(alloc, options, facts, plan)?;
     let marks = marks_of(alloc, &played.case(question, facts, plan))?;

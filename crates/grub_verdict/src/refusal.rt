@@ -22,7 +22,8 @@ pub struct Refusal {
 
 /// Puts the event where there is no room for it.
 fn put_refusal(out: &mut Vec<Refusal>, t: u32, x: &Answered) -> Result<(), AllocError>
-    ensures { OnOk result (out.new.items ≡ out.old.items ++ map (refusal t) (filter is_refused (x.now ∷ []))) }
+    ensures { OnOk result
+        (out.new.items ≡ out.old.items ++ map (refusal t) (filter is_refused (x.now ∷ []))) }
 {
     if x.is_refused {
         out.push(Refusal {
@@ -39,7 +40,8 @@ pub(crate) fn put_refusals(
     t: u32,
     answered: &[Answered],
 ) -> Result<(), AllocError>
-    ensures { OnOk result (out.new.items ≡ out.old.items ++ map (refusal t) (filter is_refused answered.now)) }
+    ensures { OnOk result
+        (out.new.items ≡ out.old.items ++ map (refusal t) (filter is_refused answered.now)) }
 {
     for x in answered {
         put_refusal(out, t, x)?;
@@ -126,7 +128,8 @@ fn task_of(ask: Ask) -> u32
 /// The answer by which there is no verdict, if there is one: that to a server of fair tasks, or else the first of these by
 /// the line of the trace.
 pub(crate) fn no_room(case: &Case<'_>, refusals: &[Refusal]) -> Option<Overfull>
-    ensures { result ≡ first_of (find (refuses_server case.now) case.now.steps.now) (first_refusal refusals.now) }
+    ensures { result ≡ first_of (find (refuses_server case.now) case.now.steps.now)
+        (first_refusal refusals.now) }
 {
     match (server_refused(case), first_refusal(refusals)) {
         (Some(step), _) => Some(Overfull {

@@ -59,7 +59,8 @@ fn go_to(facts: &[Fact], from: usize, sign: Sign, line: u64) -> (usize, Sign)
     requires { from ≤ length facts.now }
     ensures place { result.0 ≤ length facts.now }
     ensures sign { sign_before line sign (drop from facts.now) ≡ result.1 }
-    ensures later { (l : ℕ) → line ≤ l → sign_before l sign (drop from facts.now) ≡ sign_before l result.1 (drop result.0 facts.now) }
+    ensures later { (l : ℕ) → line ≤ l → sign_before l sign (drop from facts.now)
+        ≡ sign_before l result.1 (drop result.0 facts.now) }
 {
     let mut next = from;
     let mut sign = sign;
@@ -77,7 +78,8 @@ pub(crate) fn signs_before(
     facts: &[Fact],
     events: &[Placed],
 ) -> Result<Vec<Sign>, AllocError>
-    ensures { IfOk result (λ v. v.items ≡ map (λ p. sign_before p.event.line no_sign facts.now) events.now) }
+    ensures { IfOk result
+        (λ v. v.items ≡ map (λ p. sign_before p.event.line no_sign facts.now) events.now) }
 {
     let mut signs = Vec::new(alloc);
     let mut last = 0;

@@ -110,7 +110,8 @@ pub(crate) fn put_timers(
     alike: usize,
     left_out: usize,
 ) -> Result<(), AllocError>
-    ensures { OnOk result (out.new.items ≡ out.old.items ++ timers_line blocks armed alike left_out) }
+    ensures { OnOk result
+        (out.new.items ≡ out.old.items ++ timers_line blocks armed alike left_out) }
 {
     put_count(out, b"0-lag timers: ", blocks as u64)?;
     put_count(out, b" blocks, ", armed as u64)?;
@@ -294,7 +295,8 @@ fn put_by_kernel(
     o: &Observation,
     params: Params,
 ) -> Result<(), AllocError>
-    ensures { OnOk result (out.new.items ≡ out.old.items ++ by_kernel first o.now params o.now.armed) }
+    ensures { OnOk result
+        (out.new.items ≡ out.old.items ++ by_kernel first o.now params o.now.armed) }
 {
     let Some(armed) = o.armed else {
         return Ok(());
@@ -358,7 +360,8 @@ pub(crate) fn put_deviation(
     name: &[u8],
     params: Params,
 ) -> Result<(), AllocError>
-    ensures { OnOk result (out.new.items ≡ out.old.items ++ deviation_text first o.now name.now params) }
+    ensures { OnOk result
+        (out.new.items ≡ out.old.items ++ deviation_text first o.now name.now params) }
 {
     put_differs(out, o, name)?;
     put_book(out, o)?;

@@ -47,7 +47,8 @@ fn put_lead(
     observation: Observation,
     by: Yardstick,
 ) -> Result<(), AllocError>
-    ensures { OnOk result (leads.new.items ≡ leads.old.items ++ filter_map (lead_of by) (observation ∷ [])) }
+    ensures { OnOk result
+        (leads.new.items ≡ leads.old.items ++ filter_map (lead_of by) (observation ∷ [])) }
 {
     match observation.lead(by) {
         Some(lead) => {

@@ -159,7 +159,8 @@ pub(crate) fn put_observed(
     first: u64,
     answered: &[Answered],
 ) -> Result<(), AllocError>
-    ensures { OnOk result (out.new.items ≡ out.old.items ++ observed params first no_watch answered.now) }
+    ensures { OnOk result
+        (out.new.items ≡ out.old.items ++ observed params first no_watch answered.now) }
 {
     let mut watch = Watch::new();
     for x in answered {

@@ -35,8 +35,10 @@ pub fn write_timeline<R: Threads + Sync, W: Write>(
     requires nothing { playing.told ≡ [] }
     requires latest { length plan.now.setup.tasks + 3 ≤ vec_capacity latest.old }
     requires room { LINE_MAX ≤ vec_capacity buffer.old }
-    ensures whole { OnOk result (HandsOnTimeline plan.now (W.contents out.old) (W.contents out.new) buffer.old.items buffer.new.items) }
-    ensures part { OnErr result (HandsPartOfTimeline plan.now (W.contents out.old) (W.contents out.new) buffer.old.items) }
+    ensures whole { OnOk result (HandsOnTimeline plan.now (W.contents out.old)
+        (W.contents out.new) buffer.old.items buffer.new.items) }
+    ensures part { OnErr result
+        (HandsPartOfTimeline plan.now (W.contents out.old) (W.contents out.new) buffer.old.items) }
     ensures room { LINE_MAX ≤ vec_capacity buffer.new }
 {
     let mut playing = playing;
@@ -62,8 +64,10 @@ fn write_played<R: Threads + Sync, W: Write>(
     requires room { LINE_MAX ≤ vec_capacity buffer.old }
     ensures plan { playing.new.plan ≡ plan.now }
     ensures over { playing.new.left ≡ 0 }
-    ensures whole { OnOk result (HandsOn (W.contents out.old) (W.contents out.new) buffer.old.items (flat_map (told_line plan.now.names) playing.new.told) buffer.new.items) }
-    ensures part { OnErr result (HandsPart (W.contents out.old) (W.contents out.new) buffer.old.items (flat_map (told_line plan.now.names) playing.new.told)) }
+    ensures whole { OnOk result (HandsOn (W.contents out.old) (W.contents out.new) buffer.old.items
+        (flat_map (told_line plan.now.names) playing.new.told) buffer.new.items) }
+    ensures part { OnErr result (HandsPart (W.contents out.old) (W.contents out.new)
+        buffer.old.items (flat_map (told_line plan.now.names) playing.new.told)) }
     ensures room { LINE_MAX ≤ vec_capacity buffer.new }
 {
     let lines = PlanLines { plan };
@@ -72,10 +76,15 @@ fn write_played<R: Threads + Sync, W: Write>(
         playing.exchange(latest);
         let told = latest.as_slice();
         let mut write = || -> io::Result<()>
-            requires fits { All (λ x. IsAskOf (length lines.plan.now.setup.tasks) x.entry.ask) told.now }
+            requires fits { All
+                (λ x. IsAskOf (length lines.plan.now.setup.tasks) x.entry.ask) told.now }
             requires room { LINE_MAX ≤ vec_capacity buffer.now }
-            ensures whole { OnOk result (HandsOn (W.contents out.entry.now) (W.contents out.exit.now) buffer.entry.now.items (flat_map (told_line lines.entry.plan.now.names) told.entry.now) buffer.exit.now.items) }
-            ensures part { OnErr result (HandsPart (W.contents out.entry.now) (W.contents out.exit.now) buffer.entry.now.items (flat_map (told_line lines.entry.plan.now.names) told.entry.now)) }
+            ensures whole { OnOk result (HandsOn (W.contents out.entry.now)
+                (W.contents out.exit.now) buffer.entry.now.items (flat_map
+                (told_line lines.entry.plan.now.names) told.entry.now) buffer.exit.now.items) }
+            ensures part { OnErr result (HandsPart (W.contents out.entry.now)
+                (W.contents out.exit.now) buffer.entry.now.items
+                (flat_map (told_line lines.entry.plan.now.names) told.entry.now)) }
             ensures room { LINE_MAX ≤ vec_capacity buffer.exit.now }
         { write_lines(rt, blocks, buffer, out, told, &lines) };
         let (goes_on, written) = play_beside(rt, playing, told.len(), &mut write);
@@ -124,8 +133,10 @@ fn append_told(out: &mut Vec<u8>, plan: &Plan, x: &Told)
 /// A line for each closing reading, from runqueue 0 on.
 fn write_closing<W: Write>(buffer: &mut Vec<u8>, out: &mut W, closing: &[Reading]) -> io::Result<()>
     requires { LINE_MAX ≤ vec_capacity buffer.old }
-    ensures whole { OnOk result (HandsOn (W.contents out.old) (W.contents out.new) buffer.old.items (close_lines 0 closing.now) buffer.new.items) }
-    ensures part { OnErr result (HandsPart (W.contents out.old) (W.contents out.new) buffer.old.items (close_lines 0 closing.now)) }
+    ensures whole { OnOk result (HandsOn (W.contents out.old) (W.contents out.new) buffer.old.items
+        (close_lines 0 closing.now) buffer.new.items) }
+    ensures part { OnErr result (HandsPart (W.contents out.old)
+        (W.contents out.new) buffer.old.items (close_lines 0 closing.now)) }
     ensures room { LINE_MAX ≤ vec_capacity buffer.new }
 {
     for (r, reading) in closing.iter().enumerate() {
@@ -141,8 +152,10 @@ fn write_close<W: Write>(
     closing: Reading,
 ) -> io::Result<()>
     requires { LINE_MAX ≤ vec_capacity buffer.old }
-    ensures whole { OnOk result (HandsOn (W.contents out.old) (W.contents out.new) buffer.old.items (close_line r closing) buffer.new.items) }
-    ensures part { OnErr result (HandsPart (W.contents out.old) (W.contents out.new) buffer.old.items (close_line r closing)) }
+    ensures whole { OnOk result (HandsOn (W.contents out.old) (W.contents out.new) buffer.old.items
+        (close_line r closing) buffer.new.items) }
+    ensures part { OnErr result (HandsPart (W.contents out.old)
+        (W.contents out.new) buffer.old.items (close_line r closing)) }
     ensures room { LINE_MAX ≤ vec_capacity buffer.new }
 {
     make_room(buffer, out)?;

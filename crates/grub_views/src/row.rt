@@ -65,7 +65,8 @@ pub fn append_step(out: &mut Vec<u8>, plan: &Plan, step: &Step)
 fn append_asked(out: &mut Vec<u8>, plan: &Plan, step: &Step)
     requires told { IsToldIn plan.now.setup step.now.told }
     requires room { vec_len out.old + ASKED_MAX ≤ vec_capacity out.old }
-    ensures text { out.new.items ≡ out.old.items ++ join_with_byte 9 (asked_fields plan.now.names step.now) }
+    ensures text { out.new.items
+        ≡ out.old.items ++ join_with_byte 9 (asked_fields plan.now.names step.now) }
     ensures len { vec_len out.new ≤ vec_len out.old + ASKED_MAX }
     ensures room { vec_capacity out.old ≤ vec_capacity out.new }
 {

@@ -49,8 +49,10 @@ pub fn write_steps<R: Threads + Sync, W: Write>(
     requires steps { playing.most ≤ vec_capacity steps.old }
     requires waiting { vec_capacity latest.old ≤ vec_capacity steps.old }
     requires room { LINE_MAX ≤ vec_capacity buffer.old }
-    ensures whole { OnOk result (HandsOnSteps plan.now (W.contents out.old) (W.contents out.new) buffer.old.items buffer.new.items) }
-    ensures part { OnErr result (HandsPartOfSteps plan.now (W.contents out.old) (W.contents out.new) buffer.old.items) }
+    ensures whole { OnOk result (HandsOnSteps plan.now (W.contents out.old)
+        (W.contents out.new) buffer.old.items buffer.new.items) }
+    ensures part { OnErr result
+        (HandsPartOfSteps plan.now (W.contents out.old) (W.contents out.new) buffer.old.items) }
     ensures room { LINE_MAX ≤ vec_capacity buffer.new }
 {
     let mut playing = playing;
@@ -91,8 +93,10 @@ fn write_table<R: Threads + Sync, W: Write>(
     requires room { LINE_MAX ≤ vec_capacity buffer.old }
     ensures plan { playing.new.plan ≡ plan.now }
     ensures over { playing.new.left ≡ 0 }
-    ensures whole { OnOk result (HandsOn (W.contents out.old) (W.contents out.new) buffer.old.items (step_rows plan.now.names (steps_of plan.now.setup playing.new.told)) buffer.new.items) }
-    ensures part { OnErr result (HandsPart (W.contents out.old) (W.contents out.new) buffer.old.items (step_rows plan.now.names (steps_of plan.now.setup playing.new.told))) }
+    ensures whole { OnOk result (HandsOn (W.contents out.old) (W.contents out.new) buffer.old.items
+        (step_rows plan.now.names (steps_of plan.now.setup playing.new.told)) buffer.new.items) }
+    ensures part { OnErr result (HandsPart (W.contents out.old) (W.contents out.new)
+        buffer.old.items (step_rows plan.now.names (steps_of plan.now.setup playing.new.told))) }
     ensures room { LINE_MAX ≤ vec_capacity buffer.new }
 {
     if let Err(fault) = write_header(buffer, out) {
@@ -104,8 +108,10 @@ fn write_table<R: Threads + Sync, W: Write>(
 
 fn write_header<W: Write>(buffer: &mut Vec<u8>, out: &mut W) -> io::Result<()>
     requires { LINE_MAX ≤ vec_capacity buffer.old }
-    ensures whole { OnOk result (HandsOn (W.contents out.old) (W.contents out.new) buffer.old.items header buffer.new.items) }
-    ensures part { OnErr result (HandsPart (W.contents out.old) (W.contents out.new) buffer.old.items header) }
+    ensures whole { OnOk result (HandsOn (W.contents out.old)
+        (W.contents out.new) buffer.old.items header buffer.new.items) }
+    ensures part { OnErr result
+        (HandsPart (W.contents out.old) (W.contents out.new) buffer.old.items header) }
     ensures room { LINE_MAX ≤ vec_capacity buffer.new }
 {
     make_room(buffer, out)?;
@@ -135,8 +141,12 @@ fn write_rows<R: Threads + Sync, W: Write>(
     requires room { LINE_MAX ≤ vec_capacity buffer.old }
     ensures plan { playing.new.plan ≡ plan.now }
     ensures over { playing.new.left ≡ 0 }
-    ensures whole { OnOk result (HandsOn (W.contents out.old) (W.contents out.new) buffer.old.items (flat_map (step_row plan.now.names) (steps_of plan.now.setup playing.new.told)) buffer.new.items) }
-    ensures part { OnErr result (HandsPart (W.contents out.old) (W.contents out.new) buffer.old.items (flat_map (step_row plan.now.names) (steps_of plan.now.setup playing.new.told))) }
+    ensures whole { OnOk result (HandsOn (W.contents out.old) (W.contents out.new) buffer.old.items
+        (flat_map (step_row plan.now.names)
+        (steps_of plan.now.setup playing.new.told)) buffer.new.items) }
+    ensures part { OnErr result
+        (HandsPart (W.contents out.old) (W.contents out.new) buffer.old.items
+        (flat_map (step_row plan.now.names) (steps_of plan.now.setup playing.new.told))) }
     ensures room { LINE_MAX ≤ vec_capacity buffer.new }
 {
     let rows = PlanRows { plan };
@@ -150,10 +160,16 @@ fn write_rows<R: Threads + Sync, W: Write>(
             requires steps { length told.now ≤ vec_capacity steps.now }
             requires room { LINE_MAX ≤ vec_capacity buffer.now }
             ensures setup { book.exit.now.setup ≡ rows.entry.plan.now.setup }
-            ensures book { book.exit.now.records ≡ book_past rows.entry.plan.now.setup book.entry.now.records told.entry.now }
+            ensures book { book.exit.now.records
+                ≡ book_past rows.entry.plan.now.setup book.entry.now.records told.entry.now }
             ensures steps { vec_capacity steps.exit.now ≡ vec_capacity steps.entry.now }
-            ensures whole { OnOk result (HandsOn (W.contents out.entry.now) (W.contents out.exit.now) buffer.entry.now.items (flat_map (step_row rows.entry.plan.now.names) (steps_from rows.entry.plan.now.setup book.entry.now.records told.entry.now)) buffer.exit.now.items) }
-            ensures part { OnErr result (HandsPart (W.contents out.entry.now) (W.contents out.exit.now) buffer.entry.now.items (flat_map (step_row rows.entry.plan.now.names) (steps_from rows.entry.plan.now.setup book.entry.now.records told.entry.now))) }
+            ensures whole { OnOk result
+                (HandsOn (W.contents out.entry.now) (W.contents out.exit.now) buffer.entry.now.items
+                (flat_map (step_row rows.entry.plan.now.names) (steps_from rows.entry.plan.now.setup
+                book.entry.now.records told.entry.now)) buffer.exit.now.items) }
+            ensures part { OnErr result (HandsPart (W.contents out.entry.now) (W.contents
+                out.exit.now) buffer.entry.now.items (flat_map (step_row rows.entry.plan.now.names)
+                (steps_from rows.entry.plan.now.setup book.entry.now.records told.entry.now))) }
             ensures room { LINE_MAX ≤ vec_capacity buffer.exit.now }
         {
             fill_steps(steps, book, told);

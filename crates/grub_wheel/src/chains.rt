@@ -45,7 +45,8 @@ fn after(
 ) -> Option<usize>
     requires slot { slot < length heads.now }
     requires before { IfSome before (λ i. i < length nodes.now) }
-    ensures { MatchOption before (result ≡ head_of heads.now slot) (λ i. result ≡ links nodes.now i) }
+    ensures { MatchOption before (result ≡ head_of heads.now slot)
+        (λ i. result ≡ links nodes.now i) }
 {
     match before {
         Some(i) => nodes[i].next,

@@ -49,9 +49,17 @@ impl Model for Wheel {
     ghost use Rattle.grub_wheel.specs.inside.Nodes.{timers_of, IsHashed};
     ghost use Rattle.grub_wheel.specs.inside.Used.{AreMarked, IsMapped};
 
-    ghost view = { λ w. record { timers = map.from_entries (entries_of (timers_of w.nodes.items)); spare = w.spare; last = w.last } };
+    ghost view = { λ w. record {
+      timers = map.from_entries (entries_of (timers_of w.nodes.items));
+      spare = w.spare;
+      last = w.last;
+    } };
 
-    ghost invariant = { λ w. record { hashed : IsHashed w.nodes.items w.heads.items w.free w.spare w.from; mapped : IsMapped w.used w.heads.items; marked : AreMarked w.tasks w.nodes.items } };
+    ghost invariant = { λ w. record {
+      hashed : IsHashed w.nodes.items w.heads.items w.free w.spare w.from;
+      mapped : IsMapped w.used w.heads.items;
+      marked : AreMarked w.tasks w.nodes.items;
+    } };
 }
 
 impl Wheel {
@@ -188,7 +196,8 @@ impl Wheel {
         ensures due { IfSome result (λ x. x.z ≤ m) }
         ensures least { IfSome result (IsLeast self.old.timers) }
         ensures none { IfNone result (AreLater self.old.timers m) }
-        ensures taken { IfSome result (λ x. self.new ≡ record (after_taking self.old x.t) { last = Some m }) }
+        ensures taken { IfSome result
+            (λ x. self.new ≡ record (after_taking self.old x.t) { last = Some m }) }
         ensures kept { IfNone result (self.new ≡ record self.old { last = Some m }) }
     {
         self.last = Some(m);

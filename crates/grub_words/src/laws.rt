@@ -14,16 +14,22 @@ ghost use Rattle.grub_words.specs.Words.{queue_word, server_word, params_word, t
 
 /// Two values of one kind that have one word are one.
 pub fn words_tell_their_values()
-    ensures queue { (a b : Reading) → QueueFits a → QueueFits b → queue_word a ≡ queue_word b → a ≡ b }
-    ensures server { (a b : Server) → ServerFits a → ServerFits b → server_word a ≡ server_word b → a ≡ b }
-    ensures params { (a b : Reservation) → IsReservation a → IsReservation b → params_word a ≡ params_word b → a ≡ b }
-    ensures task { (p q : Place) (m n : ℕ) (a b : Bool) → PlaceFits p → PlaceFits q → task_word p m a ≡ task_word q n b → (p ≡ q) × (m ≡ n) × (a ≡ b) }
+    ensures queue { (a b : Reading) → QueueFits a → QueueFits b
+        → queue_word a ≡ queue_word b → a ≡ b }
+    ensures server { (a b : Server) → ServerFits a → ServerFits b
+        → server_word a ≡ server_word b → a ≡ b }
+    ensures params { (a b : Reservation) → IsReservation a → IsReservation b
+        → params_word a ≡ params_word b → a ≡ b }
+    ensures task { (p q : Place) (m n : ℕ) (a b : Bool) → PlaceFits p → PlaceFits q
+        → task_word p m a ≡ task_word q n b → (p ≡ q) × (m ≡ n) × (a ≡ b) }
 {}
 
 /// A claim sets bit 3 of a task's word and changes nothing else, and no claimed task has the word of an unclaimed one, wherever the two are.
 pub fn claims_are_one_bit()
-    ensures set { (place : Place) (count : ℕ) → task_word place count true ≡ task_word place count false + 2 ^ 3 }
-    ensures test { (place : Place) (count : ℕ) (claimed : Bool) → IsTrue claimed ↔ (task_word place count claimed / 2 ^ 3 % 2 ≡ 1) }
+    ensures set { (place : Place) (count : ℕ)
+        → task_word place count true ≡ task_word place count false + 2 ^ 3 }
+    ensures test { (place : Place) (count : ℕ) (claimed : Bool) → IsTrue claimed
+        ↔ (task_word place count claimed / 2 ^ 3 % 2 ≡ 1) }
     ensures apart { (p q : Place) (m n : ℕ) → task_word p m true ≢ task_word q n false }
 {}
 
@@ -32,13 +38,16 @@ pub fn words_have_64_bits()
     ensures queue { (now : Reading) → QueueFits now → queue_word now < 2 ^ 64 }
     ensures server { (s : Server) → ServerFits s → s.d < 2 ^ 32 → server_word s < 2 ^ 64 }
     ensures params { (p : Reservation) → IsReservation p → params_word p < 2 ^ 64 }
-    ensures task { (place : Place) (count : ℕ) (claimed : Bool) → PlaceFits place → count ≤ count_most → task_word place count claimed < 2 ^ 36 }
+    ensures task { (place : Place) (count : ℕ) (claimed : Bool) → PlaceFits place
+        → count ≤ count_most → task_word place count claimed < 2 ^ 36 }
 {}
 
 /// In a sound book every reading, place, count and server has a word.
 pub fn sound_books_have_words()
-    ensures queue { (s : Machine) (book : Records) (r : ℕ) → IsSound s book → r < length s.queues → IsCapacity (queue_at s r) → QueueFits (reading_of book r) }
+    ensures queue { (s : Machine) (book : Records) (r : ℕ) → IsSound s book → r < length s.queues
+        → IsCapacity (queue_at s r) → QueueFits (reading_of book r) }
     ensures place { (s : Machine) (x : Record) → IsMachine s → IsKept s x → PlaceFits x.place }
     ensures count { (s : Machine) (x : Record) → IsKept s x → x.count ≤ count_most }
-    ensures server { (s : Machine) (x : Record) → IsKept s x → ServerFits x.server × (x.server.d < 2 ^ 32) }
+    ensures server { (s : Machine) (x : Record) → IsKept s x
+        → ServerFits x.server × (x.server.d < 2 ^ 32) }
 {}

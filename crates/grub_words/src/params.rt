@@ -16,7 +16,8 @@ pub fn pack_params(params: Params) -> u64
 
 /// The one reservation that has this word; none where there is none.
 pub fn unpack_params(word: u64) -> Option<Params>
-    ensures found { (p : Reservation) → (result ≡ Some p) ↔ (IsReservation p × (params_word p ≡ word)) }
+    ensures found { (p : Reservation) → (result ≡ Some p)
+        ↔ (IsReservation p × (params_word p ≡ word)) }
     ensures none { IsNone result ↔ ((p : Reservation) → IsReservation p → params_word p ≢ word) }
 {
     let (runtime, period) = halves(word);

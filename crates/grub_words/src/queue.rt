@@ -25,7 +25,8 @@ pub fn pack_queue(reading: Reading) -> u64
 
 /// The one reading that has this word; none where there is none.
 pub fn unpack_queue(word: u64) -> Option<Reading>
-    ensures found { (now : Reading) → (result ≡ Some now) ↔ (QueueFits now × (queue_word now ≡ word)) }
+    ensures found { (now : Reading) → (result ≡ Some now)
+        ↔ (QueueFits now × (queue_word now ≡ word)) }
     ensures none { IsNone result ↔ ((now : Reading) → QueueFits now → queue_word now ≢ word) }
 {
     let (running, this) = halves(word);

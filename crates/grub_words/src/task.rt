@@ -52,8 +52,10 @@ pub fn pack_task(task: TaskWord) -> u64
 
 /// The one task that has this word; none where there is none.
 pub fn unpack_task(word: u64) -> Option<TaskWord>
-    ensures found { (t : TaskWord) → (result ≡ Some t) ↔ (TaskFits t × (task_word t.place t.count t.claimed ≡ word)) }
-    ensures none { IsNone result ↔ ((t : TaskWord) → TaskFits t → task_word t.place t.count t.claimed ≢ word) }
+    ensures found { (t : TaskWord) → (result ≡ Some t)
+        ↔ (TaskFits t × (task_word t.place t.count t.claimed ≡ word)) }
+    ensures none { IsNone result
+        ↔ ((t : TaskWord) → TaskFits t → task_word t.place t.count t.claimed ≢ word) }
 {
     let count = word >> 12;
     if count > u64::from(COUNT_MAX) {
@@ -83,7 +85,8 @@ fn codes_of(place: Place) -> (u64, u64)
 
 /// The place of these codes.
 fn place_of(code: u64, r: u64) -> Option<Place>
-    ensures { (place : Place) → (result ≡ Some place) ↔ (PlaceFits place × (state_code place ≡ code) × (queue_code place ≡ r)) }
+    ensures { (place : Place) → (result ≡ Some place)
+        ↔ (PlaceFits place × (state_code place ≡ code) × (queue_code place ≡ r)) }
 {
     let state = match code {
         0 if r == 0 => return Some(Place::Away),

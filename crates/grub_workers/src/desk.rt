@@ -60,7 +60,8 @@ impl<G: Gate> Desk<'_, G> {
         requires of { IsPassOf self.now.table.now pass.old }
         requires queue { self.now.number < length (terms self.now.table.now).setup.queues }
         ensures of { IsPassOf self.now.table.now pass.new }
-        ensures learns { Learns (share_of pass.old) (share_of pass.new) (Look (number_of pass.old) self.now.number result ∷ []) [] }
+        ensures learns { Learns (share_of pass.old) (share_of pass.new)
+            (Look (number_of pass.old) self.now.number result ∷ []) [] }
     {
         self.before(calls);
         let reading = self.table.read(pass, self.number);

@@ -17,13 +17,16 @@ pub fn ask_due<G: Gate>(
     progress: &mut Progress,
     m: u32,
 ) -> Result<Pass, AllocError>
-    requires at_work { IsAtWork desk.now.table.now desk.now.tries desk.now.number pass progress.old }
+    requires at_work { IsAtWork desk.now.table.now desk.now.tries
+        desk.now.number pass progress.old }
     requires moment { m < 2 ^ 31 }
     requires not_past { IsNotPast m progress.old }
     requires rounds { 1 ≤ desk.now.rounds }
-    ensures at_work { IfOk result (λ p. IsAtWork desk.now.table.now desk.now.tries desk.now.number p progress.new) }
+    ensures at_work { IfOk result
+        (λ p. IsAtWork desk.now.table.now desk.now.tries desk.now.number p progress.new) }
     ensures last { IfOk result (λ p. progress.new.wheel.last ≡ Some m) }
-    ensures asked { IfOk result (λ p. AsksDue m progress.old.entries.items progress.new.entries.items) }
+    ensures asked { IfOk result
+        (λ p. AsksDue m progress.old.entries.items progress.new.entries.items) }
 {
     let mut pass = pass;
     while let Some(timer) = progress.wheel.due(m) {

@@ -69,8 +69,10 @@ pub fn run<R: Threads + Wait, G: Gate>(
     ensures apart { IfOk result (λ o. 1 ≤ tries → AreOwn plan.now o.reports.items o.closing.items) }
 
     // With one file alone no ask is given up, and the outcome is a function of the file.
-    ensures alone { IfOk result (λ o. length plan.now.scripts ≡ 1 → 1 ≤ tries → NoEntry IsGivenUp o.reports.items) }
-    ensures same { IfOk result (λ o. length plan.now.scripts ≡ 1 → 1 ≤ tries → IsOnlyRun plan.now o.reports.items o.closing.items) }
+    ensures alone { IfOk result
+        (λ o. length plan.now.scripts ≡ 1 → 1 ≤ tries → NoEntry IsGivenUp o.reports.items) }
+    ensures same { IfOk result (λ o. length plan.now.scripts ≡ 1 → 1 ≤ tries
+        → IsOnlyRun plan.now o.reports.items o.closing.items) }
 {
     let Ok((shared, passes)) = Shared::open(alloc, plan.setup(), plan.files()) else {
         return Err(RunFault::NoMemory);

@@ -47,7 +47,8 @@ pub fn run_scoped<R: Threads + Wait, G: Gate>(
     requires fresh { AreNew table.now passes.items }
     requires fits { AllFit table.now plan.now }
     requires rounds { 1 ≤ rounds }
-    ensures { IfOk result (λ d. AllWorked table.now tries plan.now.scripts d.passes.items d.reports.items) }
+    ensures { IfOk result
+        (λ d. AllWorked table.now tries plan.now.scripts d.passes.items d.reports.items) }
 {
     let count = passes.len();
     let Ok(done) = room_for(alloc, count) else {
@@ -57,8 +58,11 @@ pub fn run_scoped<R: Threads + Wait, G: Gate>(
         thread::scope_env(),
         rt,
         |scope| -> Result<Done, RunFault>
-            requires { (vec_len passes ≡ length plan.now.scripts) × AreNew table.now passes.items × AllFit table.now plan.now × HasRoom (length plan.now.scripts) done.passes done.reports × (1 ≤ rounds) }
-            ensures { IfOk result (λ d. AllWorked table.entry.now tries plan.entry.now.scripts d.passes.items d.reports.items) }
+            requires { (vec_len passes ≡ length plan.now.scripts) × AreNew table.now passes.items
+                × AllFit table.now plan.now
+                × HasRoom (length plan.now.scripts) done.passes done.reports × (1 ≤ rounds) }
+            ensures { IfOk result (λ d. AllWorked table.entry.now tries plan.entry.now.scripts
+                d.passes.items d.reports.items) }
         {
             let started = start_all(scope, alloc, table, plan, passes, tries, rounds, gate);
             join_all(rt, started, done, table, plan, tries)
@@ -83,7 +87,9 @@ fn start_all<'s, 'e, G: Gate>(
     requires rounds { 1 ≤ rounds }
     ensures len { vec_len result.handles ≤ length plan.now.scripts }
     ensures whole { result.refusal ≡ None → vec_len result.handles ≡ length plan.now.scripts }
-    ensures each { (i : ℕ) (d : Handle) → i < vec_len result.handles → IsOf table.now tries plan.now.scripts i (slice_index_or result.handles.items i d).promise }
+    ensures each { (i : ℕ) (d : Handle) → i < vec_len result.handles
+        → IsOf table.now tries plan.now.scripts i
+        (slice_index_or result.handles.items i d).promise }
 {
     let mut refusal = None;
     let Ok(handles) = Vec::with_capacity(alloc, passes.len()) else {
@@ -105,8 +111,11 @@ fn start_all<'s, 'e, G: Gate>(
         let handle = scope.spawn_with(
             promise,
             move || -> Result<Worked, AllocError>
-                requires { IsNew table.now number pass × ScriptFits (length (terms table.now).setup.tasks) 0 script.now × (number < length (terms table.now).setup.queues) × (1 ≤ rounds) }
-                ensures { IfOk result (λ w. IsWorked table.entry.now tries number script.entry.now w.pass w.report.entries.items) }
+                requires { IsNew table.now number pass
+                    × ScriptFits (length (terms table.now).setup.tasks) 0 script.now
+                    × (number < length (terms table.now).setup.queues) × (1 ≤ rounds) }
+                ensures { IfOk result (λ w. IsWorked table.entry.now tries number script.entry.now
+                    w.pass w.report.entries.items) }
             {
                 let desk = Desk {
                     table,
@@ -149,9 +158,12 @@ fn join_all<R: Threads>(
 ) -> Result<Done, RunFault>
     requires len { vec_len started.handles ≤ length _plan.now.scripts }
     requires whole { started.refusal ≡ None → vec_len started.handles ≡ length _plan.now.scripts }
-    requires each { (i : ℕ) (d : Handle) → i < vec_len started.handles → IsOf _table.now _tries _plan.now.scripts i (slice_index_or started.handles.items i d).promise }
+    requires each { (i : ℕ) (d : Handle) → i < vec_len started.handles
+        → IsOf _table.now _tries _plan.now.scripts i
+        (slice_index_or started.handles.items i d).promise }
     requires room { HasRoom (length _plan.now.scripts) done.passes done.reports }
-    ensures { IfOk result (λ d. AllWorked _table.now _tries _plan.now.scripts d.passes.items d.reports.items) }
+    ensures { IfOk result
+        (λ d. AllWorked _table.now _tries _plan.now.scripts d.passes.items d.reports.items) }
 {
     let Started { handles, refusal } = started;
     let Done { passes, reports } = done;

@@ -24,15 +24,18 @@ fn join_here<G: Gate>(
     t: u32,
     answer: Answer,
 ) -> Result<Pass, AllocError>
-    requires at_work { IsAtWork desk.now.table.now desk.now.tries desk.now.number pass progress.old }
+    requires at_work { IsAtWork desk.now.table.now desk.now.tries
+        desk.now.number pass progress.old }
     requires task { t < length (terms desk.now.table.now).setup.tasks }
     requires queue { desk.now.number < length (terms desk.now.table.now).setup.queues }
     requires moment { m < 2 ^ 31 }
     requires rounds { 1 ≤ desk.now.rounds }
     requires last { progress.old.wheel.last ≡ Some m }
-    ensures at_work { IfOk result (λ p. IsAtWork desk.now.table.now desk.now.tries desk.now.number p progress.new) }
+    ensures at_work { IfOk result
+        (λ p. IsAtWork desk.now.table.now desk.now.tries desk.now.number p progress.new) }
     ensures last { IfOk result (λ p. progress.new.wheel.last ≡ Some m) }
-    ensures joins { IfOk result (λ p. JoinsAfter desk.now.number m t answer progress.old.entries.items progress.new.entries.items) }
+    ensures joins { IfOk result (λ p. JoinsAfter desk.now.number m t answer
+        progress.old.entries.items progress.new.entries.items) }
 {
     match answer {
         Answer::Replied(Reply::Left { r: _ }) => {
@@ -53,15 +56,18 @@ fn follow<G: Gate>(
     act: Act,
     answer: Answer,
 ) -> Result<Pass, AllocError>
-    requires at_work { IsAtWork desk.now.table.now desk.now.tries desk.now.number pass progress.old }
+    requires at_work { IsAtWork desk.now.table.now desk.now.tries
+        desk.now.number pass progress.old }
     requires act { ActFits (length (terms desk.now.table.now).setup.tasks) act }
     requires queue { desk.now.number < length (terms desk.now.table.now).setup.queues }
     requires moment { m < 2 ^ 31 }
     requires rounds { 1 ≤ desk.now.rounds }
     requires last { progress.old.wheel.last ≡ Some m }
-    ensures at_work { IfOk result (λ p. IsAtWork desk.now.table.now desk.now.tries desk.now.number p progress.new) }
+    ensures at_work { IfOk result
+        (λ p. IsAtWork desk.now.table.now desk.now.tries desk.now.number p progress.new) }
     ensures last { IfOk result (λ p. progress.new.wheel.last ≡ Some m) }
-    ensures follows { IfOk result (λ p. Follows desk.now.number m act answer progress.old.entries.items progress.new.entries.items) }
+    ensures follows { IfOk result (λ p. Follows desk.now.number m act answer
+        progress.old.entries.items progress.new.entries.items) }
 {
     match (act, answer) {
         (Act::Wake(t), Answer::Replied(Reply::Elsewhere(_))) => {
@@ -79,15 +85,18 @@ fn ask_line<G: Gate>(
     progress: &mut Progress,
     line: Line,
 ) -> Result<Pass, AllocError>
-    requires at_work { IsAtWork desk.now.table.now desk.now.tries desk.now.number pass progress.old }
+    requires at_work { IsAtWork desk.now.table.now desk.now.tries
+        desk.now.number pass progress.old }
     requires act { ActFits (length (terms desk.now.table.now).setup.tasks) line.act }
     requires queue { desk.now.number < length (terms desk.now.table.now).setup.queues }
     requires moment { line.m < 2 ^ 31 }
     requires rounds { 1 ≤ desk.now.rounds }
     requires not_past { IsNotPast line.m progress.old }
-    ensures at_work { IfOk result (λ p. IsAtWork desk.now.table.now desk.now.tries desk.now.number p progress.new) }
+    ensures at_work { IfOk result
+        (λ p. IsAtWork desk.now.table.now desk.now.tries desk.now.number p progress.new) }
     ensures last { IfOk result (λ p. progress.new.wheel.last ≡ Some line.m) }
-    ensures asked { IfOk result (λ p. AsksLine desk.now.number progress.old.entries.items line progress.new.entries.items) }
+    ensures asked { IfOk result
+        (λ p. AsksLine desk.now.number progress.old.entries.items line progress.new.entries.items) }
 {
     let Line { m, act } = line;
     let pass = ask_due(desk, pass, progress, m)?;
@@ -107,13 +116,15 @@ pub fn ask_script<G: Gate>(
     progress: &mut Progress,
     script: &[Line],
 ) -> Result<Pass, AllocError>
-    requires at_work { IsAtWork desk.now.table.now desk.now.tries desk.now.number pass progress.old }
+    requires at_work { IsAtWork desk.now.table.now desk.now.tries
+        desk.now.number pass progress.old }
     requires empty { progress.old.entries.items ≡ [] }
     requires fits { ScriptFits (length (terms desk.now.table.now).setup.tasks) 0 script.now }
     requires queue { desk.now.number < length (terms desk.now.table.now).setup.queues }
     requires rounds { 1 ≤ desk.now.rounds }
     requires last { progress.old.wheel.last ≡ None }
-    ensures at_work { IfOk result (λ p. IsAtWork desk.now.table.now desk.now.tries desk.now.number p progress.new) }
+    ensures at_work { IfOk result
+        (λ p. IsAtWork desk.now.table.now desk.now.tries desk.now.number p progress.new) }
     ensures asked { IfOk result (λ p. Asked desk.now.number script.now progress.new.entries.items) }
 {
     let mut pass = pass;

@@ -31,7 +31,8 @@ pub struct WorkOf<'a> {
 }
 
 impl<'a> Promise<Result<Worked, AllocError>> for WorkOf<'a> {
-    ghost kept_by = { λ p r. IfOk r (λ w. IsWorked p.table.now p.tries p.number p.script.now w.pass w.report.entries.items) };
+    ghost kept_by = { λ p r. IfOk r
+        (λ w. IsWorked p.table.now p.tries p.number p.script.now w.pass w.report.entries.items) };
 }
 
 /// Asks a script with a fresh pass and a wheel of its own.
@@ -45,7 +46,8 @@ pub fn work_through<G: Gate>(
     requires fits { ScriptFits (length (terms desk.now.table.now).setup.tasks) 0 script.now }
     requires queue { desk.now.number < length (terms desk.now.table.now).setup.queues }
     requires rounds { 1 ≤ desk.now.rounds }
-    ensures { IfOk result (λ w. IsWorked desk.now.table.now desk.now.tries desk.now.number script.now w.pass w.report.entries.items) }
+    ensures { IfOk result (λ w. IsWorked desk.now.table.now desk.now.tries desk.now.number
+        script.now w.pass w.report.entries.items) }
 {
     let Ok(wheel) = Wheel::new(alloc) else {
         return Err(AllocError);

@@ -36,12 +36,15 @@ pub fn put<G: Gate>(
     t: u32,
     op: Op,
 ) -> Result<(Pass, Answer), AllocError>
-    requires told { IsToldBy desk.now.table.now desk.now.tries desk.now.number pass progress.old.entries.items }
+    requires told { IsToldBy desk.now.table.now desk.now.tries desk.now.number pass
+        progress.old.entries.items }
     requires task { t < length (terms desk.now.table.now).setup.tasks }
     requires op { IsOp (terms desk.now.table.now).setup op }
     requires rounds { 1 ≤ desk.now.rounds }
-    ensures told { IfOk result (λ r. IsToldBy desk.now.table.now desk.now.tries desk.now.number r.0 progress.new.entries.items) }
-    ensures list { IfOk result (λ r. progress.new.entries.items ≡ progress.old.entries.items ++ entry m (Call t op) r.1 ∷ []) }
+    ensures told { IfOk result (λ r.
+        IsToldBy desk.now.table.now desk.now.tries desk.now.number r.0 progress.new.entries.items) }
+    ensures list { IfOk result (λ r. progress.new.entries.items
+        ≡ progress.old.entries.items ++ entry m (Call t op) r.1 ∷ []) }
     ensures waits { IfOk result (λ r. WaitsRightly op r.1) }
     ensures wheel { progress.new.wheel ≡ progress.old.wheel }
 {
@@ -64,15 +67,18 @@ pub fn call<G: Gate>(
     t: u32,
     op: Op,
 ) -> Result<(Pass, Answer), AllocError>
-    requires at_work { IsAtWork desk.now.table.now desk.now.tries desk.now.number pass progress.old }
+    requires at_work { IsAtWork desk.now.table.now desk.now.tries
+        desk.now.number pass progress.old }
     requires task { t < length (terms desk.now.table.now).setup.tasks }
     requires op { IsOp (terms desk.now.table.now).setup op }
     requires line { IsLineOp m op }
     requires rounds { 1 ≤ desk.now.rounds }
     requires last { progress.old.wheel.last ≡ Some m }
-    ensures at_work { IfOk result (λ r. IsAtWork desk.now.table.now desk.now.tries desk.now.number r.0 progress.new) }
+    ensures at_work { IfOk result
+        (λ r. IsAtWork desk.now.table.now desk.now.tries desk.now.number r.0 progress.new) }
     ensures last { IfOk result (λ r. progress.new.wheel.last ≡ Some m) }
-    ensures list { IfOk result (λ r. progress.new.entries.items ≡ progress.old.entries.items ++ entry m (Call t op) r.1 ∷ []) }
+    ensures list { IfOk result (λ r. progress.new.entries.items
+        ≡ progress.old.entries.items ++ entry m (Call t op) r.1 ∷ []) }
 {
     make_room(&mut progress.wheel, op)?;
     let (pass, answer) = put(desk, pass, progress, m, t, op)?;
@@ -87,11 +93,14 @@ pub fn look<G: Gate>(
     progress: &mut Progress,
     m: u32,
 ) -> Result<Pass, AllocError>
-    requires at_work { IsAtWork desk.now.table.now desk.now.tries desk.now.number pass progress.old }
+    requires at_work { IsAtWork desk.now.table.now desk.now.tries
+        desk.now.number pass progress.old }
     requires queue { desk.now.number < length (terms desk.now.table.now).setup.queues }
-    ensures at_work { IfOk result (λ p. IsAtWork desk.now.table.now desk.now.tries desk.now.number p progress.new) }
+    ensures at_work { IfOk result
+        (λ p. IsAtWork desk.now.table.now desk.now.tries desk.now.number p progress.new) }
     ensures last { IfOk result (λ p. progress.new.wheel.last ≡ progress.old.wheel.last) }
-    ensures goes_on { IfOk result (λ p. GoesOn m Read progress.old.entries.items progress.new.entries.items) }
+    ensures goes_on { IfOk result
+        (λ p. GoesOn m Read progress.old.entries.items progress.new.entries.items) }
 {
     let mut pass = pass;
     progress.entries.reserve(1)?;

@@ -43,14 +43,21 @@ pub fn serve<
     // On the status of a file's fault, and of a wrong command line, nothing was printed.
     ensures nothing { (result ≡ STATUS_FILE) ⊎ (result ≡ STATUS_USAGE) → out.new ≡ out.old }
     // The status of a file's fault comes only where, by what the calls of `source` may answer, a file that the words name is at fault.
-    ensures file { result ≡ STATUS_FILE → HasFileFault O.Fn N.Fn source.now (files_named (map string_bytes words.now)) }
+    ensures file { result ≡ STATUS_FILE
+        → HasFileFault O.Fn N.Fn source.now (files_named (map string_bytes words.now)) }
     // Right words are not answered as wrong, and are done once what they ask for is printed of the files that they name.
-    ensures usage { result ≡ STATUS_USAGE → IsRefused (map string_bytes words.now) ⊎ AsksFor O.Fn N.Fn source.now HasNoSpan (map string_bytes words.now) }
-    ensures done { result ≡ 0 → IsRefused (map string_bytes words.now) ⊎ AsksFor O.Fn N.Fn source.now (Writes (W.contents out.old) (W.contents out.new)) (map string_bytes words.now) }
+    ensures usage { result ≡ STATUS_USAGE → IsRefused (map string_bytes words.now)
+        ⊎ AsksFor O.Fn N.Fn source.now HasNoSpan (map string_bytes words.now) }
+    ensures done { result ≡ 0
+        → IsRefused (map string_bytes words.now) ⊎ AsksFor O.Fn N.Fn source.now
+        (Writes (W.contents out.old) (W.contents out.new)) (map string_bytes words.now) }
     // Where the system failed on right words, nothing or a beginning of this was printed.
-    ensures failed { result ≡ STATUS_SYSTEM → IsRefused (map string_bytes words.now) ⊎ (out.new ≡ out.old) ⊎ AsksFor O.Fn N.Fn source.now (Begins (W.contents out.old) (W.contents out.new)) (map string_bytes words.now) }
+    ensures failed { result ≡ STATUS_SYSTEM → IsRefused (map string_bytes words.now)
+        ⊎ (out.new ≡ out.old) ⊎ AsksFor O.Fn N.Fn source.now
+        (Begins (W.contents out.old) (W.contents out.new)) (map string_bytes words.now) }
     // Of the words that are refused, only those that ask for the help or the version are done, and it was printed.
-    ensures help { IsRefused (map string_bytes words.now) → result ≡ 0 → PrintsAsked (map string_bytes words.now) (W.contents out.old) (W.contents out.new) }
+    ensures help { IsRefused (map string_bytes words.now) → result ≡ 0
+        → PrintsAsked (map string_bytes words.now) (W.contents out.old) (W.contents out.new) }
 {
     match read_words(alloc, words) {
         Ok((options, wanted)) => serve_options(rt, alloc, &options, wanted, source, out, faults),
@@ -62,7 +69,8 @@ pub fn serve<
 fn read_words<'a>(alloc: Global, words: &'a [String]) -> Result<(Options<'a>, Wanted), Error>
     ensures tries { IfOk result (λ r. TriesNamed (map string_bytes words.now) r.0.tries) }
     ensures wanted { IfOk result (λ r. Wants (map string_bytes words.now) r.1) }
-    ensures matches { IfOk result (λ r. rows_of (found_of r.0.matches) ≡ matches_of command_line (map string_bytes words.now)) }
+    ensures matches { IfOk result (λ r. rows_of (found_of r.0.matches)
+        ≡ matches_of command_line (map string_bytes words.now)) }
     ensures faults { FailsBy (fault_of command_line (map string_bytes words.now)) result }
 {
     let options = options_of(alloc, words)?;
@@ -89,7 +97,8 @@ fn serve_options<
 ) -> u8
     requires open { O.IsAlwaysCallable source.now.open }
     requires read { N.IsAlwaysCallable source.now.read }
-    ensures { IsServed O.Fn N.Fn source.now W.contents out.old out.new wanted options.now.tries (names_among (rows_of (found_of options.now.matches))) result }
+    ensures { IsServed O.Fn N.Fn source.now W.contents out.old out.new wanted options.now.tries
+        (names_among (rows_of (found_of options.now.matches))) result }
 {
     let paths = options.matches.get_strs("FILE").unwrap_or(&[]);
     match wanted {
@@ -138,11 +147,14 @@ fn show<W: Write, E: Write>(text: &str, out: &mut W, faults: &mut E) -> u8
 
 /// The text of the command line's fault, or the text that the words ask for.
 fn serve_error<W: Write, E: Write>(error: &Error, out: &mut W, faults: &mut E) -> u8
-    ensures memory { kind_of error.now ≡ kinds.OutOfMemory → (result ≡ STATUS_SYSTEM) × (out.new ≡ out.old) }
-    ensures shown { result ≡ 0 → PrintsKind (kind_of error.now) (W.contents out.old) (W.contents out.new) }
+    ensures memory { kind_of error.now ≡ kinds.OutOfMemory
+        → (result ≡ STATUS_SYSTEM) × (out.new ≡ out.old) }
+    ensures shown { result ≡ 0
+        → PrintsKind (kind_of error.now) (W.contents out.old) (W.contents out.new) }
     ensures status { (result ≡ 0) ⊎ (result ≡ STATUS_USAGE) ⊎ (result ≡ STATUS_SYSTEM) }
     ensures nothing { result ≡ STATUS_USAGE → out.new ≡ out.old }
-    ensures system { result ≡ STATUS_SYSTEM → (kind_of error.now ≡ kinds.OutOfMemory) ⊎ (kind_of error.now ≡ kinds.DisplayHelp) ⊎ (kind_of error.now ≡ kinds.DisplayVersion) }
+    ensures system { result ≡ STATUS_SYSTEM → (kind_of error.now ≡ kinds.OutOfMemory)
+        ⊎ (kind_of error.now ≡ kinds.DisplayHelp) ⊎ (kind_of error.now ≡ kinds.DisplayVersion) }
 {
     match error.kind() {
         ErrorKind::OutOfMemory => {

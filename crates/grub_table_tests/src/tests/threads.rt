@@ -149,7 +149,8 @@ fn run_both<R: Threads + Wait + Abort + Sync>(
         rt,
         |scope| -> (Ran, Ran)
             requires { IsPassOf shared.now first × IsPassOf shared.now second }
-            ensures { IsPassOf shared.entry.now result.0.pass × IsPassOf shared.entry.now result.1.pass }
+            ensures { IsPassOf shared.entry.now result.0.pass
+                × IsPassOf shared.entry.now result.1.pass }
         {
             let Ok(one) = scope.spawn_with(
                 OfTable { shared },
