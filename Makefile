@@ -89,4 +89,5 @@ uninstall:
 	done
 
 clean:
+	@python3 scripts/build.py --clean
 	rm -rf out crates/*/out bench/target

@@ -1,12 +1,14 @@
 #!/usr/bin/env python3
 """Proves grubrun and grubtrace with the crates that they stand on, and builds them into crates/PROGRAM/out.
 
-build.py [PROGRAM]..: those named, or both. A crate is proved once those below it are, and crates that do not stand on each other side by
-side: as many as there are processors, and 2.5 GB of free memory for each. It says on standard error what it proved and how long that took;
-all else is in out/build/CRATE.log, which is named where a proof fails. A crate that reads what it read before is not proved again.
+build.py [PROGRAM]..: those named, or both; build.py --clean takes away the libraries. A crate is proved once those below it are, and crates
+that do not stand on each other side by side: as many as there are processors, and 2.5 GB of free memory for each. It says on standard error
+what it proved and how long that took; all else is in out/build/CRATE.log, which is named where a proof fails. A crate that reads what it read
+before is not proved again.
 
 It calls the kit's `rattle` and not `rt`, which lets no second run into a crate or into one below it, and whose libraries hold their proofs,
-for every crate above to read. These hold their statements alone, as in the gate, and lie in out/build, apart from what `rt check` keeps.
+for every crate above to read. These hold their statements alone, as in the gate, and lie in the user's cache, apart from what `rt check` keeps.
+Libraries of a checkout that is gone are taken away.
 """
 import fcntl
 import hashlib
@@ -17,10 +19,9 @@ import subprocess
 import sys
 import time
 
-from crates import ROOT, crates, files_below, kit_folder, lanes, sum_of, text_of
+from crates import LIBRARIES, ROOT, crates, files_below, kit_folder, lanes, sum_of, text_of
 
 BUILD = f"{ROOT}/out/build"
-LIBRARIES = f"{BUILD}/rlib"
 ROOM = 2_500_000
 
 
@@ -145,7 +146,23 @@ def build(works, most):
     return all(it.state == "made" for it in works.values())
 
 
+def make_room():
+    """Makes the folders of this checkout, and takes away those of checkouts that are gone."""
+    for it in (BUILD, LIBRARIES):
+        os.makedirs(it, exist_ok=True)
+    with open(f"{LIBRARIES}/of", "w", encoding="utf-8") as it:
+        it.write(ROOT)
+    for it in os.scandir(os.path.dirname(LIBRARIES)):
+        note = f"{it.path}/of"
+        if os.path.isfile(note) and not os.path.isdir(text_of(note)):
+            shutil.rmtree(it.path, ignore_errors=True)
+
+
 def main(programs):
+    if programs == ["--clean"]:
+        for it in (BUILD, LIBRARIES):
+            shutil.rmtree(it, ignore_errors=True)
+        return 0
     known = crates()
     programs = programs or ["grubrun", "grubtrace"]
     for name in programs:
@@ -153,7 +170,7 @@ def main(programs):
             sys.exit(f"build: there is no program {name}")
     if not shutil.which("rt"):
         sys.exit("build: there is no rt, the command of the kit")
-    os.makedirs(LIBRARIES, exist_ok=True)
+    make_room()
     with open(f"{BUILD}/lock", "w", encoding="utf-8") as lock:
         try:
             fcntl.flock(lock, fcntl.LOCK_EX | fcntl.LOCK_NB)

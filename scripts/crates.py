@@ -4,6 +4,9 @@ import os
 import subprocess
 
 ROOT = os.path.dirname(os.path.dirname(os.path.abspath(__file__)))
+CACHE = os.environ.get("XDG_CACHE_HOME") or os.path.expanduser("~/.cache")
+# The libraries that scripts/build.py makes of this checkout. They hold .rt files, at which `rt ci` would stop, so they lie outside of it.
+LIBRARIES = f"{CACHE}/grub-build/{hashlib.sha256(ROOT.encode()).hexdigest()[:16]}"
 
 
 def text_of(path):

@@ -19,7 +19,7 @@ import time
 from concurrent.futures import ThreadPoolExecutor
 from typing import NamedTuple
 
-from crates import ROOT, crates, kit_folder, lanes, text_of
+from crates import LIBRARIES, ROOT, crates, kit_folder, lanes, text_of
 from kept import Kept, forget_old
 
 PARTS = ("src", "specs", "proofs")
@@ -53,7 +53,7 @@ def edits_of(crate):
 
 def libraries_for(names):
     """Where the libraries of these crates lie, all as `rt ci` left them or all as scripts/build.py did, or None."""
-    for folder in (f"{ROOT}/crates/%s/out/rlib", f"{ROOT}/out/build/rlib"):
+    for folder in (f"{ROOT}/crates/%s/out/rlib", LIBRARIES):
         found = {it: folder.replace("%s", it) for it in names}
         if all(os.path.isdir(f"{at}/{it}.rlib") for it, at in found.items()):
             return found

@@ -4,9 +4,9 @@ import os
 import tempfile
 import time
 
-from crates import ROOT, sum_of, text_of
+from crates import CACHE, ROOT, sum_of, text_of
 
-FOLDER = f"{os.environ.get('XDG_CACHE_HOME') or os.path.expanduser('~/.cache')}/grub-edits"
+FOLDER = f"{CACHE}/grub-edits"
 # What was not asked for in so many seconds goes.
 LONGEST = 30 * 24 * 3600
 
