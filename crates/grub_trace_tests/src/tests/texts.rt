@@ -26,18 +26,20 @@ fn call(m: u32, t: u32, op: Op, reply: Reply) -> Entry {
     }
 }
 
+/// Whether a text was made, and is this one.
+pub(super) fn is_text(made: Result<Vec<u8>, TextFault>, wanted: &[u8]) -> bool {
+    match made {
+        Ok(text) => text.as_slice() == wanted,
+        Err(TextFault::NoMemory) => false,
+    }
+}
+
 /// Expects the lines of entries.
-fn expect(
-    rt: &impl Abort,
-    alloc: Global,
-    plan: &Plan,
-    cases: &[(Entry, &[u8])],
-) -> Result<(), TextFault> {
+fn expect(rt: &impl Abort, alloc: Global, plan: &Plan, cases: &[(Entry, &[u8])]) {
     for (entry, text) in cases {
         assert!(rt; is_of(plan, entry.ask));
-        assert_eq!(rt; line_of(alloc, plan, entry)?.as_slice(), *text);
+        assert!(rt; is_text(line_of(alloc, plan, entry), *text), "{text:?}");
     }
-    Ok(())
 }
 
 /// The entries of the example's run.
@@ -82,20 +84,20 @@ pub(super) const EXAMPLE_LINES: [&[u8]; 9] = [
 ];
 
 #[test]
-fn lines_of_the_example(rt: HostRuntime) -> Result<(), Fail> {
+fn lines_of_the_example(rt: HostRuntime) -> Result<(), TraceFault> {
     let alloc = rt.alloc();
-    let plan = read_files(alloc, &files_of(alloc, &[EXAMPLE])?)?;
+    let plan = plan_of(alloc, &[EXAMPLE])?;
     for (entry, text) in example_entries().iter().zip(EXAMPLE_LINES) {
-        expect(&rt, alloc, &plan, &[(*entry, text)])?;
+        expect(&rt, alloc, &plan, &[(*entry, text)]);
     }
     Ok(())
 }
 
 /// Each ask and each answer once, apart from those of the example.
 #[test]
-fn lines(rt: HostRuntime) -> Result<(), Fail> {
+fn lines(rt: HostRuntime) -> Result<(), TraceFault> {
     let alloc = rt.alloc();
-    let plan = read_files(alloc, &files_of(alloc, &[EXAMPLE])?)?;
+    let plan = plan_of(alloc, &[EXAMPLE])?;
     let join = Op::Join { r: 0, m: 7 };
     let replied = |op: Op, reply: Reply| call(7, 1, op, reply);
     let other = |ask: Ask, answer: Answer| Entry { m: 7, ask, answer };
@@ -164,7 +166,7 @@ fn lines(rt: HostRuntime) -> Result<(), Fail> {
             (other(t2, Answer::Busy), b"at 7 join T2: busy\n"),
             (other(t2, Answer::Lost), b"at 7 join T2: lost\n"),
         ],
-    )?;
+    );
     Ok(())
 }
 
@@ -175,72 +177,79 @@ pub(super) fn are_of(plan: &Plan, entries: &[Entry]) -> bool
     entries.iter().all(|e| is_of(plan, e.ask))
 }
 
+/// Whether a report of these entries is printed so, below and above what is said of a runqueue.
+fn has_report(
+    alloc: Global,
+    plan: &Plan,
+    report: &Report,
+    closing: Reading,
+    wanted: &[u8],
+) -> bool {
+    are_of(plan, &report.entries) && is_text(report_of(alloc, plan, 0, report, closing), wanted)
+}
+
 #[test]
 fn report_of_the_example(rt: HostRuntime) -> Result<(), Fail> {
     let alloc = rt.alloc();
-    let plan = read_files(alloc, &files_of(alloc, &[EXAMPLE])?)?;
+    let report = Report {
+        entries: Vec::from_slice(alloc, &example_entries())?,
+    };
+    let plan = plan_of(alloc, &[EXAMPLE])?;
     let closing = Reading {
         running: 1048576,
         this: 1048576,
     };
-    let report = Report {
-        entries: Vec::from_slice(alloc, &example_entries())?,
-    };
-    assert!(rt; are_of(&plan, &report.entries));
-    let text = report_of(alloc, &plan, 0, &report, closing)?;
-    assert_eq!(rt; text.as_slice(), EXAMPLE_REPORT);
+    assert!(rt; has_report(alloc, &plan, &report, closing, EXAMPLE_REPORT));
     Ok(())
 }
 
 #[test]
-fn report_of_nothing(rt: HostRuntime) -> Result<(), Fail> {
+fn report_of_nothing(rt: HostRuntime) -> Result<(), TraceFault> {
     let alloc = rt.alloc();
-    let plan = read_files(alloc, &files_of(alloc, &[b"grub 1\nqueue 1 0\n"])?)?;
+    let plan = plan_of(alloc, &[b"grub 1\nqueue 1 0\n"])?;
     let report = Report {
         entries: Vec::new(alloc),
     };
-    let closing = Reading {
-        running: 0,
-        this: 0,
-    };
-    let text = report_of(alloc, &plan, 0, &report, closing)?;
-    assert_eq!(rt;
-        text.as_slice(),
-        b"runqueue 0\nclose running=0 this=0\n".as_slice()
-    );
+    let text = b"runqueue 0\nclose running=0 this=0\n";
+    assert!(rt; has_report(alloc, &plan, &report, NOTHING, text));
     Ok(())
+}
+
+const NOTHING: Reading = Reading {
+    running: 0,
+    this: 0,
+};
+
+/// A report of so many readings, and its text.
+fn long_text(alloc: Global, count: u32) -> Result<(Report, Vec<u8>), AllocError> {
+    let [.., read] = example_entries();
+    let mut entries = Vec::new(alloc);
+    let mut text = Vec::from_slice(alloc, b"runqueue 63\n")?;
+    for _entry in 0..count {
+        entries.push(read)?;
+        text.extend_from_slice(b"at 8 read: running=1048576 this=1048576\n")?;
+    }
+    text.extend_from_slice(b"close running=0 this=0\n")?;
+    Ok((Report { entries }, text))
 }
 
 /// More entries than the buffer has room for.
 #[test]
 fn long_report(rt: HostRuntime) -> Result<(), Fail> {
     let alloc = rt.alloc();
-    let plan = read_files(alloc, &files_of(alloc, &[EXAMPLE])?)?;
-    let closing = Reading {
-        running: 0,
-        this: 0,
-    };
-    let [.., read] = example_entries();
-    let mut entries = Vec::new(alloc);
-    let mut wanted = Vec::from_slice(alloc, b"runqueue 63\n")?;
-    for _entry in 0..5000 {
-        entries.push(read)?;
-        wanted.extend_from_slice(b"at 8 read: running=1048576 this=1048576\n")?;
-    }
-    wanted.extend_from_slice(b"close running=0 this=0\n")?;
-    let report = Report { entries };
+    let (report, wanted) = long_text(alloc, 5000)?;
+    let plan = plan_of(alloc, &[EXAMPLE])?;
     assert!(rt; are_of(&plan, &report.entries));
-    let text = report_of(alloc, &plan, 63, &report, closing)?;
-    assert!(rt; text.as_slice() == wanted.as_slice());
+    assert!(rt; is_text(report_of(alloc, &plan, 63, &report, NOTHING), &wanted));
     Ok(())
 }
 
 /// The longest name and the greatest numbers.
 #[test]
-fn longest_line(rt: HostRuntime) -> Result<(), Fail> {
+fn longest_line(rt: HostRuntime) -> Result<(), TraceFault> {
     let alloc = rt.alloc();
     let file: &[u8] = b"grub 1\nqueue 1 0\ntask ABCDEFGHIJKLMNOP 1 1\n";
-    let plan = read_files(alloc, &files_of(alloc, &[file])?)?;
+    let plan = plan_of(alloc, &[file])?;
     let most = u32::MAX;
     let charged = Reply::Charged {
         dq: u64::MAX,
@@ -256,6 +265,6 @@ fn longest_line(rt: HostRuntime) -> Result<(), Fail> {
             call(most, 0, Op::Retune { q: most, p: most }, charged),
             b"at 4294967295 retune ABCDEFGHIJKLMNOP 4294967295 4294967295: charged dq=18446744073709551615 k=4294967295 q=4294967295 d=4294967295\n",
         )],
-    )?;
+    );
     Ok(())
 }
