@@ -223,22 +223,29 @@ fn faults_of_later_lines(rt: HostRuntime) {
     );
 }
 
+const DECLARES: &[u8] = b"grub 1\nqueue 1 0\ntask A 1 1\n";
+
+const USES: &[u8] = b"grub 2\nqueue 1 0\nat 0 join A\n";
+
+const UNKNOWN: &[u8] = b"grub 1\nqueue 1 0\nat 0 join Z\n";
+
+/// Several files, with their fault, its file, and its line.
+const SEVERAL: &[(&[&[u8]], Kind, usize, usize)] = &[
+    (&[DECLARES, DECLARES], Kind::DuplicateTask, 1, 3),
+    (&[UNKNOWN, b""], Kind::BadHeader, 1, 1),
+    (&[DECLARES, UNKNOWN, UNKNOWN], Kind::UnknownTask, 1, 3),
+];
+
 #[test]
 fn faults_of_several_files(rt: HostRuntime) {
     let alloc = rt.alloc();
-    let declares: &[u8] = b"grub 1\nqueue 1 0\ntask A 1 1\n";
-    let uses: &[u8] = b"grub 2\nqueue 1 0\nat 0 join A\n";
-    let unknown: &[u8] = b"grub 1\nqueue 1 0\nat 0 join Z\n";
-    let empty: &[u8] = b"";
-    let cases: [(&[&[u8]], Option<TraceFault>); 4] = [
-        (&[declares, declares], at(Kind::DuplicateTask, 1, 3)),
-        (&[uses, declares], None),
-        (&[unknown, empty], at(Kind::BadHeader, 1, 1)),
-        (&[declares, unknown, unknown], at(Kind::UnknownTask, 1, 3)),
-    ];
-    for (texts, fault) in cases {
-        assert!(rt; have_fault(alloc, texts, fault), "{fault:?}");
+    for (texts, kind, file, line) in SEVERAL {
+        assert!(rt;
+            have_fault(alloc, *texts, at(*kind, *file, *line)),
+            "{kind}"
+        );
     }
+    assert!(rt; have_fault(alloc, &[USES, DECLARES], None));
 }
 
 /// Whether a file of 256 tasks that goes on so has this fault, or none.
@@ -318,21 +325,24 @@ fn is_told<D: Display + Drop>(alloc: Global, fault: D, text: &str) -> bool {
     }
 }
 
+/// What is printed of each kind.
+const KIND_TEXTS: &[(Kind, &str)] = &[
+    (Kind::BadHeader, "28 BadHeader"),
+    (Kind::BadLine, "29 BadLine"),
+    (Kind::BadNumber, "30 BadNumber"),
+    (Kind::OutOfRange, "31 OutOfRange"),
+    (Kind::DuplicateTask, "32 DuplicateTask"),
+    (Kind::UnknownTask, "33 UnknownTask"),
+    (Kind::MomentGoesBack, "34 MomentGoesBack"),
+    (Kind::MissingQueue, "35 MissingQueue"),
+    (Kind::CutShort, "36 CutShort"),
+];
+
 #[test]
 fn fault_texts(rt: HostRuntime) {
     let alloc = rt.alloc();
-    for (kind, text) in [
-        (Kind::BadHeader, "28 BadHeader"),
-        (Kind::BadLine, "29 BadLine"),
-        (Kind::BadNumber, "30 BadNumber"),
-        (Kind::OutOfRange, "31 OutOfRange"),
-        (Kind::DuplicateTask, "32 DuplicateTask"),
-        (Kind::UnknownTask, "33 UnknownTask"),
-        (Kind::MomentGoesBack, "34 MomentGoesBack"),
-        (Kind::MissingQueue, "35 MissingQueue"),
-        (Kind::CutShort, "36 CutShort"),
-    ] {
-        assert!(rt; is_told(alloc, kind, text), "{text}");
+    for (kind, text) in KIND_TEXTS {
+        assert!(rt; is_told(alloc, *kind, *text), "{text}");
     }
     let fault = TraceFault::At {
         kind: Kind::CutShort,

@@ -5,7 +5,6 @@ ghost use Rattle.grub_plan.specs.Texts.{IsAskOf};
 
 use super::*;
 use grub_book::{Op, Reading, Reply};
-use std::process::Abort;
 use std::test::Fail;
 
 /// Whether an ask is of a task of the plan.
@@ -34,12 +33,9 @@ pub(super) fn is_text(made: Result<Vec<u8>, TextFault>, wanted: &[u8]) -> bool {
     }
 }
 
-/// Expects the lines of entries.
-fn expect(rt: &impl Abort, alloc: Global, plan: &Plan, cases: &[(Entry, &[u8])]) {
-    for (entry, text) in cases {
-        assert!(rt; is_of(plan, entry.ask));
-        assert!(rt; is_text(line_of(alloc, plan, entry), *text), "{text:?}");
-    }
+/// Whether this text is the line of an entry.
+fn has_line(alloc: Global, plan: &Plan, entry: &Entry, text: &[u8]) -> bool {
+    is_of(plan, entry.ask) && is_text(line_of(alloc, plan, entry), text)
 }
 
 /// The entries of the example's run.
@@ -88,85 +84,112 @@ fn lines_of_the_example(rt: HostRuntime) -> Result<(), TraceFault> {
     let alloc = rt.alloc();
     let plan = plan_of(alloc, &[EXAMPLE])?;
     for (entry, text) in example_entries().iter().zip(EXAMPLE_LINES) {
-        expect(&rt, alloc, &plan, &[(*entry, text)]);
+        assert!(rt; has_line(alloc, &plan, entry, text), "{text:?}");
     }
     Ok(())
 }
 
-/// Each ask and each answer once, apart from those of the example.
+const JOIN: Op = Op::Join { r: 0, m: 7 };
+
+const BLOCK: Op = Op::Block { r: 0, m: 7 };
+
+const TIMER: Op = Op::Timer { ticket: 3, m: 7 };
+
+/// What is asked of T2 at 7, what is answered, and its line: each ask and each answer once, apart from those of the example.
+const LINES: &[(Op, Answer, &[u8])] = &[
+    (
+        BLOCK,
+        Answer::Replied(Reply::Asleep),
+        b"at 7 block T2: asleep\n",
+    ),
+    (
+        Op::Leave,
+        Answer::Replied(Reply::Left { r: 0 }),
+        b"at 7 leave T2: left 0\n",
+    ),
+    (
+        Op::Exit,
+        Answer::Replied(Reply::Ended),
+        b"at 7 exit T2: ended\n",
+    ),
+    (
+        Op::Retune { q: 2, p: 8 },
+        Answer::Replied(Reply::Retuned),
+        b"at 7 retune T2 2 8: retuned\n",
+    ),
+    (JOIN, Answer::Replied(Reply::Gone), b"at 7 join T2: gone\n"),
+    (
+        Op::Leave,
+        Answer::Replied(Reply::NotOn),
+        b"at 7 leave T2: not-on\n",
+    ),
+    (
+        JOIN,
+        Answer::Replied(Reply::AlreadyOn(63)),
+        b"at 7 join T2: already-on 63\n",
+    ),
+    (
+        Op::Wake { r: 1, m: 7 },
+        Answer::Replied(Reply::Elsewhere(0)),
+        b"at 7 wake T2: elsewhere 0\n",
+    ),
+    (
+        Op::Wake { r: 0, m: 7 },
+        Answer::Replied(Reply::AlreadyContending),
+        b"at 7 wake T2: already-contending\n",
+    ),
+    (
+        Op::Charge { r: 0, dt: 16777216 },
+        Answer::Replied(Reply::NotContending),
+        b"at 7 run T2 16777216: not-contending\n",
+    ),
+    (
+        Op::Leave,
+        Answer::Replied(Reply::StillContending),
+        b"at 7 leave T2: still-contending\n",
+    ),
+    (
+        Op::Exit,
+        Answer::Replied(Reply::StillActive),
+        b"at 7 exit T2: still-active\n",
+    ),
+    (
+        BLOCK,
+        Answer::Replied(Reply::Worn),
+        b"at 7 block T2: worn\n",
+    ),
+    (
+        TIMER,
+        Answer::Replied(Reply::Stale),
+        b"at 7 timer T2 3: stale\n",
+    ),
+    (
+        TIMER,
+        Answer::Replied(Reply::Early(9)),
+        b"at 7 timer T2 3: early z=9\n",
+    ),
+    (JOIN, Answer::Replied(Reply::Full), b"at 7 join T2: full\n"),
+    (
+        Op::Charge { r: 0, dt: 1 },
+        Answer::Replied(Reply::DeadlineOverflow),
+        b"at 7 run T2 1: deadline-overflow\n",
+    ),
+    (JOIN, Answer::Busy, b"at 7 join T2: busy\n"),
+    (JOIN, Answer::Lost, b"at 7 join T2: lost\n"),
+];
+
 #[test]
 fn lines(rt: HostRuntime) -> Result<(), TraceFault> {
     let alloc = rt.alloc();
     let plan = plan_of(alloc, &[EXAMPLE])?;
-    let join = Op::Join { r: 0, m: 7 };
-    let replied = |op: Op, reply: Reply| call(7, 1, op, reply);
-    let other = |ask: Ask, answer: Answer| Entry { m: 7, ask, answer };
-    let t2 = Ask::Call { t: 1, op: join };
-    expect(
-        &rt,
-        alloc,
-        &plan,
-        &[
-            (
-                replied(Op::Block { r: 0, m: 7 }, Reply::Asleep),
-                b"at 7 block T2: asleep\n",
-            ),
-            (
-                replied(Op::Leave, Reply::Left { r: 0 }),
-                b"at 7 leave T2: left 0\n",
-            ),
-            (replied(Op::Exit, Reply::Ended), b"at 7 exit T2: ended\n"),
-            (
-                replied(Op::Retune { q: 2, p: 8 }, Reply::Retuned),
-                b"at 7 retune T2 2 8: retuned\n",
-            ),
-            (replied(join, Reply::Gone), b"at 7 join T2: gone\n"),
-            (replied(Op::Leave, Reply::NotOn), b"at 7 leave T2: not-on\n"),
-            (
-                replied(join, Reply::AlreadyOn(63)),
-                b"at 7 join T2: already-on 63\n",
-            ),
-            (
-                replied(Op::Wake { r: 1, m: 7 }, Reply::Elsewhere(0)),
-                b"at 7 wake T2: elsewhere 0\n",
-            ),
-            (
-                replied(Op::Wake { r: 0, m: 7 }, Reply::AlreadyContending),
-                b"at 7 wake T2: already-contending\n",
-            ),
-            (
-                replied(Op::Charge { r: 0, dt: 16777216 }, Reply::NotContending),
-                b"at 7 run T2 16777216: not-contending\n",
-            ),
-            (
-                replied(Op::Leave, Reply::StillContending),
-                b"at 7 leave T2: still-contending\n",
-            ),
-            (
-                replied(Op::Exit, Reply::StillActive),
-                b"at 7 exit T2: still-active\n",
-            ),
-            (
-                replied(Op::Block { r: 0, m: 7 }, Reply::Worn),
-                b"at 7 block T2: worn\n",
-            ),
-            (
-                replied(Op::Timer { ticket: 3, m: 7 }, Reply::Stale),
-                b"at 7 timer T2 3: stale\n",
-            ),
-            (
-                replied(Op::Timer { ticket: 3, m: 7 }, Reply::Early(9)),
-                b"at 7 timer T2 3: early z=9\n",
-            ),
-            (replied(join, Reply::Full), b"at 7 join T2: full\n"),
-            (
-                replied(Op::Charge { r: 0, dt: 1 }, Reply::DeadlineOverflow),
-                b"at 7 run T2 1: deadline-overflow\n",
-            ),
-            (other(t2, Answer::Busy), b"at 7 join T2: busy\n"),
-            (other(t2, Answer::Lost), b"at 7 join T2: lost\n"),
-        ],
-    );
+    for (op, answer, text) in LINES {
+        let entry = Entry {
+            m: 7,
+            ask: Ask::Call { t: 1, op: *op },
+            answer: *answer,
+        };
+        assert!(rt; has_line(alloc, &plan, &entry, *text), "{text:?}");
+    }
     Ok(())
 }
 
@@ -257,14 +280,9 @@ fn longest_line(rt: HostRuntime) -> Result<(), TraceFault> {
         q: most,
         d: most,
     };
-    expect(
-        &rt,
-        alloc,
-        &plan,
-        &[(
-            call(most, 0, Op::Retune { q: most, p: most }, charged),
-            b"at 4294967295 retune ABCDEFGHIJKLMNOP 4294967295 4294967295: charged dq=18446744073709551615 k=4294967295 q=4294967295 d=4294967295\n",
-        )],
-    );
+    let entry = call(most, 0, Op::Retune { q: most, p: most }, charged);
+    let line =
+        b"at 4294967295 retune ABCDEFGHIJKLMNOP 4294967295 4294967295: charged dq=18446744073709551615 k=4294967295 q=4294967295 d=4294967295\n";
+    assert!(rt; has_line(alloc, &plan, &entry, line));
     Ok(())
 }

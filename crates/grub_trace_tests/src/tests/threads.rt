@@ -16,27 +16,19 @@ const CUT: &[u8] = b"grub 1\nqueue 1 0\nat 6 read";
 
 const HEADLESS: &[u8] = b"grub 3\n";
 
-#[test]
-fn same_fault(rt: HostRuntime) {
-    let alloc = rt.alloc();
-    // Each with the fault, its file, and its line.
-    let cases: [(&[&[u8]], Kind, usize, usize); 8] = [
-        (&[DECLARES, HEADLESS], Kind::BadHeader, 1, 1),
-        (&[DECLARES, DECLARES], Kind::DuplicateTask, 1, 3),
-        // What is wrong below a head comes before a later head.
-        (&[GOES_BACK, HEADLESS], Kind::MomentGoesBack, 0, 4),
-        (&[USES, CUT, DECLARES, DECLARES], Kind::CutShort, 1, 3),
-        (&[USES, CUT, GOES_BACK], Kind::CutShort, 1, 3),
-        // A name that no file declares comes last, the first one of all.
-        (&[UNKNOWN, GOES_BACK], Kind::MomentGoesBack, 1, 4),
-        (&[UNKNOWN, DECLARES, HEADLESS], Kind::BadHeader, 2, 1),
-        (&[DECLARES, UNKNOWN, UNKNOWN], Kind::UnknownTask, 1, 3),
-    ];
-    for (texts, kind, file, line) in cases {
-        let fault = TraceFault::At { kind, file, line };
-        assert!(rt; have_fault(&rt, alloc, texts, fault), "{fault:?}");
-    }
-}
+/// Several files, with their fault, its file, and its line.
+const CASES: &[(&[&[u8]], Kind, usize, usize)] = &[
+    (&[DECLARES, HEADLESS], Kind::BadHeader, 1, 1),
+    (&[DECLARES, DECLARES], Kind::DuplicateTask, 1, 3),
+    // What is wrong below a head comes before a later head.
+    (&[GOES_BACK, HEADLESS], Kind::MomentGoesBack, 0, 4),
+    (&[USES, CUT, DECLARES, DECLARES], Kind::CutShort, 1, 3),
+    (&[USES, CUT, GOES_BACK], Kind::CutShort, 1, 3),
+    // A name that no file declares comes last, the first one of all.
+    (&[UNKNOWN, GOES_BACK], Kind::MomentGoesBack, 1, 4),
+    (&[UNKNOWN, DECLARES, HEADLESS], Kind::BadHeader, 2, 1),
+    (&[DECLARES, UNKNOWN, UNKNOWN], Kind::UnknownTask, 1, 3),
+];
 
 /// Whether this is what is answered to files of these bytes, by one thread and by several.
 fn have_fault(
@@ -50,6 +42,19 @@ fn have_fault(
     };
     read_files(alloc, &files).err() == Some(fault)
         && read_files_by_threads(rt, alloc, &files).err() == Some(fault)
+}
+
+#[test]
+fn same_fault(rt: HostRuntime) {
+    let alloc = rt.alloc();
+    for (texts, kind, file, line) in CASES {
+        let fault = TraceFault::At {
+            kind: *kind,
+            file: *file,
+            line: *line,
+        };
+        assert!(rt; have_fault(&rt, alloc, *texts, fault), "{fault:?}");
+    }
 }
 
 /// The script of `USES`.
