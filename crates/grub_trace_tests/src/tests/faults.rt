@@ -1,49 +1,54 @@
 //! Faults of files: which, where, and in which order.
 
 use super::*;
+use std::fmt::Display;
 use std::process::Abort;
-use std::test::Fail;
-
-fn fault_of(alloc: Global, texts: &[&[u8]]) -> Result<Option<TraceFault>, AllocError> {
-    let files = files_of(alloc, texts)?;
-    Ok(read_files(alloc, &files).err())
-}
 
 fn at(kind: Kind, file: usize, line: usize) -> Option<TraceFault> {
     Some(TraceFault::At { kind, file, line })
 }
 
-/// Expects faults of files of one text each, with their lines.
-fn expect(
-    rt: &impl Abort,
-    alloc: Global,
-    cases: &[(&[u8], Kind, usize)],
-) -> Result<(), AllocError> {
-    for (text, kind, line) in cases {
-        assert_eq!(rt; fault_of(alloc, &[*text])?, at(*kind, 0, *line), "{text:?}");
-    }
-    Ok(())
+/// Whether files of these bytes have this fault, or none.
+fn have_fault(alloc: Global, texts: &[&[u8]], fault: Option<TraceFault>) -> bool {
+    plan_of(alloc, texts).err() == fault
 }
 
-/// Expects faults of third lines, below a header and a runqueue's line.
-fn expect_third(
-    rt: &impl Abort,
-    alloc: Global,
-    header: &[u8],
-    cases: &[(&[u8], Kind)],
-) -> Result<(), AllocError> {
-    for (line, kind) in cases {
-        let mut text = Vec::from_slice(alloc, header)?;
-        text.extend_from_slice(b"queue 1048576 0\n")?;
-        text.extend_from_slice(line)?;
-        text.push(b'\n')?;
-        assert_eq!(rt; fault_of(alloc, &[&text])?, at(*kind, 0, 3), "{line:?}");
+/// Expects faults of files of one text each, with their lines.
+fn expect(rt: &impl Abort, alloc: Global, cases: &[(&[u8], Kind, usize)]) {
+    for (text, kind, line) in cases {
+        assert!(rt;
+            have_fault(alloc, &[*text], at(*kind, 0, *line)),
+            "{text:?}"
+        );
     }
-    Ok(())
+}
+
+/// These bytes, one after another.
+fn joined(alloc: Global, parts: &[&[u8]]) -> Result<Vec<u8>, AllocError> {
+    let mut text = Vec::new(alloc);
+    for part in parts {
+        text.extend_from_slice(part)?;
+    }
+    Ok(text)
+}
+
+/// Whether a third line, below a header and a runqueue's line, has this fault.
+fn has_third(alloc: Global, header: &[u8], line: &[u8], kind: Kind) -> bool {
+    match joined(alloc, &[header, b"queue 1048576 0\n", line, b"\n"]) {
+        Ok(text) => have_fault(alloc, &[&text], at(kind, 0, 3)),
+        Err(AllocError) => false,
+    }
+}
+
+/// Expects faults of third lines.
+fn expect_third(rt: &impl Abort, alloc: Global, header: &[u8], cases: &[(&[u8], Kind)]) {
+    for (line, kind) in cases {
+        assert!(rt; has_third(alloc, header, *line, *kind), "{line:?}");
+    }
 }
 
 #[test]
-fn first_two_lines(rt: HostRuntime) -> Result<(), Fail> {
+fn first_two_lines(rt: HostRuntime) {
     let alloc = rt.alloc();
     expect(
         &rt,
@@ -73,14 +78,13 @@ fn first_two_lines(rt: HostRuntime) -> Result<(), Fail> {
             (b"grub 1\nqueue 1048577 0\n", Kind::OutOfRange, 2),
             (b"grub 1\nqueue 5 6\n", Kind::OutOfRange, 2),
         ],
-    )?;
-    assert_eq!(rt; fault_of(alloc, &[])?, at(Kind::MissingQueue, 0, 1));
-    assert_eq!(rt; fault_of(alloc, &[b"grub 1\nqueue 1 0\n"])?, None);
-    Ok(())
+    );
+    assert!(rt; have_fault(alloc, &[], at(Kind::MissingQueue, 0, 1)));
+    assert!(rt; have_fault(alloc, &[b"grub 1\nqueue 1 0\n"], None));
 }
 
 #[test]
-fn third_lines(rt: HostRuntime) -> Result<(), Fail> {
+fn third_lines(rt: HostRuntime) {
     let alloc = rt.alloc();
     expect_third(
         &rt,
@@ -127,12 +131,11 @@ fn third_lines(rt: HostRuntime) -> Result<(), Fail> {
             (b"at  run A 1", Kind::BadLine),
             (b" ", Kind::BadLine),
         ],
-    )?;
-    Ok(())
+    );
 }
 
 #[test]
-fn retune_lines(rt: HostRuntime) -> Result<(), Fail> {
+fn retune_lines(rt: HostRuntime) {
     let alloc = rt.alloc();
     expect(
         &rt,
@@ -159,7 +162,7 @@ fn retune_lines(rt: HostRuntime) -> Result<(), Fail> {
                 4,
             ),
         ],
-    )?;
+    );
     expect_third(
         &rt,
         alloc,
@@ -175,12 +178,11 @@ fn retune_lines(rt: HostRuntime) -> Result<(), Fail> {
             (b"at 0 retune A 4 8 9", Kind::BadLine),
             (b"at 0 retune Z 4 8", Kind::UnknownTask),
         ],
-    )?;
-    Ok(())
+    );
 }
 
 #[test]
-fn faults_of_later_lines(rt: HostRuntime) -> Result<(), Fail> {
+fn faults_of_later_lines(rt: HostRuntime) {
     let alloc = rt.alloc();
     expect(
         &rt,
@@ -218,63 +220,68 @@ fn faults_of_later_lines(rt: HostRuntime) -> Result<(), Fail> {
                 4,
             ),
         ],
-    )?;
-    Ok(())
+    );
 }
 
-#[test]
-fn faults_of_several_files(rt: HostRuntime) -> Result<(), Fail> {
-    let alloc = rt.alloc();
-    let declares: &[u8] = b"grub 1\nqueue 1 0\ntask A 1 1\n";
-    let uses: &[u8] = b"grub 2\nqueue 1 0\nat 0 join A\n";
-    let unknown: &[u8] = b"grub 1\nqueue 1 0\nat 0 join Z\n";
-    let empty: &[u8] = b"";
-    assert_eq!(rt;
-        fault_of(alloc, &[declares, declares])?,
-        at(Kind::DuplicateTask, 1, 3)
-    );
-    assert_eq!(rt; fault_of(alloc, &[uses, declares])?, None);
-    assert_eq!(rt;
-        fault_of(alloc, &[unknown, empty])?,
-        at(Kind::BadHeader, 1, 1)
-    );
-    assert_eq!(rt;
-        fault_of(alloc, &[declares, unknown, unknown])?,
-        at(Kind::UnknownTask, 1, 3)
-    );
-    Ok(())
-}
+const DECLARES: &[u8] = b"grub 1\nqueue 1 0\ntask A 1 1\n";
+
+const USES: &[u8] = b"grub 2\nqueue 1 0\nat 0 join A\n";
+
+const UNKNOWN: &[u8] = b"grub 1\nqueue 1 0\nat 0 join Z\n";
+
+/// Several files, with their fault, its file, and its line.
+const SEVERAL: &[(&[&[u8]], Kind, usize, usize)] = &[
+    (&[DECLARES, DECLARES], Kind::DuplicateTask, 1, 3),
+    (&[UNKNOWN, b""], Kind::BadHeader, 1, 1),
+    (&[DECLARES, UNKNOWN, UNKNOWN], Kind::UnknownTask, 1, 3),
+];
 
 #[test]
-fn too_many(rt: HostRuntime) -> Result<(), Fail> {
+fn faults_of_several_files(rt: HostRuntime) {
     let alloc = rt.alloc();
-    let file = Vec::from_slice(alloc, b"grub 1\nqueue 1 0\n")?;
-    let mut files = Vec::new(alloc);
-    for _ in 0..64 {
-        files.push(file.clone()?)?;
+    for (texts, kind, file, line) in SEVERAL {
+        assert!(rt;
+            have_fault(alloc, *texts, at(*kind, *file, *line)),
+            "{kind}"
+        );
     }
-    assert_eq!(rt; read_files(alloc, &files).err(), None);
-    files.push(Vec::new(alloc))?;
-    assert_eq!(rt;
-        read_files(alloc, &files).err(),
-        at(Kind::OutOfRange, 64, 1)
-    );
+    assert!(rt; have_fault(alloc, &[USES, DECLARES], None));
+}
 
-    let mut text = file.clone()?;
+/// Whether a file of 256 tasks that goes on so has this fault, or none.
+fn tasks_have_fault(alloc: Global, more: &[u8], fault: Option<TraceFault>) -> bool {
+    match text_of_tasks(alloc, more) {
+        Ok(text) => have_fault(alloc, &[&text], fault),
+        Err(AllocError) => false,
+    }
+}
+
+/// A file of 256 tasks, named by their numbers, that goes on so.
+fn text_of_tasks(alloc: Global, more: &[u8]) -> Result<Vec<u8>, AllocError> {
+    let mut text = Vec::from_slice(alloc, SMALL)?;
     for number in 0u32..256 {
         let line = format!(in alloc; "task {number} 1 1\n")?;
         text.extend_from_slice(line.as_bytes())?;
     }
-    assert_eq!(rt; fault_of(alloc, &[&text])?, None);
+    text.extend_from_slice(more)?;
+    Ok(text)
+}
 
-    let mut more = text.clone()?;
-    more.extend_from_slice(b"task 256 1 1\n")?;
-    assert_eq!(rt; fault_of(alloc, &[&more])?, at(Kind::OutOfRange, 0, 259));
+const SMALL: &[u8] = b"grub 1\nqueue 1 0\n";
 
+#[test]
+fn too_many(rt: HostRuntime) {
+    let alloc = rt.alloc();
+    assert!(rt; have_fault(alloc, &[SMALL; 64], None));
+    let mut files = [SMALL; 65];
+    files[64] = b"";
+    assert!(rt; have_fault(alloc, &files, at(Kind::OutOfRange, 64, 1)));
+
+    let out_of_range = at(Kind::OutOfRange, 0, 259);
+    assert!(rt; tasks_have_fault(alloc, b"", None));
+    assert!(rt; tasks_have_fault(alloc, b"task 256 1 1\n", out_of_range));
     // The 257th task is out of range, though its name was declared before.
-    text.extend_from_slice(b"task 0 1 1\n")?;
-    assert_eq!(rt; fault_of(alloc, &[&text])?, at(Kind::OutOfRange, 0, 259));
-    Ok(())
+    assert!(rt; tasks_have_fault(alloc, b"task 0 1 1\n", out_of_range));
 }
 
 /// The number of lines that are ended.
@@ -282,60 +289,67 @@ fn lines_in(text: &[u8]) -> usize {
     text.iter().filter(|b| **b == b'\n').count()
 }
 
-#[test]
-fn each_cut(rt: HostRuntime) -> Result<(), Fail> {
-    let alloc = rt.alloc();
-    for end in 0..=EXAMPLE.len() {
-        let text = &EXAMPLE[..end];
-        let lines = lines_in(text);
-        let files = files_of(alloc, &[text])?;
-        let read = read_files(alloc, &files);
-        match end {
-            0 => assert_eq!(rt; read.err(), at(Kind::BadHeader, 0, 1)),
-            7 => assert_eq!(rt; read.err(), at(Kind::MissingQueue, 0, 2)),
-            _ if text.ends_with(b"\n") => {
-                let plan = read?;
-                assert!(rt; plan.files() > 0);
-                assert_eq!(rt; plan.script(0).len(), lines.saturating_sub(4));
-            }
-            _ => assert_eq!(rt; read.err(), at(Kind::CutShort, 0, lines.saturating_add(1))),
-        }
-    }
-    Ok(())
+/// Whether this text reads as a plan whose first script has so many lines.
+fn has_lines(alloc: Global, text: &[u8], count: usize) -> bool {
+    let Ok(plan) = plan_of(alloc, &[text]) else {
+        return false;
+    };
+    plan.files() > 0 && plan.script(0).len() == count
+}
+
+/// Whether the example up to some byte reads as it should.
+fn is_cut_well(alloc: Global, text: &[u8]) -> bool {
+    let lines = lines_in(text);
+    let fault = match text.len() {
+        0 => at(Kind::BadHeader, 0, 1),
+        7 => at(Kind::MissingQueue, 0, 2),
+        _ if text.ends_with(b"\n") => return has_lines(alloc, text, lines.saturating_sub(4)),
+        _ => at(Kind::CutShort, 0, lines.saturating_add(1)),
+    };
+    have_fault(alloc, &[text], fault)
 }
 
 #[test]
-fn fault_texts(rt: HostRuntime) -> Result<(), Fail> {
+fn each_cut(rt: HostRuntime) {
     let alloc = rt.alloc();
-    for (kind, text) in [
-        (Kind::BadHeader, "28 BadHeader"),
-        (Kind::BadLine, "29 BadLine"),
-        (Kind::BadNumber, "30 BadNumber"),
-        (Kind::OutOfRange, "31 OutOfRange"),
-        (Kind::DuplicateTask, "32 DuplicateTask"),
-        (Kind::UnknownTask, "33 UnknownTask"),
-        (Kind::MomentGoesBack, "34 MomentGoesBack"),
-        (Kind::MissingQueue, "35 MissingQueue"),
-        (Kind::CutShort, "36 CutShort"),
-    ] {
-        assert_eq!(rt; format!(in alloc; "{kind}")?.as_str(), text);
+    for end in 0..=EXAMPLE.len() {
+        assert!(rt; is_cut_well(alloc, &EXAMPLE[..end]), "up to {end}");
+    }
+}
+
+/// Whether a fault is told so.
+fn is_told<D: Display + Drop>(alloc: Global, fault: D, text: &str) -> bool {
+    match format!(in alloc; "{fault}") {
+        Ok(told) => told.as_str() == text,
+        Err(AllocError) => false,
+    }
+}
+
+/// What is printed of each kind.
+const KIND_TEXTS: &[(Kind, &str)] = &[
+    (Kind::BadHeader, "28 BadHeader"),
+    (Kind::BadLine, "29 BadLine"),
+    (Kind::BadNumber, "30 BadNumber"),
+    (Kind::OutOfRange, "31 OutOfRange"),
+    (Kind::DuplicateTask, "32 DuplicateTask"),
+    (Kind::UnknownTask, "33 UnknownTask"),
+    (Kind::MomentGoesBack, "34 MomentGoesBack"),
+    (Kind::MissingQueue, "35 MissingQueue"),
+    (Kind::CutShort, "36 CutShort"),
+];
+
+#[test]
+fn fault_texts(rt: HostRuntime) {
+    let alloc = rt.alloc();
+    for (kind, text) in KIND_TEXTS {
+        assert!(rt; is_told(alloc, *kind, *text), "{text}");
     }
     let fault = TraceFault::At {
         kind: Kind::CutShort,
         file: 1,
         line: 7,
     };
-    assert_eq!(rt;
-        format!(in alloc; "{fault}")?.as_str(),
-        "36 CutShort at 1:7"
-    );
-    assert_eq!(rt;
-        format!(in alloc; "{}", TraceFault::NoMemory)?.as_str(),
-        "37 NoMemory"
-    );
-    assert_eq!(rt;
-        format!(in alloc; "{}", TextFault::NoMemory)?.as_str(),
-        "43 NoMemory"
-    );
-    Ok(())
+    assert!(rt; is_told(alloc, fault, "36 CutShort at 1:7"));
+    assert!(rt; is_told(alloc, TraceFault::NoMemory, "37 NoMemory"));
+    assert!(rt; is_told(alloc, TextFault::NoMemory, "43 NoMemory"));
 }

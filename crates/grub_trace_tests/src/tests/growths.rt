@@ -1,7 +1,7 @@
 //! What is answered where a growth is refused. Each test passes with ample memory, and with any one of its growths
 //! refused: `scripts/refused-growths.sh` runs it so once for each. What was refused once is asked for a second time.
 
-use super::texts::{EXAMPLE_LINES, are_of, example_entries, is_of};
+use super::texts::{EXAMPLE_LINES, are_of, example_entries, is_of, is_text};
 use super::*;
 use grub_book::Reading;
 use std::test::Fail;
@@ -22,72 +22,96 @@ fn read_after_all(alloc: Global, files: &[Vec<u8>]) -> Result<Plan, TraceFault> 
     }
 }
 
-fn example_plan(alloc: Global) -> Result<Plan, Fail> {
-    let files = two_files(alloc, b"grub 2\nqueue 1 0\n")?;
-    Ok(read_after_all(alloc, &files)?)
+/// The plan of the example and of a second file of this text.
+fn plan_after_all(alloc: Global, second: &[u8]) -> Result<Plan, TraceFault> {
+    read_after_all(alloc, &two_files(alloc, second)?)
 }
+
+const EMPTY_SECOND: &[u8] = b"grub 2\nqueue 1 0\n";
 
 const CLOSING: Reading = Reading {
     running: 1048576,
     this: 1048576,
 };
 
+/// Whether this is the plan of the example and of a second file of one line.
+fn is_of_both(plan: &Plan) -> bool {
+    plan.files() == 2
+        && plan.setup().has_task(1)
+        && !plan.setup().has_task(2)
+        && plan.name(1) == "T2"
+        && plan.script(0).len() == 8
+        && plan.script(1).len() == 1
+}
+
 #[test]
-fn refused_growths_of_a_reading(rt: HostRuntime) -> Result<(), Fail> {
-    let alloc = rt.alloc();
-    let files = two_files(alloc, b"grub 2\nqueue 1 0\nat 0 retune T1 1 2\n")?;
-    let plan = read_after_all(alloc, &files)?;
-    assert_eq!(rt; plan.files(), 2);
-    assert!(rt; plan.setup().has_task(1) && !plan.setup().has_task(2));
-    assert_eq!(rt; plan.name(1), "T2");
-    assert_eq!(rt; plan.script(0).len(), 8);
-    assert_eq!(rt; plan.script(1).len(), 1);
+fn refused_growths_of_a_reading(rt: HostRuntime) -> Result<(), TraceFault> {
+    let second = b"grub 2\nqueue 1 0\nat 0 retune T1 1 2\n";
+    let plan = plan_after_all(rt.alloc(), second)?;
+    assert!(rt; is_of_both(&plan));
     Ok(())
 }
 
 #[test]
-fn refused_growths_before_a_fault(rt: HostRuntime) -> Result<(), Fail> {
-    let alloc = rt.alloc();
-    let files = two_files(alloc, b"grub 1\nqueue 1 0\nat 0 retune T1 1 2\n")?;
+fn refused_growths_before_a_fault(rt: HostRuntime) {
+    let second = b"grub 1\nqueue 1 0\nat 0 retune T1 1 2\n";
     let fault = TraceFault::At {
         kind: Kind::BadLine,
         file: 1,
         line: 3,
     };
-    assert_eq!(rt; read_after_all(alloc, &files).err(), Some(fault));
-    Ok(())
+    assert!(rt; plan_after_all(rt.alloc(), second).err() == Some(fault));
+}
+
+/// Whether an entry's line is this text; it is made a second time where memory was refused once.
+fn has_line_after_all(alloc: Global, plan: &Plan, entry: &Entry, line: &[u8]) -> bool {
+    if !is_of(plan, entry.ask) {
+        return false;
+    }
+    let text = match line_of(alloc, plan, entry) {
+        Err(TextFault::NoMemory) => line_of(alloc, plan, entry),
+        text => text,
+    };
+    is_text(text, line)
 }
 
 #[test]
-fn refused_growths_of_lines(rt: HostRuntime) -> Result<(), Fail> {
+fn refused_growths_of_lines(rt: HostRuntime) -> Result<(), TraceFault> {
     let alloc = rt.alloc();
-    let plan = example_plan(alloc)?;
+    let plan = plan_after_all(alloc, EMPTY_SECOND)?;
     for (entry, line) in example_entries().iter().zip(EXAMPLE_LINES) {
-        assert!(rt; is_of(&plan, entry.ask));
-        let text = match line_of(alloc, &plan, entry) {
-            Err(TextFault::NoMemory) => line_of(alloc, &plan, entry)?,
-            Ok(text) => text,
-        };
-        assert_eq!(rt; text.as_slice(), line);
+        assert!(rt; has_line_after_all(alloc, &plan, entry, line), "{line:?}");
     }
     Ok(())
 }
 
-#[test]
-fn refused_growths_of_a_report(rt: HostRuntime) -> Result<(), Fail> {
-    let alloc = rt.alloc();
-    let plan = example_plan(alloc)?;
+/// The report of the example; its entries are taken a second time where memory was refused once.
+fn example_report(alloc: Global) -> Result<Report, AllocError> {
     let entries = match Vec::from_slice(alloc, &example_entries()) {
         Err(AllocError) => Vec::from_slice(alloc, &example_entries())?,
         Ok(entries) => entries,
     };
-    let report = Report { entries };
-    assert!(rt; are_of(&plan, &report.entries));
-    let text = match report_of(alloc, &plan, 0, &report, CLOSING) {
-        Err(TextFault::NoMemory) => report_of(alloc, &plan, 0, &report, CLOSING)?,
-        Ok(text) => text,
+    Ok(Report { entries })
+}
+
+/// Whether a report prints as this text; that is made a second time where memory was refused once.
+fn has_text_after_all(alloc: Global, plan: &Plan, report: &Report, wanted: &[u8]) -> bool {
+    if !are_of(plan, &report.entries) {
+        return false;
+    }
+    let text = match report_of(alloc, plan, 0, report, CLOSING) {
+        Err(TextFault::NoMemory) => report_of(alloc, plan, 0, report, CLOSING),
+        text => text,
     };
-    assert_eq!(rt; text.as_slice(), EXAMPLE_REPORT);
+    is_text(text, wanted)
+}
+
+#[test]
+fn refused_growths_of_a_report(rt: HostRuntime) -> Result<(), TraceFault> {
+    let alloc = rt.alloc();
+    let plan = plan_after_all(alloc, EMPTY_SECOND)?;
+    let report = example_report(alloc)?;
+    assert!(rt; has_text_after_all(alloc, &plan, &report, EXAMPLE_REPORT));
     Ok(())
 }
 
@@ -97,7 +121,7 @@ const PIECES: usize = 131072;
 /// All memory that is left, so that every growth is refused until it is dropped; none of it is written. An allocator may
 /// keep a piece that was given back for the next of its very size, so each small size is asked for. None where the
 /// allocator gives memory without end, as that of `rt try` does.
-fn all_memory(alloc: Global) -> Result<Option<Vec<Vec<u8>>>, Fail> {
+fn all_memory(alloc: Global) -> Result<Option<Vec<Vec<u8>>>, AllocError> {
     let mut pieces = Vec::with_capacity(alloc, PIECES)?;
     let mut size = usize::MAX / 65536;
     for _halving in 0..37 {
@@ -152,9 +176,7 @@ fn no_memory_is_left(rt: HostRuntime) -> Result<(), Fail> {
         file: 0,
         line: 2,
     };
-    assert_eq!(rt; read, Some(TraceFault::NoMemory));
-    assert_eq!(rt; wrong, Some(second_line));
-    assert_eq!(rt; line, Some(TextFault::NoMemory));
-    assert_eq!(rt; text, Some(TextFault::NoMemory));
+    assert!(rt; read == Some(TraceFault::NoMemory) && wrong == Some(second_line));
+    assert!(rt; line == Some(TextFault::NoMemory) && text == Some(TextFault::NoMemory));
     Ok(())
 }

@@ -1,7 +1,6 @@
 //! What files are read as.
 
 use super::*;
-use std::test::Fail;
 
 const EXAMPLE_SCRIPT: [Line; 8] = [
     Line {
@@ -39,18 +38,16 @@ const EXAMPLE_SCRIPT: [Line; 8] = [
 ];
 
 #[test]
-fn script_of_the_example(rt: HostRuntime) -> Result<(), Fail> {
-    let alloc = rt.alloc();
-    let plan = read_files(alloc, &files_of(alloc, &[EXAMPLE])?)?;
+fn script_of_the_example(rt: HostRuntime) -> Result<(), TraceFault> {
+    let plan = plan_of(rt.alloc(), &[EXAMPLE])?;
     assert_eq!(rt; plan.files(), 1);
-    assert_eq!(rt; plan.script(0), EXAMPLE_SCRIPT.as_slice());
+    assert!(rt; plan.script(0) == EXAMPLE_SCRIPT.as_slice());
     Ok(())
 }
 
 #[test]
-fn setup_of_the_example(rt: HostRuntime) -> Result<(), Fail> {
-    let alloc = rt.alloc();
-    let plan = read_files(alloc, &files_of(alloc, &[EXAMPLE])?)?;
+fn setup_of_the_example(rt: HostRuntime) -> Result<(), TraceFault> {
+    let plan = plan_of(rt.alloc(), &[EXAMPLE])?;
     let setup = plan.setup();
     assert!(rt; setup.has_queue(0) && setup.has_task(1));
     assert_eq!(rt; setup.queue(0).umax(), 1048576);
@@ -84,18 +81,13 @@ const LATE_SCRIPT: [Line; 5] = [
 
 /// Names that a later file declares stand among those that are declared, and one stands twice.
 #[test]
-fn names_of_a_later_file(rt: HostRuntime) -> Result<(), Fail> {
-    let alloc = rt.alloc();
-    let files = files_of(
-        alloc,
-        &[
-            b"grub 1\nqueue 1 0\ntask A 1 2\nat 0 join B\nat 1 join A\nat 2 run C 5\nat 3 read\nat 4 leave B\n",
-            b"grub 1\nqueue 1 0\ntask C 1 2\ntask B 1 2\n",
-        ],
-    )?;
-    let plan = read_files(alloc, &files)?;
+fn names_of_a_later_file(rt: HostRuntime) -> Result<(), TraceFault> {
+    let uses: &[u8] =
+        b"grub 1\nqueue 1 0\ntask A 1 2\nat 0 join B\nat 1 join A\nat 2 run C 5\nat 3 read\nat 4 leave B\n";
+    let declares: &[u8] = b"grub 1\nqueue 1 0\ntask C 1 2\ntask B 1 2\n";
+    let plan = plan_of(rt.alloc(), &[uses, declares])?;
     assert_eq!(rt; plan.files(), 2);
-    assert_eq!(rt; plan.script(0), LATE_SCRIPT.as_slice());
+    assert!(rt; plan.script(0) == LATE_SCRIPT.as_slice());
     assert!(rt; plan.script(1).is_empty());
     Ok(())
 }
@@ -117,16 +109,15 @@ const RETUNED_SCRIPT: [Line; 3] = [
 
 /// Files of both versions stand in one run, and a file may name a task that a later one declares.
 #[test]
-fn two_versions(rt: HostRuntime) -> Result<(), Fail> {
-    let alloc = rt.alloc();
+fn two_versions(rt: HostRuntime) -> Result<(), TraceFault> {
     let first: &[u8] =
         b"grub 2\nqueue 1048576 0\ntask A 4 8\nat 0 retune B 1 2\nat 3 leave A\nat 3 exit B\n";
     let second: &[u8] = b"grub 1\nqueue 9 5\ntask B 4 8\ntask at 16 16777216\nat 7 wake at\n";
-    let plan = read_files(alloc, &files_of(alloc, &[first, second])?)?;
+    let plan = plan_of(rt.alloc(), &[first, second])?;
     assert_eq!(rt; plan.files(), 2);
     assert!(rt; plan.setup().has_task(2));
     assert_eq!(rt; plan.name(2), "at");
-    assert_eq!(rt; plan.script(0), RETUNED_SCRIPT.as_slice());
+    assert!(rt; plan.script(0) == RETUNED_SCRIPT.as_slice());
     Ok(())
 }
 
@@ -143,12 +134,11 @@ const GREATEST_SCRIPT: [Line; 2] = [
 
 /// The greatest numbers of each kind, and the longest name.
 #[test]
-fn greatest_numbers(rt: HostRuntime) -> Result<(), Fail> {
-    let alloc = rt.alloc();
+fn greatest_numbers(rt: HostRuntime) -> Result<(), TraceFault> {
     let text: &[u8] =
         b"grub 2\nqueue 1048576 1048576\ntask aZ09_-aZ09_-aZ09 16777216 16777216\nat 0 retune aZ09_-aZ09_-aZ09 16777216 16777216\nat 2147483647 run aZ09_-aZ09_-aZ09 16777216\n";
-    let plan = read_files(alloc, &files_of(alloc, &[text])?)?;
+    let plan = plan_of(rt.alloc(), &[text])?;
     assert_eq!(rt; plan.files(), 1);
-    assert_eq!(rt; plan.script(0), GREATEST_SCRIPT.as_slice());
+    assert!(rt; plan.script(0) == GREATEST_SCRIPT.as_slice());
     Ok(())
 }
