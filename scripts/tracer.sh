@@ -62,6 +62,12 @@ run 'no such task' 1 '' 'grubtrace: trace: 49 NoSuchTask gr_9' check "${tasks[@]
 run 'no task' 2 '' 'some text' check trace
 run 'a task twice' 2 '' 'some text' check "${tasks[@]}" --task gr_0=1:10 trace
 run 'a missing trace' 3 '' 'grubtrace: missing: 46 ReadFault' tasks missing
+# A number of runqueues that is none: the fault of its line, and no work that grows with it (here 1 GB may be had).
+echo '# entries-in-buffer/entries-written: 1/1   #P:4000000000' | cat - trace > many
+program_under() { (ulimit -v 1000000 && exec "$given" "$@"); }
+given=$program program=program_under
+run 'too many runqueues' 1 '' 'grubtrace: many:1: 54 TooLong' check "${tasks[@]}" many
+program=$given
 head -c -10 trace > cut
 run 'a trace that is cut' 1 '' 'some text' tasks cut
 

@@ -32,10 +32,10 @@ told_first names cpus = record { cpus = cpus; counts = no_counts; kept = record 
 abbrev pub runqueues_told : Option ℕ → Counts → Option ℕ
 runqueues_told cpus counts = option_or cpus counts.processors
 
--- how many runqueues there are: else one more than the greatest CPU of a line, at least one
+-- how many runqueues there are: else one more than the greatest CPU of a line, at least one; 64 where a head or a CPU tells of more, which is a fault
 abbrev pub runqueues_of : Told → ℕ
 runqueues_of told =
-    unwrap_or (runqueues_told told.cpus told.counts) (unwrap_or (option_map (λ cpu. min (cpu + 1) 4294967295) told.counts.greatest_cpu) 1)
+    min (unwrap_or (runqueues_told told.cpus told.counts) (unwrap_or (option_map (λ cpu. min (cpu + 1) 4294967295) told.counts.greatest_cpu) 1)) 64
 
 abbrev pub is_start : {T : Type 0} → Event T → Bool
 is_start (Armed timer pid expires) = true

@@ -144,17 +144,19 @@ impl FactLines {
         }
     }
 
-    /// How many runqueues there are: else one more than the greatest CPU of a line, at least one.
+    /// How many runqueues there are: else one more than the greatest CPU of a line, at least one. It is 64 where a head or a
+    /// CPU tells of more, which is a fault, so that no work grows with a number that is none.
     pub(crate) fn runqueues(&self) -> u32
         ensures { result ≡ runqueues_of (told_text self.now) }
     {
-        match self.runqueues_told() {
+        let told = match self.runqueues_told() {
             Some(n) => n,
             None => match self.counts.greatest_cpu {
                 None => 1,
                 Some(cpu) => cpu.saturating_add(1),
             },
-        }
+        };
+        told.min(64)
     }
 
     /// Takes a line that begins with `#` and tells of no lost events.
