@@ -1,12 +1,12 @@
 //! The worked examples.
-ghost use Rattle.grub_table.specs.Calls.{IsPassOf};
+ghost use Rattle.grub_table.specs.Calls.{IsPassOf, IsClaimOf};
 
 use crate::tests::fixtures::{
-    A, B, Got, ask, ask_all, close_both, keep, look, make, miss, one_pass, refuse_one, setup_of,
-    take, tells, two_passes,
+    A, B, Got, ask_all, close_both, expect, keep, look, make, one_pass, refuse_one, setup_of, take,
+    tells, two_passes,
 };
 use grub_book::{Op, Reading, Reply, Setup};
-use grub_table::{CloseWhy, OpenFault, Pass, Shared, Sighting};
+use grub_table::{Claim, CloseWhy, OpenFault, Pass, Shared, Sighting};
 use std::alloc::Global;
 use std::process::Abort;
 
@@ -46,37 +46,53 @@ fn claim_on_one_task(rt: HostRuntime) {
     let first = ask_all(&rt, &shared, first, A, &asked);
     let wakes = Op::Wake { r: 0, m: 3 };
     let claim = take(&rt, &shared, first, A, wakes);
-    let (second, sighting) = miss(&rt, &shared, second, A, wakes);
-    assert_eq!(rt; sighting, Sighting::Claimed { word: 11 });
+    let claimed = Got::Busy(Sighting::Claimed { word: 11 });
+    let second = expect(&rt, &shared, second, A, wakes, 1, claimed);
     let mut second = ask_all(&rt, &shared, second, B, &[join(0, 3, 4, 11)]);
     let _ = make(&rt, &shared, claim, 1, Reply::Woken { q: 4, d: 11 });
     look(&rt, &shared, &mut second, 0, 1048576, 1048576);
 }
 
+/// A claim that is kept where no try is allowed, reads the runqueue at rest, and is cancelled.
+fn keep_and_cancel(rt: &impl Abort, shared: &Shared, claim: Claim) -> Pass
+    requires { IsClaimOf shared.now claim }
+    ensures { IsPassOf shared.now result }
+{
+    let mut claim = keep(rt, shared, claim);
+    assert!(rt; shared.has_queue(0));
+    let rest = Reading {
+        running: 0,
+        this: 0,
+    };
+    assert_eq!(rt; shared.read_held(&mut claim, 0), rest);
+    shared.cancel(claim)
+}
+
+/// A call of the task A that takes its task and is made in so many tries.
+fn take_and_make(
+    rt: &impl Abort,
+    shared: &Shared,
+    pass: Pass,
+    tries: u8,
+    asked: (Op, Reply),
+) -> Pass
+    requires { IsPassOf shared.now pass }
+    ensures { IsPassOf shared.now result }
+{
+    let (op, reply) = asked;
+    let claim = take(rt, shared, pass, A, op);
+    make(rt, shared, claim, tries, reply)
+}
+
 #[test]
 fn no_tries(rt: HostRuntime) {
     let (shared, pass) = one_pass(&rt, rt.alloc());
-    let joins = Op::Join { r: 0, m: 0 };
-    let claim = take(&rt, &shared, pass, A, joins);
-    let mut claim = keep(&rt, &shared, claim);
-    assert!(rt; shared.has_queue(0));
-    assert_eq!(rt;
-        shared.read_held(&mut claim, 0),
-        Reading {
-            running: 0,
-            this: 0
-        }
-    );
-    let mut pass = shared.cancel(claim);
+    let claim = take(&rt, &shared, pass, A, Op::Join { r: 0, m: 0 });
+    let mut pass = keep_and_cancel(&rt, &shared, claim);
     look(&rt, &shared, &mut pass, 0, 0, 0);
-    let claim = take(&rt, &shared, pass, A, joins);
-    let pass = make(&rt, &shared, claim, 1, Reply::Joined { q: 4, d: 8 });
-    let (runs, charged) = charge(2, 2, 8);
-    let claim = take(&rt, &shared, pass, A, runs);
-    let pass = make(&rt, &shared, claim, 0, charged);
-    let (blocks, waiting) = waits(2, 1, 4);
-    let claim = take(&rt, &shared, pass, A, blocks);
-    let _ = make(&rt, &shared, claim, 0, waiting);
+    let pass = take_and_make(&rt, &shared, pass, 1, join(0, 0, 4, 8));
+    let pass = take_and_make(&rt, &shared, pass, 0, charge(2, 2, 8));
+    let _ = take_and_make(&rt, &shared, pass, 0, waits(2, 1, 4));
 }
 
 #[test]
@@ -102,9 +118,9 @@ fn migration(rt: HostRuntime) {
     let _ = ask_all(&rt, &shared, first, A, &[timer(1, 4, Reply::Stale)]);
 }
 
-/// Why no table with so many passes is opened, where none is.
-fn open_fault(alloc: Global, setup: &Setup, passes: u32) -> Option<OpenFault> {
-    Shared::open(alloc, setup, passes).err()
+/// Whether a table with so many passes is opened, or refused for this reason.
+fn opens(alloc: Global, setup: &Setup, passes: u32, fault: Option<OpenFault>) -> bool {
+    Shared::open(alloc, setup, passes).err() == fault
 }
 
 #[test]
@@ -112,18 +128,9 @@ fn open_refuses(rt: HostRuntime) {
     let Some(setup) = setup_of(rt.alloc(), 1, 2) else {
         panic!(rt; "no setup")
     };
-    let cases = [
-        (0, Some(OpenFault::NoPass)),
-        (65, Some(OpenFault::TooManyPasses)),
-        (64, None),
-    ];
-    for (passes, fault) in cases {
-        assert_eq!(rt;
-            open_fault(rt.alloc(), &setup, passes),
-            fault,
-            "{passes} passes"
-        );
-    }
+    assert!(rt; opens(rt.alloc(), &setup, 0, Some(OpenFault::NoPass)));
+    assert!(rt; opens(rt.alloc(), &setup, 65, Some(OpenFault::TooManyPasses)));
+    assert!(rt; opens(rt.alloc(), &setup, 64, None));
 }
 
 #[test]
@@ -241,8 +248,8 @@ fn retunes(rt: HostRuntime) {
 #[test]
 fn retunes_and_tries(rt: HostRuntime) {
     let (shared, pass) = one_pass(&rt, rt.alloc());
-    let (pass, got) = ask(&rt, &shared, pass, B, Op::Retune { q: 2, p: 8 }, 0);
-    assert_eq!(rt; got, Got::Replied(Reply::Retuned));
+    let retuned = Got::Replied(Reply::Retuned);
+    let pass = expect(&rt, &shared, pass, B, Op::Retune { q: 2, p: 8 }, 0, retuned);
     let asked = [join(0, 0, 4, 8), block(0, Reply::Asleep)];
     let mut pass = ask_all(&rt, &shared, pass, A, &asked);
     look(&rt, &shared, &mut pass, 0, 0, 524288);

@@ -120,6 +120,24 @@ fn finished(shared: &Shared, claim: Claim, tries: u8) -> (Pass, Got)
     }
 }
 
+/// A call, and what becomes of it.
+pub(crate) fn expect(
+    rt: &impl Abort,
+    shared: &Shared,
+    pass: Pass,
+    t: u32,
+    op: Op,
+    tries: u8,
+    expected: Got,
+) -> Pass
+    requires { IsPassOf shared.now pass }
+    ensures { IsPassOf shared.now result }
+{
+    let (pass, got) = ask(rt, shared, pass, t, op, tries);
+    assert_eq!(rt; got, expected);
+    pass
+}
+
 /// Calls for one task, in order, with one try each.
 pub(crate) fn ask_all(
     rt: &impl Abort,
@@ -133,9 +151,7 @@ pub(crate) fn ask_all(
 {
     let mut pass = pass;
     for (op, reply) in asked {
-        let (back, got) = ask(rt, shared, pass, t, *op, 1);
-        assert_eq!(rt; got, Got::Replied(*reply));
-        pass = back;
+        pass = expect(rt, shared, pass, t, *op, 1, Got::Replied(*reply));
     }
     pass
 }
@@ -155,6 +171,11 @@ pub(crate) fn look(
     assert_eq!(rt; shared.read(pass, r), Reading { running, this });
 }
 
+/// Whether the claim is what such a call takes.
+fn is_for(claim: &Claim, number: u32, t: u32, op: Op) -> bool {
+    claim.number() == number && claim.task() == t && claim.op() == op
+}
+
 /// A call that takes its task.
 pub(crate) fn take(rt: &impl Abort, shared: &Shared, pass: Pass, t: u32, op: Op) -> Claim
     requires { IsPassOf shared.now pass }
@@ -164,24 +185,12 @@ pub(crate) fn take(rt: &impl Abort, shared: &Shared, pass: Pass, t: u32, op: Op)
     let number = pass.number();
     match shared.start(pass, t, op) {
         Started::Held(claim) => {
-            assert!(rt; claim.task() == t && claim.op() == op && claim.number() == number);
+            assert!(rt; is_for(&claim, number, t, op));
             claim
         }
         Started::Answered(_, _) => panic!(rt; "answered"),
         Started::Busy(_, _) => panic!(rt; "busy"),
     }
-}
-
-/// A call that finds its task busy.
-pub(crate) fn miss(rt: &impl Abort, shared: &Shared, pass: Pass, t: u32, op: Op) -> (Pass, Sighting)
-    requires { IsPassOf shared.now pass }
-    ensures { IsPassOf shared.now result.0 }
-{
-    let (pass, got) = ask(rt, shared, pass, t, op, 1);
-    let Got::Busy(sighting) = got else {
-        panic!(rt; "not busy")
-    };
-    (pass, sighting)
 }
 
 /// A claim whose call is made in so many tries.
@@ -235,6 +244,21 @@ pub(crate) fn refuse_one(
     (shared, pass)
 }
 
+/// The readings at the end.
+pub(crate) fn closed(
+    rt: &impl Abort,
+    alloc: Global,
+    shared: Shared,
+    passes: Vec<Pass>,
+) -> Vec<Reading>
+    requires { All (IsPassOf shared) passes.items }
+{
+    let Ok(readings) = shared.close(alloc, passes) else {
+        panic!(rt; "not closed")
+    };
+    readings
+}
+
 /// The reading at the end of the only runqueue.
 pub(crate) fn close_both(
     rt: &impl Abort,
@@ -249,9 +273,7 @@ pub(crate) fn close_both(
     let mut passes = Vec::new(alloc);
     put_last(rt, &shared, &mut passes, first);
     put_last(rt, &shared, &mut passes, second);
-    let Ok(readings) = shared.close(alloc, passes) else {
-        panic!(rt; "not closed")
-    };
+    let readings = closed(rt, alloc, shared, passes);
     assert!(rt; readings.len() == 1);
     readings[0]
 }

@@ -3,7 +3,7 @@ ghost use Rattle.std.specs.Prelude.{IfOk};
 ghost use Rattle.grub_table.specs.Calls.{IsPassOf};
 ghost use Rattle.std.specs.List.{All};
 
-use crate::tests::fixtures::{A, ask_all, last_pass, look, put_last, setup_of};
+use crate::tests::fixtures::{A, ask_all, closed, last_pass, look, put_last, setup_of};
 use grub_book::{Op, Reading, Reply, Setup};
 use grub_table::{CloseWhy, OpenFault, Pass, Shared};
 use std::alloc::Global;
@@ -83,10 +83,7 @@ fn close_again(rt: &impl Abort, alloc: Global, shared: Shared, passes: Vec<Pass>
 {
     let mut passes = passes;
     look_all(rt, &shared, &mut passes);
-    let Ok(readings) = shared.close(alloc, passes) else {
-        panic!(rt; "refused twice")
-    };
-    readings
+    closed(rt, alloc, shared, passes)
 }
 
 /// Closes with all passes. Where that is refused, it closes again.
