@@ -1,11 +1,48 @@
 //! The book beside the plain one, over ops without a visible order.
 
-ghost use Rattle.std.specs.Prelude.{◌≡◌};
+ghost use Rattle.std.specs.Prelude.{◌≡◌, ◌<◌, length};
+ghost use Rattle.grub_book.specs.Op.{IsOp};
 
 use crate::plain::PlainBook;
 use crate::tests::{book_of, setup_of};
-use grub_book::{Book, Op, Reply, Setup};
+use grub_book::{Book, Op, Reading, Reply, Setup};
 use std::process::Abort;
+
+/// What a book replies, and what it reads then.
+#[derive(Clone, Copy, PartialEq, Eq, Debug)]
+struct Answer {
+    reply: Reply,
+    first: Reading,
+    second: Reading,
+}
+
+fn book_answer(book: &mut Book<'_>, t: u32, op: Op) -> Answer
+    requires task { t < length book.old.setup.tasks }
+    requires fits { IsOp book.old.setup op }
+    requires queues { 1 < length book.old.setup.queues }
+    ensures { book.new.setup ≡ book.old.setup }
+{
+    let reply = book.apply(t, op);
+    Answer {
+        reply,
+        first: book.read(0),
+        second: book.read(1),
+    }
+}
+
+fn plain_answer(plain: &mut PlainBook<'_>, t: u32, op: Op) -> Answer
+    requires task { t < length plain.old.setup.tasks }
+    requires fits { IsOp plain.old.setup op }
+    requires queues { 1 < length plain.old.setup.queues }
+    ensures { plain.new.setup ≡ plain.old.setup }
+{
+    let reply = plain.apply(t, op);
+    Answer {
+        reply,
+        first: plain.read(0),
+        second: plain.read(1),
+    }
+}
 
 /// Asks both books, expects the same reply and the same readings, and gives the reply.
 fn ask_both(
@@ -21,13 +58,10 @@ fn ask_both(
     ensures book { book.new.setup ≡ setup.now }
     ensures plain { plain.new.setup ≡ setup.now }
 {
-    assert!(rt; setup.has_task(t) && op.fits(setup));
-    let reply = book.apply(t, op);
-    assert_eq!(rt; reply, plain.apply(t, op));
-    assert!(rt; setup.has_queue(0) && setup.has_queue(1));
-    assert!(rt; book.read(0) == plain.read(0));
-    assert!(rt; book.read(1) == plain.read(1));
-    reply
+    assert!(rt; setup.has_task(t) && op.fits(setup) && setup.has_queue(1));
+    let told = book_answer(book, t, op);
+    assert_eq!(rt; told, plain_answer(plain, t, op));
+    told.reply
 }
 
 /// The next of a row of numbers without a visible order.

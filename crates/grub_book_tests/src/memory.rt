@@ -2,7 +2,7 @@
 
 ghost use Rattle.std.specs.Prelude.{◌≡◌, IfOk};
 
-use crate::tests::{go, joins, look, looks, setup_of, walk};
+use crate::tests::{expect, go, joins, look, looks, setup_of, walk};
 use grub_book::{Book, BookFault, CheckFault, Event, Op, Reply, Setup, check};
 use grub_bw::{Params, Queue};
 use std::alloc::{AllocError, Global};
@@ -45,9 +45,11 @@ fn all_memory(rt: &impl Abort, alloc: Global) -> Option<Vec<Vec<u8>>> {
     Some(pieces)
 }
 
-/// What is answered for a book, and for a history without events.
-fn answers(alloc: Global, setup: &Setup) -> (Option<BookFault>, Result<(), CheckFault>) {
-    (Book::new(alloc, setup).err(), check(alloc, setup, &[]))
+/// Whether a book, and the check of a history without events, are refused their memory.
+fn are_refused(alloc: Global, setup: &Setup) -> bool {
+    let book = Book::new(alloc, setup).err();
+    let checked = check(alloc, setup, &[]);
+    book == Some(BookFault::NoMemory) && checked == Err(CheckFault::NoMemory)
 }
 
 #[test]
@@ -56,10 +58,9 @@ fn no_memory_is_left(rt: HostRuntime) {
     let Some(held_back) = all_memory(&rt, rt.alloc()) else {
         return;
     };
-    let (book, checked) = answers(rt.alloc(), &setup);
+    let refused = are_refused(rt.alloc(), &setup);
     drop(held_back);
-    assert_eq!(rt; book, Some(BookFault::NoMemory));
-    assert_eq!(rt; checked, Err(CheckFault::NoMemory));
+    assert!(rt; refused);
 }
 
 /// A book, which is made a second time where memory was refused once.
@@ -70,6 +71,14 @@ fn book_after_all<'a>(alloc: Global, setup: &'a Setup) -> Result<Book<'a>, BookF
         Err(BookFault::NoMemory) => Book::new(alloc, setup),
         made => made,
     }
+}
+
+/// A book of these five runqueues reads the last one at rest.
+fn read_after_all(rt: &impl Abort, alloc: Global, setup: &Setup) {
+    let Ok(mut book) = book_after_all(alloc, setup) else {
+        panic!(rt; "no book")
+    };
+    go(rt, &mut book, setup, &[look(4, 0, 0)]);
 }
 
 /// What `check` answers, which is asked a second time where memory was refused once.
@@ -118,14 +127,12 @@ fn call(task: u32, op: Op, reply: Reply) -> Event {
 #[test]
 fn refused_growths(rt: HostRuntime) {
     let setup = setup_after_all(&rt, rt.alloc());
-    let Ok(mut book) = book_after_all(rt.alloc(), &setup) else {
-        panic!(rt; "no book")
-    };
-    go(&rt, &mut book, &setup, &[look(4, 0, 0)]);
+    read_after_all(&rt, rt.alloc(), &setup);
     let events = [joins(4), joins(5)];
-    assert_eq!(rt; check_after_all(rt.alloc(), &setup, &events[..1]), Ok(()));
-    let wrong = Err(CheckFault::WrongReply(1));
-    assert_eq!(rt; check_after_all(rt.alloc(), &setup, &events), wrong);
+    let right = check_after_all(rt.alloc(), &setup, &events[..1]);
+    let wrong = check_after_all(rt.alloc(), &setup, &events);
+    assert_eq!(rt; right, Ok(()));
+    assert_eq!(rt; wrong, Err(CheckFault::WrongReply(1)));
 }
 
 /// A history is right, and with one more event it is wrong at this place.
@@ -138,12 +145,12 @@ fn check_both(
     place: usize,
 ) {
     let mut events = events;
-    assert_eq!(rt; check(alloc, setup, &events), Ok(()));
+    expect(rt, alloc, setup, &events, Ok(()));
     let Ok(()) = events.push(more) else {
         panic!(rt; "no memory")
     };
     let wrong = Err(CheckFault::WrongReply(place));
-    assert_eq!(rt; check(alloc, setup, &events), wrong);
+    expect(rt, alloc, setup, &events, wrong);
 }
 
 /// Four tasks join each runqueue, and each is read.
