@@ -50,7 +50,6 @@ pub(crate) fn last_pass(rt: &impl Abort, shared: &Shared, passes: &mut Vec<Pass>
     ensures pass { IsPassOf shared.now result }
     ensures others { All (IsPassOf shared.now) passes.new.items }
 {
-    let _ = shared;
     let Some(pass) = passes.pop() else {
         panic!(rt; "no pass")
     };
@@ -63,7 +62,6 @@ pub(crate) fn put_last(rt: &impl Abort, shared: &Shared, passes: &mut Vec<Pass>,
     requires pass { IsPassOf shared.now pass }
     ensures { All (IsPassOf shared.now) passes.new.items }
 {
-    let _ = shared;
     let Ok(()) = passes.push(pass) else {
         panic!(rt; "no room for a pass")
     };
@@ -188,8 +186,7 @@ pub(crate) fn take(rt: &impl Abort, shared: &Shared, pass: Pass, t: u32, op: Op)
             assert!(rt; is_for(&claim, number, t, op));
             claim
         }
-        Started::Answered(_, _) => panic!(rt; "answered"),
-        Started::Busy(_, _) => panic!(rt; "busy"),
+        Started::Answered(_, _) | Started::Busy(_, _) => panic!(rt; "not taken"),
     }
 }
 
