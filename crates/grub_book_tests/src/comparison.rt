@@ -9,7 +9,7 @@ use grub_book::{Book, Op, Reading, Reply, Setup};
 use std::process::Abort;
 
 /// What a book replies, and what it reads then.
-#[derive(Clone, Copy, PartialEq, Eq, Debug)]
+#[derive(Clone, Copy, PartialEq, Eq)]
 struct Answer {
     reply: Reply,
     first: Reading,
@@ -60,7 +60,7 @@ fn ask_both(
 {
     assert!(rt; setup.has_task(t) && op.fits(setup) && setup.has_queue(1));
     let told = book_answer(book, t, op);
-    assert_eq!(rt; told, plain_answer(plain, t, op));
+    assert!(rt; told == plain_answer(plain, t, op), "{op:?} of {t}");
     told.reply
 }
 
