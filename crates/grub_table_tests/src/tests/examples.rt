@@ -8,6 +8,7 @@ use crate::tests::fixtures::{
 use grub_book::{Op, Reading, Reply, Setup};
 use grub_table::{Claim, CloseWhy, OpenFault, Pass, Shared, Sighting};
 use std::alloc::Global;
+use std::fmt;
 use std::process::Abort;
 
 fn join(r: u32, m: u32, q: u32, d: u32) -> (Op, Reply) {
@@ -133,23 +134,18 @@ fn open_refuses(rt: HostRuntime) {
     assert!(rt; opens(rt.alloc(), &setup, 64, None));
 }
 
+fn expect_text<F: fmt::Display>(rt: &impl Abort, alloc: Global, fault: &F, text: &str) {
+    assert!(rt; tells(alloc, fault, text), "{text}");
+}
+
 #[test]
 fn fault_texts(rt: HostRuntime) {
-    let opening = [
-        (OpenFault::NoPass, "23 NoPass"),
-        (OpenFault::TooManyPasses, "24 TooManyPasses"),
-        (OpenFault::NoMemory, "25 NoMemory"),
-    ];
-    for (fault, text) in opening {
-        assert!(rt; tells(rt.alloc(), &fault, text), "{text}");
-    }
-    let closing = [
-        (CloseWhy::Missing(64), "26 Missing(64)"),
-        (CloseWhy::NoMemory, "42 NoMemory"),
-    ];
-    for (why, text) in closing {
-        assert!(rt; tells(rt.alloc(), &why, text), "{text}");
-    }
+    let alloc = rt.alloc();
+    expect_text(&rt, alloc, &OpenFault::NoPass, "23 NoPass");
+    expect_text(&rt, alloc, &OpenFault::TooManyPasses, "24 TooManyPasses");
+    expect_text(&rt, alloc, &OpenFault::NoMemory, "25 NoMemory");
+    expect_text(&rt, alloc, &CloseWhy::Missing(64), "26 Missing(64)");
+    expect_text(&rt, alloc, &CloseWhy::NoMemory, "42 NoMemory");
 }
 
 /// Closes with both passes, after which the runqueue is as at the beginning.

@@ -151,24 +151,24 @@ fn run_both<R: Threads + Wait + Abort + Sync>(
             ensures { IsPassOf shared.entry.now result.0.pass
                 × IsPassOf shared.entry.now result.1.pass }
         {
-            let Ok(one) = scope.spawn_with(
-                OfTable { shared },
-                move || -> Ran
-                    requires { IsPassOf shared.now first }
-                    ensures { IsPassOf shared.entry.now result.pass }
-                { run(rt, shared, first, A, t == A) },
-            ) else {
-                panic!(rt; "no first thread")
-            };
-            let Ok(other) = scope.spawn_with(
-                OfTable { shared },
-                move || -> Ran
-                    requires { IsPassOf shared.now second }
-                    ensures { IsPassOf shared.entry.now result.pass }
-                { run(rt, shared, second, t, t == A) },
-            ) else {
-                panic!(rt; "no second thread")
-            };
+            let one = scope
+                .spawn_with(
+                    OfTable { shared },
+                    move || -> Ran
+                        requires { IsPassOf shared.now first }
+                        ensures { IsPassOf shared.entry.now result.pass }
+                    { run(rt, shared, first, A, t == A) },
+                )
+                .expect(rt, "the first thread");
+            let other = scope
+                .spawn_with(
+                    OfTable { shared },
+                    move || -> Ran
+                        requires { IsPassOf shared.now second }
+                        ensures { IsPassOf shared.entry.now result.pass }
+                    { run(rt, shared, second, t, t == A) },
+                )
+                .expect(rt, "the second thread");
             (one.join(rt), other.join(rt))
         },
     )
