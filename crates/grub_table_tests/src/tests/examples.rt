@@ -1,11 +1,15 @@
 //! The worked examples.
+ghost use Rattle.grub_table.specs.Calls.{IsPassOf, IsClaimOf};
 
 use crate::tests::fixtures::{
-    A, B, Got, ask, ask_all, keep, look, make, miss, one_pass, refuse, setup_of, take, two_passes,
+    A, B, Got, ask_all, close_both, expect, keep, look, make, one_pass, refuse_one, setup_of, take,
+    tells, two_passes,
 };
-use grub_book::{Op, Reading, Reply};
-use grub_table::{CloseWhy, OpenFault, Shared, Sighting};
-use std::test::Fail;
+use grub_book::{Op, Reading, Reply, Setup};
+use grub_table::{Claim, CloseWhy, OpenFault, Pass, Shared, Sighting};
+use std::alloc::Global;
+use std::fmt;
+use std::process::Abort;
 
 fn join(r: u32, m: u32, q: u32, d: u32) -> (Op, Reply) {
     (Op::Join { r, m }, Reply::Joined { q, d })
@@ -37,62 +41,71 @@ fn retune(q: u32, p: u32, reply: Reply) -> (Op, Reply) {
 }
 
 #[test]
-fn claim_on_one_task(rt: HostRuntime) -> Result<(), Fail> {
-    let setup = setup_of(rt.alloc(), 1)?;
-    let (shared, first, second) = two_passes(&rt, rt.alloc(), &setup);
+fn claim_on_one_task(rt: HostRuntime) {
+    let (shared, first, second) = two_passes(&rt, rt.alloc(), 1);
     let asked = [join(0, 0, 4, 8), block(0, Reply::Asleep)];
     let first = ask_all(&rt, &shared, first, A, &asked);
     let wakes = Op::Wake { r: 0, m: 3 };
     let claim = take(&rt, &shared, first, A, wakes);
-    let (second, sighting) = miss(&rt, &shared, second, A, wakes);
-    assert_eq!(rt; sighting, Sighting::Claimed { word: 11 });
+    let claimed = Got::Busy(Sighting::Claimed { word: 11 });
+    let second = expect(&rt, &shared, second, A, wakes, 1, claimed);
     let mut second = ask_all(&rt, &shared, second, B, &[join(0, 3, 4, 11)]);
     let _ = make(&rt, &shared, claim, 1, Reply::Woken { q: 4, d: 11 });
     look(&rt, &shared, &mut second, 0, 1048576, 1048576);
-    Ok(())
 }
 
-#[test]
-fn no_tries(rt: HostRuntime) -> Result<(), Fail> {
-    let setup = setup_of(rt.alloc(), 1)?;
-    let (shared, pass) = one_pass(&rt, rt.alloc(), &setup);
-    let joins = Op::Join { r: 0, m: 0 };
-    let claim = take(&rt, &shared, pass, A, joins);
-    let mut claim = keep(&rt, &shared, claim);
+/// A claim that is kept where no try is allowed, reads the runqueue at rest, and is cancelled.
+fn keep_and_cancel(rt: &impl Abort, shared: &Shared, claim: Claim) -> Pass
+    requires { IsClaimOf shared.now claim }
+    ensures { IsPassOf shared.now result }
+{
+    let mut claim = keep(rt, shared, claim);
     assert!(rt; shared.has_queue(0));
-    assert_eq!(rt;
-        shared.read_held(&mut claim, 0),
-        Reading {
-            running: 0,
-            this: 0
-        }
-    );
-    let mut pass = shared.cancel(claim);
-    look(&rt, &shared, &mut pass, 0, 0, 0);
-    let claim = take(&rt, &shared, pass, A, joins);
-    let pass = make(&rt, &shared, claim, 1, Reply::Joined { q: 4, d: 8 });
-    let (runs, charged) = charge(2, 2, 8);
-    let claim = take(&rt, &shared, pass, A, runs);
-    let pass = make(&rt, &shared, claim, 0, charged);
-    let (blocks, waiting) = waits(2, 1, 4);
-    let claim = take(&rt, &shared, pass, A, blocks);
-    let _ = make(&rt, &shared, claim, 0, waiting);
-    Ok(())
+    let rest = Reading {
+        running: 0,
+        this: 0,
+    };
+    assert_eq!(rt; shared.read_held(&mut claim, 0), rest);
+    shared.cancel(claim)
+}
+
+/// A call of the task A that takes its task and is made in so many tries.
+fn take_and_make(
+    rt: &impl Abort,
+    shared: &Shared,
+    pass: Pass,
+    tries: u8,
+    asked: (Op, Reply),
+) -> Pass
+    requires { IsPassOf shared.now pass }
+    ensures { IsPassOf shared.now result }
+{
+    let (op, reply) = asked;
+    let claim = take(rt, shared, pass, A, op);
+    make(rt, shared, claim, tries, reply)
 }
 
 #[test]
-fn own_reading(rt: HostRuntime) -> Result<(), Fail> {
-    let setup = setup_of(rt.alloc(), 1)?;
-    let (shared, pass) = one_pass(&rt, rt.alloc(), &setup);
+fn no_tries(rt: HostRuntime) {
+    let (shared, pass) = one_pass(&rt, rt.alloc());
+    let claim = take(&rt, &shared, pass, A, Op::Join { r: 0, m: 0 });
+    let mut pass = keep_and_cancel(&rt, &shared, claim);
+    look(&rt, &shared, &mut pass, 0, 0, 0);
+    let pass = take_and_make(&rt, &shared, pass, 1, join(0, 0, 4, 8));
+    let pass = take_and_make(&rt, &shared, pass, 0, charge(2, 2, 8));
+    let _ = take_and_make(&rt, &shared, pass, 0, waits(2, 1, 4));
+}
+
+#[test]
+fn own_reading(rt: HostRuntime) {
+    let (shared, pass) = one_pass(&rt, rt.alloc());
     let mut pass = ask_all(&rt, &shared, pass, A, &[join(0, 0, 4, 8)]);
     look(&rt, &shared, &mut pass, 0, 524288, 524288);
-    Ok(())
 }
 
 #[test]
-fn migration(rt: HostRuntime) -> Result<(), Fail> {
-    let setup = setup_of(rt.alloc(), 2)?;
-    let (shared, first, second) = two_passes(&rt, rt.alloc(), &setup);
+fn migration(rt: HostRuntime) {
+    let (shared, first, second) = two_passes(&rt, rt.alloc(), 2);
     let asked = [join(0, 0, 4, 8), charge(2, 2, 8), waits(2, 1, 4)];
     let first = ask_all(&rt, &shared, first, A, &asked);
     let moves = [
@@ -104,104 +117,71 @@ fn migration(rt: HostRuntime) -> Result<(), Fail> {
     look(&rt, &shared, &mut second, 0, 0, 0);
     look(&rt, &shared, &mut second, 1, 524288, 524288);
     let _ = ask_all(&rt, &shared, first, A, &[timer(1, 4, Reply::Stale)]);
-    Ok(())
+}
+
+/// Whether a table with so many passes is opened, or refused for this reason.
+fn opens(alloc: Global, setup: &Setup, passes: u32, fault: Option<OpenFault>) -> bool {
+    Shared::open(alloc, setup, passes).err() == fault
 }
 
 #[test]
-fn open_refuses(rt: HostRuntime) -> Result<(), Fail> {
-    let setup = setup_of(rt.alloc(), 1)?;
-    let none = Shared::open(rt.alloc(), &setup, 0);
-    assert!(rt; matches!(none, Err(OpenFault::NoPass)));
-    let many = Shared::open(rt.alloc(), &setup, 65);
-    assert!(rt; matches!(many, Err(OpenFault::TooManyPasses)));
-    let most = Shared::open(rt.alloc(), &setup, 64);
-    assert!(rt; most.is_ok());
-    Ok(())
+fn open_refuses(rt: HostRuntime) {
+    let Some(setup) = setup_of(rt.alloc(), 1, 2) else {
+        panic!(rt; "no setup")
+    };
+    assert!(rt; opens(rt.alloc(), &setup, 0, Some(OpenFault::NoPass)));
+    assert!(rt; opens(rt.alloc(), &setup, 65, Some(OpenFault::TooManyPasses)));
+    assert!(rt; opens(rt.alloc(), &setup, 64, None));
+}
+
+fn expect_text<F: fmt::Display>(rt: &impl Abort, alloc: Global, fault: &F, text: &str) {
+    assert!(rt; tells(alloc, fault, text), "{text}");
 }
 
 #[test]
-fn fault_texts(rt: HostRuntime) -> Result<(), Fail> {
+fn fault_texts(rt: HostRuntime) {
     let alloc = rt.alloc();
-    let texts = [
-        (format!(in alloc; "{}", OpenFault::NoPass)?, "23 NoPass"),
-        (
-            format!(in alloc; "{}", OpenFault::TooManyPasses)?,
-            "24 TooManyPasses",
-        ),
-        (format!(in alloc; "{}", OpenFault::NoMemory)?, "25 NoMemory"),
-        (
-            format!(in alloc; "{}", CloseWhy::Missing(64))?,
-            "26 Missing(64)",
-        ),
-        (format!(in alloc; "{}", CloseWhy::NoMemory)?, "42 NoMemory"),
-    ];
-    for (text, line) in &texts {
-        assert_eq!(rt; text.as_str(), *line);
-    }
-    Ok(())
+    expect_text(&rt, alloc, &OpenFault::NoPass, "23 NoPass");
+    expect_text(&rt, alloc, &OpenFault::TooManyPasses, "24 TooManyPasses");
+    expect_text(&rt, alloc, &OpenFault::NoMemory, "25 NoMemory");
+    expect_text(&rt, alloc, &CloseWhy::Missing(64), "26 Missing(64)");
+    expect_text(&rt, alloc, &CloseWhy::NoMemory, "42 NoMemory");
+}
+
+/// Closes with both passes, after which the runqueue is as at the beginning.
+fn close_at_rest(rt: &impl Abort, alloc: Global, shared: Shared, one: Pass, other: Pass)
+    requires one { IsPassOf shared one }
+    requires other { IsPassOf shared other }
+{
+    let rest = Reading {
+        running: 0,
+        this: 0,
+    };
+    assert_eq!(rt; close_both(rt, alloc, shared, one, other), rest);
 }
 
 #[test]
-fn open_meet_close(rt: HostRuntime) -> Result<(), Fail> {
-    let setup = setup_of(rt.alloc(), 1)?;
-    let (shared, first, second) = two_passes(&rt, rt.alloc(), &setup);
+fn open_meet_close(rt: HostRuntime) {
+    let (shared, first, second) = two_passes(&rt, rt.alloc(), 1);
     let (mut first, second) = shared.meet(first, second);
     assert!(rt; first.number() == 0 && second.number() == 1);
     look(&rt, &shared, &mut first, 0, 0, 0);
-    let mut passes = Vec::new(rt.alloc());
-    passes.push(first)?;
-    let fault = refuse(&rt, rt.alloc(), shared, passes);
-    assert_eq!(rt; fault.why, CloseWhy::Missing(1));
-    let told = format!(in rt.alloc(); "{fault}")?;
-    assert_eq!(rt; told.as_str(), "26 Missing(1)");
-    let mut passes = fault.passes;
-    assert!(rt; passes.len() == 1 && passes[0].number() == 0);
-    passes.push(second)?;
-    let Ok(readings) = fault.shared.close(rt.alloc(), passes) else {
-        panic!(rt; "not closed")
-    };
-    assert!(rt; readings.len() == 1);
-    assert_eq!(rt;
-        readings[0],
-        Reading {
-            running: 0,
-            this: 0
-        }
-    );
-    Ok(())
+    let (shared, first) = refuse_one(&rt, rt.alloc(), shared, first, 0);
+    close_at_rest(&rt, rt.alloc(), shared, first, second);
 }
 
 #[test]
-fn close_with_a_claim_out(rt: HostRuntime) -> Result<(), Fail> {
-    let setup = setup_of(rt.alloc(), 1)?;
-    let (shared, first, second) = two_passes(&rt, rt.alloc(), &setup);
-    let mut passes = Vec::new(rt.alloc());
-    passes.push(second)?;
+fn close_with_a_claim_out(rt: HostRuntime) {
+    let (shared, first, second) = two_passes(&rt, rt.alloc(), 1);
     let claim = take(&rt, &shared, first, A, Op::Join { r: 0, m: 0 });
-    let fault = refuse(&rt, rt.alloc(), shared, passes);
-    assert_eq!(rt; fault.why, CloseWhy::Missing(1));
-    let shared = fault.shared;
+    let (shared, second) = refuse_one(&rt, rt.alloc(), shared, second, 1);
     let first = shared.cancel(claim);
-    let mut passes = fault.passes;
-    assert!(rt; passes.len() == 1 && passes[0].number() == 1);
-    passes.push(first)?;
-    let Ok(readings) = shared.close(rt.alloc(), passes) else {
-        panic!(rt; "not closed")
-    };
-    assert_eq!(rt;
-        readings[0],
-        Reading {
-            running: 0,
-            this: 0
-        }
-    );
-    Ok(())
+    close_at_rest(&rt, rt.alloc(), shared, second, first);
 }
 
 #[test]
-fn tickets(rt: HostRuntime) -> Result<(), Fail> {
-    let setup = setup_of(rt.alloc(), 1)?;
-    let (shared, pass) = one_pass(&rt, rt.alloc(), &setup);
+fn tickets(rt: HostRuntime) {
+    let (shared, pass) = one_pass(&rt, rt.alloc());
     let asked = [
         join(0, 0, 4, 8),
         charge(2, 2, 8),
@@ -215,13 +195,11 @@ fn tickets(rt: HostRuntime) -> Result<(), Fail> {
         timer(2, 6, Reply::Stale),
     ];
     let _ = ask_all(&rt, &shared, pass, A, &asked);
-    Ok(())
 }
 
 #[test]
-fn retunes(rt: HostRuntime) -> Result<(), Fail> {
-    let setup = setup_of(rt.alloc(), 1)?;
-    let (shared, pass) = one_pass(&rt, rt.alloc(), &setup);
+fn retunes(rt: HostRuntime) {
+    let (shared, pass) = one_pass(&rt, rt.alloc());
     let done = Reply::Retuned;
     let mut pass = ask_all(
         &rt,
@@ -261,15 +239,13 @@ fn retunes(rt: HostRuntime) -> Result<(), Fail> {
         retune(1, 1, Reply::Gone),
     ];
     let _ = ask_all(&rt, &shared, pass, B, &asked);
-    Ok(())
 }
 
 #[test]
-fn retunes_and_tries(rt: HostRuntime) -> Result<(), Fail> {
-    let setup = setup_of(rt.alloc(), 1)?;
-    let (shared, pass) = one_pass(&rt, rt.alloc(), &setup);
-    let (pass, got) = ask(&rt, &shared, pass, B, Op::Retune { q: 2, p: 8 }, 0);
-    assert_eq!(rt; got, Got::Replied(Reply::Retuned));
+fn retunes_and_tries(rt: HostRuntime) {
+    let (shared, pass) = one_pass(&rt, rt.alloc());
+    let retuned = Got::Replied(Reply::Retuned);
+    let pass = expect(&rt, &shared, pass, B, Op::Retune { q: 2, p: 8 }, 0, retuned);
     let asked = [join(0, 0, 4, 8), block(0, Reply::Asleep)];
     let mut pass = ask_all(&rt, &shared, pass, A, &asked);
     look(&rt, &shared, &mut pass, 0, 0, 524288);
@@ -277,5 +253,4 @@ fn retunes_and_tries(rt: HostRuntime) -> Result<(), Fail> {
     let claim = keep(&rt, &shared, claim);
     let mut pass = make(&rt, &shared, claim, 1, Reply::Retuned);
     look(&rt, &shared, &mut pass, 0, 0, 524288);
-    Ok(())
 }

@@ -1,14 +1,14 @@
 //! Tables and calls for the tests.
-ghost use Rattle.std.specs.Prelude.{◌<◌};
+ghost use Rattle.std.specs.Prelude.{◌≡◌, ◌<◌};
 ghost use Rattle.std.specs.List.{All};
-ghost use Rattle.grub_table.specs.Calls.{IsPassOf, IsClaimOf, IsRefusal};
+ghost use Rattle.grub_table.specs.Calls.{IsPassOf, IsClaimOf};
 
 use grub_book::{Op, Reading, Reply, Setup};
 use grub_bw::{Params, Queue};
-use grub_table::{Claim, CloseFault, Finished, Pass, Shared, Sighting, Started};
+use grub_table::{Claim, CloseWhy, Finished, Pass, Shared, Sighting, Started};
 use std::alloc::Global;
+use std::fmt;
 use std::process::Abort;
-use std::test::Fail;
 
 pub(crate) const A: u32 = 0;
 
@@ -22,42 +22,68 @@ pub(crate) enum Got {
     Lost,
 }
 
-/// Runqueues of a whole processor, and two tasks of 4/8.
-pub(crate) fn setup_of(alloc: Global, queues: usize) -> Result<Setup, Fail> {
-    let queue = Queue::new(1048576, 0)?;
-    let task = Params::new(4, 8)?;
-    let queues = vec![in alloc; queue; queues]?;
-    let tasks = vec![in alloc; task; 2]?;
-    Ok(Setup::new(queues, tasks)?)
+/// Runqueues of a whole processor, and tasks of 4/8, where the allocator gives room for them.
+pub(crate) fn setup_of(alloc: Global, queues: u32, tasks: u32) -> Option<Setup> {
+    let queue = Queue::new(1048576, 0).ok()?;
+    let task = Params::new(4, 8).ok()?;
+    let queues = vec![in alloc; queue; queues as usize].ok()?;
+    let tasks = vec![in alloc; task; tasks as usize].ok()?;
+    Setup::new(queues, tasks).ok()
 }
 
-/// A table with one pass.
-pub(crate) fn one_pass(rt: &impl Abort, alloc: Global, setup: &Setup) -> (Shared, Pass)
-    ensures { IsPassOf result.0 result.1 }
+/// A table of so many runqueues and two tasks, with its passes.
+fn opened(rt: &impl Abort, alloc: Global, queues: u32, passes: u32) -> (Shared, Vec<Pass>)
+    ensures { All (IsPassOf result.0) result.1.items }
 {
-    let Ok((shared, mut passes)) = Shared::open(alloc, setup, 1) else {
+    let Some(setup) = setup_of(alloc, queues, 2) else {
+        panic!(rt; "no setup")
+    };
+    let Ok(opened) = Shared::open(alloc, &setup, passes) else {
         panic!(rt; "not opened")
     };
+    opened
+}
+
+/// The last pass, which leaves the others.
+pub(crate) fn last_pass(rt: &impl Abort, shared: &Shared, passes: &mut Vec<Pass>) -> Pass
+    requires { All (IsPassOf shared.now) passes.old.items }
+    ensures pass { IsPassOf shared.now result }
+    ensures others { All (IsPassOf shared.now) passes.new.items }
+{
     let Some(pass) = passes.pop() else {
         panic!(rt; "no pass")
     };
+    pass
+}
+
+/// The pass is put behind the others.
+pub(crate) fn put_last(rt: &impl Abort, shared: &Shared, passes: &mut Vec<Pass>, pass: Pass)
+    requires passes { All (IsPassOf shared.now) passes.old.items }
+    requires pass { IsPassOf shared.now pass }
+    ensures { All (IsPassOf shared.now) passes.new.items }
+{
+    let Ok(()) = passes.push(pass) else {
+        panic!(rt; "no room for a pass")
+    };
+}
+
+/// A table with one pass.
+pub(crate) fn one_pass(rt: &impl Abort, alloc: Global) -> (Shared, Pass)
+    ensures { IsPassOf result.0 result.1 }
+{
+    let (shared, mut passes) = opened(rt, alloc, 1, 1);
+    let pass = last_pass(rt, &shared, &mut passes);
     (shared, pass)
 }
 
 /// A table with two passes.
-pub(crate) fn two_passes(rt: &impl Abort, alloc: Global, setup: &Setup) -> (Shared, Pass, Pass)
+pub(crate) fn two_passes(rt: &impl Abort, alloc: Global, queues: u32) -> (Shared, Pass, Pass)
     ensures first { IsPassOf result.0 result.1 }
     ensures second { IsPassOf result.0 result.2 }
 {
-    let Ok((shared, mut passes)) = Shared::open(alloc, setup, 2) else {
-        panic!(rt; "not opened")
-    };
-    let Some(second) = passes.pop() else {
-        panic!(rt; "no pass")
-    };
-    let Some(first) = passes.pop() else {
-        panic!(rt; "one pass")
-    };
+    let (shared, mut passes) = opened(rt, alloc, queues, 2);
+    let second = last_pass(rt, &shared, &mut passes);
+    let first = last_pass(rt, &shared, &mut passes);
     assert!(rt; passes.is_empty() && first.number() == 0 && second.number() == 1);
     (shared, first, second)
 }
@@ -92,6 +118,24 @@ fn finished(shared: &Shared, claim: Claim, tries: u8) -> (Pass, Got)
     }
 }
 
+/// A call, and what becomes of it.
+pub(crate) fn expect(
+    rt: &impl Abort,
+    shared: &Shared,
+    pass: Pass,
+    t: u32,
+    op: Op,
+    tries: u8,
+    expected: Got,
+) -> Pass
+    requires { IsPassOf shared.now pass }
+    ensures { IsPassOf shared.now result }
+{
+    let (pass, got) = ask(rt, shared, pass, t, op, tries);
+    assert_eq!(rt; got, expected);
+    pass
+}
+
 /// Calls for one task, in order, with one try each.
 pub(crate) fn ask_all(
     rt: &impl Abort,
@@ -105,9 +149,7 @@ pub(crate) fn ask_all(
 {
     let mut pass = pass;
     for (op, reply) in asked {
-        let (back, got) = ask(rt, shared, pass, t, *op, 1);
-        assert_eq!(rt; got, Got::Replied(*reply));
-        pass = back;
+        pass = expect(rt, shared, pass, t, *op, 1, Got::Replied(*reply));
     }
     pass
 }
@@ -127,6 +169,11 @@ pub(crate) fn look(
     assert_eq!(rt; shared.read(pass, r), Reading { running, this });
 }
 
+/// Whether the claim is what such a call takes.
+fn is_for(claim: &Claim, number: u32, t: u32, op: Op) -> bool {
+    claim.number() == number && claim.task() == t && claim.op() == op
+}
+
 /// A call that takes its task.
 pub(crate) fn take(rt: &impl Abort, shared: &Shared, pass: Pass, t: u32, op: Op) -> Claim
     requires { IsPassOf shared.now pass }
@@ -136,24 +183,11 @@ pub(crate) fn take(rt: &impl Abort, shared: &Shared, pass: Pass, t: u32, op: Op)
     let number = pass.number();
     match shared.start(pass, t, op) {
         Started::Held(claim) => {
-            assert!(rt; claim.task() == t && claim.op() == op && claim.number() == number);
+            assert!(rt; is_for(&claim, number, t, op));
             claim
         }
-        Started::Answered(_, _) => panic!(rt; "answered"),
-        Started::Busy(_, _) => panic!(rt; "busy"),
+        Started::Answered(_, _) | Started::Busy(_, _) => panic!(rt; "not taken"),
     }
-}
-
-/// A call that finds its task busy.
-pub(crate) fn miss(rt: &impl Abort, shared: &Shared, pass: Pass, t: u32, op: Op) -> (Pass, Sighting)
-    requires { IsPassOf shared.now pass }
-    ensures { IsPassOf shared.now result.0 }
-{
-    let (pass, got) = ask(rt, shared, pass, t, op, 1);
-    let Got::Busy(sighting) = got else {
-        panic!(rt; "not busy")
-    };
-    (pass, sighting)
 }
 
 /// A claim whose call is made in so many tries.
@@ -177,38 +211,66 @@ pub(crate) fn keep(rt: &impl Abort, shared: &Shared, claim: Claim) -> Claim
     }
 }
 
-/// A close that is refused.
-pub(crate) fn refuse(
+/// Whether this is the text of a fault.
+pub(crate) fn tells<F: fmt::Display>(alloc: Global, fault: &F, text: &str) -> bool {
+    format!(in alloc; "{fault}").is_ok_and(|told| told.as_str() == text)
+}
+
+/// A close with one pass of two, of this number, which is refused and gives all back.
+pub(crate) fn refuse_one(
+    rt: &impl Abort,
+    alloc: Global,
+    shared: Shared,
+    pass: Pass,
+    number: u32,
+) -> (Shared, Pass)
+    requires { IsPassOf shared pass }
+    ensures shared { result.0 ≡ shared }
+    ensures pass { IsPassOf shared result.1 }
+{
+    let mut passes = Vec::new(alloc);
+    put_last(rt, &shared, &mut passes, pass);
+    let Err(fault) = shared.close(alloc, passes) else {
+        panic!(rt; "closed")
+    };
+    assert!(rt; fault.why == CloseWhy::Missing(1) && tells(alloc, &fault, "26 Missing(1)"));
+    let shared = fault.shared;
+    let mut passes = fault.passes;
+    let pass = last_pass(rt, &shared, &mut passes);
+    assert!(rt; passes.is_empty() && pass.number() == number);
+    (shared, pass)
+}
+
+/// The readings at the end.
+pub(crate) fn closed(
     rt: &impl Abort,
     alloc: Global,
     shared: Shared,
     passes: Vec<Pass>,
-) -> CloseFault
+) -> Vec<Reading>
     requires { All (IsPassOf shared) passes.items }
-    ensures { IsRefusal shared passes.items result }
 {
-    match shared.close(alloc, passes) {
-        Err(fault) => fault,
-        Ok(_) => panic!(rt; "closed"),
-    }
+    let Ok(readings) = shared.close(alloc, passes) else {
+        panic!(rt; "not closed")
+    };
+    readings
 }
 
-/// The readings at the end.
+/// The reading at the end of the only runqueue.
 pub(crate) fn close_both(
     rt: &impl Abort,
     alloc: Global,
     shared: Shared,
     first: Pass,
     second: Pass,
-) -> Result<Vec<Reading>, Fail>
+) -> Reading
     requires first { IsPassOf shared first }
     requires second { IsPassOf shared second }
 {
     let mut passes = Vec::new(alloc);
-    passes.push(first)?;
-    passes.push(second)?;
-    match shared.close(alloc, passes) {
-        Ok(readings) => Ok(readings),
-        Err(_) => panic!(rt; "not closed"),
-    }
+    put_last(rt, &shared, &mut passes, first);
+    put_last(rt, &shared, &mut passes, second);
+    let readings = closed(rt, alloc, shared, passes);
+    assert!(rt; readings.len() == 1);
+    readings[0]
 }

@@ -3,9 +3,8 @@ ghost use Rattle.std.specs.Prelude.{IfOk};
 ghost use Rattle.grub_table.specs.Calls.{IsPassOf};
 ghost use Rattle.std.specs.List.{All};
 
-use crate::tests::fixtures::{A, ask_all, look};
+use crate::tests::fixtures::{A, ask_all, closed, last_pass, look, put_last, setup_of};
 use grub_book::{Op, Reading, Reply, Setup};
-use grub_bw::{Params, Queue};
 use grub_table::{CloseWhy, OpenFault, Pass, Shared};
 use std::alloc::Global;
 use std::process::Abort;
@@ -16,13 +15,13 @@ const MANY: u32 = 5;
 /// The bandwidth of a task, which is half of a runqueue.
 const HALF: u32 = 524288;
 
-/// Runqueues and tasks, where the allocator gives room for them.
-fn many_setup(alloc: Global) -> Option<Setup> {
-    let queue = Queue::new(1048576, 0).ok()?;
-    let task = Params::new(4, 8).ok()?;
-    let queues = vec![in alloc; queue; MANY as usize].ok()?;
-    let tasks = vec![in alloc; task; MANY as usize].ok()?;
-    Setup::new(queues, tasks).ok()
+/// A setup, which is made a second time where memory was refused once.
+fn setup_twice(rt: &impl Abort, alloc: Global) -> Setup {
+    let setup = setup_of(alloc, MANY, MANY).or_else(|| setup_of(alloc, MANY, MANY));
+    let Some(setup) = setup else {
+        panic!(rt; "no setup")
+    };
+    setup
 }
 
 fn open_many(alloc: Global, setup: &Setup) -> Result<(Shared, Vec<Pass>), OpenFault>
@@ -31,19 +30,40 @@ fn open_many(alloc: Global, setup: &Setup) -> Result<(Shared, Vec<Pass>), OpenFa
     Shared::open(alloc, setup, MANY)
 }
 
+/// Opens a table. Where that is refused, a second one is opened.
+fn open_twice(rt: &impl Abort, alloc: Global, setup: &Setup) -> (Shared, Vec<Pass>)
+    ensures { All (IsPassOf result.0) result.1.items }
+{
+    match open_many(alloc, setup) {
+        Ok(opened) => opened,
+        Err(fault) => {
+            assert_eq!(rt; fault, OpenFault::NoMemory);
+            let Ok(opened) = open_many(alloc, setup) else {
+                panic!(rt; "refused twice")
+            };
+            opened
+        }
+    }
+}
+
 /// The last pass puts a task on the first runqueue.
 fn join_one(rt: &impl Abort, shared: &Shared, passes: &mut Vec<Pass>)
     requires { All (IsPassOf shared.now) passes.old.items }
     ensures { All (IsPassOf shared.now) passes.new.items }
 {
-    let Some(pass) = passes.pop() else {
-        panic!(rt; "no pass")
-    };
+    let pass = last_pass(rt, shared, passes);
     let asked = [(Op::Join { r: 0, m: 0 }, Reply::Joined { q: 4, d: 8 })];
     let pass = ask_all(rt, shared, pass, A, &asked);
-    let Ok(()) = passes.push(pass) else {
-        panic!(rt; "no room where the pass was")
-    };
+    put_last(rt, shared, passes, pass);
+}
+
+/// The pass is of this number, and reads as before the refusal.
+fn look_with(rt: &impl Abort, shared: &Shared, pass: &mut Pass, number: usize)
+    requires { IsPassOf shared.now pass.old }
+    ensures { IsPassOf shared.now pass.new }
+{
+    assert!(rt; pass.number() as usize == number);
+    look(rt, shared, pass, 0, HALF, HALF);
 }
 
 /// All passes are there, in order, and read as before the refusal.
@@ -53,26 +73,29 @@ fn look_all(rt: &impl Abort, shared: &Shared, passes: &mut Vec<Pass>)
 {
     assert!(rt; passes.len() == MANY as usize);
     for i in 0..passes.len() {
-        assert!(rt; passes[i].number() as usize == i);
-        look(rt, shared, &mut passes[i], 0, HALF, HALF);
+        look_with(rt, shared, &mut passes[i], i);
     }
 }
 
-/// Closes with all passes. Where that is refused, they read as before, and a second close succeeds.
+/// A second close, with the passes that a refused one gave back. They read as before, and it succeeds.
+fn close_again(rt: &impl Abort, alloc: Global, shared: Shared, passes: Vec<Pass>) -> Vec<Reading>
+    requires { All (IsPassOf shared) passes.items }
+{
+    let mut passes = passes;
+    look_all(rt, &shared, &mut passes);
+    closed(rt, alloc, shared, passes)
+}
+
+/// Closes with all passes. Where that is refused, it closes again.
 fn close_twice(rt: &impl Abort, alloc: Global, shared: Shared, passes: Vec<Pass>) -> Vec<Reading>
     requires { All (IsPassOf shared) passes.items }
 {
-    let fault = match shared.close(alloc, passes) {
-        Ok(readings) => return readings,
-        Err(fault) => fault,
-    };
-    assert_eq!(rt; fault.why, CloseWhy::NoMemory);
-    let shared = fault.shared;
-    let mut passes = fault.passes;
-    look_all(rt, &shared, &mut passes);
     match shared.close(alloc, passes) {
         Ok(readings) => readings,
-        Err(_) => panic!(rt; "refused twice"),
+        Err(fault) => {
+            assert_eq!(rt; fault.why, CloseWhy::NoMemory);
+            close_again(rt, alloc, fault.shared, fault.passes)
+        }
     }
 }
 
@@ -80,34 +103,18 @@ fn close_twice(rt: &impl Abort, alloc: Global, shared: Shared, passes: Vec<Pass>
 /// gives back all that there was, and the next call has its memory.
 #[test]
 fn refused_growths(rt: HostRuntime) {
-    let setup = match many_setup(rt.alloc()) {
-        Some(setup) => Some(setup),
-        None => many_setup(rt.alloc()),
-    };
-    let Some(setup) = setup else {
-        panic!(rt; "no setup")
-    };
-    let opened = match open_many(rt.alloc(), &setup) {
-        Ok(opened) => Ok(opened),
-        Err(fault) => {
-            assert_eq!(rt; fault, OpenFault::NoMemory);
-            open_many(rt.alloc(), &setup)
-        }
-    };
-    let Ok((shared, mut passes)) = opened else {
-        panic!(rt; "refused twice")
-    };
+    let setup = setup_twice(&rt, rt.alloc());
+    let (shared, mut passes) = open_twice(&rt, rt.alloc(), &setup);
     join_one(&rt, &shared, &mut passes);
     let readings = close_twice(&rt, rt.alloc(), shared, passes);
-    assert!(rt; readings.len() == MANY as usize);
-    for (r, reading) in readings.iter().enumerate() {
-        let sum = if r == 0 { HALF } else { 0 };
-        assert_eq!(rt;
-            *reading,
-            Reading {
-                running: sum,
-                this: sum
-            }
-        );
-    }
+    let first = Reading {
+        running: HALF,
+        this: HALF,
+    };
+    let other = Reading {
+        running: 0,
+        this: 0,
+    };
+    let expected = [first, other, other, other, other];
+    assert!(rt; readings.as_slice() == expected.as_slice());
 }

@@ -2,13 +2,12 @@
 ghost use Rattle.std.specs.Prelude.{◌<◌};
 ghost use Rattle.grub_table.specs.Calls.{IsPassOf};
 
-use crate::tests::fixtures::{A, B, Got, ask, close_both, setup_of, two_passes};
+use crate::tests::fixtures::{A, B, Got, ask, close_both, two_passes};
 use grub_book::{Op, Reading, Reply};
 use grub_table::{Pass, Shared, Sighting};
 use grub_words::unpack_task;
 use std::process::Abort;
 use std::sync::Wait;
-use std::test::Fail;
 use std::thread;
 use std::thread::{Promise, Threads};
 
@@ -152,53 +151,50 @@ fn run_both<R: Threads + Wait + Abort + Sync>(
             ensures { IsPassOf shared.entry.now result.0.pass
                 × IsPassOf shared.entry.now result.1.pass }
         {
-            let Ok(one) = scope.spawn_with(
-                OfTable { shared },
-                move || -> Ran
-                    requires { IsPassOf shared.now first }
-                    ensures { IsPassOf shared.entry.now result.pass }
-                { run(rt, shared, first, A, t == A) },
-            ) else {
-                panic!(rt; "no first thread")
-            };
-            let Ok(other) = scope.spawn_with(
-                OfTable { shared },
-                move || -> Ran
-                    requires { IsPassOf shared.now second }
-                    ensures { IsPassOf shared.entry.now result.pass }
-                { run(rt, shared, second, t, t == A) },
-            ) else {
-                panic!(rt; "no second thread")
-            };
+            let one = scope
+                .spawn_with(
+                    OfTable { shared },
+                    move || -> Ran
+                        requires { IsPassOf shared.now first }
+                        ensures { IsPassOf shared.entry.now result.pass }
+                    { run(rt, shared, first, A, t == A) },
+                )
+                .expect(rt, "the first thread");
+            let other = scope
+                .spawn_with(
+                    OfTable { shared },
+                    move || -> Ran
+                        requires { IsPassOf shared.now second }
+                        ensures { IsPassOf shared.entry.now result.pass }
+                    { run(rt, shared, second, t, t == A) },
+                )
+                .expect(rt, "the second thread");
             (one.join(rt), other.join(rt))
         },
     )
 }
 
-#[test]
-fn two_threads_two_tasks(rt: HostRuntime) -> Result<(), Fail> {
-    let setup = setup_of(rt.alloc(), 1)?;
-    let (shared, first, second) = two_passes(&rt, rt.alloc(), &setup);
-    let (one, other) = run_both(&rt, &shared, first, second, B);
-    let turns = (one.turn, other.turn);
-    let readings = close_both(&rt, rt.alloc(), shared, one.pass, other.pass)?;
-    let running = u64::from(turns.0 == Turn::Blocks) + u64::from(turns.1 == Turn::Blocks);
-    let asleep = u64::from(turns.0 == Turn::Leaves) + u64::from(turns.1 == Turn::Leaves);
-    assert!(rt; readings.len() == 1);
+/// Whether a task counts in `running` where it has joined, and in `this` until it has left.
+fn adds_up(reading: Reading, one: Turn, other: Turn) -> bool {
     let half = u64::from(HALF);
-    assert_eq!(rt; u64::from(readings[0].running), half * running);
-    assert_eq!(rt; u64::from(readings[0].this), half * (running + asleep));
-    Ok(())
+    let running = u64::from(one == Turn::Blocks) + u64::from(other == Turn::Blocks);
+    let asleep = u64::from(one == Turn::Leaves) + u64::from(other == Turn::Leaves);
+    u64::from(reading.running) == half * running
+        && u64::from(reading.this) == half * (running + asleep)
 }
 
 #[test]
-fn two_threads_one_task(rt: HostRuntime) -> Result<(), Fail> {
-    let setup = setup_of(rt.alloc(), 1)?;
-    let (shared, first, second) = two_passes(&rt, rt.alloc(), &setup);
+fn two_threads_two_tasks(rt: HostRuntime) {
+    let (shared, first, second) = two_passes(&rt, rt.alloc(), 1);
+    let (one, other) = run_both(&rt, &shared, first, second, B);
+    let reading = close_both(&rt, rt.alloc(), shared, one.pass, other.pass);
+    assert!(rt; adds_up(reading, one.turn, other.turn), "{reading:?}");
+}
+
+#[test]
+fn two_threads_one_task(rt: HostRuntime) {
+    let (shared, first, second) = two_passes(&rt, rt.alloc(), 1);
     let (one, other) = run_both(&rt, &shared, first, second, A);
-    let readings = close_both(&rt, rt.alloc(), shared, one.pass, other.pass)?;
-    assert!(rt; readings.len() == 1);
-    let Reading { running, this } = readings[0];
+    let Reading { running, this } = close_both(&rt, rt.alloc(), shared, one.pass, other.pass);
     assert!(rt; (running == 0 && (this == 0 || this == HALF)) || (running == HALF && this == HALF));
-    Ok(())
 }
