@@ -9,3 +9,5 @@ mod run;
 mod serve;
 #[cfg(test)]
 mod show;
+#[cfg(test)]
+mod writer;
