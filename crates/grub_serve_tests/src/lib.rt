@@ -2,6 +2,8 @@
 #![tactic(auto)]
 
 #[cfg(test)]
+mod expects;
+#[cfg(test)]
 mod files;
 #[cfg(test)]
 mod run;

@@ -5,6 +5,7 @@ ghost use Rattle.std.specs.Prelude.{◌≤◌};
 mod growths;
 mod writers;
 
+use crate::expects::{expect_at, expect_case};
 use crate::files::{
     DOCUMENTATION, DOCUMENTATION_REPORT, FAR_TIMER, FAR_TIMER_REPORT, FIRST, FIRST_REPORT, LEAVES,
     LEAVES_REPORT, NO_EVENTS, NO_EVENTS_REPORT, RETUNES, RETUNES_REPORT, files_of,
@@ -12,7 +13,7 @@ use crate::files::{
 use crate::writer::Expecting;
 use grub_run::{GrubFault, run_texts};
 use grub_trace::{Kind, TraceFault};
-use std::alloc::Global;
+use std::alloc::{AllocError, Global};
 use std::process::Abort;
 use std::sync::Wait;
 use std::thread::Threads;
@@ -62,23 +63,28 @@ const FILES: [(&str, u8, u16, &str); 6] = [
     (DOCUMENTATION, 4, 100, DOCUMENTATION_REPORT),
 ];
 
+/// Whether a file of this table has its report.
+fn has_report<R: Threads + Wait + Sync>(
+    rt: &R,
+    alloc: Global,
+    &(file, tries, rounds, text): &(&str, u8, u16, &str),
+) -> bool {
+    rounds >= 1 && prints(rt, alloc, &[file], tries, rounds, text)
+}
+
 #[test]
 fn one_file(rt: HostRuntime) {
-    for (file, tries, rounds, text) in &FILES {
-        assert!(rt;
-            *rounds >= 1 && prints(&rt, rt.alloc(), &[*file], *tries, *rounds, text),
-            "{file}"
-        );
+    for file in &FILES {
+        expect_case(&rt, has_report(&rt, rt.alloc(), file), file.0);
     }
 }
 
-/// The first lines of a text.
-fn first_lines(text: &str, lines: usize) -> &str {
-    let mut len = 0usize;
+/// Adds the first lines of a text.
+fn push_first_lines(to: &mut String, text: &str, lines: usize) -> Result<(), AllocError> {
     for line in text.split_inclusive('\n').take(lines) {
-        len = len.saturating_add(line.len());
+        to.push_str(line)?;
     }
-    text.split_at_checked(len).map_or("", |(first, _)| first)
+    Ok(())
 }
 
 /// The documentation's file, cut after each of its lines but the first: how many lines of its report come before the
@@ -105,21 +111,20 @@ fn prints_cut<R: Threads + Wait + Sync>(
     reported: usize,
     close: &str,
 ) -> bool {
-    let file = first_lines(DOCUMENTATION, lines);
-    match [first_lines(DOCUMENTATION_REPORT, reported), close].concat(alloc) {
-        Ok(text) => prints(rt, alloc, &[file], 8, 64, &text),
-        Err(_) => false,
-    }
+    let mut file = String::new(alloc);
+    let mut text = String::new(alloc);
+    push_first_lines(&mut file, DOCUMENTATION, lines).is_ok()
+        && push_first_lines(&mut text, DOCUMENTATION_REPORT, reported).is_ok()
+        && text.push_str(close).is_ok()
+        && prints(rt, alloc, &[&file], 8, 64, &text)
 }
 
 /// A file that is cut between two lines has the report of its whole lines.
 #[test]
 fn cuts_between_lines(rt: HostRuntime) {
     for (lines, reported, close) in &CUTS {
-        assert!(rt;
-            prints_cut(&rt, rt.alloc(), *lines, *reported, close),
-            "{lines}"
-        );
+        let is_right = prints_cut(&rt, rt.alloc(), *lines, *reported, close);
+        expect_at(&rt, is_right, *lines);
     }
 }
 
@@ -216,19 +221,26 @@ fn long_reports(rt: HostRuntime) {
     assert!(rt; prints(&rt, alloc, &[&long, &short, &long], 8, 64, &text));
 }
 
+/// Whether a run of these files ends in this fault of a first line, and writes nothing.
+fn ends_before<R: Threads + Wait + Sync>(
+    rt: &R,
+    alloc: Global,
+    texts: &[&str],
+    kind: Kind,
+    file: usize,
+) -> bool {
+    let fault = TraceFault::At {
+        kind,
+        file,
+        line: 1,
+    };
+    let end = Err(GrubFault::Trace(fault));
+    ends(rt, alloc, texts, 8, 64, Expecting::new(b""), end)
+}
+
 #[test]
 fn faults_before_anything_is_written(rt: HostRuntime) {
     let texts = ["grub 1\nqueue 1 0\n"; 65];
-    for (texts, kind, file) in [
-        (&texts[..0], Kind::MissingQueue, 0usize),
-        (texts.as_slice(), Kind::OutOfRange, 64),
-    ] {
-        let fault = TraceFault::At {
-            kind,
-            file,
-            line: 1,
-        };
-        let end = Err(GrubFault::Trace(fault));
-        assert!(rt; ends(&rt, rt.alloc(), texts, 8, 64, Expecting::new(b""), end));
-    }
+    assert!(rt; ends_before(&rt, rt.alloc(), &[], Kind::MissingQueue, 0));
+    assert!(rt; ends_before(&rt, rt.alloc(), &texts, Kind::OutOfRange, 64));
 }

@@ -1,5 +1,6 @@
 //! Views from the bytes of files: with refused growths, and with a writer that fails.
 
+use crate::expects::expect_at;
 use crate::files::{files_after_all, files_of};
 use crate::writer::Expecting;
 use grub_run::GrubFault;
@@ -164,25 +165,36 @@ fn gets<R: Threads + Sync>(
     write_view(rt, alloc, files, view, &mut out) == wanted && out.is_met()
 }
 
+/// Views of the two files, their texts, and the room of a writer that fails.
+const CUT_VIEWS: [(View, &str, usize); 12] = [
+    (View::Timeline, LINES, 0),
+    (View::Timeline, LINES, 1),
+    (View::Timeline, LINES, 100),
+    (View::Timeline, LINES, LINES.len() - 1),
+    (View::Steps, STEPS, 0),
+    (View::Steps, STEPS, 1),
+    (View::Steps, STEPS, 100),
+    (View::Steps, STEPS, STEPS.len() - 1),
+    (View::Summary, SUMMARY, 0),
+    (View::Summary, SUMMARY, 1),
+    (View::Summary, SUMMARY, 100),
+    (View::Summary, SUMMARY, SUMMARY.len() - 1),
+];
+
 /// A writer that fails has taken a beginning of the view.
 #[test]
 fn a_writer_that_fails(rt: HostRuntime) {
-    for (view, text) in [
-        (View::Timeline, LINES),
-        (View::Steps, STEPS),
-        (View::Summary, SUMMARY),
-    ] {
-        for room in [0usize, 1, 100, text.len().saturating_sub(1)] {
-            assert!(rt;
-                gets(&rt, rt.alloc(), &[MOVES_FROM, MOVES_TO], view, room, text),
-                "{room}"
-            );
-        }
+    let files = [MOVES_FROM, MOVES_TO];
+    for (view, text, room) in &CUT_VIEWS {
+        expect_at(
+            &rt,
+            gets(&rt, rt.alloc(), &files, *view, *room, text),
+            *room,
+        );
     }
 }
 
 /// How readings are written: what comes first, what stands before and after the moment of each, and what comes last.
-#[derive(Clone, Copy)]
 struct Form {
     head: &'static str,
     before: &'static str,
@@ -215,7 +227,9 @@ const READ_STEPS: Form = Form {
 fn push_readings(text: &mut String, form: &Form, count: u32) -> Result<(), AllocError> {
     text.push_str(form.head)?;
     for m in 0..count {
-        write!(text, "{}{m}{}", form.before, form.after)?;
+        text.push_str(form.before)?;
+        write!(text, "{m}")?;
+        text.push_str(form.after)?;
     }
     text.push_str(form.end)
 }
@@ -227,41 +241,41 @@ fn readings(rt: &impl Abort, alloc: Global, form: &Form, count: u32) -> String {
     text
 }
 
-/// The views of readings, and how they are written there.
-const READ_VIEWS: [(View, Form); 2] = [(View::Timeline, READ_LINES), (View::Steps, READ_STEPS)];
+/// Expects of a view of many readings what `a_view_of_many_entries` tells.
+fn expect_many<R: Abort + Threads + Sync>(rt: &R, alloc: Global, view: View, form: &Form) {
+    let file = readings(rt, alloc, &FILE, 70_000);
+    let text = readings(rt, alloc, form, 70_000);
+    let almost_all = text.len().saturating_sub(1);
+    for room in &[usize::MAX, 500_000, 1_201_232, 2_000_000, almost_all] {
+        expect_at(rt, gets(rt, alloc, &[&file], view, *room, &text), *room);
+    }
+}
 
 /// More entries than are played at a time, to a writer that takes all of them, and to writers that fail among the first,
 /// between the first and the next, and after those.
 #[test]
 fn a_view_of_many_entries(rt: HostRuntime) {
-    let alloc = rt.alloc();
-    let file = readings(&rt, alloc, &FILE, 70_000);
-    for (view, form) in &READ_VIEWS {
-        let text = readings(&rt, alloc, form, 70_000);
-        for room in [
-            usize::MAX,
-            500_000,
-            1_201_232,
-            2_000_000,
-            text.len().saturating_sub(1),
-        ] {
-            assert!(rt; gets(&rt, alloc, &[&file], *view, room, &text), "{room}");
-        }
-    }
+    expect_many(&rt, rt.alloc(), View::Timeline, &READ_LINES);
+    expect_many(&rt, rt.alloc(), View::Steps, &READ_STEPS);
+}
+
+/// Whether both views of so many readings are their texts.
+fn shows_readings<R: Abort + Threads + Sync>(rt: &R, alloc: Global, count: u32) -> bool {
+    let file = readings(rt, alloc, &FILE, count);
+    let lines = readings(rt, alloc, &READ_LINES, count);
+    let steps = readings(rt, alloc, &READ_STEPS, count);
+    gets(rt, alloc, &[&file], View::Timeline, usize::MAX, &lines)
+        && gets(rt, alloc, &[&file], View::Steps, usize::MAX, &steps)
 }
 
 /// As many entries as are worth a thread, as many as are played at a time, and one fewer and one more.
 #[test]
 fn a_view_of_a_chunk_of_entries(rt: HostRuntime) {
-    let alloc = rt.alloc();
-    for count in [1023, 1024, 32_765, 32_766, 32_767] {
-        let file = readings(&rt, alloc, &FILE, count);
-        for (view, form) in &READ_VIEWS {
-            let text = readings(&rt, alloc, form, count);
-            assert!(rt;
-                gets(&rt, alloc, &[&file], *view, usize::MAX, &text),
-                "{count}"
-            );
-        }
+    for count in &[1023u32, 1024, 32_765, 32_766, 32_767] {
+        expect_at(
+            &rt,
+            shows_readings(&rt, rt.alloc(), *count),
+            *count as usize,
+        );
     }
 }

@@ -36,6 +36,11 @@ impl<'a> Expecting<'a> {
         }
     }
 
+    /// Whether it took none of this text, which it expects, and nothing else.
+    pub fn is_untouched(&self, text: &str) -> bool {
+        self.is_right && self.rest.len() == text.len()
+    }
+
     /// Whether it took the whole text, and nothing else.
     pub fn is_met(&self) -> bool {
         self.is_right && self.rest.is_empty()

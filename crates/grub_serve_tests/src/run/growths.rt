@@ -22,7 +22,7 @@ fn prints_or_refuses<R: Abort + Threads + Wait + Sync>(
     let mut out = Expecting::new(text.as_bytes());
     match run_texts(rt, alloc, files, 8, 64, &mut out) {
         Ok(()) => out.is_met(),
-        Err(fault) => is_refusal(fault) && out.is_right && out.rest.len() == text.len(),
+        Err(fault) => is_refusal(fault) && out.is_untouched(text),
     }
 }
 

@@ -1,10 +1,12 @@
 //! Writers that fail, and writers that take all.
 
 use super::ends;
+use crate::expects::expect_at;
 use crate::files::{DOCUMENTATION, DOCUMENTATION_REPORT};
 use crate::writer::{Expecting, Then};
 use grub_run::GrubFault;
 use std::alloc::Global;
+use std::process::Abort;
 use std::sync::Wait;
 use std::thread::Threads;
 
@@ -23,34 +25,32 @@ fn ends_in<R: Threads + Wait + Sync>(
     ends(rt, alloc, &[DOCUMENTATION], 8, 64, out, end)
 }
 
+/// Expects that a writer which goes on so after any number of calls, of 7 bytes each, fails when it has taken as much.
+fn expect_faults<R: Abort + Threads + Wait + Sync>(rt: &R, alloc: Global, then: Then) {
+    let fails = Err(GrubFault::WriteFault);
+    let whole = DOCUMENTATION_REPORT.as_bytes();
+    for calls in 0..whole.len().div_ceil(7) {
+        let text = &whole[..calls * 7];
+        expect_at(rt, ends_in(rt, alloc, (7, calls, then), fails, text), calls);
+    }
+}
+
 #[test]
 fn writers_that_fail(rt: HostRuntime) {
     let alloc = rt.alloc();
+    expect_faults(&rt, alloc, Then::Fails);
+    expect_faults(&rt, alloc, Then::TakesNothing);
+    expect_faults(&rt, alloc, Then::FailsInFlush);
     let fails = Err(GrubFault::WriteFault);
-    let whole = DOCUMENTATION_REPORT.as_bytes();
-    let whole_calls = whole.len().div_ceil(7);
-    for then in [Then::Fails, Then::TakesNothing, Then::FailsInFlush] {
-        for calls in 0..whole_calls {
-            assert!(rt;
-                ends_in(&rt, alloc, (7, calls, then), fails, &whole[..calls * 7]),
-                "{calls}"
-            );
-        }
-    }
     assert!(rt; ends_in(&rt, alloc, (10, 1, Then::Fails), fails, b"runqueue 0"));
 }
 
 #[test]
 fn writers_that_take_all(rt: HostRuntime) {
+    let alloc = rt.alloc();
     let text = DOCUMENTATION_REPORT.as_bytes();
-    for (each, then, want) in [
-        (1, Then::Fails, Ok(())),
-        (1000, Then::TakesNothing, Ok(())),
-        (1000, Then::FailsInFlush, Err(GrubFault::WriteFault)),
-    ] {
-        assert!(rt;
-            ends_in(&rt, rt.alloc(), (each, 1000, then), want, text),
-            "{each}"
-        );
-    }
+    let fails = Err(GrubFault::WriteFault);
+    assert!(rt; ends_in(&rt, alloc, (1, 1000, Then::Fails), Ok(()), text));
+    assert!(rt; ends_in(&rt, alloc, (1000, 1000, Then::TakesNothing), Ok(()), text));
+    assert!(rt; ends_in(&rt, alloc, (1000, 1000, Then::FailsInFlush), fails, text));
 }
