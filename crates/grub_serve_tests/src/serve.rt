@@ -35,10 +35,9 @@ fn serves<R: Files + Threads + Wait + Sync>(
     alloc: Global,
     paths: &[&str],
     status: u8,
-    text: &str,
+    mut out: Expecting<'_>,
     fault: &str,
 ) -> bool {
-    let mut out = Expecting::new(text.as_bytes());
     let mut faults = Expecting::new(fault.as_bytes());
     served(rt, alloc, paths, &mut out, &mut faults) == status && out.is_met() && faults.is_met()
 }
@@ -50,18 +49,19 @@ fn serves_with<R: Files + Threads + Wait + Sync>(
     (path, bytes): (&str, &[u8]),
     paths: &[&str],
     status: u8,
-    text: &str,
+    out: Expecting<'_>,
     fault: &str,
 ) -> bool {
     let is_there = fs::write(rt, path, bytes).is_ok();
-    let is_served = serves(rt, alloc, paths, status, text, fault);
+    let is_served = serves(rt, alloc, paths, status, out, fault);
     fs::remove_file(rt, path).is_ok() && is_there && is_served
 }
 
 #[test]
 fn one_file(rt: HostRuntime) {
     let file = ("one.grub", FIRST.as_bytes());
-    assert!(rt; serves_with(&rt, rt.alloc(), file, &["one.grub"], 0, FIRST_REPORT, ""));
+    let out = Expecting::new(FIRST_REPORT.as_bytes());
+    assert!(rt; serves_with(&rt, rt.alloc(), file, &["one.grub"], 0, out, ""));
 }
 
 /// Files that have a fault, and its line.
@@ -103,7 +103,15 @@ fn tells_fault<R: Files + Threads + Wait + Sync>(
     fault: &str,
 ) -> bool {
     let file = ("a file.grub", text.as_bytes());
-    serves_with(rt, alloc, file, &["a file.grub"], STATUS_FILE, "", fault)
+    serves_with(
+        rt,
+        alloc,
+        file,
+        &["a file.grub"],
+        STATUS_FILE,
+        Expecting::new(b""),
+        fault,
+    )
 }
 
 #[test]
@@ -124,7 +132,7 @@ fn serves_many<R: Files + Threads + Wait + Sync>(
     let file = ("empty.grub", b"grub 1\nqueue 1 0\n".as_slice());
     let mut words = ["empty.grub"; 65];
     words[64] = last;
-    serves_with(rt, alloc, file, &words, status, "", fault)
+    serves_with(rt, alloc, file, &words, status, Expecting::new(b""), fault)
 }
 
 #[test]
@@ -145,7 +153,15 @@ fn serves_long<R: Files + Threads + Wait + Sync>(
     fault: &str,
 ) -> bool {
     match Vec::from_elem(alloc, b'7', len) {
-        Ok(text) => serves_with(rt, alloc, ("long.grub", &text), paths, status, "", fault),
+        Ok(text) => serves_with(
+            rt,
+            alloc,
+            ("long.grub", &text),
+            paths,
+            status,
+            Expecting::new(b""),
+            fault,
+        ),
         Err(_) => false,
     }
 }
@@ -188,7 +204,14 @@ fn broken_read_is_told<R: Threads + Wait + Sync>(rt: &R, alloc: Global) -> bool 
 fn folder_is_told<R: Files + Threads + Wait + Sync>(rt: &R, alloc: Global) -> bool {
     let line = "grubrun: folder: 46 ReadFault\n";
     let is_there = fs::create_dir(rt, "folder").is_ok();
-    let is_told = serves(rt, alloc, &["folder"], STATUS_SYSTEM, "", line);
+    let is_told = serves(
+        rt,
+        alloc,
+        &["folder"],
+        STATUS_SYSTEM,
+        Expecting::new(b""),
+        line,
+    );
     fs::remove_dir(rt, "folder").is_ok() && is_there && is_told
 }
 
@@ -223,22 +246,24 @@ fn the_first_unread_file_is_told(rt: HostRuntime) {
     assert!(rt; serves_unread(&rt, alloc, &gone_first, STATUS_SYSTEM, gone));
 }
 
-/// Whether a report that cannot be written is told as such.
-fn closed_output_is_told<R: Files + Threads + Wait + Sync>(rt: &R, alloc: Global) -> bool {
-    let mut closed = Expecting::new(b"");
-    closed.calls = 0;
-    let mut faults = Expecting::new(b"grubrun: 45 WriteFault\n");
-    let is_there = fs::write(rt, "closed.grub", FIRST.as_bytes()).is_ok();
-    let status = served(rt, alloc, &["closed.grub"], &mut closed, &mut faults);
-    fs::remove_file(rt, "closed.grub").is_ok()
-        && is_there
-        && status == STATUS_SYSTEM
-        && faults.is_met()
-}
-
+/// A report that cannot be written is told as such.
 #[test]
 fn closed_output(rt: HostRuntime) {
-    assert!(rt; closed_output_is_told(&rt, rt.alloc()));
+    let file = ("closed.grub", FIRST.as_bytes());
+    let mut out = Expecting::new(b"");
+    out.calls = 0;
+    let line = "grubrun: 45 WriteFault\n";
+    assert!(rt;
+        serves_with(
+            &rt,
+            rt.alloc(),
+            file,
+            &["closed.grub"],
+            STATUS_SYSTEM,
+            out,
+            line
+        )
+    );
 }
 
 /// The faults of refused memory. A refused start of a thread may be answered as such.
