@@ -1,6 +1,6 @@
 //! Views of worked examples, and refused growths.
 
-ghost use Rattle.std.specs.Prelude.{◌≡◌, ◌≤◌, vec_capacity};
+ghost use Rattle.std.specs.Prelude.{◌≡◌, ◌≤◌, IfSome, vec_capacity};
 ghost use Rattle.grub_book.specs.Sums.{opening_book};
 
 use grub_book::Book;
@@ -9,7 +9,7 @@ use grub_picture::*;
 use grub_plan::{LINE_MAX, Plan, report_buffer, write_buffer};
 use grub_steps::*;
 use grub_summary::*;
-use grub_timeline::{Playing, play};
+use grub_timeline::{Playing, Told, play};
 use grub_trace::read_files;
 use grub_views::*;
 use std::alloc::Global;
@@ -246,6 +246,20 @@ fn play_steps<R: Threads + Sync>(
     }
 }
 
+/// Room for the entries of so many, and for their steps.
+fn room_for(alloc: Global, most: usize) -> Option<(Vec<Told>, Vec<Step>)>
+    ensures { IfSome result
+        (λ room. (most ≤ vec_capacity room.0) × (vec_capacity room.0 ≤ vec_capacity room.1)) }
+{
+    let Ok(latest) = Vec::with_capacity(alloc, most) else {
+        return None;
+    };
+    match Vec::with_capacity(alloc, latest.capacity()) {
+        Ok(steps) => Some((latest, steps)),
+        Err(_) => None,
+    }
+}
+
 /// The same with a book of which nothing was asked yet.
 fn replay_steps<R: Threads + Sync>(
     rt: &R,
@@ -263,10 +277,7 @@ fn replay_steps<R: Threads + Sync>(
     let Ok(playing) = Playing::new(alloc, plan) else {
         return false;
     };
-    let Ok(mut latest) = Vec::with_capacity(alloc, playing.most()) else {
-        return false;
-    };
-    let Ok(mut steps) = Vec::with_capacity(alloc, latest.capacity()) else {
+    let Some((mut latest, mut steps)) = room_for(alloc, playing.most()) else {
         return false;
     };
     write_steps(
