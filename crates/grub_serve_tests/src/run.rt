@@ -54,7 +54,7 @@ fn prints<R: Threads + Wait + Sync>(
 }
 
 /// Event files, each with its tries, its rounds and its report.
-const FILES: [(&str, u8, u16, &str); 6] = [
+static FILES: [(&str, u8, u16, &str); 6] = [
     (FIRST, 8, 64, FIRST_REPORT),
     (LEAVES, 1, 1, LEAVES_REPORT),
     (FAR_TIMER, 8, 64, FAR_TIMER_REPORT),
@@ -89,7 +89,7 @@ fn push_first_lines(to: &mut String, text: &str, lines: usize) -> Result<(), All
 
 /// The documentation's file, cut after each of its lines but the first: how many lines of its report come before the
 /// closing reading, and this.
-const CUTS: [(usize, usize, &str); 11] = [
+static CUTS: [(usize, usize, &str); 11] = [
     (2, 1, "close running=0 this=0\n"),
     (3, 1, "close running=0 this=0\n"),
     (4, 1, "close running=0 this=0\n"),

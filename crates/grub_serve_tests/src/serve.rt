@@ -65,7 +65,7 @@ fn one_file(rt: HostRuntime) {
 }
 
 /// Files that have a fault, and its line.
-const FAULTS: [(&str, &str); 9] = [
+static FAULTS: [(&str, &str); 9] = [
     ("", "grubrun: a file.grub:1: 28 BadHeader\n"),
     (
         "grub 1\nqueue 1 0\n\n",

@@ -166,7 +166,7 @@ fn gets<R: Threads + Sync>(
 }
 
 /// Views of the two files, their texts, and the room of a writer that fails.
-const CUT_VIEWS: [(View, &str, usize); 12] = [
+static CUT_VIEWS: [(View, &str, usize); 12] = [
     (View::Timeline, LINES, 0),
     (View::Timeline, LINES, 1),
     (View::Timeline, LINES, 100),

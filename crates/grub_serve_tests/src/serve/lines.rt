@@ -16,7 +16,7 @@ fn is_told(alloc: Global, fault: &ProgramFault, status: u8, text: &str) -> bool 
     }
 }
 
-const FAULTS_OF_THE_SYSTEM: [(ProgramFault<'static>, &str); 7] = [
+static FAULTS_OF_THE_SYSTEM: [(ProgramFault<'static>, &str); 7] = [
     (
         ProgramFault::Run(GrubFault::Trace(TraceFault::NoMemory)),
         "37 NoMemory",
@@ -48,7 +48,7 @@ fn faults_of_the_system(rt: HostRuntime) {
     }
 }
 
-const FAULTS_OF_A_FILE: [(ProgramFault<'static>, &str); 2] = [
+static FAULTS_OF_A_FILE: [(ProgramFault<'static>, &str); 2] = [
     (
         ProgramFault::TooLong { path: "a file" },
         "a file: 44 FileTooLong",
