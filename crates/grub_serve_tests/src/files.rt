@@ -1,4 +1,7 @@
-//! Event files and their reports.
+//! Event files, their reports, and their bytes.
+
+use std::alloc::Global;
+use std::process::Abort;
 
 pub const DOCUMENTATION: &str = "\
 grub 1
@@ -139,3 +142,28 @@ pub const NO_EVENTS_REPORT: &str = "\
 runqueue 0
 close running=0 this=0
 ";
+
+/// The bytes of these files; None where memory is refused.
+pub fn files_of(alloc: Global, texts: &[&str]) -> Option<Vec<Vec<u8>>> {
+    let mut files = Vec::new(alloc);
+    for text in texts {
+        let Ok(bytes) = text.as_bytes().to_vec(alloc) else {
+            return None;
+        };
+        if files.push(bytes).is_err() {
+            return None;
+        }
+    }
+    Some(files)
+}
+
+/// The same, made a second time where a growth of it was refused.
+pub fn files_after_all(rt: &impl Abort, alloc: Global, texts: &[&str]) -> Vec<Vec<u8>> {
+    if let Some(files) = files_of(alloc, texts) {
+        return files;
+    }
+    match files_of(alloc, texts) {
+        Some(files) => files,
+        None => panic!(rt; "refused twice"),
+    }
+}

@@ -2,6 +2,8 @@
 #![tactic(auto)]
 
 #[cfg(test)]
+mod expects;
+#[cfg(test)]
 mod files;
 #[cfg(test)]
 mod run;
@@ -9,3 +11,5 @@ mod run;
 mod serve;
 #[cfg(test)]
 mod show;
+#[cfg(test)]
+mod writer;

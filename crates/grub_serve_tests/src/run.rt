@@ -5,23 +5,37 @@ ghost use Rattle.std.specs.Prelude.{◌≤◌};
 mod growths;
 mod writers;
 
+use crate::expects::{expect_at, expect_case};
 use crate::files::{
     DOCUMENTATION, DOCUMENTATION_REPORT, FAR_TIMER, FAR_TIMER_REPORT, FIRST, FIRST_REPORT, LEAVES,
-    LEAVES_REPORT, NO_EVENTS, NO_EVENTS_REPORT, RETUNES, RETUNES_REPORT,
+    LEAVES_REPORT, NO_EVENTS, NO_EVENTS_REPORT, RETUNES, RETUNES_REPORT, files_of,
 };
+use crate::writer::Expecting;
 use grub_run::{GrubFault, run_texts};
 use grub_trace::{Kind, TraceFault};
 use std::alloc::{AllocError, Global};
+use std::process::Abort;
 use std::sync::Wait;
-use std::test::Fail;
 use std::thread::Threads;
 
-fn files_of(alloc: Global, texts: &[&str]) -> Result<Vec<Vec<u8>>, AllocError> {
-    let mut files = Vec::new(alloc);
-    for text in texts {
-        files.push(text.as_bytes().to_vec(alloc)?)?;
+/// Whether a run of these files ends so, when the writer has taken all that it expects.
+fn ends<R: Threads + Wait + Sync>(
+    rt: &R,
+    alloc: Global,
+    texts: &[&str],
+    tries: u8,
+    rounds: u16,
+    mut out: Expecting<'_>,
+    end: Result<(), GrubFault>,
+) -> bool
+    requires { 1 ≤ rounds }
+{
+    match files_of(alloc, texts) {
+        Some(files) => {
+            run_texts(rt, alloc, files, tries, rounds, &mut out) == end && out.is_met()
+        }
+        None => false,
     }
-    Ok(files)
 }
 
 /// Whether a run of these files writes this text.
@@ -32,47 +46,50 @@ fn prints<R: Threads + Wait + Sync>(
     tries: u8,
     rounds: u16,
     text: &str,
-) -> Result<bool, AllocError>
+) -> bool
     requires { 1 ≤ rounds }
 {
-    let files = files_of(alloc, files)?;
-    let mut out: Vec<u8> = Vec::new(alloc);
-    let result = run_texts(rt, alloc, files, tries, rounds, &mut out);
-    Ok(result == Ok(()) && out.as_slice() == text.as_bytes())
+    let out = Expecting::new(text.as_bytes());
+    ends(rt, alloc, files, tries, rounds, out, Ok(()))
+}
+
+/// Event files, each with its tries, its rounds and its report.
+static FILES: [(&str, u8, u16, &str); 6] = [
+    (FIRST, 8, 64, FIRST_REPORT),
+    (LEAVES, 1, 1, LEAVES_REPORT),
+    (FAR_TIMER, 8, 64, FAR_TIMER_REPORT),
+    (RETUNES, 8, 64, RETUNES_REPORT),
+    (NO_EVENTS, 0, 1, NO_EVENTS_REPORT),
+    (DOCUMENTATION, 4, 100, DOCUMENTATION_REPORT),
+];
+
+/// Whether a file of this table has its report.
+fn has_report<R: Threads + Wait + Sync>(
+    rt: &R,
+    alloc: Global,
+    &(file, tries, rounds, text): &(&str, u8, u16, &str),
+) -> bool {
+    rounds >= 1 && prints(rt, alloc, &[file], tries, rounds, text)
 }
 
 #[test]
-fn one_file(rt: HostRuntime) -> Result<(), Fail> {
-    let alloc = rt.alloc();
-    for (file, tries, rounds, text) in [
-        (FIRST, 8, 64u16, FIRST_REPORT),
-        (LEAVES, 1, 1, LEAVES_REPORT),
-        (FAR_TIMER, 8, 64, FAR_TIMER_REPORT),
-        (RETUNES, 8, 64, RETUNES_REPORT),
-        (NO_EVENTS, 0, 1, NO_EVENTS_REPORT),
-        (DOCUMENTATION, 4, 100, DOCUMENTATION_REPORT),
-    ] {
-        let files = [file];
-        assert!(rt;
-            rounds >= 1 && prints(&rt, alloc, files.as_slice(), tries, rounds, text)?,
-            "{file}"
-        );
+fn one_file(rt: HostRuntime) {
+    for file in &FILES {
+        expect_case(&rt, has_report(&rt, rt.alloc(), file), file.0);
+    }
+}
+
+/// Adds the first lines of a text.
+fn push_first_lines(to: &mut String, text: &str, lines: usize) -> Result<(), AllocError> {
+    for line in text.split_inclusive('\n').take(lines) {
+        to.push_str(line)?;
     }
     Ok(())
 }
 
-/// The first lines of a text.
-fn first_lines(alloc: Global, text: &str, lines: usize) -> Result<String, AllocError> {
-    let mut first = String::new(alloc);
-    for line in text.split_inclusive('\n').take(lines) {
-        first.push_str(line)?;
-    }
-    Ok(first)
-}
-
 /// The documentation's file, cut after each of its lines but the first: how many lines of its report come before the
 /// closing reading, and this.
-const CUTS: [(usize, usize, &str); 11] = [
+static CUTS: [(usize, usize, &str); 11] = [
     (2, 1, "close running=0 this=0\n"),
     (3, 1, "close running=0 this=0\n"),
     (4, 1, "close running=0 this=0\n"),
@@ -93,29 +110,27 @@ fn prints_cut<R: Threads + Wait + Sync>(
     lines: usize,
     reported: usize,
     close: &str,
-) -> Result<bool, AllocError> {
-    let file = first_lines(alloc, DOCUMENTATION, lines)?;
-    let mut text = first_lines(alloc, DOCUMENTATION_REPORT, reported)?;
-    text.push_str(close)?;
-    prints(rt, alloc, [file.as_str()].as_slice(), 8, 64, &text)
+) -> bool {
+    let mut file = String::new(alloc);
+    let mut text = String::new(alloc);
+    push_first_lines(&mut file, DOCUMENTATION, lines).is_ok()
+        && push_first_lines(&mut text, DOCUMENTATION_REPORT, reported).is_ok()
+        && text.push_str(close).is_ok()
+        && prints(rt, alloc, &[&file], 8, 64, &text)
 }
 
 /// A file that is cut between two lines has the report of its whole lines.
 #[test]
-fn cuts_between_lines(rt: HostRuntime) -> Result<(), Fail> {
-    for (lines, reported, close) in CUTS {
-        assert!(rt;
-            prints_cut(&rt, rt.alloc(), lines, reported, close)?,
-            "{lines}"
-        );
+fn cuts_between_lines(rt: HostRuntime) {
+    for (lines, reported, close) in &CUTS {
+        let is_right = prints_cut(&rt, rt.alloc(), *lines, *reported, close);
+        expect_at(&rt, is_right, *lines);
     }
-    Ok(())
 }
 
 /// Without a try every join is given up, in each of its rounds.
 #[test]
-fn no_tries(rt: HostRuntime) -> Result<(), Fail> {
-    let alloc = rt.alloc();
+fn no_tries(rt: HostRuntime) {
     let text = "\
 runqueue 0
 at 0 join A: lost
@@ -125,15 +140,13 @@ at 3 wake A: not-on
 at 3 read: running=0 this=0
 close running=0 this=0
 ";
-    assert!(rt; prints(&rt, alloc, [FIRST].as_slice(), 0, 1, text)?);
-    assert!(rt; prints(&rt, alloc, [FIRST].as_slice(), 0, 3, text)?);
-    Ok(())
+    assert!(rt; prints(&rt, rt.alloc(), &[FIRST], 0, 1, text));
+    assert!(rt; prints(&rt, rt.alloc(), &[FIRST], 0, 3, text));
 }
 
 /// Files that share no task have the reports that each has alone, whatever the schedule.
 #[test]
-fn several_files(rt: HostRuntime) -> Result<(), Fail> {
-    let alloc = rt.alloc();
+fn several_files(rt: HostRuntime) {
     let text = "\
 runqueue 0
 at 0 join T1: joined q=4 d=8
@@ -154,8 +167,7 @@ at 3 wake A: woken q=4 d=11
 at 3 read: running=524288 this=524288
 close running=524288 this=524288
 ";
-    assert!(rt; prints(&rt, alloc, [DOCUMENTATION, FIRST].as_slice(), 8, 64, text)?);
-    Ok(())
+    assert!(rt; prints(&rt, rt.alloc(), &[DOCUMENTATION, FIRST], 8, 64, text));
 }
 
 /// So many readings that several threads make their lines.
@@ -164,72 +176,71 @@ const LONG: usize = 33_000;
 /// So few readings that no thread is started for their lines.
 const SHORT: usize = 1023;
 
-/// Adds so many lines between a head and an end.
-fn push_lines(
-    text: &mut String,
-    head: &str,
-    line: &str,
-    lines: usize,
-    end: &str,
-) -> Result<(), AllocError> {
-    text.push_str(head)?;
-    for _ in 0..lines {
-        text.push_str(line)?;
+/// A text so many times.
+fn repeated(rt: &impl Abort, alloc: Global, text: &str, times: usize) -> String {
+    match text.repeat(alloc, times) {
+        Ok(all) => all,
+        Err(_) => panic!(rt; "no memory"),
     }
-    text.push_str(end)
+}
+
+/// These texts in one.
+fn joined(rt: &impl Abort, alloc: Global, texts: &[&str]) -> String {
+    match texts.concat(alloc) {
+        Ok(all) => all,
+        Err(_) => panic!(rt; "no memory"),
+    }
 }
 
 /// A file of so many readings.
-fn readings(alloc: Global, count: usize) -> Result<String, AllocError> {
-    let mut text = String::new(alloc);
-    push_lines(&mut text, "grub 1\nqueue 1 0\n", "at 0 read\n", count, "")?;
-    Ok(text)
+fn readings(rt: &impl Abort, alloc: Global, count: usize) -> String {
+    let lines = repeated(rt, alloc, "at 0 read\n", count);
+    joined(rt, alloc, &["grub 1\nqueue 1 0\n", &lines])
 }
 
 /// The report of a long file, a short and a long one.
-fn report_of_readings(alloc: Global) -> Result<String, AllocError> {
-    let (answer, close) = ("at 0 read: running=0 this=0\n", "close running=0 this=0\n");
-    let mut text = String::new(alloc);
-    for (head, count) in [
-        ("runqueue 0\n", LONG),
-        ("runqueue 1\n", SHORT),
-        ("runqueue 2\n", LONG),
-    ] {
-        push_lines(&mut text, head, answer, count, close)?;
-    }
-    Ok(text)
+fn report_of_readings(rt: &impl Abort, alloc: Global) -> String {
+    let close = "close running=0 this=0\n";
+    let long = repeated(rt, alloc, "at 0 read: running=0 this=0\n", LONG);
+    let short = repeated(rt, alloc, "at 0 read: running=0 this=0\n", SHORT);
+    let (one, two, three) = ("runqueue 0\n", "runqueue 1\n", "runqueue 2\n");
+    joined(
+        rt,
+        alloc,
+        &[one, &long, close, two, &short, close, three, &long, close],
+    )
 }
 
 /// Reports that are so long that several threads make their lines, with one between them that none is started for.
 #[test]
-fn long_reports(rt: HostRuntime) -> Result<(), Fail> {
+fn long_reports(rt: HostRuntime) {
     let alloc = rt.alloc();
-    let long = readings(alloc, LONG)?;
-    let short = readings(alloc, SHORT)?;
-    let text = report_of_readings(alloc)?;
-    let files = [long.as_str(), short.as_str(), long.as_str()];
-    assert!(rt; prints(&rt, alloc, files.as_slice(), 8, 64, &text)?);
-    Ok(())
+    let long = readings(&rt, alloc, LONG);
+    let short = readings(&rt, alloc, SHORT);
+    let text = report_of_readings(&rt, alloc);
+    assert!(rt; prints(&rt, alloc, &[&long, &short, &long], 8, 64, &text));
+}
+
+/// Whether a run of these files ends in this fault of a first line, and writes nothing.
+fn ends_before<R: Threads + Wait + Sync>(
+    rt: &R,
+    alloc: Global,
+    texts: &[&str],
+    kind: Kind,
+    file: usize,
+) -> bool {
+    let fault = TraceFault::At {
+        kind,
+        file,
+        line: 1,
+    };
+    let end = Err(GrubFault::Trace(fault));
+    ends(rt, alloc, texts, 8, 64, Expecting::new(b""), end)
 }
 
 #[test]
-fn faults_before_anything_is_written(rt: HostRuntime) -> Result<(), Fail> {
-    let alloc = rt.alloc();
+fn faults_before_anything_is_written(rt: HostRuntime) {
     let texts = ["grub 1\nqueue 1 0\n"; 65];
-    for (texts, kind, file) in [
-        (&texts[..0], Kind::MissingQueue, 0usize),
-        (texts.as_slice(), Kind::OutOfRange, 64),
-    ] {
-        let files = files_of(alloc, texts)?;
-        let mut out: Vec<u8> = Vec::new(alloc);
-        let result = run_texts(&rt, alloc, files, 8, 64, &mut out);
-        let fault = TraceFault::At {
-            kind,
-            file,
-            line: 1,
-        };
-        assert!(rt; result == Err(GrubFault::Trace(fault)));
-        assert!(rt; out.is_empty());
-    }
-    Ok(())
+    assert!(rt; ends_before(&rt, rt.alloc(), &[], Kind::MissingQueue, 0));
+    assert!(rt; ends_before(&rt, rt.alloc(), &texts, Kind::OutOfRange, 64));
 }

@@ -1,13 +1,14 @@
 //! Views from the bytes of files: with refused growths, and with a writer that fails.
 
+use crate::expects::expect_at;
+use crate::files::{files_after_all, files_of};
+use crate::writer::Expecting;
 use grub_run::GrubFault;
 use grub_show::{ShowFault, View, write_view};
 use grub_trace::TraceFault;
 use std::alloc::{AllocError, Global};
-use std::io;
-use std::io::{ErrorKind, Write};
+use std::fmt::Write;
 use std::process::Abort;
-use std::test::Fail;
 use std::thread::Threads;
 
 /// A task that moves from one runqueue to another while it waits for its 0-lag moment.
@@ -62,26 +63,22 @@ runqueue    umax uextra span changes running running-max  this this-max
        1 1048576      0    9       1   33.33       50.00 33.33    50.00
 ";
 
-/// The bytes of the two files, and room for a view of them.
-fn input_of(alloc: Global) -> Result<(Vec<Vec<u8>>, Vec<u8>), AllocError> {
-    let mut files = Vec::with_capacity(alloc, 2)?;
-    for text in [MOVES_FROM, MOVES_TO] {
-        files.push(text.as_bytes().to_vec(alloc)?)?;
+/// Room for a view, made a second time where it was refused.
+fn room_after_all(rt: &impl Abort, alloc: Global) -> Vec<u8> {
+    if let Ok(room) = Vec::with_capacity(alloc, 20000) {
+        return room;
     }
-    let out = Vec::with_capacity(alloc, 20000)?;
-    Ok((files, out))
+    match Vec::with_capacity(alloc, 20000) {
+        Ok(room) => room,
+        Err(_) => panic!(rt; "refused twice"),
+    }
 }
 
 /// What a view of the two files wrote, or the refusal that stopped it, which wrote nothing. The test's own input is made
 /// a second time where a growth of it was refused.
 fn shown<R: Abort + Threads + Sync>(rt: &R, alloc: Global, view: View) -> Option<Vec<u8>> {
-    let made = match input_of(alloc) {
-        Ok(made) => Ok(made),
-        Err(_) => input_of(alloc),
-    };
-    let Ok((files, mut out)) = made else {
-        panic!(rt; "refused twice")
-    };
+    let files = files_after_all(rt, alloc, &[MOVES_FROM, MOVES_TO]);
+    let mut out = room_after_all(rt, alloc);
     match write_view(rt, alloc, files, view, &mut out) {
         Ok(()) => Some(out),
         Err(fault) => {
@@ -144,147 +141,141 @@ fn refused_growths_of_the_picture(rt: HostRuntime) {
     }
 }
 
-/// Takes so many bytes, and fails then.
-#[derive(Drop)]
-struct Short {
-    taken: Vec<u8>,
-    room: usize,
-}
-
-impl Write for Short {
-    fn write(&mut self, buf: &[u8]) -> io::Result<usize> {
-        let left = self.room.saturating_sub(self.taken.len());
-        if left == 0 {
-            return Err(io::Error::from(ErrorKind::Other));
-        }
-        let count = left.min(buf.len());
-        match self.taken.extend_from_slice(&buf[..count]) {
-            Ok(()) => Ok(count),
-            Err(_) => Err(io::Error::from(ErrorKind::OutOfMemory)),
-        }
-    }
-
-    fn flush(&mut self) -> io::Result<()> {
-        Ok(())
-    }
-}
-
-/// Whether a writer that takes so many bytes gets the beginning of this text by a view of the files, and fails if that is
-/// not all of it.
+/// Whether a writer of so much room gets the beginning of this text by a view of these files, and fails if that is not
+/// all of it.
 fn gets<R: Threads + Sync>(
     rt: &R,
     alloc: Global,
-    files: Vec<Vec<u8>>,
+    texts: &[&str],
     view: View,
     room: usize,
-    text: &[u8],
+    text: &str,
 ) -> bool {
-    let mut out = Short {
-        taken: Vec::new(alloc),
-        room,
+    let Some(files) = files_of(alloc, texts) else {
+        return false;
     };
-    let result = write_view(rt, alloc, files, view, &mut out);
+    let text = text.as_bytes();
+    let mut out = Expecting::new(&text[..room.min(text.len())]);
+    out.room = room;
     let wanted = if room < text.len() {
         Err(ShowFault::Grub(GrubFault::WriteFault))
     } else {
         Ok(())
     };
-    result == wanted && text.get(..room.min(text.len())) == Some(out.taken.as_slice())
+    write_view(rt, alloc, files, view, &mut out) == wanted && out.is_met()
 }
+
+/// Views of the two files, their texts, and the room of a writer that fails.
+static CUT_VIEWS: [(View, &str, usize); 12] = [
+    (View::Timeline, LINES, 0),
+    (View::Timeline, LINES, 1),
+    (View::Timeline, LINES, 100),
+    (View::Timeline, LINES, LINES.len() - 1),
+    (View::Steps, STEPS, 0),
+    (View::Steps, STEPS, 1),
+    (View::Steps, STEPS, 100),
+    (View::Steps, STEPS, STEPS.len() - 1),
+    (View::Summary, SUMMARY, 0),
+    (View::Summary, SUMMARY, 1),
+    (View::Summary, SUMMARY, 100),
+    (View::Summary, SUMMARY, SUMMARY.len() - 1),
+];
 
 /// A writer that fails has taken a beginning of the view.
 #[test]
-fn a_writer_that_fails(rt: HostRuntime) -> Result<(), Fail> {
-    let alloc = rt.alloc();
-    for (view, text) in [
-        (View::Timeline, LINES),
-        (View::Steps, STEPS),
-        (View::Summary, SUMMARY),
-    ] {
-        for room in [0usize, 1, 100, text.len().saturating_sub(1)] {
-            let (files, _) = input_of(alloc)?;
-            assert!(rt;
-                gets(&rt, alloc, files, view, room, text.as_bytes()),
-                "{room}"
-            );
-        }
+fn a_writer_that_fails(rt: HostRuntime) {
+    let files = [MOVES_FROM, MOVES_TO];
+    for (view, text, room) in &CUT_VIEWS {
+        expect_at(
+            &rt,
+            gets(&rt, rt.alloc(), &files, *view, *room, text),
+            *room,
+        );
     }
-    Ok(())
 }
 
-/// A file of so many readings.
-fn readings(alloc: Global, count: u32) -> Result<Vec<u8>, AllocError> {
-    let mut file = b"grub 1\nqueue 1048576 0\n".to_vec(alloc)?;
+/// How readings are written: what comes first, what stands before and after the moment of each, and what comes last.
+struct Form {
+    head: &'static str,
+    before: &'static str,
+    after: &'static str,
+    end: &'static str,
+}
+
+const FILE: Form = Form {
+    head: "grub 1\nqueue 1048576 0\n",
+    before: "at ",
+    after: " read\n",
+    end: "",
+};
+
+const READ_LINES: Form = Form {
+    head: "",
+    before: "at ",
+    after: " on 0 read: running=0 this=0\n",
+    end: "close 0 running=0 this=0\n",
+};
+
+const READ_STEPS: Form = Form {
+    head: "moment\trunqueue\task\ttask\targ\tanswer\tdq\tk\tq\td\tz\trunning\tthis\n",
+    before: "",
+    after: "\t0\tread\t\t\tread\t\t\t\t\t\t0\t0\n",
+    end: "",
+};
+
+/// Adds so many readings.
+fn push_readings(text: &mut String, form: &Form, count: u32) -> Result<(), AllocError> {
+    text.push_str(form.head)?;
     for m in 0..count {
-        file.extend_from_slice(format!(in alloc; "at {m} read\n")?.as_bytes())?;
+        text.push_str(form.before)?;
+        write!(text, "{m}")?;
+        text.push_str(form.after)?;
     }
-    Ok(file)
+    text.push_str(form.end)
 }
 
-/// The bytes of one file.
-fn files_of(alloc: Global, file: &[u8]) -> Result<Vec<Vec<u8>>, AllocError> {
-    let mut files = Vec::with_capacity(alloc, 1)?;
-    files.push(file.to_vec(alloc)?)?;
-    Ok(files)
+/// So many readings.
+fn readings(rt: &impl Abort, alloc: Global, form: &Form, count: u32) -> String {
+    let mut text = String::new(alloc);
+    assert!(rt; push_readings(&mut text, form, count).is_ok());
+    text
 }
 
-/// The line of the reading at a moment.
-fn line_of(alloc: Global, m: u32, view: View) -> Result<String, AllocError> {
-    match view {
-        View::Steps => format!(in alloc; "{m}\t0\tread\t\t\tread\t\t\t\t\t\t0\t0\n"),
-        _ => format!(in alloc; "at {m} on 0 read: running=0 this=0\n"),
+/// Expects of a view of many readings what `a_view_of_many_entries` tells.
+fn expect_many<R: Abort + Threads + Sync>(rt: &R, alloc: Global, view: View, form: &Form) {
+    let file = readings(rt, alloc, &FILE, 70_000);
+    let text = readings(rt, alloc, form, 70_000);
+    let almost_all = text.len().saturating_sub(1);
+    for room in &[usize::MAX, 500_000, 1_201_232, 2_000_000, almost_all] {
+        expect_at(rt, gets(rt, alloc, &[&file], view, *room, &text), *room);
     }
-}
-
-/// The text of this view of so many readings.
-fn text_of_readings(alloc: Global, count: u32, view: View) -> Result<Vec<u8>, AllocError> {
-    let (head, end) = match view {
-        View::Steps => (
-            "moment\trunqueue\task\ttask\targ\tanswer\tdq\tk\tq\td\tz\trunning\tthis\n",
-            "",
-        ),
-        _ => ("", "close 0 running=0 this=0\n"),
-    };
-    let mut text = head.as_bytes().to_vec(alloc)?;
-    for m in 0..count {
-        text.extend_from_slice(line_of(alloc, m, view)?.as_bytes())?;
-    }
-    text.extend_from_slice(end.as_bytes())?;
-    Ok(text)
 }
 
 /// More entries than are played at a time, to a writer that takes all of them, and to writers that fail among the first,
 /// between the first and the next, and after those.
 #[test]
-fn a_view_of_many_entries(rt: HostRuntime) -> Result<(), Fail> {
-    let alloc = rt.alloc();
-    for view in [View::Timeline, View::Steps] {
-        let file = readings(alloc, 70_000)?;
-        let text = text_of_readings(alloc, 70_000, view)?;
-        for room in [
-            usize::MAX,
-            500_000,
-            1_201_232,
-            2_000_000,
-            text.len().saturating_sub(1),
-        ] {
-            let files = files_of(alloc, &file)?;
-            assert!(rt; gets(&rt, alloc, files, view, room, &text), "{room}");
-        }
-    }
-    Ok(())
+fn a_view_of_many_entries(rt: HostRuntime) {
+    expect_many(&rt, rt.alloc(), View::Timeline, &READ_LINES);
+    expect_many(&rt, rt.alloc(), View::Steps, &READ_STEPS);
+}
+
+/// Whether both views of so many readings are their texts.
+fn shows_readings<R: Abort + Threads + Sync>(rt: &R, alloc: Global, count: u32) -> bool {
+    let file = readings(rt, alloc, &FILE, count);
+    let lines = readings(rt, alloc, &READ_LINES, count);
+    let steps = readings(rt, alloc, &READ_STEPS, count);
+    gets(rt, alloc, &[&file], View::Timeline, usize::MAX, &lines)
+        && gets(rt, alloc, &[&file], View::Steps, usize::MAX, &steps)
 }
 
 /// As many entries as are worth a thread, as many as are played at a time, and one fewer and one more.
 #[test]
-fn a_view_of_a_chunk_of_entries(rt: HostRuntime) -> Result<(), Fail> {
-    let alloc = rt.alloc();
-    for view in [View::Timeline, View::Steps] {
-        for count in [1023, 1024, 32_765, 32_766, 32_767] {
-            let text = text_of_readings(alloc, count, view)?;
-            let files = files_of(alloc, &readings(alloc, count)?)?;
-            assert!(rt; gets(&rt, alloc, files, view, usize::MAX, &text), "{count}");
-        }
+fn a_view_of_a_chunk_of_entries(rt: HostRuntime) {
+    for count in &[1023u32, 1024, 32_765, 32_766, 32_767] {
+        expect_at(
+            &rt,
+            shows_readings(&rt, rt.alloc(), *count),
+            *count as usize,
+        );
     }
-    Ok(())
 }

@@ -1,17 +1,19 @@
 //! Views of worked examples, and refused growths.
 
+ghost use Rattle.std.specs.Prelude.{◌≡◌, ◌≤◌, IfSome, vec_capacity};
+ghost use Rattle.grub_book.specs.Sums.{opening_book};
+
 use grub_book::Book;
 use grub_lines::Blocks;
 use grub_picture::*;
-use grub_plan::{Plan, report_buffer, write_buffer};
+use grub_plan::{LINE_MAX, Plan, report_buffer, write_buffer};
 use grub_steps::*;
 use grub_summary::*;
-use grub_timeline::{Playing, play};
+use grub_timeline::{Playing, Told, play};
 use grub_trace::read_files;
 use grub_views::*;
-use std::alloc::{AllocError, Global};
+use std::alloc::Global;
 use std::process::Abort;
-use std::test::Fail;
 use std::thread::Threads;
 
 /// The kernel documentation's example of GRUB, in one file.
@@ -125,6 +127,26 @@ enum View {
     Picture,
 }
 
+fn files_of(alloc: Global, texts: &[&str]) -> Option<Vec<Vec<u8>>> {
+    let mut files = Vec::new(alloc);
+    for text in texts {
+        let Ok(bytes) = text.as_bytes().to_vec(alloc) else {
+            return None;
+        };
+        if files.push(bytes).is_err() {
+            return None;
+        }
+    }
+    Some(files)
+}
+
+fn plan_of(alloc: Global, texts: &[&str]) -> Option<Plan> {
+    match files_of(alloc, texts) {
+        Some(files) => read_files(alloc, &files).ok(),
+        None => None,
+    }
+}
+
 /// A view of these files. Each refusal of memory is answered as the view's own.
 fn view_of<R: Threads + Sync>(
     rt: &R,
@@ -132,103 +154,167 @@ fn view_of<R: Threads + Sync>(
     texts: &[&str],
     view: View,
 ) -> Result<Vec<u8>, ViewFault> {
-    let Ok(files) = files_of(alloc, texts) else {
-        return Err(ViewFault::NoMemory);
-    };
-    let Ok(plan) = read_files(alloc, &files) else {
-        return Err(ViewFault::NoMemory);
-    };
-    let Ok(line) = play(alloc, &plan) else {
-        return Err(ViewFault::NoMemory);
-    };
-    match view {
-        View::Lines => lines_of(rt, alloc, &plan),
-        View::Steps => rows_of(rt, alloc, &plan),
-        View::Summary => summary_text(alloc, &plan, &line),
-        View::Picture => picture_text(alloc, &plan, &line, 0, end_of(&line)),
+    match plan_of(alloc, texts) {
+        Some(plan) => view_of_plan(rt, alloc, &plan, view),
+        None => Err(ViewFault::NoMemory),
     }
 }
 
-/// The lines of the time line.
-fn lines_of<R: Threads + Sync>(rt: &R, alloc: Global, plan: &Plan) -> Result<Vec<u8>, ViewFault> {
-    let Ok(playing) = Playing::new(alloc, plan) else {
-        return Err(ViewFault::NoMemory);
-    };
-    let Ok(mut latest) = Vec::with_capacity(alloc, playing.most()) else {
-        return Err(ViewFault::NoMemory);
-    };
-    let Ok(mut buffer) = report_buffer(alloc) else {
-        return Err(ViewFault::NoMemory);
-    };
-    let Ok(mut blocks) = Blocks::new(alloc) else {
-        return Err(ViewFault::NoMemory);
-    };
-    let mut text = Vec::new(alloc);
-    write_timeline(
-        rt,
-        &mut blocks,
-        &mut buffer,
-        &mut text,
-        plan,
-        &mut latest,
-        playing,
-    )
-    .map_err(|_| ViewFault::NoMemory)?;
-    write_buffer(&mut buffer, &mut text).map_err(|_| ViewFault::NoMemory)?;
-    Ok(text)
+fn view_of_plan<R: Threads + Sync>(
+    rt: &R,
+    alloc: Global,
+    plan: &Plan,
+    view: View,
+) -> Result<Vec<u8>, ViewFault> {
+    match view {
+        View::Lines | View::Steps => written(rt, alloc, plan, view),
+        View::Summary | View::Picture => view_of_line(alloc, plan, view),
+    }
 }
 
-/// The steps of the time line.
-fn rows_of<R: Threads + Sync>(rt: &R, alloc: Global, plan: &Plan) -> Result<Vec<u8>, ViewFault> {
-    let Ok(playing) = Playing::new(alloc, plan) else {
+/// A view that is made of the whole time line.
+fn view_of_line(alloc: Global, plan: &Plan, view: View) -> Result<Vec<u8>, ViewFault> {
+    let Ok(line) = play(alloc, plan) else {
         return Err(ViewFault::NoMemory);
     };
-    let Ok(mut latest) = Vec::with_capacity(alloc, playing.most()) else {
-        return Err(ViewFault::NoMemory);
-    };
-    let Ok(mut steps) = Vec::with_capacity(alloc, latest.capacity()) else {
-        return Err(ViewFault::NoMemory);
-    };
-    let Ok(mut book) = Book::new(alloc, plan.setup()) else {
-        return Err(ViewFault::NoMemory);
-    };
+    match view {
+        View::Picture => picture_text(alloc, plan, &line, 0, end_of(&line)),
+        _ => summary_text(alloc, plan, &line),
+    }
+}
+
+/// A view that is written while the time line is played.
+fn written<R: Threads + Sync>(
+    rt: &R,
+    alloc: Global,
+    plan: &Plan,
+    view: View,
+) -> Result<Vec<u8>, ViewFault> {
     let Ok(mut buffer) = report_buffer(alloc) else {
         return Err(ViewFault::NoMemory);
     };
-    let Ok(mut blocks) = Blocks::new(alloc) else {
-        return Err(ViewFault::NoMemory);
-    };
     let mut text = Vec::new(alloc);
+    let is_played = match view {
+        View::Lines => play_lines(rt, alloc, plan, &mut buffer, &mut text),
+        _ => play_steps(rt, alloc, plan, &mut buffer, &mut text),
+    };
+    if is_played && write_buffer(&mut buffer, &mut text).is_ok() {
+        Ok(text)
+    } else {
+        Err(ViewFault::NoMemory)
+    }
+}
+
+/// Plays the lines of the time line, and says whether there was memory.
+fn play_lines<R: Threads + Sync>(
+    rt: &R,
+    alloc: Global,
+    plan: &Plan,
+    buffer: &mut Vec<u8>,
+    text: &mut Vec<u8>,
+) -> bool
+    requires { LINE_MAX ≤ vec_capacity buffer.old }
+{
+    let Ok(mut blocks) = Blocks::new(alloc) else {
+        return false;
+    };
+    let Ok(playing) = Playing::new(alloc, plan) else {
+        return false;
+    };
+    let Ok(mut latest) = Vec::with_capacity(alloc, playing.most()) else {
+        return false;
+    };
+    write_timeline(rt, &mut blocks, buffer, text, plan, &mut latest, playing).is_ok()
+}
+
+/// Plays the steps of the time line, and says whether there was memory.
+fn play_steps<R: Threads + Sync>(
+    rt: &R,
+    alloc: Global,
+    plan: &Plan,
+    buffer: &mut Vec<u8>,
+    text: &mut Vec<u8>,
+) -> bool
+    requires { LINE_MAX ≤ vec_capacity buffer.old }
+{
+    let Ok(mut blocks) = Blocks::new(alloc) else {
+        return false;
+    };
+    match Book::new(alloc, plan.setup()) {
+        Ok(mut book) => replay_steps(rt, alloc, plan, &mut blocks, buffer, text, &mut book),
+        Err(_) => false,
+    }
+}
+
+/// Room for the entries of so many, and for their steps.
+fn room_for(alloc: Global, most: usize) -> Option<(Vec<Told>, Vec<Step>)>
+    ensures { IfSome result
+        (λ room. (most ≤ vec_capacity room.0) × (vec_capacity room.0 ≤ vec_capacity room.1)) }
+{
+    let Ok(latest) = Vec::with_capacity(alloc, most) else {
+        return None;
+    };
+    match Vec::with_capacity(alloc, latest.capacity()) {
+        Ok(steps) => Some((latest, steps)),
+        Err(_) => None,
+    }
+}
+
+/// The same with a book of which nothing was asked yet.
+fn replay_steps<R: Threads + Sync>(
+    rt: &R,
+    alloc: Global,
+    plan: &Plan,
+    blocks: &mut Blocks,
+    buffer: &mut Vec<u8>,
+    text: &mut Vec<u8>,
+    book: &mut Book<'_>,
+) -> bool
+    requires setup { book.old.setup ≡ plan.now.setup }
+    requires book { book.old.records ≡ opening_book plan.now.setup }
+    requires room { LINE_MAX ≤ vec_capacity buffer.old }
+{
+    let Ok(playing) = Playing::new(alloc, plan) else {
+        return false;
+    };
+    let Some((mut latest, mut steps)) = room_for(alloc, playing.most()) else {
+        return false;
+    };
     write_steps(
         rt,
-        &mut blocks,
-        &mut buffer,
-        &mut text,
+        blocks,
+        buffer,
+        text,
         plan,
-        &mut book,
+        book,
         &mut latest,
         &mut steps,
         playing,
     )
-    .map_err(|_| ViewFault::NoMemory)?;
-    write_buffer(&mut buffer, &mut text).map_err(|_| ViewFault::NoMemory)?;
-    Ok(text)
+    .is_ok()
 }
 
-fn files_of(alloc: Global, texts: &[&str]) -> Result<Vec<Vec<u8>>, AllocError> {
-    let mut files = Vec::new(alloc);
-    for text in texts {
-        files.push(text.as_bytes().to_vec(alloc)?)?;
-    }
-    Ok(files)
-}
-
-/// Expects that a view is this text, or that memory was refused.
-fn expect_view(rt: &impl Abort, view: Result<Vec<u8>, ViewFault>, text: &str) {
+/// Whether a view is this text, or memory was refused.
+fn is_right(view: Result<Vec<u8>, ViewFault>, text: &str) -> bool {
     match view {
-        Ok(view) => assert_eq!(rt; view.as_slice(), text.as_bytes()),
-        Err(fault) => assert!(rt; fault == ViewFault::NoMemory),
+        Ok(view) => view.as_slice() == text.as_bytes(),
+        Err(fault) => fault == ViewFault::NoMemory,
     }
+}
+
+/// Expects that a view of the documentation's file, and of the files of a task that moves, is this text, or that memory
+/// was refused.
+fn expect_views<R: Abort + Threads + Sync>(
+    rt: &R,
+    alloc: Global,
+    view: View,
+    documentation: &str,
+    moving: &str,
+) {
+    let one = view_of(rt, alloc, &[DOCUMENTATION], view);
+    assert!(rt; is_right(one, documentation));
+    let two = view_of(rt, alloc, &[MOVES_FROM, MOVES_TO], view);
+    assert!(rt; is_right(two, moving));
 }
 
 // The next four pass with ample memory, and with any one of their growths refused: `scripts/refused-growths.sh` runs them
@@ -237,55 +323,61 @@ fn expect_view(rt: &impl Abort, view: Result<Vec<u8>, ViewFault>, text: &str) {
 #[test]
 fn refused_growths_of_lines(rt: HostRuntime) {
     let alloc = rt.alloc();
-    let one = view_of(&rt, alloc, [DOCUMENTATION].as_slice(), View::Lines);
-    expect_view(&rt, one, DOCUMENTATION_LINES);
-    let two = view_of(&rt, alloc, [MOVES_FROM, MOVES_TO].as_slice(), View::Lines);
-    expect_view(&rt, two, MOVING_LINES);
+    expect_views(&rt, alloc, View::Lines, DOCUMENTATION_LINES, MOVING_LINES);
 }
 
 #[test]
 fn refused_growths_of_steps(rt: HostRuntime) {
     let alloc = rt.alloc();
-    let one = view_of(&rt, alloc, [DOCUMENTATION].as_slice(), View::Steps);
-    expect_view(&rt, one, DOCUMENTATION_STEPS);
-    let two = view_of(&rt, alloc, [MOVES_FROM, MOVES_TO].as_slice(), View::Steps);
-    expect_view(&rt, two, MOVING_STEPS);
+    expect_views(&rt, alloc, View::Steps, DOCUMENTATION_STEPS, MOVING_STEPS);
 }
 
 #[test]
 fn refused_growths_of_the_summary(rt: HostRuntime) {
     let alloc = rt.alloc();
-    let one = view_of(&rt, alloc, [DOCUMENTATION].as_slice(), View::Summary);
-    expect_view(&rt, one, DOCUMENTATION_SUMMARY);
-    let two = view_of(&rt, alloc, [MOVES_FROM, MOVES_TO].as_slice(), View::Summary);
-    expect_view(&rt, two, MOVING_SUMMARY);
+    expect_views(
+        &rt,
+        alloc,
+        View::Summary,
+        DOCUMENTATION_SUMMARY,
+        MOVING_SUMMARY,
+    );
+}
+
+/// Whether a picture is made, or memory was refused.
+fn is_picture(view: Result<Vec<u8>, ViewFault>) -> bool {
+    match view {
+        Ok(view) => view.starts_with(b"<svg "),
+        Err(fault) => fault == ViewFault::NoMemory,
+    }
 }
 
 #[test]
 fn refused_growths_of_the_picture(rt: HostRuntime) {
-    match view_of(
-        &rt,
-        rt.alloc(),
-        [MOVES_FROM, MOVES_TO].as_slice(),
-        View::Picture,
-    ) {
-        Ok(view) => assert!(rt; view.starts_with(b"<svg ")),
-        Err(fault) => assert!(rt; fault == ViewFault::NoMemory),
+    let view = view_of(&rt, rt.alloc(), &[MOVES_FROM, MOVES_TO], View::Picture);
+    assert!(rt; is_picture(view));
+}
+
+/// Whether a view of the files of a task that moves is made.
+fn is_made<R: Threads + Sync>(rt: &R, alloc: Global, view: View) -> bool {
+    view_of(rt, alloc, &[MOVES_FROM, MOVES_TO], view).is_ok()
+}
+
+/// Whether the fault of a view is told by its number.
+fn is_told(alloc: Global) -> bool {
+    match format!(in alloc; "{}", ViewFault::NoMemory) {
+        Ok(text) => text.as_str() == "48 NoMemory",
+        Err(_) => false,
     }
 }
 
 /// With ample memory each view is made.
 #[test]
-fn views_are_made(rt: HostRuntime) -> Result<(), Fail> {
+fn views_are_made(rt: HostRuntime) {
     let alloc = rt.alloc();
-    let files = [MOVES_FROM, MOVES_TO];
-    assert!(rt; view_of(&rt, alloc, files.as_slice(), View::Lines).is_ok());
-    assert!(rt; view_of(&rt, alloc, files.as_slice(), View::Steps).is_ok());
-    assert!(rt; view_of(&rt, alloc, files.as_slice(), View::Summary).is_ok());
-    assert!(rt; view_of(&rt, alloc, files.as_slice(), View::Picture).is_ok());
-    assert_eq!(rt;
-        format!(in alloc; "{}", ViewFault::NoMemory)?.as_str(),
-        "48 NoMemory"
-    );
-    Ok(())
+    assert!(rt; is_made(&rt, alloc, View::Lines));
+    assert!(rt; is_made(&rt, alloc, View::Steps));
+    assert!(rt; is_made(&rt, alloc, View::Summary));
+    assert!(rt; is_made(&rt, alloc, View::Picture));
+    assert!(rt; is_told(alloc));
 }

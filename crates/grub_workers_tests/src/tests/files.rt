@@ -4,53 +4,95 @@ ghost use Rattle.grub_workers.specs.Runs.{AllAsksOf};
 
 use grub_trace::{Plan, TextFault, TraceFault, read_files, report_of};
 use grub_workers::{Gate, Outcome, RunFault, run};
-use std::alloc::{AllocError, Global};
+use std::alloc::Global;
 use std::sync::Wait;
 use std::thread::Threads;
 
-/// Why a test's run gave no text.
-#[derive(Debug, Drop)]
+/// Why a test's run gave no text: memory was refused, or the start of a thread, or else there is a fault. It owns nothing,
+/// so that what returns it has nothing to drop.
+#[derive(Clone, Copy)]
 pub enum Refusal {
-    Memory(AllocError),
-    Trace(TraceFault),
-    Run(RunFault),
-    Text(TextFault),
+    Memory,
+    Fault,
 }
 
 /// A file of version 1 with a whole processor for its runqueue, and these lines.
-fn file(alloc: Global, lines: &[u8]) -> Result<Vec<u8>, AllocError> {
-    let mut file = Vec::new(alloc);
-    file.extend_from_slice(b"grub 1\nqueue 1048576 0\n")?;
-    file.extend_from_slice(lines)?;
-    Ok(file)
+fn file(alloc: Global, lines: &[u8]) -> Result<Vec<u8>, Refusal> {
+    let head = b"grub 1\nqueue 1048576 0\n".as_slice();
+    match [head, lines].concat(alloc) {
+        Ok(file) => Ok(file),
+        Err(_) => Err(Refusal::Memory),
+    }
 }
 
-fn files(alloc: Global, all: &[&[u8]]) -> Result<Vec<Vec<u8>>, AllocError> {
+fn files(alloc: Global, all: &[&[u8]]) -> Result<Vec<Vec<u8>>, Refusal> {
     let mut files = Vec::new(alloc);
     for lines in all {
-        files.push(file(alloc, lines)?)?;
+        let Ok(file) = file(alloc, lines) else {
+            return Err(Refusal::Memory);
+        };
+        if files.push(file).is_err() {
+            return Err(Refusal::Memory);
+        }
     }
     Ok(files)
 }
 
 /// The plan of such files.
 fn plan_of(alloc: Global, all: &[&[u8]]) -> Result<Plan, Refusal> {
-    let files = files(alloc, all).map_err(Refusal::Memory)?;
-    read_files(alloc, &files).map_err(Refusal::Trace)
+    let Ok(files) = files(alloc, all) else {
+        return Err(Refusal::Memory);
+    };
+    match read_files(alloc, &files) {
+        Ok(plan) => Ok(plan),
+        Err(TraceFault::NoMemory) => Err(Refusal::Memory),
+        Err(_) => Err(Refusal::Fault),
+    }
 }
 
-/// The texts of all reports, in the order of the files.
-fn text_of(alloc: Global, plan: &Plan, outcome: &Outcome) -> Result<Vec<u8>, Refusal>
+/// Adds the texts of all reports, in the order of the files.
+fn push_reports(
+    alloc: Global,
+    plan: &Plan,
+    outcome: &Outcome,
+    text: &mut Vec<u8>,
+) -> Result<(), Refusal>
     requires { AllAsksOf plan.now outcome.now.reports.items }
 {
-    let mut text = Vec::new(alloc);
     let mut r = 0u32;
     for (report, closing) in outcome.reports.iter().zip(&outcome.closing) {
-        let part = report_of(alloc, plan, r, report, *closing).map_err(Refusal::Text)?;
-        text.extend_from_slice(&part).map_err(Refusal::Memory)?;
+        let part = match report_of(alloc, plan, r, report, *closing) {
+            Ok(part) => part,
+            Err(TextFault::NoMemory) => return Err(Refusal::Memory),
+        };
+        if text.extend_from_slice(&part).is_err() {
+            return Err(Refusal::Memory);
+        }
         r = r.saturating_add(1);
     }
-    Ok(text)
+    Ok(())
+}
+
+/// The texts of the reports of a run of this plan.
+fn text_of<R: Threads + Wait, G: Gate>(
+    rt: &R,
+    alloc: Global,
+    plan: &Plan,
+    tries: u8,
+    rounds: u16,
+    gate: &G,
+) -> Result<Vec<u8>, Refusal>
+    requires { 1 ≤ rounds }
+{
+    let outcome = match run(rt, alloc, plan, tries, rounds, gate) {
+        Ok(outcome) => outcome,
+        Err(RunFault::NoMemory | RunFault::Spawn) => return Err(Refusal::Memory),
+    };
+    let mut text = Vec::new(alloc);
+    match push_reports(alloc, plan, &outcome, &mut text) {
+        Ok(()) => Ok(text),
+        Err(refusal) => Err(refusal),
+    }
 }
 
 /// Runs such files, and gives the texts of their reports.
@@ -64,7 +106,26 @@ pub(crate) fn run_files<R: Threads + Wait, G: Gate>(
 ) -> Result<Vec<u8>, Refusal>
     requires { 1 ≤ rounds }
 {
-    let plan = plan_of(alloc, all)?;
-    let outcome = run(rt, alloc, &plan, tries, rounds, gate).map_err(Refusal::Run)?;
-    text_of(alloc, &plan, &outcome)
+    match plan_of(alloc, all) {
+        Ok(plan) => text_of(rt, alloc, &plan, tries, rounds, gate),
+        Err(refusal) => Err(refusal),
+    }
+}
+
+/// Whether a run of such files has this text.
+pub(crate) fn writes<R: Threads + Wait, G: Gate>(
+    rt: &R,
+    alloc: Global,
+    all: &[&[u8]],
+    tries: u8,
+    rounds: u16,
+    gate: &G,
+    text: &[u8],
+) -> bool
+    requires { 1 ≤ rounds }
+{
+    match run_files(rt, alloc, all, tries, rounds, gate) {
+        Ok(found) => found.as_slice() == text,
+        Err(_) => false,
+    }
 }
