@@ -2,10 +2,10 @@
 
 use std::process::Abort;
 
-pub fn expect_case(rt: &impl Abort, holds: bool, case: &str) {
+pub(crate) fn expect_case(rt: &impl Abort, holds: bool, case: &str) {
     assert!(rt; holds, "{case}");
 }
 
-pub fn expect_at(rt: &impl Abort, holds: bool, case: usize) {
+pub(crate) fn expect_at(rt: &impl Abort, holds: bool, case: usize) {
     assert!(rt; holds, "{case}");
 }

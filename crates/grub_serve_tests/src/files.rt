@@ -144,7 +144,7 @@ close running=0 this=0
 ";
 
 /// The bytes of these files; None where memory is refused.
-pub fn files_of(alloc: Global, texts: &[&str]) -> Option<Vec<Vec<u8>>> {
+pub(crate) fn files_of(alloc: Global, texts: &[&str]) -> Option<Vec<Vec<u8>>> {
     let mut files = Vec::new(alloc);
     for text in texts {
         let Ok(bytes) = text.as_bytes().to_vec(alloc) else {
@@ -158,7 +158,7 @@ pub fn files_of(alloc: Global, texts: &[&str]) -> Option<Vec<Vec<u8>>> {
 }
 
 /// The same, made a second time where a growth of it was refused.
-pub fn files_after_all(rt: &impl Abort, alloc: Global, texts: &[&str]) -> Vec<Vec<u8>> {
+pub(crate) fn files_after_all(rt: &impl Abort, alloc: Global, texts: &[&str]) -> Vec<Vec<u8>> {
     if let Some(files) = files_of(alloc, texts) {
         return files;
     }

@@ -25,7 +25,7 @@ pub struct Expecting<'a> {
 
 impl<'a> Expecting<'a> {
     /// Takes whatever it is given.
-    pub fn new(text: &'a [u8]) -> Expecting<'a> {
+    pub(crate) fn new(text: &'a [u8]) -> Expecting<'a> {
         Expecting {
             rest: text,
             is_right: true,
@@ -37,12 +37,12 @@ impl<'a> Expecting<'a> {
     }
 
     /// Whether it took none of this text, which it expects, and nothing else.
-    pub fn is_untouched(&self, text: &str) -> bool {
+    pub(crate) fn is_untouched(&self, text: &str) -> bool {
         self.is_right && self.rest.len() == text.len()
     }
 
     /// Whether it took the whole text, and nothing else.
-    pub fn is_met(&self) -> bool {
+    pub(crate) fn is_met(&self) -> bool {
         self.is_right && self.rest.is_empty()
     }
 }
