@@ -23,6 +23,8 @@ from crates import LIBRARIES, ROOT, crates, files_below, kit_folder, lanes, sum_
 
 BUILD = f"{ROOT}/out/build"
 ROOM = 2_500_000
+# How far behind the crate for which most others wait those beside it stand, as `nice` has it.
+BEHIND = 5
 
 
 def say(text):
@@ -54,8 +56,8 @@ class Work:
             return False
         return text_of(self.noted) == f"{self.reads()} {sum_of(self.made)}"
 
-    def begin(self, share, jobs):
-        """Starts the proof, and of a program also the build, on this share of the processors."""
+    def begin(self, share, jobs, nice):
+        """Starts the proof, and of a program also the build, on this share of the processors, this much behind others."""
         self.state, self.share, self.began, self.read = "runs", share, time.time(), self.reads()
         words = [*self.crate.words(self.kit, dict.fromkeys(self.crate.below, LIBRARIES)), "--jobs", str(jobs)]
         if self.crate.is_program:
@@ -64,7 +66,7 @@ class Work:
             words += ["--statements", "-o", self.made]
         how = {"cwd": self.crate.folder, "stdin": subprocess.DEVNULL, "stderr": subprocess.STDOUT, "start_new_session": True}
         with open(self.log, "w", encoding="utf-8") as out:
-            self.process = subprocess.Popen([f"{self.kit}/bin/rattle", "build", *words], stdout=out, **how)
+            self.process = subprocess.Popen(["nice", "-n", str(nice), f"{self.kit}/bin/rattle", "build", *words], stdout=out, **how)
 
     def link(self):
         os.makedirs(os.path.dirname(self.made), exist_ok=True)
@@ -106,7 +108,7 @@ def in_order(works):
 
 def begin_more(works, order, most):
     """Starts what can be proved now, and says whether something was found that need not be. The free processors are shared out; the first in order
-    of all that is left, for which most others wait, gets a job for each processor."""
+    of all that is left, for which most others wait, gets a job for each processor, and goes before those beside it."""
     left = [works[it] for it in order if works[it].state in ("waits", "runs")]
     ready = [it for it in left if it.state == "waits" and all(works[low].state == "made" for low in it.crate.below)]
     made = [it for it in ready if not it.looked and it.is_made()]
@@ -116,7 +118,8 @@ def begin_more(works, order, most):
     for at, work in enumerate([] if made else ready):
         share = -(-free // (len(ready) - at))
         if share > 0:
-            work.begin(share, most if work is left[0] else share)
+            is_first = work is left[0]
+            work.begin(share, most if is_first else share, 0 if is_first else BEHIND)
             free -= share
     return bool(made)
 
