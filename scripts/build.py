@@ -19,12 +19,14 @@ import subprocess
 import sys
 import time
 
-from crates import LIBRARIES, ROOT, crates, files_below, kit_folder, lanes, sum_of, text_of
+from crates import LIBRARIES, ROOT, crates, files_below, kit_folder, known_seconds, lanes, sum_of, text_of
 
 BUILD = f"{ROOT}/out/build"
 ROOM = 2_500_000
-# How far behind the crate for which most others wait those beside it stand, as `nice` has it.
-BEHIND = 5
+# How many more crates are begun than there are processors: those for which fewer wait take what the others leave.
+SPARE = 2
+# How far each stands behind the one for which more wait, as `nice` has it.
+BEHIND = 6
 
 
 def say(text):
@@ -34,12 +36,11 @@ def say(text):
 class Work:
     """The proof of one crate: what it reads, what it makes, and the process that is at it."""
 
-    def __init__(self, crate, kit):
+    def __init__(self, crate, kit, seconds):
         self.crate, self.kit, self.state, self.looked = crate, kit, "waits", False
         self.made = f"{LIBRARIES}/{crate.name}.rlib" if not crate.is_program else f"{crate.folder}/out/{crate.name}"
         self.log, self.noted = f"{BUILD}/{crate.name}.log", f"{BUILD}/{crate.name}.made"
-        own = [it for part in ("src", "specs", "proofs") for it in files_below(f"{crate.folder}/{part}")]
-        self.lines = sum(text_of(it).count("\n") for it in own)
+        self.seconds = seconds
 
     def reads(self):
         """A sum of all that its proof reads: its text, the libraries below it, and the kit."""
@@ -56,15 +57,16 @@ class Work:
             return False
         return text_of(self.noted) == f"{self.reads()} {sum_of(self.made)}"
 
-    def begin(self, share, jobs, nice):
-        """Starts the proof, and of a program also the build, on this share of the processors, this much behind others."""
-        self.state, self.share, self.began, self.read = "runs", share, time.time(), self.reads()
+    def begin(self, jobs, nice):
+        """Starts the proof, and of a program also the build, with so many jobs, this much behind others."""
+        self.state, self.began, self.read = "runs", time.time(), self.reads()
         words = [*self.crate.words(self.kit, dict.fromkeys(self.crate.below, LIBRARIES)), "--jobs", str(jobs)]
         if self.crate.is_program:
             words += ["--toolchain", f"{self.kit}/toolchain", "--backend", "llvm", "-o", f"{BUILD}/{self.crate.name}.o"]
         else:
             words += ["--statements", "-o", self.made]
-        how = {"cwd": self.crate.folder, "stdin": subprocess.DEVNULL, "stderr": subprocess.STDOUT, "start_new_session": True}
+        # (a group of its own, for `stop`, and no session: where Linux shares the processors out by sessions, `nice` says nothing between two of them)
+        how = {"cwd": self.crate.folder, "stdin": subprocess.DEVNULL, "stderr": subprocess.STDOUT, "preexec_fn": os.setpgrp}
         with open(self.log, "w", encoding="utf-8") as out:
             self.process = subprocess.Popen(["nice", "-n", str(nice), f"{self.kit}/bin/rattle", "build", *words], stdout=out, **how)
 
@@ -98,29 +100,27 @@ class Work:
 
 
 def in_order(works):
-    """Those that most has to be proved after, first: a crate's lines, and those of the longest way from it to a program."""
+    """Those that most has to be proved after, first: a crate's seconds, and those of the longest way from it to a program."""
     behind = dict.fromkeys(works, 0)
     for name in sorted(works, key=lambda it: -len(works[it].crate.below)):
         for low in works[name].crate.below:
-            behind[low] = max(behind[low], behind[name] + works[name].lines)
-    return sorted(works, key=lambda it: -behind[it] - works[it].lines)
+            behind[low] = max(behind[low], behind[name] + works[name].seconds)
+    return sorted(works, key=lambda it: -behind[it] - works[it].seconds)
 
 
 def begin_more(works, order, most):
-    """Starts what can be proved now, and says whether something was found that need not be. The free processors are shared out; the first in order
-    of all that is left, for which most others wait, gets a job for each processor, and goes before those beside it."""
+    """Starts what can be proved now, and says whether something was found that need not be. Of all that could be at work, that for which most others
+    wait gets a job for each processor; each of the others has one, and goes behind those before it."""
     left = [works[it] for it in order if works[it].state in ("waits", "runs")]
-    ready = [it for it in left if it.state == "waits" and all(works[low].state == "made" for low in it.crate.below)]
-    made = [it for it in ready if not it.looked and it.is_made()]
+    able = [it for it in left if it.state == "runs" or all(works[low].state == "made" for low in it.crate.below)]
+    waiting = [it for it in able if it.state == "waits"]
+    made = [it for it in waiting if not it.looked and it.is_made()]
     for work in made:
         work.state = "made"
-    free = most - sum(it.share for it in left if it.state == "runs")
-    for at, work in enumerate([] if made else ready):
-        share = -(-free // (len(ready) - at))
-        if share > 0:
-            is_first = work is left[0]
-            work.begin(share, most if is_first else share, 0 if is_first else BEHIND)
-            free -= share
+    free = most - (len(able) - len(waiting))
+    for work in [] if made else waiting[:free]:
+        rank = able.index(work)
+        work.begin(1 if rank else len(os.sched_getaffinity(0)), min(19, BEHIND * rank))
     return bool(made)
 
 
@@ -135,7 +135,7 @@ def build(works, most):
             if not told and any(it.state == "runs" for it in works.values()):
                 told = True
                 left = sum(it.state != "made" for it in works.values())
-                say(f"build: {left} of {len(works)} crates to prove, {most} at a time")
+                say(f"build: {left} of {len(works)} crates to prove, at most {most} at a time")
             running = [it for it in works.values() if it.state == "runs"]
             if not running:
                 break
@@ -180,10 +180,10 @@ def main(programs):
         except BlockingIOError:
             say("build: waiting for another build")
             fcntl.flock(lock, fcntl.LOCK_EX)
-        kit, most = kit_folder(), lanes(ROOM)
+        kit, seconds = kit_folder(), known_seconds()
         names = list(dict.fromkeys(low for it in programs for low in [*known[it].below, it]))
-        works = {it: Work(known[it], kit) for it in names}
-        return 0 if build(works, most) else 1
+        works = {it: Work(known[it], kit, seconds.get(it, 0)) for it in names}
+        return 0 if build(works, lanes(ROOM, SPARE)) else 1
 
 
 if __name__ == "__main__":

@@ -69,13 +69,19 @@ def crates():
     return found
 
 
+def known_seconds():
+    """How long the proof of each crate takes, as far as it is known."""
+    lines = [it.split() for it in text_of(f"{ROOT}/scripts/seconds.txt").split("\n") if it and not it.startswith("#")]
+    return {name: int(seconds) for name, seconds in lines}
+
+
 def kit_folder():
     """The folder of the kit, whose first page `rt doc` names."""
     page = subprocess.run(["rt", "doc"], stdout=subprocess.PIPE, text=True, check=True).stdout
     return os.path.dirname(os.path.realpath(page.strip()))
 
 
-def lanes(room):
-    """How many jobs may run at once, where each takes so many kB of memory."""
+def lanes(room, spare=0):
+    """How many jobs may run at once, where each takes so many kB of memory: one for each processor, and so many to spare."""
     free = next(int(it.split()[1]) for it in text_of("/proc/meminfo").split("\n") if it.startswith("MemAvailable:"))
-    return max(1, min(len(os.sched_getaffinity(0)), free // room))
+    return max(1, min(len(os.sched_getaffinity(0)) + spare, free // room))

@@ -1,13 +1,13 @@
 #!/usr/bin/env python3
 """Tries the must-fail edits in crates/NAME/edits: the prover must refuse each in a function that it turns.
 
-edits.py [--look] [--anew] [--minutes N] [NAME | NAME/EDIT]..: those of these crates, or these edits, or all. Each crate is checked
-over the libraries that `rt ci` or scripts/build.py left, first as it stands and then with as many edits at once as turn different
-functions: a function is proved from the contracts of those that it calls, so what one edit turns takes no proof from another.
-Of the crate only the functions that edits turn are checked, with those that they call. An edit for which two such checks tell
-nothing is tried alone, in a check of all. What was refused is kept on this machine, and not tried again, but with --anew,
-until something changes that its check read. With --look none is tried: it says which cannot be applied. What was not tried when N minutes
-are over has failed. The last line is 'N passed, M failed'.
+edits.py [--look] [--anew] [--proved] [--minutes N] [NAME | NAME/EDIT]..: those of these crates, or these edits, or all. Each crate is
+checked over the libraries that `rt ci` or scripts/build.py left, first as it stands and then with as many edits at once as turn different
+functions: a function is proved from the contracts of those that it calls, so what one edit turns takes no proof from another. With --proved
+it is not checked as it stands: that is for a gate that has just seen it proved. Of the crate only the functions that edits turn are
+checked, with those that they call. An edit for which two such checks tell nothing is tried alone, in a check of all. What was refused is
+kept on this machine, and not tried again, but with --anew, until something changes that its check read. With --look none is tried: it
+says which cannot be applied. What was not tried when N minutes are over has failed. The last line is 'N passed, M failed'.
 """
 import os
 import re
@@ -19,12 +19,14 @@ import time
 from concurrent.futures import ThreadPoolExecutor
 from typing import NamedTuple
 
-from crates import LIBRARIES, ROOT, crates, kit_folder, lanes, text_of
+from crates import LIBRARIES, ROOT, crates, kit_folder, known_seconds, lanes, text_of
 from kept import Kept, forget_old
 
 PARTS = ("src", "specs", "proofs")
 # A check takes up to so many kB of memory, and no check that goes well so many seconds.
 ROOM, LONGEST = 2_500_000, 1800
+# About so many seconds an edit takes, beside the proof of its crate.
+EACH = 5
 
 FUNCTION = re.compile(r"^( *)(?:pub(?:\(\w+\))? )?(?:const )?fn (\w+)")
 TYPE = re.compile(r"^ *(?:impl|trait)(?:<.*?>)? (?:([\w:]+)(?:<.*>)? for )?&?([\w:]+)")
@@ -145,30 +147,42 @@ def refused_at(functions, said):
     """Where the prover refuses one of these functions for itself, and not for one that it calls, or None."""
     places = [(path, int(line) - 1) for path, line in UNPROVED.findall(said)]
     for name, why in VERDICT.findall(said):
-        if any(it.is_named(name) for it in functions if it) and (CALLEES.sub("", why) or not why):
-            path = name.split("::", 1)[1].replace("::", "/")
-            told = re.findall(rf"^\./proofs/{path}/\w+\.antt:\d+:\d+: error: (.*)$", said, re.M)
-            at_goal = any(it.has(*place) for it in functions if it for place in places)
-            if at_goal or not told or not all(LACKS.search(it) for it in told):
+        if not any(it.is_named(name) for it in functions if it):
+            continue
+        path = name.split("::", 1)[1].replace("::", "/")
+        told = re.findall(rf"^\./proofs/{path}/\w+\.antt:\d+:\d+: error: (.*)$", said, re.M)
+        if any(not LACKS.search(it) for it in told):
+            # (an answer that no longer fits: what it says of a call rests on that call's contract alone)
+            return f"at {name}"
+        if CALLEES.sub("", why) or not why:
+            if not told or any(it.has(*place) for it in functions if it for place in places):
                 return f"at {name}"
             if any(GONE.search(it) for it in told):
                 return f"at the proof of {name}, which names what the edit takes away"
     return None
 
 
+class How(NamedTuple):
+    """How edits are tried: until which time, also those that were refused earlier, and whether their crates were just proved."""
+
+    end: float
+    anew: bool
+    is_proved: bool
+
+
 class Trial:
     """The checks of one crate."""
 
-    def __init__(self, crate, kit, libraries, room, end, anew):
-        self.end, self.anew, self.kept, self.by_name = end, anew, Kept(crate, kit, libraries), True
+    def __init__(self, crate, kit, libraries, room, how):
+        self.how, self.kept, self.by_name = how, Kept(crate, kit, libraries), True
         self.crate, self.kit, self.libraries, self.room, self.checks, self.began = crate, kit, libraries, f"{room}/{crate.name}", 0, time.time()
 
     def check(self, edits, functions):
-        """Checks these functions, or all if there are none, in a copy of the crate with these edits, over what was proved of it as it stands."""
+        """Checks these functions, or all if there are none, in a copy of the crate with these edits, over what earlier checks of it proved: a check
+        takes what none of its edits touches."""
         self.checks += 1
         tree, kept = f"{self.room}/tree", f"{self.room}/kept"
-        for it in (tree, kept):
-            shutil.rmtree(it, ignore_errors=True)
+        shutil.rmtree(tree, ignore_errors=True)
         for part in PARTS:
             if os.path.isdir(f"{self.crate.folder}/{part}"):
                 shutil.copytree(f"{self.crate.folder}/{part}", f"{tree}/{part}")
@@ -180,42 +194,40 @@ class Trial:
                         lines[at] = text
             with open(f"{tree}/{path}", "w", encoding="utf-8") as it:
                 it.write("\n".join(lines))
-        if edits:
-            shutil.copytree(f"{self.room}/seed", kept, copy_function=link)
-        else:
-            self.plant_seed()
-        words = [f"{self.kit}/bin/rattle", "check", *self.crate.words(self.kit, self.libraries), "--jobs", "1", "--incremental", kept if edits else f"{self.room}/seed"]
+        self.plant(kept)
+        words = [f"{self.kit}/bin/rattle", "check", *self.crate.words(self.kit, self.libraries), "--jobs", "1", "--incremental", kept]
         words += [word for it in sorted({of.path_in_crate for of in functions}) for word in ("--only", it)]
         how = {"cwd": tree, "stdin": subprocess.DEVNULL, "stdout": subprocess.PIPE, "stderr": subprocess.STDOUT, "errors": "replace"}
-        most = max(1, min(LONGEST, self.end - time.time()))
+        most = max(1, min(LONGEST, self.how.end - time.time()))
         try:
             ran = subprocess.run(words, timeout=most, **how)
         except subprocess.TimeoutExpired:
             return 3, f"no end after {most:.0f} s"
         return ran.returncode, ran.stdout
 
-    def plant_seed(self):
+    def plant(self, kept):
         """Begins with what checks of this folder kept, where there is any."""
-        kept = f"{self.crate.folder}/out/incremental"
-        if os.path.isdir(kept):
-            shutil.copytree(kept, f"{self.room}/seed", copy_function=link)
-        else:
-            os.makedirs(f"{self.room}/seed")
+        of_crate = f"{self.crate.folder}/out/incremental"
+        if not os.path.isdir(kept):
+            if os.path.isdir(of_crate):
+                shutil.copytree(of_crate, kept, copy_function=link)
+            else:
+                os.makedirs(kept)
 
-    def check_as_it_stands(self, edits):
-        """Checks the functions that these edits turn, or all where an edit turns none, or where the prover does not know one by its name."""
-        turned = {of for it in edits for of in it.functions}
-        status, said = self.check([], turned if None not in turned else set())
-        if status == 2:
+    def check_turned(self, edits, turned):
+        """Checks these functions, or all where an edit turns none, or where the prover does not know one by its name."""
+        if self.by_name and None not in turned:
+            status, said = self.check(edits, turned)
+            if status != 2:
+                return status, said
             self.by_name = False
-            status, said = self.check([], set())
-        return status, said
+        return self.check(edits, set())
 
     def judge(self, edits):
         """What a check with these edits tells of each: 'refused', 'proved', 'bad' or, where it tells nothing, None."""
         turned = {of for it in edits for of in it.functions}
         alone = len(edits) == 1 and (edits[0].untold == 2 or None in turned)
-        status, said = self.check(edits, turned if self.by_name and not alone else set())
+        status, said = self.check(edits, set()) if alone else self.check_turned(edits, turned)
         bad = UNREAD.findall(said)
         if status == 1 and bad:
             at = {(path, int(line) - 1) for it in bad for path, line in PLACE.findall(it)}
@@ -234,7 +246,7 @@ class Trial:
 
     def was_refused(self, edit):
         """Whether an earlier run refused this edit, which is told then."""
-        why = None if self.anew else self.kept.find(edit)
+        why = None if self.how.anew else self.kept.find(edit)
         if why:
             say(f"edit {edit.label}: refused earlier, {why}")
         return why is not None
@@ -247,18 +259,19 @@ class Trial:
         failed = len(wrong)
         left = [it for it in edits if not it.bad and not self.was_refused(it)]
         earlier = len(edits) - failed - len(left)
-        status, said = self.check_as_it_stands(left) if left and time.time() < self.end else (0, "")
+        stands = self.how.is_proved or not left or time.time() >= self.how.end
+        status, said = (0, "") if stands else self.check_turned([], {of for it in left for of in it.functions})
         stands = time.time() - self.began
-        if status and time.time() < self.end:
+        if status and time.time() < self.how.end:
             say(f"{self.crate.name} is not proved as it stands, so none of its edits was tried:\n{said[-2000:]}")
             return 0, failed + len(left)
-        while left and time.time() < self.end:
+        while left and time.time() < self.how.end:
             batch = []
             for edit in left:
                 if all(edit.is_beside(it) for it in batch):
                     batch.append(edit)
             found = self.judge(batch)
-            if time.time() >= self.end:
+            if time.time() >= self.how.end:
                 found = {edit: it for edit, it in found.items() if it[0] == "refused"}
             for edit, (kind, why) in found.items():
                 say(f"edit {edit.label}: {kind}, {why}" if kind == "refused" else f"edit {edit.label}: {kind.upper()}: {why}")
@@ -274,7 +287,8 @@ class Trial:
         failed += len(left)
         passed = len(edits) - failed
         took = time.time() - self.began
-        told = f"{self.checks} checks, {took:.0f} s, {stands:.0f} of them as it stands" + (f"; {earlier} refused by an earlier run" if earlier else "")
+        told = f"{self.checks} checks, {took:.0f} s" + ("" if self.how.is_proved else f", {stands:.0f} of them as it stands")
+        told += f"; {earlier} refused by an earlier run" if earlier else ""
         say(f"edits: {self.crate.name}: {passed} of {len(edits)} refused, {told}")
         shutil.rmtree(self.room, ignore_errors=True)
         return passed, failed
@@ -306,18 +320,19 @@ def look(of):
     return len(edits) - len(wrong), len(wrong)
 
 
-def try_all(of, known, end, anew):
-    """Tries edits until this time, crates side by side, those that take longest first."""
+def try_all(of, known, how):
+    """Tries edits, crates side by side, those that take longest first."""
     libraries = libraries_for({low for it in of for low in known[it].below})
     if libraries is None:
         say("edits: the libraries must be built first, by rt ci or scripts/build.py")
         return 0, 1
     kit = kit_folder()
-    order = sorted(of, key=lambda it: -len(of[it]) * (1 + len(known[it].below)))
+    seconds = known_seconds()
+    order = sorted(of, key=lambda it: -seconds.get(it, 0) - EACH * len(of[it]))
     os.makedirs(f"{ROOT}/out", exist_ok=True)
     forget_old()
     with tempfile.TemporaryDirectory(prefix="edits-", dir=f"{ROOT}/out") as room, ThreadPoolExecutor(lanes(ROOM)) as pool:
-        told = list(pool.map(lambda it: Trial(known[it], kit, libraries, room, end, anew).run(of[it]), order))
+        told = list(pool.map(lambda it: Trial(known[it], kit, libraries, room, how).run(of[it]), order))
     return tuple(sum(it) for it in zip((0, 0), *told))
 
 
@@ -327,8 +342,8 @@ def main(words):
         at = words.index("--minutes")
         end = time.time() + 60 * float(words[at + 1])
         words = words[:at] + words[at + 2 :]
-    of = chosen([it for it in words if it not in ("--look", "--anew")], known)
-    passed, failed = look(of) if "--look" in words else try_all(of, known, end, "--anew" in words)
+    of = chosen([it for it in words if it not in ("--look", "--anew", "--proved")], known)
+    passed, failed = look(of) if "--look" in words else try_all(of, known, How(end, "--anew" in words, "--proved" in words))
     say(f"{passed} passed, {failed} failed")
     return 1 if failed else 0
 

@@ -1,2 +1,4 @@
 pub mod Faults
+pub mod Shown
+pub mod ViewFaults
 pub mod inside

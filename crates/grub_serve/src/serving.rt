@@ -3,13 +3,13 @@
 ghost use Rattle.std.specs.Prelude.{◌≡◌, ◌≤◌, ◌⊎◌};
 ghost use Rattle.grub_serve.specs.Faults.{HasFileFault, HasNoSpan, Whole, names_of, status_of};
 ghost use Rattle.grub_run.specs.Written.{WritesPrefix, WritesText};
-ghost use Rattle.grub_show.specs.Shown.{Shows, ShowsBeginning};
+ghost use Rattle.grub_serve.specs.Shown.{Shows, ShowsBeginning};
 
 use crate::fault::{ProgramFault, STATUS_FILE, STATUS_SYSTEM, STATUS_USAGE};
+use crate::printing::print_view;
 use crate::reports::print_reports;
-use crate::views::print_view;
+use crate::view::View;
 use grub_files::Source;
-use grub_show::View;
 use std::alloc::Global;
 use std::io;
 use std::io::Write;

@@ -1,4 +1,4 @@
-//! Tests of grub_run, grub_show and grub_serve, which all read the same libraries.
+//! Tests of grub_run and grub_serve, which all read the same libraries.
 #![tactic(auto)]
 
 #[cfg(test)]

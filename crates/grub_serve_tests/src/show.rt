@@ -4,7 +4,7 @@ use crate::expects::expect_at;
 use crate::files::{files_after_all, files_of};
 use crate::writer::Expecting;
 use grub_run::GrubFault;
-use grub_show::{ShowFault, View, write_view};
+use grub_serve::{ShowFault, View, write_view};
 use grub_trace::TraceFault;
 use std::alloc::{AllocError, Global};
 use std::fmt::Write;

@@ -7,8 +7,8 @@ use Rattle.clap.specs.declared.error.kind.ErrorKind.TheVariants as kinds
 use Rattle.grub_files.specs.declared.input.Source.{Source}
 use Rattle.grub_files.specs.Source.{Opener, Reader}
 use Rattle.grub_run.specs.Written.{WritesPrefix, WritesText}
-use Rattle.grub_show.specs.Shown.{Shows, ShowsBeginning}
-use Rattle.grub_show.specs.declared.view.View.{View as Shown}
+use Rattle.grub_serve.specs.Shown.{Shows, ShowsBeginning}
+use Rattle.grub_serve.specs.declared.view.View.{View as Shown}
 use Rattle.grub_serve.specs.Faults as faults
 use Rattle.grub_serve.specs.Faults.{HasFileFault, Whole}
 use Rattle.grub_command.specs.CommandLine.{ReadsNumber, TriesNamed, command_line, files_named, names_among, view_named}

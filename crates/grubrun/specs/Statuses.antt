@@ -4,7 +4,7 @@ use Rattle.std.specs.Io.KnownBytes.{Appends}
 use Rattle.grub_files.specs.declared.input.Source.{Source}
 use Rattle.grub_files.specs.Source.{Opener, Reader}
 use Rattle.grub_run.specs.Written.{WritesPrefix, WritesText}
-use Rattle.grub_show.specs.Shown.{Shows, ShowsBeginning}
+use Rattle.grub_serve.specs.Shown.{Shows, ShowsBeginning}
 use Rattle.grub_serve.specs.Faults as faults
 use Rattle.grub_serve.specs.Faults.{Whole}
 use Rattle.grub_command.specs.declared.texts.TheConstants.{HELP, VERSION}

@@ -8,9 +8,9 @@ use Rattle.grub_trace.specs.Naming.{plan_of}
 use Rattle.grub_plan.specs.Plans.{PlanView}
 use Rattle.grub_plan.specs.Contents.{contents}
 use Rattle.grub_trace.specs.Tree.{Tree}
-use Rattle.grub_show.specs.Shown.{IsShown, IsViewOf}
-use Rattle.grub_show.specs.declared.view.View.{View}
-use Rattle.grub_show.proofs.view.write_view.Goals as goal
+use Rattle.grub_serve.specs.Shown.{IsShown, IsViewOf}
+use Rattle.grub_serve.specs.declared.view.View.{View}
+use Rattle.grub_serve.proofs.view.write_view.Goals as goal
 
 -- a view of the time line of the plan of these files
 shown : (view : View) (files : List (List ℕ)) (plan : PlanView) (told : List Told) (closing : List Reading) (text : List ℕ) (trees : List Tree)

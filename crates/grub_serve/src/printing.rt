@@ -4,12 +4,13 @@ ghost use Rattle.std.specs.Prelude.{◌≡◌, IfErr, OnOk};
 ghost use Rattle.grub_run.specs.declared.fault.GrubFault.TheVariants as run_faults;
 ghost use Rattle.grub_serve.specs.declared.fault.ProgramFault.TheVariants as faults;
 ghost use Rattle.grub_serve.specs.Faults.{TellsOfView, Whole, names_of};
-ghost use Rattle.grub_show.specs.Shown.{Shows, ShowsBeginning};
+ghost use Rattle.grub_serve.specs.Shown.{Shows, ShowsBeginning};
 
 use crate::fault::ProgramFault;
 use crate::reports::{placed, read_files, too_many};
+use crate::show_fault::ShowFault;
+use crate::view::{View, write_view};
 use grub_files::Source;
-use grub_show::{ShowFault, View, write_view};
 use grub_trace::FILES_MAX;
 use std::alloc::Global;
 use std::io;

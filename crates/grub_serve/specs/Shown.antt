@@ -14,8 +14,8 @@ use Rattle.grub_picture.specs.Picture.{last_moment, picture_of}
 use Rattle.grub_steps.specs.Replay.{steps_of}
 use Rattle.grub_views.specs.Rows.{step_rows}
 use Rattle.grub_summary.specs.Summary.{summary_text}
-use Rattle.grub_show.specs.declared.view.View.{View}
-use Rattle.grub_show.specs.declared.view.View.TheVariants.{Timeline, Steps, Summary, Picture}
+use Rattle.grub_serve.specs.declared.view.View.{View}
+use Rattle.grub_serve.specs.declared.view.View.TheVariants.{Timeline, Steps, Summary, Picture}
 
 -- the moment at which a picture begins: 0 where it is not given
 abbrev pub first_of : Option ℕ → ℕ

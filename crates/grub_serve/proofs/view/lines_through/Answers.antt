@@ -2,9 +2,9 @@ use Rattle.std.proofs.Common.{refl}
 use Rattle.std.proofs.lemmas.Result.{on_ok_weaker, on_err_weaker}
 use Rattle.grub_plan.proofs.Handing.{on_err}
 use Rattle.grub_views.specs.Lines.{timeline_lines}
-use Rattle.grub_show.specs.declared.view.View.TheVariants.{Timeline}
-use Rattle.grub_show.proofs.Handed.{line_begun, line_drained, line_drained_part}
-use Rattle.grub_show.proofs.view.lines_through.Goals as goal
+use Rattle.grub_serve.specs.declared.view.View.TheVariants.{Timeline}
+use Rattle.grub_serve.proofs.Handed.{line_begun, line_drained, line_drained_part}
+use Rattle.grub_serve.proofs.view.lines_through.Goals as goal
 
 pub returns-in_err-write_timeline-clause-part : goal.returns-in_err-write_timeline-clause-part
 returns-in_err-write_timeline-clause-part g c =

@@ -9,11 +9,11 @@ use Rattle.grub_trace.specs.Meaning.{Reads}
 use Rattle.grub_trace.specs.Naming.{plan_of}
 use Rattle.grub_trace.specs.Tree.{Tree}
 use Rattle.grub_trace.specs.declared.fault.Kind.{Kind}
-use Rattle.grub_show.specs.Shown.{end_of, first_of}
-use Rattle.grub_show.specs.declared.fault.ShowFault.{ShowFault}
-use Rattle.grub_show.specs.declared.fault.ShowFault.TheVariants.{Grub, EmptySpan}
-use Rattle.grub_show.specs.declared.view.View.{View}
-use Rattle.grub_show.specs.declared.view.View.TheVariants.{Picture}
+use Rattle.grub_serve.specs.Shown.{end_of, first_of}
+use Rattle.grub_serve.specs.declared.show_fault.ShowFault.{ShowFault}
+use Rattle.grub_serve.specs.declared.show_fault.ShowFault.TheVariants.{Grub, EmptySpan}
+use Rattle.grub_serve.specs.declared.view.View.{View}
+use Rattle.grub_serve.specs.declared.view.View.TheVariants.{Picture}
 
 -- the writer failed, or took nothing
 abbrev pub write_fault : ShowFault

@@ -8,11 +8,11 @@ use Rattle.grub_run.specs.declared.fault.GrubFault.TheVariants as run
 use Rattle.grub_timeline.specs.TimeLines.{IsTimeLine}
 use Rattle.grub_timeline.specs.declared.told.Told.{Told}
 use Rattle.grub_plan.specs.Plans.{PlanView}
-use Rattle.grub_show.specs.Faults.{IsEmptySpan}
-use Rattle.grub_show.specs.Shown.{IsViewOf}
-use Rattle.grub_show.specs.declared.fault.ShowFault.{ShowFault}
-use Rattle.grub_show.specs.declared.fault.ShowFault.TheVariants.{Grub, EmptySpan}
-use Rattle.grub_show.specs.declared.view.View.{View}
+use Rattle.grub_serve.specs.ViewFaults.{IsEmptySpan}
+use Rattle.grub_serve.specs.Shown.{IsViewOf}
+use Rattle.grub_serve.specs.declared.show_fault.ShowFault.{ShowFault}
+use Rattle.grub_serve.specs.declared.show_fault.ShowFault.TheVariants.{Grub, EmptySpan}
+use Rattle.grub_serve.specs.declared.view.View.{View}
 
 -- a view of these entries was written, and nothing else
 abbrev pub WritesView : View → PlanView → List Told → List Reading → Option (List ℕ) → Option (List ℕ) → Type 0

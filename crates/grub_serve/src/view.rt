@@ -9,12 +9,12 @@ ghost use Rattle.grub_trace.specs.Tree.{Tree};
 ghost use Rattle.grub_trace.specs.declared.fault.Kind.{Kind};
 ghost use Rattle.std.specs.Io.KnownBytes.{Appends};
 ghost use Rattle.grub_run.specs.Written.{AppendsPrefix};
-ghost use Rattle.grub_show.specs.Faults.{IsFaultOfView, IsNoFaultOfFile, IsOnlyFaultOfFile, write_fault};
-ghost use Rattle.grub_show.specs.Shown.{Shows, ShowsBeginning};
-ghost use Rattle.grub_show.specs.inside.Showing.{BeginsLine, IsFaultOfLine, WritesLine};
+ghost use Rattle.grub_serve.specs.ViewFaults.{IsFaultOfView, IsNoFaultOfFile, IsOnlyFaultOfFile, write_fault};
+ghost use Rattle.grub_serve.specs.Shown.{Shows, ShowsBeginning};
+ghost use Rattle.grub_serve.specs.inside.Showing.{BeginsLine, IsFaultOfLine, WritesLine};
 
-use crate::fault::ShowFault;
 use crate::ready::Ready;
+use crate::show_fault::ShowFault;
 use grub_book::Book;
 use grub_picture::{end_of, picture_text};
 use grub_plan::{Plan, write_buffer};

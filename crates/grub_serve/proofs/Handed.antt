@@ -3,9 +3,9 @@ use Rattle.std.proofs.Common.{◌≡◌, ℕ, ◌++◌, List, [], take, drop, ap
 use Rattle.std.specs.Io.KnownBytes.{Appends}
 use Rattle.std.proofs.Math.Seq.{take-append_seam}
 use Rattle.std.proofs.lemmas.List.{take-append-drop}
-use Rattle.grub_show.specs.declared.view.View.{View}
-use Rattle.grub_show.specs.inside.Showing.{BeginsLine, WritesLine}
-use Rattle.grub_show.specs.Shown.{IsViewOf}
+use Rattle.grub_serve.specs.declared.view.View.{View}
+use Rattle.grub_serve.specs.inside.Showing.{BeginsLine, WritesLine}
+use Rattle.grub_serve.specs.Shown.{IsViewOf}
 use Rattle.grub_views.specs.Views.{HandsOnView, HandsPartOfView}
 use Rattle.grub_plan.specs.Plans.{PlanView}
 use Rattle.grub_timeline.specs.declared.told.Told.{Told}
