@@ -2,9 +2,9 @@
 """Proves grubrun and grubtrace with the crates that they stand on, and builds them into crates/PROGRAM/out.
 
 build.py [PROGRAM]..: those named, or both; build.py --clean takes away the libraries. A crate is proved once those below it are, and crates
-that do not stand on each other side by side: as many as there are processors, and 2.5 GB of free memory for each. It says on standard error
-what it proved and how long that took; all else is in out/build/CRATE.log, which is named where a proof fails. A crate that reads what it read
-before is not proved again.
+that do not stand on each other side by side, where there are 2.5 GB of free memory for each: the one for which most others wait by a job for each
+processor, and the others by one job each behind it. It says on standard error what it proved and how long that took; all else is in
+out/build/CRATE.log, which is named where a proof fails. A crate that reads what it read before is not proved again.
 
 It calls the kit's `rattle` and not `rt`, which lets no second run into a crate or into one below it, and whose libraries hold their proofs,
 for every crate above to read. These hold their statements alone, as in the gate, and lie in the user's cache, apart from what `rt check` keeps.
