@@ -30,7 +30,7 @@ pub const AFTER_EVENTS: &str = "\
 A file that is there already is never written over (status 1).
 
     grubtrace events --task gr_0=5000:50000 --task gr_1=10000:40000 --out run trace.txt
-    grubrun --view summary run.cpu*.grub";
+    grubrun --view summary $(ls -v run.cpu*.grub)";
 
 /// What stands below the help of `check`.
 pub const AFTER_CHECK: &str = "\
