@@ -23,7 +23,7 @@ Options:
   -h, --help        Print this help
   -V, --version     Print the version
 
-A file says which runqueue it is, which tasks there are, and what they did:
+A file says what its runqueue admits, which tasks there are, and what they did:
 
     grub 1
     queue 1048576 0

@@ -11,7 +11,7 @@ abbrev pub fair_of : Option Reservation → ℕ
 fair_of None = 0
 fair_of (Some server) = bandwidth_of server
 
--- what reclaiming leaves alone on each of so many runqueues: the kernel takes off the most what the tasks and the
+-- what may be reclaimed at all times on each of so many runqueues: the kernel takes off the most what the tasks and the
 -- servers of all runqueues reserve, spread over the runqueues
 abbrev pub extra_of : ℕ → Option Reservation → List Reservation → ℕ → ℕ
 extra_of most fair tasks runqueues = most - (total_of tasks + runqueues * fair_of fair) / runqueues

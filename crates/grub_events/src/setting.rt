@@ -36,7 +36,7 @@ fn total_of(tasks: &[Params]) -> u64
     total
 }
 
-/// The constants of each of so many runqueues: `most` bandwidth of deadline tasks, of which reclaiming leaves alone what
+/// The constants of each of so many runqueues: `most` bandwidth of deadline tasks, of which may be reclaimed at all times what
 /// the tasks and the servers of fair tasks do not reserve. The kernel spreads these over the runqueues, and rounds down.
 pub fn queue_of(most: u32, fair: Option<Params>, tasks: &[Params], runqueues: u32) -> Option<Queue>
     requires some { 1 ≤ runqueues }

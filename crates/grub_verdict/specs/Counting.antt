@@ -78,7 +78,7 @@ charged_at tasks ask answer = None
 abbrev pub charged_in : List Reservation → Step → Option Reservation
 charged_in tasks x = charged_at tasks x.told.entry.ask x.told.entry.answer
 
--- what reclaiming leaves: Umax - Uinact - Uextra
+-- what is left of Umax without what may be reclaimed
 abbrev pub what_is_left : Capacity → Reading → ℕ
 what_is_left queue reading = queue.most - (reading.this - reading.running) - queue.extra
 

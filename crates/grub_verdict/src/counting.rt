@@ -116,7 +116,7 @@ fn charged_in(setup: &Setup, step: &Step) -> Option<Params>
     }
 }
 
-/// What reclaiming leaves: Umax - Uinact - Uextra.
+/// What is left without what may be reclaimed: Umax - Uinact - Uextra.
 fn what_is_left(queue: Queue, reading: Reading) -> u32
     ensures { result ≡ what_is_left queue reading }
 {
@@ -155,7 +155,7 @@ pub(crate) fn count_own_charges(setup: &Setup, queue: Queue, steps: &[Step]) -> 
         .count()
 }
 
-/// How many charges went by what reclaiming leaves.
+/// How many charges went by what is left.
 pub(crate) fn count_left_charges(setup: &Setup, queue: Queue, steps: &[Step]) -> usize
     ensures { result ≡ count_by (is_left_charge setup.now.tasks queue) steps.now }
 {

@@ -25,7 +25,7 @@ pub struct Heading {
     pub umax: u32,
     pub uextra: u32,
 
-    /// Charges at the rate of the task's own bandwidth, and those at the rate of what reclaiming leaves.
+    /// Charges at the rate of the task's own bandwidth, and those at the rate of what is left.
     pub own_charges: u64,
     pub left_charges: u64,
 
