@@ -3,9 +3,10 @@
 
 edits.py [--look] [--anew] [--proved] [--minutes N] [NAME | NAME/EDIT]..: those of these crates, or these edits, or all. Each crate is
 checked over the libraries that `rt ci` or scripts/build.py left, first as it stands and then with as many edits at once as turn different
-functions: a function is proved from the contracts of those that it calls, so what one edit turns takes no proof from another. With --proved
-it is not checked as it stands: that is for a gate that has just seen it proved. Of the crate only the functions that edits turn are
-checked, with those that they call. An edit for which two such checks tell nothing is tried alone, in a check of all. What was refused is
+functions: a function is proved from the contracts of those that it calls, so what one edit turns takes no proof from another. Each such check
+is controlled: a function that no edit turns may be unproved for one that it calls, and where it reads as refused for itself, that has failed.
+With --proved a crate is not checked as it stands: that is for a gate that has just seen it proved. Of the crate only the functions that
+edits turn are checked, with those that they call. An edit for which two such checks tell nothing is tried alone, in a check of all. What was refused is
 kept on this machine, and not tried again, but with --anew, until something changes that its check read. With --look none is tried: it
 says which cannot be applied. What was not tried when N minutes are over has failed. The last line is 'N passed, M failed'.
 """
@@ -19,7 +20,7 @@ import time
 from concurrent.futures import ThreadPoolExecutor
 from typing import NamedTuple
 
-from crates import LIBRARIES, ROOT, crates, kit_folder, known_seconds, lanes, text_of
+from crates import LIBRARIES, ROOT, crates, files_below, kit_folder, known_seconds, lanes, text_of
 from kept import Kept, forget_old
 
 PARTS = ("src", "specs", "proofs")
@@ -122,6 +123,16 @@ class Function(NamedTuple):
         return self.path == path and self.first <= line <= self.last
 
 
+def functions_of(crate):
+    """All functions of a crate."""
+    found = set()
+    for path in files_below(f"{crate.folder}/src"):
+        lines = text_of(path).split("\n")
+        heads = [it for it, line in enumerate(lines) if FUNCTION.match(line)]
+        found |= {function_at(crate.name, os.path.relpath(path, crate.folder), lines, it) for it in heads}
+    return found - {None}
+
+
 def function_at(crate, path, lines, at):
     """The function that a line stands in, or None outside of functions."""
     for start in range(at, -1, -1):
@@ -174,7 +185,7 @@ class Trial:
     """The checks of one crate."""
 
     def __init__(self, crate, kit, libraries, room, how):
-        self.how, self.kept, self.by_name = how, Kept(crate, kit, libraries), True
+        self.how, self.kept, self.by_name, self.functions, self.misread = how, Kept(crate, kit, libraries), True, functions_of(crate), 0
         self.crate, self.kit, self.libraries, self.room, self.checks, self.began = crate, kit, libraries, f"{room}/{crate.name}", 0, time.time()
 
     def check(self, edits, functions):
@@ -233,6 +244,8 @@ class Trial:
             at = {(path, int(line) - 1) for it in bad for path, line in PLACE.findall(it)}
             of = [it for it in edits if it.lines.keys() & at] or (edits if len(edits) == 1 else [])
             return {it: ("bad", bad[0][:200]) for it in of}
+        if not alone and status in (1, 3):
+            self.control(turned, said)
         found = {}
         for edit in edits:
             place = refused_at(edit.functions, said) if status in (1, 3) else None
@@ -243,6 +256,14 @@ class Trial:
             elif alone:
                 found[edit] = ("proved", "the crate is still proved") if status == 0 else ("bad", f"the check ended with status {status}")
         return found
+
+    def control(self, turned, said):
+        """Tells of each function that no edit of a check turns, and that reads as refused all the same: then a refusal may be another's."""
+        for it in self.functions - turned:
+            place = refused_at({it}, said)
+            if place:
+                say(f"edits: {self.crate.name}: MISREAD: no edit turns {it.path_in_crate}, which reads as refused {place}")
+                self.misread += 1
 
     def was_refused(self, edit):
         """Whether an earlier run refused this edit, which is told then."""
@@ -286,6 +307,7 @@ class Trial:
             say(f"edit {edit.label}: NOT TRIED: the time was over")
         failed += len(left)
         passed = len(edits) - failed
+        failed += self.misread
         took = time.time() - self.began
         told = f"{self.checks} checks, {took:.0f} s" + ("" if self.how.is_proved else f", {stands:.0f} of them as it stands")
         told += f"; {earlier} refused by an earlier run" if earlier else ""

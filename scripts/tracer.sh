@@ -37,11 +37,15 @@ is_text() {
 # README's record of four tasks: what it says of it is what is printed.
 tasks=(--task gr_0=5000:50000 --task gr_1=10000:40000 --task gr_2=20000:100000 --task gr_3=3000:30000)
 record=$root/examples/kernel/four_tasks.txt
-shown() { awk -v head="$1" 'index($0, head) == 1 { on = 1 } on && /^    / { print substr($0, 5); some = 1 } some && !/^    / { exit }' "$root/README.md"; }
+shown() { awk -v head="$1" 'index($0, head) == 1 { on = 1 } on && /^    / { print substr($0, 5); some = 1 } some && !/^    / { exit }' "$root/${2:-README.md}"; }
 run 'the tasks of a record' 0 "$(shown 'prints which tasks')" '' tasks "$record"
 run 'a record that agrees' 0 'some text' '' check "${tasks[@]}" "$record"
 tail -n 4 out > last
 is_text last "$(shown 'The verdict ends in')" && passed=$((passed + 1)) || { failed=$((failed + 1)); cat last; }
+# And docs/KERNEL.md's deviation.
+run 'a record that differs' 4 'some text' '' check --fair-server none "${tasks[@]}" "$record"
+(sed -n '/^runqueues: /p' out; echo ...; tail -n 8 out) > last
+is_text last "$(shown 'it ends with' docs/KERNEL.md)" && passed=$((passed + 1)) || { failed=$((failed + 1)); cat last; }
 
 tasks=(--task gr_0=5000:50000 --task gr_2=20000:100000 --task gr_3=3000:30000)
 
