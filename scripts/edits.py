@@ -6,7 +6,8 @@ checked over the libraries that `rt ci` or scripts/build.py left, first as it st
 functions: a function is proved from the contracts of those that it calls, so what one edit turns takes no proof from another. Each such check
 is controlled: a function that no edit turns may be unproved for one that it calls, and where it reads as refused for itself, that has failed.
 With --proved a crate is not checked as it stands: that is for a gate that has just seen it proved. Of the crate only the functions that
-edits turn are checked, with those that they call. An edit for which two such checks tell nothing is tried alone, in a check of all. What was refused is
+edits turn are checked, with those that they call. An edit of which a check tells nothing, since its function calls one that another edit turns, is tried
+apart from that one. An edit for which two other checks tell nothing is tried alone, in a check of all. What was refused is
 kept on this machine, and not tried again, but with --anew, until something changes that its check read. With --look none is tried: it
 says which cannot be applied. What was not tried when N minutes are over has failed. The last line is 'N passed, M failed'.
 """
@@ -34,7 +35,8 @@ TYPE = re.compile(r"^ *(?:impl|trait)(?:<.*?>)? (?:([\w:]+)(?:<.*>)? for )?&?([\
 # What the prover says of a function that it does not admit, and what of that is said of the functions that it calls.
 VERDICT = re.compile(r"^fn (\S+): (?:not proved|no proof|could not tell)(.*)$", re.M)
 UNPROVED = re.compile(r"^note: (src/\S+?):(\d+):\d+: it is not proved", re.M)
-CALLEES = re.compile(r"[:;] it (?:calls .*, which (?:is|are) not proved|waits for the proof of .*)$")
+LATER = "the borrow checker's part in its proof is not made yet: a call of"
+CALLEES = re.compile(rf"[:;] (?:it (?:calls .*, which (?:is|are) not proved|waits for the proof of .*)|{LATER} .*, which has no proof: .*)$")
 # A text that cannot be read: then no contract was tried.
 MISREAD = r"is not in scope|has no field|is no name|operand is missing|expected the end|cannot continue"
 UNREAD = re.compile(rf"^(?:\./)?src/\S+?:\d+:\d+: error(?:\[|: (?!`)|: .*(?:{MISREAD})).*$", re.M)
@@ -68,7 +70,7 @@ class Edit:
 
     def __init__(self, crate, name):
         self.label, self.lines, self.functions, self.bad = f"{crate.name}/{name.removesuffix('.edit')}", {}, set(), None
-        self.untold = 0
+        self.untold, self.apart_from = 0, set()
         path = old = None
         now = {}
         for line in text_of(f"{crate.folder}/edits/{name}").split("\n"):
@@ -95,6 +97,7 @@ class Edit:
     def is_beside(self, other):
         """Whether this edit can be tried at once with another."""
         free = None not in self.functions | other.functions and max(self.untold, other.untold) < 2
+        free = free and not (self.functions & other.apart_from or other.functions & self.apart_from)
         return free and not (self.functions & other.functions or self.lines.keys() & other.lines.keys())
 
 
@@ -173,6 +176,18 @@ def refused_at(functions, said):
     return None
 
 
+def waited_for(functions, turned, said):
+    """Which of the functions that edits turn are called by these, also by others between, so that the prover tells nothing of these."""
+    calls = {name: re.findall("`([^`]+)`", CALLEES.search(why)[0]) for name, why in VERDICT.findall(said) if CALLEES.search(why)}
+    left, seen = [it for it in calls if any(of.is_named(it) for of in functions)], set()
+    while left:
+        name = left.pop()
+        if name not in seen:
+            seen.add(name)
+            left += calls.get(name, [])
+    return {it for it in turned - functions if any(it.is_named(name) for name in seen)}
+
+
 class How(NamedTuple):
     """How edits are tried: until which time, also those that were refused earlier, and whether their crates were just proved."""
 
@@ -235,7 +250,7 @@ class Trial:
         return self.check(edits, set())
 
     def judge(self, edits):
-        """What a check with these edits tells of each: 'refused', 'proved', 'bad' or, where it tells nothing, None."""
+        """What a check with these edits tells: of which edits what, as 'refused', 'proved' or 'bad', and for which the function of another has to be proved first."""
         turned = {of for it in edits for of in it.functions}
         alone = len(edits) == 1 and (edits[0].untold == 2 or None in turned)
         status, said = self.check(edits, set()) if alone else self.check_turned(edits, turned)
@@ -243,19 +258,23 @@ class Trial:
         if status == 1 and bad:
             at = {(path, int(line) - 1) for it in bad for path, line in PLACE.findall(it)}
             of = [it for it in edits if it.lines.keys() & at] or (edits if len(edits) == 1 else [])
-            return {it: ("bad", bad[0][:200]) for it in of}
+            return {it: ("bad", bad[0][:200]) for it in of}, set()
         if not alone and status in (1, 3):
             self.control(turned, said)
-        found = {}
+        found, waiting = {}, set()
         for edit in edits:
             place = refused_at(edit.functions, said) if status in (1, 3) else None
-            if place:
+            before = set() if alone or place else waited_for(edit.functions, turned, said)
+            if before:
+                edit.apart_from |= before
+                waiting.add(edit)
+            elif place:
                 found[edit] = "refused", place
             elif alone and status == 1 and "logic=not-proved" in said:
                 found[edit] = "refused", "at what stands on it"
             elif alone:
                 found[edit] = ("proved", "the crate is still proved") if status == 0 else ("bad", f"the check ended with status {status}")
-        return found
+        return found, waiting
 
     def control(self, turned, said):
         """Tells of each function that no edit of a check turns, and that reads as refused all the same: then a refusal may be another's."""
@@ -291,7 +310,7 @@ class Trial:
             for edit in left:
                 if all(edit.is_beside(it) for it in batch):
                     batch.append(edit)
-            found = self.judge(batch)
+            found, waiting = self.judge(batch)
             if time.time() >= self.how.end:
                 found = {edit: it for edit, it in found.items() if it[0] == "refused"}
             for edit, (kind, why) in found.items():
@@ -302,7 +321,7 @@ class Trial:
             left = [it for it in left if it not in found]
             if not any(kind == "bad" for kind, _ in found.values()):
                 for edit in batch:
-                    edit.untold = 2 if len(batch) == 1 else edit.untold + (edit not in found)
+                    edit.untold = 2 if len(batch) == 1 else edit.untold + (edit not in found and edit not in waiting)
         for edit in left:
             say(f"edit {edit.label}: NOT TRIED: the time was over")
         failed += len(left)
