@@ -25,7 +25,7 @@ tracer:
 run: runner
 	@$(PROGRAM) $(FLAGS) $(FILES)
 
-# The same with nothing proved: an answer within a minute, with the toolchain's own checks while it runs.
+# The same with nothing proved: an answer in about a minute, with the toolchain's own checks while it runs.
 try:
 	@scripts/try.sh grubrun $(FLAGS) $(FILES)
 

@@ -21,7 +21,7 @@ done
 
 log=$(mktemp)
 trap 'rm -f "$log"' EXIT
-echo "try: $program as it stands, with nothing proved; this takes up to a minute" >&2
+echo "try: $program as it stands, with nothing proved; this takes about a minute" >&2
 (cd "$root/crates/$program" && exec rt try "${files[@]}" -- "${words[@]}") 2> "$log"
 status=$?
 if grep -q '^run=ended status=' "$log"; then
