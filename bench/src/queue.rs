@@ -2,7 +2,7 @@
 
 use crate::sums::Sums;
 
-/// The bandwidth that it admits, and that of it which reclaiming leaves alone.
+/// The bandwidth that it admits, and that of it which running tasks may reclaim at all times.
 #[derive(Clone, Copy)]
 pub struct Queue {
     pub umax: u32,
