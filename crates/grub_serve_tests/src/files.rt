@@ -3,35 +3,6 @@
 use std::alloc::Global;
 use std::process::Abort;
 
-pub const DOCUMENTATION: &str = "\
-grub 1
-queue 1048576 0
-task T1 4 8
-task T2 4 8
-at 0 join T1
-at 0 join T2
-at 0 run T1 2
-at 2 block T1
-at 2 run T2 2
-at 4 run T2 4
-at 8 wake T1
-at 8 read
-";
-
-pub const DOCUMENTATION_REPORT: &str = "\
-runqueue 0
-at 0 join T1: joined q=4 d=8
-at 0 join T2: joined q=4 d=8
-at 0 run T1 2: charged dq=2 k=0 q=2 d=8
-at 2 block T1: waiting ticket=1 z=4
-at 2 run T2 2: charged dq=2 k=0 q=2 d=8
-at 4 timer T1 1: retired
-at 4 run T2 4: charged dq=2 k=1 q=4 d=16
-at 8 wake T1: woken q=4 d=16
-at 8 read: running=1048576 this=1048576
-close running=1048576 this=1048576
-";
-
 /// The first file.
 pub const FIRST: &str = "\
 grub 1

@@ -7,12 +7,13 @@ mod writers;
 
 use crate::expects::{expect_at, expect_case};
 use crate::files::{
-    DOCUMENTATION, DOCUMENTATION_REPORT, FAR_TIMER, FAR_TIMER_REPORT, FIRST, FIRST_REPORT, LEAVES,
-    LEAVES_REPORT, NO_EVENTS, NO_EVENTS_REPORT, RETUNES, RETUNES_REPORT, files_of,
+    FAR_TIMER, FAR_TIMER_REPORT, FIRST, FIRST_REPORT, LEAVES, LEAVES_REPORT, NO_EVENTS,
+    NO_EVENTS_REPORT, RETUNES, RETUNES_REPORT, files_of,
 };
 use crate::writer::Expecting;
 use grub_run::{GrubFault, run_texts};
 use grub_trace::{Kind, TraceFault};
+use grub_worked_examples::documentation;
 use std::alloc::{AllocError, Global};
 use std::process::Abort;
 use std::sync::Wait;
@@ -60,7 +61,7 @@ static FILES: [(&str, u8, u16, &str); 6] = [
     (FAR_TIMER, 8, 64, FAR_TIMER_REPORT),
     (RETUNES, 8, 64, RETUNES_REPORT),
     (NO_EVENTS, 0, 1, NO_EVENTS_REPORT),
-    (DOCUMENTATION, 4, 100, DOCUMENTATION_REPORT),
+    (documentation::FILE, 4, 100, documentation::REPORT),
 ];
 
 /// Whether a file of this table has its report.
@@ -113,8 +114,8 @@ fn prints_cut<R: Threads + Wait + Sync>(
 ) -> bool {
     let mut file = String::new(alloc);
     let mut text = String::new(alloc);
-    push_first_lines(&mut file, DOCUMENTATION, lines).is_ok()
-        && push_first_lines(&mut text, DOCUMENTATION_REPORT, reported).is_ok()
+    push_first_lines(&mut file, documentation::FILE, lines).is_ok()
+        && push_first_lines(&mut text, documentation::REPORT, reported).is_ok()
         && text.push_str(close).is_ok()
         && prints(rt, alloc, &[&file], 8, 64, &text)
 }
@@ -167,7 +168,7 @@ at 3 wake A: woken q=4 d=11
 at 3 read: running=524288 this=524288
 close running=524288 this=524288
 ";
-    assert!(rt; prints(&rt, rt.alloc(), &[DOCUMENTATION, FIRST], 8, 64, text));
+    assert!(rt; prints(&rt, rt.alloc(), &[documentation::FILE, FIRST], 8, 64, text));
 }
 
 /// So many readings that several threads make their lines.

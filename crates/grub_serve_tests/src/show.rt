@@ -6,62 +6,11 @@ use crate::writer::Expecting;
 use grub_run::GrubFault;
 use grub_serve::{ShowFault, View, write_view};
 use grub_trace::TraceFault;
+use grub_worked_examples::moving;
 use std::alloc::{AllocError, Global};
 use std::fmt::Write;
 use std::process::Abort;
 use std::thread::Threads;
-
-/// A task that moves from one runqueue to another while it waits for its 0-lag moment.
-const MOVES_FROM: &str = "\
-grub 1
-queue 1048576 0
-task T 4 8
-at 0 join T
-at 0 run T 2
-at 2 block T
-at 9 read
-";
-
-const MOVES_TO: &str = "\
-grub 1
-queue 1048576 0
-at 3 wake T
-at 3 read
-";
-
-const LINES: &str = "\
-at 0 on 0 join T: joined q=4 d=8
-at 0 on 0 run T 2: charged dq=2 k=0 q=2 d=8
-at 2 on 0 block T: waiting ticket=1 z=4
-at 3 on 1 wake T: elsewhere 0
-at 3 on 1 leave T: left 0
-at 3 on 1 join T: joined q=2 d=8
-at 3 on 1 read: running=524288 this=524288
-at 9 on 0 read: running=0 this=0
-close 0 running=0 this=0
-close 1 running=524288 this=524288
-";
-
-const STEPS: &str = "\
-moment\trunqueue\task\ttask\targ\tanswer\tdq\tk\tq\td\tz\trunning\tthis
-0\t0\tjoin\tT\t\tjoined\t\t\t4\t8\t\t524288\t524288
-0\t0\trun\tT\t2\tcharged\t2\t0\t2\t8\t\t524288\t524288
-2\t0\tblock\tT\t\twaiting\t\t\t\t\t4\t524288\t524288
-3\t0\twake\tT\t\telsewhere\t\t\t\t\t\t524288\t524288
-3\t0\tleave\tT\t\tleft\t\t\t\t\t\t0\t0
-3\t1\tjoin\tT\t\tjoined\t\t\t2\t8\t\t524288\t524288
-3\t1\tread\t\t\tread\t\t\t\t\t\t524288\t524288
-9\t0\tread\t\t\tread\t\t\t\t\t\t0\t0
-";
-
-const SUMMARY: &str = "\
-task runtime period  util executed charged reclaimed recharges joins wakes kept moves waits sleeps retired least late worst refused
-T          4      8 50.00        2       2         0         0     2     0    1     1     1      0       0     2    0     0       0
-
-runqueue    umax uextra span changes running running-max  this this-max
-       0 1048576      0    9       2   16.66       50.00 16.66    50.00
-       1 1048576      0    9       1   33.33       50.00 33.33    50.00
-";
 
 /// Room for a view, made a second time where it was refused.
 fn room_after_all(rt: &impl Abort, alloc: Global) -> Vec<u8> {
@@ -77,7 +26,7 @@ fn room_after_all(rt: &impl Abort, alloc: Global) -> Vec<u8> {
 /// What a view of the two files wrote, or the refusal that stopped it, which wrote nothing. The test's own input is made
 /// a second time where a growth of it was refused.
 fn shown<R: Abort + Threads + Sync>(rt: &R, alloc: Global, view: View) -> Option<Vec<u8>> {
-    let files = files_after_all(rt, alloc, &[MOVES_FROM, MOVES_TO]);
+    let files = files_after_all(rt, alloc, &[moving::FROM, moving::TO]);
     let mut out = room_after_all(rt, alloc);
     match write_view(rt, alloc, files, view, &mut out) {
         Ok(()) => Some(out),
@@ -116,17 +65,17 @@ fn is_refusal(fault: ShowFault) -> bool {
 
 #[test]
 fn refused_growths_of_the_lines(rt: HostRuntime) {
-    assert!(rt; shows_or_refuses(&rt, rt.alloc(), View::Timeline, LINES));
+    assert!(rt; shows_or_refuses(&rt, rt.alloc(), View::Timeline, moving::LINES));
 }
 
 #[test]
 fn refused_growths_of_the_steps(rt: HostRuntime) {
-    assert!(rt; shows_or_refuses(&rt, rt.alloc(), View::Steps, STEPS));
+    assert!(rt; shows_or_refuses(&rt, rt.alloc(), View::Steps, moving::STEPS));
 }
 
 #[test]
 fn refused_growths_of_the_summary(rt: HostRuntime) {
-    assert!(rt; shows_or_refuses(&rt, rt.alloc(), View::Summary, SUMMARY));
+    assert!(rt; shows_or_refuses(&rt, rt.alloc(), View::Summary, moving::SUMMARY));
 }
 
 #[test]
@@ -167,24 +116,24 @@ fn gets<R: Threads + Sync>(
 
 /// Views of the two files, their texts, and the room of a writer that fails.
 static CUT_VIEWS: [(View, &str, usize); 12] = [
-    (View::Timeline, LINES, 0),
-    (View::Timeline, LINES, 1),
-    (View::Timeline, LINES, 100),
-    (View::Timeline, LINES, LINES.len() - 1),
-    (View::Steps, STEPS, 0),
-    (View::Steps, STEPS, 1),
-    (View::Steps, STEPS, 100),
-    (View::Steps, STEPS, STEPS.len() - 1),
-    (View::Summary, SUMMARY, 0),
-    (View::Summary, SUMMARY, 1),
-    (View::Summary, SUMMARY, 100),
-    (View::Summary, SUMMARY, SUMMARY.len() - 1),
+    (View::Timeline, moving::LINES, 0),
+    (View::Timeline, moving::LINES, 1),
+    (View::Timeline, moving::LINES, 100),
+    (View::Timeline, moving::LINES, moving::LINES.len() - 1),
+    (View::Steps, moving::STEPS, 0),
+    (View::Steps, moving::STEPS, 1),
+    (View::Steps, moving::STEPS, 100),
+    (View::Steps, moving::STEPS, moving::STEPS.len() - 1),
+    (View::Summary, moving::SUMMARY, 0),
+    (View::Summary, moving::SUMMARY, 1),
+    (View::Summary, moving::SUMMARY, 100),
+    (View::Summary, moving::SUMMARY, moving::SUMMARY.len() - 1),
 ];
 
 /// A writer that fails has taken a beginning of the view.
 #[test]
 fn a_writer_that_fails(rt: HostRuntime) {
-    let files = [MOVES_FROM, MOVES_TO];
+    let files = [moving::FROM, moving::TO];
     for (view, text, room) in &CUT_VIEWS {
         expect_at(
             &rt,

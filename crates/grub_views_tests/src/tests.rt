@@ -12,112 +12,10 @@ use grub_summary::*;
 use grub_timeline::{Playing, Told, play};
 use grub_trace::read_files;
 use grub_views::*;
+use grub_worked_examples::{documentation, moving};
 use std::alloc::Global;
 use std::process::Abort;
 use std::thread::Threads;
-
-/// The kernel documentation's example of GRUB, in one file.
-const DOCUMENTATION: &str = "\
-grub 1
-queue 1048576 0
-task T1 4 8
-task T2 4 8
-at 0 join T1
-at 0 join T2
-at 0 run T1 2
-at 2 block T1
-at 2 run T2 2
-at 4 run T2 4
-at 8 wake T1
-at 8 read
-";
-
-/// A task that moves from one runqueue to another while it waits for its 0-lag moment.
-const MOVES_FROM: &str = "\
-grub 1
-queue 1048576 0
-task T 4 8
-at 0 join T
-at 0 run T 2
-at 2 block T
-at 9 read
-";
-
-const MOVES_TO: &str = "\
-grub 1
-queue 1048576 0
-at 3 wake T
-at 3 read
-";
-
-const DOCUMENTATION_LINES: &str = "\
-at 0 on 0 join T1: joined q=4 d=8
-at 0 on 0 join T2: joined q=4 d=8
-at 0 on 0 run T1 2: charged dq=2 k=0 q=2 d=8
-at 2 on 0 block T1: waiting ticket=1 z=4
-at 2 on 0 run T2 2: charged dq=2 k=0 q=2 d=8
-at 4 on 0 timer T1 1: retired
-at 4 on 0 run T2 4: charged dq=2 k=1 q=4 d=16
-at 8 on 0 wake T1: woken q=4 d=16
-at 8 on 0 read: running=1048576 this=1048576
-close 0 running=1048576 this=1048576
-";
-
-const DOCUMENTATION_STEPS: &str = "\
-moment\trunqueue\task\ttask\targ\tanswer\tdq\tk\tq\td\tz\trunning\tthis
-0\t0\tjoin\tT1\t\tjoined\t\t\t4\t8\t\t524288\t524288
-0\t0\tjoin\tT2\t\tjoined\t\t\t4\t8\t\t1048576\t1048576
-0\t0\trun\tT1\t2\tcharged\t2\t0\t2\t8\t\t1048576\t1048576
-2\t0\tblock\tT1\t\twaiting\t\t\t\t\t4\t1048576\t1048576
-2\t0\trun\tT2\t2\tcharged\t2\t0\t2\t8\t\t1048576\t1048576
-4\t0\ttimer\tT1\t1\tretired\t\t\t\t\t\t524288\t1048576
-4\t0\trun\tT2\t4\tcharged\t2\t1\t4\t16\t\t524288\t1048576
-8\t0\twake\tT1\t\twoken\t\t\t4\t16\t\t1048576\t1048576
-8\t0\tread\t\t\tread\t\t\t\t\t\t1048576\t1048576
-";
-
-const DOCUMENTATION_SUMMARY: &str = "\
-task runtime period  util executed charged reclaimed recharges joins wakes kept moves waits sleeps retired least late worst refused
-T1         4      8 50.00        2       2         0         0     1     1    0     0     1      0       1     2    0     0       0
-T2         4      8 50.00        6       4         2         1     1     0    0     0     0      0       0     2    0     0       0
-
-runqueue    umax uextra span changes running running-max   this this-max
-       0 1048576      0    8       4   75.00      100.00 100.00   100.00
-";
-
-const MOVING_LINES: &str = "\
-at 0 on 0 join T: joined q=4 d=8
-at 0 on 0 run T 2: charged dq=2 k=0 q=2 d=8
-at 2 on 0 block T: waiting ticket=1 z=4
-at 3 on 1 wake T: elsewhere 0
-at 3 on 1 leave T: left 0
-at 3 on 1 join T: joined q=2 d=8
-at 3 on 1 read: running=524288 this=524288
-at 9 on 0 read: running=0 this=0
-close 0 running=0 this=0
-close 1 running=524288 this=524288
-";
-
-const MOVING_STEPS: &str = "\
-moment\trunqueue\task\ttask\targ\tanswer\tdq\tk\tq\td\tz\trunning\tthis
-0\t0\tjoin\tT\t\tjoined\t\t\t4\t8\t\t524288\t524288
-0\t0\trun\tT\t2\tcharged\t2\t0\t2\t8\t\t524288\t524288
-2\t0\tblock\tT\t\twaiting\t\t\t\t\t4\t524288\t524288
-3\t0\twake\tT\t\telsewhere\t\t\t\t\t\t524288\t524288
-3\t0\tleave\tT\t\tleft\t\t\t\t\t\t0\t0
-3\t1\tjoin\tT\t\tjoined\t\t\t2\t8\t\t524288\t524288
-3\t1\tread\t\t\tread\t\t\t\t\t\t524288\t524288
-9\t0\tread\t\t\tread\t\t\t\t\t\t0\t0
-";
-
-const MOVING_SUMMARY: &str = "\
-task runtime period  util executed charged reclaimed recharges joins wakes kept moves waits sleeps retired least late worst refused
-T          4      8 50.00        2       2         0         0     2     0    1     1     1      0       0     2    0     0       0
-
-runqueue    umax uextra span changes running running-max  this this-max
-       0 1048576      0    9       2   16.66       50.00 16.66    50.00
-       1 1048576      0    9       1   33.33       50.00 33.33    50.00
-";
 
 #[derive(Clone, Copy)]
 enum View {
@@ -311,9 +209,9 @@ fn expect_views<R: Abort + Threads + Sync>(
     documentation: &str,
     moving: &str,
 ) {
-    let one = view_of(rt, alloc, &[DOCUMENTATION], view);
+    let one = view_of(rt, alloc, &[documentation::FILE], view);
     assert!(rt; is_right(one, documentation));
-    let two = view_of(rt, alloc, &[MOVES_FROM, MOVES_TO], view);
+    let two = view_of(rt, alloc, &[moving::FROM, moving::TO], view);
     assert!(rt; is_right(two, moving));
 }
 
@@ -323,13 +221,13 @@ fn expect_views<R: Abort + Threads + Sync>(
 #[test]
 fn refused_growths_of_lines(rt: HostRuntime) {
     let alloc = rt.alloc();
-    expect_views(&rt, alloc, View::Lines, DOCUMENTATION_LINES, MOVING_LINES);
+    expect_views(&rt, alloc, View::Lines, documentation::LINES, moving::LINES);
 }
 
 #[test]
 fn refused_growths_of_steps(rt: HostRuntime) {
     let alloc = rt.alloc();
-    expect_views(&rt, alloc, View::Steps, DOCUMENTATION_STEPS, MOVING_STEPS);
+    expect_views(&rt, alloc, View::Steps, documentation::STEPS, moving::STEPS);
 }
 
 #[test]
@@ -339,8 +237,8 @@ fn refused_growths_of_the_summary(rt: HostRuntime) {
         &rt,
         alloc,
         View::Summary,
-        DOCUMENTATION_SUMMARY,
-        MOVING_SUMMARY,
+        documentation::SUMMARY,
+        moving::SUMMARY,
     );
 }
 
@@ -354,13 +252,13 @@ fn is_picture(view: Result<Vec<u8>, ViewFault>) -> bool {
 
 #[test]
 fn refused_growths_of_the_picture(rt: HostRuntime) {
-    let view = view_of(&rt, rt.alloc(), &[MOVES_FROM, MOVES_TO], View::Picture);
+    let view = view_of(&rt, rt.alloc(), &[moving::FROM, moving::TO], View::Picture);
     assert!(rt; is_picture(view));
 }
 
 /// Whether a view of the files of a task that moves is made.
 fn is_made<R: Threads + Sync>(rt: &R, alloc: Global, view: View) -> bool {
-    view_of(rt, alloc, &[MOVES_FROM, MOVES_TO], view).is_ok()
+    view_of(rt, alloc, &[moving::FROM, moving::TO], view).is_ok()
 }
 
 /// Whether the fault of a view is told by its number.

@@ -1,10 +1,11 @@
 //! What a run answers where a growth is refused.
 
-use crate::files::{DOCUMENTATION, DOCUMENTATION_REPORT, FIRST, FIRST_REPORT, files_after_all};
+use crate::files::{FIRST, FIRST_REPORT, files_after_all};
 use crate::writer::Expecting;
 use grub_plan::TextFault;
 use grub_run::{GrubFault, run_texts};
 use grub_trace::TraceFault;
+use grub_worked_examples::documentation;
 use grub_workers::RunFault;
 use std::alloc::Global;
 use std::process::Abort;
@@ -46,5 +47,5 @@ fn refused_growths_of_the_first_file(rt: HostRuntime) {
 
 #[test]
 fn refused_growths_of_the_documentation(rt: HostRuntime) {
-    assert!(rt; prints_or_refuses(&rt, rt.alloc(), DOCUMENTATION, DOCUMENTATION_REPORT));
+    assert!(rt; prints_or_refuses(&rt, rt.alloc(), documentation::FILE, documentation::REPORT));
 }

@@ -2,9 +2,9 @@
 
 use super::ends;
 use crate::expects::expect_at;
-use crate::files::{DOCUMENTATION, DOCUMENTATION_REPORT};
 use crate::writer::{Expecting, Then};
 use grub_run::GrubFault;
+use grub_worked_examples::documentation;
 use std::alloc::Global;
 use std::process::Abort;
 use std::sync::Wait;
@@ -22,13 +22,13 @@ fn ends_in<R: Threads + Wait + Sync>(
     out.each = each;
     out.calls = calls;
     out.then = then;
-    ends(rt, alloc, &[DOCUMENTATION], 8, 64, out, end)
+    ends(rt, alloc, &[documentation::FILE], 8, 64, out, end)
 }
 
 /// Expects that a writer which goes on so after any number of calls, of 7 bytes each, fails when it has taken as much.
 fn expect_faults<R: Abort + Threads + Wait + Sync>(rt: &R, alloc: Global, then: Then) {
     let fails = Err(GrubFault::WriteFault);
-    let whole = DOCUMENTATION_REPORT.as_bytes();
+    let whole = documentation::REPORT.as_bytes();
     for calls in 0..whole.len().div_ceil(7) {
         let text = &whole[..calls * 7];
         expect_at(rt, ends_in(rt, alloc, (7, calls, then), fails, text), calls);
@@ -48,7 +48,7 @@ fn writers_that_fail(rt: HostRuntime) {
 #[test]
 fn writers_that_take_all(rt: HostRuntime) {
     let alloc = rt.alloc();
-    let text = DOCUMENTATION_REPORT.as_bytes();
+    let text = documentation::REPORT.as_bytes();
     let fails = Err(GrubFault::WriteFault);
     assert!(rt; ends_in(&rt, alloc, (1, 1000, Then::Fails), Ok(()), text));
     assert!(rt; ends_in(&rt, alloc, (1000, 1000, Then::TakesNothing), Ok(()), text));

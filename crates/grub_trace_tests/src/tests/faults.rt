@@ -312,8 +312,9 @@ fn is_cut_well(alloc: Global, text: &[u8]) -> bool {
 #[test]
 fn each_cut(rt: HostRuntime) {
     let alloc = rt.alloc();
-    for end in 0..=EXAMPLE.len() {
-        assert!(rt; is_cut_well(alloc, &EXAMPLE[..end]), "up to {end}");
+    let file = documentation::FILE.as_bytes();
+    for end in 0..=file.len() {
+        assert!(rt; is_cut_well(alloc, &file[..end]), "up to {end}");
     }
 }
 

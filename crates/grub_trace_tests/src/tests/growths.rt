@@ -8,8 +8,9 @@ use std::test::Fail;
 
 /// Two files that share the example's tasks; the second is of this version.
 fn two_files(alloc: Global, second: &[u8]) -> Result<Vec<Vec<u8>>, AllocError> {
-    match files_of(alloc, &[EXAMPLE, second]) {
-        Err(AllocError) => files_of(alloc, &[EXAMPLE, second]),
+    let texts = [documentation::FILE.as_bytes(), second];
+    match files_of(alloc, &texts) {
+        Err(AllocError) => files_of(alloc, &texts),
         files => files,
     }
 }
@@ -111,7 +112,7 @@ fn refused_growths_of_a_report(rt: HostRuntime) -> Result<(), TraceFault> {
     let alloc = rt.alloc();
     let plan = plan_after_all(alloc, EMPTY_SECOND)?;
     let report = example_report(alloc)?;
-    assert!(rt; has_text_after_all(alloc, &plan, &report, EXAMPLE_REPORT));
+    assert!(rt; has_text_after_all(alloc, &plan, &report, documentation::REPORT.as_bytes()));
     Ok(())
 }
 
@@ -155,7 +156,7 @@ fn hold(alloc: Global, pieces: &mut Vec<Vec<u8>>, size: usize) -> bool {
 #[test]
 fn no_memory_is_left(rt: HostRuntime) -> Result<(), Fail> {
     let alloc = rt.alloc();
-    let files = files_of(alloc, &[EXAMPLE])?;
+    let files = files_of(alloc, &[documentation::FILE.as_bytes()])?;
     let wrong = files_of(alloc, &[b"grub 1\nqueue 1 2\n"])?;
     let plan = read_files(alloc, &files)?;
     let report = Report {

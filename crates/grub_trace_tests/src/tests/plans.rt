@@ -39,7 +39,7 @@ const EXAMPLE_SCRIPT: [Line; 8] = [
 
 #[test]
 fn script_of_the_example(rt: HostRuntime) -> Result<(), TraceFault> {
-    let plan = plan_of(rt.alloc(), &[EXAMPLE])?;
+    let plan = plan_of(rt.alloc(), &[documentation::FILE.as_bytes()])?;
     assert_eq!(rt; plan.files(), 1);
     assert!(rt; plan.script(0) == EXAMPLE_SCRIPT.as_slice());
     Ok(())
@@ -47,7 +47,7 @@ fn script_of_the_example(rt: HostRuntime) -> Result<(), TraceFault> {
 
 #[test]
 fn setup_of_the_example(rt: HostRuntime) -> Result<(), TraceFault> {
-    let plan = plan_of(rt.alloc(), &[EXAMPLE])?;
+    let plan = plan_of(rt.alloc(), &[documentation::FILE.as_bytes()])?;
     let setup = plan.setup();
     assert!(rt; setup.has_queue(0) && setup.has_task(1));
     assert_eq!(rt; setup.queue(0).umax(), 1048576);

@@ -82,7 +82,7 @@ pub(super) const EXAMPLE_LINES: [&[u8]; 9] = [
 #[test]
 fn lines_of_the_example(rt: HostRuntime) -> Result<(), TraceFault> {
     let alloc = rt.alloc();
-    let plan = plan_of(alloc, &[EXAMPLE])?;
+    let plan = plan_of(alloc, &[documentation::FILE.as_bytes()])?;
     for (entry, text) in example_entries().iter().zip(EXAMPLE_LINES) {
         assert!(rt; has_line(alloc, &plan, entry, text), "{text:?}");
     }
@@ -181,7 +181,7 @@ const LINES: &[(Op, Answer, &[u8])] = &[
 #[test]
 fn lines(rt: HostRuntime) -> Result<(), TraceFault> {
     let alloc = rt.alloc();
-    let plan = plan_of(alloc, &[EXAMPLE])?;
+    let plan = plan_of(alloc, &[documentation::FILE.as_bytes()])?;
     for (op, answer, text) in LINES {
         let entry = Entry {
             m: 7,
@@ -217,12 +217,20 @@ fn report_of_the_example(rt: HostRuntime) -> Result<(), Fail> {
     let report = Report {
         entries: Vec::from_slice(alloc, &example_entries())?,
     };
-    let plan = plan_of(alloc, &[EXAMPLE])?;
+    let plan = plan_of(alloc, &[documentation::FILE.as_bytes()])?;
     let closing = Reading {
         running: 1048576,
         this: 1048576,
     };
-    assert!(rt; has_report(alloc, &plan, &report, closing, EXAMPLE_REPORT));
+    assert!(rt;
+        has_report(
+            alloc,
+            &plan,
+            &report,
+            closing,
+            documentation::REPORT.as_bytes()
+        )
+    );
     Ok(())
 }
 
@@ -261,7 +269,7 @@ fn long_text(alloc: Global, count: u32) -> Result<(Report, Vec<u8>), AllocError>
 fn long_report(rt: HostRuntime) -> Result<(), Fail> {
     let alloc = rt.alloc();
     let (report, wanted) = long_text(alloc, 5000)?;
-    let plan = plan_of(alloc, &[EXAMPLE])?;
+    let plan = plan_of(alloc, &[documentation::FILE.as_bytes()])?;
     assert!(rt; are_of(&plan, &report.entries));
     assert!(rt; is_text(report_of(alloc, &plan, 63, &report, NOTHING), &wanted));
     Ok(())
