@@ -5,7 +5,6 @@ use grub_plan::{Plan, TextFault, line_of};
 use grub_timeline::{PlayFault, Playing, TimeLine, play};
 use grub_trace::{TraceFault, read_files};
 use std::alloc::{AllocError, Global};
-use std::test::Fail;
 
 /// Why a test's files gave no text.
 #[derive(Debug, Drop)]
@@ -28,6 +27,19 @@ fn files(alloc: Global, all: &[&[u8]]) -> Result<Vec<Vec<u8>>, AllocError> {
     Ok(files)
 }
 
+/// The plan of such files.
+fn plan_of(alloc: Global, all: &[&[u8]]) -> Result<Plan, Refusal> {
+    let files = files(alloc, all).map_err(Refusal::Memory)?;
+    read_files(alloc, &files).map_err(Refusal::Trace)
+}
+
+/// Adds the number of an entry's runqueue, and its line.
+fn push_entry(alloc: Global, text: &mut Vec<u8>, r: u32, line: &[u8]) -> Result<(), AllocError> {
+    let number = format!(in alloc; "{r} ")?;
+    text.extend_from_slice(number.as_bytes())?;
+    text.extend_from_slice(line)
+}
+
 /// The lines of the entries, each after the number of its runqueue.
 fn entries_text(alloc: Global, plan: &Plan, line: &TimeLine) -> Result<Vec<u8>, Refusal>
     requires { AreWithin plan.now.setup line.now.told.items }
@@ -35,33 +47,40 @@ fn entries_text(alloc: Global, plan: &Plan, line: &TimeLine) -> Result<Vec<u8>, 
     let mut text = Vec::new(alloc);
     for told in &line.told {
         let entry = line_of(alloc, plan, &told.entry).map_err(Refusal::Text)?;
-        let number = format!(in alloc; "{} ", told.r).map_err(Refusal::Memory)?;
-        text.extend_from_slice(number.as_bytes())
-            .map_err(Refusal::Memory)?;
-        text.extend_from_slice(&entry).map_err(Refusal::Memory)?;
+        push_entry(alloc, &mut text, told.r, &entry).map_err(Refusal::Memory)?;
     }
     Ok(text)
 }
 
-/// The closing readings.
-fn closing_text(alloc: Global, line: &TimeLine) -> Result<Vec<u8>, AllocError> {
-    let mut text = Vec::new(alloc);
+/// Adds the closing readings.
+fn push_closing(alloc: Global, text: &mut Vec<u8>, line: &TimeLine) -> Result<(), AllocError> {
     for reading in &line.closing {
         let one = format!(in alloc; "close {} {}\n", reading.running, reading.this)?;
         text.extend_from_slice(one.as_bytes())?;
     }
+    Ok(())
+}
+
+/// The entries and the closing readings of a plan.
+fn play_plan(alloc: Global, plan: &Plan) -> Result<Vec<u8>, Refusal> {
+    let line = play(alloc, plan).map_err(Refusal::Play)?;
+    let mut text = entries_text(alloc, plan, &line)?;
+    push_closing(alloc, &mut text, &line).map_err(Refusal::Memory)?;
     Ok(text)
 }
 
-/// The entries and the closing readings of such files.
+/// The same of such files.
 fn play_files(alloc: Global, all: &[&[u8]]) -> Result<Vec<u8>, Refusal> {
-    let files = files(alloc, all).map_err(Refusal::Memory)?;
-    let plan = read_files(alloc, &files).map_err(Refusal::Trace)?;
-    let line = play(alloc, &plan).map_err(Refusal::Play)?;
-    let mut text = entries_text(alloc, &plan, &line)?;
-    let closing = closing_text(alloc, &line).map_err(Refusal::Memory)?;
-    text.extend_from_slice(&closing).map_err(Refusal::Memory)?;
-    Ok(text)
+    let plan = plan_of(alloc, all)?;
+    play_plan(alloc, &plan)
+}
+
+/// Whether such files have this text.
+fn has_text(alloc: Global, all: &[&[u8]], text: &[u8]) -> bool {
+    match play_files(alloc, all) {
+        Ok(played) => played.as_slice() == text,
+        Err(_) => false,
+    }
 }
 
 const DOCUMENTATION: &[u8] =
@@ -71,10 +90,8 @@ const DOCUMENTATION_LINES: &[u8] =
     b"0 at 0 join T1: joined q=4 d=8\n0 at 0 join T2: joined q=4 d=8\n0 at 0 run T1 2: charged dq=2 k=0 q=2 d=8\n0 at 2 block T1: waiting ticket=1 z=4\n0 at 2 run T2 2: charged dq=2 k=0 q=2 d=8\n0 at 4 timer T1 1: retired\n0 at 4 run T2 4: charged dq=2 k=1 q=4 d=16\n0 at 8 wake T1: woken q=4 d=16\n0 at 8 read: running=1048576 this=1048576\nclose 1048576 1048576\n";
 
 #[test]
-fn the_documentations_example(rt: HostRuntime) -> Result<(), Fail> {
-    let text = play_files(rt.alloc(), &[DOCUMENTATION])?;
-    assert_eq!(rt; text.as_slice(), DOCUMENTATION_LINES);
-    Ok(())
+fn the_documentations_example(rt: HostRuntime) {
+    assert!(rt; has_text(rt.alloc(), &[DOCUMENTATION], DOCUMENTATION_LINES));
 }
 
 const SHARED_0: &[u8] = b"task T 4 8\nat 0 join T\nat 0 run T 2\nat 2 block T\nat 9 read\n";
@@ -86,63 +103,68 @@ const SHARED_LINES: &[u8] =
 
 /// The wake moves the task, and takes its timer out.
 #[test]
-fn two_files_that_share_a_task(rt: HostRuntime) -> Result<(), Fail> {
-    let text = play_files(rt.alloc(), &[SHARED_0, SHARED_1])?;
-    assert_eq!(rt; text.as_slice(), SHARED_LINES);
-    Ok(())
+fn two_files_that_share_a_task(rt: HostRuntime) {
+    assert!(rt; has_text(rt.alloc(), &[SHARED_0, SHARED_1], SHARED_LINES));
 }
+
+const TIMER_LINES: &[u8] =
+    b"1 at 0 join T: joined q=4 d=8\n1 at 0 run T 2: charged dq=2 k=0 q=2 d=8\n1 at 2 block T: waiting ticket=1 z=4\n1 at 4 timer T 1: retired\n0 at 5 read: running=0 this=0\n1 at 9 read: running=0 this=524288\nclose 0 0\nclose 0 524288\n";
 
 /// A timer is asked before another file's line, and is of the runqueue of its block.
 #[test]
-fn a_timer_of_another_file(rt: HostRuntime) -> Result<(), Fail> {
-    let text = play_files(rt.alloc(), &[b"at 5 read\n", SHARED_0])?;
-    assert_eq!(rt;
-        text.as_slice(),
-        b"1 at 0 join T: joined q=4 d=8\n1 at 0 run T 2: charged dq=2 k=0 q=2 d=8\n1 at 2 block T: waiting ticket=1 z=4\n1 at 4 timer T 1: retired\n0 at 5 read: running=0 this=0\n1 at 9 read: running=0 this=524288\nclose 0 0\nclose 0 524288\n".as_slice()
-    );
-    Ok(())
+fn a_timer_of_another_file(rt: HostRuntime) {
+    assert!(rt; has_text(rt.alloc(), &[b"at 5 read\n", SHARED_0], TIMER_LINES));
 }
+
+const ONE_MOMENT: [&[u8]; 3] = [
+    b"at 2 read\n",
+    b"task T 4 8\nat 0 join T\nat 0 run T 2\nat 2 block T\nat 2 read\n",
+    b"at 1 read\nat 2 read\n",
+];
+
+const ONE_MOMENT_LINES: &[u8] =
+    b"1 at 0 join T: joined q=4 d=8\n1 at 0 run T 2: charged dq=2 k=0 q=2 d=8\n2 at 1 read: running=0 this=0\n0 at 2 read: running=0 this=0\n1 at 2 block T: waiting ticket=1 z=4\n1 at 2 read: running=524288 this=524288\n2 at 2 read: running=0 this=0\nclose 0 0\nclose 524288 524288\nclose 0 0\n";
 
 /// Lines of one moment go by file and then by line, and a timer that no line comes after is not asked.
 #[test]
-fn lines_of_one_moment(rt: HostRuntime) -> Result<(), Fail> {
-    let text = play_files(
-        rt.alloc(),
-        &[
-            b"at 2 read\n",
-            b"task T 4 8\nat 0 join T\nat 0 run T 2\nat 2 block T\nat 2 read\n",
-            b"at 1 read\nat 2 read\n",
-        ],
-    )?;
-    assert_eq!(rt;
-        text.as_slice(),
-        b"1 at 0 join T: joined q=4 d=8\n1 at 0 run T 2: charged dq=2 k=0 q=2 d=8\n2 at 1 read: running=0 this=0\n0 at 2 read: running=0 this=0\n1 at 2 block T: waiting ticket=1 z=4\n1 at 2 read: running=524288 this=524288\n2 at 2 read: running=0 this=0\nclose 0 0\nclose 524288 524288\nclose 0 0\n".as_slice()
-    );
-    Ok(())
+fn lines_of_one_moment(rt: HostRuntime) {
+    assert!(rt; has_text(rt.alloc(), &ONE_MOMENT, ONE_MOMENT_LINES));
+}
+
+/// Whether the entries of a plan, played and exchanged, are those of its time line, and none are left.
+fn exchanges(alloc: Global, plan: &Plan, line: &TimeLine) -> bool {
+    let Ok(mut playing) = Playing::new(alloc, plan) else {
+        return false;
+    };
+    let Ok(mut latest) = Vec::with_capacity(alloc, playing.most()) else {
+        return false;
+    };
+    let is_played = playing.play_on();
+    playing.exchange(&mut latest);
+    is_played && playing.chunk().is_empty() && !playing.play_on() && latest == line.told
+}
+
+/// The same of such a file.
+fn exchanges_of(alloc: Global, file: &[u8]) -> bool {
+    let Ok(plan) = plan_of(alloc, &[file]) else {
+        return false;
+    };
+    match play(alloc, &plan) {
+        Ok(line) => exchanges(alloc, &plan, &line),
+        Err(_) => false,
+    }
 }
 
 /// Entries that were exchanged stay as they are while the rest is played.
 #[test]
-fn the_latest_entries_are_exchanged(rt: HostRuntime) -> Result<(), Fail> {
-    let alloc = rt.alloc();
-    let files = files(alloc, &[DOCUMENTATION])?;
-    let plan = read_files(alloc, &files)?;
-    let line = play(alloc, &plan)?;
-    let mut playing = Playing::new(alloc, &plan)?;
-    let mut latest = Vec::with_capacity(alloc, playing.most())?;
-    assert!(rt; playing.play_on());
-    playing.exchange(&mut latest);
-    assert!(rt; playing.chunk().is_empty());
-    assert!(rt; !playing.play_on());
-    assert!(rt; latest == line.told);
-    Ok(())
+fn the_latest_entries_are_exchanged(rt: HostRuntime) {
+    assert!(rt; exchanges_of(rt.alloc(), DOCUMENTATION));
 }
 
 #[test]
-fn the_fault_prints_its_number(rt: HostRuntime) -> Result<(), Fail> {
-    let text = format!(in rt.alloc(); "{}", PlayFault::NoMemory)?;
-    assert_eq!(rt; text.as_str(), "48 NoMemory");
-    Ok(())
+fn the_fault_prints_its_number(rt: HostRuntime) {
+    let text = format!(in rt.alloc(); "{}", PlayFault::NoMemory);
+    assert!(rt; text.is_ok_and(|it| it.as_str() == "48 NoMemory"));
 }
 
 /// Passes with each growth refused in turn: that is answered as want of memory, and else the text is the one with ample memory.
