@@ -169,25 +169,50 @@ agrees: no block beyond 100 us
 
 const TASKS: [&str; 1] = ["a=1000:10000"];
 
+const LATE: &str =
+    " x-1 [000] d. 100.010000001: sched_wakeup: comm=x pid=1 prio=120 target_cpu=000\n";
+
+const LATER: &str =
+    " x-1 [000] d. 100.010001000: sched_wakeup: comm=x pid=1 prio=120 target_cpu=000\n";
+
+/// The first wake, the timer and the late timer of a trace, and how many lines it has; the bound; the status, and the
+/// end of the verdict.
+type Case = (
+    &'static str,
+    &'static str,
+    &'static str,
+    u32,
+    u32,
+    u8,
+    &'static str,
+);
+
+static CASES: [Case; 6] = [
+    (FIRST, TIMER, "", 14, 100, 0, AGREES),
+    (LATE, TIMER, "", 14, 100, 0, AGREES),
+    (LATER, TIMER, "", 14, 100, 0, UNSURE),
+    (FIRST, TIMER, "", 14, 2, 4, BEYOND),
+    (FIRST, "", "", 13, 100, 4, NO_TIMER),
+    (FIRST, TIMER, LATE_TIMER, 15, 100, 4, ARMED_LATE),
+];
+
+/// Whether the trace of a case has its verdict.
+fn is_right(
+    alloc: Global,
+    &(first, timer, late_timer, lines, within, status, end): &Case,
+) -> Result<bool, AllocError> {
+    let text = format!(in alloc; "{HEAD}{first}{BLOCKS}{timer}{LAST}{late_timer}{ASLEEP}")?;
+    let verdict = format!(in alloc;
+        "trace t: {lines} lines, 3 wakes, 3 runs, 3 blocks, 0 exits, 0 wakes moved, 0 ready tasks moved\n{CONSTANTS}{end}"
+    )?;
+    let checked = check(alloc, &TASKS, "none", within, text.as_str())?;
+    Ok(checked.is(status, verdict.as_str()))
+}
+
 #[test]
 fn verdicts(rt: HostRuntime) -> Result<(), Fail> {
-    let alloc = rt.alloc();
-    let late = " x-1 [000] d. 100.010000001: sched_wakeup: comm=x pid=1 prio=120 target_cpu=000\n";
-    let later = " x-1 [000] d. 100.010001000: sched_wakeup: comm=x pid=1 prio=120 target_cpu=000\n";
-    for (first, timer, late_timer, lines, within, status, end) in [
-        (FIRST, TIMER, "", 14, 100, 0, AGREES),
-        (late, TIMER, "", 14, 100, 0, AGREES),
-        (later, TIMER, "", 14, 100, 0, UNSURE),
-        (FIRST, TIMER, "", 14, 2, 4, BEYOND),
-        (FIRST, "", "", 13, 100, 4, NO_TIMER),
-        (FIRST, TIMER, LATE_TIMER, 15, 100, 4, ARMED_LATE),
-    ] {
-        let text = format!(in alloc; "{HEAD}{first}{BLOCKS}{timer}{LAST}{late_timer}{ASLEEP}")?;
-        let verdict = format!(in alloc;
-            "trace t: {lines} lines, 3 wakes, 3 runs, 3 blocks, 0 exits, 0 wakes moved, 0 ready tasks moved\n{CONSTANTS}{end}"
-        )?;
-        let checked = check(alloc, TASKS.as_slice(), "none", within, text.as_str())?;
-        assert!(rt; checked.is(status, verdict.as_str()), "{end}");
+    for case in &CASES {
+        assert!(rt; is_right(rt.alloc(), case)?, "{}", case.6);
     }
     Ok(())
 }
@@ -220,40 +245,53 @@ covered: 3 charges by the task's own bandwidth, 0 by what is left; 0 wakes befor
 0-lag moments: book - kernel in us: least 1.250, median 1.250, greatest 1.250; 0 of 1 beyond 100
 agrees: no block beyond 100 us
 ";
-    let checked = check(rt.alloc(), TASKS.as_slice(), "none", 100, text)?;
+    let checked = check(rt.alloc(), &TASKS, "none", 100, text)?;
     assert!(rt; checked.is(0, verdict));
     Ok(())
+}
+
+const WAKES: &str = " x-1 [000] d. 100.020000000: sched_wakeup: comm=b pid=8 prio=-1 target_cpu=000
+ x-1 [000] d. 100.030000000: sched_wakeup: comm=a pid=7 prio=-1 target_cpu=000
+";
+
+const START: &str =
+    " x-1 [000] d. 100.040000000: hrtimer_start: hrtimer=d1 function=hrtimer_wakeup\n";
+
+/// What follows the wakes, the reservation of a and that of the fair servers, and the line of the fault.
+static FAULTS: [(&str, &str, &str, &str); 4] = [
+    ("", "a=1000:10000", "none", "grubtrace: t: 53 NoTimers\n"),
+    ("", "a=6000:10000", "none", "grubtrace: t: 53 NoTimers\n"),
+    (
+        START,
+        "a=6000:10000",
+        "none",
+        "grubtrace: t:2: 57 Overfull a\n",
+    ),
+    (
+        START,
+        "a=6000:10000",
+        "960000:1000000",
+        "grubtrace: t: 57 Overfull fair0\n",
+    ),
+];
+
+/// Whether the wakes and what follows them have this fault.
+fn has_fault(
+    alloc: Global,
+    &(start, reserved, fair, line): &(&str, &str, &str, &str),
+) -> Result<bool, AllocError> {
+    let text = format!(in alloc; "{WAKES}{start}")?;
+    let tasks = [reserved, "b=6000:10000"];
+    let checked = check(alloc, tasks.as_slice(), fair, 100, text.as_str())?;
+    Ok(checked.is_fault(line))
 }
 
 /// No timer was recorded; more bandwidth gathers on a runqueue than the book lets in, by two tasks, by the line of the
 /// second, and by a server of fair tasks, which has no line.
 #[test]
 fn faults(rt: HostRuntime) -> Result<(), Fail> {
-    let alloc = rt.alloc();
-    let wakes = " x-1 [000] d. 100.020000000: sched_wakeup: comm=b pid=8 prio=-1 target_cpu=000
- x-1 [000] d. 100.030000000: sched_wakeup: comm=a pid=7 prio=-1 target_cpu=000
-";
-    let start = " x-1 [000] d. 100.040000000: hrtimer_start: hrtimer=d1 function=hrtimer_wakeup\n";
-    for (start, reserved, fair, line) in [
-        ("", "a=1000:10000", "none", "grubtrace: t: 53 NoTimers\n"),
-        ("", "a=6000:10000", "none", "grubtrace: t: 53 NoTimers\n"),
-        (
-            start,
-            "a=6000:10000",
-            "none",
-            "grubtrace: t:2: 57 Overfull a\n",
-        ),
-        (
-            start,
-            "a=6000:10000",
-            "960000:1000000",
-            "grubtrace: t: 57 Overfull fair0\n",
-        ),
-    ] {
-        let text = format!(in alloc; "{wakes}{start}")?;
-        let tasks = [reserved, "b=6000:10000"];
-        let checked = check(alloc, tasks.as_slice(), fair, 100, text.as_str())?;
-        assert!(rt; checked.is_fault(line), "{line}");
+    for case in &FAULTS {
+        assert!(rt; has_fault(rt.alloc(), case)?, "{}", case.3);
     }
     Ok(())
 }
@@ -262,7 +300,7 @@ fn faults(rt: HostRuntime) -> Result<(), Fail> {
 fn agrees(alloc: Global) -> Result<bool, AllocError> {
     let text = format!(in alloc; "{HEAD}{FIRST}{BLOCKS}{TIMER}{LAST}{ASLEEP}")?;
     let verdict = format!(in alloc; "{AGREEING}{CONSTANTS}{AGREES}")?;
-    let checked = check(alloc, TASKS.as_slice(), "none", 100, text.as_str())?;
+    let checked = check(alloc, &TASKS, "none", 100, text.as_str())?;
     if checked.status == 3 && checked.out.is_empty() {
         return Err(AllocError);
     }
@@ -272,10 +310,10 @@ fn agrees(alloc: Global) -> Result<bool, AllocError> {
 /// Passes where any one growth is refused: the check after that gives the verdict.
 #[test]
 fn refused_growths(rt: HostRuntime) -> Result<(), Fail> {
-    let is_right = match agrees(rt.alloc()) {
-        Ok(is_right) => is_right,
+    let is_agreeing = match agrees(rt.alloc()) {
+        Ok(is_agreeing) => is_agreeing,
         Err(AllocError) => agrees(rt.alloc())?,
     };
-    assert!(rt; is_right);
+    assert!(rt; is_agreeing);
     Ok(())
 }

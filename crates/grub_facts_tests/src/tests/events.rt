@@ -7,39 +7,42 @@ use grub_facts::{Fact, Stop, What};
 use std::alloc::{AllocError, Global};
 use std::test::Fail;
 
+/// Lines, and of the fact that each tells the moment, the task and what happened.
+static EVENTS: [(&[u8], u64, usize, What); 5] = [
+    (WAKE, 1020402803000, 0, What::Wakes { cpu: 2 }),
+    (
+        SWITCH,
+        1020381451000,
+        0,
+        What::Stops {
+            cpu: 0,
+            state: Stop::Blocks,
+        },
+    ),
+    (
+        b"a-1 [3] x 1.000001: sched_wakeup_new: comm=b pid=77 prio=-1 target_cpu=1\n",
+        1000001000,
+        1,
+        What::Wakes { cpu: 1 },
+    ),
+    (
+        b" gr_3-9 [0] d 1.0000001: sched_migrate_task: comm=gr_0 pid=8 prio=-1 orig_cpu=1 dest_cpu=02\n",
+        1000000100,
+        0,
+        What::Sent { cpu: 2 },
+    ),
+    (
+        b"x-9 [0] d 1.00000001: sched_stat_runtime: comm=gr_0 pid=8 runtime=2499546 [ns]\n",
+        1000000010,
+        0,
+        What::Ran { nanos: 2499546 },
+    ),
+];
+
 #[test]
 fn each_event_tells_its_fact(rt: HostRuntime) -> Result<(), Fail> {
-    for (line, at, task, what) in [
-        (WAKE, 1020402803000, 0, What::Wakes { cpu: 2 }),
-        (
-            SWITCH,
-            1020381451000,
-            0,
-            What::Stops {
-                cpu: 0,
-                state: Stop::Blocks,
-            },
-        ),
-        (
-            b"a-1 [3] x 1.000001: sched_wakeup_new: comm=b pid=77 prio=-1 target_cpu=1\n".as_slice(),
-            1000001000,
-            1,
-            What::Wakes { cpu: 1 },
-        ),
-        (
-            b" gr_3-9 [0] d 1.0000001: sched_migrate_task: comm=gr_0 pid=8 prio=-1 orig_cpu=1 dest_cpu=02\n".as_slice(),
-            1000000100,
-            0,
-            What::Sent { cpu: 2 },
-        ),
-        (
-            b"x-9 [0] d 1.00000001: sched_stat_runtime: comm=gr_0 pid=8 runtime=2499546 [ns]\n".as_slice(),
-            1000000010,
-            0,
-            What::Ran { nanos: 2499546 },
-        ),
-    ] {
-        assert!(rt; tells(rt.alloc(), line, at, task, what)?, "{at}");
+    for (line, at, task, what) in &EVENTS {
+        assert!(rt; tells(rt.alloc(), line, *at, *task, *what)?, "{at}");
     }
     assert!(rt; timers_are_told(rt.alloc())?);
     Ok(())
@@ -98,16 +101,18 @@ fn tells_stop(alloc: Global, state: &[u8], stop: Stop) -> Result<bool, AllocErro
     tells(alloc, text.as_slice(), 1000001000, 1, what)
 }
 
+static STATES: [(&[u8], Stop); 5] = [
+    (b"R+", Stop::Ready),
+    (b"P ", Stop::Ready),
+    (b"D ", Stop::Blocks),
+    (b"X ", Stop::Ends),
+    (b"Z|", Stop::Ends),
+];
+
 #[test]
 fn a_state_is_told_by_its_first_letter(rt: HostRuntime) -> Result<(), Fail> {
-    for (state, stop) in [
-        (b"R+", Stop::Ready),
-        (b"P ", Stop::Ready),
-        (b"D ", Stop::Blocks),
-        (b"X ", Stop::Ends),
-        (b"Z|", Stop::Ends),
-    ] {
-        assert!(rt; tells_stop(rt.alloc(), state.as_slice(), stop)?);
+    for (state, stop) in &STATES {
+        assert!(rt; tells_stop(rt.alloc(), state, *stop)?, "{state:?}");
     }
     Ok(())
 }

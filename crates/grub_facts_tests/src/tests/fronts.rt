@@ -5,14 +5,25 @@ use grub_facts::{Facts, Stop, What};
 use std::alloc::{AllocError, Global};
 use std::test::Fail;
 
+/// Wakes of the second task, whose comm looks like something else.
+static COMMS: [&[u8]; 3] = [
+    b"a-1 [3] 1.000001: sched_wakeup: comm= pid=77 prio=-1 target_cpu=003\n",
+    b"a-1 [3] 1.000001: sched_wakeup: comm=x prio=120 y=z pid=77 prio=-1 target_cpu=003\n",
+    b"a-1 [3] 1.000001: sched_wakeup: comm=sched_switch: a pid=77 prio=-1 target_cpu=003\n",
+];
+
+/// Whether a line tells that the second task wakes at 1.000001 on runqueue 3.
+fn tells_wake(alloc: Global, line: &[u8]) -> bool {
+    matches!(
+        tells(alloc, line, 1000001000, 1, What::Wakes { cpu: 3 }),
+        Ok(true)
+    )
+}
+
 #[test]
 fn a_comm_may_be_anything(rt: HostRuntime) -> Result<(), Fail> {
-    for line in [
-        b"a-1 [3] 1.000001: sched_wakeup: comm= pid=77 prio=-1 target_cpu=003\n".as_slice(),
-        b"a-1 [3] 1.000001: sched_wakeup: comm=x prio=120 y=z pid=77 prio=-1 target_cpu=003\n".as_slice(),
-        b"a-1 [3] 1.000001: sched_wakeup: comm=sched_switch: a pid=77 prio=-1 target_cpu=003\n".as_slice(),
-    ] {
-        assert!(rt; tells(rt.alloc(), line, 1000001000, 1, What::Wakes { cpu: 3 })?);
+    for line in &COMMS {
+        assert!(rt; tells_wake(rt.alloc(), line), "{line:?}");
     }
     assert!(rt; a_comm_of_words_is_told(rt.alloc())?);
     Ok(())
@@ -41,54 +52,38 @@ fn a_comm_of_words_is_told(alloc: Global) -> Result<bool, AllocError> {
 #[test]
 fn lines_end_as_they_may(rt: HostRuntime) -> Result<(), Fail> {
     let alloc = rt.alloc();
-    assert!(rt;
-        tells(
-            alloc,
-            b"a-1 [3] 1.000001: sched_wakeup: comm=b pid=77 prio=-1 target_cpu=003\r\n",
-            1000001000,
-            1,
-            What::Wakes { cpu: 3 }
-        )?
-    );
+    let line = b"a-1 [3] 1.000001: sched_wakeup: comm=b pid=77 prio=-1 target_cpu=003\r\n";
+    assert!(rt; tells_wake(alloc, line));
     assert_eq!(rt; numbers_of(alloc, b"\n\r\n# x\na\n")?, Some((0, 1, 1)));
     Ok(())
 }
 
 /// Whether a timer that is armed is told after this front.
 fn tells_armed(alloc: Global, front: &[u8]) -> Result<bool, AllocError> {
-    let text = joined(
-        alloc,
-        [
-            front,
-            b"1.000001: timer:hrtimer_start: hrtimer=0x1 function=inactive_task_timer expires=3 mode=0x9\n".as_slice(),
-        ]
-        .as_slice(),
-    )?;
+    let event =
+        b"1.000001: timer:hrtimer_start: hrtimer=0x1 function=inactive_task_timer expires=3 mode=0x9\n".as_slice();
+    let text = joined(alloc, &[front, event])?;
     let what = What::Armed { expires: 3 };
     tells(alloc, text.as_slice(), 1000001000, 1, what)
 }
 
+/// Fronts of the second task.
+static FORMS: [&[u8]; 5] = [
+    b"gr_0-77   (  77) [000] d..3.  ",
+    b"a [9] (b)-77   (-----) [000] ",
+    b"gr_0    77 [000]  ",
+    b"a b 3/77 [00]  ",
+    b"<...>-0077(  x) [000] ",
+];
+
+const PERF: &[u8] =
+    b"gr_0  3001 [003]  3468.623219456:   sched:sched_wakeup: comm=b pid=77 prio=-1 target_cpu=003\n";
+
 #[test]
 fn each_form_of_the_front(rt: HostRuntime) -> Result<(), Fail> {
-    let alloc = rt.alloc();
-    let forms = [
-        b"gr_0-77   (  77) [000] d..3.  ".as_slice(),
-        b"a [9] (b)-77   (-----) [000] ".as_slice(),
-        b"gr_0    77 [000]  ".as_slice(),
-        b"a b 3/77 [00]  ".as_slice(),
-        b"<...>-0077(  x) [000] ".as_slice(),
-    ];
-    for form in forms {
-        assert!(rt; tells_armed(alloc, form)?);
+    for form in &FORMS {
+        assert!(rt; tells_armed(rt.alloc(), form)?, "{form:?}");
     }
-    assert!(rt;
-        tells(
-            alloc,
-            b"gr_0  3001 [003]  3468.623219456:   sched:sched_wakeup: comm=b pid=77 prio=-1 target_cpu=003\n",
-            3468623219456,
-            1,
-            What::Wakes { cpu: 3 }
-        )?
-    );
+    assert!(rt; tells(rt.alloc(), PERF, 3468623219456, 1, What::Wakes { cpu: 3 })?);
     Ok(())
 }

@@ -80,7 +80,7 @@ fn has_line_after_all(alloc: Global, plan: &Plan, entry: &Entry, line: &[u8]) ->
 fn refused_growths_of_lines(rt: HostRuntime) -> Result<(), TraceFault> {
     let alloc = rt.alloc();
     let plan = plan_after_all(alloc, EMPTY_SECOND)?;
-    for (entry, line) in example_entries().iter().zip(EXAMPLE_LINES) {
+    for (entry, line) in example_entries().iter().zip(&EXAMPLE_LINES) {
         assert!(rt; has_line_after_all(alloc, &plan, entry, line), "{line:?}");
     }
     Ok(())
@@ -152,6 +152,46 @@ fn hold(alloc: Global, pieces: &mut Vec<Vec<u8>>, size: usize) -> bool {
     true
 }
 
+/// What is answered where nothing is left, to files and to a wrong one, to an entry and to a report.
+fn answers_without_memory(
+    alloc: Global,
+    files: &[Vec<u8>],
+    wrong: &[Vec<u8>],
+    plan: &Plan,
+) -> Result<bool, AllocError> {
+    let report = Report {
+        entries: Vec::new(alloc),
+    };
+    let [.., entry] = example_entries();
+    if !is_of(plan, entry.ask) {
+        return Ok(false);
+    }
+    let Some(held_back) = all_memory(alloc)? else {
+        return Ok(true);
+    };
+    let read = read_files(alloc, files).err();
+    let wrong = read_files(alloc, wrong).err();
+    let line = line_of(alloc, plan, &entry).err();
+    let text = report_of(alloc, plan, 0, &report, CLOSING).err();
+    drop(held_back);
+    Ok(are_told(read, wrong) && are_refusals(line, text))
+}
+
+/// Whether these are a want of memory, and the fault of a file's second line.
+fn are_told(read: Option<TraceFault>, wrong: Option<TraceFault>) -> bool {
+    let second_line = TraceFault::At {
+        kind: Kind::OutOfRange,
+        file: 0,
+        line: 2,
+    };
+    read == Some(TraceFault::NoMemory) && wrong == Some(second_line)
+}
+
+/// Whether both texts want memory.
+fn are_refusals(line: Option<TextFault>, text: Option<TextFault>) -> bool {
+    line == Some(TextFault::NoMemory) && text == Some(TextFault::NoMemory)
+}
+
 /// 37 and 43 are answered where nothing is left, and the faults of the first two lines of the first file all the same.
 #[test]
 fn no_memory_is_left(rt: HostRuntime) -> Result<(), Fail> {
@@ -159,25 +199,6 @@ fn no_memory_is_left(rt: HostRuntime) -> Result<(), Fail> {
     let files = files_of(alloc, &[documentation::FILE.as_bytes()])?;
     let wrong = files_of(alloc, &[b"grub 1\nqueue 1 2\n"])?;
     let plan = read_files(alloc, &files)?;
-    let report = Report {
-        entries: Vec::new(alloc),
-    };
-    let [.., entry] = example_entries();
-    assert!(rt; is_of(&plan, entry.ask));
-    let Some(held_back) = all_memory(alloc)? else {
-        return Ok(());
-    };
-    let read = read_files(alloc, &files).err();
-    let wrong = read_files(alloc, &wrong).err();
-    let line = line_of(alloc, &plan, &entry).err();
-    let text = report_of(alloc, &plan, 0, &report, CLOSING).err();
-    drop(held_back);
-    let second_line = TraceFault::At {
-        kind: Kind::OutOfRange,
-        file: 0,
-        line: 2,
-    };
-    assert!(rt; read == Some(TraceFault::NoMemory) && wrong == Some(second_line));
-    assert!(rt; line == Some(TextFault::NoMemory) && text == Some(TextFault::NoMemory));
+    assert!(rt; answers_without_memory(alloc, &files, &wrong, &plan)?);
     Ok(())
 }

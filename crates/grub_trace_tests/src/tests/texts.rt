@@ -67,7 +67,7 @@ pub(super) fn example_entries() -> [Entry; 9] {
     ]
 }
 
-pub(super) const EXAMPLE_LINES: [&[u8]; 9] = [
+pub(super) static EXAMPLE_LINES: [&[u8]; 9] = [
     b"at 0 join T1: joined q=4 d=8\n",
     b"at 0 join T2: joined q=4 d=8\n",
     b"at 0 run T1 2: charged dq=2 k=0 q=2 d=8\n",
@@ -83,7 +83,7 @@ pub(super) const EXAMPLE_LINES: [&[u8]; 9] = [
 fn lines_of_the_example(rt: HostRuntime) -> Result<(), TraceFault> {
     let alloc = rt.alloc();
     let plan = plan_of(alloc, &[documentation::FILE.as_bytes()])?;
-    for (entry, text) in example_entries().iter().zip(EXAMPLE_LINES) {
+    for (entry, text) in example_entries().iter().zip(&EXAMPLE_LINES) {
         assert!(rt; has_line(alloc, &plan, entry, text), "{text:?}");
     }
     Ok(())
