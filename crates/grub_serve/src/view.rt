@@ -51,8 +51,8 @@ pub enum View {
 ///
 /// `Trace` (28 to 37) is the reader's fault, and `View` (48) is want of memory for the time line or the view's text.
 /// `EmptySpan` comes where a picture would not begin before it ends. `WriteFault` (45) comes where the writer failed or
-/// took nothing; a beginning of the text was written then. On every other fault nothing was written: lines go through
-/// buffers of fixed size, which are the last thing that memory is taken for.
+/// took nothing; a beginning of the text was written then. On every other fault nothing was written: all memory is taken
+/// before the first write.
 pub fn write_view<R: Threads + Sync, W: Write>(
     rt: &R,
     alloc: Global,
