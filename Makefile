@@ -33,7 +33,7 @@ try:
 try-trace:
 	@scripts/try.sh grubtrace $(WORDS) $(TRACE)
 
-# The gate: every proof from nothing, the must-fail edits, all tests and the stored run, each growth of memory refused in
+# The gate: every proof that the machine has not kept, the must-fail edits, all tests and the stored run, each growth of memory refused in
 # turn, and the program's statuses and lines of faults.
 test:
 	bash .ci/run
