@@ -1,5 +1,5 @@
 -- The marks in the lanes of tasks.
-use Rattle.std.specs.Prelude.{ℕ, ◌-◌, ◌==◌, ◌&&◌, Bool, true, false, List, [], ◌++◌, codes, decimal, Option, Some, None, unwrap_or, filter, length, if◌then◌else◌}
+use Rattle.std.specs.Prelude.{ℕ, ◌==◌, ◌&&◌, Bool, true, false, List, [], ◌++◌, codes, decimal, Option, Some, None, unwrap_or, filter, length, if◌then◌else◌}
 use Rattle.std.specs.List.{flat_map}
 use Rattle.grub_shapes.specs.declared.frame.Frame.{Frame}
 use Rattle.grub_shapes.specs.declared.mark.Mark.{Mark}
@@ -24,6 +24,11 @@ abbrev pub mark_class : Bool → List ℕ
 mark_class true = codes "x"
 mark_class false = codes "m"
 
+-- an arrow down from the place where it is drawn: one that deviates is wide, the others are narrow
+abbrev pub mark_shape : Bool → List ℕ
+mark_shape true = codes "m-4 0h8l-4 8z"
+mark_shape false = codes "m-2 0h4l-2 8z"
+
 -- the 0-lag moment that one of the two waits for
 unfoldable pub waits_text : List ℕ → Option ℕ → List ℕ
 waits_text whose (Some m) = whose ++ codes " waits for " ++ decimal m
@@ -32,7 +37,7 @@ waits_text whose None = whose ++ codes " does not wait"
 -- the arrow of a mark
 unfoldable pub arrow_text : Frame → ℕ → Mark → List ℕ
 arrow_text f y mark =
-    codes "<path class=\"" ++ mark_class mark.is_off ++ codes "\" d=\"M" ++ decimal (column_of f mark - 4) ++ codes " " ++ decimal y ++ codes "h8l-4 8z\">"
+    codes "<path class=\"" ++ mark_class mark.is_off ++ codes "\" d=\"M" ++ decimal (column_of f mark) ++ codes " " ++ decimal y ++ mark_shape mark.is_off ++ codes "\">"
 
 -- what it tells: for which moments the kernel and the book wait after the block
 unfoldable pub told_text : List ℕ → Mark → List ℕ
@@ -54,8 +59,8 @@ marks_text f marks r t name y = kind_text f marks r t false name y ++ kind_text 
 unfoldable pub marks_legend : List ℕ
 marks_legend =
     codes "<style>.m{fill:#6a3d9a}.x{fill:#e31a1c}</style>\n"
-    ++ codes "<path class=\"m\" d=\"M450 9h8l-4 8z\"/><text x=\"466\" y=\"18\">kernel's 0-lag timer, like the book's</text>\n"
-    ++ codes "<path class=\"x\" d=\"M730 9h8l-4 8z\"/><text x=\"746\" y=\"18\">kernel's 0-lag timer, or a block without one, that deviates</text>\n"
+    ++ codes "<path class=\"m\" d=\"M459 9m-2 0h4l-2 8z\"/><text x=\"474\" y=\"18\">kernel's 0-lag timer</text>\n"
+    ++ codes "<path class=\"x\" d=\"M723 9m-4 0h8l-4 8z\"/><text x=\"738\" y=\"18\">kernel's 0-lag timer that deviates, or a block without one that does</text>\n"
 
 -- what the marks mean, where there are marks
 unfoldable pub legend_of : List Mark → List ℕ

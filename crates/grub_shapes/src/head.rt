@@ -2,7 +2,7 @@
 
 ghost use Rattle.std.specs.Prelude.{◌≡◌, ◌++◌, OnOk};
 ghost use Rattle.std.specs.List.{flat_map};
-ghost use Rattle.grub_shapes.specs.Elements.{axis_mark_text, axis_moments, axis_text, head_text, legend, mark_step, scale_mark_text, scale_text, span_text, style, umax_text};
+ghost use Rattle.grub_shapes.specs.Elements.{axis_mark_text, axis_moments, axis_text, head_text, legend, scale_mark_text, scale_text, span_text, style, umax_text};
 
 use crate::frame::{Frame, height_of};
 use crate::text::put_number;

@@ -1,7 +1,7 @@
 //! Marks that a picture shows in the lanes of tasks.
 
 ghost use Rattle.std.specs.Prelude.{◌≡◌, ◌++◌, OnOk, true, false};
-ghost use Rattle.grub_shapes.specs.Marks.{arrow_text, column_of, is_mark_of, kind_text, legend_of, mark_class, mark_text, marks_legend, marks_text, moment_of, told_text, waits_text};
+ghost use Rattle.grub_shapes.specs.Marks.{arrow_text, column_of, is_mark_of, kind_text, legend_of, mark_class, mark_shape, mark_text, marks_legend, marks_text, moment_of, told_text, waits_text};
 
 use crate::frame::{Frame, is_next};
 use crate::text::{put_number, put_text};
@@ -55,10 +55,10 @@ fn put_marks_legend(out: &mut Vec<u8>) -> Result<(), AllocError>
 {
     out.extend_from_slice(b"<style>.m{fill:#6a3d9a}.x{fill:#e31a1c}</style>\n")?;
     out.extend_from_slice(
-        b"<path class=\"m\" d=\"M450 9h8l-4 8z\"/><text x=\"466\" y=\"18\">kernel's 0-lag timer, like the book's</text>\n",
+        b"<path class=\"m\" d=\"M459 9m-2 0h4l-2 8z\"/><text x=\"474\" y=\"18\">kernel's 0-lag timer</text>\n",
     )?;
     out.extend_from_slice(
-        b"<path class=\"x\" d=\"M730 9h8l-4 8z\"/><text x=\"746\" y=\"18\">kernel's 0-lag timer, or a block without one, that deviates</text>\n",
+        b"<path class=\"x\" d=\"M723 9m-4 0h8l-4 8z\"/><text x=\"738\" y=\"18\">kernel's 0-lag timer that deviates, or a block without one that does</text>\n",
     )?;
     Ok(())
 }
@@ -135,9 +135,10 @@ fn put_arrow(out: &mut Vec<u8>, frame: Frame, mark: &Mark, y: u32) -> Result<(),
 {
     out.extend_from_slice(b"<path class=\"")?;
     out.extend_from_slice(mark_class(mark.is_off))?;
-    put_number(out, b"\" d=\"M", column_of(frame, mark).saturating_sub(4))?;
+    put_number(out, b"\" d=\"M", column_of(frame, mark))?;
     put_number(out, b" ", u64::from(y))?;
-    out.extend_from_slice(b"h8l-4 8z\">")?;
+    out.extend_from_slice(mark_shape(mark.is_off))?;
+    out.extend_from_slice(b"\">")?;
     Ok(())
 }
 
@@ -159,6 +160,17 @@ fn mark_class(is_off: bool) -> &'static [u8]
     ensures { result.now ≡ mark_class is_off }
 {
     if is_off { b"x" } else { b"m" }
+}
+
+/// An arrow down from the place where it is drawn: one that deviates is wide, the others are narrow.
+fn mark_shape(is_off: bool) -> &'static [u8]
+    ensures { result.now ≡ mark_shape is_off }
+{
+    if is_off {
+        b"m-4 0h8l-4 8z"
+    } else {
+        b"m-2 0h4l-2 8z"
+    }
 }
 
 /// The 0-lag moment that one of the two waits for.
