@@ -29,7 +29,7 @@ pub fn write_timeline<R: Threads + Sync, W: Write>(
     out: &mut W,
     plan: &Plan,
     latest: &mut Vec<Told>,
-    playing: Playing<'_>,
+    mut playing: Playing<'_>,
 ) -> io::Result<()>
     requires plan { playing.plan ≡ plan.now }
     requires nothing { playing.told ≡ [] }
@@ -41,7 +41,6 @@ pub fn write_timeline<R: Threads + Sync, W: Write>(
         (HandsPartOfTimeline plan.now (W.contents out.old) (W.contents out.new) buffer.old.items) }
     ensures room { LINE_MAX ≤ vec_capacity buffer.new }
 {
-    let mut playing = playing;
     let written = write_played(rt, blocks, buffer, out, plan, latest, &mut playing);
     let closing = playing.close();
     written?;

@@ -98,16 +98,16 @@ fn append_arg(out: &mut Vec<u8>, ask: Ask)
 {
     match ask {
         Ask::Call {
-            t: _,
-            op: Op::Charge { r: _, dt },
+            op: Op::Charge { dt, .. },
+            ..
         } => append_number(out, b"", u64::from(dt)),
         Ask::Call {
-            t: _,
-            op: Op::Timer { ticket, m: _ },
+            op: Op::Timer { ticket, .. },
+            ..
         } => append_number(out, b"", u64::from(ticket)),
         Ask::Call {
-            t: _,
             op: Op::Retune { q, p },
+            ..
         } => append_reservation(out, q, p),
         _ => {}
     }
@@ -154,7 +154,7 @@ fn task_name(plan: &Plan, ask: Ask) -> &str
     ensures short { length result.now ≤ 16 }
 {
     match ask {
-        Ask::Call { t, op: _ } => plan.name(t),
+        Ask::Call { t, .. } => plan.name(t),
         Ask::Read => "",
     }
 }
@@ -164,18 +164,18 @@ fn ask_word(ask: Ask) -> &'static str
     ensures word { result.now ≡ ask_word ask }
     ensures short { length result.now ≤ 18 }
 {
-    let Ask::Call { t: _, op } = ask else {
+    let Ask::Call { op, .. } = ask else {
         return "read";
     };
     match op {
-        Op::Join { r: _, m: _ } => "join",
-        Op::Wake { r: _, m: _ } => "wake",
-        Op::Block { r: _, m: _ } => "block",
+        Op::Join { .. } => "join",
+        Op::Wake { .. } => "wake",
+        Op::Block { .. } => "block",
         Op::Leave => "leave",
-        Op::Timer { ticket: _, m: _ } => "timer",
+        Op::Timer { .. } => "timer",
         Op::Exit => "exit",
-        Op::Charge { r: _, dt: _ } => "run",
-        Op::Retune { q: _, p: _ } => "retune",
+        Op::Charge { .. } => "run",
+        Op::Retune { .. } => "retune",
     }
 }
 
@@ -197,19 +197,14 @@ fn reply_word(reply: Reply) -> &'static str
     ensures short { length result.now ≤ 18 }
 {
     match reply {
-        Reply::Joined { q: _, d: _ } => "joined",
-        Reply::Woken { q: _, d: _ } => "woken",
-        Reply::Waiting { ticket: _, z: _ } => "waiting",
+        Reply::Joined { .. } => "joined",
+        Reply::Woken { .. } => "woken",
+        Reply::Waiting { .. } => "waiting",
         Reply::Asleep => "asleep",
-        Reply::Left { r: _ } => "left",
+        Reply::Left { .. } => "left",
         Reply::Retired => "retired",
         Reply::Ended => "ended",
-        Reply::Charged {
-            dq: _,
-            k: _,
-            q: _,
-            d: _,
-        } => "charged",
+        Reply::Charged { .. } => "charged",
         Reply::Retuned => "retuned",
         Reply::Gone => "gone",
         Reply::NotOn => "not-on",
@@ -252,7 +247,7 @@ fn numbers_told(reply: Reply) -> Numbers
             d: Some(d),
             z: None,
         },
-        Reply::Waiting { ticket: _, z } => Numbers {
+        Reply::Waiting { z, .. } => Numbers {
             z: Some(z),
             ..NO_NUMBERS
         },

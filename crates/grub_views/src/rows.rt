@@ -7,7 +7,7 @@ ghost use Rattle.grub_plan.specs.Writing.{HandsOn, HandsPart};
 ghost use Rattle.grub_steps.specs.Fitting.{AreToldIn, IsToldIn};
 ghost use Rattle.grub_steps.specs.Past.{book_past};
 ghost use Rattle.grub_steps.specs.Replay.{steps_from, steps_of};
-ghost use Rattle.grub_views.specs.Rows.{HandsOnSteps, HandsPartOfSteps, header, step_row, step_rows};
+ghost use Rattle.grub_views.specs.Rows.{HandsOnSteps, HandsPartOfSteps, header, step_row};
 
 use crate::beside::play_beside;
 use crate::rest::play_out;
@@ -39,7 +39,7 @@ pub fn write_steps<R: Threads + Sync, W: Write>(
     book: &mut Book<'_>,
     latest: &mut Vec<Told>,
     steps: &mut Vec<Step>,
-    playing: Playing<'_>,
+    mut playing: Playing<'_>,
 ) -> io::Result<()>
     requires plan { playing.plan ≡ plan.now }
     requires nothing { playing.told ≡ [] }
@@ -55,8 +55,12 @@ pub fn write_steps<R: Threads + Sync, W: Write>(
         (HandsPartOfSteps plan.now (W.contents out.old) (W.contents out.new) buffer.old.items) }
     ensures room { LINE_MAX ≤ vec_capacity buffer.new }
 {
-    let mut playing = playing;
-    let written = write_table(
+    if let Err(fault) = write_header(buffer, out) {
+        play_out(&mut playing);
+        playing.close();
+        return Err(fault);
+    }
+    let written = write_rows(
         rt,
         blocks,
         buffer,
@@ -69,41 +73,6 @@ pub fn write_steps<R: Threads + Sync, W: Write>(
     );
     playing.close();
     written
-}
-
-/// Plays all lines, and puts the names of the columns and a row for each entry into the buffer.
-fn write_table<R: Threads + Sync, W: Write>(
-    rt: &R,
-    blocks: &mut Blocks,
-    buffer: &mut Vec<u8>,
-    out: &mut W,
-    plan: &Plan,
-    book: &mut Book<'_>,
-    latest: &mut Vec<Told>,
-    steps: &mut Vec<Step>,
-    playing: &mut Playing<'_>,
-) -> io::Result<()>
-    requires plan { playing.old.plan ≡ plan.now }
-    requires nothing { playing.old.told ≡ [] }
-    requires setup { book.old.setup ≡ plan.now.setup }
-    requires book { book.old.records ≡ opening_book plan.now.setup }
-    requires latest { length plan.now.setup.tasks + 3 ≤ vec_capacity latest.old }
-    requires steps { playing.old.most ≤ vec_capacity steps.old }
-    requires waiting { vec_capacity latest.old ≤ vec_capacity steps.old }
-    requires room { LINE_MAX ≤ vec_capacity buffer.old }
-    ensures plan { playing.new.plan ≡ plan.now }
-    ensures over { playing.new.left ≡ 0 }
-    ensures whole { OnOk result (HandsOn (W.contents out.old) (W.contents out.new) buffer.old.items
-        (step_rows plan.now.names (steps_of plan.now.setup playing.new.told)) buffer.new.items) }
-    ensures part { OnErr result (HandsPart (W.contents out.old) (W.contents out.new)
-        buffer.old.items (step_rows plan.now.names (steps_of plan.now.setup playing.new.told))) }
-    ensures room { LINE_MAX ≤ vec_capacity buffer.new }
-{
-    if let Err(fault) = write_header(buffer, out) {
-        play_out(playing);
-        return Err(fault);
-    }
-    write_rows(rt, blocks, buffer, out, plan, book, latest, steps, playing)
 }
 
 fn write_header<W: Write>(buffer: &mut Vec<u8>, out: &mut W) -> io::Result<()>
