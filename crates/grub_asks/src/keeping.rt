@@ -17,7 +17,7 @@ pub fn make_room(wheel: &mut Wheel, op: Op) -> Result<(), AllocError>
         × (wheel.new.last ≡ wheel.old.last)) }
 {
     match op {
-        Op::Block { r: _, m: _ } => match wheel.reserve_one() {
+        Op::Block { .. } => match wheel.reserve_one() {
             Ok(()) => Ok(()),
             Err(_) => Err(AllocError),
         },
@@ -40,9 +40,7 @@ pub fn keep(wheel: &mut Wheel, t: u32, op: Op, answer: Answer)
             disarm(wheel, t);
             wheel.arm(z, t, ticket);
         }
-        Answer::Replied(
-            Reply::Joined { q: _, d: _ } | Reply::Woken { q: _, d: _ } | Reply::Left { r: _ },
-        ) => {
+        Answer::Replied(Reply::Joined { .. } | Reply::Woken { .. } | Reply::Left { .. }) => {
             disarm(wheel, t);
         }
         _ => {}

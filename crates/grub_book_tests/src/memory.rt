@@ -140,11 +140,10 @@ fn check_both(
     rt: &impl Abort,
     alloc: Global,
     setup: &Setup,
-    events: Vec<Event>,
+    mut events: Vec<Event>,
     more: Event,
     place: usize,
 ) {
-    let mut events = events;
     expect(rt, alloc, setup, &events, Ok(()));
     let Ok(()) = events.push(more) else {
         panic!(rt; "no memory")

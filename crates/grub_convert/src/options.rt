@@ -95,10 +95,7 @@ fn fair_of(text: &str) -> Option<Option<Params>>
     if text == "none" {
         return Some(None);
     }
-    match params_of(text) {
-        Some(params) => Some(Some(params)),
-        None => None,
-    }
+    Some(Some(params_of(text)?))
 }
 
 /// Whether a name is among these tasks.

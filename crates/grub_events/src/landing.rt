@@ -15,10 +15,10 @@ fn sent_before(what: What, later: Option<u32>) -> Option<u32>
 {
     match what {
         What::Sent { cpu } => Some(later.unwrap_or(cpu)),
-        What::Ran { nanos: _ } => None,
+        What::Ran { .. } => None,
         What::Stops {
-            cpu: _,
             state: Stop::Blocks | Stop::Ends,
+            ..
         } => None,
         _ => later,
     }

@@ -20,7 +20,7 @@ fn is_moved_wake(what: What, standing: Standing) -> bool
             Standing::Awake {
                 runqueue,
                 ran: false,
-                rest: _,
+                ..
             },
         ) => cpu != runqueue,
         _ => false,

@@ -98,17 +98,12 @@ fn put_told(
             Standing::Awake {
                 runqueue,
                 ran: true,
-                rest: _,
+                ..
             },
         ) => { put_move(events, fact, runqueue, cpu) }
-        (
-            What::Ran { nanos },
-            Standing::Awake {
-                runqueue,
-                ran: _,
-                rest,
-            },
-        ) => { put_run(events, fact, runqueue, whole_micros(rest, nanos).0) }
+        (What::Ran { nanos }, Standing::Awake { runqueue, rest, .. }) => {
+            put_run(events, fact, runqueue, whole_micros(rest, nanos).0)
+        }
         (
             What::Stops {
                 cpu,
@@ -118,25 +113,17 @@ fn put_told(
         ) => { put_opening(events, fact, cpu) }
         (
             What::Stops {
-                cpu: _,
                 state: Stop::Blocks,
+                ..
             },
-            Standing::Awake {
-                runqueue,
-                ran: _,
-                rest: _,
-            },
+            Standing::Awake { runqueue, .. },
         ) => { put_one(events, fact, runqueue, Act::Block, Source::Told) }
         (
             What::Stops {
-                cpu: _,
                 state: Stop::Ends,
+                ..
             },
-            Standing::Awake {
-                runqueue,
-                ran: _,
-                rest: _,
-            },
+            Standing::Awake { runqueue, .. },
         ) => { put_one(events, fact, runqueue, Act::Block, Source::Ending) }
         _ => Ok(()),
     }

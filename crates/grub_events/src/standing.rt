@@ -39,41 +39,27 @@ impl Standing {
                 ran: false,
                 rest: 0,
             },
-            (
-                What::Sent { cpu },
-                Standing::Awake {
-                    runqueue: _,
-                    ran,
-                    rest,
-                },
-            ) => Standing::Awake {
+            (What::Sent { cpu }, Standing::Awake { ran, rest, .. }) => Standing::Awake {
                 runqueue: cpu,
                 ran,
                 rest,
             },
-            (
-                What::Ran { nanos },
-                Standing::Awake {
-                    runqueue,
-                    ran: _,
-                    rest,
-                },
-            ) => Standing::Awake {
+            (What::Ran { nanos }, Standing::Awake { runqueue, rest, .. }) => Standing::Awake {
                 runqueue,
                 ran: true,
                 rest: whole_micros(rest, nanos).1,
             },
             (
                 What::Stops {
-                    cpu: _,
                     state: Stop::Blocks,
+                    ..
                 },
                 _,
             ) => Standing::Asleep,
             (
                 What::Stops {
-                    cpu: _,
                     state: Stop::Ends,
+                    ..
                 },
                 Standing::Awake { .. },
             ) => Standing::Asleep,

@@ -204,7 +204,7 @@ impl Census {
     pub(crate) fn finish(self) -> Vec<Counted>
         ensures { map tally_text result.items ≡ census_text self }
     {
-        let Census { alloc: _, tasks } = self;
+        let Census { tasks, .. } = self;
         tasks
     }
 }

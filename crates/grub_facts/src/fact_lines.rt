@@ -43,15 +43,7 @@ fn no_counts() -> Counts
 fn is_start(event: &Event<&[u8]>) -> bool
     ensures { result ≡ is_start event.now }
 {
-    match *event {
-        Event::Armed {
-            timer: _,
-            pid: _,
-            expires: _,
-        } => true,
-        Event::Started => true,
-        _ => false,
-    }
+    matches!(*event, Event::Armed { .. } | Event::Started)
 }
 
 fn is_head(counts: Counts) -> bool

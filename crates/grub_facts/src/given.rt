@@ -264,34 +264,15 @@ impl Tasks {
             (λ i. i ≡ index_told (event_text event.now) (tasks_text self.old)) }
     {
         match *event {
-            Event::Woken {
-                task,
-                is_deadline: _,
-                cpu: _,
-            } => self.note_shown(line, &task),
-            Event::Migrated {
-                task,
-                is_deadline: _,
-                cpu: _,
-            } => self.note_shown(line, &task),
-            Event::Ran { task, nanos: _ } => self.note_shown(line, &task),
-            Event::Switched {
-                task,
-                is_deadline: _,
-                state: _,
-            } => self.note_shown(line, &task),
-            Event::Armed {
-                timer,
-                pid,
-                expires: _,
-            } => self.arm(timer, pid),
+            Event::Woken { task, .. }
+            | Event::Migrated { task, .. }
+            | Event::Ran { task, .. }
+            | Event::Switched { task, .. } => self.note_shown(line, &task),
+            Event::Armed { timer, pid, .. } => self.arm(timer, pid),
             Event::Started => Ok(None),
-            Event::Cancelled { timer } => Ok(self.index_of_timer(timer)),
-            Event::Expired {
-                timer,
-                is_zero_lag: _,
-                now: _,
-            } => Ok(self.index_of_timer(timer)),
+            Event::Cancelled { timer } | Event::Expired { timer, .. } => {
+                Ok(self.index_of_timer(timer))
+            }
         }
     }
 

@@ -41,48 +41,29 @@ fn what_told(own: u32, event: &Event<&[u8]>) -> Option<What>
 {
     match *event {
         Event::Woken {
-            task: _,
-            is_deadline,
+            is_deadline: true,
             cpu,
-        } => if is_deadline {
-            Some(What::Wakes { cpu })
-        } else {
-            None
-        },
+            ..
+        } => Some(What::Wakes { cpu }),
         Event::Migrated {
-            task: _,
-            is_deadline,
+            is_deadline: true,
             cpu,
-        } => if is_deadline {
-            Some(What::Sent { cpu })
-        } else {
-            None
-        },
-        Event::Ran { task: _, nanos } => Some(What::Ran { nanos }),
+            ..
+        } => Some(What::Sent { cpu }),
+        Event::Ran { nanos, .. } => Some(What::Ran { nanos }),
         Event::Switched {
-            task: _,
-            is_deadline,
+            is_deadline: true,
             state,
-        } => if is_deadline {
-            Some(What::Stops {
-                cpu: own,
-                state: stop_of(state),
-            })
-        } else {
-            None
-        },
-        Event::Armed {
-            timer: _,
-            pid: _,
-            expires,
-        } => Some(What::Armed { expires }),
-        Event::Started => None,
-        Event::Cancelled { timer: _ } => Some(What::Cancelled),
-        Event::Expired {
-            timer: _,
-            is_zero_lag: _,
-            now,
-        } => Some(What::Fired { now }),
+            ..
+        } => Some(What::Stops {
+            cpu: own,
+            state: stop_of(state),
+        }),
+        Event::Armed { expires, .. } => Some(What::Armed { expires }),
+        Event::Cancelled { .. } => Some(What::Cancelled),
+        Event::Expired { now, .. } => Some(What::Fired { now }),
+        Event::Woken { .. } | Event::Migrated { .. } | Event::Switched { .. } | Event::Started =>
+            None,
     }
 }
 
@@ -126,14 +107,10 @@ fn trouble_told(event: &Event<&[u8]>, task: Option<usize>, runqueues: u32) -> Tr
             Trouble::NoTrouble
         },
         Event::Migrated {
-            task: _,
-            is_deadline,
+            is_deadline: true,
             cpu,
-        } => if is_deadline {
-            move_trouble(task, cpu, runqueues)
-        } else {
-            Trouble::NoTrouble
-        },
+            ..
+        } => move_trouble(task, cpu, runqueues),
         _ => Trouble::NoTrouble,
     }
 }
@@ -143,11 +120,7 @@ fn woken_by<'a>(event: &Event<&'a [u8]>) -> Shown<&'a [u8]>
     ensures { shown_text result ≡ woken_by (event_text event.now) }
 {
     match *event {
-        Event::Woken {
-            task,
-            is_deadline: _,
-            cpu: _,
-        } => task,
+        Event::Woken { task, .. } => task,
         _ => Shown { comm: b"", pid: 0 },
     }
 }
@@ -235,11 +208,7 @@ impl Keeper {
         ensures found { IfOk result (λ r. map (option_map finding_text) r.1.items
             ≡ map (λ (t : Task). t.found) (kept_text self).tasks) }
     {
-        let Keeper {
-            alloc: _,
-            tasks,
-            facts,
-        } = self;
+        let Keeper { tasks, facts, .. } = self;
         let found = tasks.finish()?;
         Ok((facts, found))
     }

@@ -44,16 +44,7 @@ pub(crate) fn other_cpu(event: &Event<&[u8]>) -> u32
     ensures { result ≡ other_cpu event.now }
 {
     match *event {
-        Event::Woken {
-            task: _,
-            is_deadline: _,
-            cpu,
-        } => cpu,
-        Event::Migrated {
-            task: _,
-            is_deadline: _,
-            cpu,
-        } => cpu,
+        Event::Woken { cpu, .. } | Event::Migrated { cpu, .. } => cpu,
         _ => 0,
     }
 }
@@ -64,16 +55,10 @@ pub(crate) fn drift(said: &Said<&[u8]>) -> u64
 {
     match said.event {
         Event::Expired {
-            timer: _,
-            is_zero_lag,
+            is_zero_lag: true,
             now,
-        } => {
-            if is_zero_lag {
-                now.abs_diff(said.at)
-            } else {
-                0
-            }
-        }
+            ..
+        } => now.abs_diff(said.at),
         _ => 0,
     }
 }

@@ -45,10 +45,7 @@ fn push_digit(value: u64, digit: u8) -> u64
 pub(crate) fn small_number(word: &[u8]) -> Option<u32>
     ensures { result ≡ small_number word.now }
 {
-    match number(word) {
-        None => None,
-        Some(n) => Some(n.min(4294967295) as u32),
-    }
+    Some(number(word)?.min(4294967295) as u32)
 }
 
 /// What follows the key at the front of a word.
@@ -87,10 +84,8 @@ pub(crate) fn is_deadline(priority: &[u8]) -> Option<bool>
 fn is_one(number: Option<u64>, is_negative: bool) -> Option<bool>
     ensures { result ≡ option_map (λ n. is_negative && (n == 1)) number }
 {
-    match number {
-        None => None,
-        Some(n) => Some(is_negative && n == 1),
-    }
+    let n = number?;
+    Some(is_negative && n == 1)
 }
 
 /// The moment of a word such as `1020.411177:`, in nanoseconds.
@@ -141,8 +136,5 @@ fn fraction(digits: &[u8]) -> Option<u64>
 fn scaled(number: Option<u64>, by: u64) -> Option<u64>
     ensures { result ≡ option_map (λ n. min (n * by) 18446744073709551615) number }
 {
-    match number {
-        None => None,
-        Some(n) => Some(n.saturating_mul(by)),
-    }
+    Some(number?.saturating_mul(by))
 }

@@ -66,11 +66,7 @@ impl FactReader {
     {
         let FactReader { text, lines } = self;
         let runqueues = lines.runqueues();
-        let FactLines {
-            keeper,
-            counts,
-            cpus: _,
-        } = lines;
+        let FactLines { keeper, counts, .. } = lines;
         let (facts, found) = keeper.finish()?;
         Ok(Facts {
             facts,

@@ -53,10 +53,10 @@ fn without_return(line: &[u8]) -> &[u8]
 fn fault_at(line: u64, wrong: Option<Wrong>) -> Option<LineFault>
     ensures { option_map fault_text result ≡ option_map (λ w. (line, problem_of w)) wrong }
 {
-    match wrong {
-        None => None,
-        Some(wrong) => Some(LineFault { line, wrong }),
-    }
+    Some(LineFault {
+        line,
+        wrong: wrong?,
+    })
 }
 
 /// What is wrong with a last line that no byte ends.

@@ -50,10 +50,7 @@ pub fn read_file<
         (λ e. e ≡ faults.NoMemory → IsOpened O.Fn N.Fn source.now path.now) }
 {
     match (source.open)(path) {
-        Ok(file) => {
-            let mut file = file;
-            read_all(alloc, &source.read, &mut file)
-        }
+        Ok(mut file) => read_all(alloc, &source.read, &mut file),
         Err(_) => Err(FileFault::Read),
     }
 }

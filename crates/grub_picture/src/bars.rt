@@ -86,10 +86,10 @@ fn begun_after(current: Option<Begun>, next: Option<State>, m: u32) -> Option<Be
 fn opened(state: Option<State>, m: u32) -> Option<Begun>
     ensures { result ≡ opened_bar state m }
 {
-    match state {
-        Some(state) => Some(Begun { state, from: m }),
-        None => None,
-    }
+    Some(Begun {
+        state: state?,
+        from: m,
+    })
 }
 
 fn is_still(state: State, next: Option<State>) -> bool
@@ -124,10 +124,7 @@ fn is_state(a: State, b: State) -> bool
 fn state_on(r: u32, change: Option<Change>) -> Option<State>
     ensures { result ≡ state_on r change }
 {
-    match change {
-        Some(change) => state_at(r, change.place),
-        None => None,
-    }
+    state_at(r, change?.place)
 }
 
 fn state_at(r: u32, place: Place) -> Option<State>
@@ -165,9 +162,7 @@ pub fn postponed(r: u32, x: &Step) -> Option<u32>
         return None;
     }
     match x.told.entry.answer {
-        Answer::Replied(Reply::Charged { dq: _, k, q: _, d }) => {
-            if k > 0 { Some(d) } else { None }
-        }
+        Answer::Replied(Reply::Charged { k, d, .. }) => { if k > 0 { Some(d) } else { None } }
         _ => None,
     }
 }

@@ -1,7 +1,6 @@
 //! The lanes of a picture, and its runqueues.
 
 ghost use Rattle.std.specs.Prelude.{◌≡◌, ◌+◌, ◌*◌, ◌<◌, ◌≤◌, ◌^◌, ◌++◌, OnOk, IfOk, Some, length, map, slice_get};
-ghost use Rattle.std.specs.List.{flat_map};
 ghost use Rattle.grub_plan.specs.Plans.{name_at};
 ghost use Rattle.grub_picture.specs.Bars.{bars_of};
 ghost use Rattle.grub_picture.specs.Lanes.{is_tick, lane_text, tick_text, ticks_text};

@@ -170,13 +170,13 @@ fn append_op(out: &mut Vec<u8>, name: &str, op: Op)
     ensures room { vec_capacity out.old ≤ vec_capacity out.new }
 {
     match op {
-        Op::Join { r: _, m: _ } => append_named(out, b"join ", name),
-        Op::Wake { r: _, m: _ } => append_named(out, b"wake ", name),
-        Op::Block { r: _, m: _ } => append_named(out, b"block ", name),
+        Op::Join { .. } => append_named(out, b"join ", name),
+        Op::Wake { .. } => append_named(out, b"wake ", name),
+        Op::Block { .. } => append_named(out, b"block ", name),
         Op::Leave => append_named(out, b"leave ", name),
-        Op::Timer { ticket, m: _ } => append_named_number(out, b"timer ", name, ticket),
+        Op::Timer { ticket, .. } => append_named_number(out, b"timer ", name, ticket),
         Op::Exit => append_named(out, b"exit ", name),
-        Op::Charge { r: _, dt } => append_named_number(out, b"run ", name, dt),
+        Op::Charge { dt, .. } => append_named_number(out, b"run ", name, dt),
         Op::Retune { q, p } => append_retune(out, name, q, p),
     }
 }

@@ -108,8 +108,8 @@ fn write_run<R: Threads + Wait + Sync, W: Write>(
 /// Writes the texts of the reports, in file order, and flushes.
 fn write_reports<R: Threads + Sync, W: Write>(
     rt: &R,
-    blocks: Blocks,
-    buffer: Vec<u8>,
+    mut blocks: Blocks,
+    mut buffer: Vec<u8>,
     out: &mut W,
     plan: &Plan,
     reports: &[Report],
@@ -125,8 +125,6 @@ fn write_reports<R: Threads + Sync, W: Write>(
     ensures part { OnErr result (AppendsPrefix (W.contents out.old) (W.contents out.new)
         (texts_from plan.now.names 0 reports.now closing.now)) }
 {
-    let mut blocks = blocks;
-    let mut buffer = buffer;
     for (r, report) in reports.iter().enumerate() {
         write_report(
             rt,

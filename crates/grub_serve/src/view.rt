@@ -1,6 +1,6 @@
 //! From the bytes of event files to the bytes of a view.
 
-ghost use Rattle.std.specs.Prelude.{◌≡◌, ◌+◌, ◌≤◌, ℕ, List, [], MatchResult, OnOk, OnErr, IfErr, length, vec_capacity};
+ghost use Rattle.std.specs.Prelude.{◌≡◌, ◌+◌, ◌≤◌, ℕ, List, [], MatchResult, OnOk, OnErr, IfErr, vec_capacity};
 ghost use Rattle.grub_book.specs.Sums.{opening_book};
 ghost use Rattle.grub_trace.specs.Meaning.{Reads};
 ghost use Rattle.grub_trace.specs.FirstFault.{IsFault};
@@ -193,8 +193,8 @@ fn rows_through<R: Threads + Sync, W: Write>(
     rt: &R,
     ready: Ready<'_>,
     plan: &Plan,
-    book: Book<'_>,
-    steps: Vec<Step>,
+    mut book: Book<'_>,
+    mut steps: Vec<Step>,
     out: &mut W,
 ) -> io::Result<()>
     requires plan { ready.playing.plan ≡ plan.now }
@@ -213,8 +213,6 @@ fn rows_through<R: Threads + Sync, W: Write>(
         mut blocks,
         mut buffer,
     } = ready;
-    let mut book = book;
-    let mut steps = steps;
     write_steps(
         rt,
         &mut blocks,
@@ -286,12 +284,11 @@ fn write_picture<W: Write>(
 }
 
 /// Writes a whole text, and flushes.
-fn write_text<W: Write>(text: Vec<u8>, out: &mut W) -> io::Result<()>
+fn write_text<W: Write>(mut text: Vec<u8>, out: &mut W) -> io::Result<()>
     ensures whole { OnOk result (Appends (W.contents out.old) (W.contents out.new) text.items) }
     ensures part { OnErr result
         (AppendsPrefix (W.contents out.old) (W.contents out.new) text.items) }
 {
-    let mut text = text;
     write_buffer(&mut text, out)?;
     out.flush()
 }

@@ -56,7 +56,7 @@ fn is_refusal(fault: ShowFault) -> bool {
     match fault {
         ShowFault::Grub(GrubFault::Trace(fault)) => fault == TraceFault::NoMemory,
         ShowFault::Grub(GrubFault::View) => true,
-        ShowFault::Grub(_) | ShowFault::EmptySpan { from: _, to: _ } => false,
+        ShowFault::Grub(_) | ShowFault::EmptySpan { .. } => false,
     }
 }
 

@@ -15,17 +15,10 @@ pub fn run_of(ask: Ask, answer: Answer) -> u32
     match (ask, answer) {
         (
             Ask::Call {
-                t: _,
-                op: Op::Charge { r: _, dt },
+                op: Op::Charge { dt, .. },
+                ..
             },
-            Answer::Replied(
-                Reply::Charged {
-                    dq: _,
-                    k: _,
-                    q: _,
-                    d: _,
-                },
-            ),
+            Answer::Replied(Reply::Charged { .. }),
         ) => dt,
         _ => 0,
     }
@@ -38,17 +31,10 @@ pub fn charge_in(ask: Ask, answer: Answer) -> u64
     match (ask, answer) {
         (
             Ask::Call {
-                t: _,
-                op: Op::Charge { r: _, dt: _ },
+                op: Op::Charge { .. },
+                ..
             },
-            Answer::Replied(
-                Reply::Charged {
-                    dq,
-                    k: _,
-                    q: _,
-                    d: _,
-                },
-            ),
+            Answer::Replied(Reply::Charged { dq, .. }),
         ) => dq,
         _ => 0,
     }
@@ -59,14 +45,7 @@ pub fn recharges_in(answer: Answer) -> u32
     ensures { result ≡ recharges_in answer }
 {
     match answer {
-        Answer::Replied(
-            Reply::Charged {
-                dq: _,
-                k,
-                q: _,
-                d: _,
-            },
-        ) => k,
+        Answer::Replied(Reply::Charged { k, .. }) => k,
         _ => 0,
     }
 }
@@ -75,60 +54,42 @@ pub fn recharges_in(answer: Answer) -> u32
 pub fn is_joined(answer: Answer) -> bool
     ensures { result ≡ is_joined answer }
 {
-    match answer {
-        Answer::Replied(Reply::Joined { q: _, d: _ }) => true,
-        _ => false,
-    }
+    matches!(answer, Answer::Replied(Reply::Joined { .. }))
 }
 
 /// The answer tells of a wake.
 pub fn is_woken(answer: Answer) -> bool
     ensures { result ≡ is_woken answer }
 {
-    match answer {
-        Answer::Replied(Reply::Woken { q: _, d: _ }) => true,
-        _ => false,
-    }
+    matches!(answer, Answer::Replied(Reply::Woken { .. }))
 }
 
 /// The answer tells that the task left a runqueue.
 pub fn is_left(answer: Answer) -> bool
     ensures { result ≡ is_left answer }
 {
-    match answer {
-        Answer::Replied(Reply::Left { r: _ }) => true,
-        _ => false,
-    }
+    matches!(answer, Answer::Replied(Reply::Left { .. }))
 }
 
 /// The answer tells of a block before the 0-lag moment.
 pub fn is_waiting(answer: Answer) -> bool
     ensures { result ≡ is_waiting answer }
 {
-    match answer {
-        Answer::Replied(Reply::Waiting { ticket: _, z: _ }) => true,
-        _ => false,
-    }
+    matches!(answer, Answer::Replied(Reply::Waiting { .. }))
 }
 
 /// The answer tells of a block at the 0-lag moment or after it.
 pub fn is_asleep(answer: Answer) -> bool
     ensures { result ≡ is_asleep answer }
 {
-    match answer {
-        Answer::Replied(Reply::Asleep) => true,
-        _ => false,
-    }
+    matches!(answer, Answer::Replied(Reply::Asleep))
 }
 
 /// The answer tells that the 0-lag moment came while the task waited.
 pub fn is_retired(answer: Answer) -> bool
     ensures { result ≡ is_retired answer }
 {
-    match answer {
-        Answer::Replied(Reply::Retired) => true,
-        _ => false,
-    }
+    matches!(answer, Answer::Replied(Reply::Retired))
 }
 
 /// The task's server before a step that changes one, and else a server of nothing.
@@ -157,7 +118,7 @@ fn lateness(d: u32, m: u32, answer: Answer) -> u32
     ensures { result ≡ lateness d m answer }
 {
     match answer {
-        Answer::Replied(Reply::Waiting { ticket: _, z: _ } | Reply::Asleep) => m.saturating_sub(d),
+        Answer::Replied(Reply::Waiting { .. } | Reply::Asleep) => m.saturating_sub(d),
         _ => 0,
     }
 }
@@ -179,14 +140,7 @@ pub fn least_after(least: u32, answer: Answer) -> u32
 {
     match answer {
         Answer::Replied(
-            Reply::Joined { q, d: _ }
-            | Reply::Woken { q, d: _ }
-            | Reply::Charged {
-                dq: _,
-                k: _,
-                q,
-                d: _,
-            },
+            Reply::Joined { q, .. } | Reply::Woken { q, .. } | Reply::Charged { q, .. },
         ) => least.min(q),
         _ => least,
     }
@@ -196,19 +150,14 @@ fn is_refusing_reply(reply: Reply) -> bool
     ensures { result ≡ is_refusing_reply reply }
 {
     match reply {
-        Reply::Joined { q: _, d: _ }
-        | Reply::Woken { q: _, d: _ }
-        | Reply::Waiting { ticket: _, z: _ }
+        Reply::Joined { .. }
+        | Reply::Woken { .. }
+        | Reply::Waiting { .. }
         | Reply::Asleep
-        | Reply::Left { r: _ }
+        | Reply::Left { .. }
         | Reply::Retired
         | Reply::Ended
-        | Reply::Charged {
-            dq: _,
-            k: _,
-            q: _,
-            d: _,
-        }
+        | Reply::Charged { .. }
         | Reply::Retuned => false,
         _ => true,
     }
@@ -221,8 +170,8 @@ pub fn is_refused(ask: Ask, answer: Answer) -> bool
     match (ask, answer) {
         (
             Ask::Call {
-                t: _,
-                op: Op::Wake { r: _, m: _ },
+                op: Op::Wake { .. },
+                ..
             },
             Answer::Replied(Reply::Elsewhere(_)),
         ) => false,

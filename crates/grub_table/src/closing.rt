@@ -58,18 +58,12 @@ impl Shared {
         let Some(last) = passes.pop() else {
             unreachable!()
         };
-        let Seated {
-            mut seat,
-            number: _,
-        } = last.seated;
+        let Seated { mut seat, .. } = last.seated;
         while let Some(pass) = passes.pop() {
-            let Seated {
-                seat: one,
-                number: _,
-            } = pass.seated;
+            let Seated { seat: one, .. } = pass.seated;
             self.table.join_seat(&mut seat, one);
         }
-        let Shared { table, terms: _ } = self;
+        let Shared { table, .. } = self;
         let closed = table.close_with(seat);
         for r in 0..readings.len() {
             readings[r] = reading_in(closed.word(SPACING * r));

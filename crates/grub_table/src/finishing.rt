@@ -9,7 +9,7 @@ ghost use Rattle.grub_words.specs.Words.{queue_word, server_word, params_word, Q
 ghost use Rattle.grub_table.specs.declared.view.Access.TheVariants.{Store, Load, Exchange};
 ghost use Rattle.grub_table.specs.declared.view.Stored.{Stored};
 ghost use Rattle.grub_table.specs.inside.Between.{HoldsFor, HoldsMade, Tells};
-ghost use Rattle.grub_table.specs.Calls.{terms, claim_task, claim_op, accesses, claim_accesses, claim_changes_sum, made_on, seen, share_on, IsCancelled, IsClaimOf, IsFinished, IsWithin, claim_share};
+ghost use Rattle.grub_table.specs.Calls.{terms, claim_task, claim_op, accesses, claim_accesses, claim_changes_sum, made_on, seen, share_on, IsCancelled, IsClaimOf, IsFinished, IsWithin};
 ghost use Rattle.grub_table.specs.Layout.{queue_word_at, task_word_at};
 ghost use Rattle.grub_table.specs.inside.Layout.{stored_of, server_word_at, params_word_at};
 ghost use Rattle.grub_table.specs.inside.Tellings.{is_decided_at_load, outcome, Of, OfQueue, SawQueue, ChangedQueue, SettledServer, StoredServer, StoredParams, Gives, GaveUp, GaveBack};
@@ -122,13 +122,12 @@ impl Shared {
         self.give_up(seated, task, &held)
     }
 
-    fn finish_sum(&self, claim: Claim, tries: u8) -> Finished
+    fn finish_sum(&self, mut claim: Claim, tries: u8) -> Finished
         requires of { IsClaimOf self.now claim }
         requires sum { claim_changes_sum claim ≡ true }
         ensures finished { IsFinished self.now claim tries result }
         ensures within { IsWithin claim tries result }
     {
-        let mut claim = claim;
         for _ in 0..tries {
             match self.attempt(claim) {
                 Finished::Held(back) => claim = back,

@@ -2,7 +2,7 @@
 ghost use Rattle.std.specs.Prelude.{◌≡◌, ◌<◌, ◌+◌, ◌↔◌, [], IsTrue, IfOk, OnOk, IsErrOf, length};
 ghost use Rattle.grub_book.specs.Machine.{IsMachine};
 ghost use Rattle.grub_book.specs.Op.{IsOp};
-ghost use Rattle.grub_table.specs.Calls.{terms, number_of, AreNew, IsOpened};
+ghost use Rattle.grub_table.specs.Calls.{terms, AreNew, IsOpened};
 ghost use Rattle.grub_table.specs.inside.FirstWords.{AreOpeningWords};
 ghost use Rattle.grub_table.specs.inside.Rule.{AreLimited};
 ghost use Rattle.grub_table.specs.inside.Trails.{first_trail};

@@ -10,7 +10,7 @@ pub fn note(armers: &mut Vec<u32>, t: u32, r: u32, answer: Answer)
     requires { t < length armers.old.items }
     ensures { armers.new.items ≡ waits_of armers.old.items t r answer }
 {
-    if let Answer::Replied(Reply::Waiting { ticket: _, z: _ }) = answer {
+    if let Answer::Replied(Reply::Waiting { .. }) = answer {
         armers[t as usize] = r;
     }
 }

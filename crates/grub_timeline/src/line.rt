@@ -31,7 +31,7 @@ fn join_here(player: &mut Player<'_>, r: u32, m: u32, t: u32, answer: Answer)
     ensures room { vec_capacity player.new.chunk ≡ vec_capacity player.old.chunk }
 {
     match answer {
-        Answer::Replied(Reply::Left { r: _ }) => {
+        Answer::Replied(Reply::Left { .. }) => {
             call(player, r, m, t, Op::Join { r, m });
         }
         _ => {}

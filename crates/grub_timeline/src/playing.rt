@@ -77,7 +77,7 @@ impl<'a> Playing<'a> {
             plan,
             player,
             done,
-            closing: _,
+            ..
         } = self;
         player.chunk.clear();
         player.start = Snapshot::of(&player.told);

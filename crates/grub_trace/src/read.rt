@@ -33,7 +33,7 @@ fn collect(
 {
     let mut files = Vec::with_capacity(alloc, bodies.len())?;
     for body in bodies {
-        let Below { head: _, file } = body;
+        let Below { file, .. } = body;
         files.push(file?)?;
     }
     match fault {
@@ -50,7 +50,7 @@ fn scripts(alloc: Global, files: Vec<RawFile>) -> Result<Vec<Vec<Line>>, TraceFa
 {
     let mut scripts = Vec::with_capacity(alloc, files.len())?;
     for file in files {
-        let RawFile { queue: _, script } = file;
+        let RawFile { script, .. } = file;
         match script.unknown {
             None => scripts.push(script.lines)?,
             Some(line) => {
@@ -95,7 +95,7 @@ fn names(alloc: Global, tasks: Vec<Task>) -> Result<Vec<String>, TraceFault>
 {
     let mut names = Vec::with_capacity(alloc, tasks.len())?;
     for task in tasks {
-        let Task { name, params: _ } = task;
+        let Task { name, .. } = task;
         names.push(name)?;
     }
     Ok(names)
@@ -119,7 +119,7 @@ fn plan_of(alloc: Global, heads: Heads<'_>) -> Result<Plan, TraceFault>
     let queues = queues(alloc, &files)?;
     let params = params(alloc, &tasks.list)?;
     let scripts = scripts(alloc, files)?;
-    let Tasks { list, index: _ } = tasks;
+    let Tasks { list, .. } = tasks;
     let names = names(alloc, list)?;
     Ok(Plan::new(queues, params, names, scripts))
 }

@@ -1,6 +1,6 @@
 //! What the book answered to the events of a task.
 
-ghost use Rattle.std.specs.Prelude.{◌≡◌, IfOk, min};
+ghost use Rattle.std.specs.Prelude.{◌≡◌, IfOk};
 ghost use Rattle.grub_steps.specs.Said.{charge_in, is_change_of, run_of, server_before};
 ghost use Rattle.grub_verdict.specs.Answered.{with_answer, answered_all, answers_of, ends_line, events_of, facts_of, is_answer_to, is_last, is_no_room, server_after, zero_lag_of};
 
@@ -48,9 +48,9 @@ fn is_last(op: Op, reply: Reply) -> bool
     ensures { result ≡ is_last op reply }
 {
     match (op, reply) {
-        (Op::Timer { ticket: _, m: _ }, _) => false,
-        (Op::Wake { r: _, m: _ }, Reply::Elsewhere(_)) => false,
-        (Op::Leave, Reply::Left { r: _ }) => false,
+        (Op::Timer { .. }, _) => false,
+        (Op::Wake { .. }, Reply::Elsewhere(_)) => false,
+        (Op::Leave, Reply::Left { .. }) => false,
         _ => true,
     }
 }
@@ -59,7 +59,7 @@ fn ends_line(ask: Ask, answer: Answer) -> bool
     ensures { result ≡ ends_line ask answer }
 {
     match (ask, answer) {
-        (Ask::Call { t: _, op }, Answer::Replied(reply)) => is_last(op, reply),
+        (Ask::Call { op, .. }, Answer::Replied(reply)) => is_last(op, reply),
         _ => false,
     }
 }
@@ -86,7 +86,7 @@ fn server_after(answer: Answer, before: Server) -> Server
 {
     match answer {
         Answer::Replied(
-            Reply::Joined { q, d } | Reply::Woken { q, d } | Reply::Charged { dq: _, k: _, q, d },
+            Reply::Joined { q, d } | Reply::Woken { q, d } | Reply::Charged { q, d, .. },
         ) => Server { q, d },
         _ => before,
     }
@@ -96,7 +96,7 @@ fn zero_lag_of(answer: Answer) -> Option<u32>
     ensures { result ≡ zero_lag_of answer }
 {
     match answer {
-        Answer::Replied(Reply::Waiting { ticket: _, z }) => Some(z),
+        Answer::Replied(Reply::Waiting { z, .. }) => Some(z),
         _ => None,
     }
 }

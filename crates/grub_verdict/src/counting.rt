@@ -101,16 +101,9 @@ fn charged_in(setup: &Setup, step: &Step) -> Option<Params>
         (
             Ask::Call {
                 t,
-                op: Op::Charge { r: _, dt: _ },
+                op: Op::Charge { .. },
             },
-            Answer::Replied(
-                Reply::Charged {
-                    dq: _,
-                    k: _,
-                    q: _,
-                    d: _,
-                },
-            ),
+            Answer::Replied(Reply::Charged { .. }),
         ) if setup.has_task(t) => Some(setup.params(t)),
         _ => None,
     }

@@ -94,10 +94,7 @@ pub(crate) fn observations_of(
 ) -> Result<Vec<Observation>, AllocError>
     ensures { IfOk result (λ v. v.items ≡ observations case.now) }
 {
-    let Answers {
-        observations,
-        refusals: _,
-    } = answers_of(alloc, case)?;
+    let Answers { observations, .. } = answers_of(alloc, case)?;
     Ok(observations)
 }
 

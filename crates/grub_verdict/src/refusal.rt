@@ -98,7 +98,7 @@ fn refuses_server(case: &Case<'_>, step: &Step) -> bool
     ensures { result ≡ refuses_server case.now step.now }
 {
     match step.told.entry.ask {
-        Ask::Call { t, op: _ } => {
+        Ask::Call { t, .. } => {
             is_server(case.plan, &case.setting.tasks, t) && is_no_room(step.told.entry.answer)
         }
         Ask::Read => false,
@@ -120,7 +120,7 @@ fn task_of(ask: Ask) -> u32
     ensures { result ≡ task_of ask }
 {
     match ask {
-        Ask::Call { t, op: _ } => t,
+        Ask::Call { t, .. } => t,
         Ask::Read => 0,
     }
 }

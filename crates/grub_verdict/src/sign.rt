@@ -42,8 +42,8 @@ impl Sign {
                 cancelled: true,
             },
             What::Stops {
-                cpu: _,
                 state: Stop::Ready,
+                ..
             } => Sign {
                 armed: None,
                 cancelled: self.cancelled,
@@ -55,7 +55,7 @@ impl Sign {
 }
 
 /// What was done with a timer by the facts of its task from a place on that come before a line, and the place behind them.
-fn go_to(facts: &[Fact], from: usize, sign: Sign, line: u64) -> (usize, Sign)
+fn go_to(facts: &[Fact], from: usize, mut sign: Sign, line: u64) -> (usize, Sign)
     requires { from ≤ length facts.now }
     ensures place { result.0 ≤ length facts.now }
     ensures sign { sign_before line sign (drop from facts.now) ≡ result.1 }
@@ -63,7 +63,6 @@ fn go_to(facts: &[Fact], from: usize, sign: Sign, line: u64) -> (usize, Sign)
         ≡ sign_before l result.1 (drop result.0 facts.now) }
 {
     let mut next = from;
-    let mut sign = sign;
     while next < facts.len() && facts[next].line < line {
         sign = sign.after(facts[next].what);
         next += 1;

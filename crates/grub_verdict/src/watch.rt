@@ -32,7 +32,7 @@ fn is_sure(x: &Answered, params: Params, first: u64) -> bool
     match x.event.act {
         Act::Join => (x.event.at / 1000).saturating_sub(first / 1000) >= u64::from(params.period()),
         Act::Wake => !x.sign.cancelled,
-        Act::Block | Act::Run { micros: _ } => false,
+        Act::Block | Act::Run { .. } => false,
     }
 }
 
@@ -112,7 +112,7 @@ impl Watch {
         match (x.event.act, x.event.source) {
             (Act::Join | Act::Wake, Source::Told) => self.after_wake(x, params, first),
             (Act::Wake, Source::Moving) => self.after_move(x),
-            (Act::Run { micros: _ }, _) => self.after_run(x),
+            (Act::Run { .. }, _) => self.after_run(x),
             _ => self,
         }
     }

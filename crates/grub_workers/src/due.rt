@@ -13,7 +13,7 @@ use std::alloc::AllocError;
 /// Asks for each timer of the worker that is due by this moment.
 pub fn ask_due<G: Gate>(
     desk: &Desk<'_, G>,
-    pass: Pass,
+    mut pass: Pass,
     progress: &mut Progress,
     m: u32,
 ) -> Result<Pass, AllocError>
@@ -28,7 +28,6 @@ pub fn ask_due<G: Gate>(
     ensures asked { IfOk result
         (λ p. AsksDue m progress.old.entries.items progress.new.entries.items) }
 {
-    let mut pass = pass;
     while let Some(timer) = progress.wheel.due(m) {
         let op = Op::Timer {
             ticket: timer.ticket,

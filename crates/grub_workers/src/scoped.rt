@@ -92,13 +92,12 @@ fn start_all<'s, 'e, G: Gate>(
         (slice_index_or result.handles.items i d).promise }
 {
     let mut refusal = None;
-    let Ok(handles) = Vec::with_capacity(alloc, passes.len()) else {
+    let Ok(mut handles) = Vec::with_capacity(alloc, passes.len()) else {
         return Started {
             handles: Vec::new(alloc),
             refusal: Some(RunFault::NoMemory),
         };
     };
-    let mut handles = handles;
     for pass in passes {
         let number = pass.number();
         let script = plan.script(number);
@@ -166,9 +165,10 @@ fn join_all<R: Threads>(
         (λ d. AllWorked _table.now _tries _plan.now.scripts d.passes.items d.reports.items) }
 {
     let Started { handles, refusal } = started;
-    let Done { passes, reports } = done;
-    let mut passes = passes;
-    let mut reports = reports;
+    let Done {
+        mut passes,
+        mut reports,
+    } = done;
     let mut fault = refusal;
     for handle in handles {
         match handle.join(rt) {

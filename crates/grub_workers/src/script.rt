@@ -38,7 +38,7 @@ fn join_here<G: Gate>(
         progress.old.entries.items progress.new.entries.items) }
 {
     match answer {
-        Answer::Replied(Reply::Left { r: _ }) => {
+        Answer::Replied(Reply::Left { .. }) => {
             let op = Op::Join { r: desk.number, m };
             let (pass, _) = call(desk, pass, progress, m, t, op)?;
             Ok(pass)
@@ -112,7 +112,7 @@ fn ask_line<G: Gate>(
 /// Asks for each line of the script.
 pub fn ask_script<G: Gate>(
     desk: &Desk<'_, G>,
-    pass: Pass,
+    mut pass: Pass,
     progress: &mut Progress,
     script: &[Line],
 ) -> Result<Pass, AllocError>
@@ -127,7 +127,6 @@ pub fn ask_script<G: Gate>(
         (λ p. IsAtWork desk.now.table.now desk.now.tries desk.now.number p progress.new) }
     ensures asked { IfOk result (λ p. Asked desk.now.number script.now progress.new.entries.items) }
 {
-    let mut pass = pass;
     for line in script {
         pass = ask_line(desk, pass, progress, *line)?;
     }

@@ -89,7 +89,7 @@ pub fn call<G: Gate>(
 /// Reads the runqueue, and makes the entry of it.
 pub fn look<G: Gate>(
     desk: &Desk<'_, G>,
-    pass: Pass,
+    mut pass: Pass,
     progress: &mut Progress,
     m: u32,
 ) -> Result<Pass, AllocError>
@@ -102,7 +102,6 @@ pub fn look<G: Gate>(
     ensures goes_on { IfOk result
         (λ p. GoesOn m Read progress.old.entries.items progress.new.entries.items) }
 {
-    let mut pass = pass;
     progress.entries.reserve(1)?;
     let reading = desk.read(&mut progress.calls, &mut pass);
     progress.entries.push_reserved(Entry {

@@ -34,7 +34,7 @@ pub(crate) fn read(alloc: Global, text: &[u8]) -> Result<Facts, AllocError> {
 /// The number of a fault.
 pub(crate) fn number_of(wrong: &Wrong) -> u64 {
     match wrong {
-        Wrong::UnknownTask { comm: _, pid: _ } => 50,
+        Wrong::UnknownTask { .. } => 50,
         Wrong::WrongClock => 51,
         Wrong::LostEvents => 52,
         Wrong::TooLong => 54,

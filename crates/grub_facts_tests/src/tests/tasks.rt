@@ -31,8 +31,8 @@ fn is_of_a_second_a(fault: &Option<LineFault>) -> bool {
     match fault {
         Some(
             LineFault {
-                line: _,
                 wrong: Wrong::UnknownTask { comm, pid },
+                ..
             },
         ) => comm.as_slice() == b"a".as_slice() && *pid == 10,
         _ => false,

@@ -140,14 +140,13 @@ pub(crate) fn expect(
 pub(crate) fn ask_all(
     rt: &impl Abort,
     shared: &Shared,
-    pass: Pass,
+    mut pass: Pass,
     t: u32,
     asked: &[(Op, Reply)],
 ) -> Pass
     requires { IsPassOf shared.now pass }
     ensures { IsPassOf shared.now result }
 {
-    let mut pass = pass;
     for (op, reply) in asked {
         pass = expect(rt, shared, pass, t, *op, 1, Got::Replied(*reply));
     }

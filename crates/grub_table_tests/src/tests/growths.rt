@@ -78,10 +78,14 @@ fn look_all(rt: &impl Abort, shared: &Shared, passes: &mut Vec<Pass>)
 }
 
 /// A second close, with the passes that a refused one gave back. They read as before, and it succeeds.
-fn close_again(rt: &impl Abort, alloc: Global, shared: Shared, passes: Vec<Pass>) -> Vec<Reading>
+fn close_again(
+    rt: &impl Abort,
+    alloc: Global,
+    shared: Shared,
+    mut passes: Vec<Pass>,
+) -> Vec<Reading>
     requires { All (IsPassOf shared) passes.items }
 {
-    let mut passes = passes;
     look_all(rt, &shared, &mut passes);
     closed(rt, alloc, shared, passes)
 }

@@ -58,11 +58,10 @@ struct Ran {
 }
 
 /// Attempts on a task that nobody else has.
-fn run_alone(rt: &impl Abort, shared: &Shared, pass: Pass, t: u32) -> Ran
+fn run_alone(rt: &impl Abort, shared: &Shared, mut pass: Pass, t: u32) -> Ran
     requires { IsPassOf shared.now pass }
     ensures { IsPassOf shared.now result.pass }
 {
-    let mut pass = pass;
     let mut turn = Turn::Joins;
     for _ in 0..ATTEMPTS {
         let (back, got) = ask(rt, shared, pass, t, turn.op(), 1);
@@ -90,11 +89,10 @@ fn see(rt: &impl Abort, sighting: Sighting) {
 }
 
 /// Attempts on a task that another worker has too: the cycle goes on after any reply.
-fn run_beside(rt: &impl Abort, shared: &Shared, pass: Pass, t: u32) -> Ran
+fn run_beside(rt: &impl Abort, shared: &Shared, mut pass: Pass, t: u32) -> Ran
     requires { IsPassOf shared.now pass }
     ensures { IsPassOf shared.now result.pass }
 {
-    let mut pass = pass;
     let mut turn = Turn::Joins;
     for _ in 0..ATTEMPTS {
         let (back, got) = ask(rt, shared, pass, t, turn.op(), 1);

@@ -12,7 +12,7 @@ pub(super) fn is_of(plan: &Plan, ask: Ask) -> bool
     ensures { IsTrue result ↔ IsAskOf (length plan.now.setup.tasks) ask }
 {
     match ask {
-        Ask::Call { t, op: _ } => plan.setup().has_task(t),
+        Ask::Call { t, .. } => plan.setup().has_task(t),
         Ask::Read => true,
     }
 }
