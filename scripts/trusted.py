@@ -4,7 +4,7 @@
 In each crate specs/ holds these and nothing else; definitions that only proofs and private functions need lie in
 specs/inside/; and docs/READING.md names each file of the former. No line of a contract has more than 100 columns. The last
 line is 'N passed, M failed': a definition at its place, or not. With --list it prints each trusted definition with its
-crate and module.
+crate and module. With --of CRATE.. it only counts what the public contracts of these crates reach.
 """
 import os
 import re
@@ -191,10 +191,10 @@ def meant(words, own, imports, found):
                 yield found[crate, module, name]
 
 
-def trusted(found, imports, files):
-    """The definitions that public contracts reach."""
+def trusted(found, imports, files, names):
+    """The definitions that the public contracts of these crates reach."""
     left = []
-    for crate in crates():
+    for crate in names:
         folder = f"{ROOT}/crates/{crate}"
         public, open_modules = public_names(folder)
         for path in files_below(f"{folder}/src", ".rt"):
@@ -234,10 +234,25 @@ def too_wide():
                         yield f"{os.path.relpath(path, ROOT)}:{text.count(chr(10), 0, first) + at + 1}"
 
 
+def count(reached):
+    """Tells how many lines these definitions have, crate by crate."""
+    total = 0
+    for crate in crates():
+        mine = [it for it in reached if it.crate == crate]
+        lines = sum(it.lines for it in mine)
+        total += lines
+        if mine:
+            print(f"trusted: {crate}: {len(mine)} definitions, {lines} lines, {sum(it.comments for it in mine)} lines of comment")
+    print(f"trusted: in all {len(reached)} definitions, {total} lines")
+
+
 def main():
     found, imports, files = read_specs()
+    if "--of" in sys.argv:
+        count(trusted(found, imports, files, sys.argv[sys.argv.index("--of") + 1 :]))
+        return 0
     definitions = list(dict.fromkeys(found.values()))
-    reached = trusted(found, imports, files)
+    reached = trusted(found, imports, files, crates())
     wrong = [it for it in definitions if (it in reached) == it.is_inside()]
     if "--list" in sys.argv:
         for it in definitions:
@@ -251,14 +266,7 @@ def main():
     wide = list(too_wide())
     for it in wide:
         print(f"trusted: {it} has more than {WIDEST} columns")
-    total = 0
-    for crate in crates():
-        mine = [it for it in reached if it.crate == crate]
-        lines = sum(it.lines for it in mine)
-        total += lines
-        if mine:
-            print(f"trusted: {crate}: {len(mine)} definitions, {lines} lines, {sum(it.comments for it in mine)} lines of comment")
-    print(f"trusted: in all {len(reached)} definitions, {total} lines")
+    count(reached)
     failed = len(wrong) + len(missing) + len(wide)
     print(f"{len(definitions) - len(wrong)} passed, {failed} failed")
     return 1 if failed else 0
