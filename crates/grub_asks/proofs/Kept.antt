@@ -1,8 +1,9 @@
 -- The timers after one more entry.
-use Rattle.std.proofs.Common.{◌≡◌, ℕ, ◌<◌, Bool, true, false, cond, nat_eq, List, [], ◌∷◌, ◌++◌, Option, Some, None, length, refl, sym, ap, ◌∙◌, subst, arith}
+use Rattle.std.proofs.Common.{◌≡◌, ℕ, ◌<◌, Bool, true, false, cond, nat_eq, List, [], ◌∷◌, ◌++◌, Some, None, length, refl, sym, ap, ◌∙◌, subst, arith}
 use Rattle.std.specs.Ordering.{nat_cmp}
 use Rattle.std.specs.FinMap as map
 use Rattle.std.proofs.lemmas.Bool.{eqb-true}
+use Rattle.std.proofs.lemmas.List.Sums.{fold_push}
 use Rattle.grub_book.specs.Machine.{Machine}
 use Rattle.grub_book.specs.declared.op.Op.{Op}
 use Rattle.grub_book.specs.declared.event.Reading.{Reading}
@@ -12,16 +13,13 @@ use Rattle.grub_plan.specs.declared.entry.Answer.{Answer}
 use Rattle.grub_plan.specs.declared.entry.Answer.TheVariants.{Seen}
 use Rattle.grub_plan.specs.declared.entry.Entry.{Entry}
 use Rattle.grub_asks.specs.Asked.{entry}
-use Rattle.grub_asks.specs.Timers.{Alarm, alarm_after, armed, armed_from, leaves, touch, touch_of_call}
+use Rattle.grub_asks.specs.Timers.{Alarm, armed, touch, touch_of_call}
+use Rattle.grub_asks.specs.inside.Touches.{alarm_after, leaves}
 use Rattle.grub_asks.specs.Keeping.{IsTouched}
 use Rattle.grub_asks.specs.inside.Keeping.{IsKept}
 
-armed_from-more : (t : ℕ) (a : Option Alarm) (es : List Entry) (e : Entry) → armed_from t a (es ++ e ∷ []) ≡ alarm_after (touch t e.ask e.answer) (armed_from t a es)
-armed_from-more t a [] e = refl
-armed_from-more t a (x ∷ es) e = armed_from-more t (alarm_after (touch t x.ask x.answer) a) es e
-
 pub armed-more : (t : ℕ) (es : List Entry) (e : Entry) → armed (es ++ e ∷ []) t ≡ alarm_after (touch t e.ask e.answer) (armed es t)
-armed-more t es e = armed_from-more t None es e
+armed-more t es e = fold_push (λ alarm e. alarm_after (touch t e.ask e.answer) alarm) None es e
 
 -- the wheel after a call on task t
 pub kept_call : (s : Machine) (m t : ℕ) (op : Op) (answer : Answer) (old new : List Entry) (timers then : TimerBag) → IsKept s old timers → t < length s.tasks → new ≡ old ++ entry m (Call t op) answer ∷ []

@@ -6,7 +6,8 @@ use Rattle.grub_bw.specs.Server.{charge_of, depleted_of}
 use Rattle.grub_bw.specs.declared.server.Server.{Server}
 use Rattle.grub_book.specs.Machine.{Machine, queue_at}
 use Rattle.grub_book.specs.Sums.{Records, record_at, reading_of}
-use Rattle.grub_book.specs.Step.{is_inactive, is_under_claim, refused, runqueue_of, settled, arrived, charged, lag_moment, replied, step}
+use Rattle.grub_book.specs.Step.{is_inactive, is_under_claim, refused, runqueue_of, settled, arrived, charged, lag_moment, step}
+use Rattle.grub_book.specs.inside.Steps.{replied}
 use Rattle.grub_book.specs.declared.place.State.TheVariants.{NonContending, Inactive}
 use Rattle.grub_book.specs.declared.place.Place.TheVariants.{On}
 use Rattle.grub_book.specs.declared.place.Record.{Record}

@@ -1,5 +1,5 @@
 -- Which answers an ask may have, and the events that entries tell of.
-use Rattle.std.specs.Prelude.{ℕ, List, [], ◌∷◌, length}
+use Rattle.std.specs.Prelude.{ℕ, List, [], ◌∷◌, length, ⊤}
 use Rattle.std.specs.List.{All, flat_map}
 use Rattle.grub_book.specs.declared.event.Event.{Event}
 use Rattle.grub_book.specs.declared.event.Event.TheVariants as events
@@ -7,7 +7,7 @@ use Rattle.grub_book.specs.Machine.{Machine}
 use Rattle.grub_plan.specs.declared.entry.Ask.{Ask}
 use Rattle.grub_plan.specs.declared.entry.Ask.TheVariants.{Call, Read}
 use Rattle.grub_plan.specs.declared.entry.Answer.{Answer}
-use Rattle.grub_plan.specs.declared.entry.Answer.TheVariants.{Replied, Seen, Busy, Lost}
+use Rattle.grub_plan.specs.declared.entry.Answer.TheVariants.{Replied, Seen}
 use Rattle.grub_plan.specs.declared.entry.Entry.{Entry}
 use Rattle.grub_plan.specs.Texts.{IsAskOf}
 
@@ -21,23 +21,11 @@ event_told i ask answer = []
 abbrev pub events_told : ℕ → List Entry → List Event
 events_told i entries = flat_map (λ e. event_told i e.ask e.answer) entries
 
--- a reading is always seen, and nothing else is
-abbrev pub IsAnswerTo : Ask → Answer → Type 0
-IsAnswerTo (Call t op) (Seen reading) = ⊥
-IsAnswerTo (Call t op) answer = Unit {0}
-IsAnswerTo Read (Seen reading) = Unit {0}
-IsAnswerTo Read answer = ⊥
-
--- the ask got neither a reply nor a reading
-abbrev pub IsGivenUp : Ask → Answer → Type 0
-IsGivenUp ask Busy = Unit {0}
-IsGivenUp ask Lost = Unit {0}
-IsGivenUp ask (Replied reply) = ⊥
-IsGivenUp ask (Seen reading) = ⊥
-
--- the ask got a reply or a reading
+-- the call got a reply, or the reading was seen
 abbrev pub IsAnswered : Ask → Answer → Type 0
-IsAnswered ask answer = IsAnswerTo ask answer × ¬ IsGivenUp ask answer
+IsAnswered (Call t op) (Replied reply) = ⊤
+IsAnswered Read (Seen reading) = ⊤
+IsAnswered ask answer = ⊥
 
 -- each call is on a task that is there
 abbrev pub AreAsksOf : Machine → List Entry → Type 0

@@ -1,5 +1,5 @@
 -- What an answer does to a wheel, and the wheel that keeps the timers of a list of entries.
-use Rattle.std.specs.Prelude.{◌≡◌, ◌<◌, ◌+◌, ℕ, nat_eq, if◌then◌else◌}
+use Rattle.std.specs.Prelude.{◌≡◌, ◌<◌, ◌+◌, ℕ, None, nat_eq, if◌then◌else◌, unwrap_or}
 use Rattle.std.specs.FinMap as map
 use Rattle.grub_book.specs.declared.op.Op.{Op}
 use Rattle.grub_book.specs.declared.op.Op.TheVariants as ops
@@ -7,11 +7,11 @@ use Rattle.grub_book.specs.declared.reply.Reply.TheVariants as replies
 use Rattle.grub_plan.specs.declared.entry.Answer.{Answer}
 use Rattle.grub_plan.specs.declared.entry.Answer.TheVariants as answers
 use Rattle.grub_wheel.specs.TimerBag.{TimerBag, WheelState}
-use Rattle.grub_asks.specs.Timers.{Touch, leaves, alarm_after}
+use Rattle.grub_asks.specs.Timers.{Touch}
 
 -- what an answer did to the timers: that of task t was touched so, and the others stay
 abbrev pub IsTouched : TimerBag → TimerBag → ℕ → Touch → Type 0
-IsTouched old new t touch = (u : ℕ) → map.get new u ≡ alarm_after (if nat_eq u t then touch else leaves) (map.get old u)
+IsTouched old new t touch = (u : ℕ) → map.get new u ≡ unwrap_or (if nat_eq u t then touch else None) (map.get old u)
 
 -- how many timers have a place, armed or not
 abbrev pub places_of : WheelState → ℕ

@@ -1,5 +1,5 @@
 -- Which timers are armed after a list of entries, and which of them is due next.
-use Rattle.std.specs.Prelude.{◌≡◌, ℕ, ◌<◌, ◌≤◌, Option, Some, None, nat_eq, if◌then◌else◌, List, [], ◌∷◌}
+use Rattle.std.specs.Prelude.{◌≡◌, ℕ, ◌<◌, ◌≤◌, Option, Some, None, nat_eq, if◌then◌else◌, unwrap_or, List, fold}
 use Rattle.grub_book.specs.declared.op.Op.{Op}
 use Rattle.grub_book.specs.declared.op.Op.TheVariants.{Block, Timer}
 use Rattle.grub_book.specs.declared.reply.Reply.TheVariants.{Joined, Woken, Waiting, Left}
@@ -15,39 +15,27 @@ use Rattle.grub_plan.specs.declared.entry.Entry.{Entry}
 abbrev pub Alarm : Type 0
 Alarm = ℕ × ℕ
 
--- what an entry does to the timer of a task
-pub data Touch : Type 0 where
-  leaves : Touch
-  disarms : Touch
-  arms : Alarm → Touch
+-- what an entry makes of the timer of a task, where it touches it: nothing, or another alarm
+abbrev pub Touch : Type 0
+Touch = Option (Option Alarm)
 
 -- A timer that was asked for is armed no longer, whatever the answer, and a task that joined, woke or left has none. A block that waits arms one.
 abbrev pub touch_of_call : Op → Answer → Touch
-touch_of_call (Timer ticket m) answer = disarms
-touch_of_call (Block r m) (Replied (Waiting ticket z)) = arms (z, ticket)
-touch_of_call op (Replied (Joined q d)) = disarms
-touch_of_call op (Replied (Woken q d)) = disarms
-touch_of_call op (Replied (Left r)) = disarms
-touch_of_call op answer = leaves
+touch_of_call (Timer ticket m) answer = Some None
+touch_of_call (Block r m) (Replied (Waiting ticket z)) = Some (Some (z, ticket))
+touch_of_call op (Replied (Joined q d)) = Some None
+touch_of_call op (Replied (Woken q d)) = Some None
+touch_of_call op (Replied (Left r)) = Some None
+touch_of_call op answer = None
 
 -- what an ask and its answer do to the timer of task t
 abbrev pub touch : ℕ → Ask → Answer → Touch
-touch t (Call u op) answer = if nat_eq t u then touch_of_call op answer else leaves
-touch t Read answer = leaves
-
-abbrev pub alarm_after : Touch → Option Alarm → Option Alarm
-alarm_after leaves alarm = alarm
-alarm_after disarms alarm = None
-alarm_after (arms new) alarm = Some new
-
--- the timer of task t after the entries, if it had this one before them
-abbrev pub armed_from : ℕ → Option Alarm → List Entry → Option Alarm
-armed_from t alarm [] = alarm
-armed_from t alarm (e ∷ es) = armed_from t (alarm_after (touch t e.ask e.answer) alarm) es
+touch t (Call u op) answer = if nat_eq t u then touch_of_call op answer else None
+touch t Read answer = None
 
 -- the timer of task t after the entries: what the last entry that touches it left
 abbrev pub armed : List Entry → ℕ → Option Alarm
-armed entries t = armed_from t None entries
+armed entries t = fold (λ alarm e. unwrap_or (touch t e.ask e.answer) alarm) None entries
 
 -- of these timers, x is the least that is due by m
 pub record IsNextDue (timers : ℕ → Option Alarm) (m : ℕ) (x : WheelTimer) : Type 0 where

@@ -2,7 +2,7 @@
 ghost use Rattle.std.specs.Prelude.{◌≡◌, ◌<◌, ◌≤◌, ℕ, Some, None, OnOk};
 ghost use Rattle.std.specs.FinMap as map;
 ghost use Rattle.grub_asks.specs.Timers.{touch_of_call};
-ghost use Rattle.grub_asks.specs.Timers.Touch.{disarms};
+ghost use Rattle.grub_asks.specs.inside.Touches.{disarms};
 ghost use Rattle.grub_asks.specs.Keeping.{IsBlock, IsBlockBefore, IsNoTimer, IsTouched, WaitsRightly, places_of};
 
 use grub_book::{Op, Reply};

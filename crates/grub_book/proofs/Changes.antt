@@ -1,16 +1,16 @@
 -- How often the reading of a runqueue becomes another along a history.
-use Rattle.std.proofs.Common.{◌≡◌, ◌≢◌, ℕ, ◌+◌, ◌≤◌, ◌==◌, ◌&&◌, Bool, true, false, cond, List, [], ◌∷◌, ◌++◌, refl, ap, sym, subst, ◌∙◌, arith}
+use Rattle.std.proofs.Common.{◌≡◌, ◌≢◌, ℕ, ◌+◌, ◌≤◌, ◌==◌, ◌&&◌, Bool, true, false, cond, List, [], ◌∷◌, fold, ◌++◌, refl, ap, sym, subst, ◌∙◌, arith}
 use Rattle.std.proofs.lemmas.Bool.{eqb-true}
 use Rattle.std.proofs.lemmas.List.{append_assoc}
 use Rattle.grub_book.specs.Machine.{Machine}
 use Rattle.grub_book.specs.Sums.{Records, reading_of}
-use Rattle.grub_book.specs.History.{after, book_from, book_of, is_reading, changes_from, changes_of, StartsWith, HasChanged}
+use Rattle.grub_book.specs.History.{after, book_of, is_reading, changes_from, changes_of, StartsWith, HasChanged}
 use Rattle.grub_book.specs.declared.event.Event.{Event}
 use Rattle.grub_book.specs.declared.event.Reading.{Reading}
 use Rattle.grub_book.proofs.Histories.{book_more}
 use Rattle.grub_book.proofs.Totals.{same_sums}
 
-pub changes_from-append : (s : Machine) (book : Records) (r : ℕ) (more rest : List Event) → changes_from s book r (more ++ rest) ≡ changes_from s book r more + changes_from s (book_from s book more) r rest
+pub changes_from-append : (s : Machine) (book : Records) (r : ℕ) (more rest : List Event) → changes_from s book r (more ++ rest) ≡ changes_from s book r more + changes_from s (fold (after s) book more) r rest
 changes_from-append s book r [] rest = omega arith
 changes_from-append s book r (e ∷ more) rest =
     let first : ℕ = cond (is_reading (reading_of book r) (reading_of (after s book e) r)) 0 1 in
@@ -34,7 +34,7 @@ one_of_both true n h = let k = h refl in omega (arith, k)
 one_of_both false n h = omega arith
 
 -- where the reading is another in the end, an event made it so
-changes_some : (s : Machine) (book : Records) (r : ℕ) (more : List Event) → reading_of book r ≢ reading_of (book_from s book more) r → 1 ≤ changes_from s book r more
+changes_some : (s : Machine) (book : Records) (r : ℕ) (more : List Event) → reading_of book r ≢ reading_of (fold (after s) book more) r → 1 ≤ changes_from s book r more
 changes_some s book r [] other = absurd (other refl)
 changes_some s book r (e ∷ more) other =
     one_of_both (is_reading (reading_of book r) (reading_of (after s book e) r)) (changes_from s (after s book e) r more)
@@ -45,7 +45,7 @@ changed_none s r earlier later starts = (starts.0, starts.1, omega arith)
 
 pub changed_once : (s : Machine) (r : ℕ) (earlier later : List Event) → StartsWith later earlier → reading_of (book_of s earlier) r ≢ reading_of (book_of s later) r → HasChanged s r earlier later 1
 changed_once s r earlier later starts other =
-    let now : book_of s later ≡ book_from s (book_of s earlier) starts.0 = ap (book_of s) starts.1 ∙ book_more s earlier starts.0 in
+    let now : book_of s later ≡ fold (after s) (book_of s earlier) starts.0 = ap (book_of s) starts.1 ∙ book_more s earlier starts.0 in
     (starts.0, starts.1, changes_some s (book_of s earlier) r starts.0 (λ is. other (is ∙ sym (ap (λ b. reading_of b r) now))))
 
 -- the changes of one stretch and of the next

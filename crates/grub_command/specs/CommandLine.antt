@@ -38,13 +38,9 @@ with_version app = on_top (λ s. record s { has_version = true }) app
 abbrev pub command_line : App
 command_line = with_rule (with_rule (with_rule (with_rule (with_rule (with_rule (with_version (new_app (codes "grubrun"))) tries_rule) rounds_rule) view_rule) (moment_rule (codes "from"))) (moment_rule (codes "to"))) files_rule
 
--- the values of the argument for files, among those of all arguments
-abbrev pub names_among : List Row → List Text
-names_among rows = unwrap_or (all_of (codes "FILE") rows) []
-
 -- the files that these words name
 abbrev pub files_named : List Text → List Text
-files_named words = names_among (matches_of command_line words)
+files_named words = unwrap_or (all_of (codes "FILE") (matches_of command_line words)) []
 
 -- a text is a decimal number of so many bits; a plus may stand first
 abbrev pub IsNumber : ℕ → Text → Type 0

@@ -1,23 +1,18 @@
 -- What every plan keeps.
-use Rattle.std.specs.Prelude.{◌≡◌, ℕ, ◌≤◌, ◌<◌, ◌^◌, List, [], ◌∷◌, length, true}
+use Rattle.std.specs.Prelude.{◌≡◌, ℕ, ◌≤◌, ◌<◌, ◌^◌, List, [], ◌∷◌, length, true, IfSome}
 use Rattle.std.specs.List.{AllByRecursion}
 use Rattle.grub_bw.specs.Bandwidth.{IsReservation}
 use Rattle.grub_book.specs.Machine.{IsMachine}
 use Rattle.grub_plan.specs.declared.line.Act.{Act}
-use Rattle.grub_plan.specs.declared.line.Act.TheVariants as act
-use Rattle.grub_plan.specs.Plans.{Line, PlanView}
+use Rattle.grub_plan.specs.declared.line.Act.TheVariants.{Run, Retune}
+use Rattle.grub_plan.specs.Plans.{Line, PlanView, named}
 use Rattle.grub_plan.specs.Names.{is_name}
 
 -- an act of one of so many tasks, with its numbers within their limits
 abbrev pub ActFits : ℕ → Act ℕ ℕ → Type 0
-ActFits n (act.Join t) = t < n
-ActFits n (act.Wake t) = t < n
-ActFits n (act.Block t) = t < n
-ActFits n (act.Leave t) = t < n
-ActFits n (act.Exit t) = t < n
-ActFits n (act.Run t dt) = (t < n) × (1 ≤ dt) × (dt ≤ 2 ^ 24)
-ActFits n (act.Retune t q p) = (t < n) × IsReservation (record { runtime = q; period = p })
-ActFits n act.Read = Unit {0}
+ActFits n (Run t dt) = (t < n) × (1 ≤ dt) × (dt ≤ 2 ^ 24)
+ActFits n (Retune t q p) = (t < n) × IsReservation (record { runtime = q; period = p })
+ActFits n act = IfSome (named act) (λ t. t < n)
 
 -- no line is before low, or before the one in front of it
 abbrev pub ScriptFits : ℕ → ℕ → List Line → Type 0

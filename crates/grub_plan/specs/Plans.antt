@@ -1,7 +1,20 @@
 -- What a plan is seen as.
-use Rattle.std.specs.Prelude.{ℕ, List, slice_index_or, []}
+use Rattle.std.specs.Prelude.{ℕ, List, [], Option, Some, None, slice_index_or}
 use Rattle.grub_book.specs.Machine.{Machine}
+use Rattle.grub_plan.specs.declared.line.Act.{Act}
+use Rattle.grub_plan.specs.declared.line.Act.TheVariants.{Join, Wake, Block, Leave, Exit, Run, Retune, Read}
 use Rattle.grub_plan.specs.declared.line.Line as lines
+
+-- the name, or the number, of the task that an act is of
+abbrev pub named : {N V : Type 0} → Act N V → Option N
+named (Join t) = Some t
+named (Wake t) = Some t
+named (Block t) = Some t
+named (Leave t) = Some t
+named (Exit t) = Some t
+named (Run t dt) = Some t
+named (Retune t q p) = Some t
+named Read = None
 
 -- a line of a script, with the number of the task
 abbrev pub Line : Type 0

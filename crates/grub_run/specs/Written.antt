@@ -48,13 +48,13 @@ pub record IsOutput (tries : ℕ) (files : List (List ℕ)) (text : List ℕ) : 
 abbrev pub AppendsPrefix : Option (List ℕ) → Option (List ℕ) → List ℕ → Type 0
 AppendsPrefix old new text = (k : ℕ) × Appends old new (take k text)
 
--- what was written is the text of a run, and nothing else
-abbrev pub WritesText : ℕ → Option (List ℕ) → Option (List ℕ) → List (List ℕ) → Type 0
-WritesText tries old new files = (text : List ℕ) × IsOutput tries files text × Appends old new text
+-- what was written is a text of these files of which this is said, and nothing else
+abbrev pub Writes : (List (List ℕ) → List ℕ → Type 0) → Option (List ℕ) → Option (List ℕ) → List (List ℕ) → Type 0
+Writes P old new files = (text : List ℕ) × P files text × Appends old new text
 
--- what was written is a beginning of the text of a run
-abbrev pub WritesPrefix : ℕ → Option (List ℕ) → Option (List ℕ) → List (List ℕ) → Type 0
-WritesPrefix tries old new files = (text : List ℕ) × IsOutput tries files text × AppendsPrefix old new text
+-- what was written is a beginning of such a text
+abbrev pub Begins : (List (List ℕ) → List ℕ → Type 0) → Option (List ℕ) → Option (List ℕ) → List (List ℕ) → Type 0
+Begins P old new files = (text : List ℕ) × P files text × AppendsPrefix old new text
 
 -- a fault of the files is the one that their reader answers
 abbrev pub IsFaultOf : List (List ℕ) → GrubFault → Type 0

@@ -8,7 +8,7 @@ ghost use Rattle.grub_plan.specs.Contents.{contents};
 ghost use Rattle.grub_trace.specs.Tree.{Tree};
 ghost use Rattle.grub_trace.specs.declared.fault.Kind.{Kind};
 ghost use Rattle.grub_workers.specs.Runs.{AllAsksOf};
-ghost use Rattle.grub_run.specs.Written.{IsFaultOf, IsNoFileFault, IsOnlyFault, WritesText, WritesPrefix, AppendsPrefix, texts_from};
+ghost use Rattle.grub_run.specs.Written.{AppendsPrefix, Begins, IsFaultOf, IsNoFileFault, IsOnlyFault, IsOutput, Writes, texts_from};
 ghost use Rattle.grub_run.specs.inside.Ran.{BeginsRun, IsFaultOfRun, WritesRun};
 ghost use Rattle.grub_run.specs.declared.fault.GrubFault.TheVariants as faults;
 
@@ -42,9 +42,10 @@ pub fn run_texts<R: Threads + Wait + Sync, W: Write>(
     requires { 1 ≤ rounds }
 
     ensures text { OnOk result
-        (WritesText tries (W.contents out.old) (W.contents out.new) (contents files.items)) }
+        (Writes (IsOutput tries) (W.contents out.old) (W.contents out.new) (contents files.items)) }
     ensures prefix { IfErr result (λ e. e ≡ faults.WriteFault
-        → WritesPrefix tries (W.contents out.old) (W.contents out.new) (contents files.items)) }
+        → Begins (IsOutput tries) (W.contents out.old) (W.contents out.new)
+        (contents files.items)) }
     ensures nothing { IfErr result (λ e. (e ≡ faults.WriteFault → ⊥) → out.new ≡ out.old) }
 
     // A fault of the files is the reader's, and where there is one it is answered, memory aside.

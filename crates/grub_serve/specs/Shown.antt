@@ -1,8 +1,6 @@
--- The text of a view of the time line of files, and what a writer took of it.
+-- The text of a view of the time line of files.
 use Rattle.std.specs.Prelude.{◌≡◌, ◌<◌, ◌^◌, ℕ, List, [], length, Option, max, unwrap_or}
-use Rattle.std.specs.Io.KnownBytes.{Appends}
 use Rattle.grub_book.specs.declared.event.Reading.{Reading}
-use Rattle.grub_run.specs.Written.{AppendsPrefix}
 use Rattle.grub_timeline.specs.TimeLines.{IsTimeLine}
 use Rattle.grub_timeline.specs.declared.told.Told.{Told}
 use Rattle.grub_trace.specs.Meaning.{Reads}
@@ -41,11 +39,3 @@ pub record IsShown (view : View) (files : List (List ℕ)) (text : List ℕ) : T
   pub closing : List Reading
   pub line : IsTimeLine (plan_of trees) told closing
   pub whole : IsViewOf view (plan_of trees) told closing text
-
--- what was written is such a text, and nothing else
-abbrev pub Shows : View → Option (List ℕ) → Option (List ℕ) → List (List ℕ) → Type 0
-Shows view old new files = (text : List ℕ) × IsShown view files text × Appends old new text
-
--- what was written is a beginning of such a text
-abbrev pub ShowsBeginning : View → Option (List ℕ) → Option (List ℕ) → List (List ℕ) → Type 0
-ShowsBeginning view old new files = (text : List ℕ) × IsShown view files text × AppendsPrefix old new text

@@ -1,10 +1,11 @@
 //! From the names of event files to a view of their time line.
 
 ghost use Rattle.std.specs.Prelude.{◌≡◌, IfErr, OnOk};
+ghost use Rattle.grub_run.specs.Written.{Begins, Writes};
 ghost use Rattle.grub_run.specs.declared.fault.GrubFault.TheVariants as run_faults;
 ghost use Rattle.grub_serve.specs.declared.fault.ProgramFault.TheVariants as faults;
 ghost use Rattle.grub_serve.specs.Faults.{TellsOfView, Whole, names_of};
-ghost use Rattle.grub_serve.specs.Shown.{Shows, ShowsBeginning};
+ghost use Rattle.grub_serve.specs.Shown.{IsShown};
 
 use crate::fault::ProgramFault;
 use crate::reports::{placed, read_files, too_many};
@@ -38,14 +39,14 @@ pub fn print_view<
     requires open { O.IsAlwaysCallable source.now.open }
     requires read { N.IsAlwaysCallable source.now.read }
     ensures done { OnOk result (Whole O.Fn N.Fn source.now
-        (Shows view (W.contents out.old) (W.contents out.new)) (names_of paths.now)) }
+        (Writes (IsShown view) (W.contents out.old) (W.contents out.new)) (names_of paths.now)) }
     ensures fault { IfErr result (TellsOfView O.Fn N.Fn source.now view (names_of paths.now)) }
     // On every fault but that of the writer nothing was printed, and on that one a beginning of the view.
     ensures nothing { IfErr result
         (λ e. (e ≡ faults.Run run_faults.WriteFault → ⊥) → out.new ≡ out.old) }
     ensures beginning { IfErr result
         (λ e. e ≡ faults.Run run_faults.WriteFault → Whole O.Fn N.Fn source.now
-        (ShowsBeginning view (W.contents out.old) (W.contents out.new)) (names_of paths.now)) }
+        (Begins (IsShown view) (W.contents out.old) (W.contents out.new)) (names_of paths.now)) }
 {
     if paths.len() > FILES_MAX {
         return Err(too_many(alloc, source, paths));

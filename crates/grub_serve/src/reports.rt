@@ -2,7 +2,7 @@
 
 ghost use Rattle.std.specs.Prelude.{◌≡◌, ◌≤◌, ◌<◌, ℕ, List, IfErr, IfOk, OnOk, length};
 ghost use Rattle.grub_plan.specs.Contents.{contents};
-ghost use Rattle.grub_run.specs.Written.{WritesPrefix, WritesText};
+ghost use Rattle.grub_run.specs.Written.{Begins, IsOutput, Writes};
 ghost use Rattle.grub_run.specs.declared.fault.GrubFault.TheVariants as run_faults;
 ghost use Rattle.grub_files.specs.Source.{Holds, IsOpened};
 ghost use Rattle.grub_serve.specs.declared.fault.ProgramFault.TheVariants as faults;
@@ -153,14 +153,14 @@ pub fn print_reports<
     requires open { O.IsAlwaysCallable source.now.open }
     requires read { N.IsAlwaysCallable source.now.read }
     ensures done { OnOk result (Whole O.Fn N.Fn source.now
-        (WritesText tries (W.contents out.old) (W.contents out.new)) (names_of paths.now)) }
+        (Writes (IsOutput tries) (W.contents out.old) (W.contents out.new)) (names_of paths.now)) }
     ensures fault { IfErr result (Tells O.Fn N.Fn source.now (names_of paths.now)) }
     // On every fault but that of the writer nothing was printed, and on that one a beginning of the reports.
     ensures nothing { IfErr result
         (λ e. (e ≡ faults.Run run_faults.WriteFault → ⊥) → out.new ≡ out.old) }
     ensures beginning { IfErr result
         (λ e. e ≡ faults.Run run_faults.WriteFault → Whole O.Fn N.Fn source.now
-        (WritesPrefix tries (W.contents out.old) (W.contents out.new)) (names_of paths.now)) }
+        (Begins (IsOutput tries) (W.contents out.old) (W.contents out.new)) (names_of paths.now)) }
 {
     if paths.len() > FILES_MAX {
         return Err(too_many(alloc, source, paths));

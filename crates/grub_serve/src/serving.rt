@@ -2,8 +2,8 @@
 
 ghost use Rattle.std.specs.Prelude.{◌≡◌, ◌≤◌, ◌⊎◌};
 ghost use Rattle.grub_serve.specs.Faults.{HasFileFault, HasNoSpan, Whole, names_of, status_of};
-ghost use Rattle.grub_run.specs.Written.{WritesPrefix, WritesText};
-ghost use Rattle.grub_serve.specs.Shown.{Shows, ShowsBeginning};
+ghost use Rattle.grub_run.specs.Written.{Begins, IsOutput, Writes};
+ghost use Rattle.grub_serve.specs.Shown.{IsShown};
 
 use crate::fault::{ProgramFault, STATUS_FILE, STATUS_SYSTEM, STATUS_USAGE};
 use crate::printing::print_view;
@@ -40,11 +40,11 @@ pub fn serve_files<
     requires read { N.IsAlwaysCallable source.now.read }
     ensures status { (result ≡ 0) ⊎ (result ≡ STATUS_FILE) ⊎ (result ≡ STATUS_SYSTEM) }
     ensures done { result ≡ 0 → Whole O.Fn N.Fn source.now
-        (WritesText tries (W.contents out.old) (W.contents out.new)) (names_of paths.now) }
+        (Writes (IsOutput tries) (W.contents out.old) (W.contents out.new)) (names_of paths.now) }
     ensures file { result ≡ STATUS_FILE → HasFileFault O.Fn N.Fn source.now (names_of paths.now) }
     ensures nothing { result ≡ STATUS_FILE → out.new ≡ out.old }
     ensures failed { result ≡ STATUS_SYSTEM → (out.new ≡ out.old) ⊎ Whole O.Fn N.Fn source.now
-        (WritesPrefix tries (W.contents out.old) (W.contents out.new)) (names_of paths.now) }
+        (Begins (IsOutput tries) (W.contents out.old) (W.contents out.new)) (names_of paths.now) }
 {
     match print_reports(rt, alloc, tries, rounds, source, paths, out) {
         Ok(()) => 0,
@@ -76,13 +76,13 @@ pub fn serve_view<
     ensures status { (result ≡ 0) ⊎ (result ≡ STATUS_FILE) ⊎ (result ≡ STATUS_USAGE)
         ⊎ (result ≡ STATUS_SYSTEM) }
     ensures done { result ≡ 0 → Whole O.Fn N.Fn source.now
-        (Shows view (W.contents out.old) (W.contents out.new)) (names_of paths.now) }
+        (Writes (IsShown view) (W.contents out.old) (W.contents out.new)) (names_of paths.now) }
     ensures file { result ≡ STATUS_FILE → HasFileFault O.Fn N.Fn source.now (names_of paths.now) }
     ensures usage { result ≡ STATUS_USAGE
         → Whole O.Fn N.Fn source.now (HasNoSpan view) (names_of paths.now) }
     ensures nothing { (result ≡ STATUS_FILE) ⊎ (result ≡ STATUS_USAGE) → out.new ≡ out.old }
     ensures failed { result ≡ STATUS_SYSTEM → (out.new ≡ out.old) ⊎ Whole O.Fn N.Fn source.now
-        (ShowsBeginning view (W.contents out.old) (W.contents out.new)) (names_of paths.now) }
+        (Begins (IsShown view) (W.contents out.old) (W.contents out.new)) (names_of paths.now) }
 {
     match print_view(rt, alloc, view, source, paths, out) {
         Ok(()) => 0,

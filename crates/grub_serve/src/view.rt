@@ -1,6 +1,6 @@
 //! From the bytes of event files to the bytes of a view.
 
-ghost use Rattle.std.specs.Prelude.{◌≡◌, ◌+◌, ◌≤◌, ℕ, List, [], MatchResult, OnOk, OnErr, IfErr, vec_capacity};
+ghost use Rattle.std.specs.Prelude.{◌≡◌, ◌+◌, ◌≤◌, ℕ, List, MatchResult, OnOk, OnErr, IfErr, vec_capacity};
 ghost use Rattle.grub_book.specs.Sums.{opening_book};
 ghost use Rattle.grub_trace.specs.Meaning.{Reads};
 ghost use Rattle.grub_trace.specs.FirstFault.{IsFault};
@@ -8,9 +8,9 @@ ghost use Rattle.grub_plan.specs.Contents.{contents};
 ghost use Rattle.grub_trace.specs.Tree.{Tree};
 ghost use Rattle.grub_trace.specs.declared.fault.Kind.{Kind};
 ghost use Rattle.std.specs.Io.KnownBytes.{Appends};
-ghost use Rattle.grub_run.specs.Written.{AppendsPrefix};
+ghost use Rattle.grub_run.specs.Written.{AppendsPrefix, Begins, Writes};
 ghost use Rattle.grub_serve.specs.ViewFaults.{IsFaultOfView, IsNoFaultOfFile, IsOnlyFaultOfFile, write_fault};
-ghost use Rattle.grub_serve.specs.Shown.{Shows, ShowsBeginning};
+ghost use Rattle.grub_serve.specs.Shown.{IsShown};
 ghost use Rattle.grub_serve.specs.inside.Showing.{BeginsLine, IsFaultOfLine, WritesLine};
 
 use crate::ready::Ready;
@@ -61,9 +61,9 @@ pub fn write_view<R: Threads + Sync, W: Write>(
     out: &mut W,
 ) -> Result<(), ShowFault>
     ensures text { OnOk result
-        (Shows view (W.contents out.old) (W.contents out.new) (contents files.items)) }
+        (Writes (IsShown view) (W.contents out.old) (W.contents out.new) (contents files.items)) }
     ensures prefix { IfErr result (λ e. e ≡ write_fault
-        → ShowsBeginning view (W.contents out.old) (W.contents out.new) (contents files.items)) }
+        → Begins (IsShown view) (W.contents out.old) (W.contents out.new) (contents files.items)) }
     ensures nothing { IfErr result (λ e. (e ≡ write_fault → ⊥) → out.new ≡ out.old) }
 
     // A fault of the files is the reader's, and where there is one it is answered, memory aside. An empty span is told

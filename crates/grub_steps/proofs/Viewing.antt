@@ -10,7 +10,7 @@ use Rattle.grub_book.specs.declared.event.Reading.{Reading}
 use Rattle.grub_plan.specs.declared.entry.Ask.{Ask}
 use Rattle.grub_plan.specs.declared.entry.Ask.TheVariants.{Call, Read}
 use Rattle.grub_plan.specs.declared.entry.Answer.{Answer}
-use Rattle.grub_plan.specs.declared.entry.Answer.TheVariants.{Replied, Seen, Busy, Lost}
+use Rattle.grub_plan.specs.declared.entry.Answer.TheVariants.{Replied, Seen}
 use Rattle.grub_plan.specs.Plans.{PlanView}
 use Rattle.grub_plan.specs.Texts.{IsAskOf}
 use Rattle.grub_asks.specs.Answers.{IsAnswered, event_told}
@@ -26,13 +26,8 @@ pub record Goes (s : Machine) (ask : Ask) (rest : List Event) : Type 0 where
 
 goes : (s : Machine) (book : Records) (r : ℕ) (ask : Ask) (answer : Answer) (rest : List Event) → IsLegalFrom s book (event_told r ask answer ++ rest) → IsAnswered ask answer → Goes s ask rest
 goes s book r (Call t op) (Replied reply) rest legal answered = record { within = (legal.0.0, legal.0.1); book = (step s book t op).0; legal = legal.1 }
-goes s book r (Call t op) (Seen reading) rest legal answered = absurd answered.0
-goes s book r (Call t op) Busy rest legal answered = absurd (answered.1 tt)
-goes s book r (Call t op) Lost rest legal answered = absurd (answered.1 tt)
 goes s book r Read (Seen reading) rest legal answered = record { within = tt; book = book; legal = legal.1 }
-goes s book r Read (Replied reply) rest legal answered = absurd answered.0
-goes s book r Read Busy rest legal answered = absurd answered.0
-goes s book r Read Lost rest legal answered = absurd answered.0
+goes s book r ask answer rest legal answered = absurd answered
 
 pub legal_within : (s : Machine) (book : Records) (told : List Told) → IsLegalFrom s book (history_of told) → AreAnswered told → AreWithin s told → AreToldIn s told
 legal_within s book [] legal answered within = All-from_recursion (IsToldIn s) [] tt

@@ -12,7 +12,8 @@ use Rattle.grub_bw.specs.Server.{charge_of, depleted_of}
 use Rattle.grub_bw.specs.declared.server.Server.{Server}
 use Rattle.grub_book.specs.Machine.{Machine, queue_at}
 use Rattle.grub_book.specs.Sums.{Records, is_active_on, opening_book, opening_record, reading_of, record_at, running_of, share_of}
-use Rattle.grub_book.specs.Step.{charged, is_inactive, lag_moment, refused, refused_block, refused_wake, replied, runqueue_of, settled}
+use Rattle.grub_book.specs.Step.{charged, is_inactive, lag_moment, refused, refused_block, refused_wake, runqueue_of, settled}
+use Rattle.grub_book.specs.inside.Steps.{replied}
 use Rattle.grub_book.specs.declared.event.Reading.{Reading}
 use Rattle.grub_book.specs.declared.op.Op.{Op}
 use Rattle.grub_book.specs.declared.op.Op.TheVariants.{Join, Wake, Block, Leave, Timer, Exit, Charge, Retune}

@@ -24,7 +24,7 @@ use Rattle.grub_book.proofs.Totals.{counts_each}
 use Rattle.grub_plan.specs.declared.entry.Ask.{Ask}
 use Rattle.grub_plan.specs.declared.entry.Ask.TheVariants.{Call, Read}
 use Rattle.grub_plan.specs.declared.entry.Answer.{Answer}
-use Rattle.grub_plan.specs.declared.entry.Answer.TheVariants.{Replied, Seen, Busy, Lost}
+use Rattle.grub_plan.specs.declared.entry.Answer.TheVariants.{Replied, Seen}
 use Rattle.grub_asks.specs.Answers.{IsAnswered, event_told}
 use Rattle.grub_timeline.specs.TimeLines.{AreAnswered, history_of}
 use Rattle.grub_timeline.specs.declared.told.Told.{Told}
@@ -98,13 +98,8 @@ within : (s : Machine) (book : Records) (r : ℕ) (ask : Ask) (answer : Answer) 
     → Within s book ask answer rest
 within s book r (Call t op) (Replied reply) rest sound legal answered =
     record { charge = told_within s book t op reply sound legal.0.0 legal.0.1 legal.0.2; sound = sound_step s book t op sound legal.0.0 legal.0.1; legal = legal.1 }
-within s book r (Call t op) (Seen reading) rest sound legal answered = absurd answered.0
-within s book r (Call t op) Busy rest sound legal answered = absurd (answered.1 tt)
-within s book r (Call t op) Lost rest sound legal answered = absurd (answered.1 tt)
 within s book r Read (Seen reading) rest sound legal answered = record { charge = omega arith; sound = sound; legal = legal.1 }
-within s book r Read (Replied reply) rest sound legal answered = absurd answered.0
-within s book r Read Busy rest sound legal answered = absurd answered.0
-within s book r Read Lost rest sound legal answered = absurd answered.0
+within s book r ask answer rest sound legal answered = absurd answered
 
 each_within : (s : Machine) (book : Records) (told : List Told) → IsSound s book → IsLegalFrom s book (history_of told) → AreAnswered told → All ChargesWithin (steps_from s book told)
 each_within s book [] sound legal answered = All-from_recursion ChargesWithin [] tt

@@ -60,6 +60,6 @@ queue_told s r word P old new told at = tells_as s (OfQueue word P) (P r) old ne
 -- the reading that a claim finds has a word
 pub reading_fits_for : (s : Shared) (rec : Record) (r : ℕ) (now : Reading) → r < length s.terms.setup.queues → IsReadingFor s.terms r rec now → QueueFits now
 reading_fits_for s rec r now lt is =
-    let most = (s.limited.capacities r lt).most_most in
+    let most = (s.limited.capacities r lt).most.1 in
     let this = is.this in
     record { running = is.running; this = omega arith }

@@ -23,6 +23,7 @@ use Rattle.grub_table.specs.declared.view.View.{View}
 use Rattle.grub_table.specs.Layout.{task_word_at}
 use Rattle.grub_table.specs.inside.Layout.{server_word_at, params_word_at}
 use Rattle.grub_table.specs.Marks.{marker_of}
+use Rattle.grub_table.proofs.Marks.{lawful_none}
 use Rattle.grub_table.specs.inside.Views.{share}
 use Rattle.grub_table.specs.inside.Views.{fresh, first_view, MarkedBy}
 use Rattle.grub_table.specs.inside.FirstWords.{AreOpeningWords}
@@ -88,7 +89,7 @@ opens T words limited are = record {
   known = λ id v e. (one id v e).0;
   held = λ id v e. (one id v e).1;
   written = opening_written T words are;
-  lawful = tt;
+  lawful = lawful_none T.passes;
   tied = λ t. refl;
   marked = λ id v e. (one id v e).2;
   since = λ t i before stored is. absurd (cc);

@@ -1,5 +1,5 @@
 -- The replies of `start`, and what the word of a free task says.
-use Rattle.std.proofs.Common.{◌≡◌, ℕ, Bool, true, false, cond, nat_lt, IsTrue, Option, Some, None, [], ◌∷◌, sym, ap, ◌∙◌}
+use Rattle.std.proofs.Common.{◌≡◌, ℕ, Bool, true, false, cond, nat_lt, Option, Some, None, [], ◌∷◌, sym, ap, ◌∙◌}
 use Rattle.grub_book.specs.Sound.{IsKept}
 use Rattle.grub_book.specs.Step.{early, is_under_claim, lag_moment}
 use Rattle.grub_book.specs.declared.op.Op.{Op}
@@ -13,14 +13,14 @@ use Rattle.grub_words.proofs.Bounds.{PlaceFits-kept}
 use Rattle.grub_words.proofs.Tasks.{same_fields}
 use Rattle.grub_table.specs.declared.shared.Shared.{Shared}
 use Rattle.grub_table.specs.declared.view.Mark.TheVariants.{Taken, Given}
-use Rattle.grub_table.specs.Calls.{IsEarly, marks_of_call}
+use Rattle.grub_table.specs.Calls.{marks_of_call}
 use Rattle.grub_table.specs.Layout.{shown}
 
 -- ---- replies
 pub outside_marks : (i t : ℕ) (reply : Reply) → is_under_claim reply ≡ false → marks_of_call i t reply ≡ []
 outside_marks i t reply is = ap (λ b. cond b (Taken i t ∷ Given i t ∷ []) []) is
 
-pub outside_soon : (reply : Reply) → is_under_claim reply ≡ false → IsTrue (is_under_claim reply) → IsEarly reply
+pub outside_soon : (reply : Reply) → is_under_claim reply ≡ false → is_under_claim reply ≡ true → (z : ℕ) × (reply ≡ Early z)
 outside_soon reply is claimed = let both : false ≡ true = sym is ∙ claimed in absurd cc
 
 early_if : (b : Bool) (z : ℕ) (reply : Reply) → cond b (Some (Early z)) None ≡ Some reply → reply ≡ Early z

@@ -20,7 +20,7 @@ use Rattle.grub_table.specs.declared.view.Share.{Share}
 use Rattle.grub_table.specs.declared.view.Stored.{Stored}
 use Rattle.grub_table.specs.declared.view.Terms.{Terms}
 use Rattle.grub_table.specs.declared.view.View.{View}
-use Rattle.grub_table.specs.Marks.{AreLawful, holder_of, handed, marker_of}
+use Rattle.grub_table.specs.Marks.{AreLawful, holder_after, holder_of, marker_of}
 use Rattle.grub_table.specs.Layout.{task_word_at, shown}
 use Rattle.grub_table.specs.inside.Layout.{server_word_at, params_word_at, stored_of}
 use Rattle.grub_table.specs.Calls.{share_on}
@@ -28,7 +28,7 @@ use Rattle.grub_table.specs.inside.Between.{IsAllowed, HoldsFor, HoldsMade}
 use Rattle.grub_table.specs.inside.Views.{alone, holding}
 use Rattle.grub_table.specs.inside.Tellings.{Sees, Gives, GaveUp, GaveBack, StoredServer, StoredParams}
 use Rattle.grub_table.specs.inside.Rule.{Known, Grip, Grips, loose, grip, Grasps, IsOnly, holder_in, Kept}
-use Rattle.grub_table.proofs.Marks.{lawful_more, holder_more, handed_here, handed_else}
+use Rattle.grub_table.proofs.Marks.{lawful_more, holder_more, given_here, given_else}
 use Rattle.grub_table.proofs.Growths.{goes_own}
 use Rattle.grub_table.proofs.Seats.{known_seen, known_kept, marked_more, IsMine}
 use Rattle.grub_table.proofs.Rows.{put, put_here, put_else, only_put, is_loose_not, IsWordOf, words_of, Shows, set_task, set_server, set_params, written_task}
@@ -118,9 +118,9 @@ module _ {S : Type 0} (x : Share) (s : State S View) (id : ℕ) (c : List (ℕ �
       (written_task T b b k.grips grips s.words t k.written (put_else k.grips t loose) (λ u _. refl) j n (0, zero_three, sym (add-zero j)) (λ r _. refl)
       (subst (λ (p : Grip × Record). Shows p.0 p.1 (words_of T.setup (set s.words j n) t)) (λ i. (sym here i, sym is i)) new))
       (given_lawful t before stored held)
-      (λ u. ap (λ f. f u) (holder_more k.marks (Given x.number t)) ∙ dite (ℕ_discrete u t)
-      (λ same_task. ap (handed (holder_of k.marks) t None) same_task ∙ handed_here (holder_of k.marks) t None ∙ sym (ap holder_in (ap grips same_task ∙ here)))
-      (λ other. handed_else (holder_of k.marks) t None u other ∙ k.tied u ∙ ap holder_in (sym (put_else k.grips t loose u other))))
+      (λ u. holder_more k.marks (Given x.number t) u ∙ dite (ℕ_discrete u t)
+      (λ same_task. ap (λ v. holder_after v (holder_of k.marks v) (Given x.number t)) same_task ∙ given_here t x.number (holder_of k.marks t) ∙ sym (ap holder_in (ap grips same_task ∙ here)))
+      (λ other. given_else u x.number t (holder_of k.marks u) other ∙ k.tied u ∙ ap holder_in (sym (put_else k.grips t loose u other))))
       (marked_more T k.history k.owner k.marks s.views id x (Given x.number t) seen Free k.known k.marked at refl)
       (λ i bef st e. absurd (is_loose_not (sym here ∙ e)))
     where

@@ -11,7 +11,8 @@ use Rattle.grub_book.specs.Op.{IsOp}
 use Rattle.grub_book.specs.Sums.{Records, record_at, reading_of}
 use Rattle.grub_book.specs.History.{IsTrueOf, book_of}
 use Rattle.grub_book.specs.Sound.{IsKept}
-use Rattle.grub_book.specs.Step.{refused, replied, step}
+use Rattle.grub_book.specs.Step.{refused, step}
+use Rattle.grub_book.specs.inside.Steps.{replied}
 use Rattle.grub_book.specs.declared.event.Event.{Event}
 use Rattle.grub_book.specs.declared.op.Op.{Op}
 use Rattle.grub_book.specs.declared.event.Event.TheVariants.{Call, Look}
@@ -34,7 +35,7 @@ use Rattle.grub_table.specs.declared.view.Share.{Share}
 use Rattle.grub_table.specs.declared.view.Stored.{Stored}
 use Rattle.grub_table.specs.declared.view.Terms.{Terms}
 use Rattle.grub_table.specs.declared.view.View.{View}
-use Rattle.grub_table.specs.Marks.{holder_of, handed, marker_of}
+use Rattle.grub_table.specs.Marks.{holder_after, holder_of, marker_of}
 use Rattle.grub_table.specs.Layout.{queue_word_at, task_word_at, shown}
 use Rattle.grub_table.specs.inside.Layout.{stored_of}
 use Rattle.grub_table.specs.Histories.{record_in}
@@ -43,7 +44,7 @@ use Rattle.grub_table.specs.inside.Tellings.{CallsIf, IsOthers, Of, OfQueue, Saw
 use Rattle.grub_table.specs.inside.Between.{hold_of, IsAllowed, IsSeatOf}
 use Rattle.grub_table.specs.Calls.{share_on}
 use Rattle.grub_table.specs.inside.Rule.{holder_in, Grip, Grips, loose, grip, Grasps, TaskShows, Kept}
-use Rattle.grub_table.proofs.Marks.{lawful_more, holder_more, handed_here, handed_else}
+use Rattle.grub_table.proofs.Marks.{lawful_more, holder_more, taken_here, taken_else}
 use Rattle.grub_table.proofs.Growths.{goes_own, history_more, finished}
 use Rattle.grub_table.proofs.Moves.{reading_fits}
 use Rattle.grub_table.proofs.Seats.{known_event, known_seen, marked_more, IsMine}
@@ -157,9 +158,9 @@ module _ {S : Type 0} (x : Share) (s : State S View) (id : ℕ) (c : List (ℕ �
             (lt, here, refl, (λ u before st is. dite (ℕ_discrete u t) (λ same. same) (λ other. absurd (unheld u before st (sym (put_else k.grips t g u other) ∙ is)))))
             (written_task T b b k.grips grips s.words t k.written (put_else k.grips t g) (λ u _. refl) j new (0, lit_three, sym (add-zero j)) (λ r less. refl) (subst (λ f. Shows f rec (words_of T.setup (set s.words j new) t)) (sym here) shows))
             lawful
-            (λ u. ap (λ f. f u) (holder_more k.marks mark) ∙ dite (ℕ_discrete u t)
-            (λ same. ap (handed (holder_of k.marks) t (Some x.number)) same ∙ handed_here (holder_of k.marks) t (Some x.number) ∙ sym (ap holder_in (ap grips same ∙ here)))
-            (λ other. handed_else (holder_of k.marks) t (Some x.number) u other ∙ k.tied u ∙ ap holder_in (sym (put_else k.grips t g u other))))
+            (λ u. holder_more k.marks mark u ∙ dite (ℕ_discrete u t)
+            (λ same. ap (λ v. holder_after v (holder_of k.marks v) mark) same ∙ taken_here t x.number (holder_of k.marks t) ∙ sym (ap holder_in (ap grips same ∙ here)))
+            (λ other. taken_else u x.number t (holder_of k.marks u) other ∙ k.tied u ∙ ap holder_in (sym (put_else k.grips t g u other))))
             (marked_more T k.history k.owner k.marks s.views id x mark k.history d k.known k.marked at refl)
             (λ i before st is. (k.history, starts_whole k.history, same_before x.number i rec before stored st (sym here ∙ is))),
         (

@@ -1,5 +1,5 @@
 -- What the calls of a table promise, in terms of its passes and claims.
-use Rattle.std.specs.Prelude.{Bool, true, false, IsTrue, ◌≡◌, ◌≢◌, ℕ, ◌-◌, ◌<◌, ◌≤◌, List, [], ◌∷◌, ◌++◌, length, slice_index_or, ◌⊎◌, None, if◌then◌else◌}
+use Rattle.std.specs.Prelude.{Bool, true, false, ◌≡◌, ◌≢◌, ℕ, ◌-◌, ◌<◌, ◌≤◌, List, [], ◌∷◌, ◌++◌, length, slice_index_or, ◌⊎◌, None, if◌then◌else◌}
 use Rattle.std.specs.List.{All, Any}
 use Rattle.grub_book.specs.Machine.{Machine}
 use Rattle.grub_book.specs.Op.{IsOp}
@@ -164,21 +164,16 @@ pub record IsRefusal (s : Shared) (ps : List Pass) (f : CloseFault) : Type 0 whe
   pub why : IsReason s ps f.why
 
 -- ---- calls on a task
--- a reply of `start`: of the place, the count or the ticket, or Early
-abbrev pub IsEarly : Reply → Type 0
-IsEarly (Early z) = Unit {0}
-IsEarly reply = ⊥
-
 -- a call that was made under a claim took the task and gave it back
 abbrev pub marks_of_call : ℕ → ℕ → Reply → List Mark
 marks_of_call i t reply = if is_under_claim reply then Taken i t ∷ Given i t ∷ [] else []
 
--- `start` made the call
+-- `start` made the call: the place, the count or the ticket decided the reply, or it is Early
 pub record IsAnswered (s : Shared) (p : Pass) (t : ℕ) (op : Op) (q : Pass) (reply : Reply) : Type 0 where
   pub of : IsPassOf s q
   pub learns : Learns (share_of p) (share_of q) (Call (number_of p) t op reply ∷ []) (marks_of_call (number_of p) t reply)
   pub last : EndsWith (seen q) (Call (number_of p) t op reply)
-  pub soon : IsTrue (is_under_claim reply) → IsEarly reply
+  pub soon : is_under_claim reply ≡ true → (z : ℕ) × (reply ≡ Early z)
 
 -- `start` took the task
 pub record IsTaken (s : Shared) (p : Pass) (t : ℕ) (asked : Op) (c : Claim) : Type 0 where

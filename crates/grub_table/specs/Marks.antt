@@ -1,41 +1,25 @@
 -- Who holds which task, by the list of takings and givings.
-use Rattle.std.specs.Prelude.{◌≡◌, ℕ, ◌<◌, if◌then◌else◌, ◌==◌, List, [], ◌∷◌, Option, Some, None}
+use Rattle.std.specs.Prelude.{◌≡◌, ℕ, ◌<◌, if◌then◌else◌, ◌==◌, List, ◌∷◌, ◌++◌, fold, Option, Some, None}
 use Rattle.grub_table.specs.declared.view.Mark.{Mark}
 use Rattle.grub_table.specs.declared.view.Mark.TheVariants.{Taken, Given}
 
--- the pass that holds each task
-abbrev pub Holders : Type 0
-Holders = ℕ → Option ℕ
-
-abbrev pub nobody_holds : Holders
-nobody_holds t = None
-
-abbrev pub handed : Holders → ℕ → Option ℕ → Holders
-handed holders t to u = if u == t then to else holders u
-
--- only a task that nobody holds is taken, and only its holder gives it; n is the number of passes
-abbrev pub IsLawfulMark : ℕ → Holders → Mark → Type 0
-IsLawfulMark n holders (Taken i t) = (i < n) × (holders t ≡ None)
-IsLawfulMark n holders (Given i t) = (i < n) × (holders t ≡ Some i)
-
-abbrev pub after_mark : Holders → Mark → Holders
-after_mark holders (Taken i t) = handed holders t (Some i)
-after_mark holders (Given i t) = handed holders t None
-
-abbrev pub held_from : Holders → List Mark → Holders
-held_from holders [] = holders
-held_from holders (m ∷ marks) = held_from (after_mark holders m) marks
-
-abbrev pub AreLawfulFrom : ℕ → Holders → List Mark → Type 0
-AreLawfulFrom n holders [] = Unit {0}
-AreLawfulFrom n holders (m ∷ marks) = IsLawfulMark n holders m × AreLawfulFrom n (after_mark holders m) marks
-
-abbrev pub AreLawful : ℕ → List Mark → Type 0
-AreLawful n marks = AreLawfulFrom n nobody_holds marks
+-- who holds task t after a mark, where this pass held it before, or nobody
+abbrev pub holder_after : ℕ → Option ℕ → Mark → Option ℕ
+holder_after t holder (Taken i u) = if t == u then Some i else holder
+holder_after t holder (Given i u) = if t == u then None else holder
 
 -- who holds a task after these marks
 abbrev pub holder_of : List Mark → ℕ → Option ℕ
-holder_of marks = held_from nobody_holds marks
+holder_of marks t = fold (holder_after t) None marks
+
+-- after these marks, only a task that nobody holds is taken, and only its holder gives it; n is the number of passes
+abbrev pub IsLawfulMark : ℕ → List Mark → Mark → Type 0
+IsLawfulMark n before (Taken i t) = (i < n) × (holder_of before t ≡ None)
+IsLawfulMark n before (Given i t) = (i < n) × (holder_of before t ≡ Some i)
+
+-- each mark is lawful after those before it
+abbrev pub AreLawful : ℕ → List Mark → Type 0
+AreLawful n marks = (before after : List Mark) (m : Mark) → marks ≡ before ++ m ∷ after → IsLawfulMark n before m
 
 abbrev pub marker_of : Mark → ℕ
 marker_of (Taken i t) = i

@@ -10,7 +10,7 @@ use Rattle.grub_book.specs.declared.event.Event.{Event}
 use Rattle.grub_plan.specs.declared.entry.Ask.{Ask}
 use Rattle.grub_plan.specs.declared.entry.Ask.TheVariants.{Call, Read}
 use Rattle.grub_plan.specs.declared.entry.Answer.{Answer}
-use Rattle.grub_plan.specs.declared.entry.Answer.TheVariants.{Replied, Seen, Busy, Lost}
+use Rattle.grub_plan.specs.declared.entry.Answer.TheVariants.{Replied, Seen}
 use Rattle.grub_plan.specs.declared.entry.Entry.{Entry}
 use Rattle.grub_asks.specs.Answers.{IsAnswered, event_told}
 use Rattle.grub_asks.specs.Asked.{entry}
@@ -46,13 +46,8 @@ by_one s r rs book m ask (e ∷ es) a b f g = by_one s r (drop 1 rs) (book_next 
 told_by : (s : Machine) (p q : ℕ) (book : Records) (ask : Ask) (answer : Answer) (rest : List Event) → IsAnswered ask answer → (ask ≡ Read → p ≡ q) → IsLegalFrom s book (event_told p ask answer ++ rest)
     → (answer ≡ answer_of s q book ask) × IsLegalFrom s (book_next s book ask) rest
 told_by s p q book (Call t op) (Replied reply) rest a is legal = (ap Replied (sym legal.0.2), legal.1)
-told_by s p q book (Call t op) (Seen reading) rest a is legal = absurd a.0
-told_by s p q book (Call t op) Busy rest a is legal = absurd (a.1 tt)
-told_by s p q book (Call t op) Lost rest a is legal = absurd (a.1 tt)
 told_by s p q book Read (Seen reading) rest a is legal = (ap Seen (sym legal.0.1 ∙ ap (reading_of book) (is refl)), legal.1)
-told_by s p q book Read (Replied reply) rest a is legal = absurd a.0
-told_by s p q book Read Busy rest a is legal = absurd a.0
-told_by s p q book Read Lost rest a is legal = absurd a.0
+told_by s p q book ask answer rest a is legal = absurd a
 
 -- each reading is of one of these runqueues
 abbrev pub AreReadFor : ℕ → List ℕ → List Told → Type 0

@@ -51,7 +51,7 @@ pub known_call : (s : Machine) (was now : Records) (old new : List Told) (r m t 
 known_call s was now old new r m t op reply known queue task fits is list =
     let h = history_of old in
     let at : (now, reply) ≡ step s (book_of s h) t op = is ∙ ap (λ b. step s b t op) known.book in
-    known_event s was now old new (told_of r m (Call t op) (Replied reply)) (events.Call r t op reply) known list refl (tt, λ k. k) queue task
+    known_event s was now old new (told_of r m (Call t op) (Replied reply)) (events.Call r t op reply) known list refl tt queue task
     (λ legal. legal_push s h (events.Call r t op reply) legal (task, fits, sym (ap (λ p. p.1) at)))
     (ap (λ p. p.0) at ∙ sym (book_push s h (events.Call r t op reply)))
 
@@ -59,7 +59,7 @@ known_call s was now old new r m t op reply known queue task fits is list =
 pub known_look : (s : Machine) (book : Records) (old new : List Told) (r m : ℕ) (reading : Reading) → IsKnown s book old → r < length s.queues → reading ≡ reading_of book r → new ≡ old ++ told_of r m Read (Seen reading) ∷ [] → IsKnown s book new
 known_look s book old new r m reading known queue is list =
     let h = history_of old in
-    known_event s book book old new (told_of r m Read (Seen reading)) (events.Look r r reading) known list refl (tt, λ k. k) queue tt
+    known_event s book book old new (told_of r m Read (Seen reading)) (events.Look r r reading) known list refl tt queue tt
     (λ legal. legal_push s h (events.Look r r reading) legal (queue, sym (is ∙ ap (λ b. reading_of b r) known.book)))
     (known.book ∙ sym (book_push s h (events.Look r r reading)))
 

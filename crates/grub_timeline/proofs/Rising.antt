@@ -1,5 +1,5 @@
 -- The moments of the entries do not go back.
-use Rattle.std.proofs.Common.{◌≡◌, ◌⊎◌, ℕ, ◌-◌, ◌<◌, ◌≤◌, Bool, true, false, cond, nat_eq, nat_lt, List, [], ◌∷◌, ◌++◌, length, Option, Some, unwrap_or, refl, sym, ap, ◌∙◌, subst, ⊎_elim, arith}
+use Rattle.std.proofs.Common.{◌≡◌, ◌⊎◌, ℕ, ◌-◌, ◌<◌, ◌≤◌, Bool, true, false, cond, nat_eq, nat_lt, List, [], ◌∷◌, ◌++◌, length, Option, Some, unwrap_or, refl, sym, ap, ◌∙◌, subst, ⊎_elim, arith, None}
 use Rattle.std.specs.List.{All, FoldsTo}
 use Rattle.std.specs.List.Sorted.{IsNonDecreasingBy}
 use Rattle.std.proofs.lemmas.Bool.{ltb-true, ltb-false}
@@ -22,7 +22,8 @@ use Rattle.grub_asks.specs.Keeping.{WaitsRightly}
 use Rattle.grub_asks.specs.inside.Keeping.{IsLineOp}
 use Rattle.grub_wheel.specs.declared.timer.Timer.{Timer}
 use Rattle.grub_wheel.specs.TimerBag.{IsNotAfter}
-use Rattle.grub_asks.specs.Timers.{Alarm, NoneDue, Touch, alarm_after, armed, arms, disarms, leaves, touch, touch_of_call}
+use Rattle.grub_asks.specs.Timers.{Alarm, NoneDue, Touch, armed, touch, touch_of_call}
+use Rattle.grub_asks.specs.inside.Touches.{alarm_after, disarms, leaves}
 use Rattle.grub_asks.proofs.Kept.{armed-more}
 use Rattle.grub_asks.proofs.Starts.{follows_start, joins_start}
 
@@ -89,9 +90,9 @@ AnswersRightly Read answer = Unit {0}
 
 -- what an ask of a line at m arms is later than m
 abbrev IsLate : ℕ → Touch → Type 0
-IsLate m leaves = Unit {0}
-IsLate m disarms = Unit {0}
-IsLate m (arms a) = m < a.0
+IsLate m None = Unit {0}
+IsLate m (Some None) = Unit {0}
+IsLate m (Some (Some a)) = m < a.0
 
 late_block : (m r : ℕ) (answer : Answer) → WaitsRightly (ops.Block r m) answer → IsLate m (touch_of_call (ops.Block r m) answer)
 late_block m r (Replied (replies.Waiting ticket z)) waits = waits ticket z refl
@@ -113,9 +114,9 @@ late_touch m t (Call u op) answer at right = go (nat_eq t u)
 late_touch m t Read answer at right = tt
 
 after_touch : (m : ℕ) (t : Touch) (old : Option Alarm) (a : Alarm) → IsLate m t → ((b : Alarm) → old ≡ Some b → m ≤ b.0) → alarm_after t old ≡ Some a → m ≤ a.0
-after_touch m leaves old a late was at = was a at
-after_touch m disarms old a late was at = absurd (cc)
-after_touch m (arms b) old a late was at = let same : b.0 ≡ a.0 = ap (λ o. (unwrap_or o b).0) at in omega (arith, late, same)
+after_touch m None old a late was at = was a at
+after_touch m (Some None) old a late was at = absurd (cc)
+after_touch m (Some (Some b)) old a late was at = let same : b.0 ≡ a.0 = ap (λ o. (unwrap_or o b).0) at in omega (arith, late, same)
 
 ask_rises : (m : ℕ) (ask : Ask) (answer : Answer) (es after : List Entry) → IsLineAsk m ask → AnswersRightly ask answer → Rises m es → after ≡ es ++ entry m ask answer ∷ [] → Rises m after
 ask_rises m ask answer es after at right was list =

@@ -1,31 +1,32 @@
 -- A fault by the definitions is the one that reading gives, so there is one at most: the `answered` of IsPlanOrFault.
-use Rattle.std.proofs.Common.{◌≡◌, ℕ, ◌+◌, ◌-◌, ◌<◌, ◌≤◌, Bool, true, false, cond, eqb, inl, inr, List, [], ◌∷◌, ◌++◌, length, map, Option, Some, None, Result, Ok, Err, refl, ap, ◌∙◌, sym, arith, subst, append_assoc}
+use Rattle.std.proofs.Common.{◌≡◌, ℕ, zero, suc, ◌+◌, ◌-◌, ◌<◌, ◌≤◌, Bool, true, false, cond, eqb, inl, inr, List, [], ◌∷◌, ◌++◌, length, map, take, drop, Option, Some, None, Result, Ok, Err, refl, ap, ◌∙◌, sym, arith, subst, append_assoc}
 use Rattle.grub_trace.proofs.LinesInTurn.{failed}
 use Rattle.grub_trace.proofs.Elsewhere.{not_zero}
-use Rattle.std.proofs.lemmas.Option.{same_Some}
-use Rattle.std.specs.Prelude.{is_none}
+use Rattle.std.proofs.lemmas.Option.{same_Some, slice_get_within}
+use Rattle.std.specs.Prelude.{is_none, slice_get}
 use Rattle.std.proofs.lemmas.Bool.{le-ltb, lt-ltb}
 use Rattle.grub_plan.specs.Plans.{Line}
-use Rattle.std.specs.List.{join_with_byte, flat_map, AllByRecursion}
-use Rattle.std.proofs.lemmas.List.{append-nil, map-append}
+use Rattle.std.specs.List.{join_with_byte, flat_map, AllByRecursion, position_from}
+use Rattle.std.proofs.lemmas.List.{append-nil, length-map, length-take-le, map-append}
 use Rattle.std.proofs.lemmas.List.Splits.{join_with_byte-slice_split}
 use Rattle.grub_trace.specs.declared.version.Version.{Version}
 use Rattle.grub_trace.specs.declared.fault.Kind.{Kind}
 use Rattle.grub_trace.specs.declared.fault.Kind.TheVariants.{CutShort, BadHeader, MissingQueue, BadLine, UnknownTask}
 use Rattle.grub_trace.specs.Tree.{Declaration, Happening, Tree, text, line, header, head_text, queue_words, declaration_words, happening_words, names_of}
-use Rattle.grub_trace.specs.Faults.{line_fault, fault_of_form, header_fault, queue_fault}
+use Rattle.grub_trace.specs.Faults.{line_fault, header_fault, queue_fault}
+use Rattle.grub_trace.specs.inside.Faults.{fault_of_form}
 use Rattle.grub_trace.specs.Forms.{Form, form_of, words_of, version_of, parts_of}
 use Rattle.grub_trace.specs.Meaning.{AreKnown, IsTree, AreTrees}
-use Rattle.grub_trace.specs.FirstFault.{front_fault, LineFault, FileFault, UnknownIn, UnknownFault, IsFault, too_many, no_file, first, unknown}
+use Rattle.grub_trace.specs.FirstFault.{front_fault, LineFault, FileFault, UnknownFault, IsFault, too_many, no_file, first, unknown}
 use Rattle.grub_trace.specs.Naming.{all_tasks, line_in, script_of}
 use Rattle.grub_trace.specs.inside.Reading.{Read, FileRead, AllRead, with_file, of_file, read_file, read_first, read_as, opened, file_from, read_second, read_lines, read_from, queue_of, take_option, ok_unless, adds, at_line, ◌>>=◌, times_of, script_from, scripts_from, option_or_err, unknown_in, plan_from}
-use Rattle.grub_trace.proofs.PlanLaws.{body_of_tree}
+use Rattle.grub_trace.proofs.PlanLaws.{body_of_tree, is_unknown}
 use Rattle.grub_trace.proofs.WordLemmas.{has_part}
 use Rattle.grub_trace.proofs.LineLemmas.{first_known, second_then}
 use Rattle.grub_trace.proofs.FormLemmas.{version_again}
 use Rattle.grub_trace.proofs.FileLaws.{small_queue}
 use Rattle.grub_trace.proofs.Printed.{queue_again, queue_one_line}
-use Rattle.grub_trace.proofs.TreesAreRead.{some_is, script_again, files_again, parts_again, header_one_line, declared_run, said_run, file_again, file_of}
+use Rattle.grub_trace.proofs.TreesAreRead.{script_again, files_again, parts_again, header_one_line, declared_run, said_run, file_again, file_of}
 
 faulty : (o : Option Form) (r : Read) (k : Kind) → fault_of_form r.version (names_of r.declared) (times_of r.happenings) o ≡ Some k → take_option r o ≡ Err k
 faulty None r k e = ap (λ (x : Kind). Err x) (same_Some BadLine k e)
@@ -115,34 +116,44 @@ first_fault_again (t ∷ ts) all g bytes more k n are f =
 
 -- ---- names that are not declared
 
-script_stop_again : (names : List (List ℕ)) (before : List Happening) (m : Happening) (after : List Happening) (done : List Line) (n : ℕ) → AreKnown names before → line_in names m ≡ None → script_from names done n (before ++ m ∷ after) ≡ Err (n + length before)
+script_stop_again : (names : List (List ℕ)) (hs : List Happening) (done : List Line) (n m : ℕ) → position_from (is_unknown names) n hs ≡ Some m → script_from names done n hs ≡ Err m
 unfolding script_from
-script_stop_again names [] m after done n known none = ap (λ (o : Option Line). option_or_err n o >>= λ l. script_from names (done ++ l ∷ []) (n + 1) after) none ∙ ap (λ (k : ℕ). Err k) (omega arith)
-script_stop_again names (b ∷ bs) m after done n known none =
-    let s = some_is (line_in names b) known.0 in
-    ap (λ (o : Option Line). option_or_err n o >>= λ l. script_from names (done ++ l ∷ []) (n + 1) (bs ++ m ∷ after)) s.1
-    ∙ script_stop_again names bs m after (done ++ s.0 ∷ []) (n + 1) known.1 none ∙ ap (λ (k : ℕ). Err k) (omega arith)
+script_stop_again names [] done n m there = absurd cc
+script_stop_again names (h ∷ hs) done n m there = go (λ l later. script_stop_again names hs (done ++ l ∷ []) (n + 1) m later) (line_in names h) refl
+  where
+    go : ((l : Line) → position_from (is_unknown names) (n + 1) hs ≡ Some m → script_from names (done ++ l ∷ []) (n + 1) hs ≡ Err m)
+        → (o : Option Line) → line_in names h ≡ o → (option_or_err n (line_in names h) >>= λ l. script_from names (done ++ l ∷ []) (n + 1) hs) ≡ Err m
+    go rest o is = ap (λ (o : Option Line). option_or_err n o >>= λ l. script_from names (done ++ l ∷ []) (n + 1) hs) is ∙ stop o (sym (ap (λ (o : Option Line). cond (is_none o) (Some n) (position_from (is_unknown names) (n + 1) hs)) is) ∙ there)
+      where
+        stop : (o : Option Line) → cond (is_none o) (Some n) (position_from (is_unknown names) (n + 1) hs) ≡ Some m → (option_or_err n o >>= λ l. script_from names (done ++ l ∷ []) (n + 1) hs) ≡ Err m
+        stop None here = let same : n ≡ m = cc in ap Err same
+        stop (Some l) later = rest l later
 
-scripts_stop_again : (names : List (List ℕ)) (fronts : List Tree) (t : Tree) (more : List Tree) (done : List (List Line)) (f : ℕ) → AllByRecursion (λ (t : Tree). AreKnown names t.happenings) fronts → (u : UnknownIn names t.happenings)
-    → scripts_from names done f (map body_of_tree (fronts ++ t ∷ more)) ≡ Err (UnknownTask, f + length fronts, 3 + length t.tasks + length u.before)
+scripts_stop_again : (names : List (List ℕ)) (ts : List Tree) (g : ℕ) (t : Tree) (done : List (List Line)) (f n : ℕ) → slice_get ts g ≡ Some t → AllByRecursion (λ (t : Tree). AreKnown names t.happenings) (take g ts)
+    → position_from (is_unknown names) (3 + length t.tasks) t.happenings ≡ Some n → scripts_from names done f (map body_of_tree ts) ≡ Err (UnknownTask, f + g, n)
 unfolding scripts_from
-scripts_stop_again names [] t more done f known u =
-    let s = ap (script_from names [] (3 + length t.tasks)) u.happenings_are ∙ script_stop_again names u.before u.happening u.after [] (3 + length t.tasks) u.known u.unknown in
-    ap (λ (r : Result (List Line) ℕ). unknown_in f r >>= λ s. scripts_from names (done ++ s ∷ []) (f + 1) (map body_of_tree more)) s ∙ ap (λ (g : ℕ). Err (UnknownTask, g, 3 + length t.tasks + length u.before)) (omega arith)
-scripts_stop_again names (x ∷ xs) t more done f known u =
-    ap (λ (r : Result (List Line) ℕ). unknown_in f r >>= λ s. scripts_from names (done ++ s ∷ []) (f + 1) (map body_of_tree (xs ++ t ∷ more))) (script_again names x.happenings [] (3 + length x.tasks) known.0)
-    ∙ scripts_stop_again names xs t more (done ++ script_of names x ∷ []) (f + 1) known.1 u ∙ ap (λ (g : ℕ). Err (UnknownTask, g, 3 + length t.tasks + length u.before)) (omega arith)
+scripts_stop_again names [] g t done f n is known there = absurd cc
+scripts_stop_again names (x ∷ xs) zero t done f n is known there =
+    let same : t ≡ x = cc in
+    let s = script_stop_again names x.happenings [] (3 + length x.tasks) n (subst (λ (y : Tree). position_from (is_unknown names) (3 + length y.tasks) y.happenings ≡ Some n) same there) in
+    ap (λ (r : Result (List Line) ℕ). unknown_in f r >>= λ s. scripts_from names (done ++ s ∷ []) (f + 1) (map body_of_tree xs)) s ∙ ap (λ (g : ℕ). Err (UnknownTask, g, n)) (omega arith)
+scripts_stop_again names (x ∷ xs) (suc g) t done f n is known there =
+    ap (λ (r : Result (List Line) ℕ). unknown_in f r >>= λ s. scripts_from names (done ++ s ∷ []) (f + 1) (map body_of_tree xs)) (script_again names x.happenings [] (3 + length x.tasks) known.0)
+    ∙ scripts_stop_again names xs g t (done ++ script_of names x ∷ []) (f + 1) n is known.1 there ∙ ap (λ (g : ℕ). Err (UnknownTask, g, n)) (omega arith)
 
 unknown_again : (files : List (List ℕ)) (f n : ℕ) → 1 ≤ length files → length files ≤ 64 → UnknownFault files f n → plan_from files ≡ Err (UnknownTask, f, n)
 unfolding plan_from
 unknown_again files f n some few u =
-    let read : read_from (record { declared = []; files = [] }) 0 files ≡ Ok (record { declared = all_tasks u.trees; files = map body_of_tree u.trees }) = ap (read_from (record { declared = []; files = [] }) 0) u.texts ∙ files_again u.trees (record { declared = []; files = [] }) 0 u.trees_are in
+    let read : read_from (record { declared = []; files = [] }) 0 files ≡ Ok (record { declared = all_tasks u.trees; files = map body_of_tree u.trees }) = ap (read_from (record { declared = []; files = [] }) 0) u.texts ∙ files_again u.trees (record { declared = []; files = [] }) 0 u.together in
     let stop : scripts_from (names_of (all_tasks u.trees)) [] 0 (map body_of_tree u.trees) ≡ Err (UnknownTask, f, n) =
-    ap (λ (ts : List Tree). scripts_from (names_of (all_tasks u.trees)) [] 0 (map body_of_tree ts)) u.split
-    ∙ scripts_stop_again (names_of (all_tasks u.trees)) u.fronts u.tree u.more [] 0 u.known u.unknown
-    ∙ ap (λ (g : ℕ). Err (UnknownTask, g, 3 + length u.tree.tasks + length u.unknown.before)) (omega (arith, u.file))
-    ∙ ap (λ (m : ℕ). Err (UnknownTask, f, m)) (sym u.line) in
+    scripts_stop_again (names_of (all_tasks u.trees)) u.trees f u.tree [] 0 n u.is u.before u.first ∙ ap (λ (g : ℕ). Err (UnknownTask, g, n)) (omega arith) in
     rw (le-ltb 64 (length files) few, not_zero (length files) some, read, stop) refl
+
+-- a list by one of its elements
+pub parts_at : {X : Type 0} (xs : List X) (i : ℕ) (x : X) → slice_get xs i ≡ Some x → xs ≡ take i xs ++ x ∷ drop (suc i) xs
+parts_at [] i x is = absurd cc
+parts_at (y ∷ ys) zero x is = let same : y ≡ x = cc in ap (λ z. z ∷ ys) same
+parts_at (y ∷ ys) (suc i) x is = ap (λ l. y ∷ l) (parts_at ys i x is)
 
 -- the fault that the definitions say is the one that reading gives
 pub plan_fault_again : (files : List (List ℕ)) (k : Kind) (f n : ℕ) → IsFault files k f n → plan_from files ≡ Err (k, f, n)
@@ -150,7 +161,11 @@ unfolding plan_from
 plan_fault_again files _ _ _ (too_many h) = rw (lt-ltb 64 (length files) h) refl
 plan_fault_again files _ _ _ (no_file h) = rw (h) refl
 plan_fault_again files _ _ _ (first k f n some few x) =
-    let stop : read_from (record { declared = []; files = [] }) 0 files ≡ Err (k, f, n) =
-    ap (read_from (record { declared = []; files = [] }) 0) x.files_are ∙ first_fault_again x.fronts (record { declared = []; files = [] }) 0 x.bytes x.more k n x.fronts_are x.fault ∙ ap (λ (g : ℕ). Err (k, g, n)) (omega (arith, x.file)) in
+    let none : AllRead = record { declared = []; files = [] } in
+    let within = slice_get_within files f x.bytes x.is in
+    let file : f ≡ length x.fronts = sym (length-take-le f files (omega (arith, within))) ∙ ap length x.texts ∙ length-map x.fronts text in
+    let stop : read_from none 0 files ≡ Err (k, f, n) =
+    ap (read_from none 0) (parts_at files f x.bytes x.is ∙ ap (λ (fs : List (List ℕ)). fs ++ x.bytes ∷ drop (suc f) files) x.texts)
+    ∙ first_fault_again x.fronts none 0 x.bytes (drop (suc f) files) k n x.together x.fault ∙ ap (λ (g : ℕ). Err (k, g, n)) (omega (arith, file)) in
     rw (le-ltb 64 (length files) few, not_zero (length files) some, stop) refl
 plan_fault_again files _ _ _ (unknown f n some few x) = unknown_again files f n some few x

@@ -1,11 +1,11 @@
 -- The two laws of reading a file: what is read is the text of a tree, and a fault is the first one.
 use Rattle.grub_trace.specs.Meaning.{IsTree}
 use Rattle.std.proofs.Common.{◌≡◌, ℕ, ◌+◌, ◌-◌, ◌^◌, ◌<◌, Bool, true, false, cond, eqb, ◌⊎◌, inl, inr, List, [], ◌∷◌, ◌++◌, length, map, Option, Some, None, Result, Ok, Err, refl, ap, ◌∙◌, sym, arith, subst, append_assoc}
-use Rattle.std.specs.Prelude.{codes, decimal}
+use Rattle.std.specs.Prelude.{bytes_eq, codes, decimal, slice_index_or}
 use Rattle.std.specs.List.{join_with_byte, flat_map, list_all}
 use Rattle.std.proofs.lemmas.List.{append-nil, length-append, length-map, map-append}
 use Rattle.grub_trace.specs.inside.Reading.{times_of}
-use Rattle.grub_trace.specs.Faults.{line_fault, queue_fault, queue_form_fault, begins_with_queue, capacity_fits}
+use Rattle.grub_trace.specs.Faults.{line_fault, queue_fault, queue_form_fault, capacity_fits}
 use Rattle.grub_trace.specs.Forms.{Form, queue, task, at_moment, form_of, words_of, version_of, is_number, value, capacity_value, parts_of}
 use Rattle.grub_trace.proofs.WordLemmas.{has_part}
 use Rattle.std.proofs.lemmas.List.Splits.{join_with_byte-slice_split}
@@ -31,7 +31,7 @@ pub record IsQueueLine (l : List ℕ) (q : Capacity) : Type 0 where
   pub fits : IsCapacity q
 
 pub small_queue : (c : Capacity) → IsCapacity c → (c.most < 2 ^ 64) × (c.extra < 2 ^ 64)
-small_queue c is = (omega (arith, is.most_most), omega (arith, is.most_most, is.extra_most))
+small_queue c is = (omega (arith, is.most.1), omega (arith, is.most.1, is.extra))
 
 queue_form : (l : List ℕ) (o : Option Form) (q : Capacity) → form_of (words_of l) ≡ o → queue_form_fault o ≡ None → queue_of o ≡ q → IsQueueLine l q
 queue_form l None q is none e = absurd cc
@@ -54,7 +54,7 @@ queue_form l (Some (queue a b)) q is none e =
 pub queue_line : (l : List ℕ) (q : Capacity) → read_queue l ≡ Ok q → IsQueueLine l q
 queue_line l q e =
     let u = unless_ok (queue_fault l) (queue_of (form_of (words_of l))) q e in
-    let v = none_if (begins_with_queue (words_of l)) MissingQueue _ u.0 in
+    let v = none_if (bytes_eq (slice_index_or (words_of l) 0 []) (codes "queue")) MissingQueue _ u.0 in
     queue_form l (form_of (words_of l)) q refl v.1 u.1
 
 -- ---- the first two lines

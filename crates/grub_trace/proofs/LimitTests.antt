@@ -9,10 +9,10 @@ pub capacity_is : (c : Capacity) → capacity_fits c ≡ true → IsCapacity c
 capacity_is c h =
     let x = and_parts (nat_le 1 c.most && nat_le c.most (2 ^ 20)) (nat_le c.extra c.most) h in
     let y = and_parts (nat_le 1 c.most) (nat_le c.most (2 ^ 20)) x.0 in
-    record { most_some = leb-true _ _ y.0; most_most = leb-true _ _ y.1; extra_most = leb-true _ _ x.1 }
+    record { most = (leb-true _ _ y.0, leb-true _ _ y.1); extra = leb-true _ _ x.1 }
 
 pub capacity_test : (c : Capacity) → IsCapacity c → capacity_fits c ≡ true
-capacity_test c is = rw (le-leb _ _ is.most_some, le-leb _ _ is.most_most, le-leb _ _ is.extra_most) refl
+capacity_test c is = rw (le-leb _ _ is.most.0, le-leb _ _ is.most.1, le-leb _ _ is.extra) refl
 
 pub reservation_is : (p : Reservation) → reservation_fits p ≡ true → IsReservation p
 reservation_is p h =
@@ -20,7 +20,7 @@ reservation_is p h =
     let b = and_parts (nat_le 1 p.period && nat_le p.period (2 ^ 24) && nat_le 1 p.runtime) (nat_le p.runtime p.period) a.0 in
     let d = and_parts (nat_le 1 p.period && nat_le p.period (2 ^ 24)) (nat_le 1 p.runtime) b.0 in
     let e = and_parts (nat_le 1 p.period) (nat_le p.period (2 ^ 24)) d.0 in
-    record { period_some = leb-true _ _ e.0; period_most = leb-true _ _ e.1; runtime_some = leb-true _ _ d.1; runtime_most = leb-true _ _ b.1; bandwidth_some = leb-true _ _ a.1 }
+    record { period = (leb-true _ _ e.0, leb-true _ _ e.1); runtime = (leb-true _ _ d.1, leb-true _ _ b.1); bandwidth = leb-true _ _ a.1 }
 
 pub reservation_test : (p : Reservation) → IsReservation p → reservation_fits p ≡ true
-reservation_test p is = rw (le-leb _ _ is.period_some, le-leb _ _ is.period_most, le-leb _ _ is.runtime_some, le-leb _ _ is.runtime_most, le-leb _ _ is.bandwidth_some) refl
+reservation_test p is = rw (le-leb _ _ is.period.0, le-leb _ _ is.period.1, le-leb _ _ is.runtime.0, le-leb _ _ is.runtime.1, le-leb _ _ is.bandwidth) refl

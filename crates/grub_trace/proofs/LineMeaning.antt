@@ -54,7 +54,7 @@ passes version names moments f e =
     record { allowed = a.0; spelled = b.0; in_range = c.0; fresh = d.0; timely = g.0 }
 
 pub small_period : (p : Reservation) → IsReservation p → (p.runtime < 2 ^ 64) × (p.period < 2 ^ 64)
-small_period p is = (omega (arith, is.runtime_most, is.period_most), omega (arith, is.period_most))
+small_period p is = (omega (arith, is.runtime.1, is.period.1), omega (arith, is.period.1))
 
 pub small_moment : (m : ℕ) → is_moment m ≡ true → m < 2 ^ 64
 small_moment m h = grind (arith, nat_tests)

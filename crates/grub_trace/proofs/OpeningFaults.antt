@@ -2,6 +2,7 @@
 use Rattle.std.proofs.Common.{◌≡◌, ℕ, zero, suc, All, ◌++◌, refl, ◌+◌, ◌-◌, ◌<◌, ◌≤◌, ◌⊎◌, inl, inr, List, [], ◌∷◌, length, get_or, drop, Result, Ok, Err, sym, ap, ◌∙◌, arith}
 use Rattle.std.specs.Global.{Vec}
 use Rattle.std.proofs.lemmas.List.Elements.{All-head, All-tail}
+use Rattle.std.proofs.lemmas.Option.{slice_get_within}
 use Rattle.grub_bw.specs.Bandwidth.{Capacity}
 use Rattle.grub_trace.specs.declared.version.Version.{Version}
 use Rattle.grub_trace.specs.declared.fault.Kind.{Kind}
@@ -20,7 +21,7 @@ use Rattle.grub_trace.proofs.LinesInTurn.{broke}
 use Rattle.grub_trace.proofs.FilesInTurn.{drop_item, files_done}
 use Rattle.grub_trace.proofs.HeadLaws.{HeadsOn, none_before}
 use Rattle.grub_trace.proofs.PlanLaws.{of_file_err, files_fault}
-use Rattle.grub_trace.proofs.FaultsAreGiven.{file_fault_again}
+use Rattle.grub_trace.proofs.FaultsAreGiven.{file_fault_again, parts_at}
 
 -- ---- the first two lines
 
@@ -110,7 +111,7 @@ opens_first files k n h =
     let none : AllRead = record { declared = []; files = [] } in
     let file : read_file [] h.bytes ≡ Err (k, n) = file_fault_again [] h.bytes k n (as_file h.bytes h.fault) in (
       soon h.bytes h.fault,
-      ap (λ (fs : List (List ℕ)). read_from none 0 fs) h.files_are ∙ ap (λ (r : Result FileRead (Kind × ℕ)). of_file 0 r >>= λ r. read_from (with_file none r) (0 + 1) h.more) file,
+      ap (λ (fs : List (List ℕ)). read_from none 0 fs) (parts_at files 0 h.bytes h.is) ∙ ap (λ (r : Result FileRead (Kind × ℕ)). of_file 0 r >>= λ r. read_from (with_file none r) (0 + 1) (drop 1 files)) file,
     )
   where
     as_file : (bytes : List ℕ) → HeaderFault bytes k n ⊎ QueueFault bytes k n → FileFault [] bytes k n
@@ -125,5 +126,4 @@ pub opening_if : {X : Type 0} (files : List (List ℕ)) (r : Result X TraceFault
     → (k : Kind) (n : ℕ) → OpeningFault files k n → r ≡ Err (fault.At k 0 n)
 opening_if files r answers k n h =
     let first = opens_first files k n h in
-    let some : 0 < length files = omega (arith, ap length h.files_are) in
-    answers some h.few k n first.0 first.1
+    answers (slice_get_within files 0 h.bytes h.is) h.few k n first.0 first.1

@@ -1,9 +1,9 @@
 -- The laws of reading all files.
-use Rattle.std.proofs.Common.{◌≡◌, ℕ, suc, ◌+◌, ◌<◌, ◌≤◌, Bool, true, false, cond, eqb, ltb, ◌⊎◌, inl, inr, List, [], ◌∷◌, ◌++◌, length, map, Option, Some, None, Result, Ok, Err, refl, ap, ◌∙◌, sym, arith, subst, append_assoc}
-use Rattle.std.specs.Prelude.{IsSome}
-use Rattle.std.specs.List.{filter_map, AllByRecursion, cons_option}
+use Rattle.std.proofs.Common.{◌≡◌, ℕ, zero, suc, ◌+◌, ◌<◌, ◌≤◌, Bool, true, false, cond, eqb, ltb, ◌⊎◌, inl, inr, List, [], ◌∷◌, ◌++◌, length, map, take, is_none, Option, Some, None, Result, Ok, Err, refl, ap, ◌∙◌, sym, arith, subst, append_assoc}
+use Rattle.std.specs.Prelude.{IsSome, slice_get}
+use Rattle.std.specs.List.{filter_map, AllByRecursion, cons_option, position_from}
 use Rattle.std.proofs.lemmas.Bool.{eqb-true, eqb-false, ltb-true, ltb-false}
-use Rattle.std.proofs.lemmas.List.{append-nil, length-map, map-append}
+use Rattle.std.proofs.lemmas.List.{append-nil, map-append, take-map}
 use Rattle.grub_bw.specs.Bandwidth.{Capacity}
 use Rattle.grub_trace.specs.declared.fault.Kind.{Kind}
 use Rattle.grub_trace.specs.declared.fault.Kind.TheVariants.{UnknownTask, OutOfRange, MissingQueue}
@@ -11,7 +11,7 @@ use Rattle.grub_trace.specs.Tree.{Declaration, Happening, Tree, text, names_of}
 use Rattle.grub_plan.specs.Plans.{Line, PlanView}
 use Rattle.grub_trace.specs.Naming.{line_in, script_of, all_tasks, plan_of, plan_with}
 use Rattle.grub_trace.specs.Meaning.{AreKnown, Reads, AreTrees}
-use Rattle.grub_trace.specs.FirstFault.{FileFault, UnknownIn, FirstFault, UnknownFault, IsFault, too_many, no_file, first, unknown}
+use Rattle.grub_trace.specs.FirstFault.{FileFault, FirstFault, UnknownFault, IsFault, too_many, no_file, first, unknown}
 use Rattle.grub_trace.specs.inside.Reading.{AllRead, FileRead, Body, body_of, with_file, of_file, read_file, read_from, ◌>>=◌, script_from, option_or_err, scripts_from, unknown_in, plan_from, plan_of_read}
 use Rattle.grub_trace.proofs.LineLemmas.{bind_err, bind_ok, same_error, same_value}
 use Rattle.grub_trace.proofs.FileLaws.{file_read, file_fault, FileIs}
@@ -32,27 +32,19 @@ script_read names (m ∷ more) done s n e = go (λ l h. script_read names more (
           (subst (λ (o : Option Line). IsSome o) (sym is) refl, h.1),
         )
 
-pub script_stops : (names : List (List ℕ)) (ms : List Happening) (done : List Line) (n m : ℕ) → script_from names done n ms ≡ Err m → (u : UnknownIn names ms) × (m ≡ n + length u.before)
+-- a line names a task that is not declared
+abbrev pub is_unknown : List (List ℕ) → Happening → Bool
+is_unknown names h = is_none (line_in names h)
+
+pub script_stops : (names : List (List ℕ)) (ms : List Happening) (done : List Line) (n m : ℕ) → script_from names done n ms ≡ Err m → position_from (is_unknown names) n ms ≡ Some m
 unfolding script_from
 script_stops names [] done n m e = absurd cc
 script_stops names (x ∷ more) done n m e = go (λ l h. script_stops names more (done ++ l ∷ []) (n + 1) m h) (line_in names x) refl e
   where
-    go : ((l : Line) → script_from names (done ++ l ∷ []) (n + 1) more ≡ Err m → (u : UnknownIn names more) × (m ≡ n + 1 + length u.before))
-        → (o : Option Line) → line_in names x ≡ o → (option_or_err n o >>= λ l. script_from names (done ++ l ∷ []) (n + 1) more) ≡ Err m → (u : UnknownIn names (x ∷ more)) × (m ≡ n + length u.before)
-    go rest None is e = (record { before = []; happening = x; after = more; happenings_are = refl; known = tt; unknown = is }, let h : n ≡ m = cc in omega (arith, h))
-    go rest (Some l) is e =
-        let h = rest l e in
-        let u = h.0 in (
-          record {
-            before = x ∷ u.before;
-            happening = u.happening;
-            after = u.after;
-            happenings_are = ap (λ (xs : List Happening). x ∷ xs) u.happenings_are;
-            known = (subst (λ (o : Option Line). IsSome o) (sym is) refl, u.known);
-            unknown = u.unknown;
-          },
-          omega (arith, h.1),
-        )
+    go : ((l : Line) → script_from names (done ++ l ∷ []) (n + 1) more ≡ Err m → position_from (is_unknown names) (n + 1) more ≡ Some m)
+        → (o : Option Line) → line_in names x ≡ o → (option_or_err n o >>= λ l. script_from names (done ++ l ∷ []) (n + 1) more) ≡ Err m → position_from (is_unknown names) n (x ∷ more) ≡ Some m
+    go rest None is e = ap (λ o. cond (is_none o) (Some n) (position_from (is_unknown names) (n + 1) more)) is ∙ (let h : n ≡ m = cc in ap Some h)
+    go rest (Some l) is e = ap (λ o. cond (is_none o) (Some n) (position_from (is_unknown names) (n + 1) more)) is ∙ rest l e
 
 unknown_ok : {X : Type 0} (f : ℕ) (r : Result X ℕ) (x : X) → unknown_in f r ≡ Ok x → r ≡ Ok x
 unknown_ok f (Ok y) x e = let h : y ≡ x = cc in ap Ok h
@@ -70,14 +62,10 @@ scripts_read names (b ∷ more) done ss f e =
 -- where the scripts stop
 pub record ScriptsStop (names : List (List ℕ)) (bs : List Body) (k : Kind) (g n : ℕ) : Type 0 where
   pub kind : k ≡ UnknownTask
-  pub fronts : List Body
   pub body : Body
-  pub more : List Body
-  pub split : bs ≡ fronts ++ body ∷ more
-  pub known : AllByRecursion (λ (b : Body). AreKnown names b.happenings) fronts
-  pub file : g ≡ length fronts
-  pub unknown : UnknownIn names body.happenings
-  pub line : n ≡ body.first + length unknown.before
+  pub is : slice_get bs g ≡ Some body
+  pub before : AllByRecursion (λ (b : Body). AreKnown names b.happenings) (take g bs)
+  pub first : position_from (is_unknown names) body.first body.happenings ≡ Some n
 
 abbrev Where : Type 0
 Where = Kind × ℕ × ℕ
@@ -94,12 +82,11 @@ scripts_stops names [] done f k g n e = absurd cc
 scripts_stops names (b ∷ more) done f k g n e =
     elim (bind_err (unknown_in f (script_from names [] b.first b.happenings)) (λ s. scripts_from names (done ++ s ∷ []) (f + 1) more) (k, g, n) e) [
       | inl x ↦ let u = unknown_err f (script_from names [] b.first b.happenings) k g n x in
-          let s = script_stops names b.happenings [] b.first n u.0 in
-          (0, record { kind = u.1; fronts = []; body = b; more = more; split = refl; known = tt; file = refl; unknown = s.0; line = s.1 }, omega (arith, u.2))
+          (0, record { kind = u.1; body = b; is = refl; before = tt; first = script_stops names b.happenings [] b.first n u.0 }, omega (arith, u.2))
       | inr x ↦ let s = script_read names b.happenings [] x.0 b.first (unknown_ok f (script_from names [] b.first b.happenings) x.0 x.1) in
           let h = scripts_stops names more (done ++ x.0 ∷ []) (f + 1) k g n x.2 in
           let u = h.1 in
-          (suc h.0, record { kind = u.kind; fronts = b ∷ u.fronts; body = u.body; more = u.more; split = ap (λ (xs : List Body). b ∷ xs) u.split; known = (s.1, u.known); file = ap suc u.file; unknown = u.unknown; line = u.line }, omega (arith, h.2))
+          (suc h.0, record { kind = u.kind; body = u.body; is = u.is; before = (s.1, u.before); first = u.first }, omega (arith, h.2))
     ]
 
 -- ---- files
@@ -156,11 +143,10 @@ files_fault (bytes ∷ more) all f k g n e =
         0,
         record {
           fronts = [];
+          texts = refl;
+          together = tt;
           bytes = bytes;
-          more = more;
-          files_are = refl;
-          fronts_are = tt;
-          file = refl;
+          is = refl;
           fault = subst (λ (ns : List (List ℕ)). FileFault ns bytes k n) (sym (append-nil (names_of all.declared))) (file_fault all.declared bytes k n u.0);
         },
         omega (arith, u.1),
@@ -172,11 +158,10 @@ files_fault (bytes ∷ more) all f k g n e =
             suc h.0,
             record {
               fronts = t.tree ∷ u.fronts;
+              texts = ap (λ (x : List ℕ). x ∷ take h.0 more) t.whole ∙ ap (λ (xs : List (List ℕ)). text t.tree ∷ xs) u.texts;
+              together = (t.is, subst (λ (ns : List (List ℕ)). AreTrees ns u.fronts) ns u.together);
               bytes = u.bytes;
-              more = u.more;
-              files_are = ap (λ (x : List ℕ). x ∷ more) t.whole ∙ ap (λ (xs : List (List ℕ)). text t.tree ∷ xs) u.files_are;
-              fronts_are = (t.is, subst (λ (ns : List (List ℕ)). AreTrees ns u.fronts) ns u.fronts_are);
-              file = ap suc u.file;
+              is = u.is;
               fault = subst (λ (ns : List (List ℕ)). FileFault ns u.bytes k n)
                   (ap (λ (xs : List (List ℕ)). xs ++ names_of (all_tasks u.fronts)) ns ∙ append_assoc (names_of all.declared) (names_of t.tree.tasks) (names_of (all_tasks u.fronts)) ∙ ap (λ (xs : List (List ℕ)). names_of all.declared ++ xs) (sym (map-append (λ (d : Declaration). d.name) t.tree.tasks (all_tasks u.fronts)))) u.fault;
             },
@@ -198,16 +183,11 @@ pub queues_are : (ts : List Tree) → map (λ (b : Body). b.queue) (map body_of_
 queues_are [] = refl
 queues_are (t ∷ ts) = ap (λ (xs : List Capacity). t.queue ∷ xs) (queues_are ts)
 
--- bodies in two parts are trees in two parts
-split_trees : (ts : List Tree) (fronts : List Body) (b : Body) (more : List Body) → map body_of_tree ts ≡ fronts ++ b ∷ more → (us : List Tree) × (t : Tree) × (vs : List Tree) × (ts ≡ us ++ t ∷ vs) × (map body_of_tree us ≡ fronts) × (body_of_tree t ≡ b)
-split_trees [] [] b more e = absurd cc
-split_trees [] (x ∷ xs) b more e = absurd cc
-split_trees (t ∷ ts) [] b more e = ([], t, ts, refl, refl, cc)
-split_trees (t ∷ ts) (x ∷ xs) b more e =
-    let rest : map body_of_tree ts ≡ xs ++ b ∷ more = cc in
-    let here : body_of_tree t ≡ x = cc in
-    let h = split_trees ts xs b more rest in
-    (t ∷ h.0, h.1, h.2, ap (λ (ys : List Tree). t ∷ ys) h.3, ap (λ (ys : List Body). body_of_tree t ∷ ys) h.4 ∙ ap (λ (y : Body). y ∷ xs) here, h.5)
+-- the tree of a body
+tree_at : (ts : List Tree) (i : ℕ) (b : Body) → slice_get (map body_of_tree ts) i ≡ Some b → (t : Tree) × (slice_get ts i ≡ Some t) × (body_of_tree t ≡ b)
+tree_at [] i b e = absurd cc
+tree_at (t ∷ ts) zero b e = (t, refl, cc)
+tree_at (t ∷ ts) (suc i) b e = tree_at ts i b e
 
 -- what the first two tests leave
 counts : (files : List (List ℕ)) (p : Result PlanView Where) → plan_from files ≡ p → ((64 < length files) × (p ≡ Err (OutOfRange, 64, 1))) ⊎ ((length files ≡ 0) × (p ≡ Err (MissingQueue, 0, 1))) ⊎ ((1 ≤ length files) × (length files ≤ 64) × ((read_from (record { declared = []; files = [] }) 0 files >>= λ all. plan_of_read all) ≡ p))
@@ -284,29 +264,20 @@ plan_fault files k f n e =
           | inl x ↦
               let u = scripts_stops (names_of all.declared) all.files [] 0 k f n x in
               let v = u.1 in
-              let s = split_trees t.trees v.fronts v.body v.more (sym t.bodies_are ∙ v.split) in
+              let same : u.0 ≡ f = omega (arith, u.2) in
               let names : names_of all.declared ≡ names_of (all_tasks t.trees) = ap names_of t.declared_is in
-              let known = known_bodies (names_of all.declared) s.0 (subst (λ (bs : List Body). AllByRecursion (λ (b : Body). AreKnown (names_of all.declared) b.happenings) bs) (sym s.4) v.known) in (
+              let s = tree_at t.trees u.0 v.body (ap (λ (bs : List Body). slice_get bs u.0) (sym t.bodies_are) ∙ v.is) in
+              let before = subst (λ (bs : List Body). AllByRecursion (λ (b : Body). AreKnown (names_of all.declared) b.happenings) bs) (ap (take u.0) t.bodies_are ∙ take-map body_of_tree u.0 t.trees) v.before in
+              let first = subst (λ (b : Body). position_from (is_unknown (names_of all.declared)) b.first b.happenings ≡ Some n) (sym s.2) v.first in (
                 v.kind,
-                record {
+                subst (λ (i : ℕ). UnknownFault files i n) same (record {
                   trees = t.trees;
                   texts = t.texts;
-                  trees_are = t.trees_are;
-                  fronts = s.0;
-                  tree = s.1;
-                  more = s.2;
-                  split = s.3;
-                  file = omega (arith, u.2, v.file, ap length s.4, length-map s.0 body_of_tree);
-                  known = subst (λ (ns : List (List ℕ)). AllByRecursion (λ (t : Tree). AreKnown ns t.happenings) s.0) names known;
-                  unknown = record {
-                    before = v.unknown.before;
-                    happening = v.unknown.happening;
-                    after = v.unknown.after;
-                    happenings_are = ap (λ (b : Body). b.happenings) s.5 ∙ v.unknown.happenings_are;
-                    known = subst (λ (ns : List (List ℕ)). AreKnown ns v.unknown.before) names v.unknown.known;
-                    unknown = subst (λ (ns : List (List ℕ)). line_in ns v.unknown.happening ≡ None) names v.unknown.unknown;
-                  };
-                  line = v.line ∙ ap (λ (b : Body). b.first + length v.unknown.before) (sym s.5);
-                },
+                  together = t.trees_are;
+                  tree = s.0;
+                  is = s.1;
+                  before = subst (λ (ns : List (List ℕ)). AllByRecursion (λ (t : Tree). AreKnown ns t.happenings) (take u.0 t.trees)) names (known_bodies (names_of all.declared) (take u.0 t.trees) before);
+                  first = subst (λ (ns : List (List ℕ)). position_from (is_unknown ns) (3 + length s.0.tasks) s.0.happenings ≡ Some n) names first;
+                }),
               )
         ]

@@ -1,7 +1,7 @@
 -- A printed line is read again.
 use Rattle.std.proofs.Common.{◌≡◌, ℕ, zero, suc, ◌^◌, ◌<◌, Bool, true, false, not, ◌&&◌, ◌||◌, cond, eqb, List, [], ◌∷◌, ◌++◌, length, get_or, Option, Some, None, Ok, option_map, refl, ap, ◌∙◌, arith, rules}
-use Rattle.std.proofs.lemmas.Bool.{and_parts, le-leb}
-use Rattle.std.specs.Prelude.{codes, decimal, nat_le}
+use Rattle.std.proofs.lemmas.Bool.{and_parts, le-leb, ne_eqb}
+use Rattle.std.specs.Prelude.{bytes_eq, codes, decimal, slice_index_or, nat_le}
 use Rattle.std.specs.Char.{is_ascii_digit}
 use Rattle.std.specs.List.{list_all, join_with_byte, AllByRecursion}
 use Rattle.std.proofs.lemmas.List.Splits.{slice_split_at, slice_split_none}
@@ -19,7 +19,7 @@ use Rattle.grub_plan.specs.declared.line.Act.{Act}
 use Rattle.grub_plan.specs.declared.line.Act.TheVariants as act
 use Rattle.grub_plan.specs.Names.{is_name, is_name_byte}
 use Rattle.grub_trace.specs.Tree.{Declaration, Happening, act_words, queue_words, is_moment, names_of}
-use Rattle.grub_trace.specs.Faults.{form_fault, last_of, queue_fault, queue_form_fault, begins_with_queue, is_allowed, is_in_range, is_fresh, is_timely}
+use Rattle.grub_trace.specs.Faults.{form_fault, last_of, queue_fault, queue_form_fault, is_allowed, is_in_range, is_fresh, is_timely}
 use Rattle.grub_trace.specs.Forms.{Form, queue, task, at_moment, words_of, form_of, is_filled, act_of, is_number, value, numbers_of}
 use Rattle.grub_trace.specs.inside.Reading.{Read, act_map, take_line, take_option, ok_unless, adds, declares, says, times_of, read_queue, queue_of}
 use Rattle.grub_trace.specs.Meaning.{IsAct, IsHappeningFrom, IsDeclaration}
@@ -141,13 +141,16 @@ one_number m h = rw (number_again m h) refl
 taken_form : (r : Read) (line : List ℕ) (f : Form) → form_of (words_of line) ≡ Some f → form_fault r.version (names_of r.declared) (times_of r.happenings) f ≡ None → take_line r line ≡ Ok (adds f r)
 taken_form r line f is none = ap (take_option r) is ∙ ap (λ (o : Option Kind). ok_unless o (adds f r)) none
 
+filled_cons : (c : ℕ) (cs : List ℕ) → is_filled (c ∷ cs) ≡ true
+filled_cons c cs = ap not (ne_eqb (length (c ∷ cs)) 0 (λ e. cc))
+
 name_filled : (w : List ℕ) → is_name w ≡ true → is_filled w ≡ true
 name_filled [] h = absurd cc
-name_filled (c ∷ cs) h = refl
+name_filled (c ∷ cs) h = filled_cons c cs
 
 number_filled : (w : List ℕ) → is_number w ≡ true → is_filled w ≡ true
 number_filled [] h = absurd cc
-number_filled (c ∷ cs) h = refl
+number_filled (c ∷ cs) h = filled_cons c cs
 
 decimal_filled : (n : ℕ) → n < 2 ^ 64 → is_filled (decimal n) ≡ true
 decimal_filled n h = number_filled (decimal n) (number_again n h)
@@ -264,7 +267,7 @@ queue_again c hu hx fits =
     let form : form_of (words_of (join_with_byte 32 (queue_words c))) ≡ Some (queue (decimal u) (decimal x)) = ap form_of words ∙ queue_form (decimal u) (decimal x) (decimal_filled u hu) (decimal_filled x hx) in
     let right : queue_form_fault (Some (queue (decimal u) (decimal x))) ≡ None = rw (number_again u hu, number_again x hx, value_again u hu, value_again x hx, capacity_test c fits) refl in
     let none : queue_fault (join_with_byte 32 (queue_words c)) ≡ None =
-    ap (λ (ws : List (List ℕ)). cond (not (begins_with_queue ws)) (Some MissingQueue) (queue_form_fault (form_of ws))) words
+    ap (λ (ws : List (List ℕ)). cond (not (bytes_eq (slice_index_or ws 0 []) (codes "queue"))) (Some MissingQueue) (queue_form_fault (form_of ws))) words
     ∙ ap queue_form_fault (queue_form (decimal u) (decimal x) (decimal_filled u hu) (decimal_filled x hx)) ∙ right in
     ap (λ (o : Option Kind). ok_unless o (queue_of (form_of (words_of (join_with_byte 32 (queue_words c)))))) none
     ∙ ap (λ (o : Option Form). Ok (queue_of o)) form

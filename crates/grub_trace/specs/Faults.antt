@@ -1,5 +1,5 @@
 -- What is wrong with a line, where the lines before it are as they should be.
-use Rattle.std.specs.Prelude.{ℕ, Bool, true, false, not, ◌&&◌, nat_le, nat_lt, ◌==◌, List, [], ◌∷◌, length, codes, Option, Some, None, if◌then◌else◌, is_none, slice_index, ◌-◌, ◌^◌}
+use Rattle.std.specs.Prelude.{ℕ, Bool, true, false, not, ◌&&◌, nat_le, nat_lt, ◌==◌, List, [], ◌∷◌, length, codes, Option, Some, None, if◌then◌else◌, is_none, slice_index, slice_index_or, option_map, unwrap_or, ◌-◌, ◌^◌}
 use Rattle.std.specs.List.{list_all}
 use Rattle.std.specs.Str.{bytes_eq}
 use Rattle.grub_bw.specs.Bandwidth.{Reservation, Capacity, bandwidth_of}
@@ -56,13 +56,9 @@ form_fault version names moments f =
     else (if not (is_fresh names f) then Some DuplicateTask
     else (if not (is_timely moments f) then Some MomentGoesBack else None))))
 
--- the same of a line; what fits no form is a bad line
-abbrev pub fault_of_form : Version → List (List ℕ) → List ℕ → Option Form → Option Kind
-fault_of_form version names moments None = Some BadLine
-fault_of_form version names moments (Some f) = form_fault version names moments f
-
+-- the first test that a line fails; what fits no form is a bad line
 abbrev pub line_fault : Version → List (List ℕ) → List ℕ → List ℕ → Option Kind
-line_fault version names moments line = fault_of_form version names moments (form_of (words_of line))
+line_fault version names moments line = unwrap_or (option_map (form_fault version names moments) (form_of (words_of line))) (Some BadLine)
 
 -- ---- the first two lines
 
@@ -70,12 +66,9 @@ abbrev pub queue_form_fault : Option Form → Option Kind
 queue_form_fault (Some (queue a b)) = if not (list_all is_number (a ∷ b ∷ [])) then Some BadNumber else (if not (capacity_fits (capacity_value a b)) then Some OutOfRange else None)
 queue_form_fault form = Some BadLine
 
-abbrev pub begins_with_queue : List (List ℕ) → Bool
-begins_with_queue [] = false
-begins_with_queue (w ∷ ws) = bytes_eq w (codes "queue")
-
+-- its first word is `queue`, and then it fits the form
 abbrev pub queue_fault : List ℕ → Option Kind
-queue_fault line = if not (begins_with_queue (words_of line)) then Some MissingQueue else queue_form_fault (form_of (words_of line))
+queue_fault line = if not (bytes_eq (slice_index_or (words_of line) 0 []) (codes "queue")) then Some MissingQueue else queue_form_fault (form_of (words_of line))
 
 abbrev pub header_fault : List ℕ → Option Kind
 header_fault line = if is_none (version_of line) then Some BadHeader else None

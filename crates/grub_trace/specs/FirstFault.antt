@@ -1,12 +1,12 @@
 -- Which fault of event files is answered: the first one.
-use Rattle.std.specs.Prelude.{◌≡◌, ℕ, ◌≤◌, ◌<◌, List, [], ◌∷◌, ◌++◌, length, map, None, Option, Some, ◌==◌, ◌+◌, ◌⊎◌, if◌then◌else◌}
-use Rattle.std.specs.List.{AllByRecursion}
+use Rattle.std.specs.Prelude.{◌≡◌, ℕ, ◌≤◌, ◌<◌, List, [], ◌∷◌, ◌++◌, length, map, take, slice_get, is_none, Option, Some, ◌==◌, ◌+◌, ◌⊎◌, if◌then◌else◌}
+use Rattle.std.specs.List.{AllByRecursion, position_from}
 use Rattle.grub_trace.specs.declared.version.Version.{Version}
 use Rattle.grub_trace.specs.declared.fault.Kind.{Kind}
 use Rattle.grub_trace.specs.declared.fault.Kind.TheVariants.{BadHeader, MissingQueue, CutShort, UnknownTask, OutOfRange}
 use Rattle.grub_trace.specs.declared.fault.TraceFault.{TraceFault}
 use Rattle.grub_trace.specs.declared.fault.TraceFault.TheVariants as trace
-use Rattle.grub_trace.specs.Tree.{Happening, header, Tree, text, names_of}
+use Rattle.grub_trace.specs.Tree.{header, Tree, text, names_of}
 use Rattle.grub_trace.specs.Forms.{parts_of}
 use Rattle.grub_trace.specs.Faults.{line_fault, header_fault, queue_fault}
 use Rattle.grub_trace.specs.Naming.{line_in, all_tasks}
@@ -51,35 +51,21 @@ FileFault names bytes k n = HeaderFault bytes k n ⊎ QueueFault bytes k n ⊎ L
 -- the files before this one have trees, and it has a fault
 pub record FirstFault (names : List (List ℕ)) (files : List (List ℕ)) (k : Kind) (f n : ℕ) : Type 0 where
   pub fronts : List Tree
+  pub texts : take f files ≡ map text fronts
+  pub together : AreTrees names fronts
   pub bytes : List ℕ
-  pub more : List (List ℕ)
-  pub files_are : files ≡ map text fronts ++ bytes ∷ more
-  pub fronts_are : AreTrees names fronts
-  pub file : f ≡ length fronts
+  pub is : slice_get files f ≡ Some bytes
   pub fault : FileFault (names ++ names_of (all_tasks fronts)) bytes k n
 
--- the first happening that names a task which is not declared
-pub record UnknownIn (names : List (List ℕ)) (hs : List Happening) : Type 0 where
-  pub before : List Happening
-  pub happening : Happening
-  pub after : List Happening
-  pub happenings_are : hs ≡ before ++ happening ∷ after
-  pub known : AreKnown names before
-  pub unknown : line_in names happening ≡ None
-
--- all files have trees, and this is the first line that names a task that none declares
+-- all files have trees, and this is the first line that names a task that none declares; the line after the declarations is 3 + their number
 pub record UnknownFault (files : List (List ℕ)) (f n : ℕ) : Type 0 where
   pub trees : List Tree
   pub texts : files ≡ map text trees
-  pub trees_are : AreTrees [] trees
-  pub fronts : List Tree
+  pub together : AreTrees [] trees
   pub tree : Tree
-  pub more : List Tree
-  pub split : trees ≡ fronts ++ tree ∷ more
-  pub file : f ≡ length fronts
-  pub known : AllByRecursion (λ t. AreKnown (names_of (all_tasks trees)) t.happenings) fronts
-  pub unknown : UnknownIn (names_of (all_tasks trees)) tree.happenings
-  pub line : n ≡ 3 + length tree.tasks + length unknown.before
+  pub is : slice_get trees f ≡ Some tree
+  pub before : AllByRecursion (λ t. AreKnown (names_of (all_tasks trees)) t.happenings) (take f trees)
+  pub first : position_from (λ h. is_none (line_in (names_of (all_tasks trees)) h)) (3 + length tree.tasks) tree.happenings ≡ Some n
 
 -- the fault that is answered
 pub data IsFault (files : List (List ℕ)) : Kind → ℕ → ℕ → Type 0 where
@@ -101,6 +87,5 @@ IsOnly (trace.At j g m) k f n = (j ≡ k) × (g ≡ f) × (m ≡ n)
 pub record OpeningFault (files : List (List ℕ)) (k : Kind) (n : ℕ) : Type 0 where
   pub few : length files ≤ 64
   pub bytes : List ℕ
-  pub more : List (List ℕ)
-  pub files_are : files ≡ bytes ∷ more
+  pub is : slice_get files 0 ≡ Some bytes
   pub fault : HeaderFault bytes k n ⊎ QueueFault bytes k n

@@ -1,5 +1,5 @@
 -- What lines of event files are: their words, their forms, and the numbers in them.
-use Rattle.std.specs.Prelude.{ℕ, Bool, true, false, not, ◌&&◌, ◌||◌, ◌==◌, List, [], ◌∷◌, length, codes, Option, Some, None, if◌then◌else◌, option_map}
+use Rattle.std.specs.Prelude.{ℕ, Bool, false, not, ◌&&◌, ◌||◌, ◌==◌, List, [], ◌∷◌, length, codes, Option, Some, None, if◌then◌else◌, option_map}
 use Rattle.std.specs.List.{list_all, slice_split}
 use Rattle.std.specs.Str.{bytes_eq}
 use Rattle.std.specs.Char.{is_ascii_digit}
@@ -46,8 +46,7 @@ shape_of (k ∷ a ∷ b ∷ c ∷ d ∷ e ∷ []) = if bytes_eq k (codes "at") &
 shape_of _ = None
 
 abbrev pub is_filled : List ℕ → Bool
-is_filled [] = false
-is_filled (b ∷ bs) = true
+is_filled word = not (length word == 0)
 
 -- an empty word fits no form
 abbrev pub form_of : List (List ℕ) → Option Form

@@ -1,24 +1,20 @@
 -- What event files mean: the trees whose texts they are.
-use Rattle.std.specs.Prelude.{◌≡◌, ℕ, ◌≤◌, ◌<◌, true, List, [], ◌∷◌, ◌++◌, length, map, None, IsSome}
+use Rattle.std.specs.Prelude.{◌≡◌, ℕ, ◌≤◌, ◌<◌, true, List, [], ◌∷◌, ◌++◌, length, map, None, IsSome, IfSome}
 use Rattle.std.specs.List.{AllByRecursion}
 use Rattle.grub_bw.specs.Bandwidth.{IsReservation, IsCapacity}
 use Rattle.grub_trace.specs.declared.version.Version.{Version}
 use Rattle.grub_plan.specs.declared.line.Act.{Act}
-use Rattle.grub_plan.specs.declared.line.Act.TheVariants as act
+use Rattle.grub_plan.specs.declared.line.Act.TheVariants.{Run, Retune}
 use Rattle.grub_plan.specs.Names.{is_name}
+use Rattle.grub_plan.specs.Plans.{named}
 use Rattle.grub_trace.specs.Tree.{Declaration, Happening, may_retune, Tree, text, is_span, is_moment, names_of}
 use Rattle.grub_trace.specs.Naming.{task_of, line_in, all_tasks}
 
 -- what may be said in a file of this version
 abbrev pub IsAct : Version → Act (List ℕ) ℕ → Type 0
-IsAct version (act.Join n) = is_name n ≡ true
-IsAct version (act.Wake n) = is_name n ≡ true
-IsAct version (act.Block n) = is_name n ≡ true
-IsAct version (act.Leave n) = is_name n ≡ true
-IsAct version (act.Exit n) = is_name n ≡ true
-IsAct version (act.Run n s) = (is_name n ≡ true) × (is_span s ≡ true)
-IsAct version (act.Retune n q p) = (is_name n ≡ true) × IsReservation (record { runtime = q; period = p }) × (may_retune version ≡ true)
-IsAct version act.Read = Unit {0}
+IsAct version (Run n s) = (is_name n ≡ true) × (is_span s ≡ true)
+IsAct version (Retune n q p) = (is_name n ≡ true) × IsReservation (record { runtime = q; period = p }) × (may_retune version ≡ true)
+IsAct version act = IfSome (named act) (λ n. is_name n ≡ true)
 
 -- a happening that may stand after a moment, in a file of this version
 pub record IsHappeningFrom (version : Version) (low : ℕ) (h : Happening) : Type 0 where

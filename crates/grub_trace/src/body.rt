@@ -1,6 +1,6 @@
 //! What stands below a head: what each line says, and the script that the lines are.
 
-ghost use Rattle.std.specs.Prelude.{◌≡◌, ◌≤◌, [], map};
+ghost use Rattle.std.specs.Prelude.{◌≡◌, [], map};
 ghost use Rattle.grub_trace.specs.inside.Reading.{IsIndexed, IsMomentOf, IsRetuneOf, IsRunOf, declarations, line_view, ok_unless};
 ghost use Rattle.grub_trace.specs.Faults.{last_of};
 ghost use Rattle.grub_trace.specs.Forms.{value};

@@ -24,7 +24,7 @@ server_word-lt s fits deadline = let h = fits.most in omega arith
 
 pub params_word-lt : (p : Reservation) → IsReservation p → params_word p < 2 ^ 64
 unfolding params_word
-params_word-lt p is = let h = is.runtime_most in let k = is.period_most in omega arith
+params_word-lt p is = let h = is.runtime.1 in let k = is.period.1 in omega arith
 
 pub task_word-lt : (place : Place) (count : ℕ) (claimed : Bool) → PlaceFits place → count ≤ count_most → task_word place count claimed < 2 ^ 36
 unfolding task_word
@@ -35,7 +35,7 @@ task_word-lt place count claimed fits most =
     omega arith
 
 pub QueueFits-sound : (s : Machine) (book : Records) (r : ℕ) → IsSound s book → r < length s.queues → IsCapacity (queue_at s r) → QueueFits (reading_of book r)
-QueueFits-sound s book r sound within capacity = record { running = running_le_this book r; this = le_trans (sound.admitted r within) capacity.most_most }
+QueueFits-sound s book r sound within capacity = record { running = running_le_this book r; this = le_trans (sound.admitted r within) capacity.most.1 }
 
 there_fits : (s : Machine) (place : Place) → IsMachine s → IsThere s place → PlaceFits place
 there_fits s Away machine there = tt
@@ -49,6 +49,6 @@ pub ServerFits-kept : (s : Machine) (x : Record) → IsKept s x → ServerFits x
 ServerFits-kept s x kept =
     let f = kept.server.fits in
     let h = f.most in
-    let k = kept.reservation.runtime_most in
-    let l = kept.reservation.period_most in
+    let k = kept.reservation.runtime.1 in
+    let l = kept.reservation.period.1 in
     (record { some = f.some; most = omega arith }, kept.server.deadline)

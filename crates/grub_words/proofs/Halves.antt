@@ -70,8 +70,8 @@ server-halves s fits =
 pub reservation-halves : (p : Reservation) → IsReservation p → reservation (params_word p % 2 ^ 32) (params_word p / 2 ^ 32) ≡ p
 unfolding params_word
 reservation-halves p is =
-    let h = is.runtime_most in
-    let k = is.period_most in
+    let h = is.runtime.1 in
+    let k = is.period.1 in
     let low : params_word p % 2 ^ 32 ≡ p.runtime = omega arith in
     let high : params_word p / 2 ^ 32 ≡ p.period = omega arith in
     let same : reservation (params_word p % 2 ^ 32) (params_word p / 2 ^ 32) ≡ reservation p.runtime p.period = cc in

@@ -1,6 +1,6 @@
 -- The words of readings, tasks, servers and reservations, and the values that have one: this project's profile.
 -- Bit 0 is the lowest, and a bit that no line names is 0.
-use Rattle.std.specs.Prelude.{ℕ, ◌+◌, ◌*◌, ◌^◌, ◌<◌, ◌≤◌, Bool, true, false}
+use Rattle.std.specs.Prelude.{ℕ, ◌+◌, ◌*◌, ◌^◌, ◌<◌, ◌≤◌, Bool, if◌then◌else◌, ⊤}
 use Rattle.grub_bw.specs.Bandwidth.{Reservation}
 use Rattle.grub_bw.specs.declared.server.Server.{Server}
 use Rattle.grub_book.specs.Step.{count_most}
@@ -32,14 +32,12 @@ state_code Gone = 4
 
 -- bit 3 of a task's word
 abbrev pub claim_bit : Bool → ℕ
-claim_bit false = 0
-claim_bit true = 1
+claim_bit claimed = if claimed then 1 else 0
 
 -- bits 4 to 11 of a task's word
 abbrev pub queue_code : Place → ℕ
-queue_code Away = 0
 queue_code (On r state) = r
-queue_code Gone = 0
+queue_code place = 0
 
 -- a task's word has the block count in bits 12 to 35
 unfoldable pub task_word : Place → ℕ → Bool → ℕ
@@ -57,9 +55,8 @@ pub record ServerFits (s : Server) : Type 0 where
 
 -- places that a task's word can name
 abbrev pub PlaceFits : Place → Type 0
-PlaceFits Away = Unit {0}
 PlaceFits (On r state) = r < 64
-PlaceFits Gone = Unit {0}
+PlaceFits place = ⊤
 
 -- tasks that have a word
 pub record TaskFits (t : TaskWord) : Type 0 where

@@ -1,5 +1,5 @@
 -- A pass whose tasks no other pass calls on, and whose runqueue no other joins, gets the replies of a book of its own.
-use Rattle.std.proofs.Common.{◌≡◌, ◌≢◌, ◌⊎◌, ℕ, ◌+◌, ◌<◌, nat_lt, ◌&&◌, cond, true, false, List, [], ◌∷◌, length, set, Option, Some, None, refl, sym, ap, ◌∙◌, subst, ⊎_elim, arith, eq-eqb, ne_eqb, get_or-set_other, get_or, unwrap_or}
+use Rattle.std.proofs.Common.{◌≡◌, ◌≢◌, ◌⊎◌, ℕ, ◌+◌, ◌<◌, nat_lt, ◌&&◌, cond, true, false, List, [], ◌∷◌, fold, length, set, Option, Some, None, refl, sym, ap, ◌∙◌, subst, ⊎_elim, arith, eq-eqb, ne_eqb, get_or-set_other, get_or, unwrap_or}
 use Rattle.std.specs.List.{All, slice_get}
 use Rattle.std.proofs.lemmas.Option.{slice_get-get_or, slice_get_within, unwrap_or-slice_get}
 use Rattle.std.proofs.lemmas.List.{get_or-set_same}
@@ -10,11 +10,12 @@ use Rattle.grub_bw.specs.Bandwidth.{Capacity, Reservation, bandwidth_of}
 use Rattle.grub_bw.specs.Server.{charge_of, depleted_of}
 use Rattle.grub_bw.specs.declared.server.Server.{Server}
 use Rattle.grub_book.specs.Machine.{Machine, queue_at}
-use Rattle.grub_book.specs.Op.{IsPlaced}
+use Rattle.grub_book.specs.Op.{IsOp}
 use Rattle.grub_book.specs.Sums.{Records, is_active_on, is_on, reading_of, record_at, share_of}
-use Rattle.grub_book.specs.Step.{LooksAtQueue, arrived, charged, is_inactive, lag_moment, refused, replied, runqueue_of, settled, step}
+use Rattle.grub_book.specs.Step.{LooksAtQueue, arrived, charged, is_inactive, lag_moment, refused, runqueue_of, settled, step}
+use Rattle.grub_book.specs.inside.Steps.{replied}
 use Rattle.grub_book.specs.Totals.{shifted_of}
-use Rattle.grub_book.specs.History.{IsLegalFrom, after, book_from, calls_of, pass_of}
+use Rattle.grub_book.specs.History.{IsLegalFrom, after, calls_of, pass_of}
 use Rattle.grub_book.specs.declared.place.State.TheVariants.{Contending, NonContending, Inactive}
 use Rattle.grub_book.specs.declared.place.Place.{Place}
 use Rattle.grub_book.specs.declared.place.Place.TheVariants.{Away, Gone, On}
@@ -166,15 +167,15 @@ module _ (s s' : Machine) (i : ℕ) (Own : ℕ → Type 0) (like : IsSameAt i Ow
   task_low : (t : ℕ) → Own t → t < length s.tasks → t < length s'.tasks
   task_low t own low = same_within s.tasks s'.tasks t (record { runtime = 0; period = 0 }) (like.tasks t own) low
 
-  placed_same : (op : Op) → NamesAt (λ r. r ≡ i) op → IsPlaced s op → IsPlaced s' op
-  placed_same (Join r m) named low = queue_low r named low
-  placed_same (Wake r m) named low = queue_low r named low
-  placed_same (Block r m) named low = queue_low r named low
-  placed_same (Charge r dt) named low = queue_low r named low
-  placed_same Leave named low = tt
-  placed_same (Timer ticket m) named low = tt
-  placed_same (Retune q p) named low = tt
-  placed_same Exit named low = tt
+  op_same : (op : Op) → NamesAt (λ r. r ≡ i) op → IsOp s op → IsOp s' op
+  op_same (Join r m) named fits = (queue_low r named fits.0, fits.1)
+  op_same (Wake r m) named fits = (queue_low r named fits.0, fits.1)
+  op_same (Block r m) named fits = (queue_low r named fits.0, fits.1)
+  op_same (Charge r dt) named fits = (queue_low r named fits.0, fits.1, fits.2)
+  op_same Leave named fits = fits
+  op_same (Timer ticket m) named fits = fits
+  op_same (Retune q p) named fits = fits
+  op_same Exit named fits = fits
 
   module _ (book mine : Records) (a : Agrees i Own (length s.tasks) (length s'.tasks) book mine) where
     low_of : (t : ℕ) → t < length s.tasks → t < length book
@@ -241,20 +242,20 @@ module _ (s s' : Machine) (i : ℕ) (Own : ℕ → Type 0) (like : IsSameAt i Ow
   -- the calls of the pass alone are a history of a book of its own, and both books agree at its end
   pub record Splits (book mine : Records) (h : List Event) : Type 0 where
     pub legal : IsLegalFrom s' mine (calls_of i h)
-    pub agrees : Agrees i Own (length s.tasks) (length s'.tasks) (book_from s book h) (book_from s' mine (calls_of i h))
+    pub agrees : Agrees i Own (length s.tasks) (length s'.tasks) (fold (after s) book h) (fold (after s') mine (calls_of i h))
 
   kept_call : (book mine : Records) (e : Event) (h : List Event) → pass_of e ≡ i → IsLegalFrom s' mine (e ∷ []) → Splits (after s book e) (after s' mine e) h → Splits book mine (e ∷ h)
   kept_call book mine e h is here rest =
       let calls : calls_of i (e ∷ h) ≡ e ∷ calls_of i h = ap (λ b. cond b (e ∷ calls_of i h) (calls_of i h)) (eq-eqb (pass_of e) i is) in record {
         legal = subst (IsLegalFrom s' mine) (sym calls) (here.0, rest.legal);
-        agrees = subst (λ l. Agrees i Own (length s.tasks) (length s'.tasks) (book_from s (after s book e) h) (book_from s' mine l)) (sym calls) rest.agrees;
+        agrees = subst (λ l. Agrees i Own (length s.tasks) (length s'.tasks) (fold (after s) (after s book e) h) (fold (after s') mine l)) (sym calls) rest.agrees;
       }
 
   dropped_call : (book mine : Records) (e : Event) (h : List Event) → pass_of e ≢ i → Splits (after s book e) mine h → Splits book mine (e ∷ h)
   dropped_call book mine e h other rest =
       let calls : calls_of i (e ∷ h) ≡ calls_of i h = ap (λ b. cond b (e ∷ calls_of i h) (calls_of i h)) (ne_eqb (pass_of e) i other) in record {
         legal = subst (IsLegalFrom s' mine) (sym calls) rest.legal;
-        agrees = subst (λ l. Agrees i Own (length s.tasks) (length s'.tasks) (book_from s (after s book e) h) (book_from s' mine l)) (sym calls) rest.agrees;
+        agrees = subst (λ l. Agrees i Own (length s.tasks) (length s'.tasks) (fold (after s) (after s book e) h) (fold (after s') mine l)) (sym calls) rest.agrees;
       }
 
   pub splits : (book mine : Records) (h : List Event) → Agrees i Own (length s.tasks) (length s'.tasks) book mine → All (IsOneSided i Own) h → IsLegalFrom s book h → Splits book mine h
@@ -273,7 +274,7 @@ module _ (s s' : Machine) (i : ℕ) (Own : ℕ → Type 0) (like : IsSameAt i Ow
       let tail = All-tail (IsOneSided i Own) e h sided in
       ⊎_elim
       (λ (own : (j ≡ i) × Own t × NamesAt (λ r. r ≡ i) op).
-      kept_call book mine e h own.0 ((task_low t own.1 legal.0.0, (placed_same op own.2 legal.0.1.0, legal.0.1.1), sym (reply_same book mine a t op own.1 own.2) ∙ legal.0.2), tt)
+      kept_call book mine e h own.0 ((task_low t own.1 legal.0.0, op_same op own.2 legal.0.1, sym (reply_same book mine a t op own.1 own.2) ∙ legal.0.2), tt)
       (splits (step s book t op).0 (step s' mine t op).0 h (own_call book mine a t op legal.0.0 own.1 own.2) tail legal.1))
       (λ (else : (j ≢ i) × ¬ Own t × NamesAt (λ r. r ≢ i) op).
       dropped_call book mine e h else.0 (splits (step s book t op).0 mine h (other_call book mine a t op legal.0.0 else.1 else.2) tail legal.1))

@@ -1,7 +1,8 @@
 -- What the closing of the table ties together: whose each event and each mark is.
-use Rattle.std.proofs.Common.{◌≡◌, ◌≢◌, ℕ, ◌<◌, cond, Bool, true, false, IsTrue, ◌==◌, List, [], ◌∷◌, length, get_or, refl, sym, ap, ◌∙◌, subst, ⊎_elim, arith, append-nil, eq-eqb, Some}
+use Rattle.std.proofs.Common.{◌≡◌, ◌≢◌, ℕ, ◌+◌, ◌<◌, cond, Bool, true, false, IsTrue, ◌==◌, List, [], ◌∷◌, ◌++◌, length, take, drop, get_or, refl, sym, ap, ◌∙◌, subst, ⊎_elim, arith, append-nil, eq-eqb, Some}
 use Rattle.std.specs.Prelude.{slice_get}
 use Rattle.std.specs.List.{All}
+use Rattle.std.proofs.lemmas.List.{drop_more, take-append-drop}
 use Rattle.std.proofs.lemmas.List.Elements.{All-nil, All-cons, All-weaker}
 use Rattle.std.proofs.lemmas.Option.{get_or_from_slice_get, slice_get-get_or, slice_get_within}
 use Rattle.grub_book.specs.Machine.{Machine}
@@ -18,7 +19,7 @@ use Rattle.grub_table.specs.declared.view.Mark.{Mark}
 use Rattle.grub_table.specs.declared.view.Mark.TheVariants.{Taken, Given}
 use Rattle.grub_table.specs.declared.pass.Pass.{Pass}
 use Rattle.grub_table.specs.declared.shared.Shared.{Shared}
-use Rattle.grub_table.specs.Marks.{AreLawful, AreLawfulFrom, Holders, after_mark, nobody_holds, marker_of}
+use Rattle.grub_table.specs.Marks.{AreLawful, IsLawfulMark, marker_of}
 use Rattle.grub_table.specs.Calls.{IsClosed, IsPassOf, number_of, marks, seen}
 use Rattle.grub_plan.specs.declared.entry.Ask.{Ask}
 use Rattle.grub_plan.specs.declared.entry.Ask.TheVariants.{Call, Read}
@@ -40,10 +41,12 @@ use Rattle.grub_workers.proofs.KnowingMore.{all_backed_later}
 use Rattle.grub_workers.proofs.ListsGoneThrough.{some_of}
 
 -- ---- lists
-markers_below : (n : ℕ) (g : Holders) (ms : List Mark) → AreLawfulFrom n g ms → All (λ m. marker_of m < n) ms
-markers_below n g [] lawful = All-nil (λ m. marker_of m < n)
-markers_below n g (Taken i t ∷ ms) lawful = All-cons (λ m. marker_of m < n) (Taken i t) ms lawful.0.0 (markers_below n (after_mark g (Taken i t)) ms lawful.1)
-markers_below n g (Given i t ∷ ms) lawful = All-cons (λ m. marker_of m < n) (Given i t) ms lawful.0.0 (markers_below n (after_mark g (Given i t)) ms lawful.1)
+marker_below : (n : ℕ) (before : List Mark) (m : Mark) → IsLawfulMark n before m → marker_of m < n
+marker_below n before (Taken i t) lawful = lawful.0
+marker_below n before (Given i t) lawful = lawful.0
+
+markers_below : (n : ℕ) (ms : List Mark) → AreLawful n ms → All (λ m. marker_of m < n) ms
+markers_below n ms lawful k d low = marker_below n (take k ms) (get_or ms k d) (lawful (take k ms) (drop (k + 1) ms) (get_or ms k d) (sym (take-append-drop k ms) ∙ ap (λ (l : List Mark). take k ms ++ l) (drop_more ms k d low)))
 
 -- ---- from an event or a mark back to an entry
 abbrev event_task : Event → ℕ
@@ -146,7 +149,7 @@ module _ (s : Shared) (tries : ℕ) (scripts : List (List Line)) (ps : List Pass
     held_elsewhere i t a = ⊎_elim
         (λ k. let f = found (CallsElse i t) (λ e. pass_of e < length scripts) closed.history (somewhere_of (CallsElse i t) closed.history k) numbers_at in by_call i t f.element f.is f.also f.inside)
         (λ k. let f = found (TakesElse i t) (λ m. marker_of m < length scripts) closed.marks (somewhere_of (TakesElse i t) closed.marks k)
-        (markers_below (length scripts) nobody_holds closed.marks (subst (λ n. AreLawful n closed.marks) many closed.lawful)) in by_mark i t f.element f.is f.also f.inside)
+        (markers_below (length scripts) closed.marks (subst (λ n. AreLawful n closed.marks) many closed.lawful)) in by_mark i t f.element f.is f.also f.inside)
         a
 
     not_vain : (i : ℕ) (ask : Ask) (answer : Answer) → IsBacked (machine s) tries i closed.history closed.marks ask answer → IsNotVain (machine s) tries closed.history rs i ask answer

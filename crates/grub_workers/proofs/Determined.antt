@@ -13,7 +13,7 @@ use Rattle.grub_plan.specs.Plans.{Line}
 use Rattle.grub_plan.specs.declared.entry.Ask.{Ask}
 use Rattle.grub_plan.specs.declared.entry.Ask.TheVariants.{Call, Read}
 use Rattle.grub_plan.specs.declared.entry.Answer.{Answer}
-use Rattle.grub_plan.specs.declared.entry.Answer.TheVariants.{Replied, Seen, Busy, Lost}
+use Rattle.grub_plan.specs.declared.entry.Answer.TheVariants.{Replied, Seen}
 use Rattle.grub_plan.specs.declared.entry.Entry.{Entry}
 use Rattle.grub_asks.specs.Asked.{AsksLine, entry}
 use Rattle.grub_asks.specs.Answers.{IsAnswered, event_told, events_told}
@@ -41,13 +41,8 @@ module _ (own : ℕ) where
 
   told_answer : (s : Machine) (h : List Event) (ask : Ask) (answer : Answer) → IsAnswered ask answer → IsLegal s (h ++ event_told own ask answer) → answer ≡ answer_of s (book_of s h) ask
   told_answer s h (Call t op) (Replied reply) a legal = ap Replied (sym (legal_last s h (events.Call own t op reply) legal).2)
-  told_answer s h (Call t op) (Seen reading) a legal = absurd a.0
-  told_answer s h (Call t op) Busy a legal = absurd (a.1 tt)
-  told_answer s h (Call t op) Lost a legal = absurd (a.1 tt)
   told_answer s h Read (Seen reading) a legal = ap Seen (sym (legal_last s h (events.Look own own reading) legal).1)
-  told_answer s h Read (Replied reply) a legal = absurd a.0
-  told_answer s h Read Busy a legal = absurd a.0
-  told_answer s h Read Lost a legal = absurd a.0
+  told_answer s h ask answer a legal = absurd a
 
   -- one entry more with the same ask
   last_answer : (s : Machine) (m : ℕ) (ask : Ask) (before after : List Entry) (answer : Answer) → after ≡ before ++ entry m ask answer ∷ [] → IsPlain s after → answer ≡ answer_of s (book_of s (events_told own before)) ask

@@ -1,5 +1,5 @@
 -- The entries of a script ask for no task and no runqueue but those that it names.
-use Rattle.std.proofs.Common.{◌≡◌, ℕ, cond, nat_eq, Bool, true, false, List, [], ◌∷◌, ◌++◌, get_or, Option, Some, None, refl, sym, subst}
+use Rattle.std.proofs.Common.{◌≡◌, ℕ, cond, nat_eq, Bool, true, false, List, [], ◌∷◌, fold, ◌++◌, get_or, Option, Some, None, refl, sym, subst}
 use Rattle.std.specs.List.{All, FoldsTo}
 use Rattle.std.proofs.lemmas.Bool.{eqb-true}
 use Rattle.std.proofs.lemmas.List.{get_or_default}
@@ -9,7 +9,7 @@ use Rattle.grub_book.specs.declared.op.Op.TheVariants as ops
 use Rattle.grub_book.specs.declared.reply.Reply.TheVariants as replies
 use Rattle.grub_plan.specs.declared.line.Act.{Act}
 use Rattle.grub_plan.specs.declared.line.Act.TheVariants as acts
-use Rattle.grub_plan.specs.Plans.{Line}
+use Rattle.grub_plan.specs.Plans.{Line, named}
 use Rattle.grub_plan.specs.declared.entry.Ask.{Ask}
 use Rattle.grub_plan.specs.declared.entry.Ask.TheVariants.{Call, Read}
 use Rattle.grub_plan.specs.declared.entry.Answer.{Answer}
@@ -17,8 +17,9 @@ use Rattle.grub_plan.specs.declared.entry.Answer.TheVariants.{Replied}
 use Rattle.grub_plan.specs.declared.entry.Entry.{Entry}
 use Rattle.grub_asks.specs.Asked.{Asked, AsksLine, AsksTimer, Follows, JoinsAfter, ask_of, entry}
 use Rattle.grub_wheel.specs.declared.timer.Timer.{Timer}
-use Rattle.grub_asks.specs.Timers.{Alarm, alarm_after, armed_from, leaves, touch, touch_of_call}
-use Rattle.grub_workers.specs.Apart.{Names, task_of}
+use Rattle.grub_asks.specs.Timers.{Alarm, touch, touch_of_call}
+use Rattle.grub_asks.specs.inside.Touches.{alarm_after, leaves}
+use Rattle.grub_workers.specs.Apart.{Names}
 
 -- the op names no runqueue, or one for which Q holds
 abbrev pub NamesAt : (ℕ → Type 0) → Op → Type 0
@@ -41,7 +42,7 @@ module _ (r : ℕ) (N : ℕ → Type 0) where
   AreOwn es = All (λ (e : Entry). IsOwnAsk r N e.ask) es
 
   -- a timer is armed for a task alone that an entry asked for
-  armed_own : (t : ℕ) (es : List Entry) (before : Option Alarm) (a : Alarm) → AreOwn es → ((b : Alarm) → before ≡ Some b → N t) → armed_from t before es ≡ Some a → N t
+  armed_own : (t : ℕ) (es : List Entry) (before : Option Alarm) (a : Alarm) → AreOwn es → ((b : Alarm) → before ≡ Some b → N t) → fold (λ alarm e. alarm_after (touch t e.ask e.answer) alarm) before es ≡ Some a → N t
   armed_own t [] before a own known is = known a is
   armed_own t (e ∷ es) before a own known is =
       armed_own t es (alarm_after (touch t e.ask e.answer) before) a (All-tail (λ (k : Entry). IsOwnAsk r N k.ask) e es own)
@@ -64,7 +65,7 @@ module _ (r : ℕ) (N : ℕ → Type 0) where
       let there : N x.t = armed_own x.t before None (x.z, x.ticket) own (λ b none. absurd (cc)) f.1.next.armed in
       timers_own m xs f.0 after f.2 (own_more before f.0 x.z (Call x.t (ops.Timer x.ticket x.z)) f.1.goes_on.answer f.1.goes_on.list (there, tt) own)
 
-  act_own : (m : ℕ) (act : Act ℕ ℕ) → ((t : ℕ) → task_of act ≡ Some t → N t) → IsOwnAsk r N (ask_of r m act)
+  act_own : (m : ℕ) (act : Act ℕ ℕ) → ((t : ℕ) → named act ≡ Some t → N t) → IsOwnAsk r N (ask_of r m act)
   act_own m (acts.Join t) named = (named t refl, refl)
   act_own m (acts.Wake t) named = (named t refl, refl)
   act_own m (acts.Block t) named = (named t refl, refl)
@@ -78,22 +79,22 @@ module _ (r : ℕ) (N : ℕ → Type 0) where
   joins_own m t (Replied (replies.Left q)) before after there f own = own_more before after m (Call t (ops.Join r m)) f.answer f.list (there, refl) own
   joins_own m t answer before after there f own = subst AreOwn (sym f) own
 
-  follows_own : (m : ℕ) (act : Act ℕ ℕ) (answer : Answer) (before after : List Entry) → ((t : ℕ) → task_of act ≡ Some t → N t) → Follows r m act answer before after → AreOwn before → AreOwn after
+  follows_own : (m : ℕ) (act : Act ℕ ℕ) (answer : Answer) (before after : List Entry) → ((t : ℕ) → named act ≡ Some t → N t) → Follows r m act answer before after → AreOwn before → AreOwn after
   follows_own m (acts.Wake t) (Replied (replies.Elsewhere q)) before after named f own =
       joins_own m t f.answer f.left after (named t refl) f.joins (own_more before f.left m (Call t ops.Leave) f.answer f.leaves (named t refl, tt) own)
   follows_own m act answer before after named f own = subst AreOwn (sym f) own
 
-  line_own : (line : Line) (before after : List Entry) → ((t : ℕ) → task_of line.act ≡ Some t → N t) → AsksLine r before line after → AreOwn before → AreOwn after
+  line_own : (line : Line) (before after : List Entry) → ((t : ℕ) → named line.act ≡ Some t → N t) → AsksLine r before line after → AreOwn before → AreOwn after
   line_own line before after named f own =
       follows_own line.m line.act f.answer f.asked after named f.follows
       (own_more f.due f.asked line.m (ask_of r line.m line.act) f.answer f.line_asked (act_own line.m line.act named)
       (timers_own line.m f.timers.timers before f.due f.timers.each own))
 
-  lines_own : (lines : List Line) (before after : List Entry) → All (λ (line : Line). (t : ℕ) → task_of line.act ≡ Some t → N t) lines → FoldsTo (AsksLine r) before lines after → AreOwn before → AreOwn after
-  lines_own [] before after named f own = subst AreOwn f own
-  lines_own (line ∷ lines) before after named f own =
-      lines_own lines f.0 after (All-tail (λ (l : Line). (t : ℕ) → task_of l.act ≡ Some t → N t) line lines named) f.2
-      (line_own line before f.0 (All-head (λ (l : Line). (t : ℕ) → task_of l.act ≡ Some t → N t) line lines named) f.1 own)
+  lines_own : (lines : List Line) (before after : List Entry) → All (λ (line : Line). (t : ℕ) → named line.act ≡ Some t → N t) lines → FoldsTo (AsksLine r) before lines after → AreOwn before → AreOwn after
+  lines_own [] before after names f own = subst AreOwn f own
+  lines_own (line ∷ lines) before after names f own =
+      lines_own lines f.0 after (All-tail (λ (l : Line). (t : ℕ) → named l.act ≡ Some t → N t) line lines names) f.2
+      (line_own line before f.0 (All-head (λ (l : Line). (t : ℕ) → named l.act ≡ Some t → N t) line lines names) f.1 own)
 
 pub script_own : (r : ℕ) (script : List Line) (es : List Entry) → Asked r script es → All (λ (e : Entry). IsOwnAsk r (Names script) e.ask) es
 script_own r script es asked =

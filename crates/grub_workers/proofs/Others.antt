@@ -1,5 +1,5 @@
 -- What another pass must have done where a task's record was found changed, or a reading.
-use Rattle.std.proofs.Common.{◌≡◌, ◌≢◌, ◌⊎◌, ℕ, ◌+◌, ◌≤◌, cond, Bool, true, false, ◌==◌, ◌&&◌, List, [], ◌∷◌, ◌++◌, refl, sym, ap, ◌∙◌, subst, ⊎_elim, inl, inr, arith, unwrap_or, eq-eqb, append_assoc, get_or-set_other, Option, Some, None}
+use Rattle.std.proofs.Common.{◌≡◌, ◌≢◌, ◌⊎◌, ℕ, ◌+◌, ◌≤◌, cond, Bool, true, false, ◌==◌, ◌&&◌, List, [], ◌∷◌, fold, ◌++◌, refl, sym, ap, ◌∙◌, subst, ⊎_elim, inl, inr, arith, unwrap_or, eq-eqb, append_assoc, get_or-set_other, Option, Some, None}
 use Rattle.std.specs.List.{All, Any}
 use Rattle.std.proofs.lemmas.List.{append-nil, append_cancel_left}
 use Rattle.std.proofs.lemmas.List.Elements.{All-weaker, All-head, All-tail}
@@ -7,19 +7,20 @@ use mathlib.Core.Logic.{dite}
 use native.Mathlib.Decide.{ℕ_discrete}
 use Rattle.grub_book.specs.Machine.{Machine}
 use Rattle.grub_book.specs.Sums.{Records, record_at, reading_of, opening_book}
-use Rattle.grub_book.specs.Step.{is_under_claim, refused, replied, step}
-use Rattle.grub_book.specs.History.{IsLegal, IsLegalFrom, StartsWith, HasChanged, after, book_from, book_of, calls_of, changes_from, is_reading, pass_of}
+use Rattle.grub_book.specs.Step.{is_under_claim, refused, step}
+use Rattle.grub_book.specs.inside.Steps.{replied}
+use Rattle.grub_book.specs.History.{IsLegal, IsLegalFrom, StartsWith, HasChanged, after, book_of, calls_of, changes_from, is_reading, pass_of}
 use Rattle.grub_book.specs.declared.reply.Reply.{Reply}
 use Rattle.grub_book.specs.declared.place.Record.{Record}
 use Rattle.grub_book.specs.declared.event.Reading.{Reading}
 use Rattle.grub_book.specs.declared.event.Event.{Event}
 use Rattle.grub_book.specs.declared.event.Event.TheVariants.{Call, Look}
-use Rattle.grub_book.proofs.Histories.{legal_first, legal_rest, book_from-append, book_push, calls_append}
+use Rattle.grub_book.proofs.Histories.{legal_first, legal_rest, book_more, book_push, calls_append}
 use Rattle.grub_book.proofs.Claims.{outside_same}
 use Rattle.grub_table.specs.declared.view.Mark.{Mark}
 use Rattle.grub_table.specs.declared.view.Mark.TheVariants.{Taken, Given}
-use Rattle.grub_table.specs.Marks.{Holders, nobody_holds, handed, held_from, holder_of}
-use Rattle.grub_table.proofs.Marks.{handed_else, handed_here}
+use Rattle.grub_table.specs.Marks.{holder_after, holder_of}
+use Rattle.grub_table.proofs.Marks.{given_else, given_here, taken_else, taken_here}
 use Rattle.grub_workers.specs.inside.Evidence.{TakesElse, CallsElse}
 use Rattle.grub_workers.proofs.Elements.{Somewhere, any_of, filter_none, somewhere_left, somewhere_right, all_left, all_right}
 
@@ -36,7 +37,7 @@ replied_else t book u ne (Some reply) m = refl
 replied_else t book u ne None m = get_or-set_other book u t m.0 _ ne
 
 -- a task whose record became another was held by the maker of one of these events
-moved : (s : Machine) (i t : ℕ) (book : Records) (es : List Event) → All (λ e. pass_of e ≢ i) es → IsLegalFrom s book es → record_at (book_from s book es) t ≢ record_at book t → Somewhere (CallsElse i t) es
+moved : (s : Machine) (i t : ℕ) (book : Records) (es : List Event) → All (λ e. pass_of e ≢ i) es → IsLegalFrom s book es → record_at (fold (after s) book es) t ≢ record_at book t → Somewhere (CallsElse i t) es
 moved s i t book [] o legal ne = absurd (ne refl)
 moved s i t book (Look j q n ∷ es) o legal ne = inr (moved s i t book es (All-tail (λ e. pass_of e ≢ i) (Look j q n) es o) legal.1 ne)
 moved s i t book (Call j u op reply ∷ es) o legal ne = dite (ℕ_discrete u t)
@@ -49,7 +50,7 @@ moved s i t book (Call j u op reply ∷ es) o legal ne = dite (ℕ_discrete u t)
     quiet : is_under_claim reply ≡ false → (step s book u op).0 ≡ book
     quiet off = outside_same s book u op (ap is_under_claim legal.0.2 ∙ off)
 
-    by_claim : (record_at (book_from s book (Call j u op reply ∷ es)) t ≢ record_at (after s book (Call j u op reply)) t → Somewhere (CallsElse i t) es) → u ≡ t → (b : Bool) → is_under_claim reply ≡ b → Somewhere (CallsElse i t) (Call j u op reply ∷ es)
+    by_claim : (record_at (fold (after s) book (Call j u op reply ∷ es)) t ≢ record_at (after s book (Call j u op reply)) t → Somewhere (CallsElse i t) es) → u ≡ t → (b : Bool) → is_under_claim reply ≡ b → Somewhere (CallsElse i t) (Call j u op reply ∷ es)
     by_claim more same true on = inl (same, All-head (λ e. pass_of e ≢ i) (Call j u op reply) es o, on)
     by_claim more same false off = inr (more (λ e. ne (e ∙ ap (λ b. record_at b t) (quiet off))))
 
@@ -67,29 +68,29 @@ calls_between s i t before after a b legal grows own from x y ne =
     let is_b : after ≡ (a ++ x.0) ++ y.0 = y.1 ∙ ap (λ l. l ++ y.0) x.1 in
     let legal_b : IsLegal s (a ++ x.0) = legal_first s (opening_book s) (a ++ x.0) y.0 (subst (IsLegal s) is_b legal) in
     let then = legal_rest s (opening_book s) a x.0 legal_b in
-    let book : book_of s b ≡ book_from s (book_of s a) x.0 = ap (book_of s) x.1 ∙ book_from-append s (opening_book s) a x.0 in
+    let book = ap (book_of s) x.1 ∙ book_more s a x.0 in
     let found = moved s i t (book_of s a) x.0 between then (λ e. ne (sym e ∙ ap (λ k. record_at k t) (sym book))) in
     any_of (CallsElse i t) after (subst (Somewhere (CallsElse i t)) (sym whole) (somewhere_right (CallsElse i t) (before ++ from.0) (x.0 ++ y.0) (somewhere_left (CallsElse i t) x.0 y.0 found)))
 
 -- ---- a task that is held was taken
-taken_else : (i t j : ℕ) → j ≢ i → (g : Holders) (ms : List Mark) → held_from g ms t ≡ Some j → (g t ≡ Some j) ⊎ Somewhere (TakesElse i t) ms
-taken_else i t j ne g [] is = inl is
-taken_else i t j ne g (Taken k u ∷ ms) is = ⊎_elim
-    (λ (h : handed g u (Some k) t ≡ Some j). dite (ℕ_discrete t u)
-    (λ same. let here : Some k ≡ Some j = sym (handed_here g u (Some k)) ∙ ap (λ v. handed g u (Some k) v) (sym same) ∙ h in
+held_elsewhere : (i t j : ℕ) → j ≢ i → (holder : Option ℕ) (ms : List Mark) → fold (holder_after t) holder ms ≡ Some j → (holder ≡ Some j) ⊎ Somewhere (TakesElse i t) ms
+held_elsewhere i t j ne holder [] is = inl is
+held_elsewhere i t j ne holder (Taken k u ∷ ms) is = ⊎_elim
+    (λ (h : holder_after t holder (Taken k u) ≡ Some j). dite (ℕ_discrete t u)
+    (λ same. let here : Some k ≡ Some j = sym (taken_here t k holder) ∙ ap (λ v. holder_after t holder (Taken k v)) same ∙ h in
     let by : k ≡ j = ap (λ o. unwrap_or o 0) here in inr (inl (sym same, (λ e. ne (sym by ∙ e)))))
-    (λ other. inl (sym (handed_else g u (Some k) t other) ∙ h)))
+    (λ other. inl (sym (taken_else t k u holder other) ∙ h)))
     (λ h. inr (inr h))
-    (taken_else i t j ne (handed g u (Some k)) ms is)
-taken_else i t j ne g (Given k u ∷ ms) is = ⊎_elim
-    (λ (h : handed g u None t ≡ Some j). dite (ℕ_discrete t u)
-    (λ same. let here : None ≡ Some j = sym (handed_here g u None) ∙ ap (λ v. handed g u None v) (sym same) ∙ h in absurd (cc))
-    (λ other. inl (sym (handed_else g u None t other) ∙ h)))
+    (held_elsewhere i t j ne (holder_after t holder (Taken k u)) ms is)
+held_elsewhere i t j ne holder (Given k u ∷ ms) is = ⊎_elim
+    (λ (h : holder_after t holder (Given k u) ≡ Some j). dite (ℕ_discrete t u)
+    (λ same. let here : None ≡ Some j = sym (given_here t k holder) ∙ ap (λ v. holder_after t holder (Given k v)) same ∙ h in absurd (cc))
+    (λ other. inl (sym (given_else t k u holder other) ∙ h)))
     (λ h. inr (inr h))
-    (taken_else i t j ne (handed g u None) ms is)
+    (held_elsewhere i t j ne (holder_after t holder (Given k u)) ms is)
 
 pub held_else : (i t : ℕ) (ms : List Mark) → (j : ℕ) → holder_of ms t ≡ Some j → j ≢ i → Any (TakesElse i t) ms
-held_else i t ms j is ne = any_of (TakesElse i t) ms (⊎_elim (λ (e : nobody_holds t ≡ Some j). absurd (cc)) (λ k. k) (taken_else i t j ne nobody_holds ms is))
+held_else i t ms j is ne = any_of (TakesElse i t) ms (⊎_elim (λ (e : None ≡ Some j). absurd (cc)) (λ k. k) (held_elsewhere i t j ne None ms is))
 
 -- ---- what a lost try shows
 -- the history has an event of another pass than i, at which the reading of runqueue r becomes another

@@ -30,11 +30,10 @@ use Rattle.grub_plan.specs.declared.entry.Entry.{Entry}
 use Rattle.grub_plan.specs.declared.entry.Report.{Report}
 use Rattle.grub_asks.specs.Asked.{Asked}
 use Rattle.grub_plan.specs.Plans.{Line, PlanView}
-use Rattle.grub_asks.specs.Answers.{IsAnswerTo, event_told, events_told}
+use Rattle.grub_asks.specs.Answers.{IsAnswered, event_told, events_told}
 use Rattle.grub_workers.specs.Entries.{HeldTask}
 use Rattle.grub_workers.specs.Evidence.{IsOvertaken}
 use Rattle.grub_workers.specs.Handles.{script_at}
-use Rattle.grub_asks.specs.Answers.{IsGivenUp}
 use Rattle.grub_workers.specs.Runs.{HeldElsewhere, IsNotVain, IsOnlyRun, IsReportOf, IsRun, entries_of}
 use Rattle.grub_workers.specs.Apart.{AllApart, IsAnsweredAt, IsApart, IsOnlyReport, Names}
 use Rattle.grub_workers.proofs.Apart.{Agrees, IsAt, IsOneSided, IsSameAt, Splits, reading_after, retune_at, same_get, splits, timer_at}
@@ -133,11 +132,6 @@ changes_at Q x ops.Exit free on at named = exit_at x.place on at
     exit_at Gone is at' = absurd (cc)
     exit_at (On r state) is at' = at'
 
-rightly_answered : (s : Machine) (tries : ℕ) (h : List Event) (rs : List Report) (i : ℕ) (ask : Ask) (answer : Answer) → IsNotVain s tries h rs i ask answer → IsAnswerTo ask answer
-rightly_answered s tries h rs i (Call t op) Busy v = tt
-rightly_answered s tries h rs i (Call t op) Lost v = tt
-rightly_answered s tries h rs i ask answer v = v
-
 module _ (plan : PlanView) (tries : ℕ) (rs : List Report) (last : List Reading) (run : IsRun plan tries rs last) where
   report_at : (j : ℕ) (report : Report) → slice_get rs j ≡ Some report → IsReportOf plan.setup tries run.history rs j (script_at plan.scripts j) (entries_of report)
   report_at j report there =
@@ -215,28 +209,21 @@ module _ (plan : PlanView) (tries : ℕ) (rs : List Report) (last : List Reading
         let changed = changed_else plan.setup i (runqueue_of o.x.place op) tries o.earlier o.point o.none_own o.changes some in
         not_changed (subst (λ r. ChangesElse plan.setup i r run.history) at (changes_later plan.setup i (runqueue_of o.x.place op) o.point run.history o.in_history changed))
 
-    not_given_up : 1 ≤ tries → (ask : Ask) (answer : Answer) → IsOwnAsk i Own ask → IsNotVain plan.setup tries run.history rs i ask answer → ¬ IsGivenUp ask answer
-    not_given_up some (Call t op) Busy own v up = not_held t own.0 v
-    not_given_up some (Call t op) Lost own v up = not_overtaken t op some own.0 own.1 v
-    not_given_up some (Call t op) (Replied reply) own v up = up
-    not_given_up some (Call t op) (Seen reading) own v up = up
-    not_given_up some Read (Seen reading) own v up = up
-    not_given_up some Read (Replied reply) own v up = up
-    not_given_up some Read Busy own v up = v
-    not_given_up some Read Lost own v up = v
+    answered_here : 1 ≤ tries → (ask : Ask) (answer : Answer) → IsOwnAsk i Own ask → IsNotVain plan.setup tries run.history rs i ask answer → IsAnswered ask answer
+    answered_here some (Call t op) Busy own v = absurd (not_held t own.0 v)
+    answered_here some (Call t op) Lost own v = absurd (not_overtaken t op some own.0 own.1 v)
+    answered_here some ask answer own v = v
 
     pub answered_own : 1 ≤ tries → IsAnsweredAt i rs
     answered_own some report there = λ k d low.
         let e : Entry = get_or (entries_of report) k d in
-        not_given_up some e.ask e.answer (asks_own i report there k d low) ((report_at i report there).not_vain k d low)
+        answered_here some e.ask e.answer (asks_own i report there k d low) ((report_at i report there).not_vain k d low)
 
     -- its report, as a book of its own could have given it
     pub plain_own : (s : Machine) → IsSameAt i Own plan.setup s → 1 ≤ tries → (report : Report) → slice_get rs i ≡ Some report → IsPlain i s (entries_of report)
     plain_own s like some report there = record {
       legal = subst (IsLegal s) (report_at i report there).calls (splits_like s like run.history [] (sym (append-nil run.history))).legal;
-      answered = λ k d low.
-          let e : Entry = get_or (entries_of report) k d in
-          (rightly_answered plan.setup tries run.history rs i e.ask e.answer ((report_at i report there).not_vain k d low), answered_own some report there k d low);
+      answered = answered_own some report there;
     }
 
     pub reading_own : (s : Machine) → IsSameAt i Own plan.setup s → (report : Report) (reading : Reading) → slice_get rs i ≡ Some report → slice_get last i ≡ Some reading → reading ≡ reading_of (book_of s (events_told i (entries_of report))) i

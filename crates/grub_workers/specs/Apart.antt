@@ -1,29 +1,17 @@
 -- Files whose tasks no other file names: their reports do not depend on the schedule.
-use Rattle.std.specs.Prelude.{◌≡◌, ◌≢◌, ◌<◌, ◌≤◌, ℕ, List, Option, Some, None, length, map, slice_get}
+use Rattle.std.specs.Prelude.{◌≡◌, ◌≢◌, ◌<◌, ◌≤◌, ℕ, List, Some, length, map, slice_get}
 use Rattle.std.specs.List.{All, Any}
 use Rattle.grub_book.specs.declared.event.Reading.{Reading}
 use Rattle.grub_plan.specs.declared.entry.Entry.{Entry}
 use Rattle.grub_plan.specs.declared.entry.Report.{Report}
-use Rattle.grub_plan.specs.declared.line.Act.{Act}
-use Rattle.grub_plan.specs.declared.line.Act.TheVariants.{Join, Wake, Block, Leave, Exit, Run, Retune, Read}
-use Rattle.grub_plan.specs.Plans.{Line, PlanView}
+use Rattle.grub_plan.specs.Plans.{Line, PlanView, named}
 use Rattle.grub_workers.specs.Handles.{script_at}
-use Rattle.grub_asks.specs.Answers.{IsGivenUp}
+use Rattle.grub_asks.specs.Answers.{IsAnswered}
 use Rattle.grub_workers.specs.Runs.{IsOnlyRun, IsRun, entries_of}
-
-abbrev pub task_of : Act ℕ ℕ → Option ℕ
-task_of (Join t) = Some t
-task_of (Wake t) = Some t
-task_of (Block t) = Some t
-task_of (Leave t) = Some t
-task_of (Exit t) = Some t
-task_of (Run t dt) = Some t
-task_of (Retune t q p) = Some t
-task_of Read = None
 
 -- a line of the script names task t
 abbrev pub Names : List Line → ℕ → Type 0
-Names script t = Any (λ (line : Line). task_of line.act ≡ Some t) script
+Names script t = Any (λ (line : Line). named line.act ≡ Some t) script
 
 -- no other file names a task that file i names
 abbrev pub IsApart : PlanView → ℕ → Type 0
@@ -40,9 +28,9 @@ pub record IsLikeAt (i : ℕ) (plan other : PlanView) : Type 0 where
   pub tasks : (t : ℕ) → Names (script_at plan.scripts i) t → slice_get other.setup.tasks t ≡ slice_get plan.setup.tasks t
   pub apart : IsApart other i
 
--- none of the report's asks was given up
+-- each of the report's asks was answered
 abbrev pub IsAnsweredAt : ℕ → List Report → Type 0
-IsAnsweredAt i reports = (report : Report) → slice_get reports i ≡ Some report → All (λ (e : Entry). ¬ IsGivenUp e.ask e.answer) (entries_of report)
+IsAnsweredAt i reports = (report : Report) → slice_get reports i ≡ Some report → All (λ (e : Entry). IsAnswered e.ask e.answer) (entries_of report)
 
 -- whatever the schedule, the tries (one at least), the other files, their runqueues and their tasks, a run gives no other report i and no other closing reading of its runqueue
 abbrev pub IsOnlyReport : PlanView → ℕ → List Report → List Reading → Type 0

@@ -1,5 +1,5 @@
 -- What a run gives: reports and readings, over one history.
-use Rattle.std.specs.Prelude.{◌≡◌, ◌≢◌, ◌<◌, ◌≤◌, ℕ, List, length, map, slice_get, Some}
+use Rattle.std.specs.Prelude.{◌≡◌, ◌≢◌, ◌<◌, ◌≤◌, ℕ, List, length, map, slice_get, Some, ⊤}
 use Rattle.std.specs.List.{All, Any}
 use Rattle.grub_book.specs.Machine.{Machine}
 use Rattle.grub_book.specs.Sums.{reading_of}
@@ -15,7 +15,7 @@ use Rattle.grub_plan.specs.declared.entry.Entry.{Entry}
 use Rattle.grub_plan.specs.declared.entry.Report.{Report}
 use Rattle.grub_asks.specs.Asked.{Asked}
 use Rattle.grub_plan.specs.Plans.{Line, PlanView}
-use Rattle.grub_asks.specs.Answers.{AreAsksOf, IsAnswerTo, events_told}
+use Rattle.grub_asks.specs.Answers.{AreAsksOf, IsAnswered, events_told}
 use Rattle.grub_workers.specs.Entries.{HeldTask}
 use Rattle.grub_workers.specs.Evidence.{IsOvertaken}
 
@@ -35,7 +35,7 @@ pub record HeldElsewhere (reports : List Report) (i t : ℕ) : Type 0 where
 abbrev pub IsNotVain : Machine → ℕ → List Event → List Report → ℕ → Ask → Answer → Type 0
 IsNotVain s tries h reports i (Call t op) Busy = HeldElsewhere reports i t
 IsNotVain s tries h reports i (Call t op) Lost = IsOvertaken s tries i t op h
-IsNotVain s tries h reports i ask answer = IsAnswerTo ask answer
+IsNotVain s tries h reports i ask answer = IsAnswered ask answer
 
 -- report i is that of its script in this history
 pub record IsReportOf (s : Machine) (tries : ℕ) (h : List Event) (reports : List Report) (i : ℕ) (script : List Line) (entries : List Entry) : Type 0 where
@@ -54,17 +54,18 @@ pub record IsRun (plan : PlanView) (tries : ℕ) (reports : List Report) (closin
   pub one_reading_each : length closing ≡ length plan.scripts
   pub readings : (r : ℕ) (reading : Reading) → slice_get closing r ≡ Some reading → reading ≡ reading_of (book_of plan.setup history) r
 
-abbrev pub IsLostCharge : Ask → Answer → Type 0
-IsLostCharge (Call t (Charge r dt)) Lost = Unit {0}
-IsLostCharge ask answer = ⊥
+-- it is no charge that was lost
+abbrev pub IsNoLostCharge : Ask → Answer → Type 0
+IsNoLostCharge (Call t (Charge r dt)) Lost = ⊥
+IsNoLostCharge ask answer = ⊤
 
 -- each entry of each report is on a task of the plan
 abbrev pub AllAsksOf : PlanView → List Report → Type 0
 AllAsksOf plan reports = All (λ (report : Report). AreAsksOf plan.setup (entries_of report)) reports
 
--- no entry of any report is so
-abbrev pub NoEntry : (Ask → Answer → Type 0) → List Report → Type 0
-NoEntry P reports = All (λ (report : Report). All (λ (e : Entry). ¬ P e.ask e.answer) (entries_of report)) reports
+-- each entry of each report is so
+abbrev pub EachEntry : (Ask → Answer → Type 0) → List Report → Type 0
+EachEntry P reports = All (λ (report : Report). All (λ (e : Entry). P e.ask e.answer) (entries_of report)) reports
 
 -- no other reports and readings than these are what a run of the plan gives, with however many tries, but one at least
 abbrev pub IsOnlyRun : PlanView → List Report → List Reading → Type 0

@@ -1,8 +1,8 @@
 //! A run: a table, a worker for each file, and the closing readings.
 ghost use Rattle.std.specs.Prelude.{◌≡◌, ◌≤◌, IfOk, length};
 ghost use Rattle.grub_workers.specs.Apart.{AreOwn};
-ghost use Rattle.grub_asks.specs.Answers.{IsGivenUp};
-ghost use Rattle.grub_workers.specs.Runs.{AllAsksOf, IsLostCharge, IsOnlyRun, IsRun, NoEntry};
+ghost use Rattle.grub_asks.specs.Answers.{IsAnswered};
+ghost use Rattle.grub_workers.specs.Runs.{AllAsksOf, EachEntry, IsNoLostCharge, IsOnlyRun, IsRun};
 
 use crate::gate::Gate;
 use crate::scoped::{Done, run_scoped};
@@ -62,7 +62,7 @@ pub fn run<R: Threads + Wait, G: Gate>(
     requires { 1 ≤ rounds }
     ensures run { IfOk result (λ o. IsRun plan.now tries o.reports.items o.closing.items) }
     ensures tasks { IfOk result (λ o. AllAsksOf plan.now o.reports.items) }
-    ensures charges { IfOk result (λ o. NoEntry IsLostCharge o.reports.items) }
+    ensures charges { IfOk result (λ o. EachEntry IsNoLostCharge o.reports.items) }
 
     // A file whose tasks no other file names has each ask answered, and its report and closing reading are a function of the file, its runqueue and its tasks.
     // Where no two files name one task, so is the whole outcome.
@@ -70,7 +70,7 @@ pub fn run<R: Threads + Wait, G: Gate>(
 
     // With one file alone no ask is given up, and the outcome is a function of the file.
     ensures alone { IfOk result
-        (λ o. length plan.now.scripts ≡ 1 → 1 ≤ tries → NoEntry IsGivenUp o.reports.items) }
+        (λ o. length plan.now.scripts ≡ 1 → 1 ≤ tries → EachEntry IsAnswered o.reports.items) }
     ensures same { IfOk result (λ o. length plan.now.scripts ≡ 1 → 1 ≤ tries
         → IsOnlyRun plan.now o.reports.items o.closing.items) }
 {

@@ -6,13 +6,14 @@ use Rattle.clap.specs.declared.error.kind.ErrorKind.{ErrorKind}
 use Rattle.clap.specs.declared.error.kind.ErrorKind.TheVariants as kinds
 use Rattle.grub_files.specs.declared.input.Source.{Source}
 use Rattle.grub_files.specs.Source.{Opener, Reader}
-use Rattle.grub_run.specs.Written.{WritesPrefix, WritesText}
-use Rattle.grub_serve.specs.Shown.{Shows, ShowsBeginning}
+use Rattle.grub_run.specs.Written.{Begins, IsOutput, Writes}
+use Rattle.grub_serve.specs.Shown.{IsShown}
 use Rattle.grub_serve.specs.declared.view.View.{View as Shown}
 use Rattle.grub_serve.specs.Faults as faults
 use Rattle.grub_serve.specs.Faults.{HasFileFault, Whole}
-use Rattle.grub_command.specs.CommandLine.{ReadsNumber, TriesNamed, command_line, files_named, names_among, view_named}
-use Rattle.grubrun.specs.Statuses.{AsksFor, Begins, HasNoSpan, PrintsAsked, Writes}
+use Rattle.grub_command.specs.CommandLine.{ReadsNumber, TriesNamed, command_line, files_named, view_named}
+use Rattle.grub_command.specs.inside.Files.{names_among}
+use Rattle.grubrun.specs.Statuses.{AsksFor, HasNoSpan, IsWanted, PrintsAsked}
 use Rattle.grubrun.specs.Views.{IsMistake, IsRefused, Wants, wanted_of}
 use Rattle.grubrun.specs.declared.view.Wanted.{Wanted}
 use Rattle.grubrun.specs.declared.view.Wanted.TheVariants.{Reports, View, NoView, NoPicture, EmptySpan}
@@ -33,20 +34,20 @@ wants_one words a b p q =
     p.is ∙ ap (λ (z : Option ℕ × Option ℕ). wanted_of (view_named words) z.0 z.1) (λ i. (from i, to i)) ∙ sym q.is
 
 -- of what there is nothing of, nothing is written
-writes_none : (old new : Option (List ℕ)) (wanted : Wanted) (tries : ℕ) (files : List (List ℕ)) → IsMistake wanted → Writes old new wanted tries files → ⊥
+writes_none : (old new : Option (List ℕ)) (wanted : Wanted) (tries : ℕ) (files : List (List ℕ)) → IsMistake wanted → Writes (IsWanted wanted tries) old new files → ⊥
 writes_none old new Reports tries files mistake writes = mistake
 writes_none old new (View view) tries files mistake writes = mistake
-writes_none old new NoView tries files mistake writes = writes
-writes_none old new NoPicture tries files mistake writes = writes
-writes_none old new (EmptySpan from to) tries files mistake writes = writes
+writes_none old new NoView tries files mistake writes = writes.1
+writes_none old new NoPicture tries files mistake writes = writes.1
+writes_none old new (EmptySpan from to) tries files mistake writes = writes.1
 
 module _ {O N D X : Type 0} (o : Opener O D) (g : Reader N D) (source : Source O N) (contents : X → Option (List ℕ)) (old new : X) where
   -- ---- right words
   abbrev Served : Wanted → ℕ → List (List ℕ) → ℕ → Type 0
   Served wanted tries names n = IsServed o g source contents old new wanted tries names n
 
-  pub reports_served : (wanted : Wanted) (tries : ℕ) (paths names : List (List ℕ)) (n : ℕ) → wanted ≡ Reports → paths ≡ names → (n ≡ 0) ⊎ (n ≡ 1) ⊎ (n ≡ 3) → (n ≡ 0 → Whole o g source (WritesText tries (contents old) (contents new)) paths)
-      → (n ≡ 1 → HasFileFault o g source paths) → (n ≡ 1 → new ≡ old) → (n ≡ 3 → (new ≡ old) ⊎ Whole o g source (WritesPrefix tries (contents old) (contents new)) paths) → Served wanted tries names n
+  pub reports_served : (wanted : Wanted) (tries : ℕ) (paths names : List (List ℕ)) (n : ℕ) → wanted ≡ Reports → paths ≡ names → (n ≡ 0) ⊎ (n ≡ 1) ⊎ (n ≡ 3) → (n ≡ 0 → Whole o g source (Writes (IsOutput tries) (contents old) (contents new)) paths)
+      → (n ≡ 1 → HasFileFault o g source paths) → (n ≡ 1 → new ≡ old) → (n ≡ 3 → (new ≡ old) ⊎ Whole o g source (Begins (IsOutput tries) (contents old) (contents new)) paths) → Served wanted tries names n
   reports_served wanted tries paths names n is same status done file nothing failed =
       subst (λ w. Served w tries names n) (sym is) (subst (λ l. Served Reports tries l n) same (record {
         most = omega arith;
@@ -60,8 +61,8 @@ module _ {O N D X : Type 0} (o : Opener O D) (g : Reader N D) (source : Source O
         failed = failed;
       }))
 
-  pub view_served : (wanted : Wanted) (view : Shown) (tries : ℕ) (paths names : List (List ℕ)) (n : ℕ) → wanted ≡ View view → paths ≡ names → (n ≡ 0) ⊎ (n ≡ 1) ⊎ (n ≡ 2) ⊎ (n ≡ 3) → (n ≡ 0 → Whole o g source (Shows view (contents old) (contents new)) paths)
-      → (n ≡ 1 → HasFileFault o g source paths) → (n ≡ 2 → Whole o g source (faults.HasNoSpan view) paths) → ((n ≡ 1) ⊎ (n ≡ 2) → new ≡ old) → (n ≡ 3 → (new ≡ old) ⊎ Whole o g source (ShowsBeginning view (contents old) (contents new)) paths) → Served wanted tries names n
+  pub view_served : (wanted : Wanted) (view : Shown) (tries : ℕ) (paths names : List (List ℕ)) (n : ℕ) → wanted ≡ View view → paths ≡ names → (n ≡ 0) ⊎ (n ≡ 1) ⊎ (n ≡ 2) ⊎ (n ≡ 3) → (n ≡ 0 → Whole o g source (Writes (IsShown view) (contents old) (contents new)) paths)
+      → (n ≡ 1 → HasFileFault o g source paths) → (n ≡ 2 → Whole o g source (faults.HasNoSpan view) paths) → ((n ≡ 1) ⊎ (n ≡ 2) → new ≡ old) → (n ≡ 3 → (new ≡ old) ⊎ Whole o g source (Begins (IsShown view) (contents old) (contents new)) paths) → Served wanted tries names n
   view_served wanted view tries paths names n is same status done file usage nothing failed =
       subst (λ w. Served w tries names n) (sym is) (subst (λ l. Served (View view) tries l n) same (record {
         most = omega arith;
@@ -98,13 +99,13 @@ module _ {O N D X : Type 0} (o : Opener O D) (g : Reader N D) (source : Source O
       | inr says ↦ inr (asks HasNoSpan says)
     ]
 
-    pub right_done : n ≡ 0 → IsRefused words ⊎ AsksFor o g source (Writes (contents old) (contents new)) words
-    right_done is = inr (asks (Writes (contents old) (contents new)) (served.done is))
+    pub right_done : n ≡ 0 → IsRefused words ⊎ AsksFor o g source (λ wanted tries. Writes (IsWanted wanted tries) (contents old) (contents new)) words
+    right_done is = inr (asks (λ wanted tries. Writes (IsWanted wanted tries) (contents old) (contents new)) (served.done is))
 
-    pub right_failed : n ≡ 3 → IsRefused words ⊎ (new ≡ old) ⊎ AsksFor o g source (Begins (contents old) (contents new)) words
+    pub right_failed : n ≡ 3 → IsRefused words ⊎ (new ≡ old) ⊎ AsksFor o g source (λ wanted tries. Begins (IsWanted wanted tries) (contents old) (contents new)) words
     right_failed is = elim (served.failed is) [
       | inl same ↦ inr (inl same)
-      | inr says ↦ inr (inr (asks (Begins (contents old) (contents new)) says))
+      | inr says ↦ inr (inr (asks (λ wanted tries. Begins (IsWanted wanted tries) (contents old) (contents new)) says))
     ]
 
     pub right_help : fault_of command_line words ≡ [] → IsRefused words → n ≡ 0 → PrintsAsked words (contents old) (contents new)

@@ -3,8 +3,8 @@ use Rattle.std.specs.Prelude.{◌⊎◌, ℕ, List, Option}
 use Rattle.std.specs.Io.KnownBytes.{Appends}
 use Rattle.grub_files.specs.declared.input.Source.{Source}
 use Rattle.grub_files.specs.Source.{Opener, Reader}
-use Rattle.grub_run.specs.Written.{WritesPrefix, WritesText}
-use Rattle.grub_serve.specs.Shown.{Shows, ShowsBeginning}
+use Rattle.grub_run.specs.Written.{IsOutput}
+use Rattle.grub_serve.specs.Shown.{IsShown}
 use Rattle.grub_serve.specs.Faults as faults
 use Rattle.grub_serve.specs.Faults.{Whole}
 use Rattle.grub_command.specs.declared.texts.TheConstants.{HELP, VERSION}
@@ -17,17 +17,11 @@ use Rattle.grubrun.specs.declared.view.Wanted.TheVariants as wishes
 abbrev pub PrintsAsked : List (List ℕ) → Option (List ℕ) → Option (List ℕ) → Type 0
 PrintsAsked words old new = (AsksForHelp words × Appends old new HELP.now) ⊎ (AsksForVersion words × Appends old new VERSION.now)
 
--- what is asked for was written of these files: the reports of a run with so many tries, or a view of their time line
-abbrev pub Writes : Option (List ℕ) → Option (List ℕ) → Wanted → ℕ → List (List ℕ) → Type 0
-Writes old new wishes.Reports tries files = WritesText tries old new files
-Writes old new (wishes.View view) tries files = Shows view old new files
-Writes old new nothing tries files = ⊥
-
--- a beginning of it was written
-abbrev pub Begins : Option (List ℕ) → Option (List ℕ) → Wanted → ℕ → List (List ℕ) → Type 0
-Begins old new wishes.Reports tries files = WritesPrefix tries old new files
-Begins old new (wishes.View view) tries files = ShowsBeginning view old new files
-Begins old new nothing tries files = ⊥
+-- the text is what is asked for of these files: the reports of a run with so many tries, or a view of their time line
+abbrev pub IsWanted : Wanted → ℕ → List (List ℕ) → List ℕ → Type 0
+IsWanted wishes.Reports tries files text = IsOutput tries files text
+IsWanted (wishes.View view) tries files text = IsShown view files text
+IsWanted nothing tries files text = ⊥
 
 -- what is asked for is a picture of these files that would not begin before it ends
 abbrev pub HasNoSpan : Wanted → ℕ → List (List ℕ) → Type 0

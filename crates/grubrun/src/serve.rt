@@ -8,8 +8,10 @@ ghost use Rattle.clap.specs.Words.{FailsBy, fault_of, found_of, matches_of, rows
 ghost use Rattle.clap.specs.declared.error.kind.ErrorKind.TheVariants as kinds;
 ghost use Rattle.std.specs.declared.io.ErrorKind.TheVariants as io_kinds;
 ghost use Rattle.grub_serve.specs.Faults.{HasFileFault};
-ghost use Rattle.grub_command.specs.CommandLine.{TriesNamed, command_line, files_named, names_among};
-ghost use Rattle.grubrun.specs.Statuses.{AsksFor, Begins, HasNoSpan, PrintsAsked, Writes};
+ghost use Rattle.grub_command.specs.CommandLine.{TriesNamed, command_line, files_named};
+ghost use Rattle.grub_command.specs.inside.Files.{names_among};
+ghost use Rattle.grub_run.specs.Written.{Begins, Writes};
+ghost use Rattle.grubrun.specs.Statuses.{AsksFor, HasNoSpan, IsWanted, PrintsAsked};
 ghost use Rattle.grubrun.specs.inside.Statuses.{IsServed, PrintsKind};
 ghost use Rattle.grubrun.specs.Views.{IsRefused, Wants};
 
@@ -49,12 +51,14 @@ pub fn serve<
     ensures usage { result ≡ STATUS_USAGE → IsRefused (map string_bytes words.now)
         ⊎ AsksFor O.Fn N.Fn source.now HasNoSpan (map string_bytes words.now) }
     ensures done { result ≡ 0
-        → IsRefused (map string_bytes words.now) ⊎ AsksFor O.Fn N.Fn source.now
-        (Writes (W.contents out.old) (W.contents out.new)) (map string_bytes words.now) }
+        → IsRefused (map string_bytes words.now) ⊎ AsksFor O.Fn N.Fn source.now (λ wanted tries.
+        Writes (IsWanted wanted tries) (W.contents out.old) (W.contents out.new))
+        (map string_bytes words.now) }
     // Where the system failed on right words, nothing or a beginning of this was printed.
     ensures failed { result ≡ STATUS_SYSTEM → IsRefused (map string_bytes words.now)
-        ⊎ (out.new ≡ out.old) ⊎ AsksFor O.Fn N.Fn source.now
-        (Begins (W.contents out.old) (W.contents out.new)) (map string_bytes words.now) }
+        ⊎ (out.new ≡ out.old) ⊎ AsksFor O.Fn N.Fn source.now (λ wanted tries.
+        Begins (IsWanted wanted tries) (W.contents out.old) (W.contents out.new))
+        (map string_bytes words.now) }
     // Of the words that are refused, only those that ask for the help or the version are done, and it was printed.
     ensures help { IsRefused (map string_bytes words.now) → result ≡ 0
         → PrintsAsked (map string_bytes words.now) (W.contents out.old) (W.contents out.new) }

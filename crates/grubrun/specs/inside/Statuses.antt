@@ -8,7 +8,8 @@ use Rattle.grub_files.specs.Source.{Opener, Reader}
 use Rattle.grub_serve.specs.Faults.{HasFileFault, Whole}
 use Rattle.grub_serve.specs.declared.fault.TheConstants.{STATUS_FILE, STATUS_SYSTEM, STATUS_USAGE}
 use Rattle.grub_command.specs.declared.texts.TheConstants.{HELP, VERSION}
-use Rattle.grubrun.specs.Statuses.{Begins, HasNoSpan, Writes}
+use Rattle.grub_run.specs.Written.{Begins, Writes}
+use Rattle.grubrun.specs.Statuses.{HasNoSpan, IsWanted}
 use Rattle.grubrun.specs.Views.{IsMistake}
 use Rattle.grubrun.specs.declared.view.Wanted.{Wanted}
 
@@ -20,8 +21,8 @@ PrintsKind kind old new = ((kind ≡ kinds.DisplayHelp) × Appends old new HELP.
 module _ {O N D X : Type 0} (o : Opener O D) (g : Reader N D) (source : Source O N) (contents : X → Option (List ℕ)) where
   pub record IsServed (old new : X) (wanted : Wanted) (tries : ℕ) (names : List (List ℕ)) (status : ℕ) : Type 0 where
     pub most : status ≤ 3
-    pub done : status ≡ 0 → Whole o g source (Writes (contents old) (contents new) wanted tries) names
+    pub done : status ≡ 0 → Whole o g source (Writes (IsWanted wanted tries) (contents old) (contents new)) names
     pub file : status ≡ STATUS_FILE → HasFileFault o g source names
     pub usage : status ≡ STATUS_USAGE → IsMistake wanted ⊎ Whole o g source (HasNoSpan wanted tries) names
     pub nothing : (status ≡ STATUS_FILE) ⊎ (status ≡ STATUS_USAGE) → new ≡ old
-    pub failed : status ≡ STATUS_SYSTEM → (new ≡ old) ⊎ Whole o g source (Begins (contents old) (contents new) wanted tries) names
+    pub failed : status ≡ STATUS_SYSTEM → (new ≡ old) ⊎ Whole o g source (Begins (IsWanted wanted tries) (contents old) (contents new)) names

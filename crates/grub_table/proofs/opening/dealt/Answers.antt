@@ -6,6 +6,7 @@ use Rattle.grub_table.specs.declared.view.View.{View}
 use Rattle.grub_table.specs.Calls.{AreNew}
 use Rattle.grub_table.specs.Histories.{IsHistory}
 use Rattle.grub_table.specs.Marks.{AreLawful}
+use Rattle.grub_table.proofs.Marks.{lawful_none}
 use Rattle.grub_table.specs.declared.view.Access.TheVariants.{Load}
 use Rattle.grub_table.specs.inside.Trails.{head_made}
 use Rattle.grub_table.specs.inside.Trails.{each_after, known, trail}
@@ -64,7 +65,7 @@ loop-number-preserved c =
               home = c.split_seat-one.ensures.other ∙ i.table;
               terms = ap (λ m. (first_of m.0).terms) one;
               history = subst (IsHistory T) (sym no_event) (record { legal = tt; numbers = All-nil (λ e. pass_of e < T.passes) });
-              lawful = subst (AreLawful T.passes) (sym no_mark) tt;
+              lawful = subst (AreLawful T.passes) (sym no_mark) (lawful_none T.passes);
             };
             number = omega (arith, count);
             seen = no_event;

@@ -167,8 +167,8 @@ settle-next-requires-clause-fits c = c.requires.held.1.kept.server.fits
 pub settle-next-requires-clause-count : goal.settle-next-requires-clause-count
 settle-next-requires-clause-count c = c.requires.held.1.kept.count
 
-pub settle-next-requires-clause-timely : goal.settle-next-requires-clause-timely
-settle-next-requires-clause-timely c = c.requires.held.1.op.1
+pub settle-next-requires-clause-fits_a_setup : goal.settle-next-requires-clause-fits_a_setup
+settle-next-requires-clause-fits_a_setup c = (c.args.self.now.terms.setup, c.requires.held.1.op)
 
 pub settle-next-requires-clause-running : goal.settle-next-requires-clause-running
 settle-next-requires-clause-running c = (reading_is _ c.requires.held.0 _ _ _ _ _ _ c.requires.held.1 c.runqueue-r.ensures c.load_queue-now.ensures.told).running

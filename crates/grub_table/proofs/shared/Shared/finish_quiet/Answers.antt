@@ -58,8 +58,8 @@ settle-reply-requires-clause-fits c = c.requires.of.kept.server.fits
 pub settle-reply-requires-clause-count : goal.settle-reply-requires-clause-count
 settle-reply-requires-clause-count c = c.requires.of.kept.count
 
-pub settle-reply-requires-clause-timely : goal.settle-reply-requires-clause-timely
-settle-reply-requires-clause-timely c = c.requires.of.op.1
+pub settle-reply-requires-clause-fits_a_setup : goal.settle-reply-requires-clause-fits_a_setup
+settle-reply-requires-clause-fits_a_setup c = (c.args.self.now.terms.setup, c.requires.of.op)
 
 pub settle_server-requires-clause-held : goal.settle_server-requires-clause-held
 settle_server-requires-clause-held c =

@@ -21,7 +21,7 @@ use Rattle.grub_table.specs.declared.view.Mark.TheVariants.{Taken, Given}
 use Rattle.grub_table.specs.declared.view.Share.{Share}
 use Rattle.grub_table.specs.declared.view.Terms.{Terms}
 use Rattle.grub_table.specs.inside.Between.{HoldsFor, HoldsMade, Tells, SawTask, SawRecord}
-use Rattle.grub_table.specs.Calls.{share_on, share_of, seen, marks, ComesFrom, number_of, IsAnswered, IsTaken, IsBusy, IsSighting, IsEarly, marks_of_call}
+use Rattle.grub_table.specs.Calls.{share_on, share_of, seen, marks, ComesFrom, number_of, IsAnswered, IsTaken, IsBusy, IsSighting, marks_of_call}
 use Rattle.grub_table.specs.Histories.{record_in}
 use Rattle.grub_table.specs.Knowing.{GoesOn, Learns}
 use Rattle.grub_table.specs.Layout.{shown}
@@ -198,7 +198,7 @@ module _ (s : Shared) (p : Pass) (t : ℕ) (op : Op) where
               of = record { home = l.seat.home; terms = l.seat.terms; history = f.0; lawful = marked.0 };
               learns = record { number = l.number ∙ number3; seen = f.1; marked = subst (λ r. GoesOn marker_of i x.marks (marks q) (marks_of_call i t r)) (sym z.1) marked.1 };
               last = f.2;
-              soon = λ _. subst IsEarly (sym z.1) tt;
+              soon = λ _. z;
             }
 
 -- ---- the answers
