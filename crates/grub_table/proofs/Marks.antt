@@ -1,5 +1,5 @@
 -- Who holds which task, along the marks.
-use Rattle.std.proofs.Common.{◌≡◌, ◌≢◌, ◌⊎◌, ℕ, inl, inr, cond, List, [], ◌∷◌, ◌++◌, refl, sym, subst, ap, eq-eqb, ne_eqb, Option, Some, None}
+use Rattle.std.proofs.Common.{◌≡◌, ◌≢◌, ◌⊎◌, ℕ, inl, inr, cond, List, [], ◌∷◌, ◌++◌, refl, subst, ap, eq-eqb, ne_eqb, Option, Some, None}
 use Rattle.std.proofs.lemmas.List.Sums.{fold_push}
 use Rattle.grub_table.specs.declared.view.Mark.{Mark}
 use Rattle.grub_table.specs.declared.view.Mark.TheVariants.{Taken, Given}
