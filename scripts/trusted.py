@@ -119,19 +119,20 @@ def public_names(folder):
     return names, set(re.findall(r"\bpub mod (\w+)", text))
 
 
-FUNCTION = re.compile(r"^( *)(pub )?(?:pub\(\w+\) )?(?:const )?fn (\w+)", re.M)
+FUNCTION = re.compile(r"^( *)(pub(?:\(\w+\))? )?(?:const )?fn (\w+)", re.M)
 CLAUSE = re.compile(r"\b(?:requires|ensures)\b[^{;\n]*\{")
 ITEM = re.compile(r"^(?:pub )?(impl|trait|struct|enum)\b([^{;]*)", re.M)
 GHOST = re.compile(r"\bghost (?:Value|coded|output)\s*=\s*\{")
 
 
-def contract_words(text, public, is_open):
+def contract_words(text, public, is_open, is_program):
     """The words of all public contracts in a file of Rust."""
     text, words = blanked(text), set()
     items = [(it.start(), it.group(1), it.group(2)) for it in ITEM.finditer(text)]
     starts = [it.start() for it in FUNCTION.finditer(text)] + [len(text)]
     for at, match in enumerate(FUNCTION.finditer(text)):
-        indent, is_public, name = match.groups()
+        indent, shown, name = match.groups()
+        is_public = shown == "pub " or shown and is_program
         before = [it for it in items if it[0] < match.start()]
         kind, head = before[-1][1:] if indent and before else ("", "")
         of = set(WORD.findall(head)) & public
@@ -197,12 +198,13 @@ def trusted(found, imports, files, names):
     for crate in names:
         folder = f"{ROOT}/crates/{crate}"
         public, open_modules = public_names(folder)
+        is_program = os.path.isfile(f"{folder}/src/main.rt")
         for path in files_below(f"{folder}/src", ".rt"):
             if "tests" in os.path.relpath(path, folder):
                 continue
             text = text_of(path)
             is_open = os.path.basename(path)[:-3] in open_modules
-            left += meant(contract_words(text, public, is_open), None, imports_of(text, files), found)
+            left += meant(contract_words(text, public, is_open, is_program), None, imports_of(text, files), found)
     reached = set()
     while left:
         it = left.pop()

@@ -1,7 +1,7 @@
 -- Where each answer is determined by what was asked before, so is the list of entries.
 use Rattle.std.proofs.Common.{◌≡◌, ◌⊎◌, ℕ, ◌<◌, ◌≤◌, List, [], ◌∷◌, ◌++◌, sym, ap, ◌∙◌, subst, ⊎_elim, arith, Some}
 use Rattle.std.specs.List.{FoldsTo}
-use Rattle.grub_book.specs.History.{StartsWith}
+use mathlib.Core.List.{IsPrefix}
 use Rattle.grub_book.specs.declared.op.Op.TheVariants as ops
 use Rattle.grub_book.specs.declared.reply.Reply.TheVariants as replies
 use Rattle.grub_plan.specs.Plans.{Line}
@@ -21,7 +21,7 @@ use Rattle.grub_asks.proofs.Starts.{follows_start, joins_start, next_start, scri
 -- ---- lines of runqueue own; P holds of what is answered by a book, and of each beginning of it
 module _
     (own : ℕ) (P : List Entry → Type 0)
-    (prefix : (later earlier : List Entry) → StartsWith later earlier → P later → P earlier)
+    (prefix : (later earlier : List Entry) → IsPrefix earlier later → P later → P earlier)
     (one : (m : ℕ) (ask : Ask) (before : List Entry) (a b : Answer) → P (before ++ entry m ask a ∷ []) → P (before ++ entry m ask b ∷ []) → a ≡ b) where
   same_entry : (m : ℕ) (ask : Ask) (before j k : List Entry) (a b : Answer) → j ≡ before ++ entry m ask a ∷ [] → k ≡ before ++ entry m ask b ∷ [] → P j → P k → (a ≡ b) × (j ≡ k)
   same_entry m ask before j k a b first second p q =
@@ -59,10 +59,10 @@ module _
       let one = f.1.next in let two = g.1.next in
       let alike = first_alike x y (one.least y two.armed two.due) (two.least x one.armed one.due) in
       let ask : ℕ → ℕ → ℕ → Answer → Entry = λ z t ticket answer. entry z (Call t (ops.Timer ticket z)) answer in
-      let list : g.0 ≡ before ++ ask x.z x.t x.ticket g.1.goes_on.answer ∷ [] = g.1.goes_on.list ∙ λ i. before ++ ask (sym alike.0 i) (sym alike.1.0 i) (sym alike.1.1 i) g.1.goes_on.answer ∷ [] in
+      let list : g.0 ≡ before ++ ask x.z x.t x.ticket g.1.asks.answer ∷ [] = g.1.asks.list ∙ λ i. before ++ ask (sym alike.0 i) (sym alike.1.0 i) (sym alike.1.1 i) g.1.asks.answer ∷ [] in
       let plain = prefix j f.0 (timers_start m xs f.0 j f.2) p in
       let plain' = prefix k g.0 (timers_start m ys g.0 k g.2) q in
-      let same = same_entry x.z (Call x.t (ops.Timer x.ticket x.z)) before f.0 g.0 f.1.goes_on.answer g.1.goes_on.answer f.1.goes_on.list list plain plain' in
+      let same = same_entry x.z (Call x.t (ops.Timer x.ticket x.z)) before f.0 g.0 f.1.asks.answer g.1.asks.answer f.1.asks.list list plain plain' in
       due_alike m xs ys f.0 j k f.2 (subst (λ es. FoldsTo (AsksTimer m) es ys k) (sym same.1) g.2) none none' p q
 
   -- ---- lines

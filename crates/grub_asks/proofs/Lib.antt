@@ -4,3 +4,4 @@ pub mod Kept
 pub mod Lines
 pub mod Starts
 pub mod Alike
+pub mod Parts

@@ -20,11 +20,7 @@ use Rattle.grub_book.proofs.Cases.{of_timer}
 use Rattle.grub_book.proofs.Claims.{refused_outside}
 use Rattle.grub_asks.specs.Keeping.{IsBlockBefore}
 
--- neither of two replies waits
-neither : {P : Type 0} (b : Bool) (x y : Record × Reply) (ticket z : ℕ) → (x.1 ≡ Waiting ticket z → P) → (y.1 ≡ Waiting ticket z → P) → (cond b x y).1 ≡ Waiting ticket z → P
-neither true x y ticket z f g is = f is
-neither false x y ticket z f g is = g is
-
+-- of two replies at most the first waits
 first_only : {P : Type 0} (b : Bool) (x y : Record × Reply) (ticket z : ℕ) → (b ≡ true → x.1 ≡ Waiting ticket z → P) → (y.1 ≡ Waiting ticket z → P) → (cond b x y).1 ≡ Waiting ticket z → P
 first_only true x y ticket z f g is = f refl is
 first_only false x y ticket z f g is = g is
@@ -36,7 +32,7 @@ charged_none x dq (Some (k, t)) ticket z is = absurd (cc)
 waits_settled : (queue : Capacity) (now : Reading) (x : Record) (op : Op) (ticket z : ℕ) → (settled x queue now op).1 ≡ Waiting ticket z → IsBlockBefore z op
 waits_settled queue now x (Join r m) ticket z is =
     let y = arrived x r m in
-    neither (nat_lt queue.most (now.this + bandwidth_of x.params)) (x, Full) (y, Joined y.server.q y.server.d) ticket z (λ e. absurd (cc)) (λ e. absurd (cc)) is
+    first_only (nat_lt queue.most (now.this + bandwidth_of x.params)) (x, Full) (y, Joined y.server.q y.server.d) ticket z (λ _ e. absurd (cc)) (λ e. absurd (cc)) is
 waits_settled queue now x (Wake r m) ticket z is = absurd (cc)
 waits_settled queue now x (Block r m) ticket z is =
     let waits : Record = record x { place = On r NonContending; count = x.count + 1 } in
@@ -50,7 +46,7 @@ waits_settled queue now x (Timer k m) ticket z is =
 waits_settled queue now x Exit ticket z is = absurd (cc)
 waits_settled queue now x (Retune q p) ticket z is =
     let params : Reservation = record { runtime = q; period = p } in
-    neither (is_inactive x.place && nat_lt (queue.most + bandwidth_of x.params) (now.this + bandwidth_of params)) (x, Full) (record x { params = params; server = record { q = q; d = 0 } }, Retuned) ticket z (λ e. absurd (cc)) (λ e. absurd (cc)) is
+    first_only (is_inactive x.place && nat_lt (queue.most + bandwidth_of x.params) (now.this + bandwidth_of params)) (x, Full) (record x { params = params; server = record { q = q; d = 0 } }, Retuned) ticket z (λ _ e. absurd (cc)) (λ e. absurd (cc)) is
 waits_settled queue now x (Charge r dt) ticket z is =
     let dq = charge_of dt (bandwidth_of x.params) queue now.running now.this in
     charged_none x dq (depleted_of x.server x.params dq) ticket z is

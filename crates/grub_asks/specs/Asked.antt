@@ -17,15 +17,15 @@ use Rattle.grub_asks.specs.Timers.{armed, IsNextDue, NoneDue}
 abbrev pub entry : ℕ → Ask → Answer → Entry
 entry m ask answer = record { m = m; ask = ask; answer = answer }
 
--- the list goes on by one entry with this moment and ask
-pub record GoesOn (m : ℕ) (ask : Ask) (before after : List Entry) : Type 0 where
+-- one entry more, with this moment and ask
+pub record AsksOne (m : ℕ) (ask : Ask) (before after : List Entry) : Type 0 where
   pub answer : Answer
   pub list : after ≡ before ++ entry m ask answer ∷ []
 
 -- the next timer that is due by m is asked for, at its own moment
 pub record AsksTimer (m : ℕ) (before : List Entry) (timer : Timer) (after : List Entry) : Type 0 where
   pub next : IsNextDue (armed before) m timer
-  pub goes_on : GoesOn timer.z (Call timer.t (ops.Timer timer.ticket timer.z)) before after
+  pub asks : AsksOne timer.z (Call timer.t (ops.Timer timer.ticket timer.z)) before after
 
 -- timers that are due by m are asked for until none is left
 pub record AsksDue (m : ℕ) (before after : List Entry) : Type 0 where
@@ -46,7 +46,7 @@ ask_of r m acts.Read = Read
 
 -- where the Leave was answered Left, the task joins here
 abbrev pub JoinsAfter : ℕ → ℕ → ℕ → Answer → List Entry → List Entry → Type 0
-JoinsAfter r m t (Replied (replies.Left s)) before after = GoesOn m (Call t (ops.Join r m)) before after
+JoinsAfter r m t (Replied (replies.Left s)) before after = AsksOne m (Call t (ops.Join r m)) before after
 JoinsAfter r m t answer before after = after ≡ before
 
 -- the task leaves, and where it did it joins here

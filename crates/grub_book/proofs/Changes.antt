@@ -2,9 +2,10 @@
 use Rattle.std.proofs.Common.{◌≡◌, ◌≢◌, ℕ, ◌+◌, ◌≤◌, ◌==◌, ◌&&◌, Bool, true, false, cond, List, [], ◌∷◌, fold, ◌++◌, refl, ap, sym, subst, ◌∙◌, arith}
 use Rattle.std.proofs.lemmas.Bool.{eqb-true}
 use Rattle.std.proofs.lemmas.List.{append_assoc}
+use mathlib.Core.List.{IsPrefix}
 use Rattle.grub_book.specs.Machine.{Machine}
 use Rattle.grub_book.specs.Sums.{Records, reading_of}
-use Rattle.grub_book.specs.History.{after, book_of, is_reading, changes_from, changes_of, StartsWith, HasChanged}
+use Rattle.grub_book.specs.History.{after, book_of, is_reading, changes_from, changes_of, HasChanged}
 use Rattle.grub_book.specs.declared.event.Event.{Event}
 use Rattle.grub_book.specs.declared.event.Reading.{Reading}
 use Rattle.grub_book.proofs.Histories.{book_more}
@@ -40,13 +41,13 @@ changes_some s book r (e ∷ more) other =
     one_of_both (is_reading (reading_of book r) (reading_of (after s book e) r)) (changes_from s (after s book e) r more)
     (λ same. changes_some s (after s book e) r more (λ is. other (is_reading-true _ _ same ∙ is)))
 
-pub changed_none : (s : Machine) (r : ℕ) (earlier later : List Event) → StartsWith later earlier → HasChanged s r earlier later 0
-changed_none s r earlier later starts = (starts.0, starts.1, omega arith)
+pub changed_none : (s : Machine) (r : ℕ) (earlier later : List Event) → IsPrefix earlier later → HasChanged s r earlier later 0
+changed_none s r earlier later starts = (starts.0, sym starts.1, omega arith)
 
-pub changed_once : (s : Machine) (r : ℕ) (earlier later : List Event) → StartsWith later earlier → reading_of (book_of s earlier) r ≢ reading_of (book_of s later) r → HasChanged s r earlier later 1
+pub changed_once : (s : Machine) (r : ℕ) (earlier later : List Event) → IsPrefix earlier later → reading_of (book_of s earlier) r ≢ reading_of (book_of s later) r → HasChanged s r earlier later 1
 changed_once s r earlier later starts other =
-    let now : book_of s later ≡ fold (after s) (book_of s earlier) starts.0 = ap (book_of s) starts.1 ∙ book_more s earlier starts.0 in
-    (starts.0, starts.1, changes_some s (book_of s earlier) r starts.0 (λ is. other (is ∙ sym (ap (λ b. reading_of b r) now))))
+    let now : book_of s later ≡ fold (after s) (book_of s earlier) starts.0 = ap (book_of s) (sym starts.1) ∙ book_more s earlier starts.0 in
+    (starts.0, sym starts.1, changes_some s (book_of s earlier) r starts.0 (λ is. other (is ∙ sym (ap (λ b. reading_of b r) now))))
 
 -- the changes of one stretch and of the next
 pub changed_more : (s : Machine) (r : ℕ) (a b c : List Event) (n m : ℕ) → HasChanged s r a b n → HasChanged s r b c m → HasChanged s r a c (n + m)

@@ -5,7 +5,8 @@ use Rattle.grub_bw.specs.Server.{charge_of, depleted_of}
 use Rattle.grub_bw.specs.declared.server.Server.{Server}
 use Rattle.grub_book.specs.Machine.{Machine, queue_at}
 use Rattle.grub_book.specs.Sums.{Records, record_at, reading_of}
-use Rattle.grub_book.specs.Step.{count_most, is_inactive, is_under_claim, refused, refused_on, refused_wake, refused_block, refused_charge, runqueue_of, settled, arrived, charged, lag_moment, step}
+use Rattle.grub_book.specs.declared.rules.TheConstants.{COUNT_MAX}
+use Rattle.grub_book.specs.Step.{is_inactive, is_under_claim, refused, refused_on, refused_wake, refused_block, refused_charge, runqueue_of, settled, arrived, charged, lag_moment, step}
 use Rattle.grub_book.specs.inside.Steps.{replied}
 use Rattle.grub_book.specs.declared.place.State.{State}
 use Rattle.grub_book.specs.declared.place.State.TheVariants.{Contending, NonContending, Inactive}
@@ -41,7 +42,7 @@ outside_wake NonContending = undecided
 outside_wake Inactive = undecided
 
 outside_block : (count : ℕ) (state : State) → IsOutside (refused_block count state)
-outside_block count Contending = of_either IsOutside (count == count_most) (Some Worn) None (outside Worn refl) undecided
+outside_block count Contending = of_either IsOutside (count == COUNT_MAX) (Some Worn) None (outside Worn refl) undecided
 outside_block count NonContending = outside _ refl
 outside_block count Inactive = outside _ refl
 

@@ -1,12 +1,10 @@
 -- Files that are made one after another, and the statuses of that.
-use Rattle.std.proofs.Common.{◌≡◌, ◌<◌, ◌+◌, ◌∙◌, ◌⊎◌, inl, inr, arith, ap, sym, subst, refl, ℕ, zero, suc, List, [], ◌∷◌, ◌++◌, get_or, length, map, take, Option, Result, Ok, Err}
+use Rattle.std.proofs.Common.{◌≡◌, ◌<◌, ◌+◌, ◌∙◌, ◌⊎◌, inl, inr, arith, sym, subst, refl, ℕ, zero, suc, List, [], ◌∷◌, ◌++◌, get_or, length, map, take, Option, Result, Ok, Err}
 use Rattle.std.specs.Prelude.{All, IfErr, MatchResult, OnOk}
 use Rattle.std.specs.List.{AllZip}
-use Rattle.std.proofs.lemmas.List.{length-append, map-append}
+use Rattle.std.proofs.lemmas.List.{length-append, map_more}
 use Rattle.std.proofs.lemmas.List.Elements.{All-push}
 use Rattle.std.proofs.lemmas.Slice.Zip.{all_zipped_more}
-use Rattle.std.proofs.Math.Numerals.{suc-eq-add-one}
-use Rattle.std.proofs.Math.Seq.{take-suc}
 use Rattle.std.specs.Borrow.{Bor}
 use Rattle.grub_facts.specs.declared.fault.LineFault.{LineFault}
 use Rattle.grub_convert.specs.Faults.{explained, status_of}
@@ -17,22 +15,16 @@ use Rattle.grub_convert.specs.declared.files.FilesFault.{FilesFault}
 use Rattle.grub_convert.specs.declared.files.FilesFault.TheVariants as files
 
 -- one element more
-mapped_next : {A B : Type 0} (f : A → B) (xs : List A) (i : ℕ) (x : A) → i < length xs → x ≡ get_or xs i x → map f (take (i + 1) xs) ≡ map f (take i xs) ++ f x ∷ []
-mapped_next f xs i x below is =
-    ap (λ n. map f (take n xs)) (sym (suc-eq-add-one i))
-    ∙ ap (map f) (take-suc xs i x below)
-    ∙ map-append f (take i xs) (get_or xs i x ∷ [])
-    ∙ ap (λ y. map f (take i xs) ++ f y ∷ []) (sym is)
-
 pub all_next : {A B : Type 0} (P : B → Type 0) (f : A → B) (xs : List A) (i : ℕ) (x : A) → i < length xs → x ≡ get_or xs i x → All P (map f (take i xs)) → P (f x) → All P (map f (take (i + 1) xs))
-all_next P f xs i x below is all one = subst (All P) (sym (mapped_next f xs i x below is)) (All-push P (map f (take i xs)) (f x) all one)
+all_next P f xs i x below is all one = subst (All P) (sym (map_more f xs i x below)) (All-push P (map f (take i xs)) (f (get_or xs i x)) all (subst (λ y. P (f y)) is one))
 
 pub both_next : {A B C E : Type 0} (R : B → E → Type 0) (f : A → B) (h : C → E) (xs : List A) (ys : List C) (i : ℕ) (x : A) (y : C) → i < length xs → i < length ys → x ≡ get_or xs i x → y ≡ get_or ys i y
     → AllZip R (map f (take i xs)) (map h (take i ys)) → R (f x) (h y) → AllZip R (map f (take (i + 1) xs)) (map h (take (i + 1) ys))
 both_next R f h xs ys i x y below_x below_y is_x is_y all one =
-    subst (λ bs. AllZip R bs (map h (take (i + 1) ys))) (sym (mapped_next f xs i x below_x is_x))
-    (subst (AllZip R (map f (take i xs) ++ f x ∷ [])) (sym (mapped_next h ys i y below_y is_y))
-    (all_zipped_more R (map f (take i xs)) (map h (take i ys)) (f x) (h y) all one))
+    subst (λ bs. AllZip R bs (map h (take (i + 1) ys))) (sym (map_more f xs i x below_x))
+    (subst (AllZip R (map f (take i xs) ++ f (get_or xs i x) ∷ [])) (sym (map_more h ys i y below_y))
+    (all_zipped_more R (map f (take i xs)) (map h (take i ys)) (f (get_or xs i x)) (h (get_or ys i y)) all
+    (subst (λ z. R (f (get_or xs i x)) (h z)) is_y (subst (λ z. R (f z) (h y)) is_x one))))
 
 -- there are as many paths as runqueues
 pub count_of_paths : (prefix : List ℕ) (n : ℕ) → length (event_paths prefix n) ≡ n

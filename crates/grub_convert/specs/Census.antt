@@ -2,7 +2,7 @@
 use Rattle.std.specs.Prelude.{ℕ, List, [], ◌∷◌, ◌++◌, codes, decimal}
 use Rattle.std.specs.List.{flat_map}
 use Rattle.grub_facts.specs.Census.{Tally, tally_text}
-use Rattle.grub_facts.specs.declared.census.Counted.{Counted}
+use Rattle.grub_facts.specs.declared.counted.Counted.{Counted}
 
 abbrev pub cpus_behind : ℕ → List ℕ
 cpus_behind cpu = codes "," ++ decimal cpu

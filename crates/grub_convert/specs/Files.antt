@@ -1,11 +1,11 @@
 -- The event files of what a trace tells.
-use Rattle.std.specs.Prelude.{◌≡◌, ℕ, zero, suc, ◌+◌, Bool, true, false, List, [], ◌∷◌, ◌++◌, map, find, slice_get, if◌then◌else◌, length, Option, Some, None, IsSome, IsNone}
-use Rattle.grub_bw.specs.Bandwidth.{Reservation}
+use Rattle.std.specs.Prelude.{◌≡◌, ◌≤◌, ◌<◌, ◌^◌, All, ℕ, zero, suc, ◌+◌, Bool, true, false, List, [], ◌∷◌, ◌++◌, map, find, slice_get, if◌then◌else◌, length, Option, Some, None, IsSome, IsNone}
+use Rattle.grub_bw.specs.Bandwidth.{IsMost, Reservation}
 use Rattle.grub_facts.specs.declared.fact.Facts.{Facts}
 use Rattle.grub_facts.specs.declared.fact.Found.{Found}
 use Rattle.grub_events.specs.declared.event.Placed.{Placed}
-use Rattle.grub_events.specs.declared.files.Declared.{Declared}
-use Rattle.grub_events.specs.declared.files.Setting.{Setting}
+use Rattle.grub_events.specs.declared.setting.Declared.{Declared}
+use Rattle.grub_events.specs.declared.setting.Setting.{Setting}
 use Rattle.grub_events.specs.Convert.{events_of_facts}
 use Rattle.grub_events.specs.Files.{event_file}
 use Rattle.grub_events.specs.Order.{FirstBeyond, is_beyond}
@@ -33,6 +33,18 @@ pub record IsSetting (options : Options) (facts : Facts) (setting : Setting) : T
   pub fair : setting.fair ≡ options.fair
   pub names : map name_in setting.tasks.items ≡ names_of facts.runqueues facts.found.items
   pub params : map params_in setting.tasks.items ≡ map reservation_of options.tasks.items
+
+-- options and facts of one trace fit together: there is a runqueue, the facts are those of as many tasks as the options have,
+-- and a runqueue may have the most bandwidth
+pub record FitTogether (options : Options) (facts : Facts) : Type 0 where
+  pub runqueues : 1 ≤ facts.runqueues
+  pub tasks : length facts.found.items ≡ length options.tasks.items
+  pub few : length options.tasks.items < 2 ^ 32
+  pub most : IsMost options.umax
+
+-- each fact is one of a given task
+abbrev pub AreGiven : Facts → Type 0
+AreGiven facts = All (λ f. f.task < length facts.found.items) facts.facts.items
 
 -- the events that the facts tell
 abbrev pub events_told : Facts → List Placed
@@ -63,8 +75,9 @@ abbrev pub missing_from : List (Option Found) → ℕ → List Given → Option 
 missing_from found i [] = None
 missing_from found i (task ∷ tasks) = if is_shown found i then missing_from found (i + 1) tasks else Some task.name.now
 
--- nothing is wrong: no event is beyond the limits, no line has a fault, and each given task is shown
+-- nothing is wrong: each fact is one of a given task, no event is beyond the limits, no line has a fault, and each given task is shown
 pub record IsSound (options : Options) (facts : Facts) : Type 0 where
+  pub given : AreGiven facts
   pub within : find (is_beyond facts.runqueues) (events_told facts) ≡ None
   pub lines : IsNone facts.fault
   pub shown : missing_from facts.found.items 0 options.tasks.items ≡ None

@@ -1,19 +1,13 @@
 -- What the words of options say: each `--task`, and the values of `--cpus`, `--rt` and `--fair-server`.
 use Rattle.std.specs.Prelude.{ℕ, ◌*◌, ◌/◌, ◌^◌, Bool, not, ◌&&◌, ◌==◌, nat_le, nat_lt, List, [], ◌∷◌, ◌++◌, length, map, codes, Option, Some, None, option_map, option_and_then, if◌then◌else◌}
-use Rattle.std.specs.Borrow.{Bor}
 use Rattle.std.specs.Char.{is_ascii_digit}
 use Rattle.std.specs.List.{list_all, list_any}
 use Rattle.std.specs.Path.{rsplit_once}
 use Rattle.std.specs.Str.{bytes_eq}
-use Rattle.grub_bw.specs.Bandwidth.{Reservation}
-use Rattle.grub_trace.specs.Forms.{value}
-use Rattle.grub_trace.specs.Faults.{reservation_fits}
+use Rattle.grub_bw.specs.Bandwidth.{Reservation, reservation_fits}
+use Rattle.grub_facts.specs.Numbers.{value}
 use Rattle.grub_convert.specs.declared.options.Given.{Given}
 use Rattle.grub_convert.specs.declared.options.Options.{Options}
-
--- the text that a word points to
-abbrev pub text_of : Bor (List ℕ) → List ℕ
-text_of word = word.now
 
 -- the number of a word of digits, where it has no more than 64 bits
 abbrev pub number_in : List ℕ → Option ℕ

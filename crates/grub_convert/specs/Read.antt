@@ -6,7 +6,7 @@ use Rattle.std.specs.Io.KnownBytes.{Appends}
 use Rattle.grub_facts.specs.Census.{fault_counted, tallies_reading, tally_text}
 use Rattle.grub_facts.specs.Faults.{fault_text}
 use Rattle.grub_facts.specs.Told.{IsTold}
-use Rattle.grub_facts.specs.declared.census.Counted.{Counted}
+use Rattle.grub_facts.specs.declared.counted.Counted.{Counted}
 use Rattle.grub_facts.specs.declared.fact.Facts.{Facts}
 use Rattle.grub_convert.specs.Census.{tasks_text}
 use Rattle.grub_convert.specs.declared.fault.TraceFault.{TraceFault}

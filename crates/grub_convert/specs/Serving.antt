@@ -45,8 +45,8 @@ module _ {X : Type 0} (x : Looker X) (exists : X) where
   abbrev pub AreFree : List (List ℕ) → Type 0
   AreFree paths = All (λ path. FnReturnsAt x exists path false) paths
 
-  -- there may be something at one of them
-  pub record IsTaken (paths : List (List ℕ)) : Type 0 where
+  -- one of them may exist: there may be something at it
+  pub record OneExists (paths : List (List ℕ)) : Type 0 where
     pub at : ℕ
     pub path : List ℕ
     pub is : slice_get paths at ≡ Some path
@@ -71,4 +71,4 @@ module _ {O N D X M : Type 0} (o : Opener O D) (g : Reader N D) (x : Looker X) (
     pub facts : Facts
     pub told : IsToldOf o g input name options facts
     pub why : ((fault : FilesFault) × IsFault options facts fault × IsOfTrace fault)
-        ⊎ ((files : List (List ℕ)) × AreFiles options facts files × IsTaken x target.exists (event_paths prefix (length files)))
+        ⊎ ((files : List (List ℕ)) × AreFiles options facts files × OneExists x target.exists (event_paths prefix (length files)))

@@ -46,7 +46,7 @@ fn put_task(out: &mut Vec<u8>, task: &Counted) -> Result<(), AllocError>
 }
 
 /// A line for each task.
-pub fn tasks_text(alloc: Global, tasks: &[Counted]) -> Result<Vec<u8>, AllocError>
+pub(crate) fn tasks_text(alloc: Global, tasks: &[Counted]) -> Result<Vec<u8>, AllocError>
     ensures { IfOk result (λ v. v.items ≡ tasks_text tasks.now) }
 {
     let mut out = Vec::new(alloc);

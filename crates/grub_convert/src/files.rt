@@ -1,11 +1,10 @@
 //! The event files of a trace.
 
-ghost use Rattle.std.specs.Prelude.{◌≡◌, ◌<◌, ◌↔◌, All, IsTrue, IfOk, IfErr, OnOk, length, map};
+ghost use Rattle.std.specs.Prelude.{◌≡◌, ◌<◌, ◌↔◌, All, IsTrue, IfOk, IfErr, None, OnOk, find, length, map, option_map};
 ghost use Rattle.grub_plan.specs.Contents.{contents};
 ghost use Rattle.grub_events.specs.Order.{FirstBeyond, is_beyond};
-ghost use Rattle.grub_convert.specs.Files.{AreFiles, IsSetting, IsFault, IsSound, events_told, files_of, is_shown, missing_from, name_in, params_in, reservation_of};
-ghost use Rattle.grub_convert.specs.Options.{text_of};
-ghost use Rattle.std.specs.Prelude.{None, find, option_map};
+ghost use Rattle.grub_convert.specs.Files.{AreFiles, AreGiven, FitTogether, IsSetting, IsFault, IsSound, events_told, files_of, is_shown, missing_from, name_in, params_in, reservation_of};
+ghost use Rattle.grub_facts.specs.Words.{text_of};
 
 use crate::options::{Given, Options};
 use grub_bw::Params;
@@ -37,11 +36,13 @@ fn are_given(facts: &[Fact], tasks: usize) -> bool
     facts.iter().all(|fact| fact.task < tasks)
 }
 
-/// The events of a trace at their moments.
+/// The events of a trace at their moments. Facts of a task that is none of those that were given, which no trace tells, are
+/// refused as for want of memory.
 fn place(alloc: Global, facts: &Facts) -> Result<Vec<Placed>, OrderFault>
     ensures placed { IfOk result (λ v. v.items ≡ events_told facts.now) }
     ensures within { IfOk result (λ v. find (is_beyond facts.now.runqueues) v.items ≡ None) }
     ensures beyond { IfErr result (FirstBeyond facts.now.runqueues (events_told facts.now)) }
+    ensures given { OnOk result (AreGiven facts.now) }
 {
     let tasks = facts.found.len();
     if !are_given(&facts.facts, tasks) {
@@ -101,18 +102,19 @@ fn declarations(
     Ok(tasks)
 }
 
-/// What the event files say beside the events. None of the numbers can pass the limits of a runqueue's constants, so
-/// want of memory is all that it is refused for.
+/// What the event files say beside the events. It is refused for want of memory, and where options and facts do not fit
+/// together, as those of one trace and of options that were read do.
 pub fn setting_of(
     alloc: Global,
     options: &Options<'_>,
     facts: &Facts,
 ) -> Result<Setting, AllocError>
-    ensures { IfOk result (IsSetting options.now facts.now) }
+    ensures setting { IfOk result (IsSetting options.now facts.now) }
+    ensures fit { OnOk result (FitTogether options.now facts.now) }
 {
     let params = reservations(alloc, &options.tasks)?;
     let names = names_of(alloc, facts.runqueues, &facts.found)?;
-    if facts.runqueues == 0 || params.len() > 4294967295 || names.len() != params.len() {
+    if facts.runqueues == 0 || params.len() > u32::MAX as usize || names.len() != params.len() {
         return Err(AllocError);
     }
     let tasks = declarations(alloc, &names, &params)?;
@@ -142,8 +144,9 @@ fn texts(
     Ok(files)
 }
 
-/// The events that a trace tells, at their moments and in the order of its lines; or why there are none: the first fault
-/// of a line, and then the first given task that is not shown.
+/// The events that a trace tells, at their moments and in the order of its lines; or why there are none: the first event that
+/// passes the limits of event files, else the first fault of a line, else the first given task that is not shown. Facts of a
+/// task that is none of those that were given, which no trace tells, are refused as for want of memory.
 pub fn events_told<'a>(
     alloc: Global,
     options: &Options<'a>,

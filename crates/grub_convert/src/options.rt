@@ -4,7 +4,8 @@ ghost use Rattle.std.specs.Prelude.{◌≡◌, ◌<◌, ◌==◌, Some, IfOk, ma
 ghost use Rattle.std.specs.Char.{is_ascii_digit};
 ghost use Rattle.std.specs.List.{list_all, list_any};
 ghost use Rattle.std.specs.Path.{rsplit_once};
-ghost use Rattle.grub_convert.specs.Options.{fair_in, text_of, given_task, most_in, number_in, pair_in, reservation_in, said_by, said_in, task_in, tasks_in};
+ghost use Rattle.grub_facts.specs.Words.{text_of};
+ghost use Rattle.grub_convert.specs.Options.{fair_in, given_task, most_in, number_in, pair_in, reservation_in, said_by, said_in, task_in, tasks_in};
 ghost use Rattle.grub_convert.specs.inside.Words.{is_named, texts_of};
 
 use grub_bw::Params;
@@ -23,7 +24,7 @@ pub struct Given<'a> {
 pub struct Options<'a> {
     pub tasks: Vec<Given<'a>>,
 
-    /// How many runqueues there are, 1 to 64.
+    /// How many runqueues there are, from 1 to `CPUS_MAX` of `grub_facts`.
     pub cpus: Option<u32>,
 
     /// The most bandwidth of deadline tasks on a runqueue, in 1/2^20.

@@ -5,7 +5,7 @@ ghost use Rattle.grub_files.specs.Source.{Gives};
 ghost use Rattle.grub_facts.specs.Census.{CountsOn, NeedsNoMore as CountsEnough};
 ghost use Rattle.grub_facts.specs.Told.{HasRead, NeedsNoMore, ReadsOn};
 ghost use Rattle.grub_convert.specs.Faults.{IsOfReading};
-ghost use Rattle.grub_convert.specs.Options.{text_of};
+ghost use Rattle.grub_facts.specs.Words.{text_of};
 ghost use Rattle.grub_convert.specs.Read.{IsFaultIn, IsShownOf, IsToldOf, names_in};
 ghost use Rattle.grub_convert.specs.inside.Taking.{TookAll, TookEnough, TookFrom};
 
@@ -192,7 +192,7 @@ pub fn read_facts<
 }
 
 /// The tasks that the trace of a name shows, or its first fault.
-pub fn read_tasks<
+pub(crate) fn read_tasks<
     'a,
     D: Drop,
     O: Fn(&str) -> io::Result<D>,
@@ -204,9 +204,7 @@ pub fn read_tasks<
     ensures fault { IfErr result (IsFaultIn O.Fn N.Fn input.now path.now) }
 {
     let mut reader = TaskReader::new(alloc);
-    if let Err(fault) = read_pieces(alloc, input, path, &mut reader) {
-        return Err(fault);
-    }
+    read_pieces(alloc, input, path, &mut reader)?;
     match reader.end() {
         Ok(tasks) => Ok(tasks),
         Err(fault) => Err(TraceFault::Line { path, fault }),

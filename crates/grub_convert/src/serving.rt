@@ -4,7 +4,7 @@ ghost use Rattle.std.specs.Prelude.{◌≡◌, ◌⊎◌, ◌<◌, None, IfErr, 
 ghost use Rattle.grub_plan.specs.Contents.{contents};
 ghost use Rattle.grub_convert.specs.Faults.{explained, status_of};
 ghost use Rattle.grub_convert.specs.Read.{PrintsTasks};
-ghost use Rattle.grub_convert.specs.Serving.{AreFree, AreMade, HasNoEvents, IsTaken, MakesEvents, event_path, event_paths};
+ghost use Rattle.grub_convert.specs.Serving.{AreFree, AreMade, HasNoEvents, MakesEvents, OneExists, event_path, event_paths};
 ghost use Rattle.grub_convert.specs.declared.fault.TraceFault.TheVariants as faults;
 ghost use Rattle.grub_convert.specs.declared.fault.TheConstants.{STATUS_FILE, STATUS_SYSTEM};
 
@@ -50,7 +50,7 @@ fn paths_of(alloc: Global, prefix: &str, count: usize) -> Result<Vec<String>, Al
 fn first_taken<X: Fn(&str) -> bool>(exists: &X, paths: &[String]) -> Option<usize>
     requires { X.IsAlwaysCallable exists.now }
     ensures free { result ≡ None → AreFree X.Fn exists.now (map string_bytes paths.now) }
-    ensures taken { OnSome result (IsTaken X.Fn exists.now (map string_bytes paths.now)) }
+    ensures taken { OnSome result (OneExists X.Fn exists.now (map string_bytes paths.now)) }
     ensures below { IfSome result (λ i. i < length paths.now) }
 {
     for (i, path) in paths.iter().enumerate() {

@@ -4,10 +4,10 @@ use Rattle.std.specs.Str.{bytes_eq}
 use Rattle.grub_events.specs.Names.{is_fair, fair_name}
 
 -- the server of one runqueue more
-pub is_fair_more : (comm : List ℕ) (r : ℕ) → is_fair comm (r + 1) ≡ (bytes_eq (fair_name r) comm || is_fair comm r)
+pub fair_more : (comm : List ℕ) (r : ℕ) → is_fair comm (r + 1) ≡ (bytes_eq (fair_name r) comm || is_fair comm r)
 unfolding is_fair
-is_fair_more comm r = rw add-one refl
+fair_more comm r = rw add-one refl
 
-pub is_fair_none : (comm : List ℕ) (r : ℕ) → r ≤ 0 → is_fair comm r ≡ false
+pub fair_none : (comm : List ℕ) (r : ℕ) → r ≤ 0 → is_fair comm r ≡ false
 unfolding is_fair
-is_fair_none comm r none = let e : r ≡ 0 = omega arith in rw e refl
+fair_none comm r none = let e : r ≡ 0 = omega arith in rw e refl

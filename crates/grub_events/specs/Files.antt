@@ -5,8 +5,8 @@ use Rattle.grub_bw.specs.Bandwidth.{Reservation, Capacity}
 use Rattle.grub_events.specs.declared.event.Act.{Act}
 use Rattle.grub_events.specs.declared.event.Act.TheVariants.{Join, Wake, Block, Run}
 use Rattle.grub_events.specs.declared.event.Placed.{Placed}
-use Rattle.grub_events.specs.declared.files.Declared.{Declared}
-use Rattle.grub_events.specs.declared.files.Setting.{Setting}
+use Rattle.grub_events.specs.declared.setting.Declared.{Declared}
+use Rattle.grub_events.specs.declared.setting.Setting.{Setting}
 use Rattle.grub_events.specs.Names.{fair_name}
 use Rattle.grub_events.specs.Order.{is_opening}
 

@@ -24,11 +24,11 @@ wakes_moved standings (f ∷ later) =
     let standing = slice_index_or standings f.task Unseen in
     (if is_moved_wake f.what standing then 1 else 0) + wakes_moved (slice_set standings f.task (standing_after f.what standing)) later
 
-abbrev pub is_wake : Act → Bool
-is_wake Wake = true
-is_wake Join = false
-is_wake Block = false
-is_wake (Run micros) = false
+abbrev pub is_waking : Act → Bool
+is_waking Wake = true
+is_waking Join = false
+is_waking Block = false
+is_waking (Run micros) = false
 
 abbrev pub is_moving : Source → Bool
 is_moving Moving = true
@@ -38,4 +38,4 @@ is_moving Opening = false
 
 -- the wake of a ready task that was moved
 abbrev pub is_moved_task : Placed → Bool
-is_moved_task p = is_wake p.event.act && is_moving p.event.source
+is_moved_task p = is_waking p.event.act && is_moving p.event.source

@@ -1,18 +1,21 @@
 -- The moments of events.
 use Rattle.std.specs.Prelude.{◌≡◌, ℕ, Bool, true, false, ◌+◌, ◌-◌, ◌/◌, ◌||◌, max, nat_lt, nat_le, List, [], ◌∷◌, Some, find, slice_index_or, slice_set, if◌then◌else◌}
+use Rattle.grub_bw.specs.declared.server.TheConstants.{MOMENT_MAX}
+use Rattle.grub_book.specs.declared.op.TheConstants.{RUN_MAX}
 use Rattle.grub_events.specs.declared.event.Act.{Act}
 use Rattle.grub_events.specs.declared.event.Act.TheVariants.{Join, Wake, Block, Run}
 use Rattle.grub_events.specs.declared.event.Source.{Source}
 use Rattle.grub_events.specs.declared.event.Source.TheVariants.{Told, Ending, Opening, Moving}
 use Rattle.grub_events.specs.declared.event.Event.{Event}
 use Rattle.grub_events.specs.declared.event.Placed.{Placed}
+use Rattle.grub_events.specs.declared.order.TheConstants.{FIRST_WAKE}
 use Rattle.grub_events.specs.declared.order.Place.{Place}
 use Rattle.grub_events.specs.declared.order.OrderFault.{OrderFault}
 use Rattle.grub_events.specs.declared.order.OrderFault.TheVariants.{TooLong, NoMemory}
 
--- a moment of the trace's clock in nanoseconds, in microseconds counted from 2000 before the first wake
+-- a moment of the trace's clock in nanoseconds, in microseconds counted from FIRST_WAKE before the first wake
 abbrev pub own_moment : ℕ → ℕ → ℕ
-own_moment first at = at / 1000 + 2000 - first / 1000
+own_moment first at = at / 1000 + FIRST_WAKE - first / 1000
 
 abbrev pub nowhere : Place
 nowhere = record { moment = 0; runqueue = 0 }
@@ -48,14 +51,14 @@ moments_of first files places (e ∷ es) =
     record { moment = moment; event = e } ∷ moments_of first (files_after files e moment) (slice_set places e.task (place_at e moment)) es
 
 abbrev pub is_long : Act → Bool
-is_long (Run micros) = nat_lt 16777216 micros
+is_long (Run micros) = nat_lt RUN_MAX micros
 is_long Join = false
 is_long Wake = false
 is_long Block = false
 
 -- an event passes the limits of event files, or names none of so many runqueues
 abbrev pub is_beyond : ℕ → Placed → Bool
-is_beyond runqueues p = nat_le runqueues p.event.runqueue || nat_lt 2147483647 p.moment || is_long p.event.act
+is_beyond runqueues p = nat_le runqueues p.event.runqueue || nat_lt MOMENT_MAX p.moment || is_long p.event.act
 
 -- the fault of the first event that does, or want of memory
 abbrev pub FirstBeyond : ℕ → List Placed → OrderFault → Type 0

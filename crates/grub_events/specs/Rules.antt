@@ -1,9 +1,10 @@
 -- What the facts of a trace tell: which task wakes, runs and blocks, and on which runqueue.
--- A fact names its task by its number; `later` are the facts that follow it.
+-- A fact names its task by its number; `later` are the facts that follow it, and in sent_before what these tell.
 use Rattle.std.specs.Prelude.{ℕ, true, false, ◌+◌, ◌/◌, ◌%◌, ◌==◌, List, [], ◌∷◌, ◌++◌, Option, Some, None, unwrap_or, slice_index_or, slice_set, if◌then◌else◌}
 use Rattle.grub_facts.specs.declared.fact.Fact.{Fact}
 use Rattle.grub_facts.specs.declared.fact.What.{What}
 use Rattle.grub_facts.specs.declared.fact.What.TheVariants.{Wakes, Sent, Ran, Stops, Armed, Cancelled, Fired}
+use Rattle.grub_facts.specs.declared.fact.Stop.{Stop}
 use Rattle.grub_facts.specs.declared.fact.Stop.TheVariants.{Ready, Blocks, Ends}
 use Rattle.grub_events.specs.declared.event.Act.{Act}
 use Rattle.grub_events.specs.declared.event.Act.TheVariants.{Join, Wake, Block, Run}
@@ -60,6 +61,14 @@ move_told f from to = if from == to then [] else event_of f from Block Moving �
 abbrev pub opening_told : Fact → ℕ → List Event
 opening_told f cpu = event_of f cpu Join Opening ∷ event_of f cpu Block Opening ∷ []
 
+-- a task stops to run: one that was not seen was there from the beginning, on this CPU; the block of another, that of a
+-- task that ends too, takes place on its own runqueue; a task that is preempted tells nothing
+unfoldable pub stop_told : Fact → ℕ → Stop → Standing → List Event
+stop_told f cpu Blocks Unseen = opening_told f cpu
+stop_told f cpu Blocks (Awake runqueue ran rest) = event_of f runqueue Block Told ∷ []
+stop_told f cpu Ends (Awake runqueue ran rest) = event_of f runqueue Block Ending ∷ []
+stop_told f cpu state standing = []
+
 -- what a fact tells of a task that stands so; `sent` is the CPU that it is sent to before it runs or blocks
 unfoldable pub told : Fact → Option ℕ → What → Standing → List Event
 -- a wake takes place where the task is sent to before it runs; the first wake joins
@@ -69,13 +78,9 @@ told f sent (Wakes cpu) Asleep = event_of f (unwrap_or sent cpu) Wake Told ∷ [
 told f sent (Sent cpu) (Awake runqueue true rest) = move_told f runqueue cpu
 -- a run takes place on the task's own runqueue, and carries what is below a microsecond
 told f sent (Ran nanos) (Awake runqueue ran rest) = run_told f runqueue ((rest + nanos) / 1000)
--- a task that was not seen was there from the beginning, on the CPU of this line
-told f sent (Stops cpu Blocks) Unseen = opening_told f cpu
--- a block takes place on the task's own runqueue, that of a task that ends too
-told f sent (Stops cpu Blocks) (Awake runqueue ran rest) = event_of f runqueue Block Told ∷ []
-told f sent (Stops cpu Ends) (Awake runqueue ran rest) = event_of f runqueue Block Ending ∷ []
--- all else tells nothing: a second wake, a move of a task that sleeps or that its wake tells already, a run or a
--- block of a task that is not awake, a task that is preempted, a timer
+told f sent (Stops cpu state) standing = stop_told f cpu state standing
+-- all else tells nothing: a second wake, a move of a task that sleeps or that its wake tells already, a run of a task
+-- that is not awake, a timer
 told f sent what standing = []
 
 -- what facts tell in their order, where the tasks stand so

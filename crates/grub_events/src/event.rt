@@ -43,7 +43,7 @@ pub struct Event {
 /// An event at its moment.
 #[derive(Clone, Copy, Debug, PartialEq, Eq)]
 pub struct Placed {
-    /// In microseconds, of which the first wake is at 2000.
+    /// In microseconds, of which the first wake is at `FIRST_WAKE`.
     pub moment: u32,
     pub event: Event,
 }

@@ -6,28 +6,10 @@ ghost use Rattle.grub_events.specs.Files.{opens_in, happens_in, in_file, head_te
 
 use crate::event::{Act, Placed, Source};
 use crate::names::fair_name;
+use crate::setting::{Declared, Setting};
 use grub_bw::{Params, Queue};
 use grub_plan::put_number;
 use std::alloc::{AllocError, Global};
-
-/// A task of event files.
-#[derive(Debug, Drop)]
-pub struct Declared {
-    pub name: Vec<u8>,
-    pub params: Params,
-}
-
-/// What all event files of a trace say beside their events.
-#[derive(Debug, Drop)]
-pub struct Setting {
-    pub queue: Queue,
-
-    /// The server of fair tasks of each runqueue.
-    pub fair: Option<Params>,
-
-    /// The given tasks by their numbers.
-    pub tasks: Vec<Declared>,
-}
 
 /// Whether an event is one of a task that is first seen as it blocks, in the file of this runqueue.
 fn opens_in(runqueue: u32, placed: &Placed) -> bool
@@ -43,7 +25,7 @@ fn happens_in(runqueue: u32, placed: &Placed) -> bool
     !matches!(placed.event.source, Source::Opening) && placed.event.runqueue == runqueue
 }
 
-/// Puts the events of a file that pass a test.
+/// The events of the file of a runqueue whose tasks are first seen as they block.
 fn openings(alloc: Global, runqueue: u32, placed: &[Placed]) -> Result<Vec<Placed>, AllocError>
     ensures { IfOk result (λ v. v.items ≡ filter (opens_in runqueue) placed.now) }
 {
@@ -54,6 +36,7 @@ fn openings(alloc: Global, runqueue: u32, placed: &[Placed]) -> Result<Vec<Place
         .collect(alloc)
 }
 
+/// The other events of the file of a runqueue.
 fn happenings(alloc: Global, runqueue: u32, placed: &[Placed]) -> Result<Vec<Placed>, AllocError>
     ensures { IfOk result (λ v. v.items ≡ filter (happens_in runqueue) placed.now) }
 {

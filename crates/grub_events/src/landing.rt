@@ -47,7 +47,7 @@ fn destinations_back(
 }
 
 /// For each fact, the CPU that its task is sent to after it, before it runs or blocks.
-pub fn destinations(
+pub(crate) fn destinations(
     alloc: Global,
     tasks: usize,
     facts: &[Fact],

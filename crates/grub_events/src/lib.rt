@@ -15,9 +15,9 @@ mod standing;
 
 pub use convert::place_facts;
 pub use event::{Act, Event, Placed, Source};
-pub use files::{Declared, Setting, event_file, file_events};
+pub use files::{event_file, file_events};
 pub use moved::{tasks_moved, wakes_moved};
 pub use names::{fair_name, names_of};
-pub use order::{OrderFault, Place};
-pub use setting::{queue_of, umax_of};
+pub use order::{FIRST_WAKE, OrderFault, Place};
+pub use setting::{Declared, Setting, queue_of, umax_of};
 pub use standing::Standing;

@@ -18,7 +18,7 @@ pub fn fair_name(alloc: Global, runqueue: u32) -> Result<Vec<u8>, AllocError>
 }
 
 /// Whether a comm is the name of the server of one of so many runqueues.
-#[tactic(auto, using(crate::proofs::NameLemmas::is_fair_more, crate::proofs::NameLemmas::is_fair_none))]
+#[tactic(auto, using(crate::proofs::NameLemmas::fair_more, crate::proofs::NameLemmas::fair_none))]
 fn is_fair(alloc: Global, comm: &[u8], runqueues: u32) -> Result<bool, AllocError>
     ensures { IfOk result (λ b. b ≡ is_fair comm.now runqueues) }
 {

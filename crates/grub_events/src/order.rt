@@ -9,7 +9,7 @@ use grub_book::{MOMENT_MAX, RUN_MAX};
 use std::alloc::{AllocError, Global};
 
 /// The moment of the first wake in the event files, in microseconds.
-const FIRST_WAKE: u64 = 2000;
+pub const FIRST_WAKE: u64 = 2000;
 
 /// Where a task's last event stands: at a moment, in the file of a runqueue.
 #[derive(Clone, Copy, Debug, PartialEq, Eq)]
@@ -109,7 +109,7 @@ fn advance(files: &mut Vec<u32>, moment: u32, event: &Event)
 /// The moments of events, in the order of the events: each is the least one, not before its fact's, at which its line
 /// stands after the line before it in its file, and after its task's line before it in the order of all files.
 /// It is refused with 54 for the first event that passes the limits.
-pub fn place_all(
+pub(crate) fn place_all(
     alloc: Global,
     first: u64,
     runqueues: u32,

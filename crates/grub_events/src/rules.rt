@@ -1,7 +1,7 @@
 //! From facts to events.
 
 ghost use Rattle.std.specs.Prelude.{◌≡◌, ◌<◌, ◌++◌, ◌∷◌, [], All, IfOk, OnOk, replicate};
-ghost use Rattle.grub_events.specs.Rules.{event_of, run_told, move_told, opening_told, told, told_all};
+ghost use Rattle.grub_events.specs.Rules.{event_of, run_told, move_told, opening_told, stop_told, told, told_all};
 ghost use Rattle.grub_events.specs.declared.standing.Standing.TheVariants.{Unseen};
 
 use crate::event::{Act, Event, Source};
@@ -75,6 +75,30 @@ fn put_one(
     Ok(())
 }
 
+/// Puts what it tells that a task which stands so stops to run on this CPU.
+#[tactic(auto, unfolding(crate::specs::Rules::stop_told))]
+fn put_stop(
+    events: &mut Vec<Event>,
+    fact: Fact,
+    cpu: u32,
+    state: Stop,
+    standing: Standing,
+) -> Result<(), AllocError>
+    ensures { OnOk result
+        (events.new.items ≡ events.old.items ++ stop_told fact cpu state standing) }
+{
+    match (state, standing) {
+        (Stop::Blocks, Standing::Unseen) => put_opening(events, fact, cpu),
+        (Stop::Blocks, Standing::Awake { runqueue, .. }) => {
+            put_one(events, fact, runqueue, Act::Block, Source::Told)
+        }
+        (Stop::Ends, Standing::Awake { runqueue, .. }) => {
+            put_one(events, fact, runqueue, Act::Block, Source::Ending)
+        }
+        _ => Ok(()),
+    }
+}
+
 /// Puts what a fact tells of a task that stands so, and that is sent to this CPU before it runs or blocks.
 #[tactic(auto, unfolding(crate::specs::Rules::told))]
 fn put_told(
@@ -104,33 +128,17 @@ fn put_told(
         (What::Ran { nanos }, Standing::Awake { runqueue, rest, .. }) => {
             put_run(events, fact, runqueue, whole_micros(rest, nanos).0)
         }
-        (
-            What::Stops {
-                cpu,
-                state: Stop::Blocks,
-            },
-            Standing::Unseen,
-        ) => { put_opening(events, fact, cpu) }
-        (
-            What::Stops {
-                state: Stop::Blocks,
-                ..
-            },
-            Standing::Awake { runqueue, .. },
-        ) => { put_one(events, fact, runqueue, Act::Block, Source::Told) }
-        (
-            What::Stops {
-                state: Stop::Ends,
-                ..
-            },
-            Standing::Awake { runqueue, .. },
-        ) => { put_one(events, fact, runqueue, Act::Block, Source::Ending) }
+        (What::Stops { cpu, state }, _) => put_stop(events, fact, cpu, state, standing),
         _ => Ok(()),
     }
 }
 
 /// The events that the facts of so many tasks tell, in the order of the facts.
-pub fn events_of(alloc: Global, tasks: usize, facts: &[Fact]) -> Result<Vec<Event>, AllocError>
+pub(crate) fn events_of(
+    alloc: Global,
+    tasks: usize,
+    facts: &[Fact],
+) -> Result<Vec<Event>, AllocError>
     requires { All (λ f. f.task < tasks) facts.now }
     ensures { IfOk result (λ v. v.items ≡ told_all (replicate tasks Unseen) facts.now) }
 {

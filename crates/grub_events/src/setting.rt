@@ -6,6 +6,25 @@ ghost use Rattle.grub_events.specs.Setting.{total_of, extra_of};
 
 use grub_bw::{BW_UNIT, Params, Queue};
 
+/// A task of event files.
+#[derive(Debug, Drop)]
+pub struct Declared {
+    pub name: Vec<u8>,
+    pub params: Params,
+}
+
+/// What all event files of a trace say beside their events.
+#[derive(Debug, Drop)]
+pub struct Setting {
+    pub queue: Queue,
+
+    /// The server of fair tasks of each runqueue.
+    pub fair: Option<Params>,
+
+    /// The given tasks by their numbers.
+    pub tasks: Vec<Declared>,
+}
+
 /// The most bandwidth of deadline tasks on a runqueue, in 1/2^20 of a processor, where the kernel's
 /// `sched_rt_runtime_us` and `sched_rt_period_us` are these; none where it is not 1 to 2^20.
 pub fn umax_of(runtime: u64, period: u64) -> Option<u32>
@@ -43,6 +62,7 @@ pub fn queue_of(most: u32, fair: Option<Params>, tasks: &[Params], runqueues: u3
     requires few { length tasks.now < 2 ^ 32 }
     ensures made { IfSome result
         (λ q. q ≡ record { most = most; extra = extra_of most fair tasks.now runqueues }) }
+    ensures admitted { IfSome result (λ _. IsMost most) }
     ensures refused { IfNone result (¬ IsMost most) }
 {
     let fair = match fair {

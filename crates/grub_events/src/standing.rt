@@ -20,7 +20,7 @@ pub enum Standing {
 }
 
 /// How long a task ran, where so much was left over: whole microseconds, and the nanoseconds that are left.
-pub fn whole_micros(rest: u16, nanos: u64) -> (u64, u16)
+pub(crate) fn whole_micros(rest: u16, nanos: u64) -> (u64, u16)
     ensures micros { result.0 ≡ (rest + nanos) / 1000 }
     ensures left { result.1 ≡ (rest + nanos) % 1000 }
 {

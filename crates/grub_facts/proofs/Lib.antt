@@ -1,4 +1,4 @@
-mod NumberLemmas
+pub mod NumberLemmas
 mod WordLemmas
 mod GivenLemmas
 mod TextLemmas

@@ -1,9 +1,10 @@
 -- The words of a line.
 use Rattle.std.proofs.Common.{◌≡◌, ℕ, suc, ◌+◌, ◌-◌, ◌<◌, ◌≤◌, Bool, true, false, not, ◌&&◌, nat_eq, cond, ltb, List, [], ◌∷◌, length, take, drop, Option, Some, None, refl, sym, ◌∙◌, ap, arith, subst}
-use Rattle.std.proofs.lemmas.List.Sums.{prefix_len-le-length}
+use Rattle.std.proofs.lemmas.List.Elements.{All-from_get_or}
+use Rattle.std.proofs.lemmas.List.Sums.{fails_before_first, prefix_len-le-length}
 use Rattle.std.proofs.lemmas.List.{take_rest, length-drop}
 use Rattle.std.specs.List.{slice_split, onto_first, position, position_or_len, starts_with}
-use Rattle.std.proofs.lemmas.List.Splits.{slice_split_first}
+use Rattle.std.proofs.lemmas.List.Splits.{slice_split_first, slice_split_none}
 use Rattle.grub_facts.specs.Words.{is_space, place_from}
 use Rattle.std.proofs.lemmas.Bool.{ltb-true, ltb-false}
 use Rattle.std.proofs.lemmas.Option.{cond_some}
@@ -17,16 +18,6 @@ has_part {X} p (x ∷ xs) =
       | true ↦ ([], slice_split p xs, refl)
       | false ↦ (x ∷ ih.0, ih.1, ap (onto_first x) ih.2)
     ]
-
-none_passes : {X : Type 0} (p : X → Bool) (xs : List X) → length xs ≤ position_or_len p xs → slice_split p xs ≡ xs ∷ []
-none_passes p [] h = refl
-none_passes {X} p (x ∷ xs) h =
-    let go : (b : Bool) → p x ≡ b → cond b ([] ∷ slice_split p xs) (onto_first x (slice_split p xs)) ≡ (x ∷ xs) ∷ [] =
-    λ (b : Bool). elim b as (λ b. p x ≡ b → cond b ([] ∷ slice_split p xs) (onto_first x (slice_split p xs)) ≡ (x ∷ xs) ∷ []) [
-      | true ↦ λ e. absurd (let k : length (x ∷ xs) ≤ 0 = subst (λ (t : Bool). length (x ∷ xs) ≤ cond (not t) (1 + position_or_len p xs) 0) e h in omega arith)
-      | false ↦ λ e. ap (onto_first x) (none_passes p xs (let k : length (x ∷ xs) ≤ 1 + position_or_len p xs = subst (λ (t : Bool). length (x ∷ xs) ≤ cond (not t) (1 + position_or_len p xs) 0) e h in omega arith))
-    ] in
-    go (p x) refl
 
 -- nowhere, and at the first place, an element passes
 no_place : (b : Bool) (i : ℕ) → cond b (Some i) None ≡ None → b ≡ false
@@ -48,7 +39,9 @@ some_at p xs i e =
 
 -- the parts, where the first element that passes is known
 pub split_none : (p : ℕ → Bool) (xs : List ℕ) → position p xs ≡ None → slice_split p xs ≡ xs ∷ []
-split_none p xs e = none_passes p xs (let h = none_at p xs e in omega (arith, h))
+split_none p xs e =
+    let past = none_at p xs e in
+    slice_split_none p xs (All-from_get_or (λ x. p x ≡ false) xs 0 (λ i below. fails_before_first p xs i 0 (omega (arith, past, below))))
 
 pub split_some : (p : ℕ → Bool) (xs : List ℕ) (i : ℕ) → position p xs ≡ Some i → slice_split p xs ≡ take i xs ∷ slice_split p (take (length xs - (i + 1)) (drop (i + 1) xs))
 split_some p xs i e =

@@ -6,7 +6,7 @@ use Rattle.grub_facts.specs.Keeping.{progress}
 use Rattle.grub_facts.specs.Lines.{line_of}
 use Rattle.grub_facts.specs.Texts.{After, Progress, fault_at_end, reading}
 use Rattle.grub_facts.specs.declared.census.Census.{Census}
-use Rattle.grub_facts.specs.declared.census.Counted.{Counted}
+use Rattle.grub_facts.specs.declared.counted.Counted.{Counted}
 use Rattle.grub_facts.specs.declared.event.Event.{Event}
 use Rattle.grub_facts.specs.declared.event.Event.TheVariants.{Woken, Migrated, Switched}
 use Rattle.grub_facts.specs.declared.event.Shown.{Shown}

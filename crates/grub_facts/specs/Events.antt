@@ -107,5 +107,3 @@ event_of Expire fields front = expired fields
 abbrev pub said_of : List ℕ → Opening → Verb → List ℕ → Option (Said (List ℕ))
 said_of line opening verb fields =
     option_and_then (λ c. option_map (λ e. record { at = opening.at; cpu = c.cpu; event = e }) (event_of verb fields (take c.start line))) opening.cpu
-
--- the texts that the slices of the code point to

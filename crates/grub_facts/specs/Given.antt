@@ -18,7 +18,7 @@ use Rattle.grub_facts.specs.declared.fact.What.{What}
 use Rattle.grub_facts.specs.declared.fact.What.TheVariants as what
 use Rattle.grub_facts.specs.declared.fact.Found.{Found}
 use Rattle.grub_facts.specs.declared.given.Given.{Given}
-use Rattle.grub_facts.specs.declared.given.Tasks.{Tasks}
+use Rattle.grub_facts.specs.declared.tasks.Tasks.{Tasks}
 use Rattle.grub_facts.specs.declared.keeper.Trouble.{Trouble}
 use Rattle.grub_facts.specs.declared.keeper.Trouble.TheVariants.{Unknown, TooLong, NoTrouble}
 
@@ -191,7 +191,7 @@ abbrev pub tasks_text : Tasks → List Task
 tasks_text tasks = map given_text tasks.given.items
 
 -- what the lines so far gave: the tasks, and the facts of them
-pub record Kept : Type 0 where
+pub record Noted : Type 0 where
   pub tasks : List Task
   pub facts : List Fact
 
@@ -214,10 +214,10 @@ problem_of_trouble event TooLong = Some (flawed flaw.TooLong)
 problem_of_trouble event Unknown = Some (unknown_task (woken_by event).comm (woken_by event).pid)
 
 -- after a line that says this and has no fault
-abbrev pub kept_after : ℕ → Said (List ℕ) → Kept → Kept
-kept_after line said kept = record { tasks = tasks_after line said.event kept.tasks; facts = kept.facts ++ told_of line said kept.tasks }
+abbrev pub noted_after : ℕ → Said (List ℕ) → Noted → Noted
+noted_after line said noted = record { tasks = tasks_after line said.event noted.tasks; facts = noted.facts ++ told_of line said noted.tasks }
 
 -- after a line that says this: one with a fault tells no fact
-abbrev pub kept_by : ℕ → Said (List ℕ) → Kept → Trouble → Kept
-kept_by line said kept NoTrouble = kept_after line said kept
-kept_by line said kept other = record kept { tasks = tasks_after line said.event kept.tasks }
+abbrev pub noted_by : ℕ → Said (List ℕ) → Noted → Trouble → Noted
+noted_by line said noted NoTrouble = noted_after line said noted
+noted_by line said noted other = record noted { tasks = tasks_after line said.event noted.tasks }

@@ -1,5 +1,5 @@
 -- What a line of a trace tells, whatever tasks were given.
-use Rattle.std.specs.Prelude.{ℕ, Bool, ◌||◌, nat_lt, ◌+◌, ◌-◌, List, length, slice_range, Option, Some, None, if◌then◌else◌}
+use Rattle.std.specs.Prelude.{ℕ, Bool, ◌||◌, nat_lt, nat_le, ◌+◌, ◌-◌, List, length, slice_range, Option, Some, None, if◌then◌else◌}
 use Rattle.grub_facts.specs.Words.{word_of, without_spaces}
 use Rattle.grub_facts.specs.Opening.{opening_of}
 use Rattle.grub_facts.specs.Head.{is_comment, is_lost}
@@ -12,7 +12,7 @@ use Rattle.grub_facts.specs.declared.opening.Opening.{Opening}
 use Rattle.grub_facts.specs.declared.fault.Flaw.TheVariants.{WrongClock, LostEvents, TooLong, BadTraceLine}
 use Rattle.grub_facts.specs.declared.line.Line.{Line}
 use Rattle.grub_facts.specs.declared.line.Line.TheVariants.{Nothing, Says, Wrong}
-use Rattle.grub_facts.specs.declared.line.TheConstants.{CPU_MAX, CLOCK_MAX}
+use Rattle.grub_facts.specs.declared.line.TheConstants.{CPUS_MAX, CLOCK_MAX}
 
 -- the CPU that an event names beside its line's, or 0
 abbrev pub other_cpu : {T : Type 0} → Event T → ℕ
@@ -29,7 +29,7 @@ abbrev pub drift : {T : Type 0} → Said T → ℕ
 drift said = drift_at said.at said.event
 
 abbrev pub has_cpu_above : {T : Type 0} → Said T → Bool
-has_cpu_above said = nat_lt CPU_MAX said.cpu || nat_lt CPU_MAX (other_cpu said.event)
+has_cpu_above said = nat_le CPUS_MAX said.cpu || nat_le CPUS_MAX (other_cpu said.event)
 
 -- what a line of an event tells
 abbrev pub checked : {T : Type 0} → Said T → Line T

@@ -1,5 +1,5 @@
 -- Numbers and moments, as words of a trace spell them. Leading zeros are allowed.
-use Rattle.std.specs.Prelude.{ℕ, Bool, false, not, ◌&&◌, ◌==◌, ◌+◌, ◌-◌, ◌*◌, min, List, length, take, drop, codes, position, slice_range, Option, Some, None, if◌then◌else◌, option_map, option_and_then}
+use Rattle.std.specs.Prelude.{ℕ, Bool, false, not, ◌&&◌, ◌==◌, ◌+◌, ◌-◌, ◌*◌, ◌^◌, min, List, length, take, drop, codes, position, slice_range, Option, Some, None, if◌then◌else◌, option_map, option_and_then}
 use Rattle.std.specs.List.{list_all}
 use Rattle.std.specs.Str.{bytes_eq}
 use Rattle.std.specs.Char.{is_ascii_digit}
@@ -23,7 +23,7 @@ number word = if not (length word == 0) && list_all is_ascii_digit word then Som
 
 -- the same, or the greatest of 32 bits
 abbrev pub small_number : List ℕ → Option ℕ
-small_number word = option_map (λ n. min n 4294967295) (number word)
+small_number word = option_map (λ n. min n (2 ^ 32 - 1)) (number word)
 
 -- the CPU of a word such as [003]
 abbrev pub bracketed : List ℕ → Option ℕ

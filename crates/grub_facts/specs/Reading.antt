@@ -4,7 +4,7 @@ use Rattle.std.specs.Option.{option_or}
 use Rattle.grub_facts.specs.Head.{is_comment, processors}
 use Rattle.grub_facts.specs.Lines.{drift, line_of, other_cpu}
 use Rattle.grub_facts.specs.Faults.{Problem, flawed}
-use Rattle.grub_facts.specs.Given.{Kept, kept_by, problem_of_trouble, tasks_given, trouble_of}
+use Rattle.grub_facts.specs.Given.{Noted, noted_by, problem_of_trouble, tasks_given, trouble_of}
 use Rattle.grub_facts.specs.Texts.{After}
 use Rattle.grub_facts.specs.declared.event.Event.{Event}
 use Rattle.grub_facts.specs.declared.event.Event.TheVariants.{Armed, Started}
@@ -13,12 +13,13 @@ use Rattle.grub_facts.specs.declared.fact.Counts.{Counts}
 use Rattle.grub_facts.specs.declared.fault.Flaw.TheVariants.{TooLong}
 use Rattle.grub_facts.specs.declared.line.Line.{Line}
 use Rattle.grub_facts.specs.declared.line.Line.TheVariants as line
+use Rattle.grub_facts.specs.declared.line.TheConstants.{CPUS_MAX}
 
 -- what lines told, and how many runqueues there are, where that was given
 pub record Told : Type 0 where
   pub cpus : Option ℕ
   pub counts : Counts
-  pub kept : Kept
+  pub noted : Noted
 
 -- the counts of no lines
 abbrev pub no_counts : Counts
@@ -26,16 +27,16 @@ no_counts = record { lines = 0; processors = None; first = None; greatest_cpu = 
 
 -- what is told before the first line, where tasks with these names were given
 abbrev pub told_first : List (List ℕ) → Option ℕ → Told
-told_first names cpus = record { cpus = cpus; counts = no_counts; kept = record { tasks = tasks_given names; facts = [] } }
+told_first names cpus = record { cpus = cpus; counts = no_counts; noted = record { tasks = tasks_given names; facts = [] } }
 
 -- how many runqueues the option or the head tell of
 abbrev pub runqueues_told : Option ℕ → Counts → Option ℕ
 runqueues_told cpus counts = option_or cpus counts.processors
 
--- how many runqueues there are: else one more than the greatest CPU of a line, at least one; 64 where a head or a CPU tells of more, which is a fault
+-- how many runqueues there are: else one more than the greatest CPU of a line, at least one; the most that there may be where a head or a CPU tells of more, which is a fault
 abbrev pub runqueues_of : Told → ℕ
 runqueues_of told =
-    min (unwrap_or (runqueues_told told.cpus told.counts) (unwrap_or (option_map (λ cpu. min (cpu + 1) 4294967295) told.counts.greatest_cpu) 1)) 64
+    min (unwrap_or (runqueues_told told.cpus told.counts) (unwrap_or (option_map (λ cpu. cpu + 1) told.counts.greatest_cpu) 1)) CPUS_MAX
 
 abbrev pub is_start : {T : Type 0} → Event T → Bool
 is_start (Armed timer pid expires) = true
@@ -68,7 +69,7 @@ line_counts text counts = if length text == 0 then counts else record counts { l
 -- whether a number of runqueues is none
 abbrev pub is_bad_count : Option ℕ → Bool
 is_bad_count None = false
-is_bad_count (Some n) = n == 0 || nat_lt 64 n
+is_bad_count (Some n) = n == 0 || nat_lt CPUS_MAX n
 
 -- what is wrong with a line that begins with #: it tells of a number of runqueues that is none
 abbrev pub head_problem : List ℕ → Told → Option Problem
@@ -85,19 +86,19 @@ abbrev pub other_line : List ℕ → Told → After Told
 other_line text told = record { wrong = None; told = record told { counts = line_counts text told.counts } }
 
 -- a line of an event
-abbrev pub event_line : ℕ → Said (List ℕ) → Told → After Told
-event_line n said told =
-    let trouble = trouble_of said told.kept.tasks (unwrap_or (runqueues_told told.cpus told.counts) 64) in
+abbrev pub event_step : ℕ → Said (List ℕ) → Told → After Told
+event_step n said told =
+    let trouble = trouble_of said told.noted.tasks (unwrap_or (runqueues_told told.cpus told.counts) CPUS_MAX) in
     record {
       wrong = problem_of_trouble said.event trouble;
-      told = record { cpus = told.cpus; counts = counted said told.counts; kept = kept_by n said told.kept trouble };
+      told = record { cpus = told.cpus; counts = counted said told.counts; noted = noted_by n said told.noted trouble };
     }
 
 -- a line that tells this
 abbrev pub line_told : ℕ → List ℕ → Told → Line (List ℕ) → After Told
 line_told n text told (line.Wrong flaw) = record { wrong = Some (flawed flaw); told = told }
 line_told n text told line.Nothing = if is_comment text then head_line text told else other_line text told
-line_told n text told (line.Says said) = event_line n said (record told { counts = line_counts text told.counts })
+line_told n text told (line.Says said) = event_step n said (record told { counts = line_counts text told.counts })
 
 -- what a line comes to, whose number and text these are
 abbrev pub fact_step : ℕ → List ℕ → Told → After Told

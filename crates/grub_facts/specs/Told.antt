@@ -33,8 +33,8 @@ NeedsNoMore reader =
 
 -- what a trace tells of the tasks with these names, whose text this is
 pub record IsTold (names : List (List ℕ)) (cpus : Option ℕ) (text : List ℕ) (told : Facts) : Type 0 where
-  pub facts : told.facts.items ≡ (facts_reading names cpus text).told.kept.facts
-  pub found : map (option_map finding_text) told.found.items ≡ map (λ (t : Task). t.found) (facts_reading names cpus text).told.kept.tasks
+  pub facts : told.facts.items ≡ (facts_reading names cpus text).told.noted.facts
+  pub found : map (option_map finding_text) told.found.items ≡ map (λ (t : Task). t.found) (facts_reading names cpus text).told.noted.tasks
   pub counts : told.counts ≡ (facts_reading names cpus text).told.counts
   pub runqueues : told.runqueues ≡ runqueues_of (facts_reading names cpus text).told
   pub fault : option_map fault_text told.fault ≡ fault_at_end (facts_reading names cpus text).fault (facts_reading names cpus text).line (facts_reading names cpus text).rest

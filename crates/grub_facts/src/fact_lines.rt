@@ -5,7 +5,7 @@ ghost use Rattle.grub_facts.specs.Head.{is_comment};
 ghost use Rattle.grub_facts.specs.inside.Events.{said_text};
 ghost use Rattle.grub_facts.specs.Keeping.{told_text};
 ghost use Rattle.grub_facts.specs.inside.Keeping.{after_of};
-ghost use Rattle.grub_facts.specs.Reading.{counted, event_line, fact_step, head_counts, head_line, is_bad_count, is_head, is_start, line_counts, no_counts, other_line, runqueues_of, runqueues_told, told_first};
+ghost use Rattle.grub_facts.specs.Reading.{Told, counted, event_step, fact_step, head_counts, head_line, is_bad_count, is_head, is_start, line_counts, no_counts, other_line, runqueues_of, runqueues_told, told_first};
 ghost use Rattle.grub_facts.specs.Words.{text_of};
 
 use crate::event::{Event, Said};
@@ -13,7 +13,8 @@ use crate::fact::Counts;
 use crate::fault::Wrong;
 use crate::head::{is_comment, processors};
 use crate::keeper::Keeper;
-use crate::line::{Line, drift, line_of, other_cpu};
+use crate::line::{CPUS_MAX, Line, drift, line_of, other_cpu};
+use crate::text::Lines;
 use std::alloc::{AllocError, Global};
 
 /// The facts of given tasks, as lines are read.
@@ -57,7 +58,7 @@ fn is_bad_count(count: Option<u32>) -> bool
 {
     match count {
         None => false,
-        Some(n) => n == 0 || n > 64,
+        Some(n) => n == 0 || n > CPUS_MAX,
     }
 }
 
@@ -136,8 +137,8 @@ impl FactLines {
         }
     }
 
-    /// How many runqueues there are: else one more than the greatest CPU of a line, at least one. It is 64 where a head or a
-    /// CPU tells of more, which is a fault, so that no work grows with a number that is none.
+    /// How many runqueues there are: else one more than the greatest CPU of a line, at least one. It is the most that there may
+    /// be where a head or a CPU tells of more, which is a fault, so that no work grows with a number that is none.
     pub(crate) fn runqueues(&self) -> u32
         ensures { result ≡ runqueues_of (told_text self.now) }
     {
@@ -148,7 +149,7 @@ impl FactLines {
                 Some(cpu) => cpu.saturating_add(1),
             },
         };
-        told.min(64)
+        told.min(CPUS_MAX)
     }
 
     /// Takes a line that begins with `#` and tells of no lost events.
@@ -167,10 +168,10 @@ impl FactLines {
     /// Takes what a line of an event says.
     fn take_said(&mut self, line: u64, said: &Said<&[u8]>) -> Result<Option<Wrong>, AllocError>
         ensures { IfOk result (λ wrong. after_of wrong (told_text self.new)
-            ≡ event_line line (said_text said.now) (told_text self.old)) }
+            ≡ event_step line (said_text said.now) (told_text self.old)) }
     {
         self.counts = counted(said, self.counts);
-        let runqueues = self.runqueues_told().unwrap_or(64);
+        let runqueues = self.runqueues_told().unwrap_or(CPUS_MAX);
         self.keeper.take(line, said, runqueues)
     }
 
@@ -180,12 +181,16 @@ impl FactLines {
     {
         self.counts = line_counts(text, self.counts);
     }
+}
 
-    /// Takes a line, without the byte that ends it, and answers what is wrong with it.
-    pub(crate) fn take(&mut self, line: u64, text: &[u8]) -> Result<Option<Wrong>, AllocError>
-        ensures { IfOk result (λ wrong. after_of wrong (told_text self.new)
-            ≡ fact_step line text.now (told_text self.old)) }
-    {
+impl Lines for FactLines {
+    ghost Told = { Told };
+
+    ghost told = { told_text };
+
+    ghost step = { fact_step };
+
+    fn take_line(&mut self, line: u64, text: &[u8]) -> Result<Option<Wrong>, AllocError> {
         match line_of(text) {
             Line::Wrong(flaw) => Ok(Some(Wrong::of_flaw(flaw))),
             Line::Nothing => {

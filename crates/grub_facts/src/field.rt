@@ -48,12 +48,14 @@ pub(crate) fn value_of<'a>(key: &[u8], text: &'a [u8]) -> Option<&'a [u8]>
     filled(first_word(rest).0)
 }
 
+/// The number that is the value of the field with this key.
 pub(crate) fn number_field(key: &[u8], text: &[u8]) -> Option<u64>
     ensures { result ≡ number_field key.now text.now }
 {
     number(value_of(key, text)?)
 }
 
+/// The CPU that is the value of the field with this key.
 pub(crate) fn cpu_field(key: &[u8], text: &[u8]) -> Option<u32>
     ensures { result ≡ cpu_field key.now text.now }
 {

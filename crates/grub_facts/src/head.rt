@@ -1,9 +1,8 @@
 //! What the head of a trace tells, whose lines begin with `#`, and lines that tell of lost events.
 
-ghost use Rattle.std.specs.Prelude.{◌≡◌, ◌==◌, position};
+ghost use Rattle.std.specs.Prelude.{◌≡◌, ◌==◌, false, position};
 ghost use Rattle.grub_facts.specs.Head.{has_fewer, is_comment, is_fewer, is_less, is_lost, processors, say_lost};
 ghost use Rattle.grub_facts.specs.Words.{words_of};
-ghost use Rattle.std.specs.Prelude.{false};
 
 use crate::field::{behind, cpu_field};
 use crate::number::number;

@@ -1,18 +1,18 @@
 //! The facts of the given tasks.
 
 ghost use Rattle.std.specs.Prelude.{◌≡◌, ◌++◌, [], IfOk, OnOk, Some, map, option_map};
-ghost use Rattle.grub_facts.specs.inside.Events.{event_text, said_text};
+ghost use Rattle.grub_facts.specs.inside.Events.{event_text, said_text, shown_text};
 ghost use Rattle.grub_facts.specs.Faults.{problem_of};
-ghost use Rattle.grub_facts.specs.Given.{Task, fact_told, finding_text, kept_by, move_trouble, problem_of_trouble, tasks_given, tasks_text, trouble_of, trouble_told, wake_trouble, what_told, woken_by};
-ghost use Rattle.grub_facts.specs.inside.Events.{shown_text};
-ghost use Rattle.grub_facts.specs.Keeping.{kept_text};
+ghost use Rattle.grub_facts.specs.Given.{Task, fact_told, finding_text, move_trouble, noted_by, problem_of_trouble, tasks_given, tasks_text, trouble_of, trouble_told, wake_trouble, what_told, woken_by};
+ghost use Rattle.grub_facts.specs.Keeping.{noted_text};
 ghost use Rattle.grub_facts.specs.Words.{text_of};
 ghost use Rattle.grub_facts.specs.declared.keeper.Trouble.TheVariants.{Unknown};
 
 use crate::event::{Event, Said, Shown};
 use crate::fact::{Fact, Found, What};
 use crate::fault::Wrong;
-use crate::given::{Tasks, is_sugov, stop_of};
+use crate::given::{is_sugov, stop_of};
+use crate::tasks::Tasks;
 use std::alloc::{AllocError, Global};
 
 /// What is wrong with a line by the tasks that were given.
@@ -142,8 +142,8 @@ impl Keeper {
     /// A keeper of the tasks with these names.
     pub(crate) fn new(alloc: Global, names: &[&[u8]]) -> Result<Keeper, AllocError>
         ensures tasks { IfOk result
-            (λ keeper. (kept_text keeper).tasks ≡ tasks_given (map text_of names.now)) }
-        ensures facts { IfOk result (λ keeper. (kept_text keeper).facts ≡ []) }
+            (λ keeper. (noted_text keeper).tasks ≡ tasks_given (map text_of names.now)) }
+        ensures facts { IfOk result (λ keeper. (noted_text keeper).facts ≡ []) }
     {
         let tasks = Tasks::new(alloc, names)?;
         Ok(Keeper {
@@ -186,10 +186,10 @@ impl Keeper {
     ) -> Result<Option<Wrong>, AllocError>
         ensures fault { IfOk result
             (λ wrong. option_map problem_of wrong ≡ problem_of_trouble (event_text said.now.event)
-            (trouble_of (said_text said.now) (kept_text self.old).tasks runqueues)) }
-        ensures kept { IfOk result
-            (λ wrong. kept_text self.new ≡ kept_by line (said_text said.now) (kept_text self.old)
-            (trouble_of (said_text said.now) (kept_text self.old).tasks runqueues)) }
+            (trouble_of (said_text said.now) (noted_text self.old).tasks runqueues)) }
+        ensures noted { IfOk result
+            (λ wrong. noted_text self.new ≡ noted_by line (said_text said.now) (noted_text self.old)
+            (trouble_of (said_text said.now) (noted_text self.old).tasks runqueues)) }
     {
         let task = self.tasks.note(line, &said.event)?;
         match trouble_told(&said.event, task, runqueues) {
@@ -204,9 +204,9 @@ impl Keeper {
 
     /// The facts, and where each given task was first shown.
     pub(crate) fn finish(self) -> Result<(Vec<Fact>, Vec<Option<Found>>), AllocError>
-        ensures facts { IfOk result (λ r. r.0.items ≡ (kept_text self).facts) }
+        ensures facts { IfOk result (λ r. r.0.items ≡ (noted_text self).facts) }
         ensures found { IfOk result (λ r. map (option_map finding_text) r.1.items
-            ≡ map (λ (t : Task). t.found) (kept_text self).tasks) }
+            ≡ map (λ (t : Task). t.found) (noted_text self).tasks) }
     {
         let Keeper { tasks, facts, .. } = self;
         let found = tasks.finish()?;

@@ -2,6 +2,7 @@
 #![tactic(auto)]
 
 mod census;
+mod counted;
 mod event;
 mod fact;
 mod fact_lines;
@@ -14,12 +15,15 @@ mod line;
 mod number;
 mod opening;
 mod reader;
+mod sighting;
 mod task_reader;
+mod tasks;
 mod text;
 mod words;
 
-pub use census::Counted;
+pub use counted::Counted;
 pub use fact::{Counts, Fact, Facts, Found, Stop, What};
 pub use fault::{LineFault, Wrong};
+pub use line::CPUS_MAX;
 pub use reader::FactReader;
 pub use task_reader::TaskReader;

@@ -1,11 +1,10 @@
 //! What a line of a trace tells, whatever tasks were given.
 
-ghost use Rattle.std.specs.Prelude.{◌≡◌};
+ghost use Rattle.std.specs.Prelude.{◌≡◌, length};
 ghost use Rattle.grub_facts.specs.inside.Events.{said_text};
 ghost use Rattle.grub_facts.specs.Opening.{opening_of};
 ghost use Rattle.grub_facts.specs.Lines.{checked, drift, event_line, has_cpu_above, line_behind, line_of, other_cpu};
 ghost use Rattle.grub_facts.specs.inside.Lines.{line_text};
-ghost use Rattle.std.specs.Prelude.{length};
 ghost use Rattle.grub_facts.specs.inside.OpeningFits.{StartsWithin};
 
 use crate::event::{Event, Said, said_of, verb_of};
@@ -14,8 +13,8 @@ use crate::head::{is_comment, is_lost};
 use crate::opening::{Opening, opening_of};
 use crate::words::{first_word, without_spaces};
 
-/// The greatest CPU that a trace may name.
-pub const CPU_MAX: u32 = 63;
+/// How many CPUs a trace may name, from 0 on, and how many runqueues there may be.
+pub const CPUS_MAX: u32 = 64;
 
 /// How far the `now` of a 0-lag timer that fires may lie from the moment of its line, in nanoseconds.
 pub const CLOCK_MAX: u64 = 1000000;
@@ -36,7 +35,7 @@ pub enum Line<T> {
 fn has_cpu_above(said: &Said<&[u8]>) -> bool
     ensures { result ≡ has_cpu_above said.now }
 {
-    said.cpu > CPU_MAX || other_cpu(&said.event) > CPU_MAX
+    said.cpu >= CPUS_MAX || other_cpu(&said.event) >= CPUS_MAX
 }
 
 /// The CPU that an event names beside its line's, or 0.

@@ -45,7 +45,7 @@ fn push_digit(value: u64, digit: u8) -> u64
 pub(crate) fn small_number(word: &[u8]) -> Option<u32>
     ensures { result ≡ small_number word.now }
 {
-    Some(number(word)?.min(4294967295) as u32)
+    Some(number(word)?.min(u64::from(u32::MAX)) as u32)
 }
 
 /// What follows the key at the front of a word.

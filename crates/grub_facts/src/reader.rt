@@ -2,27 +2,12 @@
 
 ghost use Rattle.std.specs.Prelude.{[], IfOk, IsTrue, OnOk, map};
 ghost use Rattle.grub_facts.specs.Words.{text_of};
-ghost use Rattle.grub_facts.specs.Keeping.{told_text};
-ghost use Rattle.grub_facts.specs.Reading.{Told, fact_step};
 ghost use Rattle.grub_facts.specs.Told.{HasRead, NeedsNoMore, ReadsOn, TellsAll, TellsStop};
 
 use crate::fact::Facts;
 use crate::fact_lines::FactLines;
-use crate::fault::Wrong;
-use crate::text::{Lines, Text};
+use crate::text::Text;
 use std::alloc::{AllocError, Global};
-
-impl Lines for FactLines {
-    ghost Told = { Told };
-
-    ghost told = { told_text };
-
-    ghost step = { fact_step };
-
-    fn take_line(&mut self, line: u64, text: &[u8]) -> Result<Option<Wrong>, AllocError> {
-        self.take(line, text)
-    }
-}
 
 /// Reads the facts of given tasks from a trace's text.
 #[derive(Drop)]
@@ -33,7 +18,7 @@ pub struct FactReader {
 
 impl FactReader {
     /// A reader for the tasks of these names: a name of digits is a pid, another one a comm. `cpus` is how many runqueues
-    /// there are, if that is given, from 1 to 64.
+    /// there are, if that is given, from 1 to `CPUS_MAX`.
     pub fn new(alloc: Global, names: &[&[u8]], cpus: Option<u32>) -> Result<FactReader, AllocError>
         ensures { IfOk result (HasRead (map text_of names.now) cpus []) }
     {

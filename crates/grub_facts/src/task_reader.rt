@@ -3,7 +3,8 @@
 ghost use Rattle.std.specs.Prelude.{[], IfErr, IfOk, IsTrue, OnOk};
 ghost use Rattle.grub_facts.specs.Census.{CountsOn, HasCounted, NeedsNoMore, ShowsAll, StopsAt, TellsStop};
 
-use crate::census::{Census, Counted};
+use crate::census::Census;
+use crate::counted::Counted;
 use crate::fault::LineFault;
 use crate::text::Text;
 use std::alloc::{AllocError, Global};

@@ -71,6 +71,7 @@ fn cut(line: &[u8]) -> Wrong
 }
 
 impl Text {
+    /// A text of which nothing came yet.
     pub(crate) fn new(alloc: Global) -> Text
         ensures carry { result.carry.items ≡ [] }
         ensures line { result.line ≡ 0 }

@@ -3,7 +3,7 @@
 ghost use Rattle.std.specs.Prelude.{◌≡◌, ◌∷◌, [], ◌<◌, ◌+◌, ◌==◌, not, IfSome, MatchOption, length, position};
 ghost use Rattle.grub_facts.specs.Words.{is_end, is_space, parts_of, word_of, words_of, without_spaces};
 
-/// Where a byte first stands.
+/// Where the first space stands.
 pub(crate) fn space_in(text: &[u8]) -> Option<usize>
     ensures { result ≡ position is_space text.now }
 {

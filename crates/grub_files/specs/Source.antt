@@ -5,11 +5,8 @@ use Rattle.std.specs.List.{FoldsTo, concat}
 use Rattle.std.specs.declared.result.Result.{Result}
 use Rattle.std.specs.declared.io.Error.{Error}
 use Rattle.grub_files.specs.declared.input.Source.{Source}
+use Rattle.grub_files.specs.declared.input.TheConstants.{FILE_BYTES_MAX}
 use denote.Ref.{Bor, MutBor}
-
--- the most bytes that a file may have
-abbrev pub file_bytes_most : ℕ
-file_bytes_most = 16777216
 
 -- calls that read a file into room
 abbrev pub Reader : Type 0 → Type 0 → Type 1
@@ -57,7 +54,7 @@ module _ {N D : Type 0} (g : Reader N D) (read : N) where
 
   -- reads may give so many bytes, and no more than a file may have
   abbrev pub StopsWithin : D → D → Type 0
-  StopsWithin file after = (bytes : List ℕ) × Reads file bytes after × (length bytes ≤ file_bytes_most)
+  StopsWithin file after = (bytes : List ℕ) × Reads file bytes after × (length bytes ≤ FILE_BYTES_MAX)
 
   -- a read may fail, the first or one after others that gave no more bytes than a file may have
   abbrev pub BreaksOff : D → D → Type 0
@@ -65,7 +62,7 @@ module _ {N D : Type 0} (g : Reader N D) (read : N) where
 
   -- there may be more bytes than a file may have: one more is read, and no further one
   abbrev pub Exceeds : D → D → Type 0
-  Exceeds file after = (bytes : List ℕ) × Reads file bytes after × (length bytes ≡ file_bytes_most + 1)
+  Exceeds file after = (bytes : List ℕ) × Reads file bytes after × (length bytes ≡ FILE_BYTES_MAX + 1)
 
 module _ {O N D : Type 0} (o : Opener O D) (g : Reader N D) (source : Source O N) where
   -- such a file may be opened under this name

@@ -2,7 +2,7 @@
 
 ghost use Rattle.std.specs.Prelude.{◌≡◌, ◌<◌, ◌≤◌, ◌+◌, ◌⊎◌, ℕ, IfErr, IfOk, OnOk, List, ◌++◌, length, take, vec_len};
 ghost use Rattle.grub_files.specs.declared.input.FileFault.TheVariants as faults;
-ghost use Rattle.grub_files.specs.Source.{BreaksOff, Exceeds, Fails, Gives, Holds, IsLonger, IsOpened, IsUnreadable, ReadsWhole, StopsWithin, file_bytes_most};
+ghost use Rattle.grub_files.specs.Source.{BreaksOff, Exceeds, Fails, Gives, Holds, IsLonger, IsOpened, IsUnreadable, ReadsWhole, StopsWithin};
 
 use std::alloc::{AllocError, Global};
 use std::io;
@@ -40,7 +40,7 @@ pub fn read_file<
 >(alloc: Global, source: &Source<O, N>, path: &str) -> Result<Vec<u8>, FileFault>
     requires open { O.IsAlwaysCallable source.now.open }
     requires read { N.IsAlwaysCallable source.now.read }
-    ensures few { IfOk result (λ v. vec_len v ≤ file_bytes_most) }
+    ensures few { IfOk result (λ v. vec_len v ≤ FILE_BYTES_MAX) }
     ensures whole { IfOk result (λ v. Holds O.Fn N.Fn source.now path.now v.items) }
     ensures unreadable { IfErr result
         (λ e. e ≡ faults.Read → IsUnreadable O.Fn N.Fn source.now path.now) }
@@ -93,10 +93,10 @@ fn read_behind<D, N: Fn(&mut D, &mut [u8]) -> io::Result<usize>>(
 /// Room for a further read behind the bytes that fill the front of these.
 fn make_room(bytes: &mut Vec<u8>, filled: usize) -> Result<(), AllocError>
     requires front { filled ≤ vec_len bytes.old }
-    requires few { filled ≤ file_bytes_most }
-    requires within { vec_len bytes.old ≤ file_bytes_most + 1 }
+    requires few { filled ≤ FILE_BYTES_MAX }
+    requires within { vec_len bytes.old ≤ FILE_BYTES_MAX + 1 }
     ensures room { OnOk result (filled < vec_len bytes.new) }
-    ensures within { OnOk result (vec_len bytes.new ≤ file_bytes_most + 1) }
+    ensures within { OnOk result (vec_len bytes.new ≤ FILE_BYTES_MAX + 1) }
     ensures kept { OnOk result (take filled bytes.new.items ≡ take filled bytes.old.items) }
 {
     if filled < bytes.len() {
@@ -114,10 +114,10 @@ fn read_more<D, N: Fn(&mut D, &mut [u8]) -> io::Result<usize>>(
 ) -> Result<usize, FileFault>
     requires callable { N.IsAlwaysCallable read.now }
     requires front { filled ≤ vec_len bytes.old }
-    requires few { filled ≤ file_bytes_most }
-    requires within { vec_len bytes.old ≤ file_bytes_most + 1 }
+    requires few { filled ≤ FILE_BYTES_MAX }
+    requires within { vec_len bytes.old ≤ FILE_BYTES_MAX + 1 }
     ensures fits { IfOk result (λ n. filled + n ≤ vec_len bytes.new) }
-    ensures within { IfOk result (λ n. vec_len bytes.new ≤ file_bytes_most + 1) }
+    ensures within { IfOk result (λ n. vec_len bytes.new ≤ FILE_BYTES_MAX + 1) }
     ensures gives { IfOk result
         (λ n. (piece : List ℕ) × Gives N.Fn read.now file.old piece file.new × (length piece ≡ n)
         × (take (filled + n) bytes.new.items ≡ take filled bytes.old.items ++ piece)) }
@@ -139,7 +139,7 @@ pub fn read_all<D, N: Fn(&mut D, &mut [u8]) -> io::Result<usize>>(
     file: &mut D,
 ) -> Result<Vec<u8>, FileFault>
     requires { N.IsAlwaysCallable read.now }
-    ensures few { IfOk result (λ v. vec_len v ≤ file_bytes_most) }
+    ensures few { IfOk result (λ v. vec_len v ≤ FILE_BYTES_MAX) }
     ensures whole { IfOk result (λ v. ReadsWhole N.Fn read.now file.old v.items file.new) }
     ensures broken { IfErr result
         (λ e. e ≡ faults.Read → BreaksOff N.Fn read.now file.old file.new) }

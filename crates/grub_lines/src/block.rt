@@ -32,7 +32,7 @@ fn part_at<X>(items: &[X], size: usize, number: usize) -> &[X]
 }
 
 /// Makes a block of the lines of one part.
-pub fn make_block<X, L: Line<X>>(
+pub(crate) fn make_block<X, L: Line<X>>(
     block: &mut Vec<u8>,
     items: &[X],
     size: usize,

@@ -1,7 +1,8 @@
 //! The lines of a report's entries.
 
 ghost use Rattle.std.specs.Prelude.{length};
-ghost use Rattle.grub_plan.specs.Texts.{entry_line, IsAskOf};
+ghost use Rattle.grub_plan.specs.Plans.{IsAskOf};
+ghost use Rattle.grub_plan.specs.Texts.{entry_line};
 
 use crate::line::Line;
 use grub_plan::{Entry, Plan, append_entry};

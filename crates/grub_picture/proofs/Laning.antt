@@ -1,5 +1,5 @@
 -- One lane more, and one runqueue more.
-use Rattle.std.proofs.Common.{◌≡◌, ℕ, zero, suc, ◌+◌, ◌-◌, ◌*◌, ◌<◌, ◌≤◌, Bool, true, false, List, [], ◌∷◌, ◌++◌, length, refl, ap, ◌∙◌, sym, append_assoc, arith}
+use Rattle.std.proofs.Common.{◌≡◌, ℕ, suc, ◌+◌, ◌-◌, ◌*◌, ◌<◌, Bool, true, false, List, ◌∷◌, ◌++◌, length, refl, ap, ◌∙◌, sym, append_assoc, arith}
 use Rattle.std.specs.Prelude.{filter}
 use Rattle.std.specs.List.{range_with_len}
 use Rattle.grub_plan.specs.Plans.{name_at}
@@ -36,10 +36,6 @@ lane_left d r at n t p o whole below shown is = ap (λ (ts : List ℕ). o ++ lan
 pub lane_same : (at end n t : ℕ) (p : ℕ → Bool) → t < n → p t ≡ false → at + 16 * length (filter p (range_with_len t (n - t))) ≡ end
     → at + 16 * length (filter p (range_with_len (t + 1) (n - (t + 1)))) ≡ end
 lane_same at end n t p below shown is = ap (λ (ts : List ℕ). at + 16 * length ts) (sym (skipped p t n below shown)) ∙ is
-
--- nothing is left
-pub none_left : (t n : ℕ) → n ≤ t → range_with_len t (n - t) ≡ []
-none_left t n past = let none : n - t ≡ zero = omega arith in rw none refl
 
 pub all_left : (n : ℕ) → range_with_len 0 (n - 0) ≡ range_with_len 0 n
 all_left n = let all : n - 0 ≡ n = omega arith in rw all refl

@@ -20,7 +20,12 @@ struct Begun {
 
 /// The bars of a task on runqueue `r` up to the end of a picture, by the task's own steps. Neighbours of one state are
 /// one bar. It is refused where the allocator refused.
-pub fn bars_of(alloc: Global, r: u32, own: &[Step], frame: Frame) -> Result<Vec<Bar>, AllocError>
+pub(crate) fn bars_of(
+    alloc: Global,
+    r: u32,
+    own: &[Step],
+    frame: Frame,
+) -> Result<Vec<Bar>, AllocError>
     ensures { IfOk result (λ v. v.items ≡ bars_of r frame.to own.now) }
 {
     let mut bars = Vec::new(alloc);
@@ -137,7 +142,7 @@ fn state_at(r: u32, place: Place) -> Option<State>
 }
 
 /// Whether one of the bars lies in the span of a picture, if only in part.
-pub fn are_seen(frame: Frame, bars: &[Bar]) -> bool
+pub(crate) fn are_seen(frame: Frame, bars: &[Bar]) -> bool
     ensures { result ≡ list_any (is_seen frame) bars.now }
 {
     for bar in bars {
@@ -155,7 +160,7 @@ fn is_seen(frame: Frame, bar: Bar) -> bool
 }
 
 /// The deadline that a step of runqueue `r` postponed to.
-pub fn postponed(r: u32, x: &Step) -> Option<u32>
+pub(crate) fn postponed(r: u32, x: &Step) -> Option<u32>
     ensures { result ≡ postponed r x.now }
 {
     if x.queue != r {

@@ -10,7 +10,7 @@ use std::alloc::AllocError;
 
 /// The step curve of a bandwidth of runqueue `r` on the base at `base`: running_bw, or this_bw.
 #[tactic(auto, unfolding(crate::specs::Curves::curve_text))]
-pub fn put_curve(
+pub(crate) fn put_curve(
     out: &mut Vec<u8>,
     frame: Frame,
     r: u32,

@@ -50,7 +50,7 @@ impl<'a> Scene<'a> {
 /// The runqueue `r` from `y` down: its name, its scale, its curves, its Umax and the lanes of its tasks. The answer is
 /// where it ends.
 #[tactic(auto, unfolding(crate::specs::Picture::queue_text, crate::specs::Picture::queue_end))]
-pub fn put_queue(
+pub(crate) fn put_queue(
     alloc: Global,
     out: &mut Vec<u8>,
     scene: &Scene,

@@ -1,15 +1,13 @@
 -- Texts that are handed on, one after the other.
-use Rattle.std.proofs.Common.{◌≡◌, ℕ, ◌+◌, ◌-◌, List, [], ◌∷◌, ◌++◌, length, take, drop, Option, Some, None, sym, ap, ◌∙◌, append_assoc}
+use Rattle.std.proofs.Common.{◌≡◌, ℕ, ◌+◌, List, [], ◌∷◌, ◌++◌, length, take, drop, Option, Some, None, sym, ap, ◌∙◌, append_assoc}
 use Rattle.std.proofs.Common.{◌<◌, get_or, Result, Ok, Err, subst}
 use Rattle.std.specs.Prelude.{OnErr}
-use Rattle.std.proofs.lemmas.List.{take_more}
+use Rattle.std.proofs.lemmas.List.{take_more, take-append-drop}
 use Rattle.std.specs.List.{flat_map}
 use Rattle.std.specs.Io.KnownBytes.{Appends, Keeps}
 use Rattle.std.proofs.lemmas.Grind.{flat_map-append}
 use Rattle.std.proofs.lemmas.List.{append-nil}
-use Rattle.std.proofs.lemmas.Grind.{common_steps}
 use Rattle.std.proofs.Math.Seq.{take-add}
-use Rattle.std.proofs.Common.{arith}
 use Rattle.grub_plan.specs.Writing.{HandsOn, HandsPart}
 
 -- two writes, one after the other
@@ -20,23 +18,16 @@ appends_more (Some xs) (Some ys) None text m n h k = absurd k
 appends_more (Some xs) (Some ys) (Some zs) text m n h k =
     k ∙ (ap (λ l. l ++ take n (drop m text)) h ∙ (append_assoc xs (take m text) (take n (drop m text)) ∙ ap (λ l. xs ++ l) (sym (take-add m n text))))
 
--- the rest of a slice, cut at its end
-pub rest_whole : (m : ℕ) (xs : List ℕ) → take (length xs - m) (drop m xs) ≡ drop m xs
-rest_whole m xs = grind (arith, common_steps)
-
 -- nothing was handed on yet
 pub hands_none : (a : Option (List ℕ)) (kept : List ℕ) → HandsOn a a kept [] kept
 hands_none None kept = tt
 hands_none (Some xs) kept = ([], sym (append-nil xs), append-nil kept)
 
-front : {X : Type 0} (m : ℕ) (xs : List X) → take m xs ++ drop m xs ≡ xs
-front m xs = grind (arith, common_steps)
-
 -- a beginning of what was kept
 pub hands_front : (a b : Option (List ℕ)) (kept : List ℕ) (m : ℕ) → Appends a b (take m kept) → HandsOn a b kept [] (drop m kept)
 hands_front None b kept m h = tt
 hands_front (Some xs) None kept m h = absurd h
-hands_front (Some xs) (Some ys) kept m h = (take m kept, h, append-nil kept ∙ sym (front m kept))
+hands_front (Some xs) (Some ys) kept m h = (take m kept, h, append-nil kept ∙ sym (take-append-drop m kept))
 
 -- what comes to the text comes to what is left
 pub hands_more : (a b : Option (List ℕ)) (kept text left more : List ℕ) → HandsOn a b kept text left → HandsOn a b kept (text ++ more) (left ++ more)
@@ -123,5 +114,5 @@ part_entries f a b c kept left xs i d lt h k =
     let rest = flat_map f (drop (i + 1) xs) in
     let so_far = part_after a b c kept (flat_map f (take i xs)) left (f (get_or xs i d)) h k in
     let whole : (flat_map f (take i xs) ++ f (get_or xs i d)) ++ rest ≡ flat_map f xs =
-    ap (λ l. l ++ rest) (sym (entries_next f xs i d lt)) ∙ sym (flat_map-append f (take (i + 1) xs) (drop (i + 1) xs)) ∙ ap (flat_map f) (front (i + 1) xs) in
+    ap (λ l. l ++ rest) (sym (entries_next f xs i d lt)) ∙ sym (flat_map-append f (take (i + 1) xs) (drop (i + 1) xs)) ∙ ap (flat_map f) (take-append-drop (i + 1) xs) in
     subst (λ t. HandsPart a c kept t) whole (part_longer a c kept (flat_map f (take i xs) ++ f (get_or xs i d)) rest so_far)

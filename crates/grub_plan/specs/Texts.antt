@@ -1,5 +1,5 @@
 -- The text of a report.
-use Rattle.std.specs.Prelude.{ℕ, ◌<◌, List, ◌++◌, codes, decimal}
+use Rattle.std.specs.Prelude.{ℕ, List, ◌++◌, codes, decimal}
 use Rattle.std.specs.List.{flat_map}
 use Rattle.grub_book.specs.declared.op.Op.{Op}
 use Rattle.grub_book.specs.declared.op.Op.TheVariants as op
@@ -79,8 +79,3 @@ close_line closing = codes "close " ++ reading_text closing ++ codes "\n"
 -- the report of a runqueue: its number, a line for each entry, and the closing reading
 unfoldable pub report_text : List (List ℕ) → ℕ → List Entry → Reading → List ℕ
 report_text names r entries closing = head_line r ++ flat_map (entry_line names) entries ++ close_line closing
-
--- a call is on one of so many tasks
-abbrev pub IsAskOf : ℕ → Ask → Type 0
-IsAskOf n (ask.Call t o) = t < n
-IsAskOf n ask.Read = Unit {0}

@@ -11,7 +11,7 @@ mod writing;
 
 pub use entry::{Answer, Ask, Entry, Report};
 pub use line::{Act, Line};
-pub use name::is_name;
+pub use name::{NAME_MAX, is_name};
 pub use pieces::{
     ANSWER_MAX, ASK_MAX, DIGITS_MAX, LINE_MAX, READING_MAX, append, append_answer, append_ask,
     append_close, append_entry, append_head, append_number, append_reading,

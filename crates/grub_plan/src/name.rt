@@ -4,11 +4,14 @@ ghost use Rattle.std.specs.Prelude.{◌≡◌};
 ghost use Rattle.std.specs.List.{list_all};
 ghost use Rattle.grub_plan.specs.Names.{is_name, is_name_byte};
 
-/// Whether a task may have this name: 1 to 16 letters, digits, `_` and `-`.
+/// The most bytes of a task's name.
+pub const NAME_MAX: usize = 16;
+
+/// Whether a task may have this name: 1 to `NAME_MAX` letters, digits, `_` and `-`.
 pub fn is_name(word: &[u8]) -> bool
     ensures { result ≡ is_name word.now }
 {
-    !word.is_empty() && word.len() <= 16 && are_name_bytes(word)
+    !word.is_empty() && word.len() <= NAME_MAX && are_name_bytes(word)
 }
 
 fn are_name_bytes(word: &[u8]) -> bool

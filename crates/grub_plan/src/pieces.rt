@@ -1,7 +1,9 @@
 //! The pieces of a report. Each is appended to a vector that has room for it, so no memory is taken.
 
 ghost use Rattle.std.specs.Prelude.{◌≡◌, ◌+◌, ◌≤◌, ◌++◌, length, decimal, codes, vec_len, vec_capacity};
-ghost use Rattle.grub_plan.specs.Texts.{reading_text, op_text, reply_text, server_text, answer_text, ask_text, entry_line, head_line, close_line, IsAskOf};
+ghost use Rattle.grub_plan.specs.declared.name.TheConstants.{NAME_MAX};
+ghost use Rattle.grub_plan.specs.Plans.{IsAskOf};
+ghost use Rattle.grub_plan.specs.Texts.{reading_text, op_text, reply_text, server_text, answer_text, ask_text, entry_line, head_line, close_line};
 
 use crate::entry::{Answer, Ask, Entry};
 use crate::plan::Plan;
@@ -164,7 +166,7 @@ fn append_retune(out: &mut Vec<u8>, name: &str, q: u32, p: u32)
 #[tactic(auto, unfolding(crate::specs::Texts::op_text))]
 fn append_op(out: &mut Vec<u8>, name: &str, op: Op)
     requires room { vec_len out.old + ASK_MAX ≤ vec_capacity out.old }
-    requires short { length name.now ≤ 16 }
+    requires short { length name.now ≤ NAME_MAX }
     ensures text { out.new.items ≡ out.old.items ++ op_text name.now op }
     ensures len { vec_len out.new ≤ vec_len out.old + ASK_MAX }
     ensures room { vec_capacity out.old ≤ vec_capacity out.new }

@@ -1,7 +1,8 @@
 //! The texts of entries and reports.
 
 ghost use Rattle.std.specs.Prelude.{◌≡◌, ◌++◌, All, length, decimal, OnOk, IfOk};
-ghost use Rattle.grub_plan.specs.Texts.{reading_text, entry_line, report_text, IsAskOf};
+ghost use Rattle.grub_plan.specs.Plans.{IsAskOf};
+ghost use Rattle.grub_plan.specs.Texts.{reading_text, entry_line, report_text};
 
 use crate::entry::{Entry, Report};
 use crate::pieces::{

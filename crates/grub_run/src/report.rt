@@ -1,7 +1,8 @@
 //! The report of a runqueue, on its way to a writer.
 
 ghost use Rattle.std.specs.Prelude.{◌≤◌, All, length, OnOk, OnErr, vec_capacity};
-ghost use Rattle.grub_plan.specs.Texts.{head_line, close_line, report_text, IsAskOf};
+ghost use Rattle.grub_plan.specs.Plans.{IsAskOf};
+ghost use Rattle.grub_plan.specs.Texts.{head_line, close_line, report_text};
 ghost use Rattle.grub_plan.specs.Writing.{HandsOn, HandsPart};
 
 use grub_book::Reading;
@@ -14,7 +15,7 @@ use std::thread::Threads;
 /// Writes the report of runqueue `r` after what the buffer keeps, but for what it keeps then: the runqueue's number, a line
 /// for each entry, and the closing reading. The entries' tasks are to be the plan's. It takes no memory.
 /// After a failing write, or one that took nothing, a beginning of the buffer's bytes and the report was written.
-pub fn write_report<R: Threads + Sync, W: Write>(
+pub(crate) fn write_report<R: Threads + Sync, W: Write>(
     rt: &R,
     blocks: &mut Blocks,
     buffer: &mut Vec<u8>,

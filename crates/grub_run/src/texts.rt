@@ -2,6 +2,7 @@
 
 ghost use Rattle.std.specs.Prelude.{◌≡◌, ◌≤◌, ℕ, List, [], length, vec_capacity, MatchResult, OnOk, OnErr, IfErr};
 ghost use Rattle.std.specs.Io.KnownBytes.{Appends};
+ghost use Rattle.grub_book.specs.declared.setup.TheConstants.{QUEUES_MAX};
 ghost use Rattle.grub_trace.specs.Meaning.{Reads};
 ghost use Rattle.grub_trace.specs.FirstFault.{IsFault};
 ghost use Rattle.grub_plan.specs.Contents.{contents};
@@ -72,7 +73,7 @@ fn write_run<R: Threads + Wait + Sync, W: Write>(
     rounds: u16,
     out: &mut W,
 ) -> Result<(), GrubFault>
-    requires few { length plan.now.scripts ≤ 64 }
+    requires few { length plan.now.scripts ≤ QUEUES_MAX }
     requires rounds { 1 ≤ rounds }
     ensures text { OnOk result
         (WritesRun plan.now tries (W.contents out.old) (W.contents out.new)) }
@@ -119,7 +120,7 @@ fn write_reports<R: Threads + Sync, W: Write>(
     requires empty { buffer.items ≡ [] }
     requires room { LINE_MAX ≤ vec_capacity buffer }
     requires one_each { length reports.now ≡ length closing.now }
-    requires most { length reports.now ≤ 64 }
+    requires most { length reports.now ≤ QUEUES_MAX }
     requires tasks { AllAsksOf plan.now reports.now }
     ensures whole { OnOk result (Appends (W.contents out.old) (W.contents out.new)
         (texts_from plan.now.names 0 reports.now closing.now)) }

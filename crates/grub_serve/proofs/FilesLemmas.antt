@@ -10,7 +10,8 @@ use Rattle.std.specs.Global.{Vec}
 use Rattle.std.specs.List.{AllZip, slice_get}
 use Rattle.grub_plan.specs.Contents.{contents}
 use Rattle.grub_files.specs.declared.input.Source.{Source}
-use Rattle.grub_files.specs.Source.{Holds, IsLonger, IsOpened, IsUnreadable, Opener, Reader, file_bytes_most}
+use Rattle.grub_files.specs.declared.input.TheConstants.{FILE_BYTES_MAX}
+use Rattle.grub_files.specs.Source.{Holds, IsLonger, IsOpened, IsUnreadable, Opener, Reader}
 use Rattle.grub_trace.specs.FirstFault.{too_many}
 use Rattle.grub_trace.specs.declared.fault.Kind.TheVariants.{OutOfRange}
 use Rattle.grub_trace.specs.declared.fault.TraceFault.TheVariants as trace
@@ -59,7 +60,7 @@ of_reading o g source name (faults.EmptySpan first end) is = absurd is
 of_reading o g source name faults.NoMemory is = tt
 
 -- a file that may be read whole may be opened, and read so far
-pub opened_whole : {O N D : Type 0} (o : Opener O D) (g : Reader N D) (source : Source O N) (name bytes : List ℕ) → length bytes ≤ file_bytes_most → Holds o g source name bytes → IsOpened o g source name
+pub opened_whole : {O N D : Type 0} (o : Opener O D) (g : Reader N D) (source : Source O N) (name bytes : List ℕ) → length bytes ≤ FILE_BYTES_MAX → Holds o g source name bytes → IsOpened o g source name
 opened_whole o g source name bytes few holds = let (after, (last, reads, end)) = holds.is in record { file = holds.file; opened = holds.opened; is = (last, (bytes, reads, few)) }
 
 -- more files than a run can have

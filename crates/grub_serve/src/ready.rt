@@ -27,7 +27,7 @@ pub struct Ready<'a> {
 
 impl<'a> Ready<'a> {
     /// Takes the memory. `None` where the allocator refused.
-    pub fn new(alloc: Global, plan: &'a Plan) -> Option<Ready<'a>>
+    pub(crate) fn new(alloc: Global, plan: &'a Plan) -> Option<Ready<'a>>
         ensures plan { IfSome result (λ x. x.playing.plan ≡ plan.now) }
     {
         let Ok(buffer) = report_buffer(alloc) else {

@@ -1,6 +1,7 @@
 //! From the names of event files to their reports.
 
 ghost use Rattle.std.specs.Prelude.{◌≡◌, ◌≤◌, ◌<◌, ℕ, List, IfErr, IfOk, OnOk, length};
+ghost use Rattle.grub_book.specs.declared.setup.TheConstants.{QUEUES_MAX};
 ghost use Rattle.grub_plan.specs.Contents.{contents};
 ghost use Rattle.grub_run.specs.Written.{Begins, IsOutput, Writes};
 ghost use Rattle.grub_run.specs.declared.fault.GrubFault.TheVariants as run_faults;
@@ -113,7 +114,7 @@ pub(crate) fn too_many<
 >(alloc: Global, source: &Source<O, N>, paths: &[&'a str]) -> ProgramFault<'a>
     requires open { O.IsAlwaysCallable source.now.open }
     requires read { N.IsAlwaysCallable source.now.read }
-    requires many { 64 < length paths.now }
+    requires many { QUEUES_MAX < length paths.now }
     ensures fault { Tells O.Fn N.Fn source.now (names_of paths.now) result }
     ensures reading { IsOfReading result }
 {

@@ -1,7 +1,6 @@
 -- The first that passes, in a loop that looks for it.
-use Rattle.std.proofs.Common.{◌≡◌, ℕ, ◌+◌, ◌<◌, ◌≤◌, Bool, true, false, List, ◌∷◌, length, get_or, drop, refl, ap, ◌∙◌, sym, Option, Some}
-use Rattle.std.specs.Prelude.{find, map, nat_le}
-use Rattle.std.proofs.lemmas.Bool.{le-leb, lt-leb}
+use Rattle.std.proofs.Common.{◌≡◌, ℕ, ◌+◌, ◌<◌, Bool, true, false, List, ◌∷◌, length, get_or, drop, refl, ap, ◌∙◌, sym, Option, Some}
+use Rattle.std.specs.Prelude.{find, map}
 use Rattle.std.proofs.lemmas.List.{drop_more}
 
 pub find_here : {X : Type 0} (p : X → Bool) (xs : List X) (i : ℕ) (d : X) (whole : Option X) → i < length xs → p (get_or xs i d) ≡ true
@@ -28,9 +27,3 @@ pub made_later : {X Y : Type 0} (f : X → Y) (p : Y → Bool) (xs : List X) (i 
 made_later {X = X} f p xs i d whole below is all =
     let later : find p (map f (get_or xs i d ∷ drop (i + 1) xs)) ≡ find p (map f (drop (i + 1) xs)) = rw is refl in
     sym later ∙ ap (λ (ys : List X). find p (map f ys)) (sym (drop_more xs i d below)) ∙ all
-
-pub few : (n : ℕ) → n ≤ 12 → nat_le n 12 ≡ true
-few n below = le-leb n 12 below
-
-pub many : (n : ℕ) → 12 < n → nat_le n 12 ≡ false
-many n above = lt-leb n 12 above

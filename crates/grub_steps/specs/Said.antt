@@ -1,9 +1,9 @@
 -- What a step says of its task, and which steps are its own.
 use Rattle.std.specs.Prelude.{ℕ, ◌-◌, ◌==◌, ◌&&◌, min, Bool, true, false, List, Option, Some, None, filter}
 use Rattle.grub_bw.specs.declared.server.Server.{Server}
+use Rattle.grub_book.specs.Step.{is_refusing}
 use Rattle.grub_book.specs.declared.op.Op.TheVariants.{Charge, Wake}
-use Rattle.grub_book.specs.declared.reply.Reply.{Reply}
-use Rattle.grub_book.specs.declared.reply.Reply.TheVariants.{Joined, Woken, Waiting, Asleep, Left, Retired, Ended, Charged, Retuned, Elsewhere}
+use Rattle.grub_book.specs.declared.reply.Reply.TheVariants.{Joined, Woken, Waiting, Asleep, Left, Retired, Charged, Elsewhere}
 use Rattle.grub_plan.specs.declared.entry.Ask.{Ask}
 use Rattle.grub_plan.specs.declared.entry.Ask.TheVariants.{Call}
 use Rattle.grub_plan.specs.declared.entry.Answer.{Answer}
@@ -85,20 +85,8 @@ least_after q (Replied (Woken p d)) = min q p
 least_after q (Replied (Charged k p d dq)) = min q p
 least_after q answer = q
 
-abbrev pub is_refusing_reply : Reply → Bool
-is_refusing_reply (Joined q d) = false
-is_refusing_reply (Woken q d) = false
-is_refusing_reply (Waiting ticket z) = false
-is_refusing_reply Asleep = false
-is_refusing_reply (Left r) = false
-is_refusing_reply Retired = false
-is_refusing_reply Ended = false
-is_refusing_reply (Charged k q d dq) = false
-is_refusing_reply Retuned = false
-is_refusing_reply reply = true
-
 -- the answer refuses; after a wake that finds the task elsewhere it moves, and that counts as none
 abbrev pub is_refused : Ask → Answer → Bool
 is_refused (Call t (Wake r m)) (Replied (Elsewhere s)) = false
-is_refused ask (Replied reply) = is_refusing_reply reply
+is_refused ask (Replied reply) = is_refusing reply
 is_refused ask answer = false

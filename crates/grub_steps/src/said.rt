@@ -1,7 +1,8 @@
 //! What a step says of its task.
 
 ghost use Rattle.std.specs.Prelude.{◌≡◌};
-ghost use Rattle.grub_steps.specs.Said.{charge_in, is_asleep, is_joined, is_kept, is_left, is_refused, is_refusing_reply, is_retired, is_waiting, is_woken, lateness, lateness_in, least_after, recharges_in, run_of, server_before};
+ghost use Rattle.grub_book.specs.Step.{is_refusing};
+ghost use Rattle.grub_steps.specs.Said.{charge_in, is_asleep, is_joined, is_kept, is_left, is_refused, is_retired, is_waiting, is_woken, lateness, lateness_in, least_after, recharges_in, run_of, server_before};
 
 use crate::book_steps::{Change, Step};
 use grub_book::{Op, Reply};
@@ -146,8 +147,8 @@ pub fn least_after(least: u32, answer: Answer) -> u32
     }
 }
 
-fn is_refusing_reply(reply: Reply) -> bool
-    ensures { result ≡ is_refusing_reply reply }
+fn is_refusing(reply: Reply) -> bool
+    ensures { result ≡ is_refusing reply }
 {
     match reply {
         Reply::Joined { .. }
@@ -175,7 +176,7 @@ pub fn is_refused(ask: Ask, answer: Answer) -> bool
             },
             Answer::Replied(Reply::Elsewhere(_)),
         ) => false,
-        (_, Answer::Replied(reply)) => is_refusing_reply(reply),
+        (_, Answer::Replied(reply)) => is_refusing(reply),
         _ => false,
     }
 }

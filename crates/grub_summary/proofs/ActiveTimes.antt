@@ -28,7 +28,7 @@ use Rattle.grub_book.proofs.Cases.{of_either, of_timer}
 use Rattle.grub_book.proofs.Readings.{AddAlike, CountAlike, same_reading, off}
 use Rattle.grub_book.proofs.Soundness.{moved, on_it}
 use Rattle.grub_book.proofs.Totals.{opening_totals}
-use Rattle.grub_plan.specs.Texts.{IsAskOf}
+use Rattle.grub_plan.specs.Plans.{IsAskOf}
 use Rattle.grub_plan.specs.declared.entry.Ask.{Ask}
 use Rattle.grub_plan.specs.declared.entry.Ask.TheVariants.{Call, Read}
 use Rattle.grub_timeline.specs.TimeLines.{AreWithin}

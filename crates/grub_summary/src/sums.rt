@@ -24,7 +24,7 @@ pub struct Sums {
 
 /// What is counted over these entries, by a book that begins with every task away. No step is kept. It is refused where
 /// the allocator refused.
-pub fn sums_of(alloc: Global, setup: &Setup, told: &[Told]) -> Result<Sums, AllocError>
+pub(crate) fn sums_of(alloc: Global, setup: &Setup, told: &[Told]) -> Result<Sums, AllocError>
     requires { AreToldIn setup.now told.now }
     ensures tallies { IfOk result
         (λ v. v.tallies.items ≡ tallies_of setup.now (steps_of setup.now told.now)) }

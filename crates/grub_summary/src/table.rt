@@ -24,7 +24,7 @@ pub enum Cell {
 }
 
 /// Appends a table with so many columns, the first of which is aligned to the left where `left` says so.
-pub fn put_table(
+pub(crate) fn put_table(
     alloc: Global,
     out: &mut Vec<u8>,
     plan: &Plan,

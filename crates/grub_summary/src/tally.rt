@@ -54,7 +54,7 @@ pub struct Tally {
 
 impl Tally {
     /// Of no step yet, for a task that declares this runtime.
-    pub fn new(runtime: u32) -> Tally
+    pub(crate) fn new(runtime: u32) -> Tally
         ensures { result ≡ tally_of runtime [] }
     {
         Tally {
@@ -76,7 +76,7 @@ impl Tally {
     }
 
     /// With one step more of the task.
-    pub fn and(self, x: &Step) -> Tally
+    pub(crate) fn and(self, x: &Step) -> Tally
         requires { (n : ℕ) × (n + 1 < 2 ^ 64) × IsWithin n self }
         ensures value { result ≡ tally_after self x.now }
         ensures within { (n : ℕ) → IsWithin n self → IsWithin (n + 1) result }

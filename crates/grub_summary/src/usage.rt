@@ -45,7 +45,7 @@ pub struct Meter {
 
 impl Meter {
     /// Of no step yet.
-    pub fn new(queue: u32) -> Meter
+    pub(crate) fn new(queue: u32) -> Meter
         ensures { result ≡ meter_of queue [] }
     {
         Meter {
@@ -62,7 +62,7 @@ impl Meter {
     }
 
     /// With one step more, of whichever runqueue.
-    pub fn and(self, x: &Step) -> Meter
+    pub(crate) fn and(self, x: &Step) -> Meter
         requires { (n : ℕ) × (n + 1 < 2 ^ 64) × IsMeterWithin n self }
         ensures value { result ≡ meter_after self x.now }
         ensures within { (n : ℕ) → IsMeterWithin n self → IsMeterWithin (n + 1) result }

@@ -11,9 +11,9 @@ use Rattle.grub_table.specs.declared.view.Note.{Note}
 use Rattle.grub_table.specs.declared.view.Share.{Share}
 use Rattle.grub_table.specs.declared.view.Terms.{Terms}
 use Rattle.grub_table.specs.declared.view.View.{View}
-use Rattle.grub_table.specs.Calls.{share_on}
+use Rattle.grub_table.specs.Calls.{share_on, IsSeatOf}
 use Rattle.grub_table.specs.Layout.{queue_word_at, task_word_at}
-use Rattle.grub_table.specs.inside.Between.{IsAllowed, IsSeatOf}
+use Rattle.grub_table.specs.inside.Between.{IsAllowed}
 use Rattle.grub_table.specs.inside.Rule.{Kept}
 use Rattle.grub_table.specs.inside.Tellings.{Turns, OfQueue}
 use Rattle.grub_table.specs.inside.Views.{alone, holding}

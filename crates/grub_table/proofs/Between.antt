@@ -10,8 +10,8 @@ use Rattle.grub_table.specs.declared.view.Note.{Note}
 use Rattle.grub_table.specs.declared.view.Access.{Access}
 use Rattle.grub_table.specs.declared.view.Share.{Share}
 use Rattle.grub_table.specs.declared.view.Terms.{Terms}
-use Rattle.grub_table.specs.Calls.{share_on, made_on}
-use Rattle.grub_table.specs.inside.Between.{IsSeatOf, Tells}
+use Rattle.grub_table.specs.Calls.{share_on, made_on, IsSeatOf}
+use Rattle.grub_table.specs.inside.Between.{Tells}
 use Rattle.grub_table.specs.Layout.{queue_word_at}
 use Rattle.grub_table.specs.inside.Tellings.{Turns, Of, OfQueue, IsReadingFor}
 use Rattle.grub_table.specs.declared.view.Trail.{Trail}

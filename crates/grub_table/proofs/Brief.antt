@@ -10,7 +10,7 @@ use Rattle.grub_table.specs.declared.view.Access.{Access}
 use Rattle.grub_table.specs.declared.view.Access.TheVariants.{Load, Store, Exchange}
 use Rattle.grub_table.specs.Accesses.{is_exchange_of, exchanges_of, lost_tries, FinishesBriefly, StartsBriefly}
 use Rattle.grub_table.specs.inside.Brief.{changed_store, TriesOnce}
-use Rattle.grub_table.proofs.Tries.{is_not}
+use Rattle.std.proofs.lemmas.Bool.{both_ways}
 
 exchanges_more : (w : ℕ) (xs ys : List Access) → exchanges_of w (xs ++ ys) ≡ exchanges_of w xs + exchanges_of w ys
 exchanges_more w xs ys = sum_by-append (λ x. cond (is_exchange_of w x) 1 0) xs ys
@@ -63,7 +63,7 @@ made_by_try w v p t held next sum q before one two after try to_two to_after = �
     (λ (won : (one ≡ before ++ Load w ∷ Exchange w true ∷ []) × (sum ≡ true)).
     let here : two ≡ before ++ (Load w ∷ Exchange w true ∷ Store v ∷ []) = to_two ∙ ap (λ l. l ++ Store v ∷ []) won.0 ∙ append_assoc before (Load w ∷ Exchange w true ∷ []) (Store v ∷ []) in
     let count : exchanges_of w (Load w ∷ Exchange w true ∷ Store v ∷ []) ≡ 1 = omega (arith, counts_one w) in
-    made_briefly w p t held next before two after (Load w ∷ Exchange w true ∷ Store v ∷ []) here to_after 1 sum (omega (arith, count)) (λ off. is_not won.1 off) (omega (arith, count)))
+    made_briefly w p t held next before two after (Load w ∷ Exchange w true ∷ Store v ∷ []) here to_after 1 sum (omega (arith, count)) (λ off. absurd (both_ways _ off won.1)) (omega (arith, count)))
     try
 
 -- by a store
@@ -99,7 +99,7 @@ lost_then w v n tries sum on before mid after same one lt is f' =
       made = lost_tries w n ++ f.made;
       grown = f.grown ∙ ap (λ l. l ++ f.made) one ∙ append_assoc before (lost_tries w n) f.made;
       tried = omega (arith, all, tried, lt);
-      quiet = λ off. is_not is off;
+      quiet = λ off. absurd (both_ways _ off is);
       few = omega (arith, all, few, length-append (lost_tries w n) f.made, lost_length w n);
     }
 

@@ -1,4 +1,4 @@
--- The steps of a pass that holds a task whose call is undecided are allowed: load-params, load-server, load-queue, change-queue, and store-server with the event.
+-- The steps of a pass that holds a task whose call is undecided are allowed: load-params, load-server, load-queue, change-queue, and settle-server.
 use Rattle.std.proofs.Common.{◌≡◌, ◌≢◌, ◌⊎◌, ℕ, ◌+◌, ◌<◌, Bool, true, false, cond, nat_lt, ◌&&◌, List, [], ◌∷◌, ◌++◌, length, set, get_or, sym, refl, ap, ◌∙◌, subst, inl, inr, ⊎_elim, arith, Option, Some, None, eqb, eq-eqb}
 use mathlib.Core.Option.{some}
 use lib.ListN.{get_elem?}
@@ -6,7 +6,7 @@ use lib.Seq.{set-get_or}
 use prog.Atomic.{either}
 use Rattle.atomic_table.specs.Table.{State}
 use Rattle.atomic_table.proofs.Lists.{exchanged}
-use Rattle.std.proofs.lemmas.Bool.{ne_eqb}
+use Rattle.std.proofs.lemmas.Bool.{ne_eqb, both_ways}
 use Rattle.grub_bw.specs.Bandwidth.{Capacity, Reservation, IsReservation, bandwidth_of}
 use Rattle.grub_book.specs.Machine.{queue_at}
 use Rattle.grub_book.specs.Op.{IsOp}
@@ -66,32 +66,26 @@ early_settled queue now x (Retune q p) reply is = absurd cc
 
 full_if : (b : Bool) (p q : Record × Reply) → is_decided_at_load q.1 ≡ false → Refuses p.1 → is_decided_at_load (cond b p q).1 ≡ true → Refuses (cond b p q).1
 full_if true p q off is h = is
-full_if false p q off is h = absurd (no_true off h)
-  where
-    no_true : {b : Bool} → b ≡ false → b ≡ true → ⊥
-    no_true e f = let g = sym e ∙ f in cc
+full_if false p q off is h = absurd (both_ways _ off h)
 
 not_if : (b : Bool) (p q : Record × Reply) → is_decided_at_load p.1 ≡ false → is_decided_at_load q.1 ≡ false → is_decided_at_load (cond b p q).1 ≡ false
 not_if true p q a c = a
 not_if false p q a c = c
 
-absent : {A : Type 0} {b : Bool} → b ≡ false → b ≡ true → A
-absent e f = let g = sym e ∙ f in absurd cc
-
 -- what is decided at the load changes no reading: it refuses, or changes no sum
 pub decided_at_load : (queue : Capacity) (now : Reading) (x : Record) (op : Op) → is_decided_at_load (settled x queue now op).1 ≡ true → Refuses (settled x queue now op).1 ⊎ (changes_sum x op ≡ false)
 decided_at_load queue now x (Join r m) is =
     let y = arrived x r m in
-    inl (full_if (nat_lt queue.most (now.this + bandwidth_of x.params)) (x, Full) (y, Joined y.server.q y.server.d) refl tt is)
+    inl (full_if (nat_lt queue.most (now.this + bandwidth_of x.params)) (x, Full) (y, Joined y.server.q y.server.d) refl refl is)
 decided_at_load queue now x (Wake r m) is = absurd cc
-decided_at_load queue now x (Block r m) is = absent (not_if (nat_lt m (lag_moment x)) _ _ refl refl) is
+decided_at_load queue now x (Block r m) is = absurd (both_ways _ (not_if (nat_lt m (lag_moment x)) _ _ refl refl) is)
 decided_at_load queue now x (Charge r dt) is = inr refl
 decided_at_load queue now x Leave is = absurd cc
-decided_at_load queue now x (Timer ticket m) is = absent (of_timer (λ (k : Record × Reply). is_decided_at_load k.1 ≡ false) (nat_lt m (lag_moment x)) x (lag_moment x) _ refl refl) is
+decided_at_load queue now x (Timer ticket m) is = absurd (both_ways _ (of_timer (λ (k : Record × Reply). is_decided_at_load k.1 ≡ false) (nat_lt m (lag_moment x)) x (lag_moment x) _ refl refl) is)
 decided_at_load queue now x (Retune q p) is =
     let params : Reservation = record { runtime = q; period = p } in
     let y : Record = record x { params = params; server = record { q = q; d = 0 } } in
-    inl (full_if (is_inactive x.place && nat_lt (queue.most + bandwidth_of x.params) (now.this + bandwidth_of params)) (x, Full) (y, Retuned) refl tt is)
+    inl (full_if (is_inactive x.place && nat_lt (queue.most + bandwidth_of x.params) (now.this + bandwidth_of params)) (x, Full) (y, Retuned) refl refl is)
 decided_at_load queue now x Exit is = absurd cc
 
 module _ {S : Type 0} (x : Share) (s : State S View) (id : ℕ) (c : List (ℕ × S)) (k : Kept x.terms s) (at : get_elem? s.views id ≡ some (alone x)) (t : ℕ) (op : Op) (rec : Record) (has : x.hold ≡ Undecided t op rec) where
@@ -280,7 +274,7 @@ module _ {S : Type 0} (x : Share) (s : State S View) (id : ℕ) (c : List (ℕ �
         (refl, sees, refl, (λ e. not (k.written.queues r inside ∙ ap queue_word (sym e) ∙ sym was)), record_is) in
         (k.history, x.hold, x.marks, stays_seen x s id c k at (queue_word_at r), (then, fit, sym was, subst (λ w. ChangedQueue r then w T x y) (sym (ne_eqb found old not)) told)))
 
-  -- store-server, with the event
+  -- settle-server, which is the event
   settle_server_out : (stored : ℕ) → refused rec.place rec.count op ≡ None → IsOp T.setup op → changes_sum rec op ≡ false → ¬ LooksAtQueue rec.place op → Out x s id c (server_word_at T.setup t) stored (SettledServer stored)
   settle_server_out stored free fits quiet blind =
       let p : Record × Reply = settled_quietly rec op in

@@ -1,5 +1,6 @@
 -- The table at the end.
 use Rattle.std.proofs.Common.{◌≡◌, ℕ, zero, suc, ◌<◌, ◌+◌, List, [], ◌∷◌, ◌++◌, length, map, get_or, refl, set, sym, ap, ◌∙◌, subst, arith, append_assoc, get_or-set_other, get_or-set_same, ⊎_elim, ◌≤◌}
+use Rattle.std.proofs.lemmas.List.{length-map}
 use mathlib.Core.Logic.{dite}
 use native.Mathlib.Decide.{ℕ_discrete}
 use mathlib.Core.List.{map-append}
@@ -42,10 +43,6 @@ known_by T h ms (p ∷ ps) a b = (record { seen = a.0.seen; marked = b.0 }, know
 has_number : (i : ℕ) (ps : List Pass) → Among i (map share_of ps) → Any (λ p. number_of p ≡ i) ps
 has_number i [] a = absurd a
 has_number i (p ∷ ps) a = ⊎_elim (λ is. (0, p, omega arith, refl, is)) (λ t. let k = has_number i ps t in (suc k.0, k.1, omega (arith, k.2), k.3, k.4)) a
-
-length_shares : (ps : List Pass) → length (map share_of ps) ≡ length ps
-length_shares [] = refl
-length_shares (p ∷ ps) = ap suc (length_shares ps)
 
 pub get_at : (xs : List ℕ) (i a : ℕ) → get_elem? xs i ≡ some a → get_or xs i 0 ≡ a
 get_at [] i a e = absurd (some-ne-none a (sym e))
@@ -91,7 +88,7 @@ module _ {S : Type 0} (self : Shared) (s : State S View) (id : ℕ) (v : View) (
               same_queue _ _ one.fits (reading_fits T k.history r k.limited k.is_history lt) (sym one.word ∙ ap (λ l. get_or l (queue_word_at r) 0) (sym same) ∙ k.written.queues r lt);
         };
         whole = λ i lt. has_number i ps (subst (Among i) shares (all_there T.passes v.shares mine.1
-            (all_weaker (Stands T k.history k.owner id) (λ (x : Share). x.number < T.passes) (λ x t. t.0.number) v.shares mine.0) (omega (arith, ap length shares, length_shares ps, all)) i lt));
+            (all_weaker (Stands T k.history k.owner id) (λ (x : Share). x.number < T.passes) (λ x t. t.0.number) v.shares mine.0) (omega (arith, ap length shares, length-map ps share_of, all)) i lt));
       }
 
 pub read_more : (readings : List Reading) (words : List ℕ) (r : ℕ) (now : Reading) → r < length readings → IsReadingOf words r now → ((k : ℕ) (d : Reading) → k < r → IsReadingOf words k (get_or readings k d))

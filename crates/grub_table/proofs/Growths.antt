@@ -4,6 +4,9 @@ use Rattle.std.specs.List.{AllByRecursion}
 use Rattle.std.proofs.lemmas.List.Elements.{All-push, filter-append}
 use Rattle.grub_book.specs.History.{IsTrueOf, book_of, pass_of}
 use Rattle.grub_book.specs.declared.event.Event.{Event}
+use Rattle.grub_book.specs.declared.event.Event.TheVariants.{Call}
+use Rattle.grub_book.specs.declared.op.Op.{Op}
+use Rattle.grub_book.specs.declared.reply.Reply.{Reply}
 use Rattle.grub_book.proofs.Histories.{legal_push, starts_whole, starts_after}
 use Rattle.grub_table.specs.declared.view.Mark.{Mark}
 use Rattle.grub_table.specs.declared.view.Share.{Share}
@@ -11,7 +14,7 @@ use Rattle.grub_table.specs.declared.view.Terms.{Terms}
 use Rattle.grub_table.specs.Histories.{IsHistory}
 use Rattle.grub_table.specs.Knowing.{GoesOn, Knows, Learns}
 use Rattle.grub_table.specs.Marks.{marker_of}
-use Rattle.grub_table.specs.inside.Tellings.{Grows, Finishes, MarksGo}
+use Rattle.grub_table.specs.inside.Tellings.{Finishes, MarksGo, Sees, Calls}
 use Rattle.grub_table.specs.inside.Views.{ShareOf}
 
 pub all_append : {X : Type 0} (P : X → Type 0) (xs ys : List X) → AllByRecursion P xs → AllByRecursion P ys → AllByRecursion P (xs ++ ys)
@@ -57,11 +60,14 @@ module _ {X : Type 0} (by : X → ℕ) (i : ℕ) where
 pub finished : (T : Terms) (h : List Event) (x : Share) (e : Event) → IsHistory T (h ++ e ∷ []) → ShareOf T h x → pass_of e ≡ x.number → Finishes T x.number x.seen e (h ++ e ∷ [])
 finished T h x e is k by = (is, goes_own pass_of x.number x.seen h e by k.seen, (h, refl))
 
-pub grows_grows : (T : Terms) (i : ℕ) (a b c : List Event) → Grows T i a b → Grows T i b c → Grows T i a c
-grows_grows T i a b c g h = (h.0, goes_twice pass_of i a b c [] [] g.1 h.1)
+-- ---- two steps, one after the other
+pub sees_after : (T : Terms) (x m y : Share) → m.number ≡ x.number → Sees T x m → Sees T m y → Sees T x y
+sees_after T x m y same g h = (h.0, goes_twice pass_of x.number x.seen m.seen y.seen [] [] g.1 (subst (λ n. GoesOn pass_of n m.seen y.seen []) same h.1))
 
-pub grows_finishes : (T : Terms) (i : ℕ) (a b : List Event) (e : Event) (c : List Event) → Grows T i a b → Finishes T i b e c → Finishes T i a e c
-grows_finishes T i a b e c g f = (f.0, goes_twice pass_of i a b c [] (e ∷ []) g.1 f.1, f.2)
+pub calls_after : (T : Terms) (x m y : Share) (t : ℕ) (op : Op) (reply : Reply) → m.number ≡ x.number → Sees T x m → Calls T m t op reply y → Calls T x t op reply y
+calls_after T x m y t op reply same g f =
+    let h = subst (λ n. Finishes T n m.seen (Call n t op reply) y.seen) same f in
+    (h.0, goes_twice pass_of x.number x.seen m.seen y.seen [] (Call x.number t op reply ∷ []) g.1 h.1, h.2)
 
 pub marks_both : (n i : ℕ) (a b c xs ys : List Mark) → MarksGo n i a b xs → MarksGo n i b c ys → MarksGo n i a c (xs ++ ys)
 marks_both n i a b c xs ys g h = (h.0, goes_twice marker_of i a b c xs ys g.1 h.1)

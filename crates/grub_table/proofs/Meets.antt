@@ -1,8 +1,9 @@
 -- Two beginnings of one history, or of one list of marks.
-use Rattle.std.proofs.Common.{◌≡◌, ◌⊎◌, ℕ, List, [], ◌∷◌, ◌++◌, length, drop, filter, sym, refl, ap, subst, ◌∙◌, ⊎_elim, inl, inr, arith, append-nil, append_assoc, length-append, ◌==◌}
+use Rattle.std.proofs.Common.{◌≡◌, ◌⊎◌, ℕ, List, [], ◌∷◌, ◌++◌, length, filter, sym, refl, ap, subst, ◌∙◌, ⊎_elim, inl, inr, arith, append-nil, append_assoc, length-append, ◌==◌}
 use Rattle.std.proofs.lemmas.List.{nil_from_length}
 use Rattle.std.proofs.lemmas.List.Elements.{filter-append}
-use Rattle.grub_book.specs.History.{StartsWith, pass_of}
+use mathlib.Core.List.{IsPrefix}
+use Rattle.grub_book.specs.History.{pass_of}
 use Rattle.grub_table.specs.declared.pass.Pass.{Pass}
 use Rattle.grub_table.specs.declared.view.Share.{Share}
 use Rattle.grub_table.specs.declared.view.Access.TheVariants.{Load}
@@ -20,35 +21,24 @@ use Rattle.grub_table.specs.inside.Views.{StandTogether, view}
 use Rattle.atomic_table.specs.Table.{Me}
 use Rattle.atomic_table.specs.declared.shared.Seat.{Seat}
 
-head_or : {A : Type 0} → A → List A → A
-head_or a [] = a
-head_or a (x ∷ xs) = x
-
-head_is : {A : Type 0} (x y : A) (a b : List A) → x ∷ a ≡ y ∷ b → x ≡ y
-unfolding head_or
-head_is x y a b e = ap (head_or x) e
-
-tail_is : {A : Type 0} (x y : A) (a b : List A) → x ∷ a ≡ y ∷ b → a ≡ b
-tail_is x y a b e = ap (drop 1) e
-
 -- of two beginnings of one list, one is a beginning of the other
-compared : {A : Type 0} (a b r s : List A) → a ++ r ≡ b ++ s → StartsWith b a ⊎ StartsWith a b
+compared : {A : Type 0} (a b r s : List A) → a ++ r ≡ b ++ s → IsPrefix a b ⊎ IsPrefix b a
 compared {A} [] b r s e = inl (b, refl)
 compared {A} (x ∷ a) [] r s e = inr (x ∷ a, refl)
-compared {A} (x ∷ a) (y ∷ b) r s e = let same = head_is x y (a ++ r) (b ++ s) e in ⊎_elim
-    (λ (t : StartsWith b a). inl (t.0, (λ i. sym same i ∷ t.1 i)))
-    (λ (t : StartsWith a b). inr (t.0, (λ i. same i ∷ t.1 i)))
-    (compared a b r s (tail_is x y (a ++ r) (b ++ s) e))
+compared {A} (x ∷ a) (y ∷ b) r s e = let same : x ≡ y = cc in ⊎_elim
+    (λ (t : IsPrefix a b). inl (t.0, (λ i. same i ∷ t.1 i)))
+    (λ (t : IsPrefix b a). inr (t.0, (λ i. sym same i ∷ t.1 i)))
+    (compared a b r s cc)
 
-pub either_first : {A : Type 0} (h a b : List A) → StartsWith h a → StartsWith h b → StartsWith b a ⊎ StartsWith a b
-either_first h a b s t = compared a b s.0 t.0 (sym s.1 ∙ t.1)
+pub either_first : {A : Type 0} (h a b : List A) → IsPrefix a h → IsPrefix b h → IsPrefix a b ⊎ IsPrefix b a
+either_first h a b s t = compared a b s.0 t.0 (s.1 ∙ sym t.1)
 
 -- what goes on to the whole list with nothing of i does so to each list between
-between : {A : Type 0} (by : A → ℕ) (i : ℕ) (h a b : List A) → StartsWith h b → StartsWith b a → GoesOn by i a h [] → GoesOn by i a b []
+between : {A : Type 0} (by : A → ℕ) (i : ℕ) (h a b : List A) → IsPrefix b h → IsPrefix a b → GoesOn by i a h [] → GoesOn by i a b []
 between {A} by i h a b hb ba g =
     let own : List A → List A = filter (λ x. by x == i) in
-    let whole : own h ≡ own b ++ own hb.0 = ap own hb.1 ∙ filter-append (λ x. by x == i) b hb.0 in
-    let part : own b ≡ own a ++ own ba.0 = ap own ba.1 ∙ filter-append (λ x. by x == i) a ba.0 in
+    let whole : own h ≡ own b ++ own hb.0 = ap own (sym hb.1) ∙ filter-append (λ x. by x == i) b hb.0 in
+    let part : own b ≡ own a ++ own ba.0 = ap own (sym ba.1) ∙ filter-append (λ x. by x == i) a ba.0 in
     let same : own h ≡ own a = g.own ∙ append-nil (own a) in
     let none : length (own ba.0) ≡ 0 = omega (arith, ap length whole, ap length part, ap length same, length-append (own b) (own hb.0), length-append (own a) (own ba.0)) in
     record { starts = ba; own = part ∙ ap (λ l. own a ++ l) (nil_from_length (own ba.0) none) }
@@ -56,8 +46,8 @@ between {A} by i h a b hb ba g =
 -- of two beginnings of one list, one goes on to the other
 met_in : {A : Type 0} (by : A → ℕ) (i j : ℕ) (h a b : List A) → GoesOn by i a h [] → GoesOn by j b h [] → GoesOn by i a b [] ⊎ GoesOn by j b a []
 met_in by i j h a b f g = ⊎_elim
-    (λ (s : StartsWith b a). inl (between by i h a b g.starts s f))
-    (λ (s : StartsWith a b). inr (between by j h b a f.starts s g))
+    (λ (s : IsPrefix a b). inl (between by i h a b g.starts s f))
+    (λ (s : IsPrefix b a). inr (between by j h b a f.starts s g))
     (either_first h a b f.starts g.starts)
 
 -- two passes that stand together

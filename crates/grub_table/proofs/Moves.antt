@@ -1,12 +1,14 @@
 -- Steps that change no word and no task keep the rule: a comparison, and the cutting and joining of views.
 use Rattle.std.proofs.Common.{◌≡◌, ◌≢◌, ℕ, ◌<◌, List, ◌∷◌, length, set, get_or, sym, refl, subst, ⊎_elim}
+use mathlib.Core.List.{IsPrefix}
 use mathlib.Core.Option.{some, none}
 use lib.ListN.{get_elem?}
 use lib.Seq.{set-get_or}
 use Rattle.atomic_table.specs.Table.{State, Me, step, keeps, stepped, Allows, Splits, Joins}
 use Rattle.atomic_table.proofs.Lists.{at_set, set_again}
+use Rattle.grub_book.specs.Machine.{IsMachine}
 use Rattle.grub_book.specs.Sums.{reading_of}
-use Rattle.grub_book.specs.History.{book_of, StartsWith}
+use Rattle.grub_book.specs.History.{book_of}
 use Rattle.grub_book.specs.Sound.{IsSound}
 use Rattle.grub_book.specs.declared.event.Event.{Event}
 use Rattle.grub_book.proofs.Histories.{starts_whole, starts_after}
@@ -19,23 +21,23 @@ use Rattle.grub_table.specs.declared.view.View.{View}
 use Rattle.grub_table.specs.Histories.{IsHistory}
 use Rattle.grub_table.specs.inside.Views.{view, alone, nothing, without_first, only_first, both_of, ShareOf, MarkedBy}
 use Rattle.grub_table.specs.inside.Tellings.{compares}
-use Rattle.grub_table.specs.inside.Rule.{AreLimited, Stands, Known, Held, Grips, Grasps, Written, Kept, Marked, Since}
+use Rattle.grub_table.specs.inside.Rule.{Stands, Known, Held, Grips, Grasps, Written, Kept, Marked, Since}
 use Rattle.grub_table.proofs.Growths.{all_weaker}
 use Rattle.grub_table.proofs.Seats.{moved, taken, known_split, known_join, each_split, each_join}
 
-pub since_more : (T : Terms) (h h' : List Event) (grips : Grips) → StartsWith h' h → Since T h grips → Since T h' grips
+pub since_more : (T : Terms) (h h' : List Event) (grips : Grips) → IsPrefix h h' → Since T h grips → Since T h' grips
 since_more T h h' grips more since t i before stored is = let s = since t i before stored is in (s.0, starts_after h' h s.0 more s.1, s.2)
 
 -- the book of a table's history is sound, and so each reading has a word
-pub sound : (T : Terms) (h : List Event) → AreLimited T.setup → IsHistory T h → IsSound T.setup (book_of T.setup h)
+pub sound : (T : Terms) (h : List Event) → IsMachine T.setup → IsHistory T h → IsSound T.setup (book_of T.setup h)
 sound T h are is = sound_legal T.setup h are is.legal
 
-pub reading_fits : (T : Terms) (h : List Event) (r : ℕ) → AreLimited T.setup → IsHistory T h → r < length T.setup.queues → QueueFits (reading_of (book_of T.setup h) r)
+pub reading_fits : (T : Terms) (h : List Event) (r : ℕ) → IsMachine T.setup → IsHistory T h → r < length T.setup.queues → QueueFits (reading_of (book_of T.setup h) r)
 reading_fits T h r are is lt = QueueFits-sound T.setup (book_of T.setup h) r (sound T h are is) lt (are.capacities r lt)
 
 module _ {S : Type 0} where
   -- a step that changes no word and adds no mark
-  pub unmoved : (T : Terms) (s : State S View) (i id : ℕ) (c : List (ℕ × S)) (w : View) (h : List Event) (k : Kept T s) → StartsWith h k.history → IsHistory T h → Known T h k.owner (set s.views id w) → Held T k.grips (book_of T.setup h) (set s.views id w)
+  pub unmoved : (T : Terms) (s : State S View) (i id : ℕ) (c : List (ℕ × S)) (w : View) (h : List Event) (k : Kept T s) → IsPrefix k.history h → IsHistory T h → Known T h k.owner (set s.views id w) → Held T k.grips (book_of T.setup h) (set s.views id w)
       → Written T (book_of T.setup h) k.grips s.words → Marked k.marks (set s.views id w) → Kept T (stepped s i (get_or s.words i 0) id c w keeps)
   unmoved T s i id c w h k more is known held written marked = record {
     history = h;

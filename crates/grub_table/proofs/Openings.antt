@@ -8,7 +8,7 @@ use Rattle.std.proofs.lemmas.List.{take_more, get_or-map, get_or_push, get_or_ap
 use Rattle.std.proofs.lemmas.List.Elements.{All-nil}
 use Rattle.std.specs.List.{AllByRecursion}
 use Rattle.atomic_table.specs.Table.{opening}
-use Rattle.grub_book.specs.Machine.{task_at}
+use Rattle.grub_book.specs.Machine.{task_at, IsMachine}
 use Rattle.grub_book.specs.Sums.{opening_record, opening_book, record_at}
 use Rattle.grub_book.specs.declared.place.Place.TheVariants.{Away}
 use Rattle.grub_book.specs.History.{pass_of}
@@ -27,7 +27,7 @@ use Rattle.grub_table.proofs.Marks.{lawful_none}
 use Rattle.grub_table.specs.inside.Views.{share}
 use Rattle.grub_table.specs.inside.Views.{fresh, first_view, MarkedBy}
 use Rattle.grub_table.specs.inside.FirstWords.{AreOpeningWords}
-use Rattle.grub_table.specs.inside.Rule.{AreLimited, Stands, Apart, loose, Grasps, TaskShows, Written, Kept}
+use Rattle.grub_table.specs.inside.Rule.{Stands, Apart, loose, Grasps, TaskShows, Written, Kept}
 use Rattle.grub_table.specs.Calls.{AreNew, IsNew}
 use Rattle.grub_table.proofs.Growths.{all_weaker, goes_none}
 
@@ -78,7 +78,7 @@ fresh_unmarked : (T : Terms) (k n : ℕ) → AllByRecursion (MarkedBy []) (fresh
 fresh_unmarked T k zero = tt
 fresh_unmarked T k (suc n) = (goes_none marker_of k [], fresh_unmarked T (suc k) n)
 
-opens : {S : Type 0} (T : Terms) (words : List ℕ) → AreLimited T.setup → AreOpeningWords T.setup (length T.setup.tasks) words → Kept T {S = S} (opening words [] (first_view T))
+opens : {S : Type 0} (T : Terms) (words : List ℕ) → IsMachine T.setup → AreOpeningWords T.setup (length T.setup.tasks) words → Kept T {S = S} (opening words [] (first_view T))
 opens T words limited are = record {
   history = [];
   owner = λ _. 0;
@@ -101,7 +101,7 @@ opens T words limited are = record {
         (some-injective (first_view T) v e) ((fresh_stand T 0 T.passes (omega arith), fresh_apart T 0 T.passes), fresh_free T 0 T.passes, fresh_unmarked T 0 T.passes)
     one (suc id) v e = absurd (some-ne-none v (sym e))
 
-pub opens_as : {S : Type 0} (T : Terms) (words words' : List ℕ) (slots : List S) → AreLimited T.setup → AreOpeningWords T.setup (length T.setup.tasks) words → words' ≡ words → slots ≡ [] → Kept T {S = S} (opening words' slots (first_view T))
+pub opens_as : {S : Type 0} (T : Terms) (words words' : List ℕ) (slots : List S) → IsMachine T.setup → AreOpeningWords T.setup (length T.setup.tasks) words → words' ≡ words → slots ≡ [] → Kept T {S = S} (opening words' slots (first_view T))
 opens_as {S} T words words' slots ok are ws ss = subst (λ (p : List ℕ × List S). Kept T {S = S} (opening p.0 p.1 (first_view T))) (λ i. (sym ws i, sym ss i)) (opens T words ok are)
 
 -- ---- dealing

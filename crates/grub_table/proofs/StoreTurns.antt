@@ -1,5 +1,6 @@
 -- The stores of a pass that holds a task are allowed: store-server, store-params and give-back after the event, and give-up.
-use Rattle.std.proofs.Common.{◌≡◌, ℕ, ◌+◌, ◌<◌, false, List, [], ◌∷◌, ◌++◌, length, set, sym, refl, ap, ◌∙◌, subst, arith}
+use Rattle.std.proofs.Common.{◌≡◌, ℕ, ◌<◌, false, List, [], ◌∷◌, ◌++◌, length, set, sym, refl, ap, ◌∙◌, subst, arith}
+use Rattle.std.proofs.Math.Nat.{add-zero}
 use mathlib.Core.Logic.{dite}
 use mathlib.Core.Option.{some}
 use native.Mathlib.Decide.{ℕ_discrete}
@@ -126,9 +127,6 @@ module _ {S : Type 0} (x : Share) (s : State S View) (id : ℕ) (c : List (ℕ �
     where
       zero_three : 0 < 3
       zero_three = omega arith
-
-      add-zero : (n : ℕ) → n + 0 ≡ n
-      add-zero n = omega arith
 
   give_up_out : (t : ℕ) (op : Op) (rec : Record) (n : ℕ) → x.hold ≡ Undecided t op rec → n ≡ shown rec false → Out x s id c (task_word_at T.setup t) n GaveUp
   give_up_out t op rec n has word =

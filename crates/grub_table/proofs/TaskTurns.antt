@@ -1,5 +1,6 @@
 -- look, load-task and take-claim are allowed.
 use Rattle.std.proofs.Common.{◌≡◌, ◌⊎◌, ℕ, ◌+◌, ◌<◌, true, false, List, [], ◌∷◌, ◌++◌, length, set, get_or, sym, refl, ap, ◌∙◌, subst, inl, inr, arith, Option, Some, None, eqb}
+use Rattle.std.proofs.Math.Nat.{add-zero}
 use mathlib.Core.Logic.{dite}
 use mathlib.Core.Option.{some}
 use native.Mathlib.Decide.{ℕ_discrete}
@@ -41,8 +42,8 @@ use Rattle.grub_table.specs.inside.Layout.{stored_of}
 use Rattle.grub_table.specs.Histories.{record_in}
 use Rattle.grub_table.specs.inside.Views.{alone, holding}
 use Rattle.grub_table.specs.inside.Tellings.{CallsIf, IsOthers, Of, OfQueue, SawReading, LoadedTask, TookClaim}
-use Rattle.grub_table.specs.inside.Between.{hold_of, IsAllowed, IsSeatOf}
-use Rattle.grub_table.specs.Calls.{share_on}
+use Rattle.grub_table.specs.inside.Between.{hold_of, IsAllowed}
+use Rattle.grub_table.specs.Calls.{share_on, IsSeatOf}
 use Rattle.grub_table.specs.inside.Rule.{holder_in, Grip, Grips, loose, grip, Grasps, TaskShows, Kept}
 use Rattle.grub_table.proofs.Marks.{lawful_more, holder_more, taken_here, taken_else}
 use Rattle.grub_table.proofs.Growths.{goes_own, history_more, finished}
@@ -172,9 +173,6 @@ module _ {S : Type 0} (x : Share) (s : State S View) (id : ℕ) (c : List (ℕ �
     where
       lit_three : 0 < 3
       lit_three = omega arith
-
-      add-zero : (n : ℕ) → n + 0 ≡ n
-      add-zero n = omega arith
 
   missed : (t : ℕ) (g : Grip) → k.grips t ≡ g → x.hold ≡ Free → Shows g (record_at b t) (words_of T.setup s.words t)
       → let y = holding x k.history x.hold k.marks in IsOthers T x.number t (word_of t) y ⊎ (word_of t ≡ shown (record_in T y.seen t) false)

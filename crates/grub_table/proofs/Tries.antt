@@ -1,5 +1,6 @@
 -- What the steps of a call under a claim tell together.
 use Rattle.std.proofs.Common.{◌≡◌, ℕ, ◌+◌, ◌<◌, ◌≤◌, Bool, true, false, List, [], ◌∷◌, length, sym, refl, ap, ◌∙◌, subst, arith, Option, Some, None}
+use Rattle.std.proofs.lemmas.Bool.{both_ways}
 use Rattle.grub_bw.specs.Bandwidth.{Capacity, bandwidth_of}
 use Rattle.grub_bw.specs.Server.{charge_of, depleted_of}
 use Rattle.grub_bw.specs.declared.server.Server.{Server}
@@ -25,19 +26,15 @@ use Rattle.grub_table.specs.declared.view.Mark.{Mark}
 use Rattle.grub_table.specs.declared.view.Mark.TheVariants.{Given}
 use Rattle.grub_table.specs.declared.view.Share.{Share}
 use Rattle.grub_table.specs.declared.view.Stored.{Stored}
-use Rattle.grub_table.specs.declared.view.Terms.{Terms}
 use Rattle.grub_table.specs.inside.Between.{HoldsFor, HoldsMade, Tells}
 use Rattle.grub_table.specs.Calls.{seen, marks, share_on, share_of, ComesFrom, claim_share, claim_queue, claim_changes_sum, IsClaimOf, IsDone, IsLost, IsFinished}
 use Rattle.grub_table.specs.Histories.{WasBefore, record_in}
 use Rattle.grub_table.specs.Knowing.{GoesOn, Learns}
 use Rattle.grub_table.specs.inside.Layout.{stored_of}
 use Rattle.grub_table.specs.Marks.{AreLawful, marker_of}
-use Rattle.grub_table.specs.inside.Tellings.{is_decided_at_load, Grows, Finishes, MarksGo, Sees, Calls, Gives}
+use Rattle.grub_table.specs.inside.Tellings.{is_decided_at_load, Finishes, MarksGo, Calls, Gives}
 use Rattle.grub_table.specs.inside.Tries.{is_charge, Tried}
-use Rattle.grub_table.proofs.Growths.{goes_none, grows_grows, grows_finishes, learns_none, learns_twice}
-
-pub is_not : {A : Type 0} {b : Bool} → b ≡ true → b ≡ false → A
-is_not e f = let g = sym e ∙ f in absurd cc
+use Rattle.grub_table.proofs.Growths.{goes_none, learns_none, learns_twice}
 
 -- ---- the ops
 or_charge : (b : Bool) → (b ≡ false → false ≡ true) → b ≡ true
@@ -50,7 +47,7 @@ charge_decided x dq None = refl
 charge_decided x dq (Some (k, s)) = refl
 
 pub lost_changes : (queue : Capacity) (now : Reading) (x : Record) (op : Op) → (changes_sum x op ≡ false → is_charge op ≡ true) → is_decided_at_load (settled x queue now op).1 ≡ false → changes_sum x op ≡ true
-lost_changes queue now x (Charge r dt) about off = let dq = charge_of dt (bandwidth_of x.params) queue now.running now.this in is_not (charge_decided x dq (depleted_of x.server x.params dq)) off
+lost_changes queue now x (Charge r dt) about off = let dq = charge_of dt (bandwidth_of x.params) queue now.running now.this in absurd (both_ways _ off (charge_decided x dq (depleted_of x.server x.params dq)))
 lost_changes queue now x (Join r m) about off = refl
 lost_changes queue now x Leave about off = refl
 lost_changes queue now x (Timer ticket m) about off = refl
@@ -67,26 +64,19 @@ quiet_blind x (Block r m) quiet off looks = looks
 quiet_blind x (Charge r dt) quiet off looks = absurd cc
 quiet_blind x Leave quiet off looks = looks
 quiet_blind x (Timer ticket m) quiet off looks = looks
-quiet_blind x (Retune q p) quiet off looks = is_not looks quiet
+quiet_blind x (Retune q p) quiet off looks = both_ways _ quiet looks
 quiet_blind x Exit quiet off looks = looks
 
 -- ---- claims
 pub claim_holds : (s : Shared) (c : Claim) → IsClaimOf s c → HoldsFor s c.seated c.task c.op c.held
 claim_holds s c is = record {
-  seat_of = record { home = is.of.home; terms = is.of.terms };
+  seat_of = is.of.seat;
   hold = c.holds;
   task = is.task;
   op = is.op;
   kept = is.kept;
   unrefused = is.unrefused;
 }
-
--- ---- two steps, one after the other
-pub sees_after : (T : Terms) (x m y : Share) → m.number ≡ x.number → Sees T x m → Sees T m y → Sees T x y
-sees_after T x m y same g h = grows_grows T x.number x.seen m.seen y.seen g (subst (λ n. Grows T n m.seen y.seen) same h)
-
-pub calls_after : (T : Terms) (x m y : Share) (t : ℕ) (op : Op) (reply : Reply) → m.number ≡ x.number → Sees T x m → Calls T m t op reply y → Calls T x t op reply y
-calls_after T x m y t op reply same g f = grows_finishes T x.number x.seen m.seen (Call x.number t op reply) y.seen g (subst (λ n. Finishes T n m.seen (Call n t op reply) y.seen) same f)
 
 -- ---- the ends of calls
 -- the claim's call is made with this outcome, and these words of its task are stored
@@ -123,7 +113,7 @@ module _ (s : Shared) (c : Claim) (is : IsClaimOf s c) where
       let g : MarksGo s.terms.passes mine.number mine.marks (marks q) (Given mine.number c.task ∷ []) =
       subst (λ (m : ℕ × List Mark). MarksGo s.terms.passes m.0 m.1 (marks q) (Given m.0 c.task ∷ [])) (λ i. (made.number i, made.marks i)) gives.of.1 in
       record {
-        of = record { home = gives.seat.home; terms = gives.seat.terms; history = f.0; lawful = g.0 };
+        of = record { seat = gives.seat; history = f.0; lawful = g.0 };
         learns = record { number = gives.number ∙ made.number; seen = f.1; marked = g.1 };
         before = subst (λ h. WasBefore s.terms c.task c.held (Call mine.number c.task c.op p.1) h) (sym same) made.was;
         claimed = made.claimed;
@@ -140,7 +130,7 @@ module _ (s : Shared) (c : Claim) (is : IsClaimOf s c) where
       record {
         still = record {
           of = record {
-            of = subst (ComesFrom s) (sym seat_is) (record { home = tells.seat.home; terms = tells.seat.terms; history = w.1.0.0; lawful = subst (AreLawful s.terms.passes) (sym w.0) is.of.lawful });
+            of = subst (ComesFrom s) (sym seat_is) (record { seat = tells.seat; history = w.1.0.0; lawful = subst (AreLawful s.terms.passes) (sym w.0) is.of.lawful });
             task = subst (λ t. t < length s.terms.setup.tasks) (sym task_is) is.task;
             op = subst (IsOp s.terms.setup) (sym op_is) is.op;
             held = ap (λ (p : Seated × ℕ). record_in s.terms (share_on p.0).seen p.1) (λ i. (seat_is i, task_is i)) ∙ w.1.2 ∙ sym held_is;

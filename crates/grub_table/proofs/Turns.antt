@@ -5,11 +5,12 @@ use mathlib.Core.Option.{some}
 use native.Mathlib.Decide.{ℕ_discrete}
 use lib.ListN.{get_elem?}
 use Rattle.std.proofs.lemmas.List.{get_or-set_same, get_or-set_other}
+use mathlib.Core.List.{IsPrefix}
 use Rattle.atomic_table.specs.Table.{State, keeps, stepped}
 use Rattle.grub_book.specs.Machine.{Machine}
 use Rattle.grub_book.specs.Op.{IsOp}
 use Rattle.grub_book.specs.Sums.{Records, record_at}
-use Rattle.grub_book.specs.History.{IsTrueOf, book_of, StartsWith}
+use Rattle.grub_book.specs.History.{IsTrueOf, book_of}
 use Rattle.grub_book.specs.Sound.{IsSound}
 use Rattle.grub_book.specs.Step.{step}
 use Rattle.grub_book.specs.declared.event.Event.{Event}
@@ -133,7 +134,7 @@ module _ {S : Type 0} (x : Share) (s : State S View) (id : ℕ) (c : List (ℕ �
     pub all_marks : (seen : List Event) (hold : Hold) → MarkedBy k.marks (holding x seen hold k.marks)
     all_marks seen hold = goes_none marker_of x.number k.marks
 
-    pub stays : (i : ℕ) (h seen : List Event) (hold : Hold) (marks : List Mark) → StartsWith h k.history → IsHistory x.terms h → Known x.terms h k.owner (set s.views id (alone (holding x seen hold marks))) → book_of machine h ≡ book
+    pub stays : (i : ℕ) (h seen : List Event) (hold : Hold) (marks : List Mark) → IsPrefix k.history h → IsHistory x.terms h → Known x.terms h k.owner (set s.views id (alone (holding x seen hold marks))) → book_of machine h ≡ book
         → Grasps x.terms k.grips book x.number hold → MarkedBy k.marks (holding x seen hold marks) → Kept x.terms (stepped s i (get_or s.words i 0) id c (alone (holding x seen hold marks)) keeps)
     stays i h seen hold marks more is known same new told = unmoved x.terms s i id c (alone (holding x seen hold marks)) h k more is known
         (subst (λ b. Held x.terms k.grips b (set s.views id (alone (holding x seen hold marks)))) (sym same) (held_own x.terms k.grips book s.views id x seen hold marks k.held new))
@@ -157,11 +158,11 @@ module _ {S : Type 0} (x : Share) (s : State S View) (id : ℕ) (c : List (ℕ �
         (book_push machine k.history e ∙ ap (λ p. p.0) is) grasp (all_marks h x.hold)
 
     -- ---- one word changes, and what is known of one task
-    pub turned : (j n t : ℕ) (h seen : List Event) (grips : Grips) (hold : Hold) (ms marks : List Mark) → StartsWith h k.history → IsHistory x.terms h → Known x.terms h k.owner (set s.views id (alone (holding x seen hold marks)))
+    pub turned : (j n t : ℕ) (h seen : List Event) (grips : Grips) (hold : Hold) (ms marks : List Mark) → IsPrefix k.history h → IsHistory x.terms h → Known x.terms h k.owner (set s.views id (alone (holding x seen hold marks)))
         → IsMine x.number (k.grips t) → IsMine x.number (grips t) → ((u : ℕ) → u ≢ t → grips u ≡ k.grips u) → ((u : ℕ) → u ≢ t → record_at (book_of machine h) u ≡ record_at book u)
         → Grasps x.terms grips (book_of machine h) x.number hold → Written x.terms (book_of machine h) grips (set s.words j n)
         → AreLawful x.terms.passes ms → ((u : ℕ) → holder_of ms u ≡ holder_in (grips u)) → Marked ms (set s.views id (alone (holding x seen hold marks)))
-        → ((i : ℕ) (before : Record) (stored : Stored) → grips t ≡ grip i before stored → (a : List Event) × StartsWith h a × (record_in x.terms a t ≡ before)) → Kept x.terms (stepped s j n id c (alone (holding x seen hold marks)) keeps)
+        → ((i : ℕ) (before : Record) (stored : Stored) → grips t ≡ grip i before stored → (a : List Event) × IsPrefix a h × (record_in x.terms a t ≡ before)) → Kept x.terms (stepped s j n id c (alone (holding x seen hold marks)) keeps)
     turned j n t h seen grips hold ms marks more is known mine mine' else records new written lawful tied known_marks since = record {
       history = h;
       owner = k.owner;
@@ -176,12 +177,12 @@ module _ {S : Type 0} (x : Share) (s : State S View) (id : ℕ) (c : List (ℕ �
       tied = tied;
       marked = known_marks;
       since = λ u i before stored was. dite (ℕ_discrete u t)
-          (λ same. subst (λ v. (a : List Event) × StartsWith h a × (record_in x.terms a v ≡ before)) (sym same) (since i before stored (ap grips (sym same) ∙ was)))
+          (λ same. subst (λ v. (a : List Event) × IsPrefix a h × (record_in x.terms a v ≡ before)) (sym same) (since i before stored (ap grips (sym same) ∙ was)))
           (λ other. since_more x.terms k.history h k.grips more k.since u i before stored (sym (else u other) ∙ was));
     }
 
     -- the same, where the task stays with the pass and no mark is added
-    pub turned_held : (j n t : ℕ) (h seen : List Event) (grips : Grips) (hold : Hold) (before : Record) (was now : Stored) → StartsWith h k.history → IsHistory x.terms h → Known x.terms h k.owner (set s.views id (alone (holding x seen hold x.marks)))
+    pub turned_held : (j n t : ℕ) (h seen : List Event) (grips : Grips) (hold : Hold) (before : Record) (was now : Stored) → IsPrefix k.history h → IsHistory x.terms h → Known x.terms h k.owner (set s.views id (alone (holding x seen hold x.marks)))
         → k.grips t ≡ grip x.number before was → grips t ≡ grip x.number before now → ((u : ℕ) → u ≢ t → grips u ≡ k.grips u) → ((u : ℕ) → u ≢ t → record_at (book_of machine h) u ≡ record_at book u)
         → Grasps x.terms grips (book_of machine h) x.number hold → Written x.terms (book_of machine h) grips (set s.words j n) → Kept x.terms (stepped s j n id c (alone (holding x seen hold x.marks)) keeps)
     turned_held j n t h seen grips hold before was now more is known old new else records grasps written =

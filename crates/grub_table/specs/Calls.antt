@@ -1,15 +1,17 @@
 -- What the calls of a table promise, in terms of its passes and claims.
 use Rattle.std.specs.Prelude.{Bool, true, false, ◌≡◌, ◌≢◌, ℕ, ◌-◌, ◌<◌, ◌≤◌, List, [], ◌∷◌, ◌++◌, length, slice_index_or, ◌⊎◌, None, if◌then◌else◌}
 use Rattle.std.specs.List.{All, Any}
+use mathlib.Core.List.{IsPrefix}
 use Rattle.grub_book.specs.Machine.{Machine}
 use Rattle.grub_book.specs.Op.{IsOp}
-use Rattle.grub_book.specs.History.{StartsWith, HasChanged}
+use Rattle.grub_book.specs.History.{HasChanged}
 use Rattle.grub_book.specs.Sound.{IsKept}
 use Rattle.grub_book.specs.Step.{early, refused, runqueue_of, changes_sum, is_under_claim}
 use Rattle.grub_book.specs.declared.event.Event.{Event}
 use Rattle.grub_book.specs.declared.event.Event.TheVariants.{Call}
 use Rattle.grub_book.specs.declared.event.Reading.{Reading}
 use Rattle.grub_book.specs.declared.op.Op.{Op}
+use Rattle.grub_book.specs.declared.place.Record.{Record}
 use Rattle.grub_book.specs.declared.reply.Reply.{Reply}
 use Rattle.grub_book.specs.declared.reply.Reply.TheVariants.{Early}
 use Rattle.grub_table.specs.declared.view.Access.{Access}
@@ -38,7 +40,7 @@ use Rattle.grub_table.specs.Layout.{queue_word_at, shown}
 use Rattle.grub_table.specs.Histories.{IsHistory, EndsWith, WasBefore, record_in, reading_in}
 use Rattle.grub_table.specs.Trails.{first_made}
 use Rattle.grub_table.specs.Views.{first_of}
-use Rattle.grub_table.specs.Tellings.{IsHeldByOther, WasClaimedWord}
+use Rattle.grub_table.specs.Sightings.{IsHeldByOther, WasClaimedWord}
 
 -- ---- what a pass or a claim knows, by its seat
 abbrev pub share_on : Seated → Share
@@ -75,9 +77,13 @@ claim_task c = c.task
 abbrev pub claim_op : Claim → Op
 claim_op c = c.op
 
+-- the record of the task, as the claim holds it
+abbrev pub claim_record : Claim → Record
+claim_record c = c.held
+
 -- the runqueue that its op is about
 abbrev pub claim_queue : Claim → ℕ
-claim_queue c = runqueue_of c.held.place c.op
+claim_queue c = runqueue_of (claim_record c).place (claim_op c)
 
 -- its own and those of its pass before it
 abbrev pub claim_accesses : Claim → List Access
@@ -87,10 +93,14 @@ claim_accesses c = made_on c.seated
 abbrev pub terms : Shared → Terms
 terms s = s.terms
 
--- the seat comes from this table
-pub record ComesFrom (s : Shared) (x : Seated) : Type 0 where
+-- the seat is at this table
+pub record IsSeatOf (s : Shared) (x : Seated) : Type 0 where
   pub home : x.seat.table_id ≡ s.table.inner.shared.table_id
   pub terms : (share_on x).terms ≡ s.terms
+
+-- the seat comes from this table
+pub record ComesFrom (s : Shared) (x : Seated) : Type 0 where
+  pub seat : IsSeatOf s x
   pub history : IsHistory s.terms (share_on x).seen
   pub lawful : AreLawful s.terms.passes (share_on x).marks
 
@@ -101,12 +111,12 @@ IsPassOf s p = ComesFrom s p.seated
 -- the claim comes from this table, and holds a task whose record is the one that it names, for an op that neither the record nor the server refuses
 pub record IsClaimOf (s : Shared) (c : Claim) : Type 0 where
   pub of : ComesFrom s c.seated
-  pub task : c.task < length s.terms.setup.tasks
-  pub op : IsOp s.terms.setup c.op
-  pub held : record_in s.terms (claim_share c).seen c.task ≡ c.held
-  pub kept : IsKept s.terms.setup c.held
-  pub unrefused : refused c.held.place c.held.count c.op ≡ None
-  pub timely : early c.held c.op ≡ None
+  pub task : claim_task c < length s.terms.setup.tasks
+  pub op : IsOp s.terms.setup (claim_op c)
+  pub held : record_in s.terms (claim_share c).seen (claim_task c) ≡ claim_record c
+  pub kept : IsKept s.terms.setup (claim_record c)
+  pub unrefused : refused (claim_record c).place (claim_record c).count (claim_op c) ≡ None
+  pub timely : early (claim_record c) (claim_op c) ≡ None
 
 -- ---- opening
 -- the pass of this number, which has seen just these events and knows just these marks
@@ -178,8 +188,8 @@ pub record IsAnswered (s : Shared) (p : Pass) (t : ℕ) (op : Op) (q : Pass) (re
 -- `start` took the task
 pub record IsTaken (s : Shared) (p : Pass) (t : ℕ) (asked : Op) (c : Claim) : Type 0 where
   pub of : IsClaimOf s c
-  pub task : c.task ≡ t
-  pub op : c.op ≡ asked
+  pub task : claim_task c ≡ t
+  pub op : claim_op c ≡ asked
   pub learns : Learns (share_of p) (claim_share c) [] (Taken (number_of p) t ∷ [])
 
 -- the task word of t was seen with its claim bit, and another pass has t
@@ -191,10 +201,10 @@ pub record IsClaimedSighting (T : Terms) (i t : ℕ) (after : List Event) (known
 pub record IsChangedSighting (T : Terms) (i t : ℕ) (before after : List Event) (known : List Mark) (loaded found : ℕ) : Type 0 where
   pub differ : found ≢ loaded
   pub at_load : List Event
-  pub not_before : StartsWith at_load before
-  pub known_then : StartsWith after at_load
+  pub not_before : IsPrefix before at_load
+  pub known_then : IsPrefix at_load after
   pub loaded_word : loaded ≡ shown (record_in T at_load t) false
-  pub found_word : IsClaimedSighting T i t after known found ⊎ ((b : List Event) × StartsWith b at_load × StartsWith after b × (found ≡ shown (record_in T b t) false))
+  pub found_word : IsClaimedSighting T i t after known found ⊎ ((b : List Event) × IsPrefix at_load b × IsPrefix b after × (found ≡ shown (record_in T b t) false))
 
 abbrev pub IsSighting : Terms → ℕ → ℕ → List Event → List Event → List Mark → Sighting → Type 0
 IsSighting T i t before after known (Claimed word) = IsClaimedSighting T i t after known word
@@ -219,22 +229,22 @@ started_accesses (Busy q sighting) = accesses q
 
 -- whether the op of a claim changes a sum of its runqueue
 abbrev pub claim_changes_sum : Claim → Bool
-claim_changes_sum c = changes_sum c.held c.op
+claim_changes_sum c = changes_sum (claim_record c) (claim_op c)
 
 -- `finish` made the call on the record that the claim names; with no try it makes only one that changes no sum
 pub record IsDone (s : Shared) (c : Claim) (tries : ℕ) (q : Pass) (reply : Reply) : Type 0 where
   pub of : IsPassOf s q
-  pub learns : Learns (claim_share c) (share_of q) (Call (claim_share c).number c.task c.op reply ∷ []) (Given (claim_share c).number c.task ∷ [])
-  pub before : WasBefore s.terms c.task c.held (Call (claim_share c).number c.task c.op reply) (seen q)
+  pub learns : Learns (claim_share c) (share_of q) (Call (claim_share c).number (claim_task c) (claim_op c) reply ∷ []) (Given (claim_share c).number (claim_task c) ∷ [])
+  pub before : WasBefore s.terms (claim_task c) (claim_record c) (Call (claim_share c).number (claim_task c) (claim_op c) reply) (seen q)
   pub claimed : is_under_claim reply ≡ true
   pub tried : claim_changes_sum c ≡ true → 1 ≤ tries
 
--- the claim is as it was, and knows more of the history
+-- the claim is as it was
 pub record IsStill (s : Shared) (c d : Claim) : Type 0 where
   pub of : IsClaimOf s d
-  pub task : d.task ≡ c.task
-  pub op : d.op ≡ c.op
-  pub held : d.held ≡ c.held
+  pub task : claim_task d ≡ claim_task c
+  pub op : claim_op d ≡ claim_op c
+  pub held : claim_record d ≡ claim_record c
   pub marks : (claim_share d).marks ≡ (claim_share c).marks
 
 -- `finish` gave the claim back, after so many tries, each lost to a change of the runqueue's reading
@@ -256,4 +266,4 @@ IsWithin c tries (Held d) = claim_accesses d ≡ claim_accesses c ++ lost_tries 
 -- `cancel` gave the task back
 pub record IsCancelled (s : Shared) (c : Claim) (q : Pass) : Type 0 where
   pub of : IsPassOf s q
-  pub learns : Learns (claim_share c) (share_of q) [] (Given (claim_share c).number c.task ∷ [])
+  pub learns : Learns (claim_share c) (share_of q) [] (Given (claim_share c).number (claim_task c) ∷ [])

@@ -1,4 +1,4 @@
--- Histories of a table, and how they grow.
+-- Histories of a table, and what its words say after one.
 use Rattle.std.specs.Prelude.{◌≡◌, ℕ, ◌<◌, List, [], ◌∷◌, ◌++◌}
 use Rattle.std.specs.List.{All}
 use Rattle.grub_book.specs.Sums.{record_at, reading_of}

@@ -3,7 +3,7 @@ pub mod Layout
 pub mod Histories
 pub mod Knowing
 pub mod Views
-pub mod Tellings
+pub mod Sightings
 pub mod Calls
 pub mod Messages
 pub mod Trails

@@ -1,4 +1,4 @@
--- The views of seats: each is a list of shares, mostly of one pass's.
+-- The share that a view begins with; the view of a pass is that one alone.
 use Rattle.std.specs.Prelude.{[], slice_index_or}
 use Rattle.grub_table.specs.declared.view.Share.{Share}
 use Rattle.grub_table.specs.declared.view.Hold.TheVariants.{Free}

@@ -13,7 +13,8 @@ use std::alloc::Global;
 
 impl Shared {
     /// The reading of each runqueue at the end, in order, in 1/2^20.
-    /// `Missing` (26) is answered where passes of the table are not there, and `NoMemory` (42) where a growth was refused. Both give all back.
+    /// `Missing` (26) is answered where passes of the table are not there, and `NoMemory` (42) is meant for a growth that was
+    /// refused, which no clause tells. Both give all back.
     pub fn close(self, alloc: Global, passes: Vec<Pass>) -> Result<Vec<Reading>, CloseFault>
         requires { All (IsPassOf self) passes.items }
         ensures closed { IfOk result (λ readings. IsClosed self passes.items readings.items) }

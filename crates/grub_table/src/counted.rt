@@ -10,7 +10,7 @@ ghost use Rattle.grub_table.specs.inside.Views.{first_view, without_first, only_
 ghost use Rattle.grub_table.specs.declared.view.Access.TheVariants.{Load, Store, Exchange};
 ghost use Rattle.grub_table.specs.declared.view.Note.{Note};
 
-use crate::rule::{All, Exchanges, First, Loads, OneHistory, Stores};
+use crate::rule::{Both, Exchanges, First, Loads, OneHistory, Stores};
 use crate::view::{Note, Terms, Trail, View};
 use atomic_table::{Closed, Play, Seat, Table};
 use std::alloc::{AllocError, Global};
@@ -39,6 +39,7 @@ impl CountedTable {
         Ok((CountedTable { inner }, seat))
     }
 
+    /// Loads the word, and counts it.
     pub(crate) fn load<P: Play<Note, View>>(&self, seat: &mut Seat<Note, Trail>, word: usize) -> u64
         requires { (seat.old.table_id ≡ self.now.inner.shared.table_id) × (word
             < self.now.inner.shared.table_id.words) × Allows (Kept self.now.inner.shared.key)
@@ -52,6 +53,7 @@ impl CountedTable {
         self.inner.shared.load::<Loads<P>>(seat, word)
     }
 
+    /// Stores into the word, and counts it.
     pub(crate) fn store<P: Play<Note, View>>(
         &self,
         seat: &mut Seat<Note, Trail>,
@@ -71,6 +73,7 @@ impl CountedTable {
         self.inner.shared.store::<Stores<P>>(seat, word, new)
     }
 
+    /// Exchanges the word where it is `old`, answers what it was, and counts it.
     pub(crate) fn compare_exchange<P: Play<Note, View>>(
         &self,
         seat: &mut Seat<Note, Trail>,
@@ -94,6 +97,7 @@ impl CountedTable {
             .compare_exchange::<Exchanges<P>>(seat, word, old, new)
     }
 
+    /// The same, with a note of the call that makes it.
     pub(crate) fn compare_exchange_with<P: Play<Note, View>>(
         &self,
         seat: &mut Seat<Note, Trail>,
@@ -143,7 +147,7 @@ impl CountedTable {
         ensures home { seat.new.table_id ≡ seat.old.table_id }
         ensures both { seat.new.me ≡ (joined seat.old.me.0 other.me.0, seat.old.me.1) }
     {
-        self.inner.shared.join_seat::<All>(seat, other)
+        self.inner.shared.join_seat::<Both>(seat, other)
     }
 
     /// The words at the end, with what the seat knows.

@@ -14,7 +14,7 @@ ghost use Rattle.grub_table.specs.Layout.{queue_word_at, task_word_at};
 ghost use Rattle.grub_table.specs.inside.Layout.{stored_of, server_word_at, params_word_at};
 ghost use Rattle.grub_table.specs.inside.Tellings.{is_decided_at_load, outcome, Of, OfQueue, SawQueue, ChangedQueue, SettledServer, StoredServer, StoredParams, Gives, GaveUp, GaveBack};
 ghost use Rattle.grub_table.specs.inside.Brief.{changed_store, TriesOnce};
-ghost use Rattle.grub_table.specs.inside.Tries.{half_stored, is_charge, Knows, Tried};
+ghost use Rattle.grub_table.specs.inside.Tries.{half_stored, is_charge, KnowsNoMore, Tried};
 
 use crate::answer::Finished;
 use crate::claim::Claim;
@@ -39,18 +39,21 @@ fn is_decided_at_load(reply: Reply) -> bool
     )
 }
 
+/// Whether the op is a charge, which changes no sum but looks at them.
 fn is_charge(op: Op) -> bool
     ensures { result ≡ is_charge op }
 {
     matches!(op, Op::Charge { .. })
 }
 
+/// The load of the reading that a transition begins with.
 pub(crate) struct LoadQueue;
 
 impl Telling for LoadQueue {
     ghost tells = { λ st found. OfQueue st.word (λ r. Of queue_word QueueFits (SawQueue r) found) };
 }
 
+/// The exchange of a runqueue's reading: where it is won, the transition is made.
 pub(crate) struct ChangeQueue;
 
 impl Telling for ChangeQueue {
@@ -58,30 +61,35 @@ impl Telling for ChangeQueue {
         (λ r. Of queue_word QueueFits (λ now. ChangedQueue r now (found == st.first)) st.first) };
 }
 
+/// The store of the server word at which an op that changes no sum is made.
 pub(crate) struct SettleServer;
 
 impl Telling for SettleServer {
     ghost tells = { λ st stored. SettledServer stored };
 }
 
+/// The store of the server word of a transition that is made.
 pub(crate) struct StoreServer;
 
 impl Telling for StoreServer {
     ghost tells = { λ st stored. StoredServer stored };
 }
 
+/// The store of the parameter word of a transition that is made.
 pub(crate) struct StoreParams;
 
 impl Telling for StoreParams {
     ghost tells = { λ st stored. StoredParams stored };
 }
 
+/// The store that clears the claim bit where nothing was made.
 pub(crate) struct GiveUp;
 
 impl Telling for GiveUp {
     ghost tells = { λ st stored. GaveUp };
 }
 
+/// The store that clears the claim bit after a transition.
 pub(crate) struct GiveBack;
 
 impl Telling for GiveBack {
@@ -122,6 +130,7 @@ impl Shared {
         self.give_up(seated, task, &held)
     }
 
+    /// Makes a call that changes a sum, by so many tries.
     fn finish_sum(&self, mut claim: Claim, tries: u8) -> Finished
         requires of { IsClaimOf self.now claim }
         requires sum { claim_changes_sum claim ≡ true }
@@ -211,6 +220,8 @@ impl Shared {
     }
 
     /// After the event, when the server's word says what it is to: the parameter word is stored where it changes, and the task is given back.
+    /// Where `start` finds a timer early both records are the same one: inlined, nothing is compared there.
+    #[inline(always)]
     pub(crate) fn hand_back(
         &self,
         mut seated: Seated,
@@ -231,9 +242,10 @@ impl Shared {
     }
 
     /// Stores the parameter word where it changes.
+    #[inline(always)]
     fn store_changed(&self, seated: &mut Seated, task: u32, held: &Record, next: &Record)
         requires { HoldsMade self.now seated.old task next.now (half_stored held.now next.now) }
-        ensures knows { Tells self.now Knows seated.old seated.new }
+        ensures knows { Tells self.now KnowsNoMore seated.old seated.new }
         ensures stored { HoldsMade self.now seated.new task next.now (stored_of next.now) }
         ensures made { made_on seated.new ≡ made_on seated.old ++ changed_store
             (params_word_at (terms self.now).setup task) held.now.params next.now.params }
@@ -243,6 +255,7 @@ impl Shared {
         }
     }
 
+    /// Loads the reading of the runqueue that the call is about.
     fn load_queue(&self, seated: &mut Seated, r: u32) -> Reading
         requires { (t : ℕ) × (op : Op) × (rec : Record) × HoldsFor self.now seated.old t op rec
             × (r ≡ runqueue_of rec.place op) }
@@ -282,6 +295,7 @@ impl Shared {
         self.store::<SettleServer>(seated, at, pack_server(server));
     }
 
+    /// Stores the server of a task whose call is made.
     fn store_server(&self, seated: &mut Seated, t: u32, server: Server)
         requires held { (now : Record) × (stored : Stored)
             × HoldsMade self.now seated.old t now stored }
@@ -294,6 +308,7 @@ impl Shared {
         self.store::<StoreServer>(seated, at, pack_server(server));
     }
 
+    /// Stores the parameters of a task whose call is made.
     fn store_params(&self, seated: &mut Seated, t: u32, params: Params)
         requires { (now : Record) × (stored : Stored) × HoldsMade self.now seated.old t now stored }
         ensures told { Tells self.now (StoredParams (params_word params)) seated.old seated.new }

@@ -4,7 +4,6 @@ ghost use Rattle.grub_book.specs.Machine.{IsMachine};
 ghost use Rattle.grub_book.specs.Op.{IsOp};
 ghost use Rattle.grub_table.specs.Calls.{terms, AreNew, IsOpened};
 ghost use Rattle.grub_table.specs.inside.FirstWords.{AreOpeningWords};
-ghost use Rattle.grub_table.specs.inside.Rule.{AreLimited};
 ghost use Rattle.grub_table.specs.inside.Trails.{first_trail};
 
 use crate::counted::CountedTable;
@@ -46,7 +45,7 @@ fn copied_tasks(alloc: Global, setup: &Setup) -> Result<Vec<Params>, AllocError>
 
 fn copied(alloc: Global, setup: &Setup) -> Result<Setup, AllocError>
     ensures value { IfOk result (λ copy. copy ≡ setup.now) }
-    ensures limits { IfOk result (λ copy. AreLimited copy) }
+    ensures limits { IfOk result (λ copy. IsMachine copy) }
 {
     let queues = copied_queues(alloc, setup)?;
     let tasks = copied_tasks(alloc, setup)?;
@@ -109,11 +108,11 @@ fn made(alloc: Global, setup: &Setup, n: u32) -> Result<(Shared, Vec<Pass>), All
 
 impl Shared {
     /// A table of the setup's runqueues and tasks, each task away with a full budget, and `n` passes, numbered from 0.
-    /// `NoPass` (23) is answered for `n = 0`, `TooManyPasses` (24) for more than 64, and `NoMemory` (25) where a growth was refused.
+    /// `NoPass` (23) is answered for `n = 0`, `TooManyPasses` (24) for more than `PASSES_MAX`, and `NoMemory` (25) is meant for a growth that was refused, which no clause tells.
     pub fn open(alloc: Global, setup: &Setup, n: u32) -> Result<(Shared, Vec<Pass>), OpenFault>
         ensures opened { IfOk result (λ r. IsOpened r.0 r.1.items setup.now n) }
         ensures none { IsErrOf result OpenFault.NoPass ↔ (n ≡ 0) }
-        ensures many { IsErrOf result OpenFault.TooManyPasses ↔ (64 < n) }
+        ensures many { IsErrOf result OpenFault.TooManyPasses ↔ (PASSES_MAX < n) }
     {
         if n == 0 {
             return Err(OpenFault::NoPass);

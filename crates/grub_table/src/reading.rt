@@ -3,10 +3,10 @@ ghost use Rattle.std.specs.Prelude.{◌≡◌, ◌<◌, ◌⊎◌, [], ◌∷◌
 ghost use Rattle.grub_book.specs.declared.event.Event.TheVariants.{Look};
 ghost use Rattle.grub_words.specs.Words.{queue_word, QueueFits};
 ghost use Rattle.grub_table.specs.declared.view.Access.TheVariants.{Load};
-ghost use Rattle.grub_table.specs.inside.Between.{IsSeatOf, Tells};
+ghost use Rattle.grub_table.specs.inside.Between.{Tells};
 ghost use Rattle.grub_book.specs.History.{pass_of};
 ghost use Rattle.grub_table.specs.Marks.{marker_of};
-ghost use Rattle.grub_table.specs.Calls.{terms, number_of, share_of, claim_share, seen, marks, accesses, claim_accesses, IsPassOf, IsClaimOf, IsPassWith, IsStill, IsBehind, made_on};
+ghost use Rattle.grub_table.specs.Calls.{terms, number_of, share_of, claim_share, seen, marks, accesses, claim_accesses, IsPassOf, IsClaimOf, IsPassWith, IsStill, IsBehind, made_on, IsSeatOf};
 ghost use Rattle.grub_table.specs.Layout.{queue_word_at};
 ghost use Rattle.grub_table.specs.inside.Tellings.{Of, OfQueue, SawReading};
 ghost use Rattle.grub_table.specs.Accesses.{meeting_loads};
@@ -21,6 +21,7 @@ use crate::seated::Seated;
 use crate::shared::Shared;
 use grub_book::Reading;
 
+/// The load of a runqueue's reading for `read`: a look in the history.
 pub(crate) struct Looks;
 
 impl Telling for Looks {

@@ -1,9 +1,9 @@
 //! Which word of the row is whose, and what is in it.
 ghost use Rattle.std.specs.Prelude.{◌≡◌, ℕ, ◌<◌, ◌≤◌, ◌+◌, ◌*◌, false, IfSome, IsNone, ◌≢◌};
+ghost use Rattle.grub_book.specs.declared.rules.TheConstants.{COUNT_MAX};
 ghost use Rattle.grub_bw.specs.Bandwidth.{Reservation, IsReservation};
 ghost use Rattle.grub_bw.specs.declared.server.Server.{Server};
 ghost use Rattle.grub_book.specs.Machine.{IsMachine};
-ghost use Rattle.grub_book.specs.Step.{count_most};
 ghost use Rattle.grub_book.specs.declared.event.Reading.{Reading};
 ghost use Rattle.grub_book.specs.declared.place.Place.{Place};
 ghost use Rattle.grub_words.specs.Words.{queue_word, server_word, params_word, task_word, PlaceFits, QueueFits, ServerFits, TaskFits};
@@ -84,7 +84,7 @@ pub(crate) fn params_in(word: u64) -> Params
 pub(crate) fn unclaimed(word: u64) -> Option<TaskWord>
     ensures found { IfSome result
         (λ w. TaskFits w × (w.claimed ≡ false) × (task_word w.place w.count false ≡ word)) }
-    ensures none { IsNone result → (p : Place) (n : ℕ) → PlaceFits p → n ≤ count_most
+    ensures none { IsNone result → (p : Place) (n : ℕ) → PlaceFits p → n ≤ COUNT_MAX
         → task_word p n false ≢ word }
 {
     let Some(shown) = unpack_task(word) else {
@@ -96,7 +96,7 @@ pub(crate) fn unclaimed(word: u64) -> Option<TaskWord>
 /// The task word of a free task with this record.
 pub(crate) fn free_word(held: &Record) -> u64
     requires place { PlaceFits held.now.place }
-    requires count { held.now.count ≤ count_most }
+    requires count { held.now.count ≤ COUNT_MAX }
     ensures { result ≡ shown held.now false }
 {
     pack_task(TaskWord {

@@ -6,6 +6,7 @@ use crate::view::{Note, Terms, Trail, View};
 use atomic_table::{Join, Play, Split, TableRule};
 use std::marker::PhantomData;
 
+/// What holds of all words and seats between any two steps: one history is behind them.
 pub struct OneHistory;
 
 impl TableRule<Note, Trail, Terms> for OneHistory {
@@ -63,6 +64,7 @@ impl<T: Telling> Play<Note, View> for Turn<T> {
     ghost then = { turns T.tells };
 }
 
+/// The meeting of two passes, which tells which of them knows all that the other does.
 pub struct Compare;
 
 impl Play<Note, View> for Compare {
@@ -78,9 +80,10 @@ impl Split<Trail> for First {
     ghost right = { right_trail };
 }
 
-pub struct All;
+/// Two seats become one, which has the shares of both.
+pub struct Both;
 
-impl Join<Trail> for All {
+impl Join<Trail> for Both {
     ghost both = { joined };
 
     ghost spent = { spent };

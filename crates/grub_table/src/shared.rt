@@ -2,7 +2,7 @@
 
 ghost use Rattle.std.specs.Prelude.{◌≡◌, ◌<◌};
 ghost use Rattle.grub_table.specs.inside.Layout.{word_count};
-ghost use Rattle.grub_table.specs.inside.Rule.{AreLimited};
+ghost use Rattle.grub_book.specs.Machine.{IsMachine};
 
 use crate::counted::CountedTable;
 use crate::view::Terms;
@@ -15,6 +15,6 @@ pub struct Shared {
     ghost kept: { table.inner.shared.key ≡ terms },
     ghost words: { table.inner.shared.table_id.words ≡ word_count terms.setup },
     ghost slots: { table.inner.shared.table_id.slots ≡ 0 },
-    ghost limited: { AreLimited terms.setup },
+    ghost limited: { IsMachine terms.setup },
     ghost passes: { 0 < terms.passes },
 }

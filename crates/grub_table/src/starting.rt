@@ -7,8 +7,8 @@ ghost use Rattle.grub_book.specs.declared.place.Record.{Record};
 ghost use Rattle.grub_words.specs.Words.{TaskFits, server_word, params_word, task_word, ServerFits};
 ghost use Rattle.grub_table.specs.declared.view.Access.TheVariants.{Load, Exchange};
 ghost use Rattle.grub_table.specs.declared.view.Hold.TheVariants.{Free};
-ghost use Rattle.grub_table.specs.inside.Between.{hold_of, IsSeatOf, HoldsFor, Tells, SawTask, SawRecord};
-ghost use Rattle.grub_table.specs.Calls.{terms, accesses, made_on, started_accesses, IsPassOf, IsStarted};
+ghost use Rattle.grub_table.specs.inside.Between.{hold_of, HoldsFor, Tells, SawTask, SawRecord};
+ghost use Rattle.grub_table.specs.Calls.{terms, accesses, made_on, started_accesses, IsPassOf, IsStarted, IsSeatOf};
 ghost use Rattle.grub_table.specs.Layout.{task_word_at};
 ghost use Rattle.grub_table.specs.inside.Layout.{server_word_at, params_word_at};
 ghost use Rattle.grub_table.specs.inside.Tellings.{note_of, Of, LoadedTask, TookClaim, SawParams, SawServer};
@@ -27,7 +27,8 @@ use grub_bw::{Params, Server};
 use grub_words::{TaskWord, pack_task};
 use std::marker::{Brand, PhantomData};
 
-/// What a load is told of the call that makes it. Each call of the program picks it.
+/// For which call a load of a task's word is made: its task and op. `start` says it where it makes the load, by a ghost value, since a load says
+/// nothing of itself to the table.
 pub trait Asked {
     ghost use Rattle.grub_table.specs.declared.view.Note.{Note};
 
@@ -40,6 +41,7 @@ impl Asked for Brand {
     ghost note = { no_note };
 }
 
+/// The load of a task's word, for the call that `J` tells.
 pub(crate) struct LoadTask<J> {
     asked: PhantomData<J>,
 }
@@ -48,18 +50,21 @@ impl<J: Asked> Telling for LoadTask<J> {
     ghost tells = { λ st found. LoadedTask J.note found };
 }
 
+/// The exchange that sets the claim bit of a task's word.
 pub(crate) struct TakeClaim;
 
 impl Telling for TakeClaim {
     ghost tells = { λ st found. TookClaim (note_of st.said) st.first found };
 }
 
+/// The load of a held task's parameter word.
 pub(crate) struct LoadParams;
 
 impl Telling for LoadParams {
     ghost tells = { λ st found. Of params_word IsReservation SawParams found };
 }
 
+/// The load of a held task's server word.
 pub(crate) struct LoadServer;
 
 impl Telling for LoadServer {
@@ -67,12 +72,13 @@ impl Telling for LoadServer {
 }
 
 impl Shared {
-    fn load_task<J: Asked>(&self, seated: &mut Seated, t: u32, op: Op) -> u64
+    /// Loads the task's word, where the call may be made at once.
+    fn load_task<J: Asked>(&self, seated: &mut Seated, t: u32) -> u64
         requires seat { IsSeatOf self.now seated.old }
         requires free { hold_of seated.old ≡ Free }
         requires task { t < length (terms self.now).setup.tasks }
-        requires op { IsOp (terms self.now).setup op }
-        requires note { J.note ≡ record { task = t; op = op } }
+        requires op { IsOp (terms self.now).setup J.note.op }
+        requires note { J.note.task ≡ t }
         ensures told { Tells self.now (LoadedTask J.note result) seated.old seated.new }
         ensures made { made_on seated.new
             ≡ made_on seated.old ++ Load (task_word_at (terms self.now).setup t) ∷ [] }
@@ -105,6 +111,7 @@ impl Shared {
         self.exchange_saying::<TakeClaim>(seated, at, loaded, claimed, &note)
     }
 
+    /// Loads the parameters of a task that is held.
     pub(crate) fn load_params(&self, seated: &mut Seated, t: u32) -> Params
         requires { (op : Op) × (rec : Record) × HoldsFor self.now seated.old t op rec }
         ensures told { Tells self.now (SawParams result) seated.old seated.new }
@@ -116,6 +123,7 @@ impl Shared {
         params_in(word)
     }
 
+    /// Loads the server of a task that is held.
     fn load_server(&self, seated: &mut Seated, t: u32) -> Server
         requires { (op : Op) × (rec : Record) × HoldsFor self.now seated.old t op rec }
         ensures told { Tells self.now (SawServer result) seated.old seated.new }
@@ -139,7 +147,7 @@ impl Shared {
             ≡ made_on seated.old ++ Load (task_word_at (terms self.now).setup t) ∷ [] }
         ensures free { IfOk result (λ w. TaskFits w × (w.claimed ≡ false)) }
     {
-        let word = self.load_task::<J>(seated, t, op);
+        let word = self.load_task::<J>(seated, t);
         match unclaimed(word) {
             Some(shown) => Ok(shown),
             None => Err(word),

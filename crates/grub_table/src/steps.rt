@@ -3,8 +3,8 @@ ghost use Rattle.std.specs.Prelude.{◌≡◌, ◌==◌, [], ◌∷◌, ◌++◌
 ghost use mathlib.Core.Option.{none, some};
 ghost use prog.Atomic.{either};
 ghost use Rattle.grub_table.specs.declared.view.Access.TheVariants.{Load, Store, Exchange};
-ghost use Rattle.grub_table.specs.inside.Between.{made_step, IsAllowed, IsSeatOf, Tells};
-ghost use Rattle.grub_table.specs.Calls.{made_on};
+ghost use Rattle.grub_table.specs.inside.Between.{made_step, IsAllowed, Tells};
+ghost use Rattle.grub_table.specs.Calls.{made_on, IsSeatOf};
 
 use crate::rule::{Telling, Turn};
 use crate::seated::Seated;

@@ -2,10 +2,11 @@
 use Rattle.std.proofs.Common.{◌≡◌, ℕ, List, [], ◌∷◌, ◌++◌, get_or, drop, refl, sym, ap, ◌∙◌, subst}
 use Rattle.std.specs.Prelude.{map}
 use Rattle.std.proofs.lemmas.List.Elements.{All-head, All-tail}
+use mathlib.Core.List.{IsPrefix}
 use Rattle.grub_book.specs.Machine.{Machine}
 use Rattle.grub_book.specs.Step.{step}
 use Rattle.grub_book.specs.Sums.{Records, reading_of}
-use Rattle.grub_book.specs.History.{IsLegalFrom, StartsWith}
+use Rattle.grub_book.specs.History.{IsLegalFrom}
 use Rattle.grub_book.specs.declared.event.Event.{Event}
 use Rattle.grub_plan.specs.declared.entry.Ask.{Ask}
 use Rattle.grub_plan.specs.declared.entry.Ask.TheVariants.{Call, Read}
@@ -35,8 +36,8 @@ by_first : (s : Machine) (r : ℕ) (rs : List ℕ) (book : Records) (earlier res
 by_first s r rs book [] rest by = tt
 by_first s r rs book (e ∷ es) rest by = (by.0, by_first s r (drop 1 rs) (book_next s book e.ask) es rest by.1)
 
-pub by_prefix : (s : Machine) (r : ℕ) (rs : List ℕ) (book : Records) (later earlier : List Entry) → StartsWith later earlier → IsBy s r rs book later → IsBy s r rs book earlier
-by_prefix s r rs book later earlier starts by = by_first s r rs book earlier starts.0 (subst (IsBy s r rs book) starts.1 by)
+pub by_prefix : (s : Machine) (r : ℕ) (rs : List ℕ) (book : Records) (later earlier : List Entry) → IsPrefix earlier later → IsBy s r rs book later → IsBy s r rs book earlier
+by_prefix s r rs book later earlier starts by = by_first s r rs book earlier starts.0 (subst (IsBy s r rs book) (sym starts.1) by)
 
 pub by_one : (s : Machine) (r : ℕ) (rs : List ℕ) (book : Records) (m : ℕ) (ask : Ask) (before : List Entry) (a b : Answer) → IsBy s r rs book (before ++ entry m ask a ∷ []) → IsBy s r rs book (before ++ entry m ask b ∷ []) → a ≡ b
 by_one s r rs book m ask [] a b f g = f.0 ∙ sym g.0

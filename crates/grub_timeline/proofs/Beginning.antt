@@ -7,7 +7,7 @@ use Rattle.std.specs.FinMap as map
 use Rattle.grub_book.specs.Machine.{Machine}
 use Rattle.grub_book.specs.Sums.{opening_book}
 use Rattle.grub_book.specs.Sound.{Standing}
-use Rattle.grub_plan.specs.Texts.{IsAskOf}
+use Rattle.grub_plan.specs.Plans.{IsAskOf}
 use Rattle.grub_asks.specs.Answers.{IsAnswered}
 use Rattle.grub_asks.specs.Keeping.{places_of}
 use Rattle.grub_asks.proofs.Kept.{kept_nothing}

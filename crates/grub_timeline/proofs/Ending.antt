@@ -1,16 +1,13 @@
 -- All lines were asked.
-use Rattle.std.proofs.Common.{◌≡◌, ℕ, ◌<◌, List, ◌++◌, length, sym, ap, ◌∙◌, subst, arith}
+use Rattle.std.proofs.Common.{◌≡◌, ℕ, ◌<◌, List, length, sym, ap, ◌∙◌, subst, arith}
 use Rattle.std.proofs.lemmas.Option.{get_or_from_slice_get, slice_get_within}
 use Rattle.grub_book.specs.Machine.{Machine}
 use Rattle.grub_book.specs.Sums.{Records, reading_of}
 use Rattle.grub_book.specs.History.{IsLegal, book_of}
 use Rattle.grub_book.specs.declared.event.Event.{Event}
 use Rattle.grub_book.specs.declared.event.Reading.{Reading}
-use Rattle.std.specs.List.{All}
-use Rattle.std.proofs.lemmas.List.Elements.{All-drop}
-use Rattle.std.proofs.Math.Seq.{drop-append_seam}
-use Rattle.grub_plan.specs.Plans.{PlanView}
-use Rattle.grub_plan.specs.Texts.{IsAskOf}
+use Rattle.grub_plan.specs.Plans.{PlanView, IsAskOf}
+use Rattle.grub_asks.proofs.Parts.{all_right}
 use Rattle.grub_timeline.specs.declared.told.Told.{Told}
 use Rattle.grub_timeline.specs.declared.player.Player.{Player}
 use Rattle.grub_timeline.specs.TimeLines.{AreClosing, AreWithin, IsTimeLine, history_of}
@@ -35,11 +32,8 @@ time_line_of plan p closing played all = record {
   closes = subst (λ (s : Machine). AreClosing s (history_of p.told.items) closing) played.setup (closes p.book.setup (history_of p.told.items) p.book.records closing played.known.book all);
 }
 
-all_end : {X : Type 0} (P : X → Type 0) (xs ys : List X) → All P (xs ++ ys) → All P ys
-all_end P xs ys a = subst (All P) (drop-append_seam xs ys) (All-drop P (length xs) (xs ++ ys) a)
-
 -- the latest entries are of runqueues and tasks that are there
 pub within_chunk : (plan : PlanView) (p : Player) (done : List ℕ) → IsMidway plan p done → AreWithin plan.setup p.chunk.items
 within_chunk plan p done mid =
-    all_end (λ (x : Told). (x.r < length plan.setup.queues) × IsAskOf (length plan.setup.tasks) x.entry.ask) p.start.value.items p.chunk.items
+    all_right (λ (x : Told). (x.r < length plan.setup.queues) × IsAskOf (length plan.setup.tasks) x.entry.ask) p.start.value.items p.chunk.items
     (subst (λ (told : List Told). AreWithin plan.setup told) mid.playing.chunk (subst (λ (s : Machine). AreWithin s p.told.items) mid.setup mid.playing.told.within))

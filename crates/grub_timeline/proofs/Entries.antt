@@ -16,7 +16,7 @@ use Rattle.grub_book.specs.declared.event.Event.TheVariants as events
 use Rattle.grub_book.proofs.Histories.{book_push, legal_push}
 use Rattle.grub_plan.specs.declared.entry.Ask.TheVariants.{Call, Read}
 use Rattle.grub_plan.specs.declared.entry.Answer.TheVariants.{Replied, Seen}
-use Rattle.grub_plan.specs.Texts.{IsAskOf}
+use Rattle.grub_plan.specs.Plans.{IsAskOf}
 use Rattle.grub_asks.specs.Answers.{IsAnswered, event_told}
 use Rattle.grub_plan.specs.declared.entry.Entry.{Entry}
 use Rattle.grub_wheel.specs.TimerBag.{TimerBag, WheelState}

@@ -1,18 +1,14 @@
 -- How many lines are left, and which.
 use Rattle.std.proofs.Common.{◌≡◌, ℕ, zero, suc, ◌≤◌, List, [], ◌∷◌, None, length, slice_get, refl, arith}
+use Rattle.std.proofs.lemmas.Option.{slice_get_past}
 use Rattle.grub_plan.specs.Plans.{Line}
 use Rattle.grub_timeline.specs.Order.{left}
 use Rattle.grub_timeline.specs.inside.Merge.{NoHead}
 
-past : (xs : List Line) (k : ℕ) → slice_get xs k ≡ None → length xs ≤ k
+pub past : {X : Type 0} (xs : List X) (k : ℕ) → slice_get xs k ≡ None → length xs ≤ k
 past [] k none = omega arith
 past (x ∷ xs) zero none = absurd (cc)
 past (x ∷ xs) (suc k) none = let more = past xs k none in omega (arith, more)
-
-none_past : (xs : List Line) (k : ℕ) → length xs ≤ k → slice_get xs k ≡ None
-none_past [] k all = refl
-none_past (x ∷ xs) zero all = absurd (omega (arith, all))
-none_past (x ∷ xs) (suc k) all = none_past xs k (omega (arith, all))
 
 pub none_left : (scripts : List (List Line)) (done : List ℕ) → NoHead scripts done → left scripts done ≡ 0
 none_left [] done none = refl
@@ -24,5 +20,5 @@ none_left (script ∷ scripts) (n ∷ done) none =
 pub no_head : (scripts : List (List Line)) (done : List ℕ) → length done ≡ length scripts → left scripts done ≡ 0 → NoHead scripts done
 no_head [] done each over r = refl
 no_head (script ∷ scripts) [] each over r = absurd (omega (arith, each))
-no_head (script ∷ scripts) (n ∷ done) each over zero = none_past script n (omega (arith, over))
+no_head (script ∷ scripts) (n ∷ done) each over zero = slice_get_past script n (omega (arith, over))
 no_head (script ∷ scripts) (n ∷ done) each over (suc r) = no_head scripts done (omega (arith, each)) (omega (arith, over)) r

@@ -9,6 +9,7 @@ use Rattle.grub_plan.specs.declared.entry.Answer.{Answer}
 use Rattle.grub_plan.specs.declared.entry.Answer.TheVariants.{Seen}
 use Rattle.grub_plan.specs.declared.entry.Entry.{Entry}
 use Rattle.grub_asks.specs.Asked.{AsksDue, Follows, ask_of, entry}
+use Rattle.grub_asks.proofs.Lines.{read_follows}
 use Rattle.grub_timeline.specs.declared.order.Placed.{Placed}
 use Rattle.grub_timeline.specs.declared.told.Told.{Told}
 use Rattle.grub_timeline.specs.TimeLines.{AsksPlaced, asker, entries_of}
@@ -27,10 +28,6 @@ own_asker r m (acts.Exit t) before = refl
 own_asker r m (acts.Run t dt) before = refl
 own_asker r m (acts.Retune t q p) before = refl
 own_asker r m acts.Read before = refl
-
-read_follows : (r m : ℕ) (act : Act ℕ ℕ) (answer : Answer) (es : List Entry) → ask_of r m act ≡ Read → Follows r m act answer es es
-read_follows r m acts.Read answer es is = refl
-read_follows r m act answer es is = absurd (cc)
 
 -- a reading
 pub looked : (r : ℕ) (line : Line) (old new : List Told) → ask_of r line.m line.act ≡ Read → IsLookedAt r line.m old new → IsLineAsked r line (entries_of old) (entries_of new)

@@ -1,34 +1,29 @@
 -- One more line of all files.
-use Rattle.std.proofs.Common.{◌≡◌, ◌⊎◌, ℕ, zero, suc, ◌+◌, ◌<◌, ◌≤◌, ◌==◌, ◌^◌, Bool, true, false, cond, unwrap_or, List, [], ◌∷◌, ◌++◌, length, get_or, set, take, Some, None, refl, sym, ap, ◌∙◌, subst, ⊎_elim, inl, inr, arith, eq-eqb, ne_eqb, get_or-set_other, append-nil}
+use Rattle.std.proofs.Common.{◌≡◌, ◌⊎◌, ℕ, zero, suc, ◌+◌, ◌<◌, ◌≤◌, ◌==◌, Bool, true, false, cond, unwrap_or, List, [], ◌∷◌, ◌++◌, length, get_or, set, take, Some, None, refl, sym, ap, ◌∙◌, subst, ⊎_elim, inl, inr, arith, eq-eqb, ne_eqb, get_or-set_other, append-nil}
 use Rattle.std.specs.Prelude.{slice_get, map, filter}
 use Rattle.std.specs.List.{AllByRecursion}
 use Rattle.std.proofs.lemmas.Fn.{FoldsTo-push}
-use Rattle.std.proofs.lemmas.List.{get_or-set_same, length-set, take_more}
-use Rattle.std.proofs.lemmas.Option.{get_or_from_slice_get, slice_get_within}
+use Rattle.std.proofs.lemmas.List.{get_or-set_same, length-set, take_all, take_more}
+use Rattle.std.proofs.lemmas.List.Elements.{All-from_recursion, All-get_or, All-push, All-weaker, recursion_from_All}
+use Rattle.std.proofs.lemmas.Option.{get_or_from_slice_get, same_Some, slice_get_within}
 use mathlib.Core.Logic.{dite}
 use native.Mathlib.Decide.{ℕ_discrete}
+use Rattle.grub_bw.specs.declared.server.TheConstants.{MOMENT_MAX}
 use Rattle.grub_plan.specs.Limits.{ActFits, PlanFits, ScriptFits}
-use Rattle.grub_plan.specs.Plans.{Line, PlanView}
+use Rattle.grub_plan.specs.Plans.{Line, PlanView, script_at}
 use Rattle.grub_timeline.specs.declared.order.Placed.{Placed}
 use Rattle.grub_timeline.specs.declared.player.Player.{Player}
-use Rattle.grub_timeline.specs.Order.{IsNotLater, IsSorted, left, lines_of, script_at}
+use Rattle.grub_timeline.specs.Order.{IsNotLater, IsSorted, left, lines_of}
 use Rattle.grub_timeline.specs.TimeLines.{AsksPlaced}
 use Rattle.grub_timeline.specs.inside.Playing.{IsNotPast, IsPlayed, IsPlaying}
 use Rattle.grub_timeline.specs.inside.Merge.{IsFirst, IsMidway, NoHead, head_at, placed}
-use Rattle.grub_timeline.proofs.Sooner.{head_within, not_later-trans, some_same}
+use Rattle.grub_timeline.proofs.Left.{past}
+use Rattle.grub_timeline.proofs.Sooner.{head_within, not_later-trans}
 
 -- ---- lists of lines in their order
-pub each_push : {X : Type 0} (P : X → Type 0) (xs : List X) (x : X) → AllByRecursion P xs → P x → AllByRecursion P (xs ++ x ∷ [])
-each_push P [] x a p = (p, tt)
-each_push P (y ∷ ys) x a p = (a.0, each_push P ys x a.1 p)
-
-pub each_weaker : {X : Type 0} (P Q : X → Type 0) → ((x : X) → P x → Q x) → (xs : List X) → AllByRecursion P xs → AllByRecursion Q xs
-each_weaker P Q f [] a = tt
-each_weaker P Q f (x ∷ xs) a = (f x a.0, each_weaker P Q f xs a.1)
-
 sorted_push : (order : List Placed) (x : Placed) → IsSorted order → AllByRecursion (λ q. IsNotLater q x) order → IsSorted (order ++ x ∷ [])
 sorted_push [] x s a = (tt, tt)
-sorted_push (p ∷ ps) x s a = (each_push (IsNotLater p) ps x s.0 a.0, sorted_push ps x s.1 a.1)
+sorted_push (p ∷ ps) x s a = (recursion_from_All (IsNotLater p) (ps ++ x ∷ []) (All-push (IsNotLater p) ps x (All-from_recursion (IsNotLater p) ps s.0) a.0), sorted_push ps x s.1 a.1)
 
 lines_more : (r : ℕ) (order : List Placed) (x : Placed) → lines_of r (order ++ x ∷ []) ≡ lines_of r order ++ cond (x.r == r) (x.line ∷ []) []
 lines_more r [] x = go (x.r == r)
@@ -45,19 +40,14 @@ lines_more r (p ∷ ps) x = go (p.r == r) (lines_more r ps x)
     go false is = is
 
 -- ---- scripts
-pub each_at : {X : Type 0} (P : X → Type 0) (xs : List X) (k : ℕ) (d : X) → AllByRecursion P xs → k < length xs → P (get_or xs k d)
-each_at P [] k d a low = absurd (omega (arith, low))
-each_at P (x ∷ xs) zero d a low = a.0
-each_at P (x ∷ xs) (suc k) d a low = each_at P xs k d a.1 (omega (arith, low))
-
 -- a line of a script keeps the limits, and so does the one after it
 pub record LineFits (n : ℕ) (line : Line) : Type 0 where
-  pub moment : line.m < 2 ^ 31
+  pub moment : line.m ≤ MOMENT_MAX
   pub act : ActFits n line.act
 
 line_fits : (n low : ℕ) (script : List Line) (k : ℕ) (line : Line) → ScriptFits n low script → slice_get script k ≡ Some line → LineFits n line
 line_fits n low [] k line fits at = absurd (cc)
-line_fits n low (l ∷ ls) zero line fits at = let same : l ≡ line = some_same l line at in subst (LineFits n) same (record { moment = fits.1; act = fits.2 })
+line_fits n low (l ∷ ls) zero line fits at = let same : l ≡ line = same_Some l line at in subst (LineFits n) same (record { moment = fits.1; act = fits.2 })
 line_fits n low (l ∷ ls) (suc k) line fits at = line_fits n l.m ls k line fits.3 at
 
 next_after : (n low : ℕ) (script : List Line) (k : ℕ) (a b : Line) → ScriptFits n low script → slice_get script k ≡ Some a → slice_get script (k + 1) ≡ Some b → a.m ≤ b.m
@@ -89,18 +79,12 @@ midway_first plan p done playing setup many zeros empty fresh = record {
   after = λ r line at. (tt, λ k last. let bad : None ≡ Some k = sym fresh ∙ last in absurd (cc));
 }
 
-pub whole : {X : Type 0} (xs : List X) (k : ℕ) → slice_get xs k ≡ None → take k xs ≡ xs
-whole [] zero none = refl
-whole [] (suc k) none = refl
-whole (x ∷ xs) zero none = absurd (cc)
-whole (x ∷ xs) (suc k) none = ap (λ l. x ∷ l) (whole xs k none)
-
 pub played_of : (plan : PlanView) (p : Player) (done : List ℕ) → IsMidway plan p done → NoHead plan.scripts done → IsPlayed plan p
 played_of plan p done mid none = record {
   setup = mid.setup;
   known = mid.playing.told;
   order = mid.order;
-  sorted = record { lines = λ r. mid.lines r ∙ whole (script_at plan.scripts r) (get_or done r 0) (none r); sorted = mid.sorted };
+  sorted = record { lines = λ r. mid.lines r ∙ take_all (get_or done r 0) (script_at plan.scripts r) (past (script_at plan.scripts r) (get_or done r 0) (none r)); sorted = mid.sorted };
   asked = mid.asked;
 }
 
@@ -109,8 +93,11 @@ module _ (plan : PlanView) (p : Player) (done : List ℕ) (x : Placed) (fits : P
   pub there : x.r < length plan.scripts
   there = head_within plan.scripts done x.r x.line first.head
 
+  script_fits : ScriptFits (length plan.setup.tasks) 0 (script_at plan.scripts x.r)
+  script_fits = All-get_or (ScriptFits (length plan.setup.tasks) 0) plan.scripts x.r [] there (All-from_recursion (ScriptFits (length plan.setup.tasks) 0) plan.scripts fits.scripts)
+
   pub fits_here : LineFits (length plan.setup.tasks) x.line
-  fits_here = line_fits (length plan.setup.tasks) 0 (script_at plan.scripts x.r) (get_or done x.r 0) x.line (each_at (ScriptFits (length plan.setup.tasks) 0) plan.scripts x.r [] fits.scripts there) first.head
+  fits_here = line_fits (length plan.setup.tasks) 0 (script_at plan.scripts x.r) (get_or done x.r 0) x.line script_fits first.head
 
   pub less : left plan.scripts (set done x.r (get_or done x.r 0 + 1)) < left plan.scripts done
   less = left_less plan.scripts done x.r there mid.one_each (slice_get_within (script_at plan.scripts x.r) (get_or done x.r 0) x.line first.head)
@@ -143,7 +130,7 @@ module _ (plan : PlanView) (p : Player) (done : List ℕ) (x : Placed) (fits : P
       own : (r : ℕ) (line : Line) → r ≡ x.r → head_at plan.scripts (set done x.r (get_or done x.r 0 + 1)) x.r ≡ Some line → IsNotLater x (placed r line)
       own r line same head =
           let s = script_at plan.scripts x.r in let k = get_or done x.r 0 in let n = length plan.setup.tasks in
-          let up = next_after n 0 s k x.line line (each_at (ScriptFits n 0) plan.scripts x.r [] fits.scripts there) first.head (ap (λ i. slice_get s i) (sym now_at) ∙ head) in
+          let up = next_after n 0 s k x.line line script_fits first.head (ap (λ i. slice_get s i) (sym now_at) ∙ head) in
           ⊎_elim (λ lt. inl lt) (λ eq. inr (eq, omega (arith, same))) (later line.m up)
 
   pub midway_next : (q : Player) (now : List ℕ) → now ≡ set done x.r (get_or done x.r 0 + 1) → IsPlaying q → q.book.setup ≡ p.book.setup → q.wheel.last ≡ Some x.line.m → AsksPlaced p.told.items x q.told.items → IsMidway plan q now
@@ -157,7 +144,8 @@ module _ (plan : PlanView) (p : Player) (done : List ℕ) (x : Placed) (fits : P
     asked = FoldsTo-push AsksPlaced [] mid.order _ x _ mid.asked asked;
     after = λ r line head.
         let then = comes_after r line (ap (λ (l : List ℕ). head_at plan.scripts l r) (sym is) ∙ head) in (
-          each_push (λ y. IsNotLater y (placed r line)) mid.order x (each_weaker (λ y. IsNotLater y x) (λ y. IsNotLater y (placed r line)) (λ y h. not_later-trans y x (placed r line) h then) mid.order before) then,
+          recursion_from_All (λ y. IsNotLater y (placed r line)) (mid.order ++ x ∷ []) (All-push (λ y. IsNotLater y (placed r line)) mid.order x
+              (All-weaker (λ y. IsNotLater y x) (λ y. IsNotLater y (placed r line)) (λ y h. not_later-trans y x (placed r line) h then) mid.order (All-from_recursion (λ y. IsNotLater y x) mid.order before)) then),
           λ k at. not_past r line then k at,
         );
   }

@@ -1,6 +1,7 @@
 -- The moments of a time line.
 use Rattle.std.proofs.Common.{◌≡◌, ℕ, ◌<◌, ◌≤◌, List, [], ◌∷◌, ◌++◌, sym, ap, ◌∙◌, subst, ⊎_elim, arith}
 use Rattle.std.specs.List.{AllByRecursion, FoldsTo}
+use Rattle.std.proofs.lemmas.List.Elements.{All-from_recursion, All-weaker, recursion_from_All}
 use Rattle.grub_book.specs.Machine.{Machine}
 use Rattle.grub_book.specs.Sums.{Records, opening_book}
 use Rattle.grub_book.specs.declared.reply.Reply.{Reply}
@@ -19,7 +20,6 @@ use Rattle.grub_book.specs.declared.event.Reading.{Reading}
 use Rattle.grub_timeline.specs.Order.{IsNotLater, IsSorted}
 use Rattle.grub_timeline.specs.TimeLines.{AsksPlaced, DoNotGoBack, IsTimeLine, entries_of}
 use Rattle.grub_timeline.proofs.Answering.{IsBy, answer_of, by_last, by_prefix, runqueues_of}
-use Rattle.grub_timeline.proofs.Merging.{each_weaker}
 use Rattle.grub_timeline.proofs.Only.{IsGiven, by_line, given_first, lines_start}
 use Rattle.grub_timeline.proofs.Rising.{AnswersRightly, Rises, line_rises, rises_nothing}
 
@@ -45,7 +45,7 @@ module _ (s : Machine) where
       let here = given_first s after f.0 (lines_start ps f.0 after f.2) given in
       let P = IsBy s p.r (runqueues_of before) (opening_book s) in
       let next = line_rises P (by_prefix s p.r (runqueues_of before) (opening_book s)) (right_last p.r (runqueues_of before)) m p.r p.line (entries_of before) (entries_of f.0) low.0 was (by_line s p before f.0 f.1 here) f.1.asked in
-      order_rises p.line.m ps f.0 after sorted.1 (each_weaker (IsNotLater p) (λ (q : Placed). p.line.m ≤ q.line.m) (λ q h. no_earlier p q h) ps sorted.0) next f.2 given
+      order_rises p.line.m ps f.0 after sorted.1 (recursion_from_All (λ (q : Placed). p.line.m ≤ q.line.m) ps (All-weaker (IsNotLater p) (λ (q : Placed). p.line.m ≤ q.line.m) (λ q h. no_earlier p q h) ps (All-from_recursion (IsNotLater p) ps sorted.0))) next f.2 given
     where
       no_earlier : (p q : Placed) → IsNotLater p q → p.line.m ≤ q.line.m
       no_earlier p q a = ⊎_elim (λ (h : p.line.m < q.line.m). omega arith) (λ (h : (p.line.m ≡ q.line.m) × (p.r ≤ q.r)). let same = h.0 in omega (arith, same)) a

@@ -1,5 +1,5 @@
 -- The time line of one file.
-use Rattle.std.proofs.Common.{◌≡◌, ℕ, zero, suc, ◌<◌, ◌≤◌, ◌==◌, Bool, true, false, List, [], ◌∷◌, ◌++◌, length, refl, sym, ap, ◌∙◌, subst, arith}
+use Rattle.std.proofs.Common.{◌≡◌, ℕ, ◌<◌, ◌≤◌, ◌==◌, Bool, true, false, List, [], ◌∷◌, ◌++◌, length, refl, sym, ap, ◌∙◌, subst, arith}
 use Rattle.std.specs.Prelude.{map}
 use Rattle.std.specs.List.{All, AllByRecursion, FoldsTo}
 use Rattle.std.proofs.lemmas.List.{get_or_past}
@@ -9,14 +9,13 @@ use Rattle.grub_book.specs.Sums.{opening_book}
 use Rattle.grub_book.specs.History.{IsLegal}
 use Rattle.grub_book.specs.declared.event.Reading.{Reading}
 use Rattle.grub_plan.specs.declared.entry.Entry.{Entry}
-use Rattle.grub_plan.specs.Plans.{PlanView}
-use Rattle.grub_plan.specs.Texts.{IsAskOf}
+use Rattle.grub_plan.specs.Plans.{PlanView, script_at, IsAskOf}
 use Rattle.grub_asks.specs.Answers.{IsAnswered, event_told, events_told}
 use Rattle.grub_asks.specs.Asked.{Asked, AsksLine}
 use Rattle.grub_asks.proofs.Alike.{script_alike}
 use Rattle.grub_timeline.specs.declared.order.Placed.{Placed}
 use Rattle.grub_timeline.specs.declared.told.Told.{Told}
-use Rattle.grub_timeline.specs.Order.{lines_of, script_at}
+use Rattle.grub_timeline.specs.Order.{lines_of}
 use Rattle.grub_timeline.specs.TimeLines.{AreAnswered, AreWithin, AsksPlaced, IsOneRun, IsTimeLine, entries_of, history_of}
 use Rattle.grub_timeline.proofs.Answering.{AreReadFor, IsBy, by_one, by_prefix, by_told}
 use Rattle.grub_timeline.proofs.OneOrder.{lines_cons, lines_with, own_first}
@@ -75,13 +74,10 @@ by_entries s es answered legal =
 first_alone : (order : List Placed) → ((r : ℕ) → 1 ≤ r → lines_of r order ≡ []) → AreFirst order
 first_alone [] none = tt
 first_alone (p ∷ ps) none =
-    let here : p.r ≡ 0 = zero_at p.r (λ some. let bad : p.line ∷ lines_of p.r ps ≡ [] = sym (own_first p ps) ∙ none p.r some in absurd (cc)) in
+    let some : 1 ≤ p.r → ⊥ = λ some. let bad : p.line ∷ lines_of p.r ps ≡ [] = sym (own_first p ps) ∙ none p.r some in absurd (cc) in
+    let here : p.r ≡ 0 = omega (arith, some) in
     (here, first_alone ps (λ r some. rest r (p.r == r) (sym (lines_cons r p ps) ∙ none r some)))
   where
-    zero_at : (n : ℕ) → (1 ≤ n → ⊥) → n ≡ 0
-    zero_at zero bad = refl
-    zero_at (suc n) bad = absurd (bad (omega arith))
-
     rest : (r : ℕ) (b : Bool) → lines_with b p (lines_of r ps) ≡ [] → lines_of r ps ≡ []
     rest r true is = absurd (cc)
     rest r false is = is

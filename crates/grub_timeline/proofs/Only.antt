@@ -1,14 +1,13 @@
 -- A plan has one time line.
-use Rattle.std.proofs.Common.{◌≡◌, ℕ, List, [], ◌∷◌, ◌++◌, get_or, drop, refl, sym, ap, ◌∙◌, subst, arith, append-nil, length}
-use Rattle.std.specs.List.{All, FoldsTo}
+use Rattle.std.proofs.Common.{◌≡◌, ℕ, List, [], ◌∷◌, ◌++◌, get_or, drop, refl, sym, ap, ◌∙◌, subst, arith, append-nil}
+use Rattle.std.specs.List.{FoldsTo}
 use Rattle.std.proofs.lemmas.Grind.{common_steps}
 use Rattle.std.proofs.lemmas.List.{ext_get_or, append_cancel_left}
-use Rattle.std.proofs.lemmas.List.Elements.{All-take}
 use Rattle.std.proofs.lemmas.Option.{slice_get-get_or}
-use Rattle.std.proofs.Math.Seq.{take-append_seam}
+use mathlib.Core.List.{IsPrefix}
 use Rattle.grub_book.specs.Machine.{Machine}
 use Rattle.grub_book.specs.Sums.{opening_book}
-use Rattle.grub_book.specs.History.{IsLegal, StartsWith}
+use Rattle.grub_book.specs.History.{IsLegal}
 use Rattle.grub_book.specs.declared.event.Event.{Event}
 use Rattle.grub_book.specs.declared.event.Reading.{Reading}
 use Rattle.grub_book.proofs.Histories.{legal_prefix, starts_after}
@@ -16,6 +15,7 @@ use Rattle.grub_plan.specs.declared.entry.Entry.{Entry}
 use Rattle.grub_plan.specs.Plans.{PlanView}
 use Rattle.grub_asks.specs.Answers.{IsAnswered}
 use Rattle.grub_asks.proofs.Alike.{line_alike}
+use Rattle.grub_asks.proofs.Parts.{all_left}
 use Rattle.grub_timeline.specs.declared.order.Placed.{Placed}
 use Rattle.grub_timeline.specs.declared.told.Told.{Told}
 use Rattle.grub_timeline.specs.TimeLines.{AreAnswered, AreClosing, AreOf, AsksPlaced, IsOnlyTimeLine, IsTimeLine, asker, entries_of, history_of}
@@ -28,23 +28,20 @@ history_append xs ys = grind (arith, common_steps)
 entries_append : (xs ys : List Told) → entries_of (xs ++ ys) ≡ entries_of xs ++ entries_of ys
 entries_append xs ys = grind (arith, common_steps)
 
-all_first : {X : Type 0} (P : X → Type 0) (xs ys : List X) → All P (xs ++ ys) → All P xs
-all_first P xs ys a = subst (All P) (take-append_seam xs ys) (All-take P (length xs) (xs ++ ys) a)
-
 -- a book gave the entries, and each was answered
 pub record IsGiven (s : Machine) (told : List Told) : Type 0 where
   pub legal : IsLegal s (history_of told)
   pub answered : AreAnswered told
 
-pub given_first : (s : Machine) (later earlier : List Told) → StartsWith later earlier → IsGiven s later → IsGiven s earlier
+pub given_first : (s : Machine) (later earlier : List Told) → IsPrefix earlier later → IsGiven s later → IsGiven s earlier
 given_first s later earlier starts g = record {
-  legal = legal_prefix s (history_of later) (history_of earlier) (history_of starts.0, ap history_of starts.1 ∙ history_append earlier starts.0) g.legal;
-  answered = all_first (λ (x : Told). IsAnswered x.entry.ask x.entry.answer) earlier starts.0 (subst AreAnswered starts.1 g.answered);
+  legal = legal_prefix s (history_of later) (history_of earlier) (history_of starts.0, sym (history_append earlier starts.0) ∙ ap history_of starts.1) g.legal;
+  answered = all_left (λ (x : Told). IsAnswered x.entry.ask x.entry.answer) earlier starts.0 (subst AreAnswered (sym starts.1) g.answered);
 }
 
-pub lines_start : (order : List Placed) (before after : List Told) → FoldsTo AsksPlaced before order after → StartsWith after before
-lines_start [] before after f = ([], sym f ∙ sym (append-nil before))
-lines_start (p ∷ ps) before after f = starts_after after f.0 before (lines_start ps f.0 after f.2) (f.1.more, f.1.list)
+pub lines_start : (order : List Placed) (before after : List Told) → FoldsTo AsksPlaced before order after → IsPrefix before after
+lines_start [] before after f = ([], append-nil before ∙ f)
+lines_start (p ∷ ps) before after f = starts_after after f.0 before (lines_start ps f.0 after f.2) (f.1.more, sym f.1.list)
 
 -- the runqueues of more entries are determined by the entries
 same_runqueues : (r : ℕ) (before xs ys : List Told) → entries_of xs ≡ entries_of ys → AreOf r before xs → AreOf r before ys → xs ≡ ys

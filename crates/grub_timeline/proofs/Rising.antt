@@ -5,7 +5,7 @@ use Rattle.std.specs.List.Sorted.{IsNonDecreasingBy}
 use Rattle.std.proofs.lemmas.Bool.{ltb-true, ltb-false}
 use Rattle.std.proofs.lemmas.List.Elements.{All-nil, All-push, All-weaker}
 use Rattle.std.proofs.lemmas.List.Sorted.{IsNonDecreasingBy-push, IsNonDecreasingBy-short}
-use Rattle.grub_book.specs.History.{StartsWith}
+use mathlib.Core.List.{IsPrefix}
 use Rattle.grub_book.specs.declared.op.Op.{Op}
 use Rattle.grub_book.specs.declared.op.Op.TheVariants as ops
 use Rattle.grub_book.specs.declared.reply.Reply.TheVariants as replies
@@ -54,11 +54,11 @@ not_before x y a = ⊎_elim (λ (h : x.z < y.z). omega arith) (λ (h : (x.z ≡ 
 
 timer_rises : (m n : ℕ) (es after : List Entry) (x : Timer) → Rises m es → AsksTimer n es x after → Rises x.z after
 timer_rises m n es after x was f =
-    subst (Rises x.z) (sym f.goes_on.list) (rises_more m x.z es e was (was.ahead x.t (x.z, x.ticket) f.next.armed) refl
+    subst (Rises x.z) (sym f.asks.list) (rises_more m x.z es e was (was.ahead x.t (x.z, x.ticket) f.next.armed) refl
     (λ t a at. go t a (nat_eq t x.t) (sym (armed-more t es e) ∙ at)))
   where
     e : Entry
-    e = entry x.z (Call x.t (ops.Timer x.ticket x.z)) f.goes_on.answer
+    e = entry x.z (Call x.t (ops.Timer x.ticket x.z)) f.asks.answer
 
     later : (t : ℕ) (a : Alarm) → armed es t ≡ Some a → (b : Bool) → nat_lt n a.0 ≡ b → x.z ≤ a.0
     later t a at true is = let due = f.next.due in let past = ltb-true n a.0 is in omega (arith, due, past)
@@ -137,7 +137,7 @@ line_ask r m acts.Read = tt
 -- ---- a line; P holds of what a book answers, and of each beginning of it
 module _
     (P : List Entry → Type 0)
-    (prefix : (later earlier : List Entry) → StartsWith later earlier → P later → P earlier)
+    (prefix : (later earlier : List Entry) → IsPrefix earlier later → P later → P earlier)
     (right : (m : ℕ) (ask : Ask) (before : List Entry) (answer : Answer) → P (before ++ entry m ask answer ∷ []) → AnswersRightly ask answer) where
   next_rises : (m : ℕ) (ask : Ask) (answer : Answer) (es after : List Entry) → IsLineAsk m ask → P after → Rises m es → after ≡ es ++ entry m ask answer ∷ [] → Rises m after
   next_rises m ask answer es after at p was list = ask_rises m ask answer es after at (right m ask es answer (subst P list p)) was list

@@ -1,19 +1,17 @@
 -- The file whose line is next of all files.
-use Rattle.std.proofs.Common.{◌≡◌, ◌≢◌, ℕ, ◌+◌, ◌<◌, ◌≤◌, Bool, true, false, cond, min, nat_lt, List, [], length, get_or, set, Option, Some, None, refl, sym, ap, ◌∙◌, subst, ⊎_elim, inl, inr, arith, get_or-set_other}
+use Rattle.std.proofs.Common.{◌≡◌, ◌≢◌, ℕ, ◌+◌, ◌<◌, ◌≤◌, Bool, true, false, cond, min, nat_lt, List, [], length, get_or, set, Option, Some, None, refl, sym, ap, ◌∙◌, subst, ⊎_elim, inl, inr, arith, below_more, get_or-set_other}
 use Rattle.std.specs.Prelude.{IfSome, MatchOption, slice_get}
 use Rattle.std.specs.Option.{IsSomeAnd}
 use Rattle.std.proofs.lemmas.Bool.{ltb-true, ltb-false}
 use Rattle.std.proofs.lemmas.List.{get_or_past}
+use Rattle.std.proofs.lemmas.Option.{same_Some}
 use mathlib.Core.Logic.{dite}
 use native.Mathlib.Decide.{ℕ_discrete}
-use Rattle.grub_plan.specs.Plans.{Line}
+use Rattle.grub_plan.specs.Plans.{Line, script_at}
 use Rattle.grub_timeline.specs.declared.order.Lead.{Lead}
 use Rattle.grub_timeline.specs.declared.order.Placed.{Placed}
-use Rattle.grub_timeline.specs.Order.{IsNotLater, script_at}
+use Rattle.grub_timeline.specs.Order.{IsNotLater}
 use Rattle.grub_timeline.specs.inside.Merge.{IsAhead, IsBefore, IsBehind, IsFirst, IsLeader, IsNext, NoHead, head_at, leader_of, placed}
-
-pub some_same : {X : Type 0} (x y : X) → Some x ≡ Some y → x ≡ y
-some_same x y is = cc
 
 pub not_later-refl : (p : Placed) → IsNotLater p p
 not_later-refl p = inr (refl, omega arith)
@@ -24,10 +22,6 @@ not_later-trans p q x a b = ⊎_elim
     (λ (h : (p.line.m ≡ q.line.m) × (p.r ≤ q.r)). ⊎_elim (λ (k : q.line.m < x.line.m). let same = h.0 in inl (omega (arith, k, same)))
     (λ (k : (q.line.m ≡ x.line.m) × (q.r ≤ x.r)). let low = h.1 in let high = k.1 in inr (h.0 ∙ k.0, omega (arith, low, high))) b)
     a
-
--- files below n + 1 are those below n, and n
-below_next : (P : ℕ → Type 0) (n : ℕ) → ((r : ℕ) → r < n → P r) → P n → (r : ℕ) → r < n + 1 → P r
-below_next P n f last r low = dite (ℕ_discrete r n) (λ same. subst P (sym same) last) (λ other. f r (omega (arith, low, other)))
 
 -- ---- which lines come behind
 -- a file leads until an earlier moment
@@ -55,20 +49,20 @@ module _ (scripts : List (List Line)) (done : List ℕ) where
   Behind lead r = (line : Line) → r ≢ lead.r → head_at scripts done r ≡ Some line → IsBehind lead r line.m
 
   with_head : (n : ℕ) (lead : Option Lead) (o : Option Line) → head_at scripts done n ≡ o → IfSome lead IsBefore → IsLeader scripts done n lead → IsLeader scripts done (n + 1) (leader_of lead n o)
-  with_head n None None is before l = below_next (λ r. head_at scripts done r ≡ None) n l is
+  with_head n None None is before l = below_more (λ r. head_at scripts done r ≡ None) n l is
   with_head n (Some lead) None is before l = let low = l.within in record {
     within = omega (arith, low);
     line = l.line;
     head = l.head;
     moment = l.moment;
-    others = below_next (Behind lead) n l.others (λ line ne at. let bad : None ≡ Some line = sym is ∙ at in absurd (cc));
+    others = below_more (Behind lead) n l.others (λ line ne at. let bad : None ≡ Some line = sym is ∙ at in absurd (cc));
   }
   with_head n None (Some first) is before l = record {
     within = omega arith;
     line = first;
     head = is;
     moment = refl;
-    others = below_next (Behind (record { r = n; m = first.m; until = 18446744073709551615 })) n
+    others = below_more (Behind (record { r = n; m = first.m; until = 18446744073709551615 })) n
         (λ r low line ne at. let bad : None ≡ Some line = sym (l r low) ∙ at in absurd (cc)) (λ line ne at. absurd (ne refl));
   }
   with_head n (Some lead) (Some first) is before l = go (nat_lt first.m lead.m) refl
@@ -80,9 +74,9 @@ module _ (scripts : List (List Line)) (done : List ℕ) where
         line = first;
         head = is;
         moment = refl;
-        others = below_next (Behind (record { r = n; m = first.m; until = lead.m })) n
+        others = below_more (Behind (record { r = n; m = first.m; until = lead.m })) n
             (λ r low line ne at. dite (ℕ_discrete r lead.r)
-            (λ same. let own : l.line ≡ line = some_same l.line line (sym l.head ∙ ap (λ k. head_at scripts done k) (sym same) ∙ at) in inl (subst (λ (x : Line). lead.m ≤ x.m) own (let m = l.moment in omega (arith, m))))
+            (λ same. let own : l.line ≡ line = same_Some l.line line (sym l.head ∙ ap (λ k. head_at scripts done k) (sym same) ∙ at) in inl (subst (λ (x : Line). lead.m ≤ x.m) own (let m = l.moment in omega (arith, m))))
             (λ other. behind_sooner lead n first.m r line.m before (l.others r low line other at)))
             (λ line ne at. absurd (ne refl));
       }
@@ -91,9 +85,9 @@ module _ (scripts : List (List Line)) (done : List ℕ) where
         line = l.line;
         head = l.head;
         moment = l.moment;
-        others = below_next (Behind (record lead { until = min lead.until (first.m + 1) })) n
+        others = below_more (Behind (record lead { until = min lead.until (first.m + 1) })) n
             (λ r below line ne at. behind_less lead (min lead.until (first.m + 1)) r line.m (omega arith) (l.others r below line ne at))
-            (λ line ne at. subst (λ (x : Line). IsBehind (record lead { until = min lead.until (first.m + 1) }) n x.m) (some_same first line (sym is ∙ at)) (inr (omega arith, l.within)));
+            (λ line ne at. subst (λ (x : Line). IsBehind (record lead { until = min lead.until (first.m + 1) }) n x.m) (same_Some first line (sym is ∙ at)) (inr (omega arith, l.within)));
       }
 
   pub leader_next : (n : ℕ) (lead : Option Lead) → IfSome lead IsBefore → IsLeader scripts done n lead → IsLeader scripts done (n + 1) (leader_of lead n (head_at scripts done n))
@@ -129,7 +123,7 @@ module _ (scripts : List (List Line)) (done : List ℕ) where
   first_of lead line ahead at next = record {
     head = at;
     least = λ r other there. dite (ℕ_discrete r lead.r)
-        (λ same. let own : line ≡ other = some_same line other (sym at ∙ ap (λ k. head_at scripts done k) (sym same) ∙ there) in subst (λ x. IsNotLater (placed lead.r line) (placed r x)) own (inr (refl, omega (arith, same))))
+        (λ same. let own : line ≡ other = same_Some line other (sym at ∙ ap (λ k. head_at scripts done k) (sym same) ∙ there) in subst (λ x. IsNotLater (placed lead.r line) (placed r x)) own (inr (refl, omega (arith, same))))
         (λ ne. behind_not_later lead line other r soon (ahead r other ne there));
   }
     where

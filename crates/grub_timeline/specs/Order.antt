@@ -1,12 +1,8 @@
 -- The one order of the lines of several scripts.
-use Rattle.std.specs.Prelude.{◌≡◌, ℕ, ◌+◌, ◌-◌, ◌<◌, ◌≤◌, ◌⊎◌, ◌==◌, List, [], ◌∷◌, filter, length, map, slice_index_or}
+use Rattle.std.specs.Prelude.{◌≡◌, ℕ, ◌+◌, ◌-◌, ◌<◌, ◌≤◌, ◌⊎◌, ◌==◌, List, [], ◌∷◌, filter, length, map}
 use Rattle.std.specs.List.{AllByRecursion}
-use Rattle.grub_plan.specs.Plans.{Line}
+use Rattle.grub_plan.specs.Plans.{Line, script_at}
 use Rattle.grub_timeline.specs.declared.order.Placed.{Placed}
-
--- the script of a runqueue: no lines, where it has no file
-abbrev pub script_at : List (List Line) → ℕ → List Line
-script_at scripts r = slice_index_or scripts r []
 
 -- the lines of one runqueue
 abbrev pub lines_of : ℕ → List Placed → List Line

@@ -14,8 +14,7 @@ use Rattle.grub_plan.specs.declared.entry.Ask.TheVariants.{Call}
 use Rattle.grub_plan.specs.declared.entry.Answer.{Answer}
 use Rattle.grub_plan.specs.declared.entry.Answer.TheVariants.{Replied}
 use Rattle.grub_plan.specs.declared.entry.Entry.{Entry}
-use Rattle.grub_plan.specs.Plans.{Line, PlanView}
-use Rattle.grub_plan.specs.Texts.{IsAskOf}
+use Rattle.grub_plan.specs.Plans.{Line, PlanView, IsAskOf}
 use Rattle.grub_asks.specs.Answers.{IsAnswered, event_told, events_told}
 use Rattle.grub_asks.specs.Asked.{Asked, AsksLine}
 use Rattle.grub_timeline.specs.declared.order.Placed.{Placed}

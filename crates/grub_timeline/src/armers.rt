@@ -6,7 +6,7 @@ use grub_book::Reply;
 use grub_plan::Answer;
 
 /// Remembers the runqueue of a block that waits.
-pub fn note(armers: &mut Vec<u32>, t: u32, r: u32, answer: Answer)
+pub(crate) fn note(armers: &mut Vec<u32>, t: u32, r: u32, answer: Answer)
     requires { t < length armers.old.items }
     ensures { armers.new.items ≡ waits_of armers.old.items t r answer }
 {

@@ -5,7 +5,7 @@ ghost use Rattle.grub_timeline.specs.inside.Playing.{AreReadings};
 use grub_book::{Book, Reading};
 
 /// Puts the reading of each runqueue, in order, into a vector that has room for them.
-pub fn fill_readings(readings: &mut Vec<Reading>, book: &Book<'_>, queues: u32)
+pub(crate) fn fill_readings(readings: &mut Vec<Reading>, book: &Book<'_>, queues: u32)
     requires queues { queues ≡ length book.now.setup.queues }
     requires empty { readings.old.items ≡ [] }
     requires room { queues ≤ vec_capacity readings.old }

@@ -1,6 +1,7 @@
 //! Timers that are due.
-ghost use Rattle.std.specs.Prelude.{◌≡◌, ◌<◌, ◌^◌, ◌≤◌, ◌+◌, Some, vec_len, vec_capacity};
+ghost use Rattle.std.specs.Prelude.{◌≡◌, ◌<◌, ◌≤◌, ◌+◌, Some, vec_len, vec_capacity};
 ghost use Rattle.std.specs.FinMap as map;
+ghost use Rattle.grub_bw.specs.declared.server.TheConstants.{MOMENT_MAX};
 ghost use Rattle.grub_asks.specs.Asked.{AsksDue};
 ghost use Rattle.grub_timeline.specs.TimeLines.{entries_of};
 ghost use Rattle.grub_timeline.specs.inside.Playing.{GoesOnAt, IsNotPast, IsPlaying};
@@ -9,9 +10,9 @@ use crate::player::{Player, put};
 use grub_book::Op;
 
 /// Asks for each timer, of whatever runqueue, that is due by this moment.
-pub fn ask_due(player: &mut Player<'_>, m: u32)
+pub(crate) fn ask_due(player: &mut Player<'_>, m: u32)
     requires playing { IsPlaying player.old }
-    requires moment { m < 2 ^ 31 }
+    requires moment { m ≤ MOMENT_MAX }
     requires not_past { IsNotPast m player.old }
     requires room { vec_len player.old.chunk + map.len player.old.wheel.timers
         ≤ vec_capacity player.old.chunk }

@@ -1,5 +1,6 @@
 //! One line of a file, and what follows from its answer.
-ghost use Rattle.std.specs.Prelude.{◌≡◌, ◌<◌, ◌^◌, ◌≤◌, ◌+◌, Some, length, vec_len, vec_capacity};
+ghost use Rattle.std.specs.Prelude.{◌≡◌, ◌<◌, ◌≤◌, ◌+◌, Some, length, vec_len, vec_capacity};
+ghost use Rattle.grub_bw.specs.declared.server.TheConstants.{MOMENT_MAX};
 ghost use Rattle.grub_plan.specs.Limits.{ActFits};
 ghost use Rattle.grub_asks.specs.Asked.{Follows, JoinsAfter};
 ghost use Rattle.grub_timeline.specs.TimeLines.{AsksPlaced, entries_of};
@@ -17,7 +18,7 @@ fn join_here(player: &mut Player<'_>, r: u32, m: u32, t: u32, answer: Answer)
     requires playing { IsPlaying player.old }
     requires task { t < length player.old.book.setup.tasks }
     requires queue { r < length player.old.book.setup.queues }
-    requires moment { m < 2 ^ 31 }
+    requires moment { m ≤ MOMENT_MAX }
     requires last { player.old.wheel.last ≡ Some m }
     requires room { vec_len player.old.chunk + 1 ≤ vec_capacity player.old.chunk }
     ensures playing { IsPlaying player.new }
@@ -43,7 +44,7 @@ fn follow(player: &mut Player<'_>, r: u32, m: u32, act: Act, answer: Answer)
     requires playing { IsPlaying player.old }
     requires act { ActFits (length player.old.book.setup.tasks) act }
     requires queue { r < length player.old.book.setup.queues }
-    requires moment { m < 2 ^ 31 }
+    requires moment { m ≤ MOMENT_MAX }
     requires last { player.old.wheel.last ≡ Some m }
     requires room { vec_len player.old.chunk + 2 ≤ vec_capacity player.old.chunk }
     ensures playing { IsPlaying player.new }
@@ -70,7 +71,7 @@ fn ask(player: &mut Player<'_>, r: u32, line: Line)
     requires playing { IsPlaying player.old }
     requires act { ActFits (length player.old.book.setup.tasks) line.act }
     requires queue { r < length player.old.book.setup.queues }
-    requires moment { line.m < 2 ^ 31 }
+    requires moment { line.m ≤ MOMENT_MAX }
     requires last { player.old.wheel.last ≡ Some line.m }
     requires room { vec_len player.old.chunk + 3 ≤ vec_capacity player.old.chunk }
     ensures playing { IsPlaying player.new }
@@ -94,11 +95,11 @@ fn ask(player: &mut Player<'_>, r: u32, line: Line)
 }
 
 /// Asks for the timers that are due before a line, for the line, and for what follows from its answer.
-pub fn ask_line(player: &mut Player<'_>, placed: Placed)
+pub(crate) fn ask_line(player: &mut Player<'_>, placed: Placed)
     requires playing { IsPlaying player.old }
     requires act { ActFits (length player.old.book.setup.tasks) placed.line.act }
     requires queue { placed.r < length player.old.book.setup.queues }
-    requires moment { placed.line.m < 2 ^ 31 }
+    requires moment { placed.line.m ≤ MOMENT_MAX }
     requires not_past { IsNotPast placed.line.m player.old }
     requires room { vec_len player.old.chunk + (length player.old.book.setup.tasks + 3)
         ≤ vec_capacity player.old.chunk }

@@ -11,7 +11,7 @@ use crate::player::Player;
 use grub_plan::Plan;
 
 /// Asks for the lines that come next, while what one more asks is sure to have room. It tells whether there was a line.
-pub fn ask_lines(player: &mut Player<'_>, plan: &Plan, done: &mut Vec<usize>) -> bool
+pub(crate) fn ask_lines(player: &mut Player<'_>, plan: &Plan, done: &mut Vec<usize>) -> bool
     requires midway { IsMidway plan.now player.old done.old.items }
     requires fits { PlanFits plan.now }
     requires room { vec_len player.old.chunk + (length plan.now.setup.tasks + 3)

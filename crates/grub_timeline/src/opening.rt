@@ -16,7 +16,7 @@ use std::snapshot::Snapshot;
 const CHUNK: usize = 32_768;
 
 /// A player that has asked nothing yet.
-pub fn player_of<'a>(alloc: Global, plan: &'a Plan) -> Result<Player<'a>, AllocError>
+pub(crate) fn player_of<'a>(alloc: Global, plan: &'a Plan) -> Result<Player<'a>, AllocError>
     ensures playing { IfOk result IsPlaying }
     ensures setup { IfOk result (λ x. x.book.setup ≡ plan.now.setup) }
     ensures empty { IfOk result (λ x. x.told.items ≡ []) }

@@ -22,7 +22,7 @@ pub struct Lead {
 }
 
 /// The file whose line is next: the earliest, and of those at one moment that of the first file.
-pub fn first(plan: &Plan, done: &[usize]) -> Option<Lead>
+pub(crate) fn first(plan: &Plan, done: &[usize]) -> Option<Lead>
     requires { length done.now ≡ length plan.now.scripts }
     ensures none { MatchOption result (NoHead plan.now.scripts done.now)
         (IsAhead plan.now.scripts done.now) }
@@ -36,7 +36,7 @@ pub fn first(plan: &Plan, done: &[usize]) -> Option<Lead>
 }
 
 /// Whether the next line of the file that led comes before those of the others still.
-pub fn leads(plan: &Plan, done: &[usize], lead: Lead) -> bool
+pub(crate) fn leads(plan: &Plan, done: &[usize], lead: Lead) -> bool
     requires len { length done.now ≡ length plan.now.scripts }
     requires file { lead.r < length plan.now.scripts }
     ensures { IsTrue result ↔ IsNext plan.now.scripts done.now lead }
@@ -48,7 +48,7 @@ pub fn leads(plan: &Plan, done: &[usize], lead: Lead) -> bool
 }
 
 /// The next line of file `r`, which has one left. It is done then.
-pub fn take(plan: &Plan, done: &mut [usize], r: u32) -> Line
+pub(crate) fn take(plan: &Plan, done: &mut [usize], r: u32) -> Line
     requires len { length done.old ≡ length plan.now.scripts }
     requires left { IsSome (head_at plan.now.scripts done.old r) }
     ensures line { head_at plan.now.scripts done.old r ≡ Some result }

@@ -35,7 +35,7 @@ pub struct Player<'a> {
 }
 
 /// Asks the book, and makes the entry of it, which is of runqueue `r`.
-pub fn put(player: &mut Player<'_>, r: u32, m: u32, t: u32, op: Op) -> Answer
+pub(crate) fn put(player: &mut Player<'_>, r: u32, m: u32, t: u32, op: Op) -> Answer
     requires told { IsToldBy player.old }
     requires task { t < length player.old.book.setup.tasks }
     requires queue { r < length player.old.book.setup.queues }
@@ -70,7 +70,7 @@ pub fn put(player: &mut Player<'_>, r: u32, m: u32, t: u32, op: Op) -> Answer
 }
 
 /// Asks for a line of runqueue `r` at this moment, and keeps the timers.
-pub fn call(player: &mut Player<'_>, r: u32, m: u32, t: u32, op: Op) -> Answer
+pub(crate) fn call(player: &mut Player<'_>, r: u32, m: u32, t: u32, op: Op) -> Answer
     requires playing { IsPlaying player.old }
     requires task { t < length player.old.book.setup.tasks }
     requires queue { r < length player.old.book.setup.queues }
@@ -95,7 +95,7 @@ pub fn call(player: &mut Player<'_>, r: u32, m: u32, t: u32, op: Op) -> Answer
 }
 
 /// Reads runqueue `r`, and makes the entry of it.
-pub fn look(player: &mut Player<'_>, r: u32, m: u32)
+pub(crate) fn look(player: &mut Player<'_>, r: u32, m: u32)
     requires playing { IsPlaying player.old }
     requires queue { r < length player.old.book.setup.queues }
     requires room { vec_len player.old.chunk + 1 ≤ vec_capacity player.old.chunk }

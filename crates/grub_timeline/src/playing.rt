@@ -2,7 +2,7 @@
 ghost use Rattle.std.specs.Prelude.{◌≡◌, ◌+◌, ◌++◌, ◌<◌, ◌≤◌, [], IfOk, length, vec_capacity};
 ghost use Rattle.std.specs.Bool.{OnFalse, OnTrue};
 ghost use Rattle.grub_book.specs.History.{IsLegal};
-ghost use Rattle.grub_timeline.specs.Order.{script_at};
+ghost use Rattle.grub_plan.specs.Plans.{script_at};
 ghost use Rattle.grub_timeline.specs.TimeLines.{AreAnswered, AreWithin, DoNotGoBack, IsOneRun, IsOnlyTimeLine, IsTimeLine, history_of};
 
 use crate::closing::fill_readings;

@@ -1,6 +1,6 @@
 //! All lines, in their order.
 ghost use Rattle.std.specs.Prelude.{◌≡◌, IfOk, length};
-ghost use Rattle.grub_timeline.specs.Order.{script_at};
+ghost use Rattle.grub_plan.specs.Plans.{script_at};
 ghost use Rattle.grub_timeline.specs.TimeLines.{AreWithin, DoNotGoBack, IsOneRun, IsOnlyTimeLine, IsTimeLine};
 
 use crate::fault::PlayFault;

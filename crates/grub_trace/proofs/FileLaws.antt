@@ -5,11 +5,11 @@ use Rattle.std.specs.Prelude.{bytes_eq, codes, decimal, slice_index_or}
 use Rattle.std.specs.List.{join_with_byte, flat_map, list_all}
 use Rattle.std.proofs.lemmas.List.{append-nil, length-append, length-map, map-append}
 use Rattle.grub_trace.specs.inside.Reading.{times_of}
-use Rattle.grub_trace.specs.Faults.{line_fault, queue_fault, queue_form_fault, capacity_fits}
+use Rattle.grub_trace.specs.Faults.{line_fault, queue_fault, queue_form_fault}
 use Rattle.grub_trace.specs.Forms.{Form, queue, task, at_moment, form_of, words_of, version_of, is_number, value, capacity_value, parts_of}
 use Rattle.grub_trace.proofs.WordLemmas.{has_part}
 use Rattle.std.proofs.lemmas.List.Splits.{join_with_byte-slice_split}
-use Rattle.grub_bw.specs.Bandwidth.{Capacity, IsCapacity}
+use Rattle.grub_bw.specs.Bandwidth.{Capacity, IsCapacity, capacity_fits}
 use Rattle.grub_trace.proofs.LimitTests.{capacity_is}
 use Rattle.grub_trace.specs.declared.version.Version.{Version}
 use Rattle.grub_trace.specs.declared.fault.Kind.{Kind}

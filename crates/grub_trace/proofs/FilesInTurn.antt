@@ -1,7 +1,7 @@
 -- Files, and then their scripts, one after the other: what the loops over them come to, up to the plan of what was read.
-use Rattle.std.proofs.Common.{◌≡◌, ℕ, ◌+◌, ◌≤◌, ◌<◌, List, [], ◌∷◌, ◌++◌, length, get_or, drop, map, Result, Ok, Err, Some, None, refl, sym, ap, ◌∙◌, add-one, arith, drop-cons, subst}
+use Rattle.std.proofs.Common.{◌≡◌, ℕ, ◌+◌, ◌≤◌, ◌<◌, List, [], ◌∷◌, ◌++◌, length, get_or, drop, map, Result, Ok, Err, Some, None, refl, sym, ap, ◌∙◌, arith, subst}
 use Rattle.std.specs.Global.{Vec}
-use Rattle.std.proofs.lemmas.List.{drop_all, length_push, map_push}
+use Rattle.std.proofs.lemmas.List.{drop_all, length_push, map_push, drop_more}
 use Rattle.grub_trace.specs.declared.fault.Kind.TheVariants.{UnknownTask}
 use Rattle.grub_trace.specs.declared.raw.RawFile.{RawFile}
 use Rattle.grub_bw.specs.Bandwidth.{Capacity, Reservation}
@@ -22,7 +22,7 @@ use Rattle.grub_trace.specs.inside.Lines.{AreBodies, IsBody, script_in}
 use Rattle.grub_trace.specs.Naming.{plan_with}
 
 pub drop_item : {X : Type 0} (xs : List X) (i : ℕ) (x : X) → i < length xs → x ≡ get_or xs i x → drop i xs ≡ x ∷ drop (i + 1) xs
-drop_item xs i x lt is = rw add-one (drop-cons xs i x lt) ∙ ap (λ y. y ∷ drop (i + 1) xs) (sym is)
+drop_item xs i x lt is = drop_more xs i x lt ∙ ap (λ y. y ∷ drop (i + 1) xs) (sym is)
 
 -- ---- all scripts
 

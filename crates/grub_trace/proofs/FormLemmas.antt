@@ -29,9 +29,6 @@ form_words (at_moment m a) = codes "at" ∷ m ∷ act_words (λ w. w) a
 abbrev pub IsForm : List (List ℕ) → Form → Type 0
 IsForm ws f = (ws ≡ form_words f) × (is_named f ≡ true)
 
-text_is : (a b : List ℕ) → bytes_eq a b ≡ true → a ≡ b
-text_is a b e = (bytes_decides a b).0 e
-
 -- the act that a verb and a name make
 abbrev IsActOf : List ℕ → List ℕ → Act (List ℕ) (List ℕ) → Type 0
 IsActOf w n a = (w ∷ n ∷ [] ≡ act_words (λ w. w) a) × (is_name n ≡ true → is_act_named a ≡ true)
@@ -41,7 +38,7 @@ pick true x o a e = inl (refl, cc)
 pick false x o a e = inr e
 
 verb : (w k n : List ℕ) (x a : Act (List ℕ) (List ℕ)) → k ∷ n ∷ [] ≡ act_words (λ w. w) x → (is_name n ≡ true → is_act_named x ≡ true) → (bytes_eq w k ≡ true) × (x ≡ a) → IsActOf w n a
-verb w k n x a words named h = subst (IsActOf w n) h.1 (ap (λ (u : List ℕ). u ∷ n ∷ []) (text_is w k h.0) ∙ words, named)
+verb w k n x a words named h = subst (IsActOf w n) h.1 (ap (λ (u : List ℕ). u ∷ n ∷ []) ((bytes_decides w k).0 h.0) ∙ words, named)
 
 act_is : (w n : List ℕ) (a : Act (List ℕ) (List ℕ)) → act_of w n ≡ Some a → IsActOf w n a
 act_is w n a e =
@@ -85,33 +82,33 @@ shape_is (k ∷ []) f e = absurd cc
 shape_is (k ∷ a ∷ []) f e = absurd cc
 shape_is (k ∷ a ∷ b ∷ []) f e =
     elim (three (bytes_eq k (codes "queue")) (bytes_eq k (codes "at") && bytes_eq b (codes "read")) (queue a b) (at_moment a act.Read) f e) [
-      | inl h ↦ subst (IsForm (k ∷ a ∷ b ∷ [])) h.1 (ap (λ (w : List ℕ). w ∷ a ∷ b ∷ []) (text_is k (codes "queue") h.0), refl)
+      | inl h ↦ subst (IsForm (k ∷ a ∷ b ∷ [])) h.1 (ap (λ (w : List ℕ). w ∷ a ∷ b ∷ []) ((bytes_decides k (codes "queue")).0 h.0), refl)
       | inr h ↦ let p = and_parts (bytes_eq k (codes "at")) (bytes_eq b (codes "read")) h.0 in
           subst (IsForm (k ∷ a ∷ b ∷ [])) h.1
-          (ap (λ (w : List ℕ). w ∷ a ∷ b ∷ []) (text_is k (codes "at") p.0) ∙ ap (λ (w : List ℕ). codes "at" ∷ a ∷ w ∷ []) (text_is b (codes "read") p.1), refl)
+          (ap (λ (w : List ℕ). w ∷ a ∷ b ∷ []) ((bytes_decides k (codes "at")).0 p.0) ∙ ap (λ (w : List ℕ). codes "at" ∷ a ∷ w ∷ []) ((bytes_decides b (codes "read")).0 p.1), refl)
     ]
 shape_is (k ∷ a ∷ b ∷ c ∷ []) f e =
     elim (four (bytes_eq k (codes "task") && is_name a) (bytes_eq k (codes "at") && is_name c) (task a b c) (option_map (at_moment a) (act_of b c)) f e) [
       | inl h ↦ let p = and_parts (bytes_eq k (codes "task")) (is_name a) h.0 in
-          subst (IsForm (k ∷ a ∷ b ∷ c ∷ [])) h.1 (ap (λ (w : List ℕ). w ∷ a ∷ b ∷ c ∷ []) (text_is k (codes "task") p.0), p.1)
+          subst (IsForm (k ∷ a ∷ b ∷ c ∷ [])) h.1 (ap (λ (w : List ℕ). w ∷ a ∷ b ∷ c ∷ []) ((bytes_decides k (codes "task")).0 p.0), p.1)
       | inr h ↦ let p = and_parts (bytes_eq k (codes "at")) (is_name c) h.0 in
           let v = mapped (at_moment a) (act_of b c) f h.1 in
           let is = act_is b c v.0 v.1 in
           subst (IsForm (k ∷ a ∷ b ∷ c ∷ [])) v.2
-          (ap (λ (w : List ℕ). w ∷ a ∷ b ∷ c ∷ []) (text_is k (codes "at") p.0) ∙ ap (λ (ws : List (List ℕ)). codes "at" ∷ a ∷ ws) is.0, is.1 p.1)
+          (ap (λ (w : List ℕ). w ∷ a ∷ b ∷ c ∷ []) ((bytes_decides k (codes "at")).0 p.0) ∙ ap (λ (ws : List (List ℕ)). codes "at" ∷ a ∷ ws) is.0, is.1 p.1)
     ]
 shape_is (k ∷ a ∷ b ∷ c ∷ d ∷ []) f e =
     let h = cond_some (bytes_eq k (codes "at") && bytes_eq b (codes "run") && is_name c) (at_moment a (act.Run c d)) f e in
     let p = and_parts (bytes_eq k (codes "at") && bytes_eq b (codes "run")) (is_name c) h.0 in
     let q = and_parts (bytes_eq k (codes "at")) (bytes_eq b (codes "run")) p.0 in
     subst (IsForm (k ∷ a ∷ b ∷ c ∷ d ∷ [])) h.1
-    (ap (λ (w : List ℕ). w ∷ a ∷ b ∷ c ∷ d ∷ []) (text_is k (codes "at") q.0) ∙ ap (λ (w : List ℕ). codes "at" ∷ a ∷ w ∷ c ∷ d ∷ []) (text_is b (codes "run") q.1), p.1)
+    (ap (λ (w : List ℕ). w ∷ a ∷ b ∷ c ∷ d ∷ []) ((bytes_decides k (codes "at")).0 q.0) ∙ ap (λ (w : List ℕ). codes "at" ∷ a ∷ w ∷ c ∷ d ∷ []) ((bytes_decides b (codes "run")).0 q.1), p.1)
 shape_is (k ∷ a ∷ b ∷ c ∷ d ∷ x ∷ []) f e =
     let h = cond_some (bytes_eq k (codes "at") && bytes_eq b (codes "retune") && is_name c) (at_moment a (act.Retune c d x)) f e in
     let p = and_parts (bytes_eq k (codes "at") && bytes_eq b (codes "retune")) (is_name c) h.0 in
     let q = and_parts (bytes_eq k (codes "at")) (bytes_eq b (codes "retune")) p.0 in
     subst (IsForm (k ∷ a ∷ b ∷ c ∷ d ∷ x ∷ [])) h.1
-    (ap (λ (w : List ℕ). w ∷ a ∷ b ∷ c ∷ d ∷ x ∷ []) (text_is k (codes "at") q.0) ∙ ap (λ (w : List ℕ). codes "at" ∷ a ∷ w ∷ c ∷ d ∷ x ∷ []) (text_is b (codes "retune") q.1), p.1)
+    (ap (λ (w : List ℕ). w ∷ a ∷ b ∷ c ∷ d ∷ x ∷ []) ((bytes_decides k (codes "at")).0 q.0) ∙ ap (λ (w : List ℕ). codes "at" ∷ a ∷ w ∷ c ∷ d ∷ x ∷ []) ((bytes_decides b (codes "retune")).0 q.1), p.1)
 shape_is (k ∷ a ∷ b ∷ c ∷ d ∷ x ∷ y ∷ ys) f e = absurd cc
 
 -- words with a form are filled, and have its shape
@@ -201,8 +198,8 @@ version_from false false v e = absurd cc
 pub version_is : (l : List ℕ) (v : Version) → version_of l ≡ Some v → l ≡ header v
 version_is l v e =
     elim (version_from (bytes_eq l (header One)) (bytes_eq l (header Two)) v e) [
-      | inl h ↦ text_is l (header One) h.0 ∙ ap header h.1
-      | inr h ↦ text_is l (header Two) h.0 ∙ ap header h.1
+      | inl h ↦ (bytes_decides l (header One)).0 h.0 ∙ ap header h.1
+      | inr h ↦ (bytes_decides l (header Two)).0 h.0 ∙ ap header h.1
     ]
 
 pub version_again : (v : Version) → version_of (header v) ≡ Some v

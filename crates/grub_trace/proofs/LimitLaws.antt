@@ -1,12 +1,15 @@
 -- The plan of trees keeps the limits.
-use Rattle.std.proofs.Common.{◌≡◌, ℕ, zero, suc, get_or, ◌+◌, ◌^◌, ◌<◌, ◌≤◌, Bool, true, false, cond, List, [], ◌∷◌, ◌++◌, length, map, Option, Some, None, option_map, refl, ap, ◌∙◌, sym, arith, subst}
+use Rattle.std.proofs.Common.{◌≡◌, ℕ, ◌+◌, ◌<◌, ◌≤◌, Bool, true, false, cond, List, [], ◌∷◌, ◌++◌, length, map, Option, Some, None, option_map, refl, ap, ◌∙◌, sym, arith, subst}
 use Rattle.std.proofs.lemmas.Option.{same_Some}
 use Rattle.std.specs.Prelude.{IsSome, Ok}
+use Rattle.grub_bw.specs.declared.server.TheConstants.{MOMENT_MAX}
+use Rattle.grub_book.specs.declared.op.TheConstants.{RUN_MAX}
 use Rattle.grub_trace.specs.inside.Reading.{plan_from}
 use Rattle.grub_trace.proofs.PlanLaws.{plan_read}
 use Rattle.std.specs.Str.{bytes_eq}
 use Rattle.std.specs.List.{AllByRecursion, filter_map, cons_option}
 use Rattle.std.proofs.lemmas.List.{length-append, length-map}
+use Rattle.std.proofs.lemmas.List.Elements.{All-from_recursion, All-get_or}
 use Rattle.grub_bw.specs.Bandwidth.{IsReservation, IsCapacity}
 use Rattle.std.proofs.lemmas.Bool.Decides.{nat_tests}
 use Rattle.grub_trace.specs.declared.version.Version.{Version}
@@ -33,10 +36,10 @@ mapped : {A : Type 0} (f : ℕ → A) (o : Option ℕ) (a : A) → option_map f 
 mapped f None a e = absurd cc
 mapped f (Some t) a e = (t, refl, cc)
 
-span_is : (d : ℕ) → is_span d ≡ true → (1 ≤ d) × (d ≤ 2 ^ 24)
+span_is : (d : ℕ) → is_span d ≡ true → (1 ≤ d) × (d ≤ RUN_MAX)
 span_is d h = (grind (arith, nat_tests), grind (arith, nat_tests))
 
-moment_is : (m : ℕ) → is_moment m ≡ true → m < 2 ^ 31
+moment_is : (m : ℕ) → is_moment m ≡ true → m ≤ MOMENT_MAX
 moment_is m h = grind (arith, nat_tests)
 
 act_fits : (version : Version) (names : List (List ℕ)) (said : Act (List ℕ) ℕ) (a : Act ℕ ℕ) → IsAct version said → act_in names said ≡ Some a → ActFits (length names) a
@@ -68,9 +71,9 @@ declared_fit : (ds : List Declaration) (names : List (List ℕ)) → AreDeclared
 declared_fit [] names are = tt
 declared_fit (d ∷ ds) names are = (are.0.fits, declared_fit ds (names ++ d.name ∷ []) are.1)
 
-all_declared : (ds es : List Declaration) → AllByRecursion IsReservation (params_of ds) → AllByRecursion IsReservation (params_of es) → AllByRecursion IsReservation (params_of (ds ++ es))
-all_declared [] es h k = k
-all_declared (d ∷ ds) es h k = (h.0, all_declared ds es h.1 k)
+all_of : {X : Type 0} (P : X → Type 0) (f : Declaration → X) (ds es : List Declaration) → AllByRecursion P (map f ds) → AllByRecursion P (map f es) → AllByRecursion P (map f (ds ++ es))
+all_of P f [] es h k = k
+all_of P f (d ∷ ds) es h k = (h.0, all_of P f ds es h.1 k)
 
 few_tasks : (ts : List Tree) (names : List (List ℕ)) → length names ≤ 256 → AreTrees names ts → length names + length (all_tasks ts) ≤ 256
 few_tasks [] names few are = omega arith
@@ -84,17 +87,13 @@ names_are : (ds : List Declaration) (names : List (List ℕ)) → AreDeclared na
 names_are [] names are = tt
 names_are (d ∷ ds) names are = (are.0.name, names_are ds (names ++ d.name ∷ []) are.1)
 
-all_names : (ds es : List Declaration) → AllByRecursion (λ (n : List ℕ). is_name n ≡ true) (names_of ds) → AllByRecursion (λ (n : List ℕ). is_name n ≡ true) (names_of es) → AllByRecursion (λ (n : List ℕ). is_name n ≡ true) (names_of (ds ++ es))
-all_names [] es h k = k
-all_names (d ∷ ds) es h k = (h.0, all_names ds es h.1 k)
-
 names_fit : (ts : List Tree) (names : List (List ℕ)) → AreTrees names ts → AllByRecursion (λ (n : List ℕ). is_name n ≡ true) (names_of (all_tasks ts))
 names_fit [] names are = tt
-names_fit (t ∷ ts) names are = all_names t.tasks (all_tasks ts) (names_are t.tasks names are.0.tasks) (names_fit ts (names ++ names_of t.tasks) are.1)
+names_fit (t ∷ ts) names are = all_of (λ n. is_name n ≡ true) (λ d. d.name) t.tasks (all_tasks ts) (names_are t.tasks names are.0.tasks) (names_fit ts (names ++ names_of t.tasks) are.1)
 
 tasks_fit : (ts : List Tree) (names : List (List ℕ)) → AreTrees names ts → AllByRecursion IsReservation (params_of (all_tasks ts))
 tasks_fit [] names are = tt
-tasks_fit (t ∷ ts) names are = all_declared t.tasks (all_tasks ts) (declared_fit t.tasks names are.0.tasks) (tasks_fit ts (names ++ names_of t.tasks) are.1)
+tasks_fit (t ∷ ts) names are = all_of IsReservation (λ d. d.params) t.tasks (all_tasks ts) (declared_fit t.tasks names are.0.tasks) (tasks_fit ts (names ++ names_of t.tasks) are.1)
 
 queues_fit : (ts : List Tree) (names : List (List ℕ)) → AreTrees names ts → AllByRecursion IsCapacity (map (λ (t : Tree). t.queue) ts)
 queues_fit [] names are = tt
@@ -103,11 +102,6 @@ queues_fit (t ∷ ts) names are = (are.0.queue, queues_fit ts (names ++ names_of
 scripts_fit : (all : List (List ℕ)) (ts : List Tree) (names : List (List ℕ)) → AreTrees names ts → AllByRecursion (λ (t : Tree). AreKnown all t.happenings) ts → AllByRecursion (ScriptFits (length all) 0) (map (script_of all) ts)
 scripts_fit all [] names are known = tt
 scripts_fit all (t ∷ ts) names are known = (script_fits t.version all t.happenings 0 are.0.happenings known.0, scripts_fit all ts (names ++ names_of t.tasks) are.1 known.1)
-
-each_at : {A : Type 0} (P : A → Type 0) (xs : List A) (i : ℕ) (d : A) → AllByRecursion P xs → i < length xs → P (get_or xs i d)
-each_at P [] i d all there = absurd (omega arith)
-each_at P (x ∷ xs) zero d all there = all.0
-each_at P (x ∷ xs) (suc i) d all there = each_at P xs i d all.1 (omega arith)
 
 pub plan_fits : (files : List (List ℕ)) (ts : List Tree) → Reads files ts → PlanFits (plan_of ts)
 plan_fits files ts is =
@@ -123,8 +117,8 @@ plan_fits files ts is =
         queues_some = omega (arith, is.some);
         queues_most = omega (arith, is.few);
         tasks_most = omega (arith, few_tasks ts [] (omega arith) is.together);
-        capacities = λ r there. each_at IsCapacity (map (λ (t : Tree). t.queue) ts) r _ (queues_fit ts [] is.together) there;
-        reservations = λ t there. each_at IsReservation (params_of tasks) t _ (tasks_fit ts [] is.together) there;
+        capacities = λ r there. All-get_or IsCapacity (map (λ (t : Tree). t.queue) ts) r _ there (All-from_recursion IsCapacity _ (queues_fit ts [] is.together));
+        reservations = λ t there. All-get_or IsReservation (params_of tasks) t _ there (All-from_recursion IsReservation _ (tasks_fit ts [] is.together));
       };
       each = scripts ∙ sym queues;
       named = named ∙ sym reserved;

@@ -1,14 +1,14 @@
 -- Reading lines one after the other.
-use Rattle.std.proofs.Common.{◌≡◌, ℕ, Bool, true, false, ◌+◌, ◌≤◌, ◌<◌, List, [], ◌∷◌, length, Result, Ok, Err, refl, sym, ap, ◌∙◌, arith, cond, not, ◌&&◌, eqb, subst}
+use Rattle.std.proofs.Common.{◌≡◌, ℕ, Bool, true, false, ◌+◌, ◌<◌, List, [], ◌∷◌, length, Result, Ok, Err, refl, sym, ap, ◌∙◌, arith, cond, not, ◌&&◌, eqb, subst}
 use Rattle.std.specs.Prelude.{MatchResult}
-use Rattle.grub_bw.specs.Bandwidth.{Capacity}
+use Rattle.grub_bw.specs.Bandwidth.{Capacity, reservation_fits}
 use Rattle.grub_trace.specs.declared.version.Version.{Version}
 use Rattle.grub_trace.specs.declared.fault.Kind.{Kind}
 use Rattle.grub_trace.specs.declared.fault.Kind.TheVariants.{CutShort, BadHeader, BadLine, BadNumber, OutOfRange, DuplicateTask, MomentGoesBack}
 use Rattle.grub_trace.specs.inside.Reading.{Read, FileRead, act_map, read_queue, read_second, read_first, read_as, read_file, file_from, opened, ok_unless, adds, take_option, times_of, read_lines, take_line, at_line, of_file, ◌>>=◌, Faults, two_fault, IsRunOf, IsRetuneOf, take_form, line_view, says, task_fault}
-use Rattle.grub_trace.specs.Forms.{parts_of, Form, queue, task, at_moment, words_of, form_of, is_number, version_of, value, reservation_value}
+use Rattle.grub_trace.specs.Forms.{parts_of, Form, task, at_moment, words_of, form_of, is_number, version_of, value, reservation_value}
 use Rattle.std.proofs.Common.{◌-◌, ◌⊎◌, inl, inr, Option, Some, None}
-use Rattle.std.proofs.lemmas.List.{length_push, length-map}
+use Rattle.std.proofs.lemmas.List.{length-map}
 use Rattle.grub_trace.specs.declared.fault.TraceFault.{TraceFault}
 use Rattle.grub_trace.specs.declared.fault.TraceFault.TheVariants as fault
 use Rattle.grub_trace.specs.Tree.{Declaration, names_of, is_moment, is_span, may_retune}
@@ -18,11 +18,12 @@ use Rattle.grub_plan.specs.declared.line.Act.TheVariants.{Run, Retune}
 use Rattle.grub_plan.specs.declared.line.Line as lines
 use Rattle.std.specs.Borrow.{Bor}
 use Rattle.std.specs.Prelude.{nat_le, nat_lt, is_none, ◌++◌}
+use Rattle.std.proofs.Math.Bool.{and-true, and_assoc}
 use Rattle.std.proofs.lemmas.Bool.Decides.{nat_tests}
 use Rattle.grub_bw.specs.Bandwidth.{Reservation}
 use Rattle.grub_trace.specs.Naming.{task_of}
 use Rattle.grub_trace.specs.inside.Lines.{GivesLine, TakesAct, plain_fault}
-use Rattle.grub_trace.specs.Faults.{form_fault, is_allowed, is_timely, last_of, reservation_fits}
+use Rattle.grub_trace.specs.Faults.{form_fault, is_timely, last_of}
 use Rattle.grub_trace.proofs.WordLemmas.{has_part}
 
 -- ---- one step after another
@@ -98,11 +99,6 @@ taken r s line e = go (form_of (words_of line)) refl e
     go None is t = absurd cc
     go (Some f) is t = let k = unless_ok (form_fault r.version (names_of r.declared) (times_of r.happenings) f) (adds f r) s t in (f, is, k.0, k.1)
 
-adds_grows : (f : Form) (r : Read) → length r.declared ≤ length (adds f r).declared
-adds_grows (queue a b) r = omega arith
-adds_grows (task n q p) r = omega (arith, length_push r.declared (record { name = n; params = reservation_value q p }))
-adds_grows (at_moment m a) r = omega arith
-
 pub at_line_ok : {X : Type 0} (n : ℕ) (r : Result X Kind) (x : X) → at_line n r ≡ Ok x → r ≡ Ok x
 at_line_ok n (Ok y) x e = let h : y ≡ x = cc in ap Ok h
 at_line_ok n (Err k) x e = absurd cc
@@ -110,17 +106,6 @@ at_line_ok n (Err k) x e = absurd cc
 pub cond_ok : {A E : Type 0} (b : Bool) (x y : A) (e : E) → cond b (Ok x) (Err e) ≡ Ok y → (b ≡ true) × (x ≡ y)
 cond_ok true x y e h = (refl, cc)
 cond_ok false x y e h = absurd cc
-
-pub lines_grow : (parts : List (List ℕ)) (r s : Read) (n : ℕ) → read_lines r n parts ≡ Ok s → length r.declared ≤ length s.declared
-unfolding read_lines
-lines_grow [] r s n e = let h : r ≡ s = cc in rw h (omega arith)
-lines_grow (line ∷ []) r s n e = let h = cond_ok (eqb (length line) 0) r s (CutShort, n) e in rw h.1 (omega arith)
-lines_grow (line ∷ next ∷ more) r s n e =
-    let a = bind_ok (at_line n (take_line r line)) (λ t. read_lines t (n + 1) (next ∷ more)) s e in
-    let t = taken r a.0 line (at_line_ok n _ _ a.1) in
-    let rest = lines_grow (next ∷ more) a.0 s (n + 1) a.2 in
-    let g : length r.declared ≤ length a.0.declared = subst (λ (u : Read). length r.declared ≤ length u.declared) t.3 (adds_grows t.0 r) in
-    omega arith
 
 -- ---- the first two lines
 
@@ -160,28 +145,9 @@ pub second_view : (version : Version) (ds : List Declaration) (text line rest : 
 second_view version ds text line rest q r k parts is h e =
     second_then version ds text line rest q parts is ∙ ap (λ (x : Result Read (Kind × ℕ)). x >>= λ r. Ok (file_from q (3 + (length r.declared - length ds)) r)) h ∙ ap (λ (n : ℕ). Ok (file_from q (n) r)) (sym e)
 
--- ---- each line is a declaration or a moment
-
-adds_one : (f : Form) (r : Read) (moments : List ℕ) → is_allowed r.version moments f ≡ true → length (adds f r).declared + length (adds f r).happenings ≡ length r.declared + length r.happenings + 1
-adds_one (queue a b) r moments h = absurd cc
-adds_one (task n q p) r moments h = omega (arith, length_push r.declared (record { name = n; params = reservation_value q p }))
-adds_one (at_moment m a) r moments h = omega (arith, length_push r.happenings (record { m = value m; act = act_map (λ n. n) value a }))
-
 pub none_if : (b : Bool) (k : Kind) (o : Option Kind) → cond (not b) (Some k) o ≡ None → (b ≡ true) × (o ≡ None)
 none_if true k o e = (refl, e)
 none_if false k o e = absurd cc
-
-pub lines_count : (parts : List (List ℕ)) (r s : Read) (n : ℕ) → 0 < length parts → read_lines r n parts ≡ Ok s → length s.declared + length s.happenings + 1 ≡ length r.declared + length r.happenings + length parts
-unfolding read_lines
-lines_count [] r s n some e = absurd (omega arith)
-lines_count (line ∷ []) r s n some e = let h = cond_ok (eqb (length line) 0) r s (CutShort, n) e in rw h.1 refl
-lines_count (line ∷ next ∷ more) r s n some e =
-    let a = bind_ok (at_line n (take_line r line)) (λ t. read_lines t (n + 1) (next ∷ more)) s e in
-    let t = taken r a.0 line (at_line_ok n _ _ a.1) in
-    let rest = lines_count (next ∷ more) a.0 s (n + 1) (omega arith) a.2 in
-    let allowed = (none_if _ _ _ t.2).0 in
-    let g : length a.0.declared + length a.0.happenings ≡ length r.declared + length r.happenings + 1 = subst (λ (u : Read). length u.declared + length u.happenings ≡ length r.declared + length r.happenings + 1) t.3 (adds_one t.0 r (times_of r.happenings) allowed) in
-    omega (arith, rest, g)
 
 -- ---- lines with two or three numbers
 
@@ -190,22 +156,13 @@ fault_from false w o k h = h
 fault_from true false o k h = h
 fault_from true true o k h = absurd cc
 
-all_two : (a b : Bool) → (a && (b && true)) ≡ (a && b)
-all_two true true = refl
-all_two true false = refl
-all_two false b = refl
-
-all_three : (a b c : Bool) → (a && (b && (c && true))) ≡ (a && b && c)
-all_three true b c = all_two b c
-all_three false b c = refl
-
 pub run_stops : (k : Kind) (r : Read) (m n d : List ℕ) → IsRunOf (Err k) m d → take_form r (at_moment m (Run n d)) ≡ Err k
 run_stops k r m n d h =
     let f = at_moment m (Run n d) in
     let late = cond (not (is_timely (times_of r.happenings) f)) (Some MomentGoesBack) None in
     let within = is_moment (value m) && is_span (value d) in
     let fault : form_fault r.version (names_of r.declared) (times_of r.happenings) f ≡ Some k =
-    ap (λ (s : Bool). cond (not s) (Some BadNumber) (cond (not within) (Some OutOfRange) late)) (all_two (is_number m) (is_number d)) ∙ fault_from (is_number m && is_number d) within late k h in
+    ap (λ (b : Bool). cond (not (is_number m && b)) (Some BadNumber) (cond (not within) (Some OutOfRange) late)) (and-true (is_number d)) ∙ fault_from (is_number m && is_number d) within late k h in
     ap (λ (o : Option Kind). ok_unless o (adds f r)) fault
 
 pub retune_stops : (k : Kind) (r : Read) (m n q p : List ℕ) → may_retune r.version ≡ true → IsRetuneOf (Err k) m q p → take_form r (at_moment m (Retune n q p)) ≡ Err k
@@ -215,7 +172,7 @@ retune_stops k r m n q p may h =
     let within = is_moment (value m) && reservation_fits (reservation_value q p) in
     let fault : form_fault r.version (names_of r.declared) (times_of r.happenings) f ≡ Some k =
     ap (λ (b : Bool). cond (not b) (Some BadLine) (cond (not (is_number m && (is_number q && (is_number p && true)))) (Some BadNumber) (cond (not within) (Some OutOfRange) late))) may
-    ∙ ap (λ (s : Bool). cond (not s) (Some BadNumber) (cond (not within) (Some OutOfRange) late)) (all_three (is_number m) (is_number q) (is_number p))
+    ∙ ap (λ (s : Bool). cond (not s) (Some BadNumber) (cond (not within) (Some OutOfRange) late)) (sym (and_assoc (is_number m) (is_number q) (is_number p && true)) ∙ ap (λ (b : Bool). (is_number m && is_number q) && b) (and-true (is_number p)))
     ∙ fault_from (is_number m && is_number q && is_number p) within late k h in
     ap (λ (o : Option Kind). ok_unless o (adds f r)) fault
 
@@ -234,13 +191,9 @@ plain_said : (o : Option Kind) (r s : Read) (l : lines.Line (Bor (List ℕ))) �
 plain_said None r s l e = ap Ok e
 plain_said (Some k) r s l e = refl
 
-and_true : (b : Bool) → (b && true) ≡ b
-and_true true = refl
-and_true false = refl
-
 plain_gives : (last : ℕ) (w : List ℕ) (r s : Read) (l : lines.Line (Bor (List ℕ))) → last_of (times_of r.happenings) ≡ last → s ≡ says (line_view l) r
     → GivesLine (ok_unless (plain_fault last w) l) r (ok_unless (cond (not (is_number w && true)) (Some BadNumber) (cond (not (is_moment (value w))) (Some OutOfRange) (cond (not (nat_le (last_of (times_of r.happenings)) (value w))) (Some MomentGoesBack) None))) s)
-plain_gives last w r s l is said = rw (and_true (is_number w), is) (plain_said (plain_fault last w) r s l said)
+plain_gives last w r s l is said = rw (and-true (is_number w), is) (plain_said (plain_fault last w) r s l said)
 
 pub plain_takes : (version : Version) (last : ℕ) (w : List ℕ) (a : Act (Bor (List ℕ)) (Bor (List ℕ))) → is_plain a ≡ true → TakesAct (ok_unless (plain_fault last w) (plain_line w a)) version last w a
 plain_takes version last w (act.Join n) plain = λ r v is. plain_gives last w r _ (plain_line w (act.Join n)) is refl
@@ -256,7 +209,7 @@ plain_takes version last w act.Read plain = λ r v is. plain_gives last w r _ (p
 
 task_fault_is : (version : Version) (ns : List (List ℕ)) (n q p : List ℕ) → form_fault version ns [] (task n q p) ≡ task_fault ns n q p
 task_fault_is version ns n q p =
-    ap (λ (s : Bool). cond (not s) (Some BadNumber) (cond (not (nat_lt (length ns) 256 && reservation_fits (reservation_value q p))) (Some OutOfRange) (cond (not (is_none (task_of ns n))) (Some DuplicateTask) None))) (all_two (is_number q) (is_number p))
+    ap (λ (b : Bool). cond (not (is_number q && b)) (Some BadNumber) (cond (not (nat_lt (length ns) 256 && reservation_fits (reservation_value q p))) (Some OutOfRange) (cond (not (is_none (task_of ns n))) (Some DuplicateTask) None))) (and-true (is_number p))
 
 take_task : (version : Version) (ds : List Declaration) (n q p : List ℕ) → take_form (opened version ds) (task n q p) ≡ ok_unless (task_fault (names_of ds) n q p) (opened version (ds ++ record { name = n; params = reservation_value q p } ∷ []))
 take_task version ds n q p = ap (λ (o : Option Kind). ok_unless o (opened version (ds ++ record { name = n; params = reservation_value q p } ∷ []))) (task_fault_is version (names_of ds) n q p)
@@ -276,13 +229,13 @@ fresh_task true true false d h = absurd cc
 fresh_task true true true false h = absurd cc
 fresh_task true true true true h = (refl, refl)
 
+pub no_task : (o : Option ℕ) → is_none o ≡ true → o ≡ None
+no_task None e = refl
+no_task (Some i) e = absurd cc
+
 -- there is room for such a task, and its name is new
 pub task_fits : (params : Reservation) (ds : List Declaration) (n q p : List ℕ) → Ok params ≡ ok_unless (task_fault (names_of ds) n q p) (reservation_value q p) → (length ds < 256) × (task_of (names_of ds) n ≡ None)
 task_fits params ds n q p h =
     let t = fresh_task (is_number q && is_number p) (nat_lt (length (names_of ds)) 256) (reservation_fits (reservation_value q p)) (is_none (task_of (names_of ds) n)) (unless_ok (task_fault (names_of ds) n q p) (reservation_value q p) params (sym h)).0 in
     let few : length (names_of ds) < 256 = grind (arith, nat_tests, t.0) in
-    (omega (arith, few, length-map ds (λ (d : Declaration). d.name)), none_of (task_of (names_of ds) n) t.1)
-  where
-    none_of : (o : Option ℕ) → is_none o ≡ true → o ≡ None
-    none_of None e = refl
-    none_of (Some i) e = absurd cc
+    (omega (arith, few, length-map ds (λ (d : Declaration). d.name)), no_task (task_of (names_of ds) n) t.1)

@@ -1,19 +1,19 @@
 -- What a line that was taken means.
-use Rattle.std.proofs.Common.{◌≡◌, ℕ, ◌^◌, ◌<◌, true, ◌⊎◌, inl, inr, List, [], ◌∷◌, length, Option, Some, None, Ok, refl, ap, ◌∙◌, sym, arith}
-use Rattle.std.specs.Prelude.{codes, decimal, nat_lt, is_none}
+use Rattle.std.proofs.Common.{◌≡◌, ℕ, ◌^◌, ◌<◌, true, ◌⊎◌, inl, inr, List, [], ◌∷◌, length, None, Ok, refl, ap, ◌∙◌, sym, arith}
+use Rattle.std.specs.Prelude.{codes, decimal, nat_lt}
 use Rattle.std.specs.List.{list_all, join_with_byte}
 use Rattle.std.proofs.lemmas.List.Splits.{join_with_byte-slice_split}
 use Rattle.std.proofs.lemmas.List.{length-map}
 use Rattle.std.proofs.lemmas.Bool.Decides.{nat_tests}
 use Rattle.std.proofs.lemmas.Bool.{and_parts, eqb-true, leb-true, ltb-true}
-use Rattle.grub_bw.specs.Bandwidth.{Reservation, IsReservation}
+use Rattle.grub_bw.specs.Bandwidth.{Reservation, IsReservation, reservation_fits}
 use Rattle.grub_trace.proofs.LimitTests.{reservation_is}
 use Rattle.grub_trace.specs.declared.version.Version.{Version}
 use Rattle.grub_trace.specs.declared.fault.Kind.TheVariants.{BadLine, BadNumber, OutOfRange, DuplicateTask, MomentGoesBack}
 use Rattle.grub_plan.specs.declared.line.Act.{Act}
 use Rattle.grub_plan.specs.declared.line.Act.TheVariants as act
 use Rattle.grub_trace.specs.Tree.{Declaration, Happening, act_words, is_moment, is_span, names_of}
-use Rattle.grub_trace.specs.Faults.{form_fault, last_of, is_allowed, is_in_range, is_fresh, is_timely, reservation_fits}
+use Rattle.grub_trace.specs.Faults.{form_fault, last_of, is_allowed, is_in_range, is_fresh, is_timely}
 use Rattle.grub_trace.specs.Forms.{Form, queue, task, at_moment, words_of, is_number, value, numbers_of, reservation_value}
 use Rattle.grub_trace.specs.Naming.{task_of}
 use Rattle.grub_trace.specs.inside.Faults.{is_act_named, is_named}
@@ -21,7 +21,7 @@ use Rattle.grub_trace.specs.inside.Reading.{Read, act_map, take_line, declares, 
 use Rattle.grub_trace.specs.Meaning.{IsAct, IsHappeningFrom, IsDeclaration}
 use Rattle.grub_trace.specs.inside.Tree.{declaration_line, happening_line}
 use Rattle.grub_trace.proofs.FormLemmas.{form_is, form_words, number_is}
-use Rattle.grub_trace.proofs.LineLemmas.{taken, none_if}
+use Rattle.grub_trace.proofs.LineLemmas.{taken, none_if, no_task}
 
 pub record Declares (r : Read) (line : List ℕ) (s : Read) : Type 0 where
   pub declaration : Declaration
@@ -61,10 +61,6 @@ small_moment m h = grind (arith, nat_tests)
 
 pub small_span : (n : ℕ) → is_span n ≡ true → n < 2 ^ 64
 small_span n h = grind (arith, nat_tests)
-
-no_task : (o : Option ℕ) → is_none o ≡ true → o ≡ None
-no_task None h = refl
-no_task (Some x) h = absurd cc
 
 one : (w : List ℕ) → list_all is_number (w ∷ []) ≡ true → is_number w ≡ true
 one w h = (and_parts (is_number w) true h).0

@@ -1,7 +1,7 @@
 -- Tasks by their names.
 use Rattle.std.proofs.Common.{◌≡◌, ℕ, suc, ◌+◌, Bool, true, false, cond, List, [], ◌∷◌, ◌++◌, length, map, get_or, take, ◌<◌, ◌≤◌, Option, Some, None, option_map, refl, ap, ◌∙◌, sym, arith, subst}
 use Rattle.std.specs.Prelude.{string_bytes}
-use Rattle.std.proofs.lemmas.List.{map_push, length-map, take_all, take_more}
+use Rattle.std.proofs.lemmas.List.{map_push, map-id, length-map, take_all, take_more}
 use Rattle.std.specs.Str.{bytes_eq, IsUtf8}
 use Rattle.std.proofs.lemmas.Str.{IsUtf8-string_bytes}
 use Rattle.grub_trace.specs.Tree.{Declaration, names_of}
@@ -9,9 +9,6 @@ use Rattle.grub_trace.specs.inside.Reading.{task_view}
 use Rattle.grub_trace.specs.declared.tasks.Task.{Task}
 use Rattle.std.specs.Cmp.Lexicographic.{bytes_decides}
 use Rattle.grub_trace.specs.Naming.{task_of}
-
-abbrev next : ℕ → ℕ
-next i = i + 1
 
 none_at : (b : Bool) (o : Option ℕ) → cond b (Some 0) (option_map (λ i. i + 1) o) ≡ None → (b ≡ false) × (o ≡ None)
 none_at true o e = absurd cc
@@ -69,12 +66,8 @@ pub same_names_push : {X Y : Type 0} (f : X → List ℕ) (g : Y → List ℕ) (
 same_names_push f g xs more ys x y one so_far is =
     ap (map f) is ∙ map_push f xs x ∙ ap (λ (ns : List (List ℕ)). ns ++ f x ∷ []) so_far ∙ ap (λ (n : List ℕ). map g ys ++ n ∷ []) one ∙ sym (map_push g ys y)
 
-map_same : {Y : Type 0} (g : Y → List ℕ) (ys : List Y) → map g (map (λ y. y) ys) ≡ map g ys
-map_same g [] = refl
-map_same g (y ∷ ys) = ap (λ (ns : List (List ℕ)). g y ∷ ns) (map_same g ys)
-
 pub same_names_all : {X Y : Type 0} (f : X → List ℕ) (g : Y → List ℕ) (xs : List X) (ys zs : List Y) → map f xs ≡ map g ys → map (λ y. y) ys ≡ zs → map f xs ≡ map g zs
-same_names_all f g xs ys zs so_far all = so_far ∙ sym (map_same g ys) ∙ ap (map g) all
+same_names_all f g xs ys zs so_far all = so_far ∙ ap (map g) (sym (map-id ys) ∙ all)
 
 -- ---- a list of what each element has
 

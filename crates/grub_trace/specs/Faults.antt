@@ -1,15 +1,16 @@
 -- What is wrong with a line, where the lines before it are as they should be.
-use Rattle.std.specs.Prelude.{ℕ, Bool, true, false, not, ◌&&◌, nat_le, nat_lt, ◌==◌, List, [], ◌∷◌, length, codes, Option, Some, None, if◌then◌else◌, is_none, slice_index, slice_index_or, option_map, unwrap_or, ◌-◌, ◌^◌}
+use Rattle.std.specs.Prelude.{ℕ, Bool, true, false, not, ◌&&◌, nat_le, nat_lt, ◌==◌, List, [], ◌∷◌, length, codes, Option, Some, None, if◌then◌else◌, is_none, slice_index, slice_index_or, option_map, unwrap_or, ◌-◌}
 use Rattle.std.specs.List.{list_all}
 use Rattle.std.specs.Str.{bytes_eq}
-use Rattle.grub_bw.specs.Bandwidth.{Reservation, Capacity, bandwidth_of}
+use Rattle.grub_book.specs.declared.setup.TheConstants.{TASKS_MAX}
+use Rattle.grub_bw.specs.Bandwidth.{reservation_fits, capacity_fits}
 use Rattle.grub_trace.specs.declared.version.Version.{Version}
 use Rattle.grub_trace.specs.declared.fault.Kind.{Kind}
 use Rattle.grub_trace.specs.declared.fault.Kind.TheVariants.{BadHeader, BadLine, BadNumber, OutOfRange, DuplicateTask, MomentGoesBack, MissingQueue}
 use Rattle.grub_trace.specs.Forms.{Form, queue, task, at_moment, words_of, form_of, is_number, value, numbers_of, reservation_value, capacity_value, version_of}
 use Rattle.grub_trace.specs.Naming.{task_of}
 use Rattle.grub_trace.specs.Tree.{is_moment, is_span, may_retune}
-use Rattle.grub_plan.specs.declared.line.Act.TheVariants.{Run, Retune}
+use Rattle.grub_plan.specs.declared.line.Act.TheVariants.{Join, Wake, Block, Leave, Exit, Run, Retune, Read}
 
 -- ---- the tests of a line below the second
 
@@ -20,20 +21,18 @@ is_allowed version moments (task n q p) = length moments == 0
 is_allowed version moments (at_moment m (Retune n q p)) = may_retune version
 is_allowed version moments (at_moment m act) = true
 
--- the tests of IsReservation and IsCapacity
-abbrev pub reservation_fits : Reservation → Bool
-reservation_fits p = nat_le 1 p.period && nat_le p.period (2 ^ 24) && nat_le 1 p.runtime && nat_le p.runtime p.period && nat_le 1 (bandwidth_of p)
-
-abbrev pub capacity_fits : Capacity → Bool
-capacity_fits c = nat_le 1 c.most && nat_le c.most (2 ^ 20) && nat_le c.extra c.most
-
 -- each number is within its limit, where so many tasks were declared
 abbrev pub is_in_range : ℕ → Form → Bool
 is_in_range declared (queue a b) = capacity_fits (capacity_value a b)
-is_in_range declared (task n q p) = nat_lt declared 256 && reservation_fits (reservation_value q p)
+is_in_range declared (task n q p) = nat_lt declared TASKS_MAX && reservation_fits (reservation_value q p)
 is_in_range declared (at_moment m (Run n d)) = is_moment (value m) && is_span (value d)
 is_in_range declared (at_moment m (Retune n q p)) = is_moment (value m) && reservation_fits (reservation_value q p)
-is_in_range declared (at_moment m act) = is_moment (value m)
+is_in_range declared (at_moment m (Join n)) = is_moment (value m)
+is_in_range declared (at_moment m (Wake n)) = is_moment (value m)
+is_in_range declared (at_moment m (Block n)) = is_moment (value m)
+is_in_range declared (at_moment m (Leave n)) = is_moment (value m)
+is_in_range declared (at_moment m (Exit n)) = is_moment (value m)
+is_in_range declared (at_moment m Read) = is_moment (value m)
 
 abbrev pub is_fresh : List (List ℕ) → Form → Bool
 is_fresh names (task n q p) = is_none (task_of names n)

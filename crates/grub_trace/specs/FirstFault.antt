@@ -1,6 +1,7 @@
 -- Which fault of event files is answered: the first one.
 use Rattle.std.specs.Prelude.{◌≡◌, ℕ, ◌≤◌, ◌<◌, List, [], ◌∷◌, ◌++◌, length, map, take, slice_get, is_none, Option, Some, ◌==◌, ◌+◌, ◌⊎◌, if◌then◌else◌}
 use Rattle.std.specs.List.{AllByRecursion, position_from}
+use Rattle.grub_book.specs.declared.setup.TheConstants.{QUEUES_MAX}
 use Rattle.grub_trace.specs.declared.version.Version.{Version}
 use Rattle.grub_trace.specs.declared.fault.Kind.{Kind}
 use Rattle.grub_trace.specs.declared.fault.Kind.TheVariants.{BadHeader, MissingQueue, CutShort, UnknownTask, OutOfRange}
@@ -69,10 +70,10 @@ pub record UnknownFault (files : List (List ℕ)) (f n : ℕ) : Type 0 where
 
 -- the fault that is answered
 pub data IsFault (files : List (List ℕ)) : Kind → ℕ → ℕ → Type 0 where
-  too_many : 64 < length files → IsFault files OutOfRange 64 1
+  too_many : QUEUES_MAX < length files → IsFault files OutOfRange QUEUES_MAX 1
   no_file : length files ≡ 0 → IsFault files MissingQueue 0 1
-  first : (k : Kind) (f n : ℕ) → 1 ≤ length files → length files ≤ 64 → FirstFault [] files k f n → IsFault files k f n
-  unknown : (f n : ℕ) → 1 ≤ length files → length files ≤ 64 → UnknownFault files f n → IsFault files UnknownTask f n
+  first : (k : Kind) (f n : ℕ) → 1 ≤ length files → length files ≤ QUEUES_MAX → FirstFault [] files k f n → IsFault files k f n
+  unknown : (f n : ℕ) → 1 ≤ length files → length files ≤ QUEUES_MAX → UnknownFault files f n → IsFault files UnknownTask f n
 
 abbrev pub IsTraceFault : List (List ℕ) → TraceFault → Type 0
 IsTraceFault files trace.NoMemory = Unit {0}
@@ -85,7 +86,7 @@ IsOnly (trace.At j g m) k f n = (j ≡ k) × (g ≡ f) × (m ≡ n)
 
 -- the first or the second line of the first file has this fault; what comes before it takes no memory
 pub record OpeningFault (files : List (List ℕ)) (k : Kind) (n : ℕ) : Type 0 where
-  pub few : length files ≤ 64
+  pub few : length files ≤ QUEUES_MAX
   pub bytes : List ℕ
   pub is : slice_get files 0 ≡ Some bytes
   pub fault : HeaderFault bytes k n ⊎ QueueFault bytes k n

@@ -67,7 +67,12 @@ numbers_of (queue a b) = a ∷ b ∷ []
 numbers_of (task n q p) = q ∷ p ∷ []
 numbers_of (at_moment m (Run n d)) = m ∷ d ∷ []
 numbers_of (at_moment m (Retune n q p)) = m ∷ q ∷ p ∷ []
-numbers_of (at_moment m act) = m ∷ []
+numbers_of (at_moment m (Join n)) = m ∷ []
+numbers_of (at_moment m (Wake n)) = m ∷ []
+numbers_of (at_moment m (Block n)) = m ∷ []
+numbers_of (at_moment m (Leave n)) = m ∷ []
+numbers_of (at_moment m (Exit n)) = m ∷ []
+numbers_of (at_moment m Read) = m ∷ []
 
 -- the reservation and the constants that two words spell
 abbrev pub reservation_value : List ℕ → List ℕ → Reservation

@@ -1,12 +1,12 @@
 -- What event files mean: the trees whose texts they are.
-use Rattle.std.specs.Prelude.{◌≡◌, ℕ, ◌≤◌, ◌<◌, true, List, [], ◌∷◌, ◌++◌, length, map, None, IsSome, IfSome}
+use Rattle.std.specs.Prelude.{◌≡◌, ℕ, ◌≤◌, ◌<◌, true, List, [], ◌∷◌, ◌++◌, length, map, None, IsSome}
 use Rattle.std.specs.List.{AllByRecursion}
+use Rattle.grub_book.specs.declared.setup.TheConstants.{QUEUES_MAX, TASKS_MAX}
 use Rattle.grub_bw.specs.Bandwidth.{IsReservation, IsCapacity}
 use Rattle.grub_trace.specs.declared.version.Version.{Version}
 use Rattle.grub_plan.specs.declared.line.Act.{Act}
-use Rattle.grub_plan.specs.declared.line.Act.TheVariants.{Run, Retune}
+use Rattle.grub_plan.specs.declared.line.Act.TheVariants.{Join, Wake, Block, Leave, Exit, Run, Retune, Read}
 use Rattle.grub_plan.specs.Names.{is_name}
-use Rattle.grub_plan.specs.Plans.{named}
 use Rattle.grub_trace.specs.Tree.{Declaration, Happening, may_retune, Tree, text, is_span, is_moment, names_of}
 use Rattle.grub_trace.specs.Naming.{task_of, line_in, all_tasks}
 
@@ -14,7 +14,12 @@ use Rattle.grub_trace.specs.Naming.{task_of, line_in, all_tasks}
 abbrev pub IsAct : Version → Act (List ℕ) ℕ → Type 0
 IsAct version (Run n s) = (is_name n ≡ true) × (is_span s ≡ true)
 IsAct version (Retune n q p) = (is_name n ≡ true) × IsReservation (record { runtime = q; period = p }) × (may_retune version ≡ true)
-IsAct version act = IfSome (named act) (λ n. is_name n ≡ true)
+IsAct version (Join n) = is_name n ≡ true
+IsAct version (Wake n) = is_name n ≡ true
+IsAct version (Block n) = is_name n ≡ true
+IsAct version (Leave n) = is_name n ≡ true
+IsAct version (Exit n) = is_name n ≡ true
+IsAct version Read = Unit {0}
 
 -- a happening that may stand after a moment, in a file of this version
 pub record IsHappeningFrom (version : Version) (low : ℕ) (h : Happening) : Type 0 where
@@ -27,11 +32,11 @@ abbrev pub GoOn : Version → ℕ → List Happening → Type 0
 GoOn version low [] = Unit {0}
 GoOn version low (h ∷ hs) = IsHappeningFrom version low h × GoOn version h.m hs
 
--- a declaration that may stand after these names: none stands twice, and there are at most 256
+-- a declaration that may stand after these names: none stands twice, and there are not too many
 pub record IsDeclaration (names : List (List ℕ)) (d : Declaration) : Type 0 where
   pub name : is_name d.name ≡ true
   pub fits : IsReservation d.params
-  pub few : length names < 256
+  pub few : length names < TASKS_MAX
   pub fresh : task_of names d.name ≡ None
 
 -- each may stand after these names, and those that are declared before it
@@ -57,7 +62,7 @@ AreKnown names hs = AllByRecursion (λ h. IsSome (line_in names h)) hs
 -- the files read as these trees
 pub record Reads (files : List (List ℕ)) (trees : List Tree) : Type 0 where
   pub some : 1 ≤ length files
-  pub few : length files ≤ 64
+  pub few : length files ≤ QUEUES_MAX
   pub texts : files ≡ map text trees
   pub together : AreTrees [] trees
   pub known : AllByRecursion (λ t. AreKnown (names_of (all_tasks trees)) t.happenings) trees

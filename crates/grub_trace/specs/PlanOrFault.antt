@@ -1,5 +1,6 @@
 -- What reading files answers: their plan, or their first fault.
 use Rattle.std.specs.Prelude.{◌≡◌, ℕ, ◌<◌, List, length, Result, Err, IfOk, IfErr, MatchResult}
+use Rattle.grub_book.specs.declared.setup.TheConstants.{QUEUES_MAX}
 use Rattle.grub_plan.specs.Limits.{PlanFits}
 use Rattle.grub_plan.specs.Plans.{PlanView}
 use Rattle.grub_trace.specs.declared.fault.Kind.{Kind}
@@ -21,6 +22,6 @@ pub record IsPlanOrFault (files : List (List ℕ)) (result : Result PlanView Tra
   pub limits : IfOk result PlanFits
   pub fault : IfErr result (IsTraceFault files)
   pub answered : (k : Kind) (f n : ℕ) → IsFault files k f n → MatchResult result (λ _. ⊥) (λ e. IsOnly e k f n)
-  pub many : 64 < length files → result ≡ Err (At OutOfRange 64 1)
+  pub many : QUEUES_MAX < length files → result ≡ Err (At OutOfRange QUEUES_MAX 1)
   pub nothing : length files ≡ 0 → result ≡ Err (At MissingQueue 0 1)
   pub opening : (k : Kind) (n : ℕ) → OpeningFault files k n → result ≡ Err (At k 0 n)

@@ -1,6 +1,8 @@
 -- Event files: what a file says, and its one text.
 use Rattle.std.specs.Prelude.{ℕ, Bool, true, false, ◌&&◌, nat_le, List, [], ◌∷◌, ◌++◌, map, codes, decimal}
 use Rattle.std.specs.List.{flat_map, join_with_byte}
+use Rattle.grub_book.specs.declared.op.TheConstants.{RUN_MAX}
+use Rattle.grub_bw.specs.declared.server.TheConstants.{MOMENT_MAX}
 use Rattle.grub_bw.specs.Bandwidth.{Reservation, Capacity}
 use Rattle.grub_plan.specs.declared.line.Act.{Act}
 use Rattle.grub_plan.specs.declared.line.Act.TheVariants as act
@@ -68,10 +70,10 @@ text t = head_text t.version t.queue ++ (flat_map (λ d. line (declaration_words
 -- ---- the limits
 
 abbrev pub is_moment : ℕ → Bool
-is_moment m = nat_le m 2147483647
+is_moment m = nat_le m MOMENT_MAX
 
 abbrev pub is_span : ℕ → Bool
-is_span n = nat_le 1 n && nat_le n 16777216
+is_span n = nat_le 1 n && nat_le n RUN_MAX
 
 -- only files of version 2 may say that a reservation is new
 abbrev pub may_retune : Version → Bool

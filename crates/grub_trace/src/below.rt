@@ -20,7 +20,7 @@ pub struct Below<'a> {
 
 impl<'a> Below<'a> {
     /// Reads what stands below the head, where all tasks are declared.
-    pub fn read(&mut self, alloc: Global, tasks: &Tasks)
+    pub(crate) fn read(&mut self, alloc: Global, tasks: &Tasks)
         requires indexed { IsIndexed tasks.now }
         requires head { IsHead self.old.head }
         ensures head { self.new.head ≡ self.old.head }

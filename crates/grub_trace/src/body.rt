@@ -210,7 +210,11 @@ fn read_lines(alloc: Global, tasks: &Tasks, head: &Head<'_>) -> Result<RawScript
 }
 
 /// Reads what stands below a head, where all tasks are declared.
-pub fn read_body(alloc: Global, tasks: &Tasks, head: &Head<'_>) -> Result<RawFile, TraceFault>
+pub(crate) fn read_body(
+    alloc: Global,
+    tasks: &Tasks,
+    head: &Head<'_>,
+) -> Result<RawFile, TraceFault>
     requires indexed { IsIndexed tasks.now }
     requires head { IsHead head.now }
     ensures { GivesBody result tasks.now (read_body [] head.now) }

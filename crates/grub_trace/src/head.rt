@@ -1,8 +1,8 @@
 //! The head of a file: its version, its runqueue, and the tasks that it declares.
 
 ghost use Rattle.std.specs.Prelude.{◌≡◌, Err, IfOk, IfSome, is_some};
+ghost use Rattle.grub_bw.specs.Bandwidth.{capacity_fits};
 ghost use Rattle.grub_trace.specs.declared.fault.TraceFault.TheVariants.{NoMemory};
-ghost use Rattle.grub_trace.specs.Faults.{capacity_fits};
 ghost use Rattle.grub_trace.specs.Forms.{parts_of, version_of};
 ghost use Rattle.grub_trace.specs.inside.Heads.{GivesHead, GivesTasks, IsHead};
 ghost use Rattle.grub_trace.specs.inside.Reading.{AnswersOpening, GivesQueue, IsIndexed, declarations, of_file, read_file, read_queue, read_second};
@@ -12,7 +12,7 @@ use crate::form::{Form, form_of};
 use crate::number::number;
 use crate::raw::Head;
 use crate::tasks::{Tasks, declare};
-use crate::version::Version;
+use crate::version::{Version, version_of};
 use crate::words::{first_line, first_word};
 use grub_bw::Queue;
 use std::alloc::Global;
@@ -113,7 +113,7 @@ fn read_second<'a>(
 
 #[tactic(auto, unfolding(crate::specs::inside::Reading::read_file, crate::specs::inside::Reading::read_first))]
 /// Reads the head of the file of this number, after the tasks of the files before it.
-pub fn read_head<'a>(
+pub(crate) fn read_head<'a>(
     alloc: Global,
     file: usize,
     tasks: &mut Tasks,
@@ -141,17 +141,4 @@ pub fn read_head<'a>(
         return Err(first.fault(Kind::BadHeader));
     };
     read_second(alloc, file, version, tasks, rest)
-}
-
-/// The version that a first line names.
-fn version_of(line: &[u8]) -> Option<Version>
-    ensures { result ≡ version_of line.now }
-{
-    if line == b"grub 1".as_slice() {
-        Some(Version::One)
-    } else if line == b"grub 2".as_slice() {
-        Some(Version::Two)
-    } else {
-        None
-    }
 }

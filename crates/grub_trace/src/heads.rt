@@ -1,6 +1,7 @@
 //! The heads of files, read in turn, and what stands below each, read in turn or by threads.
 
 ghost use Rattle.std.specs.Prelude.{◌≡◌, ◌<◌, ◌≤◌, ◌⊎◌, [], Err, IfErr, IfOk, OnErr, OnOk, length, map};
+ghost use Rattle.grub_book.specs.declared.setup.TheConstants.{QUEUES_MAX};
 ghost use Rattle.grub_plan.specs.Contents.{contents};
 ghost use Rattle.grub_trace.specs.inside.Bodies.{AreRead, HaveHeads, head_above};
 ghost use Rattle.grub_trace.specs.inside.Planning.{AreHeadsOf, IsPlanned};
@@ -8,7 +9,7 @@ ghost use Rattle.grub_trace.specs.inside.Heads.{GiveTogether};
 ghost use Rattle.grub_trace.specs.inside.Reading.{AnswersOpening, Faults, IsIndexed, declarations, read_from};
 
 use crate::below::Below;
-use crate::fault::{Kind, TraceFault};
+use crate::fault::{Kind, Location, TraceFault};
 use crate::head::read_head;
 use crate::tasks::Tasks;
 use grub_book::QUEUES_MAX;
@@ -30,25 +31,23 @@ pub struct Heads<'a> {
 
 /// Whether there are as many files as may be.
 fn check_count(files: &[Vec<u8>]) -> Result<(), TraceFault>
-    ensures many { 64 < length files.now → result ≡ Err (TraceFault.At Kind.OutOfRange 64 1) }
+    ensures many { QUEUES_MAX < length files.now
+        → result ≡ Err (TraceFault.At Kind.OutOfRange QUEUES_MAX 1) }
     ensures nothing { length files.now ≡ 0 → result ≡ Err (TraceFault.At Kind.MissingQueue 0 1) }
     ensures some { OnOk result (0 < length files.now) }
-    ensures few { OnOk result (length files.now ≤ 64) }
-    ensures exact { OnErr result (64 < length files.now ⊎ length files.now ≡ 0) }
+    ensures few { OnOk result (length files.now ≤ QUEUES_MAX) }
+    ensures exact { OnErr result (QUEUES_MAX < length files.now ⊎ length files.now ≡ 0) }
 {
     if files.len() > FILES_MAX {
-        return Err(TraceFault::At {
-            kind: Kind::OutOfRange,
+        let after = Location {
             file: FILES_MAX,
             line: 1,
-        });
+        };
+        return Err(after.fault(Kind::OutOfRange));
     }
     if files.is_empty() {
-        return Err(TraceFault::At {
-            kind: Kind::MissingQueue,
-            file: 0,
-            line: 1,
-        });
+        let first = Location { file: 0, line: 1 };
+        return Err(first.fault(Kind::MissingQueue));
     }
     Ok(())
 }
@@ -96,7 +95,7 @@ fn heads_of(alloc: Global, files: &[Vec<u8>]) -> Result<Heads<'_>, TraceFault>
 }
 
 /// The heads of as many files as may be. Nothing grows before that of the first was read.
-pub fn read_heads(alloc: Global, files: &[Vec<u8>]) -> Result<Heads<'_>, TraceFault>
+pub(crate) fn read_heads(alloc: Global, files: &[Vec<u8>]) -> Result<Heads<'_>, TraceFault>
     ensures heads { IfOk result (AreHeadsOf (contents files.now)) }
     ensures fault { IfErr result (λ e. IsPlanned (contents files.now) (Err e)) }
 {
@@ -107,7 +106,7 @@ pub fn read_heads(alloc: Global, files: &[Vec<u8>]) -> Result<Heads<'_>, TraceFa
 }
 
 /// Reads what stands below each head, one after the other.
-pub fn read_in_turn(alloc: Global, tasks: &Tasks, bodies: &mut [Below<'_>])
+pub(crate) fn read_in_turn(alloc: Global, tasks: &Tasks, bodies: &mut [Below<'_>])
     requires indexed { IsIndexed tasks.now }
     requires heads { HaveHeads bodies.old }
     ensures heads { map head_above bodies.new ≡ map head_above bodies.old }
@@ -119,7 +118,7 @@ pub fn read_in_turn(alloc: Global, tasks: &Tasks, bodies: &mut [Below<'_>])
 }
 
 /// The same, each in a thread of its own, where one can be started.
-pub fn read_by_threads<R: Threads + Sync>(
+pub(crate) fn read_by_threads<R: Threads + Sync>(
     rt: &R,
     alloc: Global,
     tasks: &Tasks,

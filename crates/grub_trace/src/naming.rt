@@ -9,7 +9,7 @@ use crate::tasks::Tasks;
 use grub_plan::Act;
 
 /// The act of the task with this name, where it is declared.
-pub fn act_in(tasks: &Tasks, act: Act<&[u8]>) -> Option<Act>
+pub(crate) fn act_in(tasks: &Tasks, act: Act<&[u8]>) -> Option<Act>
     requires { IsIndexed tasks.now }
     ensures { result
         ≡ act_in (names_of (declarations tasks.now)) (act_map (λ w. w.now) (λ n. n) act.entry) }

@@ -12,7 +12,7 @@ ghost use Rattle.grub_trace.specs.PlanOrFault.{IsPlanOrFault};
 ghost use Rattle.grub_trace.specs.declared.tasks.Tasks.{Tasks};
 
 use crate::below::Below;
-use crate::fault::{Kind, TraceFault};
+use crate::fault::{Kind, Location, TraceFault};
 use crate::heads::{Heads, read_by_threads, read_heads, read_in_turn};
 use crate::raw::RawFile;
 use crate::tasks::{Task, Tasks};
@@ -54,9 +54,8 @@ fn scripts(alloc: Global, files: Vec<RawFile>) -> Result<Vec<Vec<Line>>, TraceFa
         match script.unknown {
             None => scripts.push(script.lines)?,
             Some(line) => {
-                let kind = Kind::UnknownTask;
                 let file = scripts.len();
-                return Err(TraceFault::At { kind, file, line });
+                return Err(Location { file, line }.fault(Kind::UnknownTask));
             }
         }
     }

@@ -1,10 +1,11 @@
 //! The declared tasks, and their numbers by their names.
 
 ghost use Rattle.std.specs.Prelude.{◌≡◌, ◌<◌, length, ◌∷◌, [], ◌++◌, Err, OnOk, IfSome, None, is_some, true};
+ghost use Rattle.grub_book.specs.declared.setup.TheConstants.{TASKS_MAX};
+ghost use Rattle.grub_bw.specs.Bandwidth.{reservation_fits};
 ghost use Rattle.grub_plan.specs.Names.{is_name};
 ghost use Rattle.grub_trace.specs.Tree.{names_of};
 ghost use Rattle.grub_trace.specs.Naming.{task_of};
-ghost use Rattle.grub_trace.specs.Faults.{reservation_fits};
 ghost use Rattle.grub_trace.specs.inside.Reading.{Declares, declarations, IsIndexed, ok_unless, task_fault};
 ghost use Rattle.grub_trace.specs.Forms.{reservation_value};
 
@@ -29,7 +30,7 @@ pub struct Tasks {
 }
 
 impl Tasks {
-    pub fn new(alloc: Global) -> Tasks
+    pub(crate) fn new(alloc: Global) -> Tasks
         ensures none { declarations result ≡ [] }
         ensures indexed { IsIndexed result }
     {
@@ -40,7 +41,7 @@ impl Tasks {
     }
 
     /// The number of the task with this name.
-    pub fn find(&self, name: &[u8]) -> Option<u32>
+    pub(crate) fn find(&self, name: &[u8]) -> Option<u32>
         requires { IsIndexed self.now }
         ensures { result ≡ task_of (names_of (declarations self.now)) name.now }
     {
@@ -50,9 +51,14 @@ impl Tasks {
         }
     }
 
-    pub fn push(&mut self, alloc: Global, name: &str, params: Params) -> Result<(), AllocError>
+    pub(crate) fn push(
+        &mut self,
+        alloc: Global,
+        name: &str,
+        params: Params,
+    ) -> Result<(), AllocError>
         requires indexed { IsIndexed self.old }
-        requires room { length (declarations self.old) < 256 }
+        requires room { length (declarations self.old) < TASKS_MAX }
         requires fresh { task_of (names_of (declarations self.old)) name.now ≡ None }
         ensures declared { OnOk result (declarations self.new
             ≡ declarations self.old ++ record { name = name.now; params = params } ∷ []) }
@@ -68,7 +74,7 @@ impl Tasks {
 }
 
 /// The reservation, where it is one.
-pub fn reservation(runtime: u32, period: u32) -> Option<Params>
+pub(crate) fn reservation(runtime: u32, period: u32) -> Option<Params>
     ensures value { IfSome result (λ p. p ≡ record { runtime = runtime; period = period }) }
     ensures exact { is_some result
         ≡ reservation_fits (record { runtime = runtime; period = period }) }
@@ -105,7 +111,7 @@ fn declared_params(
 }
 
 /// Declares the task of this line.
-pub fn declare(
+pub(crate) fn declare(
     alloc: Global,
     tasks: &mut Tasks,
     line: Location,

@@ -15,7 +15,7 @@ pub struct WordList<'a> {
 
 impl<'a> WordList<'a> {
     /// The words, in order.
-    pub fn as_slice(&self) -> &[&'a [u8]]
+    pub(crate) fn as_slice(&self) -> &[&'a [u8]]
         ensures { result.now ≡ take self.now.count self.now.list }
     {
         &self.list[..self.count]

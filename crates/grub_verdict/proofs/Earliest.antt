@@ -1,24 +1,19 @@
 -- The earliest of some blocks, and one block more.
-use Rattle.std.proofs.Common.{◌≡◌, ℕ, ◌≤◌, ◌⊎◌, inl, inr, true, List, [], ◌∷◌, ◌++◌, refl, sym, subst, lit<, arith}
+use Rattle.std.proofs.Common.{◌≡◌, ◌≤◌, ◌⊎◌, inl, inr, true, List, [], ◌∷◌, ◌++◌, sym, subst, arith}
+use Rattle.std.proofs.Math.Nat.{le_trans}
 use Rattle.std.specs.Prelude.{Contains, filter, Some}
 use Rattle.std.proofs.lemmas.Grind.{common_steps}
-use Rattle.std.proofs.lemmas.List.Elements.{All-push, All-weaker, Contains-append_left, Contains-append_right, filter-append}
+use Rattle.std.proofs.lemmas.List.Elements.{All-push, All-weaker, Contains-append_left, Contains-push, filter-append}
 use Rattle.grub_verdict.specs.declared.observation.Observation.{Observation}
-use Rattle.grub_verdict.specs.declared.observation.Yardstick.{Yardstick}
+use Rattle.grub_verdict.specs.declared.yardstick.Yardstick.{Yardstick}
 use Rattle.grub_verdict.specs.Agreement.{deviates}
 use Rattle.grub_verdict.specs.Verdicts.{IsEarliest, IsFirst}
-
-le_trans : (a b c : ℕ) → a ≤ b → b ≤ c → a ≤ c
-le_trans a b c x y = omega arith
-
-contains_last : (ds : List Observation) (n : Observation) → Contains (ds ++ n ∷ []) n
-contains_last ds n = Contains-append_right ds (n ∷ []) n (0, lit< tt, refl)
 
 -- the earlier of the two is the earliest
 earliest_more : (ds : List Observation) (f r n : Observation) → IsEarliest ds f → (r ≡ f) ⊎ (r ≡ n) → r.line ≤ f.line → r.line ≤ n.line → IsEarliest (ds ++ n ∷ []) r
 earliest_more ds f r n is which below here = record {
-  one = elim which [ inl e ↦ subst (Contains (ds ++ n ∷ [])) (sym e) (Contains-append_left ds (n ∷ []) f is.one) | inr e ↦ subst (Contains (ds ++ n ∷ [])) (sym e) (contains_last ds n) ];
-  least = All-push (λ o. r.line ≤ o.line) ds n (All-weaker (λ o. f.line ≤ o.line) (λ o. r.line ≤ o.line) (λ o h. le_trans r.line f.line o.line below h) ds is.least) here;
+  one = elim which [ inl e ↦ subst (Contains (ds ++ n ∷ [])) (sym e) (Contains-append_left ds (n ∷ []) f is.one) | inr e ↦ subst (Contains (ds ++ n ∷ [])) (sym e) (Contains-push ds n) ];
+  least = All-push (λ o. r.line ≤ o.line) ds n (All-weaker (λ o. f.line ≤ o.line) (λ o. r.line ≤ o.line) (λ o h. le_trans below h) ds is.least) here;
 }
 
 filter_in : (y : Yardstick) (os : List Observation) (n : Observation) → deviates y n ≡ true → filter (deviates y) (os ++ n ∷ []) ≡ filter (deviates y) os ++ n ∷ []

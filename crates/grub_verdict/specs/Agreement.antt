@@ -1,16 +1,17 @@
 -- When the book and the kernel account alike at a block: the 0-lag timer, and its moment.
 use Rattle.std.specs.Prelude.{ℕ, ◌+◌, ◌-◌, ◌*◌, ◌^◌, ◌&&◌, Bool, true, false, nat_lt, not, Option, Some, None}
+use Rattle.grub_events.specs.declared.order.TheConstants.{FIRST_WAKE}
 use Rattle.grub_verdict.specs.declared.observation.Observation.{Observation}
-use Rattle.grub_verdict.specs.declared.observation.Yardstick.{Yardstick}
+use Rattle.grub_verdict.specs.declared.yardstick.Yardstick.{Yardstick}
 
--- Moments in nanoseconds, counted from 2000 us before the beginning of the trace's clock, so that none is below 0.
--- A moment z of the event files is counted from 2000 us before the trace's first wake.
+-- Moments in nanoseconds, counted from FIRST_WAKE us before the beginning of the trace's clock, so that none is below 0.
+-- A moment z of the event files is counted from FIRST_WAKE us before the trace's first wake.
 abbrev pub moment_of_book : ℕ → ℕ → ℕ
 moment_of_book first z = (first + z) * 1000
 
 -- a moment of the trace's clock
 abbrev pub moment_of_kernel : ℕ → ℕ
-moment_of_kernel armed = armed + 2000000
+moment_of_kernel armed = armed + FIRST_WAKE * 1000
 
 -- how far two moments lie apart
 abbrev pub distance : ℕ → ℕ → ℕ

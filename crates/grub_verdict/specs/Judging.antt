@@ -4,7 +4,7 @@ use Rattle.std.specs.List.{flat_map, list_any}
 use Rattle.std.specs.Str.{bytes_eq}
 use Rattle.grub_events.specs.Convert.{first_wake}
 use Rattle.grub_events.specs.Moved.{is_moved_task, wakes_moved}
-use Rattle.grub_events.specs.declared.files.Declared.{Declared}
+use Rattle.grub_events.specs.declared.setting.Declared.{Declared}
 use Rattle.grub_events.specs.declared.standing.Standing.TheVariants.{Unseen}
 use Rattle.grub_plan.specs.declared.entry.Ask.{Ask}
 use Rattle.grub_plan.specs.declared.entry.Ask.TheVariants.{Call, Read}
@@ -22,7 +22,7 @@ use Rattle.grub_verdict.specs.declared.case.Judged.{Judged}
 use Rattle.grub_verdict.specs.declared.case.Judged.TheVariants.{Agrees, Differs, Overfull}
 use Rattle.grub_verdict.specs.declared.case.Overfull.{Overfull as NoRoom}
 use Rattle.grub_verdict.specs.declared.observation.Observation.{Observation}
-use Rattle.grub_verdict.specs.declared.observation.Yardstick.{Yardstick}
+use Rattle.grub_verdict.specs.declared.yardstick.Yardstick.{Yardstick}
 use Rattle.grub_verdict.specs.declared.refusal.Refusal.{Refusal}
 use Rattle.grub_verdict.specs.declared.verdict.Verdict.{Verdict}
 
@@ -139,7 +139,7 @@ head_text c v =
     ++ flat_map declared_line c.setting.now.tasks.items ++ covered_line (heading_of c)
     ++ timers_line v.blocks v.armed v.alike v.left_out ++ moments_text v.leads.items v.beyond c.within
 
--- the moments of the event files are counted from 2000 us before the first wake
+-- the moments of the event files are counted from FIRST_WAKE us before the first wake
 abbrev pub yardstick : Case → Yardstick
 yardstick c = record { first = first_wake c.facts.now.facts.items / 1000; within = c.within }
 

@@ -1,16 +1,18 @@
 -- The marks of a trace's picture: one at each 0-lag timer of the kernel, and one at each block that deviates.
 use Rattle.std.specs.Prelude.{ℕ, ◌+◌, ◌-◌, ◌/◌, ◌||◌, min, List, Option, is_some, option_map, option_and_then, slice_get, if◌then◌else◌, None}
 use Rattle.std.specs.List.{filter_map}
+use Rattle.grub_bw.specs.declared.server.TheConstants.{MOMENT_MAX}
+use Rattle.grub_events.specs.declared.order.TheConstants.{FIRST_WAKE}
 use Rattle.grub_shapes.specs.declared.mark.Mark.{Mark}
 use Rattle.grub_verdict.specs.Agreement.{deviates, moment_of_book, moment_of_kernel}
 use Rattle.grub_verdict.specs.Judging.{number_of, observations, yardstick}
 use Rattle.grub_verdict.specs.declared.case.Case.{Case}
 use Rattle.grub_verdict.specs.declared.observation.Observation.{Observation}
-use Rattle.grub_verdict.specs.declared.observation.Yardstick.{Yardstick}
+use Rattle.grub_verdict.specs.declared.yardstick.Yardstick.{Yardstick}
 
 -- a moment in microseconds, or the last in which an event file may have a line
 abbrev pub line_moment : ℕ → ℕ
-line_moment micros = min micros 2147483647
+line_moment micros = min micros MOMENT_MAX
 
 -- a moment for which the kernel armed a timer, in microseconds of the event files
 abbrev pub kernel_moment : ℕ → ℕ → ℕ
@@ -18,7 +20,7 @@ kernel_moment first armed = line_moment ((moment_of_kernel armed - moment_of_boo
 
 -- the moment of a block, which stands in nanoseconds of the trace's clock
 abbrev pub block_moment : ℕ → ℕ → ℕ
-block_moment first at = line_moment (at / 1000 + 2000 - first)
+block_moment first at = line_moment (at / 1000 + FIRST_WAKE - first)
 
 -- the mark of a block of the task with this number in the plan
 abbrev pub mark_in : Yardstick → Observation → ℕ → Mark

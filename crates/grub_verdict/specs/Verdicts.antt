@@ -3,7 +3,7 @@ use Rattle.std.specs.Prelude.{◌≡◌, ◌≤◌, ◌&&◌, Bool, List, [], fi
 use Rattle.std.specs.List.{filter_map}
 use Rattle.std.specs.Ordering.{nat_cmp}
 use Rattle.grub_verdict.specs.declared.observation.Observation.{Observation}
-use Rattle.grub_verdict.specs.declared.observation.Yardstick.{Yardstick}
+use Rattle.grub_verdict.specs.declared.yardstick.Yardstick.{Yardstick}
 use Rattle.grub_verdict.specs.declared.verdict.Verdict.{Verdict}
 use Rattle.grub_verdict.specs.Agreement.{are_alike, deviates, lead_of}
 

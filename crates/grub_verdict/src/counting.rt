@@ -80,6 +80,7 @@ pub(crate) fn count_wakes(placed: &[Placed]) -> usize
     placed.iter().filter(|p| is_told_wake(p)).count()
 }
 
+/// How many runs there are.
 pub(crate) fn count_runs(placed: &[Placed]) -> usize
     ensures { result ≡ count_by is_run placed.now }
 {

@@ -13,7 +13,7 @@ use crate::counting::{
     count_runs, count_wakes,
 };
 use crate::heading::Heading;
-use crate::observation::{Observation, Yardstick};
+use crate::observation::Observation;
 use crate::refusal::{Refusal, no_room, put_refusals};
 use crate::text::{
     put_agrees, put_clock, put_covered, put_deviation, put_moments, put_runqueues, put_task,
@@ -21,6 +21,7 @@ use crate::text::{
 };
 use crate::verdict::{Verdict, verdict_of};
 use crate::watch::put_observed;
+use crate::yardstick::Yardstick;
 use grub_events::{Declared, tasks_moved, wakes_moved};
 use grub_facts::{Fact, What};
 use grub_plan::Plan;
@@ -116,6 +117,7 @@ fn first_wake(facts: &[Fact]) -> u64
     0
 }
 
+/// What the moments of a case are compared by.
 pub(crate) fn yardstick(case: &Case<'_>) -> Yardstick
     ensures { result ≡ yardstick case.now }
 {

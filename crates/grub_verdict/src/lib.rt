@@ -17,6 +17,7 @@ mod sign;
 mod text;
 mod verdict;
 mod watch;
+mod yardstick;
 
 pub use case::{Case, Judged, Overfull};
 pub use check::{STATUS_DIFFERS, serve_check};
@@ -24,6 +25,7 @@ pub use checking::{CheckFault, Question, check_facts};
 pub use difference::Difference;
 pub use heading::Heading;
 pub use judging::judge;
-pub use observation::{Observation, Yardstick};
+pub use observation::Observation;
 pub use sign::Sign;
 pub use verdict::{Verdict, verdict_of};
+pub use yardstick::Yardstick;

@@ -8,10 +8,12 @@ ghost use Rattle.grub_verdict.specs.Marking.{block_moment, kernel_moment, line_m
 use crate::case::Case;
 use crate::checking::{Question, plan_of};
 use crate::judging::{number_in, observations_of, yardstick};
-use crate::observation::{Observation, Yardstick, moment_of_book, moment_of_kernel};
+use crate::observation::Observation;
 use crate::played::Played;
+use crate::yardstick::{Yardstick, moment_of_book, moment_of_kernel};
 use grub_book::MOMENT_MAX;
 use grub_convert::{Options, event_files};
+use grub_events::FIRST_WAKE;
 use grub_facts::Facts;
 use grub_picture::{end_of, marked_picture_text};
 use grub_plan::Plan;
@@ -36,7 +38,7 @@ fn kernel_moment(first: u64, armed: u64) -> u32
 fn block_moment(first: u64, at: u64) -> u32
     ensures { result ≡ block_moment first at }
 {
-    line_moment(u128::from((at / 1000 + 2000).saturating_sub(first)))
+    line_moment(u128::from((at / 1000 + FIRST_WAKE).saturating_sub(first)))
 }
 
 /// The mark of a block of the task with this number in the plan.

@@ -51,7 +51,12 @@ impl Played {
     }
 
     /// What is judged of it.
-    pub fn case<'a>(&'a self, question: Question<'a>, facts: &'a Facts, plan: &'a Plan) -> Case<'a>
+    pub(crate) fn case<'a>(
+        &'a self,
+        question: Question<'a>,
+        facts: &'a Facts,
+        plan: &'a Plan,
+    ) -> Case<'a>
         ensures { IsCaseOf question.entry facts.now plan.now self.now result }
     {
         Case {

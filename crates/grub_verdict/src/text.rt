@@ -8,7 +8,8 @@ use crate::difference::{
     Difference, put, put_micros, put_number, put_rate, put_seconds, put_thousandths,
 };
 use crate::heading::Heading;
-use crate::observation::{Observation, moment_of_book, moment_of_kernel};
+use crate::observation::Observation;
+use crate::yardstick::{moment_of_book, moment_of_kernel};
 use grub_book::Reading;
 use grub_bw::Params;
 use grub_plan::put_reading;
@@ -30,6 +31,7 @@ fn put_small(out: &mut Vec<u8>, text: &[u8], n: u32) -> Result<(), AllocError>
     put_number(out, text, u128::from(n))
 }
 
+/// Appends the line of a trace: its lines, and the events that it tells.
 #[tactic(auto, unfolding(crate::specs::Texts::trace_line))]
 pub(crate) fn put_trace(
     out: &mut Vec<u8>,
@@ -52,6 +54,7 @@ pub(crate) fn put_trace(
     Ok(())
 }
 
+/// Appends how far the timers' `now` lies from the moments of their lines.
 #[tactic(auto, unfolding(crate::specs::Texts::clock_line))]
 pub(crate) fn put_clock(out: &mut Vec<u8>, clock: u64) -> Result<(), AllocError>
     ensures { OnOk result (out.new.items ≡ out.old.items ++ clock_line clock) }
@@ -62,6 +65,7 @@ pub(crate) fn put_clock(out: &mut Vec<u8>, clock: u64) -> Result<(), AllocError>
     Ok(())
 }
 
+/// Appends how many runqueues there are, and their constants.
 #[tactic(auto, unfolding(crate::specs::Texts::runqueues_line))]
 pub(crate) fn put_runqueues(out: &mut Vec<u8>, h: &Heading) -> Result<(), AllocError>
     ensures { OnOk result (out.new.items ≡ out.old.items ++ runqueues_line h.now) }
@@ -73,6 +77,7 @@ pub(crate) fn put_runqueues(out: &mut Vec<u8>, h: &Heading) -> Result<(), AllocE
     Ok(())
 }
 
+/// Appends a given task.
 #[tactic(auto, unfolding(crate::specs::Texts::task_line))]
 pub(crate) fn put_task(out: &mut Vec<u8>, name: &[u8], params: Params) -> Result<(), AllocError>
     ensures { OnOk result (out.new.items ≡ out.old.items ++ task_line name.now params) }
@@ -86,6 +91,7 @@ pub(crate) fn put_task(out: &mut Vec<u8>, name: &[u8], params: Params) -> Result
     Ok(())
 }
 
+/// Appends which rules of the book the trace covers.
 #[tactic(auto, unfolding(crate::specs::Texts::covered_line))]
 pub(crate) fn put_covered(out: &mut Vec<u8>, h: &Heading) -> Result<(), AllocError>
     ensures { OnOk result (out.new.items ≡ out.old.items ++ covered_line h.now) }
@@ -102,6 +108,7 @@ pub(crate) fn put_covered(out: &mut Vec<u8>, h: &Heading) -> Result<(), AllocErr
     Ok(())
 }
 
+/// Appends at how many blocks the kernel armed a timer, and at how many the book and the kernel both wait, or neither does.
 #[tactic(auto, unfolding(crate::specs::Texts::timers_line))]
 pub(crate) fn put_timers(
     out: &mut Vec<u8>,
@@ -163,6 +170,7 @@ pub(crate) fn put_moments(
     put_moments_line(out, leads, beyond, within)
 }
 
+/// Appends that no block deviates.
 #[tactic(auto, unfolding(crate::specs::Texts::agrees_line))]
 pub(crate) fn put_agrees(out: &mut Vec<u8>, within: u32) -> Result<(), AllocError>
     ensures { OnOk result (out.new.items ≡ out.old.items ++ agrees_line within) }

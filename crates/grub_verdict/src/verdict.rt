@@ -6,7 +6,8 @@ ghost use Rattle.grub_verdict.specs.Agreement.{are_alike, lead_of};
 ghost use Rattle.grub_verdict.specs.declared.observation.Observation.{Observation as Seen};
 ghost use Rattle.grub_verdict.specs.Verdicts.{IsVerdict, IsFirst, is_counted_beyond};
 
-use crate::observation::{Observation, Yardstick};
+use crate::observation::Observation;
+use crate::yardstick::Yardstick;
 use std::alloc::{AllocError, Global};
 
 /// What the observations of a trace come to.

@@ -6,8 +6,7 @@ use Rattle.std.specs.List.{All, flat_map}
 use Rattle.grub_book.specs.Machine.{Machine}
 use Rattle.grub_book.specs.Sums.{Records, opening_book}
 use Rattle.grub_book.specs.History.{IsLegal}
-use Rattle.grub_plan.specs.Plans.{PlanView}
-use Rattle.grub_plan.specs.Texts.{IsAskOf}
+use Rattle.grub_plan.specs.Plans.{PlanView, IsAskOf}
 use Rattle.grub_timeline.specs.TimeLines.{AreAnswered, AreWithin, history_of}
 use Rattle.grub_timeline.specs.declared.told.Told.{Told}
 use Rattle.grub_steps.specs.Fitting.{AreToldIn, IsToldIn}

@@ -13,7 +13,7 @@ const MANY: usize = 1024;
 
 /// Asks for the lines that come next while work on so many entries is done, and tells whether there was a line, and what came
 /// of the work. Many entries are worth a thread, which asks; after work on few it is asked here.
-pub fn play_beside<R: Threads, F: FnMut() -> T, T>(
+pub(crate) fn play_beside<R: Threads, F: FnMut() -> T, T>(
     rt: &R,
     playing: &mut Playing<'_>,
     entries: usize,

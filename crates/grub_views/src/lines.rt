@@ -2,7 +2,7 @@
 
 ghost use Rattle.std.specs.Prelude.{◌≡◌, ◌+◌, ◌≤◌, ◌++◌, [], All, OnOk, OnErr, length, vec_len, vec_capacity};
 ghost use Rattle.std.specs.List.{flat_map};
-ghost use Rattle.grub_plan.specs.Texts.{IsAskOf};
+ghost use Rattle.grub_plan.specs.Plans.{IsAskOf};
 ghost use Rattle.grub_plan.specs.Writing.{HandsOn, HandsPart};
 ghost use Rattle.grub_views.specs.Lines.{HandsOnTimeline, HandsPartOfTimeline, close_line, close_lines, told_line};
 

@@ -6,7 +6,7 @@ ghost use Rattle.grub_timeline.specs.declared.told.Told.{Told};
 use grub_timeline::Playing;
 
 /// Plays what is left. So a text that a writer did not take whole is a beginning of that of the whole time line.
-pub fn play_out(playing: &mut Playing<'_>)
+pub(crate) fn play_out(playing: &mut Playing<'_>)
     ensures plan { playing.new.plan ≡ playing.old.plan }
     ensures over { playing.new.left ≡ 0 }
     ensures told { (more : List Told) × (playing.new.told ≡ playing.old.told ++ more) }

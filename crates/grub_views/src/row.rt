@@ -2,7 +2,8 @@
 
 ghost use Rattle.std.specs.Prelude.{◌≡◌, ◌+◌, ◌≤◌, ◌++◌, ◌∷◌, length, decimal, codes, vec_len, vec_capacity};
 ghost use Rattle.std.specs.List.{flat_map, join_with_byte};
-ghost use Rattle.grub_plan.specs.Texts.{IsAskOf};
+ghost use Rattle.grub_plan.specs.declared.name.TheConstants.{NAME_MAX};
+ghost use Rattle.grub_plan.specs.Plans.{IsAskOf};
 ghost use Rattle.grub_steps.specs.Fitting.{IsToldIn};
 ghost use Rattle.grub_views.specs.Rows.{answer_numbers, answer_word, arg_field, ask_word, asked_fields, number_field, number_fields, reply_numbers, reply_word, step_row, task_field};
 
@@ -47,7 +48,7 @@ const OPTIONAL_MAX: usize = 21;
 const ARG_MAX: usize = 41;
 
 #[tactic(auto, unfolding(crate::specs::Rows::step_row))]
-pub fn append_step(out: &mut Vec<u8>, plan: &Plan, step: &Step)
+pub(crate) fn append_step(out: &mut Vec<u8>, plan: &Plan, step: &Step)
     requires told { IsToldIn plan.now.setup step.now.told }
     requires room { vec_len out.old + LINE_MAX ≤ vec_capacity out.old }
     ensures text { out.new.items ≡ out.old.items ++ step_row plan.now.names step.now }
@@ -151,7 +152,7 @@ fn append_optional(out: &mut Vec<u8>, number: Option<u64>)
 fn task_name(plan: &Plan, ask: Ask) -> &str
     requires { IsAskOf (length plan.now.setup.tasks) ask }
     ensures name { result.now ≡ task_field plan.now.names ask }
-    ensures short { length result.now ≤ 16 }
+    ensures short { length result.now ≤ NAME_MAX }
 {
     match ask {
         Ask::Call { t, .. } => plan.name(t),

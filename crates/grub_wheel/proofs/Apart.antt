@@ -1,12 +1,14 @@
 -- Nodes of different tasks, and what they have for a task.
-use Rattle.std.proofs.Common.{◌≡◌, ◌≢◌, ℕ, zero, suc, ◌<◌, ◌⊎◌, inl, inr, Bool, true, false, cond, eqb, List, [], ◌∷◌, Option, Some, None, refl, ap, ◌∙◌, sym, arith, subst}
+use Rattle.std.proofs.Common.{◌≡◌, ◌≢◌, ℕ, zero, suc, ◌<◌, ◌⊎◌, inl, inr, Bool, true, false, cond, eqb, List, [], ◌∷◌, Option, Some, None, refl, ap, ◌∙◌, sym, arith}
+use Rattle.std.proofs.lemmas.Option.{same_Some}
 use Rattle.std.proofs.lemmas.Bool.{eqb-true, cases_eq}
 use Rattle.std.proofs.lemmas.Bool.Decides.{nat_tests}
 use Rattle.std.specs.FinMap as map
 use Rattle.grub_wheel.specs.declared.timer.Timer.{Timer}
 use Rattle.grub_wheel.specs.declared.node.Node.{Node}
 use Rattle.grub_wheel.specs.inside.Nodes.{node_at, Armed, tasks, keys, timers_of, AreInSlots, AreOthersKept, IsArmedNode}
-use Rattle.grub_wheel.proofs.Keys.{some_is, no_both, key_tasks}
+use Rattle.grub_wheel.proofs.NodeReads.{not_armed}
+use Rattle.grub_wheel.proofs.Keys.{key_tasks}
 use Rattle.grub_wheel.proofs.Looks.{look, bag_of, bag-insert, bag-remove}
 
 abbrev pub Apart : List Node → Type 0
@@ -38,7 +40,7 @@ look_at (n ∷ ns) q p h = go n.armed refl (eqb q n.timer.t) refl h (look_at ns 
     go : (b : Bool) → n.armed ≡ b → (d : Bool) → eqb q n.timer.t ≡ d → look (cond b (n.timer ∷ timers_of ns) (timers_of ns)) q ≡ Some p → (look (timers_of ns) q ≡ Some p → IsEntry ns q p) → IsEntry (n ∷ ns) q p
     go true a true e h ih =
         let f : Some (n.timer.z, n.timer.ticket) ≡ Some p = sym (ap (λ (b : Bool). cond b (Some (n.timer.z, n.timer.ticket)) (look (timers_of ns) q)) e) ∙ h in
-        record { at = 0; armed = a; task = sym (eqb-true q n.timer.t e); pair = sym (some_is _ _ f) }
+        record { at = 0; armed = a; task = sym (eqb-true q n.timer.t e); pair = sym (same_Some _ _ f) }
     go true a false e h ih = further n ns q p (ih (sym (ap (λ (b : Bool). cond b (Some (n.timer.z, n.timer.ticket)) (look (timers_of ns) q)) e) ∙ h))
     go false a d e h ih = further n ns q p (ih h)
 
@@ -130,17 +132,14 @@ module _ (ns ms : List Node) (i : ℕ) (others : AreOthersKept ns ms i) where
         at_task : (q : ℕ) → q ≡ x.t → look (timers_of ms) q ≡ Some (x.z, x.ticket)
         at_task q e = look_is ms i q (apart_put apart) here.armed (task_here ∙ sym e) ∙ ap (λ (y : Timer). Some (y.z, y.ticket)) here.timer
 
-        was : (j : ℕ) → Armed ns j → j ≢ i
-        was j a e = no_both (node_at ns i).armed (subst (Armed ns) e a) free
-
         at_other : (q : ℕ) → q ≢ x.t → look (timers_of ms) q ≡ look (timers_of ns) q
         at_other q ne = same_look ns ms q apart
-            (λ j a t. (armed_to j (was j a) a, task_is j (was j a) ∙ t))
+            (λ j a t. let was = not_armed ns i free j a in (armed_to j was a, task_is j was ∙ t))
             (λ j a t. let nj : j ≢ i = λ e. ne (sym t ∙ ap (tasks ms) e ∙ task_here) in (armed_from j nj a, (others.kept j nj).timer))
 
   module _ (off : (node_at ms i).armed ≡ false) where
     gone : (j : ℕ) → Armed ms j → j ≢ i
-    gone j a e = no_both (node_at ms i).armed (subst (Armed ms) e a) off
+    gone = not_armed ms i off
 
     pub apart_take : Apart ns → Apart ms
     apart_take apart j k a b t = apart j k (armed_from j (gone j a) a) (armed_from k (gone k b) b) (sym (task_is j (gone j a)) ∙ t ∙ task_is k (gone k b))

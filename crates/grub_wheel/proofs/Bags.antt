@@ -1,10 +1,10 @@
 -- Bags of timers.
 use Rattle.std.proofs.Common.{◌≡◌, ℕ, ◌<◌, ◌≤◌, Bool, true, false, eqb, ◌⊎◌, inl, inr, Option, Some, None, refl, ap, sym, ◌∙◌, arith, subst}
+use Rattle.std.proofs.lemmas.Option.{same_Some}
 use Rattle.std.specs.Prelude.{IsSomeAnd}
 use Rattle.std.proofs.lemmas.Bool.{eqb-true}
 use Rattle.std.proofs.lemmas.Bool.Decides.{nat_tests}
 use Rattle.std.specs.FinMap as map
-use Rattle.grub_wheel.proofs.Keys.{some_is}
 use Rattle.grub_wheel.specs.declared.timer.Timer.{Timer}
 use Rattle.grub_wheel.specs.TimerBag.{TimerBag, IsArmed, IsNotAfter}
 
@@ -27,7 +27,7 @@ not_after timers x y a b (inl h) = inl h
 not_after timers x y a b (inr h) = inr (h.0, go (eqb x.t y.t) refl)
   where
     same_ticket : x.t ≡ y.t → x.ticket ≡ y.ticket
-    same_ticket e = ap (λ (p : ℕ × ℕ). p.1) (some_is _ _ (sym a ∙ ap (map.get timers) e ∙ b))
+    same_ticket e = ap (λ (p : ℕ × ℕ). p.1) (same_Some _ _ (sym a ∙ ap (map.get timers) e ∙ b))
 
     go : (t : Bool) → eqb x.t y.t ≡ t → (x.t < y.t) ⊎ ((x.t ≡ y.t) × (x.ticket ≤ y.ticket))
     go true e = let same = eqb-true x.t y.t e in let k = same_ticket same in inr (same, omega arith)

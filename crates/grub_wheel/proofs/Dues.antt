@@ -6,7 +6,8 @@ use Rattle.grub_wheel.specs.TimerBag.{WheelState, IsArmed, IsLeast, AreLater}
 use Rattle.grub_wheel.specs.inside.Firsts.{IsFront}
 use Rattle.grub_wheel.specs.inside.Nodes.{node_at, Armed, keys, tasks, moments, timers_of, AreInSlots, IsFirstOf, AreOthersKept}
 use Rattle.std.proofs.lemmas.Bool.{cases_lt}
-use Rattle.grub_wheel.proofs.Keys.{no_both, key_parts}
+use Rattle.grub_wheel.proofs.NodeReads.{not_armed}
+use Rattle.grub_wheel.proofs.Keys.{key_parts}
 use Rattle.grub_wheel.proofs.Bags.{not_after}
 use Rattle.grub_wheel.proofs.Views.{state_of, looks, is_armed}
 use Rattle.grub_wheel.proofs.Apart.{IsEntry, look_at, look_is}
@@ -65,7 +66,7 @@ module _ (ns : List Node) (s : ℕ) (l : Option ℕ) (w : WheelState) (view : st
     rest_after ms others off j a = go (in_order j (sym (others.kept j ne).armed ∙ a))
       where
         ne : j ≢ i
-        ne e = no_both (node_at ms i).armed (subst (Armed ms) e a) off
+        ne = not_armed ms i off j a
 
         go : (moments ns i < moments ns j) ⊎ ((moments ns i ≡ moments ns j) × (tasks ns i ≤ tasks ns j)) → moments ns i ≤ moments ms j
         go (inl m) = let s = ap (λ (x : Timer). x.z) (others.kept j ne).timer in omega arith

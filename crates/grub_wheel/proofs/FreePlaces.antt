@@ -1,11 +1,12 @@
 -- The list of free places, and how many nodes are armed.
 use Rattle.std.proofs.Common.{◌≡◌, ◌≢◌, ℕ, suc, ◌+◌, ◌<◌, ◌≤◌, ◌⊎◌, inl, inr, Bool, true, false, cond, List, [], ◌∷◌, length, set, Option, Some, None, refl, ap, ◌∙◌, sym, arith, subst, get_or-set_same, get_or-set_other, length-set}
+use Rattle.std.proofs.lemmas.Option.{same_Some}
 use Rattle.std.specs.List.{AllByRecursion}
 use Rattle.std.proofs.lemmas.List.Sums.{sum_by-set, sum_by-cons}
 use Rattle.grub_wheel.specs.declared.node.Node.{Node}
 use Rattle.grub_wheel.specs.inside.Nodes.{free_node, node_at, Armed, links, AreOthersKept, AreFree, armed_count, one_if_armed}
 use Rattle.std.proofs.lemmas.Bool.{cases_eq}
-use Rattle.grub_wheel.proofs.Keys.{some_is, no_both}
+use Rattle.grub_wheel.proofs.NodeReads.{not_armed}
 
 -- the first of the free places, and the rest
 pub record IsFreeHead (ns : List Node) (spare i : ℕ) : Type 0 where
@@ -19,7 +20,7 @@ pub record IsFreeHead (ns : List Node) (spare i : ℕ) : Type 0 where
 pub free_head : (ns : List Node) (places : List ℕ) (free : Option ℕ) (spare i : ℕ) → AreFree ns places free → length places ≡ spare → free ≡ Some i → IsFreeHead ns spare i
 free_head ns [] free spare i f room is = absurd (let x = sym f ∙ is in cc)
 free_head ns (j ∷ js) free spare i f room is =
-    subst (IsFreeHead ns spare) (some_is j i (sym f.0 ∙ is)) (record { within = f.1; off = f.2; rest = js; others = f.3; linked = f.4; room = omega arith })
+    subst (IsFreeHead ns spare) (same_Some j i (sym f.0 ∙ is)) (record { within = f.1; off = f.2; rest = js; others = f.3; linked = f.4; room = omega arith })
 
 pub some_free : (ns : List Node) (places : List ℕ) (free : Option ℕ) (spare : ℕ) → AreFree ns places free → length places ≡ spare → 1 ≤ spare → free ≢ None
 some_free ns [] free spare f room some is = absurd (omega arith)
@@ -38,7 +39,7 @@ free_kept ns ms i others (j ∷ js) at ne f = (
 -- an armed node is no free place
 pub none_armed : (ns : List Node) (i : ℕ) → Armed ns i → (places : List ℕ) (at : Option ℕ) → AreFree ns places at → AllByRecursion (λ j. j ≢ i) places
 none_armed ns i a [] at f = tt
-none_armed ns i a (j ∷ js) at f = (λ e. no_both (node_at ns j).armed (subst (Armed ns) (sym e) a) f.2, none_armed ns i a js (links ns j) f.4)
+none_armed ns i a (j ∷ js) at f = (λ e. not_armed ns j f.2 i a (sym e), none_armed ns i a js (links ns j) f.4)
 
 -- ---- how many are armed
 

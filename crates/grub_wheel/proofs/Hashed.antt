@@ -10,8 +10,8 @@ use Rattle.grub_wheel.specs.declared.timer.Timer.{Timer}
 use Rattle.grub_wheel.specs.declared.node.Node.{Node}
 use Rattle.grub_wheel.specs.inside.Firsts.{IsFirst, Behind}
 use Rattle.grub_wheel.specs.inside.Nodes.{free_node, node_at, Armed, timers_of, key_of, slot_of, keys, slots, moments, links, tasks, head_of, AreInSlots, AreChained, AreOthersKept, IsArmedNode, IsFreed, AreFree, armed_count, one_if_armed, IsHashed}
-use Rattle.std.proofs.lemmas.Bool.{cases_eq, cases_lt}
-use Rattle.grub_wheel.proofs.Keys.{no_both}
+use Rattle.std.proofs.lemmas.Bool.{cases_eq, cases_lt, both_ways}
+use Rattle.grub_wheel.proofs.NodeReads.{not_armed}
 use Rattle.grub_wheel.proofs.Links.{IsSame, first_as, behind_as, behind_to}
 use Rattle.grub_wheel.proofs.Looks.{bag_of, bag-same}
 use Rattle.grub_wheel.specs.TimerBag.{WheelState}
@@ -89,11 +89,8 @@ take_hashed ns ms hs gs free i spare from h within armed sound here others = rec
       let a = one_armed (node_at ns i) armed in
       let b = none_if_free (node_at ms i) here.armed in
       let s = others.size in let k = h.count in omega arith;
-  after = λ j a. let k = others.kept j (not_it j a) in let n = h.after j (sym k.armed ∙ a) in let t = ap (λ (y : Timer). y.z) k.timer in omega arith;
+  after = λ j a. let k = others.kept j (not_armed ms i here.armed j a) in let n = h.after j (sym k.armed ∙ a) in let t = ap (λ (y : Timer). y.z) k.timer in omega arith;
 }
-  where
-    not_it : (j : ℕ) → Armed ms j → j ≢ i
-    not_it j a e = no_both (node_at ms i).armed (subst (Armed ms) e a) here.armed
 
 -- once nothing armed is before f
 pub moved_on : (ns : List Node) (hs : List (Option ℕ)) (free : Option ℕ) (spare from f : ℕ) → IsHashed ns hs free spare from → ((j : ℕ) → Armed ns j → f ≤ moments ns j) → IsHashed ns hs free spare f
@@ -120,7 +117,7 @@ module _ (ns : List Node) (n : Node) (off : n.armed ≡ false) where
     where
       go : (j < length ns) ⊎ (length ns ≤ j) → (j ≡ length ns) ⊎ (j ≢ length ns) → j < length ns
       go (inl l) o = l
-      go (inr l) (inl e) = absurd (no_both (node_at More j).armed a (ap (λ (k : ℕ). (node_at More k).armed) e ∙ ap (λ (m : Node). m.armed) more_end ∙ off))
+      go (inr l) (inl e) = absurd (both_ways (node_at More j).armed (ap (λ (k : ℕ). (node_at More k).armed) e ∙ ap (λ (m : Node). m.armed) more_end ∙ off) a)
       go (inr l) (inr ne) = let w = armed_within More j a in let k = more_length in absurd (omega arith)
 
   armed_was : (j : ℕ) → Armed More j → Armed ns j

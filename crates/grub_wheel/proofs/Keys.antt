@@ -1,14 +1,6 @@
--- A moment and a task as one key, by which the timers of a slot stand in order.
-use Rattle.std.proofs.Common.{◌≡◌, ℕ, ◌+◌, ◌*◌, ◌<◌, ◌≤◌, Bool, true, false, eqb, ltb, ◌||◌, ◌&&◌, ◌⊎◌, inl, inr, Some, refl, arith}
+-- A moment and a task as one number, by which the timers of a slot stand in order.
+use Rattle.std.proofs.Common.{◌≡◌, ℕ, ◌+◌, ◌*◌, ◌<◌, ◌≤◌, Bool, true, false, eqb, ltb, ◌||◌, ◌&&◌, ◌⊎◌, inl, inr, refl, arith}
 use Rattle.std.proofs.lemmas.Bool.{eqb-true, ltb-true, cases_lt}
-
-pub some_is : {A : Type 0} (a b : A) → Some a ≡ Some b → a ≡ b
-some_is a b e = cc
-
-pub no_both : (b : Bool) → b ≡ true → b ≡ false → ⊥
-no_both b t f = absurd cc
-
--- ---- a moment and a task as one number
 
 pub key_tasks : (z t y u : ℕ) → t < 4294967296 → u < 4294967296 → z * 4294967296 + t ≡ y * 4294967296 + u → t ≡ u
 key_tasks z t y u a b e = omega arith

@@ -5,8 +5,8 @@ use Rattle.grub_wheel.specs.declared.node.Node.{Node}
 use Rattle.grub_wheel.specs.declared.timer.Timer.{Timer}
 use Rattle.grub_wheel.specs.inside.Nodes.{Armed, AreOthersKept, IsArmedNode, node_at, tasks}
 use Rattle.grub_wheel.specs.inside.Used.{AreMarked, mark_of}
+use Rattle.grub_wheel.proofs.NodeReads.{not_armed}
 use Rattle.grub_wheel.proofs.Apart.{Apart}
-use Rattle.grub_wheel.proofs.Keys.{no_both}
 
 -- the map says the same of all tasks but t
 abbrev pub AreSameBut : ℕ → List ℕ → List ℕ → Type 0
@@ -30,7 +30,7 @@ put_marked us vs ns ms i x marked others is none here same j a low = go (cases_e
 
 pub take_marked : (us vs : List ℕ) (ns ms : List Node) (i t : ℕ) → AreMarked us ns → AreOthersKept ns ms i → (node_at ms i).armed ≡ false → Apart ns → Armed ns i → tasks ns i ≡ t → AreSameBut t us vs → AreMarked vs ms
 take_marked us vs ns ms i t marked others off apart armed task same j a low =
-    let ne : j ≢ i = λ e. no_both (node_at ms i).armed (subst (Armed ms) e a) off in
+    let ne = not_armed ms i off j a in
     let k = others.kept j ne in let b = sym k.armed ∙ a in
     still us vs ns ms j t marked same b (ap (λ (y : Timer). y.t) k.timer) (λ is. ne (apart j i b armed (is ∙ sym task))) low
 

@@ -1,10 +1,12 @@
 -- Lists of nodes where a node is put into its slot, or taken out.
 use Rattle.std.proofs.Common.{◌≡◌, ◌≢◌, ℕ, ◌%◌, ◌<◌, true, false, List, length, set, Option, Some, None, refl, ap, ◌∙◌, sym, arith, subst, get_or-set_same, get_or-set_other, length-set}
+use Rattle.std.proofs.lemmas.Bool.{both_ways}
 use Rattle.std.specs.Prelude.{MatchOption}
 use Rattle.grub_wheel.specs.declared.timer.Timer.{Timer}
 use Rattle.grub_wheel.specs.declared.node.Node.{Node}
 use Rattle.grub_wheel.specs.inside.Nodes.{free_node, node_at, Armed, key_of, slot_of, keys, slots, links, head_of, tasks, AreInSlots, AreChained, IsLastOf, IsPointed, IsRelinked, AreOthersKept, IsArmedNode}
-use Rattle.grub_wheel.proofs.Keys.{no_both, key_tasks}
+use Rattle.grub_wheel.proofs.NodeReads.{not_armed}
+use Rattle.grub_wheel.proofs.Keys.{key_tasks}
 use Rattle.grub_wheel.proofs.Apart.{keys_apart, apart_put, narrow_put, apart_take, narrow_take}
 use Rattle.grub_wheel.proofs.Links.{IsSame, IsAdded, IsLinkedIn, IsPassedOver, add_chained, take_chained}
 
@@ -28,9 +30,6 @@ module _ (ns ms : List Node) (hs gs : List (Option ℕ)) (i : ℕ) (ch : AreChai
     mid_other : (j : ℕ) → j ≢ i → node_at Mid j ≡ node_at ns j
     mid_other j ne = get_or-set_other ns i j New free_node ne
 
-    not_free : (j : ℕ) → Armed ns j → j ≢ i
-    not_free j a e = no_both (node_at ns i).armed (subst (Armed ns) e a) free
-
     module _ (before : Option ℕ) (p : IsPointed Mid ms hs gs (slot_of x) before (Some i)) where
       timer_here : (node_at ms i).timer ≡ x
       timer_here = (p.kept i).timer ∙ ap (λ (n : Node). n.timer) mid_here
@@ -46,10 +45,10 @@ module _ (ns ms : List Node) (hs gs : List (Option ℕ)) (i : ℕ) (ch : AreChai
       added : IsLinkedIn (links ns) (links ms) (head_of hs) (head_of gs) (slot_of x) i before
           → IsAdded (Armed ns) (Armed ms) (keys ns) (keys ms) (slots ns) (slots ms) (links ns) (links ms) (head_of hs) (head_of gs) (slot_of x) before i
       added linked = record {
-        fresh = λ a. no_both (node_at ns i).armed a free;
+        fresh = λ a. both_ways (node_at ns i).armed free a;
         here = (p.kept i).armed ∙ ap (λ (n : Node). n.armed) mid_here;
         place = ap slot_of timer_here;
-        kept = λ j a. same j (not_free j a) a;
+        kept = λ j a. same j (not_armed ns i free j a) a;
         old = λ j a ne. same j ne (sym (armed_as j ne) ∙ a);
         linked = linked;
         others = p.others;
@@ -59,14 +58,14 @@ module _ (ns ms : List Node) (hs gs : List (Option ℕ)) (i : ℕ) (ch : AreChai
         → IsRelinked Mid ms hs gs (slot_of x) before (Some i) → IsLinkedIn (links ns) (links ms) (head_of hs) (head_of gs) (slot_of x) i before
     linked_in None last is r = (r.1 i ∙ ap (λ (n : Node). n.next) mid_here ∙ is, r.0, λ j ne. r.1 j ∙ ap (λ (n : Node). n.next) (mid_other j ne))
     linked_in (Some b) last is r =
-        (r.2 i (λ e. not_free b last.armed (sym e)) ∙ ap (λ (n : Node). n.next) mid_here ∙ is, r.0, r.1, λ j ne nb. r.2 j nb ∙ ap (λ (n : Node). n.next) (mid_other j ne))
+        (r.2 i (λ e. not_armed ns i free b last.armed (sym e)) ∙ ap (λ (n : Node). n.next) mid_here ∙ is, r.0, r.1, λ j ne nb. r.2 j nb ∙ ap (λ (n : Node). n.next) (mid_other j ne))
 
     put_here : (before : Option ℕ) → IsPointed Mid ms hs gs (slot_of x) before (Some i) → IsArmedNode (node_at ms i) x
     put_here before p = record { armed = (p.kept i).armed ∙ ap (λ (n : Node). n.armed) mid_here; timer = timer_here before p }
 
     free_linked : (before : Option ℕ) → IsLastOf ns (slot_of x) (key_of x) before → IsRelinked Mid ms hs gs (slot_of x) before (Some i) → (j : ℕ) → (node_at ns j).armed ≡ false → links ms j ≡ links Mid j
     free_linked None last r j off = r.1 j
-    free_linked (Some b) last r j off = r.2 j (λ e. no_both (node_at ns j).armed (subst (Armed ns) (sym e) last.armed) off)
+    free_linked (Some b) last r j off = r.2 j (λ e. not_armed ns j off b last.armed (sym e))
 
     put_others : (before : Option ℕ) → IsLastOf ns (slot_of x) (key_of x) before → IsPointed Mid ms hs gs (slot_of x) before (Some i) → AreOthersKept ns ms i
     put_others before last p = record {
@@ -109,7 +108,7 @@ module _ (ns ms : List Node) (hs gs : List (Option ℕ)) (i : ℕ) (ch : AreChai
         record { old = o; new = end_armed j ne ∙ o; key = ap key_of t; slot = ap slot_of t }
 
     gone : (j : ℕ) → Armed End j → j ≢ i
-    gone j a e = no_both (node_at End i).armed (subst (Armed End) e a) (ap (λ (m : Node). m.armed) end_here ∙ off)
+    gone = not_armed End i (ap (λ (m : Node). m.armed) end_here ∙ off)
 
     passed_over : (before : Option ℕ) → IsLastOf ns (slots ns i) (keys ns i) before → IsRelinked ns ms hs gs (slots ns i) before (links ns i)
         → IsPassedOver (links ns) (links End) (head_of hs) (head_of gs) (slots ns i) i before
@@ -120,7 +119,7 @@ module _ (ns ms : List Node) (hs gs : List (Option ℕ)) (i : ℕ) (ch : AreChai
 
     end_linked : (before : Option ℕ) → IsLastOf ns (slots ns i) (keys ns i) before → IsRelinked ns ms hs gs (slots ns i) before (links ns i) → (j : ℕ) → (node_at ns j).armed ≡ false → links ms j ≡ links ns j
     end_linked None last r j free = r.1 j
-    end_linked (Some b) last r j free = r.2 j (λ e. no_both (node_at ns j).armed (subst (Armed ns) (sym e) last.armed) free)
+    end_linked (Some b) last r j free = r.2 j (λ e. not_armed ns j free b last.armed (sym e))
 
     take_others : IsLastOf ns (slots ns i) (keys ns i) before → AreOthersKept ns End i
     take_others last = record {

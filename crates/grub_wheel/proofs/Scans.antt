@@ -1,12 +1,13 @@
 -- The search for the earliest timer that is due.
 use Rattle.std.proofs.Common.{◌≡◌, ◌≢◌, ℕ, ◌+◌, ◌-◌, ◌%◌, ◌<◌, ◌≤◌, ◌⊎◌, inl, inr, min, Option, Some, None, refl, ap, ◌∙◌, sym, arith, subst, List, length}
+use Rattle.std.proofs.lemmas.Option.{same_Some}
 use Rattle.std.specs.Prelude.{IfSome, IsSomeAnd}
 use Rattle.std.proofs.lemmas.List.{get_or_past}
 use Rattle.grub_wheel.specs.declared.node.Node.{Node}
 use Rattle.grub_wheel.specs.inside.Nodes.{free_node, node_at, Armed, keys, slots, tasks, moments, head_of, AreInSlots, IsFirstOf, IsSooner}
 use Rattle.grub_wheel.specs.inside.Used.{IsMapped, mark_of}
-use Rattle.std.proofs.lemmas.Bool.{cases_lt, cases_eq}
-use Rattle.grub_wheel.proofs.Keys.{some_is, no_both, key_moments, later_key}
+use Rattle.std.proofs.lemmas.Bool.{cases_lt, cases_eq, both_ways}
+use Rattle.grub_wheel.proofs.Keys.{key_moments, later_key}
 
 off_here : (z f k : ℕ) → f ≤ z → k < 256 → z % 256 ≡ (f + k) % 256 → (z - f) % 256 ≡ k
 off_here z f k le lt e = omega arith
@@ -19,7 +20,7 @@ armed_within ns j a = go (cases_lt j (length ns))
   where
     go : (j < length ns) ⊎ (length ns ≤ j) → j < length ns
     go (inl l) = l
-    go (inr l) = absurd (no_both (node_at ns j).armed a (ap (λ (n : Node). n.armed) (get_or_past ns j free_node l)))
+    go (inr l) = absurd (both_ways (node_at ns j).armed (ap (λ (n : Node). n.armed) (get_or_past ns j free_node l)) a)
 
 -- ---- the earlier of two
 
@@ -30,8 +31,8 @@ best_is_sooner ns best head m i j eh eb lt = record {
   only = λ h e l n. absurd (let x = sym eb ∙ n in cc);
   later = λ h b e l f k. sym eb;
   sooner = λ h b e l f k.
-      let x = ap (keys ns) (some_is i h (sym eh ∙ e)) in
-      let y = ap (keys ns) (some_is j b (sym eb ∙ f)) in
+      let x = ap (keys ns) (same_Some i h (sym eh ∙ e)) in
+      let y = ap (keys ns) (same_Some j b (sym eb ∙ f)) in
       absurd (omega arith);
 }
 
@@ -79,7 +80,7 @@ module _ (ns : List Node) (hs : List (Option ℕ)) (sound : AreInSlots ns hs) (P
         where
           which : (keys ns c < keys ns h) ⊎ (keys ns h ≤ keys ns c) → IsFirstOf ns Q result
           which (inl k) = subst (IsFirstOf ns Q) (sym (r.later h c refl l refl k)) (best_best c h b k f)
-          which (inr k) = subst (IsFirstOf ns Q) (sym (r.sooner h c refl l refl k)) (head_best (Some c) h b (λ d e. let x = ap (keys ns) (some_is c d e) in omega arith) f l)
+          which (inr k) = subst (IsFirstOf ns Q) (sym (r.sooner h c refl l refl k)) (head_best (Some c) h b (λ d e. let x = ap (keys ns) (same_Some c d e) in omega arith) f l)
 
       go : (m < moments ns h) ⊎ (moments ns h ≤ m) → IsFirstOf ns Q result
       go (inl l) =
@@ -124,9 +125,6 @@ pub record IsScanned (ns : List Node) (from m k : ℕ) (best : Option ℕ) : Typ
   pub exact : (i : ℕ) → Armed ns i → from + k ≤ moments ns i
 
 module _ (ns : List Node) (hs : List (Option ℕ)) (sound : AreInSlots ns hs) (from m : ℕ) (after : (i : ℕ) → Armed ns i → from ≤ moments ns i) where
-  pub starts : IsScanned ns from m 0 None
-  starts = record { seen = λ i a p. let l = p.1 in absurd (omega arith); exact = λ i a. let l = after i a in omega arith }
-
   pub head_first : (k : ℕ) → IsFirstOf ns (λ i. slots ns i ≡ (from + k) % 256) (head_of hs ((from + k) % 256))
   head_first k = sound.chained.heads ((from + k) % 256) (omega arith)
 

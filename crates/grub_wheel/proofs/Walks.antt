@@ -1,7 +1,6 @@
 -- The walk along a slot, to the last before a key.
-use Rattle.std.proofs.Common.{◌≡◌, ℕ, ◌+◌, ◌-◌, ◌<◌, ◌≤◌, ◌⊎◌, inl, inr, Option, Some, None, ◌∙◌, sym, arith}
-use Rattle.grub_wheel.specs.inside.Firsts.{IsFirst, Behind, IsChained, IsLast}
-use Rattle.std.proofs.lemmas.Bool.{cases_lt}
+use Rattle.std.proofs.Common.{◌≡◌, ℕ, ◌+◌, ◌-◌, ◌<◌, Option, Some, None, ◌∙◌, arith}
+use Rattle.grub_wheel.specs.inside.Firsts.{IsFirst, Behind, IsChained}
 
 -- the walk has passed this node, and stands before another
 pub record IsPassed (A : ℕ → Type 0) (K S : ℕ → ℕ) (s k before : ℕ) (at : Option ℕ) : Type 0 where
@@ -39,26 +38,3 @@ module _ (A : ℕ → Type 0) (K S : ℕ → ℕ) (next head : ℕ → Option �
       go : (o : Option ℕ) → IsFirst A K (Behind K S i) o → way_left K k o < (k - K i) + 1
       go None n = omega arith
       go (Some j) f = let l = f.meets.1 in omega arith
-
-  -- nothing of the slot stands between `before` and what is ahead
-  most : (b i : ℕ) → IsPassed A K S s k b (Some i) → k ≤ K i → (j : ℕ) → A j → S j ≡ s → K j < k → K j ≤ K b
-  most b i r le j a h lt = go (cases_lt (K b) (K j))
-    where
-      go : (K b < K j) ⊎ (K j ≤ K b) → K j ≤ K b
-      go (inl l) = let g = r.ahead.least j a (h ∙ sym r.here, l) in absurd (omega arith)
-      go (inr l) = l
-
-  most_at_end : (b : ℕ) → IsPassed A K S s k b None → (j : ℕ) → A j → S j ≡ s → K j ≤ K b
-  most_at_end b r j a h = go (cases_lt (K b) (K j))
-    where
-      go : (K b < K j) ⊎ (K j ≤ K b) → K j ≤ K b
-      go (inl l) = absurd (r.ahead j a (h ∙ sym r.here, l))
-      go (inr l) = l
-
-  pub stops : (before : Option ℕ) (i : ℕ) → IsReached A K S s k before (Some i) → k ≤ K i → IsLast A K S s k before
-  stops None i r le = λ j a p. let l = r.least j a p.0 in let q = p.1 in absurd (omega arith)
-  stops (Some b) i r le = record { armed = r.armed; here = r.here; below = r.below; most = most b i r le }
-
-  pub ends : (before : Option ℕ) → IsReached A K S s k before None → IsLast A K S s k before
-  ends None r = λ j a p. r j a p.0
-  ends (Some b) r = record { armed = r.armed; here = r.here; below = r.below; most = λ j a h lt. most_at_end b r j a h }

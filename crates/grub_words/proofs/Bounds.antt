@@ -1,9 +1,9 @@
 -- Words have at most 64 bits, and the values of a sound book have words.
 use Rattle.std.proofs.Common.{ℕ, ◌^◌, ◌<◌, ◌≤◌, Bool, length, arith, le_trans}
+use Rattle.grub_book.specs.declared.rules.TheConstants.{COUNT_MAX}
 use Rattle.grub_bw.specs.Bandwidth.{Reservation, IsReservation, IsCapacity}
 use Rattle.grub_bw.specs.declared.server.Server.{Server}
 use Rattle.grub_book.specs.Machine.{Machine, IsMachine, queue_at}
-use Rattle.grub_book.specs.Step.{count_most}
 use Rattle.grub_book.specs.Sums.{Records, reading_of}
 use Rattle.grub_book.specs.Sound.{IsKept, IsSound, IsThere}
 use Rattle.grub_book.specs.declared.event.Reading.{Reading}
@@ -26,7 +26,7 @@ pub params_word-lt : (p : Reservation) → IsReservation p → params_word p < 2
 unfolding params_word
 params_word-lt p is = let h = is.runtime.1 in let k = is.period.1 in omega arith
 
-pub task_word-lt : (place : Place) (count : ℕ) (claimed : Bool) → PlaceFits place → count ≤ count_most → task_word place count claimed < 2 ^ 36
+pub task_word-lt : (place : Place) (count : ℕ) (claimed : Bool) → PlaceFits place → count ≤ COUNT_MAX → task_word place count claimed < 2 ^ 36
 unfolding task_word
 task_word-lt place count claimed fits most =
     let s = state_code-lt place in

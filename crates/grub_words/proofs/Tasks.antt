@@ -1,7 +1,7 @@
 -- The word of a task tells its place, its claim bit and its count.
 use Rattle.std.proofs.Common.{◌≡◌, ◌≢◌, ◌+◌, ℕ, zero, suc, ◌/◌, ◌%◌, ◌^◌, ◌<◌, ◌≤◌, ◌↔◌, Bool, true, false, IsTrue, Some, None, nat_eq, refl, arith, ap, sym, ◌∙◌}
 use mir.Val.{bool_byte}
-use Rattle.grub_book.specs.Step.{count_most}
+use Rattle.grub_book.specs.declared.rules.TheConstants.{COUNT_MAX}
 use Rattle.grub_book.specs.declared.place.State.TheVariants.{Contending, NonContending, Inactive}
 use Rattle.grub_book.specs.declared.place.Place.{Place}
 use Rattle.grub_book.specs.declared.place.Place.TheVariants.{Away, Gone, On}
@@ -108,7 +108,7 @@ claim_bit-eq (suc (suc n)) h = absurd (omega arith)
 
 module _ (word : ℕ) where
   -- a word with a higher count, or with fields of no place, is no task's
-  pub task_not_counted : count_most < word / 2 ^ 12 → (t : TaskWord) → (None ≡ Some t) ↔ (TaskFits t × (word_of t ≡ word))
+  pub task_not_counted : COUNT_MAX < word / 2 ^ 12 → (t : TaskWord) → (None ≡ Some t) ↔ (TaskFits t × (word_of t ≡ word))
   task_not_counted more = found_none TaskFits word_of word
       (λ t fits e. let k = count_of_word t.place t.count t.claimed fits.place in let h = fits.count in let l = ap (λ w. w / 2 ^ 12) e in omega arith)
 
@@ -118,7 +118,7 @@ module _ (word : ℕ) where
       (sym (state_of_word t.place t.count t.claimed) ∙ ap (λ w. w / 2 ^ 0 % 2 ^ 3) e)
       (sym (queue_of_word t.place t.count t.claimed fits.place) ∙ ap (λ w. w / 2 ^ 4 % 2 ^ 8) e))
 
-  pub task_found : (place : Place) (claim : ℕ) → PlaceFits place → state_code place ≡ word / 2 ^ 0 % 2 ^ 3 → queue_code place ≡ word / 2 ^ 4 % 2 ^ 8 → claim ≡ word / 2 ^ 3 % 2 ^ 1 → word / 2 ^ 12 ≤ count_most → (t : TaskWord) → (Some (record { place = place; count = word / 2 ^ 12; claimed = nat_eq claim 1 }) ≡ Some t) ↔ (TaskFits t × (word_of t ≡ word))
+  pub task_found : (place : Place) (claim : ℕ) → PlaceFits place → state_code place ≡ word / 2 ^ 0 % 2 ^ 3 → queue_code place ≡ word / 2 ^ 4 % 2 ^ 8 → claim ≡ word / 2 ^ 3 % 2 ^ 1 → word / 2 ^ 12 ≤ COUNT_MAX → (t : TaskWord) → (Some (record { place = place; count = word / 2 ^ 12; claimed = nat_eq claim 1 }) ≡ Some t) ↔ (TaskFits t × (word_of t ≡ word))
   task_found place claim fits s q c most =
       let v : TaskWord = record { place = place; count = word / 2 ^ 12; claimed = nat_eq claim 1 } in
       let f : TaskFits v = record { place = fits; count = most } in

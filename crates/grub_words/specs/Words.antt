@@ -1,9 +1,11 @@
 -- The words of readings, tasks, servers and reservations, and the values that have one: this project's profile.
 -- Bit 0 is the lowest, and a bit that no line names is 0.
 use Rattle.std.specs.Prelude.{ℕ, ◌+◌, ◌*◌, ◌^◌, ◌<◌, ◌≤◌, Bool, if◌then◌else◌, ⊤}
+use Rattle.grub_book.specs.declared.rules.TheConstants.{COUNT_MAX}
+use Rattle.grub_book.specs.declared.setup.TheConstants.{QUEUES_MAX}
+use Rattle.grub_bw.specs.declared.params.TheConstants.{PERIOD_MAX}
 use Rattle.grub_bw.specs.Bandwidth.{Reservation}
 use Rattle.grub_bw.specs.declared.server.Server.{Server}
-use Rattle.grub_book.specs.Step.{count_most}
 use Rattle.grub_book.specs.declared.event.Reading.{Reading}
 use Rattle.grub_book.specs.declared.place.State.TheVariants.{Contending, NonContending, Inactive}
 use Rattle.grub_book.specs.declared.place.Place.{Place}
@@ -51,14 +53,14 @@ pub record QueueFits (now : Reading) : Type 0 where
 -- servers that have a word
 pub record ServerFits (s : Server) : Type 0 where
   pub some : 1 ≤ s.q
-  pub most : s.q ≤ 2 ^ 24
+  pub most : s.q ≤ PERIOD_MAX
 
 -- places that a task's word can name
 abbrev pub PlaceFits : Place → Type 0
-PlaceFits (On r state) = r < 64
+PlaceFits (On r state) = r < QUEUES_MAX
 PlaceFits place = ⊤
 
 -- tasks that have a word
 pub record TaskFits (t : TaskWord) : Type 0 where
   pub place : PlaceFits t.place
-  pub count : t.count ≤ count_most
+  pub count : t.count ≤ COUNT_MAX

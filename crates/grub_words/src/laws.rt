@@ -1,10 +1,10 @@
 //! Laws of the words, over all values, for a reader who compares words alone.
 
 ghost use Rattle.std.specs.Prelude.{◌≡◌, ◌≢◌, ◌↔◌, ◌+◌, ◌/◌, ◌%◌, ◌^◌, ◌<◌, ◌≤◌, ℕ, Bool, true, false, IsTrue, length};
+ghost use Rattle.grub_book.specs.declared.rules.TheConstants.{COUNT_MAX};
 ghost use Rattle.grub_bw.specs.Bandwidth.{Reservation, IsReservation, IsCapacity};
 ghost use Rattle.grub_bw.specs.declared.server.Server.{Server};
 ghost use Rattle.grub_book.specs.Machine.{Machine, IsMachine, queue_at};
-ghost use Rattle.grub_book.specs.Step.{count_most};
 ghost use Rattle.grub_book.specs.Sums.{Records, reading_of};
 ghost use Rattle.grub_book.specs.Sound.{IsKept, IsSound};
 ghost use Rattle.grub_book.specs.declared.event.Reading.{Reading};
@@ -39,7 +39,7 @@ pub fn words_have_64_bits()
     ensures server { (s : Server) → ServerFits s → s.d < 2 ^ 32 → server_word s < 2 ^ 64 }
     ensures params { (p : Reservation) → IsReservation p → params_word p < 2 ^ 64 }
     ensures task { (place : Place) (count : ℕ) (claimed : Bool) → PlaceFits place
-        → count ≤ count_most → task_word place count claimed < 2 ^ 36 }
+        → count ≤ COUNT_MAX → task_word place count claimed < 2 ^ 36 }
 {}
 
 /// In a sound book every reading, place, count and server has a word.
@@ -47,7 +47,7 @@ pub fn sound_books_have_words()
     ensures queue { (s : Machine) (book : Records) (r : ℕ) → IsSound s book → r < length s.queues
         → IsCapacity (queue_at s r) → QueueFits (reading_of book r) }
     ensures place { (s : Machine) (x : Record) → IsMachine s → IsKept s x → PlaceFits x.place }
-    ensures count { (s : Machine) (x : Record) → IsKept s x → x.count ≤ count_most }
+    ensures count { (s : Machine) (x : Record) → IsKept s x → x.count ≤ COUNT_MAX }
     ensures server { (s : Machine) (x : Record) → IsKept s x
         → ServerFits x.server × (x.server.d < 2 ^ 32) }
 {}

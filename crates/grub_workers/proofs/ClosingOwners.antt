@@ -27,13 +27,12 @@ use Rattle.grub_plan.specs.declared.entry.Answer.{Answer}
 use Rattle.grub_plan.specs.declared.entry.Answer.TheVariants.{Replied, Seen, Busy, Lost}
 use Rattle.grub_plan.specs.declared.entry.Entry.{Entry}
 use Rattle.grub_plan.specs.declared.entry.Report.{Report}
-use Rattle.grub_plan.specs.Plans.{Line, PlanView}
+use Rattle.grub_plan.specs.Plans.{Line, PlanView, script_at}
 use Rattle.grub_asks.specs.Answers.{event_told, events_told}
 use Rattle.grub_workers.specs.Entries.{HeldTask}
 use Rattle.grub_workers.specs.inside.Entries.{mark_told, marks_of, marks_told}
 use Rattle.grub_workers.specs.inside.Evidence.{AreBacked, CallsElse, IsBacked, ShowsHolder, TakesElse}
 use Rattle.grub_workers.specs.inside.Working.{machine}
-use Rattle.grub_workers.specs.Handles.{script_at}
 use Rattle.grub_workers.specs.inside.Handles.{AllWorked}
 use Rattle.grub_workers.specs.Runs.{HeldElsewhere, IsNotVain, IsReportOf, IsRun, entries_of}
 use Rattle.grub_workers.proofs.Elements.{Somewhere, any_of, found, somewhere_of, somewhere_filter, somewhere_flat, somewhere_weaker}

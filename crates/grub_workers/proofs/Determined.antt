@@ -2,10 +2,11 @@
 use Rattle.std.proofs.Common.{◌≡◌, ℕ, List, [], ◌∷◌, ◌++◌, refl, sym, ap, ◌∙◌, subst}
 use Rattle.std.specs.List.{All, FoldsTo}
 use Rattle.std.proofs.lemmas.List.Elements.{All-head}
+use mathlib.Core.List.{IsPrefix}
 use Rattle.grub_book.specs.Machine.{Machine}
 use Rattle.grub_book.specs.Step.{step}
 use Rattle.grub_book.specs.Sums.{Records, reading_of}
-use Rattle.grub_book.specs.History.{IsLegal, StartsWith, book_of}
+use Rattle.grub_book.specs.History.{IsLegal, book_of}
 use Rattle.grub_book.specs.declared.event.Event.{Event}
 use Rattle.grub_book.specs.declared.event.Event.TheVariants as events
 use Rattle.grub_book.proofs.Histories.{legal_last, legal_prefix}
@@ -17,7 +18,7 @@ use Rattle.grub_plan.specs.declared.entry.Answer.TheVariants.{Replied, Seen}
 use Rattle.grub_plan.specs.declared.entry.Entry.{Entry}
 use Rattle.grub_asks.specs.Asked.{AsksLine, entry}
 use Rattle.grub_asks.specs.Answers.{IsAnswered, event_told, events_told}
-use Rattle.grub_workers.proofs.Elements.{all_left, all_right}
+use Rattle.grub_asks.proofs.Parts.{all_left, all_right}
 use Rattle.grub_asks.proofs.Starts.{events_more, events_told-append}
 use Rattle.grub_asks.proofs.Alike.{script_alike as alike}
 
@@ -33,10 +34,10 @@ module _ (own : ℕ) where
     pub legal : IsLegal s (events_told own es)
     pub answered : All (λ (e : Entry). IsAnswered e.ask e.answer) es
 
-  plain_first : (s : Machine) (later earlier : List Entry) → StartsWith later earlier → IsPlain s later → IsPlain s earlier
+  plain_first : (s : Machine) (later earlier : List Entry) → IsPrefix earlier later → IsPlain s later → IsPlain s earlier
   plain_first s later earlier starts p = record {
-    legal = legal_prefix s (events_told own later) (events_told own earlier) (events_told own starts.0, ap (events_told own) starts.1 ∙ events_told-append own earlier starts.0) p.legal;
-    answered = all_left (λ (e : Entry). IsAnswered e.ask e.answer) earlier starts.0 (subst (All (λ (e : Entry). IsAnswered e.ask e.answer)) starts.1 p.answered);
+    legal = legal_prefix s (events_told own later) (events_told own earlier) (events_told own starts.0, sym (events_told-append own earlier starts.0) ∙ ap (events_told own) starts.1) p.legal;
+    answered = all_left (λ (e : Entry). IsAnswered e.ask e.answer) earlier starts.0 (subst (All (λ (e : Entry). IsAnswered e.ask e.answer)) (sym starts.1) p.answered);
   }
 
   told_answer : (s : Machine) (h : List Event) (ask : Ask) (answer : Answer) → IsAnswered ask answer → IsLegal s (h ++ event_told own ask answer) → answer ≡ answer_of s (book_of s h) ask

@@ -76,11 +76,3 @@ filter_none {X} p (x ∷ xs) is = go (filter_none p xs) (p x) refl
     go : (filter p xs ≡ [] → All (λ x. p x ≡ false) xs) → (b : Bool) → p x ≡ b → All (λ x. p x ≡ false) (x ∷ xs)
     go more true e = let bad : x ∷ filter p xs ≡ [] = subst (λ c. cond c (x ∷ filter p xs) (filter p xs) ≡ []) e is in absurd (cc)
     go more false e = All-cons (λ x. p x ≡ false) x xs e (more (subst (λ c. cond c (x ∷ filter p xs) (filter p xs) ≡ []) e is))
-
-pub all_left : {X : Type 0} (P : X → Type 0) (xs ys : List X) → All P (xs ++ ys) → All P xs
-all_left P [] ys a = All-nil P
-all_left P (x ∷ xs) ys a = All-cons P x xs (All-head P x (xs ++ ys) a) (all_left P xs ys (All-tail P x (xs ++ ys) a))
-
-pub all_right : {X : Type 0} (P : X → Type 0) (xs ys : List X) → All P (xs ++ ys) → All P ys
-all_right P [] ys a = a
-all_right P (x ∷ xs) ys a = all_right P xs ys (All-tail P x (xs ++ ys) a)

@@ -7,7 +7,7 @@ use Rattle.grub_table.specs.declared.pass.Pass.{Pass}
 use Rattle.grub_table.specs.declared.shared.Shared.{Shared}
 use Rattle.grub_table.specs.Calls.{IsNew, marks, seen}
 use Rattle.grub_plan.specs.declared.entry.Entry.{Entry}
-use Rattle.grub_plan.specs.Texts.{IsAskOf}
+use Rattle.grub_plan.specs.Plans.{IsAskOf}
 use Rattle.grub_workers.specs.declared.worker.Progress.{Progress}
 use Rattle.grub_workers.specs.inside.Entries.{marks_of}
 use Rattle.grub_workers.specs.inside.Evidence.{IsBacked}

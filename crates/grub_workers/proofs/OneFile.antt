@@ -1,5 +1,5 @@
 -- A run of one file alone.
-use Rattle.std.proofs.Common.{◌≡◌, ◌≢◌, ℕ, zero, suc, ◌<◌, ◌≤◌, List, [], length, get_or, Some, refl, subst, arith}
+use Rattle.std.proofs.Common.{◌≡◌, ℕ, ◌<◌, ◌≤◌, List, [], length, get_or, Some, subst, arith}
 use Rattle.std.specs.Prelude.{slice_get}
 use Rattle.std.proofs.lemmas.List.Elements.{All-weaker}
 use Rattle.std.proofs.lemmas.List.{get_or_past}
@@ -14,11 +14,10 @@ use Rattle.grub_plan.specs.declared.entry.Answer.{Answer}
 use Rattle.grub_plan.specs.declared.entry.Answer.TheVariants.{Lost}
 use Rattle.grub_plan.specs.declared.entry.Entry.{Entry}
 use Rattle.grub_plan.specs.declared.entry.Report.{Report}
-use Rattle.grub_plan.specs.Plans.{PlanView}
+use Rattle.grub_plan.specs.Plans.{PlanView, script_at}
 use Rattle.grub_asks.specs.Answers.{IsAnswered}
 use Rattle.grub_workers.specs.Runs.{AllAsksOf, EachEntry, IsNoLostCharge, IsNotVain, IsOnlyRun, IsRun, entries_of}
 use Rattle.grub_workers.specs.Apart.{AllApart, IsApart, Names}
-use Rattle.grub_workers.specs.Handles.{script_at}
 use Rattle.grub_workers.proofs.OwnReports.{answered_own, whole_own}
 
 -- a clause of each report, at each entry of each report
@@ -46,13 +45,9 @@ charges_of_run plan tries rs last run = at_each plan tries rs last run IsNoLostC
 -- the only file is apart: no other names its tasks
 only_apart : (plan : PlanView) → length plan.scripts ≡ 1 → IsApart plan 0
 only_apart plan one j t other mine his =
-    let past : length plan.scripts ≤ j = let some = other_some j other in omega (arith, one, some) in
+    let past : length plan.scripts ≤ j = omega (arith, one, other) in
     names_nothing t (subst (λ script. Names script t) (get_or_past plan.scripts j [] past) his)
   where
-    other_some : (j : ℕ) → j ≢ 0 → 1 ≤ j
-    other_some zero ne = absurd (ne refl)
-    other_some (suc j) ne = omega arith
-
     names_nothing : (t : ℕ) → ¬ Names [] t
     names_nothing t named = let low = named.2 in absurd (omega (arith, low))
 

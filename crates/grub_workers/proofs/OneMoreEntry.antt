@@ -16,7 +16,7 @@ use Rattle.grub_plan.specs.declared.entry.Answer.{Answer}
 use Rattle.grub_plan.specs.declared.entry.Answer.TheVariants.{Seen}
 use Rattle.grub_plan.specs.declared.entry.Entry.{Entry}
 use Rattle.grub_asks.specs.Asked.{entry}
-use Rattle.grub_plan.specs.Texts.{IsAskOf}
+use Rattle.grub_plan.specs.Plans.{IsAskOf}
 use Rattle.grub_asks.specs.Answers.{AreAsksOf, event_told, events_told}
 use Rattle.grub_workers.specs.inside.Entries.{mark_told, marks_told}
 use Rattle.grub_workers.specs.inside.Evidence.{AreBacked, IsBacked}

@@ -63,7 +63,7 @@ module _ (r : ℕ) (N : ℕ → Type 0) where
   timers_own m [] before after f own = subst AreOwn f own
   timers_own m (x ∷ xs) before after f own =
       let there : N x.t = armed_own x.t before None (x.z, x.ticket) own (λ b none. absurd (cc)) f.1.next.armed in
-      timers_own m xs f.0 after f.2 (own_more before f.0 x.z (Call x.t (ops.Timer x.ticket x.z)) f.1.goes_on.answer f.1.goes_on.list (there, tt) own)
+      timers_own m xs f.0 after f.2 (own_more before f.0 x.z (Call x.t (ops.Timer x.ticket x.z)) f.1.asks.answer f.1.asks.list (there, tt) own)
 
   act_own : (m : ℕ) (act : Act ℕ ℕ) → ((t : ℕ) → named act ≡ Some t → N t) → IsOwnAsk r N (ask_of r m act)
   act_own m (acts.Join t) named = (named t refl, refl)

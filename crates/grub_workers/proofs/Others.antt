@@ -3,13 +3,14 @@ use Rattle.std.proofs.Common.{◌≡◌, ◌≢◌, ◌⊎◌, ℕ, ◌+◌, ◌
 use Rattle.std.specs.List.{All, Any}
 use Rattle.std.proofs.lemmas.List.{append-nil, append_cancel_left}
 use Rattle.std.proofs.lemmas.List.Elements.{All-weaker, All-head, All-tail}
+use mathlib.Core.List.{IsPrefix}
 use mathlib.Core.Logic.{dite}
 use native.Mathlib.Decide.{ℕ_discrete}
 use Rattle.grub_book.specs.Machine.{Machine}
 use Rattle.grub_book.specs.Sums.{Records, record_at, reading_of, opening_book}
 use Rattle.grub_book.specs.Step.{is_under_claim, refused, step}
 use Rattle.grub_book.specs.inside.Steps.{replied}
-use Rattle.grub_book.specs.History.{IsLegal, IsLegalFrom, StartsWith, HasChanged, after, book_of, calls_of, changes_from, is_reading, pass_of}
+use Rattle.grub_book.specs.History.{IsLegal, IsLegalFrom, HasChanged, after, book_of, calls_of, changes_from, is_reading, pass_of}
 use Rattle.grub_book.specs.declared.reply.Reply.{Reply}
 use Rattle.grub_book.specs.declared.place.Record.{Record}
 use Rattle.grub_book.specs.declared.event.Reading.{Reading}
@@ -22,7 +23,8 @@ use Rattle.grub_table.specs.declared.view.Mark.TheVariants.{Taken, Given}
 use Rattle.grub_table.specs.Marks.{holder_after, holder_of}
 use Rattle.grub_table.proofs.Marks.{given_else, given_here, taken_else, taken_here}
 use Rattle.grub_workers.specs.inside.Evidence.{TakesElse, CallsElse}
-use Rattle.grub_workers.proofs.Elements.{Somewhere, any_of, filter_none, somewhere_left, somewhere_right, all_left, all_right}
+use Rattle.grub_asks.proofs.Parts.{all_left, all_right}
+use Rattle.grub_workers.proofs.Elements.{Somewhere, any_of, filter_none, somewhere_left, somewhere_right}
 
 not_own : (i : ℕ) (e : Event) → (pass_of e == i) ≡ false → pass_of e ≢ i
 not_own i e off is = let on : (pass_of e == i) ≡ true = eq-eqb (pass_of e) i is in absurd (cc)
@@ -58,17 +60,17 @@ moved s i t book (Call j u op reply ∷ es) o legal ne = dite (ℕ_discrete u t)
     elsewhere other = replied_else t book u (λ e. other (sym e)) (refused (record_at book u).place (record_at book u).count op) _
 
 -- another pass called on the task between two points of a history at which its record is not the same
-pub calls_between : (s : Machine) (i t : ℕ) (before after a b : List Event) → IsLegal s after → StartsWith after before → calls_of i after ≡ calls_of i before → StartsWith a before → StartsWith b a → StartsWith after b
+pub calls_between : (s : Machine) (i t : ℕ) (before after a b : List Event) → IsLegal s after → IsPrefix before after → calls_of i after ≡ calls_of i before → IsPrefix before a → IsPrefix a b → IsPrefix b after
     → record_at (book_of s a) t ≢ record_at (book_of s b) t → Any (CallsElse i t) after
 calls_between s i t before after a b legal grows own from x y ne =
-    let whole : after ≡ (before ++ from.0) ++ (x.0 ++ y.0) = y.1 ∙ ap (λ l. l ++ y.0) (x.1 ∙ ap (λ l. l ++ x.0) from.1) ∙ append_assoc (before ++ from.0) x.0 y.0 in
+    let whole : after ≡ (before ++ from.0) ++ (x.0 ++ y.0) = sym y.1 ∙ ap (λ l. l ++ y.0) (sym x.1 ∙ ap (λ l. l ++ x.0) (sym from.1)) ∙ append_assoc (before ++ from.0) x.0 y.0 in
     let straight : after ≡ before ++ (from.0 ++ (x.0 ++ y.0)) = whole ∙ append_assoc before from.0 (x.0 ++ y.0) in
     let others = others_only i before (from.0 ++ (x.0 ++ y.0)) (ap (calls_of i) (sym straight) ∙ own) in
     let between = all_left (λ e. pass_of e ≢ i) x.0 y.0 (all_right (λ e. pass_of e ≢ i) from.0 (x.0 ++ y.0) others) in
-    let is_b : after ≡ (a ++ x.0) ++ y.0 = y.1 ∙ ap (λ l. l ++ y.0) x.1 in
+    let is_b : after ≡ (a ++ x.0) ++ y.0 = sym y.1 ∙ ap (λ l. l ++ y.0) (sym x.1) in
     let legal_b : IsLegal s (a ++ x.0) = legal_first s (opening_book s) (a ++ x.0) y.0 (subst (IsLegal s) is_b legal) in
     let then = legal_rest s (opening_book s) a x.0 legal_b in
-    let book = ap (book_of s) x.1 ∙ book_more s a x.0 in
+    let book = ap (book_of s) (sym x.1) ∙ book_more s a x.0 in
     let found = moved s i t (book_of s a) x.0 between then (λ e. ne (sym e ∙ ap (λ k. record_at k t) (sym book))) in
     any_of (CallsElse i t) after (subst (Somewhere (CallsElse i t)) (sym whole) (somewhere_right (CallsElse i t) (before ++ from.0) (x.0 ++ y.0) (somewhere_left (CallsElse i t) x.0 y.0 found)))
 
@@ -131,12 +133,12 @@ changed_else s i r n before after own c some =
     subst (ChangesElse s i r) (sym c.1) (find_change s i r before c.0 (others_only i before c.0 (ap (calls_of i) (sym c.1) ∙ own)) at_least)
 
 -- what a history has shown, each later one shows
-pub changes_later : (s : Machine) (i r : ℕ) (h h' : List Event) → StartsWith h' h → ChangesElse s i r h → ChangesElse s i r h'
+pub changes_later : (s : Machine) (i r : ℕ) (h h' : List Event) → IsPrefix h h' → ChangesElse s i r h → ChangesElse s i r h'
 changes_later s i r h h' a c = record {
   before = c.before;
   event = c.event;
   rest = c.rest ++ a.0;
-  stands = a.1 ∙ ap (λ l. l ++ a.0) c.stands ∙ append_assoc (c.before ++ c.event ∷ []) c.rest a.0;
+  stands = sym a.1 ∙ ap (λ l. l ++ a.0) c.stands ∙ append_assoc (c.before ++ c.event ∷ []) c.rest a.0;
   other = c.other;
   changed = c.changed;
 }

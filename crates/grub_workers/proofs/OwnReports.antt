@@ -29,16 +29,15 @@ use Rattle.grub_plan.specs.declared.entry.Answer.TheVariants.{Replied, Seen, Bus
 use Rattle.grub_plan.specs.declared.entry.Entry.{Entry}
 use Rattle.grub_plan.specs.declared.entry.Report.{Report}
 use Rattle.grub_asks.specs.Asked.{Asked}
-use Rattle.grub_plan.specs.Plans.{Line, PlanView}
+use Rattle.grub_plan.specs.Plans.{Line, PlanView, script_at}
 use Rattle.grub_asks.specs.Answers.{IsAnswered, event_told, events_told}
 use Rattle.grub_workers.specs.Entries.{HeldTask}
 use Rattle.grub_workers.specs.Evidence.{IsOvertaken}
-use Rattle.grub_workers.specs.Handles.{script_at}
 use Rattle.grub_workers.specs.Runs.{HeldElsewhere, IsNotVain, IsOnlyRun, IsReportOf, IsRun, entries_of}
 use Rattle.grub_workers.specs.Apart.{AllApart, IsAnsweredAt, IsApart, IsOnlyReport, Names}
 use Rattle.grub_workers.proofs.Apart.{Agrees, IsAt, IsOneSided, IsSameAt, Splits, reading_after, retune_at, same_get, splits, timer_at}
 use Rattle.grub_workers.proofs.Determined.{IsPlain, script_alike}
-use Rattle.grub_workers.proofs.Elements.{all_left, all_right}
+use Rattle.grub_asks.proofs.Parts.{all_left, all_right}
 use Rattle.grub_workers.proofs.OnlyNamed.{IsOwnAsk, NamesAt, script_own}
 use Rattle.grub_workers.proofs.Others.{ChangesElse, changed_else, changes_later}
 use Rattle.grub_workers.proofs.ListsGoneThrough.{some_of}
@@ -204,7 +203,7 @@ module _ (plan : PlanView) (tries : ℕ) (rs : List Report) (last : List Reading
 
     not_overtaken : (t : ℕ) (op : Op) → 1 ≤ tries → Own t → NamesAt (λ r. r ≡ i) op → IsOvertaken plan.setup tries i t op run.history → ⊥
     not_overtaken t op some own named o =
-        let here : IsAt (λ r. r ≡ i) o.x.place = subst (λ (x : Record). IsAt (λ r. r ≡ i) x.place) o.found ((first_splits o.point o.in_history.0 o.in_history.1).agrees.here t own) in
+        let here : IsAt (λ r. r ≡ i) o.x.place = subst (λ (x : Record). IsAt (λ r. r ≡ i) x.place) o.found ((first_splits o.point o.in_history.0 (sym o.in_history.1)).agrees.here t own) in
         let at = changes_at (λ r. r ≡ i) o.x op o.unrefused o.would_change here named in
         let changed = changed_else plan.setup i (runqueue_of o.x.place op) tries o.earlier o.point o.none_own o.changes some in
         not_changed (subst (λ r. ChangesElse plan.setup i r run.history) at (changes_later plan.setup i (runqueue_of o.x.place op) o.point run.history o.in_history changed))

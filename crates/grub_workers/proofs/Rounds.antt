@@ -1,8 +1,9 @@
 -- One round of an ask.
-use Rattle.std.proofs.Common.{◌≡◌, ℕ, ◌+◌, true, false, cond, None, List, [], ◌∷◌, sym, ap, ◌∙◌, subst, ⊎_elim, inl, inr, arith, append-nil}
+use Rattle.std.proofs.Common.{◌≡◌, ℕ, ◌+◌, true, false, cond, None, List, [], ◌∷◌, sym, ap, ◌∙◌, subst, ⊎_elim, inl, inr, append-nil}
+use mathlib.Core.List.{IsPrefix}
 use Rattle.grub_book.specs.Step.{changes_sum, refused, runqueue_of}
 use Rattle.grub_book.specs.Sums.{record_at}
-use Rattle.grub_book.specs.History.{HasChanged, book_of, calls_of, pass_of, IsLegal, StartsWith}
+use Rattle.grub_book.specs.History.{HasChanged, book_of, calls_of, pass_of, IsLegal}
 use Rattle.grub_book.specs.declared.op.Op.{Op}
 use Rattle.grub_book.specs.declared.place.Record.{Record}
 use Rattle.grub_book.specs.declared.reply.Reply.{Reply}
@@ -21,8 +22,8 @@ use Rattle.grub_table.specs.declared.answer.Sighting.TheVariants.{Claimed, Chang
 use Rattle.grub_table.specs.Layout.{shown}
 use Rattle.grub_table.specs.Histories.{IsHistory, EndsWith, record_in}
 use Rattle.grub_table.specs.Knowing.{GoesOn, Learns}
-use Rattle.grub_table.proofs.Growths.{learns_none, learns_twice}
-use Rattle.grub_table.specs.Calls.{IsPassOf, IsTaken, IsBusy, IsDone, IsLost, IsCancelled, IsSighting, IsClaimedSighting, number_of, share_of, claim_share, claim_queue, claim_changes_sum, seen, marks, marks_of_call}
+use Rattle.grub_table.proofs.Growths.{learns_twice}
+use Rattle.grub_table.specs.Calls.{IsTaken, IsBusy, IsDone, IsLost, IsCancelled, IsSighting, IsClaimedSighting, number_of, share_of, claim_share, claim_queue, claim_changes_sum, seen, marks, marks_of_call}
 use Rattle.grub_plan.specs.declared.entry.Ask.TheVariants.{Call}
 use Rattle.grub_plan.specs.declared.entry.Answer.TheVariants.{Replied, Lost}
 use Rattle.grub_workers.specs.declared.asking.Turn.{Turn}
@@ -42,7 +43,7 @@ sight_shows : (T : Terms) (i t : ℕ) (before after : List Event) (known : List 
 sight_shows T i t before after known (Claimed word) is g k = claimed_shows T i t after known word k
 sight_shows T i t before after known (Changed loaded found) is g k = ⊎_elim
     (λ (h : IsClaimedSighting T i t after known found). claimed_shows T i t after known found h)
-    (λ (h : (b : List Event) × StartsWith b k.at_load × StartsWith after b × (found ≡ shown (record_in T b t) false)).
+    (λ (h : (b : List Event) × IsPrefix k.at_load b × IsPrefix b after × (found ≡ shown (record_in T b t) false)).
     inl (calls_between T.setup i t before after k.at_load h.0 is.legal g.starts (g.own ∙ append-nil (calls_of i before)) k.not_before h.1 h.2
     (λ (same : record_in T k.at_load t ≡ record_in T h.0 t). k.differ (h.3 ∙ ap (λ (x : Record). shown x false) (sym same) ∙ sym k.loaded_word))))
     k.found_word
@@ -54,10 +55,7 @@ waits_last T i t op reply h is l ticket z e =
     waits_step T.setup (book_of T.setup l.0) t op ticket z (last.2 ∙ e)
 
 module _ (s : Shared) (p : Pass) (t : ℕ) (asked : Op) where
-  -- ---- before the first round, and after a busy one
-  pub begins : IsPassOf s p → IsFree s 0 p t p
-  begins of = record { of = of; learns = learns_none (share_of p); busy = λ one. absurd (omega (arith, one)) }
-
+  -- ---- after a busy round
   pub busy_round : (round : ℕ) (now q : Pass) (sighting : Sighting) → IsFree s round p t now → IsBusy s now t q sighting → IsFree s (round + 1) p t q
   busy_round round now q sighting a b =
       let g = subst (λ n. GoesOn pass_of n (seen now) (seen q) []) a.learns.number b.learns.seen in

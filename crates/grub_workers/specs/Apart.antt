@@ -4,8 +4,7 @@ use Rattle.std.specs.List.{All, Any}
 use Rattle.grub_book.specs.declared.event.Reading.{Reading}
 use Rattle.grub_plan.specs.declared.entry.Entry.{Entry}
 use Rattle.grub_plan.specs.declared.entry.Report.{Report}
-use Rattle.grub_plan.specs.Plans.{Line, PlanView, named}
-use Rattle.grub_workers.specs.Handles.{script_at}
+use Rattle.grub_plan.specs.Plans.{Line, PlanView, named, script_at}
 use Rattle.grub_asks.specs.Answers.{IsAnswered}
 use Rattle.grub_workers.specs.Runs.{IsOnlyRun, IsRun, entries_of}
 

@@ -1,6 +1,5 @@
 pub mod Entries
 pub mod Evidence
-pub mod Handles
 pub mod Runs
 pub mod Apart
 pub mod Messages

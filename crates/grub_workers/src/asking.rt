@@ -19,7 +19,7 @@ enum Turn {
 }
 
 /// Asks in at most so many rounds. A task that is still held then is given back.
-pub fn ask<G: Gate>(
+pub(crate) fn ask<G: Gate>(
     desk: &Desk<'_, G>,
     calls: &mut u64,
     pass: Pass,

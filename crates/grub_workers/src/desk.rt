@@ -21,7 +21,7 @@ pub struct Desk<'a, G> {
 
 impl<G: Gate> Desk<'_, G> {
     /// `start` of the table. It is one more call of the worker.
-    pub fn start(&self, calls: &mut u64, pass: Pass, t: u32, op: Op) -> Started
+    pub(crate) fn start(&self, calls: &mut u64, pass: Pass, t: u32, op: Op) -> Started
         requires of { IsPassOf self.now.table.now pass }
         requires task { t < length (terms self.now.table.now).setup.tasks }
         requires op { IsOp (terms self.now.table.now).setup op }
@@ -34,7 +34,7 @@ impl<G: Gate> Desk<'_, G> {
     }
 
     /// `finish` of the table.
-    pub fn finish(&self, calls: &mut u64, claim: Claim) -> Finished
+    pub(crate) fn finish(&self, calls: &mut u64, claim: Claim) -> Finished
         requires { IsClaimOf self.now.table.now claim }
         ensures { IsFinished self.now.table.now claim self.now.tries result }
     {
@@ -45,7 +45,7 @@ impl<G: Gate> Desk<'_, G> {
     }
 
     /// `cancel` of the table.
-    pub fn cancel(&self, calls: &mut u64, claim: Claim) -> Pass
+    pub(crate) fn cancel(&self, calls: &mut u64, claim: Claim) -> Pass
         requires { IsClaimOf self.now.table.now claim }
         ensures { IsCancelled self.now.table.now claim result }
     {
@@ -56,7 +56,7 @@ impl<G: Gate> Desk<'_, G> {
     }
 
     /// `read` of the table, of the worker's own runqueue.
-    pub fn read(&self, calls: &mut u64, pass: &mut Pass) -> Reading
+    pub(crate) fn read(&self, calls: &mut u64, pass: &mut Pass) -> Reading
         requires of { IsPassOf self.now.table.now pass.old }
         requires queue { self.now.number < length (terms self.now.table.now).setup.queues }
         ensures of { IsPassOf self.now.table.now pass.new }

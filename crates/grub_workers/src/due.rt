@@ -1,5 +1,6 @@
 //! Timers that are due.
-ghost use Rattle.std.specs.Prelude.{◌≡◌, ◌<◌, ◌≤◌, ◌^◌, Some, IfOk};
+ghost use Rattle.std.specs.Prelude.{◌≡◌, ◌<◌, ◌≤◌, Some, IfOk};
+ghost use Rattle.grub_bw.specs.declared.server.TheConstants.{MOMENT_MAX};
 ghost use Rattle.grub_asks.specs.Asked.{AsksDue};
 ghost use Rattle.grub_workers.specs.inside.Working.{IsAtWork, IsNotPast};
 
@@ -11,7 +12,7 @@ use grub_table::Pass;
 use std::alloc::AllocError;
 
 /// Asks for each timer of the worker that is due by this moment.
-pub fn ask_due<G: Gate>(
+pub(crate) fn ask_due<G: Gate>(
     desk: &Desk<'_, G>,
     mut pass: Pass,
     progress: &mut Progress,
@@ -19,7 +20,7 @@ pub fn ask_due<G: Gate>(
 ) -> Result<Pass, AllocError>
     requires at_work { IsAtWork desk.now.table.now desk.now.tries
         desk.now.number pass progress.old }
-    requires moment { m < 2 ^ 31 }
+    requires moment { m ≤ MOMENT_MAX }
     requires not_past { IsNotPast m progress.old }
     requires rounds { 1 ≤ desk.now.rounds }
     ensures at_work { IfOk result

@@ -33,7 +33,7 @@ pub struct Done {
 }
 
 /// A worker for each file, all at once. All that were started are joined.
-pub fn run_scoped<R: Threads + Wait, G: Gate>(
+pub(crate) fn run_scoped<R: Threads + Wait, G: Gate>(
     rt: &R,
     alloc: Global,
     table: &Shared,

@@ -1,5 +1,6 @@
 //! A script, line by line.
-ghost use Rattle.std.specs.Prelude.{◌≡◌, ◌<◌, ◌≤◌, ◌^◌, [], Some, None, IfOk, length};
+ghost use Rattle.std.specs.Prelude.{◌≡◌, ◌<◌, ◌≤◌, [], Some, None, IfOk, length};
+ghost use Rattle.grub_bw.specs.declared.server.TheConstants.{MOMENT_MAX};
 ghost use Rattle.grub_asks.specs.Asked.{Asked, AsksLine, Follows, JoinsAfter};
 ghost use Rattle.grub_plan.specs.Limits.{ActFits, ScriptFits};
 ghost use Rattle.grub_table.specs.Calls.{terms};
@@ -28,7 +29,7 @@ fn join_here<G: Gate>(
         desk.now.number pass progress.old }
     requires task { t < length (terms desk.now.table.now).setup.tasks }
     requires queue { desk.now.number < length (terms desk.now.table.now).setup.queues }
-    requires moment { m < 2 ^ 31 }
+    requires moment { m ≤ MOMENT_MAX }
     requires rounds { 1 ≤ desk.now.rounds }
     requires last { progress.old.wheel.last ≡ Some m }
     ensures at_work { IfOk result
@@ -60,7 +61,7 @@ fn follow<G: Gate>(
         desk.now.number pass progress.old }
     requires act { ActFits (length (terms desk.now.table.now).setup.tasks) act }
     requires queue { desk.now.number < length (terms desk.now.table.now).setup.queues }
-    requires moment { m < 2 ^ 31 }
+    requires moment { m ≤ MOMENT_MAX }
     requires rounds { 1 ≤ desk.now.rounds }
     requires last { progress.old.wheel.last ≡ Some m }
     ensures at_work { IfOk result
@@ -89,7 +90,7 @@ fn ask_line<G: Gate>(
         desk.now.number pass progress.old }
     requires act { ActFits (length (terms desk.now.table.now).setup.tasks) line.act }
     requires queue { desk.now.number < length (terms desk.now.table.now).setup.queues }
-    requires moment { line.m < 2 ^ 31 }
+    requires moment { line.m ≤ MOMENT_MAX }
     requires rounds { 1 ≤ desk.now.rounds }
     requires not_past { IsNotPast line.m progress.old }
     ensures at_work { IfOk result
@@ -110,7 +111,7 @@ fn ask_line<G: Gate>(
 }
 
 /// Asks for each line of the script.
-pub fn ask_script<G: Gate>(
+pub(crate) fn ask_script<G: Gate>(
     desk: &Desk<'_, G>,
     mut pass: Pass,
     progress: &mut Progress,

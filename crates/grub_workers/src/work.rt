@@ -36,7 +36,7 @@ impl<'a> Promise<Result<Worked, AllocError>> for WorkOf<'a> {
 }
 
 /// Asks a script with a fresh pass and a wheel of its own.
-pub fn work_through<G: Gate>(
+pub(crate) fn work_through<G: Gate>(
     desk: &Desk<'_, G>,
     alloc: Global,
     script: &[Line],

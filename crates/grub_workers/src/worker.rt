@@ -2,7 +2,7 @@
 ghost use Rattle.std.specs.Prelude.{◌≡◌, ◌<◌, ◌≤◌, ◌++◌, ◌∷◌, [], Some, IfOk, length};
 ghost use Rattle.grub_book.specs.Op.{IsOp};
 ghost use Rattle.grub_plan.specs.declared.entry.Ask.TheVariants.{Call, Read};
-ghost use Rattle.grub_asks.specs.Asked.{GoesOn, entry};
+ghost use Rattle.grub_asks.specs.Asked.{AsksOne, entry};
 ghost use Rattle.grub_asks.specs.Keeping.{WaitsRightly};
 ghost use Rattle.grub_asks.specs.inside.Keeping.{IsLineOp};
 ghost use Rattle.grub_table.specs.Calls.{terms};
@@ -28,7 +28,7 @@ pub struct Progress {
 }
 
 /// Asks, and makes the entry of it.
-pub fn put<G: Gate>(
+pub(crate) fn put<G: Gate>(
     desk: &Desk<'_, G>,
     pass: Pass,
     progress: &mut Progress,
@@ -59,7 +59,7 @@ pub fn put<G: Gate>(
 }
 
 /// Asks for a line of the script at this moment, and keeps the wheel.
-pub fn call<G: Gate>(
+pub(crate) fn call<G: Gate>(
     desk: &Desk<'_, G>,
     pass: Pass,
     progress: &mut Progress,
@@ -87,7 +87,7 @@ pub fn call<G: Gate>(
 }
 
 /// Reads the runqueue, and makes the entry of it.
-pub fn look<G: Gate>(
+pub(crate) fn look<G: Gate>(
     desk: &Desk<'_, G>,
     mut pass: Pass,
     progress: &mut Progress,
@@ -100,7 +100,7 @@ pub fn look<G: Gate>(
         (λ p. IsAtWork desk.now.table.now desk.now.tries desk.now.number p progress.new) }
     ensures last { IfOk result (λ p. progress.new.wheel.last ≡ progress.old.wheel.last) }
     ensures goes_on { IfOk result
-        (λ p. GoesOn m Read progress.old.entries.items progress.new.entries.items) }
+        (λ p. AsksOne m Read progress.old.entries.items progress.new.entries.items) }
 {
     progress.entries.reserve(1)?;
     let reading = desk.read(&mut progress.calls, &mut pass);

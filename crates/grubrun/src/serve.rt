@@ -31,7 +31,7 @@ use std::thread::Threads;
 
 /// Runs the program on its words, the first of which is its name, and gives its status. Files are opened and read by
 /// `source`. Reports and the help go to `out`, and the line of a fault to `faults`.
-pub fn serve<
+pub(crate) fn serve<
     R: Threads + Wait + Sync,
     D: Drop,
     O: Fn(&str) -> io::Result<D>,
@@ -175,7 +175,7 @@ fn serve_error<W: Write, E: Write>(error: &Error, out: &mut W, faults: &mut E) -
 }
 
 /// The line where the words could not be had: memory was refused, or they are no text.
-pub fn serve_no_words<E: Write>(error: &io::Error, faults: &mut E) -> u8
+pub(crate) fn serve_no_words<E: Write>(error: &io::Error, faults: &mut E) -> u8
     ensures memory { error_kind error.now ≡ io_kinds.OutOfMemory → result ≡ STATUS_SYSTEM }
     ensures mistake { error_kind error.now ≢ io_kinds.OutOfMemory → result ≡ STATUS_USAGE }
 {

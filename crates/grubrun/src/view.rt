@@ -26,7 +26,7 @@ pub enum Wanted {
 }
 
 /// What is asked for by the word after `--view`, and by the moments after `--from` and `--to`.
-pub fn wanted_by(view: Option<ViewWord>, from: Option<u32>, to: Option<u32>) -> Wanted
+pub(crate) fn wanted_by(view: Option<ViewWord>, from: Option<u32>, to: Option<u32>) -> Wanted
     ensures { result ≡ wanted_of view from to }
 {
     match view {

@@ -2,6 +2,7 @@
 
 use crate::texts::{AFTER_CHECK, AFTER_EVENTS, AFTER_HELP, AFTER_TASKS, VERSION};
 use clap::{Arg, ArgAction, Command, value_parser};
+use grub_facts::CPUS_MAX;
 use std::alloc::{AllocError, Global};
 
 fn trace_arg<'a>(alloc: Global) -> Arg<'a> {
@@ -25,7 +26,7 @@ fn cpus_arg<'a>(alloc: Global) -> Arg<'a> {
         .long("cpus")
         .value_name("N")
         .help("How many runqueues there are, 1 to 64, in place of what the trace says")
-        .value_parser(value_parser!(u32).range(1..65))
+        .value_parser(value_parser!(u32).range(1..i64::from(CPUS_MAX) + 1))
 }
 
 fn rt_arg<'a>(alloc: Global) -> Arg<'a> {
@@ -102,7 +103,7 @@ fn check_command<'a>(alloc: Global) -> Result<Command<'a>, AllocError> {
 }
 
 /// `grubtrace tasks TRACE`, `grubtrace events OPTIONS --out PREFIX TRACE` and `grubtrace check OPTIONS TRACE`.
-pub fn command<'a>(alloc: Global) -> Result<Command<'a>, AllocError> {
+pub(crate) fn command<'a>(alloc: Global) -> Result<Command<'a>, AllocError> {
     Command::new(alloc, "grubtrace")
         .version(VERSION)
         .about(

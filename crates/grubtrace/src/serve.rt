@@ -23,7 +23,7 @@ fn matches_of<'a>(alloc: Global, words: &'a [String]) -> Result<ArgMatches<'a>, 
 }
 
 /// Runs the program on its words, the first of which is its name, and gives its status.
-pub fn serve<
+pub(crate) fn serve<
     D: Drop,
     O: Fn(&str) -> io::Result<D>,
     N: Fn(&mut D, &mut [u8]) -> io::Result<usize>,
@@ -176,7 +176,7 @@ fn serve_error<W: Write, E: Write>(error: &Error, out: &mut W, faults: &mut E) -
 }
 
 /// The line where the words could not be had: memory was refused, or they are no text.
-pub fn serve_no_words<E: Write>(error: &io::Error, faults: &mut E) -> u8
+pub(crate) fn serve_no_words<E: Write>(error: &io::Error, faults: &mut E) -> u8
     ensures { (result ≡ STATUS_USAGE) ⊎ (result ≡ STATUS_SYSTEM) }
 {
     if error.kind() == io::ErrorKind::OutOfMemory {

@@ -50,6 +50,7 @@ pub(crate) fn place(fault: &Option<LineFault>) -> (u64, u64) {
     }
 }
 
+/// The line and the number of the first fault.
 pub(crate) fn fault_of(alloc: Global, text: &[u8]) -> Result<(u64, u64), AllocError> {
     Ok(place(&read(alloc, text)?.fault))
 }
@@ -88,6 +89,7 @@ pub(crate) fn tells(
     Ok(are_told(&read(alloc, text)?, [wanted].as_slice()))
 }
 
+/// Lines, one behind the other.
 pub(crate) fn joined(alloc: Global, lines: &[&[u8]]) -> Result<Vec<u8>, AllocError> {
     let mut text = Vec::new(alloc);
     for line in lines {

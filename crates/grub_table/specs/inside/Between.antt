@@ -20,15 +20,10 @@ use Rattle.grub_table.specs.Histories.{record_in}
 use Rattle.grub_table.specs.inside.Tellings.{Adds, CallsIf, DecidesIf, IsOthers, Sees, Turns}
 use Rattle.grub_table.specs.inside.Rule.{Kept}
 use Rattle.grub_table.specs.inside.Trails.{known}
-use Rattle.grub_table.specs.Calls.{share_on}
+use Rattle.grub_table.specs.Calls.{share_on, IsSeatOf}
 
 abbrev pub hold_of : Seated → Hold
 hold_of x = (share_on x).hold
-
--- the seat is at this table
-pub record IsSeatOf (s : Shared) (x : Seated) : Type 0 where
-  pub home : x.seat.table_id ≡ s.table.inner.shared.table_id
-  pub terms : (share_on x).terms ≡ s.terms
 
 -- a step at a word of the table
 abbrev pub made_step : Shared → ℕ → ℕ → ℕ → Option Note → Step Note
@@ -55,14 +50,14 @@ pub record HoldsFor (s : Shared) (x : Seated) (t : ℕ) (asked : Op) (rec : Reco
   pub unrefused : refused rec.place rec.count asked ≡ None
 
 -- ---- what steps tell together
--- load-task: the word of a task that another pass has, or what the word of a free task says
+-- the word of a task that another pass has, or what the word of a free task says
 abbrev pub SawTask : ℕ → Op → Result TaskWord ℕ → Terms → Share → Share → Type 0
 SawTask t op (Err word) T x y = (y.hold ≡ x.hold) × Adds T x [] y × Sees T x y × IsOthers T x.number t word y
 SawTask t op (Ok w) T x y =
     (y.hold ≡ x.hold) × Adds T x [] y
     × (let rec = record_in T y.seen t in (w.place ≡ rec.place) × (w.count ≡ rec.count) × IsKept T.setup rec × CallsIf (refused w.place w.count op) T x t op y)
 
--- load-params, and then load-server
+-- the two words of the record of a task that the pass has taken
 abbrev pub SawRecord : Record → Terms → Share → Share → Type 0
 SawRecord found T x y = (t : ℕ) (op : Op) (rec : Record) → x.hold ≡ Undecided t op rec
     → (found ≡ rec) × (y.marks ≡ x.marks) × (record_in T y.seen t ≡ rec) × DecidesIf (early rec op) T x t op rec y

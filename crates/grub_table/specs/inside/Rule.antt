@@ -3,12 +3,13 @@
 -- Each runqueue's word is its reading in the book after that history, and a task's three words are its record, but for a task whose holder has decided and not stored yet.
 use Rattle.std.specs.Prelude.{◌≡◌, ◌≢◌, ℕ, ◌<◌, true, false, List, [], ◌∷◌, length, slice_index, Option, Some, None}
 use Rattle.std.specs.List.{AllByRecursion}
+use mathlib.Core.List.{IsPrefix}
 use mathlib.Core.Option.{some}
 use lib.ListN.{get_elem?}
 use Rattle.atomic_table.specs.Table.{State}
-use Rattle.grub_book.specs.Machine.{Machine, IsMachine}
+use Rattle.grub_book.specs.Machine.{IsMachine}
 use Rattle.grub_book.specs.Sums.{Records, record_at, reading_of}
-use Rattle.grub_book.specs.History.{book_of, StartsWith}
+use Rattle.grub_book.specs.History.{book_of}
 use Rattle.grub_book.specs.declared.event.Event.{Event}
 use Rattle.grub_book.specs.declared.place.Record.{Record}
 use Rattle.grub_words.specs.Words.{queue_word}
@@ -24,10 +25,6 @@ use Rattle.grub_table.specs.Layout.{queue_word_at, task_word_at, shown}
 use Rattle.grub_table.specs.inside.Layout.{word_count, server_word_at, params_word_at, stored_of}
 use Rattle.grub_table.specs.Histories.{IsHistory, record_in}
 use Rattle.grub_table.specs.inside.Views.{ShareOf, MarkedBy}
-
--- all numbers of a setup are within the limits
-abbrev pub AreLimited : Machine → Type 0
-AreLimited s = IsMachine s
 
 -- the share stands in the view of the seat that owns its number
 abbrev pub Stands : Terms → List Event → (ℕ → ℕ) → ℕ → Share → Type 0
@@ -85,14 +82,14 @@ Marked marks views = EachView (λ id xs. AllByRecursion (MarkedBy marks) xs) vie
 
 -- the record that a held task's word shows was the task's at some point
 abbrev pub Since : Terms → List Event → Grips → Type 0
-Since T h grips = (t i : ℕ) (before : Record) (stored : Stored) → grips t ≡ grip i before stored → (a : List Event) × StartsWith h a × (record_in T a t ≡ before)
+Since T h grips = (t i : ℕ) (before : Record) (stored : Stored) → grips t ≡ grip i before stored → (a : List Event) × IsPrefix a h × (record_in T a t ≡ before)
 
 pub record Kept (T : Terms) {S : Type 0} (s : State S View) : Type 0 where
   pub history : List Event
   pub owner : ℕ → ℕ
   pub grips : Grips
   pub marks : List Mark
-  pub limited : AreLimited T.setup
+  pub limited : IsMachine T.setup
   pub is_history : IsHistory T history
   pub known : Known T history owner s.views
   pub held : Held T grips (book_of T.setup history) s.views

@@ -31,7 +31,7 @@ use Rattle.grub_table.specs.Histories.{IsHistory, EndsWith, WasBefore, record_in
 use Rattle.grub_table.specs.Knowing.{GoesOn}
 use Rattle.grub_table.specs.Views.{first_of}
 use Rattle.grub_table.specs.inside.Views.{alone, Sat, StandTogether}
-use Rattle.grub_table.specs.Tellings.{IsHeldByOther, WasClaimedWord}
+use Rattle.grub_table.specs.Sightings.{IsHeldByOther, WasClaimedWord}
 
 -- a reply that stands as soon as the runqueue's word is loaded
 abbrev pub is_decided_at_load : Reply → Bool
@@ -146,7 +146,7 @@ ChangedQueue r now true T x y = (t : ℕ) (op : Op) (rec : Record) → x.hold �
 ChangedQueue r now false T x y = (t : ℕ) (op : Op) (rec : Record) → x.hold ≡ Undecided t op rec
     → (y.marks ≡ x.marks) × Sees T x y × (y.hold ≡ x.hold) × (now ≢ reading_in T y.seen r) × (record_in T y.seen t ≡ rec)
 
--- store-server, which is the event of an op that changes no sum
+-- settle-server: the server word is stored, which is the event of an op that changes no sum
 abbrev pub SettledServer : ℕ → Terms → Share → Share → Type 0
 SettledServer stored T x y = (t : ℕ) (op : Op) (rec : Record) → x.hold ≡ Undecided t op rec
     → (y.marks ≡ x.marks) × Decides T x t op rec (settled_quietly rec op) (record { server = stored; params = (stored_of rec).params }) y

@@ -31,8 +31,8 @@ Tried r o T x y = (t : ℕ) (op : Op) (rec : Record) → x.hold ≡ Undecided t 
     → (y.marks ≡ x.marks) × TriedAs r o T x t op rec y
 
 -- the pass knows what it knew
-abbrev pub Knows : Terms → Share → Share → Type 0
-Knows T x y = (y.seen ≡ x.seen) × (y.marks ≡ x.marks)
+abbrev pub KnowsNoMore : Terms → Share → Share → Type 0
+KnowsNoMore T x y = (y.seen ≡ x.seen) × (y.marks ≡ x.marks)
 
 -- after the event, where the server word is stored, and the parameter word not yet
 abbrev pub half_stored : Record → Record → Stored

@@ -7,9 +7,9 @@ use Rattle.grub_book.specs.declared.event.Reading.{Reading}
 use Rattle.grub_plan.specs.Limits.{PlanFits}
 use Rattle.grub_timeline.specs.declared.order.Lead.{Lead}
 use Rattle.grub_timeline.specs.declared.order.Placed.{Placed}
-use Rattle.grub_plan.specs.Plans.{Line, PlanView}
+use Rattle.grub_plan.specs.Plans.{Line, PlanView, script_at}
 use Rattle.grub_timeline.specs.declared.player.Player.{Player}
-use Rattle.grub_timeline.specs.Order.{IsNotLater, IsSorted, lines_of, script_at}
+use Rattle.grub_timeline.specs.Order.{IsNotLater, IsSorted, lines_of}
 use Rattle.grub_timeline.specs.TimeLines.{AskedInOrder}
 use Rattle.grub_timeline.specs.inside.Playing.{IsNotPast, IsPlaying}
 

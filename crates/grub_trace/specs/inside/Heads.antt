@@ -10,7 +10,7 @@ use Rattle.grub_trace.specs.Forms.{parts_of}
 use Rattle.grub_trace.specs.inside.Forms.{begins_with_task}
 use Rattle.grub_trace.specs.inside.Reading.{AllRead, Body, FileRead, Read, Faults, ◌>>=◌, file_from, of_file, opened, read_lines}
 
--- a head, which has at most 256 tasks, and no task below
+-- a head, which has no more tasks than may be, and no task below
 pub record IsHead (h : Head) : Type 0 where
   pub third : 3 ≤ h.first
   pub few : h.first ≤ 259

@@ -1,5 +1,6 @@
 -- What is answered of files, and what is known of them once their heads were read.
 use Rattle.std.specs.Prelude.{◌≡◌, ◌<◌, ◌≤◌, ℕ, List, [], Option, Result, Ok, Err, length, map}
+use Rattle.grub_book.specs.declared.setup.TheConstants.{QUEUES_MAX}
 use Rattle.grub_plan.specs.Plans.{PlanView}
 use Rattle.grub_trace.specs.declared.fault.Kind.TheVariants.{MissingQueue, OutOfRange}
 use Rattle.grub_trace.specs.declared.fault.TraceFault.{TraceFault}
@@ -18,14 +19,14 @@ use Rattle.grub_trace.specs.inside.Reading.{AllRead, Body, Faults, AnswersAs, An
 -- the plan, or the first fault; faults that come before memory is taken are answered, whatever memory there is
 pub record IsPlanned (files : List (List ℕ)) (r : Result PlanView TraceFault) : Type 0 where
   pub answers : AnswersAs r (λ p. p) (plan_from files)
-  pub many : 64 < length files → r ≡ Err (At OutOfRange 64 1)
+  pub many : QUEUES_MAX < length files → r ≡ Err (At OutOfRange QUEUES_MAX 1)
   pub nothing : length files ≡ 0 → r ≡ Err (At MissingQueue 0 1)
-  pub opening : 0 < length files → length files ≤ 64 → AnswersOpening r (read_from (record { declared = []; files = [] }) 0 files)
+  pub opening : 0 < length files → length files ≤ QUEUES_MAX → AnswersOpening r (read_from (record { declared = []; files = [] }) 0 files)
 
 -- as many files as may be, with these tasks and heads
 pub record FilesGive (files : List (List ℕ)) (t : Tasks) (hs : List Head) (fault : Option TraceFault) : Type 0 where
   pub some : 0 < length files
-  pub few : length files ≤ 64
+  pub few : length files ≤ QUEUES_MAX
   pub together : GiveTogether (declarations t) hs fault (read_from (record { declared = []; files = [] }) 0 files)
 
 -- all files, behind these tasks, or the first fault

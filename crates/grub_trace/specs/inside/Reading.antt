@@ -5,7 +5,10 @@ use Rattle.std.specs.Borrow.{Bor}
 use Rattle.std.specs.List.{list_all}
 use Rattle.std.specs.Char.{is_ascii_digit}
 use Rattle.std.specs.HashMap.{get_by_text}
-use Rattle.grub_bw.specs.Bandwidth.{Capacity}
+use Rattle.grub_book.specs.declared.op.TheConstants.{RUN_MAX}
+use Rattle.grub_bw.specs.declared.server.TheConstants.{MOMENT_MAX}
+use Rattle.grub_book.specs.declared.setup.TheConstants.{QUEUES_MAX, TASKS_MAX}
+use Rattle.grub_bw.specs.Bandwidth.{Capacity, reservation_fits}
 use Rattle.grub_trace.specs.declared.version.Version.{Version}
 use Rattle.grub_trace.specs.declared.fault.Kind.{Kind}
 use Rattle.grub_trace.specs.declared.fault.Kind.TheVariants.{BadLine, BadNumber, OutOfRange, DuplicateTask, CutShort, MissingQueue, BadHeader, UnknownTask}
@@ -21,7 +24,7 @@ use Rattle.grub_trace.specs.Forms.{parts_of, version_of, Form, queue, task, at_m
 use Rattle.grub_plan.specs.Plans.{Line, PlanView}
 use Rattle.grub_trace.specs.Naming.{line_in, plan_with, task_of}
 use Rattle.grub_trace.specs.Tree.{is_moment, is_span, Declaration, Happening, names_of}
-use Rattle.grub_trace.specs.Faults.{queue_fault, form_fault, reservation_fits}
+use Rattle.grub_trace.specs.Faults.{queue_fault, form_fault}
 use Rattle.grub_trace.specs.declared.form.Form as coded
 use Rattle.grub_trace.specs.declared.form.Form.TheVariants as code
 use Rattle.grub_trace.specs.declared.word_list.WordList.{WordList}
@@ -131,14 +134,14 @@ declarations t = map task_view t.list.items
 
 -- the index finds each task by its name, and there are few enough
 pub record IsIndexed (t : Tasks) : Type 0 where
-  pub few : length (declarations t) ≤ 256
+  pub few : length (declarations t) ≤ TASKS_MAX
   pub found : (q : List ℕ) → get_by_text t.index q ≡ task_of (names_of (declarations t)) q
 
 -- what is wrong with a task that is declared after these names
 abbrev pub task_fault : List (List ℕ) → List ℕ → List ℕ → List ℕ → Option Kind
 task_fault names n q p =
     if not (is_number q && is_number p) then Some BadNumber
-    else (if not (nat_lt (length names) 256 && reservation_fits (reservation_value q p)) then Some OutOfRange
+    else (if not (nat_lt (length names) TASKS_MAX && reservation_fits (reservation_value q p)) then Some OutOfRange
     else (if not (is_none (task_of names n)) then Some DuplicateTask else None))
 
 -- what became of the declarations, where a task line stands before the first moment; or its fault
@@ -150,7 +153,7 @@ abbrev pub moment_fault : List ℕ → Option Kind
 moment_fault w = if not (is_number w) then Some BadNumber else (if is_moment (value w) then None else Some OutOfRange)
 
 abbrev pub IsMomentOf : Result ℕ Kind → List ℕ → Type 0
-IsMomentOf (Ok at) w = (is_number w ≡ true) × (value w ≡ at) × (at ≤ 2147483647)
+IsMomentOf (Ok at) w = (is_number w ≡ true) × (value w ≡ at) × (at ≤ MOMENT_MAX)
 IsMomentOf (Err k) w = moment_fault w ≡ Some k
 
 -- what is wrong with a number that is to be this, and within that limit
@@ -159,12 +162,12 @@ two_fault spelled within = if not spelled then Some BadNumber else (if within th
 
 -- the moment and the length of a run
 abbrev pub IsRunOf : Result (ℕ × ℕ) Kind → List ℕ → List ℕ → Type 0
-IsRunOf (Ok x) m d = (is_number m ≡ true) × (is_number d ≡ true) × (value m ≡ x.0) × (value d ≡ x.1) × (x.0 ≤ 2147483647) × (1 ≤ x.1) × (x.1 ≤ 16777216)
+IsRunOf (Ok x) m d = (is_number m ≡ true) × (is_number d ≡ true) × (value m ≡ x.0) × (value d ≡ x.1) × (x.0 ≤ MOMENT_MAX) × (1 ≤ x.1) × (x.1 ≤ RUN_MAX)
 IsRunOf (Err k) m d = two_fault (is_number m && is_number d) (is_moment (value m) && is_span (value d)) ≡ Some k
 
 -- the moment and the new reservation of a retune
 abbrev pub IsRetuneOf : Result (ℕ × ℕ × ℕ) Kind → List ℕ → List ℕ → List ℕ → Type 0
-IsRetuneOf (Ok x) m q p = (is_number m ≡ true) × (is_number q ≡ true) × (is_number p ≡ true) × (value m ≡ x.0) × (value q ≡ x.1) × (value p ≡ x.2) × (x.0 ≤ 2147483647) × (reservation_fits (reservation_value q p) ≡ true)
+IsRetuneOf (Ok x) m q p = (is_number m ≡ true) × (is_number q ≡ true) × (is_number p ≡ true) × (value m ≡ x.0) × (value q ≡ x.1) × (value p ≡ x.2) × (x.0 ≤ MOMENT_MAX) × (reservation_fits (reservation_value q p) ≡ true)
 IsRetuneOf (Err k) m q p = two_fault (is_number m && is_number q && is_number p) (is_moment (value m) && reservation_fits (reservation_value q p)) ≡ Some k
 
 -- ---- a file
@@ -280,5 +283,5 @@ plan_of_read all = do
 
 -- the plan, or the first fault
 unfoldable pub plan_from : List (List ℕ) → Result PlanView (Kind × ℕ × ℕ)
-plan_from files = if nat_lt 64 (length files) then Err (OutOfRange, 64, 1) else (if length files == 0 then Err (MissingQueue, 0, 1)
+plan_from files = if nat_lt QUEUES_MAX (length files) then Err (OutOfRange, QUEUES_MAX, 1) else (if length files == 0 then Err (MissingQueue, 0, 1)
     else (read_from (record { declared = []; files = [] }) 0 files >>= λ all. plan_of_read all))

@@ -1,7 +1,7 @@
 //! The texts of entries and reports.
 
 ghost use Rattle.std.specs.Prelude.{length, All, IsTrue, ◌↔◌};
-ghost use Rattle.grub_plan.specs.Texts.{IsAskOf};
+ghost use Rattle.grub_plan.specs.Plans.{IsAskOf};
 
 use super::*;
 use grub_book::{Op, Reading, Reply};

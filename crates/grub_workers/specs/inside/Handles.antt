@@ -7,11 +7,10 @@ use Rattle.grub_table.specs.Calls.{terms}
 use Rattle.grub_table.specs.declared.pass.Pass.{Pass}
 use Rattle.grub_table.specs.declared.shared.Shared.{Shared}
 use Rattle.grub_plan.specs.declared.entry.Report.{Report}
-use Rattle.grub_plan.specs.Plans.{Line, PlanView}
+use Rattle.grub_plan.specs.Plans.{Line, PlanView, script_at}
 use Rattle.grub_workers.specs.declared.work.WorkOf.{WorkOf}
 use Rattle.grub_workers.specs.declared.work.Worked.{Worked}
 use Rattle.grub_workers.specs.inside.Working.{IsWorked}
-use Rattle.grub_workers.specs.Handles.{script_at}
 
 abbrev pub Handle : Type 0
 Handle = PromisedHandle (Result Worked AllocError) WorkOf

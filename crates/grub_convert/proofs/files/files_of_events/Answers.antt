@@ -6,6 +6,6 @@ use Rattle.grub_convert.proofs.files.files_of_events.Goals as goal
 pub returns : goal.returns
 returns c = (
   c.in_ok-setting.setting,
-  c.in_ok-setting.ensures,
+  c.in_ok-setting.ensures.setting,
   c.in_ok-files.ensures ∙ ap (λ (p : List Placed). files_of c.in_ok-setting.setting p c.args.facts.now.runqueues) c.requires,
 )

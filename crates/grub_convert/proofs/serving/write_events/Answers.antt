@@ -4,7 +4,7 @@ use Rattle.std.proofs.lemmas.Result.{on_ok_weaker}
 use Rattle.std.specs.Prelude.{string_bytes}
 use Rattle.grub_plan.specs.Contents.{contents}
 use Rattle.grub_convert.specs.Faults.{status_of}
-use Rattle.grub_convert.specs.Serving.{AreFree, AreMade, IsTaken, event_paths}
+use Rattle.grub_convert.specs.Serving.{AreFree, AreMade, OneExists, event_paths}
 use Rattle.grub_convert.proofs.ServingLemmas.{count_of_paths, of_trace}
 use Rattle.grub_convert.proofs.serving.write_events.Goals as goal
 
@@ -22,7 +22,7 @@ returns-in-Some-clause-nothing g c one =
     record {
       facts = c.in_ok-facts.facts;
       told = c.in_ok-facts.ensures.told;
-      why = inr (contents c.in-Ok.files.items, c.in-Ok.ensures.files, subst (IsTaken g.X.Fn c.args.target.now.exists) paths c.in-Some.ensures.taken);
+      why = inr (contents c.in-Ok.files.items, c.in-Ok.ensures.files, subst (OneExists g.X.Fn c.args.target.now.exists) paths c.in-Some.ensures.taken);
     }
 
 pub write_files-requires-clause-same : goal.write_files-requires-clause-same

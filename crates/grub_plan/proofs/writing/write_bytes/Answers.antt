@@ -1,5 +1,6 @@
+use Rattle.std.proofs.lemmas.List.{take_rest}
 use Rattle.std.proofs.Common.{rules}
-use Rattle.grub_plan.proofs.Handing.{appends_more, rest_whole, part_nothing, part_kept}
+use Rattle.grub_plan.proofs.Handing.{appends_more, part_nothing, part_kept}
 use Rattle.grub_plan.proofs.writing.write_bytes.Goals as goal
 
 pub returns-in-Ok-eq0-clause-part : goal.returns-in-Ok-eq0-clause-part
@@ -8,7 +9,7 @@ returns-in-Ok-eq0-clause-part g c = part_nothing _ _ _ c.args.bytes.now _ c.loop
 pub loop-at-preserved : goal.loop-at-preserved
 loop-at-preserved g c =
     let text = c.args.bytes.now in
-    let written = rw (rest_whole c.loop-at.at text) at c.in-Ok.ensures.bytes in
+    let written = rw (take_rest text c.loop-at.at) at c.in-Ok.ensures.bytes in
     (search rules, appends_more _ _ _ text c.loop-at.at c.in-Ok.count c.loop-at.invariant.1 written)
 
 pub returns-in-Err-clause-part : goal.returns-in-Err-clause-part

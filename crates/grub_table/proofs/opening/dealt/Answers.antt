@@ -62,8 +62,7 @@ loop-number-preserved c =
       new = subst (AreNew s) (sym c.in_ok-push.ensures.items)
           (new_more s c.loop-number.passes.items _ i.new (record {
             of = record {
-              home = c.split_seat-one.ensures.other ∙ i.table;
-              terms = ap (λ m. (first_of m.0).terms) one;
+              seat = record { home = c.split_seat-one.ensures.other ∙ i.table; terms = ap (λ m. (first_of m.0).terms) one };
               history = subst (IsHistory T) (sym no_event) (record { legal = tt; numbers = All-nil (λ e. pass_of e < T.passes) });
               lawful = subst (AreLawful T.passes) (sym no_mark) (lawful_none T.passes);
             };

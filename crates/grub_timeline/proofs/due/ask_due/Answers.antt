@@ -53,7 +53,7 @@ loop-timer-preserved c =
       put.setup ∙ inv.2,
       (
         inv.3.0 ++ x ∷ [],
-        FoldsTo-push (AsksTimer c.args.m) _ inv.3.0 old x _ inv.3.1 (record { next = due; goes_on = record { answer = _; list = list } }),
+        FoldsTo-push (AsksTimer c.args.m) _ inv.3.0 old x _ inv.3.1 (record { next = due; asks = record { answer = _; list = list } }),
       ),
       (λ r. goes_twice r c.args.player.now.told.items before.told.items next.told.items (inv.4 r) (goes_on r before.told.items next.told.items told armed_by put.list)),
       put.start ∙ inv.5,

@@ -2,8 +2,7 @@ use Rattle.std.proofs.Common.{◌≡◌, ◌++◌, ◌∙◌, [], List, ◌<◌,
 use Rattle.std.specs.List.{flat_map}
 use Rattle.std.proofs.lemmas.List.Elements.{All-nil}
 use Rattle.grub_book.specs.Sums.{opening_book}
-use Rattle.grub_plan.specs.Plans.{PlanView}
-use Rattle.grub_plan.specs.Texts.{IsAskOf}
+use Rattle.grub_plan.specs.Plans.{PlanView, IsAskOf}
 use Rattle.grub_plan.specs.Writing.{HandsOn, HandsPart}
 use Rattle.grub_plan.proofs.Handing.{hands_both, hands_none}
 use Rattle.grub_timeline.specs.TimeLines.{AreWithin}

@@ -3,7 +3,15 @@ use Rattle.grub_table.specs.Calls.{IsTaken}
 use Rattle.grub_workers.proofs.BetweenRounds.{HasLost, IsFree, IsTurn}
 use Rattle.grub_workers.proofs.Rounds.{busy_round, done_round, done_waits, gave_up_lost, holds_left, holds_taken, lost_round}
 use Rattle.grub_workers.proofs.asking.ask.Goals as goal
-use Rattle.grub_workers.proofs.asking.ask.Goals.{in-Free+in-Held-start, in-Held}
+use Rattle.grub_workers.proofs.asking.ask.Goals.{After-finish, in-Free+in-Held-start, in-Held}
+
+-- the claim of a round, which took the task now or has it of the round before
+claim_taken : (g : _) (c : After-finish g) → IsTaken c.args.desk.now.table.now c.args.pass c.args.t c.args.op c.match-turn.claim
+claim_taken g c =
+    let a = c.args in let s = a.desk.now.table.now in let tries = a.desk.now.tries in elim c.match-turn.branch [
+      | in-Free+in-Held-start w ↦ holds_taken s a.pass a.t a.op tries c.loop.counter _ _ _ _ w.in-Free.is c.loop.invariant w.in-Held-start.ensures w.claim-is
+      | in-Held w ↦ holds_left s a.pass a.t a.op tries c.loop.counter _ _ _ w.in-Held.is c.loop.invariant w.claim-is
+    ]
 
 pub loop-preserved-in-Busy : goal.loop-preserved-in-Busy
 loop-preserved-in-Busy g c =
@@ -14,29 +22,17 @@ loop-preserved-in-Busy g c =
 pub returns-in-Done-clause-asked : goal.returns-in-Done-clause-asked
 returns-in-Done-clause-asked g c =
     let a = c.args in let s = a.desk.now.table.now in let tries = a.desk.now.tries in
-    let holds : IsTaken s a.pass a.t a.op c.match-turn.claim = elim c.match-turn.branch [
-      | in-Free+in-Held-start w ↦ holds_taken s a.pass a.t a.op tries c.loop.counter _ _ _ _ w.in-Free.is c.loop.invariant w.in-Held-start.ensures w.claim-is
-      | in-Held w ↦ holds_left s a.pass a.t a.op tries c.loop.counter _ _ _ w.in-Held.is c.loop.invariant w.claim-is
-    ] in
-    done_round s a.pass a.t a.op tries tries c.match-turn.claim c.in-Done.pass c.in-Done.reply holds c.in-Done.ensures
+    done_round s a.pass a.t a.op tries tries c.match-turn.claim c.in-Done.pass c.in-Done.reply (claim_taken g (goal.at.returns-in-Done-clause-asked g c).After-finish) c.in-Done.ensures
 
 pub returns-in-Done-clause-waits : goal.returns-in-Done-clause-waits
 returns-in-Done-clause-waits g c =
     let a = c.args in let s = a.desk.now.table.now in let tries = a.desk.now.tries in
-    let holds : IsTaken s a.pass a.t a.op c.match-turn.claim = elim c.match-turn.branch [
-      | in-Free+in-Held-start w ↦ holds_taken s a.pass a.t a.op tries c.loop.counter _ _ _ _ w.in-Free.is c.loop.invariant w.in-Held-start.ensures w.claim-is
-      | in-Held w ↦ holds_left s a.pass a.t a.op tries c.loop.counter _ _ _ w.in-Held.is c.loop.invariant w.claim-is
-    ] in
-    done_waits s a.pass a.t a.op tries c.match-turn.claim c.in-Done.pass c.in-Done.reply holds c.in-Done.ensures
+    done_waits s a.pass a.t a.op tries c.match-turn.claim c.in-Done.pass c.in-Done.reply (claim_taken g (goal.at.returns-in-Done-clause-waits g c).After-finish) c.in-Done.ensures
 
 pub loop-preserved : goal.loop-preserved
 loop-preserved g c =
     let a = c.args in let s = a.desk.now.table.now in let tries = a.desk.now.tries in
-    let holds : IsTaken s a.pass a.t a.op c.match-turn.claim = elim c.match-turn.branch [
-      | in-Free+in-Held-start w ↦ holds_taken s a.pass a.t a.op tries c.loop.counter _ _ _ _ w.in-Free.is c.loop.invariant w.in-Held-start.ensures w.claim-is
-      | in-Held w ↦ holds_left s a.pass a.t a.op tries c.loop.counter _ _ _ w.in-Held.is c.loop.invariant w.claim-is
-    ] in
-    lost_round s a.pass a.t a.op tries c.match-turn.claim c.in-Held-finish.claim holds c.in-Held-finish.ensures
+    lost_round s a.pass a.t a.op tries c.match-turn.claim c.in-Held-finish.claim (claim_taken g (goal.at.loop-preserved g c).After-finish) c.in-Held-finish.ensures
 
 pub returns-in-Held-turn-clause-asked : goal.returns-in-Held-turn-clause-asked
 returns-in-Held-turn-clause-asked g c =

@@ -30,7 +30,7 @@ loop-timer-preserved g c =
       (λ k at. let same : Some c.args.m ≡ Some k = sym last ∙ at in grind rules),
       (
         inv.2.0 ++ x ∷ [],
-        FoldsTo-push (AsksTimer c.args.m) _ inv.2.0 before.entries.items x _ inv.2.1 (record { next = due; goes_on = record { answer = _; list = put.list } }),
+        FoldsTo-push (AsksTimer c.args.m) _ inv.2.0 before.entries.items x _ inv.2.1 (record { next = due; asks = record { answer = _; list = put.list } }),
       ),
     )
 

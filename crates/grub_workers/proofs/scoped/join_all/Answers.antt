@@ -1,7 +1,7 @@
 use Rattle.std.proofs.Common.{◌≡◌, ℕ, ◌+◌, vec_len, rules, arith}
 use Rattle.grub_table.specs.declared.pass.Pass.{Pass}
 use Rattle.grub_plan.specs.declared.entry.Report.{Report}
-use Rattle.grub_workers.specs.Handles.{script_at}
+use Rattle.grub_plan.specs.Plans.{script_at}
 use Rattle.grub_workers.specs.inside.Handles.{Handle, IsOf}
 use Rattle.grub_workers.specs.inside.Working.{IsWorked}
 use Rattle.grub_workers.proofs.ListsGoneThrough.{shifted, taken, grown_both}

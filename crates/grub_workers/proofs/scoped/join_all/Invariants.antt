@@ -1,6 +1,6 @@
 use Rattle.std.proofs.Common.{◌≡◌, ℕ, ◌+◌, ◌<◌, ◌≤◌, length, get_or, vec_items, vec_len, vec_capacity, None}
 use Rattle.std.specs.Vec.Iter.{into_iter_items, into_iter_len}
-use Rattle.grub_workers.specs.Handles.{script_at}
+use Rattle.grub_plan.specs.Plans.{script_at}
 use Rattle.grub_workers.specs.inside.Handles.{IsOf}
 use Rattle.grub_workers.specs.inside.Working.{IsWorked}
 use Rattle.grub_workers.proofs.scoped.join_all.Given as goal

@@ -3,7 +3,7 @@ use Rattle.std.proofs.lemmas.Option.{get_or_from_slice_get}
 use Rattle.grub_table.specs.declared.pass.Pass.{Pass}
 use Rattle.grub_table.specs.Calls.{IsNew}
 use Rattle.grub_workers.specs.declared.work.WorkOf.{WorkOf}
-use Rattle.grub_workers.specs.Handles.{script_at}
+use Rattle.grub_plan.specs.Plans.{script_at}
 use Rattle.grub_workers.specs.inside.Handles.{Handle, IsOf}
 use Rattle.grub_workers.proofs.ListsGoneThrough.{shifted, taken, grown}
 use Rattle.grub_workers.proofs.scoped.start_all.Goals as goal

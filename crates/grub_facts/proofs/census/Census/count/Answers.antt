@@ -3,7 +3,7 @@ use Rattle.std.specs.List.{position}
 use Rattle.std.proofs.lemmas.List.{length-map}
 use Rattle.grub_facts.specs.Census.{Tally, census_text, tally_text, tally_with}
 use Rattle.grub_facts.specs.inside.Sightings.{sighting_text}
-use Rattle.grub_facts.specs.declared.census.Counted.{Counted}
+use Rattle.grub_facts.specs.declared.counted.Counted.{Counted}
 use Rattle.grub_facts.proofs.CensusLemmas.{tallied_at, tallied_last}
 use Rattle.grub_facts.proofs.GivenLemmas.{changed_map, position_map}
 use Rattle.grub_facts.proofs.WordLemmas.{none_at, some_at}

@@ -11,7 +11,7 @@ use Rattle.grub_table.proofs.shared.Shared.cancel.Goals as goal
 cancelled : (s : Shared) (c : Claim) (q : Pass) → Tells s GaveUp c.seated q.seated → IsCancelled s c q
 cancelled s c q told =
     let w = told.of c.task c.op c.held c.holds in record {
-      of = record { home = told.seat.home; terms = told.seat.terms; history = w.0.0; lawful = w.1.1.0 };
+      of = record { seat = told.seat; history = w.0.0; lawful = w.1.1.0 };
       learns = record { number = told.number; seen = w.0.1; marked = w.1.1.1 };
     }
 

@@ -4,7 +4,7 @@ use Rattle.grub_book.specs.Step.{settled, step, changes_sum, is_under_claim, run
 use Rattle.grub_book.specs.Totals.{shifted_of}
 use Rattle.grub_book.specs.declared.place.Record.{Record}
 use Rattle.grub_book.specs.declared.reply.Reply.{Reply}
-use Rattle.grub_table.specs.inside.Between.{Tells, IsSeatOf, HoldsFor}
+use Rattle.grub_table.specs.inside.Between.{Tells, HoldsFor}
 use Rattle.grub_table.specs.inside.Tellings.{ChangedQueue, is_decided_at_load, outcome, Sees, Decides, IsReadingFor, SawQueueAs, SawQueue}
 use Rattle.grub_table.specs.inside.Tries.{Tried, is_charge, TriedAs}
 use Rattle.grub_table.proofs.Between.{reading_fits_for}
@@ -29,14 +29,15 @@ use Rattle.grub_table.specs.declared.view.Access.{Access}
 use Rattle.grub_table.specs.declared.view.Access.TheVariants.{Load, Exchange}
 use Rattle.grub_table.specs.declared.view.Share.{Share}
 use Rattle.grub_table.specs.declared.view.Terms.{Terms}
-use Rattle.grub_table.specs.Calls.{share_on}
+use Rattle.grub_table.specs.Calls.{share_on, IsSeatOf}
 use Rattle.grub_table.specs.Histories.{WasBefore, record_in, reading_in}
 use Rattle.grub_table.specs.Layout.{queue_word_at}
 use Rattle.grub_table.specs.inside.Brief.{TriesOnce}
 use Rattle.grub_table.specs.inside.Layout.{stored_of}
 use Rattle.grub_table.proofs.Moves.{sound}
 use Rattle.grub_table.proofs.Turns.{under}
-use Rattle.grub_table.proofs.Tries.{lost_changes, sees_after, calls_after}
+use Rattle.grub_table.proofs.Growths.{sees_after, calls_after}
+use Rattle.grub_table.proofs.Tries.{lost_changes}
 use Rattle.grub_table.proofs.shared.Shared.decide.Goals as goal
 
 -- ---- a try

@@ -10,7 +10,7 @@ pub loop-pass-init : goal.loop-pass-init
 loop-pass-init c =
     let p = c.in-Some.last in
     let popped = All-pop (IsPassOf c.args.self) c.args.passes.items c.pop.new.self.items (Some p) c.in-Some.ensures.items c.requires.of in record {
-      table = popped.1.home;
+      table = popped.1.seat.home;
       empty = ap (λ m. m.1) p.seated.single;
       of = popped.0;
       all = ap (λ m. map share_of c.pop.new.self.items ++ m.0.view.shares) p.seated.single ∙ shares_popped c.args.passes.items c.pop.new.self.items p [] c.in-Some.ensures.items ∙ append-nil _;
@@ -23,7 +23,7 @@ join_seat-requires c =
     let words = c.args.self.words in
     let some = c.args.self.limited.queues_some in
     let popped = All-pop (IsPassOf c.args.self) c.loop-pass.passes.items c.pop-in-loop-pass.new.self.items (Some p) c.in-Some-pop.ensures.items i.of in
-    (i.table, popped.1.home, ap (λ m. m.1) p.seated.single, omega (arith, words, some), join_allowed _ _ _ _ _)
+    (i.table, popped.1.seat.home, ap (λ m. m.1) p.seated.single, omega (arith, words, some), join_allowed _ _ _ _ _)
 
 pub loop-pass-preserved : goal.loop-pass-preserved
 loop-pass-preserved c =

@@ -1,4 +1,5 @@
 use Rattle.std.proofs.Common.{◌≡◌, false, sym, ap, ◌∙◌, subst}
+use Rattle.std.proofs.lemmas.Bool.{both_ways}
 use Rattle.grub_bw.specs.Bandwidth.{Capacity}
 use Rattle.grub_book.specs.Sound.{IsKept}
 use Rattle.grub_book.specs.Step.{settled, is_under_claim}
@@ -18,7 +19,7 @@ use Rattle.grub_table.specs.Calls.{share_on, claim_share, claim_changes_sum, IsC
 use Rattle.grub_table.specs.inside.Tellings.{settled_quietly, Decides, SettledServer}
 use Rattle.grub_table.specs.inside.Tries.{is_charge, half_stored}
 use Rattle.grub_table.proofs.Brief.{made_by_store}
-use Rattle.grub_table.proofs.Tries.{is_not, quiet_blind, claim_holds, IsMade, done}
+use Rattle.grub_table.proofs.Tries.{quiet_blind, claim_holds, IsMade, done}
 use Rattle.grub_table.proofs.shared.Shared.finish_quiet.Goals as goal
 
 next_kept : (s : Shared) (c : Claim) (is : IsClaimOf s c) (queue : Capacity) (now : Reading) (p : Record × Reply) → p ≡ settled c.held queue now c.op → IsKept s.terms.setup p.0
@@ -78,7 +79,7 @@ hand_back-pass-requires-clause-kept c = (quietly c.args.self.now c.args.claim c.
 pub returns-clause-finished : goal.returns-clause-finished
 returns-clause-finished c tries =
     let made = quietly c.args.self.now c.args.claim c.requires.of c.settle_server.new.seated c.queue.result unseen c.settle-reply.result c.settle-reply.ensures c.requires.sum c.requires.charge c.settle_server.ensures.told in
-    done c.args.self.now c.args.claim c.requires.of _ _ c.settle_server.new.seated made tries _ c.hand_back-pass.ensures.seen c.hand_back-pass.ensures.told (λ sum. is_not sum c.requires.sum)
+    done c.args.self.now c.args.claim c.requires.of _ _ c.settle_server.new.seated made tries _ c.hand_back-pass.ensures.seen c.hand_back-pass.ensures.told (λ sum. absurd (both_ways _ c.requires.sum sum))
 
 pub returns-clause-within : goal.returns-clause-within
 returns-clause-within c tries = made_by_store _ _ _ _ _ _ tries _ _ _ _ c.settle_server.ensures.made c.hand_back-pass.ensures.made

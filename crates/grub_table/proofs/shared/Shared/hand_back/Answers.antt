@@ -8,11 +8,11 @@ use Rattle.grub_table.specs.declared.view.Stored.{Stored}
 use Rattle.grub_table.specs.inside.Between.{HoldsMade, Tells}
 use Rattle.grub_table.specs.Calls.{share_on}
 use Rattle.grub_table.specs.inside.Tellings.{MarksGo, Gives, GaveBack}
-use Rattle.grub_table.specs.inside.Tries.{Knows}
+use Rattle.grub_table.specs.inside.Tries.{KnowsNoMore}
 use Rattle.grub_table.proofs.shared.Shared.hand_back.Goals as goal
 
 -- the parameter word is stored, and then the task is given back
-module _ (s : Shared) (t : ℕ) (now : Record) (stored : Stored) (old mid new : Seated) (knows : Tells s Knows old mid) (h : HoldsMade s mid t now stored) (gave : Tells s GaveBack mid new) where
+module _ (s : Shared) (t : ℕ) (now : Record) (stored : Stored) (old mid new : Seated) (knows : Tells s KnowsNoMore old mid) (h : HoldsMade s mid t now stored) (gave : Tells s GaveBack mid new) where
   gave_it : ((share_on new).seen ≡ (share_on mid).seen) × Gives t s.terms (share_on mid) (share_on new)
   gave_it = gave.of t h.hold.0 now stored h.hold.1
 

@@ -1,8 +1,7 @@
-use Rattle.std.proofs.Common.{◌≡◌, ℕ, Option, Some, None, ◌∙◌, subst}
+use Rattle.std.proofs.Common.{◌≡◌, ℕ, Option, Some, None, ◌∙◌}
 use Rattle.grub_bw.specs.Bandwidth.{Reservation}
 use Rattle.grub_bw.specs.declared.server.Server.{Server}
 use Rattle.grub_book.specs.Step.{early}
-use Rattle.grub_book.specs.declared.event.Event.TheVariants.{Call}
 use Rattle.grub_book.specs.declared.op.Op.{Op}
 use Rattle.grub_book.specs.declared.place.Record.{Record}
 use Rattle.grub_book.specs.declared.reply.Reply.{Reply}
@@ -15,8 +14,8 @@ use Rattle.grub_table.specs.declared.view.Terms.{Terms}
 use Rattle.grub_table.specs.inside.Between.{HoldsFor, Tells, SawRecord}
 use Rattle.grub_table.specs.Calls.{share_on}
 use Rattle.grub_table.specs.Histories.{record_in}
-use Rattle.grub_table.specs.inside.Tellings.{Grows, Finishes, Sees, DecidesIf, SawParams, SawServer}
-use Rattle.grub_table.proofs.Growths.{grows_grows, grows_finishes}
+use Rattle.grub_table.specs.inside.Tellings.{Sees, DecidesIf, SawParams, SawServer}
+use Rattle.grub_table.proofs.Growths.{sees_after, calls_after}
 use Rattle.grub_table.proofs.Turns.{under}
 use Rattle.grub_table.proofs.shared.Shared.load_record.Goals as goal
 
@@ -43,8 +42,8 @@ module _ (s : Shared) (old mid new : Seated) (t : ℕ) (op : Op) (rec : Record) 
       }
     where
       decides_more : (T : Terms) (x x1 y : Share) (t : ℕ) (op : Op) (rec : Record) (o : Option Reply) → x1.number ≡ x.number → Sees T x x1 → DecidesIf o T x1 t op rec y → DecidesIf o T x t op rec y
-      decides_more T x x1 y t op rec None same sees d = (grows_grows T x.number x.seen x1.seen y.seen sees (subst (λ n. Grows T n x1.seen y.seen) same d.0), d.1)
-      decides_more T x x1 y t op rec (Some reply) same sees d = (grows_finishes T x.number x.seen x1.seen (Call x.number t op reply) y.seen sees (subst (λ n. Finishes T n x1.seen (Call n t op reply) y.seen) same d.0), d.1)
+      decides_more T x x1 y t op rec None same sees d = (sees_after T x x1 y same sees d.0, d.1)
+      decides_more T x x1 y t op rec (Some reply) same sees d = (calls_after T x x1 y t op reply same sees d.0, d.1)
 
 -- ---- the answers
 pub returns-clause-told : goal.returns-clause-told

@@ -1,6 +1,7 @@
 use Rattle.std.proofs.Common.{refl, ◌≡◌, ◌≢◌, ℕ, ◌≤◌, false, Ok, Err, sym, ◌∙◌, subst, ⊎_elim}
+use Rattle.grub_book.specs.declared.rules.TheConstants.{COUNT_MAX}
 use Rattle.grub_book.specs.Sound.{IsKept}
-use Rattle.grub_book.specs.Step.{count_most, refused}
+use Rattle.grub_book.specs.Step.{refused}
 use Rattle.grub_book.specs.declared.place.Record.{Record}
 use Rattle.grub_book.specs.declared.place.Place.{Place}
 use Rattle.grub_words.specs.Words.{task_word, PlaceFits}
@@ -35,7 +36,7 @@ module _ (s : Shared) (n : Note) (found : ℕ) (old new : Seated) (told : Tells 
         told.of.2,
   )
 
-  saw_claimed : ((p : Place) (m : ℕ) → PlaceFits p → m ≤ count_most → task_word p m false ≢ found) → Tells s (SawTask n.task n.op (Err found)) old new
+  saw_claimed : ((p : Place) (m : ℕ) → PlaceFits p → m ≤ COUNT_MAX → task_word p m false ≢ found) → Tells s (SawTask n.task n.op (Err found)) old new
   saw_claimed none =
       let P : Type 0 = Sees s.terms (share_on old) (share_on new) × IsOthers s.terms (share_on old).number n.task found (share_on new) in
       let seen : P = ⊎_elim (λ (a : P). a)

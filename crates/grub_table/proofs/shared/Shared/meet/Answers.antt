@@ -10,14 +10,14 @@ join_seat-requires c =
     let self = c.args.self.now in
     let words = self.words in
     let some = self.limited.queues_some in
-    (c.requires.second.home, c.requires.first.home, ap (λ m. m.1) c.args.first.seated.single, omega (arith, words, some), join_allowed _ _ _ _ _)
+    (c.requires.second.seat.home, c.requires.first.seat.home, ap (λ m. m.1) c.args.first.seated.single, omega (arith, words, some), join_allowed _ _ _ _ _)
 
 pub load-requires : goal.load-requires
 load-requires c =
     let self = c.args.self.now in
     let words = self.words in
     let some = self.limited.queues_some in
-    (c.join_seat.ensures.home ∙ c.requires.second.home, omega (arith, words, some), compare_allowed _ _ _ _ (known c.join_seat.new.seat.me))
+    (c.join_seat.ensures.home ∙ c.requires.second.seat.home, omega (arith, words, some), compare_allowed _ _ _ _ (known c.join_seat.new.seat.me))
 
 pub split_seat-one-requires : goal.split_seat-one-requires
 split_seat-one-requires c =
@@ -27,7 +27,7 @@ split_seat-one-requires c =
     let first = c.args.first in
     let second = c.args.second in
     let whole = both_seen first second c.join_seat.new.seat c.join_seat.ensures.both c.load.new.seat c.load.ensures.told.0 c.load.ensures.made in (
-      c.load.ensures.home ∙ c.join_seat.ensures.home ∙ c.requires.second.home,
+      c.load.ensures.home ∙ c.join_seat.ensures.home ∙ c.requires.second.seat.home,
       omega (arith, words, some),
       split_allowed_as _ _ _ (share_of first) (share_of second ∷ []) whole,
     )

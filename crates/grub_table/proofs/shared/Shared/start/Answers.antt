@@ -21,14 +21,14 @@ use Rattle.grub_table.specs.declared.view.Mark.TheVariants.{Taken, Given}
 use Rattle.grub_table.specs.declared.view.Share.{Share}
 use Rattle.grub_table.specs.declared.view.Terms.{Terms}
 use Rattle.grub_table.specs.inside.Between.{HoldsFor, HoldsMade, Tells, SawTask, SawRecord}
-use Rattle.grub_table.specs.Calls.{share_on, share_of, seen, marks, ComesFrom, number_of, IsAnswered, IsTaken, IsBusy, IsSighting, marks_of_call}
+use Rattle.grub_table.specs.Calls.{share_on, share_of, marks, ComesFrom, number_of, IsAnswered, IsTaken, IsBusy, IsSighting, marks_of_call, seen}
 use Rattle.grub_table.specs.Histories.{record_in}
 use Rattle.grub_table.specs.Knowing.{GoesOn, Learns}
 use Rattle.grub_table.specs.Layout.{shown}
 use Rattle.grub_table.specs.inside.Layout.{stored_of}
 use Rattle.grub_table.specs.Marks.{marker_of}
 use Rattle.grub_table.specs.inside.Tellings.{Grows, Finishes, MarksGo, Sees, Calls, CallsIf, DecidesIf, IsOthers, TookClaim, Gives}
-use Rattle.grub_table.proofs.Growths.{grows_grows, grows_finishes, marks_both}
+use Rattle.grub_table.proofs.Growths.{sees_after, calls_after, marks_both}
 use Rattle.grub_table.proofs.Starts.{outside_marks, outside_soon, early_is, word_says}
 use Rattle.grub_table.proofs.shared.Shared.start.Goals as goal
 
@@ -49,7 +49,7 @@ module _ (s : Shared) (p : Pass) (t : ℕ) (op : Op) where
       let outside = refused_outside w.place w.count op reply is in
       let f : Calls T x t op reply (share_of q) = subst (λ o. CallsIf o T x t op (share_of q)) is told.of.2.3 in
       record {
-        of = record { home = told.seat.home; terms = told.seat.terms; history = f.0; lawful = told.of.1.0 };
+        of = record { seat = told.seat; history = f.0; lawful = told.of.1.0 };
         learns = record { number = told.number; seen = f.1; marked = subst (λ l. GoesOn marker_of i (marks p) (marks q) l) (sym (outside_marks i t reply outside)) told.of.1.1 };
         last = f.2;
         soon = outside_soon reply outside;
@@ -79,7 +79,7 @@ module _ (s : Shared) (p : Pass) (t : ℕ) (op : Op) where
     grows2 = subst (λ n. Grows T n x1.seen x2.seen) number1 took.of.0
 
     grows : Grows T i x.seen x2.seen
-    grows = grows_grows T i x.seen x1.seen x2.seen grows1 grows2
+    grows = sees_after T x x1 x2 number1 grows1 took.of.0
 
     marked1 : MarksGo T.passes i x.marks x1.marks []
     marked1 = looked.of.1
@@ -108,7 +108,7 @@ module _ (s : Shared) (p : Pass) (t : ℕ) (op : Op) where
               miss.2;
         } in
         record {
-          of = subst (ComesFrom s) (sym seat) (record { home = took.seat.home; terms = took.seat.terms; history = grows.0; lawful = marked.0 });
+          of = subst (ComesFrom s) (sym seat) (record { seat = took.seat; history = grows.0; lawful = marked.0 });
           learns = subst (λ (z : Seated). Learns x (share_on z) [] []) (sym seat) (record { number = number2; seen = grows.1; marked = marked.1 });
           sight = subst (λ (z : Seated). IsSighting T i t x.seen (share_on z).seen (share_on z).marks (Changed old found)) (sym seat) sight;
         }
@@ -164,10 +164,10 @@ module _ (s : Shared) (p : Pass) (t : ℕ) (op : Op) where
 
         is_taken : (c : Claim) → c.seated ≡ three → c.task ≡ t → c.op ≡ op → c.held ≡ held → early held op ≡ None → IsTaken s p t op c
         is_taken c seat at asked has late =
-            let grows' = grows_grows T i x.seen x2.seen x3.seen grows (subst (λ n. Grows T n x2.seen x3.seen) number2 (undecided late).0) in
+            let grows' = sees_after T x x2 x3 number2 grows (undecided late).0 in
             record {
               of = record {
-                of = subst (ComesFrom s) (sym seat) (record { home = saw.seat.home; terms = saw.seat.terms; history = grows'.0; lawful = marked3.0 });
+                of = subst (ComesFrom s) (sym seat) (record { seat = saw.seat; history = grows'.0; lawful = marked3.0 });
                 task = subst (λ u. u < length T.setup.tasks) (sym at) lt;
                 op = subst (IsOp T.setup) (sym asked) is_op;
                 held = (λ k. record_in T (share_on (seat k)).seen (at k)) ∙ known.2 ∙ sym known.0 ∙ sym has;
@@ -190,12 +190,11 @@ module _ (s : Shared) (p : Pass) (t : ℕ) (op : Op) where
         answered_early : (reply : Reply) → early held op ≡ Some reply → (q : Pass) → seen q ≡ x3.seen → Tells s (Gives t) three q.seated → IsAnswered s p t op q reply
         answered_early reply is q same l =
             let z = early_is held op reply is in
-            let called = subst (λ n. Finishes T n x2.seen (Call n t op reply) x3.seen) number2 (decided reply is).0 in
-            let f = subst (λ h. Finishes T i x.seen (Call i t op reply) h) (sym same) (grows_finishes T i x.seen x2.seen (Call i t op reply) x3.seen grows called) in
+            let f = subst (λ h. Finishes T i x.seen (Call i t op reply) h) (sym same) (calls_after T x x2 x3 t op reply number2 grows (decided reply is).0) in
             let gave = subst (λ n. MarksGo T.passes n x3.marks (marks q) (Given n t ∷ [])) number3 l.of.1 in
             let marked = marks_both T.passes i x.marks x3.marks (marks q) (Taken i t ∷ []) (Given i t ∷ []) marked3 gave in
             record {
-              of = record { home = l.seat.home; terms = l.seat.terms; history = f.0; lawful = marked.0 };
+              of = record { seat = l.seat; history = f.0; lawful = marked.0 };
               learns = record { number = l.number ∙ number3; seen = f.1; marked = subst (λ r. GoesOn marker_of i x.marks (marks q) (marks_of_call i t r)) (sym z.1) marked.1 };
               last = f.2;
               soon = λ _. z;
@@ -203,7 +202,7 @@ module _ (s : Shared) (p : Pass) (t : ℕ) (op : Op) where
 
 -- ---- the answers
 pub look_at_task-requires-clause-seat : goal.look_at_task-requires-clause-seat
-look_at_task-requires-clause-seat c = record { home = c.requires.of.home; terms = c.requires.of.terms }
+look_at_task-requires-clause-seat c = c.requires.of.seat
 
 pub look_at_task-requires-clause-free : goal.look_at_task-requires-clause-free
 look_at_task-requires-clause-free c = c.args.pass.free

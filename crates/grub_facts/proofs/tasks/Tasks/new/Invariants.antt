@@ -1,0 +1,8 @@
+use Rattle.std.proofs.Common.{◌≡◌, drop, map}
+use Rattle.grub_facts.specs.Given.{tasks_behind, tasks_given, tasks_text}
+use Rattle.grub_facts.specs.Words.{text_of}
+use Rattle.grub_facts.proofs.tasks.Tasks.new.Given as goal
+
+-- the names that are left are still to be given
+abbrev pub invariant-loop-name : goal.invariant-loop-name
+invariant-loop-name l = tasks_behind (tasks_text l.tasks) (map text_of (drop l.name-index l.names)) ≡ tasks_given (map text_of l.names)

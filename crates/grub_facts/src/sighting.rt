@@ -1,0 +1,69 @@
+//! What an event shows of a SCHED_DEADLINE task.
+
+ghost use Rattle.std.specs.Prelude.{◌≡◌, option_map};
+ghost use Rattle.grub_facts.specs.Census.{blocks_of, sighting_of};
+ghost use Rattle.grub_facts.specs.inside.Events.{event_text};
+ghost use Rattle.grub_facts.specs.inside.Sightings.{sighting_text};
+
+use crate::event::{Event, Shown};
+use crate::fact::Stop;
+use crate::given::stop_of;
+
+/// A line that shows a SCHED_DEADLINE task on a CPU.
+#[derive(Clone, Copy)]
+pub struct Sighting<'a> {
+    pub task: Shown<&'a [u8]>,
+    pub cpu: u32,
+    pub wakes: u64,
+    pub blocks: u64,
+}
+
+/// A switch away is a block, unless the task stays ready.
+fn blocks_of(stop: Stop) -> u64
+    ensures { result ≡ blocks_of stop }
+{
+    match stop {
+        Stop::Ready => 0,
+        Stop::Blocks => 1,
+        Stop::Ends => 1,
+    }
+}
+
+/// What an event shows on a line of this CPU.
+pub(crate) fn sighting_of<'a>(own: u32, event: &Event<&'a [u8]>) -> Option<Sighting<'a>>
+    ensures { option_map sighting_text result ≡ sighting_of own (event_text event.now) }
+{
+    match *event {
+        Event::Woken {
+            task,
+            is_deadline: true,
+            cpu,
+        } => Some(Sighting {
+            task,
+            cpu,
+            wakes: 1,
+            blocks: 0,
+        }),
+        Event::Migrated {
+            task,
+            is_deadline: true,
+            cpu,
+        } => Some(Sighting {
+            task,
+            cpu,
+            wakes: 0,
+            blocks: 0,
+        }),
+        Event::Switched {
+            task,
+            is_deadline: true,
+            state,
+        } => Some(Sighting {
+            task,
+            cpu: own,
+            wakes: 0,
+            blocks: blocks_of(stop_of(state)),
+        }),
+        _ => None,
+    }
+}
