@@ -1,29 +1,12 @@
 -- What a word of digits spells.
-use Rattle.std.proofs.Common.{◌≡◌, ℕ, zero, suc, ◌+◌, ◌-◌, ◌*◌, ◌^◌, ◌<◌, ◌≤◌, Bool, true, false, not, ◌&&◌, ◌==◌, if◌then◌else◌, min, List, [], ◌∷◌, length, get_or, take, Option, Some, None, option_map, refl, ap, ◌∙◌, arith, rules}
-use Rattle.std.specs.Char.{is_ascii_digit, digit_value}
+use Rattle.std.proofs.Common.{◌≡◌, ℕ, ◌*◌, ◌^◌, ◌<◌, ◌≤◌, Bool, true, false, not, ◌&&◌, ◌==◌, if◌then◌else◌, min, List, length, Option, Some, None, option_map, refl, ap, ◌∙◌, arith}
+use Rattle.std.specs.Char.{is_ascii_digit}
 use Rattle.std.specs.List.{list_all}
-use Rattle.std.specs.Int.{IsInRange}
-use Rattle.std.proofs.lemmas.Str.Parse.{IsDigitsTest, IsNumeralModel, numerals_by_value, digits_value_short}
+use Rattle.std.proofs.lemmas.Str.Parse.{digits_value_short}
 use Rattle.std.proofs.lemmas.Nat.{mul-le}
-use Rattle.std.proofs.lemmas.Int.Digits.{digits_value_more}
-use Rattle.grub_facts.specs.Numbers.{fraction, number, value}
-
-pub tells : IsDigitsTest (λ ds. list_all is_ascii_digit ds ≡ true)
-tells = search rules
-
-pub numerals : IsNumeralModel (λ ds. list_all is_ascii_digit ds ≡ true) value
-numerals = numerals_by_value _ tells
-
-pub digit_at : (ds : List ℕ) (i : ℕ) → list_all is_ascii_digit ds ≡ true → i < length ds → IsInRange 48 57 (get_or ds i 0)
-digit_at [] i h lt = absurd (omega arith)
-digit_at (c ∷ cs) zero h lt = (tells.parts c cs h).0
-digit_at (c ∷ cs) (suc i) h lt = digit_at cs i (tells.parts c cs h).1 (omega arith)
-
-digit_is : (c : ℕ) → IsInRange 48 57 c → digit_value c ≡ c - 48
-digit_is c h = search rules
-
-pub value_more : (ds : List ℕ) (i : ℕ) → list_all is_ascii_digit ds ≡ true → i < length ds → value (take (i + 1) ds) ≡ value (take i ds) * 10 + (get_or ds i 0 - 48)
-value_more ds i h lt = digits_value_more 10 ds i lt ∙ ap (λ (d : ℕ). value (take i ds) * 10 + d) (digit_is (get_or ds i 0) (digit_at ds i h lt))
+use Rattle.grub_facts.specs.Numbers.{fraction, number}
+use Rattle.grub_text.specs.Digits.{value}
+use Rattle.grub_text.proofs.Digits.{numerals}
 
 min_scaled : (v by : ℕ) → v < 10 ^ 8 → by ≤ 1000 → min (min v 18446744073709551615 * by) 18446744073709551615 ≡ min v 18446744073709551615 * by
 min_scaled v by small few =

@@ -4,8 +4,8 @@ use Rattle.std.specs.List.{onto_first}
 use Rattle.grub_facts.specs.Faults.{fault_text}
 use Rattle.grub_facts.specs.declared.fault.LineFault.{LineFault}
 use Rattle.grub_facts.specs.Texts.{After, Progress, further, line_ended, onto, reading, through}
-use Rattle.grub_facts.specs.Words.{is_end, parts_of}
-use Rattle.grub_facts.proofs.WordLemmas.{has_part}
+use Rattle.grub_text.specs.Lines.{is_end, parts_of}
+use Rattle.grub_text.proofs.Splits.{has_part}
 
 -- no bytes in front of a text's parts
 onto_none : (xs : List ℕ) → onto [] (parts_of xs) ≡ parts_of xs

@@ -4,7 +4,8 @@ use Rattle.std.specs.List.{starts_with}
 use Rattle.std.specs.Str.{bytes_eq}
 use Rattle.std.specs.Option.{option_map_or}
 use Rattle.grub_facts.specs.Numbers.{number}
-use Rattle.grub_facts.specs.Words.{behind, word_of, words_of, without_spaces, cpu_field}
+use Rattle.grub_facts.specs.Words.{behind, without_spaces, cpu_field}
+use Rattle.grub_text.specs.Lines.{word_of, words_of}
 
 abbrev pub is_comment : List ℕ → Bool
 is_comment line = starts_with nat_eq line (codes "#")

@@ -1,6 +1,7 @@
 -- What a line of a trace tells, whatever tasks were given.
 use Rattle.std.specs.Prelude.{ℕ, Bool, ◌||◌, nat_lt, nat_le, ◌+◌, ◌-◌, List, length, slice_range, Option, Some, None, if◌then◌else◌}
-use Rattle.grub_facts.specs.Words.{word_of, without_spaces}
+use Rattle.grub_facts.specs.Words.{without_spaces}
+use Rattle.grub_text.specs.Lines.{word_of}
 use Rattle.grub_facts.specs.Opening.{opening_of}
 use Rattle.grub_facts.specs.Head.{is_comment, is_lost}
 use Rattle.grub_facts.specs.Events.{verb_of, said_of}

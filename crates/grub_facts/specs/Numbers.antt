@@ -3,7 +3,7 @@ use Rattle.std.specs.Prelude.{ℕ, Bool, false, not, ◌&&◌, ◌==◌, ◌+◌
 use Rattle.std.specs.List.{list_all}
 use Rattle.std.specs.Str.{bytes_eq}
 use Rattle.std.specs.Char.{is_ascii_digit}
-use Rattle.std.specs.Str.Parse.{digits_value}
+use Rattle.grub_text.specs.Digits.{value}
 
 -- what follows the key at the front of a word
 abbrev pub after : List ℕ → List ℕ → Option (List ℕ)
@@ -13,9 +13,6 @@ after key word = if bytes_eq (take (length key) word) key then Some (drop (lengt
 abbrev pub before_end : List ℕ → List ℕ → Option (List ℕ)
 before_end key word =
     if bytes_eq (drop (length word - length key) word) key then Some (take (length word - length key) word) else None
-
-abbrev pub value : List ℕ → ℕ
-value digits = digits_value 10 digits
 
 -- the number that a word of digits spells, or the greatest of 64 bits where it is greater
 abbrev pub number : List ℕ → Option ℕ

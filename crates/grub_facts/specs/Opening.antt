@@ -4,7 +4,7 @@ use Rattle.std.specs.Option.{option_or}
 use Rattle.std.specs.List.{ends_with, position_or_len}
 use Rattle.std.specs.Char.{is_ascii_digit}
 use Rattle.grub_facts.specs.Numbers.{number, bracketed, moment}
-use Rattle.grub_facts.specs.Words.{is_space, words_of}
+use Rattle.grub_text.specs.Lines.{is_space, words_of}
 use Rattle.grub_facts.specs.declared.opening.CpuWord.{CpuWord}
 use Rattle.grub_facts.specs.declared.opening.Opening.{Opening}
 

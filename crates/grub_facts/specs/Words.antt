@@ -1,29 +1,12 @@
--- Words of a line, which stand between spaces, and its fields.
+-- The fields of a line.
 use Rattle.std.specs.Prelude.{ℕ, Bool, not, ◌&&◌, ◌==◌, ◌+◌, List, [], ◌∷◌, length, drop, nat_eq, slice_range, Option, Some, None, if◌then◌else◌, option_and_then}
-use Rattle.std.specs.List.{slice_split, starts_with, before_first, position_or_len}
+use Rattle.std.specs.List.{starts_with, position_or_len}
 use Rattle.std.specs.Borrow.{Bor}
+use Rattle.grub_text.specs.Lines.{is_space, word_of}
 use Rattle.grub_facts.specs.Numbers.{number, small_number, is_deadline}
 
 abbrev pub text_of : Bor (List ℕ) → List ℕ
 text_of text = text.now
-
--- the byte that ends a line
-abbrev pub is_end : ℕ → Bool
-is_end b = b == 10
-
--- the lines of a text, and behind the last byte that ends one what is left
-abbrev pub parts_of : List ℕ → List (List ℕ)
-parts_of text = slice_split is_end text
-
-abbrev pub is_space : ℕ → Bool
-is_space b = b == 32
-
--- the parts between single spaces
-abbrev pub words_of : List ℕ → List (List ℕ)
-words_of text = slice_split is_space text
-
-abbrev pub word_of : List ℕ → List ℕ
-word_of text = before_first is_space text
 
 -- from its first byte on that is no space
 abbrev pub without_spaces : List ℕ → List ℕ

@@ -10,14 +10,14 @@ use crate::number::{after, before_end};
 use crate::opening::{Opening, running};
 
 /// A task as a line shows it; `T` is a text.
-#[derive(Clone, Copy, Debug, PartialEq, Eq)]
+#[derive(Clone, Copy)]
 pub struct Shown<T> {
     pub comm: T,
     pub pid: u64,
 }
 
 /// What a line says; `T` is a text.
-#[derive(Clone, Copy, Debug, PartialEq, Eq)]
+#[derive(Clone, Copy)]
 pub enum Event<T> {
     /// sched_wakeup and sched_wakeup_new.
     Woken {
@@ -70,7 +70,7 @@ pub enum Event<T> {
 }
 
 /// What a line of one of the events says, with its moment in nanoseconds and its CPU.
-#[derive(Clone, Copy, Debug, PartialEq, Eq)]
+#[derive(Clone, Copy)]
 pub struct Said<T> {
     pub at: u64,
     pub cpu: u32,
@@ -78,7 +78,7 @@ pub struct Said<T> {
 }
 
 /// Which event a line is of.
-#[derive(Clone, Copy, Debug, PartialEq, Eq)]
+#[derive(Clone, Copy)]
 pub enum Verb {
     Wakeup,
     Migrate,

@@ -4,7 +4,7 @@ ghost use Rattle.std.specs.Prelude.{◌≡◌, ◌+◌, ◌≤◌, IfSome, lengt
 ghost use Rattle.grub_facts.specs.Words.{behind, cpu_field, deadline_field, filled, number_field, place_of, text_of, value_of};
 
 use crate::number::{is_deadline, number, small_number};
-use crate::words::{first_word, space_in};
+use grub_text::{first_word, space_in};
 
 /// How many bytes stand before the first space that the key follows.
 pub(crate) fn place_of(key: &[u8], text: &[u8]) -> Option<usize>

@@ -2,11 +2,12 @@
 
 ghost use Rattle.std.specs.Prelude.{◌≡◌, ◌==◌, false, position};
 ghost use Rattle.grub_facts.specs.Head.{has_fewer, is_comment, is_fewer, is_less, is_lost, processors, say_lost};
-ghost use Rattle.grub_facts.specs.Words.{words_of};
+ghost use Rattle.grub_text.specs.Lines.{words_of};
 
 use crate::field::{behind, cpu_field};
 use crate::number::number;
-use crate::words::{first_word, without_spaces};
+use crate::spaces::without_spaces;
+use grub_text::first_word;
 
 /// Whether a line begins with `#`.
 pub(crate) fn is_comment(line: &[u8]) -> bool

@@ -16,7 +16,7 @@ use crate::tasks::Tasks;
 use std::alloc::{AllocError, Global};
 
 /// What is wrong with a line by the tasks that were given.
-#[derive(Clone, Copy, Debug, PartialEq, Eq)]
+#[derive(Clone, Copy)]
 pub enum Trouble {
     /// Nothing.
     NoTrouble,

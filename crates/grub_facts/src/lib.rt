@@ -16,10 +16,10 @@ mod number;
 mod opening;
 mod reader;
 mod sighting;
+mod spaces;
 mod task_reader;
 mod tasks;
 mod text;
-mod words;
 
 pub use counted::Counted;
 pub use fact::{Counts, Fact, Facts, Found, Stop, What};

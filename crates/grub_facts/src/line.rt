@@ -11,7 +11,8 @@ use crate::event::{Event, Said, said_of, verb_of};
 use crate::fault::Flaw;
 use crate::head::{is_comment, is_lost};
 use crate::opening::{Opening, opening_of};
-use crate::words::{first_word, without_spaces};
+use crate::spaces::without_spaces;
+use grub_text::first_word;
 
 /// How many CPUs a trace may name, from 0 on, and how many runqueues there may be.
 pub const CPUS_MAX: u32 = 64;
@@ -20,7 +21,7 @@ pub const CPUS_MAX: u32 = 64;
 pub const CLOCK_MAX: u64 = 1000000;
 
 /// What a line tells; `T` is a text.
-#[derive(Clone, Copy, Debug, PartialEq, Eq)]
+#[derive(Clone, Copy)]
 pub enum Line<T> {
     /// Nothing that is read here.
     Nothing,

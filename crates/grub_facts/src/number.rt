@@ -3,7 +3,8 @@
 ghost use Rattle.std.specs.Prelude.{◌≡◌, ◌<◌, ◌*◌, ◌+◌, ◌&&◌, ◌==◌, min, true, position, option_map};
 ghost use Rattle.std.specs.List.{list_all};
 ghost use Rattle.std.specs.Char.{is_ascii_digit};
-ghost use Rattle.grub_facts.specs.Numbers.{after, before_end, bracketed, fraction, is_deadline, moment, nanos, number, point_text, small_number, value};
+ghost use Rattle.grub_facts.specs.Numbers.{after, before_end, bracketed, fraction, is_deadline, moment, nanos, number, point_text, small_number};
+ghost use Rattle.grub_text.specs.Digits.{value};
 ghost use Rattle.grub_facts.specs.Words.{text_of};
 
 /// The number that a word of digits spells, or the greatest `u64` where it is greater.

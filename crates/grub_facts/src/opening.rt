@@ -2,15 +2,15 @@
 
 ghost use Rattle.std.specs.Prelude.{◌≡◌, ◌==◌, ◌≤◌, IfSome, length, not, position, reverse};
 ghost use Rattle.std.specs.Char.{is_ascii_digit};
-ghost use Rattle.grub_facts.specs.Words.{is_space};
+ghost use Rattle.grub_text.specs.Lines.{is_space};
 ghost use Rattle.grub_facts.specs.Opening.{before_brackets, last_digits, later_cpu, opening_of, running, trimmed};
 ghost use Rattle.grub_facts.specs.inside.OpeningFits.{StartsWithin};
 
 use crate::number::{bracketed, moment, number};
-use crate::words::first_word;
+use grub_text::first_word;
 
 /// The word of a line that names its CPU.
-#[derive(Clone, Copy, Debug, PartialEq, Eq)]
+#[derive(Clone, Copy)]
 pub struct CpuWord {
     pub cpu: u32,
 
@@ -19,7 +19,7 @@ pub struct CpuWord {
 }
 
 /// What a line has up to its moment.
-#[derive(Clone, Copy, Debug, PartialEq, Eq)]
+#[derive(Clone, Copy)]
 pub struct Opening {
     /// In nanoseconds.
     pub at: u64,

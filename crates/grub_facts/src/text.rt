@@ -9,7 +9,7 @@ ghost use Rattle.grub_facts.specs.Texts.{After, cut_problem, fault_at_end, furth
 use crate::fault::{LineFault, Wrong};
 use crate::head::is_lost;
 use crate::number::before_end;
-use crate::words::first_line;
+use grub_text::first_line;
 use std::alloc::{AllocError, Global};
 
 /// What lines go to.

@@ -1,5 +1,5 @@
 -- Files of a list of names, read one after another.
-use Rattle.std.proofs.Common.{refl, ◌≤◌, ◌≡◌, ◌∙◌, ap, subst, sym, ℕ, ◌+◌, ◌<◌, List, [], ◌∷◌, ◌++◌, get_or, length, take, Some, option_map}
+use Rattle.std.proofs.Common.{◌⊎◌, ⊎_elim, refl, ◌≤◌, ◌≡◌, ◌∙◌, ap, subst, sym, ℕ, ◌+◌, ◌<◌, List, [], ◌∷◌, ◌++◌, get_or, length, take, Some, option_map}
 use Rattle.std.proofs.lemmas.List.{length-map, map-append, take-map}
 use Rattle.std.proofs.lemmas.List.Elements.{AllZip-push, length_all_zip}
 use Rattle.std.proofs.lemmas.Option.{slice_get-map, slice_get-get_or}
@@ -12,8 +12,10 @@ use Rattle.grub_plan.specs.Contents.{contents}
 use Rattle.grub_files.specs.declared.input.Source.{Source}
 use Rattle.grub_files.specs.declared.input.TheConstants.{FILE_BYTES_MAX}
 use Rattle.grub_files.specs.Source.{Holds, IsLonger, IsOpened, IsUnreadable, Opener, Reader}
-use Rattle.grub_trace.specs.FirstFault.{too_many}
-use Rattle.grub_trace.specs.declared.fault.Kind.TheVariants.{OutOfRange}
+use Rattle.grub_book.specs.declared.setup.TheConstants.{QUEUES_MAX}
+use Rattle.grub_trace.specs.FirstFault.{no_file, too_many}
+use Rattle.grub_trace.specs.declared.fault.Kind.TheVariants.{MissingQueue, OutOfRange}
+use Rattle.grub_trace.specs.declared.fault.TraceFault.{TraceFault}
 use Rattle.grub_trace.specs.declared.fault.TraceFault.TheVariants as trace
 use Rattle.grub_run.specs.declared.fault.GrubFault.TheVariants as run
 use Rattle.grub_serve.specs.declared.fault.ProgramFault.{ProgramFault}
@@ -63,8 +65,15 @@ of_reading o g source name faults.NoMemory is = tt
 pub opened_whole : {O N D : Type 0} (o : Opener O D) (g : Reader N D) (source : Source O N) (name bytes : List ℕ) → length bytes ≤ FILE_BYTES_MAX → Holds o g source name bytes → IsOpened o g source name
 opened_whole o g source name bytes few holds = let (after, (last, reads, end)) = holds.is in record { file = holds.file; opened = holds.opened; is = (last, (bytes, reads, few)) }
 
--- more files than a run can have
-pub many_told : {O N D : Type 0} (o : Opener O D) (g : Reader N D) (source : Source O N) (paths : List (Bor (List ℕ))) (files : List (List ℕ)) (r : ProgramFault) → 64 < length paths → HoldAll o g source (names_of paths) files → IsPlaced (names_of paths) (run.Trace (trace.At OutOfRange 64 1)) r → Tells o g source (names_of paths) r
-many_told o g source paths files r many hold (path, is, named) =
-    let all : 64 < length files = rw (← length_all_zip (Holds o g source) (names_of paths) files hold, length-map) many in
-    subst (Tells o g source (names_of paths)) (sym is) (record { files = files; hold = hold; says = record { kind = OutOfRange; file = 64; is = too_many all; told = refl; named = named } })
+-- a number of files that no run can have, told of files that may be read whole
+pub count_told : {O N D : Type 0} (o : Opener O D) (g : Reader N D) (source : Source O N) (paths : List (Bor (List ℕ))) (files : List (List ℕ)) (fault : TraceFault) (r : ProgramFault)
+    → (QUEUES_MAX < length paths → fault ≡ trace.At OutOfRange QUEUES_MAX 1) → (length paths ≡ 0 → fault ≡ trace.At MissingQueue 0 1) → QUEUES_MAX < length paths ⊎ length paths ≡ 0
+    → HoldAll o g source (names_of paths) files → IsPlaced (names_of paths) (run.Trace fault) r → Tells o g source (names_of paths) r
+count_told o g source paths files fault r many nothing exact hold placed = ⊎_elim
+    (λ h. let (path, is, named) = subst (λ f. IsPlaced (names_of paths) (run.Trace f) r) (many h) placed in
+    let all : QUEUES_MAX < length files = rw (← length_all_zip (Holds o g source) (names_of paths) files hold, length-map) h in
+    subst (Tells o g source (names_of paths)) (sym is) (record { files = files; hold = hold; says = record { kind = OutOfRange; file = QUEUES_MAX; is = too_many all; told = refl; named = named } }))
+    (λ h. let (path, is, named) = subst (λ f. IsPlaced (names_of paths) (run.Trace f) r) (nothing h) placed in
+    let all : length files ≡ 0 = rw (← length_all_zip (Holds o g source) (names_of paths) files hold, length-map) h in
+    subst (Tells o g source (names_of paths)) (sym is) (record { files = files; hold = hold; says = record { kind = MissingQueue; file = 0; is = no_file all; told = refl; named = named } }))
+    exact

@@ -8,11 +8,10 @@ ghost use Rattle.grub_serve.specs.Faults.{TellsOfView, Whole, names_of};
 ghost use Rattle.grub_serve.specs.Shown.{IsShown};
 
 use crate::fault::ProgramFault;
-use crate::reports::{placed, read_files, too_many};
+use crate::reports::{check_paths, placed, read_files};
 use crate::show_fault::ShowFault;
 use crate::view::{View, write_view};
 use grub_files::Source;
-use grub_trace::FILES_MAX;
 use std::alloc::Global;
 use std::io;
 use std::io::Write;
@@ -48,8 +47,8 @@ pub fn print_view<
         (λ e. e ≡ faults.Run run_faults.WriteFault → Whole O.Fn N.Fn source.now
         (Begins (IsShown view) (W.contents out.old) (W.contents out.new)) (names_of paths.now)) }
 {
-    if paths.len() > FILES_MAX {
-        return Err(too_many(alloc, source, paths));
+    if let Err(fault) = check_paths(alloc, source, paths) {
+        return Err(fault);
     }
     let files = match read_files(alloc, source, paths) {
         Ok(files) => files,

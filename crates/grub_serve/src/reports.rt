@@ -13,7 +13,7 @@ ghost use Rattle.grub_serve.specs.inside.Telling.{IsOfReading, IsPlaced, TellsOf
 use crate::fault::ProgramFault;
 use grub_files::{FileFault, Source, read_file};
 use grub_run::{GrubFault, run_texts};
-use grub_trace::{FILES_MAX, Kind, TraceFault};
+use grub_trace::{TraceFault, check_count};
 use std::alloc::Global;
 use std::io;
 use std::io::Write;
@@ -105,29 +105,25 @@ pub(crate) fn placed<'a>(paths: &[&'a str], fault: GrubFault) -> ProgramFault<'a
     }
 }
 
-/// The fault of more files than a run can have. All of them are read first, and the bytes of none are kept.
-pub(crate) fn too_many<
+/// Whether a run may have so many files. Where it may not, all are read first, and the bytes of none are kept.
+pub(crate) fn check_paths<
     'a,
     D: Drop,
     O: Fn(&str) -> io::Result<D>,
     N: Fn(&mut D, &mut [u8]) -> io::Result<usize>,
->(alloc: Global, source: &Source<O, N>, paths: &[&'a str]) -> ProgramFault<'a>
+>(alloc: Global, source: &Source<O, N>, paths: &[&'a str]) -> Result<(), ProgramFault<'a>>
     requires open { O.IsAlwaysCallable source.now.open }
     requires read { N.IsAlwaysCallable source.now.read }
-    requires many { QUEUES_MAX < length paths.now }
-    ensures fault { Tells O.Fn N.Fn source.now (names_of paths.now) result }
-    ensures reading { IsOfReading result }
+    ensures few { OnOk result (length paths.now ≤ QUEUES_MAX) }
+    ensures fault { IfErr result (Tells O.Fn N.Fn source.now (names_of paths.now)) }
+    ensures reading { IfErr result IsOfReading }
 {
+    let Err(fault) = check_count(paths.len()) else {
+        return Ok(());
+    };
     match read_each(alloc, source, paths) {
-        Ok(()) => placed(
-            paths,
-            GrubFault::Trace(TraceFault::At {
-                kind: Kind::OutOfRange,
-                file: FILES_MAX,
-                line: 1,
-            }),
-        ),
-        Err(fault) => fault,
+        Ok(()) => Err(placed(paths, GrubFault::Trace(fault))),
+        Err(unread) => Err(unread),
     }
 }
 
@@ -163,8 +159,8 @@ pub fn print_reports<
         (λ e. e ≡ faults.Run run_faults.WriteFault → Whole O.Fn N.Fn source.now
         (Begins (IsOutput tries) (W.contents out.old) (W.contents out.new)) (names_of paths.now)) }
 {
-    if paths.len() > FILES_MAX {
-        return Err(too_many(alloc, source, paths));
+    if let Err(fault) = check_paths(alloc, source, paths) {
+        return Err(fault);
     }
     let files = match read_files(alloc, source, paths) {
         Ok(files) => files,

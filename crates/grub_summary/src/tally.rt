@@ -10,7 +10,7 @@ use grub_steps::{
 };
 
 /// What is counted of a task.
-#[derive(Clone, Copy, Debug, PartialEq, Eq)]
+#[derive(Clone, Copy)]
 pub struct Tally {
     /// How long it ran, over the runs that were charged.
     pub executed: u128,

@@ -9,7 +9,7 @@ use grub_book::Reading;
 use grub_steps::Step;
 
 /// What is counted of a runqueue.
-#[derive(Clone, Copy, Debug, PartialEq, Eq)]
+#[derive(Clone, Copy)]
 pub struct Usage {
     /// Entries after which its reading is another than before.
     pub changes: usize,
@@ -30,7 +30,7 @@ const NO_READING: Reading = Reading {
 };
 
 /// What is counted of a runqueue over the steps so far, and where it stands.
-#[derive(Clone, Copy, Debug, PartialEq, Eq)]
+#[derive(Clone, Copy)]
 pub struct Meter {
     queue: u32,
 

@@ -11,7 +11,7 @@ pub struct Terms {
 }
 
 /// A pass takes a task, or gives it back.
-#[derive(Clone, Copy, PartialEq, Eq, Debug)]
+#[derive(Clone, Copy)]
 pub enum Mark {
     Taken { pass: u32, task: u32 },
     Given { pass: u32, task: u32 },

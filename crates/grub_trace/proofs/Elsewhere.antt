@@ -6,13 +6,15 @@ use Rattle.grub_trace.specs.declared.fault.Kind.{Kind}
 use Rattle.grub_trace.specs.declared.fault.Kind.TheVariants.{BadLine, CutShort}
 use Rattle.grub_trace.specs.declared.raw.Head.{Head}
 use Rattle.grub_trace.specs.Tree.{Declaration}
-use Rattle.grub_trace.specs.Forms.{Form, at_moment, form_of, parts_of, queue, task, value, words_of}
+use Rattle.grub_trace.specs.Forms.{Form, at_moment, form_of, queue, task}
+use Rattle.grub_text.specs.Lines.{is_end, parts_of, words_of}
+use Rattle.grub_text.specs.Digits.{value}
 use Rattle.grub_trace.specs.Faults.{form_fault}
 use Rattle.grub_trace.specs.inside.Forms.{begins_with_task, is_task}
 use Rattle.grub_trace.specs.inside.Heads.{IsHead, body_from, lines_below, read_body}
 use Rattle.grub_trace.specs.inside.Reading.{Read, act_map, adds, at_line, of_file, opened, read_lines, take_form, take_line, take_option, times_of, ok_unless, ◌>>=◌}
 use Rattle.grub_trace.proofs.LineLemmas.{unless_ok}
-use Rattle.grub_trace.proofs.WordLemmas.{has_part}
+use Rattle.grub_text.proofs.Splits.{has_part}
 
 -- the same where these tasks are declared
 abbrev pub redeclare : List Declaration → Read → Read
@@ -84,4 +86,4 @@ body_elsewhere ds h is = ap (λ (x : Result Read (Kind × ℕ)). of_file h.file 
 
 -- a whole line that is first
 pub front_below : (text line rest : List ℕ) → parts_of text ≡ line ∷ parts_of rest → is_task (form_of (words_of line)) ≡ true → begins_with_task (parts_of text) ≡ true
-front_below text line rest parts is = let more = has_part (λ b. eqb b 10) rest in ap begins_with_task (parts ∙ ap (λ ps. line ∷ ps) more.2) ∙ is
+front_below text line rest parts is = let more = has_part is_end rest in ap begins_with_task (parts ∙ ap (λ ps. line ∷ ps) more.2) ∙ is

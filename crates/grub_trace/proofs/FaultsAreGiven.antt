@@ -15,13 +15,14 @@ use Rattle.grub_trace.specs.declared.fault.Kind.TheVariants.{CutShort, BadHeader
 use Rattle.grub_trace.specs.Tree.{Declaration, Happening, Tree, text, line, header, head_text, queue_words, declaration_words, happening_words, names_of}
 use Rattle.grub_trace.specs.Faults.{line_fault, header_fault, queue_fault}
 use Rattle.grub_trace.specs.inside.Faults.{fault_of_form}
-use Rattle.grub_trace.specs.Forms.{Form, form_of, words_of, version_of, parts_of}
+use Rattle.grub_trace.specs.Forms.{Form, form_of, version_of}
+use Rattle.grub_text.specs.Lines.{is_end, words_of, parts_of}
 use Rattle.grub_trace.specs.Meaning.{AreKnown, IsTree, AreTrees}
 use Rattle.grub_trace.specs.FirstFault.{front_fault, LineFault, FileFault, UnknownFault, IsFault, too_many, no_file, first, unknown}
 use Rattle.grub_trace.specs.Naming.{all_tasks, line_in, script_of}
 use Rattle.grub_trace.specs.inside.Reading.{Read, FileRead, AllRead, with_file, of_file, read_file, read_first, read_as, opened, file_from, read_second, read_lines, read_from, queue_of, take_option, ok_unless, adds, at_line, ◌>>=◌, times_of, script_from, scripts_from, option_or_err, unknown_in, plan_from}
 use Rattle.grub_trace.proofs.PlanLaws.{body_of_tree, is_unknown}
-use Rattle.grub_trace.proofs.WordLemmas.{has_part}
+use Rattle.grub_text.proofs.Splits.{has_part}
 use Rattle.grub_trace.proofs.LineLemmas.{first_known, second_then}
 use Rattle.grub_trace.proofs.FormLemmas.{version_again}
 use Rattle.grub_trace.proofs.FileLaws.{small_queue}
@@ -37,7 +38,7 @@ one_part rest last e = sym (join_with_byte-slice_split 10 rest) ∙ ap (join_wit
 
 stop_here : (r : Read) (n : ℕ) (rest : List ℕ) (parts : List (List ℕ)) (k : Kind) → 0 < length rest → parts_of rest ≡ parts → front_fault CutShort (line_fault r.version (names_of r.declared) (times_of r.happenings)) parts ≡ Some k → read_lines r n parts ≡ Err (k, n)
 unfolding read_lines
-stop_here r n rest [] k some p e = absurd (let w = has_part (λ b. eqb b 10) rest in let x : [] ≡ w.0 ∷ w.1 = sym p ∙ w.2 in cc)
+stop_here r n rest [] k some p e = absurd (let w = has_part is_end rest in let x : [] ≡ w.0 ∷ w.1 = sym p ∙ w.2 in cc)
 stop_here r n rest (last ∷ []) k some p e = go (eqb (length last) 0) (not_zero (length last) (subst (λ (l : List ℕ). 0 < length l) (one_part rest last p) some)) e
   where
     go : (b : Bool) → b ≡ false → Some (cond b CutShort CutShort) ≡ Some k → cond b (Ok r) (failed (CutShort, n)) ≡ failed (k, n)

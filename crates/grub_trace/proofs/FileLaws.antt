@@ -6,8 +6,10 @@ use Rattle.std.specs.List.{join_with_byte, flat_map, list_all}
 use Rattle.std.proofs.lemmas.List.{append-nil, length-append, length-map, map-append}
 use Rattle.grub_trace.specs.inside.Reading.{times_of}
 use Rattle.grub_trace.specs.Faults.{line_fault, queue_fault, queue_form_fault}
-use Rattle.grub_trace.specs.Forms.{Form, queue, task, at_moment, form_of, words_of, version_of, is_number, value, capacity_value, parts_of}
-use Rattle.grub_trace.proofs.WordLemmas.{has_part}
+use Rattle.grub_trace.specs.Forms.{Form, queue, task, at_moment, form_of, version_of, is_number, capacity_value}
+use Rattle.grub_text.specs.Lines.{is_end, words_of, parts_of}
+use Rattle.grub_text.specs.Digits.{value}
+use Rattle.grub_text.proofs.Splits.{has_part}
 use Rattle.std.proofs.lemmas.List.Splits.{join_with_byte-slice_split}
 use Rattle.grub_bw.specs.Bandwidth.{Capacity, IsCapacity, capacity_fits}
 use Rattle.grub_trace.proofs.LimitTests.{capacity_is}
@@ -196,7 +198,7 @@ fault_after version ds bytes rest after l t more (u ∷ us) q k n s ls e is f pa
 
 second_fault : (version : Version) (ds : List Declaration) (bytes rest : List ℕ) (parts : List (List ℕ)) (k : Kind) (n : ℕ) → bytes ≡ header version ++ 10 ∷ rest → parts_of rest ≡ parts → read_second version ds parts ≡ Err (k, n) → QueueFault bytes k n ⊎ LineFault (names_of ds) bytes k n
 unfolding read_second
-second_fault version ds bytes rest [] k n e p h = absurd (let w = has_part (λ b. eqb b 10) rest in let x : [] ≡ w.0 ∷ w.1 = sym p ∙ w.2 in cc)
+second_fault version ds bytes rest [] k n e p h = absurd (let w = has_part is_end rest in let x : [] ≡ w.0 ∷ w.1 = sym p ∙ w.2 in cc)
 second_fault version ds bytes rest (l ∷ []) k n e p h =
     let x = same_error {X = FileRead} (cond (eqb (length l) 0) MissingQueue CutShort, 2) (k, n) h in
     inl (record { version = version; rest = rest; number = sym (ap (λ (y : Kind × ℕ). y.1) x); front = e; fault = rw p (ap (λ (y : Kind × ℕ). Some y.0) x) })
@@ -217,7 +219,7 @@ second_fault version ds bytes rest (l ∷ t ∷ more) k n e p h =
 
 first_fault : (ds : List Declaration) (bytes : List ℕ) (parts : List (List ℕ)) (k : Kind) (n : ℕ) → parts_of bytes ≡ parts → read_first ds parts ≡ Err (k, n) → FileFault (names_of ds) bytes k n
 unfolding read_first
-first_fault ds bytes [] k n p h = absurd (let w = has_part (λ b. eqb b 10) bytes in let x : [] ≡ w.0 ∷ w.1 = sym p ∙ w.2 in cc)
+first_fault ds bytes [] k n p h = absurd (let w = has_part is_end bytes in let x : [] ≡ w.0 ∷ w.1 = sym p ∙ w.2 in cc)
 first_fault ds bytes (l ∷ []) k n p h =
     let x = same_error {X = FileRead} (cond (eqb (length l) 0) BadHeader CutShort, 1) (k, n) h in
     inl (sym (ap (λ (y : Kind × ℕ). y.1) x), rw p (ap (λ (y : Kind × ℕ). Some y.0) x))

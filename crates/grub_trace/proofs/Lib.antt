@@ -8,7 +8,6 @@ pub mod ScriptLaws
 pub mod Elsewhere
 pub mod FilesInTurn
 pub mod HeadLaws
-pub mod Finding
 pub mod FormLemmas
 pub mod LineMeaning
 pub mod LinesInTurn

@@ -6,7 +6,9 @@ use Rattle.grub_trace.specs.declared.version.Version.{Version}
 use Rattle.grub_trace.specs.declared.fault.Kind.{Kind}
 use Rattle.grub_trace.specs.declared.fault.Kind.TheVariants.{CutShort, BadHeader, BadLine, BadNumber, OutOfRange, DuplicateTask, MomentGoesBack}
 use Rattle.grub_trace.specs.inside.Reading.{Read, FileRead, act_map, read_queue, read_second, read_first, read_as, read_file, file_from, opened, ok_unless, adds, take_option, times_of, read_lines, take_line, at_line, of_file, ◌>>=◌, Faults, two_fault, IsRunOf, IsRetuneOf, take_form, line_view, says, task_fault}
-use Rattle.grub_trace.specs.Forms.{parts_of, Form, task, at_moment, words_of, form_of, is_number, version_of, value, reservation_value}
+use Rattle.grub_trace.specs.Forms.{Form, task, at_moment, form_of, is_number, version_of, reservation_value}
+use Rattle.grub_text.specs.Lines.{is_end, parts_of, words_of}
+use Rattle.grub_text.specs.Digits.{value}
 use Rattle.std.proofs.Common.{◌-◌, ◌⊎◌, inl, inr, Option, Some, None}
 use Rattle.std.proofs.lemmas.List.{length-map}
 use Rattle.grub_trace.specs.declared.fault.TraceFault.{TraceFault}
@@ -24,7 +26,7 @@ use Rattle.grub_bw.specs.Bandwidth.{Reservation}
 use Rattle.grub_trace.specs.Naming.{task_of}
 use Rattle.grub_trace.specs.inside.Lines.{GivesLine, TakesAct, plain_fault}
 use Rattle.grub_trace.specs.Faults.{form_fault, is_timely, last_of}
-use Rattle.grub_trace.proofs.WordLemmas.{has_part}
+use Rattle.grub_text.proofs.Splits.{has_part}
 
 -- ---- one step after another
 
@@ -46,7 +48,7 @@ bind_err {B = B} (Err d) f e h = inl (ap Err (same_error {X = B} d e h))
 
 pub lines_step : (r : Read) (n : ℕ) (line rest : List ℕ) → read_lines r n (line ∷ parts_of rest) ≡ (at_line n (take_line r line) >>= λ s. read_lines s (n + 1) (parts_of rest))
 unfolding read_lines
-lines_step r n line rest = let h = has_part (λ b. eqb b 10) rest in rw (h.2) refl
+lines_step r n line rest = let h = has_part is_end rest in rw (h.2) refl
 
 pub goes_on : (r s : Read) (n : ℕ) (text line rest : List ℕ) (total : Result Read (Kind × ℕ)) → parts_of text ≡ line ∷ parts_of rest → take_line r line ≡ Ok s → read_lines r n (parts_of text) ≡ total → read_lines s (n + 1) (parts_of rest) ≡ total
 goes_on r s n text line rest total parts taken so_far =
@@ -114,7 +116,7 @@ queue_then version ds line parts = at_line 2 (read_queue line) >>= λ q. read_li
 
 pub second_step : (version : Version) (ds : List Declaration) (line rest : List ℕ) → read_second version ds (line ∷ parts_of rest) ≡ queue_then version ds line (parts_of rest)
 unfolding read_second queue_then
-second_step version ds line rest = let h = has_part (λ b. eqb b 10) rest in rw (h.2) refl
+second_step version ds line rest = let h = has_part is_end rest in rw (h.2) refl
 
 pub second_err : (version : Version) (ds : List Declaration) (text line rest : List ℕ) (k : Kind) → parts_of text ≡ line ∷ parts_of rest → read_queue line ≡ Err k → read_second version ds (parts_of text) ≡ Err (k, 2)
 unfolding queue_then
@@ -132,7 +134,7 @@ second_stops e f version ds text line rest q parts is h = subst (λ x. Faults e 
 
 pub first_step : (ds : List Declaration) (text line rest : List ℕ) → parts_of text ≡ line ∷ parts_of rest → read_file ds text ≡ read_as (version_of line) ds (parts_of rest)
 unfolding read_file read_first
-first_step ds text line rest parts = let h = has_part (λ b. eqb b 10) rest in ap (read_first ds) parts ∙ rw (h.2) refl
+first_step ds text line rest parts = let h = has_part is_end rest in ap (read_first ds) parts ∙ rw (h.2) refl
 
 pub first_known : (version : Version) (ds : List Declaration) (text line rest : List ℕ) → parts_of text ≡ line ∷ parts_of rest → version_of line ≡ Some version → read_file ds text ≡ read_second version ds (parts_of rest)
 first_known version ds text line rest parts known = first_step ds text line rest parts ∙ ap (λ (o : Option Version). read_as o ds (parts_of rest)) known

@@ -1,9 +1,9 @@
 -- What lines of event files are: their words, their forms, and the numbers in them.
 use Rattle.std.specs.Prelude.{ℕ, Bool, false, not, ◌&&◌, ◌||◌, ◌==◌, List, [], ◌∷◌, length, codes, Option, Some, None, if◌then◌else◌, option_map}
-use Rattle.std.specs.List.{list_all, slice_split}
+use Rattle.std.specs.List.{list_all}
 use Rattle.std.specs.Str.{bytes_eq}
 use Rattle.std.specs.Char.{is_ascii_digit}
-use Rattle.std.specs.Str.Parse.{digits_value}
+use Rattle.grub_text.specs.Digits.{value}
 use Rattle.grub_bw.specs.Bandwidth.{Reservation, Capacity}
 use Rattle.grub_plan.specs.declared.line.Act.{Act}
 use Rattle.grub_plan.specs.declared.line.Act.TheVariants.{Join, Wake, Block, Leave, Exit, Run, Retune, Read}
@@ -14,17 +14,9 @@ use Rattle.grub_trace.specs.Tree.{header}
 
 -- ---- lines and their words
 
--- the parts of a text between the bytes that end lines; the last one is no whole line
-abbrev pub parts_of : List ℕ → List (List ℕ)
-parts_of bytes = slice_split (λ b. b == 10) bytes
-
 -- the version that a first line names
 abbrev pub version_of : List ℕ → Option Version
 version_of line = if bytes_eq line (header One) then Some One else (if bytes_eq line (header Two) then Some Two else None)
-
--- the words of a line: its parts between single spaces
-abbrev pub words_of : List ℕ → List (List ℕ)
-words_of line = slice_split (λ b. b == 32) line
 
 -- a form of a line, with its numbers unread
 pub data Form : Type 0 where
@@ -58,9 +50,6 @@ form_of words = if list_all is_filled words then shape_of words else None
 abbrev pub is_number : List ℕ → Bool
 is_number [] = false
 is_number (c ∷ cs) = list_all is_ascii_digit (c ∷ cs) && (not (c == 48) || length cs == 0)
-
-abbrev pub value : List ℕ → ℕ
-value digits = digits_value 10 digits
 
 abbrev pub numbers_of : Form → List (List ℕ)
 numbers_of (queue a b) = a ∷ b ∷ []

@@ -3,7 +3,7 @@
 ghost use Rattle.std.specs.Prelude.{◌≡◌, [], map};
 ghost use Rattle.grub_trace.specs.inside.Reading.{IsIndexed, IsMomentOf, IsRetuneOf, IsRunOf, declarations, line_view, ok_unless};
 ghost use Rattle.grub_trace.specs.Faults.{last_of};
-ghost use Rattle.grub_trace.specs.Forms.{value};
+ghost use Rattle.grub_text.specs.Digits.{value};
 ghost use Rattle.grub_trace.specs.Tree.{names_of};
 ghost use Rattle.grub_trace.specs.inside.Heads.{IsHead, read_body};
 ghost use Rattle.grub_trace.specs.inside.Lines.{GivesBody, GivesScript, IsNotBefore, SaysMore, TakesAct, TakesLine, plain_fault};
@@ -15,9 +15,9 @@ use crate::number::number;
 use crate::raw::{Head, RawFile, RawScript};
 use crate::tasks::{Tasks, reservation};
 use crate::version::Version;
-use crate::words::first_line;
 use grub_book::{MOMENT_MAX, RUN_MAX};
 use grub_plan::{Act, Line};
+use grub_text::first_line;
 use std::alloc::{AllocError, Global};
 
 /// The fewest bytes of a line that says what happens: `at 0 read`, and the byte that ends it.

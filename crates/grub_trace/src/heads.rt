@@ -17,9 +17,6 @@ use std::alloc::Global;
 use std::thread;
 use std::thread::Threads;
 
-/// The most files: each is of a runqueue.
-pub const FILES_MAX: usize = QUEUES_MAX;
-
 /// The heads of files, in order, above what was not read yet, and all tasks that they declare; where one is wrong, those
 /// before it, and its fault.
 #[derive(Drop)]
@@ -29,23 +26,23 @@ pub struct Heads<'a> {
     pub fault: Option<TraceFault>,
 }
 
-/// Whether there are as many files as may be.
-fn check_count(files: &[Vec<u8>]) -> Result<(), TraceFault>
-    ensures many { QUEUES_MAX < length files.now
-        → result ≡ Err (TraceFault.At Kind.OutOfRange QUEUES_MAX 1) }
-    ensures nothing { length files.now ≡ 0 → result ≡ Err (TraceFault.At Kind.MissingQueue 0 1) }
-    ensures some { OnOk result (0 < length files.now) }
-    ensures few { OnOk result (length files.now ≤ QUEUES_MAX) }
-    ensures exact { OnErr result (QUEUES_MAX < length files.now ⊎ length files.now ≡ 0) }
+/// Whether a run may have so many files: each is of a runqueue, so at most `QUEUES_MAX`, and at least one. The fault is of
+/// the first line of the first file that is too much, or of the one that is missing.
+pub fn check_count(count: usize) -> Result<(), TraceFault>
+    ensures many { QUEUES_MAX < count → result ≡ Err (TraceFault.At Kind.OutOfRange QUEUES_MAX 1) }
+    ensures nothing { count ≡ 0 → result ≡ Err (TraceFault.At Kind.MissingQueue 0 1) }
+    ensures some { OnOk result (0 < count) }
+    ensures few { OnOk result (count ≤ QUEUES_MAX) }
+    ensures exact { OnErr result (QUEUES_MAX < count ⊎ count ≡ 0) }
 {
-    if files.len() > FILES_MAX {
+    if count > QUEUES_MAX {
         let after = Location {
-            file: FILES_MAX,
+            file: QUEUES_MAX,
             line: 1,
         };
         return Err(after.fault(Kind::OutOfRange));
     }
-    if files.is_empty() {
+    if count == 0 {
         let first = Location { file: 0, line: 1 };
         return Err(first.fault(Kind::MissingQueue));
     }
@@ -99,7 +96,7 @@ pub(crate) fn read_heads(alloc: Global, files: &[Vec<u8>]) -> Result<Heads<'_>, 
     ensures heads { IfOk result (AreHeadsOf (contents files.now)) }
     ensures fault { IfErr result (λ e. IsPlanned (contents files.now) (Err e)) }
 {
-    if let Err(fault) = check_count(files) {
+    if let Err(fault) = check_count(files.len()) {
         return Err(fault);
     }
     heads_of(alloc, files)
@@ -129,5 +126,5 @@ pub(crate) fn read_by_threads<R: Threads + Sync>(
     ensures heads { map head_above bodies.new ≡ map head_above bodies.old }
     ensures read { AreRead tasks.now bodies.new }
 {
-    thread::for_each_mut(rt, bodies, FILES_MAX, &|_, body| body.read(alloc, tasks));
+    thread::for_each_mut(rt, bodies, QUEUES_MAX, &|_, body| body.read(alloc, tasks));
 }

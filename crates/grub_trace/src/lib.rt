@@ -23,5 +23,5 @@ pub use grub_plan::{
     append_number, append_reading, is_name, line_of, make_room, put_number, put_reading,
     report_buffer, report_of, write_buffer, write_bytes,
 };
-pub use heads::FILES_MAX;
+pub use heads::check_count;
 pub use read::{read_files, read_files_by_threads};

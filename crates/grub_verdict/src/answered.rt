@@ -14,7 +14,7 @@ use grub_steps::{Change, Step, charge_in, run_of, server_before};
 use std::alloc::{AllocError, Global};
 
 /// An event of the trace as the book answered it.
-#[derive(Clone, Copy, Debug, PartialEq, Eq)]
+#[derive(Clone, Copy)]
 pub struct Answered {
     pub event: Event,
 

@@ -11,7 +11,7 @@ use grub_steps::Step;
 use std::alloc::AllocError;
 
 /// An event of the trace for which there is no room.
-#[derive(Clone, Copy, Debug, PartialEq, Eq)]
+#[derive(Clone, Copy)]
 pub struct Refusal {
     /// The line of the trace.
     pub line: u64,

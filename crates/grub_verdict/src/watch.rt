@@ -10,7 +10,7 @@ use grub_events::{Act, Source};
 use std::alloc::AllocError;
 
 /// What is followed of a task.
-#[derive(Clone, Copy, Debug, PartialEq, Eq)]
+#[derive(Clone, Copy)]
 pub struct Watch {
     /// Whether the trace had a wake of the task by which its server is known.
     pub is_sure: bool,

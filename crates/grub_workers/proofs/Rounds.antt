@@ -1,5 +1,5 @@
 -- One round of an ask.
-use Rattle.std.proofs.Common.{◌≡◌, ℕ, ◌+◌, true, false, cond, None, List, [], ◌∷◌, sym, ap, ◌∙◌, subst, ⊎_elim, inl, inr, append-nil}
+use Rattle.std.proofs.Common.{◌≡◌, ℕ, ◌+◌, true, false, cond, None, List, [], ◌∷◌, ◌++◌, sym, ap, ◌∙◌, subst, ⊎_elim, inl, inr, append-nil}
 use mathlib.Core.List.{IsPrefix}
 use Rattle.grub_book.specs.Step.{changes_sum, refused, runqueue_of}
 use Rattle.grub_book.specs.Sums.{record_at}
@@ -13,6 +13,7 @@ use Rattle.grub_book.specs.declared.event.Event.TheVariants as events
 use Rattle.grub_book.proofs.Histories.{legal_last}
 use Rattle.grub_table.specs.declared.view.Mark.{Mark}
 use Rattle.grub_table.specs.declared.view.Mark.TheVariants.{Taken, Given}
+use Rattle.grub_table.specs.declared.view.Share.{Share}
 use Rattle.grub_table.specs.declared.view.Terms.{Terms}
 use Rattle.grub_table.specs.declared.pass.Pass.{Pass}
 use Rattle.grub_table.specs.declared.claim.Claim.{Claim}
@@ -22,7 +23,6 @@ use Rattle.grub_table.specs.declared.answer.Sighting.TheVariants.{Claimed, Chang
 use Rattle.grub_table.specs.Layout.{shown}
 use Rattle.grub_table.specs.Histories.{IsHistory, EndsWith, record_in}
 use Rattle.grub_table.specs.Knowing.{GoesOn, Learns}
-use Rattle.grub_table.proofs.Growths.{learns_twice}
 use Rattle.grub_table.specs.Calls.{IsTaken, IsBusy, IsDone, IsLost, IsCancelled, IsSighting, IsClaimedSighting, number_of, share_of, claim_share, claim_queue, claim_changes_sum, seen, marks, marks_of_call}
 use Rattle.grub_plan.specs.declared.entry.Ask.TheVariants.{Call}
 use Rattle.grub_plan.specs.declared.entry.Answer.TheVariants.{Replied, Lost}
@@ -54,7 +54,11 @@ waits_last T i t op reply h is l ticket z e =
     let last = legal_last T.setup l.0 (events.Call i t op reply) (subst (λ k. IsLegal T.setup k) l.1 is.legal) in
     waits_step T.setup (book_of T.setup l.0) t op ticket z (last.2 ∙ e)
 
-module _ (s : Shared) (p : Pass) (t : ℕ) (asked : Op) where
+-- calls one after another, as the table's law says
+abbrev pub TwiceLearned : Type 0
+TwiceLearned = (x y z : Share) (a b : List Event) (m n : List Mark) → Learns x y a m → Learns y z b n → Learns x z (a ++ b) (m ++ n)
+
+module _ (learns_twice : TwiceLearned) (s : Shared) (p : Pass) (t : ℕ) (asked : Op) where
   -- ---- after a busy round
   pub busy_round : (round : ℕ) (now q : Pass) (sighting : Sighting) → IsFree s round p t now → IsBusy s now t q sighting → IsFree s (round + 1) p t q
   busy_round round now q sighting a b =

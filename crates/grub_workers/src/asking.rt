@@ -10,7 +10,7 @@ use crate::desk::Desk;
 use crate::gate::Gate;
 use grub_book::Op;
 use grub_plan::Answer;
-use grub_table::{Claim, Finished, Pass, Started};
+use grub_table::{Claim, Finished, Pass, Started, passes_learn_on};
 
 /// Where an ask stands between two rounds.
 enum Turn {
@@ -33,6 +33,7 @@ pub(crate) fn ask<G: Gate>(
     ensures asked { IsAsked desk.now.table.now desk.now.tries pass (Call t op) result.0 result.1 }
     ensures waits { WaitsRightly op result.1 }
 {
+    passes_learn_on();
     let mut turn = Turn::Free(pass);
     for _ in 0..desk.rounds {
         let claim = match turn {

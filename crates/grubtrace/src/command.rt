@@ -77,26 +77,29 @@ fn tasks_command<'a>(alloc: Global) -> Result<Command<'a>, AllocError> {
         .arg(trace_arg(alloc))
 }
 
-fn events_command<'a>(alloc: Global) -> Result<Command<'a>, AllocError> {
-    Command::new(alloc, "events")
-        .about("Writes the event files that a trace tells")
-        .after_help(AFTER_EVENTS)
+/// The options that say what was traced: tasks, runqueues, and what the kernel reserves.
+fn with_setting<'a>(alloc: Global, command: Command<'a>) -> Result<Command<'a>, AllocError> {
+    command
         .arg(task_arg(alloc))?
         .arg(cpus_arg(alloc))?
         .arg(rt_arg(alloc))?
-        .arg(fair_arg(alloc))?
+        .arg(fair_arg(alloc))
+}
+
+fn events_command<'a>(alloc: Global) -> Result<Command<'a>, AllocError> {
+    let command = Command::new(alloc, "events")
+        .about("Writes the event files that a trace tells")
+        .after_help(AFTER_EVENTS);
+    with_setting(alloc, command)?
         .arg(out_arg(alloc))?
         .arg(trace_arg(alloc))
 }
 
 fn check_command<'a>(alloc: Global) -> Result<Command<'a>, AllocError> {
-    Command::new(alloc, "check")
+    let command = Command::new(alloc, "check")
         .about("Says whether the kernel accounted as the book does")
-        .after_help(AFTER_CHECK)
-        .arg(task_arg(alloc))?
-        .arg(cpus_arg(alloc))?
-        .arg(rt_arg(alloc))?
-        .arg(fair_arg(alloc))?
+        .after_help(AFTER_CHECK);
+    with_setting(alloc, command)?
         .arg(within_arg(alloc))?
         .arg(picture_arg(alloc))?
         .arg(trace_arg(alloc))

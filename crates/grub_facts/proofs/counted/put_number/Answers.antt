@@ -1,7 +1,7 @@
 use Rattle.std.proofs.Common.{sym, ◌∙◌, ap, List, ℕ, nat_le}
 use Rattle.std.specs.List.{position}
 use Rattle.grub_facts.proofs.CensusLemmas.{number_in, number_last, number_there}
-use Rattle.grub_facts.proofs.WordLemmas.{none_at, some_at}
+use Rattle.grub_text.proofs.Splits.{none_at, some_at}
 use Rattle.grub_facts.proofs.counted.put_number.Goals as goal
 
 pub returns-in_ok-push-in-None : goal.returns-in_ok-push-in-None

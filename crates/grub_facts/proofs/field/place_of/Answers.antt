@@ -1,6 +1,7 @@
 use Rattle.std.proofs.Common.{sym, ◌∙◌, true, false, length, arith}
-use Rattle.grub_facts.specs.Words.{is_space}
-use Rattle.grub_facts.proofs.WordLemmas.{left_sum, none_at, none_of, place_none, place_step, some_at}
+use Rattle.grub_text.specs.Lines.{is_space}
+use Rattle.grub_facts.proofs.WordLemmas.{left_sum, none_of, place_none, place_step}
+use Rattle.grub_text.proofs.Splits.{none_at, some_at}
 use Rattle.grub_facts.proofs.field.place_of.Goals as goal
 
 pub returns-in_default-clause-place : goal.returns-in_default-clause-place

@@ -1,6 +1,6 @@
 use Rattle.std.proofs.Common.{◌≡◌, false, length}
 use Rattle.grub_facts.specs.Head.{say_lost}
-use Rattle.grub_facts.specs.Words.{words_of}
+use Rattle.grub_text.specs.Lines.{words_of}
 use Rattle.grub_facts.proofs.head.says_lost.Given as goal
 
 -- the answer is that of the words that are left

@@ -1,5 +1,5 @@
 use Rattle.std.proofs.Common.{arith}
-use Rattle.grub_facts.proofs.NumberLemmas.{digit_at, value_more}
+use Rattle.grub_text.proofs.Digits.{digit_at, value_more}
 use Rattle.grub_facts.proofs.number.capped_value.Goals as goal
 
 pub overflow_sub-c : goal.overflow_sub-c
@@ -9,4 +9,4 @@ pub push_digit-value-requires : goal.push_digit-value-requires
 push_digit-value-requires c = omega (arith, (digit_at c.args.word.now c.loop-c.c-index c.requires c.loop-c-test.true).1)
 
 pub loop-c-preserved : goal.loop-c-preserved
-loop-c-preserved c = omega (arith, value_more c.args.word.now c.loop-c.c-index c.requires c.loop-c-test.true)
+loop-c-preserved c = omega (arith, value_more c.args.word.now c.loop-c.c-index (digit_at c.args.word.now c.loop-c.c-index c.requires c.loop-c-test.true) c.loop-c-test.true)

@@ -1,5 +1,5 @@
 use Rattle.std.proofs.Common.{◌≡◌, min, take}
-use Rattle.grub_facts.specs.Numbers.{value}
+use Rattle.grub_text.specs.Digits.{value}
 use Rattle.grub_facts.proofs.number.capped_value.Given as goal
 
 abbrev pub invariant-loop-c : goal.invariant-loop-c

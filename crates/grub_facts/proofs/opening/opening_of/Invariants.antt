@@ -1,7 +1,7 @@
 use Rattle.std.proofs.Common.{◌≡◌, ◌+◌, length}
 use Rattle.grub_facts.specs.Opening.{opening_from, opening_of}
 use Rattle.grub_facts.specs.inside.OpeningFits.{StartsWithin}
-use Rattle.grub_facts.specs.Words.{words_of}
+use Rattle.grub_text.specs.Lines.{words_of}
 use Rattle.grub_facts.proofs.opening.opening_of.Given as goal
 
 -- the answer is that of the words that are left

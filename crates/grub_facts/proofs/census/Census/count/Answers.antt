@@ -6,7 +6,7 @@ use Rattle.grub_facts.specs.inside.Sightings.{sighting_text}
 use Rattle.grub_facts.specs.declared.counted.Counted.{Counted}
 use Rattle.grub_facts.proofs.CensusLemmas.{tallied_at, tallied_last}
 use Rattle.grub_facts.proofs.GivenLemmas.{changed_map, position_map}
-use Rattle.grub_facts.proofs.WordLemmas.{none_at, some_at}
+use Rattle.grub_text.proofs.Splits.{none_at, some_at}
 use Rattle.grub_facts.proofs.census.Census.count.Goals as goal
 
 pub returns-in_ok-begin-in-None : goal.returns-in_ok-begin-in-None

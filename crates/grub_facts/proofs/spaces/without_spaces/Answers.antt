@@ -1,8 +1,8 @@
 use Rattle.std.proofs.Common.{sym, ◌∙◌, not, ap, drop, length, ℕ, rules, arith}
 use Rattle.std.proofs.lemmas.List.{drop_all, take_rest}
-use Rattle.grub_facts.specs.Words.{is_space}
-use Rattle.grub_facts.proofs.WordLemmas.{none_at, some_at}
-use Rattle.grub_facts.proofs.words.without_spaces.Goals as goal
+use Rattle.grub_text.specs.Lines.{is_space}
+use Rattle.grub_text.proofs.Splits.{none_at, some_at}
+use Rattle.grub_facts.proofs.spaces.without_spaces.Goals as goal
 
 pub returns-in-None : goal.returns-in-None
 returns-in-None c =

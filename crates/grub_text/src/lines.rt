@@ -1,17 +1,19 @@
-//! Words of a line, which stand between spaces.
+//! The first line of a text, and the first word of a line.
 
-ghost use Rattle.std.specs.Prelude.{◌≡◌, ◌∷◌, [], ◌<◌, ◌+◌, ◌==◌, not, IfSome, MatchOption, length, position};
-ghost use Rattle.grub_facts.specs.Words.{is_end, is_space, parts_of, word_of, words_of, without_spaces};
+ghost use Rattle.std.specs.Prelude.{◌≡◌, ◌∷◌, [], ◌<◌, ◌+◌, IfSome, MatchOption, length, position};
+ghost use Rattle.grub_text.specs.Lines.{is_end, is_space, parts_of, word_of, words_of};
+
+use memchr::memchr;
 
 /// Where the first space stands.
-pub(crate) fn space_in(text: &[u8]) -> Option<usize>
+pub fn space_in(text: &[u8]) -> Option<usize>
     ensures { result ≡ position is_space text.now }
 {
     text.iter().position(|b| *b == b' ')
 }
 
 /// The first word, and what follows its space.
-pub(crate) fn first_word(text: &[u8]) -> (&[u8], Option<&[u8]>)
+pub fn first_word(text: &[u8]) -> (&[u8], Option<&[u8]>)
     ensures words { MatchOption result.1 (words_of text.now ≡ result.0.now ∷ [])
         (λ rest. words_of text.now ≡ result.0.now ∷ words_of rest.now) }
     ensures word { result.0.now ≡ word_of text.now }
@@ -24,36 +26,21 @@ pub(crate) fn first_word(text: &[u8]) -> (&[u8], Option<&[u8]>)
     }
 }
 
-fn end_in(text: &[u8]) -> Option<usize>
+/// Where the first line ends.
+fn line_end(text: &[u8]) -> Option<usize>
     ensures { result ≡ position is_end text.now }
 {
-    text.iter().position(|b| *b == b'\n')
+    memchr(b'\n', text)
 }
 
 /// The first line, without the byte that ends it, and what follows; none where no byte ends it.
-pub(crate) fn first_line(text: &[u8]) -> Option<(&[u8], &[u8])>
+pub fn first_line(text: &[u8]) -> Option<(&[u8], &[u8])>
     ensures parts { MatchOption result (parts_of text.now ≡ text.now ∷ [])
         (λ x. parts_of text.now ≡ x.0.now ∷ parts_of x.1.now) }
     ensures len { IfSome result (λ x. length x.1.now < length text.now) }
 {
-    match end_in(text) {
+    match line_end(text) {
         None => None,
         Some(end) => Some((&text[..end], &text[end + 1..])),
-    }
-}
-
-fn other_in(text: &[u8]) -> Option<usize>
-    ensures { result ≡ position (λ b. not (is_space b)) text.now }
-{
-    text.iter().position(|b| *b != b' ')
-}
-
-/// The text from its first byte on that is no space.
-pub(crate) fn without_spaces(text: &[u8]) -> &[u8]
-    ensures { result.now ≡ without_spaces text.now }
-{
-    match other_in(text) {
-        None => &text[text.len()..],
-        Some(i) => &text[i..],
     }
 }

@@ -1,7 +1,7 @@
 use Rattle.std.proofs.Common.{sym, ◌∙◌}
-use Rattle.grub_facts.specs.Words.{is_space}
-use Rattle.grub_facts.proofs.WordLemmas.{split_none, split_some}
-use Rattle.grub_facts.proofs.words.first_word.Goals as goal
+use Rattle.grub_text.specs.Lines.{is_space}
+use Rattle.grub_text.proofs.Splits.{split_none, split_some}
+use Rattle.grub_text.proofs.lines.first_word.Goals as goal
 
 pub returns-in-None-clause-words : goal.returns-in-None-clause-words
 returns-in-None-clause-words c = split_none is_space c.args.text.now (sym c.space_in.ensures ∙ c.in-None.is)
