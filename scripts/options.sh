@@ -123,7 +123,7 @@ for view in $views; do
 done
 
 # README shows the lines of the example, those between its two empty lines in main, and its output.
-shown=$(sed -n '/^## The library$/,/^## The promise$/{/^    /p}' README.md)
+shown=$(sed -n '/^## Use the library$/,/^## What is proved$/{/^    /p}' README.md)
 wanted=$(sed -n '/^fn main/,$p' crates/grub_example/src/main.rt | awk 'NF == 0 { part++; next } part == 1'; sed 's/^/    /' crates/grub_example/stdout)
 if [[ -n $wanted && $shown == "$wanted" ]]; then
     passed=$((passed + 1))
