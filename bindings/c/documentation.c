@@ -1,0 +1,28 @@
+/* The kernel documentation's example: two tasks of 4 in 8 on one runqueue. The first blocks at 2, so until its 0-lag
+ * moment, 4, the second is charged in full; afterwards it runs at half the charge. */
+#include "neddwyrol.h"
+#include <inttypes.h>
+#include <stdio.h>
+
+int main(void) {
+    nd_task tasks[2] = {{4, 8, 0, 0, 0, 0, 0}, {4, 8, 0, 0, 0, 0, 0}};
+    nd_runqueue queues[1] = {{ND_UNIT, 0, 0, 0}};
+    nd_book book = {tasks, 2, queues, 1};
+    if (nd_open(tasks, 2, queues, 1) != ND_DONE)
+        return 1;
+    nd_join(&book, 0, 0, 0);
+    nd_join(&book, 1, 0, 0);
+    nd_run(&book, 0, 0, 2);
+    nd_reply waits = nd_block(&book, 0, 0, 2);
+    printf("waiting ticket=%" PRIu32 " z=%" PRIu32 " running_bw=%" PRIu32 "\n", waits.number, waits.deadline, queues[0].running_bw);
+    nd_reply ran = nd_run(&book, 1, 0, 2);
+    printf("charged dq=%" PRIu64 " k=%" PRIu32 " q=%" PRIu32 " d=%" PRIu32 "\n", ran.charged, ran.number, ran.budget, ran.deadline);
+    nd_reply fired = nd_timer(&book, 0, waits.number, 4);
+    printf("timer %" PRIu32 " running_bw=%" PRIu32 "\n", fired.kind, queues[0].running_bw);
+    ran = nd_run(&book, 1, 0, 4);
+    printf("charged dq=%" PRIu64 " k=%" PRIu32 " q=%" PRIu32 " d=%" PRIu32 "\n", ran.charged, ran.number, ran.budget, ran.deadline);
+    nd_reply woken = nd_wake(&book, 0, 0, 8);
+    printf("woken q=%" PRIu32 " d=%" PRIu32 " running_bw=%" PRIu32 " this_bw=%" PRIu32 "\n", woken.budget, woken.deadline,
+           queues[0].running_bw, queues[0].this_bw);
+    return 0;
+}

@@ -1,0 +1,6 @@
+pub mod Numbers
+pub mod Memory
+pub mod Ready
+pub mod Asked
+pub mod Opening
+pub mod Kernel

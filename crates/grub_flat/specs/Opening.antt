@@ -1,0 +1,35 @@
+-- What is wrong with the memory that a book is to be opened in.
+use Rattle.std.specs.Prelude.{ℕ, ◌==◌, ◌<◌, nat_lt, List, [], ◌∷◌, length, slice_index_or, if◌then◌else◌}
+use Rattle.grub_bw.specs.Bandwidth.{IsReservation, IsCapacity}
+use Rattle.grub_flat.specs.Memory.{params_of, constants_of}
+use Rattle.grub_flat.specs.Numbers.{reservation_fault, constants_fault, or_else}
+use Rattle.grub_flat.specs.declared.codes.TheConstants.{DONE, TOO_MANY_QUEUES, TOO_MANY_TASKS, NO_QUEUE}
+use Rattle.grub_flat.specs.declared.memory.TheConstants.{FLAT_QUEUES_MAX, FLAT_TASKS_MAX}
+use Rattle.grub_flat.specs.declared.memory.NdTask.{NdTask}
+use Rattle.grub_flat.specs.declared.memory.NdRunqueue.{NdRunqueue}
+
+-- the first fault in a list, and 0 where there is none
+abbrev pub first_fault : {A : Type 0} → (A → ℕ) → List A → ℕ
+first_fault fault [] = DONE
+first_fault fault (x ∷ xs) = if fault x == DONE then first_fault fault xs else fault x
+
+abbrev pub task_fault : NdTask → ℕ
+task_fault x = reservation_fault (params_of x)
+
+abbrev pub queue_fault : NdRunqueue → ℕ
+queue_fault x = constants_fault (constants_of x)
+
+-- the first fault: too many runqueues, too many tasks, no runqueue, then of the runqueues in order, and then of the tasks in order
+abbrev pub opening_fault : List NdTask → List NdRunqueue → ℕ
+opening_fault tasks queues =
+    if nat_lt FLAT_QUEUES_MAX (length queues) then TOO_MANY_QUEUES
+    else (if nat_lt FLAT_TASKS_MAX (length tasks) then TOO_MANY_TASKS
+    else (if length queues == 0 then NO_QUEUE
+    else or_else (first_fault queue_fault queues) (first_fault task_fault tasks)))
+
+-- each runqueue's constants, and each task's reservation, are within their limits
+abbrev pub AreConstants : List NdRunqueue → Type 0
+AreConstants queues = (r : ℕ) (d : NdRunqueue) → r < length queues → IsCapacity (constants_of (slice_index_or queues r d))
+
+abbrev pub AreReservations : List NdTask → Type 0
+AreReservations tasks = (t : ℕ) (d : NdTask) → t < length tasks → IsReservation (params_of (slice_index_or tasks t d))

@@ -1,0 +1,34 @@
+//! The book of GRUB (greedy reclamation of unused bandwidth) over memory of its caller, and the arithmetic without
+//! state. It takes no memory, and every call takes any numbers whatever.
+//!
+//! The memory is two arrays: a struct for each task and one for each runqueue. `open_book` makes a book of the
+//! reservations and constants that stand in it; then it is read directly, and `apply` gives the steps of the one-thread
+//! book of `grub_book`. The structs are laid out as in C.
+//!
+//! Moments, runs, runtimes, periods, budgets and deadlines have one unit, which the caller chooses; bandwidths are in
+//! 1/2^20. Tasks and runqueues are numbered from 0.
+#![tactic(auto)]
+
+mod arithmetic;
+mod asked;
+mod calls;
+mod codes;
+mod kernel;
+mod memory;
+mod numbers;
+mod opening;
+mod records;
+mod steps;
+
+pub use arithmetic::{bandwidth, charge_for, depleted_by, woken_to, zero_lag_of};
+pub use asked::{NdOp, NdReply};
+pub use codes::{
+    BUDGET_OUT_OF_RANGE, DAMAGED, DEADLINE_OVERFLOW, DONE, MOMENT_OUT_OF_RANGE, NO_OP, NO_QUEUE,
+    NO_TASK, PERIOD_OUT_OF_RANGE, RUNNING_OUT_OF_RANGE, RUNTIME_OUT_OF_RANGE, TOO_MANY_QUEUES,
+    TOO_MANY_TASKS, TOO_SMALL, UEXTRA_OUT_OF_RANGE, UMAX_OUT_OF_RANGE,
+};
+pub use kernel::kernel_charge;
+pub use memory::{FLAT_QUEUES_MAX, FLAT_TASKS_MAX, NdRunqueue, NdTask};
+pub use numbers::{NdCapacity, NdParams, NdReading, NdServer, capacity_fault, params_fault};
+pub use opening::open_book;
+pub use steps::apply;

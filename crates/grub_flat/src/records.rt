@@ -1,0 +1,104 @@
+//! What stands in the memory of a book, as the records, constants and readings of `grub_book`.
+
+ghost use Rattle.std.specs.Prelude.{◌≡◌, ◌↔◌, IfSome, IsNone, IsTrue};
+ghost use Rattle.grub_bw.specs.Bandwidth.{IsReservation};
+ghost use Rattle.grub_book.specs.Totals.{Counts};
+ghost use Rattle.grub_flat.specs.Memory.{place_of, record_of, constants_of, reading_in};
+ghost use Rattle.grub_flat.specs.Ready.{CanStand, IsReady};
+
+use crate::memory::{NdRunqueue, NdTask};
+use grub_book::{COUNT_MAX, Place, Reading, Record, State};
+use grub_bw::{Params, Queue, Server};
+
+fn place_of(state: u32, queue: u32) -> Place
+    ensures { result ≡ place_of state queue }
+{
+    match state {
+        0 => Place::Away,
+        1 => Place::On(queue, State::Contending),
+        2 => Place::On(queue, State::NonContending),
+        3 => Place::On(queue, State::Inactive),
+        _ => Place::Gone,
+    }
+}
+
+/// The record that stands in a task's memory, where a step may be made of it.
+pub(crate) fn record_in(task: &NdTask) -> Option<Record>
+    ensures some { IfSome result (λ x. (x ≡ record_of task.now) × CanStand x) }
+    ensures none { IsNone result → ¬ CanStand (record_of task.now) }
+{
+    let Ok(params) = Params::new(task.runtime, task.period) else {
+        return None;
+    };
+    let server = Server {
+        q: task.budget,
+        d: task.deadline,
+    };
+    if !server.fits(params) || task.count > COUNT_MAX {
+        return None;
+    }
+    Some(Record {
+        place: place_of(task.state, task.queue),
+        count: task.count,
+        server,
+        params,
+    })
+}
+
+fn codes_of(place: Place) -> (u32, u32)
+    ensures { place_of result.0 result.1 ≡ place }
+{
+    match place {
+        Place::Away => (0, 0),
+        Place::On(r, State::Contending) => (1, r),
+        Place::On(r, State::NonContending) => (2, r),
+        Place::On(r, State::Inactive) => (3, r),
+        Place::Gone => (4, 0),
+    }
+}
+
+/// The memory of a record.
+pub(crate) fn task_of(held: &Record) -> NdTask
+    ensures { record_of result ≡ held.now }
+{
+    let (state, queue) = codes_of(held.place);
+    NdTask {
+        runtime: held.params.runtime(),
+        period: held.params.period(),
+        budget: held.server.q,
+        deadline: held.server.d,
+        count: held.count,
+        state,
+        queue,
+    }
+}
+
+/// Whether a reading counts what a task adds to it.
+pub(crate) fn counts(now: Reading, r: u32, held: &Record) -> bool
+    requires { IsReservation held.now.params }
+    ensures { IsTrue result ↔ Counts now r held.now }
+{
+    let bw = held.params.bw();
+    let active = !held.place.is_active_on(r) || bw <= now.running;
+    let on = !held.place.is_on(r) || bw <= now.this;
+    active && on
+}
+
+/// The constants and the reading that stand in a runqueue's memory, where a charge may be made of them.
+pub(crate) fn queue_in(cell: &NdRunqueue) -> Option<(Queue, Reading)>
+    ensures some { IfSome result (λ x. (x.0 ≡ constants_of cell.now) × (x.1 ≡ reading_in cell.now)
+        × IsReady x.0 x.1) }
+    ensures none { IsNone result → ¬ IsReady (constants_of cell.now) (reading_in cell.now) }
+{
+    let Ok(queue) = Queue::new(cell.umax, cell.uextra) else {
+        return None;
+    };
+    let now = Reading {
+        running: cell.running_bw,
+        this: cell.this_bw,
+    };
+    if now.running > now.this || now.this > queue.umax() {
+        return None;
+    }
+    Some((queue, now))
+}

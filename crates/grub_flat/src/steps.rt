@@ -1,0 +1,112 @@
+//! The steps of a book over memory of its caller.
+
+ghost use Rattle.std.specs.Prelude.{◌≡◌, ◌<◌, ◌≤◌, false, IfSome, IsNone, IsTrue, IsSome, [], length};
+ghost use Rattle.grub_book.specs.Machine.{Machine};
+ghost use Rattle.grub_book.specs.Op.{IsOp};
+ghost use Rattle.grub_book.specs.Step.{step, Refuses, is_under_claim};
+ghost use Rattle.grub_flat.specs.Memory.{records_of, machine_of, IsBook};
+ghost use Rattle.grub_flat.specs.Ready.{ChangesNone};
+ghost use Rattle.grub_flat.specs.Asked.{plain_reply, answer, is_op};
+
+use crate::asked::{NdOp, NdReply};
+use crate::calls::{fits, op_of, plain_reply, reply_of};
+use crate::codes::{DAMAGED, NO_OP, NO_TASK};
+use crate::memory::{NdRunqueue, NdTask};
+use crate::records::{counts, queue_in, record_in, task_of};
+use grub_book::{Op, Reply, refusal, runqueue, settle, shifted};
+
+/// Asks an op for task `t`. None where the memory is no book; then nothing is written.
+fn asked(tasks: &mut [NdTask], queues: &mut [NdRunqueue], t: u32, op: Op) -> Option<Reply>
+    requires task { t < length tasks.old }
+    requires fits { IsOp (machine_of [] queues.old) op }
+    ensures step { (s : Machine) → IsBook s tasks.old queues.old
+        → IfSome result (λ reply. (records_of tasks.new, reply)
+        ≡ step s (records_of tasks.old) t op) }
+    ensures book { (s : Machine) → IsBook s tasks.old queues.old
+        → IsBook s tasks.new queues.new }
+    ensures some { (s : Machine) → IsBook s tasks.old queues.old → IsSome result }
+    ensures none { IsNone result → (tasks.new ≡ tasks.old) × (queues.new ≡ queues.old) }
+    ensures kept { IfSome result (λ reply. Refuses reply
+        → (tasks.new ≡ tasks.old) × (queues.new ≡ queues.old)) }
+{
+    let at = t as usize;
+    let held = record_in(&tasks[at])?;
+    if let Some(reply) = refusal(held.place, held.count, op) {
+        return Some(reply);
+    }
+    let r = runqueue(held.place, op);
+    let on = r as usize;
+    if on >= queues.len() {
+        return None;
+    }
+    let (queue, now) = queue_in(&queues[on])?;
+    if is_charge(op) {
+        let (next, reply) = settle(held, queue, now, op);
+        if refuses(reply) {
+            return Some(reply);
+        }
+        tasks[at] = task_of(&next);
+        return Some(reply);
+    }
+    if !counts(now, r, &held) {
+        return None;
+    }
+    let (next, reply) = settle(held, queue, now, op);
+    if refuses(reply) {
+        return Some(reply);
+    }
+    let new = shifted(now, r, &held, &next);
+    queues[on] = NdRunqueue {
+        umax: queue.umax(),
+        uextra: queue.uextra(),
+        running_bw: new.running,
+        this_bw: new.this,
+    };
+    tasks[at] = task_of(&next);
+    Some(reply)
+}
+
+/// Whether the reply refuses, after the place, the count and the ticket did not.
+fn refuses(reply: Reply) -> bool
+    ensures late { IsTrue result → Refuses reply }
+    ensures all { result ≡ false → Refuses reply → is_under_claim reply ≡ false }
+{
+    matches!(
+        reply,
+        Reply::Early(_) | Reply::Full | Reply::DeadlineOverflow
+    )
+}
+
+/// Whether it is a charge, which changes no sum.
+fn is_charge(op: Op) -> bool
+    ensures { IsTrue result → ChangesNone op }
+{
+    matches!(op, Op::Charge { .. })
+}
+
+/// Asks an op for a task of a book. On memory that is a book the answer is that of the one-thread book, and the memory is
+/// the book after the step: a kind of 9 to 21 refuses, and from 101 on the op was granted. It is 70 where there is no such
+/// task, and then 71 where no such op may be asked; 72 says that the memory is no book. Where it is below 101 nothing is
+/// written.
+#[inline(always)]
+pub fn apply(tasks: &mut [NdTask], queues: &mut [NdRunqueue], task: u32, op: NdOp) -> NdReply
+    ensures answer { (s : Machine) → IsBook s tasks.old queues.old
+        → (records_of tasks.new, result) ≡ answer s (records_of tasks.old) task op }
+    ensures book { (s : Machine) → IsBook s tasks.old queues.old
+        → IsBook s tasks.new queues.new }
+    ensures kept { result.kind < 101 → (tasks.new ≡ tasks.old) × (queues.new ≡ queues.old) }
+    ensures no_task { length tasks.old ≤ task → result ≡ plain_reply NO_TASK }
+    ensures no_op { task < length tasks.old → is_op (length queues.old) op ≡ false
+        → result ≡ plain_reply NO_OP }
+{
+    if task as usize >= tasks.len() {
+        return plain_reply(NO_TASK);
+    }
+    match op_of(op) {
+        Some(it) if fits(it, queues) => match asked(tasks, queues, task, it) {
+            Some(reply) => reply_of(reply),
+            None => plain_reply(DAMAGED),
+        },
+        _ => plain_reply(NO_OP),
+    }
+}

@@ -1,0 +1,49 @@
+//! A book over memory of its caller.
+
+ghost use Rattle.std.specs.Prelude.{◌≡◌, ◌≢◌, ◌<◌, ◌≤◌, ◌↔◌, false, length};
+ghost use Rattle.grub_book.specs.Machine.{Machine};
+ghost use Rattle.grub_book.specs.Sums.{opening_book};
+ghost use Rattle.grub_flat.specs.Memory.{records_of, machine_of, IsFlatMachine, IsBook};
+ghost use Rattle.grub_flat.specs.Asked.{plain_reply, answer, is_op};
+ghost use Rattle.grub_flat.specs.Opening.{opening_fault};
+ghost use Rattle.grub_flat.specs.declared.codes.TheConstants.{DONE, NO_TASK, NO_OP};
+
+use grub_flat::{NdOp, NdReply, NdRunqueue, NdTask, apply, open_book};
+
+/// Makes a book of the reservations and the constants that stand in the memory: every task is away, with the block count
+/// 0, a full budget and the deadline 0. It answers 0, or the number of the first fault, 1 to 8; then nothing is written.
+#[unsafe(no_mangle)]
+pub extern "C" fn nd_open(tasks: &mut [NdTask], queues: &mut [NdRunqueue]) -> u32
+    ensures fault { result ≡ opening_fault tasks.old queues.old }
+    ensures accepted { (result ≡ DONE) ↔ IsFlatMachine (machine_of tasks.old queues.old) }
+    ensures book { result ≡ DONE
+        → IsBook (machine_of tasks.old queues.old) tasks.new queues.new }
+    ensures records { result ≡ DONE
+        → records_of tasks.new ≡ opening_book (machine_of tasks.old queues.old) }
+    ensures kept { result ≢ DONE → (tasks.new ≡ tasks.old) × (queues.new ≡ queues.old) }
+{
+    open_book(tasks, queues)
+}
+
+/// Asks an op for a task of a book. On memory that is a book the answer is that of the one-thread book, and the memory is
+/// the book after the step: a kind of 9 to 21 refuses, and from 101 on the op was granted. It is 70 where there is no such
+/// task, and then 71 where no such op may be asked; 72 says that the memory is no book. Where it is below 101 nothing is
+/// written.
+#[unsafe(no_mangle)]
+pub extern "C" fn nd_apply(
+    tasks: &mut [NdTask],
+    queues: &mut [NdRunqueue],
+    task: u32,
+    op: NdOp,
+) -> NdReply
+    ensures answer { (s : Machine) → IsBook s tasks.old queues.old
+        → (records_of tasks.new, result) ≡ answer s (records_of tasks.old) task op }
+    ensures book { (s : Machine) → IsBook s tasks.old queues.old
+        → IsBook s tasks.new queues.new }
+    ensures kept { result.kind < 101 → (tasks.new ≡ tasks.old) × (queues.new ≡ queues.old) }
+    ensures no_task { length tasks.old ≤ task → result ≡ plain_reply NO_TASK }
+    ensures no_op { task < length tasks.old → is_op (length queues.old) op ≡ false
+        → result ≡ plain_reply NO_OP }
+{
+    apply(tasks, queues, task, op)
+}
