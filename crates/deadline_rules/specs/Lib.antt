@@ -1,0 +1,6 @@
+pub mod Clock
+pub mod Reservation
+pub mod Sums
+pub mod Charge
+pub mod Budget
+pub mod Activity
