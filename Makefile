@@ -64,8 +64,8 @@ bench: runner
 bench-plain: runner
 	@python3 scripts/bench-plain.py
 
-# Records a load of two tasks on this machine, converts the trace and plays it; elsewhere it says why it cannot.
-record-check: build
+# Records a load of three tasks on this machine and checks the record; elsewhere it says why it cannot.
+record-check: tracer
 	scripts/record-check.sh
 
 # The programs, their man pages, and the completions of bash, zsh and fish, below PREFIX; DESTDIR goes in front of it.

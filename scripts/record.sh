@@ -1,69 +1,171 @@
-#!/usr/bin/env bash
-# record.sh OUT PROGRAM ARG...: runs PROGRAM as root, and writes to OUT the kernel's trace of SCHED_DEADLINE tasks meanwhile,
-# as the text that grubtrace reads. It uses a tracefs instance of its own, which it removes at the end, after a signal too.
-# RECORD_BUFFER_KB is the buffer of each CPU (32768 where it is not set). It ends with the program's status, or with 3 where
-# it cannot record; 4 where events were lost.
+#!/bin/sh
+# record.sh [--all] [--no-probes] [--few] OUT PROGRAM ARG..: runs PROGRAM as root and writes to OUT the kernel's trace of
+# SCHED_DEADLINE tasks meanwhile, with notes of what the kernel knows at its head, as the text that grubtrace reads.
+#   --all         the switches and moves of all tasks too, for `grubtrace size`
+#   --no-probes   the fixed events alone
+#   --few         of the probes only upd and enq: budgets and deadlines, a third of the lines
+# It uses tracefs instances of its own and removes all that it made, also after a signal or where it fails. A signal ends PROGRAM
+# and the record. RECORD_BUFFER_KB is the buffer of each CPU (32768 where it is not set).
+# It ends with PROGRAM's status; with 3 where nothing could be recorded, with 4 where events were lost.
+# It reads no file of /proc/sys/kernel/sched_rt_*: some kernels rebuild what is measured when these are read.
 set -u
-fail() { echo "record: $*" >&2; exit 3; }
+export LC_ALL=C
+say() { echo "record: $*" >&2; }
+fail() { say "$*"; exit 3; }
+usage() { echo "usage: record.sh [--all] [--no-probes] [--few] OUT PROGRAM ARG.." >&2; exit 2; }
 
-[[ $# -ge 2 ]] || { echo "usage: record.sh OUT PROGRAM ARG..." >&2; exit 2; }
+all= probes=all
+while :; do
+    case ${1-} in
+    --all) all=1 ;;
+    --no-probes) probes= ;;
+    --few) probes=few ;;
+    -*) usage ;;
+    *) break ;;
+    esac
+    shift
+done
+[ $# -ge 2 ] || usage
 out=$1
 shift
-[[ $(id -u) == 0 ]] || fail "it has to be run as root"
+kernel_scripts=${0%/*}/kernel
+[ "$(id -u)" = 0 ] || fail "it has to be run as root"
+command -v "$1" > /dev/null || fail "there is no program $1"
+[ ! -e "$out" ] || [ -f "$out" ] || fail "$out is no file"
+part=$out.part
 
-tracing=/sys/kernel/tracing
-if [[ ! -d $tracing/instances ]]; then
-    mount -t tracefs nodev "$tracing" 2> /dev/null || true
-fi
-[[ -d $tracing/instances ]] || tracing=/sys/kernel/debug/tracing
-[[ -d $tracing/instances ]] || fail "this machine has no tracefs"
-
-instance=$tracing/instances/grub.$$
-program=
+# ---- What is made here is unmade in finish, in the opposite order.
+mounted= record= calls= notes= program= set=
 finish() {
     trap '' HUP INT TERM
-    [[ -z $program ]] || kill "$program" 2> /dev/null
-    if [[ -d $instance ]]; then
-        echo 0 > "$instance/tracing_on" 2> /dev/null
-        echo 0 > "$instance/events/enable" 2> /dev/null
-        rmdir "$instance" 2> /dev/null || echo "record: $instance could not be removed" >&2
-    fi
+    for process in $program $notes; do kill "$process" 2> /dev/null; done
+    for instance in $record $calls; do
+        [ -d "$instance" ] || continue
+        echo 0 > "$instance/tracing_on"
+        echo 0 > "$instance/events/enable"
+        rmdir "$instance" 2> /dev/null || { sleep 0.2; rmdir "$instance"; } || say "$instance could not be removed"
+    done
+    [ ! "$set" ] || "$kernel_scripts/probes.sh" clear || say "the events of group grub could not be removed"
+    for place in $mounted; do umount "$place"; done
+    rm -f "$part"
 }
-mkdir "$instance" 2> /dev/null || fail "a tracefs instance cannot be made"
 trap finish EXIT
 trap 'exit 129' HUP
 trap 'exit 130' INT
 trap 'exit 143' TERM
 
-put() { echo "$2" > "$instance/$1" 2> /dev/null; }
-put tracing_on 0 || fail "the instance cannot be written"
-put trace_clock mono || fail "the clock mono is not there"
-put buffer_size_kb "${RECORD_BUFFER_KB:-32768}" || fail "the buffer cannot be had; set RECORD_BUFFER_KB"
-for event in sched/sched_switch sched/sched_wakeup sched/sched_wakeup_new sched/sched_migrate_task \
-    sched/sched_stat_runtime timer/hrtimer_start timer/hrtimer_cancel timer/hrtimer_expire_entry; do
-    put "events/$event/enable" 1 || fail "the event $event is not there"
-done
-# Only lines of SCHED_DEADLINE tasks are needed where a line tells that it is one; a kernel that cannot filter records all.
-for event in sched_wakeup sched_wakeup_new sched_migrate_task; do
-    put "events/sched/$event/filter" 'prio == -1' || true
-done
-put events/sched/sched_switch/filter 'prev_prio == -1 || next_prio == -1' || true
+true 2> /dev/null > "$part" || fail "$out cannot be written"
+mounted_at() {
+    grep -q " $2 $1 " /proc/mounts && return
+    mount -t "$1" nodev "$2" 2> /dev/null && mounted="$2 $mounted"
+}
+tracefs=/sys/kernel/tracing
+mounted_at tracefs "$tracefs" || tracefs=/sys/kernel/debug/tracing
+[ -d "$tracefs/instances" ] || fail "this machine has no tracefs"
+export TRACEFS=$tracefs
+mounted_at debugfs /sys/kernel/debug || say "no debugfs: the notes do not have max-bw and total-bw"
 
-put tracing_on 1 || fail "the record cannot be begun"
-"$@" &
+instance() {
+    mkdir "$1" 2> /dev/null || fail "a tracefs instance cannot be made"
+    echo 0 > "$1/tracing_on"
+    { echo mono > "$1/trace_clock"; } 2> /dev/null || fail "the clock mono is not there"
+    { echo "$2" > "$1/buffer_size_kb"; } 2> /dev/null || fail "a buffer of $2 KB cannot be had; set RECORD_BUFFER_KB"
+}
+enable() { echo 1 > "$1/events/$2/enable"; } 2> /dev/null
+
+# ---- The record's instance.
+record=$tracefs/instances/grub.$$
+instance "$record" "${RECORD_BUFFER_KB:-32768}"
+for event in sched_switch sched_wakeup sched_wakeup_new sched_migrate_task sched_stat_runtime; do
+    enable "$record" "sched/$event" || fail "the event sched/$event is not there"
+done
+for event in hrtimer_start hrtimer_cancel hrtimer_expire_entry; do
+    enable "$record" "timer/$event" || fail "the event timer/$event is not there"
+done
+system_calls='sys_enter_sched_setattr sys_exit_sched_setattr sys_enter_sched_setscheduler sys_exit_sched_setscheduler'
+no_calls=
+for event in $system_calls; do enable "$record" "syscalls/$event" || no_calls=1; done
+if [ ! "$all" ]; then
+    # A deadline task has priority -1. A kernel that takes no filter records all.
+    { echo 'prev_prio == -1 || next_prio == -1' > "$record/events/sched/sched_switch/filter"
+      echo 'prio == -1' > "$record/events/sched/sched_migrate_task/filter"; } 2> /dev/null
+fi
+
+# ---- The head: what holds at the start.
+# The CPUs of the root domain that PROGRAM is in: those of its cpuset partition, or those that no partition has.
+domain() {
+    top=$(awk '$3 == "cgroup2" { print $2; exit }' /proc/mounts)
+    group=$top$(sed -n 's/^0:://p' /proc/self/cgroup)
+    while [ "$group" != "$top" ] && ! grep -qs '^root' "$group/cpuset.cpus.partition"; do group=${group%/*}; done
+    cat "$group/cpuset.cpus.effective" 2> /dev/null || cat /sys/devices/system/cpu/online
+}
+domain=$(domain)
+limits() {
+    awk -v runqueue="dl_rq[${domain%%[-,]*}]:" '
+        $1 == runqueue { here = 1 }
+        here && $1 == ".dl_bw->bw" { printf " max-bw=%s", $3 == -1 ? "18446744073709551615" : $3 }
+        here && $1 == ".dl_bw->total_bw" { printf " total-bw=%s", $3; exit }' /sys/kernel/debug/sched/debug 2> /dev/null
+}
+kinds=
+if [ "$probes" ]; then
+    if [ -d "$tracefs/events/grub" ]; then
+        say "no probes: another recording has set them; if none runs: $kernel_scripts/probes.sh clear"
+        probes=
+    else
+        set=1
+        kinds=$("$kernel_scripts/probes.sh" set "$record" "$probes") || [ $? = 1 ] || probes=
+    fi
+fi
+echo "# grub: notes 1 kernel=$(uname -r) domain=$domain$(limits)" 2> /dev/null > "$part" || fail "$out cannot be written"
+[ ! "$probes" ] || "$kernel_scripts/probes.sh" sums >> "$part"
+
+calls=$tracefs/instances/grub.$$.calls
+instance "$calls" 256
+for event in $system_calls; do enable "$calls" "syscalls/$event"; done
+[ ! "$no_calls" ] || say "no events of sched_setattr: the notes have the tasks that are there at the start alone"
+"$kernel_scripts/notes.pl" "$calls" >> "$part" &
+notes=$!
+until [ "$(cat "$calls/tracing_on")" = 1 ] || ! kill -0 "$notes" 2> /dev/null; do sleep 0.05; done
+
+# ---- The run. A signal ends PROGRAM, and what was recorded by then is kept.
+stopped=
+stop() {
+    stopped=$1
+    [ ! "$program" ] || kill "$program" 2> /dev/null
+}
+trap 'stop 129' HUP
+trap 'stop 130' INT
+trap 'stop 143' TERM
+echo 1 > "$record/tracing_on" || fail "the record cannot be begun"
+exec 3<&0
+"$@" <&3 3<&- &
 program=$!
+[ ! "$stopped" ] || stop "$stopped"
 wait "$program"
 status=$?
+[ ! "$stopped" ] || { wait "$program"; status=$stopped; }
 program=
-put tracing_on 0
-cat "$instance/trace" > "$out" || fail "$out cannot be written"
+echo 0 > "$record/tracing_on"
+trap 'exit 129' HUP
+trap 'exit 130' INT
+trap 'exit 143' TERM
 
-lost=0
-for stats in "$instance"/per_cpu/cpu*/stats; do
-    for word in $(sed -n 's/^\(overrun\|commit overrun\|dropped events\): *//p' "$stats"); do
-        lost=$((lost + word))
-    done
-done
-echo "record: $lost events were lost" >&2
-[[ $lost == 0 ]] || exit 4
-exit $status
+# ---- The text.
+echo 'grub: end' > "$calls/trace_marker"
+wait "$notes" || say "the notes of tasks have an end before the record's: give --task for what they lack"
+notes=
+lost=$(cat "$record"/per_cpu/cpu*/stats | awk '/^(overrun|commit overrun|dropped events):/ { lost += $NF } END { print lost + 0 }')
+missed=$(awk '$1 ~ /^(upd|enq|deq|mig|sfr|adm|hst|ina|dlt|ede|pck)$/ { missed += $3 } END { print missed + 0 }' "$tracefs/kprobe_profile" 2> /dev/null)
+drop=
+if [ "$probes" ]; then
+    "$kernel_scripts/probes.sh" check < "$record/trace" || { say "no probe lines: their numbers are not those of this kernel"; drop=drop; }
+fi
+{
+    echo "# grub: end$(limits)" &&
+    { [ ! "$kinds" ] || [ "$drop" ] || echo "$kinds"; } &&
+    echo "# grub: lost $lost missed ${missed:-0}" &&
+    "$kernel_scripts/probes.sh" mask $drop < "$record/trace"
+} 2> /dev/null >> "$part" && mv -f "$part" "$out" || fail "$out cannot be written"
+say "$((lost + ${missed:-0})) events were lost"
+[ $((lost + ${missed:-0})) = 0 ] || exit 4
+exit "$status"
