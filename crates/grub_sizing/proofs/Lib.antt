@@ -1,0 +1,4 @@
+pub mod Budgets
+pub mod Walk
+pub mod Monotone
+pub mod Told

@@ -1,0 +1,4 @@
+pub mod Span
+pub mod Jobs
+pub mod Least
+pub mod inside

@@ -1,0 +1,66 @@
+//! How many jobs may be late.
+
+ghost use Rattle.std.specs.Prelude.{◌≡◌, ◌≤◌, ◌<◌, IfOk, IsTrue, ◌↔◌};
+ghost use Rattle.grub_sizing.specs.Jobs.{late_of};
+ghost use Rattle.grub_sizing.specs.inside.Counting.{IsUpTo};
+
+use crate::job::Job;
+use crate::renewal::{Renewal, are_done_by, step};
+use std::alloc::{AllocError, Global};
+
+/// How many of the jobs may be late with the runtime in each period, in microseconds: not done by their due moment
+/// from whichever job of the record on it is played. A period is at least the runtime.
+pub fn late_count(
+    alloc: Global,
+    jobs: &[Job],
+    runtime: u32,
+    period: u32,
+) -> Result<usize, AllocError>
+    requires some { 0 < runtime }
+    requires room { runtime ≤ period }
+    ensures { IfOk result (λ n. n ≡ late_of runtime period jobs.now) }
+{
+    let count = count_up_to(alloc, jobs, runtime, period, usize::MAX)?;
+    Ok(count)
+}
+
+/// Whether more of the jobs than that may be late.
+pub(crate) fn is_above(
+    alloc: Global,
+    jobs: &[Job],
+    runtime: u32,
+    period: u32,
+    allowed: usize,
+) -> Result<bool, AllocError>
+    requires some { 0 < runtime }
+    requires room { runtime ≤ period }
+    ensures { IfOk result (λ b. IsTrue b ↔ (allowed < late_of runtime period jobs.now)) }
+{
+    Ok(count_up_to(alloc, jobs, runtime, period, allowed)? > allowed)
+}
+
+/// The count of late jobs, where it is at most that, else a greater number.
+fn count_up_to(
+    alloc: Global,
+    jobs: &[Job],
+    runtime: u32,
+    period: u32,
+    most: usize,
+) -> Result<usize, AllocError>
+    requires some { 0 < runtime }
+    requires room { runtime ≤ period }
+    ensures { IfOk result (λ n. IsUpTo most n (late_of runtime period jobs.now)) }
+{
+    let mut renewals = Vec::new(alloc);
+    let mut count = 0;
+    for job in jobs {
+        step(&mut renewals, job, runtime, period)?;
+        if !are_done_by(&renewals, job.due) {
+            count += 1;
+            if count > most {
+                return Ok(count);
+            }
+        }
+    }
+    Ok(count)
+}
