@@ -1,0 +1,3 @@
+pub mod RoundingLemmas
+pub mod CostLemmas
+pub mod LawLemmas
