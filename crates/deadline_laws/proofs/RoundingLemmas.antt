@@ -2,8 +2,8 @@
 use Rattle.std.proofs.Common.{ap, ◌≡◌, ℕ, ◌+◌, ◌*◌, ◌/◌, ◌^◌, ◌<◌, ◌≤◌, arith}
 use Rattle.std.proofs.Math.Nat.{div-mul-le_self, lt-div-mul-add, mul-le-mul_left, mul-le-mul_right, le_of_mul-le-mul_right}
 use Rattle.std.proofs.lemmas.Nat.{le-div}
-use Rattle.deadline_rounding.specs.Rounding.{ratio_for}
-use Rattle.deadline_rounding.specs.inside.Charges.{kernel_charge, exact_charge}
+use Rattle.deadline_laws.specs.Rounding.{ratio_for}
+use Rattle.deadline_laws.specs.inside.Charges.{kernel_charge, exact_charge}
 
 -- the ratio is at most 2^28 by max, and less than one below
 pub ratio_low : (max : ℕ) → 0 < max → ratio_for max * max ≤ 268435456

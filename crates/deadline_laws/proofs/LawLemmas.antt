@@ -7,10 +7,10 @@ use Rattle.deadline_rules.specs.declared.charge.Runqueue.{Runqueue}
 use Rattle.deadline_rules.specs.declared.entity.Entity.{Entity}
 use Rattle.deadline_rules.specs.Clock.{plus, less}
 use Rattle.deadline_rules.specs.Charge.{charging_of, rate_of, cost_by, cost_of, inactive_of}
-use Rattle.deadline_rounding.specs.Rounding.{ratio_for, IsOrdinary, rate_for, ChargesNoMore, ChargesHardlyLess, ChargesAlike}
-use Rattle.deadline_rounding.specs.inside.Charges.{kernel_charge, exact_charge}
-use Rattle.deadline_rounding.proofs.RoundingLemmas.{never_more, hardly_less, alike}
-use Rattle.deadline_rounding.proofs.CostLemmas.{kernel_is, exact_is, less_is, plus_is}
+use Rattle.deadline_laws.specs.Rounding.{ratio_for, IsOrdinary, rate_for, ChargesNoMore, ChargesHardlyLess, ChargesAlike}
+use Rattle.deadline_laws.specs.inside.Charges.{kernel_charge, exact_charge}
+use Rattle.deadline_laws.proofs.RoundingLemmas.{never_more, hardly_less, alike}
+use Rattle.deadline_laws.proofs.CostLemmas.{kernel_is, exact_is, less_is, plus_is}
 
 kernel_by : (e : Entity) (r : Runqueue) (nanos : ℕ) → IsOrdinary e r nanos → (c : Charge) → (c ≡ InFull → ⊥) → rate_of LinuxFrom65 e r c ≤ r.max_bw
     → cost_by LinuxFrom65 e r nanos c ≡ kernel_charge nanos (rate_of LinuxFrom65 e r c) (ratio_for r.max_bw)

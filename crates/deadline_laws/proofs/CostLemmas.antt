@@ -3,9 +3,9 @@ use Rattle.std.proofs.Common.{◌≡◌, ℕ, ◌+◌, ◌-◌, ◌*◌, ◌/◌
 use Rattle.std.proofs.Math.Nat.{mod-eq_of_lt, mul-le-mul_right}
 use Rattle.std.proofs.lemmas.Nat.{mul-le}
 use Rattle.deadline_rules.specs.Clock.{plus, less, times}
-use Rattle.deadline_rounding.specs.Rounding.{ratio_for}
-use Rattle.deadline_rounding.specs.inside.Charges.{kernel_charge, exact_charge}
-use Rattle.deadline_rounding.proofs.RoundingLemmas.{ratio_low}
+use Rattle.deadline_laws.specs.Rounding.{ratio_for}
+use Rattle.deadline_laws.specs.inside.Charges.{kernel_charge, exact_charge}
+use Rattle.deadline_laws.proofs.RoundingLemmas.{ratio_low}
 
 pub times_is : (x y : ℕ) → x * y < 2 ^ 64 → times x y ≡ x * y
 times_is x y h = mod-eq_of_lt h

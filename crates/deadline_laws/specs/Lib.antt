@@ -1,0 +1,4 @@
+pub mod Rounding
+pub mod Waking
+pub mod Replenishing
+pub mod inside
