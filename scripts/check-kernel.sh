@@ -1,26 +1,27 @@
 #!/usr/bin/env bash
-# check-kernel.sh [--cpus N] [--virtual] [--out DIR] KERNEL [LOAD..]: boots KERNEL in qemu, records loads of SCHED_DEADLINE tasks
+# check-kernel.sh [--cpus N] [--virtual] [--out DIR] [--run FILE] KERNEL [LOAD..]: boots KERNEL in qemu, records loads of SCHED_DEADLINE tasks
 # there (scripts/kernel/loads.tsv), and checks the records with grubtrace. KERNEL is a bzImage, or the name of a Debian package.
 #   --cpus N    N processors, in the host's time, so that lines lag where the host is busy. Without: one, in virtual time
 #   --virtual   the N processors in virtual time, one after the other (6.12 boots so; 6.1 does not start its second processor)
+#   --run FILE  runs the shell script FILE in the guest in place of loads, and prints what it says; it finds these scripts in /scripts
 #   --out DIR   where LOAD.txt (the record) and LOAD.verdict are left; the directory of the call where it is not given
 # A line a load. It ends with 0 where all agree, 4 where one differs, 1 where one has a fault, 2 for wrong words, 3 where a tool is
 # missing, and 125 where a load could not be recorded: so `git bisect run` takes a kernel that does not boot for one to skip.
 # GRUBTRACE is the program that checks. It needs Debian's packages qemu-system-x86 busybox-static gcc libc6-dev cpio mawk xz-utils.
 set -u
-usage() { echo "usage: check-kernel.sh [--cpus N] [--virtual] [--out DIR] KERNEL [LOAD..]" >&2; exit 2; }
+usage() { echo "usage: check-kernel.sh [--cpus N] [--virtual] [--out DIR] [--run FILE] KERNEL [LOAD..]" >&2; exit 2; }
 say() { echo "check-kernel: $*" >&2; }
 fail() { say "$*"; exit 3; }
 
-root=$(cd "$(dirname "$0")/.." && pwd)
-scripts=$root/scripts
-grubtrace=${GRUBTRACE:-$root/crates/grubtrace/out/grubtrace}
+scripts=$(cd "$(dirname "$0")" && pwd)
+grubtrace=${GRUBTRACE:-${scripts%/*}/crates/grubtrace/out/grubtrace}
 loads='four come noflag overr constr yield change outer other back pi burst mig6 high all'
-cpus=1 virtual= out=$PWD
+cpus=1 virtual= out=$PWD run=
 while [[ ${1:-} == -* ]]; do
     case $1 in
     --cpus) [[ ${2:-} =~ ^[1-9][0-9]?$ ]] || usage; cpus=$2; shift ;;
     --virtual) virtual=1 ;;
+    --run) [[ -f ${2:-} ]] || { say "there is no file ${2:-}"; exit 2; }; run=$2; shift ;;
     --out) [[ -n ${2:-} ]] || usage; mkdir -p "$2" || fail "$2 cannot be made"; out=$(cd "$2" && pwd); shift ;;
     *) usage ;;
     esac
@@ -43,7 +44,7 @@ fi
 for tool in qemu-system-x86_64 busybox gcc cpio mawk xz perl; do
     command -v $tool > /dev/null || fail "there is no $tool; needed are qemu-system-x86 busybox-static gcc libc6-dev cpio mawk xz-utils"
 done
-command -v ${grubtrace%% *} > /dev/null || fail "there is no $grubtrace; 'make tracer' makes it"
+[[ -n $run ]] || command -v ${grubtrace%% *} > /dev/null || fail "there is no $grubtrace; 'make tracer' makes it"
 
 work=$(mktemp -d "${TMPDIR:-/tmp}/check-kernel.XXXXXX")
 trap 'rm -rf "$work"' EXIT
@@ -58,7 +59,7 @@ fi
 guest=$work/guest
 mkdir -p "$guest"/{bin,proc,sys,dev,tmp,scripts}
 cp "$(command -v busybox)" "$guest/bin/busybox"
-cp -r "$scripts/record.sh" "$scripts/record-faults.sh" "$scripts/kernel" "$guest/scripts/"
+cp -r "$scripts/record.sh" "$scripts/kernel" "$guest/scripts/"
 cp "$scripts/kernel/init.sh" "$guest/init"
 gcc -O2 -static -o "$guest/bin/dlgen" "$scripts/kernel/dlgen.c" -lpthread || fail "the load generator cannot be compiled"
 with_libraries() {
@@ -82,27 +83,45 @@ else machine=(-accel 'tcg,thread=multi'); fi
 # In host time the first load pays for the translation of code that is run for the first time.
 [[ $cpus -gt 1 && -z $virtual ]] && warm='warm warm2' || warm=
 
-# A boot records what is left to be recorded. Under emulation about one in ten dies, so it is repeated.
+boot() {
+    (cd "$guest" && find . | cpio -o -H newc --quiet | gzip -1) > "$work/initramfs"
+    timeout "${SECONDS_A_BOOT:-600}" qemu-system-x86_64 "${machine[@]}" -cpu max -smp "$cpus" -m 1024 -no-reboot \
+        -display none -monitor none -serial "file:$work/console" -serial "file:$work/records" \
+        -kernel "$kernel" -initrd "$work/initramfs" -append "console=ttyS0 quiet panic=-1 tsc=reliable noirqdebug ${APPEND:-}" \
+        < /dev/null 2> "$work/said" || say "qemu ended with $? $(head -n 1 "$work/said")"
+    [[ -z ${KEEP_CONSOLE:-} ]] || cp "$work/console" "$out/console"
+    tr -d '\r' < "$work/records" > "$work/told"
+}
+died() { grep -aE 'Oops|BUG|panic|record: ' "$work/console" | head -n 2 | tr '\r\n' '  '; }
+# Under emulation about one boot in ten dies, so it is repeated.
+if [[ -n $run ]]; then
+    cp "$run" "$guest/run.sh"
+    for boots in $(seq "${BOOTS:-6}"); do
+        boot
+        grep -q '^=== END' "$work/told" && break
+        say "boot $boots ended before the script: $(died)"
+    done
+    grep -v '^=== END' "$work/told"
+    grep -q '^=== END' "$work/told" || exit 125
+    exit 0
+fi
+
+# A boot records what is left to be recorded.
 left=$loads
 boots=0
 rm -f $(printf "$out/%s.txt " $loads)
 while [[ -n $left && $boots -lt ${BOOTS:-6} ]]; do
     boots=$((boots + 1))
     for load in $warm $left; do line_of "$load" | cut -f1,3-; done > "$guest/loads"
-    (cd "$guest" && find . | cpio -o -H newc --quiet | gzip -1) > "$work/initramfs"
-    timeout "${SECONDS_A_BOOT:-600}" qemu-system-x86_64 "${machine[@]}" -cpu max -smp "$cpus" -m 1024 -no-reboot \
-        -display none -monitor none -serial "file:$work/console" -serial "file:$work/records" \
-        -kernel "$kernel" -initrd "$work/initramfs" -append "console=ttyS0 quiet panic=-1 tsc=reliable noirqdebug ${APPEND:-}" \
-        < /dev/null 2> "$work/said" || say "boot $boots: qemu ended with $? $(head -n 1 "$work/said")"
-    [[ -z ${KEEP_CONSOLE:-} ]] || cp "$work/console" "$out/console.$boots"
+    boot
     recorded=
     for load in $left; do
-        tr -d '\r' < "$work/records" | sed -n "/^=== LOAD $load /,/^=== END/p" > "$work/one"
+        sed -n "/^=== LOAD $load /,/^=== END/p" "$work/told" > "$work/one"
         grep -q '^=== END' "$work/one" || continue
         grep -v '^===' "$work/one" | base64 -d | gzip -d > "$out/$load.txt" && recorded="$recorded $load"
     done
     left=$(for load in $left; do [[ " $recorded " == *" $load "* ]] || echo "$load"; done)
-    [[ -z $left ]] || say "boot $boots ended before" $left "$(grep -aE 'Oops|BUG|panic|record: ' "$work/console" | head -n 2 | tr '\r\n' '  ')"
+    [[ -z $left ]] || say "boot $boots ended before" $left: "$(died)"
 done
 
 # The verdicts.

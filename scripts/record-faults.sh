@@ -1,9 +1,10 @@
 #!/bin/sh
 # Runs record.sh in each way in which it can end, as root, and sees that it says why, has the right status, and leaves nothing behind:
 # no tracefs instance, no event, no mount, no process, no half-written file. Its last line is 'N passed, M failed'.
-# On a kernel that can be probed: APPEND=RECORD_FAULTS=1 scripts/check-kernel.sh KERNEL one
+# On a kernel that can be probed: scripts/check-kernel.sh --run scripts/record-faults.sh KERNEL
 set -u
 record=$(cd "$(dirname "$0")" && pwd)/record.sh
+[ -f "$record" ] || record=/scripts/record.sh
 work=$(mktemp -d)
 tracefs=$work/tracefs
 mkdir "$tracefs" "$work/small"
@@ -59,12 +60,23 @@ run 'a program that is not there' 3 'there is no program nosuch' "$work/out" nos
 run 'a directory that is not there' 3 'cannot be written' "$work/none/out" true
 run 'no file' 3 'is no file' /dev/null true
 RECORD_BUFFER_KB=999999999 run 'a buffer that cannot be had' 3 'RECORD_BUFFER_KB' "$work/out" true
-RECORD_BUFFER_KB=4 run 'events are lost' 4 '[1-9].* events were lost' "$work/out" sh -c 'for i in 1 2 3 4 5 6 7 8 9; do sleep 0.01; done'
+sleeps='for i in 1 2 3 4 5 6 7 8 9; do sleep 0.01; done'
+RECORD_BUFFER_KB=4 run 'events are lost' 4 '[1-9].* events were lost' "$work/out" sh -c "$sleeps"
 grep -qE '^# grub: lost [1-9]' "$work/out" || { failed=$((failed + 1)); echo "record-faults: the record does not tell of lost events"; }
+mkdir "$work/other"
+if mount -t tracefs tracefs "$work/other" && mkdir "$work/other/instances/others" && TRACEFS=$work/other "${record%/*}/kernel/probes.sh" set "$work/other/instances/others" few > /dev/null 2>&1; then
+    "$record" "$work/out" true 2> "$work/said"
+    status=$?
+    TRACEFS=$work/other "${record%/*}/kernel/probes.sh" clear
+    rmdir "$work/other/instances/others"
+    expect 'the probes of another recording' 0 $status 'another recording has set them'
+fi
+rmdir "$work/other/instances/others" 2> /dev/null
+umount "$work/other"
 signal 'a signal before the program' TERM 143 ''
 for pair in HUP:129 TERM:143; do signal "a signal ${pair%:*}" "${pair%:*}" "${pair#*:}" record; done
-mount -t tmpfs -o size=16k tmpfs "$work/small"
-run 'a disk that is too small' 3 'cannot be written' "$work/small/out" sleep 0.2
+mount -t tmpfs -o size=4k tmpfs "$work/small"
+run 'a disk that is too small' 3 'cannot be written' "$work/small/out" sh -c "$sleeps"
 umount "$work/small"
 echo "$passed passed, $failed failed"
 [ "$failed" = 0 ]

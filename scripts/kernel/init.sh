@@ -1,6 +1,6 @@
 #!/bin/busybox sh
-# The init of the guest in check-kernel.sh: records each line of /loads (NAME SECONDS FAIR WORDS OF dlgen, with tabs) by record.sh,
-# and sends the record, packed, to the second serial line.
+# The init of the guest in check-kernel.sh. It runs /run.sh where that is there, and sends what it says to the second serial line.
+# Else it records each line of /loads (NAME FAIR SECONDS TASKS, with tabs) by record.sh, and sends the record there, packed.
 /bin/busybox --install -s /bin
 mount -t proc proc /proc
 mount -t sysfs sysfs /sys
@@ -8,6 +8,10 @@ mount -t devtmpfs dev /dev
 mount -t tracefs tracefs /sys/kernel/tracing
 mount -t debugfs debugfs /sys/kernel/debug
 stty raw -F /dev/ttyS1
+if [ -f /run.sh ]; then
+    { sh /run.sh 2>&1; echo "=== END"; } > /dev/ttyS1
+    poweroff -f
+fi
 tab=$(printf '\t')
 while IFS=$tab read -r name fair seconds words; do
     IFS=' '
@@ -26,8 +30,6 @@ while IFS=$tab read -r name fair seconds words; do
         rm /tmp/record
     fi
 done < /loads
-# APPEND=RECORD_FAULTS=1 of check-kernel.sh.
-[ ! "${RECORD_FAULTS:-}" ] || /scripts/record-faults.sh
 echo "=== left behind: $(ls -d /sys/kernel/tracing/events/grub* /sys/kernel/tracing/instances/* /tmp/* 2> /dev/null)"
 dmesg | grep -E 'WARN|BUG|deadline.c' | tail -n 5
 poweroff -f
