@@ -22,11 +22,11 @@ pub none_at_all : {A : Type 0} (fault : A → ℕ) (xs : List A) (i : ℕ) → l
 none_at_all fault xs i past was = sym (at_drop_all (first_fault fault) xs i past) ∙ was
 
 -- what holds of each element before this place, and of the one here, holds of each before the next
-pub each_more : {A : Type 0} (P : A → Type 0) (xs : List A) (i : ℕ) (e : A) → i < length xs → ((k : ℕ) (d : A) → k < i → P (get_or xs k d)) → P (get_or xs i e) → (k : ℕ) (d : A) → k < i + 1 → P (get_or xs k d)
+pub each_more : {A : Type 0} (P : ℕ → A → Type 0) (xs : List A) (i : ℕ) (e : A) → i < length xs → ((k : ℕ) (d : A) → k < i → P k (get_or xs k d)) → P i (get_or xs i e) → (k : ℕ) (d : A) → k < i + 1 → P k (get_or xs k d)
 each_more P xs i e there was here k d before =
     elim (cases_lt k i) [
       | inl less ↦ was k d less
       | inr more ↦
           let same : k ≡ i = omega (arith, more, before) in
-          subst (λ j. P (get_or xs j d)) (sym same) (subst P (get_or_default xs i e d there) here)
+          subst (λ j. P j (get_or xs j d)) (sym same) (subst (P i) (get_or_default xs i e d there) here)
     ]

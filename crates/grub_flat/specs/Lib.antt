@@ -4,3 +4,6 @@ pub mod Ready
 pub mod Asked
 pub mod Opening
 pub mod Kernel
+pub mod Batch
+pub mod Recorded
+pub mod Audit

@@ -11,7 +11,7 @@ use Rattle.grub_flat.specs.declared.memory.NdRunqueue.{NdRunqueue}
 -- the first fault in a list, and 0 where there is none
 abbrev pub first_fault : {A : Type 0} → (A → ℕ) → List A → ℕ
 first_fault fault [] = DONE
-first_fault fault (x ∷ xs) = if fault x == DONE then first_fault fault xs else fault x
+first_fault fault (x ∷ xs) = or_else (fault x) (first_fault fault xs)
 
 abbrev pub task_fault : NdTask → ℕ
 task_fault x = reservation_fault (params_of x)

@@ -34,3 +34,35 @@ pub struct NdReply {
     /// What a charge took from the budget.
     pub charged: u64,
 }
+
+/// An op that is asked for a task.
+#[repr(C)]
+#[derive(Clone, Copy, Debug, PartialEq, Eq)]
+pub struct NdAsk {
+    pub task: u32,
+    pub op: NdOp,
+}
+
+/// An event of a recorded history: a call with its reply, or a reading.
+#[repr(C)]
+#[derive(Clone, Copy, Debug, PartialEq, Eq)]
+pub struct NdEvent {
+    /// 1 a call, 2 a reading.
+    pub kind: u32,
+
+    /// Who called or read. It is not looked at.
+    pub pass: u32,
+
+    /// The task of a call, the runqueue of a reading.
+    pub number: u32,
+
+    /// What a call asked.
+    pub op: NdOp,
+
+    /// What a reading gave, in 1/2^20.
+    pub running_bw: u32,
+    pub this_bw: u32,
+
+    /// What a call was answered.
+    pub reply: NdReply,
+}

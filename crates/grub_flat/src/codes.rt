@@ -39,6 +39,21 @@ pub const MOMENT_OUT_OF_RANGE: u32 = 61;
 /// The active bandwidth is more than that of all tasks.
 pub const RUNNING_OUT_OF_RANGE: u32 = 62;
 
+/// The count of blocks is more than 16777215.
+pub const COUNT_OUT_OF_RANGE: u32 = 63;
+
+/// The task is on a runqueue that is not there.
+pub const QUEUE_OUT_OF_RANGE: u32 = 64;
+
+/// The active bandwidth is not that of the active tasks.
+pub const WRONG_RUNNING_BW: u32 = 65;
+
+/// The bandwidth is not that of all tasks.
+pub const WRONG_THIS_BW: u32 = 66;
+
+/// The tasks have more bandwidth than the runqueue admits.
+pub const OVERFULL: u32 = 67;
+
 /// There is no task of this number.
 pub const NO_TASK: u32 = 70;
 

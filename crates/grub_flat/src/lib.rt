@@ -11,7 +11,10 @@
 
 mod arithmetic;
 mod asked;
+mod auditor;
+mod batch;
 mod calls;
+mod checker;
 mod codes;
 mod kernel;
 mod memory;
@@ -21,11 +24,15 @@ mod records;
 mod steps;
 
 pub use arithmetic::{bandwidth, charge_for, depleted_by, woken_to, zero_lag_of};
-pub use asked::{NdOp, NdReply};
+pub use asked::{NdAsk, NdEvent, NdOp, NdReply};
+pub use auditor::audit;
+pub use batch::apply_all;
+pub use checker::{CALL, READING, check};
 pub use codes::{
-    BUDGET_OUT_OF_RANGE, DAMAGED, DEADLINE_OVERFLOW, DONE, MOMENT_OUT_OF_RANGE, NO_OP, NO_QUEUE,
-    NO_TASK, PERIOD_OUT_OF_RANGE, RUNNING_OUT_OF_RANGE, RUNTIME_OUT_OF_RANGE, TOO_MANY_QUEUES,
-    TOO_MANY_TASKS, TOO_SMALL, UEXTRA_OUT_OF_RANGE, UMAX_OUT_OF_RANGE,
+    BUDGET_OUT_OF_RANGE, COUNT_OUT_OF_RANGE, DAMAGED, DEADLINE_OVERFLOW, DONE, MOMENT_OUT_OF_RANGE,
+    NO_OP, NO_QUEUE, NO_TASK, OVERFULL, PERIOD_OUT_OF_RANGE, QUEUE_OUT_OF_RANGE,
+    RUNNING_OUT_OF_RANGE, RUNTIME_OUT_OF_RANGE, TOO_MANY_QUEUES, TOO_MANY_TASKS, TOO_SMALL,
+    UEXTRA_OUT_OF_RANGE, UMAX_OUT_OF_RANGE, WRONG_RUNNING_BW, WRONG_THIS_BW,
 };
 pub use kernel::kernel_charge;
 pub use memory::{FLAT_QUEUES_MAX, FLAT_TASKS_MAX, NdRunqueue, NdTask};

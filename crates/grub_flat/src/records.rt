@@ -10,7 +10,7 @@ use crate::memory::{NdRunqueue, NdTask};
 use grub_book::{COUNT_MAX, Place, Reading, Record, State};
 use grub_bw::{Params, Queue, Server};
 
-fn place_of(state: u32, queue: u32) -> Place
+pub(crate) fn place_of(state: u32, queue: u32) -> Place
     ensures { result ≡ place_of state queue }
 {
     match state {

@@ -16,7 +16,12 @@ use crate::records::{counts, queue_in, record_in, task_of};
 use grub_book::{Op, Reply, refusal, runqueue, settle, shifted};
 
 /// Asks an op for task `t`. None where the memory is no book; then nothing is written.
-fn asked(tasks: &mut [NdTask], queues: &mut [NdRunqueue], t: u32, op: Op) -> Option<Reply>
+pub(crate) fn asked(
+    tasks: &mut [NdTask],
+    queues: &mut [NdRunqueue],
+    t: u32,
+    op: Op,
+) -> Option<Reply>
     requires task { t < length tasks.old }
     requires fits { IsOp (machine_of [] queues.old) op }
     ensures step { (s : Machine) → IsBook s tasks.old queues.old

@@ -1,14 +1,15 @@
 //! A book over memory of its caller.
 
-ghost use Rattle.std.specs.Prelude.{◌≡◌, ◌≢◌, ◌<◌, ◌≤◌, ◌↔◌, false, length};
+ghost use Rattle.std.specs.Prelude.{◌≡◌, ◌≢◌, ◌<◌, ◌≤◌, ◌↔◌, false, length, take, drop, min};
 ghost use Rattle.grub_book.specs.Machine.{Machine};
 ghost use Rattle.grub_book.specs.Sums.{opening_book};
 ghost use Rattle.grub_flat.specs.Memory.{records_of, machine_of, IsFlatMachine, IsBook};
 ghost use Rattle.grub_flat.specs.Asked.{plain_reply, answer, is_op};
+ghost use Rattle.grub_flat.specs.Batch.{answered_all, replies_to};
 ghost use Rattle.grub_flat.specs.Opening.{opening_fault};
 ghost use Rattle.grub_flat.specs.declared.codes.TheConstants.{DONE, NO_TASK, NO_OP};
 
-use grub_flat::{NdOp, NdReply, NdRunqueue, NdTask, apply, open_book};
+use grub_flat::{NdAsk, NdOp, NdReply, NdRunqueue, NdTask, apply, apply_all, open_book};
 
 /// Makes a book of the reservations and the constants that stand in the memory: every task is away, with the block count
 /// 0, a full budget and the deadline 0. It answers 0, or the number of the first fault, 1 to 8; then nothing is written.
@@ -46,4 +47,25 @@ pub extern "C" fn nd_apply(
         → result ≡ plain_reply NO_OP }
 {
     apply(tasks, queues, task, op)
+}
+
+/// Asks ops one after another, as many as there is room for replies, and answers how many that were. Each is asked and
+/// answered as `nd_apply` does; replies past that count are left as they were.
+#[unsafe(no_mangle)]
+pub extern "C" fn nd_apply_all(
+    tasks: &mut [NdTask],
+    queues: &mut [NdRunqueue],
+    asks: &[NdAsk],
+    replies: &mut [NdReply],
+) -> usize
+    ensures count { result ≡ min (length asks.now) (length replies.old) }
+    ensures book { (s : Machine) → IsBook s tasks.old queues.old
+        → IsBook s tasks.new queues.new }
+    ensures records { (s : Machine) → IsBook s tasks.old queues.old → records_of tasks.new
+        ≡ answered_all s (records_of tasks.old) (take result asks.now) }
+    ensures replies { (s : Machine) → IsBook s tasks.old queues.old → take result replies.new
+        ≡ replies_to s (records_of tasks.old) (take result asks.now) }
+    ensures rest { drop result replies.new ≡ drop result replies.old }
+{
+    apply_all(tasks, queues, asks, replies)
 }

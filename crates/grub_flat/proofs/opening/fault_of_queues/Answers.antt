@@ -10,7 +10,7 @@ pub loop-cell-preserved : goal.loop-cell-preserved
 loop-cell-preserved c =
     record {
       none = none_more queue_fault c.args.queues.now _ _ c.loop-cell-test.true c.loop-cell.invariant.none (sym c.capacity_fault-fault.ensures.value ∙ c.if-fault-ne-DONE.false);
-      each = each_more (λ (x : NdRunqueue). IsCapacity (constants_of x)) c.args.queues.now _ _ c.loop-cell-test.true c.loop-cell.invariant.each (c.capacity_fault-fault.ensures.none.0 c.if-fault-ne-DONE.false);
+      each = each_more (λ k (x : NdRunqueue). IsCapacity (constants_of x)) c.args.queues.now _ _ c.loop-cell-test.true c.loop-cell.invariant.each (c.capacity_fault-fault.ensures.none.0 c.if-fault-ne-DONE.false);
     }
 
 pub returns-then-fault-ne-DONE-clause-value : goal.returns-then-fault-ne-DONE-clause-value

@@ -10,7 +10,7 @@ pub loop-task-preserved : goal.loop-task-preserved
 loop-task-preserved c =
     record {
       none = none_more task_fault c.args.tasks.now _ _ c.loop-task-test.true c.loop-task.invariant.none (sym c.params_fault-fault.ensures.value ∙ c.if-fault-ne-DONE.false);
-      each = each_more (λ (x : NdTask). IsReservation (params_of x)) c.args.tasks.now _ _ c.loop-task-test.true c.loop-task.invariant.each (c.params_fault-fault.ensures.none.0 c.if-fault-ne-DONE.false);
+      each = each_more (λ k (x : NdTask). IsReservation (params_of x)) c.args.tasks.now _ _ c.loop-task-test.true c.loop-task.invariant.each (c.params_fault-fault.ensures.none.0 c.if-fault-ne-DONE.false);
     }
 
 pub returns-then-fault-ne-DONE-clause-value : goal.returns-then-fault-ne-DONE-clause-value

@@ -1,0 +1,64 @@
+/* A book as memory: two runqueues, a task that moves, admission, a batch, a snapshot, an audit and a recorded history. */
+#include "neddwyrol.h"
+#include <inttypes.h>
+#include <stdio.h>
+#include <string.h>
+
+static void show(const char *what, const nd_book *book) {
+    printf("%s:", what);
+    for (size_t r = 0; r < book->queue_count; r++)
+        printf(" %" PRIu32 "/%" PRIu32, book->queues[r].running_bw, book->queues[r].this_bw);
+    printf("; audit %" PRIu32 "\n", nd_audit(book->tasks, book->task_count, book->queues, book->queue_count));
+}
+
+int main(void) {
+    nd_task tasks[3] = {{4, 8, 0, 0, 0, 0, 0}, {4, 8, 0, 0, 0, 0, 0}, {1, 8, 0, 0, 0, 0, 0}}, saved[3];
+    nd_runqueue queues[2] = {{ND_UNIT, 0, 0, 0}, {ND_UNIT, ND_UNIT / 4, 0, 0}}, sums[2], wrong[2] = {{ND_UNIT, 0, 0, 0}, {5, 6, 0, 0}};
+    nd_book book = {tasks, 3, queues, 2};
+    nd_ask asks[6] = {{0, {ND_JOIN, 0, 0}}, {1, {ND_JOIN, 0, 0}}, {2, {ND_JOIN, 0, 0}}, {7, {ND_LEAVE, 0, 0}}, {0, {ND_JOIN, 9, 0}}, {0, {ND_BLOCK, 0, 0}}};
+    nd_reply replies[5];
+    nd_event history[4];
+
+    printf("open: %" PRIu32 " %" PRIu32 " %" PRIu32 "\n", nd_open(tasks, 3, wrong, 2), nd_open(tasks, 3, queues, 0), nd_open(tasks, 3, queues, 2));
+    printf("answered %zu:", nd_apply_all(tasks, 3, queues, 2, asks, 6, replies, 5));
+    for (int i = 0; i < 5; i++)
+        printf(" %" PRIu32, replies[i].kind);
+    printf("\n");
+    show("two are on the first", &book);
+
+    memcpy(saved, tasks, sizeof tasks);
+    memcpy(sums, queues, sizeof queues);
+    nd_block(&book, 0, 0, 0);
+    printf("blocked, and left runqueue %" PRIu32 "\n", nd_leave(&book, 0).number);
+    nd_reply joined = nd_join(&book, 0, 1, 3);
+    printf("joined with budget %" PRIu32 " and deadline %" PRIu32 "\n", joined.budget, joined.deadline);
+    show("one moved", &book);
+    printf("retuned while active: %" PRIu32 "\n", nd_retune(&book, 0, 2, 8).kind);
+
+    /* A snapshot is the memory: it is put back, or a history that was recorded since is held to it. */
+    memcpy(tasks, saved, sizeof tasks);
+    memcpy(queues, sums, sizeof queues);
+    show("put back", &book);
+    memset(history, 0, sizeof history);
+    history[0].kind = ND_CALL, history[0].number = 0, history[0].op.kind = ND_CHARGE, history[0].op.b = 2;
+    history[0].reply.kind = ND_CHARGED, history[0].reply.budget = 2, history[0].reply.deadline = 8, history[0].reply.charged = 2;
+    history[1].kind = ND_READING, history[1].number = 0, history[1].running_bw = ND_UNIT, history[1].this_bw = ND_UNIT;
+    history[2].kind = ND_CALL, history[2].number = 0, history[2].op.kind = ND_BLOCK, history[2].op.b = 2;
+    history[2].reply.kind = ND_WAITING, history[2].reply.number = 1, history[2].reply.deadline = 4;
+    history[3] = history[1];
+    printf("given: %zu of 4\n", nd_check(tasks, 3, queues, 2, history, 4));
+    memcpy(tasks, saved, sizeof tasks);
+    memcpy(queues, sums, sizeof queues);
+    history[3].running_bw = ND_UNIT / 2;
+    printf("with another reading: %zu of 4\n", nd_check(tasks, 3, queues, 2, history, 4));
+
+    queues[0].this_bw--;
+    show("a sum was changed", &book);
+    queues[0].this_bw++;
+    tasks[1].queue = 5;
+    show("a task is nowhere", &book);
+    printf("a call then: %" PRIu32 "\n", nd_block(&book, 1, 5, 0).kind);
+    tasks[1].queue = 0, tasks[1].budget = 9;
+    printf("no budget is so large: %" PRIu32 "\n", nd_block(&book, 1, 0, 0).kind);
+    return 0;
+}
