@@ -91,3 +91,29 @@ uninstall:
 clean:
 	@python3 scripts/build.py --clean
 	rm -rf out crates/*/out bench/target
+
+# The library for C, Rust and Python (docs/LIBRARY.md), built by both of the kit's compilers into out/library.
+.PHONY: library library-test library-bench install-library uninstall-library
+
+library:
+	@bash scripts/library.sh --build
+
+# The gate's step for it: linked and run from C, C++, Rust and Python.
+library-test:
+	@bash scripts/library.sh
+
+# Nanoseconds a transition, beside plain Rust (bindings/plain, which wants cargo) and from Python.
+library-bench: library
+	@bash scripts/library-bench.sh
+
+# Library, header and pkg-config file below PREFIX.
+install-library: library
+	@bash bindings/install.sh out/library $(PREFIX) $(DESTDIR)$(PREFIX)
+	@echo "installed libneddwyrol below $(DESTDIR)$(PREFIX)"
+
+uninstall-library:
+	@bash bindings/install.sh --remove $(DESTDIR)$(PREFIX)
+
+install: install-library
+
+uninstall: uninstall-library

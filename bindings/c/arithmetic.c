@@ -33,9 +33,9 @@ int main(void) {
     fault = nd_charge(4, 524288, whole, two, &charged);
     printf("half of the processor is inactive %" PRIu32 ": %" PRIu64 "\n", fault, charged);
 
-    /* A task of 5 ms in 50 ms alone on a runqueue of a domain of four, which runs for 1 ms: 6.1 and 6.18. */
-    printf("kernel 6.1 %" PRIu64 "\n", nd_kernel_charge(0x060100, 1000000, 104857, 104857, 104857, 969933, 996147, 269));
-    printf("kernel 6.18 %" PRIu64 "\n", nd_kernel_charge(0x061200, 1000000, 104857, 104857, 104857, 969933, 996147, 269));
+    /* A task of 5 ms in 50 ms, alone on its runqueue, runs for 1 ms while extra_bw is 900000: by 6.1 and by 6.18. */
+    printf("kernel 6.1 %" PRIu64 "\n", nd_kernel_charge(0x060100, 1000000, 104857, 104857, 104857, 900000, 996147, 269));
+    printf("kernel 6.18 %" PRIu64 "\n", nd_kernel_charge(0x061200, 1000000, 104857, 104857, 104857, 900000, 996147, 269));
     printf("kernel, extra_bw below 0 %" PRIu64 "\n", nd_kernel_charge(0x061200, 1000000, 104857, 104857, 104857, UINT64_C(18446744073709551615), 996147, 269));
     return 0;
 }

@@ -49,7 +49,7 @@ int main(int argc, char **argv) {
         nd_event events[ASKS];
         nd_reply replies[ASKS], reply;
         nd_op op;
-        size_t n = below(TASKS + 1), m = below(QUEUES + 1);
+        size_t n = i % 8 ? TASKS : below(TASKS + 1), m = i % 8 ? QUEUES : below(QUEUES + 1);
         uint32_t fault;
         fill(tasks, sizeof tasks);
         fill(queues, sizeof queues);
@@ -62,12 +62,12 @@ int main(int argc, char **argv) {
             tasks[k].queue = below(4);
         for (size_t k = 0; (i & 2) && k < m; k++)
             queues[k].umax = ND_UNIT, queues[k].uextra = below(ND_UNIT), queues[k].running_bw = below(ND_UNIT), queues[k].this_bw = ND_UNIT - below(99);
-        op.kind = below(10), op.a = (i & 4) ? below(5) : number(), op.b = number();
+        op.kind = below(10), op.a = (i & 4) ? below(QUEUES + 1) : number(), op.b = (i & 32) ? below(1024) : number();
         memcpy(was, tasks, sizeof tasks);
         memcpy(were, queues, sizeof queues);
         fault = nd_audit(tasks, n, queues, m);
         audited[fault < 127 ? fault : 127]++;
-        reply = nd_apply(tasks, n, queues, m, below(6), op);
+        reply = nd_apply(tasks, n, queues, m, i % 16 ? below(TASKS) : below(TASKS + 2), op);
         kinds[reply.kind < 127 ? reply.kind : 127]++;
         digest = digest * 31 + reply.kind + reply.number + reply.budget + reply.deadline + reply.charged;
         if (reply.kind < 101 && (memcmp(was, tasks, sizeof tasks) || memcmp(were, queues, sizeof queues))) {

@@ -6,17 +6,18 @@ use Rattle.std.proofs.lemmas.List.{at_drop_more, at_drop_all, get_or-map, length
 use Rattle.std.proofs.lemmas.List.Sums.{sum_by_push}
 use Rattle.grub_bw.specs.Bandwidth.{Capacity, IsCapacity}
 use Rattle.grub_book.specs.Machine.{Machine, queue_at}
-use Rattle.grub_book.specs.Sums.{Records, record_at, share_of, reading_of}
+use Rattle.grub_book.specs.Sums.{Records, share_of, reading_of}
 use Rattle.grub_book.specs.Sound.{IsThere, IsKept}
 use Rattle.grub_book.specs.declared.event.Reading.{Reading}
 use Rattle.grub_book.specs.declared.place.Place.{Place}
 use Rattle.grub_book.specs.declared.place.Place.TheVariants.{Away, Gone, On}
 use Rattle.grub_book.specs.declared.place.Record.{Record}
-use Rattle.grub_flat.specs.Memory.{params_of, record_of, records_of, constants_of, reading_in, machine_of, IsFlatMachine, IsBook}
-use Rattle.grub_flat.specs.Audit.{sum_fault, sums_fault, AreKept, IsSum, AreSums}
+use Rattle.grub_flat.specs.Memory.{params_of, record_of, records_of, constants_of, machine_of, IsFlatMachine, IsBook}
+use Rattle.grub_flat.specs.Audit.{sum_fault, sums_fault}
+use Rattle.grub_flat.specs.inside.Sums.{AreKept, AreSums}
 use Rattle.grub_flat.specs.declared.memory.NdTask.{NdTask}
 use Rattle.grub_flat.specs.declared.memory.NdRunqueue.{NdRunqueue}
-use Rattle.grub_flat.proofs.Beginning.{IsFlatMachine-made, capacities_of}
+use Rattle.grub_flat.proofs.Beginning.{IsFlatMachine-made}
 
 -- the runqueues before this one have no fault
 abbrev pub NoSumBefore : Records → List NdRunqueue → ℕ → Type 0

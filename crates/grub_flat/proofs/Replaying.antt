@@ -9,7 +9,7 @@ use Rattle.grub_book.specs.History.{IsTrueOf, IsLegalFrom, after}
 use Rattle.grub_book.specs.declared.event.Event.{Event}
 use Rattle.grub_book.specs.declared.event.Event.TheVariants.{Call, Look}
 use Rattle.grub_book.specs.declared.op.Op.{Op}
-use Rattle.grub_book.proofs.Histories.{legal_append, legal_first, legal_rest}
+use Rattle.grub_book.proofs.Histories.{legal_append, legal_rest}
 use Rattle.grub_flat.specs.Memory.{records_of, IsBook}
 use Rattle.grub_book.specs.Op.{IsOp}
 use Rattle.grub_flat.specs.Asked.{op_of, reply_of}

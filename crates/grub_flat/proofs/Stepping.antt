@@ -21,7 +21,7 @@ use Rattle.grub_book.proofs.Soundness.{moved, moved_from, runqueue_there, sound_
 use Rattle.grub_book.proofs.Tallies.{running_le_this}
 use Rattle.grub_book.proofs.Totals.{counts_each, shifted_set}
 use Rattle.grub_flat.specs.Memory.{record_of, records_of, constants_of, reading_in, machine_of, IsBook}
-use Rattle.grub_flat.specs.Ready.{CanStand, IsReady, ChangesNone}
+use Rattle.grub_flat.specs.inside.Ready.{CanStand, IsReady, ChangesNone}
 use Rattle.grub_flat.specs.declared.memory.NdTask.{NdTask}
 use Rattle.grub_flat.specs.declared.memory.NdRunqueue.{NdRunqueue}
 

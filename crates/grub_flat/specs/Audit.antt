@@ -1,12 +1,10 @@
 -- What is wrong with memory that is to be a book.
-use Rattle.std.specs.Prelude.{◌≡◌, ℕ, ◌+◌, ◌==◌, ◌<◌, ◌≤◌, nat_lt, List, [], ◌∷◌, length, slice_index_or, if◌then◌else◌}
-use Rattle.grub_book.specs.Machine.{Machine}
+use Rattle.std.specs.Prelude.{ℕ, ◌+◌, ◌==◌, nat_lt, List, [], ◌∷◌, length, if◌then◌else◌}
 use Rattle.grub_book.specs.Sums.{Records, reading_of}
-use Rattle.grub_book.specs.Sound.{IsKept}
 use Rattle.grub_book.specs.declared.rules.TheConstants.{COUNT_MAX}
 use Rattle.grub_book.specs.declared.place.Place.{Place}
 use Rattle.grub_book.specs.declared.place.Place.TheVariants.{On}
-use Rattle.grub_flat.specs.Memory.{params_of, record_of, records_of, reading_in}
+use Rattle.grub_flat.specs.Memory.{record_of, records_of}
 use Rattle.grub_flat.specs.Numbers.{or_else, budget_fault}
 use Rattle.grub_flat.specs.Opening.{first_fault, opening_fault}
 use Rattle.grub_flat.specs.declared.codes.TheConstants.{DONE, COUNT_OUT_OF_RANGE, QUEUE_OUT_OF_RANGE, WRONG_RUNNING_BW, WRONG_THIS_BW, OVERFULL}
@@ -44,15 +42,3 @@ sums_fault book r (q ∷ qs) = or_else (sum_fault book r q) (sums_fault book (r 
 abbrev pub audit_fault : List NdTask → List NdRunqueue → ℕ
 audit_fault tasks queues =
     or_else (opening_fault tasks queues) (or_else (first_fault (kept_fault (length queues)) tasks) (sums_fault (records_of tasks) 0 queues))
-
--- each task has a record that it may have
-abbrev pub AreKept : Machine → List NdTask → Type 0
-AreKept s tasks = (t : ℕ) (d : NdTask) → t < length tasks → IsKept s (record_of (slice_index_or tasks t d))
-
--- a runqueue has the sums of its tasks, and no more than it admits
-pub record IsSum (book : Records) (r : ℕ) (q : NdRunqueue) : Type 0 where
-  pub fresh : reading_in q ≡ reading_of book r
-  pub admitted : q.this_bw ≤ q.umax
-
-abbrev pub AreSums : Records → List NdRunqueue → Type 0
-AreSums book queues = (r : ℕ) (d : NdRunqueue) → r < length queues → IsSum book r (slice_index_or queues r d)

@@ -1,6 +1,6 @@
+pub mod inside
 pub mod Numbers
 pub mod Memory
-pub mod Ready
 pub mod Asked
 pub mod Opening
 pub mod Kernel

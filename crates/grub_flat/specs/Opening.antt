@@ -1,6 +1,5 @@
 -- What is wrong with the memory that a book is to be opened in.
-use Rattle.std.specs.Prelude.{ℕ, ◌==◌, ◌<◌, nat_lt, List, [], ◌∷◌, length, slice_index_or, if◌then◌else◌}
-use Rattle.grub_bw.specs.Bandwidth.{IsReservation, IsCapacity}
+use Rattle.std.specs.Prelude.{ℕ, ◌==◌, nat_lt, List, [], ◌∷◌, length, if◌then◌else◌}
 use Rattle.grub_flat.specs.Memory.{params_of, constants_of}
 use Rattle.grub_flat.specs.Numbers.{reservation_fault, constants_fault, or_else}
 use Rattle.grub_flat.specs.declared.codes.TheConstants.{DONE, TOO_MANY_QUEUES, TOO_MANY_TASKS, NO_QUEUE}
@@ -26,10 +25,3 @@ opening_fault tasks queues =
     else (if nat_lt FLAT_TASKS_MAX (length tasks) then TOO_MANY_TASKS
     else (if length queues == 0 then NO_QUEUE
     else or_else (first_fault queue_fault queues) (first_fault task_fault tasks)))
-
--- each runqueue's constants, and each task's reservation, are within their limits
-abbrev pub AreConstants : List NdRunqueue → Type 0
-AreConstants queues = (r : ℕ) (d : NdRunqueue) → r < length queues → IsCapacity (constants_of (slice_index_or queues r d))
-
-abbrev pub AreReservations : List NdTask → Type 0
-AreReservations tasks = (t : ℕ) (d : NdTask) → t < length tasks → IsReservation (params_of (slice_index_or tasks t d))

@@ -1,5 +1,5 @@
 -- A recorded history in plain numbers, and the history of the book that it tells.
-use Rattle.std.specs.Prelude.{◌≡◌, ◌+◌, ◌<◌, List, [], ◌∷◌, length, take, Some, ⊤}
+use Rattle.std.specs.Prelude.{◌≡◌, List, [], ◌∷◌, Some, ⊤}
 use Rattle.grub_book.specs.Machine.{Machine}
 use Rattle.grub_book.specs.Sums.{Records}
 use Rattle.grub_book.specs.History.{IsLegalFrom}

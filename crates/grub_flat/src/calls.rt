@@ -57,7 +57,8 @@ pub(crate) fn plain_reply(kind: u32) -> NdReply
 }
 
 fn reply_with(kind: u32, number: u32, budget: u32, deadline: u32) -> NdReply
-    ensures { result ≡ record { kind = kind; number = number; budget = budget; deadline = deadline; charged = 0 } }
+    ensures { result ≡ record (plain_reply kind)
+        { number = number; budget = budget; deadline = deadline } }
 {
     NdReply {
         kind,

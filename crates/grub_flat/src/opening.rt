@@ -3,7 +3,8 @@
 ghost use Rattle.std.specs.Prelude.{◌≡◌, ◌≢◌, ◌<◌, ◌↔◌, ℕ, [], length, map, slice_index_or};
 ghost use Rattle.grub_book.specs.Sums.{opening_record, opening_book};
 ghost use Rattle.grub_flat.specs.Memory.{record_of, records_of, params_of, constants_of, reading_in, machine_of, IsFlatMachine, IsBook};
-ghost use Rattle.grub_flat.specs.Opening.{first_fault, task_fault, queue_fault, opening_fault, AreConstants, AreReservations};
+ghost use Rattle.grub_flat.specs.Opening.{first_fault, task_fault, queue_fault, opening_fault};
+ghost use Rattle.grub_flat.specs.inside.Limits.{AreConstants, AreReservations};
 ghost use Rattle.grub_flat.specs.declared.memory.NdRunqueue.{NdRunqueue};
 
 use crate::codes::{DONE, NO_QUEUE, TOO_MANY_QUEUES, TOO_MANY_TASKS};

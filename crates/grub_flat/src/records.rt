@@ -4,7 +4,7 @@ ghost use Rattle.std.specs.Prelude.{◌≡◌, ◌↔◌, IfSome, IsNone, IsTrue
 ghost use Rattle.grub_bw.specs.Bandwidth.{IsReservation};
 ghost use Rattle.grub_book.specs.Totals.{Counts};
 ghost use Rattle.grub_flat.specs.Memory.{place_of, record_of, constants_of, reading_in};
-ghost use Rattle.grub_flat.specs.Ready.{CanStand, IsReady};
+ghost use Rattle.grub_flat.specs.inside.Ready.{CanStand, IsReady};
 
 use crate::memory::{NdRunqueue, NdTask};
 use grub_book::{COUNT_MAX, Place, Reading, Record, State};

@@ -5,7 +5,7 @@ ghost use Rattle.grub_book.specs.Machine.{Machine};
 ghost use Rattle.grub_book.specs.Op.{IsOp};
 ghost use Rattle.grub_book.specs.Step.{step, Refuses, is_under_claim};
 ghost use Rattle.grub_flat.specs.Memory.{records_of, machine_of, IsBook};
-ghost use Rattle.grub_flat.specs.Ready.{ChangesNone};
+ghost use Rattle.grub_flat.specs.inside.Ready.{ChangesNone};
 ghost use Rattle.grub_flat.specs.Asked.{plain_reply, answer, is_op};
 
 use crate::asked::{NdOp, NdReply};

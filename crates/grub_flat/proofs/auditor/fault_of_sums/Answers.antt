@@ -1,6 +1,6 @@
 use Rattle.std.proofs.Common.{sym, ◌∙◌}
 use Rattle.grub_flat.specs.Memory.{records_of}
-use Rattle.grub_flat.specs.Audit.{IsSum}
+use Rattle.grub_flat.specs.inside.Sums.{IsSum}
 use Rattle.grub_flat.specs.declared.memory.NdRunqueue.{NdRunqueue}
 use Rattle.grub_flat.proofs.Auditing.{no_sum_more}
 use Rattle.grub_flat.proofs.Faults.{each_more}

@@ -1,6 +1,6 @@
 use Rattle.std.proofs.Common.{ℕ, ◌<◌, get_or}
 use Rattle.grub_flat.specs.Memory.{records_of}
-use Rattle.grub_flat.specs.Audit.{IsSum}
+use Rattle.grub_flat.specs.inside.Sums.{IsSum}
 use Rattle.grub_flat.specs.declared.memory.NdRunqueue.{NdRunqueue}
 use Rattle.grub_flat.proofs.Auditing.{NoSumBefore}
 use Rattle.grub_flat.proofs.auditor.fault_of_sums.Given as goal

@@ -3,7 +3,7 @@ use Rattle.grub_book.specs.Step.{refused}
 use Rattle.grub_book.specs.Totals.{Counts}
 use Rattle.grub_book.specs.declared.event.Reading.{Reading}
 use Rattle.grub_flat.specs.Memory.{constants_of}
-use Rattle.grub_flat.specs.Ready.{CanStand}
+use Rattle.grub_flat.specs.inside.Ready.{CanStand}
 use Rattle.grub_flat.proofs.Stepping.{granted, record_is, stands, there, ready, counts_it, steps, stays, stays_quiet, steps_refused}
 use Rattle.grub_flat.proofs.steps.asked.Goals as goal
 

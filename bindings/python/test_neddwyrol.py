@@ -1,0 +1,85 @@
+"""The calls of the module, each once: python3 -m unittest, with NEDDWYROL_SO naming the library."""
+
+import unittest
+from array import array
+
+import neddwyrol as nd
+
+HALF = (4, 8)
+
+
+class Books(unittest.TestCase):
+    def test_openings(self):
+        for tasks, queues, number in [([HALF], [], nd.NO_QUEUE), ([(9, 8)], [(nd.UNIT, 0)], nd.RUNTIME_OUT_OF_RANGE), ([], [(5, 6)], nd.UEXTRA_OUT_OF_RANGE)]:
+            with self.assertRaises(nd.Fault) as fault:
+                nd.Book(tasks, queues)
+            self.assertEqual(fault.exception.number, number)
+        with self.assertRaises(OverflowError):
+            nd.Book([(-1, 8)], [(nd.UNIT, 0)])
+        self.assertEqual(nd.Book([], [(nd.UNIT, 0)]).audit(), 0)
+
+    def test_many_runqueues(self):
+        book = nd.Book([(1, 4)] * 1000, [(nd.UNIT, 0)] * 200)
+        granted = [book.join(task, task % 200, 0).granted for task in range(1000)]
+        self.assertEqual(granted, [True] * 800 + [False] * 200)
+        self.assertEqual(book.queues[199].running_bw, nd.UNIT)
+        self.assertEqual(book.audit(), 0)
+
+    def test_ops(self):
+        book = nd.Book([HALF, HALF], [(nd.UNIT, 0), (nd.UNIT, 0)])
+        replies = [book.join(0, 0, 0), book.block(0, 0, 0), book.wake(0, 0, 1), book.run(0, 0, 2), book.block(0, 0, 2), book.timer(0, 1, 9), book.retune(0, 2, 8)]
+        self.assertEqual([reply.kind for reply in replies], [nd.JOINED, nd.ASLEEP, nd.WOKEN, nd.CHARGED, nd.WAITING, nd.RETIRED, nd.RETUNED])
+        self.assertEqual([book.leave(0).kind, book.exit(0).kind, book.exit(0).kind], [nd.LEFT, nd.ENDED, nd.GONE])
+        self.assertEqual([book.exit(2).kind, book.join(1, 2, 0).kind], [nd.NO_TASK, nd.NO_OP])
+        self.assertFalse(book.exit(2).granted)
+
+    def test_batch(self):
+        book = nd.Book([HALF, HALF], [(nd.UNIT, 0)])
+        asks = nd.asks_of(array("I", [0, nd.JOIN, 0, 0, 1, nd.JOIN, 0, 0, 0, nd.CHARGE, 0, 2]))
+        self.assertEqual([reply.kind for reply in book.apply_all(asks)], [nd.JOINED, nd.JOINED, nd.CHARGED])
+        replies = (nd.Reply * 1)()
+        book.apply_all(nd.asks_of([0, nd.BLOCK, 0, 2, 0, nd.LEAVE, 0, 0]), replies)
+        self.assertEqual((replies[0].kind, replies[0].deadline, book.tasks[0].state), (nd.WAITING, 4, nd.NON_CONTENDING))
+        with self.assertRaises(ValueError):
+            nd.asks_of([1, 2, 3])
+
+    def test_snapshots_and_damage(self):
+        book = nd.Book([HALF], [(nd.UNIT, 0)])
+        book.join(0, 0, 0)
+        saved = book.copy()
+        book.block(0, 0, 0)
+        self.assertEqual((saved.tasks[0].state, book.tasks[0].state), (nd.CONTENDING, nd.INACTIVE))
+        saved.queues[0].running_bw = 0
+        self.assertEqual(saved.audit(), nd.WRONG_RUNNING_BW)
+        saved.tasks[0].budget = 9
+        self.assertEqual(saved.block(0, 0, 0).kind, nd.DAMAGED)
+
+    def test_history(self):
+        book, history = nd.Book([HALF], [(nd.UNIT, 0)]), []
+        for op in [nd.Op(nd.JOIN, 0, 0), nd.Op(nd.CHARGE, 0, 2), nd.Op(nd.BLOCK, 0, 2)]:
+            history.append(nd.Event.call(0, op, book.apply(0, op)))
+        history.append(nd.Event.reading(0, nd.UNIT // 2, nd.UNIT // 2))
+        self.assertEqual(nd.Book([HALF], [(nd.UNIT, 0)]).check(history), 4)
+        history[3].running_bw = 0
+        self.assertEqual(nd.Book([HALF], [(nd.UNIT, 0)]).check(history), 3)
+
+
+class Arithmetic(unittest.TestCase):
+    def test_numbers(self):
+        self.assertEqual((nd.bw(4, 8), nd.bw(9, 8), nd.params_fault(1, 1 << 24), nd.capacity_fault(5, 6)), (524288, 0, nd.TOO_SMALL, nd.UEXTRA_OUT_OF_RANGE))
+        self.assertEqual(nd.zero_lag((2, 10), (3, 10)), 4)
+        self.assertEqual((nd.woken((2, 8), HALF, 4), nd.woken((2, 8), HALF, 5)), ((2, 8), (4, 13)))
+        self.assertEqual(nd.charge(1000, 262144, (996147, 200000), (262144, 262144)), 799)
+        self.assertEqual(nd.deplete((2, 8), HALF, 10), (3, (4, 32)))
+        with self.assertRaises(nd.Fault) as fault:
+            nd.deplete((1, 4294967290), HALF, 1)
+        self.assertEqual(fault.exception.number, nd.DEADLINE_OVERFLOW)
+
+    def test_kernels(self):
+        sums = {"this_bw": 104857, "running_bw": 104857, "extra_bw": 0, "max_bw": 996147, "bw_ratio": 269}
+        self.assertEqual(nd.kernel_charge(0x061200, 1000000, 104857, **sums), 998241)
+        self.assertEqual(nd.kernel_charge(0x060100, 1000000, 104857, **sums), 1000000)
+
+
+if __name__ == "__main__":
+    unittest.main()

@@ -1,0 +1,381 @@
+//! The bandwidth accounting of Linux SCHED_DEADLINE (GRUB, greedy reclamation of unused bandwidth), over Neddwyrol's
+//! proved library for C. `neddwyrol.h` says what each call promises.
+//!
+//! A [`Book`] stands over an array of tasks and one of runqueues that its caller owns. They are read directly, and copied
+//! as a snapshot; only a `Book` writes them. No call asks anything of the numbers that it is given, so nothing here can
+//! break memory. Moments, runs, runtimes, periods, budgets and deadlines have one unit, which the caller chooses;
+//! bandwidths are in 1/2^20.
+#![no_std]
+#![deny(unsafe_op_in_unsafe_fn)]
+
+pub mod codes;
+mod raw;
+
+/// What is kept of a task. Before the opening its runtime and period alone count.
+#[repr(C)]
+#[derive(Clone, Copy, Debug, Default, PartialEq, Eq)]
+pub struct Task {
+    pub runtime: u32,
+    pub period: u32,
+    pub budget: u32,
+    pub deadline: u32,
+    pub count: u32,
+    pub state: u32,
+    pub queue: u32,
+}
+
+/// A runqueue. Before the opening its umax and uextra alone count.
+#[repr(C)]
+#[derive(Clone, Copy, Debug, Default, PartialEq, Eq)]
+pub struct Runqueue {
+    pub umax: u32,
+    pub uextra: u32,
+    pub running_bw: u32,
+    pub this_bw: u32,
+}
+
+/// What is asked for a task.
+#[repr(C)]
+#[derive(Clone, Copy, Debug, Default, PartialEq, Eq)]
+pub struct Op {
+    pub kind: u32,
+    pub a: u32,
+    pub b: u32,
+}
+
+/// What is answered.
+#[repr(C)]
+#[derive(Clone, Copy, Debug, Default, PartialEq, Eq)]
+pub struct Reply {
+    pub kind: u32,
+    pub number: u32,
+    pub budget: u32,
+    pub deadline: u32,
+    pub charged: u64,
+}
+
+/// An op that is asked for a task.
+#[repr(C)]
+#[derive(Clone, Copy, Debug, Default, PartialEq, Eq)]
+pub struct Ask {
+    pub task: u32,
+    pub op: Op,
+}
+
+/// An event of a recorded history: a call with its reply, or a reading.
+#[repr(C)]
+#[derive(Clone, Copy, Debug, Default, PartialEq, Eq)]
+pub struct Event {
+    pub kind: u32,
+    pub pass: u32,
+    pub number: u32,
+    pub op: Op,
+    pub running_bw: u32,
+    pub this_bw: u32,
+    pub reply: Reply,
+}
+
+/// A reservation: a runtime in each period.
+#[repr(C)]
+#[derive(Clone, Copy, Debug, Default, PartialEq, Eq)]
+pub struct Params {
+    pub runtime: u32,
+    pub period: u32,
+}
+
+/// The constants of a runqueue.
+#[repr(C)]
+#[derive(Clone, Copy, Debug, Default, PartialEq, Eq)]
+pub struct Capacity {
+    pub umax: u32,
+    pub uextra: u32,
+}
+
+/// A task's server: what is left of its budget, and its deadline.
+#[repr(C)]
+#[derive(Clone, Copy, Debug, Default, PartialEq, Eq)]
+pub struct Server {
+    pub budget: u32,
+    pub deadline: u32,
+}
+
+/// The sums of a runqueue.
+#[repr(C)]
+#[derive(Clone, Copy, Debug, Default, PartialEq, Eq)]
+pub struct Reading {
+    pub running_bw: u32,
+    pub this_bw: u32,
+}
+
+/// The number of a fault, as `neddwyrol.h` and [`codes`] have it.
+#[derive(Clone, Copy, Debug, PartialEq, Eq)]
+pub struct Fault(pub u32);
+
+impl core::fmt::Display for Fault {
+    fn fmt(&self, f: &mut core::fmt::Formatter<'_>) -> core::fmt::Result {
+        write!(f, "neddwyrol: fault {}", self.0)
+    }
+}
+
+impl core::error::Error for Fault {}
+
+fn unless(fault: u32) -> Result<(), Fault> {
+    if fault == codes::DONE {
+        Ok(())
+    } else {
+        Err(Fault(fault))
+    }
+}
+
+impl Task {
+    /// A task that reserves this runtime in each period, before the opening.
+    pub fn new(runtime: u32, period: u32) -> Task {
+        Task { runtime, period, ..Task::default() }
+    }
+}
+
+impl Runqueue {
+    /// A runqueue that admits so much bandwidth, of which running tasks may reclaim `uextra` at all times.
+    pub fn new(umax: u32, uextra: u32) -> Runqueue {
+        Runqueue { umax, uextra, ..Runqueue::default() }
+    }
+}
+
+impl Op {
+    pub fn join(queue: u32, moment: u32) -> Op {
+        Op { kind: codes::JOIN, a: queue, b: moment }
+    }
+
+    pub fn wake(queue: u32, moment: u32) -> Op {
+        Op { kind: codes::WAKE, a: queue, b: moment }
+    }
+
+    pub fn block(queue: u32, moment: u32) -> Op {
+        Op { kind: codes::BLOCK, a: queue, b: moment }
+    }
+
+    pub fn leave() -> Op {
+        Op { kind: codes::LEAVE, a: 0, b: 0 }
+    }
+
+    pub fn timer(ticket: u32, moment: u32) -> Op {
+        Op { kind: codes::TIMER, a: ticket, b: moment }
+    }
+
+    pub fn exit() -> Op {
+        Op { kind: codes::EXIT, a: 0, b: 0 }
+    }
+
+    pub fn charge(queue: u32, run: u32) -> Op {
+        Op { kind: codes::CHARGE, a: queue, b: run }
+    }
+
+    pub fn retune(runtime: u32, period: u32) -> Op {
+        Op { kind: codes::RETUNE, a: runtime, b: period }
+    }
+}
+
+impl Reply {
+    /// Whether the op was granted. Else nothing was written.
+    pub fn is_granted(&self) -> bool {
+        self.kind >= 101
+    }
+}
+
+impl Event {
+    /// A call with its reply.
+    pub fn call(task: u32, op: Op, reply: Reply) -> Event {
+        Event { kind: codes::CALL, number: task, op, reply, ..Event::default() }
+    }
+
+    /// A reading of a runqueue.
+    pub fn reading(queue: u32, now: Reading) -> Event {
+        Event { kind: codes::READING, number: queue, running_bw: now.running_bw, this_bw: now.this_bw, ..Event::default() }
+    }
+}
+
+/// A book over its caller's memory.
+pub struct Book<'a> {
+    tasks: &'a mut [Task],
+    queues: &'a mut [Runqueue],
+}
+
+impl<'a> Book<'a> {
+    /// Makes a book of the reservations and constants in the memory, where every task is away. A fault, 1 to 8, leaves it
+    /// as it was.
+    pub fn open(tasks: &'a mut [Task], queues: &'a mut [Runqueue]) -> Result<Book<'a>, Fault> {
+        // SAFETY: both point to that many structs, which nobody else has during the call. So in every call below.
+        unless(unsafe { raw::nd_open(tasks.as_mut_ptr(), tasks.len(), queues.as_mut_ptr(), queues.len()) })?;
+        Ok(Book { tasks, queues })
+    }
+
+    /// The book that stands in the memory already, as in a snapshot. A fault says why there is none.
+    pub fn resume(tasks: &'a mut [Task], queues: &'a mut [Runqueue]) -> Result<Book<'a>, Fault> {
+        audit(tasks, queues)?;
+        Ok(Book { tasks, queues })
+    }
+
+    /// Asks an op for a task.
+    #[inline]
+    pub fn apply(&mut self, task: u32, op: Op) -> Reply {
+        // SAFETY: as above.
+        unsafe { raw::nd_apply(self.tasks.as_mut_ptr(), self.tasks.len(), self.queues.as_mut_ptr(), self.queues.len(), task, op) }
+    }
+
+    /// Asks ops one after another, as many as there is room for replies, and answers how many that were.
+    pub fn apply_all(&mut self, asks: &[Ask], replies: &mut [Reply]) -> usize {
+        let (tasks, queues) = (&mut *self.tasks, &mut *self.queues);
+        // SAFETY: as above.
+        unsafe {
+            raw::nd_apply_all(
+                tasks.as_mut_ptr(),
+                tasks.len(),
+                queues.as_mut_ptr(),
+                queues.len(),
+                asks.as_ptr(),
+                asks.len(),
+                replies.as_mut_ptr(),
+                replies.len(),
+            )
+        }
+    }
+
+    /// Replays a recorded history: how many events the book gives.
+    pub fn check(&mut self, events: &[Event]) -> usize {
+        let (tasks, queues) = (&mut *self.tasks, &mut *self.queues);
+        // SAFETY: as above.
+        unsafe { raw::nd_check(tasks.as_mut_ptr(), tasks.len(), queues.as_mut_ptr(), queues.len(), events.as_ptr(), events.len()) }
+    }
+
+    pub fn join(&mut self, task: u32, queue: u32, moment: u32) -> Reply {
+        self.apply(task, Op::join(queue, moment))
+    }
+
+    pub fn wake(&mut self, task: u32, queue: u32, moment: u32) -> Reply {
+        self.apply(task, Op::wake(queue, moment))
+    }
+
+    pub fn block(&mut self, task: u32, queue: u32, moment: u32) -> Reply {
+        self.apply(task, Op::block(queue, moment))
+    }
+
+    pub fn leave(&mut self, task: u32) -> Reply {
+        self.apply(task, Op::leave())
+    }
+
+    pub fn timer(&mut self, task: u32, ticket: u32, moment: u32) -> Reply {
+        self.apply(task, Op::timer(ticket, moment))
+    }
+
+    pub fn exit(&mut self, task: u32) -> Reply {
+        self.apply(task, Op::exit())
+    }
+
+    /// Charges a run of a task that contends.
+    pub fn run(&mut self, task: u32, queue: u32, run: u32) -> Reply {
+        self.apply(task, Op::charge(queue, run))
+    }
+
+    pub fn retune(&mut self, task: u32, runtime: u32, period: u32) -> Reply {
+        self.apply(task, Op::retune(runtime, period))
+    }
+
+    pub fn tasks(&self) -> &[Task] {
+        self.tasks
+    }
+
+    pub fn queues(&self) -> &[Runqueue] {
+        self.queues
+    }
+
+    /// The sums of a runqueue, where it is there.
+    pub fn reading(&self, queue: usize) -> Option<Reading> {
+        let Runqueue { running_bw, this_bw, .. } = *self.queues.get(queue)?;
+        Some(Reading { running_bw, this_bw })
+    }
+}
+
+/// Whether the memory is a book; a fault says why it is none.
+pub fn audit(tasks: &[Task], queues: &[Runqueue]) -> Result<(), Fault> {
+    // SAFETY: both point to that many structs, which are only read.
+    unless(unsafe { raw::nd_audit(tasks.as_ptr(), tasks.len(), queues.as_ptr(), queues.len()) })
+}
+
+impl Params {
+    /// A fault, 1 to 3, where the numbers are no reservation.
+    pub fn check(self) -> Result<(), Fault> {
+        // SAFETY: the call takes numbers alone. So in the calls below that take no pointer.
+        unless(unsafe { raw::nd_params_fault(self) })
+    }
+
+    /// The bandwidth, rounded down; 0 where the numbers are no reservation.
+    pub fn bw(self) -> u32 {
+        // SAFETY: as above.
+        unsafe { raw::nd_bw(self) }
+    }
+}
+
+impl Capacity {
+    /// A fault, 4 or 5, where the numbers are no runqueue's.
+    pub fn check(self) -> Result<(), Fault> {
+        // SAFETY: as above.
+        unless(unsafe { raw::nd_capacity_fault(self) })
+    }
+}
+
+impl Server {
+    /// The 0-lag moment, which may be below 0.
+    pub fn zero_lag(self, params: Params) -> Result<i64, Fault> {
+        let mut z = 0;
+        // SAFETY: it points to a number of its own. So in the calls below.
+        unless(unsafe { raw::nd_zero_lag(self, params, &mut z) })?;
+        Ok(z)
+    }
+
+    /// The server of a task that wakes at a moment.
+    pub fn woken(self, params: Params, moment: u32) -> Result<Server, Fault> {
+        let mut woken = Server::default();
+        // SAFETY: as above.
+        unless(unsafe { raw::nd_woken(self, params, moment, &mut woken) })?;
+        Ok(woken)
+    }
+
+    /// How often the budget is recharged where so much is taken from it, and the server afterwards.
+    pub fn depleted(self, params: Params, charged: u64) -> Result<(u32, Server), Fault> {
+        let (mut recharges, mut left) = (0, Server::default());
+        // SAFETY: as above.
+        unless(unsafe { raw::nd_deplete(self, params, charged, &mut left, &mut recharges) })?;
+        Ok((recharges, left))
+    }
+}
+
+/// What a run takes from the budget of a task of this bandwidth.
+pub fn charge(run: u32, bw: u32, queue: Capacity, now: Reading) -> Result<u64, Fault> {
+    let mut charged = 0;
+    // SAFETY: as above.
+    unless(unsafe { raw::nd_charge(run, bw, queue, now, &mut charged) })?;
+    Ok(charged)
+}
+
+/// What a kernel charges by, beside a run and a task's bandwidth.
+#[derive(Clone, Copy, Debug, Default, PartialEq, Eq)]
+pub struct KernelSums {
+    pub this_bw: u64,
+    pub running_bw: u64,
+    pub extra_bw: u64,
+    pub max_bw: u64,
+    pub bw_ratio: u64,
+}
+
+/// What a kernel of this version (0x060100 for 6.1) charges for a run of `dt` nanoseconds, in nanoseconds.
+pub fn kernel_charge(kernel: u32, dt: u64, bw: u64, sums: KernelSums) -> u64 {
+    let KernelSums { this_bw, running_bw, extra_bw, max_bw, bw_ratio } = sums;
+    // SAFETY: the call takes numbers alone.
+    unsafe { raw::nd_kernel_charge(kernel, dt, bw, this_bw, running_bw, extra_bw, max_bw, bw_ratio) }
+}
+
+/// The version that the linked library has; this crate is made for [`codes::ABI`].
+pub fn abi() -> u32 {
+    // SAFETY: the call takes nothing.
+    unsafe { raw::nd_abi() }
+}

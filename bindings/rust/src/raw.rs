@@ -1,0 +1,35 @@
+//! The library's calls, as `neddwyrol.h` has them.
+use crate::{Ask, Capacity, Event, Op, Params, Reading, Reply, Runqueue, Server, Task};
+
+extern "C" {
+    pub fn nd_open(tasks: *mut Task, task_count: usize, queues: *mut Runqueue, queue_count: usize) -> u32;
+    pub fn nd_apply(tasks: *mut Task, task_count: usize, queues: *mut Runqueue, queue_count: usize, task: u32, op: Op) -> Reply;
+    pub fn nd_apply_all(
+        tasks: *mut Task,
+        task_count: usize,
+        queues: *mut Runqueue,
+        queue_count: usize,
+        asks: *const Ask,
+        ask_count: usize,
+        replies: *mut Reply,
+        reply_count: usize,
+    ) -> usize;
+    pub fn nd_audit(tasks: *const Task, task_count: usize, queues: *const Runqueue, queue_count: usize) -> u32;
+    pub fn nd_check(
+        tasks: *mut Task,
+        task_count: usize,
+        queues: *mut Runqueue,
+        queue_count: usize,
+        events: *const Event,
+        event_count: usize,
+    ) -> usize;
+    pub fn nd_params_fault(params: Params) -> u32;
+    pub fn nd_capacity_fault(queue: Capacity) -> u32;
+    pub fn nd_bw(params: Params) -> u32;
+    pub fn nd_zero_lag(server: Server, params: Params, z: *mut i64) -> u32;
+    pub fn nd_woken(server: Server, params: Params, moment: u32, woken: *mut Server) -> u32;
+    pub fn nd_charge(run: u32, bw: u32, queue: Capacity, now: Reading, charged: *mut u64) -> u32;
+    pub fn nd_deplete(server: Server, params: Params, charged: u64, left: *mut Server, recharges: *mut u32) -> u32;
+    pub fn nd_kernel_charge(kernel: u32, dt: u64, bw: u64, this_bw: u64, running_bw: u64, extra_bw: u64, max_bw: u64, bw_ratio: u64) -> u64;
+    pub fn nd_abi() -> u32;
+}

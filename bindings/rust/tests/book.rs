@@ -1,0 +1,89 @@
+//! The calls of the crate, each once.
+use neddwyrol::{abi, audit, charge, codes, kernel_charge, Ask, Book, Capacity, Event, Fault, KernelSums, Op, Params, Reading, Reply, Runqueue, Server, Task};
+
+const HALF: Params = Params { runtime: 4, period: 8 };
+
+fn memory() -> ([Task; 2], [Runqueue; 1]) {
+    ([Task::new(4, 8), Task::new(4, 8)], [Runqueue::new(codes::UNIT, 0)])
+}
+
+#[test]
+fn openings() {
+    let (mut tasks, mut queues) = memory();
+    assert_eq!(abi(), codes::ABI);
+    assert!(Book::open(&mut tasks, &mut []).is_err_and(|fault| fault == Fault(codes::NO_QUEUE)));
+    queues[0].uextra = codes::UNIT + 1;
+    assert!(Book::open(&mut tasks, &mut queues).is_err_and(|fault| fault == Fault(codes::UEXTRA_OUT_OF_RANGE)));
+    queues[0].uextra = codes::UNIT;
+    tasks[1].runtime = 9;
+    assert!(Book::open(&mut tasks, &mut queues).is_err_and(|fault| fault == Fault(codes::RUNTIME_OUT_OF_RANGE)));
+    assert_eq!(tasks[0], Task::new(4, 8));
+}
+
+#[test]
+fn a_server_of_many_processors() {
+    let mut tasks = vec![Task::new(1, 4); 100_000];
+    let mut queues = vec![Runqueue::new(codes::UNIT, 0); 1_000];
+    let mut book = Book::open(&mut tasks, &mut queues).unwrap();
+    for task in 0..100_000 {
+        let reply = book.join(task, task % 1_000, 0);
+        assert_eq!(reply.is_granted(), task < 4_000, "{task}");
+    }
+    assert_eq!(book.reading(999), Some(Reading { running_bw: codes::UNIT, this_bw: codes::UNIT }));
+    assert_eq!(audit(&tasks, &queues), Ok(()));
+    queues[999].this_bw -= 1;
+    assert_eq!(audit(&tasks, &queues), Err(Fault(codes::WRONG_THIS_BW)));
+}
+
+#[test]
+fn batches_and_histories() {
+    let (mut tasks, mut queues) = memory();
+    let mut book = Book::open(&mut tasks, &mut queues).unwrap();
+    let asks = [(0, Op::join(0, 0)), (1, Op::join(0, 0)), (0, Op::charge(0, 2)), (0, Op::block(0, 2)), (2, Op::leave())];
+    let asks = asks.map(|(task, op)| Ask { task, op });
+    let mut replies = [Reply::default(); 4];
+    assert_eq!(book.apply_all(&asks, &mut replies), 4);
+    assert_eq!(replies.map(|reply| reply.kind), [codes::JOINED, codes::JOINED, codes::CHARGED, codes::WAITING]);
+    assert_eq!((replies[3].number, replies[3].deadline), (1, 4));
+
+    let mut history: Vec<Event> = asks.iter().zip(&replies).map(|(ask, reply)| Event::call(ask.task, ask.op, *reply)).collect();
+    history.push(Event::reading(0, book.reading(0).unwrap()));
+    let mut again = memory();
+    assert_eq!(Book::open(&mut again.0, &mut again.1).unwrap().check(&history), 5);
+    history[4].running_bw = 1;
+    assert_eq!(Book::open(&mut again.0, &mut again.1).unwrap().check(&history), 4);
+    history[2].reply.budget = 3;
+    assert_eq!(Book::open(&mut again.0, &mut again.1).unwrap().check(&history), 2);
+}
+
+#[test]
+fn snapshots() {
+    let (mut tasks, mut queues) = memory();
+    let mut book = Book::open(&mut tasks, &mut queues).unwrap();
+    book.join(0, 0, 0);
+    let (mut saved, mut sums) = (book.tasks().to_vec(), book.queues().to_vec());
+    let moved = [book.block(0, 0, 0), book.leave(0), book.retune(0, 2, 8), book.exit(0)].map(|reply| reply.kind);
+    assert_eq!(moved, [codes::ASLEEP, codes::LEFT, codes::RETUNED, codes::ENDED]);
+    let mut book = Book::resume(&mut saved, &mut sums).unwrap();
+    assert_eq!(book.wake(0, 0, 0).kind, codes::ALREADY_CONTENDING);
+    assert_eq!(book.timer(0, 1, 4).kind, codes::STALE);
+    assert_eq!(book.run(0, 1, 2).kind, codes::NO_OP);
+    sums[0].running_bw = 0;
+    assert!(Book::resume(&mut saved, &mut sums).is_err_and(|fault| fault == Fault(codes::WRONG_RUNNING_BW)));
+}
+
+#[test]
+fn arithmetic() {
+    let server = Server { budget: 2, deadline: 8 };
+    assert_eq!((HALF.bw(), HALF.check(), Params { runtime: 9, period: 8 }.check()), (524288, Ok(()), Err(Fault(2))));
+    assert_eq!(Capacity { umax: 5, uextra: 6 }.check(), Err(Fault(codes::UEXTRA_OUT_OF_RANGE)));
+    assert_eq!(Server { budget: 2, deadline: 10 }.zero_lag(Params { runtime: 3, period: 10 }), Ok(4));
+    assert_eq!(server.woken(HALF, 5), Ok(Server { budget: 4, deadline: 13 }));
+    assert_eq!(server.depleted(HALF, 10), Ok((3, Server { budget: 4, deadline: 32 })));
+    let queue = Capacity { umax: 996147, uextra: 200000 };
+    assert_eq!(charge(1000, 262144, queue, Reading { running_bw: 262144, this_bw: 262144 }), Ok(799));
+    assert_eq!(charge(1, 1, queue, Reading { running_bw: 2, this_bw: 1 }), Err(Fault(codes::RUNNING_OUT_OF_RANGE)));
+    let sums = KernelSums { this_bw: 104857, running_bw: 104857, extra_bw: 0, max_bw: 996147, bw_ratio: 269 };
+    assert_eq!(kernel_charge(0x061200, 1_000_000, 104857, sums), 998_241);
+    assert_eq!(kernel_charge(0x060100, 1_000_000, 104857, sums), 1_000_000);
+}

@@ -1,0 +1,4 @@
+-- What the code of the flat book stands on, and no public contract cites.
+pub mod Ready
+pub mod Limits
+pub mod Sums
