@@ -1,8 +1,7 @@
 #!/usr/bin/env bash
 # Holds the man pages and the completions of bash, zsh and fish to the options, commands and version that --help and
-# --version of the built programs tell: none is forgotten, and none is there no more. README's lines of the library and what
-# they print are held to those of crates/grub_example. Its last line is 'N passed, M failed', and it ends with 0 where none
-# failed.
+# --version of the built programs tell: none is forgotten, and none is there no more. README's lines of the library are held
+# to the examples in bindings/. Its last line is 'N passed, M failed', and it ends with 0 where none failed.
 set -u
 cd "$(dirname "$0")/.." || exit 1
 for program in grubrun grubtrace; do
@@ -122,14 +121,15 @@ for view in $views; do
     fi
 done
 
-# README shows the lines of the example, those between its two empty lines in main, and its output.
-shown=$(sed -n '/^## Use the library$/,/^## What is proved$/{/^    /p}' README.md)
-wanted=$(sed -n '/^fn main/,$p' crates/grub_example/src/main.rt | awk 'NF == 0 { part++; next } part == 1'; sed 's/^/    /' crates/grub_example/stdout)
+# README shows how the examples in C and Python begin, up to the first line that they print.
+example() { sed -n "/$2/,/waiting ticket/p" "$1" | sed "1,$3d; s/^    //"; }
+wanted=$(example bindings/c/documentation.c '^int main' 1; example bindings/python/documentation.py '^from neddwyrol' 2)
+shown=$(sed -n '/^## Use the library$/,/^## What is proved$/s/^    //p' README.md | grep -vE '^(cc|\(cd) ')
 if [[ -n $wanted && $shown == "$wanted" ]]; then
     passed=$((passed + 1))
 else
     failed=$((failed + 1))
-    diff <(echo "$wanted") <(echo "$shown") | sed 's/^/options: README and the example: /'
+    diff <(echo "$wanted") <(echo "$shown") | sed 's/^/options: README and the examples: /'
 fi
 
 echo "$passed passed, $failed failed"
