@@ -3,3 +3,5 @@ pub mod CostLemmas
 pub mod LawLemmas
 pub mod WakeLemmas
 pub mod RechargeLemmas
+pub mod SumLemmas
+pub mod EnqueueLemmas

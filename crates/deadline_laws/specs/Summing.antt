@@ -1,0 +1,108 @@
+-- What an event does to the sums of a runqueue, and what its entity adds to them before and after.
+use Rattle.std.specs.Prelude.{ℕ, ◌≡◌, ◌^◌, ◌<◌, Bool, true, false, not, ◌==◌}
+use Rattle.deadline_rules.specs.declared.entity.Entity.{Entity}
+use Rattle.deadline_rules.specs.declared.sums.Change.{Change}
+use Rattle.deadline_rules.specs.declared.charge.Law.{Law}
+use Rattle.trace_words.specs.declared.probe.Enqueued.{Enqueued}
+use Rattle.deadline_rules.specs.declared.flags.TheConstants.{WAKEUP, RESTORE, MIGRATED, MOVING}
+use Rattle.deadline_rules.specs.declared.activity.Block.{Block}
+use Rattle.deadline_rules.specs.declared.activity.Block.TheVariants.{Unreserved, ZeroLagTimer, Past}
+use Rattle.deadline_rules.specs.Clock.{plus, contains_bits}
+use Rattle.deadline_rules.specs.Activity.{blocking_of}
+use Rattle.deadline_events.specs.declared.delays.Delayed.TheVariants.{Moved, ZeroLag}
+use Rattle.deadline_events.specs.Dequeue.{dequeuing_of, off_of}
+use Rattle.deadline_events.specs.declared.enqueues.Boost.TheVariants.{Ends}
+use Rattle.deadline_events.specs.declared.enqueues.Arrival.TheVariants.{Stays}
+use Rattle.deadline_events.specs.Enqueue.{enqueuing_of, boosting_of, arriving_of}
+use Rattle.deadline_events.specs.Later.{delayed_change_of, after_delayed_of}
+
+-- a bandwidth in a sum that counts it, or does not
+abbrev pub counted : Bool → ℕ → ℕ
+counted true bw = bw
+counted false bw = 0
+
+-- in which sums of its runqueue an entity is counted
+pub record Place : Type 0 where
+  pub in_this : Bool
+  pub in_running : Bool
+
+abbrev pub active : Place
+active = record { in_this = true; in_running = true }
+
+abbrev pub inactive : Place
+inactive = record { in_this = true; in_running = false }
+
+abbrev pub away : Place
+away = record { in_this = false; in_running = false }
+
+-- blocked: active up to its 0-lag time
+abbrev pub blocked_place : Bool → Place
+blocked_place non_contending = record { in_this = true; in_running = non_contending }
+
+-- the sums change by what the entity adds after the event less what it added before, modulo 2 ^ 64
+pub record Balances (before : Entity) (was : Place) (change : Change) (after : Entity) (is : Place) : Type 0 where
+  pub this : plus (counted was.in_this before.dl_bw) change.this_bw ≡ counted is.in_this after.dl_bw
+  pub running : plus (counted was.in_running before.dl_bw) change.running_bw ≡ counted is.in_running after.dl_bw
+
+-- a task of the class, with a bandwidth of 64 bits
+pub record IsInClass (e : Entity) : Type 0 where
+  pub class : e.is_in_class ≡ true
+  pub task : e.is_server ≡ false
+  pub fits : e.dl_bw < 2 ^ 64
+
+-- dequeue_task_dl with DEQUEUE_SLEEP: active up to the 0-lag time, and inactive where that is past
+abbrev pub place_after : Block → Place
+place_after Unreserved = active
+place_after (ZeroLagTimer _) = active
+place_after Past = inactive
+
+abbrev pub SleepBalances : Entity → ℕ → ℕ → ℕ → Type 0
+SleepBalances e flags on_rq clock =
+    IsInClass e → e.is_dead ≡ false → contains_bits flags WAKEUP ≡ true → contains_bits flags RESTORE ≡ false → (on_rq == MOVING) ≡ false
+    → let d = dequeuing_of e flags on_rq clock in Balances e active d.change d.entity (place_after (blocking_of (off_of e) clock))
+
+-- dequeue_task_dl with DEQUEUE_SAVE, or to another runqueue: counted nowhere
+abbrev pub SaveBalances : Entity → ℕ → ℕ → ℕ → Type 0
+SaveBalances e flags on_rq clock =
+    IsInClass e → contains_bits flags WAKEUP ≡ false → contains_bits flags RESTORE ≡ true → (on_rq == MOVING) ≡ false
+    → let d = dequeuing_of e flags on_rq clock in Balances e active d.change d.entity away
+
+-- migrate_task_rq_dl of a waking task: its old runqueue counts it no more
+abbrev pub MoveBalances : Entity → Type 0
+MoveBalances e =
+    IsInClass e → Balances e (blocked_place e.is_non_contending) (delayed_change_of e Moved e.dl_bw) (after_delayed_of e Moved) away
+
+-- inactive_task_timer: inactive; and counted nowhere where the task has ended
+abbrev pub ZeroLagBalances : Entity → Type 0
+ZeroLagBalances e =
+    IsInClass e → e.is_non_contending ≡ true
+    → Balances e active (delayed_change_of e ZeroLag e.dl_bw) (after_delayed_of e ZeroLag) (record { in_this = not e.is_dead; in_running = false })
+
+-- an enqueue of a task of the class, not the end of the boost of another
+pub record IsEnqueue (e : Entity) (l : Enqueued) : Type 0 where
+  pub ordinary : boosting_of l ≡ Ends → ⊥
+  pub reserved : (e.parameters.dl_runtime == 0) ≡ false
+  pub fits : e.dl_bw < 2 ^ 64
+
+-- a blocked task, which may have moved here with its wake
+abbrev pub waking_place : Bool → Bool → Place
+waking_place migrated non_contending = record { in_this = not migrated; in_running = non_contending }
+
+-- enqueue_task_dl with ENQUEUE_WAKEUP: a blocked task is active; one that moved here was counted elsewhere
+abbrev pub WakeBalances : Law → Entity → Enqueued → Type 0
+WakeBalances law e l =
+    IsEnqueue e l → contains_bits l.flags WAKEUP ≡ true → contains_bits l.flags RESTORE ≡ false → (l.on_rq == MOVING) ≡ false
+    → let d = enqueuing_of law e l in
+    Balances e (waking_place (contains_bits l.flags MIGRATED) e.is_non_contending) d.change d.entity active
+
+-- enqueue_task_dl with ENQUEUE_RESTORE, or from another runqueue: counted here from now on
+abbrev pub RestoreBalances : Law → Entity → Enqueued → Type 0
+RestoreBalances law e l =
+    IsEnqueue e l → contains_bits l.flags WAKEUP ≡ false → (arriving_of l ≡ Stays → ⊥)
+    → let d = enqueuing_of law e l in Balances e away d.change d.entity active
+
+-- any other enqueue, as a replenishment: counted as before
+abbrev pub ReplenishBalances : Law → Entity → Enqueued → Type 0
+ReplenishBalances law e l =
+    IsEnqueue e l → contains_bits l.flags WAKEUP ≡ false → arriving_of l ≡ Stays
+    → let d = enqueuing_of law e l in Balances e active d.change d.entity active

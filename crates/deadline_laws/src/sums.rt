@@ -1,0 +1,44 @@
+//! The sums of a runqueue, event by event: they change by what the event's entity adds.
+
+ghost use Rattle.std.specs.Prelude.{ℕ};
+ghost use Rattle.deadline_rules.specs.declared.entity.Entity.{Entity};
+ghost use Rattle.deadline_rules.specs.declared.charge.Law.{Law};
+ghost use Rattle.trace_words.specs.declared.probe.Enqueued.{Enqueued};
+ghost use Rattle.deadline_laws.specs.Summing.{SleepBalances, SaveBalances, MoveBalances, ZeroLagBalances, WakeBalances, RestoreBalances, ReplenishBalances};
+
+/// A waking task that moves is taken off the runqueue that it leaves.
+pub fn moves_balance()
+    ensures { (e : Entity) → MoveBalances e }
+{}
+
+/// At the 0-lag time a task becomes inactive, and where it has ended it is taken off.
+pub fn zero_lag_times_balance()
+    ensures { (e : Entity) → ZeroLagBalances e }
+{}
+
+/// A task that is dequeued with DEQUEUE_SAVE is counted nowhere.
+pub fn saves_balance()
+    ensures { (e : Entity) → (flags : ℕ) → (on_rq : ℕ) → (clock : ℕ)
+        → SaveBalances e flags on_rq clock }
+{}
+
+/// A task that blocks stays active up to its 0-lag time, and is inactive at once where that is past.
+pub fn sleeps_balance()
+    ensures { (e : Entity) → (flags : ℕ) → (on_rq : ℕ) → (clock : ℕ)
+        → SleepBalances e flags on_rq clock }
+{}
+
+/// A blocked task that wakes is active.
+pub fn wakes_balance()
+    ensures { (law : Law) → (e : Entity) → (l : Enqueued) → WakeBalances law e l }
+{}
+
+/// A task that is restored, or comes from another runqueue, is counted here from now on.
+pub fn restores_balance()
+    ensures { (law : Law) → (e : Entity) → (l : Enqueued) → RestoreBalances law e l }
+{}
+
+/// Any other enqueue of a task, as at its replenishment, leaves the sums.
+pub fn replenishments_balance()
+    ensures { (law : Law) → (e : Entity) → (l : Enqueued) → ReplenishBalances law e l }
+{}
