@@ -1,14 +1,13 @@
 -- An enqueue balances.
-use Rattle.std.proofs.Common.{◌≡◌, ℕ, None, Some, ◌+◌, ◌-◌, ◌%◌, ◌^◌, ◌<◌, ◌≤◌, ◌==◌, Bool, true, false, not, if◌then◌else◌, arith, rules, refl, sym, ap, ◌∙◌}
+use Rattle.std.proofs.Common.{◌≡◌, ℕ, ◌^◌, ◌<◌, ◌==◌, Bool, true, false, not, if◌then◌else◌, arith, refl, sym, ◌∙◌}
 use Rattle.deadline_rules.specs.declared.entity.Entity.{Entity}
 use Rattle.deadline_rules.specs.declared.charge.Law.{Law}
 use Rattle.deadline_rules.specs.declared.flags.TheConstants.{WAKEUP, RESTORE, MIGRATED, MOVING}
-use Rattle.deadline_rules.specs.declared.budget.Wake.{Wake}
 use Rattle.deadline_rules.specs.declared.budget.Wake.TheVariants.{Kept, Revised, Renewed}
-use Rattle.deadline_rules.specs.Clock.{plus, less, contains_bits}
+use Rattle.deadline_rules.specs.Clock.{plus, contains_bits}
 use Rattle.deadline_rules.specs.Sums.{no_change}
-use Rattle.deadline_rules.specs.Budget.{woken_of, renewed_of, revised_of, replenished_of, recharged_of, renewed_if, ready_of}
-use Rattle.deadline_rules.specs.Activity.{contending_of, contended_of, contending_change_of, arriving_of as arriving_bw}
+use Rattle.deadline_rules.specs.Budget.{renewed_of, revised_of, replenished_of, recharged_of, renewed_if}
+use Rattle.deadline_rules.specs.Activity.{contending_of}
 use Rattle.trace_words.specs.declared.probe.Enqueued.{Enqueued}
 use Rattle.deadline_events.specs.declared.enqueues.Boost.{Boost}
 use Rattle.deadline_events.specs.declared.enqueues.Boost.TheVariants.{Ordinary, Boosted, Ends}
@@ -17,7 +16,7 @@ use Rattle.deadline_events.specs.declared.enqueues.Arrival.TheVariants.{Stays, M
 use Rattle.deadline_events.specs.declared.enqueues.Refill.{Refill}
 use Rattle.deadline_events.specs.declared.enqueues.Refill.TheVariants.{Waits, Stays as RefillStays, Wakes, Replenishes, Restarts}
 use Rattle.deadline_events.specs.Enqueue.{enqueuing_of, enqueuing_by, boosting_of, placed_of, is_constrained_of, constrained_of, arriving_of, arriving_change, waking_up_of, refilling_of, refilled_of}
-use Rattle.deadline_laws.specs.Summing.{counted, Place, active, away, Balances, waking_place, IsEnqueue, WakeBalances, RestoreBalances, ReplenishBalances}
+use Rattle.deadline_laws.specs.Summing.{counted, active, away, Balances, waking_place, IsEnqueue, WakeBalances, RestoreBalances, ReplenishBalances}
 
 -- what a refill leaves alone: the bandwidth
 if_keeps : (b : Bool) (e : Entity) (clock : ℕ) → (renewed_if b e clock).dl_bw ≡ e.dl_bw

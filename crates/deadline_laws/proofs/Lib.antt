@@ -5,3 +5,4 @@ pub mod WakeLemmas
 pub mod RechargeLemmas
 pub mod SumLemmas
 pub mod EnqueueLemmas
+pub mod MoreSums

@@ -1,17 +1,12 @@
 -- Each event balances.
-use Rattle.std.proofs.Common.{◌≡◌, ℕ, None, ◌+◌, ◌-◌, ◌%◌, ◌^◌, ◌<◌, ◌≤◌, ◌==◌, Bool, true, false, not, ◌&&◌, ◌||◌, if◌then◌else◌, arith, rules, refl, sym, ap, ◌∙◌}
-use Rattle.std.proofs.Math.Nat.{mod-eq_of_lt}
+use Rattle.std.proofs.Common.{◌≡◌, ℕ, None, ◌^◌, ◌<◌, true, false, not, if◌then◌else◌, arith, refl}
 use Rattle.deadline_rules.specs.declared.entity.Entity.{Entity}
-use Rattle.deadline_rules.specs.declared.flags.TheConstants.{WAKEUP, RESTORE, MOVING, QUEUED}
 use Rattle.deadline_rules.specs.declared.activity.Block.{Block}
 use Rattle.deadline_rules.specs.declared.activity.Block.TheVariants.{Unreserved, ZeroLagTimer, Past}
-use Rattle.deadline_rules.specs.Clock.{plus, less, contains_bits}
-use Rattle.deadline_rules.specs.Activity.{blocking_of, blocked_of, blocking_change_of, ends_of}
-use Rattle.deadline_events.specs.declared.delays.Delayed.TheVariants.{Moved, ZeroLag}
-use Rattle.deadline_events.specs.declared.enqueues.Arrival.TheVariants.{Stays, Moves, Restores}
+use Rattle.deadline_rules.specs.Clock.{plus, less}
+use Rattle.deadline_rules.specs.Activity.{blocking_of, blocked_of, blocking_change_of}
 use Rattle.deadline_events.specs.Dequeue.{dequeuing_of, departing_of, departing_change, sleeping_of, off_of}
-use Rattle.deadline_events.specs.Later.{delayed_change_of, after_delayed_of}
-use Rattle.deadline_laws.specs.Summing.{counted, Place, active, inactive, away, blocked_place, Balances, IsInClass, place_after, SleepBalances, SaveBalances, MoveBalances, ZeroLagBalances}
+use Rattle.deadline_laws.specs.Summing.{counted, active, Balances, IsInClass, place_after, SleepBalances, SaveBalances, MoveBalances, ZeroLagBalances}
 
 -- what is taken off is gone
 pub taken_off : (bw : ℕ) → bw < 2 ^ 64 → plus bw (less 0 bw) ≡ 0

@@ -1,14 +1,20 @@
 -- What an event does to the sums of a runqueue, and what its entity adds to them before and after.
-use Rattle.std.specs.Prelude.{ℕ, ◌≡◌, ◌^◌, ◌<◌, Bool, true, false, not, ◌==◌}
+use Rattle.std.specs.Prelude.{ℕ, ◌≡◌, ◌^◌, ◌<◌, Bool, true, false, not, ◌==◌, if◌then◌else◌, List, [], ◌∷◌, ◌++◌}
 use Rattle.deadline_rules.specs.declared.entity.Entity.{Entity}
 use Rattle.deadline_rules.specs.declared.sums.Change.{Change}
 use Rattle.deadline_rules.specs.declared.charge.Law.{Law}
 use Rattle.trace_words.specs.declared.probe.Enqueued.{Enqueued}
-use Rattle.deadline_rules.specs.declared.flags.TheConstants.{WAKEUP, RESTORE, MIGRATED, MOVING}
+use Rattle.deadline_rules.specs.declared.flags.TheConstants.{WAKEUP, RESTORE, MIGRATED, MOVING, QUEUED}
 use Rattle.deadline_rules.specs.declared.activity.Block.{Block}
 use Rattle.deadline_rules.specs.declared.activity.Block.TheVariants.{Unreserved, ZeroLagTimer, Past}
 use Rattle.deadline_rules.specs.Clock.{plus, contains_bits}
+use Rattle.deadline_rules.specs.Sums.{changed_of}
 use Rattle.deadline_rules.specs.Activity.{blocking_of}
+use Rattle.trace_words.specs.declared.quantities.Sums.{Sums}
+use Rattle.trace_words.specs.declared.probe.Admitted.{Admitted}
+use Rattle.deadline_events.specs.declared.admissions.Admission.TheVariants.{Changed, Back, New}
+use Rattle.deadline_events.specs.Admit.{admitting_of, admission_of, is_queued_of}
+use Rattle.deadline_events.specs.Leave.{leaving_of}
 use Rattle.deadline_events.specs.declared.delays.Delayed.TheVariants.{Moved, ZeroLag}
 use Rattle.deadline_events.specs.Dequeue.{dequeuing_of, off_of}
 use Rattle.deadline_events.specs.declared.enqueues.Boost.TheVariants.{Ends}
@@ -106,3 +112,51 @@ abbrev pub ReplenishBalances : Law → Entity → Enqueued → Type 0
 ReplenishBalances law e l =
     IsEnqueue e l → contains_bits l.flags WAKEUP ≡ false → arriving_of l ≡ Stays
     → let d = enqueuing_of law e l in Balances e active d.change d.entity active
+
+-- switched_from_dl: a queued task was taken off before; a blocked one is taken off here
+abbrev pub LeaveBalances : Entity → ℕ → ℕ → Type 0
+LeaveBalances e on_rq clock =
+    e.is_server ≡ false → e.is_dead ≡ false → e.dl_bw < 2 ^ 64
+    → let d = leaving_of e on_rq clock in
+    Balances e (if on_rq == QUEUED then away else blocked_place e.is_non_contending) d.change d.entity away
+
+-- sched_dl_overflow: a queued task takes its new bandwidth at its next enqueue, any other at once
+abbrev pub place_entered : Bool → Place
+place_entered queued = if queued then away else inactive
+
+abbrev pub place_changed : Bool → Place
+place_changed queued = if queued then active else inactive
+
+abbrev pub place_before : Entity → Bool → Place
+place_before e queued = if queued then active else blocked_place e.is_non_contending
+
+pub record AdmissionBalances (e : Entity) (l : Admitted) (cpus : ℕ) : Type 0 where
+  pub entered : admission_of e l cpus ≡ New → Balances e away (admitting_of e l cpus).change (admitting_of e l cpus).entity (place_entered (is_queued_of l))
+  pub came_back : admission_of e l cpus ≡ Back → Balances e away (admitting_of e l cpus).change (admitting_of e l cpus).entity (place_entered (is_queued_of l))
+  pub changed : admission_of e l cpus ≡ Changed → e.dl_bw < 2 ^ 64
+      → Balances e (place_before e (is_queued_of l)) (admitting_of e l cpus).change (admitting_of e l cpus).entity (place_changed (is_queued_of l))
+
+-- an entity, and where it stands
+pub record Standing : Type 0 where
+  pub entity : Entity
+  pub place : Place
+
+-- the sums of what stands on a runqueue, modulo 2 ^ 64
+abbrev pub total_this : List Standing → ℕ
+total_this [] = 0
+total_this (s ∷ ss) = plus (counted s.place.in_this s.entity.dl_bw) (total_this ss)
+
+abbrev pub total_running : List Standing → ℕ
+total_running [] = 0
+total_running (s ∷ ss) = plus (counted s.place.in_running s.entity.dl_bw) (total_running ss)
+
+-- this_bw is the sum over what the runqueue counts, running_bw over what is active
+pub record AreSums (sums : Sums) (standing : List Standing) : Type 0 where
+  pub this : sums.this_bw ≡ total_this standing
+  pub running : sums.running_bw ≡ total_running standing
+
+-- they stay so at an event of one entity that balances
+abbrev pub SumsStay : List Standing → Standing → List Standing → Sums → Change → Standing → Type 0
+SumsStay before one behind sums change after =
+    AreSums sums (before ++ one ∷ behind) → Balances one.entity one.place change after.entity after.place
+    → AreSums (changed_of sums change) (before ++ after ∷ behind)

@@ -10,6 +10,6 @@ pub use law::{
     wakes_answer_alike,
 };
 pub use sums::{
-    moves_balance, replenishments_balance, restores_balance, saves_balance, sleeps_balance,
-    wakes_balance, zero_lag_times_balance,
+    admissions_balance, leavings_balance, moves_balance, replenishments_balance, restores_balance,
+    saves_balance, sleeps_balance, sums_stay, wakes_balance, zero_lag_times_balance,
 };

@@ -1,10 +1,13 @@
 //! The sums of a runqueue, event by event: they change by what the event's entity adds.
 
-ghost use Rattle.std.specs.Prelude.{ℕ};
+ghost use Rattle.std.specs.Prelude.{ℕ, List};
+ghost use Rattle.trace_words.specs.declared.quantities.Sums.{Sums};
+ghost use Rattle.trace_words.specs.declared.probe.Admitted.{Admitted};
+ghost use Rattle.deadline_rules.specs.declared.sums.Change.{Change};
 ghost use Rattle.deadline_rules.specs.declared.entity.Entity.{Entity};
 ghost use Rattle.deadline_rules.specs.declared.charge.Law.{Law};
 ghost use Rattle.trace_words.specs.declared.probe.Enqueued.{Enqueued};
-ghost use Rattle.deadline_laws.specs.Summing.{SleepBalances, SaveBalances, MoveBalances, ZeroLagBalances, WakeBalances, RestoreBalances, ReplenishBalances};
+ghost use Rattle.deadline_laws.specs.Summing.{SleepBalances, SaveBalances, MoveBalances, ZeroLagBalances, WakeBalances, RestoreBalances, ReplenishBalances, LeaveBalances, AdmissionBalances, Standing, SumsStay};
 
 /// A waking task that moves is taken off the runqueue that it leaves.
 pub fn moves_balance()
@@ -41,4 +44,21 @@ pub fn restores_balance()
 /// Any other enqueue of a task, as at its replenishment, leaves the sums.
 pub fn replenishments_balance()
     ensures { (law : Law) → (e : Entity) → (l : Enqueued) → ReplenishBalances law e l }
+{}
+
+/// Where this_bw and running_bw are the sums over what stands on a runqueue, they stay so at each event that balances.
+pub fn sums_stay()
+    ensures { (before : List Standing) → (one : Standing) → (behind : List Standing)
+        → (sums : Sums) → (change : Change) → (after : Standing)
+        → SumsStay before one behind sums change after }
+{}
+
+/// A task that leaves the class is counted nowhere.
+pub fn leavings_balance()
+    ensures { (e : Entity) → (on_rq : ℕ) → (clock : ℕ) → LeaveBalances e on_rq clock }
+{}
+
+/// An admission, and a change of a reservation.
+pub fn admissions_balance()
+    ensures { (e : Entity) → (l : Admitted) → (cpus : ℕ) → AdmissionBalances e l cpus }
 {}
