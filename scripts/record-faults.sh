@@ -76,7 +76,7 @@ umount "$work/other"
 signal 'a signal before the program' TERM 143 ''
 for pair in HUP:129 TERM:143; do signal "a signal ${pair%:*}" "${pair%:*}" "${pair#*:}" record; done
 mount -t tmpfs -o size=4k tmpfs "$work/small"
-run 'a disk that is too small' 3 'cannot be written' "$work/small/out" sh -c "$sleeps"
+run 'a disk that is too small' 3 'cannot be written' "$work/small/out" sh -c "$sleeps; $sleeps; $sleeps; $sleeps; $sleeps; $sleeps; $sleeps; $sleeps"
 umount "$work/small"
 echo "$passed passed, $failed failed"
 [ "$failed" = 0 ]

@@ -67,7 +67,7 @@ mounted_at debugfs /sys/kernel/debug || say "no debugfs: the notes do not have m
 
 instance() {
     mkdir "$1" 2> /dev/null || fail "a tracefs instance cannot be made"
-    echo 0 > "$1/tracing_on"
+    { echo 0 > "$1/tracing_on"; } 2> /dev/null || fail "tracefs cannot be written (lockdown=confidentiality?)"
     { echo mono > "$1/trace_clock"; } 2> /dev/null || fail "the clock mono is not there"
     { echo "$2" > "$1/buffer_size_kb"; } 2> /dev/null || fail "a buffer of $2 KB cannot be had; set RECORD_BUFFER_KB"
 }

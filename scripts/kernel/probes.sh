@@ -124,7 +124,7 @@ mask() {
         if (drop) next
         hide("timer="); hide("se="); hide("ps=")
     }
-    / hrtimer=(0x)?ffff/ { hide("hrtimer=") }
+    / hrtimer=(0x)?ff/ { hide("hrtimer=") }
     { print }
     function hide(field,  address) {
         if (!match($0, " " field "[^ ]*")) return
