@@ -7,7 +7,7 @@
 #   --out DIR   where LOAD.txt (the record) and LOAD.verdict are left; the directory of the call where it is not given
 # A line a load. It ends with 0 where all agree, 4 where one differs, 1 where one has a fault, 2 for wrong words, 3 where a tool is
 # missing, and 125 where a load could not be recorded: so `git bisect run` takes a kernel that does not boot for one to skip.
-# GRUBTRACE is the program that checks. It needs Debian's packages qemu-system-x86 busybox-static gcc libc6-dev cpio mawk xz-utils.
+# GRUBTRACE is the program that checks. It needs Debian's packages qemu-system-x86 busybox-static gcc libc6-dev cpio.
 set -u
 usage() { echo "usage: check-kernel.sh [--cpus N] [--virtual] [--out DIR] [--run FILE] KERNEL [LOAD..]" >&2; exit 2; }
 say() { echo "check-kernel: $*" >&2; }
@@ -41,8 +41,8 @@ if [[ $# -gt 0 ]]; then
 else
     loads=$(for load in $loads; do fits "$load" && echo "$load"; done)
 fi
-for tool in qemu-system-x86_64 busybox gcc cpio mawk xz perl; do
-    command -v $tool > /dev/null || fail "there is no $tool; needed are qemu-system-x86 busybox-static gcc libc6-dev cpio mawk xz-utils"
+for tool in qemu-system-x86_64 busybox gcc cpio perl; do
+    command -v $tool > /dev/null || fail "there is no $tool; needed are qemu-system-x86 busybox-static gcc libc6-dev cpio"
 done
 [[ -n $run ]] || command -v ${grubtrace%% *} > /dev/null || fail "there is no $grubtrace; 'make tracer' makes it"
 
@@ -62,19 +62,12 @@ cp "$(command -v busybox)" "$guest/bin/busybox"
 cp -r "$scripts/record.sh" "$scripts/kernel" "$guest/scripts/"
 cp "$scripts/kernel/init.sh" "$guest/init"
 gcc -O2 -static -o "$guest/bin/dlgen" "$scripts/kernel/dlgen.c" -lpthread || fail "the load generator cannot be compiled"
-with_libraries() {
-    mkdir -p "$guest${2%/*}"
-    cp -L "$(command -v "$1")" "$guest$2"
-    for library in $(ldd "$(command -v "$1")" | grep -o '/[^ ]*'); do
-        mkdir -p "$guest${library%/*}"
-        cp -L "$library" "$guest$library"
-    done
-}
-with_libraries mawk /bin/awk
-with_libraries perl /usr/bin/perl
-for module in $(perl -Mstrict -Mwarnings -e 'print "$_\n" for @INC{"strict.pm", "warnings.pm"}'); do
-    mkdir -p "$guest${module%/*}"
-    cp "$module" "$guest$module"
+perl=$(perl -Mstrict -Mwarnings -e 'print "$_\n" for $^X, @INC{"strict.pm", "warnings.pm"}')
+mkdir -p "$guest/usr/bin"
+ln -s "${perl%%$'\n'*}" "$guest/usr/bin/perl"
+for file in $perl $(ldd ${perl%%$'\n'*} | grep -o '/[^ ]*'); do
+    mkdir -p "$guest${file%/*}"
+    cp -L --remove-destination "$file" "$guest$file"
 done
 
 if [[ $cpus == 1 ]]; then machine=(-accel tcg -icount 'shift=1,sleep=off')

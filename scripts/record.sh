@@ -3,7 +3,7 @@
 # SCHED_DEADLINE tasks meanwhile, with notes of what the kernel knows at its head, as the text that grubtrace reads.
 #   --all         the switches and moves of all tasks too, for `grubtrace size`
 #   --no-probes   the fixed events alone
-#   --few         of the probes only upd and enq: budgets and deadlines, a third of the lines
+#   --few         of the probes only upd and enq: budgets and deadlines, half of the lines
 # It uses tracefs instances of its own and removes all that it made, also after a signal or where it fails. A signal ends PROGRAM
 # and the record. RECORD_BUFFER_KB is the buffer of each CPU (32768 where it is not set).
 # It ends with PROGRAM's status; with 3 where nothing could be recorded, with 4 where events were lost.
@@ -61,7 +61,7 @@ mounted_at() {
 }
 tracefs=/sys/kernel/tracing
 mounted_at tracefs "$tracefs" || tracefs=/sys/kernel/debug/tracing
-[ -d "$tracefs/instances" ] || fail "this machine has no tracefs"
+[ -d "$tracefs/instances" ] || fail "this machine has no tracefs, or is locked down (lockdown=confidentiality)"
 export TRACEFS=$tracefs
 mounted_at debugfs /sys/kernel/debug || say "no debugfs: the notes do not have max-bw and total-bw"
 
@@ -161,11 +161,11 @@ if [ "$probes" ]; then
     "$kernel_scripts/probes.sh" check < "$record/trace" || { say "no probe lines: their numbers are not those of this kernel"; drop=drop; }
 fi
 {
-    echo "# grub: end$(limits)" &&
-    { [ ! "$kinds" ] || [ "$drop" ] || echo "$kinds"; } &&
-    echo "# grub: lost $lost missed ${missed:-0}" &&
+    echo "# grub: end$(limits)"
+    [ ! "$kinds" ] || [ "$drop" ] || echo "$kinds"
+    echo "# grub: lost $lost missed ${missed:-0}"
     "$kernel_scripts/probes.sh" mask $drop < "$record/trace"
-} 2> /dev/null >> "$part" && mv -f "$part" "$out" || fail "$out cannot be written"
+} | cat 2> /dev/null >> "$part" && mv -f "$part" "$out" || fail "$out cannot be written"
 say "$((lost + ${missed:-0})) events were lost"
 [ $((lost + ${missed:-0})) = 0 ] || exit 4
 exit "$status"
