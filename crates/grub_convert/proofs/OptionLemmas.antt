@@ -16,7 +16,7 @@ use Rattle.std.proofs.lemmas.Str.Pattern.{NoCharPasses-char}
 use Rattle.std.proofs.lemmas.Str.Parse.{parse_digits}
 use Rattle.grub_text.proofs.Digits.{numerals}
 use Rattle.grub_text.specs.Digits.{value}
-use Rattle.grub_facts.specs.Words.{text_of}
+use Rattle.trace_line.specs.Words.{text_of}
 use Rattle.grub_convert.specs.Options.{Task, given_task, has_name, number_in, task_in, tasks_in, tasks_on}
 use Rattle.grub_convert.specs.declared.options.Given.{Given}
 use Rattle.grub_convert.specs.inside.Words.{is_named, texts_of}

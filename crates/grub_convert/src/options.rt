@@ -4,7 +4,7 @@ ghost use Rattle.std.specs.Prelude.{◌≡◌, ◌<◌, ◌==◌, Some, IfOk, ma
 ghost use Rattle.std.specs.Char.{is_ascii_digit};
 ghost use Rattle.std.specs.List.{list_all, list_any};
 ghost use Rattle.std.specs.Path.{rsplit_once};
-ghost use Rattle.grub_facts.specs.Words.{text_of};
+ghost use Rattle.trace_line.specs.Words.{text_of};
 ghost use Rattle.grub_convert.specs.Options.{fair_in, given_task, most_in, number_in, pair_in, reservation_in, said_by, said_in, task_in, tasks_in};
 ghost use Rattle.grub_convert.specs.inside.Words.{is_named, texts_of};
 

@@ -5,7 +5,7 @@ ghost use Rattle.grub_files.specs.Source.{Gives};
 ghost use Rattle.grub_facts.specs.Census.{CountsOn, NeedsNoMore as CountsEnough};
 ghost use Rattle.grub_facts.specs.Told.{HasRead, NeedsNoMore, ReadsOn};
 ghost use Rattle.grub_convert.specs.Faults.{IsOfReading};
-ghost use Rattle.grub_facts.specs.Words.{text_of};
+ghost use Rattle.trace_line.specs.Words.{text_of};
 ghost use Rattle.grub_convert.specs.Read.{IsFaultIn, IsShownOf, IsToldOf, names_in};
 ghost use Rattle.grub_convert.specs.inside.Taking.{TookAll, TookEnough, TookFrom};
 

@@ -1,5 +1,3 @@
-pub mod NumberLemmas
-mod WordLemmas
 mod GivenLemmas
 mod TextLemmas
 mod CensusLemmas

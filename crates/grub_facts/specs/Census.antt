@@ -3,18 +3,18 @@ use Rattle.std.specs.Prelude.{◌≡◌, ℕ, Bool, ◌+◌, ◌==◌, nat_le, m
 use Rattle.grub_facts.specs.Faults.{Problem, fault_text, flawed}
 use Rattle.grub_facts.specs.Given.{is_sugov, stop_of}
 use Rattle.grub_facts.specs.Keeping.{progress}
-use Rattle.grub_facts.specs.Lines.{line_of}
+use Rattle.trace_line.specs.Lines.{line_of}
 use Rattle.grub_facts.specs.Texts.{After, Progress, fault_at_end, reading}
 use Rattle.grub_facts.specs.declared.census.Census.{Census}
 use Rattle.grub_facts.specs.declared.counted.Counted.{Counted}
-use Rattle.grub_facts.specs.declared.event.Event.{Event}
-use Rattle.grub_facts.specs.declared.event.Event.TheVariants.{Woken, Migrated, Switched}
-use Rattle.grub_facts.specs.declared.event.Shown.{Shown}
+use Rattle.trace_line.specs.declared.event.Event.{Event}
+use Rattle.trace_line.specs.declared.event.Event.TheVariants.{Woken, Migrated, Switched}
+use Rattle.trace_line.specs.declared.event.Shown.{Shown}
 use Rattle.grub_facts.specs.declared.fact.Stop.{Stop}
 use Rattle.grub_facts.specs.declared.fact.Stop.TheVariants.{Ready, Blocks, Ends}
 use Rattle.grub_facts.specs.declared.fault.LineFault.{LineFault}
-use Rattle.grub_facts.specs.declared.line.Line.{Line}
-use Rattle.grub_facts.specs.declared.line.Line.TheVariants as line
+use Rattle.trace_line.specs.declared.line.Line.{Line}
+use Rattle.trace_line.specs.declared.line.Line.TheVariants as line
 use Rattle.grub_facts.specs.declared.task_reader.TaskReader.{TaskReader}
 
 -- a line that shows a SCHED_DEADLINE task on a CPU: how many wakes and blocks it is

@@ -1,7 +1,7 @@
 -- What is wrong with a line of a trace.
 use Rattle.std.specs.Prelude.{ℕ, List}
-use Rattle.grub_facts.specs.declared.fault.Flaw.{Flaw}
-use Rattle.grub_facts.specs.declared.fault.Flaw.TheVariants as flaw
+use Rattle.trace_words.specs.declared.line.Flaw.{Flaw}
+use Rattle.trace_words.specs.declared.line.Flaw.TheVariants as flaw
 use Rattle.grub_facts.specs.declared.fault.Wrong.{Wrong}
 use Rattle.grub_facts.specs.declared.fault.Wrong.TheVariants as wrong
 use Rattle.grub_facts.specs.declared.fault.LineFault.{LineFault}

@@ -4,13 +4,13 @@ use Rattle.std.specs.Prelude.{ℕ, zero, suc, Bool, false, not, ◌&&◌, ◌||�
 use Rattle.std.specs.Option.{option_or}
 use Rattle.std.specs.List.{starts_with}
 use Rattle.std.specs.Str.{bytes_eq}
-use Rattle.grub_facts.specs.Numbers.{number}
+use Rattle.trace_line.specs.Numbers.{number}
 use Rattle.grub_facts.specs.Faults.{Problem, flawed, unknown_task}
-use Rattle.grub_facts.specs.declared.fault.Flaw.TheVariants as flaw
-use Rattle.grub_facts.specs.declared.event.Shown.{Shown}
-use Rattle.grub_facts.specs.declared.event.Event.{Event}
-use Rattle.grub_facts.specs.declared.event.Event.TheVariants.{Woken, Migrated, Ran, Switched, Armed, Started, Cancelled, Expired}
-use Rattle.grub_facts.specs.declared.event.Said.{Said}
+use Rattle.trace_words.specs.declared.line.Flaw.TheVariants as flaw
+use Rattle.trace_line.specs.declared.event.Shown.{Shown}
+use Rattle.trace_line.specs.declared.event.Event.{Event}
+use Rattle.trace_line.specs.declared.event.Event.TheVariants.{Woken, Migrated, Ran, Switched, Armed, Started, Cancelled, Expired}
+use Rattle.trace_line.specs.declared.event.Said.{Said}
 use Rattle.grub_facts.specs.declared.fact.Fact.{Fact}
 use Rattle.grub_facts.specs.declared.fact.Stop.{Stop}
 use Rattle.grub_facts.specs.declared.fact.Stop.TheVariants.{Ready, Blocks, Ends}

@@ -1,14 +1,8 @@
-pub mod Numbers
-pub mod Words
-pub mod Opening
-pub mod Head
-pub mod inside
-pub mod Events
-pub mod Lines
-pub mod Given
-pub mod Keeping
 pub mod Faults
+pub mod Given
 pub mod Texts
 pub mod Reading
+pub mod Keeping
+pub mod inside
 pub mod Told
 pub mod Census

@@ -1,19 +1,19 @@
 -- What the lines of a trace tell of given tasks and beside them, one after another.
 use Rattle.std.specs.Prelude.{ℕ, Bool, true, false, ◌&&◌, ◌||◌, ◌==◌, nat_lt, ◌+◌, min, max, List, [], length, Option, Some, None, is_none, option_map, unwrap_or, if◌then◌else◌}
 use Rattle.std.specs.Option.{option_or}
-use Rattle.grub_facts.specs.Head.{is_comment, processors}
-use Rattle.grub_facts.specs.Lines.{drift, line_of, other_cpu}
+use Rattle.trace_line.specs.Head.{is_comment, processors}
+use Rattle.trace_line.specs.Lines.{drift, line_of, other_cpu}
 use Rattle.grub_facts.specs.Faults.{Problem, flawed}
 use Rattle.grub_facts.specs.Given.{Noted, noted_by, problem_of_trouble, tasks_given, trouble_of}
 use Rattle.grub_facts.specs.Texts.{After}
-use Rattle.grub_facts.specs.declared.event.Event.{Event}
-use Rattle.grub_facts.specs.declared.event.Event.TheVariants.{Armed, Started}
-use Rattle.grub_facts.specs.declared.event.Said.{Said}
+use Rattle.trace_line.specs.declared.event.Event.{Event}
+use Rattle.trace_line.specs.declared.event.Event.TheVariants.{Armed, Started}
+use Rattle.trace_line.specs.declared.event.Said.{Said}
 use Rattle.grub_facts.specs.declared.fact.Counts.{Counts}
-use Rattle.grub_facts.specs.declared.fault.Flaw.TheVariants.{TooLong}
-use Rattle.grub_facts.specs.declared.line.Line.{Line}
-use Rattle.grub_facts.specs.declared.line.Line.TheVariants as line
-use Rattle.grub_facts.specs.declared.line.TheConstants.{CPUS_MAX}
+use Rattle.trace_words.specs.declared.line.Flaw.TheVariants.{TooLong}
+use Rattle.trace_line.specs.declared.line.Line.{Line}
+use Rattle.trace_line.specs.declared.line.Line.TheVariants as line
+use Rattle.trace_line.specs.declared.line.TheConstants.{CPUS_MAX}
 
 -- what lines told, and how many runqueues there are, where that was given
 pub record Told : Type 0 where

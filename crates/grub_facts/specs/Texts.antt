@@ -1,10 +1,10 @@
 -- The lines of a text, one after another, up to the first that has a fault. What a line comes to is given by a step.
 use Rattle.std.specs.Prelude.{ℕ, ◌||◌, ◌==◌, ◌+◌, min, List, [], ◌∷◌, ◌++◌, length, Option, Some, None, is_some, option_map, unwrap_or, if◌then◌else◌}
-use Rattle.grub_facts.specs.Numbers.{before_end}
+use Rattle.trace_line.specs.Numbers.{before_end}
 use Rattle.grub_text.specs.Lines.{parts_of}
-use Rattle.grub_facts.specs.Head.{is_lost}
+use Rattle.trace_line.specs.Head.{is_lost}
 use Rattle.grub_facts.specs.Faults.{Problem, flawed}
-use Rattle.grub_facts.specs.declared.fault.Flaw.TheVariants as flaw
+use Rattle.trace_words.specs.declared.line.Flaw.TheVariants as flaw
 
 -- a line without a byte 0D at its end
 abbrev pub without_return : List ℕ → List ℕ

@@ -1,5 +1,2 @@
-pub mod Events
 pub mod Keeping
-pub mod Lines
-pub mod OpeningFits
 pub mod Sightings

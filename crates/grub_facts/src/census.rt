@@ -2,17 +2,16 @@
 
 ghost use Rattle.std.specs.Prelude.{◌≡◌, ◌==◌, ◌++◌, ◌∷◌, [], List, OnOk, map, position};
 ghost use Rattle.grub_facts.specs.Census.{Tally, census_text, seen, sighting_of, tallied, tally_first, tally_step, tally_text, tally_with};
-ghost use Rattle.grub_facts.specs.inside.Events.{event_text};
+ghost use Rattle.trace_line.specs.inside.Events.{event_text};
 ghost use Rattle.grub_facts.specs.inside.Sightings.{sighting_text};
 
 use crate::counted::Counted;
-use crate::event::Said;
 use crate::fault::Wrong;
 use crate::given::is_sugov;
-use crate::line::{Line, line_of};
 use crate::sighting::{Sighting, sighting_of};
 use crate::text::Lines;
 use std::alloc::{AllocError, Global};
+use trace_line::{Line, Said, line_of};
 
 /// The tasks that were shown so far, in the order of their first lines.
 #[derive(Drop)]

@@ -2,12 +2,12 @@
 
 ghost use Rattle.std.specs.Prelude.{◌≡◌, IfOk, OnOk, nat_le, position};
 ghost use Rattle.grub_facts.specs.Census.{tally_first, tally_text, tally_with, with_number};
-ghost use Rattle.grub_facts.specs.inside.Events.{shown_text};
+ghost use Rattle.trace_line.specs.inside.Events.{shown_text};
 ghost use Rattle.grub_facts.specs.inside.Sightings.{sighting_text};
 
-use crate::event::Shown;
 use crate::sighting::Sighting;
 use std::alloc::{AllocError, Global};
+use trace_line::Shown;
 
 /// What a trace shows of a SCHED_DEADLINE task.
 #[derive(Debug, Drop)]

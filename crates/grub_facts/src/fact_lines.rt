@@ -1,21 +1,19 @@
 //! The facts of given tasks and what is counted beside them, line by line.
 
 ghost use Rattle.std.specs.Prelude.{◌≡◌, IfOk, map};
-ghost use Rattle.grub_facts.specs.Head.{is_comment};
-ghost use Rattle.grub_facts.specs.inside.Events.{said_text};
+ghost use Rattle.trace_line.specs.Head.{is_comment};
+ghost use Rattle.trace_line.specs.inside.Events.{said_text};
 ghost use Rattle.grub_facts.specs.Keeping.{told_text};
 ghost use Rattle.grub_facts.specs.inside.Keeping.{after_of};
 ghost use Rattle.grub_facts.specs.Reading.{Told, counted, event_step, fact_step, head_counts, head_line, is_bad_count, is_head, is_start, line_counts, no_counts, other_line, runqueues_of, runqueues_told, told_first};
-ghost use Rattle.grub_facts.specs.Words.{text_of};
+ghost use Rattle.trace_line.specs.Words.{text_of};
 
-use crate::event::{Event, Said};
 use crate::fact::Counts;
 use crate::fault::Wrong;
-use crate::head::{is_comment, processors};
 use crate::keeper::Keeper;
-use crate::line::{CPUS_MAX, Line, drift, line_of, other_cpu};
 use crate::text::Lines;
 use std::alloc::{AllocError, Global};
+use trace_line::{CPUS_MAX, Event, Line, Said, drift, is_comment, line_of, other_cpu, processors};
 
 /// The facts of given tasks, as lines are read.
 #[derive(Drop)]

@@ -2,21 +2,7 @@
 
 ghost use Rattle.std.specs.Prelude.{◌≡◌};
 
-/// What is wrong with a line, whatever tasks were given.
-#[derive(Clone, Copy, Debug, PartialEq, Eq)]
-pub enum Flaw {
-    /// 51: the `now` of a 0-lag timer that fires is more than a millisecond from the moment of its line.
-    WrongClock,
-
-    /// 52: events were lost.
-    LostEvents,
-
-    /// 54: a CPU above 63.
-    TooLong,
-
-    /// 55: a field is missing or no number.
-    BadTraceLine,
-}
+use trace_words::Flaw;
 
 /// What is wrong with a line.
 #[derive(Debug, Drop)]

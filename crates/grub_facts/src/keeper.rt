@@ -1,19 +1,19 @@
 //! The facts of the given tasks.
 
 ghost use Rattle.std.specs.Prelude.{◌≡◌, ◌++◌, [], IfOk, OnOk, Some, map, option_map};
-ghost use Rattle.grub_facts.specs.inside.Events.{event_text, said_text, shown_text};
+ghost use Rattle.trace_line.specs.inside.Events.{event_text, said_text, shown_text};
 ghost use Rattle.grub_facts.specs.Faults.{problem_of};
 ghost use Rattle.grub_facts.specs.Given.{Task, fact_told, finding_text, move_trouble, noted_by, problem_of_trouble, tasks_given, tasks_text, trouble_of, trouble_told, wake_trouble, what_told, woken_by};
 ghost use Rattle.grub_facts.specs.Keeping.{noted_text};
-ghost use Rattle.grub_facts.specs.Words.{text_of};
+ghost use Rattle.trace_line.specs.Words.{text_of};
 ghost use Rattle.grub_facts.specs.declared.keeper.Trouble.TheVariants.{Unknown};
 
-use crate::event::{Event, Said, Shown};
 use crate::fact::{Fact, Found, What};
 use crate::fault::Wrong;
 use crate::given::{is_sugov, stop_of};
 use crate::tasks::Tasks;
 use std::alloc::{AllocError, Global};
+use trace_line::{Event, Said, Shown};
 
 /// What is wrong with a line by the tasks that were given.
 #[derive(Clone, Copy)]

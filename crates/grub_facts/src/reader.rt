@@ -1,7 +1,7 @@
 //! The facts of given tasks, from a trace's text in pieces.
 
 ghost use Rattle.std.specs.Prelude.{[], IfOk, IsTrue, OnOk, map};
-ghost use Rattle.grub_facts.specs.Words.{text_of};
+ghost use Rattle.trace_line.specs.Words.{text_of};
 ghost use Rattle.grub_facts.specs.Told.{HasRead, NeedsNoMore, ReadsOn, TellsAll, TellsStop};
 
 use crate::fact::Facts;

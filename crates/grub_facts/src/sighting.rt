@@ -2,12 +2,12 @@
 
 ghost use Rattle.std.specs.Prelude.{◌≡◌, option_map};
 ghost use Rattle.grub_facts.specs.Census.{blocks_of, sighting_of};
-ghost use Rattle.grub_facts.specs.inside.Events.{event_text};
+ghost use Rattle.trace_line.specs.inside.Events.{event_text};
 ghost use Rattle.grub_facts.specs.inside.Sightings.{sighting_text};
 
-use crate::event::{Event, Shown};
 use crate::fact::Stop;
 use crate::given::stop_of;
+use trace_line::{Event, Shown};
 
 /// A line that shows a SCHED_DEADLINE task on a CPU.
 #[derive(Clone, Copy)]

@@ -7,10 +7,9 @@ ghost use Rattle.grub_facts.specs.inside.Keeping.{after_of};
 ghost use Rattle.grub_facts.specs.Texts.{After, cut_problem, fault_at_end, further, line_ended, without_return};
 
 use crate::fault::{LineFault, Wrong};
-use crate::head::is_lost;
-use crate::number::before_end;
 use grub_text::first_line;
 use std::alloc::{AllocError, Global};
+use trace_line::{before_end, is_lost};
 
 /// What lines go to.
 pub trait Lines {

@@ -3,7 +3,7 @@ use Rattle.std.specs.List.{list_any}
 use Rattle.grub_convert.specs.inside.Words.{is_named}
 use Rattle.grub_convert.proofs.OptionLemmas.{all_words, first_time, second_time}
 use Rattle.grub_convert.specs.declared.options.Given.{Given}
-use Rattle.grub_facts.specs.Words.{text_of}
+use Rattle.trace_line.specs.Words.{text_of}
 use Rattle.grub_convert.specs.Options.{given_task, tasks_on}
 use Rattle.grub_convert.proofs.options.tasks_of.Goals as goal
 

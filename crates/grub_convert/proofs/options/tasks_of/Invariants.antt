@@ -1,5 +1,5 @@
 use Rattle.std.proofs.Common.{◌≡◌, [], map, drop}
-use Rattle.grub_facts.specs.Words.{text_of}
+use Rattle.trace_line.specs.Words.{text_of}
 use Rattle.grub_convert.specs.Options.{given_task, tasks_on}
 use Rattle.grub_convert.proofs.options.tasks_of.Given as goal
 

@@ -1,5 +1,5 @@
 use Rattle.std.proofs.Common.{◌≡◌, map, take}
-use Rattle.grub_facts.specs.Words.{text_of}
+use Rattle.trace_line.specs.Words.{text_of}
 use Rattle.grub_convert.specs.Read.{name_of}
 use Rattle.grub_convert.proofs.pieces.names_of.Given as goal
 

@@ -1,0 +1,120 @@
+//! What stands in front of a line's event: the task that runs, the CPU, the moment.
+
+ghost use Rattle.std.specs.Prelude.{◌≡◌, ◌==◌, ◌≤◌, IfSome, length, not, position, reverse};
+ghost use Rattle.std.specs.Char.{is_ascii_digit};
+ghost use Rattle.grub_text.specs.Lines.{is_space};
+ghost use Rattle.trace_line.specs.Opening.{before_brackets, last_digits, later_cpu, opening_of, running, trimmed};
+ghost use Rattle.trace_line.specs.inside.OpeningFits.{StartsWithin};
+
+use crate::decimal::{bracketed, moment, number};
+use grub_text::first_word;
+
+/// The word of a line that names its CPU.
+#[derive(Clone, Copy)]
+pub struct CpuWord {
+    pub cpu: u32,
+
+    /// How many bytes stand before the word.
+    pub start: usize,
+}
+
+/// What a line has up to its moment.
+#[derive(Clone, Copy)]
+pub struct Opening {
+    /// In nanoseconds.
+    pub at: u64,
+
+    pub cpu: Option<CpuWord>,
+
+    /// How many bytes stand before the end of the moment's word.
+    pub end: usize,
+}
+
+/// What a line has up to its moment, where it has one.
+pub(crate) fn opening_of(line: &[u8]) -> Option<Opening>
+    ensures value { result ≡ opening_of line.now }
+    ensures end { IfSome result (λ opening. opening.end ≤ length line.now) }
+    ensures cpu { IfSome result (λ opening. StartsWithin opening.cpu (length line.now)) }
+{
+    let mut start = 0;
+    let mut text = line;
+    let mut cpu = None;
+    loop {
+        let (word, rest) = first_word(text);
+        let end = start + word.len();
+        if let Some(at) = moment(word) {
+            return Some(Opening { at, cpu, end });
+        }
+        text = rest?;
+        cpu = later_cpu(cpu, word, start);
+        start = end + 1;
+    }
+}
+
+fn later_cpu(earlier: Option<CpuWord>, word: &[u8], start: usize) -> Option<CpuWord>
+    ensures { result ≡ later_cpu earlier word.now start }
+{
+    match bracketed(word) {
+        None => earlier,
+        Some(cpu) => Some(CpuWord { cpu, start }),
+    }
+}
+
+fn other_from_end(text: &[u8]) -> Option<usize>
+    ensures { result ≡ position (λ b. not (is_space b)) (reverse text.now) }
+{
+    text.iter().rev().position(|b| *b != b' ')
+}
+
+fn bracket_from_end(text: &[u8]) -> Option<usize>
+    ensures { result ≡ position (λ b. b == 40) (reverse text.now) }
+{
+    text.iter().rev().position(|b| *b == b'(')
+}
+
+fn non_digit_from_end(text: &[u8]) -> Option<usize>
+    ensures { result ≡ position (λ b. not (is_ascii_digit b)) (reverse text.now) }
+{
+    text.iter().rev().position(|b| !b.is_ascii_digit())
+}
+
+/// The text up to its last byte that is no space.
+fn trimmed(text: &[u8]) -> &[u8]
+    ensures { result.now ≡ trimmed text.now }
+{
+    &text[..text
+        .len()
+        .saturating_sub(other_from_end(text).unwrap_or(text.len()))]
+}
+
+/// The text before round brackets at its end.
+fn before_brackets(text: &[u8]) -> &[u8]
+    ensures { result.now ≡ before_brackets text.now }
+{
+    if text.ends_with(b")") {
+        trimmed(
+            &text[..text
+                .len()
+                .saturating_sub(bracket_from_end(text).unwrap_or(text.len()))
+                .saturating_sub(1)],
+        )
+    } else {
+        text
+    }
+}
+
+/// The digits at the end of a text.
+fn last_digits(text: &[u8]) -> &[u8]
+    ensures { result.now ≡ last_digits text.now }
+{
+    &text[text
+        .len()
+        .saturating_sub(non_digit_from_end(text).unwrap_or(text.len()))..]
+}
+
+/// The pid of the task that runs, from what stands before the CPU's word.
+pub(crate) fn running(front: &[u8]) -> Option<u64>
+    ensures { result ≡ running front.now }
+{
+    number(last_digits(before_brackets(trimmed(front))))
+}

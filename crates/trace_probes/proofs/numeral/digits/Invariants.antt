@@ -1,0 +1,7 @@
+use Rattle.std.proofs.Common.{◌≡◌, drop}
+use Rattle.trace_probes.specs.Numerals.{digits_from}
+use Rattle.trace_probes.proofs.numeral.digits.Given as goal
+
+-- the answer is that of the digits that are left
+abbrev pub invariant-loop-byte : goal.invariant-loop-byte
+invariant-loop-byte l = digits_from l.radix l.value (drop l.byte-index l.text) ≡ digits_from l.radix 0 l.text

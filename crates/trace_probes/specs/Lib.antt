@@ -1,0 +1,5 @@
+pub mod Numerals
+pub mod Fields
+pub mod Tables
+pub mod Shown
+pub mod inside

@@ -1,0 +1,18 @@
+-- The texts that the slices of the code point to.
+use Rattle.std.specs.Prelude.{ℕ, ◌+◌, List, [], length, Option, Some, None}
+use Rattle.std.specs.Borrow.{Bor}
+use Rattle.grub_text.specs.Lines.{words_of}
+use Rattle.trace_probes.specs.declared.value.Value.{Value}
+
+-- the words that are left
+abbrev pub words_left : Option (Bor (List ℕ)) → List (List ℕ)
+words_left None = []
+words_left (Some text) = words_of text.now
+
+abbrev pub next_text : Value × Option (Bor (List ℕ)) → Value × List (List ℕ)
+next_text v = (v.0, words_left v.1)
+
+-- how many bytes are left, and one more where there is a word
+abbrev pub left_length : Option (Bor (List ℕ)) → ℕ
+left_length None = 0
+left_length (Some text) = length text.now + 1

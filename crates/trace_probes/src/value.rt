@@ -1,0 +1,131 @@
+//! Values of fields.
+
+ghost use Rattle.std.specs.Prelude.{◌≡◌, ◌==◌, option_map, position};
+ghost use Rattle.std.specs.List.{before_first};
+ghost use Rattle.trace_probes.specs.Fields.{flag_of, function_of, value_of};
+ghost use Rattle.trace_probes.specs.Tables.{flag_in, function_in, signed_in, unsigned_in};
+
+use crate::field::Kind;
+use crate::numeral::{signed, unsigned};
+use trace_words::TimerFunction;
+
+/// The value of a field.
+#[derive(Clone, Copy)]
+pub enum Value {
+    Unsigned(u64),
+    Signed(i64),
+    Flag(bool),
+    Function(TimerFunction),
+}
+
+fn plus_in(symbol: &[u8]) -> Option<usize>
+    ensures { result ≡ position (λ b. b == 43) symbol.now }
+{
+    symbol.iter().position(|b| *b == b'+')
+}
+
+/// A symbol up to its `+`.
+fn name_in(symbol: &[u8]) -> &[u8]
+    ensures { result.now ≡ before_first (λ b. b == 43) symbol.now }
+{
+    match plus_in(symbol) {
+        None => symbol,
+        Some(plus) => &symbol[..plus],
+    }
+}
+
+/// The function of a symbol, up to its `+`.
+pub(crate) fn function_of(symbol: &[u8]) -> TimerFunction
+    ensures { result ≡ function_of symbol.now }
+{
+    let name = name_in(symbol);
+    if name == b"inactive_task_timer".as_slice() {
+        TimerFunction::ZeroLag
+    } else if name == b"dl_task_timer".as_slice() {
+        TimerFunction::Replenish
+    } else {
+        TimerFunction::Other
+    }
+}
+
+fn flag_of(n: u64) -> Option<bool>
+    ensures { result ≡ flag_of n }
+{
+    match n {
+        0 => Some(false),
+        1 => Some(true),
+        _ => None,
+    }
+}
+
+fn unsigned_value(text: &[u8]) -> Option<Value>
+    ensures { result ≡ value_of Kind.Unsigned text.now }
+{
+    Some(Value::Unsigned(unsigned(text)?))
+}
+
+fn signed_value(text: &[u8]) -> Option<Value>
+    ensures { result ≡ value_of Kind.Signed text.now }
+{
+    Some(Value::Signed(signed(text)?))
+}
+
+fn flag_value(text: &[u8]) -> Option<Value>
+    ensures { result ≡ value_of Kind.Flag text.now }
+{
+    Some(Value::Flag(flag_of(unsigned(text)?)?))
+}
+
+/// The value that a text spells at a field of this kind.
+pub(crate) fn value_of(kind: Kind, text: &[u8]) -> Option<Value>
+    ensures { result ≡ value_of kind text.now }
+{
+    match kind {
+        Kind::Unsigned => unsigned_value(text),
+        Kind::Signed => signed_value(text),
+        Kind::Flag => flag_value(text),
+        Kind::Function => Some(Value::Function(function_of(text))),
+    }
+}
+
+impl Value {
+    /// The number of an unsigned value, else 0.
+    pub(crate) fn unsigned(self) -> u64
+        ensures { result ≡ unsigned_in self }
+    {
+        match self {
+            Value::Unsigned(n) => n,
+            _ => 0,
+        }
+    }
+
+    /// The number of a signed value, else 0.
+    pub(crate) fn signed(self) -> i64
+        ensures { result ≡ signed_in self }
+    {
+        match self {
+            Value::Signed(n) => n,
+            _ => 0,
+        }
+    }
+
+    /// Whether it is a flag that is set.
+    pub(crate) fn flag(self) -> bool
+        ensures { result ≡ flag_in self }
+    {
+        match self {
+            Value::Flag(is_set) => is_set,
+            _ => false,
+        }
+    }
+
+    /// The function of a symbol, else another.
+    pub(crate) fn function(self) -> TimerFunction
+        ensures { result ≡ function_in self }
+    {
+        match self {
+            Value::Function(function) => function,
+            _ => TimerFunction::Other,
+        }
+    }
+}
