@@ -103,7 +103,8 @@ fn dot_in(text: &[u8]) -> Option<usize>
     text.iter().position(|b| *b == b'.')
 }
 
-fn point_text(text: &[u8]) -> Option<u64>
+/// The moment of a text such as `1020.411177`, in nanoseconds.
+pub fn point_text(text: &[u8]) -> Option<u64>
     ensures { result ≡ point_text text.now }
 {
     let dot = dot_in(text)?;

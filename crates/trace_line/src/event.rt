@@ -143,8 +143,8 @@ fn shown_at<'a>(pid_key: &[u8], text: &'a [u8], place: usize) -> Option<(Shown<&
     Some((Shown { comm, pid }, rest))
 }
 
-/// The task of the fields, and the fields behind its comm, which ends where the key of its pid begins.
-fn shown_by<'a>(
+/// The task of the fields, by the keys of its comm and its pid, and the fields from its pid on.
+pub fn shown_by<'a>(
     comm_key: &[u8],
     pid_key: &[u8],
     fields: &'a [u8],

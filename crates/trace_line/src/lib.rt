@@ -9,7 +9,10 @@ mod line;
 mod opening;
 mod spaces;
 
-pub use decimal::{before_end, number};
-pub use event::{Event, Said, Shown};
+pub use decimal::{after, before_end, number, point_text};
+pub use event::{Event, Said, Shown, shown_by};
+pub use field::{behind, cpu_field, deadline_field, number_field, place_of, value_of};
 pub use head::{is_comment, is_lost, processors};
 pub use line::{CPUS_MAX, Line, drift, line_of, other_cpu};
+pub use opening::{CpuWord, Opening, opening_of, running};
+pub use spaces::without_spaces;

@@ -31,7 +31,7 @@ pub struct Opening {
 }
 
 /// What a line has up to its moment, where it has one.
-pub(crate) fn opening_of(line: &[u8]) -> Option<Opening>
+pub fn opening_of(line: &[u8]) -> Option<Opening>
     ensures value { result ≡ opening_of line.now }
     ensures end { IfSome result (λ opening. opening.end ≤ length line.now) }
     ensures cpu { IfSome result (λ opening. StartsWithin opening.cpu (length line.now)) }
@@ -113,7 +113,7 @@ fn last_digits(text: &[u8]) -> &[u8]
 }
 
 /// The pid of the task that runs, from what stands before the CPU's word.
-pub(crate) fn running(front: &[u8]) -> Option<u64>
+pub fn running(front: &[u8]) -> Option<u64>
     ensures { result ≡ running front.now }
 {
     number(last_digits(before_brackets(trimmed(front))))

@@ -121,8 +121,8 @@ place_of Earliest = 41
 place_of Active = 42
 
 -- the function of a symbol, up to its +
-abbrev pub function_of : List ℕ → TimerFunction
-function_of symbol =
+abbrev pub timer_function : List ℕ → TimerFunction
+timer_function symbol =
     if bytes_eq (before_first (λ b. b == 43) symbol) (codes "inactive_task_timer") then ZeroLag else
     (if bytes_eq (before_first (λ b. b == 43) symbol) (codes "dl_task_timer") then Replenish else Other)
 
@@ -134,7 +134,7 @@ abbrev pub value_of : Kind → List ℕ → Option Value
 value_of kind.Unsigned text = option_map (λ n. value.Unsigned n) (unsigned text)
 value_of kind.Signed text = option_map (λ z. value.Signed z) (signed text)
 value_of kind.Flag text = option_map (λ b. value.Flag b) (option_and_then flag_of (unsigned text))
-value_of kind.Function text = Some (value.Function (function_of text))
+value_of kind.Function text = Some (value.Function (timer_function text))
 
 -- the value of a field, where its text was found, and the words behind it; else what is found later
 abbrev pub value_found : Kind → Option (List ℕ) → List (List ℕ) → Option (Value × List (List ℕ)) → Option (Value × List (List ℕ))

@@ -2,11 +2,12 @@
 #![tactic(auto)]
 
 mod field;
-mod numeral;
+mod numerals;
 mod shown;
 mod tables;
 mod value;
 mod values;
 
-pub use numeral::{signed, unsigned};
+pub use numerals::{numeral, signed, unsigned};
 pub use shown::{ProbeEvent, event_named, probe_of};
+pub use value::timer_function;

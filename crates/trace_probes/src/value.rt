@@ -2,11 +2,11 @@
 
 ghost use Rattle.std.specs.Prelude.{◌≡◌, ◌==◌, option_map, position};
 ghost use Rattle.std.specs.List.{before_first};
-ghost use Rattle.trace_probes.specs.Fields.{flag_of, function_of, value_of};
+ghost use Rattle.trace_probes.specs.Fields.{flag_of, timer_function, value_of};
 ghost use Rattle.trace_probes.specs.Tables.{flag_in, function_in, signed_in, unsigned_in};
 
 use crate::field::Kind;
-use crate::numeral::{signed, unsigned};
+use crate::numerals::{signed, unsigned};
 use trace_words::TimerFunction;
 
 /// The value of a field.
@@ -35,8 +35,8 @@ fn name_in(symbol: &[u8]) -> &[u8]
 }
 
 /// The function of a symbol, up to its `+`.
-pub(crate) fn function_of(symbol: &[u8]) -> TimerFunction
-    ensures { result ≡ function_of symbol.now }
+pub fn timer_function(symbol: &[u8]) -> TimerFunction
+    ensures { result ≡ timer_function symbol.now }
 {
     let name = name_in(symbol);
     if name == b"inactive_task_timer".as_slice() {
@@ -84,7 +84,7 @@ pub(crate) fn value_of(kind: Kind, text: &[u8]) -> Option<Value>
         Kind::Unsigned => unsigned_value(text),
         Kind::Signed => signed_value(text),
         Kind::Flag => flag_value(text),
-        Kind::Function => Some(Value::Function(function_of(text))),
+        Kind::Function => Some(Value::Function(timer_function(text))),
     }
 }
 

@@ -1,6 +1,6 @@
 use Rattle.std.proofs.Common.{◌≡◌, drop}
 use Rattle.trace_probes.specs.Numerals.{digits_from}
-use Rattle.trace_probes.proofs.numeral.digits.Given as goal
+use Rattle.trace_probes.proofs.numerals.digits.Given as goal
 
 -- the answer is that of the digits that are left
 abbrev pub invariant-loop-byte : goal.invariant-loop-byte
