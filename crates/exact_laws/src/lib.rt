@@ -1,0 +1,6 @@
+//! Laws that a record can break though it is consistent.
+#![tactic(auto)]
+
+mod laws;
+
+pub use laws::{Broken, Law, Laws};

@@ -1,0 +1,15 @@
+//! What an exact check compares: words, counts, and which pending effects explain a value.
+#![tactic(auto)]
+
+mod choice;
+mod counts;
+mod sheet;
+mod words;
+
+pub use choice::{Amount, MOST, Picked, pick};
+pub use counts::{Counts, RuleCounts, Tally};
+pub use sheet::Sheet;
+pub use words::{
+    Comparison, Deviation, Event, FIRST_SEEN, Kind, Place, Quantity, RULES, Rule, Subject, Value,
+    Whose, Why, kind_of,
+};

@@ -1,0 +1,217 @@
+//! What is compared, where, and what of.
+
+use trace_words::TimerFunction;
+
+/// The function whose entry a line shows.
+#[derive(Clone, Copy)]
+pub enum Event {
+    Enqueue,
+    Update,
+    Dequeue,
+    Migrate,
+    Leave,
+    Admit,
+    ZeroLagFires,
+    ReplenishFires,
+    TimerStarts,
+    ServerStarts,
+    Pick,
+}
+
+/// A line of a record.
+#[derive(Clone, Copy)]
+pub struct Place {
+    /// Its number, from 1.
+    pub line: u64,
+
+    /// Its moment, in nanoseconds.
+    pub at: u64,
+
+    /// The CPU that wrote it.
+    pub cpu: u32,
+
+    /// The task that ran there.
+    pub pid: u64,
+    pub event: Event,
+}
+
+/// Whose entity it is.
+#[derive(Clone, Copy, PartialEq, Eq, Hash)]
+pub enum Whose {
+    /// A task; `life` counts the tasks of that pid that have ended before it.
+    Task { pid: u64, life: u32 },
+
+    /// The fair server of a CPU.
+    Server { cpu: u32 },
+}
+
+/// What a compared value is of.
+#[derive(Clone, Copy)]
+pub enum Subject {
+    Entity(Whose),
+
+    /// The runqueue of a CPU.
+    Runqueue(u32),
+
+    /// A timer that is nobody's.
+    Nobody,
+}
+
+/// A value that is compared.
+#[derive(Clone, Copy)]
+pub enum Quantity {
+    Runtime,
+    Deadline,
+    Throttled,
+    Yielded,
+    NonContending,
+    DlRuntime,
+    DlDeadline,
+    DlPeriod,
+    SchedFlags,
+    ThisBw,
+    RunningBw,
+    ExtraBw,
+
+    /// The 0-lag time from the clock of its runqueue on.
+    ZeroLag,
+
+    /// The same, where only the moment of the expiry is known, to a microsecond.
+    ZeroLagMoment,
+
+    /// Whether, and whose, a timer is armed.
+    Timer,
+}
+
+/// A kind of value: each has its counts.
+#[derive(Clone, Copy)]
+pub enum Kind {
+    Budget,
+    Deadline,
+    Flags,
+    Parameters,
+    ThisBw,
+    RunningBw,
+    ExtraBw,
+    ZeroLag,
+    ZeroLagMoment,
+    Timers,
+    Laws,
+}
+
+/// The kind of a value.
+pub fn kind_of(quantity: Quantity) -> Kind {
+    match quantity {
+        Quantity::Runtime => Kind::Budget,
+        Quantity::Deadline => Kind::Deadline,
+        Quantity::Throttled | Quantity::Yielded | Quantity::NonContending => Kind::Flags,
+        Quantity::DlRuntime | Quantity::DlDeadline | Quantity::DlPeriod | Quantity::SchedFlags => {
+            Kind::Parameters
+        }
+        Quantity::ThisBw => Kind::ThisBw,
+        Quantity::RunningBw => Kind::RunningBw,
+        Quantity::ExtraBw => Kind::ExtraBw,
+        Quantity::ZeroLag => Kind::ZeroLag,
+        Quantity::ZeroLagMoment => Kind::ZeroLagMoment,
+        Quantity::Timer => Kind::Timers,
+    }
+}
+
+/// A value, by the rules or of the kernel.
+#[derive(Clone, Copy)]
+pub enum Value {
+    Unsigned(u64),
+    Signed(i64),
+    Flag(bool),
+
+    /// This timer is armed.
+    Armed(TimerFunction),
+
+    /// This timer is not armed.
+    NotArmed(TimerFunction),
+
+    /// The timer is of this entity.
+    Owner(Whose),
+}
+
+/// A rule that a record can put to the test.
+#[derive(Clone, Copy)]
+pub enum Rule {
+    ChargeInFull,
+    ChargeByItsBandwidth,
+    ChargeByWhatIsLeft,
+    Throttled,
+    Yielded,
+    ReplenishedAtOnce,
+    Replenished,
+    ReplenishedBlocked,
+    ReplenishedBlockedLate,
+    WakeKept,
+    WakeRevised,
+    WakeNewPeriod,
+    WakeThrottled,
+    WakeBeforeZeroLag,
+    WakeAfterZeroLag,
+    Constrained,
+    Boosted,
+    BoostEnds,
+    MovedIn,
+    MovedOut,
+    MovedAtWake,
+    Restored,
+    RestoredNewPeriod,
+    Saved,
+    ZeroLagArmed,
+    ZeroLagPast,
+    ZeroLagFired,
+    Admitted,
+    Refused,
+    BandwidthChanged,
+    BackBeforeZeroLag,
+    LeftClass,
+    ServerStarted,
+    ServerStopped,
+    BeforeItsLock,
+    ExtraReadLater,
+    ChargeReadLater,
+}
+
+/// How many rules there are.
+pub const RULES: usize = 37;
+
+/// What changed a value last.
+#[derive(Clone, Copy)]
+pub struct Why {
+    pub line: u64,
+    pub event: Event,
+
+    /// None where the value was only seen.
+    pub rule: Option<Rule>,
+}
+
+/// A value that was only seen.
+pub const FIRST_SEEN: Why = Why {
+    line: 0,
+    event: Event::Enqueue,
+    rule: None,
+};
+
+/// A comparison of one value.
+#[derive(Clone, Copy)]
+pub struct Comparison {
+    pub place: Place,
+    pub subject: Subject,
+    pub quantity: Quantity,
+    pub rules: Value,
+    pub kernel: Value,
+    pub is_equal: bool,
+}
+
+/// A comparison that differs.
+#[derive(Clone, Copy)]
+pub struct Deviation {
+    pub comparison: Comparison,
+
+    /// What changed the rules' value last.
+    pub since: Why,
+}
