@@ -102,7 +102,7 @@ fi
 # A boot records what is left to be recorded.
 left=$loads
 boots=0
-rm -f $(printf "$out/%s.txt " $loads)
+for load in $loads; do rm -f "$out/$load.txt" "$out/$load.verdict"; done
 while [[ -n $left && $boots -lt ${BOOTS:-6} ]]; do
     boots=$((boots + 1))
     for load in $warm $left; do line_of "$load" | cut -f1,3-; done > "$guest/loads"

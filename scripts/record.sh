@@ -59,11 +59,11 @@ mounted_at() {
     grep -q " $2 $1 " /proc/mounts && return
     mount -t "$1" nodev "$2" 2> /dev/null && mounted="$2 $mounted"
 }
+mounted_at debugfs /sys/kernel/debug || say "no debugfs: the notes do not have max-bw and total-bw"
 tracefs=/sys/kernel/tracing
 mounted_at tracefs "$tracefs" || tracefs=/sys/kernel/debug/tracing
 [ -d "$tracefs/instances" ] || fail "this machine has no tracefs, or is locked down (lockdown=confidentiality)"
 export TRACEFS=$tracefs
-mounted_at debugfs /sys/kernel/debug || say "no debugfs: the notes do not have max-bw and total-bw"
 
 instance() {
     mkdir "$1" 2> /dev/null || fail "a tracefs instance cannot be made"
@@ -71,20 +71,20 @@ instance() {
     { echo mono > "$1/trace_clock"; } 2> /dev/null || fail "the clock mono is not there"
     { echo "$2" > "$1/buffer_size_kb"; } 2> /dev/null || fail "a buffer of $2 KB cannot be had; set RECORD_BUFFER_KB"
 }
-enable() { echo 1 > "$1/events/$2/enable"; } 2> /dev/null
+turn_on() { echo 1 > "$1/events/$2/enable"; } 2> /dev/null
 
 # ---- The record's instance.
 record=$tracefs/instances/grub.$$
 instance "$record" "${RECORD_BUFFER_KB:-32768}"
 for event in sched_switch sched_wakeup sched_wakeup_new sched_migrate_task sched_stat_runtime; do
-    enable "$record" "sched/$event" || fail "the event sched/$event is not there"
+    turn_on "$record" "sched/$event" || fail "the event sched/$event is not there"
 done
 for event in hrtimer_start hrtimer_cancel hrtimer_expire_entry; do
-    enable "$record" "timer/$event" || fail "the event timer/$event is not there"
+    turn_on "$record" "timer/$event" || fail "the event timer/$event is not there"
 done
 system_calls='sys_enter_sched_setattr sys_exit_sched_setattr sys_enter_sched_setscheduler sys_exit_sched_setscheduler'
 no_calls=
-for event in $system_calls; do enable "$record" "syscalls/$event" || no_calls=1; done
+for event in $system_calls; do turn_on "$record" "syscalls/$event" || no_calls=1; done
 if [ ! "$all" ]; then
     # A deadline task has priority -1. A kernel that takes no filter records all.
     { echo 'prev_prio == -1 || next_prio == -1' > "$record/events/sched/sched_switch/filter"
@@ -121,7 +121,7 @@ echo "# grub: notes 1 kernel=$(uname -r) domain=$domain$(limits)" 2> /dev/null >
 
 calls=$tracefs/instances/grub.$$.calls
 instance "$calls" 256
-for event in $system_calls; do enable "$calls" "syscalls/$event"; done
+for event in $system_calls; do turn_on "$calls" "syscalls/$event"; done
 [ ! "$no_calls" ] || say "no events of sched_setattr: the notes have the tasks that are there at the start alone"
 "$kernel_scripts/notes.pl" "$calls" >> "$part" &
 notes=$!

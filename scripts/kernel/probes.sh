@@ -84,7 +84,7 @@ set_probes() {
 }
 
 check() {
-    grep -E ' (upd|enq): \(' | head -n 400 | tr = ' ' | awk -v cpus="$(grep -c '^processor' /proc/cpuinfo)" '
+    grep -E ' (upd|enq): \(' | head -n 400 | tr '=' ' ' | awk -v cpus="$(grep -c '^processor' /proc/cpuinfo)" '
     {
         line_cpu = -1; split("", f)
         for (i = 1; i < NF; i++) { if ($i ~ /^\[[0-9]+\]$/) line_cpu = substr($i, 2) + 0; f[$i] = $(i + 1) }

@@ -1,3 +1,4 @@
+#!/bin/sh
 # Hotplug takes the fair servers' shares again each time.
 . /scripts/kernel/finds/sums.sh
 sums 'after boot'

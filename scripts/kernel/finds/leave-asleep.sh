@@ -1,3 +1,4 @@
+#!/bin/sh
 # A task that is put out of SCHED_DEADLINE while it sleeps past its 0-lag moment never gives its bandwidth back.
 . /scripts/kernel/finds/sums.sh
 sums 'after boot'

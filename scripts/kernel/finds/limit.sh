@@ -1,3 +1,4 @@
+#!/bin/sh
 # A value of sched_rt_runtime_us that is written after boot reaches the first processor of the root domain only (before 6.12).
 # It wants two processors.
 show() {

@@ -1,3 +1,4 @@
+#!/bin/sh
 # Reading sched_rt_runtime_us changes total_bw and extra_bw (6.12.43 and later 6.12).
 . /scripts/kernel/finds/sums.sh
 sums 'after boot'

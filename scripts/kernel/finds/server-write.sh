@@ -1,3 +1,4 @@
+#!/bin/sh
 # A write of a stopped fair server's runtime takes its bandwidth off running_bw once more, and the kernel warns. It wants several
 # processors, and some writes until one meets the server stopped.
 . /scripts/kernel/finds/sums.sh

@@ -1,3 +1,4 @@
+#!/bin/sh
 # What the scripts of this directory print: the bandwidth of the root domain, and the sums of each runqueue.
 sums() {
     echo "--- $1: total_bw $(awk '$1 == ".dl_bw->total_bw" { print $3; exit }' /sys/kernel/debug/sched/debug)"
