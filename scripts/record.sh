@@ -2,7 +2,7 @@
 # record.sh [--all] [--no-probes] [--few] OUT PROGRAM ARG..: runs PROGRAM as root and writes to OUT the kernel's trace of
 # SCHED_DEADLINE tasks meanwhile, with notes of what the kernel knows at its head, as the text that grubtrace reads.
 #   --all         the switches and moves of all tasks too, for `grubtrace size`
-#   --no-probes   the fixed events alone
+#   --no-probes   the kernel's own events alone (a probe of the sums is set for a moment before)
 #   --few         of the probes only upd and enq: budgets and deadlines, half of the lines
 # It uses tracefs instances of its own and removes all that it made, also after a signal or where it fails. A signal ends PROGRAM
 # and the record. RECORD_BUFFER_KB is the buffer of each CPU (32768 where it is not set).
@@ -117,7 +117,7 @@ if [ "$probes" ]; then
     fi
 fi
 echo "# grub: notes 1 kernel=$(uname -r) domain=$domain$(limits)" 2> /dev/null > "$part" || fail "$out cannot be written"
-[ ! "$probes" ] || "$kernel_scripts/probes.sh" sums >> "$part"
+"$kernel_scripts/probes.sh" sums >> "$part"
 
 calls=$tracefs/instances/grub.$$.calls
 instance "$calls" 256

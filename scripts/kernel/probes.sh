@@ -105,16 +105,19 @@ clear_probes() {
 
 sums() {
     grep -q '<argname>' "$tracefs/README" || return 0
+    instance=$tracefs/instances/grubsums
+    trap 'end_of_sums; rm -rf "$work"' EXIT
+    trap 'exit 1' HUP INT TERM
     echo 'sum enqueue_task_fair cpu=rq->cpu this=rq->dl.this_bw running=rq->dl.running_bw extra=rq->dl.extra_bw' > "$work/wanted"
     make grubsums > /dev/null
     [ -d "$events/grubsums" ] || return 0
-    instance=$tracefs/instances/grubsums
     mkdir "$instance" && echo 1 > "$instance/events/grubsums/enable" && for cpu in $(sed -n 's/^processor.*: *//p' /proc/cpuinfo); do
         taskset -c "$cpu" true 2> /dev/null
         sed -n "s/.* sum: .* cpu=$cpu this=\(.*\)/# grub: cpu $cpu this=\1/p" "$instance/trace" | tail -n 1
     done
-    echo 0 > "$instance/events/grubsums/enable"
-    rmdir "$instance"
+}
+end_of_sums() {
+    [ ! -d "$instance" ] || { echo 0 > "$instance/events/grubsums/enable"; rmdir "$instance"; }
     remove grubsums
 }
 
