@@ -6,8 +6,10 @@ mod late;
 mod laws;
 mod least;
 mod renewal;
+mod witness;
 
 pub use job::Job;
 pub use late::late_count;
 pub use laws::{jobs_are_in_time_as_told, more_runtime_is_never_later};
 pub use least::least_runtime;
+pub use witness::{Late, count_late_each, first_late};
