@@ -1,0 +1,18 @@
+//! The timers that a kernel's accounting comes to, beside those that it armed.
+//!
+//! A record's lines are played by the rules of kernel/sched/deadline.c. At each block of a task, and at each start of a replenishment
+//! timer, the moment that the rules give stands beside the kernel's. Moments and spans are nanoseconds on the record's clock,
+//! bandwidths are units of 2^-20 of a processor; numbers are the kernel's u64 and s64, and wrap.
+#![tactic(auto)]
+
+mod counts;
+mod machine;
+mod playing;
+mod setup;
+
+pub use counts::{Counts, Rule};
+pub use machine::{Charged, Machine, Outcome, Watch};
+pub use playing::play;
+pub use setup::{
+    FairServer, Limits, NoSums, Options, RunqueueSums, Servers, Setup, Start, setup_of,
+};

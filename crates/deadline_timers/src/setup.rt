@@ -1,0 +1,261 @@
+//! What is fixed for a record: the kernel's rules, its limits, and the processors of the root domain.
+
+use deadline_rules::{BW_UNIT, Law, ratio, share};
+use std::alloc::{AllocError, Global};
+use trace_words::{Kernel, Limit, Sums};
+
+/// How the fair server of a runqueue (`dl_server`) stops.
+#[derive(Clone, Copy, PartialEq, Eq)]
+pub enum Servers {
+    /// There are none: before 6.12.
+    Absent,
+
+    /// With its last fair task, whose sleep cancels its timer: 6.12.0 to 6.12.91, 6.13 to 6.16.
+    StopWithTimer,
+
+    /// When it is picked and has no task, after its timer fired: 6.12.92 and later 6.12.
+    StopAtPick,
+
+    /// At the first switch from a deadline task to idle, after its timer fired: from 6.17 on.
+    StopAtIdle,
+}
+
+/// What fair servers reserve.
+#[derive(Clone, Copy)]
+pub enum FairServer {
+    /// What a kernel gives them by itself, where it has them.
+    Default,
+    None,
+
+    /// A runtime in a period.
+    Reserves { runtime: u64, period: u64 },
+}
+
+/// What options and notes say of a kernel.
+#[derive(Clone, Copy)]
+pub struct Options {
+    /// A current one where nothing is said.
+    pub kernel: Option<Kernel>,
+
+    /// 950000 us in 1000000 us where nothing is said.
+    pub limit: Option<Limit>,
+    pub fair_server: FairServer,
+
+    /// By the documentation's arithmetic in place of the kernel's.
+    pub is_by_documentation: bool,
+}
+
+/// The sums of a runqueue at the beginning of a record, as a note has them.
+#[derive(Clone, Copy)]
+pub struct RunqueueSums {
+    pub cpu: u32,
+    pub sums: Sums,
+}
+
+/// What a record begins with.
+#[derive(Drop)]
+pub struct Start {
+    /// The CPUs of the root domain.
+    pub domain: Vec<u32>,
+    pub sums: Vec<RunqueueSums>,
+}
+
+/// A kernel whose `extra_bw` depends on its boot, of which no note tells.
+#[derive(Clone, Copy)]
+pub struct NoSums {
+    pub kernel: Kernel,
+}
+
+/// The part of each processor that SCHED_DEADLINE may have, and its inverse in units of 2^-8.
+#[derive(Clone, Copy)]
+pub struct Limits {
+    pub max_bw: u64,
+    pub bw_ratio: u64,
+}
+
+/// What is fixed for a record.
+#[derive(Clone, Copy)]
+pub struct Setup {
+    pub law: Law,
+    pub servers: Servers,
+
+    /// What each fair server reserves, as a bandwidth.
+    pub server_bw: u64,
+
+    /// Of the root domain's first processor, and of the others.
+    pub first: Limits,
+    pub others: Limits,
+
+    /// The root domain's first processor.
+    pub first_cpu: u32,
+
+    /// How many processors the root domain has.
+    pub cpus: u64,
+}
+
+/// The kernel where nothing is said.
+const CURRENT: Kernel = Kernel {
+    major: 6,
+    minor: 18,
+    patch: 0,
+};
+
+/// The limit where nothing is said, in microseconds.
+const DEFAULT_LIMIT: Limit = Limit::Runtime {
+    runtime: 950_000,
+    period: 1_000_000,
+};
+
+/// Whether a kernel is of this version or of a later one.
+fn is_from(kernel: Kernel, major: u32, minor: u32) -> bool {
+    kernel.major > major || kernel.major == major && kernel.minor >= minor
+}
+
+/// Whose arithmetic a kernel has (`grub_reclaim`).
+fn law_of(kernel: Kernel) -> Law {
+    if is_from(kernel, 6, 5) {
+        Law::LinuxFrom65
+    } else {
+        Law::LinuxBefore65
+    }
+}
+
+/// How the fair servers of a kernel stop (`dl_server_stop`, `dl_server_timer`, `__pick_task_dl`).
+fn servers_of(kernel: Kernel) -> Servers {
+    if is_from(kernel, 6, 17) {
+        Servers::StopAtIdle
+    } else if !is_from(kernel, 6, 12) {
+        Servers::Absent
+    } else if !is_from(kernel, 6, 13) && kernel.patch >= 92 {
+        Servers::StopAtPick
+    } else {
+        Servers::StopWithTimer
+    }
+}
+
+/// The limits of a processor (`init_dl_rq_bw_ratio`).
+fn limits_of(limit: Limit) -> Limits {
+    match limit {
+        Limit::MaxBw(u64::MAX) => without_limit(),
+        Limit::MaxBw(max_bw) => Limits {
+            max_bw,
+            bw_ratio: by_units(max_bw) >> 12,
+        },
+        Limit::Runtime { runtime, period } => {
+            if runtime < 0 {
+                without_limit()
+            } else {
+                Limits {
+                    max_bw: ratio(runtime.cast_unsigned(), period),
+                    bw_ratio: ratio(period, runtime.cast_unsigned()) >> 12,
+                }
+            }
+        }
+    }
+}
+
+/// 2^40 by a bandwidth; 0 where there is none.
+fn by_units(bw: u64) -> u64 {
+    if bw == 0 { 0 } else { (1 << 40) / bw }
+}
+
+/// sched_rt_runtime_us is -1.
+fn without_limit() -> Limits {
+    Limits {
+        max_bw: BW_UNIT,
+        bw_ratio: 256,
+    }
+}
+
+/// The bandwidth of a fair server (`fair_server_init`: 50 ms in 1 s).
+fn server_bw(server: FairServer, servers: Servers) -> u64 {
+    match server {
+        FairServer::None => 0,
+        FairServer::Reserves { runtime, period } => ratio(runtime, period),
+        FairServer::Default => {
+            if servers == Servers::Absent {
+                0
+            } else {
+                ratio(50_000_000, 1_000_000_000)
+            }
+        }
+    }
+}
+
+/// Whether the sums of a kernel's runqueues depend on its boot, so that a note has to tell them.
+fn wants_sums(servers: Servers) -> bool {
+    servers == Servers::StopWithTimer || servers == Servers::StopAtPick
+}
+
+fn law_by(options: Options, kernel: Kernel) -> Law {
+    if options.is_by_documentation {
+        Law::Documentation
+    } else {
+        law_of(kernel)
+    }
+}
+
+/// The limits of the processors that are not the root domain's first: before 6.5 a limit that was written after the boot reaches the first
+/// one only.
+fn other_limits(kernel: Kernel, limits: Limits) -> Limits {
+    if is_from(kernel, 6, 5) {
+        limits
+    } else {
+        limits_of(DEFAULT_LIMIT)
+    }
+}
+
+fn first_cpu(domain: &[u32]) -> u32 {
+    let mut first = u32::MAX;
+    for cpu in domain {
+        first = first.min(*cpu);
+    }
+    first
+}
+
+/// What is fixed for a record that begins so.
+pub fn setup_of(options: Options, start: &Start) -> Result<Setup, NoSums> {
+    let kernel = options.kernel.unwrap_or(CURRENT);
+    let servers = servers_of(kernel);
+    if wants_sums(servers) && start.sums.is_empty() {
+        return Err(NoSums { kernel });
+    }
+    let first = limits_of(options.limit.unwrap_or(DEFAULT_LIMIT));
+    Ok(Setup {
+        law: law_by(options, kernel),
+        servers,
+        server_bw: server_bw(options.fair_server, servers),
+        first,
+        others: other_limits(kernel, first),
+        first_cpu: first_cpu(&start.domain),
+        cpus: start.domain.len() as u64,
+    })
+}
+
+impl Setup {
+    /// The limits of a processor.
+    pub fn limits(&self, cpu: u32) -> Limits {
+        if cpu == self.first_cpu {
+            self.first
+        } else {
+            self.others
+        }
+    }
+
+    /// Lines that say no more than that a CPU idles bear on its fair server.
+    pub fn wants_idle(&self) -> bool {
+        self.servers == Servers::StopAtPick
+    }
+
+    /// Lines of cancelled timers bear on fair servers.
+    pub fn wants_cancels(&self) -> bool {
+        self.servers == Servers::StopWithTimer
+    }
+
+    /// `extra_bw` of a processor where only the fair servers were admitted (`__dl_sub`).
+    pub fn first_extra_bw(&self, cpu: u32) -> u64 {
+        self.limits(cpu)
+            .max_bw
+            .wrapping_sub(self.cpus.wrapping_mul(share(self.server_bw, self.cpus)))
+    }
+}

@@ -1,0 +1,17 @@
+//! The lines of a record that bear on the timers of SCHED_DEADLINE, with tasks and timers by number.
+//!
+//! Whose a timer is, the clock of a wake and the moment of an admission are told by other lines, which may stand further on:
+//! they are found while the lines are kept. Moments and spans are nanoseconds.
+#![tactic(auto)]
+
+mod before;
+mod event;
+mod lines;
+mod moment;
+mod record;
+mod vote;
+
+pub use event::{Event, Kept};
+pub use lines::{FirstLine, Given, Lines, TaskLines, TimerLines, Told};
+pub use record::Record;
+pub use vote::Vote;

@@ -1,0 +1,144 @@
+//! What a record has: its lines that bear on timers, its tasks, and whose its timers are.
+
+use crate::event::Kept;
+use crate::vote::Vote;
+use trace_words::{Parameters, Policy};
+
+/// A `dl_task_timer` is a task's where it is set less than this ahead, mostly.
+const SOON: u64 = 300_000_000;
+
+/// A task that has a reservation somewhere in the record.
+#[derive(Clone, Copy)]
+pub struct TaskLines {
+    pub pid: u64,
+
+    /// What an option says that it reserves.
+    pub given: Option<Parameters>,
+
+    /// The `inactive_task_timer` that starts most often while it runs.
+    pub zero_lag_timer: Vote,
+}
+
+/// Of which kind the first line of a timer is.
+#[derive(Clone, Copy, PartialEq, Eq)]
+pub enum FirstLine {
+    Start,
+    Another,
+}
+
+/// A timer.
+#[derive(Clone, Copy)]
+pub struct TimerLines {
+    pub first: Option<FirstLine>,
+
+    /// How often it is started as a `dl_task_timer`; right after the charge of a task of the class; less than 0.3 s ahead.
+    pub starts: u64,
+    pub after_charge: u64,
+    pub soon: u64,
+
+    /// The CPU whose lines start it, and the task whose charge is the line before, or whose wake is the line after.
+    pub cpu: Vote,
+    pub task: Vote,
+}
+
+impl TimerLines {
+    pub fn new() -> TimerLines {
+        TimerLines {
+            first: None,
+            starts: 0,
+            after_charge: 0,
+            soon: 0,
+            cpu: Vote::new(),
+            task: Vote::new(),
+        }
+    }
+
+    /// Whether it is a task's `dl_task_timer`; a fair server's is mostly started by no charge, and set far ahead.
+    pub fn is_of_task(self) -> bool {
+        self.after_charge > self.starts / 2 || self.soon > self.starts / 2
+    }
+
+    /// The timer with one more line, which is no start.
+    pub fn with_line(self) -> TimerLines {
+        TimerLines {
+            first: Some(self.first.unwrap_or(FirstLine::Another)),
+            ..self
+        }
+    }
+
+    /// The timer with one more start as a `dl_task_timer`: on this CPU, so far ahead, after the charge of this task.
+    pub fn with_start(self, cpu: u32, ahead: u64, charged: Option<u32>) -> TimerLines {
+        let soon = if ahead < SOON { 1 } else { 0 };
+        let after_charge = if charged.is_some() { 1 } else { 0 };
+        TimerLines {
+            first: Some(self.first.unwrap_or(FirstLine::Start)),
+            starts: self.starts.saturating_add(1),
+            after_charge: self.after_charge.saturating_add(after_charge),
+            soon: self.soon.saturating_add(soon),
+            cpu: self.cpu.with(cpu),
+            task: with_some(self.task, charged),
+        }
+    }
+
+    /// The timer whose start the wake of this task follows.
+    pub fn with_wake(self, task: u32) -> TimerLines {
+        TimerLines {
+            task: self.task.with(task),
+            ..self
+        }
+    }
+}
+
+fn with_some(vote: Vote, candidate: Option<u32>) -> Vote {
+    match candidate {
+        Some(candidate) => vote.with(candidate),
+        None => vote,
+    }
+}
+
+/// A reservation that an option gives to a task.
+#[derive(Clone, Copy)]
+pub struct Given {
+    pub pid: u64,
+    pub parameters: Parameters,
+}
+
+/// What a note tells of a task, and when the kernel did so.
+#[derive(Clone, Copy)]
+pub struct Told {
+    pub task: u32,
+
+    /// The moment of the note; none where the task was there at the start.
+    pub at: Option<u64>,
+
+    /// The moment at which the kernel took the task's change.
+    pub moment: u64,
+
+    /// The task itself made the call.
+    pub is_by_itself: bool,
+    pub cpu: u32,
+    pub policy: Policy,
+}
+
+/// The lines of a record.
+#[derive(Drop)]
+pub struct Lines {
+    pub tasks: Vec<TaskLines>,
+    pub timers: Vec<TimerLines>,
+
+    /// What notes tell, by the moment of the change.
+    pub told: Vec<Told>,
+    pub kept: Vec<Kept>,
+
+    /// The moment of the first line.
+    pub begins: Option<u64>,
+
+    /// And of the last.
+    pub ends: u64,
+
+    /// How many lines there are, with those that are not kept.
+    pub count: u64,
+
+    /// How many lines are about a task of the class that has no reservation: it is boosted by a mutex, or not told of.
+    pub boosted: u64,
+}

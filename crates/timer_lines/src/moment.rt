@@ -1,0 +1,118 @@
+//! When the kernel took a change that a note tells of.
+
+/// A charge so much before a note may be that within the call.
+const CALL: u64 = 30_000;
+
+/// Of a task's first note: its call may have waited before it returned.
+const FIRST_CALL: u64 = 5_000_000;
+
+/// The kernel's change is so much before the note, where no charge tells more.
+const LAG: u64 = 2_000;
+
+/// A moment that was cut or rounded may be so much later than it says.
+pub const ROUNDING: u64 = 999;
+
+/// What is known of a task as lines pass by.
+#[derive(Clone, Copy)]
+pub struct Passing {
+    /// The moment of its last charge.
+    pub charged: Option<u64>,
+
+    /// It is within a call of sched_setattr(2), before a charge.
+    pub is_calling: bool,
+
+    /// The moment of the first charge within its last call.
+    pub within_call: Option<u64>,
+
+    /// It has had a note before.
+    pub has_note: bool,
+
+    /// It is of the class.
+    pub is_deadline: bool,
+
+    /// Its last wake, among the kept lines, where no charge followed yet.
+    pub woken: Option<usize>,
+}
+
+impl Passing {
+    pub fn new() -> Passing {
+        Passing {
+            charged: None,
+            is_calling: false,
+            within_call: None,
+            has_note: false,
+            is_deadline: false,
+            woken: None,
+        }
+    }
+
+    /// The task after a charge at this moment.
+    pub fn charged(self, at: u64) -> Passing {
+        Passing {
+            charged: Some(at),
+            is_calling: false,
+            within_call: if self.is_calling {
+                Some(at)
+            } else {
+                self.within_call
+            },
+            woken: None,
+            ..self
+        }
+    }
+
+    /// The task after it made a call.
+    pub fn calling(self) -> Passing {
+        Passing {
+            is_calling: true,
+            within_call: None,
+            ..self
+        }
+    }
+
+    /// The task after a note.
+    pub fn told(self, is_deadline: bool) -> Passing {
+        Passing {
+            within_call: None,
+            has_note: true,
+            is_deadline,
+            ..self
+        }
+    }
+
+    /// When the kernel took the change that a note of this moment tells of: just after the charge within the call.
+    pub fn change_before(self, note: u64, is_by_itself: bool) -> u64 {
+        let span = if self.has_note { CALL } else { FIRST_CALL };
+        let near = charge_near(self.charged, note, span);
+        let charge = if is_by_itself {
+            self.within_call.or(near)
+        } else {
+            near
+        };
+        match charge {
+            Some(charge) => charge.saturating_add(1),
+            None => note.saturating_sub(LAG),
+        }
+    }
+}
+
+/// A charge less than a span before a note.
+fn charge_near(charge: Option<u64>, note: u64, span: u64) -> Option<u64> {
+    let charge = charge?;
+    if note.saturating_sub(charge) < span {
+        Some(charge)
+    } else {
+        None
+    }
+}
+
+/// The clock of a wake at this moment, when its task's first charge is of a run of so many nanoseconds: a run that began just before
+/// the wake's line began with the wake.
+pub fn wake_clock(woken: u64, charged: u64, nanos: u64) -> u64 {
+    let begun = charged.saturating_sub(nanos);
+    if begun < woken && woken - begun < 100_000 {
+        begun
+    } else {
+        woken
+    }
+}

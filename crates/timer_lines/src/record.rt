@@ -1,0 +1,524 @@
+//! A record, as its lines are read one by one.
+
+use crate::before::Before;
+use crate::event::{Event, Kept};
+use crate::lines::{Given, Lines, TaskLines, TimerLines, Told};
+use crate::moment::{Passing, ROUNDING, wake_clock};
+use std::alloc::{AllocError, Global};
+use std::collections::HashMap;
+use trace_words::{Fixed, Policy, TimerFunction};
+
+/// A record that is being read.
+#[derive(Drop)]
+pub struct Record {
+    lines: Lines,
+
+    /// What is known of the tasks so far, by their numbers.
+    passing: Vec<Passing>,
+
+    /// Notes that are still to come, by their moments.
+    notes: Vec<Told>,
+
+    /// How many of them came.
+    come: usize,
+    pids: HashMap<u64, u32>,
+    addresses: HashMap<u64, u32>,
+
+    /// The last line of each CPU.
+    before: Vec<Before>,
+
+    /// Lines that say no more than that a CPU idles are kept.
+    keeps_idle: bool,
+
+    /// Lines of cancelled timers are kept.
+    keeps_cancels: bool,
+}
+
+/// Where a line stands.
+#[derive(Clone, Copy)]
+struct Place {
+    line: u64,
+    at: u64,
+    cpu: u32,
+    is_idle: bool,
+}
+
+impl Record {
+    /// A record without a line. Lines that say no more than that a CPU idles, and lines of cancelled timers, are kept where they are
+    /// wanted.
+    pub fn new(alloc: Global, keeps_idle: bool, keeps_cancels: bool) -> Record {
+        Record {
+            lines: Lines {
+                tasks: Vec::new(alloc),
+                timers: Vec::new(alloc),
+                told: Vec::new(alloc),
+                kept: Vec::new(alloc),
+                begins: None,
+                ends: 0,
+                count: 0,
+                boosted: 0,
+            },
+            passing: Vec::new(alloc),
+            notes: Vec::new(alloc),
+            come: 0,
+            pids: HashMap::new(alloc),
+            addresses: HashMap::new(alloc),
+            before: Vec::new(alloc),
+            keeps_idle,
+            keeps_cancels,
+        }
+    }
+
+    /// An option's reservation for the task of this pid: it stands above notes.
+    pub fn give(&mut self, given: Given) -> Result<(), AllocError> {
+        let task = self.task(given.pid)?;
+        if let Some(lines) = self.lines.tasks.get_mut(task as usize) {
+            lines.given = Some(given.parameters);
+        }
+        if let Some(passing) = self.passing.get_mut(task as usize) {
+            passing.is_deadline = true;
+        }
+        Ok(())
+    }
+
+    /// A note of a task, before the first line: at this moment, or at the start; by this pid; on this CPU.
+    pub fn note(
+        &mut self,
+        pid: u64,
+        at: Option<u64>,
+        by: Option<u64>,
+        cpu: u32,
+        policy: Policy,
+    ) -> Result<(), AllocError> {
+        let task = self.task(pid)?;
+        let told = Told {
+            task,
+            at,
+            moment: at.unwrap_or(0),
+            is_by_itself: is_by_itself(pid, by),
+            cpu,
+            policy,
+        };
+        insert_told(&mut self.notes, told)
+    }
+
+    /// A line of an event: its number, moment and CPU, and the pid of the task that runs there.
+    pub fn line(
+        &mut self,
+        line: u64,
+        at: u64,
+        cpu: u32,
+        pid: u64,
+        fixed: Fixed,
+    ) -> Result<(), AllocError> {
+        self.begin(at)?;
+        self.pass(
+            Place {
+                line,
+                at,
+                cpu,
+                is_idle: pid == 0,
+            },
+            pid,
+            fixed,
+        )
+    }
+
+    /// The lines, when there are no more.
+    pub fn finish(mut self) -> Result<Lines, AllocError> {
+        self.tell(u64::MAX)?;
+        let Record {
+            lines,
+            passing: _,
+            notes: _,
+            come: _,
+            pids: _,
+            addresses: _,
+            before: _,
+            keeps_idle: _,
+            keeps_cancels: _,
+        } = self;
+        Ok(lines)
+    }
+
+    fn begin(&mut self, at: u64) -> Result<(), AllocError> {
+        if self.lines.begins.is_none() {
+            self.lines.begins = Some(at);
+        }
+        self.lines.ends = at;
+        self.lines.count = self.lines.count.saturating_add(1);
+        self.tell(at)
+    }
+
+    /// The number of the task of this pid, which is new where none is.
+    fn task(&mut self, pid: u64) -> Result<u32, AllocError> {
+        if let Some(task) = self.pids.get(&pid) {
+            return Ok(*task);
+        }
+        let task = number(self.lines.tasks.len());
+        self.lines.tasks.push(TaskLines {
+            pid,
+            given: None,
+            zero_lag_timer: crate::vote::Vote::new(),
+        })?;
+        self.passing.push(Passing::new())?;
+        let _ = self.pids.insert(pid, task)?;
+        Ok(task)
+    }
+
+    fn task_of(&self, pid: u64) -> Option<u32> {
+        self.pids.get(&pid).copied()
+    }
+
+    /// The number of the timer at this address.
+    fn timer(&mut self, address: u64) -> Result<u32, AllocError> {
+        if let Some(timer) = self.addresses.get(&address) {
+            return Ok(*timer);
+        }
+        let timer = number(self.lines.timers.len());
+        self.lines.timers.push(TimerLines::new())?;
+        let _ = self.addresses.insert(address, timer)?;
+        Ok(timer)
+    }
+
+    /// The notes of moments before this one come.
+    fn tell(&mut self, at: u64) -> Result<(), AllocError> {
+        for i in self.come..self.notes.len() {
+            let Some(told) = self.notes.get(i).copied() else {
+                return Ok(());
+            };
+            if told.moment.saturating_add(ROUNDING) >= at {
+                return Ok(());
+            }
+            self.come = i + 1;
+            self.come_to(told)?;
+        }
+        Ok(())
+    }
+
+    fn come_to(&mut self, told: Told) -> Result<(), AllocError> {
+        let mut moment = told.moment;
+        if let Some(passing) = self.passing.get_mut(told.task as usize) {
+            if let Some(at) = told.at {
+                moment = passing.change_before(at, told.is_by_itself);
+            }
+            *passing = passing.told(is_deadline(told.policy));
+        }
+        insert_told(&mut self.lines.told, Told { moment, ..told })
+    }
+
+    fn before(&self, cpu: u32) -> Before {
+        self.before
+            .get(cpu as usize)
+            .copied()
+            .unwrap_or(Before::Nothing)
+    }
+
+    fn set_before(&mut self, cpu: u32, before: Before) -> Result<(), AllocError> {
+        if self.before.len() <= cpu as usize {
+            self.before.resize(cpu as usize + 1, Before::Nothing)?;
+        }
+        if let Some(place) = self.before.get_mut(cpu as usize) {
+            *place = before;
+        }
+        Ok(())
+    }
+
+    fn is_deadline(&self, task: u32) -> bool {
+        match self.passing.get(task as usize) {
+            Some(passing) => passing.is_deadline,
+            None => false,
+        }
+    }
+
+    fn keep(&mut self, place: Place, event: Event) -> Result<(), AllocError> {
+        self.lines.kept.push(Kept {
+            line: place.line,
+            at: place.at,
+            cpu: place.cpu,
+            is_idle: place.is_idle,
+            event,
+        })?;
+        Ok(())
+    }
+
+    /// A line that says no more than that a CPU idles; one of many in a row is enough.
+    fn keep_idle(&mut self, place: Place) -> Result<(), AllocError> {
+        if self.keeps_idle && place.is_idle && !idles_already(&self.lines.kept, place.cpu) {
+            self.keep(place, Event::Idles)
+        } else {
+            Ok(())
+        }
+    }
+
+    fn pass(&mut self, place: Place, pid: u64, fixed: Fixed) -> Result<(), AllocError> {
+        match fixed {
+            Fixed::Woken {
+                pid: woken,
+                is_deadline,
+                cpu,
+            } => self.woken(place, woken, is_deadline, cpu),
+            Fixed::Migrated {
+                pid: moved,
+                is_deadline,
+                cpu,
+            } => self.migrated(place, moved, is_deadline, cpu),
+            Fixed::Ran {
+                pid: charged,
+                nanos,
+            } => self.ran(place, charged, nanos),
+            Fixed::Switched {
+                pid: stopped,
+                is_deadline,
+                stop,
+                next_pid,
+                next_is_deadline: _,
+            } => {
+                self.set_before(place.cpu, Before::Nothing)?;
+                let is_idle = place.is_idle || stopped == 0;
+                let place = Place { is_idle, ..place };
+                let task = self.task_of(stopped);
+                if task.is_none() && !(is_deadline && next_pid == 0) {
+                    return self.keep_idle(place);
+                }
+                self.keep(
+                    place,
+                    Event::Switched {
+                        task,
+                        is_deadline,
+                        stop,
+                        is_next_idle: next_pid == 0,
+                    },
+                )
+            }
+            Fixed::TimerStarted {
+                timer,
+                function,
+                expires,
+            } => match function {
+                TimerFunction::ZeroLag => self.zero_lag_started(place, pid, timer, expires),
+                TimerFunction::Replenish => self.replenish_started(place, timer, expires),
+                TimerFunction::Other => self.set_before(place.cpu, Before::Nothing),
+            },
+            Fixed::TimerCancelled { timer } => self.cancelled(place, timer),
+            Fixed::TimerFired {
+                timer,
+                function,
+                now: _,
+            } => self.fired(place, timer, function),
+            Fixed::PolicyCalled => {
+                if let Some(task) = self.task_of(pid) {
+                    if let Some(passing) = self.passing.get_mut(task as usize) {
+                        *passing = passing.calling();
+                    }
+                }
+                self.set_before(place.cpu, Before::Nothing)
+            }
+            Fixed::PolicyReturned => self.set_before(place.cpu, Before::Nothing),
+        }
+    }
+
+    fn woken(
+        &mut self,
+        place: Place,
+        pid: u64,
+        is_deadline: bool,
+        cpu: u32,
+    ) -> Result<(), AllocError> {
+        let before = self.before(place.cpu);
+        self.set_before(place.cpu, Before::Nothing)?;
+        let Some(task) = self.task_of(pid) else {
+            if !is_deadline {
+                return self.keep(place, Event::OtherWoken { cpu });
+            }
+            self.lines.boosted = self.lines.boosted.saturating_add(1);
+            return self.keep_idle(place);
+        };
+        if let Before::Started { timer } = before {
+            if self.is_deadline(task) {
+                if let Some(lines) = self.lines.timers.get_mut(timer as usize) {
+                    *lines = lines.with_wake(task);
+                }
+            }
+        }
+        if !is_deadline {
+            return self.keep(place, Event::OtherWoken { cpu });
+        }
+        let kept = self.lines.kept.len();
+        if let Some(passing) = self.passing.get_mut(task as usize) {
+            passing.woken = Some(kept);
+        }
+        self.keep(
+            place,
+            Event::Woken {
+                task,
+                cpu,
+                clock: place.at,
+            },
+        )
+    }
+
+    fn migrated(
+        &mut self,
+        place: Place,
+        pid: u64,
+        is_deadline: bool,
+        cpu: u32,
+    ) -> Result<(), AllocError> {
+        self.set_before(place.cpu, Before::Nothing)?;
+        match self.task_of(pid) {
+            Some(task) if is_deadline => self.keep(place, Event::Migrated { task, cpu }),
+            _ => self.keep_idle(place),
+        }
+    }
+
+    fn ran(&mut self, place: Place, pid: u64, nanos: u64) -> Result<(), AllocError> {
+        let Some(task) = self.task_of(pid) else {
+            self.set_before(place.cpu, Before::Nothing)?;
+            return self.keep_idle(place);
+        };
+        if let Some(passing) = self.passing.get_mut(task as usize) {
+            let woken = passing.woken;
+            *passing = passing.charged(place.at);
+            if let Some(woken) = woken {
+                set_wake_clock(&mut self.lines.kept, woken, place.at, nanos);
+            }
+        }
+        let before = if self.is_deadline(task) {
+            Before::Charged { task }
+        } else {
+            Before::Nothing
+        };
+        self.set_before(place.cpu, before)?;
+        self.keep(place, Event::Ran { task, nanos })
+    }
+
+    fn zero_lag_started(
+        &mut self,
+        place: Place,
+        pid: u64,
+        address: u64,
+        expires: u64,
+    ) -> Result<(), AllocError> {
+        self.set_before(place.cpu, Before::Nothing)?;
+        let timer = self.timer(address)?;
+        let task = self.task_of(pid);
+        if let Some(task) = task {
+            if let Some(lines) = self.lines.tasks.get_mut(task as usize) {
+                lines.zero_lag_timer = lines.zero_lag_timer.with(timer);
+            }
+        }
+        self.keep(
+            place,
+            Event::ZeroLagStarted {
+                timer,
+                task,
+                expires,
+            },
+        )
+    }
+
+    fn replenish_started(
+        &mut self,
+        place: Place,
+        address: u64,
+        expires: u64,
+    ) -> Result<(), AllocError> {
+        let timer = self.timer(address)?;
+        let charged = match self.before(place.cpu) {
+            Before::Charged { task } => Some(task),
+            _ => None,
+        };
+        if let Some(lines) = self.lines.timers.get_mut(timer as usize) {
+            *lines = lines.with_start(place.cpu, expires.saturating_sub(place.at), charged);
+        }
+        self.set_before(place.cpu, Before::Started { timer })?;
+        self.keep(place, Event::ReplenishStarted { timer, expires })
+    }
+
+    fn cancelled(&mut self, place: Place, address: u64) -> Result<(), AllocError> {
+        let timer = self.timer(address)?;
+        if let Some(lines) = self.lines.timers.get_mut(timer as usize) {
+            *lines = lines.with_line();
+        }
+        if self.keeps_cancels {
+            self.keep(place, Event::Cancelled { timer })
+        } else {
+            Ok(())
+        }
+    }
+
+    fn fired(
+        &mut self,
+        place: Place,
+        address: u64,
+        function: TimerFunction,
+    ) -> Result<(), AllocError> {
+        self.set_before(place.cpu, Before::Nothing)?;
+        if let TimerFunction::Other = function {
+            return Ok(());
+        }
+        let timer = self.timer(address)?;
+        if let Some(lines) = self.lines.timers.get_mut(timer as usize) {
+            *lines = lines.with_line();
+        }
+        match function {
+            TimerFunction::ZeroLag => self.keep(place, Event::ZeroLagFired { timer }),
+            TimerFunction::Replenish => self.keep(place, Event::ReplenishFired { timer }),
+            TimerFunction::Other => Ok(()),
+        }
+    }
+}
+
+/// A count as a number of a list, or the greatest one.
+fn number(count: usize) -> u32 {
+    count.min(u32::MAX as usize) as u32
+}
+
+fn is_by_itself(pid: u64, by: Option<u64>) -> bool {
+    match by {
+        None => true,
+        Some(by) => by == pid,
+    }
+}
+
+fn is_deadline(policy: Policy) -> bool {
+    match policy {
+        Policy::Deadline(_) => true,
+        Policy::Other => false,
+    }
+}
+
+/// Notes by their moments, with one more behind those of the same moment.
+fn insert_told(notes: &mut Vec<Told>, told: Told) -> Result<(), AllocError> {
+    let later = notes.iter().position(|note| note.moment > told.moment);
+    match later {
+        Some(place) => notes.insert(place, told)?,
+        None => notes.push(told)?,
+    }
+    Ok(())
+}
+
+/// Whether the last kept line says no more than that this CPU idles.
+fn idles_already(kept: &[Kept], cpu: u32) -> bool {
+    match kept.last() {
+        Some(last) => match last.event {
+            Event::Idles => last.cpu == cpu,
+            _ => false,
+        },
+        None => false,
+    }
+}
+
+/// The wake among kept lines has the clock that this charge tells.
+fn set_wake_clock(kept: &mut [Kept], woken: usize, charged: u64, nanos: u64) {
+    if let Some(line) = kept.get_mut(woken) {
+        if let Event::Woken { task, cpu, clock } = line.event {
+            line.event = Event::Woken {
+                task,
+                cpu,
+                clock: wake_clock(clock, charged, nanos),
+            };
+        }
+    }
+}

@@ -1,0 +1,128 @@
+-- What a line of a record does to a task.
+use Rattle.std.specs.Prelude.{ℕ, Bool, true, false, not, ◌&&◌, ◌||◌, if◌then◌else◌, Option, Some, None, is_some}
+use Rattle.trace_words.specs.declared.fixed.Stop.{Stop}
+use Rattle.trace_words.specs.declared.fixed.Stop.TheVariants.{Ready, Blocks, Ends}
+use Rattle.deadline_rules.specs.Reservation.{fresh_of}
+use Rattle.deadline_rules.specs.Charge.{cost_of}
+use Rattle.deadline_rules.specs.Budget.{charged_of, replenished_of}
+use Rattle.deadline_rules.specs.declared.charge.Law.{Law}
+use Rattle.deadline_rules.specs.declared.charge.Runqueue.{Runqueue}
+use Rattle.deadline_rules.specs.declared.entity.Entity.{Entity}
+use Rattle.timer_rules.specs.declared.activity.Activity.{Activity}
+use Rattle.timer_rules.specs.declared.activity.Activity.TheVariants.{Contending, NonContending, Inactive, Away}
+use Rattle.timer_rules.specs.declared.activity.Knowledge.{Knowledge}
+use Rattle.timer_rules.specs.declared.activity.Knowledge.TheVariants.{Unseen, Unknown, Gap}
+use Rattle.timer_rules.specs.declared.task.Task.{Task}
+use Rattle.timer_rules.specs.declared.throttle.Throttling.{Throttling}
+use Rattle.timer_rules.specs.declared.wake.Waking.{Waking}
+use Rattle.timer_rules.specs.Activity.{is_awake_of, is_unseen_of}
+use Rattle.timer_rules.specs.Throttle.{has_budget_of, held_of, held_back_by}
+use Rattle.timer_rules.specs.Wakes.{awakened_by, known_after_by}
+
+abbrev pub unseen_task : Task
+unseen_task = record {
+  entity = fresh_of false;
+  cpu = 0;
+  activity = Away;
+  is_admitted = false;
+  knowledge = Unseen;
+  armed = None;
+  exceeded = None;
+  charged = None;
+  blocked = None;
+  is_lag_over = false;
+}
+
+-- enqueue_task_dl with ENQUEUE_WAKEUP
+abbrev pub woken_by : Task → ℕ → ℕ → Waking → Bool → Task
+woken_by t cpu clock w edge = record t { entity = awakened_by t.entity clock w; cpu = cpu; activity = Contending; knowledge = known_after_by t.knowledge w edge }
+
+-- a ready task's bandwidth goes along; a blocked one is off the sums until it wakes (migrate_task_rq_dl)
+abbrev pub activity_after_move : Activity → Activity
+activity_after_move Contending = Contending
+activity_after_move NonContending = Away
+activity_after_move Inactive = Away
+activity_after_move Away = Away
+
+abbrev pub moved_of : Task → ℕ → Task
+moved_of t cpu = record t { cpu = cpu; activity = activity_after_move t.activity }
+
+-- a task that runs, and that no line has shown before
+abbrev pub seen_running_of : Task → ℕ → Task
+seen_running_of t cpu = if t.entity.is_in_class && is_unseen_of t.knowledge then record t { cpu = cpu; activity = Contending; knowledge = Unknown } else t
+
+-- update_curr_dl_se: the budget is used up, and start_dl_timer started no timer, so that it is filled at once
+abbrev pub refills_of : Task → Bool
+refills_of t = is_some t.exceeded && t.entity.budget.is_throttled && not (has_budget_of t.entity)
+
+abbrev pub refilled_at : Option ℕ → Task → Entity
+refilled_at (Some at) t = if refills_of t then replenished_of t.entity at else t.entity
+refilled_at None t = t.entity
+
+abbrev pub refilled_of : Task → Task
+refilled_of t = record t { entity = refilled_at t.exceeded t; exceeded = None }
+
+-- update_curr_dl_se: at 0 or below it is throttled
+abbrev pub ran_of : Law → Task → ℕ → ℕ → Runqueue → Task
+ran_of law t at nanos r =
+    let e = charged_of t.entity (cost_of law t.entity r nanos) in
+    if has_budget_of e then record t { entity = e } else record t { entity = held_of e; exceeded = Some at }
+
+abbrev pub charged_at_of : Task → ℕ → Task
+charged_at_of t at = record t { charged = Some at }
+
+-- task_non_contending arms inactive_timer
+abbrev pub lag_started_of : Task → ℕ → ℕ → Task
+lag_started_of t at expires = if t.entity.is_in_class then record t { armed = Some (record { expires = expires; at = at }) } else record t { is_admitted = true }
+
+-- inactive_task_timer, of a task of the class
+abbrev pub lag_over_of : Activity → Task → Task
+lag_over_of NonContending t = if t.entity.is_dead then record t { activity = Away; is_admitted = false; is_lag_over = true } else record t { activity = Inactive; is_lag_over = true }
+lag_over_of Contending t = t
+lag_over_of Inactive t = t
+lag_over_of Away t = t
+
+-- inactive_task_timer
+abbrev pub lag_fired_of : Task → Task
+lag_fired_of t = if t.entity.is_in_class then lag_over_of t.activity t else record t { is_admitted = false }
+
+-- its dl_task_timer is started
+abbrev pub throttled_by : Task → Throttling → Task
+throttled_by t why = record t { entity = held_back_by t.entity why; exceeded = None }
+
+-- dl_task_timer, replenish_dl_entity
+abbrev pub replenished_by : Task → ℕ → Task
+replenished_by t at = record t { entity = if t.entity.budget.is_throttled then replenished_of t.entity at else t.entity }
+
+abbrev pub switched_of : Task → Task
+switched_of t = record t { armed = None }
+
+abbrev pub ends_of : Stop → Bool
+ends_of Ready = false
+ends_of Blocks = false
+ends_of Ends = true
+
+abbrev pub stays_ready_of : Stop → Bool
+stays_ready_of Ready = true
+stays_ready_of Blocks = false
+stays_ready_of Ends = false
+
+-- a task that is blocked already did something between, which no line shows
+abbrev pub known_after_block_of : Knowledge → Activity → Knowledge
+known_after_block_of k a = if is_unseen_of k then Unknown else (if is_awake_of a then k else Gap)
+
+-- task_non_contending, as the kernel's own timer tells: the bandwidth runs on where inactive_timer was armed
+abbrev pub activity_after_block : Bool → Bool → Activity
+activity_after_block armed ended = if armed then NonContending else (if ended then Away else Inactive)
+
+abbrev pub blocked_of : Task → ℕ → ℕ → Stop → Task
+blocked_of t at cpu stop = record t {
+  entity = record t.entity { is_dead = ends_of stop };
+  cpu = if is_unseen_of t.knowledge then cpu else t.cpu;
+  activity = activity_after_block (is_some t.armed) (ends_of stop);
+  is_admitted = is_some t.armed || not (ends_of stop);
+  knowledge = known_after_block_of t.knowledge t.activity;
+  armed = None;
+  blocked = Some at;
+  is_lag_over = not (is_some t.armed);
+}
