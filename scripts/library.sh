@@ -156,7 +156,7 @@ fi
 
 # Python.
 export NEDDWYROL_SO=$made/libneddwyrol.so.1 PYTHONDONTWRITEBYTECODE=1
-(cd bindings/python && one "the Python module's tests" python3 -m unittest -q test_neddwyrol && exit "$failed") && ok || no "the Python module's tests failed"
+one "the Python module's tests" env PYTHONPATH=bindings/python python3 -m unittest -q test_neddwyrol
 same 'the example in Python' documentation python3 bindings/python/documentation.py
 same 'the simulator in Python' simulator python3 bindings/python/simulator.py
 

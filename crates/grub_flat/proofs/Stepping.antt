@@ -1,13 +1,15 @@
 -- A step over memory that is a book.
-use Rattle.std.proofs.Common.{◌≡◌, inl, inr, true, false, ℕ, ◌<◌, ◌≤◌, List, [], length, get_or, set, map, None, ◌≢◌, refl, sym, ap, subst, ◌∙◌, arith}
+use Rattle.std.proofs.Common.{◌≡◌, inl, inr, true, false, ℕ, ◌<◌, ◌≤◌, List, [], length, get_or, set, map, Option, Some, None, IfSome, ◌≢◌, refl, sym, ap, subst, ◌∙◌, arith}
 use Rattle.std.proofs.lemmas.Bool.{cases_eq}
 use Rattle.std.proofs.lemmas.List.{get_or-map, get_or-set_same, get_or-set_other, length-map, length-set, map-set, set-get_or}
-use Rattle.grub_bw.specs.Bandwidth.{Capacity}
+use Rattle.grub_bw.specs.Bandwidth.{Capacity, bandwidth_of}
+use Rattle.grub_bw.specs.Server.{charge_of, depleted_of}
+use Rattle.grub_bw.specs.declared.server.Server.{Server}
 use Rattle.grub_book.specs.Machine.{Machine, queue_at}
 use Rattle.grub_book.specs.Op.{IsOp}
 use Rattle.grub_book.specs.Sums.{Records, record_at, reading_of}
 use Rattle.grub_book.specs.Sound.{IsThere, IsSound, Standing}
-use Rattle.grub_book.specs.Step.{Refuses, is_under_claim, refused, runqueue_of, step, settled}
+use Rattle.grub_book.specs.Step.{Refuses, charged, is_under_claim, refused, runqueue_of, step, settled}
 use Rattle.grub_book.specs.Totals.{Counts, shifted_of}
 use Rattle.grub_book.specs.declared.place.Record.{Record}
 use Rattle.grub_book.specs.declared.event.Reading.{Reading}
@@ -42,6 +44,22 @@ granted x queue now op m is all late =
     let under : is_under_claim m.1 ≡ true = subst (λ (z : Record × Reply). is_under_claim z.1 ≡ true) (sym is) (settled_under queue now x op) in
     let outside = all late in
     absurd cc
+
+server_alone : (x : Record) (dq : ℕ) (o : Option (ℕ × Server)) → (charged x dq o).0 ≡ record x { server = (charged x dq o).0.server }
+server_alone x dq None = refl
+server_alone x dq (Some (k, s)) = refl
+
+-- a charge changes the server alone
+pub charge_puts : (task : NdTask) (x : Record) (queue : Capacity) (now : Reading) (r dt : ℕ) (m : Record × Reply) → x ≡ record_of task → m ≡ settled x queue now (Charge r dt)
+    → record_of (record task { budget = m.0.server.q; deadline = m.0.server.d }) ≡ m.0
+charge_puts task x queue now r dt m held is =
+    let dq = charge_of dt (bandwidth_of x.params) queue now.running now.this in
+    let alone : m.0 ≡ record x { server = m.0.server } = subst (λ (z : Record × Reply). z.0 ≡ record x { server = z.0.server }) (sym is) (server_alone x dq (depleted_of x.server x.params dq)) in
+    sym (alone ∙ ap (λ (z : Record). record z { server = m.0.server }) held)
+
+-- what is said of an op, of the same op
+pub of_same : (s : Machine) (was now : Records) (t : ℕ) (given : Option Reply) (a b : Op) → a ≡ b → IfSome given (λ reply. (now, reply) ≡ step s was t b) → IfSome given (λ reply. (now, reply) ≡ step s was t a)
+of_same s was now t given a b same told = subst (λ (op : Op). IfSome given (λ reply. (now, reply) ≡ step s was t op)) (sym same) told
 
 module _ (s : Machine) (tasks : List NdTask) (queues : List NdRunqueue) (book : IsBook s tasks queues) where
   pub queue_count : length queues ≡ length s.queues

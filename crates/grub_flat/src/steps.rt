@@ -5,7 +5,7 @@ ghost use Rattle.grub_book.specs.Machine.{Machine};
 ghost use Rattle.grub_book.specs.Op.{IsOp};
 ghost use Rattle.grub_book.specs.Step.{step, Refuses, is_under_claim};
 ghost use Rattle.grub_flat.specs.Memory.{records_of, machine_of, IsBook};
-ghost use Rattle.grub_flat.specs.inside.Ready.{ChangesNone};
+ghost use Rattle.grub_book.specs.declared.op.Op.{Op};
 ghost use Rattle.grub_flat.specs.Asked.{plain_reply, answer, is_op};
 
 use crate::asked::{NdOp, NdReply};
@@ -16,12 +16,96 @@ use crate::records::{counts, queue_in, record_in, task_of};
 use grub_book::{Op, Reply, refusal, runqueue, settle, shifted};
 
 /// Asks an op for task `t`. None where the memory is no book; then nothing is written.
+#[inline(always)]
 pub(crate) fn asked(
     tasks: &mut [NdTask],
     queues: &mut [NdRunqueue],
     t: u32,
     op: Op,
 ) -> Option<Reply>
+    requires task { t < length tasks.old }
+    requires fits { IsOp (machine_of [] queues.old) op }
+    ensures step { (s : Machine) → IsBook s tasks.old queues.old
+        → IfSome result (λ reply. (records_of tasks.new, reply)
+        ≡ step s (records_of tasks.old) t op) }
+    ensures book { (s : Machine) → IsBook s tasks.old queues.old
+        → IsBook s tasks.new queues.new }
+    ensures some { (s : Machine) → IsBook s tasks.old queues.old → IsSome result }
+    ensures none { IsNone result → (tasks.new ≡ tasks.old) × (queues.new ≡ queues.old) }
+    ensures kept { IfSome result (λ reply. Refuses reply
+        → (tasks.new ≡ tasks.old) × (queues.new ≡ queues.old)) }
+{
+    match op {
+        Op::Charge { r, dt } => charged(tasks, queues, t, r, dt),
+        _ => moved(tasks, queues, t, op),
+    }
+}
+
+/// `asked` of any op. Where it is known which op it is, little is left of its step, so those that come most stand apart.
+fn moved(tasks: &mut [NdTask], queues: &mut [NdRunqueue], t: u32, op: Op) -> Option<Reply>
+    requires task { t < length tasks.old }
+    requires fits { IsOp (machine_of [] queues.old) op }
+    ensures step { (s : Machine) → IsBook s tasks.old queues.old
+        → IfSome result (λ reply. (records_of tasks.new, reply)
+        ≡ step s (records_of tasks.old) t op) }
+    ensures book { (s : Machine) → IsBook s tasks.old queues.old
+        → IsBook s tasks.new queues.new }
+    ensures some { (s : Machine) → IsBook s tasks.old queues.old → IsSome result }
+    ensures none { IsNone result → (tasks.new ≡ tasks.old) × (queues.new ≡ queues.old) }
+    ensures kept { IfSome result (λ reply. Refuses reply
+        → (tasks.new ≡ tasks.old) × (queues.new ≡ queues.old)) }
+{
+    match op {
+        Op::Wake { r, m } => stepped(tasks, queues, t, Op::Wake { r, m }),
+        Op::Block { r, m } => stepped(tasks, queues, t, Op::Block { r, m }),
+        Op::Timer { ticket, m } => stepped(tasks, queues, t, Op::Timer { ticket, m }),
+        _ => stepped(tasks, queues, t, op),
+    }
+}
+
+/// `asked` of a charge, which changes no sum, and of its task the server alone. Charges are what is asked most.
+#[inline(always)]
+fn charged(
+    tasks: &mut [NdTask],
+    queues: &mut [NdRunqueue],
+    t: u32,
+    r: u32,
+    dt: u32,
+) -> Option<Reply>
+    requires task { t < length tasks.old }
+    requires fits { IsOp (machine_of [] queues.old) (Op.Charge r dt) }
+    ensures step { (s : Machine) → IsBook s tasks.old queues.old
+        → IfSome result (λ reply. (records_of tasks.new, reply)
+        ≡ step s (records_of tasks.old) t (Op.Charge r dt)) }
+    ensures book { (s : Machine) → IsBook s tasks.old queues.old
+        → IsBook s tasks.new queues.new }
+    ensures some { (s : Machine) → IsBook s tasks.old queues.old → IsSome result }
+    ensures none { IsNone result → (tasks.new ≡ tasks.old) × (queues.new ≡ queues.old) }
+    ensures kept { IfSome result (λ reply. Refuses reply
+        → (tasks.new ≡ tasks.old) × (queues.new ≡ queues.old)) }
+{
+    let at = t as usize;
+    let op = Op::Charge { r, dt };
+    let held = record_in(&tasks[at])?;
+    if let Some(reply) = refusal(held.place, held.count, op) {
+        return Some(reply);
+    }
+    let (queue, now) = queue_in(&queues[r as usize])?;
+    let (next, reply) = settle(held, queue, now, op);
+    if refuses(reply) {
+        return Some(reply);
+    }
+    tasks[at] = NdTask {
+        budget: next.server.q,
+        deadline: next.server.d,
+        ..tasks[at]
+    };
+    Some(reply)
+}
+
+/// `asked` of any op.
+#[inline(always)]
+fn stepped(tasks: &mut [NdTask], queues: &mut [NdRunqueue], t: u32, op: Op) -> Option<Reply>
     requires task { t < length tasks.old }
     requires fits { IsOp (machine_of [] queues.old) op }
     ensures step { (s : Machine) → IsBook s tasks.old queues.old
@@ -45,14 +129,6 @@ pub(crate) fn asked(
         return None;
     }
     let (queue, now) = queue_in(&queues[on])?;
-    if is_charge(op) {
-        let (next, reply) = settle(held, queue, now, op);
-        if refuses(reply) {
-            return Some(reply);
-        }
-        tasks[at] = task_of(&next);
-        return Some(reply);
-    }
     if !counts(now, r, &held) {
         return None;
     }
@@ -80,13 +156,6 @@ fn refuses(reply: Reply) -> bool
         reply,
         Reply::Early(_) | Reply::Full | Reply::DeadlineOverflow
     )
-}
-
-/// Whether it is a charge, which changes no sum.
-fn is_charge(op: Op) -> bool
-    ensures { IsTrue result → ChangesNone op }
-{
-    matches!(op, Op::Charge { .. })
 }
 
 /// Asks an op for a task of a book. On memory that is a book the answer is that of the one-thread book, and the memory is

@@ -1,0 +1,12 @@
+use Rattle.grub_flat.specs.Memory.{records_of}
+use Rattle.grub_flat.proofs.Stepping.{of_same}
+use Rattle.grub_flat.proofs.steps.moved.Goals as goal
+
+pub returns-in-Wake-clause-step : goal.returns-in-Wake-clause-step
+returns-in-Wake-clause-step c = λ s book. of_same s (records_of c.args.tasks.now) _ c.args.t _ _ _ c.in-Wake.is (c.stepped.ensures.step s book)
+
+pub returns-in-Block-clause-step : goal.returns-in-Block-clause-step
+returns-in-Block-clause-step c = λ s book. of_same s (records_of c.args.tasks.now) _ c.args.t _ _ _ c.in-Block.is (c.stepped-in-Block.ensures.step s book)
+
+pub returns-in-Timer-clause-step : goal.returns-in-Timer-clause-step
+returns-in-Timer-clause-step c = λ s book. of_same s (records_of c.args.tasks.now) _ c.args.t _ _ _ c.in-Timer.is (c.stepped-in-Timer.ensures.step s book)
