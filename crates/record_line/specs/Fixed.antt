@@ -1,0 +1,101 @@
+-- What the events say that each kernel has, by the fields of their lines.
+use Rattle.std.specs.Prelude.{ℕ, Bool, ◌||◌, ◌&&◌, ◌==◌, List, [], ◌∷◌, codes, Option, Some, None, if◌then◌else◌, option_map, option_and_then}
+use Rattle.std.specs.Char.{is_ascii_digit}
+use Rattle.trace_line.specs.Numbers.{after}
+use Rattle.trace_line.specs.Words.{cpu_field, deadline_field, number_field, value_of}
+use Rattle.trace_line.specs.Events.{shown_by, task_of}
+use Rattle.trace_line.specs.declared.event.Shown.{Shown}
+use Rattle.trace_probes.specs.Numerals.{numeral}
+use Rattle.trace_probes.specs.Fields.{timer_function}
+use Rattle.trace_words.specs.declared.fixed.Stop.{Stop}
+use Rattle.trace_words.specs.declared.fixed.Stop.TheVariants.{Ready, Blocks, Ends}
+use Rattle.trace_words.specs.declared.fixed.TimerFunction.{TimerFunction}
+use Rattle.trace_words.specs.declared.fixed.TimerFunction.TheVariants.{ZeroLag, Replenish, Other}
+use Rattle.trace_words.specs.declared.fixed.Fixed.{Fixed}
+use Rattle.trace_words.specs.declared.fixed.Fixed.TheVariants.{Woken, Migrated, Ran, Switched, TimerStarted, TimerCancelled, TimerFired}
+use Rattle.trace_words.specs.declared.line.Said.TheVariants as said
+use Rattle.record_line.specs.declared.fixed.Named.{Named}
+
+abbrev pub address_by : Option (List ℕ) → List ℕ → Option ℕ
+address_by None word = numeral 16 word
+address_by (Some digits) word = numeral 16 digits
+
+-- the number of a word of hexadecimal digits, maybe behind 0x
+abbrev pub address : List ℕ → Option ℕ
+address word = address_by (after (codes "0x") word) word
+
+abbrev pub address_field : List ℕ → Option ℕ
+address_field fields = option_and_then address (value_of (codes "hrtimer=") fields)
+
+-- how a task stops to run, by the first letter of its state; some tools print numbers, which say nothing here
+abbrev pub stop_of : List ℕ → Option Stop
+stop_of [] = None
+stop_of (c ∷ cs) =
+    if c == 82 || c == 80 then Some Ready else (if c == 88 || c == 90 then Some Ends else (if is_ascii_digit c then None else Some Blocks))
+
+-- what a line says of a task that it shows
+abbrev pub naming : Shown (List ℕ) → Fixed → Named (List ℕ)
+naming task fixed = record { said = said.Fixed fixed; shown = Some task }
+
+-- what a line says that shows none
+abbrev pub alone : Fixed → Named (List ℕ)
+alone fixed = record { said = said.Fixed fixed; shown = None }
+
+abbrev pub woken_with : Shown (List ℕ) → List ℕ → Option (Named (List ℕ))
+woken_with task fields =
+    option_and_then (λ d. option_map (λ c. naming task (Woken task.pid d c)) (cpu_field (codes "target_cpu=") fields)) (deadline_field (codes "prio=") fields)
+
+-- sched_wakeup, sched_wakeup_new
+abbrev pub woken : List ℕ → Option (Named (List ℕ))
+woken fields = option_and_then (λ s. woken_with s.0 s.1) (task_of fields)
+
+abbrev pub migrated_with : Shown (List ℕ) → List ℕ → Option (Named (List ℕ))
+migrated_with task fields =
+    option_and_then (λ d. option_map (λ c. naming task (Migrated task.pid d c)) (cpu_field (codes "dest_cpu=") fields)) (deadline_field (codes "prio=") fields)
+
+-- sched_migrate_task
+abbrev pub migrated : List ℕ → Option (Named (List ℕ))
+migrated fields = option_and_then (λ s. migrated_with s.0 s.1) (task_of fields)
+
+-- sched_stat_runtime
+abbrev pub ran : List ℕ → Option (Named (List ℕ))
+ran fields =
+    option_and_then (λ s. option_map (λ n. naming s.0 (Ran s.0.pid n)) (number_field (codes "runtime=") s.1)) (task_of fields)
+
+abbrev pub switched_to : Shown (List ℕ) → Bool → Stop → List ℕ → Option (Named (List ℕ))
+switched_to task deadline stop fields =
+    option_and_then (λ n. option_map (λ d. naming task (Switched task.pid deadline stop n d)) (deadline_field (codes "next_prio=") fields)) (number_field (codes "next_pid=") fields)
+
+abbrev pub stop_in : List ℕ → Option Stop
+stop_in fields = option_and_then stop_of (value_of (codes "prev_state=") fields)
+
+abbrev pub switched_from : Shown (List ℕ) → List ℕ → Option (Named (List ℕ))
+switched_from task fields =
+    option_and_then (λ d. option_and_then (λ s. switched_to task d s fields) (stop_in fields)) (deadline_field (codes "prev_prio=") fields)
+
+-- sched_switch
+abbrev pub switched : List ℕ → Option (Named (List ℕ))
+switched fields = option_and_then (λ s. switched_from s.0 s.1) (shown_by (codes "prev_comm=") (codes "prev_pid=") fields)
+
+abbrev pub started_deadline : TimerFunction → List ℕ → Option (Named (List ℕ))
+started_deadline function fields =
+    option_and_then (λ t. option_map (λ e. alone (TimerStarted t function e)) (number_field (codes "expires=") fields)) (address_field fields)
+
+-- a timer with another function needs its function alone
+abbrev pub started_by : TimerFunction → List ℕ → Option (Named (List ℕ))
+started_by ZeroLag fields = started_deadline ZeroLag fields
+started_by Replenish fields = started_deadline Replenish fields
+started_by Other fields = Some (alone (TimerStarted 0 Other 0))
+
+-- hrtimer_start
+abbrev pub started : List ℕ → Option (Named (List ℕ))
+started fields = option_and_then (λ f. started_by (timer_function f) fields) (value_of (codes "function=") fields)
+
+-- hrtimer_cancel
+abbrev pub cancelled : List ℕ → Option (Named (List ℕ))
+cancelled fields = option_map (λ t. alone (TimerCancelled t)) (address_field fields)
+
+-- hrtimer_expire_entry
+abbrev pub fired : List ℕ → Option (Named (List ℕ))
+fired fields =
+    option_and_then (λ t. option_and_then (λ f. option_map (λ n. alone (TimerFired t (timer_function f) n)) (number_field (codes "now=") fields)) (value_of (codes "function=") fields)) (address_field fields)

@@ -1,0 +1,6 @@
+pub mod Verbs
+pub mod Fixed
+pub mod NoteWords
+pub mod Notes
+pub mod Lines
+pub mod inside

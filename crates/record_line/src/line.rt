@@ -1,0 +1,323 @@
+//! One line of a record.
+
+ghost use Rattle.std.specs.Prelude.{◌≡◌, ◌==◌, ◌≤◌, length, option_map, position, reverse};
+ghost use Rattle.grub_text.specs.Lines.{word_of};
+ghost use Rattle.trace_line.specs.Opening.{opening_of};
+ghost use Rattle.trace_line.specs.inside.OpeningFits.{StartsWithin};
+ghost use Rattle.record_line.specs.Lines.{checked, comment_line, drift, event_line, fixed_cpu, flaw_of, grain_behind, grain_of, head_line, line_behind, note_cpu, note_line, noted_line, probe_cpu, probed, said_by, said_cpu, told_by, told_line, told_said};
+ghost use Rattle.record_line.specs.inside.Texts.{named_text, noted_text, told_text};
+
+use crate::fixed::{
+    Named, called, cancelled, fired, migrated, ran, returned, started, switched, woken,
+};
+use crate::note::{Lost, Noted, note_of};
+use crate::verb::{Verb, verb_of};
+use crate::word::CPUS;
+use grub_text::first_word;
+use trace_line::{
+    Opening, Shown, is_comment, is_lost, opening_of, processors, running, without_spaces,
+};
+use trace_probes::{ProbeEvent, probe_of};
+use trace_words::{Fixed, Flaw, Line, Note, Probe, Said, TimerFunction};
+
+/// How far the `now` of a 0-lag timer that fires may lie from the moment of its line, in nanoseconds.
+pub const CLOCK_MAX: u64 = 1000000;
+
+/// What a line tells, and what stands beside it; `T` is a text.
+#[derive(Clone, Copy)]
+pub struct Told<T> {
+    pub line: Line,
+
+    /// The task that the line shows by comm and pid.
+    pub shown: Option<Shown<T>>,
+
+    /// The CPUs of the root domain, as `0-3,5`, where a note has them.
+    pub domain: Option<T>,
+
+    /// How many lines the record lacks, where a note says so.
+    pub lost: Option<Lost>,
+
+    /// How many processors the machine has, where a line of the head says so.
+    pub processors: Option<u32>,
+}
+
+fn told_line<'a>(line: Line) -> Told<&'a [u8]>
+    ensures { told_text result ≡ told_line line }
+{
+    Told {
+        line,
+        shown: None,
+        domain: None,
+        lost: None,
+        processors: None,
+    }
+}
+
+fn note_cpu(note: &Note) -> u32
+    ensures { result ≡ note_cpu note.now }
+{
+    match *note {
+        Note::Runqueue { cpu, .. } | Note::Task { cpu, .. } => cpu,
+        _ => 0,
+    }
+}
+
+fn note_line(note: Note) -> Line
+    ensures { result ≡ note_line note }
+{
+    if note_cpu(&note) >= CPUS {
+        Line::Flawed(Flaw::TooLong)
+    } else {
+        Line::Note(note)
+    }
+}
+
+/// A line of the head that says how many processors there are.
+fn head_line<'a>(processors: Option<u32>) -> Told<&'a [u8]>
+    ensures { told_text result ≡ head_line processors }
+{
+    Told {
+        line: Line::Quiet,
+        shown: None,
+        domain: None,
+        lost: None,
+        processors,
+    }
+}
+
+fn noted_line<'a>(line: &'a [u8], noted: Noted<&'a [u8]>) -> Told<&'a [u8]>
+    ensures { told_text result ≡ noted_line line.now (noted_text noted.entry) }
+{
+    match noted {
+        Noted::Quiet => head_line(processors(line)),
+        Noted::Head { note, domain } => Told {
+            line: note_line(note),
+            shown: None,
+            domain,
+            lost: None,
+            processors: None,
+        },
+        Noted::Task { note, pid, comm } => Told {
+            line: note_line(note),
+            shown: Some(Shown { comm, pid }),
+            domain: None,
+            lost: None,
+            processors: None,
+        },
+        Noted::Other { note } => told_line(note_line(note)),
+        Noted::Lost { lost } => Told {
+            line: Line::Quiet,
+            shown: None,
+            domain: None,
+            lost: Some(lost),
+            processors: None,
+        },
+    }
+}
+
+/// What a line tells that begins with `#`.
+fn comment_line(line: &[u8]) -> Told<&[u8]>
+    ensures { told_text result ≡ comment_line line.now }
+{
+    match note_of(line) {
+        None => told_line(Line::Flawed(Flaw::BadTraceLine)),
+        Some(noted) => noted_line(line, noted),
+    }
+}
+
+fn dot_from_end(text: &[u8]) -> Option<usize>
+    ensures { result ≡ position (λ b. b == 46) (reverse text.now) }
+{
+    text.iter().rev().position(|b| *b == b'.')
+}
+
+/// How far a moment may be off, in nanoseconds, behind whose point so many bytes stand: its digits and a colon.
+fn grain_behind(count: usize) -> u64
+    ensures { result ≡ grain_behind count }
+{
+    match count {
+        7 => 1000,
+        8 => 100,
+        9 => 10,
+        _ => 1,
+    }
+}
+
+/// How far the moment may be off with which a text ends.
+fn grain_of(text: &[u8]) -> u64
+    ensures { result ≡ grain_of text.now }
+{
+    match dot_from_end(text) {
+        None => 1,
+        Some(count) => grain_behind(count),
+    }
+}
+
+fn fixed_cpu(fixed: &Fixed) -> u32
+    ensures { result ≡ fixed_cpu fixed.now }
+{
+    match *fixed {
+        Fixed::Woken { cpu, .. } | Fixed::Migrated { cpu, .. } => cpu,
+        _ => 0,
+    }
+}
+
+fn probe_cpu(probe: &Probe) -> u32
+    ensures { result ≡ probe_cpu probe.now }
+{
+    match *probe {
+        Probe::Enqueued(enqueued) => enqueued.cpu,
+        Probe::Updated(updated) => updated.cpu,
+        Probe::Dequeued(dequeued) => dequeued.cpu,
+        Probe::LeftClass(left) => left.cpu,
+        Probe::Admitted(admitted) => admitted.cpu,
+        Probe::ServerStarted(started) => started.cpu,
+        Probe::Picked(picked) => picked.cpu,
+        _ => 0,
+    }
+}
+
+/// The CPU that an event names beside its line's, or 0.
+fn said_cpu(said: &Said) -> u32
+    ensures { result ≡ said_cpu said.now }
+{
+    match said {
+        Said::Fixed(fixed) => fixed_cpu(fixed),
+        Said::Probe(probe) => probe_cpu(probe),
+    }
+}
+
+/// How far the `now` of a 0-lag timer that fires lies from the moment of its line, in nanoseconds, or 0.
+fn drift(at: u64, said: &Said) -> u64
+    ensures { result ≡ drift at said.now }
+{
+    match *said {
+        Said::Fixed(
+            Fixed::TimerFired {
+                function: TimerFunction::ZeroLag,
+                now,
+                ..
+            },
+        ) => now.abs_diff(at),
+        _ => 0,
+    }
+}
+
+/// What is wrong with a line of an event, by its moment and its CPU.
+fn flaw_of(at: u64, cpu: u32, said: &Said) -> Option<Flaw>
+    ensures { result ≡ flaw_of at cpu said.now }
+{
+    if cpu.max(said_cpu(said)) >= CPUS {
+        Some(Flaw::TooLong)
+    } else if drift(at, said) > CLOCK_MAX {
+        Some(Flaw::WrongClock)
+    } else {
+        None
+    }
+}
+
+fn probed<'a>(event: ProbeEvent, fields: &'a [u8]) -> Option<Named<&'a [u8]>>
+    ensures { option_map named_text result ≡ probed event fields.now }
+{
+    let probe = probe_of(event, fields)?;
+    Some(Named {
+        said: Said::Probe(probe),
+        shown: None,
+    })
+}
+
+/// What the fields of an event say; none where one is missing or wrong.
+fn said_by(verb: Verb, fields: &[u8]) -> Option<Named<&[u8]>>
+    ensures { option_map named_text result ≡ said_by verb fields.now }
+{
+    match verb {
+        Verb::Wake => woken(fields),
+        Verb::Migrate => migrated(fields),
+        Verb::Run => ran(fields),
+        Verb::Switch => switched(fields),
+        Verb::Start => started(fields),
+        Verb::Cancel => cancelled(fields),
+        Verb::Expire => fired(fields),
+        Verb::Call => Some(called()),
+        Verb::Return => Some(returned()),
+        Verb::Probe(event) => probed(event, fields),
+    }
+}
+
+/// What a line tells whose event says this.
+fn checked<'a>(at: u64, grain: u64, cpu: u32, pid: u64, named: Named<&'a [u8]>) -> Told<&'a [u8]>
+    ensures { told_text result ≡ checked at grain cpu pid (named_text named.entry) }
+{
+    match flaw_of(at, cpu, &named.said) {
+        Some(flaw) => told_line(Line::Flawed(flaw)),
+        None => Told {
+            line: Line::Event {
+                at,
+                grain,
+                cpu,
+                pid,
+                said: named.said,
+            },
+            shown: named.shown,
+            domain: None,
+            lost: None,
+            processors: None,
+        },
+    }
+}
+
+/// What a line of an event tells; none where its CPU, the task that runs or a field is missing or wrong.
+fn told_said<'a>(
+    line: &'a [u8],
+    opening: Opening,
+    verb: Verb,
+    fields: &'a [u8],
+) -> Option<Told<&'a [u8]>>
+    requires cpu { StartsWithin opening.cpu (length line.now) }
+    requires end { opening.end ≤ length line.now }
+    ensures { option_map told_text result ≡ told_said line.now opening verb fields.now }
+{
+    let cpu = opening.cpu?;
+    let pid = running(&line[..cpu.start])?;
+    let named = said_by(verb, fields)?;
+    let grain = grain_of(&line[..opening.end]);
+    Some(checked(opening.at, grain, cpu.cpu, pid, named))
+}
+
+/// What a line tells, by the text behind its moment.
+fn line_behind<'a>(line: &'a [u8], opening: Opening, text: &'a [u8]) -> Told<&'a [u8]>
+    requires cpu { StartsWithin opening.cpu (length line.now) }
+    requires end { opening.end ≤ length line.now }
+    ensures { told_text result ≡ line_behind line.now opening text.now }
+{
+    let (word, _) = first_word(text);
+    match verb_of(word) {
+        None => told_line(Line::Quiet),
+        Some(verb) => match told_said(line, opening, verb, &text[word.len()..]) {
+            None => told_line(Line::Flawed(Flaw::BadTraceLine)),
+            Some(told) => told,
+        },
+    }
+}
+
+fn event_line(line: &[u8]) -> Told<&[u8]>
+    ensures { told_text result ≡ event_line line.now (opening_of line.now) }
+{
+    match opening_of(line) {
+        None => told_line(Line::Quiet),
+        Some(opening) => line_behind(line, opening, without_spaces(&line[opening.end..])),
+    }
+}
+
+/// What a line tells, without the byte that ends it.
+pub fn told_by(line: &[u8]) -> Told<&[u8]>
+    ensures { told_text result ≡ told_by line.now }
+{
+    if is_lost(line) {
+        told_line(Line::Flawed(Flaw::LostEvents))
+    } else if is_comment(line) {
+        comment_line(line)
+    } else {
+        event_line(line)
+    }
+}

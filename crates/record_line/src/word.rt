@@ -1,0 +1,193 @@
+//! Words of notes.
+
+ghost use Rattle.std.specs.Prelude.{◌≡◌, ◌==◌, ◌+◌, ◌∷◌, [], MatchOption, length, not, option_map, position};
+ghost use Rattle.std.specs.Char.{is_ascii_digit};
+ghost use Rattle.std.specs.List.{slice_split};
+ghost use Rattle.trace_line.specs.Words.{text_of};
+ghost use Rattle.record_line.specs.NoteWords.{behind_digits, front_number, is_comma, is_cpu_range, is_domain, is_ordered, kernel_of, kernel_with, number_in, optional, patch_of, rt_limit, runtime_limit, small, word_in};
+
+use grub_text::first_word;
+use trace_line::{after, behind};
+use trace_probes::{numeral, signed, unsigned};
+use trace_words::{Kernel, Limit};
+
+/// How many CPUs a record may name, from 0 on.
+pub const CPUS: u32 = 8192;
+
+/// The word behind a key.
+pub(crate) fn word_in<'a>(key: &[u8], text: &'a [u8]) -> Option<&'a [u8]>
+    ensures { option_map text_of result ≡ word_in key.now text.now }
+{
+    let rest = behind(key, text)?;
+    Some(first_word(rest).0)
+}
+
+/// The number behind a key.
+pub(crate) fn number_in(key: &[u8], text: &[u8]) -> Option<u64>
+    ensures { result ≡ number_in key.now text.now }
+{
+    unsigned(word_in(key, text)?)
+}
+
+/// The number behind a key, where the key stands there.
+pub(crate) fn optional(key: &[u8], text: &[u8]) -> Option<Option<u64>>
+    ensures { result ≡ optional key.now text.now }
+{
+    match word_in(key, text) {
+        None => Some(None),
+        Some(word) => Some(Some(unsigned(word)?)),
+    }
+}
+
+/// A number that fits 32 bits.
+pub(crate) fn small(n: u64) -> Option<u32>
+    ensures { result ≡ small n }
+{
+    if n < 0x1_0000_0000 {
+        Some(n as u32)
+    } else {
+        None
+    }
+}
+
+fn digits_end(text: &[u8]) -> Option<usize>
+    ensures { result ≡ position (λ b. not (is_ascii_digit b)) text.now }
+{
+    text.iter().position(|b| !b.is_ascii_digit())
+}
+
+/// The number that the digits at the front spell.
+fn front_number(text: &[u8]) -> Option<u32>
+    ensures { result ≡ front_number text.now }
+{
+    let digits = match digits_end(text) {
+        None => text,
+        Some(end) => &text[..end],
+    };
+    small(numeral(10, digits)?)
+}
+
+/// What stands behind the digits at the front.
+fn behind_digits(text: &[u8]) -> &[u8]
+    ensures { result.now ≡ behind_digits text.now }
+{
+    match digits_end(text) {
+        None => &text[text.len()..],
+        Some(end) => &text[end..],
+    }
+}
+
+/// The third number of a version, or 0 where there is none.
+fn patch_of(text: &[u8]) -> u32
+    ensures { result ≡ patch_of text.now }
+{
+    match after(b".", text) {
+        None => 0,
+        Some(rest) => front_number(rest).unwrap_or(0),
+    }
+}
+
+fn kernel_with(major: u32, text: &[u8]) -> Option<Kernel>
+    ensures { result ≡ kernel_with major text.now }
+{
+    let rest = after(b".", text)?;
+    let minor = front_number(rest)?;
+    let patch = patch_of(behind_digits(rest));
+    Some(Kernel {
+        major,
+        minor,
+        patch,
+    })
+}
+
+/// The version of a word such as `6.12.111+deb12-cloud-amd64`.
+pub(crate) fn kernel_of(word: &[u8]) -> Option<Kernel>
+    ensures { result ≡ kernel_of word.now }
+{
+    kernel_with(front_number(word)?, behind_digits(word))
+}
+
+fn colon_in(word: &[u8]) -> Option<usize>
+    ensures { result ≡ position (λ b. b == 58) word.now }
+{
+    word.iter().position(|b| *b == b':')
+}
+
+fn runtime_limit(runtime: i64, period: u64) -> Option<Limit>
+    ensures { result ≡ runtime_limit runtime period }
+{
+    if period == 0 {
+        None
+    } else {
+        Some(Limit::Runtime { runtime, period })
+    }
+}
+
+/// The limit of a word RUNTIME:PERIOD in microseconds.
+pub(crate) fn rt_limit(word: &[u8]) -> Option<Limit>
+    ensures { result ≡ rt_limit word.now }
+{
+    let colon = colon_in(word)?;
+    let runtime = signed(&word[..colon])?;
+    let period = unsigned(&word[colon + 1..])?;
+    runtime_limit(runtime, period)
+}
+
+fn dash_in(part: &[u8]) -> Option<usize>
+    ensures { result ≡ position (λ b. b == 45) part.now }
+{
+    part.iter().position(|b| *b == b'-')
+}
+
+fn is_ordered(first: Option<u64>, last: Option<u64>) -> bool
+    ensures { result ≡ is_ordered first last }
+{
+    match (first, last) {
+        (Some(first), Some(last)) => first <= last && last < u64::from(CPUS),
+        _ => false,
+    }
+}
+
+/// Whether a part of a list is a CPU, as 5, or CPUs from one to another, as 0-3.
+fn is_cpu_range(part: &[u8]) -> bool
+    ensures { result ≡ is_cpu_range part.now }
+{
+    match dash_in(part) {
+        None => is_ordered(numeral(10, part), numeral(10, part)),
+        Some(dash) => is_ordered(numeral(10, &part[..dash]), numeral(10, &part[dash + 1..])),
+    }
+}
+
+fn comma_in(word: &[u8]) -> Option<usize>
+    ensures { result ≡ position is_comma word.now }
+{
+    word.iter().position(|b| *b == b',')
+}
+
+/// The first part of a list, and what follows its comma.
+fn first_part(text: &[u8]) -> (&[u8], Option<&[u8]>)
+    ensures parts { MatchOption result.1 (slice_split is_comma text.now ≡ result.0.now ∷ [])
+        (λ rest. slice_split is_comma text.now ≡ result.0.now ∷ slice_split is_comma rest.now) }
+    ensures len { MatchOption result.1 (length result.0.now ≡ length text.now)
+        (λ rest. length result.0.now + 1 + length rest.now ≡ length text.now) }
+{
+    match comma_in(text) {
+        None => (text, None),
+        Some(i) => (&text[..i], Some(&text[i + 1..])),
+    }
+}
+
+/// Whether a word lists CPUs, as 0-3,5.
+pub(crate) fn is_domain(word: &[u8]) -> bool
+    ensures { result ≡ is_domain word.now }
+{
+    let mut left = Some(word);
+    while let Some(text) = left {
+        let (part, rest) = first_part(text);
+        if !is_cpu_range(part) {
+            return false;
+        }
+        left = rest;
+    }
+    true
+}
