@@ -1,0 +1,93 @@
+//! A task of a trace.
+
+ghost use Rattle.std.specs.Prelude.{◌≡◌, OnOk};
+
+use crate::said::Class;
+use crate::watch::{Ended, LeftOut, Phase, Seen, Stop, ran, stopped, woken};
+use std::alloc::{AllocError, Global};
+
+/// What a line tells of one task; moments are nanoseconds.
+#[derive(Clone, Copy, Debug, PartialEq, Eq)]
+pub enum Told {
+    /// It wakes, at a line.
+    Wakes { line: u64, at: u64, is_new: bool },
+
+    /// It ran.
+    Runs { nanos: u64 },
+
+    /// It is put on a processor.
+    Enters,
+
+    /// It stops to run.
+    Stops { at: u64, stop: Stop },
+}
+
+/// A task of a trace, and its jobs.
+#[derive(Debug, Drop)]
+pub struct Task {
+    pub pid: u64,
+
+    /// Its comm at the last line that shows it.
+    pub comm: Vec<u8>,
+
+    /// Its class at the last line that tells it.
+    pub class: Class,
+
+    /// Where it is at the end of the trace.
+    pub phase: Phase,
+
+    /// Its jobs, in the order of the trace.
+    pub jobs: Vec<Seen>,
+
+    /// How many jobs were left out as its thread began.
+    pub begun: u64,
+
+    /// How many were left out as its thread ended.
+    pub ended: u64,
+
+    /// How many have no wake in the trace.
+    pub without_wake: u64,
+}
+
+impl Task {
+    pub(crate) fn new(alloc: Global, pid: u64) -> Task {
+        Task {
+            pid,
+            comm: Vec::new(alloc),
+            class: Class::Fair,
+            phase: Phase::Unseen,
+            jobs: Vec::new(alloc),
+            begun: 0,
+            ended: 0,
+            without_wake: 0,
+        }
+    }
+
+    fn end(&mut self, ended: Ended) -> Result<(), AllocError> {
+        match ended {
+            Ended::Nothing => {}
+            Ended::Job(seen) => self.jobs.push(seen)?,
+            Ended::LeftOut(LeftOut::New) => self.begun = self.begun.saturating_add(1),
+            Ended::LeftOut(LeftOut::Last) => self.ended = self.ended.saturating_add(1),
+            Ended::LeftOut(LeftOut::NoWake) => {
+                self.without_wake = self.without_wake.saturating_add(1);
+            }
+        }
+        Ok(())
+    }
+
+    /// Takes what a line tells of it.
+    pub(crate) fn take(&mut self, told: Told) -> Result<(), AllocError> {
+        match told {
+            Told::Wakes { line, at, is_new } => self.phase = woken(self.phase, line, at, is_new),
+            Told::Runs { nanos } => self.phase = ran(self.phase, nanos),
+            Told::Enters => self.phase = ran(self.phase, 0),
+            Told::Stops { at, stop } => {
+                let (phase, ended) = stopped(self.phase, at, stop);
+                self.end(ended)?;
+                self.phase = phase;
+            }
+        }
+        Ok(())
+    }
+}

@@ -1,0 +1,85 @@
+//! The tasks of a trace by their pids.
+
+use crate::said::Class;
+use crate::task::{Task, Told};
+use std::alloc::{AllocError, Global};
+use std::collections::HashMap;
+use trace_line::Shown;
+
+/// The tasks of a trace.
+#[derive(Drop)]
+pub struct Tasks {
+    alloc: Global,
+    by_pid: HashMap<u64, Task>,
+
+    /// The pids in the order of their first lines.
+    pids: Vec<u64>,
+
+    /// The first pid that a line shows with a comm.
+    named: HashMap<Vec<u8>, u64>,
+}
+
+impl Tasks {
+    pub(crate) fn new(alloc: Global) -> Tasks {
+        Tasks {
+            alloc,
+            by_pid: HashMap::new(alloc),
+            pids: Vec::new(alloc),
+            named: HashMap::new(alloc),
+        }
+    }
+
+    /// The pids of the tasks, in the order of their first lines.
+    pub fn pids(&self) -> &[u64] {
+        &self.pids
+    }
+
+    /// The task of a pid.
+    pub fn task(&self, pid: u64) -> Option<&Task> {
+        self.by_pid.get(&pid)
+    }
+
+    /// The pid of a name: the first that a line shows with it as its comm.
+    pub fn pid_named(&self, comm: &[u8]) -> Option<u64> {
+        self.named.get(comm).copied()
+    }
+
+    fn name(&mut self, comm: &[u8], pid: u64) -> Result<(), AllocError> {
+        if self.named.get(comm).is_none() {
+            let comm = Vec::from_slice(self.alloc, comm)?;
+            self.named.insert(comm, pid)?;
+        }
+        Ok(())
+    }
+
+    /// Adds a task that no line showed before.
+    fn add(&mut self, pid: u64) -> Result<(), AllocError> {
+        self.pids.push(pid)?;
+        self.by_pid.insert(pid, Task::new(self.alloc, pid))?;
+        Ok(())
+    }
+
+    /// Takes what a line tells of the task that it shows.
+    pub(crate) fn take(
+        &mut self,
+        shown: &Shown<&[u8]>,
+        class: Option<Class>,
+        told: Told,
+    ) -> Result<(), AllocError> {
+        if self.by_pid.get(&shown.pid).is_none() {
+            self.add(shown.pid)?;
+        }
+        let Some(task) = self.by_pid.get_mut(&shown.pid) else {
+            return Ok(());
+        };
+        task.take(told)?;
+        if let Some(class) = class {
+            task.class = class;
+        }
+        if task.comm.as_slice() == shown.comm {
+            return Ok(());
+        }
+        task.comm = Vec::from_slice(self.alloc, shown.comm)?;
+        self.name(shown.comm, shown.pid)
+    }
+}
