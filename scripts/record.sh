@@ -151,8 +151,8 @@ trap 'exit 130' INT
 trap 'exit 143' TERM
 
 # ---- The text.
-echo 'grub: end' > "$calls/trace_marker"
-wait "$notes" || say "the notes of tasks have an end before the record's: give --task for what they lack"
+{ echo 'grub: end' > "$calls/trace_marker"; } 2> /dev/null
+wait "$notes" || say "the notes of tasks end early: give --task for what they lack"
 notes=
 lost=$(cat "$record"/per_cpu/cpu*/stats | awk '/^(overrun|commit overrun|dropped events):/ { lost += $NF } END { print lost + 0 }')
 missed=$(awk '$1 ~ /^(upd|enq|deq|mig|sfr|adm|hst|ina|dlt|ede|pck)$/ { missed += $3 } END { print missed + 0 }' "$tracefs/kprobe_profile" 2> /dev/null)
