@@ -7,15 +7,15 @@ record=$(cd "$(dirname "$0")" && pwd)/record.sh
 [ -f "$record" ] || record=/scripts/record.sh
 work=$(mktemp -d)
 tracefs=$work/tracefs
-mkdir "$tracefs" "$work/small"
+mkdir "$tracefs" "$work/small" "$work/temporary"
 trap 'umount "$work/small" "$tracefs" 2> /dev/null; rm -rf "$work"' EXIT
 passed=0 failed=0
 
-mounts() { grep -E '^[^ ]+ /sys/kernel/(tracing|debug) ' /proc/mounts; }
+mounts() { grep -E ' (tracefs|debugfs) ' /proc/mounts; }
 mounts > "$work/mounts"
 left() {
     mount -t tracefs tracefs "$tracefs"
-    ls -d "$tracefs"/instances/grub* "$tracefs"/events/grub* "$work"/*.part "$work"/small/* 2> /dev/null
+    ls -d "$tracefs"/instances/grub* "$tracefs"/events/grub* "$work"/*.part "$work"/small/* "$work"/temporary/* 2> /dev/null
     umount "$tracefs"
     mounts | diff "$work/mounts" -
     ps | grep -E '[n]otes\.pl|[p]robes\.sh'
@@ -33,13 +33,13 @@ expect() {
 run() {
     name=$1 status=$2 text=$3
     shift 3
-    "$record" "$@" 2> "$work/said"
+    TMPDIR=$work/temporary "$record" "$@" 2> "$work/said"
     expect "$name" "$status" $? "$text"
 }
 # signal NAME SIGNAL STATUS FILE: a signal once the program runs (FILE: with a record) or before.
 signal() {
     rm -f "$work/runs" "$work/out"
-    "$record" "$work/out" sh -c "echo > $work/runs; exec sleep 60" 2> "$work/said" &
+    TMPDIR=$work/temporary "$record" "$work/out" sh -c "echo > $work/runs; exec sleep 60" 2> "$work/said" &
     recorder=$!
     if [ "$4" ]; then until [ -e "$work/runs" ]; do sleep 0.1; done; else sleep 0.1; fi
     kill "-$2" "$recorder"

@@ -35,7 +35,7 @@ command -v "$1" > /dev/null || fail "there is no program $1"
 part=$out.part
 
 # ---- What is made here is unmade in finish, in the opposite order.
-mounted= record= calls= notes= program= set=
+mounts= record= calls= notes= program= set=
 finish() {
     trap '' HUP INT TERM
     for process in $program $notes; do kill "$process" 2> /dev/null; done
@@ -46,8 +46,10 @@ finish() {
         rmdir "$instance" 2> /dev/null || { sleep 0.2; rmdir "$instance"; } || say "$instance could not be removed"
     done
     [ ! "$set" ] || "$kernel_scripts/probes.sh" clear || say "the events of group grub could not be removed"
-    for place in $mounted; do umount "$place"; done
     rm -f "$part"
+    [ "$mounts" ] || return
+    for place in "$mounts"/*; do [ ! -d "$place" ] || { umount "$place" && rmdir "$place"; }; done
+    rmdir "$mounts"
 }
 trap finish EXIT
 trap 'exit 129' HUP
@@ -55,14 +57,16 @@ trap 'exit 130' INT
 trap 'exit 143' TERM
 
 true 2> /dev/null > "$part" || fail "$out cannot be written"
+# Mounts of its own, so that it is in nobody's way; where that is not allowed, those that are there.
+mounts=$(mktemp -d) || fail "no temporary directory can be made"
 mounted_at() {
-    grep -q " $2 $1 " /proc/mounts && return
-    mount -t "$1" nodev "$2" 2> /dev/null && mounted="$2 $mounted"
+    mkdir "$mounts/$1"
+    if mount -t "$1" "$1" "$mounts/$1" 2> /dev/null; then echo "$mounts/$1"; else rmdir "$mounts/$1"; echo "$2"; fi
 }
-mounted_at debugfs /sys/kernel/debug || say "no debugfs: the notes do not have max-bw and total-bw"
-tracefs=/sys/kernel/tracing
-mounted_at tracefs "$tracefs" || tracefs=/sys/kernel/debug/tracing
+tracefs=$(mounted_at tracefs /sys/kernel/tracing)
+debugfs=$(mounted_at debugfs /sys/kernel/debug)
 [ -d "$tracefs/instances" ] || fail "this machine has no tracefs, or is locked down (lockdown=confidentiality)"
+[ -d "$debugfs/sched" ] || say "no debugfs: the notes do not have max-bw and total-bw"
 export TRACEFS=$tracefs
 
 instance() {
@@ -104,7 +108,7 @@ limits() {
     awk -v runqueue="dl_rq[${domain%%[-,]*}]:" '
         $1 == runqueue { here = 1 }
         here && $1 == ".dl_bw->bw" { printf " max-bw=%s", $3 == -1 ? "18446744073709551615" : $3 }
-        here && $1 == ".dl_bw->total_bw" { printf " total-bw=%s", $3; exit }' /sys/kernel/debug/sched/debug 2> /dev/null
+        here && $1 == ".dl_bw->total_bw" { printf " total-bw=%s", $3; exit }' "$debugfs/sched/debug" 2> /dev/null
 }
 kinds=
 if [ "$probes" ]; then

@@ -99,13 +99,14 @@ check() {
 }
 
 clear_probes() {
+    [ -d "$events" ] || mount -t tracefs tracefs "$tracefs"
     for on in "$events/grub" "$tracefs"/instances/*/events/grub; do [ -d "$on" ] && echo 0 > "$on/enable"; done
     remove grub
 }
 
 sums() {
     grep -q '<argname>' "$tracefs/README" || return 0
-    instance=$tracefs/instances/grubsums
+    instance=$tracefs/instances/grubsums.$$
     trap 'end_of_sums; rm -rf "$work"' EXIT
     trap 'exit 1' HUP INT TERM
     echo 'sum enqueue_task_fair cpu=rq->cpu this=rq->dl.this_bw running=rq->dl.running_bw extra=rq->dl.extra_bw' > "$work/wanted"
