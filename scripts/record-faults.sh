@@ -63,16 +63,19 @@ RECORD_BUFFER_KB=999999999 run 'a buffer that cannot be had' 3 'RECORD_BUFFER_KB
 sleeps='for i in 1 2 3 4 5 6 7 8 9; do sleep 0.01; done'
 RECORD_BUFFER_KB=4 run 'events are lost' 4 '[1-9].* events were lost' "$work/out" sh -c "$sleeps"
 grep -qE '^# grub: lost [1-9]' "$work/out" || { failed=$((failed + 1)); echo "record-faults: the record does not tell of lost events"; }
-mkdir "$work/other"
-if mount -t tracefs tracefs "$work/other" && mkdir "$work/other/instances/others" && TRACEFS=$work/other "${record%/*}/kernel/probes.sh" set "$work/other/instances/others" few > /dev/null 2>&1; then
+probes=${record%/*}/kernel/probes.sh
+mount -t tracefs tracefs "$tracefs"
+mkdir "$tracefs/instances/others"
+if TRACEFS=$tracefs "$probes" set "$tracefs/instances/others" few > /dev/null 2>&1; then
     "$record" "$work/out" true 2> "$work/said"
     status=$?
-    TRACEFS=$work/other "${record%/*}/kernel/probes.sh" clear
-    rmdir "$work/other/instances/others"
-    expect 'the probes of another recording' 0 $status 'another recording has set them'
+    TRACEFS=$tracefs "$probes" clear
+else
+    status=
 fi
-rmdir "$work/other/instances/others" 2> /dev/null
-umount "$work/other"
+rmdir "$tracefs/instances/others"
+umount "$tracefs"
+[ ! "$status" ] || expect 'the probes of another recording' 0 $status 'another recording has set them'
 signal 'a signal before the program' TERM 143 ''
 for pair in HUP:129 TERM:143; do signal "a signal ${pair%:*}" "${pair%:*}" "${pair#*:}" record; done
 mount -t tmpfs -o size=4k tmpfs "$work/small"
