@@ -1,0 +1,20 @@
+//! What a verdict says of a record besides its timers.
+
+use trace_words::Kernel;
+
+/// What a verdict says of a record besides its timers.
+#[derive(Clone, Copy)]
+pub struct Heading<'a> {
+    /// The name of the record.
+    pub trace: &'a [u8],
+    pub kernel: Option<Kernel>,
+
+    /// The CPUs of the root domain.
+    pub domain: &'a [u32],
+
+    /// `dl_bw->total_bw` at the beginning, where a note tells it.
+    pub total_bw: Option<u64>,
+
+    /// In nanoseconds.
+    pub within: u64,
+}

@@ -1,0 +1,17 @@
+//! The verdict on a record: whether a kernel's timers are where its rules put them, in words and as a table.
+#![tactic(auto)]
+
+mod cause;
+mod heading;
+mod judging;
+mod numbers;
+mod table;
+mod text;
+mod writing;
+
+pub use cause::{Cause, cause_of};
+pub use heading::Heading;
+pub use judging::{Judged, agrees, first_deviation, judge, judged_of};
+pub use numbers::{Numbers, numbers_of};
+pub use table::{put_row, put_table, table_head};
+pub use text::put_verdict;

@@ -1,0 +1,122 @@
+//! The observations as a table: a line each, with tabs between the columns.
+
+use crate::numbers::is_compared;
+use crate::writing::{put, put_number, put_signed};
+use std::alloc::{AllocError, Global};
+use timer_rules::{Answer, Kind, Observation};
+
+/// The first line of a table. Moments, differences and budgets are nanoseconds, sums units of 2^-20 of a processor.
+pub fn table_head() -> &'static [u8] {
+    b"line\tmoment\tcpu\ttask\tkind\tpredicted\tkernel\tdifference\tbudget\tdeadline\trunning\tthis\textra\tanswer\n"
+}
+
+/// The word of an answer.
+pub(crate) fn answer_word(answer: Answer) -> &'static [u8] {
+    match answer {
+        Answer::Agrees => b"agrees",
+        Answer::Differs => b"differs",
+        Answer::End => b"end",
+        Answer::Unknown => b"unknown",
+        Answer::Edge => b"edge",
+        Answer::Gap => b"gap",
+    }
+}
+
+fn kind_word(kind: Kind) -> &'static [u8] {
+    match kind {
+        Kind::Block => b"block",
+        Kind::Replenish => b"replenish",
+    }
+}
+
+fn put_place(
+    alloc: Global,
+    out: &mut Vec<u8>,
+    observation: &Observation,
+    name: &[u8],
+) -> Result<(), AllocError> {
+    put_number(alloc, out, observation.line)?;
+    out.push(b'\t')?;
+    put_number(alloc, out, observation.at)?;
+    out.push(b'\t')?;
+    put_number(alloc, out, u64::from(observation.cpu))?;
+    out.push(b'\t')?;
+    put(out, name)?;
+    out.push(b'\t')?;
+    put(out, kind_word(observation.kind))?;
+    out.push(b'\t')?;
+    Ok(())
+}
+
+fn put_moments(
+    alloc: Global,
+    out: &mut Vec<u8>,
+    observation: &Observation,
+) -> Result<(), AllocError> {
+    put_number(alloc, out, observation.predicted)?;
+    out.push(b'\t')?;
+    if let Some(kernel) = observation.kernel {
+        put_number(alloc, out, kernel)?;
+    }
+    out.push(b'\t')?;
+    if is_compared(observation.answer) {
+        put_signed(alloc, out, observation.difference)?;
+    }
+    out.push(b'\t')?;
+    Ok(())
+}
+
+fn put_state(
+    alloc: Global,
+    out: &mut Vec<u8>,
+    observation: &Observation,
+) -> Result<(), AllocError> {
+    put_signed(alloc, out, observation.runtime)?;
+    out.push(b'\t')?;
+    put_number(alloc, out, observation.deadline)?;
+    out.push(b'\t')?;
+    put_number(alloc, out, observation.sums.running_bw)?;
+    out.push(b'\t')?;
+    put_number(alloc, out, observation.sums.this_bw)?;
+    out.push(b'\t')?;
+    put_number(alloc, out, observation.sums.extra_bw)?;
+    out.push(b'\t')?;
+    Ok(())
+}
+
+/// Appends the line of an observation of the task with this name.
+pub fn put_row(
+    alloc: Global,
+    out: &mut Vec<u8>,
+    observation: &Observation,
+    name: &[u8],
+) -> Result<(), AllocError> {
+    put_place(alloc, out, observation, name)?;
+    put_moments(alloc, out, observation)?;
+    put_state(alloc, out, observation)?;
+    put(out, answer_word(observation.answer))?;
+    out.push(b'\n')?;
+    Ok(())
+}
+
+/// The name of a task, by its number.
+pub(crate) fn name_of(names: &[Vec<u8>], task: u32) -> &[u8] {
+    match names.get(task as usize) {
+        Some(name) => name,
+        None => b"?",
+    }
+}
+
+/// Appends the table of observations; names are those of the tasks, by their numbers.
+pub fn put_table(
+    alloc: Global,
+    out: &mut Vec<u8>,
+    observations: &[Observation],
+    names: &[Vec<u8>],
+) -> Result<(), AllocError> {
+    put(out, table_head())?;
+    for observation in observations {
+        put_row(alloc, out, observation, name_of(names, observation.task))?;
+    }
+    Ok(())
+}
