@@ -2,6 +2,8 @@
 
 ghost use Rattle.std.specs.Prelude.{◌≡◌, ◌==◌, ◌≤◌, length, option_map, position, reverse};
 ghost use Rattle.grub_text.specs.Lines.{word_of};
+ghost use Rattle.memchr.specs.Find.{is_byte};
+ghost use Rattle.trace_line.specs.Head.{is_lost};
 ghost use Rattle.trace_line.specs.Opening.{opening_of};
 ghost use Rattle.trace_line.specs.inside.OpeningFits.{StartsWithin};
 ghost use Rattle.record_line.specs.Lines.{checked, comment_line, drift, event_line, fixed_cpu, flaw_of, grain_behind, grain_of, head_line, line_behind, note_cpu, note_line, noted_line, probe_cpu, probed, said_by, said_cpu, told_by, told_line, told_said};
@@ -14,6 +16,7 @@ use crate::note::{Lost, Noted, note_of};
 use crate::verb::{Verb, verb_of};
 use crate::word::CPUS;
 use grub_text::first_word;
+use memchr::memchr;
 use trace_line::{
     Opening, Shown, is_comment, is_lost, opening_of, processors, running, without_spaces,
 };
@@ -309,11 +312,30 @@ fn event_line(line: &[u8]) -> Told<&[u8]>
     }
 }
 
+fn capital_l_in(line: &[u8]) -> Option<usize>
+    ensures { result ≡ position (is_byte 76) line.now }
+{
+    memchr(b'L', line)
+}
+
+/// Whether a line tells that events were lost: most lines have no L, and are looked at once.
+fn tells_loss(line: &[u8]) -> bool
+    ensures { result ≡ is_lost line.now }
+{
+    if is_comment(line) {
+        return is_lost(line);
+    }
+    match capital_l_in(line) {
+        None => false,
+        Some(_) => is_lost(line),
+    }
+}
+
 /// What a line tells, without the byte that ends it.
 pub fn told_by(line: &[u8]) -> Told<&[u8]>
     ensures { told_text result ≡ told_by line.now }
 {
-    if is_lost(line) {
+    if tells_loss(line) {
         told_line(Line::Flawed(Flaw::LostEvents))
     } else if is_comment(line) {
         comment_line(line)
