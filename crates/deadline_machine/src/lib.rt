@@ -1,0 +1,13 @@
+//! The exact check: kernel/sched/deadline.c played from lines of probes, and each value that a line shows compared.
+#![tactic(auto)]
+
+mod actor;
+mod comparing;
+mod machine;
+mod pending;
+mod playing;
+mod runqueue;
+mod shape;
+
+pub use machine::Machine;
+pub use shape::{Runs, Shape};
