@@ -112,12 +112,10 @@ pub fault_of_run : (files : List (List ℕ)) (fault : GrubFault) → IsFaultOfRu
 fault_of_run files (faults.Trace fault) none = absurd none
 fault_of_run files (faults.Run fault) none = tt
 fault_of_run files (faults.Text fault) none = tt
-fault_of_run files faults.View none = tt
 fault_of_run files faults.WriteFault none = tt
 
 pub no_file_fault : (fault : GrubFault) → IsFaultOfRun fault → IsNoFileFault fault
 no_file_fault (faults.Trace fault) none = absurd none
 no_file_fault (faults.Run fault) none = tt
 no_file_fault (faults.Text fault) none = tt
-no_file_fault faults.View none = tt
 no_file_fault faults.WriteFault none = tt

@@ -18,9 +18,6 @@ pub enum GrubFault {
     /// 43: no memory for the text.
     #[error("{0}")]
     Text(TextFault),
-    /// 48: no memory for the time line, or for the text of a view of it.
-    #[error("48 NoMemory")]
-    View,
     /// 45: a write or the flush failed, or a write took nothing.
     #[error("45 WriteFault")]
     WriteFault,

@@ -1,6 +1,6 @@
 //! From the bytes of event files to the bytes of their reports.
 
-ghost use Rattle.std.specs.Prelude.{◌≡◌, ◌≤◌, ℕ, List, [], length, vec_capacity, MatchResult, OnOk, OnErr, IfErr};
+ghost use Rattle.std.specs.Prelude.{◌≡◌, ◌≤◌, ℕ, List, length, MatchResult, OnOk, OnErr, IfErr, IfOk};
 ghost use Rattle.std.specs.Io.KnownBytes.{Appends};
 ghost use Rattle.grub_book.specs.declared.setup.TheConstants.{QUEUES_MAX};
 ghost use Rattle.grub_trace.specs.Meaning.{Reads};
@@ -14,11 +14,9 @@ ghost use Rattle.grub_run.specs.inside.Ran.{BeginsRun, IsFaultOfRun, WritesRun};
 ghost use Rattle.grub_run.specs.declared.fault.GrubFault.TheVariants as faults;
 
 use crate::fault::GrubFault;
-use crate::report::write_report;
 use grub_book::Reading;
-use grub_lines::Blocks;
-use grub_plan::{LINE_MAX, Plan, Report, TextFault, report_buffer, write_buffer};
-use grub_trace::read_files_by_threads;
+use grub_plan::{Plan, Report, TextFault, report_of, write_buffer};
+use grub_trace::read_files;
 use grub_workers::{NoGate, run};
 use std::alloc::Global;
 use std::io;
@@ -26,16 +24,15 @@ use std::io::Write;
 use std::sync::Wait;
 use std::thread::Threads;
 
-/// Reads event files, runs them with a thread for each, and writes the texts of their reports in file order. The files'
-/// bytes are dropped before the run, so their memory is free for the entries.
+/// Reads event files, runs them with a thread for each, and writes the texts of their reports in file order.
 ///
 /// `Trace` (28 to 37) is the reader's fault. `WriteFault` (45) comes where a write or the flush failed, or a write took
-/// nothing; a beginning of the text was written then. On every other fault nothing was written: the text goes through
-/// buffers of fixed size, which are the last thing that memory is taken for.
-pub fn run_texts<R: Threads + Wait + Sync, W: Write>(
+/// nothing; a beginning of the text was written then. On every other fault nothing was written: the whole text is made
+/// before the first write.
+pub fn run_texts<R: Threads + Wait, W: Write>(
     rt: &R,
     alloc: Global,
-    files: Vec<Vec<u8>>,
+    files: &[Vec<u8>],
     tries: u8,
     rounds: u16,
     out: &mut W,
@@ -43,29 +40,28 @@ pub fn run_texts<R: Threads + Wait + Sync, W: Write>(
     requires { 1 ≤ rounds }
 
     ensures text { OnOk result
-        (Writes (IsOutput tries) (W.contents out.old) (W.contents out.new) (contents files.items)) }
+        (Writes (IsOutput tries) (W.contents out.old) (W.contents out.new) (contents files.now)) }
     ensures prefix { IfErr result (λ e. e ≡ faults.WriteFault
         → Begins (IsOutput tries) (W.contents out.old) (W.contents out.new)
-        (contents files.items)) }
+        (contents files.now)) }
     ensures nothing { IfErr result (λ e. (e ≡ faults.WriteFault → ⊥) → out.new ≡ out.old) }
 
     // A fault of the files is the reader's, and where there is one it is answered, memory aside.
-    ensures fault { IfErr result (IsFaultOf (contents files.items)) }
-    ensures answered { (k : Kind) (f n : ℕ) → IsFault (contents files.items) k f n
+    ensures fault { IfErr result (IsFaultOf (contents files.now)) }
+    ensures answered { (k : Kind) (f n : ℕ) → IsFault (contents files.now) k f n
         → MatchResult result (λ _. ⊥) (λ e. IsOnlyFault e k f n) }
-    ensures readable { (trees : List Tree) → Reads (contents files.items) trees
+    ensures readable { (trees : List Tree) → Reads (contents files.now) trees
         → IfErr result IsNoFileFault }
 {
-    let plan = match read_files_by_threads(rt, alloc, &files) {
+    let plan = match read_files(alloc, files) {
         Ok(plan) => plan,
         Err(fault) => return Err(GrubFault::Trace(fault)),
     };
-    drop(files);
-    write_run(rt, alloc, &plan, tries, rounds, out)
+    write_outcome(rt, alloc, &plan, tries, rounds, out)
 }
 
 /// Runs the plan, and writes the texts of its reports.
-fn write_run<R: Threads + Wait + Sync, W: Write>(
+fn write_outcome<R: Threads + Wait, W: Write>(
     rt: &R,
     alloc: Global,
     plan: &Plan,
@@ -86,59 +82,43 @@ fn write_run<R: Threads + Wait + Sync, W: Write>(
         Ok(outcome) => outcome,
         Err(fault) => return Err(GrubFault::Run(fault)),
     };
-    let buffer = match report_buffer(alloc) {
-        Ok(buffer) => buffer,
+    let text = match texts_of(alloc, plan, &outcome.reports, &outcome.closing) {
+        Ok(text) => text,
         Err(fault) => return Err(GrubFault::Text(fault)),
     };
-    let Ok(blocks) = Blocks::new(alloc) else {
-        return Err(GrubFault::Text(TextFault::NoMemory));
-    };
-    match write_reports(
-        rt,
-        blocks,
-        buffer,
-        out,
-        plan,
-        &outcome.reports,
-        &outcome.closing,
-    ) {
+    match write_text(text, out) {
         Ok(()) => Ok(()),
         Err(_) => Err(GrubFault::WriteFault),
     }
 }
 
-/// Writes the texts of the reports, in file order, and flushes.
-fn write_reports<R: Threads + Sync, W: Write>(
-    rt: &R,
-    mut blocks: Blocks,
-    mut buffer: Vec<u8>,
-    out: &mut W,
+/// The texts of the reports, in file order.
+fn texts_of(
+    alloc: Global,
     plan: &Plan,
     reports: &[Report],
     closing: &[Reading],
-) -> io::Result<()>
-    requires empty { buffer.items ≡ [] }
-    requires room { LINE_MAX ≤ vec_capacity buffer }
+) -> Result<Vec<u8>, TextFault>
     requires one_each { length reports.now ≡ length closing.now }
     requires most { length reports.now ≤ QUEUES_MAX }
     requires tasks { AllAsksOf plan.now reports.now }
-    ensures whole { OnOk result (Appends (W.contents out.old) (W.contents out.new)
-        (texts_from plan.now.names 0 reports.now closing.now)) }
-    ensures part { OnErr result (AppendsPrefix (W.contents out.old) (W.contents out.new)
-        (texts_from plan.now.names 0 reports.now closing.now)) }
+    ensures { IfOk result
+        (λ text. text.items ≡ texts_from plan.now.names 0 reports.now closing.now) }
 {
+    let mut text = Vec::new(alloc);
     for (r, report) in reports.iter().enumerate() {
-        write_report(
-            rt,
-            &mut blocks,
-            &mut buffer,
-            out,
-            plan,
-            r as u32,
-            report,
-            closing[r],
-        )?;
+        let one = report_of(alloc, plan, r as u32, report, closing[r])?;
+        text.extend_from_slice(&one)?;
     }
-    write_buffer(&mut buffer, out)?;
+    Ok(text)
+}
+
+/// Writes a whole text, and flushes.
+pub fn write_text<W: Write>(mut text: Vec<u8>, out: &mut W) -> io::Result<()>
+    ensures whole { OnOk result (Appends (W.contents out.old) (W.contents out.new) text.items) }
+    ensures part { OnErr result
+        (AppendsPrefix (W.contents out.old) (W.contents out.new) text.items) }
+{
+    write_buffer(&mut text, out)?;
     out.flush()
 }

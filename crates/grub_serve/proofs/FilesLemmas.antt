@@ -49,6 +49,7 @@ first_told o g source paths i d files (faults.TooLong path) below hold (same, is
 first_told o g source paths i d files (faults.Unreadable path) below hold (same, is) = subst (First o g source (IsUnreadable o g source) (names_of paths)) (sym same) (first_at o g source (IsUnreadable o g source) paths i d files below hold is)
 first_told o g source paths i d files (faults.Line path line fault) below hold is = absurd is
 first_told o g source paths i d files (faults.Run fault) below hold is = absurd is
+first_told o g source paths i d files faults.View below hold is = absurd is
 first_told o g source paths i d files (faults.EmptySpan first end) below hold is = absurd is
 first_told o g source paths i d files faults.NoMemory below hold is = ((get_or paths i d).now, first_at o g source (IsOpened o g source) paths i d files below hold is)
 
@@ -58,6 +59,7 @@ of_reading o g source name (faults.TooLong path) is = tt
 of_reading o g source name (faults.Unreadable path) is = tt
 of_reading o g source name (faults.Line path line fault) is = absurd is
 of_reading o g source name (faults.Run fault) is = absurd is
+of_reading o g source name faults.View is = absurd is
 of_reading o g source name (faults.EmptySpan first end) is = absurd is
 of_reading o g source name faults.NoMemory is = tt
 

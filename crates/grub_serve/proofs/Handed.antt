@@ -1,7 +1,6 @@
 -- What a writer holds after a text was handed to it.
-use Rattle.std.proofs.Common.{◌≡◌, ℕ, ◌++◌, List, [], take, drop, ap, ◌∙◌, sym, append_assoc, Option, Some, None, length, append-nil}
+use Rattle.std.proofs.Common.{◌≡◌, ℕ, ◌++◌, List, [], take, drop, ap, ◌∙◌, sym, append_assoc, Option, Some, None, append-nil}
 use Rattle.std.specs.Io.KnownBytes.{Appends}
-use Rattle.std.proofs.Math.Seq.{take-append_seam}
 use Rattle.std.proofs.lemmas.List.{take-append-drop}
 use Rattle.grub_serve.specs.declared.view.View.{View}
 use Rattle.grub_serve.specs.inside.Showing.{BeginsLine, WritesLine}
@@ -14,15 +13,7 @@ use Rattle.grub_plan.specs.Writing.{HandsOn, HandsPart}
 use Rattle.grub_run.specs.Written.{AppendsPrefix}
 use Rattle.grub_run.proofs.Known.{prefix_of}
 
-pub handed_part : (a b : Option (List ℕ)) (text : List ℕ) → HandsPart a b text [] → AppendsPrefix a b text
-handed_part None b text h = (0, tt)
-handed_part (Some xs) None text h = absurd (h.1)
-handed_part (Some xs) (Some ys) text h =
-    let told = h.1.0 in
-    let all : text ≡ told ++ h.0 = sym (append-nil text) ∙ h.1.2 in
-    (length told, h.1.1 ∙ ap (λ l. xs ++ l) (sym (ap (take (length told)) all ∙ take-append_seam told h.0)))
-
--- the same of a text that came after an empty buffer
+-- a beginning of a text that came after an empty buffer
 pub begun : (a b : Option (List ℕ)) (text : List ℕ) → HandsPart a b [] text → AppendsPrefix a b text
 begun a b text h = prefix_of a b text [] text h (sym (append-nil text))
 

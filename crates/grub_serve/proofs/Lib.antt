@@ -1,3 +1,4 @@
 pub mod FilesLemmas
 pub mod Handed
 pub mod PlacedLemmas
+pub mod OneFile

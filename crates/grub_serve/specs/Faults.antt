@@ -1,5 +1,5 @@
 -- What the program's faults tell of its files, and the status of each.
-use Rattle.std.specs.Prelude.{◌≡◌, ℕ, List, [], map, take, slice_get, slice_index_or, Some}
+use Rattle.std.specs.Prelude.{◌≡◌, ⊤, ℕ, List, [], map, take, slice_get, slice_index_or, Some}
 use Rattle.std.specs.Borrow.{Bor}
 use Rattle.std.specs.List.{AllZip}
 use Rattle.grub_trace.specs.declared.fault.Kind.{Kind}
@@ -22,6 +22,7 @@ status_of (faults.Line path line fault) = 1
 status_of (faults.EmptySpan first end) = 2
 status_of (faults.Unreadable path) = 3
 status_of (faults.Run fault) = 3
+status_of faults.View = 3
 status_of faults.NoMemory = 3
 
 -- the texts behind these references
@@ -65,12 +66,14 @@ module _ {O N D : Type 0} (o : Opener O D) (g : Reader N D) (source : Source O N
   Tells names (faults.Unreadable path) = First (IsUnreadable o g source) names path.now
   Tells names (faults.Line path line fault) = Whole (IsFaultInLine names path.now line fault) names
   Tells names (faults.Run fault) = IsNoFileFault fault
+  Tells names faults.View = ⊥
   Tells names (faults.EmptySpan first end) = ⊥
   Tells names faults.NoMemory = (name : List ℕ) × First (IsOpened o g source) names name
 
   -- and what one of a view of their time line tells
   abbrev pub TellsOfView : View → List (List ℕ) → ProgramFault → Type 0
   TellsOfView view names (faults.EmptySpan first end) = Whole (λ files. HasEmptySpan view files first end) names
+  TellsOfView view names faults.View = ⊤
   TellsOfView view names fault = Tells names fault
 
   -- one of these files may be at fault

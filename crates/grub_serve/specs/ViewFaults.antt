@@ -1,23 +1,19 @@
 -- What each fault of a view tells of its files.
 use Rattle.std.specs.Prelude.{◌≡◌, ◌≤◌, ⊤, ℕ, List}
 use Rattle.grub_book.specs.declared.event.Reading.{Reading}
-use Rattle.grub_run.specs.Written.{IsFaultOf, IsNoFileFault, IsOnlyFault}
-use Rattle.grub_run.specs.declared.fault.GrubFault.TheVariants as run
 use Rattle.grub_timeline.specs.TimeLines.{IsTimeLine}
 use Rattle.grub_timeline.specs.declared.told.Told.{Told}
+use Rattle.grub_trace.specs.FirstFault.{IsOnly, IsTraceFault}
 use Rattle.grub_trace.specs.Meaning.{Reads}
 use Rattle.grub_trace.specs.Naming.{plan_of}
 use Rattle.grub_trace.specs.Tree.{Tree}
 use Rattle.grub_trace.specs.declared.fault.Kind.{Kind}
+use Rattle.grub_trace.specs.declared.fault.TraceFault.TheVariants as trace
 use Rattle.grub_serve.specs.Shown.{end_of, first_of}
 use Rattle.grub_serve.specs.declared.show_fault.ShowFault.{ShowFault}
-use Rattle.grub_serve.specs.declared.show_fault.ShowFault.TheVariants.{Grub, EmptySpan}
+use Rattle.grub_serve.specs.declared.show_fault.ShowFault.TheVariants as faults
 use Rattle.grub_serve.specs.declared.view.View.{View}
 use Rattle.grub_serve.specs.declared.view.View.TheVariants.{Picture}
-
--- the writer failed, or took nothing
-abbrev pub write_fault : ShowFault
-write_fault = Grub run.WriteFault
 
 -- a picture of these entries would go from this moment to this one, which is not after it
 abbrev pub IsEmptySpan : View → List Told → ℕ → ℕ → Type 0
@@ -35,15 +31,16 @@ pub record HasEmptySpan (view : View) (files : List (List ℕ)) (first end : ℕ
 
 -- a fault of the files is the one that their reader answers, and an empty span is that of a picture of their time line
 abbrev pub IsFaultOfView : View → List (List ℕ) → ShowFault → Type 0
-IsFaultOfView view files (Grub fault) = IsFaultOf files fault
-IsFaultOfView view files (EmptySpan first end) = HasEmptySpan view files first end
+IsFaultOfView view files (faults.Trace fault) = IsTraceFault files fault
+IsFaultOfView view files (faults.EmptySpan first end) = HasEmptySpan view files first end
+IsFaultOfView view files fault = ⊤
 
 -- this fault of a file and no other, unless memory was refused to the reader
 abbrev pub IsOnlyFaultOfFile : ShowFault → Kind → ℕ → ℕ → Type 0
-IsOnlyFaultOfFile (Grub fault) k f n = IsOnlyFault fault k f n
-IsOnlyFaultOfFile (EmptySpan first end) k f n = ⊥
+IsOnlyFaultOfFile (faults.Trace fault) k f n = IsOnly fault k f n
+IsOnlyFaultOfFile fault k f n = ⊥
 
 -- no fault of a file
 abbrev pub IsNoFaultOfFile : ShowFault → Type 0
-IsNoFaultOfFile (Grub fault) = IsNoFileFault fault
-IsNoFaultOfFile (EmptySpan first end) = ⊤
+IsNoFaultOfFile (faults.Trace fault) = fault ≡ trace.NoMemory
+IsNoFaultOfFile fault = ⊤

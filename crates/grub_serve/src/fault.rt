@@ -33,9 +33,12 @@ pub enum ProgramFault<'a> {
         line: usize,
         fault: GrubFault,
     },
-    /// Any other fault of a run, or of a view.
+    /// Any other fault of a run, and the writer's of a view.
     #[error("{0}")]
     Run(GrubFault),
+    /// 48: no memory for the time line, or for the text of a view of it.
+    #[error("48 NoMemory")]
+    View,
     /// A picture that was to begin at this moment and to end at this one.
     #[error("a picture from {from} to {to} is empty: it has to begin before it ends")]
     EmptySpan {
@@ -55,9 +58,10 @@ impl ProgramFault<'_> {
         match self {
             ProgramFault::TooLong { .. } | ProgramFault::Line { .. } => STATUS_FILE,
             ProgramFault::EmptySpan { .. } => STATUS_USAGE,
-            ProgramFault::Unreadable { .. } | ProgramFault::Run(_) | ProgramFault::NoMemory => {
-                STATUS_SYSTEM
-            }
+            ProgramFault::Unreadable { .. }
+            | ProgramFault::Run(_)
+            | ProgramFault::View
+            | ProgramFault::NoMemory => STATUS_SYSTEM,
         }
     }
 }

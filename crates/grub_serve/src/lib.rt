@@ -2,6 +2,7 @@
 #![tactic(auto)]
 
 mod fault;
+mod laws;
 mod printing;
 mod ready;
 mod reports;
@@ -10,6 +11,7 @@ mod show_fault;
 mod view;
 
 pub use fault::{ProgramFault, STATUS_FILE, STATUS_SYSTEM, STATUS_USAGE};
+pub use laws::one_file_is_played_as_it_runs;
 pub use printing::print_view;
 pub use reports::print_reports;
 pub use serving::{serve_files, serve_view};

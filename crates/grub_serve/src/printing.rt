@@ -12,6 +12,7 @@ use crate::reports::{check_paths, placed, read_files};
 use crate::show_fault::ShowFault;
 use crate::view::{View, write_view};
 use grub_files::Source;
+use grub_run::GrubFault;
 use std::alloc::Global;
 use std::io;
 use std::io::Write;
@@ -56,7 +57,9 @@ pub fn print_view<
     };
     match write_view(rt, alloc, files, view, out) {
         Ok(()) => Ok(()),
-        Err(ShowFault::Grub(fault)) => Err(placed(paths, fault)),
+        Err(ShowFault::Trace(fault)) => Err(placed(paths, GrubFault::Trace(fault))),
+        Err(ShowFault::NoMemory) => Err(ProgramFault::View),
         Err(ShowFault::EmptySpan { from, to }) => Err(ProgramFault::EmptySpan { from, to }),
+        Err(ShowFault::WriteFault) => Err(ProgramFault::Run(GrubFault::WriteFault)),
     }
 }

@@ -12,7 +12,7 @@ ghost use Rattle.grub_serve.specs.inside.Telling.{IsOfReading, IsPlaced, TellsOf
 
 use crate::fault::ProgramFault;
 use grub_files::{FileFault, Source, read_file};
-use grub_run::{GrubFault, run_texts};
+use grub_run::{GrubFault, run_texts_by_threads};
 use grub_trace::{TraceFault, check_count};
 use std::alloc::Global;
 use std::io;
@@ -166,7 +166,7 @@ pub fn print_reports<
         Ok(files) => files,
         Err(fault) => return Err(fault),
     };
-    match run_texts(rt, alloc, files, tries, rounds, out) {
+    match run_texts_by_threads(rt, alloc, files, tries, rounds, out) {
         Ok(()) => Ok(()),
         Err(fault) => Err(placed(paths, fault)),
     }

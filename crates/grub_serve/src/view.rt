@@ -7,18 +7,18 @@ ghost use Rattle.grub_trace.specs.FirstFault.{IsFault};
 ghost use Rattle.grub_plan.specs.Contents.{contents};
 ghost use Rattle.grub_trace.specs.Tree.{Tree};
 ghost use Rattle.grub_trace.specs.declared.fault.Kind.{Kind};
-ghost use Rattle.std.specs.Io.KnownBytes.{Appends};
-ghost use Rattle.grub_run.specs.Written.{AppendsPrefix, Begins, Writes};
-ghost use Rattle.grub_serve.specs.ViewFaults.{IsFaultOfView, IsNoFaultOfFile, IsOnlyFaultOfFile, write_fault};
+ghost use Rattle.grub_run.specs.Written.{Begins, Writes};
+ghost use Rattle.grub_serve.specs.ViewFaults.{IsFaultOfView, IsNoFaultOfFile, IsOnlyFaultOfFile};
 ghost use Rattle.grub_serve.specs.Shown.{IsShown};
+ghost use Rattle.grub_serve.specs.declared.show_fault.ShowFault.TheVariants as faults;
 ghost use Rattle.grub_serve.specs.inside.Showing.{BeginsLine, IsFaultOfLine, WritesLine};
 
 use crate::ready::Ready;
 use crate::show_fault::ShowFault;
 use grub_book::Book;
 use grub_picture::{end_of, picture_text};
-use grub_plan::{Plan, write_buffer};
-use grub_run::GrubFault;
+use grub_plan::Plan;
+use grub_run::write_text;
 use grub_steps::Step;
 use grub_summary::summary_text;
 use grub_timeline::play;
@@ -49,7 +49,7 @@ pub enum View {
 /// Reads event files, plays them on one time line, and writes a view of it. The files' bytes are dropped before they are
 /// played, so their memory is free for the entries. Lines and steps are written while they are played, and no entry is kept.
 ///
-/// `Trace` (28 to 37) is the reader's fault, and `View` (48) is want of memory for the time line or the view's text.
+/// `Trace` (28 to 37) is the reader's fault, and `NoMemory` (48) is want of memory for the time line or the view's text.
 /// `EmptySpan` comes where a picture would not begin before it ends. `WriteFault` (45) comes where the writer failed or
 /// took nothing; a beginning of the text was written then. On every other fault nothing was written: all memory is taken
 /// before the first write.
@@ -62,9 +62,9 @@ pub fn write_view<R: Threads + Sync, W: Write>(
 ) -> Result<(), ShowFault>
     ensures text { OnOk result
         (Writes (IsShown view) (W.contents out.old) (W.contents out.new) (contents files.items)) }
-    ensures prefix { IfErr result (λ e. e ≡ write_fault
+    ensures prefix { IfErr result (λ e. e ≡ faults.WriteFault
         → Begins (IsShown view) (W.contents out.old) (W.contents out.new) (contents files.items)) }
-    ensures nothing { IfErr result (λ e. (e ≡ write_fault → ⊥) → out.new ≡ out.old) }
+    ensures nothing { IfErr result (λ e. (e ≡ faults.WriteFault → ⊥) → out.new ≡ out.old) }
 
     // A fault of the files is the reader's, and where there is one it is answered, memory aside. An empty span is told
     // where the span of a picture is empty.
@@ -76,7 +76,7 @@ pub fn write_view<R: Threads + Sync, W: Write>(
 {
     let plan = match read_files_by_threads(rt, alloc, &files) {
         Ok(plan) => plan,
-        Err(fault) => return Err(ShowFault::Grub(GrubFault::Trace(fault))),
+        Err(fault) => return Err(ShowFault::Trace(fault)),
     };
     drop(files);
     write_played(rt, alloc, &plan, view, out)
@@ -92,9 +92,9 @@ fn write_played<R: Threads + Sync, W: Write>(
 ) -> Result<(), ShowFault>
     ensures text { OnOk result
         (WritesLine view plan.now (W.contents out.old) (W.contents out.new)) }
-    ensures prefix { IfErr result (λ e. e ≡ write_fault
+    ensures prefix { IfErr result (λ e. e ≡ faults.WriteFault
         → BeginsLine view plan.now (W.contents out.old) (W.contents out.new)) }
-    ensures nothing { IfErr result (λ e. (e ≡ write_fault → ⊥) → out.new ≡ out.old) }
+    ensures nothing { IfErr result (λ e. (e ≡ faults.WriteFault → ⊥) → out.new ≡ out.old) }
     ensures fault { IfErr result (IsFaultOfLine view plan.now) }
 {
     match view {
@@ -114,17 +114,17 @@ fn write_lines<R: Threads + Sync, W: Write>(
 ) -> Result<(), ShowFault>
     ensures text { OnOk result
         (WritesLine View.Timeline plan.now (W.contents out.old) (W.contents out.new)) }
-    ensures prefix { IfErr result (λ e. e ≡ write_fault
+    ensures prefix { IfErr result (λ e. e ≡ faults.WriteFault
         → BeginsLine View.Timeline plan.now (W.contents out.old) (W.contents out.new)) }
-    ensures nothing { IfErr result (λ e. (e ≡ write_fault → ⊥) → out.new ≡ out.old) }
+    ensures nothing { IfErr result (λ e. (e ≡ faults.WriteFault → ⊥) → out.new ≡ out.old) }
     ensures fault { IfErr result (IsFaultOfLine View.Timeline plan.now) }
 {
     let Some(ready) = Ready::new(alloc, plan) else {
-        return Err(ShowFault::Grub(GrubFault::View));
+        return Err(ShowFault::NoMemory);
     };
     match lines_through(rt, ready, plan, out) {
         Ok(()) => Ok(()),
-        Err(_) => Err(ShowFault::Grub(GrubFault::WriteFault)),
+        Err(_) => Err(ShowFault::WriteFault),
     }
 }
 
@@ -168,23 +168,23 @@ fn write_rows<R: Threads + Sync, W: Write>(
 ) -> Result<(), ShowFault>
     ensures text { OnOk result
         (WritesLine View.Steps plan.now (W.contents out.old) (W.contents out.new)) }
-    ensures prefix { IfErr result (λ e. e ≡ write_fault
+    ensures prefix { IfErr result (λ e. e ≡ faults.WriteFault
         → BeginsLine View.Steps plan.now (W.contents out.old) (W.contents out.new)) }
-    ensures nothing { IfErr result (λ e. (e ≡ write_fault → ⊥) → out.new ≡ out.old) }
+    ensures nothing { IfErr result (λ e. (e ≡ faults.WriteFault → ⊥) → out.new ≡ out.old) }
     ensures fault { IfErr result (IsFaultOfLine View.Steps plan.now) }
 {
     let Ok(book) = Book::new(alloc, plan.setup()) else {
-        return Err(ShowFault::Grub(GrubFault::View));
+        return Err(ShowFault::NoMemory);
     };
     let Some(ready) = Ready::new(alloc, plan) else {
-        return Err(ShowFault::Grub(GrubFault::View));
+        return Err(ShowFault::NoMemory);
     };
     let Ok(steps) = Vec::with_capacity(alloc, ready.latest.capacity()) else {
-        return Err(ShowFault::Grub(GrubFault::View));
+        return Err(ShowFault::NoMemory);
     };
     match rows_through(rt, ready, plan, book, steps, out) {
         Ok(()) => Ok(()),
-        Err(_) => Err(ShowFault::Grub(GrubFault::WriteFault)),
+        Err(_) => Err(ShowFault::WriteFault),
     }
 }
 
@@ -231,20 +231,20 @@ fn rows_through<R: Threads + Sync, W: Write>(
 fn write_summary<W: Write>(alloc: Global, plan: &Plan, out: &mut W) -> Result<(), ShowFault>
     ensures text { OnOk result
         (WritesLine View.Summary plan.now (W.contents out.old) (W.contents out.new)) }
-    ensures prefix { IfErr result (λ e. e ≡ write_fault
+    ensures prefix { IfErr result (λ e. e ≡ faults.WriteFault
         → BeginsLine View.Summary plan.now (W.contents out.old) (W.contents out.new)) }
-    ensures nothing { IfErr result (λ e. (e ≡ write_fault → ⊥) → out.new ≡ out.old) }
+    ensures nothing { IfErr result (λ e. (e ≡ faults.WriteFault → ⊥) → out.new ≡ out.old) }
     ensures fault { IfErr result (IsFaultOfLine View.Summary plan.now) }
 {
     let Ok(line) = play(alloc, plan) else {
-        return Err(ShowFault::Grub(GrubFault::View));
+        return Err(ShowFault::NoMemory);
     };
     let Ok(text) = summary_text(alloc, plan, &line) else {
-        return Err(ShowFault::Grub(GrubFault::View));
+        return Err(ShowFault::NoMemory);
     };
     match write_text(text, out) {
         Ok(()) => Ok(()),
-        Err(_) => Err(ShowFault::Grub(GrubFault::WriteFault)),
+        Err(_) => Err(ShowFault::WriteFault),
     }
 }
 
@@ -258,13 +258,13 @@ fn write_picture<W: Write>(
 ) -> Result<(), ShowFault>
     ensures text { OnOk result
         (WritesLine (View.Picture from to) plan.now (W.contents out.old) (W.contents out.new)) }
-    ensures prefix { IfErr result (λ e. e ≡ write_fault
+    ensures prefix { IfErr result (λ e. e ≡ faults.WriteFault
         → BeginsLine (View.Picture from to) plan.now (W.contents out.old) (W.contents out.new)) }
-    ensures nothing { IfErr result (λ e. (e ≡ write_fault → ⊥) → out.new ≡ out.old) }
+    ensures nothing { IfErr result (λ e. (e ≡ faults.WriteFault → ⊥) → out.new ≡ out.old) }
     ensures fault { IfErr result (IsFaultOfLine (View.Picture from to) plan.now) }
 {
     let Ok(line) = play(alloc, plan) else {
-        return Err(ShowFault::Grub(GrubFault::View));
+        return Err(ShowFault::NoMemory);
     };
     let first = from.unwrap_or(0);
     let end = to.unwrap_or(end_of(&line));
@@ -275,20 +275,10 @@ fn write_picture<W: Write>(
         });
     }
     let Ok(text) = picture_text(alloc, plan, &line, first, end) else {
-        return Err(ShowFault::Grub(GrubFault::View));
+        return Err(ShowFault::NoMemory);
     };
     match write_text(text, out) {
         Ok(()) => Ok(()),
-        Err(_) => Err(ShowFault::Grub(GrubFault::WriteFault)),
+        Err(_) => Err(ShowFault::WriteFault),
     }
-}
-
-/// Writes a whole text, and flushes.
-fn write_text<W: Write>(mut text: Vec<u8>, out: &mut W) -> io::Result<()>
-    ensures whole { OnOk result (Appends (W.contents out.old) (W.contents out.new) text.items) }
-    ensures part { OnErr result
-        (AppendsPrefix (W.contents out.old) (W.contents out.new) text.items) }
-{
-    write_buffer(&mut text, out)?;
-    out.flush()
 }

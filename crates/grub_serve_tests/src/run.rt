@@ -11,7 +11,7 @@ use crate::files::{
     NO_EVENTS_REPORT, RETUNES, RETUNES_REPORT, files_of,
 };
 use crate::writer::Expecting;
-use grub_run::{GrubFault, run_texts};
+use grub_run::{GrubFault, run_texts, run_texts_by_threads};
 use grub_trace::{Kind, TraceFault};
 use grub_worked_examples::documentation;
 use std::alloc::{AllocError, Global};
@@ -19,7 +19,7 @@ use std::process::Abort;
 use std::sync::Wait;
 use std::thread::Threads;
 
-/// Whether a run of these files ends so, when the writer has taken all that it expects.
+/// Whether a run of these files ends so, when the writer has taken all that it expects, in both forms of the call.
 fn ends<R: Threads + Wait + Sync>(
     rt: &R,
     alloc: Global,
@@ -31,12 +31,14 @@ fn ends<R: Threads + Wait + Sync>(
 ) -> bool
     requires { 1 ≤ rounds }
 {
-    match files_of(alloc, texts) {
-        Some(files) => {
-            run_texts(rt, alloc, files, tries, rounds, &mut out) == end && out.is_met()
-        }
-        None => false,
-    }
+    let mut plain = out;
+    let Some(files) = files_of(alloc, texts) else {
+        return false;
+    };
+    run_texts(rt, alloc, &files, tries, rounds, &mut plain) == end
+        && plain.is_met()
+        && run_texts_by_threads(rt, alloc, files, tries, rounds, &mut out) == end
+        && out.is_met()
 }
 
 /// Whether a run of these files writes this text.

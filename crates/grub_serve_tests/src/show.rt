@@ -3,7 +3,6 @@
 use crate::expects::expect_at;
 use crate::files::{files_after_all, files_of};
 use crate::writer::Expecting;
-use grub_run::GrubFault;
 use grub_serve::{ShowFault, View, write_view};
 use grub_trace::TraceFault;
 use grub_worked_examples::moving;
@@ -54,9 +53,9 @@ fn shows_or_refuses<R: Abort + Threads + Sync>(
 /// Whether the fault is a want of memory.
 fn is_refusal(fault: ShowFault) -> bool {
     match fault {
-        ShowFault::Grub(GrubFault::Trace(fault)) => fault == TraceFault::NoMemory,
-        ShowFault::Grub(GrubFault::View) => true,
-        ShowFault::Grub(_) | ShowFault::EmptySpan { .. } => false,
+        ShowFault::Trace(fault) => fault == TraceFault::NoMemory,
+        ShowFault::NoMemory => true,
+        ShowFault::EmptySpan { .. } | ShowFault::WriteFault => false,
     }
 }
 
@@ -107,7 +106,7 @@ fn gets<R: Threads + Sync>(
     let mut out = Expecting::new(&text[..room.min(text.len())]);
     out.room = room;
     let wanted = if room < text.len() {
-        Err(ShowFault::Grub(GrubFault::WriteFault))
+        Err(ShowFault::WriteFault)
     } else {
         Ok(())
     };

@@ -3,15 +3,13 @@ use Rattle.std.specs.Prelude.{⊤, ℕ, List, Option}
 use Rattle.std.specs.Io.KnownBytes.{Appends}
 use Rattle.grub_book.specs.declared.event.Reading.{Reading}
 use Rattle.grub_run.specs.Written.{AppendsPrefix}
-use Rattle.grub_run.specs.declared.fault.GrubFault.{GrubFault}
-use Rattle.grub_run.specs.declared.fault.GrubFault.TheVariants as run
 use Rattle.grub_timeline.specs.TimeLines.{IsTimeLine}
 use Rattle.grub_timeline.specs.declared.told.Told.{Told}
 use Rattle.grub_plan.specs.Plans.{PlanView}
 use Rattle.grub_serve.specs.ViewFaults.{IsEmptySpan}
 use Rattle.grub_serve.specs.Shown.{IsViewOf}
 use Rattle.grub_serve.specs.declared.show_fault.ShowFault.{ShowFault}
-use Rattle.grub_serve.specs.declared.show_fault.ShowFault.TheVariants.{Grub, EmptySpan}
+use Rattle.grub_serve.specs.declared.show_fault.ShowFault.TheVariants as faults
 use Rattle.grub_serve.specs.declared.view.View.{View}
 
 -- a view of these entries was written, and nothing else
@@ -36,12 +34,6 @@ pub record BeginsLine (view : View) (plan : PlanView) (old new : Option (List �
   pub line : IsTimeLine plan told closing
   pub begun : BeginsView view plan told closing old new
 
--- want of memory, or of the writer
-abbrev pub IsFaultOfText : GrubFault → Type 0
-IsFaultOfText run.View = ⊤
-IsFaultOfText run.WriteFault = ⊤
-IsFaultOfText fault = ⊥
-
 -- a picture of the time line of the plan would go from this moment to this one, which is not after it
 pub record HasEmptyLine (view : View) (plan : PlanView) (first end : ℕ) : Type 0 where
   pub told : List Told
@@ -51,5 +43,6 @@ pub record HasEmptyLine (view : View) (plan : PlanView) (first end : ℕ) : Type
 
 -- no fault of a file; an empty span is that of a time line of the plan
 abbrev pub IsFaultOfLine : View → PlanView → ShowFault → Type 0
-IsFaultOfLine view plan (Grub fault) = IsFaultOfText fault
-IsFaultOfLine view plan (EmptySpan first end) = HasEmptyLine view plan first end
+IsFaultOfLine view plan (faults.Trace fault) = ⊥
+IsFaultOfLine view plan (faults.EmptySpan first end) = HasEmptyLine view plan first end
+IsFaultOfLine view plan fault = ⊤

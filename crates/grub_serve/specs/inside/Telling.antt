@@ -17,6 +17,7 @@ IsPlaced names fault r = r ≡ faults.Run fault
 -- a fault that comes while files are read
 abbrev pub IsOfReading : ProgramFault → Type 0
 IsOfReading (faults.Run fault) = ⊥
+IsOfReading faults.View = ⊥
 IsOfReading (faults.EmptySpan first end) = ⊥
 IsOfReading fault = ⊤
 
@@ -27,5 +28,6 @@ module _ {O N D : Type 0} (o : Opener O D) (g : Reader N D) (source : Source O N
   TellsOf name (faults.Unreadable path) = (path.now ≡ name) × IsUnreadable o g source name
   TellsOf name (faults.Line path line fault) = ⊥
   TellsOf name (faults.Run fault) = ⊥
+  TellsOf name faults.View = ⊥
   TellsOf name (faults.EmptySpan first end) = ⊥
   TellsOf name faults.NoMemory = IsOpened o g source name

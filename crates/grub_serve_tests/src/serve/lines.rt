@@ -16,7 +16,7 @@ fn is_told(alloc: Global, fault: &ProgramFault, status: u8, text: &str) -> bool 
     }
 }
 
-static FAULTS_OF_THE_SYSTEM: [(ProgramFault<'static>, &str); 7] = [
+static FAULTS_OF_THE_SYSTEM: [(ProgramFault<'static>, &str); 8] = [
     (
         ProgramFault::Run(GrubFault::Trace(TraceFault::NoMemory)),
         "37 NoMemory",
@@ -39,6 +39,7 @@ static FAULTS_OF_THE_SYSTEM: [(ProgramFault<'static>, &str); 7] = [
         "a file: 46 ReadFault",
     ),
     (ProgramFault::NoMemory, "47 NoMemory"),
+    (ProgramFault::View, "48 NoMemory"),
 ];
 
 #[test]

@@ -1,6 +1,6 @@
 use Rattle.std.proofs.Common.{refl}
 use Rattle.grub_run.specs.Written.{texts_from}
-use Rattle.grub_run.proofs.texts.write_run.Goals as goal
+use Rattle.grub_run.proofs.by_threads.write_run.Goals as goal
 
 pub write_reports-requires-clause-most : goal.write_reports-requires-clause-most
 write_reports-requires-clause-most g c κs within = rw (c.deref.ensures.value, c.in-Ok.ensures.run.one_each) c.requires.few

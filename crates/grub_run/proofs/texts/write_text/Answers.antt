@@ -1,6 +1,6 @@
 use Rattle.grub_plan.proofs.Handing.{on_err}
-use Rattle.grub_serve.proofs.Handed.{handed_part}
-use Rattle.grub_serve.proofs.view.write_text.Goals as goal
+use Rattle.grub_run.proofs.Known.{handed_part}
+use Rattle.grub_run.proofs.texts.write_text.Goals as goal
 
 pub returns-in_err-write_buffer-clause-part : goal.returns-in_err-write_buffer-clause-part
 returns-in_err-write_buffer-clause-part g c =

@@ -8,7 +8,7 @@ use Rattle.grub_plan.proofs.Handing.{hands_both, hands_none, hands_through, part
 use Rattle.grub_run.specs.Written.{texts_from}
 use Rattle.grub_run.proofs.Known.{flushed, on_ok, prefix_flushed, prefix_of}
 use Rattle.grub_run.proofs.TextLemmas.{texts_next, texts_front, texts_before}
-use Rattle.grub_run.proofs.texts.write_reports.Goals as goal
+use Rattle.grub_run.proofs.by_threads.write_reports.Goals as goal
 
 pub loop-r-init : goal.loop-r-init
 loop-r-init g c = record { room = c.requires.room; so_far = rw c.requires.empty (hands_none (g.W.Write.contents c.args.out.now) []) }

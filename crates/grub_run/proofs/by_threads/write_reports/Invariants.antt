@@ -2,7 +2,7 @@ use Rattle.std.proofs.Common.{◌≤◌, take, vec_capacity, []}
 use Rattle.grub_plan.specs.declared.pieces.TheConstants.{LINE_MAX}
 use Rattle.grub_plan.specs.Writing.{HandsOn}
 use Rattle.grub_run.specs.Written.{texts_from}
-use Rattle.grub_run.proofs.texts.write_reports.Given as goal
+use Rattle.grub_run.proofs.by_threads.write_reports.Given as goal
 
 abbrev pub invariant-loop-r : goal.invariant-loop-r
 invariant-loop-r g l = record {
