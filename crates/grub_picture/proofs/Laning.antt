@@ -49,6 +49,6 @@ queue_drawn d y end n r o new whole below new_is end_is is =
 pub queue_ended : (d : Drawn) (y end n r last : ℕ) → r < n → end ≡ queue_end d r y → queues_end d y (range_with_len r (n - r)) ≡ last → queues_end d end (range_with_len (r + 1) (n - (r + 1))) ≡ last
 queue_ended d y end n r last below end_is is = rw end_is (ap (queues_end d y) (sym (count_left r n below)) ∙ is)
 
-pub lanes_begin : (d : Drawn) (r : ℕ) → filter (has_lane d r) (range_with_len 0 (length d.setup.tasks - 0)) ≡ lanes_of d r
+pub lanes_begin : (d : Drawn) (r : ℕ) → filter (has_lane d r) (range_with_len 0 (d.tasks - 0)) ≡ lanes_of d r
 unfolding lanes_of
-lanes_begin d r = ap (filter (has_lane d r)) (all_left (length d.setup.tasks))
+lanes_begin d r = ap (filter (has_lane d r)) (all_left d.tasks)

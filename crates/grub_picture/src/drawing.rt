@@ -30,6 +30,10 @@ pub struct Scene<'a> {
     pub marks: &'a [Mark],
 
     pub frame: Frame,
+
+    /// So many of the tasks have lanes, and so many of the runqueues are there, from the first on.
+    pub tasks: u32,
+    pub queues: u32,
 }
 
 /// How high a lane is.
@@ -59,6 +63,7 @@ pub(crate) fn put_queue(
 ) -> Result<u32, AllocError>
     requires there { r < length scene.now.plan.now.setup.queues }
     requires room { y + 4194 < 2 ^ 32 }
+    requires tasks { scene.now.tasks ≤ length scene.now.plan.now.setup.tasks }
     requires owns { map (λ v. v.items) scene.now.owns.now
         ≡ owns_of (length scene.now.plan.now.setup.tasks) scene.now.steps.now }
     ensures text { OnOk result
@@ -88,6 +93,7 @@ fn put_lanes(
     y: u32,
 ) -> Result<u32, AllocError>
     requires room { y + 4096 < 2 ^ 32 }
+    requires tasks { scene.now.tasks ≤ length scene.now.plan.now.setup.tasks }
     requires owns { map (λ v. v.items) scene.now.owns.now
         ≡ owns_of (length scene.now.plan.now.setup.tasks) scene.now.steps.now }
     ensures text { OnOk result (out.new.items
@@ -95,8 +101,10 @@ fn put_lanes(
     ensures end { IfOk result (λ e. e ≡ y + 16 * length (lanes_of (drawn_of scene.now) r)) }
     ensures most { IfOk result (λ e. e ≤ y + 4096) }
 {
+    // A reader tells that a setup has no more tasks than there is room for.
+    let _ = scene.plan.setup();
     let mut at = y;
-    for t in 0..scene.plan.setup().task_count() {
+    for t in 0..scene.tasks {
         let bars = bars_of(alloc, r, scene.own(t), scene.frame)?;
         if are_seen(scene.frame, &bars) {
             put_lane(out, scene, (r, t), &bars, at)?;

@@ -18,8 +18,8 @@ loop-t-init c =
 pub loop-t-preserved : goal.loop-t-preserved
 loop-t-preserved c =
     let d = drawn_of c.args.scene.now in
-    let n = length c.args.scene.now.plan.now.setup.tasks in
-    let below : c.loop-t.t < n = omega (arith, c.loop-t-test.true, c.task_count-t-end.ensures.value, ap (λ s. length s.tasks) c.setup.ensures.setup) in
+    let n = c.args.scene.now.tasks in
+    let below : c.loop-t.t < n = c.loop-t-test.true in
     let seen = rw (c.deref.ensures.value, c.in_ok-bars.ensures, c.own.ensures) at c.are_seen.ensures in
     elim c.if-are_seen.branch [
       | then-are_seen+in_ok-put_lane w ↦
@@ -37,3 +37,9 @@ loop-t-preserved c =
             most = omega (arith, w.at-is, c.loop-t.invariant.most);
           }
     ]
+
+pub overflow_add-at : goal.overflow_add-at
+overflow_add-at c = omega (arith, c.loop-t-test.true, c.loop-t.invariant.most, c.requires.tasks, c.requires.room, c.setup.ensures.limits.setup.tasks_most)
+
+pub returns-clause-most : goal.returns-clause-most
+returns-clause-most c = omega (arith, c.loop-t-test.false, c.loop-t.invariant.most, c.requires.tasks, c.setup.ensures.limits.setup.tasks_most)

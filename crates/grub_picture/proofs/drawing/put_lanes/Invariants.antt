@@ -8,7 +8,7 @@ use Rattle.grub_picture.proofs.drawing.put_lanes.Given as goal
 abbrev pub invariant-loop-t : goal.invariant-loop-t
 invariant-loop-t l =
     let d = drawn_of l.scene in
-    let left = filter (has_lane d l.r) (range_with_len l.t (length d.setup.tasks - l.t)) in
+    let left = filter (has_lane d l.r) (range_with_len l.t (d.tasks - l.t)) in
     record {
       text : l.out.items ++ lanes_text d l.r l.at left ≡ l.initial.out.items ++ lanes_text d l.r l.y (lanes_of d l.r);
       down : l.at + 16 * length left ≡ l.y + 16 * length (lanes_of d l.r);

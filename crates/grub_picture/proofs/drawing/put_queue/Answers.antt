@@ -25,4 +25,4 @@ pub queue-requires : goal.queue-requires
 queue-requires c = rw c.setup.ensures.setup c.requires.there
 
 pub put_lanes-requires : goal.put_lanes-requires
-put_lanes-requires c = record { room = omega (arith, c.requires.room); owns = c.requires.owns }
+put_lanes-requires c = record { room = omega (arith, c.requires.room); tasks = c.requires.tasks; owns = c.requires.owns }
