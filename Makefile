@@ -8,7 +8,7 @@ FLAGS ?=
 TRACE ?= examples/kernel/trace.txt
 WORDS ?= tasks
 
-.PHONY: build runner tracer run try try-trace test edits growths program options bench bench-plain record-check install uninstall clean
+.PHONY: build runner tracer run try try-trace test quick edits growths cases options bench record-check dist install uninstall clean
 
 # Proves both programs with all that they stand on, and builds them. What is proved is told crate by crate.
 build:
@@ -34,7 +34,7 @@ try-trace:
 	@scripts/try.sh grubtrace $(WORDS) $(TRACE)
 
 # The gate: every proof that the machine has not kept, the must-fail edits, all tests and the stored run, each growth of memory refused in
-# turn, and the program's statuses and lines of faults.
+# turn, and the programs' cases.
 test:
 	bash .ci/run
 
@@ -46,27 +46,29 @@ edits: build
 growths: runner
 	bash scripts/refused-growths.sh --build
 
-# The program's statuses and lines of faults.
-program: runner
-	bash scripts/program.sh
+# All tests, and the programs that have a stored output, with nothing proved.
+quick:
+	@python3 scripts/quick.py
+
+# The built programs on the cases of tests/: statuses, outputs, lines of faults, each option, limits.
+cases: build
+	@python3 scripts/cases.py
 
 # Man pages and completions beside --help of the programs.
 options: build
 	bash scripts/options.sh
 
-# A run over files whose sizes double, and a time line beside a run by threads of the same files: time and memory, and their
-# ratios.
+# grubrun beside plain Rust without proofs (bench/, which wants cargo), in one run.
 bench: runner
-	@python3 scripts/bench-sizes.py
-	@python3 scripts/bench-timeline.py
-
-# grubrun beside plain Rust without proofs (bench/, which wants cargo): ratios of time, and of memory to input.
-bench-plain: runner
-	@python3 scripts/bench-plain.py
+	@python3 bench/compare.py
 
 # Records a load of three tasks on this machine and checks the record; elsewhere it says why it cannot.
 record-check: tracer
 	scripts/record-check.sh
+
+# A release that needs no kit, out/neddwyrol-VERSION.tar.gz, which is unpacked and tried.
+dist: build
+	@bash scripts/dist.sh
 
 # The programs, their man pages, and the completions of bash, zsh and fish, below PREFIX; DESTDIR goes in front of it.
 SHARE := $(DESTDIR)$(PREFIX)/share

@@ -19,7 +19,7 @@ import subprocess
 import sys
 import time
 
-from crates import LIBRARIES, ROOT, crates, files_below, kit_folder, known_seconds, lanes, sum_of, text_of
+from crates import LIBRARIES, ROOT, crates, files_below, kit_folder, lanes, sum_of, text_of, weight
 
 BUILD = f"{ROOT}/out/build"
 ROOM = 2_500_000
@@ -36,11 +36,11 @@ def say(text):
 class Work:
     """The proof of one crate: what it reads, what it makes, and the process that is at it."""
 
-    def __init__(self, crate, kit, seconds):
+    def __init__(self, crate, kit):
         self.crate, self.kit, self.state, self.looked = crate, kit, "waits", False
         self.made = f"{LIBRARIES}/{crate.name}.rlib" if not crate.is_program else f"{crate.folder}/out/{crate.name}"
         self.log, self.noted = f"{BUILD}/{crate.name}.log", f"{BUILD}/{crate.name}.made"
-        self.seconds = seconds
+        self.weight = weight(crate)
 
     def reads(self):
         """A sum of all that its proof reads: its text, the libraries below it, and the kit."""
@@ -100,12 +100,12 @@ class Work:
 
 
 def in_order(works):
-    """Those that most has to be proved after, first: a crate's seconds, and those of the longest way from it to a program."""
+    """Those that most has to be proved after, first: a crate's weight, and those of the heaviest way from it to a program."""
     behind = dict.fromkeys(works, 0)
     for name in sorted(works, key=lambda it: -len(works[it].crate.below)):
         for low in works[name].crate.below:
-            behind[low] = max(behind[low], behind[name] + works[name].seconds)
-    return sorted(works, key=lambda it: -behind[it] - works[it].seconds)
+            behind[low] = max(behind[low], behind[name] + works[name].weight)
+    return sorted(works, key=lambda it: -behind[it] - works[it].weight)
 
 
 def begin_more(works, order, most):
@@ -180,9 +180,9 @@ def main(programs):
         except BlockingIOError:
             say("build: waiting for another build")
             fcntl.flock(lock, fcntl.LOCK_EX)
-        kit, seconds = kit_folder(), known_seconds()
+        kit = kit_folder()
         names = list(dict.fromkeys(low for it in programs for low in [*known[it].below, it]))
-        works = {it: Work(known[it], kit, seconds.get(it, 0)) for it in names}
+        works = {it: Work(known[it], kit) for it in names}
         return 0 if build(works, lanes(ROOM, SPARE)) else 1
 
 

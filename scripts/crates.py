@@ -69,10 +69,9 @@ def crates():
     return found
 
 
-def known_seconds():
-    """How long the proof of each crate takes, as far as it is known."""
-    lines = [it.split() for it in text_of(f"{ROOT}/scripts/seconds.txt").split("\n") if it and not it.startswith("#")]
-    return {name: int(seconds) for name, seconds in lines}
+def weight(crate):
+    """About how much there is to prove of a crate: the bytes of its files."""
+    return sum(os.path.getsize(it) for part in ("src", "specs", "proofs") for it in files_below(f"{crate.folder}/{part}"))
 
 
 def kit_folder():

@@ -21,14 +21,12 @@ import time
 from concurrent.futures import ThreadPoolExecutor
 from typing import NamedTuple
 
-from crates import LIBRARIES, ROOT, crates, files_below, kit_folder, known_seconds, lanes, text_of
+from crates import LIBRARIES, ROOT, crates, files_below, kit_folder, lanes, text_of, weight
 from kept import Kept, forget_old
 
 PARTS = ("src", "specs", "proofs")
 # A check takes up to so many kB of memory, and no check that goes well so many seconds.
 ROOM, LONGEST = 2_500_000, 1800
-# About so many seconds an edit takes, beside the proof of its crate.
-EACH = 5
 
 FUNCTION = re.compile(r"^( *)(?:pub(?:\(\w+\))? )?(?:const )?fn (\w+)")
 TYPE = re.compile(r"^ *(?:impl|trait)(?:<.*?>)? (?:([\w:]+)(?:<.*>)? for )?&?([\w:]+)")
@@ -368,8 +366,7 @@ def try_all(of, known, how):
         say("edits: the libraries must be built first, by rt ci or scripts/build.py")
         return 0, 1
     kit = kit_folder()
-    seconds = known_seconds()
-    order = sorted(of, key=lambda it: -seconds.get(it, 0) - EACH * len(of[it]))
+    order = sorted(of, key=lambda it: -weight(known[it]) * len(of[it]))
     os.makedirs(f"{ROOT}/out", exist_ok=True)
     forget_old()
     with tempfile.TemporaryDirectory(prefix="edits-", dir=f"{ROOT}/out") as room, ThreadPoolExecutor(lanes(ROOM)) as pool:

@@ -82,27 +82,27 @@ refuse_each() {
 }
 export -f refuse_one refuse_each
 
-# Where in the program's work a refusal of this line stops it: words and files, lines, run, text.
+# Where in the program's work a refusal of this line stops it: words and files, lines, run or view, text.
 place_of() {
     case $1 in
     'grubrun: 47 NoMemory') echo 1 ;;
     'grubrun: 37 NoMemory') echo 2 ;;
-    'grubrun: 38 NoMemory' | 'grubrun: 39 Spawn') echo 3 ;;
+    'grubrun: 38 NoMemory' | 'grubrun: 39 Spawn' | 'grubrun: 48 NoMemory') echo 3 ;;
     'grubrun: 43 NoMemory') echo 4 ;;
     *) echo 0 ;;
     esac
 }
 
-# Runs the program on the first file once for each growth: the refusals come in the order of its work, each of them once
-# at least.
+# refuse_program PROGRAM PLACES WORD..: runs the program on these words and the first file once for each growth: the refusals
+# come in the order of its work, each of them once at least.
 refuse_program() {
-    local program=$1 growth=1 last=1 seen=' ' status line place
-    mkdir "$work/program"
-    cd "$work/program" || return 1
+    local program=$1 places=$2 growth=1 last=1 seen=' ' status line place
+    shift 2
+    cd "$(mktemp -d "$work/program.XXXXXX")" || return 1
     printf '%s\n' 'grub 1' 'queue 1048576 0' 'task A 4 8' 'at 0 join A' 'at 0 block A' 'at 3 wake A' > first
-    "$program" first > report || return 1
+    "$program" "$@" first > report || return 1
     while :; do
-        refuse_one "$growth" "$program" first > out 2> err
+        refuse_one "$growth" "$program" "$@" first > out 2> err
         status=$?
         [[ -s told ]] || break
         line=$(cat err)
@@ -118,13 +118,13 @@ refuse_program() {
         seen+="$place "
         growth=$((growth + 1))
     done
-    for place in 1 2 3 4; do
+    for place in $places; do
         if [[ $seen != *" $place "* ]]; then
-            echo "refused-growths: no growth of grubrun is refused at place $place of its work"
+            echo "refused-growths: no growth of grubrun $* is refused at place $place of its work"
             return 1
         fi
     done
-    echo "refused-growths: grubrun tells each of $((growth - 1)) refused growths by its line"
+    echo "refused-growths: grubrun $* tells each of $((growth - 1)) refused growths by its line"
 }
 
 build=no
@@ -169,8 +169,12 @@ done < "$work/ended"
 
 program="$root/crates/grubrun/out/grubrun"
 if [[ -x $program ]]; then
-    refuse_program "$program"
+    refuse_program "$program" '1 2 3 4'
     count $?
+    for view in timeline steps summary picture; do
+        refuse_program "$program" '1 2 3' --view "$view"
+        count $?
+    done
 else
     echo "refused-growths: there is no $program; the gate makes it, and so does 'make build'"
     count 1

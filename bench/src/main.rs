@@ -1,5 +1,5 @@
 //! The work of `grubrun` on event files of version 1 in plain Rust, with the standard library alone
-//! and nothing proved: what `scripts/bench-plain.py` measures `grubrun` beside. `plain run FILE...`
+//! and nothing proved: what `bench/compare.py` measures `grubrun` beside. `plain run FILE...`
 //! plays the files one after another in one thread, `plain threads` has a thread for each file and
 //! one book behind a lock, and `plain lockfree` a thread for each file over shared words that are
 //! exchanged.

@@ -1,0 +1,90 @@
+"""Inputs at the limits, made where a table of cases names them: file NAME made KIND NUMBER.."""
+import os
+
+ROOT = os.path.dirname(os.path.dirname(os.path.abspath(__file__)))
+PROCESSOR = 1048576
+# What a line of another task has in a trace, which tells nothing of a SCHED_DEADLINE task.
+OTHER = "      x-1       [000] d..2.   {}: sched_wakeup: comm=x pid=1 prio=120 target_cpu=000\n"
+
+
+def write(path, *parts):
+    with open(path, "w", encoding="ascii") as it:
+        it.writelines(parts)
+
+
+def zeros(path, size):
+    """So many bytes of no line."""
+    write(path)
+    os.truncate(path, size)
+
+
+def readings(path, size):
+    """An event file of exactly so many bytes, which reads its runqueue in each line."""
+    head = f"grub 1\nqueue {PROCESSOR} 0\n"
+    longer = (size - len(head)) % 10
+    shorter = (size - len(head) - 11 * longer) // 10
+    write(path, head, "at 0 read\n" * shorter, "at 10 read\n" * longer)
+
+
+def queues(folder, count):
+    """An event file for each of so many runqueues: one task goes through all of them, and each has a task of its own."""
+    os.mkdir(folder)
+    for r in range(count):
+        own = [f"task OWN{r} 1 8\n", *["task GUEST 1 8\n"] * (r == 0)]
+        acts = ["join OWN{r}", "run OWN{r} 1", "block OWN{r}", "join GUEST", "run GUEST 1", "block GUEST", "leave GUEST", "read"]
+        lines = [f"at {10 * r + k} {it.format(r=r)}\n" for k, it in enumerate(acts)]
+        write(f"{folder}/{r:02}.grub", "grub 1\n", f"queue {PROCESSOR} 0\n", *own, *lines)
+
+
+def crowded(folder, count, tasks):
+    """So many runqueues, each with a lane for each of so many tasks, which are on it twice, the second time at the very last moment: a picture of
+    this has too many bytes, however wide its least bar is."""
+    os.mkdir(folder)
+    names = [f"A_LONG_NAME_{t:04}" for t in range(tasks)]
+    for r in range(count):
+        lines = [f"at {m} {act.format(name)}\n" for m in (1000000000 + r, 2000000000) for name in names
+                 for act in ("join {}", "run {} 2", "block {}", "leave {}")]
+        declared = [f"task {name} 1 {PROCESSOR}\n" for name in names if r == 0]
+        write(f"{folder}/{r:02}.grub", "grub 1\n", f"queue {PROCESSOR} 0\n", *declared, *lines)
+
+
+def shifted(line, millis):
+    """A line of a trace, later by so much, wherever it tells a moment."""
+    words = line.split(" ")
+    for at, word in enumerate(words):
+        if word.startswith("100.") and word.endswith(":"):
+            words[at] = f"{int(word[:-1].replace('.', '')) + millis * 1000000:012}"
+            words[at] = f"{words[at][:-9]}.{words[at][-9:]}:"
+        for key in ("expires=", "now="):
+            if word.startswith(key):
+                words[at] = f"{key}{int(word[len(key):]) + millis * 1000000}" + "\n" * word.endswith("\n")
+    return " ".join(words)
+
+
+def trace(path, size, times):
+    """The short trace of the tests, the same again so many times in all, every 100 ms, and other tasks' lines up to this size at least."""
+    with open(f"{ROOT}/tests/blocks.txt", encoding="ascii") as it:
+        head, first, *lines = it.readlines()
+    # When b wakes again, a is there and inactive, so b is charged at a lower rate: 262143 / 996147, and not 367000 / 996147.
+    later = [it.replace("100021840", "100021315").replace("100.021841000", "100.021316000") for it in lines]
+    told = [*lines, *[shifted(it, 100 * k) for k in range(1, times) for it in later]]
+    other = OTHER.format(f"{101 + times // 10}.000000000")
+    write(path, head, first, *told, other * ((size - sum(map(len, told))) // len(other) + 1))
+
+
+def processors(path, count):
+    """A trace of so many processors, on each of which a task of its own wakes, runs for 1 ms and blocks."""
+    lines = [f"# entries-in-buffer/entries-written: {4 * count}/{4 * count}   #P:{count}\n"]
+    for cpu in range(count):
+        task, at = f"t{cpu}-{1000 + cpu} [{cpu:03}] d.", 100 + cpu
+        lines += [
+            f"x-1 [{cpu:03}] d. {at}.020000000: sched_wakeup: comm=t{cpu} pid={1000 + cpu} prio=-1 target_cpu={cpu:03}\n",
+            f"{task} {at}.021000000: sched_stat_runtime: comm=t{cpu} pid={1000 + cpu} runtime=1000000 [ns]\n",
+            f"{task} {at}.021000100: hrtimer_start: hrtimer=h{cpu} function=inactive_task_timer expires={at}030000000\n",
+            f"{task} {at}.021000200: sched_switch: prev_comm=t{cpu} prev_pid={1000 + cpu} prev_prio=-1 prev_state=S ==> next_comm=x\n",
+        ]
+    write(path, *lines)
+
+
+def make(path, kind, numbers):
+    {it.__name__: it for it in (zeros, readings, queues, crowded, trace, processors)}[kind](path, *map(int, numbers))
