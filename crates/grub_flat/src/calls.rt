@@ -44,6 +44,7 @@ pub(crate) fn fits(op: Op, queues: &[NdRunqueue]) -> bool
     }
 }
 
+/// A reply of this kind, without numbers.
 pub(crate) fn plain_reply(kind: u32) -> NdReply
     ensures { result ≡ plain_reply kind }
 {
@@ -69,6 +70,7 @@ fn reply_with(kind: u32, number: u32, budget: u32, deadline: u32) -> NdReply
     }
 }
 
+/// A reply of the book in plain numbers.
 pub(crate) fn reply_of(reply: Reply) -> NdReply
     ensures { result ≡ reply_of reply }
 {

@@ -15,7 +15,8 @@ use crate::memory::{NdRunqueue, NdTask};
 use crate::records::{counts, queue_in, record_in, task_of};
 use grub_book::{Op, Reply, refusal, runqueue, settle, shifted};
 
-/// Asks an op for task `t`. None where the memory is no book; then nothing is written.
+/// Asks an op that may be asked for task `t`, of which there is one. None where the memory is no book; then, and where the
+/// reply refuses, nothing is written.
 #[inline(always)]
 pub(crate) fn asked(
     tasks: &mut [NdTask],
@@ -37,28 +38,6 @@ pub(crate) fn asked(
 {
     match op {
         Op::Charge { r, dt } => charged(tasks, queues, t, r, dt),
-        _ => moved(tasks, queues, t, op),
-    }
-}
-
-/// `asked` of any op. Where it is known which op it is, little is left of its step, so those that come most stand apart.
-fn moved(tasks: &mut [NdTask], queues: &mut [NdRunqueue], t: u32, op: Op) -> Option<Reply>
-    requires task { t < length tasks.old }
-    requires fits { IsOp (machine_of [] queues.old) op }
-    ensures step { (s : Machine) → IsBook s tasks.old queues.old
-        → IfSome result (λ reply. (records_of tasks.new, reply)
-        ≡ step s (records_of tasks.old) t op) }
-    ensures book { (s : Machine) → IsBook s tasks.old queues.old
-        → IsBook s tasks.new queues.new }
-    ensures some { (s : Machine) → IsBook s tasks.old queues.old → IsSome result }
-    ensures none { IsNone result → (tasks.new ≡ tasks.old) × (queues.new ≡ queues.old) }
-    ensures kept { IfSome result (λ reply. Refuses reply
-        → (tasks.new ≡ tasks.old) × (queues.new ≡ queues.old)) }
-{
-    match op {
-        Op::Wake { r, m } => stepped(tasks, queues, t, Op::Wake { r, m }),
-        Op::Block { r, m } => stepped(tasks, queues, t, Op::Block { r, m }),
-        Op::Timer { ticket, m } => stepped(tasks, queues, t, Op::Timer { ticket, m }),
         _ => stepped(tasks, queues, t, op),
     }
 }
@@ -104,7 +83,6 @@ fn charged(
 }
 
 /// `asked` of any op.
-#[inline(always)]
 fn stepped(tasks: &mut [NdTask], queues: &mut [NdRunqueue], t: u32, op: Op) -> Option<Reply>
     requires task { t < length tasks.old }
     requires fits { IsOp (machine_of [] queues.old) op }
