@@ -1,6 +1,7 @@
 //! The command line.
 
-use crate::texts::{AFTER_CHECK, AFTER_EVENTS, AFTER_HELP, AFTER_TASKS, VERSION};
+use crate::check_command::check_command;
+use crate::texts::{AFTER_EVENTS, AFTER_HELP, AFTER_TASKS, VERSION};
 use clap::{Arg, ArgAction, Command, value_parser};
 use grub_facts::CPUS_MAX;
 use std::alloc::{AllocError, Global};
@@ -54,22 +55,6 @@ fn out_arg<'a>(alloc: Global) -> Arg<'a> {
         .action(ArgAction::Set)
 }
 
-fn within_arg<'a>(alloc: Global) -> Arg<'a> {
-    Arg::new(alloc, "within")
-        .long("within")
-        .value_name("US")
-        .help("How far a 0-lag moment may lie from the kernel's, in microseconds")
-        .value_parser(value_parser!(u32).range(0..2147483648))
-        .default_value("100")
-}
-
-fn picture_arg<'a>(alloc: Global) -> Arg<'a> {
-    Arg::new(alloc, "picture")
-        .long("picture")
-        .value_name("FILE.svg")
-        .help("Writes a picture of the time line, with a mark at each 0-lag timer of the kernel")
-}
-
 fn tasks_command<'a>(alloc: Global) -> Result<Command<'a>, AllocError> {
     Command::new(alloc, "tasks")
         .about("Prints the SCHED_DEADLINE tasks that a trace shows")
@@ -95,16 +80,6 @@ fn events_command<'a>(alloc: Global) -> Result<Command<'a>, AllocError> {
         .arg(trace_arg(alloc))
 }
 
-fn check_command<'a>(alloc: Global) -> Result<Command<'a>, AllocError> {
-    let command = Command::new(alloc, "check")
-        .about("Says whether the kernel accounted as the book does")
-        .after_help(AFTER_CHECK);
-    with_setting(alloc, command)?
-        .arg(within_arg(alloc))?
-        .arg(picture_arg(alloc))?
-        .arg(trace_arg(alloc))
-}
-
 /// `grubtrace tasks TRACE`, `grubtrace events OPTIONS --out PREFIX TRACE` and `grubtrace check OPTIONS TRACE`.
 pub(crate) fn command<'a>(alloc: Global) -> Result<Command<'a>, AllocError> {
     Command::new(alloc, "grubtrace")
@@ -116,5 +91,5 @@ pub(crate) fn command<'a>(alloc: Global) -> Result<Command<'a>, AllocError> {
         .subcommand_required(true)
         .subcommand(tasks_command(alloc)?)?
         .subcommand(events_command(alloc)?)?
-        .subcommand(check_command(alloc)?)
+        .subcommand(check_command(alloc, trace_arg(alloc))?)
 }

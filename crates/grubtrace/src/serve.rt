@@ -3,19 +3,17 @@
 ghost use Rattle.std.specs.Prelude.{◌≡◌, ◌≤◌, ◌⊎◌};
 ghost use Rattle.grub_convert.specs.declared.fault.TheConstants.{STATUS_SYSTEM, STATUS_USAGE};
 
+use crate::check_command::{wanted_by, words_of};
 use crate::command::command;
 use clap::error::ErrorKind;
 use clap::{ArgMatches, Error};
 use grub_convert::{
     Input, Options, STATUS_SYSTEM, STATUS_USAGE, Target, options_of, serve_events, serve_tasks,
 };
-use grub_verdict::{Question, serve_check};
 use std::alloc::{AllocError, Global};
 use std::io;
 use std::io::Write;
-
-/// How far a 0-lag moment may lie from the kernel's, in microseconds, where the words do not say it.
-const WITHIN: u32 = 100;
+use trace_check::{WrongOption, options_of as check_options, serve_check};
 
 /// What the words ask for.
 fn matches_of<'a>(alloc: Global, words: &'a [String]) -> Result<ArgMatches<'a>, Error> {
@@ -115,16 +113,36 @@ fn check<
     ensures status { result ≤ 4 }
     ensures nothing { (result ≡ 1) ⊎ (result ≡ 2) → out.new ≡ out.old }
 {
-    let question = Question {
-        path: matches.get_str("TRACE").unwrap_or(""),
-        within: matches.get_one::<u32>("within").unwrap_or(WITHIN),
-        picture: matches.get_str("picture"),
-    };
-    match options_in(alloc, matches) {
-        Ok(Some(options)) => serve_check(alloc, input, target, question, &options, out, faults),
-        Ok(None) => no_options(faults),
+    match check_options(alloc, words_of(matches)) {
+        Ok(Ok(options)) => serve_check(
+            alloc,
+            &input.open,
+            &input.read,
+            &target.exists,
+            &target.make,
+            wanted_by(matches),
+            &options,
+            out,
+            faults,
+        ),
+        Ok(Err(wrong)) => wrong_option(wrong, faults),
         Err(_) => no_memory(faults),
     }
+}
+
+/// The line of an option that says nothing that it may say.
+fn wrong_option<E: Write>(wrong: WrongOption<'_>, faults: &mut E) -> u8
+    ensures { result ≡ STATUS_USAGE }
+{
+    let (name, value) = match wrong {
+        WrongOption::Task(value) => ("--task", value),
+        WrongOption::Domain(value) => ("--domain", value),
+        WrongOption::Rt(value) => ("--rt", value),
+        WrongOption::FairServer(value) => ("--fair-server", value),
+        WrongOption::Kernel(value) => ("--kernel", value),
+    };
+    let _ = writeln!(faults, "error: invalid value '{value}' for '{name}'");
+    STATUS_USAGE
 }
 
 /// What the words say of the tasks and the runqueues; none where a number or a name of them is no such.

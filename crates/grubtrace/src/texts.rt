@@ -1,7 +1,7 @@
 //! The texts of the command line's help.
 
 /// What `--version` prints after the program's name.
-pub const VERSION: &str = "0.1.0";
+pub const VERSION: &str = "0.2.0";
 
 /// What stands below the help of the program.
 pub const AFTER_HELP: &str = "\
@@ -10,7 +10,7 @@ scripts/record.sh makes it: the file `trace` of tracefs, or what perf script pri
 
     grubtrace tasks trace.txt
     grubtrace events --task gr_0=5000:50000 --out run trace.txt
-    grubtrace check --task gr_0=5000:50000 trace.txt
+    grubtrace check trace.txt
 
 The first tells which tasks there are, the second writes run.cpu0.grub and so on, which
 grubrun plays, and the third prints a verdict.
@@ -34,7 +34,11 @@ A file that is there already is never written over (status 1).
 
 /// What stands below the help of `check`.
 pub const AFTER_CHECK: &str = "\
-The last line says `agrees` (status 0), or the last five what is needed to find why the
+A record of scripts/record.sh needs no option: its notes say what the kernel knew. Where it
+has lines of probes, each value that they show is compared with the rules, bit for bit; else,
+and with --timers, the moments for which the kernel armed its timers. An option stands above
+the notes. The verdict ends in `agrees` (status 0), or in what is needed to find why the
 kernel `differs` (status 4). docs/KERNEL.md says what is compared and what is not.
 
+    grubtrace check trace.txt
     grubtrace check --task gr_0=5000:50000 --task gr_1=10000:40000 trace.txt";

@@ -37,6 +37,9 @@ pub enum Fault<'a> {
     /// 54: a CPU that is not of the root domain.
     OutsideDomain { line: u64 },
 
+    /// 55: a note whose list of CPUs is none.
+    BadNote { line: u64 },
+
     /// 56: a file would be written over.
     FileExists { path: &'a str },
 
@@ -84,6 +87,7 @@ impl Fault<'_> {
             }
             Fault::NoTimers => writeln!(to, "grubtrace: {path}: 53 NoTimers"),
             Fault::OutsideDomain { line } => writeln!(to, "grubtrace: {path}:{line}: 54 TooLong"),
+            Fault::BadNote { line } => writeln!(to, "grubtrace: {path}:{line}: 55 BadTraceLine"),
             Fault::FileExists { path } => writeln!(to, "grubtrace: {path}: 56 FileExists"),
             Fault::Changed { line } => writeln!(to, "grubtrace: {path}:{line}: 59 Changed rt"),
             Fault::NoSums { kernel } => {

@@ -1,9 +1,14 @@
 //! The program's part of `grubtrace check`: what its options say, its faults, and its answers.
 #![tactic(auto)]
 
+mod check;
 mod fault;
+mod gathering;
+mod head;
+mod names;
 mod options;
 
+pub use check::{Wanted, serve_check};
 pub use fault::{Fault, STATUS_DIFFERS, STATUS_FILE, STATUS_SYSTEM, STATUS_USAGE};
 pub use options::{
     Arithmetic, CPU_MAX, FairServer, Given, Options, Range, Words, WrongOption, options_of,

@@ -236,7 +236,7 @@ fn range_of(text: &str) -> Option<Range> {
 }
 
 /// The CPUs of a list as `0-3,8`, which increase; none where it is no such list.
-fn domain_of(alloc: Global, text: &str) -> Result<Option<Vec<Range>>, AllocError> {
+pub(crate) fn domain_of(alloc: Global, text: &str) -> Result<Option<Vec<Range>>, AllocError> {
     let mut ranges: Vec<Range> = Vec::new(alloc);
     let mut least = 0u32;
     for word in text.split(',') {

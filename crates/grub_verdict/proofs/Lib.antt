@@ -1,3 +1,0 @@
-pub mod CheckLemmas
-pub mod Earliest
-pub mod FromFront

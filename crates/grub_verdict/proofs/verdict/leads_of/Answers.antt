@@ -1,7 +1,0 @@
-use Rattle.std.proofs.Common.{arith}
-use Rattle.std.proofs.lemmas.Grind.{common_steps}
-use Rattle.std.proofs.lemmas.List.Elements.{filter_map-append}
-use Rattle.grub_verdict.proofs.verdict.leads_of.Goals as goal
-
-pub loop-observation-preserved : goal.loop-observation-preserved
-loop-observation-preserved c = grind (arith, common_steps, filter_map-append)

@@ -1,5 +1,0 @@
-//! Tests of grub_verdict.
-#![tactic(auto)]
-
-#[cfg(test)]
-mod tests;

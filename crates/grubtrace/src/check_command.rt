@@ -1,0 +1,133 @@
+//! The command line of `grubtrace check`.
+
+use crate::texts::AFTER_CHECK;
+use clap::{Arg, ArgAction, ArgMatches, Command, value_parser};
+use std::alloc::{AllocError, Global};
+use trace_check::{CPU_MAX, Wanted, Words};
+
+/// How far a moment may lie from the kernel's, in microseconds, where the words do not say it.
+const WITHIN: u32 = 20;
+
+/// Whose arithmetic a record may be played by.
+const LAWS: &[&str] = &["kernel", "documentation"];
+
+fn task_arg<'a>(alloc: Global) -> Arg<'a> {
+    Arg::new(alloc, "task")
+        .long("task")
+        .value_name("NAME=RUNTIME:PERIOD[:DEADLINE][,norec]")
+        .help("A task's comm or pid, and what it reserves, in microseconds; once for each task")
+        .action(ArgAction::Append)
+}
+
+fn cpus_arg<'a>(alloc: Global) -> Arg<'a> {
+    Arg::new(alloc, "cpus")
+        .long("cpus")
+        .value_name("N")
+        .help("The root domain has the CPUs 0 to N-1; N is 1 to 8192")
+        .value_parser(value_parser!(u32).range(1..i64::from(CPU_MAX) + 2))
+}
+
+fn domain_arg<'a>(alloc: Global) -> Arg<'a> {
+    Arg::new(alloc, "domain")
+        .long("domain")
+        .value_name("LIST")
+        .help("The CPUs of the root domain, as 2-3,6")
+        .action(ArgAction::Set)
+}
+
+fn rt_arg<'a>(alloc: Global) -> Arg<'a> {
+    Arg::new(alloc, "rt")
+        .long("rt")
+        .value_name("RUNTIME:PERIOD")
+        .help("The kernel's sched_rt_runtime_us and sched_rt_period_us; -1 is no limit")
+        .action(ArgAction::Set)
+}
+
+fn fair_arg<'a>(alloc: Global) -> Arg<'a> {
+    Arg::new(alloc, "fair-server")
+        .long("fair-server")
+        .value_name("RUNTIME:PERIOD")
+        .help("What each runqueue reserves for fair tasks, in microseconds, or none")
+        .action(ArgAction::Set)
+}
+
+fn kernel_arg<'a>(alloc: Global) -> Arg<'a> {
+    Arg::new(alloc, "kernel")
+        .long("kernel")
+        .value_name("VERSION")
+        .help("The kernel that was recorded, as 6.12.111")
+        .action(ArgAction::Set)
+}
+
+fn within_arg<'a>(alloc: Global) -> Arg<'a> {
+    Arg::new(alloc, "within")
+        .long("within")
+        .value_name("US")
+        .help("How far a timer's moment may lie from the kernel's, in microseconds")
+        .value_parser(value_parser!(u32).range(0..2147483648))
+        .default_value("20")
+}
+
+fn by_arg<'a>(alloc: Global) -> Arg<'a> {
+    Arg::new(alloc, "by")
+        .long("by")
+        .value_name("LAW")
+        .help("Whose arithmetic the record is played by")
+        .value_parser(LAWS)
+        .default_value("kernel")
+}
+
+fn timers_arg<'a>(alloc: Global) -> Arg<'a> {
+    Arg::new(alloc, "timers")
+        .long("timers")
+        .help("Compares timers, also where the record has lines of probes")
+        .action(ArgAction::SetTrue)
+}
+
+fn table_arg<'a>(alloc: Global) -> Arg<'a> {
+    Arg::new(alloc, "table")
+        .long("table")
+        .value_name("FILE")
+        .help("Writes a row for each comparison, separated by tabs")
+        .action(ArgAction::Set)
+}
+
+pub(crate) fn check_command<'a>(alloc: Global, trace: Arg<'a>) -> Result<Command<'a>, AllocError> {
+    Command::new(alloc, "check")
+        .about("Says whether the kernel accounted as its rules say")
+        .after_help(AFTER_CHECK)
+        .arg(task_arg(alloc))?
+        .arg(cpus_arg(alloc))?
+        .arg(domain_arg(alloc))?
+        .arg(rt_arg(alloc))?
+        .arg(fair_arg(alloc))?
+        .arg(kernel_arg(alloc))?
+        .arg(within_arg(alloc))?
+        .arg(by_arg(alloc))?
+        .arg(timers_arg(alloc))?
+        .arg(table_arg(alloc))?
+        .arg(trace)
+}
+
+/// The words of the options.
+pub(crate) fn words_of<'a>(matches: &'a ArgMatches<'a>) -> Words<'a> {
+    Words {
+        tasks: matches.get_strs("task").unwrap_or(&[]),
+        cpus: matches.get_one::<u32>("cpus"),
+        domain: matches.get_str("domain"),
+        rt: matches.get_str("rt"),
+        fair: matches.get_str("fair-server"),
+        kernel: matches.get_str("kernel"),
+        within: matches.get_one::<u32>("within").unwrap_or(WITHIN),
+        by_documentation: matches.get_str("by") == Some("documentation"),
+        by_timers: matches.get_flag("timers"),
+    }
+}
+
+/// The trace, and what is to be written of it.
+pub(crate) fn wanted_by<'a>(matches: &'a ArgMatches<'a>) -> Wanted<'a> {
+    Wanted {
+        path: matches.get_str("TRACE").unwrap_or(""),
+        table: matches.get_str("table"),
+    }
+}

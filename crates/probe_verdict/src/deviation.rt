@@ -1,0 +1,137 @@
+//! The last lines of a verdict: that each value is the kernel's, or the first that is not.
+
+use crate::heading::TaskName;
+use crate::names::{event_name, function_of, quantity_name, rule_function, rule_name};
+use crate::text::total_of;
+use crate::writing::{put, put_count, put_seconds, put_subject, put_value};
+use exact_words::{Comparison, Counts, Deviation, Event, Place, Rule, Value, Why};
+use std::alloc::{AllocError, Global};
+
+/// Appends whether each value is the kernel's, or the first that is not.
+pub fn put_answer(
+    alloc: Global,
+    out: &mut Vec<u8>,
+    names: &[TaskName],
+    counts: &Counts,
+    first: Option<Deviation>,
+) -> Result<(), AllocError> {
+    match first {
+        None => put_agreement(out, total_of(counts).equal),
+        Some(first) => put_differs(alloc, out, names, total_of(counts).differ, first),
+    }
+}
+
+/// Appends that all agrees; a record without a value that was compared shows nothing.
+fn put_agreement(out: &mut Vec<u8>, equal: u64) -> Result<(), AllocError> {
+    if equal == 0 {
+        put(out, "agrees, but no value was compared\n")
+    } else {
+        put(out, "agrees, bit for bit\n")
+    }
+}
+
+fn put_differs(
+    alloc: Global,
+    out: &mut Vec<u8>,
+    names: &[TaskName],
+    differ: u64,
+    first: Deviation,
+) -> Result<(), AllocError> {
+    put(out, "differs: ")?;
+    put_count(alloc, out, differ)?;
+    put_place(alloc, out, first.comparison.place)?;
+    put_comparison(alloc, out, &first.comparison, names)?;
+    put_since(alloc, out, first.since, first.comparison.place.event)
+}
+
+fn put_place(alloc: Global, out: &mut Vec<u8>, place: Place) -> Result<(), AllocError> {
+    let line = place.line;
+    let text = format!(in alloc; " of these values, first at line {line}, ")?;
+    put(out, text.as_str())?;
+    put_seconds(alloc, out, place.at)?;
+    put_event(alloc, out, place.event, place.cpu)
+}
+
+fn put_event(alloc: Global, out: &mut Vec<u8>, event: Event, cpu: u32) -> Result<(), AllocError> {
+    let (name, function) = (event_name(event), function_of(event));
+    let text = format!(in alloc; ", {name} ({function}) on CPU {cpu}\n  ")?;
+    put(out, text.as_str())
+}
+
+fn put_comparison(
+    alloc: Global,
+    out: &mut Vec<u8>,
+    row: &Comparison,
+    names: &[TaskName],
+) -> Result<(), AllocError> {
+    put(out, quantity_name(row.quantity))?;
+    put(out, " of ")?;
+    put_subject(alloc, out, row.subject, names)?;
+    put_values(alloc, out, row, names)
+}
+
+fn put_values(
+    alloc: Global,
+    out: &mut Vec<u8>,
+    row: &Comparison,
+    names: &[TaskName],
+) -> Result<(), AllocError> {
+    put(out, ": ")?;
+    put_value(alloc, out, row.rules, names)?;
+    put(out, " by the rules, ")?;
+    put_value(alloc, out, row.kernel, names)?;
+    put_difference(alloc, out, difference(row.rules, row.kernel))
+}
+
+/// By how much the kernel's number is above the rules', if both are numbers.
+fn difference(rules: Value, kernel: Value) -> Option<i128> {
+    match (rules, kernel) {
+        (Value::Unsigned(rules), Value::Unsigned(kernel)) => {
+            Some(i128::from(kernel) - i128::from(rules))
+        }
+        (Value::Signed(rules), Value::Signed(kernel)) => {
+            Some(i128::from(kernel) - i128::from(rules))
+        }
+        _ => None,
+    }
+}
+
+fn put_difference(
+    alloc: Global,
+    out: &mut Vec<u8>,
+    difference: Option<i128>,
+) -> Result<(), AllocError> {
+    let Some(difference) = difference else {
+        return put(out, " in the kernel\n");
+    };
+    let amount = difference.unsigned_abs();
+    let word = if difference < 0 { "less" } else { "more" };
+    let text = format!(in alloc; " in the kernel: {amount} {word}\n")?;
+    put(out, text.as_str())
+}
+
+/// Appends what changed the value last by the rules, and the kernel's functions to look at.
+fn put_since(alloc: Global, out: &mut Vec<u8>, since: Why, event: Event) -> Result<(), AllocError> {
+    match since.rule {
+        None => put(out, "  no rule has changed it since it was first seen\n"),
+        Some(rule) => put_rule(alloc, out, since, rule, event),
+    }
+}
+
+fn put_rule(
+    alloc: Global,
+    out: &mut Vec<u8>,
+    since: Why,
+    rule: Rule,
+    event: Event,
+) -> Result<(), AllocError> {
+    let line = since.line;
+    let (at, name) = (event_name(since.event), rule_name(rule));
+    let text = format!(in alloc; "  last changed at line {line}, {at}, by the rule \"{name}\"\n")?;
+    put(out, text.as_str())?;
+    let (first, second) = (rule_function(rule), function_of(event));
+    let text = format!(in alloc;
+        "  functions of kernel/sched/deadline.c to look at: {first}, {second}\n"
+    )?;
+    put(out, text.as_str())
+}

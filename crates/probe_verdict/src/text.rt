@@ -1,0 +1,212 @@
+//! The words of a verdict.
+
+use crate::heading::{Heading, Lost};
+use crate::names::{ALL, KINDS, kind_plural, rule_name};
+use crate::writing::{put, put_bytes, put_comma, put_count, put_number};
+use exact_words::{Counts, Deviation, Kind, Rule, RuleCounts};
+use std::alloc::{AllocError, Global};
+use trace_words::Kernel;
+
+/// How many values of all kinds are equal, and how many differ.
+#[derive(Clone, Copy)]
+pub(crate) struct Total {
+    pub equal: u64,
+    pub differ: u64,
+}
+
+pub(crate) fn total_of(counts: &Counts) -> Total {
+    let mut total = Total {
+        equal: 0,
+        differ: 0,
+    };
+    for kind in KINDS {
+        let tally = counts.of(kind);
+        total = Total {
+            equal: total.equal.saturating_add(tally.equal),
+            differ: total.differ.saturating_add(tally.differ),
+        };
+    }
+    total
+}
+
+/// Appends what was read and compared, and which rules were put to the test.
+pub fn put_heading(
+    alloc: Global,
+    out: &mut Vec<u8>,
+    heading: Heading<'_>,
+    counts: &Counts,
+    rules: &RuleCounts,
+) -> Result<(), AllocError> {
+    put_record(alloc, out, heading)?;
+    put_total(alloc, out, total_of(counts))?;
+    put_counts(alloc, out, counts)?;
+    put_tested(alloc, out, rules)?;
+    put_untested(out, rules)
+}
+
+fn put_record(alloc: Global, out: &mut Vec<u8>, heading: Heading<'_>) -> Result<(), AllocError> {
+    put_bytes(out, heading.trace)?;
+    put(out, ": ")?;
+    put_kernel(alloc, out, heading.kernel)?;
+    put_cpus(alloc, out, heading.domain)?;
+    put_size(alloc, out, heading)?;
+    put_lost(alloc, out, heading.lost)?;
+    put_sums(out, heading.takes_sums)
+}
+
+fn put_kernel(alloc: Global, out: &mut Vec<u8>, kernel: Option<Kernel>) -> Result<(), AllocError> {
+    let Some(kernel) = kernel else {
+        return Ok(());
+    };
+    let (major, minor, patch) = (kernel.major, kernel.minor, kernel.patch);
+    let text = format!(in alloc; "kernel {major}.{minor}.{patch}, ")?;
+    put(out, text.as_str())
+}
+
+/// Appends the CPUs of a root domain, as 0-3 where they follow one another.
+fn put_cpus(alloc: Global, out: &mut Vec<u8>, cpus: &[u32]) -> Result<(), AllocError> {
+    put(out, "processors ")?;
+    match (cpus.first(), cpus.last()) {
+        (Some(first), Some(last)) => put_range(alloc, out, cpus, *first, *last),
+        _ => put(out, "unknown"),
+    }
+}
+
+fn put_range(
+    alloc: Global,
+    out: &mut Vec<u8>,
+    cpus: &[u32],
+    first: u32,
+    last: u32,
+) -> Result<(), AllocError> {
+    let span = u64::from(last).saturating_sub(u64::from(first));
+    if span == 0 || span != (cpus.len() as u64).saturating_sub(1) {
+        return put_list(alloc, out, cpus);
+    }
+    let text = format!(in alloc; "{first}-{last}")?;
+    put(out, text.as_str())
+}
+
+fn put_list(alloc: Global, out: &mut Vec<u8>, cpus: &[u32]) -> Result<(), AllocError> {
+    for cpu in cpus {
+        put_comma(out)?;
+        put_number(alloc, out, u64::from(*cpu))?;
+    }
+    Ok(())
+}
+
+/// Appends how many tasks and lines there are, and from when to when.
+fn put_size(alloc: Global, out: &mut Vec<u8>, heading: Heading<'_>) -> Result<(), AllocError> {
+    let tasks = heading.tasks.len();
+    let span = heading.to.saturating_sub(heading.from);
+    let (whole, tenth) = (span / 1_000_000_000, span % 1_000_000_000 / 100_000_000);
+    let text = format!(in alloc; ", tasks {tasks}, {whole}.{tenth} s, ")?;
+    put(out, text.as_str())?;
+    put_count(alloc, out, heading.lines)?;
+    put(out, " lines of probes")
+}
+
+fn put_lost(alloc: Global, out: &mut Vec<u8>, lost: Option<Lost>) -> Result<(), AllocError> {
+    match lost {
+        None => put(out, "\n"),
+        Some(lost) => put_number_lost(alloc, out, lost.lines.saturating_add(lost.hits)),
+    }
+}
+
+fn put_number_lost(alloc: Global, out: &mut Vec<u8>, lost: u64) -> Result<(), AllocError> {
+    if lost == 0 {
+        return put(out, "; none lost\n");
+    }
+    let text = format!(in alloc; "; {lost} lost: what differs behind them may be theirs\n")?;
+    put(out, text.as_str())
+}
+
+fn put_sums(out: &mut Vec<u8>, takes_sums: bool) -> Result<(), AllocError> {
+    if takes_sums {
+        put(
+            out,
+            "sums: taken from the lines, since none shows a dequeue; budgets and deadlines are compared\n",
+        )
+    } else {
+        Ok(())
+    }
+}
+
+fn put_total(alloc: Global, out: &mut Vec<u8>, total: Total) -> Result<(), AllocError> {
+    put_count(alloc, out, total.equal.saturating_add(total.differ))?;
+    put(out, " values compared: ")?;
+    put_count(alloc, out, total.equal)?;
+    put_unequal(alloc, out, total.differ)
+}
+
+fn put_unequal(alloc: Global, out: &mut Vec<u8>, differ: u64) -> Result<(), AllocError> {
+    if differ == 0 {
+        return put(out, " equal\n");
+    }
+    put(out, " equal, ")?;
+    put_count(alloc, out, differ)?;
+    put(out, " differ\n")
+}
+
+fn put_counts(alloc: Global, out: &mut Vec<u8>, counts: &Counts) -> Result<(), AllocError> {
+    put(out, "  ")?;
+    for kind in KINDS {
+        put_kind(alloc, out, kind, counts)?;
+    }
+    put(out, "\n")
+}
+
+fn put_kind(
+    alloc: Global,
+    out: &mut Vec<u8>,
+    kind: Kind,
+    counts: &Counts,
+) -> Result<(), AllocError> {
+    let tally = counts.of(kind);
+    put_item(
+        alloc,
+        out,
+        kind_plural(kind),
+        tally.equal.saturating_add(tally.differ),
+    )
+}
+
+/// Appends an item of a list and its count, where that is not 0.
+fn put_item(alloc: Global, out: &mut Vec<u8>, name: &str, count: u64) -> Result<(), AllocError> {
+    if count == 0 {
+        return Ok(());
+    }
+    put_comma(out)?;
+    put(out, name)?;
+    put(out, " ")?;
+    put_count(alloc, out, count)
+}
+
+fn put_tested(alloc: Global, out: &mut Vec<u8>, rules: &RuleCounts) -> Result<(), AllocError> {
+    put(out, "put to the test: ")?;
+    for rule in ALL {
+        put_item(alloc, out, rule_name(rule), rules.of(rule))?;
+    }
+    put(out, "\n")
+}
+
+fn put_untested(out: &mut Vec<u8>, rules: &RuleCounts) -> Result<(), AllocError> {
+    put(out, "not put to the test: ")?;
+    for rule in ALL {
+        put_missing(out, rule, rules)?;
+    }
+    put(out, "\n")
+}
+
+fn put_missing(out: &mut Vec<u8>, rule: Rule, rules: &RuleCounts) -> Result<(), AllocError> {
+    if rules.of(rule) > 0 {
+        return Ok(());
+    }
+    put_comma(out)?;
+    put(out, rule_name(rule))
+}
+
+/// Whether each value that was compared is the kernel's.
+pub fn agrees(first: Option<Deviation>) -> bool {
+    first.is_none()
+}

@@ -1,0 +1,409 @@
+//! A record is read, played, and judged.
+
+ghost use Rattle.std.specs.Prelude.{◌≡◌, ◌⊎◌};
+ghost use Rattle.trace_check.specs.declared.fault.TheConstants.{STATUS_DIFFERS, STATUS_FILE, STATUS_SYSTEM};
+
+use crate::fault::{Fault, STATUS_DIFFERS, STATUS_SYSTEM};
+use crate::gathering::{Gathering, Played};
+use crate::options::Options;
+use deadline_machine::Machine;
+use deadline_timers::setup_of;
+use deadline_verdict::{Heading as TimerHeading, judge, put_table, put_verdict as put_timers};
+use probe_verdict::{
+    Heading as ProbeHeading, TABLE_HEAD, TaskName, agrees, put_answer, put_heading,
+};
+use std::alloc::{AllocError, Global};
+use std::io;
+use std::io::Write;
+use trace_words::Flaw;
+
+/// The bytes of a piece of a trace.
+const PIECE: usize = 65_536;
+
+/// What is wanted of a check.
+#[derive(Clone, Copy)]
+pub struct Wanted<'a> {
+    pub path: &'a str,
+
+    /// Where the table is to be written.
+    pub table: Option<&'a str>,
+}
+
+/// A verdict: its text, whether the kernel agrees, and the table that was wanted.
+#[derive(Drop)]
+struct Verdict {
+    agrees: bool,
+    text: Vec<u8>,
+    table: Vec<u8>,
+}
+
+/// What was carried over from the pieces so far: the line that has not ended, and how many lines ended.
+#[derive(Drop)]
+struct Cut {
+    carried: Vec<u8>,
+    lines: u64,
+}
+
+/// Reads a trace to its end, or to its first line with a fault.
+fn read_lines<'o, D, N: Fn(&mut D, &mut [u8]) -> io::Result<usize>>(
+    alloc: Global,
+    read: &N,
+    file: &mut D,
+    gathering: &mut Gathering<'o>,
+) -> Result<(), Fault<'o>>
+    requires read { N.IsAlwaysCallable read.now }
+{
+    let Ok(mut room) = Vec::from_elem(alloc, 0u8, PIECE) else {
+        return Err(Fault::NoMemory);
+    };
+    let mut cut = Cut {
+        carried: Vec::new(alloc),
+        lines: 0,
+    };
+    for _ in 0..u64::MAX {
+        if !read_piece(read, file, &mut room, &mut cut, gathering)? {
+            return end_of(&cut);
+        }
+    }
+    Err(Fault::Unreadable)
+}
+
+/// Reads the next piece, and takes its lines; false at the end of the trace.
+fn read_piece<'o, D, N: Fn(&mut D, &mut [u8]) -> io::Result<usize>>(
+    read: &N,
+    file: &mut D,
+    room: &mut Vec<u8>,
+    cut: &mut Cut,
+    gathering: &mut Gathering<'o>,
+) -> Result<bool, Fault<'o>>
+    requires read { N.IsAlwaysCallable read.now }
+{
+    let count = match read(file, room) {
+        Ok(count) => count,
+        Err(_) => return Err(Fault::Unreadable),
+    };
+    if count == 0 {
+        return Ok(false);
+    }
+    let piece = room.get(..count).unwrap_or(&[]);
+    match take_piece(piece, cut, gathering) {
+        Ok(()) => {}
+        Err(AllocError) => return Err(Fault::NoMemory),
+    }
+    match gathering.fault.take() {
+        Some(fault) => Err(fault),
+        None => Ok(true),
+    }
+}
+
+/// A last line that no byte ends is cut.
+fn end_of<'o>(cut: &Cut) -> Result<(), Fault<'o>> {
+    if cut.carried.is_empty() {
+        Ok(())
+    } else {
+        Err(Fault::Line {
+            line: cut.lines.saturating_add(1),
+            flaw: Flaw::BadTraceLine,
+        })
+    }
+}
+
+/// Takes the lines that end in a piece, and carries the rest.
+fn take_piece(
+    piece: &[u8],
+    cut: &mut Cut,
+    gathering: &mut Gathering<'_>,
+) -> Result<(), AllocError> {
+    let mut rest = piece;
+    for _ in 0..piece.len() {
+        let Some((line, behind)) = first_line(rest) else {
+            break;
+        };
+        rest = behind;
+        take_line(line, cut, gathering)?;
+        if gathering.fault.is_some() {
+            return Ok(());
+        }
+    }
+    cut.carried.extend_from_slice(rest)?;
+    Ok(())
+}
+
+/// Takes a line whose last part this is.
+fn take_line(line: &[u8], cut: &mut Cut, gathering: &mut Gathering<'_>) -> Result<(), AllocError> {
+    cut.lines = cut.lines.saturating_add(1);
+    if cut.carried.is_empty() {
+        return gathering.take(cut.lines, without_return(line));
+    }
+    cut.carried.extend_from_slice(line)?;
+    gathering.take(cut.lines, without_return(cut.carried.as_slice()))?;
+    cut.carried.clear();
+    Ok(())
+}
+
+/// The first line of a text, and what stands behind the byte that ends it.
+fn first_line(text: &[u8]) -> Option<(&[u8], &[u8])> {
+    let end = memchr::memchr(b'\n', text)?;
+    Some((text.get(..end)?, text.get(end.saturating_add(1)..)?))
+}
+
+/// A line without a carriage return at its end.
+fn without_return(line: &[u8]) -> &[u8] {
+    match line.strip_suffix(b"\r") {
+        Some(line) => line,
+        None => line,
+    }
+}
+
+/// The names of the tasks that probes show in the class.
+fn class_names(alloc: Global, gathering: &Gathering<'_>) -> Result<Vec<TaskName>, AllocError> {
+    let mut names = Vec::new(alloc);
+    for pid in &gathering.in_class {
+        let comm = gathering.names.comm(alloc, *pid)?;
+        names.push(TaskName { pid: *pid, comm })?;
+    }
+    Ok(names)
+}
+
+/// The verdict by lines of probes; none where the trace has none.
+fn probe_verdict(
+    alloc: Global,
+    wanted: Wanted<'_>,
+    options: &Options<'_>,
+    gathering: &Gathering<'_>,
+) -> Result<Option<Verdict>, AllocError> {
+    match &gathering.played {
+        None => Ok(None),
+        Some(played) => {
+            let verdict = verdict_by(alloc, wanted, options, gathering, played)?;
+            Ok(Some(verdict))
+        }
+    }
+}
+
+fn verdict_by(
+    alloc: Global,
+    wanted: Wanted<'_>,
+    options: &Options<'_>,
+    gathering: &Gathering<'_>,
+    played: &Played,
+) -> Result<Verdict, AllocError> {
+    let tasks = class_names(alloc, gathering)?;
+    let domain = gathering.head.cpus(alloc, options)?;
+    let heading = ProbeHeading {
+        trace: wanted.path.as_bytes(),
+        kernel: gathering.head.kernel_by(options),
+        domain: &domain,
+        tasks: &tasks,
+        lines: played.lines,
+        from: played.from,
+        to: played.to,
+        lost: gathering.lost,
+        takes_sums: !gathering.shape().has_dequeues,
+    };
+    let text = probe_text(alloc, heading, &played.machine)?;
+    let table = probe_table(alloc, wanted, &gathering.rows)?;
+    Ok(Verdict {
+        agrees: agrees(played.machine.first()),
+        text,
+        table,
+    })
+}
+
+fn probe_text(
+    alloc: Global,
+    heading: ProbeHeading<'_>,
+    machine: &Machine,
+) -> Result<Vec<u8>, AllocError> {
+    let mut text = Vec::new(alloc);
+    let counts = machine.counts();
+    put_heading(alloc, &mut text, heading, &counts, &machine.rules())?;
+    put_answer(alloc, &mut text, heading.tasks, &counts, machine.first())?;
+    Ok(text)
+}
+
+fn probe_table(alloc: Global, wanted: Wanted<'_>, rows: &Vec<u8>) -> Result<Vec<u8>, AllocError> {
+    let mut table = Vec::new(alloc);
+    if wanted.table.is_some() {
+        table.extend_from_slice(TABLE_HEAD.as_bytes())?;
+        table.extend_from_slice(rows.as_slice())?;
+    }
+    Ok(table)
+}
+
+/// The verdict by timers.
+fn timer_verdict<'o>(
+    alloc: Global,
+    wanted: Wanted<'_>,
+    options: &Options<'o>,
+    gathering: &mut Gathering<'o>,
+) -> Result<Verdict, Fault<'o>> {
+    let Some(record) = gathering.take_record() else {
+        return Err(Fault::NoTimers);
+    };
+    if !gathering.has_timers() {
+        return Err(Fault::NoTimers);
+    }
+    let Ok(start) = gathering.head.start(alloc, options) else {
+        return Err(Fault::NoMemory);
+    };
+    let setup = match setup_of(gathering.head.kernels(options), &start) {
+        Ok(setup) => setup,
+        Err(missing) => {
+            return Err(Fault::NoSums {
+                kernel: missing.kernel,
+            });
+        }
+    };
+    match judged_verdict(alloc, wanted, options, gathering, record, &start, setup) {
+        Ok(verdict) => Ok(verdict),
+        Err(AllocError) => Err(Fault::NoMemory),
+    }
+}
+
+fn judged_verdict(
+    alloc: Global,
+    wanted: Wanted<'_>,
+    options: &Options<'_>,
+    gathering: &Gathering<'_>,
+    record: timer_lines::Record,
+    start: &deadline_timers::Start,
+    setup: deadline_timers::Setup,
+) -> Result<Verdict, AllocError> {
+    let lines = record.finish()?;
+    let mut names = Vec::new(alloc);
+    for task in &lines.tasks {
+        names.push(gathering.names.comm(alloc, task.pid)?)?;
+    }
+    let judged = judge(alloc, setup, start, &lines, options.within)?;
+    let heading = TimerHeading {
+        trace: wanted.path.as_bytes(),
+        kernel: gathering.head.kernel_by(options),
+        domain: &start.domain,
+        total_bw: gathering.head.total_bw,
+        within: options.within,
+    };
+    let mut text = Vec::new(alloc);
+    put_timers(alloc, &mut text, heading, &setup, &lines, &names, &judged)?;
+    let mut table = Vec::new(alloc);
+    if wanted.table.is_some() {
+        put_table(alloc, &mut table, &judged.outcome.observations, &names)?;
+    }
+    Ok(Verdict {
+        agrees: judged.first.is_none(),
+        text,
+        table,
+    })
+}
+
+/// The verdict on the trace of a path.
+fn verdict_of<
+    'o,
+    D: Drop,
+    O: Fn(&str) -> io::Result<D>,
+    N: Fn(&mut D, &mut [u8]) -> io::Result<usize>,
+>(
+    alloc: Global,
+    opens: &O,
+    read: &N,
+    wanted: Wanted<'o>,
+    options: &'o Options<'o>,
+) -> Result<Verdict, Fault<'o>>
+    requires opens { O.IsAlwaysCallable opens.now }
+    requires read { N.IsAlwaysCallable read.now }
+{
+    let Ok(mut gathering) = Gathering::new(alloc, options, wanted.table.is_some()) else {
+        return Err(Fault::NoMemory);
+    };
+    let mut file = match opens(wanted.path) {
+        Ok(file) => file,
+        Err(_) => return Err(Fault::Unreadable),
+    };
+    read_lines(alloc, read, &mut file, &mut gathering)?;
+    if let Some(name) = gathering.not_found() {
+        return Err(Fault::NoSuchTask { name });
+    }
+    if !options.by_timers {
+        if gathering.end_probes().is_err() {
+            return Err(Fault::NoMemory);
+        }
+        match probe_verdict(alloc, wanted, options, &gathering) {
+            Ok(Some(verdict)) => return Ok(verdict),
+            Ok(None) => {}
+            Err(AllocError) => return Err(Fault::NoMemory),
+        }
+    }
+    timer_verdict(alloc, wanted, options, &mut gathering)
+}
+
+/// Writes the table that is wanted, over no file that is there.
+fn write_table<'o, M: Fn(&str, &[u8]) -> io::Result<()>>(
+    make: &M,
+    wanted: Wanted<'o>,
+    verdict: &Verdict,
+) -> Result<(), Fault<'o>>
+    requires make { M.IsAlwaysCallable make.now }
+{
+    let Some(path) = wanted.table else {
+        return Ok(());
+    };
+    match make(path, verdict.table.as_slice()) {
+        Ok(()) => Ok(()),
+        Err(_) => Err(Fault::Write),
+    }
+}
+
+/// Prints the verdict on the trace of a path, or the line of its fault, and gives the status: 0 where the kernel agrees, 4 where
+/// it differs, 1 where the trace is at fault or a file is there already, 3 where the system is.
+pub fn serve_check<
+    D: Drop,
+    O: Fn(&str) -> io::Result<D>,
+    N: Fn(&mut D, &mut [u8]) -> io::Result<usize>,
+    X: Fn(&str) -> bool,
+    M: Fn(&str, &[u8]) -> io::Result<()>,
+    W: Write,
+    E: Write,
+>(
+    alloc: Global,
+    opens: &O,
+    read: &N,
+    exists: &X,
+    make: &M,
+    wanted: Wanted<'_>,
+    options: &Options<'_>,
+    out: &mut W,
+    faults: &mut E,
+) -> u8
+    requires opens { O.IsAlwaysCallable opens.now }
+    requires read { N.IsAlwaysCallable read.now }
+    requires exists { X.IsAlwaysCallable exists.now }
+    requires make { M.IsAlwaysCallable make.now }
+    ensures status { (result ≡ 0) ⊎ (result ≡ STATUS_DIFFERS) ⊎ (result ≡ STATUS_FILE)
+        ⊎ (result ≡ STATUS_SYSTEM) }
+    // Where the trace is at fault, nothing was printed.
+    ensures nothing { result ≡ STATUS_FILE → out.new ≡ out.old }
+{
+    if let Some(path) = wanted.table
+        && exists(path)
+    {
+        let fault = Fault::FileExists { path };
+        let _ = fault.tell(wanted.path, faults);
+        return fault.status();
+    }
+    let verdict = match verdict_of(alloc, opens, read, wanted, options) {
+        Ok(verdict) => verdict,
+        Err(fault) => {
+            let _ = fault.tell(wanted.path, faults);
+            return fault.status();
+        }
+    };
+    if let Err(fault) = write_table(make, wanted, &verdict) {
+        let _ = fault.tell(wanted.path, faults);
+        return fault.status();
+    }
+    if out.write_all(&verdict.text).is_err() || out.flush().is_err() {
+        let _ = Fault::Write.tell(wanted.path, faults);
+        return STATUS_SYSTEM;
+    }
+    if verdict.agrees { 0 } else { STATUS_DIFFERS }
+}

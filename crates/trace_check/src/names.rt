@@ -1,0 +1,73 @@
+//! The tasks of a record by name.
+
+use probe_verdict::TaskName;
+use std::alloc::{AllocError, Global};
+use std::collections::HashMap;
+
+/// The tasks of a record: each pid with its comm at the first line that shows it.
+#[derive(Drop)]
+pub struct Names {
+    pub tasks: Vec<TaskName>,
+    places: HashMap<u64, usize>,
+}
+
+impl Names {
+    pub fn new(alloc: Global) -> Names {
+        Names {
+            tasks: Vec::new(alloc),
+            places: HashMap::new(alloc),
+        }
+    }
+
+    /// Whether a line has shown this pid.
+    pub fn has(&self, pid: u64) -> bool {
+        self.places.get(&pid).is_some()
+    }
+
+    /// Keeps the comm of a pid that no line has shown before.
+    pub fn show(&mut self, alloc: Global, pid: u64, comm: &[u8]) -> Result<(), AllocError> {
+        let mut kept = Vec::new(alloc);
+        kept.extend_from_slice(comm)?;
+        let place = self.tasks.len();
+        self.tasks.push(TaskName { pid, comm: kept })?;
+        self.places.insert(pid, place)?;
+        Ok(())
+    }
+
+    /// The comm of a pid; its number where no line has shown one.
+    pub fn comm(&self, alloc: Global, pid: u64) -> Result<Vec<u8>, AllocError> {
+        let mut out = Vec::new(alloc);
+        if let Some(name) = self
+            .places
+            .get(&pid)
+            .and_then(|place| self.tasks.get(*place))
+        {
+            out.extend_from_slice(name.comm.as_slice())?;
+            return Ok(out);
+        }
+        let text = format!(in alloc; "pid{pid}")?;
+        out.extend_from_slice(text.as_bytes())?;
+        Ok(out)
+    }
+}
+
+/// The comm of the task that runs, before its pid at the head of a line: `gr_0-23650   [003]`, or `gr_0  3001 [003]`.
+pub fn running_comm(line: &[u8]) -> Option<&[u8]> {
+    let bracket = line.iter().position(|b| *b == b'[')?;
+    let head = trimmed(line.get(..bracket)?);
+    let digits = head.iter().rev().position(|b| !b.is_ascii_digit())?;
+    let end = head.len().checked_sub(digits)?.checked_sub(1)?;
+    Some(trimmed(head.get(..end)?))
+}
+
+/// A text without the spaces about it.
+fn trimmed(text: &[u8]) -> &[u8] {
+    let Some(from) = text.iter().position(|b| *b != b' ') else {
+        return &[];
+    };
+    let Some(behind) = text.iter().rev().position(|b| *b != b' ') else {
+        return &[];
+    };
+    text.get(from..text.len().saturating_sub(behind))
+        .unwrap_or(&[])
+}
