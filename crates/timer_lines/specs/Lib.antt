@@ -1,0 +1,3 @@
+pub mod Votes
+pub mod Timers
+pub mod Moments

@@ -12,6 +12,6 @@ mod record;
 mod vote;
 
 pub use event::{Event, Kept};
-pub use lines::{FirstLine, Given, Lines, TaskLines, TimerLines, Told};
+pub use lines::{FirstLine, Given, Lines, TaskLines, TimerLines, Told, Unlisted};
 pub use record::Record;
 pub use vote::Vote;

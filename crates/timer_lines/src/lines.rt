@@ -1,5 +1,8 @@
 //! What a record has: its lines that bear on timers, its tasks, and whose its timers are.
 
+ghost use Rattle.std.specs.Prelude.{◌≡◌};
+ghost use Rattle.timer_lines.specs.Votes.{more_of, voted_by};
+
 use crate::event::Kept;
 use crate::vote::Vote;
 use trace_words::{Parameters, Policy};
@@ -42,7 +45,12 @@ pub struct TimerLines {
 }
 
 impl TimerLines {
-    pub fn new() -> TimerLines {
+    ghost use Rattle.timer_lines.specs.Timers.{is_of_task_by, unknown_timer, with_line_of, with_start_of, with_wake_of};
+
+    /// A timer without a line.
+    pub fn new() -> TimerLines
+        ensures { result ≡ unknown_timer }
+    {
         TimerLines {
             first: None,
             starts: 0,
@@ -54,12 +62,16 @@ impl TimerLines {
     }
 
     /// Whether it is a task's `dl_task_timer`; a fair server's is mostly started by no charge, and set far ahead.
-    pub fn is_of_task(self) -> bool {
+    pub fn is_of_task(self) -> bool
+        ensures { result ≡ is_of_task_by self }
+    {
         self.after_charge > self.starts / 2 || self.soon > self.starts / 2
     }
 
     /// The timer with one more line, which is no start.
-    pub fn with_line(self) -> TimerLines {
+    pub fn with_line(self) -> TimerLines
+        ensures { result ≡ with_line_of self }
+    {
         TimerLines {
             first: Some(self.first.unwrap_or(FirstLine::Another)),
             ..self
@@ -67,21 +79,23 @@ impl TimerLines {
     }
 
     /// The timer with one more start as a `dl_task_timer`: on this CPU, so far ahead, after the charge of this task.
-    pub fn with_start(self, cpu: u32, ahead: u64, charged: Option<u32>) -> TimerLines {
-        let soon = if ahead < SOON { 1 } else { 0 };
-        let after_charge = if charged.is_some() { 1 } else { 0 };
+    pub fn with_start(self, cpu: u32, ahead: u64, charged: Option<u32>) -> TimerLines
+        ensures { result ≡ with_start_of self cpu ahead charged }
+    {
         TimerLines {
             first: Some(self.first.unwrap_or(FirstLine::Start)),
             starts: self.starts.saturating_add(1),
-            after_charge: self.after_charge.saturating_add(after_charge),
-            soon: self.soon.saturating_add(soon),
+            after_charge: more(self.after_charge, charged.is_some()),
+            soon: more(self.soon, ahead < SOON),
             cpu: self.cpu.with(cpu),
             task: with_some(self.task, charged),
         }
     }
 
     /// The timer whose start the wake of this task follows.
-    pub fn with_wake(self, task: u32) -> TimerLines {
+    pub fn with_wake(self, task: u32) -> TimerLines
+        ensures { result ≡ with_wake_of self task }
+    {
         TimerLines {
             task: self.task.with(task),
             ..self
@@ -89,7 +103,21 @@ impl TimerLines {
     }
 }
 
-fn with_some(vote: Vote, candidate: Option<u32>) -> Vote {
+/// A count with one more where that is so.
+fn more(count: u64, is_one: bool) -> u64
+    ensures { result ≡ more_of count is_one }
+{
+    if is_one {
+        count.saturating_add(1)
+    } else {
+        count
+    }
+}
+
+/// A vote with one more for a candidate, where there is one.
+fn with_some(vote: Vote, candidate: Option<u32>) -> Vote
+    ensures { result ≡ voted_by vote candidate }
+{
     match candidate {
         Some(candidate) => vote.with(candidate),
         None => vote,
@@ -120,6 +148,14 @@ pub struct Told {
     pub policy: Policy,
 }
 
+/// A task of the class of which neither a note nor an option tells: it has a 0-lag timer, so it is not merely boosted.
+#[derive(Clone, Copy)]
+pub struct Unlisted {
+    /// The line of its first wake.
+    pub line: u64,
+    pub pid: u64,
+}
+
 /// The lines of a record.
 #[derive(Drop)]
 pub struct Lines {
@@ -141,4 +177,15 @@ pub struct Lines {
 
     /// How many lines are about a task of the class that has no reservation: it is boosted by a mutex, or not told of.
     pub boosted: u64,
+
+    /// Of the tasks of the class that have a 0-lag timer and no reservation, the one that woke first.
+    pub unlisted: Option<Unlisted>,
+}
+
+/// Of two such tasks, the one that woke first.
+pub(crate) fn first_of(one: Option<Unlisted>, other: Unlisted) -> Unlisted {
+    match one {
+        Some(one) if one.line <= other.line => one,
+        _ => other,
+    }
 }

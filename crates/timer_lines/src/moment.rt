@@ -1,5 +1,8 @@
 //! When the kernel took a change that a note tells of.
 
+ghost use Rattle.std.specs.Prelude.{◌≡◌};
+ghost use Rattle.timer_lines.specs.Moments.{near_of, wake_clock_of};
+
 /// A charge so much before a note may be that within the call.
 const CALL: u64 = 30_000;
 
@@ -8,6 +11,9 @@ const FIRST_CALL: u64 = 5_000_000;
 
 /// The kernel's change is so much before the note, where no charge tells more.
 const LAG: u64 = 2_000;
+
+/// A run that began so much before the line of a wake began with it.
+const WAKE: u64 = 100_000;
 
 /// A moment that was cut or rounded may be so much later than it says.
 pub const ROUNDING: u64 = 999;
@@ -35,7 +41,12 @@ pub struct Passing {
 }
 
 impl Passing {
-    pub fn new() -> Passing {
+    ghost use Rattle.timer_lines.specs.Moments.{calling_of, change_of, charged_of, passing_at_first, told_of};
+
+    /// A task of which no line has passed by.
+    pub fn new() -> Passing
+        ensures { result ≡ passing_at_first }
+    {
         Passing {
             charged: None,
             is_calling: false,
@@ -47,7 +58,9 @@ impl Passing {
     }
 
     /// The task after a charge at this moment.
-    pub fn charged(self, at: u64) -> Passing {
+    pub fn charged(self, at: u64) -> Passing
+        ensures { result ≡ charged_of self at }
+    {
         Passing {
             charged: Some(at),
             is_calling: false,
@@ -62,7 +75,9 @@ impl Passing {
     }
 
     /// The task after it made a call.
-    pub fn calling(self) -> Passing {
+    pub fn calling(self) -> Passing
+        ensures { result ≡ calling_of self }
+    {
         Passing {
             is_calling: true,
             within_call: None,
@@ -71,7 +86,9 @@ impl Passing {
     }
 
     /// The task after a note.
-    pub fn told(self, is_deadline: bool) -> Passing {
+    pub fn told(self, is_deadline: bool) -> Passing
+        ensures { result ≡ told_of self is_deadline }
+    {
         Passing {
             within_call: None,
             has_note: true,
@@ -81,7 +98,9 @@ impl Passing {
     }
 
     /// When the kernel took the change that a note of this moment tells of: just after the charge within the call.
-    pub fn change_before(self, note: u64, is_by_itself: bool) -> u64 {
+    pub fn change_before(self, note: u64, is_by_itself: bool) -> u64
+        ensures { result ≡ change_of self note is_by_itself }
+    {
         let span = if self.has_note { CALL } else { FIRST_CALL };
         let near = charge_near(self.charged, note, span);
         let charge = if is_by_itself {
@@ -97,7 +116,9 @@ impl Passing {
 }
 
 /// A charge less than a span before a note.
-fn charge_near(charge: Option<u64>, note: u64, span: u64) -> Option<u64> {
+fn charge_near(charge: Option<u64>, note: u64, span: u64) -> Option<u64>
+    ensures { result ≡ near_of charge note span }
+{
     let charge = charge?;
     if note.saturating_sub(charge) < span {
         Some(charge)
@@ -108,9 +129,11 @@ fn charge_near(charge: Option<u64>, note: u64, span: u64) -> Option<u64> {
 
 /// The clock of a wake at this moment, when its task's first charge is of a run of so many nanoseconds: a run that began just before
 /// the wake's line began with the wake.
-pub fn wake_clock(woken: u64, charged: u64, nanos: u64) -> u64 {
+pub fn wake_clock(woken: u64, charged: u64, nanos: u64) -> u64
+    ensures { result ≡ wake_clock_of woken charged nanos }
+{
     let begun = charged.saturating_sub(nanos);
-    if begun < woken && woken - begun < 100_000 {
+    if begun < woken && woken - begun < WAKE {
         begun
     } else {
         woken

@@ -2,7 +2,7 @@
 
 use crate::before::Before;
 use crate::event::{Event, Kept};
-use crate::lines::{Given, Lines, TaskLines, TimerLines, Told};
+use crate::lines::{Given, Lines, TaskLines, TimerLines, Told, Unlisted, first_of};
 use crate::moment::{Passing, ROUNDING, wake_clock};
 use std::alloc::{AllocError, Global};
 use std::collections::HashMap;
@@ -23,6 +23,9 @@ pub struct Record {
     come: usize,
     pids: HashMap<u64, u32>,
     addresses: HashMap<u64, u32>,
+
+    /// The lines of the first wakes of tasks of the class that have no reservation, by their pids.
+    strangers: HashMap<u64, u64>,
 
     /// The last line of each CPU.
     before: Vec<Before>,
@@ -57,12 +60,14 @@ impl Record {
                 ends: 0,
                 count: 0,
                 boosted: 0,
+                unlisted: None,
             },
             passing: Vec::new(alloc),
             notes: Vec::new(alloc),
             come: 0,
             pids: HashMap::new(alloc),
             addresses: HashMap::new(alloc),
+            strangers: HashMap::new(alloc),
             before: Vec::new(alloc),
             keeps_idle,
             keeps_cancels,
@@ -134,6 +139,7 @@ impl Record {
             come: _,
             pids: _,
             addresses: _,
+            strangers: _,
             before: _,
             keeps_idle: _,
             keeps_cancels: _,
@@ -331,7 +337,7 @@ impl Record {
             if !is_deadline {
                 return self.keep(place, Event::OtherWoken { cpu });
             }
-            self.lines.boosted = self.lines.boosted.saturating_add(1);
+            self.meet(place.line, pid)?;
             return self.keep_idle(place);
         };
         if let Before::Started { timer } = before {
@@ -356,6 +362,23 @@ impl Record {
                 clock: place.at,
             },
         )
+    }
+
+    /// A task of the class that has no reservation wakes.
+    fn meet(&mut self, line: u64, pid: u64) -> Result<(), AllocError> {
+        self.lines.boosted = self.lines.boosted.saturating_add(1);
+        if !self.strangers.contains_key(&pid) {
+            let _ = self.strangers.insert(pid, line)?;
+        }
+        Ok(())
+    }
+
+    /// A 0-lag timer is started while the task of this pid runs, which has no reservation.
+    fn suspect(&mut self, pid: u64) {
+        if let Some(line) = self.strangers.get(&pid) {
+            let unlisted = Unlisted { line: *line, pid };
+            self.lines.unlisted = Some(first_of(self.lines.unlisted, unlisted));
+        }
     }
 
     fn migrated(
@@ -403,6 +426,9 @@ impl Record {
         self.set_before(place.cpu, Before::Nothing)?;
         let timer = self.timer(address)?;
         let task = self.task_of(pid);
+        if task.is_none() {
+            self.suspect(pid);
+        }
         if let Some(task) = task {
             if let Some(lines) = self.lines.tasks.get_mut(task as usize) {
                 lines.zero_lag_timer = lines.zero_lag_timer.with(timer);

@@ -1,16 +1,23 @@
 //! A majority vote.
 
+ghost use Rattle.std.specs.Prelude.{◌≡◌};
+
 /// The candidate of a majority vote in one pass: where one has more than half of the votes, it is this one.
 #[derive(Clone, Copy)]
 pub struct Vote {
-    candidate: u32,
+    pub candidate: u32,
 
     /// How many votes it is ahead by; 0 before the first vote.
-    lead: u32,
+    pub lead: u32,
 }
 
 impl Vote {
-    pub fn new() -> Vote {
+    ghost use Rattle.timer_lines.specs.Votes.{no_vote, voted, winner_of};
+
+    /// No vote.
+    pub fn new() -> Vote
+        ensures { result ≡ no_vote }
+    {
         Vote {
             candidate: 0,
             lead: 0,
@@ -18,7 +25,9 @@ impl Vote {
     }
 
     /// The vote with one more for this candidate.
-    pub fn with(self, candidate: u32) -> Vote {
+    pub fn with(self, candidate: u32) -> Vote
+        ensures { result ≡ voted self candidate }
+    {
         if self.lead == 0 {
             Vote { candidate, lead: 1 }
         } else if self.candidate == candidate {
@@ -35,7 +44,9 @@ impl Vote {
     }
 
     /// The candidate that is ahead.
-    pub fn winner(self) -> Option<u32> {
+    pub fn winner(self) -> Option<u32>
+        ensures { result ≡ winner_of self }
+    {
         if self.lead == 0 {
             None
         } else {
