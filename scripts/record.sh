@@ -1,7 +1,7 @@
 #!/bin/sh
 # record.sh [--all] [--no-probes] [--few] OUT PROGRAM ARG..: runs PROGRAM as root and writes to OUT the kernel's trace of
 # SCHED_DEADLINE tasks meanwhile, with notes of what the kernel knows at its head, as the text that grubtrace reads.
-#   --all         the switches and moves of all tasks too, for `grubtrace size`
+#   --all         the switches and moves of tasks of any class
 #   --no-probes   the kernel's own events alone (a probe of the sums is set for a moment before)
 #   --few         of the probes only upd and enq: budgets and deadlines, half of the lines
 # It uses tracefs instances of its own and removes all that it made, also after a signal or where it fails. A signal ends PROGRAM
