@@ -13,5 +13,6 @@ pub fn needs_are_the_curve_of_late_jobs()
         → (span runtime period work ≤ window) ↔ (need_of period window work ≤ runtime) }
     ensures curve { (period runtime : ℕ) (jobs : List Job) → 1 ≤ runtime → runtime ≤ period
         → AllWork jobs
-        → late_of runtime period jobs ≡ count_by (λ n. nat_lt runtime n) (needs_after period [] jobs) }
+        → late_of runtime period jobs
+        ≡ count_by (λ n. nat_lt runtime n) (needs_after period [] jobs) }
 {}
