@@ -4,13 +4,14 @@ use crate::actor::Actor;
 use crate::machine::Machine;
 use crate::pending::{Alternative, Effect, Later, Reading};
 use crate::runqueue::{Runqueue, ThisBw, with_change, with_extra};
+use crate::values::{compare_extra, compare_sums};
 use deadline_events::{after_delayed, delayed_change};
 use deadline_rules::{Change, share};
 use exact_words::{
     Amount, Comparison, Picked, Place, Quantity, Rule, Subject, Value, Whose, Why, pick,
 };
 use std::alloc::AllocError;
-use trace_words::{Budget, Parameters, Sums};
+use trace_words::Sums;
 
 /// How old a later effect is, in nanoseconds, that is certain all the same.
 const LONG: u64 = 20_000_000;
@@ -23,7 +24,7 @@ pub(crate) enum Sort {
 }
 
 impl Machine {
-    /// Compares two numbers.
+    /// Counts a comparison.
     fn compare(
         &mut self,
         place: Place,
@@ -51,69 +52,6 @@ impl Machine {
         )
     }
 
-    pub(crate) fn compare_unsigned(
-        &mut self,
-        place: Place,
-        actor: &Actor,
-        quantity: Quantity,
-        rules: u64,
-        kernel: u64,
-    ) -> Result<(), AllocError> {
-        self.compare(
-            place,
-            Subject::Entity(actor.whose),
-            quantity,
-            Value::Unsigned(rules),
-            Value::Unsigned(kernel),
-            rules == kernel,
-            actor.why,
-            place.line,
-            false,
-        )
-    }
-
-    pub(crate) fn compare_signed(
-        &mut self,
-        place: Place,
-        actor: &Actor,
-        quantity: Quantity,
-        rules: i64,
-        kernel: i64,
-    ) -> Result<(), AllocError> {
-        self.compare(
-            place,
-            Subject::Entity(actor.whose),
-            quantity,
-            Value::Signed(rules),
-            Value::Signed(kernel),
-            rules == kernel,
-            actor.why,
-            place.line,
-            false,
-        )
-    }
-
-    pub(crate) fn compare_flag(
-        &mut self,
-        place: Place,
-        actor: &Actor,
-        quantity: Quantity,
-        rules: bool,
-        kernel: bool,
-    ) -> Result<(), AllocError> {
-        self.compare(
-            place,
-            Subject::Entity(actor.whose),
-            quantity,
-            Value::Flag(rules),
-            Value::Flag(kernel),
-            rules == kernel,
-            actor.why,
-            place.line,
-            false,
-        )
-    }
-
     pub(crate) fn compare_timer(
         &mut self,
         place: Place,
@@ -133,49 +71,6 @@ impl Machine {
             is_equal,
             since,
             place.line,
-            is_early,
-        )
-    }
-
-    fn compare_sum(
-        &mut self,
-        place: Place,
-        runqueue: &Runqueue,
-        quantity: Quantity,
-        rules: u64,
-        kernel: u64,
-    ) -> Result<(), AllocError> {
-        self.compare(
-            place,
-            Subject::Runqueue(runqueue.cpu),
-            quantity,
-            Value::Unsigned(rules),
-            Value::Unsigned(kernel),
-            rules == kernel,
-            runqueue.why,
-            place.line,
-            false,
-        )
-    }
-
-    fn compare_extra(
-        &mut self,
-        place: Place,
-        runqueue: &Runqueue,
-        rules: u64,
-        kernel: u64,
-        now: u64,
-        is_early: bool,
-    ) -> Result<(), AllocError> {
-        self.compare(
-            place,
-            Subject::Runqueue(runqueue.cpu),
-            Quantity::ExtraBw,
-            Value::Unsigned(rules),
-            Value::Unsigned(kernel),
-            rules == kernel,
-            runqueue.why_extra,
-            now,
             is_early,
         )
     }
@@ -374,7 +269,7 @@ impl Machine {
     }
 
     /// Compares the sums of a line, and takes them.
-    pub(crate) fn compare_sums(
+    pub(crate) fn take_sums(
         &mut self,
         place: Place,
         cpu: u32,
@@ -414,23 +309,10 @@ impl Machine {
             let _ = self.explain(place, cpu, Sort::Sums, wanted)?;
         }
         let runqueue = self.runqueue(cpu);
-        match runqueue.this_bw {
-            ThisBw::Unknown => {}
-            ThisBw::FromStart(more) => self.laws.keep_start(place, cpu, more, sums.this_bw)?,
-            ThisBw::Known(this_bw) => {
-                self.compare_sum(place, &runqueue, Quantity::ThisBw, this_bw, sums.this_bw)?;
-            }
+        if let ThisBw::FromStart(more) = runqueue.this_bw {
+            self.laws.keep_start(place, cpu, more, sums.this_bw)?;
         }
-        if let Some(running_bw) = runqueue.running_bw {
-            self.compare_sum(
-                place,
-                &runqueue,
-                Quantity::RunningBw,
-                running_bw,
-                sums.running_bw,
-            )?;
-        }
-        Ok(())
+        compare_sums(&mut self.sheet, place, runqueue, sums)
     }
 
     fn compare_extra_of_line(
@@ -452,7 +334,15 @@ impl Machine {
                 };
                 if self.explain(place, cpu, Sort::Extra, wanted)? {
                     let runqueue = self.runqueue(cpu);
-                    self.compare_extra(place, &runqueue, extra_bw, extra_bw, place.line, false)
+                    compare_extra(
+                        &mut self.sheet,
+                        place,
+                        runqueue,
+                        extra_bw,
+                        extra_bw,
+                        place.line,
+                        false,
+                    )
                 } else {
                     self.readings.push(Reading {
                         place,
@@ -484,7 +374,15 @@ impl Machine {
     pub(crate) fn close_reading(&mut self, reading: Reading, now: u64) -> Result<(), AllocError> {
         let runqueue = self.runqueue(reading.cpu);
         if let Some(known) = runqueue.extra_bw {
-            self.compare_extra(reading.place, &runqueue, known, reading.extra_bw, now, true)?;
+            compare_extra(
+                &mut self.sheet,
+                reading.place,
+                runqueue,
+                known,
+                reading.extra_bw,
+                now,
+                true,
+            )?;
         }
         self.keep_runqueue(Runqueue {
             extra_bw: Some(reading.extra_bw),
@@ -503,9 +401,10 @@ impl Machine {
                         self.readings.remove(index);
                     }
                     let runqueue = self.runqueue(reading.cpu);
-                    self.compare_extra(
+                    compare_extra(
+                        &mut self.sheet,
                         reading.place,
-                        &runqueue,
+                        runqueue,
                         reading.extra_bw,
                         reading.extra_bw,
                         place.line,
@@ -601,102 +500,6 @@ impl Machine {
         } else {
             actor
         }
-    }
-
-    /// Compares budget and deadline of a line where they are known.
-    pub(crate) fn compare_budget(
-        &mut self,
-        place: Place,
-        actor: &Actor,
-        runtime: i64,
-        deadline: u64,
-    ) -> Result<(), AllocError> {
-        if actor.knows_budget {
-            let budget = actor.entity.budget;
-            self.compare_signed(place, actor, Quantity::Runtime, budget.runtime, runtime)?;
-            self.compare_unsigned(place, actor, Quantity::Deadline, budget.deadline, deadline)?;
-        }
-        Ok(())
-    }
-
-    /// Compares the flags of a line where they are known.
-    pub(crate) fn compare_flags(
-        &mut self,
-        place: Place,
-        actor: &Actor,
-        budget: Budget,
-    ) -> Result<(), AllocError> {
-        if actor.knows_budget || actor.knows_parameters {
-            let known = actor.entity.budget;
-            self.compare_flag(
-                place,
-                actor,
-                Quantity::Throttled,
-                known.is_throttled,
-                budget.is_throttled,
-            )?;
-            self.compare_flag(
-                place,
-                actor,
-                Quantity::Yielded,
-                known.is_yielded,
-                budget.is_yielded,
-            )?;
-        }
-        Ok(())
-    }
-
-    pub(crate) fn compare_contending(
-        &mut self,
-        place: Place,
-        actor: &Actor,
-        is_non_contending: bool,
-    ) -> Result<(), AllocError> {
-        if actor.knows_contending && (actor.knows_budget || actor.knows_parameters) {
-            self.compare_flag(
-                place,
-                actor,
-                Quantity::NonContending,
-                actor.entity.is_non_contending,
-                is_non_contending,
-            )?;
-        }
-        Ok(())
-    }
-
-    /// Compares the reservation of a line where it is known.
-    pub(crate) fn compare_parameters(
-        &mut self,
-        place: Place,
-        actor: &Actor,
-        shown: Parameters,
-    ) -> Result<(), AllocError> {
-        if actor.knows_parameters && self.shape.has_dequeues {
-            let known = actor.entity.parameters;
-            self.compare_unsigned(
-                place,
-                actor,
-                Quantity::DlRuntime,
-                known.dl_runtime,
-                shown.dl_runtime,
-            )?;
-            self.compare_unsigned(
-                place,
-                actor,
-                Quantity::DlDeadline,
-                known.dl_deadline,
-                shown.dl_deadline,
-            )?;
-            self.compare_unsigned(
-                place,
-                actor,
-                Quantity::DlPeriod,
-                known.dl_period,
-                shown.dl_period,
-            )?;
-            self.compare_unsigned(place, actor, Quantity::SchedFlags, known.flags, shown.flags)?;
-        }
-        Ok(())
     }
 }
 

@@ -8,6 +8,7 @@ mod pending;
 mod playing;
 mod runqueue;
 mod shape;
+mod values;
 
 pub use machine::Machine;
 pub use shape::{Runs, Shape};

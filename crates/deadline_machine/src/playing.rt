@@ -6,6 +6,7 @@ use crate::machine::Machine;
 use crate::pending::{Alternative, Awaited, Blind, Duty, Effect, Later, Rest};
 use crate::runqueue::forgotten;
 use crate::shape::Runs;
+use crate::values::{compare_budget, compare_contending, compare_flags, compare_parameters};
 use deadline_events::{
     Admission, Arrival, Boost, Delayed, Enqueuing, Refill, Spent, admit, dequeue, enqueue, leave,
     replenish_fired, spend, zero_lag_fired,
@@ -285,7 +286,7 @@ impl Machine {
     // ---- enqueue_task_dl
 
     fn enqueued(&mut self, place: Place, line: Enqueued) -> Result<(), AllocError> {
-        self.compare_sums(place, line.cpu, line.sums)?;
+        self.take_sums(place, line.cpu, line.sums)?;
         let found = self.task(line.pid);
         self.settle(
             place,
@@ -295,12 +296,18 @@ impl Machine {
         let settled = self.task(line.pid);
         let refreshed = self.refreshed(place, settled, &line);
         let actor = self.with_alternative(refreshed, line.budget.runtime);
-        self.compare_budget(place, &actor, line.budget.runtime, line.budget.deadline)?;
-        self.compare_flags(place, &actor, line.budget)?;
+        compare_budget(
+            &mut self.sheet,
+            place,
+            actor,
+            line.budget.runtime,
+            line.budget.deadline,
+        )?;
+        compare_flags(&mut self.sheet, place, actor, line.budget)?;
         if self.shape.has_dequeues {
-            self.compare_contending(place, &actor, line.is_non_contending)?;
+            compare_contending(&mut self.sheet, place, actor, line.is_non_contending)?;
+            compare_parameters(&mut self.sheet, place, actor, line.parameters)?;
         }
-        self.compare_parameters(place, &actor, line.parameters)?;
         let shown = shown_enqueued(actor, &line, self.shape.has_dequeues);
         let done = enqueue(self.law, shown.entity, line);
         self.keep_enqueued(place, shown, &line, done)
@@ -427,7 +434,7 @@ impl Machine {
     // ---- update_curr_dl_se
 
     fn updated(&mut self, place: Place, line: Updated) -> Result<(), AllocError> {
-        self.compare_sums(place, line.cpu, line.sums)?;
+        self.take_sums(place, line.cpu, line.sums)?;
         let found = self.task(line.pid);
         let actor = off_tree(found, &line, self.shape.has_dequeues);
         if actor.entity.is_in_tree && actor.knows_budget && actor.knows_parameters {
@@ -446,8 +453,14 @@ impl Machine {
         if line.budget.is_yielded {
             shown.entity.budget.is_yielded = true;
         }
-        self.compare_budget(place, &shown, line.budget.runtime, line.budget.deadline)?;
-        self.compare_flags(place, &shown, line.budget)?;
+        compare_budget(
+            &mut self.sheet,
+            place,
+            shown,
+            line.budget.runtime,
+            line.budget.deadline,
+        )?;
+        compare_flags(&mut self.sheet, place, shown, line.budget)?;
         shown.entity.budget = line.budget;
         let delta = delta_of(&line);
         let charged = self.charge(place, shown, &line, delta)?;
@@ -550,12 +563,18 @@ impl Machine {
     // ---- dequeue_task_dl
 
     fn dequeued(&mut self, place: Place, line: Dequeued) -> Result<(), AllocError> {
-        self.compare_sums(place, line.cpu, line.sums)?;
+        self.take_sums(place, line.cpu, line.sums)?;
         let found = self.task(line.pid);
         let actor = self.with_alternative(found, line.budget.runtime);
-        self.compare_budget(place, &actor, line.budget.runtime, line.budget.deadline)?;
-        self.compare_flags(place, &actor, line.budget)?;
-        self.compare_contending(place, &actor, line.is_non_contending)?;
+        compare_budget(
+            &mut self.sheet,
+            place,
+            actor,
+            line.budget.runtime,
+            line.budget.deadline,
+        )?;
+        compare_flags(&mut self.sheet, place, actor, line.budget)?;
+        compare_contending(&mut self.sheet, place, actor, line.is_non_contending)?;
         self.keep_actor(shown_dequeued(actor, &line))?;
         self.rests.push(Rest {
             by: place.cpu,
@@ -611,11 +630,11 @@ impl Machine {
     // ---- switched_from_dl
 
     fn left_class(&mut self, place: Place, line: LeftClass) -> Result<(), AllocError> {
-        self.compare_sums(place, line.cpu, line.sums)?;
+        self.take_sums(place, line.cpu, line.sums)?;
         let found = self.task(line.pid);
         let actor = self.with_alternative(found, line.runtime);
-        self.compare_budget(place, &actor, line.runtime, line.deadline)?;
-        self.compare_contending(place, &actor, line.is_non_contending)?;
+        compare_budget(&mut self.sheet, place, actor, line.runtime, line.deadline)?;
+        compare_contending(&mut self.sheet, place, actor, line.is_non_contending)?;
         let shown = shown_left(actor, &line);
         self.sheet.note(Rule::LeftClass);
         self.note_runqueue(place, line.cpu, Rule::LeftClass)?;
@@ -917,7 +936,7 @@ impl Machine {
         if !line.is_server || !has(line.flags, WAKEUP) {
             return Ok(());
         }
-        self.compare_sums(place, line.cpu, line.sums)?;
+        self.take_sums(place, line.cpu, line.sums)?;
         let found = self.server(line.cpu, line.dl_runtime, line.dl_period);
         self.keep_actor(found)?;
         self.settle(
@@ -926,7 +945,7 @@ impl Machine {
             found.entity.is_non_contending && !line.is_non_contending,
         )?;
         let actor = self.actor(found.whose);
-        self.compare_contending(place, &actor, line.is_non_contending)?;
+        compare_contending(&mut self.sheet, place, actor, line.is_non_contending)?;
         let shown = shown_contending(actor, line.is_non_contending);
         let contention = contending(shown.entity);
         self.change(line.cpu, contending_change(shown.entity, 0, contention))?;
@@ -946,9 +965,9 @@ impl Machine {
         {
             return Ok(());
         }
-        self.compare_sums(place, line.cpu, line.sums)?;
+        self.take_sums(place, line.cpu, line.sums)?;
         let actor = self.server(line.cpu, line.dl_runtime, line.dl_period);
-        self.compare_contending(place, &actor, line.is_non_contending)?;
+        compare_contending(&mut self.sheet, place, actor, line.is_non_contending)?;
         let mut shown = shown_contending(actor, line.is_non_contending);
         shown.entity.budget.runtime = line.runtime;
         shown.entity.budget.deadline = line.deadline;

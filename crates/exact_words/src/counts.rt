@@ -1,5 +1,8 @@
 //! How many values were compared, and how many differ.
 
+ghost use Rattle.std.specs.Prelude.{◌≡◌};
+ghost use Rattle.exact_words.specs.Tallies.{tallied, tally_of, counted_of};
+
 use crate::words::{Kind, RULES, Rule};
 
 /// How many comparisons of a kind are equal, and how many differ.
@@ -30,7 +33,9 @@ const NONE: Tally = Tally {
     differ: 0,
 };
 
-fn counted(tally: Tally, is_equal: bool) -> Tally {
+fn counted(tally: Tally, is_equal: bool) -> Tally
+    ensures { result ≡ tallied tally is_equal }
+{
     if is_equal {
         Tally {
             equal: tally.equal.wrapping_add(1),
@@ -62,7 +67,9 @@ impl Counts {
     }
 
     /// The tally of one kind.
-    pub fn of(&self, kind: Kind) -> Tally {
+    pub fn of(&self, kind: Kind) -> Tally
+        ensures { result ≡ tally_of self.now kind }
+    {
         match kind {
             Kind::Budget => self.budget,
             Kind::Deadline => self.deadline,
@@ -79,7 +86,9 @@ impl Counts {
     }
 
     /// Counts a comparison.
-    pub fn add(&mut self, kind: Kind, is_equal: bool) {
+    pub fn add(&mut self, kind: Kind, is_equal: bool)
+        ensures { self.new ≡ counted_of self.old kind is_equal }
+    {
         match kind {
             Kind::Budget => self.budget = counted(self.budget, is_equal),
             Kind::Deadline => self.deadline = counted(self.deadline, is_equal),

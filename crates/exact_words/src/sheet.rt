@@ -1,5 +1,10 @@
 //! What was compared.
 
+ghost use Rattle.std.specs.Prelude.{◌≡◌, OnOk};
+ghost use Rattle.exact_words.specs.Kinds.{kind_by};
+ghost use Rattle.exact_words.specs.Tallies.{counted_of};
+ghost use Rattle.exact_words.specs.Firsts.{first_with};
+
 use crate::counts::{Counts, RuleCounts};
 use crate::words::{Comparison, Deviation, Kind, Rule, Why, kind_of};
 use std::alloc::{AllocError, Global};
@@ -33,24 +38,28 @@ impl Sheet {
         }
     }
 
-    /// Counts a comparison that was made while this line was played.
+    /// Counts a comparison that was made while this line was played, and keeps the first that differs.
     pub fn add(
         &mut self,
         comparison: Comparison,
         since: Why,
         line: u64,
         is_early: bool,
-    ) -> Result<(), AllocError> {
+    ) -> Result<(), AllocError>
+        ensures counts { OnOk result (self.new.counts ≡ counted_of self.old.counts (kind_by comparison.quantity) comparison.is_equal) }
+        ensures first { OnOk result (self.new.first ≡ first_with self.old.first (record { comparison = comparison; since = since })) }
+        ensures rules { self.new.rules ≡ self.old.rules }
+    {
         if self.keeps_rows {
             self.rows.push(comparison)?;
         }
-        self.counts
-            .add(kind_of(comparison.quantity), comparison.is_equal);
-        if !comparison.is_equal && self.first.is_none() {
-            self.first = Some(Deviation { comparison, since });
+        if self.first.is_none() {
             self.found_at = line;
             self.is_early = is_early;
         }
+        self.first = first_of(self.first, Deviation { comparison, since });
+        self.counts
+            .add(kind_of(comparison.quantity), comparison.is_equal);
         Ok(())
     }
 
@@ -73,5 +82,21 @@ impl Sheet {
 
     pub fn note(&mut self, rule: Rule) {
         self.rules.add(rule);
+    }
+}
+
+/// What was found first, and else this one, where it differs.
+fn first_of(found: Option<Deviation>, deviation: Deviation) -> Option<Deviation>
+    ensures { result ≡ first_with found deviation }
+{
+    match found {
+        Some(first) => Some(first),
+        None => {
+            if deviation.comparison.is_equal {
+                None
+            } else {
+                Some(deviation)
+            }
+        }
     }
 }

@@ -1,5 +1,8 @@
 //! What is compared, where, and what of.
 
+ghost use Rattle.std.specs.Prelude.{◌≡◌};
+ghost use Rattle.exact_words.specs.Kinds.{kind_by};
+
 use trace_words::TimerFunction;
 
 /// The function whose entry a line shows.
@@ -100,7 +103,9 @@ pub enum Kind {
 }
 
 /// The kind of a value.
-pub fn kind_of(quantity: Quantity) -> Kind {
+pub fn kind_of(quantity: Quantity) -> Kind
+    ensures { result ≡ kind_by quantity }
+{
     match quantity {
         Quantity::Runtime => Kind::Budget,
         Quantity::Deadline => Kind::Deadline,

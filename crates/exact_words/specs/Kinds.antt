@@ -1,0 +1,22 @@
+-- Of which kind a value is.
+use Rattle.exact_words.specs.declared.words.Quantity.{Quantity}
+use Rattle.exact_words.specs.declared.words.Quantity.TheVariants.{Runtime, Deadline as DeadlineValue, Throttled, Yielded, NonContending, DlRuntime, DlDeadline, DlPeriod, SchedFlags, ThisBw as ThisBwValue, RunningBw as RunningBwValue, ExtraBw as ExtraBwValue, ZeroLag as ZeroLagValue, ZeroLagMoment as ZeroLagMomentValue, Timer}
+use Rattle.exact_words.specs.declared.words.Kind.{Kind}
+use Rattle.exact_words.specs.declared.words.Kind.TheVariants.{Budget, Deadline, Flags, Parameters, ThisBw, RunningBw, ExtraBw, ZeroLag, ZeroLagMoment, Timers}
+
+abbrev pub kind_by : Quantity → Kind
+kind_by Runtime = Budget
+kind_by DeadlineValue = Deadline
+kind_by Throttled = Flags
+kind_by Yielded = Flags
+kind_by NonContending = Flags
+kind_by DlRuntime = Parameters
+kind_by DlDeadline = Parameters
+kind_by DlPeriod = Parameters
+kind_by SchedFlags = Parameters
+kind_by ThisBwValue = ThisBw
+kind_by RunningBwValue = RunningBw
+kind_by ExtraBwValue = ExtraBw
+kind_by ZeroLagValue = ZeroLag
+kind_by ZeroLagMomentValue = ZeroLagMoment
+kind_by Timer = Timers

@@ -1,0 +1,4 @@
+pub mod Kinds
+pub mod Tallies
+pub mod Firsts
+pub mod Choices

@@ -1,0 +1,38 @@
+-- How many values of each kind were compared.
+use Rattle.std.specs.Prelude.{ℕ, ◌+◌, ◌%◌, ◌^◌, Bool, true, false}
+use Rattle.exact_words.specs.declared.counts.Tally.{Tally}
+use Rattle.exact_words.specs.declared.counts.Counts.{Counts}
+use Rattle.exact_words.specs.declared.words.Kind.{Kind}
+use Rattle.exact_words.specs.declared.words.Kind.TheVariants.{Budget, Deadline, Flags, Parameters, ThisBw, RunningBw, ExtraBw, ZeroLag, ZeroLagMoment, Timers, Laws}
+
+-- one comparison more
+abbrev pub tallied : Tally → Bool → Tally
+tallied t true = record t { equal = (t.equal + 1) % 2 ^ 64 }
+tallied t false = record t { differ = (t.differ + 1) % 2 ^ 64 }
+
+abbrev pub tally_of : Counts → Kind → Tally
+tally_of c Budget = c.budget
+tally_of c Deadline = c.deadline
+tally_of c Flags = c.flags
+tally_of c Parameters = c.parameters
+tally_of c ThisBw = c.this_bw
+tally_of c RunningBw = c.running_bw
+tally_of c ExtraBw = c.extra_bw
+tally_of c ZeroLag = c.zero_lag
+tally_of c ZeroLagMoment = c.zero_lag_moment
+tally_of c Timers = c.timers
+tally_of c Laws = c.laws
+
+-- one comparison more of this kind, and of no other
+abbrev pub counted_of : Counts → Kind → Bool → Counts
+counted_of c Budget b = record c { budget = tallied c.budget b }
+counted_of c Deadline b = record c { deadline = tallied c.deadline b }
+counted_of c Flags b = record c { flags = tallied c.flags b }
+counted_of c Parameters b = record c { parameters = tallied c.parameters b }
+counted_of c ThisBw b = record c { this_bw = tallied c.this_bw b }
+counted_of c RunningBw b = record c { running_bw = tallied c.running_bw b }
+counted_of c ExtraBw b = record c { extra_bw = tallied c.extra_bw b }
+counted_of c ZeroLag b = record c { zero_lag = tallied c.zero_lag b }
+counted_of c ZeroLagMoment b = record c { zero_lag_moment = tallied c.zero_lag_moment b }
+counted_of c Timers b = record c { timers = tallied c.timers b }
+counted_of c Laws b = record c { laws = tallied c.laws b }
