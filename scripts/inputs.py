@@ -81,7 +81,7 @@ def processors(path, count):
             f"x-1 [{cpu:03}] d. {at}.020000000: sched_wakeup: comm=t{cpu} pid={1000 + cpu} prio=-1 target_cpu={cpu:03}\n",
             f"{task} {at}.021000000: sched_stat_runtime: comm=t{cpu} pid={1000 + cpu} runtime=1000000 [ns]\n",
             f"{task} {at}.021000100: hrtimer_start: hrtimer=h{cpu} function=inactive_task_timer expires={at}030000000\n",
-            f"{task} {at}.021000200: sched_switch: prev_comm=t{cpu} prev_pid={1000 + cpu} prev_prio=-1 prev_state=S ==> next_comm=x\n",
+            f"{task} {at}.021000200: sched_switch: prev_comm=t{cpu} prev_pid={1000 + cpu} prev_prio=-1 prev_state=S ==> next_comm=x next_pid=1 next_prio=120\n",
         ]
     write(path, *lines)
 

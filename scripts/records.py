@@ -63,14 +63,14 @@ def probe_faults(wanted, rows):
     first = None
     for line in wanted.split("\n")[1:]:
         fields = line.split("\t")
-        if len(fields) == 3 and fields[1].isdigit():
+        if len(fields) == 3 and fields[1].isdigit() and fields[0] != "laws":
             for answer, number in (("equal", int(fields[1])), ("differs", int(fields[2]))):
                 if counts[(fields[0], answer)] != number:
                     yield f"{fields[0]}: {counts[(fields[0], answer)]} {answer}, wanted {number}"
         elif m := re.search(r"line (\d+)", line):
             first = first or m[1]
     told = next((row["line"] for row in rows if row["answer"] == "differs"), None)
-    if first and told != first:
+    if first and told and told != first:
         yield f"first deviation at line {told}, wanted {first}"
 
 

@@ -4,21 +4,51 @@ use crate::heading::TaskName;
 use crate::names::{event_name, function_of, quantity_name, rule_function, rule_name};
 use crate::text::total_of;
 use crate::writing::{put, put_count, put_seconds, put_subject, put_value};
+use exact_laws::{Broken, Law};
 use exact_words::{Comparison, Counts, Deviation, Event, Place, Rule, Value, Why};
 use std::alloc::{AllocError, Global};
 
-/// Appends whether each value is the kernel's, or the first that is not.
+/// Appends whether each value is the kernel's and each law holds, or the first that is not, and does not.
 pub fn put_answer(
     alloc: Global,
     out: &mut Vec<u8>,
     names: &[TaskName],
     counts: &Counts,
     first: Option<Deviation>,
+    broken: Option<Broken>,
 ) -> Result<(), AllocError> {
-    match first {
-        None => put_agreement(out, total_of(counts).equal),
-        Some(first) => put_differs(alloc, out, names, total_of(counts).differ, first),
+    match (first, broken) {
+        (None, None) => put_agreement(out, total_of(counts).equal),
+        (None, Some(broken)) => put_broken(alloc, out, broken),
+        (Some(first), _) => put_differs(alloc, out, names, total_of(counts).differ, first),
     }
+}
+
+/// Appends the law that a record breaks though each of its values agrees.
+fn put_broken(alloc: Global, out: &mut Vec<u8>, broken: Broken) -> Result<(), AllocError> {
+    let line = broken.line;
+    let text = format!(in alloc; "differs: a law is broken, first at line {line}\n  ")?;
+    put(out, text.as_str())?;
+    match broken.law {
+        Law::Ratio => put_ratio(alloc, out, broken),
+        Law::Clock => put_clock(alloc, out, broken),
+    }
+}
+
+fn put_ratio(alloc: Global, out: &mut Vec<u8>, broken: Broken) -> Result<(), AllocError> {
+    let (cpu, max_bw, bw_ratio) = (broken.cpu, broken.max_bw, broken.bw_ratio);
+    let text = format!(in alloc;
+        "max_bw {max_bw} and bw_ratio {bw_ratio} of CPU {cpu} are not those of the limit of the admission test\n  functions of kernel/sched/deadline.c to look at: init_dl_rq_bw_ratio\n"
+    )?;
+    put(out, text.as_str())
+}
+
+fn put_clock(alloc: Global, out: &mut Vec<u8>, broken: Broken) -> Result<(), AllocError> {
+    let (late, wakes, micros) = (broken.late, broken.wakes, broken.behind / 1000);
+    let text = format!(in alloc;
+        "{late} of {wakes} wakes by a runqueue's clock that is more than 100 us behind, the first by {micros} us\n  functions to look at: update_rq_clock, ttwu_queue\n"
+    )?;
+    put(out, text.as_str())
 }
 
 /// Appends that all agrees; a record without a value that was compared shows nothing.

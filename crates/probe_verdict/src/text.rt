@@ -3,6 +3,7 @@
 use crate::heading::{Heading, Lost};
 use crate::names::{ALL, KINDS, kind_plural, rule_name};
 use crate::writing::{put, put_bytes, put_comma, put_count, put_number};
+use exact_laws::Broken;
 use exact_words::{Counts, Deviation, Kind, Rule, RuleCounts};
 use std::alloc::{AllocError, Global};
 use trace_words::Kernel;
@@ -206,7 +207,7 @@ fn put_missing(out: &mut Vec<u8>, rule: Rule, rules: &RuleCounts) -> Result<(), 
     put(out, rule_name(rule))
 }
 
-/// Whether each value that was compared is the kernel's.
-pub fn agrees(first: Option<Deviation>) -> bool {
-    first.is_none()
+/// Whether each value that was compared is the kernel's, and each law holds.
+pub fn agrees(first: Option<Deviation>, broken: Option<Broken>) -> bool {
+    first.is_none() && broken.is_none()
 }

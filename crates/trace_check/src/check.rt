@@ -204,7 +204,7 @@ fn verdict_by(
     let text = probe_text(alloc, heading, &played.machine)?;
     let table = probe_table(alloc, wanted, &gathering.rows)?;
     Ok(Verdict {
-        agrees: agrees(played.machine.first()),
+        agrees: agrees(played.machine.first(), played.machine.broken()),
         text,
         table,
     })
@@ -218,7 +218,14 @@ fn probe_text(
     let mut text = Vec::new(alloc);
     let counts = machine.counts();
     put_heading(alloc, &mut text, heading, &counts, &machine.rules())?;
-    put_answer(alloc, &mut text, heading.tasks, &counts, machine.first())?;
+    put_answer(
+        alloc,
+        &mut text,
+        heading.tasks,
+        &counts,
+        machine.first(),
+        machine.broken(),
+    )?;
     Ok(text)
 }
 

@@ -3,7 +3,7 @@
 use crate::fault::Fault;
 use crate::head::{Head, cpus_of};
 use crate::names::{Names, running_comm};
-use crate::options::Options;
+use crate::options::{CPU_MAX, Options};
 use deadline_machine::{Machine, Shape};
 use deadline_timers::{RunqueueSums, setup_of};
 use probe_verdict::{Lost, put_row};
@@ -11,7 +11,7 @@ use record_line::{Lost as LostLines, told_by};
 use std::alloc::{AllocError, Global};
 use timer_lines::{Given, Record};
 use trace_line::processors;
-use trace_words::{Fixed, Limit, Line, Note, Parameters, Policy, Probe, Said};
+use trace_words::{Fixed, Limit, Line, Note, Parameters, Policy, Probe, Said, TimerFunction};
 
 /// So many lines of probes are kept until it is known which events the record has.
 const LOOK: usize = 16_384;
@@ -24,6 +24,13 @@ struct Kept {
     cpu: u32,
     pid: u64,
     probe: Probe,
+}
+
+/// A task of the class of which nothing was told, and the line at which it first woke.
+#[derive(Clone, Copy)]
+struct Unknown {
+    pid: u64,
+    line: u64,
 }
 
 /// What lines of probes came to so far.
@@ -59,6 +66,13 @@ pub(crate) struct Gathering<'o> {
 
     /// The tasks that probes show in the class.
     pub in_class: Vec<u64>,
+
+    /// The pids of the given tasks that were found, and whether a note tells of a task.
+    given: Vec<u64>,
+    has_notes: bool,
+
+    /// SCHED_DEADLINE tasks that woke, of which neither an option nor a note tells.
+    unknown: Vec<Unknown>,
     pub lost: Option<Lost>,
     keeps_rows: bool,
 
@@ -89,6 +103,9 @@ impl<'o> Gathering<'o> {
             shape: Shape::new(),
             played: None,
             in_class: Vec::new(alloc),
+            given: Vec::new(alloc),
+            has_notes: false,
+            unknown: Vec::new(alloc),
             lost: None,
             keeps_rows,
             rows: Vec::new(alloc),
@@ -98,7 +115,7 @@ impl<'o> Gathering<'o> {
 
     /// Takes a line, whose number counts from 1.
     pub fn take(&mut self, number: u64, line: &[u8]) -> Result<(), AllocError> {
-        self.see_head(line);
+        self.see_head(number, line);
         let told = told_by(line);
         if let Some(domain) = told.domain {
             self.note_domain(number, domain)?;
@@ -110,9 +127,16 @@ impl<'o> Gathering<'o> {
         self.take_told(number, line, told.line)
     }
 
-    fn see_head(&mut self, line: &[u8]) {
-        if self.head.processors.is_none() && line.first() == Some(&b'#') {
-            self.head.processors = processors(line);
+    /// The head of a trace may say how many processors there are.
+    fn see_head(&mut self, number: u64, line: &[u8]) {
+        if self.head.processors.is_some() || line.first() != Some(&b'#') {
+            return;
+        }
+        self.head.processors = processors(line);
+        if let Some(count) = self.head.processors
+            && (count == 0 || count > CPU_MAX.saturating_add(1))
+        {
+            self.fault = Some(Fault::OutsideDomain { line: number });
         }
     }
 
@@ -226,6 +250,7 @@ impl<'o> Gathering<'o> {
     }
 
     fn give_to(&mut self, pid: u64, parameters: Parameters) -> Result<(), AllocError> {
+        self.given.push(pid)?;
         self.begin()?;
         match &mut self.record {
             Some(record) => record.give(Given { pid, parameters }),
@@ -297,6 +322,7 @@ impl<'o> Gathering<'o> {
         cpu: u32,
         policy: Policy,
     ) -> Result<(), AllocError> {
+        self.has_notes = true;
         self.begin()?;
         match &mut self.record {
             Some(record) => record.note(pid, at, by, cpu, policy),
@@ -314,11 +340,55 @@ impl<'o> Gathering<'o> {
     ) -> Result<(), AllocError> {
         self.head.greatest_cpu = self.head.greatest_cpu.max(cpu).max(cpu_of(&fixed));
         self.has_timers = self.has_timers || matches!(fixed, Fixed::TimerStarted { .. });
+        self.see_unknown(number, pid, &fixed)?;
         self.begin()?;
         match &mut self.record {
             Some(record) => record.line(number, at, cpu, pid, fixed),
             None => Ok(()),
         }
+    }
+
+    /// Where no note tells of tasks, each SCHED_DEADLINE task with a 0-lag timer is to be given.
+    fn see_unknown(&mut self, number: u64, pid: u64, fixed: &Fixed) -> Result<(), AllocError> {
+        if self.has_notes {
+            return Ok(());
+        }
+        match *fixed {
+            Fixed::Woken {
+                pid,
+                is_deadline: true,
+                ..
+            } => self.wakes_unknown(number, pid),
+            Fixed::TimerStarted {
+                function: TimerFunction::ZeroLag,
+                ..
+            } => self.arms_unknown(pid),
+            _ => Ok(()),
+        }
+    }
+
+    fn wakes_unknown(&mut self, line: u64, pid: u64) -> Result<(), AllocError> {
+        if !self.given.contains(&pid) && self.unknown_line(pid).is_none() {
+            self.unknown.push(Unknown { pid, line })?;
+        }
+        Ok(())
+    }
+
+    fn unknown_line(&self, pid: u64) -> Option<u64> {
+        for unknown in &self.unknown {
+            if unknown.pid == pid {
+                return Some(unknown.line);
+            }
+        }
+        None
+    }
+
+    fn arms_unknown(&mut self, pid: u64) -> Result<(), AllocError> {
+        if let Some(line) = self.unknown_line(pid) {
+            let comm = self.names.comm(self.alloc, pid)?;
+            self.fault = Some(Fault::UnknownTask { line, pid, comm });
+        }
+        Ok(())
     }
 
     fn probe(&mut self, kept: Kept) -> Result<(), AllocError> {
