@@ -10,7 +10,7 @@ _grubtrace() {
         esac
     done
     case ${COMP_WORDS[COMP_CWORD - 1]} in
-        --task | --cpus | --rt | --within)
+        --task | --cpus | --domain | --rt | --kernel | --within)
             compopt +o default 2> /dev/null
             return
             ;;
@@ -18,14 +18,18 @@ _grubtrace() {
             mapfile -t COMPREPLY < <(compgen -W none -- "$current")
             return
             ;;
-        --out) return ;;
+        --by)
+            mapfile -t COMPREPLY < <(compgen -W 'kernel documentation' -- "$current")
+            return
+            ;;
+        --out | --table) return ;;
     esac
     case ${command-} in
         '') words='tasks events check help -h --help -V --version' ;;
         help) words='tasks events check' ;;
         tasks) words='-h --help' ;;
         events) words='--task --cpus --rt --fair-server --out -h --help' ;;
-        check) words='--task --cpus --rt --fair-server --within --picture -h --help' ;;
+        check) words='--task --cpus --domain --rt --fair-server --kernel --within --by --timers --table -h --help' ;;
     esac
     if [[ $current == -* || -z ${command-} || $command == help ]]; then
         mapfile -t COMPREPLY < <(compgen -W "$words" -- "$current")
