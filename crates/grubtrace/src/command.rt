@@ -143,5 +143,6 @@ pub(crate) fn command<'a>(alloc: Global) -> Result<Command<'a>, AllocError> {
         .subcommand_required(true)
         .subcommand(tasks_command(alloc)?)?
         .subcommand(events_command(alloc)?)?
-        .subcommand(check_command(alloc, trace_arg(alloc))?)
+        .subcommand(check_command(alloc, trace_arg(alloc))?)?
+        .subcommand(size_command(alloc)?)
 }
