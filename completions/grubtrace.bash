@@ -3,14 +3,14 @@ _grubtrace() {
     local current=${COMP_WORDS[COMP_CWORD]} command word words
     for word in "${COMP_WORDS[@]:1:COMP_CWORD-1}"; do
         case $word in
-            tasks | events | check | help)
+            tasks | events | check | size | help)
                 command=$word
                 break
                 ;;
         esac
     done
     case ${COMP_WORDS[COMP_CWORD - 1]} in
-        --task | --cpus | --domain | --rt | --kernel | --within)
+        --task | --cpus | --domain | --rt | --kernel | --within | --late | --margin)
             compopt +o default 2> /dev/null
             return
             ;;
@@ -25,11 +25,12 @@ _grubtrace() {
         --out | --table) return ;;
     esac
     case ${command-} in
-        '') words='tasks events check help -h --help -V --version' ;;
-        help) words='tasks events check' ;;
+        '') words='tasks events check size help -h --help -V --version' ;;
+        help) words='tasks events check size' ;;
         tasks) words='-h --help' ;;
         events) words='--task --cpus --rt --fair-server --out -h --help' ;;
         check) words='--task --cpus --domain --rt --fair-server --kernel --within --by --timers --table -h --help' ;;
+        size) words='--task --within --late --margin --cpus --rt --fair-server -h --help' ;;
     esac
     if [[ $current == -* || -z ${command-} || $command == help ]]; then
         mapfile -t COMPREPLY < <(compgen -W "$words" -- "$current")

@@ -1,7 +1,7 @@
 //! The command line.
 
 use crate::check_command::check_command;
-use crate::texts::{AFTER_EVENTS, AFTER_HELP, AFTER_TASKS, VERSION};
+use crate::texts::{AFTER_EVENTS, AFTER_HELP, AFTER_SIZE, AFTER_TASKS, VERSION};
 use clap::{Arg, ArgAction, Command, value_parser};
 use grub_facts::CPUS_MAX;
 use std::alloc::{AllocError, Global};
@@ -55,6 +55,44 @@ fn out_arg<'a>(alloc: Global) -> Arg<'a> {
         .action(ArgAction::Set)
 }
 
+fn sized_task_arg<'a>(alloc: Global) -> Arg<'a> {
+    Arg::new(alloc, "task")
+        .long("task")
+        .value_name("NAME[=[RUNTIME:]PERIOD]")
+        .help(
+            "A task's comm or pid, and its period in microseconds, else that of its wakes; with a RUNTIME, how many jobs may be late with that. Once for each task; without any, the tasks are listed",
+        )
+        .action(ArgAction::Append)
+}
+
+fn task_within_arg<'a>(alloc: Global) -> Arg<'a> {
+    Arg::new(alloc, "within")
+        .long("within")
+        .value_name("NAME=US")
+        .help(
+            "In how many microseconds after its wake each job of the task is to be done, where that is not the period",
+        )
+        .action(ArgAction::Append)
+}
+
+fn late_arg<'a>(alloc: Global) -> Arg<'a> {
+    Arg::new(alloc, "late")
+        .long("late")
+        .value_name("N")
+        .help("How many jobs of each task may be late")
+        .value_parser(value_parser!(u32).range(0..4294967296))
+        .default_value("0")
+}
+
+fn margin_arg<'a>(alloc: Global) -> Arg<'a> {
+    Arg::new(alloc, "margin")
+        .long("margin")
+        .value_name("PERCENT")
+        .help("How much more than the least runtime is proposed, 0 to 1000")
+        .value_parser(value_parser!(u32).range(0..1001))
+        .default_value("10")
+}
+
 fn tasks_command<'a>(alloc: Global) -> Result<Command<'a>, AllocError> {
     Command::new(alloc, "tasks")
         .about("Prints the SCHED_DEADLINE tasks that a trace shows")
@@ -80,6 +118,20 @@ fn events_command<'a>(alloc: Global) -> Result<Command<'a>, AllocError> {
         .arg(trace_arg(alloc))
 }
 
+fn size_command<'a>(alloc: Global) -> Result<Command<'a>, AllocError> {
+    Command::new(alloc, "size")
+        .about("Lists the tasks of a trace, of any class, or says which reservations they need")
+        .after_help(AFTER_SIZE)
+        .arg(sized_task_arg(alloc))?
+        .arg(task_within_arg(alloc))?
+        .arg(late_arg(alloc))?
+        .arg(margin_arg(alloc))?
+        .arg(cpus_arg(alloc))?
+        .arg(rt_arg(alloc))?
+        .arg(fair_arg(alloc))?
+        .arg(trace_arg(alloc))
+}
+
 /// `grubtrace tasks TRACE`, `grubtrace events OPTIONS --out PREFIX TRACE` and `grubtrace check OPTIONS TRACE`.
 pub(crate) fn command<'a>(alloc: Global) -> Result<Command<'a>, AllocError> {
     Command::new(alloc, "grubtrace")
@@ -91,5 +143,6 @@ pub(crate) fn command<'a>(alloc: Global) -> Result<Command<'a>, AllocError> {
         .subcommand_required(true)
         .subcommand(tasks_command(alloc)?)?
         .subcommand(events_command(alloc)?)?
-        .subcommand(check_command(alloc, trace_arg(alloc))?)
+        .subcommand(check_command(alloc, trace_arg(alloc))?)?
+        .subcommand(size_command(alloc)?)
 }

@@ -10,10 +10,14 @@ use clap::{ArgMatches, Error};
 use grub_convert::{
     Input, Options, STATUS_SYSTEM, STATUS_USAGE, Target, options_of, serve_events, serve_tasks,
 };
+use size_report::{OptionFault, Words, serve_size, size_options_of};
 use std::alloc::{AllocError, Global};
 use std::io;
 use std::io::Write;
 use trace_check::{WrongOption, options_of as check_options, serve_check};
+
+/// How many percent more than the least runtime are proposed, where the words do not say it.
+const MARGIN: u32 = 10;
 
 /// What the words ask for.
 fn matches_of<'a>(alloc: Global, words: &'a [String]) -> Result<ArgMatches<'a>, Error> {
@@ -49,6 +53,7 @@ pub(crate) fn serve<
         Ok(matches) => match matches.subcommand() {
             Some(("events", matches)) => events(alloc, matches, input, target, faults),
             Some(("check", matches)) => check(alloc, matches, input, target, out, faults),
+            Some(("size", matches)) => size(alloc, matches, input, out, faults),
             Some((_, matches)) => {
                 let path = matches.get_str("TRACE").unwrap_or("");
                 serve_tasks(alloc, input, path, out, faults)
@@ -162,6 +167,77 @@ fn no_options<E: Write>(faults: &mut E) -> u8
     let _ = faults.write_all(
         b"error: a task, --rt or --fair-server says no reservation, or a task is given twice\n",
     );
+    STATUS_USAGE
+}
+
+/// Prints the tasks of a trace, or the reservations that the words of `size` ask for.
+fn size<
+    D: Drop,
+    O: Fn(&str) -> io::Result<D>,
+    N: Fn(&mut D, &mut [u8]) -> io::Result<usize>,
+    W: Write,
+    E: Write,
+>(
+    alloc: Global,
+    matches: &ArgMatches<'_>,
+    input: &Input<O, N>,
+    out: &mut W,
+    faults: &mut E,
+) -> u8
+    requires open { O.IsAlwaysCallable input.now.open }
+    requires read { N.IsAlwaysCallable input.now.read }
+    ensures status { result ≤ 4 }
+    ensures nothing { (result ≡ 1) ⊎ (result ≡ 2) → out.new ≡ out.old }
+{
+    let path = matches.get_str("TRACE").unwrap_or("");
+    match size_options_of(alloc, sized_words(matches)) {
+        Ok(options) => serve_size(
+            alloc,
+            &input.open,
+            &input.read,
+            path,
+            &options,
+            out,
+            faults,
+        ),
+        Err(fault) => no_sizing(fault, faults),
+    }
+}
+
+/// The words of the options of `size`.
+fn sized_words<'w, 'a>(matches: &'w ArgMatches<'a>) -> Words<'w, 'a> {
+    Words {
+        tasks: matches.get_strs("task").unwrap_or(&[]),
+        withins: matches.get_strs("within").unwrap_or(&[]),
+        late: matches.get_one::<u32>("late").unwrap_or(0),
+        margin: matches.get_one::<u32>("margin").unwrap_or(MARGIN),
+        cpus: matches.get_one::<u32>("cpus"),
+        rt: matches.get_str("rt").unwrap_or(""),
+        fair: matches.get_str("fair-server").unwrap_or(""),
+    }
+}
+
+/// Tells which option of `size` says nothing.
+fn no_sizing<E: Write>(fault: OptionFault<'_>, faults: &mut E) -> u8
+    ensures { (result ≡ STATUS_USAGE) ⊎ (result ≡ STATUS_SYSTEM) }
+{
+    let _ = match fault {
+        OptionFault::Task(word) => writeln!(
+            faults,
+            "error: --task {word} is no NAME, NAME=PERIOD or NAME=RUNTIME:PERIOD with a period of 100 to 4194304 and a runtime of 2 to the period"
+        ),
+        OptionFault::Twice(name) => writeln!(faults, "error: the task {name} is given twice"),
+        OptionFault::Within(word) => writeln!(
+            faults,
+            "error: --within {word} is no NAME=US of a task that is given"
+        ),
+        OptionFault::Rt(word) => writeln!(faults, "error: --rt {word} is no RUNTIME:PERIOD"),
+        OptionFault::Fair(word) => writeln!(
+            faults,
+            "error: --fair-server {word} is no RUNTIME:PERIOD, nor none"
+        ),
+        OptionFault::NoMemory => return no_memory(faults),
+    };
     STATUS_USAGE
 }
 

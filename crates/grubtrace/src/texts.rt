@@ -42,3 +42,16 @@ kernel `differs` (status 4). docs/KERNEL.md says what is compared and what is no
 
     grubtrace check trace.txt
     grubtrace check --task gr_0=5000:50000 --task gr_1=10000:40000 trace.txt";
+
+/// What stands below the help of `size`.
+pub const AFTER_SIZE: &str = "\
+A job begins as its task wakes and ends as it blocks. For each task the least runtime is
+told with which no job of the trace may be late, whatever else runs, as long as each
+budget is had by its deadline; what fewer late jobs and other periods cost; and whether
+the kernel admits the sum.
+
+    grubtrace size trace.txt
+    grubtrace size --task dsp=5333 --task logger=4000:100000 trace.txt
+
+Record with real-time priority, as by chrt -f 50 PROGRAM: a task that is late hides its
+next wakes.";

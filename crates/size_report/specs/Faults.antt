@@ -1,0 +1,15 @@
+-- The program's status where a record is not sized.
+use Rattle.std.specs.Prelude.{ℕ}
+use Rattle.size_report.specs.declared.fault.SizeFault.{SizeFault}
+use Rattle.size_report.specs.declared.fault.SizeFault.TheVariants.{Line, NoSuchTask, NoJobs, FileExists, Write, Unreadable, NoMemory, NoText}
+
+-- 1 where the trace is at fault or a file is there already, 3 where the system failed
+abbrev pub status_of : SizeFault → ℕ
+status_of (Line path line flaw) = 1
+status_of (NoSuchTask path name) = 1
+status_of (NoJobs path name) = 1
+status_of (FileExists path) = 1
+status_of Write = 3
+status_of (Unreadable path) = 3
+status_of NoMemory = 3
+status_of NoText = 3

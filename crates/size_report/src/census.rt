@@ -1,0 +1,89 @@
+//! The tasks of a record.
+
+use crate::figures::{Figures, at, most, regular_period, share, total};
+use crate::table::{Row, heading, hundredths_cell, number_cell, put_table, text_cell};
+use std::alloc::{AllocError, Global};
+use trace_jobs::{Class, Record, Task};
+
+pub(crate) fn class_text(class: Class) -> &'static str {
+    match class {
+        Class::Deadline => "deadline",
+        Class::RealTime => "real time",
+        Class::Fair => "fair",
+    }
+}
+
+/// A line of the table, and by how much it is before others.
+#[derive(Drop)]
+struct Line {
+    work: u64,
+    row: Row,
+}
+
+/// How long a record is, in microseconds.
+pub(crate) fn duration(record: &Record) -> u64 {
+    record.last.saturating_sub(record.first) / 1000
+}
+
+fn row_of(alloc: Global, task: &Task, micros: u64) -> Result<Line, AllocError> {
+    let figures = Figures::new(alloc, &task.jobs)?;
+    let work = total(&figures.ran);
+    let wakes = if regular_period(&figures.between).is_some() {
+        "regular"
+    } else {
+        "not regular"
+    };
+    let mut row = Vec::new(alloc);
+    row.push(Vec::from_slice(alloc, &task.comm)?)?;
+    row.push(number_cell(alloc, task.pid)?)?;
+    row.push(text_cell(alloc, class_text(task.class))?)?;
+    row.push(number_cell(alloc, task.jobs.len() as u64)?)?;
+    row.push(hundredths_cell(alloc, share(work, micros))?)?;
+    row.push(number_cell(alloc, at(&figures.between, 50))?)?;
+    row.push(number_cell(alloc, most(&figures.between))?)?;
+    row.push(number_cell(alloc, at(&figures.ran, 50))?)?;
+    row.push(number_cell(alloc, at(&figures.ran, 99))?)?;
+    row.push(number_cell(alloc, most(&figures.ran))?)?;
+    row.push(number_cell(alloc, at(&figures.done, 50))?)?;
+    row.push(number_cell(alloc, most(&figures.done))?)?;
+    row.push(text_cell(alloc, wakes)?)?;
+    Ok(Line { work, row })
+}
+
+/// The text that lists the tasks of a record with two jobs or more, by their share of processor time.
+pub(crate) fn census_text(alloc: Global, record: &Record) -> Result<Vec<u8>, AllocError> {
+    let mut lines = Vec::new(alloc);
+    for pid in record.tasks.pids() {
+        if let Some(task) = record.tasks.task(*pid) {
+            if task.jobs.len() >= 2 {
+                lines.push(row_of(alloc, task, duration(record))?)?;
+            }
+        }
+    }
+    lines.sort_by_key(|line: &Line| u64::MAX - line.work)?;
+    let mut rows = Vec::new(alloc);
+    rows.push(heading(alloc, &HEADING)?)?;
+    for line in lines {
+        let Line { row, .. } = line;
+        rows.push(row)?;
+    }
+    let mut out = Vec::new(alloc);
+    put_table(&mut out, &rows, &[0, 2, 12], 0)?;
+    Ok(out)
+}
+
+const HEADING: [&str; 13] = [
+    "task",
+    "pid",
+    "class",
+    "jobs",
+    "cpu %",
+    "woke every",
+    "at most",
+    "ran",
+    "99 %",
+    "at most",
+    "done after",
+    "at most",
+    "wakes",
+];

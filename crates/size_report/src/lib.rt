@@ -1,0 +1,17 @@
+//! What `grubtrace size` prints: the tasks of a record, and the reservations that they need.
+#![tactic(auto)]
+
+mod admission;
+mod census;
+mod fault;
+mod figures;
+mod options;
+mod price;
+mod serving;
+mod sizing;
+mod table;
+mod task_text;
+
+pub use fault::SizeFault;
+pub use options::{Asked, OptionFault, SizeOptions, Words, size_options_of};
+pub use serving::serve_size;

@@ -1,0 +1,315 @@
+//! What the program does with a record: it lists its tasks, or sizes some of them.
+
+ghost use Rattle.std.specs.Prelude.{◌≡◌, ◌<◌, ◌⊎◌, IfErr, length};
+ghost use Rattle.size_report.specs.Faults.{status_of};
+
+use crate::admission::{Machine, Proposal, put_proposals};
+use crate::census::{census_text, duration};
+use crate::fault::SizeFault;
+use crate::figures::{Figures, regular_period};
+use crate::options::{Asked, SizeOptions};
+use crate::price::put_prices;
+use crate::sizing::{PERIOD_LEAST, PERIOD_MOST, Wanted, jobs_of, needed_of};
+use crate::task_text::{
+    put_chance, put_choices, put_command, put_figures, put_head, put_none, put_not_regular,
+    put_others, put_question,
+};
+use grub_files::read_once;
+use grub_sizing::{Job, first_late};
+use std::alloc::{AllocError, Global};
+use std::io;
+use std::io::Write;
+use trace_jobs::{Record, RecordReader, Task};
+
+/// The bytes of a piece.
+const PIECE_BYTES: usize = 65536;
+
+/// What is printed of the tasks so far, and what is proposed for them.
+#[derive(Drop)]
+struct Sheet {
+    text: Vec<u8>,
+    proposals: Vec<Proposal>,
+}
+
+/// One piece of an opened trace: whether there may be more.
+fn read_piece<'a, D, N: Fn(&mut D, &mut [u8]) -> io::Result<usize>>(
+    read: &N,
+    path: &'a str,
+    file: &mut D,
+    room: &mut [u8],
+    reader: &mut RecordReader,
+) -> Result<bool, SizeFault<'a>>
+    requires callable { N.IsAlwaysCallable read.now }
+    requires has_room { 0 < length room.old }
+{
+    let Ok(count) = read_once(read, file, room) else {
+        return Err(SizeFault::Unreadable { path });
+    };
+    if reader.feed(&room[..count]).is_err() {
+        return Err(SizeFault::NoMemory);
+    }
+    Ok(count > 0 && !reader.is_stopped())
+}
+
+fn read_pieces<'a, D, N: Fn(&mut D, &mut [u8]) -> io::Result<usize>>(
+    read: &N,
+    path: &'a str,
+    file: &mut D,
+    room: &mut [u8],
+    reader: &mut RecordReader,
+) -> Result<(), SizeFault<'a>>
+    requires callable { N.IsAlwaysCallable read.now }
+    requires has_room { 0 < length room.old }
+{
+    for _ in 0..u64::MAX {
+        if !read_piece(read, path, file, room, reader)? {
+            return Ok(());
+        }
+    }
+    Err(SizeFault::Unreadable { path })
+}
+
+/// The record of the trace of a name.
+fn read_record<
+    'a,
+    D: Drop,
+    O: Fn(&str) -> io::Result<D>,
+    N: Fn(&mut D, &mut [u8]) -> io::Result<usize>,
+>(alloc: Global, opener: &O, read: &N, path: &'a str) -> Result<Record, SizeFault<'a>>
+    requires opens { O.IsAlwaysCallable opener.now }
+    requires read { N.IsAlwaysCallable read.now }
+{
+    let Ok(mut room) = Vec::from_elem(alloc, 0u8, PIECE_BYTES) else {
+        return Err(SizeFault::NoMemory);
+    };
+    let mut file = match opener(path) {
+        Ok(file) => file,
+        Err(_) => return Err(SizeFault::Unreadable { path }),
+    };
+    let mut reader = RecordReader::new(alloc);
+    read_pieces(read, path, &mut file, &mut room, &mut reader)?;
+    match reader.end() {
+        Ok(record) => Ok(record),
+        Err((line, flaw)) => Err(SizeFault::Line { path, line, flaw }),
+    }
+}
+
+/// The task of a name: a pid, or the first with this comm.
+fn task_named<'r>(record: &'r Record, name: &str) -> Option<&'r Task> {
+    match name.parse::<u64>() {
+        Ok(pid) => record.tasks.task(pid),
+        Err(_) => record.tasks.task(record.tasks.pid_named(name.as_bytes())?),
+    }
+}
+
+/// The period of a task: that which is given, else that of its wakes.
+fn period_of(asked: &Asked<'_>, figures: &Figures) -> Option<u32> {
+    if asked.period.is_some() {
+        return asked.period;
+    }
+    let period = regular_period(&figures.between)?;
+    if period >= u64::from(PERIOD_LEAST) && period <= u64::from(PERIOD_MOST) {
+        Some(period as u32)
+    } else {
+        None
+    }
+}
+
+/// Writes what a task needs in a period.
+fn put_needed(
+    sheet: &mut Sheet,
+    task: &Task,
+    jobs: &[Job],
+    wanted: Wanted,
+) -> Result<(), AllocError> {
+    let alloc = *sheet.text.allocator();
+    let period = wanted.period;
+    if period == 0 {
+        return Ok(());
+    }
+    let Some(needed) = needed_of(alloc, jobs, wanted)? else {
+        let late = first_late(alloc, jobs, period, period)?;
+        return put_none(&mut sheet.text, &task.jobs, late);
+    };
+    put_choices(
+        &mut sheet.text,
+        &needed,
+        &task.jobs,
+        jobs,
+        period,
+        wanted.margin,
+    )?;
+    put_others(&mut sheet.text, &needed.others)?;
+    put_chance(&mut sheet.text, task.jobs.len())?;
+    put_command(&mut sheet.text, needed.proposed, period, task.pid)?;
+    sheet.proposals.push(Proposal {
+        comm: Vec::from_slice(alloc, &task.comm)?,
+        runtime: needed.proposed,
+        period,
+    })?;
+    Ok(())
+}
+
+/// Writes what is asked of a task.
+fn put_asked(
+    sheet: &mut Sheet,
+    record: &Record,
+    task: &Task,
+    asked: &Asked<'_>,
+    options: &SizeOptions<'_>,
+) -> Result<(), AllocError> {
+    let alloc = *sheet.text.allocator();
+    let figures = Figures::new(alloc, &task.jobs)?;
+    if !sheet.text.is_empty() {
+        sheet.text.push(b'\n')?;
+    }
+    put_head(&mut sheet.text, task, duration(record))?;
+    put_figures(&mut sheet.text, &figures)?;
+    let Some(period) = period_of(asked, &figures) else {
+        put_not_regular(&mut sheet.text)?;
+        return put_prices(&mut sheet.text, &task.jobs, &figures, asked.within);
+    };
+    let within = asked.within.unwrap_or(period);
+    put_question(&mut sheet.text, &figures, within, period)?;
+    let jobs = jobs_of(alloc, &task.jobs, within)?;
+    let wanted = Wanted {
+        period,
+        allowed: options.late,
+        margin: options.margin,
+        given: asked.runtime,
+    };
+    put_needed(sheet, task, &jobs, wanted)
+}
+
+/// What is printed of the tasks that are asked for.
+fn sheet_of<'a>(
+    alloc: Global,
+    record: &Record,
+    path: &'a str,
+    options: &SizeOptions<'a>,
+) -> Result<Sheet, SizeFault<'a>> {
+    for asked in &options.tasks {
+        if task_named(record, asked.name).is_none() {
+            return Err(SizeFault::NoSuchTask {
+                path,
+                name: asked.name,
+            });
+        }
+    }
+    let mut sheet = Sheet {
+        text: Vec::new(alloc),
+        proposals: Vec::new(alloc),
+    };
+    for asked in &options.tasks {
+        if let Some(task) = task_named(record, asked.name) {
+            if task.jobs.is_empty() {
+                return Err(SizeFault::NoJobs {
+                    path,
+                    name: asked.name,
+                });
+            }
+            if put_asked(&mut sheet, record, task, asked, options).is_err() {
+                return Err(SizeFault::NoText);
+            }
+        }
+    }
+    Ok(sheet)
+}
+
+fn machine_of(record: &Record, options: &SizeOptions<'_>) -> Machine {
+    Machine {
+        processors: options.cpus.unwrap_or(record.processors),
+        most: options.most,
+        fair: options.fair,
+    }
+}
+
+fn print<'a, W: Write>(out: &mut W, text: &[u8]) -> Result<(), SizeFault<'a>>
+    ensures { IfErr result (λ e. status_of e ≡ 3) }
+{
+    if out.write_all(text).is_err() || out.flush().is_err() {
+        return Err(SizeFault::Write);
+    }
+    Ok(())
+}
+
+fn sized_text<'a>(
+    alloc: Global,
+    record: &Record,
+    path: &'a str,
+    options: &SizeOptions<'a>,
+) -> Result<Vec<u8>, SizeFault<'a>> {
+    let mut sheet = sheet_of(alloc, record, path, options)?;
+    if !sheet.proposals.is_empty()
+        && put_proposals(
+            &mut sheet.text,
+            &sheet.proposals,
+            machine_of(record, options),
+        )
+        .is_err()
+    {
+        return Err(SizeFault::NoText);
+    }
+    let Sheet { text, .. } = sheet;
+    Ok(text)
+}
+
+fn size<
+    'a,
+    D: Drop,
+    O: Fn(&str) -> io::Result<D>,
+    N: Fn(&mut D, &mut [u8]) -> io::Result<usize>,
+    W: Write,
+>(
+    alloc: Global,
+    opener: &O,
+    read: &N,
+    path: &'a str,
+    options: &SizeOptions<'a>,
+    out: &mut W,
+) -> Result<(), SizeFault<'a>>
+    requires opens { O.IsAlwaysCallable opener.now }
+    requires read { N.IsAlwaysCallable read.now }
+    ensures { IfErr result (λ e. status_of e ≡ 1 → out.new ≡ out.old) }
+{
+    let record = read_record(alloc, opener, read, path)?;
+    if options.tasks.is_empty() {
+        let Ok(text) = census_text(alloc, &record) else {
+            return Err(SizeFault::NoText);
+        };
+        return print(out, &text);
+    }
+    let text = sized_text(alloc, &record, path, options)?;
+    print(out, &text)
+}
+
+/// Lists the tasks of the trace of a name, or sizes those that are asked for, or tells a fault, and gives the status.
+pub fn serve_size<
+    D: Drop,
+    O: Fn(&str) -> io::Result<D>,
+    N: Fn(&mut D, &mut [u8]) -> io::Result<usize>,
+    W: Write,
+    E: Write,
+>(
+    alloc: Global,
+    opener: &O,
+    read: &N,
+    path: &str,
+    options: &SizeOptions<'_>,
+    out: &mut W,
+    faults: &mut E,
+) -> u8
+    requires opens { O.IsAlwaysCallable opener.now }
+    requires read { N.IsAlwaysCallable read.now }
+    ensures status { (result ≡ 0) ⊎ (result ≡ 1) ⊎ (result ≡ 3) }
+    // Where the trace is at fault nothing was printed.
+    ensures nothing { result ≡ 1 → out.new ≡ out.old }
+{
+    match size(alloc, opener, read, path, options, out) {
+        Ok(()) => 0,
+        Err(fault) => {
+            let _ = fault.tell(faults);
+            fault.status()
+        }
+    }
+}

@@ -1,0 +1,283 @@
+//! The text of one task.
+
+use crate::admission::{bandwidth, hundredths};
+use crate::figures::{Figures, at, share};
+use crate::sizing::{Choice, Needed, Why};
+use crate::table::{
+    Row, heading, hundredths_cell, number_cell, put_hundredths, put_number, put_table, put_text,
+    text_cell,
+};
+use grub_sizing::{Job, Late};
+use std::alloc::{AllocError, Global};
+use trace_jobs::{Phase, Seen, Task};
+
+fn put_left_out(
+    out: &mut Vec<u8>,
+    count: u64,
+    what: &str,
+    has_some: &mut bool,
+) -> Result<(), AllocError> {
+    if count == 0 {
+        return Ok(());
+    }
+    put_text(out, if *has_some { ", " } else { "; left out " })?;
+    put_number(out, count)?;
+    put_text(out, what)?;
+    *has_some = true;
+    Ok(())
+}
+
+/// The head line: how many jobs there are, in how many microseconds, and which were left out.
+pub(crate) fn put_head(out: &mut Vec<u8>, task: &Task, micros: u64) -> Result<(), AllocError> {
+    put_text(out, "task ")?;
+    out.extend_from_slice(&task.comm)?;
+    put_text(out, " pid=")?;
+    put_number(out, task.pid)?;
+    put_text(out, ": ")?;
+    put_number(out, task.jobs.len() as u64)?;
+    put_text(
+        out,
+        if task.jobs.len() == 1 {
+            " job in "
+        } else {
+            " jobs in "
+        },
+    )?;
+    let tenths = micros.saturating_add(50000) / 100000;
+    put_number(out, tenths / 10)?;
+    put_text(out, ".")?;
+    put_number(out, tenths % 10)?;
+    put_text(out, " s")?;
+    let open = if matches!(task.phase, Phase::Busy { .. }) {
+        1
+    } else {
+        0
+    };
+    let mut has_some = false;
+    put_left_out(out, task.begun, " as its thread began", &mut has_some)?;
+    put_left_out(out, task.ended, " at its end", &mut has_some)?;
+    put_left_out(out, open, " without an end", &mut has_some)?;
+    put_left_out(
+        out,
+        task.without_wake,
+        " without a beginning",
+        &mut has_some,
+    )?;
+    put_text(out, "\n")
+}
+
+fn row_of(alloc: Global, name: &str, sorted: &[u64]) -> Result<Row, AllocError> {
+    let mut row = Vec::new(alloc);
+    row.push(text_cell(alloc, name)?)?;
+    if !sorted.is_empty() {
+        for percent in [0usize, 50, 90, 99, 100] {
+            row.push(number_cell(alloc, at(sorted, percent))?)?;
+        }
+    }
+    Ok(row)
+}
+
+/// The distribution of the jobs.
+pub(crate) fn put_figures(out: &mut Vec<u8>, figures: &Figures) -> Result<(), AllocError> {
+    let alloc = *out.allocator();
+    let mut rows = Vec::new(alloc);
+    rows.push(heading(alloc, &["", "least", "50 %", "90 %", "99 %", "most"])?)?;
+    rows.push(row_of(alloc, "woke every", &figures.between)?)?;
+    rows.push(row_of(alloc, "ran", &figures.ran)?)?;
+    rows.push(row_of(alloc, "done after", &figures.done)?)?;
+    put_table(out, &rows, &[0], 2)
+}
+
+/// What is asked of the jobs, and how many took longer than that in the record.
+pub(crate) fn put_question(
+    out: &mut Vec<u8>,
+    figures: &Figures,
+    within: u32,
+    period: u32,
+) -> Result<(), AllocError> {
+    put_text(out, "  each job is to be done within ")?;
+    put_number(out, u64::from(within))?;
+    put_text(out, " us of its wake, with a period of ")?;
+    put_number(out, u64::from(period))?;
+    put_text(out, "\n")?;
+    let over = figures
+        .done
+        .iter()
+        .filter(|n| **n > u64::from(within))
+        .count();
+    if over > 0 {
+        put_text(out, "  in the record ")?;
+        put_number(out, over as u64)?;
+        put_text(
+            out,
+            " took longer: wakes that came meanwhile are hidden, so what such a job ran may be that of several;\n  record again with real-time priority, as by chrt -f 50 PROGRAM\n",
+        )?;
+    }
+    Ok(())
+}
+
+/// That no runtime is enough, by the first job that is late with the whole period.
+pub(crate) fn put_none(
+    out: &mut Vec<u8>,
+    seen: &[Seen],
+    late: Option<Late>,
+) -> Result<(), AllocError> {
+    put_text(out, "  no runtime is enough")?;
+    if let Some(late) = late {
+        if let Some(job) = seen.get(late.job) {
+            put_text(out, ": job ")?;
+            put_number(out, (late.job as u64).saturating_add(1))?;
+            put_text(out, ", line ")?;
+            put_number(out, job.line)?;
+            put_text(out, ", ran ")?;
+            put_number(out, job.work)?;
+        }
+    }
+    put_text(out, "\n")
+}
+
+fn put_witness(
+    out: &mut Vec<u8>,
+    least: u32,
+    seen: &[Seen],
+    jobs: &[Job],
+    late: Late,
+) -> Result<(), AllocError> {
+    let (Some(one), Some(job)) = (seen.get(late.job), jobs.get(late.job)) else {
+        return Ok(());
+    };
+    put_text(out, ": with ")?;
+    put_number(out, u64::from(least.saturating_sub(1)))?;
+    put_text(out, " job ")?;
+    put_number(out, (late.job as u64).saturating_add(1))?;
+    put_text(out, ", line ")?;
+    put_number(out, one.line)?;
+    put_text(out, ", may be ")?;
+    put_number(out, late.finish.saturating_sub(job.due))?;
+    put_text(out, " us late")?;
+    if late.from != late.job {
+        put_text(out, ", by the work from job ")?;
+        put_number(out, (late.from as u64).saturating_add(1))?;
+        put_text(out, " on")?;
+    }
+    Ok(())
+}
+
+fn why_text(
+    alloc: Global,
+    choice: &Choice,
+    margin: u32,
+    needed: &Needed,
+    seen: &[Seen],
+    jobs: &[Job],
+) -> Result<Vec<u8>, AllocError> {
+    let mut out = Vec::new(alloc);
+    match choice.why {
+        Why::Given => put_text(&mut out, "given")?,
+        Why::Proposed => {
+            put_text(&mut out, "proposed: ")?;
+            put_number(&mut out, u64::from(margin))?;
+            put_text(&mut out, " % more")?;
+        }
+        Why::Least => {
+            put_text(&mut out, "the least")?;
+            if let Some(late) = needed.witness {
+                put_witness(&mut out, needed.least, seen, jobs, late)?;
+            }
+        }
+        Why::Few => {}
+        Why::Percent(percent) => {
+            put_text(&mut out, "at most ")?;
+            put_number(&mut out, u64::from(percent))?;
+            put_text(&mut out, " %")?;
+        }
+        Why::Less => put_text(&mut out, "15 % less")?,
+    }
+    Ok(out)
+}
+
+/// The table of runtimes.
+pub(crate) fn put_choices(
+    out: &mut Vec<u8>,
+    needed: &Needed,
+    seen: &[Seen],
+    jobs: &[Job],
+    period: u32,
+    margin: u32,
+) -> Result<(), AllocError> {
+    let alloc = *out.allocator();
+    let mut rows = Vec::new(alloc);
+    rows.push(heading(alloc, &["runtime", "%", "late", "% late", ""])?)?;
+    for choice in &needed.choices {
+        let mut row = Vec::new(alloc);
+        row.push(number_cell(alloc, u64::from(choice.runtime))?)?;
+        row.push(hundredths_cell(alloc, hundredths(bandwidth(choice.runtime, period)))?)?;
+        row.push(number_cell(alloc, choice.late as u64)?)?;
+        row.push(hundredths_cell(alloc, share(choice.late as u64, jobs.len() as u64))?)?;
+        row.push(why_text(alloc, choice, margin, needed, seen, jobs)?)?;
+        rows.push(row)?;
+    }
+    put_table(out, &rows, &[4], 2)
+}
+
+/// The price of other periods.
+pub(crate) fn put_others(
+    out: &mut Vec<u8>,
+    others: &[(u32, Option<u32>)],
+) -> Result<(), AllocError> {
+    let mut is_first = true;
+    for (period, least) in others {
+        put_text(out, if is_first { "  other periods: " } else { ", " })?;
+        put_number(out, u64::from(*period))?;
+        match least {
+            Some(runtime) => {
+                put_text(out, " ")?;
+                put_hundredths(out, hundredths(bandwidth(*runtime, *period)))?;
+                put_text(out, " %")?;
+            }
+            None => put_text(out, " -")?,
+        }
+        is_first = false;
+    }
+    if !is_first {
+        put_text(out, "\n")?;
+    }
+    Ok(())
+}
+
+/// What the record cannot know, and the command that makes the reservation.
+pub(crate) fn put_chance(out: &mut Vec<u8>, count: usize) -> Result<(), AllocError> {
+    put_text(out, "  ")?;
+    put_number(out, count as u64)?;
+    put_text(
+        out,
+        " jobs were seen; if they are alike, the next one runs longer than all of them with a chance of 1 in ",
+    )?;
+    put_number(out, (count as u64).saturating_add(1))?;
+    put_text(out, "\n")
+}
+
+pub(crate) fn put_command(
+    out: &mut Vec<u8>,
+    runtime: u32,
+    period: u32,
+    pid: u64,
+) -> Result<(), AllocError> {
+    put_text(out, "  chrt -d -T ")?;
+    put_number(out, u64::from(runtime) * 1000)?;
+    put_text(out, " -D ")?;
+    put_number(out, u64::from(period) * 1000)?;
+    put_text(out, " -P ")?;
+    put_number(out, u64::from(period) * 1000)?;
+    put_text(out, " -p 0 ")?;
+    put_number(out, pid)?;
+    put_text(out, "\n")
+}
+
+/// How regular the wakes are, where no period was given and none is seen.
+pub(crate) fn put_not_regular(out: &mut Vec<u8>) -> Result<(), AllocError> {
+    put_text(
+        out,
+        "  its wakes are not regular: say in how many microseconds a job is to be done, as --task NAME=PERIOD; the price of each:\n",
+    )
+}

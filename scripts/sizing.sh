@@ -1,0 +1,137 @@
+#!/usr/bin/env bash
+# Runs the built `grubtrace size` on the short trace of the examples and on texts made from it: what docs/SIZING.md shows of it, each
+# option, the bounds of numbers, statuses and lines of faults, and small random records against brute force. The program may be named;
+# else it is the one that the gate or `make tracer` left. Its last line is 'N passed, M failed', and it ends with 0 where none failed.
+set -u
+root=$(cd "$(dirname "$0")/.." && pwd)
+program=${1:-$root/crates/grubtrace/out/grubtrace}
+if [[ ! -x $program ]]; then
+    echo "sizing: there is no program $program; the gate and 'make tracer' make it"
+    exit 1
+fi
+program=$(realpath "$program")
+work=$(mktemp -d)
+trap 'rm -rf "$work"' EXIT
+cd "$work" || exit 1
+cp "$root/examples/sizing/requests.txt" trace
+passed=0
+failed=0
+
+fail() {
+    failed=$((failed + 1))
+    echo "sizing: $*"
+}
+
+# run NAME STATUS LINE WORD..: one run of size on these words; its output is in `out`, and LINE is all of standard error.
+run() {
+    local name=$1 status=$2 err=$3 got
+    shift 3
+    "$program" size "$@" > out 2> err < /dev/null
+    got=$?
+    if [[ $got == "$status" && ($err == 'some text' || "$(cat err)" == "$err") && ($status == 0 || ! -s out) ]]; then
+        passed=$((passed + 1))
+    else
+        fail "$name: status $got, wanted $status: $(head -c 300 out err)"
+    fi
+}
+
+# has NAME TEXT: the last output has these words.
+has() { if grep -qF -- "$2" out; then passed=$((passed + 1)); else fail "$1: no '$2' in: $(cat out)"; fi; }
+hasnt() { if grep -qF -- "$2" out; then fail "$1: '$2' in: $(cat out)"; else passed=$((passed + 1)); fi; }
+
+# The lines that a page shows behind a line with these words.
+shown() { awk -v head="$1" 'index($0, head) { on = 1; next } on && /^    / { print substr($0, 5); some = 1; next } some && /^$/ { held = held "\n"; print ""; next } some { exit }' "$root/docs/SIZING.md" | sed -e :a -e '/^\n*$/{$d;N;ba' -e '}'; }
+
+run 'the tasks' 0 '' trace
+[[ "$(cat out)" == "$(shown '**2. List the tasks.**')" ]] && passed=$((passed + 1)) || fail "the page's list: $(cat out)"
+run 'the price' 0 '' --task ld_req trace
+[[ "$(tail -n 3 out)" == "$(shown 'ends with the price' | sed 's/^/  /')" || "$(tail -n 3 out)" == "$(shown 'ends with the price')" || "$(tail -n 3 out | sed 's/^  //')" == "$(shown 'ends with the price')" ]] && passed=$((passed + 1)) || fail "the page's prices: $(tail -n 3 out)"
+run 'a task' 0 '' --task ld_req=30000 trace
+[[ "$(cat out)" == "$(shown '**4. Size it.**')" ]] && passed=$((passed + 1)) || { fail "the page's task:"; diff <(shown '**4. Size it.**') out; }
+
+# Each option changes what is told.
+run 'a pid' 0 '' --task 21887=30000 trace
+has 'a pid' '10489  34.96     0    0.00  the least'
+run 'a runtime' 0 '' --task ld_req=9000:30000 trace
+has 'a runtime' '9000  30.00     1    0.69  given'
+run 'within' 0 '' --task ld_req=10000 --within ld_req=30000 trace
+has 'within' 'within 30000 us of its wake, with a period of 10000'
+has 'within' '3497  34.96     0    0.00  the least'
+run 'one late' 0 '' --task ld_req=30000 --late 1 trace
+has 'one late' '8457  28.18     1    0.69  the least'
+run 'no margin' 0 '' --task ld_req=30000 --margin 0 trace
+has 'no margin' 'chrt -d -T 10489000 -D 30000000'
+run 'a margin of 1000' 0 '' --task ld_req=30000 --margin 1000 trace
+has 'a margin stops at the period' 'chrt -d -T 30000000 -D 30000000'
+run 'processors' 0 '' --task ld_req=30000 --cpus 1 trace
+has 'processors' '1 processors admit 94.99 %, less 4.99 % for fair servers: admitted'
+run 'refused' 0 '' --task ld_req=10500 --cpus 1 --late 0 trace
+has 'refused' 'refused, EBUSY'
+run 'the limit of real time' 0 '' --task ld_req=30000 --rt 300000:1000000 --cpus 1 trace
+has 'the limit of real time' '1 processors admit 29.99 %, less 4.99 % for fair servers: refused, EBUSY'
+run 'no fair server' 0 '' --task ld_req=30000 --fair-server none trace
+has 'no fair server' '4 processors admit 379.99 %: admitted'
+# Standard input, and no runtime that is enough.
+"$program" size --task ld_req=30000 - < trace > piped
+"$program" size --task ld_req=30000 trace > out
+if cmp -s piped out; then passed=$((passed + 1)); else fail 'standard input'; fi
+run 'no runtime is enough' 0 '' --task ld_req=10000 trace
+has 'no runtime is enough' 'no runtime is enough: job 139, line 625, ran 10489'
+
+# Bounds of numbers, and words that say nothing.
+for bad in ld_req=99 ld_req=4194305 ld_req=1:30000 ld_req=30001:30000 ld_req= ld_req=x =30000 ''; do run "--task $bad" 2 'some text' --task "$bad" trace; done
+for good in ld_req=100 ld_req=4194304 ld_req=2:30000 ld_req=30000:30000; do run "--task $good" 0 '' --task "$good" trace; done
+for bad in '--within ld_req=0' '--within other=5' '--within ld_req' '--late -1' '--late 4294967296' '--margin 1001' '--cpus 0' '--cpus 65' '--rt 0:1' '--rt 2:1' '--rt 5' '--fair-server 1' '--fair-server 0:5'; do
+    # shellcheck disable=SC2086
+    run "$bad" 2 'some text' --task ld_req=30000 $bad trace
+done
+run 'a task given twice' 2 'error: the task ld_req is given twice' --task ld_req --task ld_req=30000 trace
+run 'no trace' 2 'some text' --task ld_req=30000
+
+# Faults of the trace.
+run 'a task that is not there' 1 'grubtrace: trace: 49 NoSuchTask gr_9' --task gr_9=30000 trace
+run 'a task without a job' 1 'grubtrace: trace: 58 NoJobs cc1plus' --task cc1plus=30000 trace
+run 'a trace that is not there' 3 'grubtrace: none: 46 ReadFault' none
+sed '3s/640\/640/640\/641/' trace > lost
+run 'lost events' 1 'grubtrace: lost:3: 52 LostEvents' lost
+sed '20s/pid=/pod=/' trace > bad
+run 'a line without its field' 1 'grubtrace: bad:20: 55 BadTraceLine' bad
+sed '20s/\[0..\]/[8192]/' trace > far
+run 'a CPU that is too high' 1 'grubtrace: far:20: 54 TooLong' far
+head -c -1 trace > cut
+run 'a last line that is cut' 1 "grubtrace: cut:$(wc -l < trace): 55 BadTraceLine" cut
+
+# The rules of a job: rounding, what is left out, wakes within a job, sched_waking.
+line() { printf '          <idle>-0       [001] d..2.  %s: %s\n' "$1" "$2"; }
+block() { line "$1" "sched_switch: prev_comm=t prev_pid=7 prev_prio=120 prev_state=$2 ==> next_comm=swapper/1 next_pid=0 next_prio=120"; }
+wake() { line "$1" "$2: comm=t pid=7 prio=120 target_cpu=001"; }
+ran() { line "$1" "sched_stat_runtime: comm=t pid=7 runtime=$2 [ns]"; }
+{
+    ran 1.000100 5000; block 1.000105 S
+    wake 1.001000 sched_wakeup; ran 1.001100 99001; wake 1.001101 sched_wakeup; block 1.001100 R; block 1.001200 S
+    wake 1.002000 sched_wakeup; block 1.002000 S
+    wake 1.003000 sched_wakeup; ran 1.003050 50000; block 1.003060 X
+    wake 1.004000 sched_wakeup_new; ran 1.004010 10000; block 1.004020 D
+    wake 1.005000 sched_wakeup
+} > jobs
+run 'rules of a job' 0 '' --task t=1000 jobs
+has 'left out' '2 jobs in 0.0 s; left out 1 as its thread began, 1 at its end, 1 without an end, 1 without a beginning'
+has 'work rounded up, at least 1' 'ran             1   100   100   100   100'
+sed 's/sched_wakeup:/sched_waking:/' jobs > waking
+run 'sched_waking alone' 0 '' --task t=1000 waking
+has 'sched_waking alone' '2 jobs in 0.0 s; left out 1 as its thread began, 1 at its end, 1 without an end, 1 without a beginning'
+{ wake 1.000900 sched_waking; cat jobs; } > both
+run 'sched_waking beside sched_wakeup' 0 '' --task t=1000 both
+has 'sched_waking beside sched_wakeup' 'left out 1 as its thread began, 1 at its end, 1 without an end, 1 without a beginning'
+{ cat jobs; sed 's/t pid=7/t pid=8/g; s/prev_pid=7/prev_pid=8/g' jobs; } > two
+run 'two threads of one comm' 0 '' two
+[[ $(grep -c '^t ' out) == 2 ]] && passed=$((passed + 1)) || fail "two threads of one comm: $(cat out)"
+
+# Brute force.
+python3 "$root/scripts/sizing.py" "$program" 60 > said
+tail -n 1 said | grep -q ' 0 failed' && passed=$((passed + 1)) || fail "$(cat said)"
+python3 "$root/scripts/sizing.py" "$program" --trace trace ld_req 30000 > said
+tail -n 1 said | grep -q ' 0 failed' && passed=$((passed + 1)) || fail "$(cat said)"
+
+echo "$passed passed, $failed failed"
+[[ $failed == 0 ]]
