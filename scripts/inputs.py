@@ -65,9 +65,7 @@ def trace(path, size, times):
     """The short trace of the tests, the same again so many times in all, every 100 ms, and other tasks' lines up to this size at least."""
     with open(f"{ROOT}/tests/blocks.txt", encoding="ascii") as it:
         head, first, *lines = it.readlines()
-    # When b wakes again, a is there and inactive, so b is charged at a lower rate: 262143 / 996147, and not 367000 / 996147.
-    later = [it.replace("100021840", "100021315").replace("100.021841000", "100.021316000") for it in lines]
-    told = [*lines, *[shifted(it, 100 * k) for k in range(1, times) for it in later]]
+    told = [shifted(it, 100 * k) for k in range(times) for it in lines]
     other = OTHER.format(f"{101 + times // 10}.000000000")
     write(path, head, first, *told, other * ((size - sum(map(len, told))) // len(other) + 1))
 
@@ -80,7 +78,7 @@ def processors(path, count):
         lines += [
             f"x-1 [{cpu:03}] d. {at}.020000000: sched_wakeup: comm=t{cpu} pid={1000 + cpu} prio=-1 target_cpu={cpu:03}\n",
             f"{task} {at}.021000000: sched_stat_runtime: comm=t{cpu} pid={1000 + cpu} runtime=1000000 [ns]\n",
-            f"{task} {at}.021000100: hrtimer_start: hrtimer=h{cpu} function=inactive_task_timer expires={at}030000000\n",
+            f"{task} {at}.021000100: hrtimer_start: hrtimer={cpu:x} function=inactive_task_timer expires={at}030000000\n",
             f"{task} {at}.021000200: sched_switch: prev_comm=t{cpu} prev_pid={1000 + cpu} prev_prio=-1 prev_state=S ==> next_comm=x next_pid=1 next_prio=120\n",
         ]
     write(path, *lines)
