@@ -53,7 +53,7 @@ run 'a task' 0 '' --task ld_req=30000 trace
 run 'a pid' 0 '' --task 21887=30000 trace
 has 'a pid' '10489  34.96     0    0.00  the least'
 run 'a runtime' 0 '' --task ld_req=9000:30000 trace
-has 'a runtime' '9000  30.00     1    0.69  given'
+has 'a runtime' '9000  29.99     1    0.69  given'
 run 'within' 0 '' --task ld_req=10000 --within ld_req=30000 trace
 has 'within' 'within 30000 us of its wake, with a period of 10000'
 has 'within' '3497  34.96     0    0.00  the least'

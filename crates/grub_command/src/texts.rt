@@ -1,7 +1,7 @@
 //! The texts that the command line can ask for.
 
 /// What `--version` prints.
-pub const VERSION: &str = "grubrun 0.1.0\n";
+pub const VERSION: &str = "grubrun 0.2.0\n";
 
 /// What `--help` prints.
 pub const HELP: &str = "\
