@@ -1,12 +1,9 @@
 //! The command line of `grubtrace check`.
 
 use crate::texts::AFTER_CHECK;
-use clap::{Arg, ArgAction, ArgMatches, Command, value_parser};
+use clap::{Arg, ArgAction, Command, value_parser};
 use std::alloc::{AllocError, Global};
-use trace_check::{CPU_MAX, Wanted, Words};
-
-/// How far a moment may lie from the kernel's, in microseconds, where the words do not say it.
-const WITHIN: u32 = 20;
+use trace_check::CPU_MAX;
 
 /// Whose arithmetic a record may be played by.
 const LAWS: &[&str] = &["kernel", "documentation"];
@@ -107,27 +104,4 @@ pub(crate) fn check_command<'a>(alloc: Global, trace: Arg<'a>) -> Result<Command
         .arg(timers_arg(alloc))?
         .arg(table_arg(alloc))?
         .arg(trace)
-}
-
-/// The words of the options.
-pub(crate) fn words_of<'a>(matches: &'a ArgMatches<'a>) -> Words<'a> {
-    Words {
-        tasks: matches.get_strs("task").unwrap_or(&[]),
-        cpus: matches.get_one::<u32>("cpus"),
-        domain: matches.get_str("domain"),
-        rt: matches.get_str("rt"),
-        fair: matches.get_str("fair-server"),
-        kernel: matches.get_str("kernel"),
-        within: matches.get_one::<u32>("within").unwrap_or(WITHIN),
-        by_documentation: matches.get_str("by") == Some("documentation"),
-        by_timers: matches.get_flag("timers"),
-    }
-}
-
-/// The trace, and what is to be written of it.
-pub(crate) fn wanted_by<'a>(matches: &'a ArgMatches<'a>) -> Wanted<'a> {
-    Wanted {
-        path: matches.get_str("TRACE").unwrap_or(""),
-        table: matches.get_str("table"),
-    }
 }

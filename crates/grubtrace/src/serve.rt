@@ -3,7 +3,6 @@
 ghost use Rattle.std.specs.Prelude.{◌≡◌, ◌≤◌, ◌⊎◌};
 ghost use Rattle.grub_convert.specs.declared.fault.TheConstants.{STATUS_SYSTEM, STATUS_USAGE};
 
-use crate::check_command::{wanted_by, words_of};
 use crate::command::command;
 use clap::error::ErrorKind;
 use clap::{ArgMatches, Error};
@@ -14,10 +13,15 @@ use size_report::{OptionFault, Words, serve_size, size_options_of};
 use std::alloc::{AllocError, Global};
 use std::io;
 use std::io::Write;
-use trace_check::{WrongOption, options_of as check_options, serve_check};
+use trace_check::{
+    Wanted, Words as CheckWords, WrongOption, options_of as check_options, serve_check,
+};
 
 /// How many percent more than the least runtime are proposed, where the words do not say it.
 const MARGIN: u32 = 10;
+
+/// How far a moment may lie from the kernel's, in microseconds, where the words of `check` do not say it.
+const WITHIN: u32 = 20;
 
 /// What the words ask for.
 fn matches_of<'a>(alloc: Global, words: &'a [String]) -> Result<ArgMatches<'a>, Error> {
@@ -118,14 +122,30 @@ fn check<
     ensures status { result ≤ 4 }
     ensures nothing { (result ≡ 1) ⊎ (result ≡ 2) → out.new ≡ out.old }
 {
-    match check_options(alloc, words_of(matches)) {
+    let tasks = matches.get_strs("task").unwrap_or(&[]);
+    let words = CheckWords {
+        tasks,
+        cpus: matches.get_one::<u32>("cpus"),
+        domain: matches.get_str("domain"),
+        rt: matches.get_str("rt"),
+        fair: matches.get_str("fair-server"),
+        kernel: matches.get_str("kernel"),
+        within: matches.get_one::<u32>("within").unwrap_or(WITHIN),
+        by_documentation: matches.get_str("by") == Some("documentation"),
+        by_timers: matches.get_flag("timers"),
+    };
+    let wanted = Wanted {
+        path: matches.get_str("TRACE").unwrap_or(""),
+        table: matches.get_str("table"),
+    };
+    match check_options(alloc, words) {
         Ok(Ok(options)) => serve_check(
             alloc,
             &input.open,
             &input.read,
             &target.exists,
             &target.make,
-            wanted_by(matches),
+            wanted,
             &options,
             out,
             faults,
@@ -177,43 +197,27 @@ fn size<
     N: Fn(&mut D, &mut [u8]) -> io::Result<usize>,
     W: Write,
     E: Write,
->(
-    alloc: Global,
-    matches: &ArgMatches<'_>,
-    input: &Input<O, N>,
-    out: &mut W,
-    faults: &mut E,
-) -> u8
+>(alloc: Global, matches: &ArgMatches<'_>, input: &Input<O, N>, out: &mut W, faults: &mut E) -> u8
     requires open { O.IsAlwaysCallable input.now.open }
     requires read { N.IsAlwaysCallable input.now.read }
     ensures status { result ≤ 4 }
     ensures nothing { (result ≡ 1) ⊎ (result ≡ 2) → out.new ≡ out.old }
 {
     let path = matches.get_str("TRACE").unwrap_or("");
-    match size_options_of(alloc, sized_words(matches)) {
-        Ok(options) => serve_size(
-            alloc,
-            &input.open,
-            &input.read,
-            path,
-            &options,
-            out,
-            faults,
-        ),
-        Err(fault) => no_sizing(fault, faults),
-    }
-}
-
-/// The words of the options of `size`.
-fn sized_words<'w, 'a>(matches: &'w ArgMatches<'a>) -> Words<'w, 'a> {
-    Words {
-        tasks: matches.get_strs("task").unwrap_or(&[]),
-        withins: matches.get_strs("within").unwrap_or(&[]),
+    let tasks = matches.get_strs("task").unwrap_or(&[]);
+    let withins = matches.get_strs("within").unwrap_or(&[]);
+    let words = Words {
+        tasks,
+        withins,
         late: matches.get_one::<u32>("late").unwrap_or(0),
         margin: matches.get_one::<u32>("margin").unwrap_or(MARGIN),
         cpus: matches.get_one::<u32>("cpus"),
         rt: matches.get_str("rt").unwrap_or(""),
         fair: matches.get_str("fair-server").unwrap_or(""),
+    };
+    match size_options_of(alloc, words) {
+        Ok(options) => serve_size(alloc, &input.open, &input.read, path, &options, out, faults),
+        Err(fault) => no_sizing(fault, faults),
     }
 }
 
