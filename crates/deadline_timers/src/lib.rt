@@ -7,6 +7,7 @@
 
 mod counts;
 mod machine;
+mod place;
 mod playing;
 mod setup;
 

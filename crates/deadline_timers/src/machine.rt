@@ -1,6 +1,10 @@
 //! The tasks and runqueues of a record, as its lines change them.
 
+ghost use Rattle.std.specs.Prelude.{◌≡◌, ◌++◌, ◌∷◌, [], OnOk, slice_get, slice_set};
+ghost use Rattle.deadline_timers.specs.Places.{observation_of, runqueues_after, served_at, sums_of, taken_after};
+
 use crate::counts::{Counts, Rule};
+use crate::place::{gain, lose, serve_at, set_task, sums_at};
 use crate::setup::{Servers, Setup, Start};
 use deadline_rules::{Charge, Wake, charging, cost};
 use std::alloc::{AllocError, Global};
@@ -11,7 +15,7 @@ use timer_rules::{
     block_moments, blocked, changed, charged_at, ends, is_awake, is_edge, is_stopped, is_tested,
     lag_fired, lag_started, left, moved, ran, refilled, refills, replenish_moments, replenished,
     seen_running, served, sighted, stays_ready, step_of, switched, task_effect, task_share,
-    throttled, throttling_of, unseen, waking_of, was_there, with, without, woken,
+    throttled, throttling_of, unseen, waking_of, was_there, woken,
 };
 use trace_words::{Stop, Sums};
 
@@ -155,7 +159,11 @@ impl Machine {
     }
 
     /// What came of the lines.
-    pub fn finish(self) -> Outcome {
+    pub fn finish(self) -> Outcome
+        ensures counts { result.counts ≡ self.counts }
+        ensures observations { result.observations ≡ self.observations }
+        ensures charges { result.charges ≡ self.charges }
+    {
         let Machine {
             setup: _,
             tasks: _,
@@ -233,18 +241,10 @@ impl Machine {
     }
 
     /// The sums of a runqueue.
-    pub fn sums(&self, cpu: u32) -> Sums {
-        match self.runqueues.get(cpu as usize) {
-            Some(runqueue) => Sums {
-                extra_bw: runqueue.sums.extra_bw.wrapping_sub(self.taken),
-                ..runqueue.sums
-            },
-            None => Sums {
-                this_bw: 0,
-                running_bw: 0,
-                extra_bw: 0,
-            },
-        }
+    fn sums(&self, cpu: u32) -> Sums
+        ensures { result ≡ sums_of (slice_get self.now.runqueues.items cpu) self.now.taken }
+    {
+        sums_at(&self.runqueues, cpu, self.taken)
     }
 
     /// What a charge on a CPU reads.
@@ -258,35 +258,48 @@ impl Machine {
     }
 
     /// A task becomes another: the sums lose what it had in them, and get what it has.
-    fn replace(&mut self, number: u32, task: Task) {
-        let Some(place) = self.tasks.get_mut(number as usize) else {
+    fn replace(&mut self, number: u32, task: Task)
+        ensures tasks { self.new.tasks.items ≡ slice_set self.old.tasks.items number task }
+        ensures runqueues { self.new.runqueues.items ≡ runqueues_after (slice_get self.old.tasks.items number) task self.old.runqueues.items }
+        ensures taken { self.new.taken ≡ taken_after (slice_get self.old.tasks.items number) task self.old.setup.cpus self.old.taken }
+        ensures observations { self.new.observations ≡ self.old.observations }
+        ensures setup { self.new.setup ≡ self.old.setup }
+    {
+        let Some(before) = set_task(&mut self.tasks, number, task) else {
             return;
         };
-        let before = *place;
-        *place = task;
-        if let Some(runqueue) = self.runqueues.get_mut(before.cpu as usize) {
-            *runqueue = without(*runqueue, task_effect(before));
-        }
-        if let Some(runqueue) = self.runqueues.get_mut(task.cpu as usize) {
-            *runqueue = with(*runqueue, task_effect(task));
-        }
+        lose(&mut self.runqueues, before.cpu, task_effect(before));
+        gain(&mut self.runqueues, task.cpu, task_effect(task));
         self.taken = self
             .taken
             .wrapping_sub(task_share(before, self.setup.cpus))
             .wrapping_add(task_share(task, self.setup.cpus));
     }
 
-    fn serve(&mut self, cpu: u32, state: ServerState) {
-        let server_bw = self.setup.server_bw;
-        if let Some(runqueue) = self.runqueues.get_mut(cpu as usize) {
-            let was_stopped = is_stopped(runqueue.server);
-            *runqueue = served(*runqueue, state, server_bw);
-            if was_stopped && !is_stopped(state) {
-                self.counts.add(Rule::ServerStarted);
-            } else if !was_stopped && is_stopped(state) {
-                self.counts.add(Rule::ServerStopped);
-            }
+    /// A task was there before the record began: sums that a note tells have it already.
+    fn begin_with(&mut self, number: u32, task: Task) {
+        let is_told = match self.runqueues.get(task.cpu as usize) {
+            Some(runqueue) => runqueue.is_told,
+            None => false,
+        };
+        if is_told {
+            let _ = set_task(&mut self.tasks, number, task);
+        } else {
+            self.replace(number, task);
         }
+    }
+
+    /// The fair server of a CPU comes to another state.
+    fn serve(&mut self, cpu: u32, state: ServerState)
+        ensures runqueues { self.new.runqueues.items ≡ served_at state self.old.setup.server_bw self.old.runqueues.items cpu }
+        ensures tasks { self.new.tasks ≡ self.old.tasks }
+        ensures taken { self.new.taken ≡ self.old.taken }
+        ensures observations { self.new.observations ≡ self.old.observations }
+        ensures setup { self.new.setup ≡ self.old.setup }
+    {
+        let was_stopped = is_stopped(self.server(cpu));
+        serve_at(&mut self.runqueues, cpu, state, self.setup.server_bw);
+        count_service(&mut self.counts, was_stopped, is_stopped(state));
     }
 
     fn server(&self, cpu: u32) -> ServerState {
@@ -308,7 +321,7 @@ impl Machine {
         let is_before_record = told.at.is_none() || told.moment.saturating_add(1_000) < self.begins;
         match step_of(task, told.policy, is_before_record) {
             Step::WasThere(parameters) => {
-                self.replace(told.task, was_there(task, told.cpu, parameters))
+                self.begin_with(told.task, was_there(task, told.cpu, parameters))
             }
             Step::Admitted(parameters) => {
                 self.counts.add(Rule::Admitted);
@@ -525,7 +538,8 @@ impl Machine {
         }
         let moments = block_moments(task, kept.at);
         let answer = block_answer(task, stop, moments.difference, self.within);
-        self.observe(kept, number, task, Kind::Block, moments, answer)?;
+        let sums = self.sums(task.cpu);
+        self.observe(observation(kept, number, task, Kind::Block, moments, sums, answer))?;
         if ends(stop) {
             self.counts.add(Rule::Ended);
         }
@@ -536,30 +550,11 @@ impl Machine {
         Ok(())
     }
 
-    fn observe(
-        &mut self,
-        kept: Kept,
-        number: u32,
-        task: Task,
-        kind: Kind,
-        moments: Moments,
-        answer: Answer,
-    ) -> Result<(), AllocError> {
-        let sums = self.sums(task.cpu);
-        self.observations.push(Observation {
-            line: kept.line,
-            at: kept.at,
-            cpu: task.cpu,
-            task: number,
-            kind,
-            predicted: moments.predicted,
-            kernel: moments.kernel,
-            difference: moments.difference,
-            runtime: task.entity.budget.runtime,
-            deadline: task.entity.budget.deadline,
-            sums,
-            answer,
-        })?;
+    /// One more observation.
+    fn observe(&mut self, observation: Observation) -> Result<(), AllocError>
+        ensures { OnOk result (self.new.observations.items ≡ self.old.observations.items ++ observation ∷ []) }
+    {
+        self.observations.push(observation)?;
         Ok(())
     }
 
@@ -626,7 +621,16 @@ impl Machine {
                 }
                 let moments = replenish_moments(task, kept.at, expires);
                 let answer = answer_of(task.knowledge, moments.difference, self.within);
-                self.observe(kept, number, task, Kind::Replenish, moments, answer)
+                let sums = self.sums(task.cpu);
+                self.observe(observation(
+                    kept,
+                    number,
+                    task,
+                    Kind::Replenish,
+                    moments,
+                    sums,
+                    answer,
+                ))
             }
         }
     }
@@ -651,6 +655,15 @@ impl Machine {
     }
 }
 
+/// A fair server starts, or stops.
+fn count_service(counts: &mut Counts, was_stopped: bool, is_stopped: bool) {
+    if was_stopped && !is_stopped {
+        counts.add(Rule::ServerStarted);
+    } else if !was_stopped && is_stopped {
+        counts.add(Rule::ServerStopped);
+    }
+}
+
 /// The running task whose own 0-lag timer this is; another one there is a fair server's that stops.
 fn own_timer(lines: &Lines, timer: u32, running: Option<u32>) -> Option<u32> {
     let number = running?;
@@ -659,6 +672,34 @@ fn own_timer(lines: &Lines, timer: u32, running: Option<u32>) -> Option<u32> {
         Some(number)
     } else {
         None
+    }
+}
+
+/// The observation of a task's timer at a line.
+fn observation(
+    kept: Kept,
+    task: u32,
+    state: Task,
+    kind: Kind,
+    moments: Moments,
+    sums: Sums,
+    answer: Answer,
+) -> Observation
+    ensures { result ≡ observation_of kept task state kind moments sums answer }
+{
+    Observation {
+        line: kept.line,
+        at: kept.at,
+        cpu: state.cpu,
+        task,
+        kind,
+        predicted: moments.predicted,
+        kernel: moments.kernel,
+        difference: moments.difference,
+        runtime: state.entity.budget.runtime,
+        deadline: state.entity.budget.deadline,
+        sums,
+        answer,
     }
 }
 

@@ -1,5 +1,8 @@
 //! What is fixed for a record: the kernel's rules, its limits, and the processors of the root domain.
 
+ghost use Rattle.std.specs.Prelude.{◌≡◌};
+ghost use Rattle.deadline_timers.specs.Kernels.{first_extra_of, inverse_of, is_absent, is_from_of, law_by_kernel, limits_at, limits_by, no_limits, server_bw_by, servers_by};
+
 use deadline_rules::{BW_UNIT, Law, ratio, share};
 use std::alloc::{AllocError, Global};
 use trace_words::{Kernel, Limit, Sums};
@@ -107,12 +110,16 @@ const DEFAULT_LIMIT: Limit = Limit::Runtime {
 };
 
 /// Whether a kernel is of this version or of a later one.
-fn is_from(kernel: Kernel, major: u32, minor: u32) -> bool {
+fn is_from(kernel: Kernel, major: u32, minor: u32) -> bool
+    ensures { result ≡ is_from_of kernel major minor }
+{
     kernel.major > major || kernel.major == major && kernel.minor >= minor
 }
 
 /// Whose arithmetic a kernel has (`grub_reclaim`).
-fn law_of(kernel: Kernel) -> Law {
+fn law_of(kernel: Kernel) -> Law
+    ensures { result ≡ law_by_kernel kernel }
+{
     if is_from(kernel, 6, 5) {
         Law::LinuxFrom65
     } else {
@@ -121,7 +128,9 @@ fn law_of(kernel: Kernel) -> Law {
 }
 
 /// How the fair servers of a kernel stop (`dl_server_stop`, `dl_server_timer`, `__pick_task_dl`).
-fn servers_of(kernel: Kernel) -> Servers {
+fn servers_of(kernel: Kernel) -> Servers
+    ensures { result ≡ servers_by kernel }
+{
     if is_from(kernel, 6, 17) {
         Servers::StopAtIdle
     } else if !is_from(kernel, 6, 12) {
@@ -134,13 +143,20 @@ fn servers_of(kernel: Kernel) -> Servers {
 }
 
 /// The limits of a processor (`init_dl_rq_bw_ratio`).
-fn limits_of(limit: Limit) -> Limits {
+fn limits_of(limit: Limit) -> Limits
+    ensures { result ≡ limits_by limit }
+{
     match limit {
-        Limit::MaxBw(u64::MAX) => without_limit(),
-        Limit::MaxBw(max_bw) => Limits {
-            max_bw,
-            bw_ratio: by_units(max_bw) >> 12,
-        },
+        Limit::MaxBw(max_bw) => {
+            if max_bw == u64::MAX {
+                without_limit()
+            } else {
+                Limits {
+                    max_bw,
+                    bw_ratio: by_units(max_bw) >> 12,
+                }
+            }
+        }
         Limit::Runtime { runtime, period } => {
             if runtime < 0 {
                 without_limit()
@@ -155,25 +171,41 @@ fn limits_of(limit: Limit) -> Limits {
 }
 
 /// 2^40 by a bandwidth; 0 where there is none.
-fn by_units(bw: u64) -> u64 {
+fn by_units(bw: u64) -> u64
+    ensures { result ≡ inverse_of bw }
+{
     if bw == 0 { 0 } else { (1 << 40) / bw }
 }
 
 /// sched_rt_runtime_us is -1.
-fn without_limit() -> Limits {
+fn without_limit() -> Limits
+    ensures { result ≡ no_limits }
+{
     Limits {
         max_bw: BW_UNIT,
         bw_ratio: 256,
     }
 }
 
+/// Whether a kernel has no fair servers.
+fn are_absent(servers: Servers) -> bool
+    ensures { result ≡ is_absent servers }
+{
+    match servers {
+        Servers::Absent => true,
+        Servers::StopWithTimer | Servers::StopAtPick | Servers::StopAtIdle => false,
+    }
+}
+
 /// The bandwidth of a fair server (`fair_server_init`: 50 ms in 1 s).
-fn server_bw(server: FairServer, servers: Servers) -> u64 {
+fn server_bw(server: FairServer, servers: Servers) -> u64
+    ensures { result ≡ server_bw_by server servers }
+{
     match server {
         FairServer::None => 0,
         FairServer::Reserves { runtime, period } => ratio(runtime, period),
         FairServer::Default => {
-            if servers == Servers::Absent {
+            if are_absent(servers) {
                 0
             } else {
                 ratio(50_000_000, 1_000_000_000)
@@ -234,7 +266,9 @@ pub fn setup_of(options: Options, start: &Start) -> Result<Setup, NoSums> {
 
 impl Setup {
     /// The limits of a processor.
-    pub fn limits(&self, cpu: u32) -> Limits {
+    pub fn limits(&self, cpu: u32) -> Limits
+        ensures { result ≡ limits_at self.now cpu }
+    {
         if cpu == self.first_cpu {
             self.first
         } else {
@@ -253,7 +287,9 @@ impl Setup {
     }
 
     /// `extra_bw` of a processor where only the fair servers were admitted (`__dl_sub`).
-    pub fn first_extra_bw(&self, cpu: u32) -> u64 {
+    pub fn first_extra_bw(&self, cpu: u32) -> u64
+        ensures { result ≡ first_extra_of self.now cpu }
+    {
         self.limits(cpu)
             .max_bw
             .wrapping_sub(self.cpus.wrapping_mul(share(self.server_bw, self.cpus)))

@@ -1,0 +1,63 @@
+-- What is fixed for a kernel: its equation of charges, its limits (init_dl_rq_bw_ratio), and how its fair servers stop.
+use Rattle.std.specs.Prelude.{ℕ, ◌-◌, ℤ, pos, int_lt, ◌/◌, ◌^◌, Bool, true, false, not, ◌&&◌, ◌||◌, ◌==◌, nat_lt, nat_le, if◌then◌else◌}
+use Rattle.std.specs.Int.{w64, cast_unsigned}
+use Rattle.trace_words.specs.declared.note.Kernel.{Kernel}
+use Rattle.trace_words.specs.declared.note.Limit.{Limit}
+use Rattle.trace_words.specs.declared.note.Limit.TheVariants.{MaxBw, Runtime}
+use Rattle.deadline_rules.specs.Clock.{less, ratio_of, times}
+use Rattle.deadline_rules.specs.Sums.{share_of}
+use Rattle.deadline_rules.specs.declared.charge.Law.{Law}
+use Rattle.deadline_rules.specs.declared.charge.Law.TheVariants.{LinuxBefore65, LinuxFrom65, Documentation}
+use Rattle.deadline_timers.specs.declared.setup.FairServer.{FairServer}
+use Rattle.deadline_timers.specs.declared.setup.FairServer.TheVariants as fair
+use Rattle.deadline_timers.specs.declared.setup.Limits.{Limits}
+use Rattle.deadline_timers.specs.declared.setup.Servers.{Servers}
+use Rattle.deadline_timers.specs.declared.setup.Servers.TheVariants.{Absent, StopWithTimer, StopAtPick, StopAtIdle}
+use Rattle.deadline_timers.specs.declared.setup.Setup.{Setup}
+
+-- of this version or later
+abbrev pub is_from_of : Kernel → ℕ → ℕ → Bool
+is_from_of k major minor = nat_lt major k.major || (k.major == major && nat_le minor k.minor)
+
+abbrev pub law_by_kernel : Kernel → Law
+law_by_kernel k = if is_from_of k 6 5 then LinuxFrom65 else LinuxBefore65
+
+abbrev pub servers_by : Kernel → Servers
+servers_by k =
+    if is_from_of k 6 17 then StopAtIdle
+    else (if is_from_of k 6 12
+    then (if not (is_from_of k 6 13) && nat_le 92 k.patch then StopAtPick else StopWithTimer)
+    else Absent)
+
+-- sched_rt_runtime_us is -1
+abbrev pub no_limits : Limits
+no_limits = record { max_bw = 2 ^ 20; bw_ratio = 256 }
+
+abbrev pub inverse_of : ℕ → ℕ
+inverse_of bw = if bw == 0 then 0 else 2 ^ 40 / bw
+
+abbrev pub limits_by : Limit → Limits
+limits_by (MaxBw bw) = if bw == 2 ^ 64 - 1 then no_limits else record { max_bw = bw; bw_ratio = inverse_of bw / 2 ^ 12 }
+limits_by (Runtime runtime period) =
+    if int_lt runtime (pos 0) then no_limits
+    else record { max_bw = ratio_of (cast_unsigned w64 runtime) period; bw_ratio = ratio_of period (cast_unsigned w64 runtime) / 2 ^ 12 }
+
+abbrev pub is_absent : Servers → Bool
+is_absent Absent = true
+is_absent StopWithTimer = false
+is_absent StopAtPick = false
+is_absent StopAtIdle = false
+
+-- fair_server_init: 50 ms in 1 s
+abbrev pub server_bw_by : FairServer → Servers → ℕ
+server_bw_by fair.None s = 0
+server_bw_by (fair.Reserves runtime period) s = ratio_of runtime period
+server_bw_by fair.Default s = if is_absent s then 0 else ratio_of 50000000 1000000000
+
+-- the root domain's first processor has other limits before 6.5
+abbrev pub limits_at : Setup → ℕ → Limits
+limits_at s cpu = if cpu == s.first_cpu then s.first else s.others
+
+-- extra_bw where only the fair servers were admitted
+abbrev pub first_extra_of : Setup → ℕ → ℕ
+first_extra_of s cpu = less (limits_at s cpu).max_bw (times s.cpus (share_of s.server_bw s.cpus))
