@@ -3,7 +3,7 @@
 
 A program is the one that the gate or `make build` left, where no path is named. A table is read line by line:
 
-    file NAME [of PATH] [made KIND NUMBER..]
+    file NAME [of PATH] [made KIND WORD..]
                               makes a file of the lines '| ..' below, or copies one of the repository, or makes one by inputs.py
     case NAME                 begins a case; its first line below is
     run PROGRAM WORD..        and its status is 0, and both outputs are empty, where it does not say otherwise:
@@ -157,7 +157,7 @@ class Table:
 
     def read_line(self, key, rest):
         if key == "file":
-            name, how, *path = rest.split(" ") if " " in rest else (rest, "")
+            name, how, *path = shlex.split(rest) if " " in rest else (rest, "")
             if how == "of":
                 shutil.copy(f"{ROOT}/{path[0]}", name)
             elif how == "made":

@@ -22,8 +22,11 @@ while IFS=$tab read -r name fair seconds words; do
         fair=$((fair - 1))
     done
     echo "=== load $name"
-    /scripts/record.sh /tmp/record dlgen "$seconds" "${SEED:-107}" $words
+    /scripts/record.sh /tmp/record dlgen "$seconds" "${SEED:-107}" $words 2> /tmp/said
     status=$?
+    cat /tmp/said
+    sed "s/^/=== SAID $name /" /tmp/said > /dev/ttyS1
+    rm /tmp/said
     for hog in $hogs; do kill "$hog"; done
     if [ -f /tmp/record ]; then
         { echo "=== LOAD $name $status"; gzip -1 < /tmp/record | base64; echo "=== END"; } > /dev/ttyS1
