@@ -62,7 +62,7 @@ options: build
 bench: runner
 	@python3 bench/compare.py
 
-# Records a load of three tasks on this machine and checks the record; elsewhere it says why it cannot.
+# Records a load of four tasks on this machine and checks the record; elsewhere it says why it cannot.
 record-check: tracer
 	scripts/record-check.sh
 
