@@ -56,7 +56,7 @@ cases: build
 
 # Man pages and completions beside --help of the programs.
 options: build
-	bash scripts/options.sh
+	python3 scripts/options.py
 
 # grubrun beside plain Rust without proofs (bench/, which wants cargo), in one run.
 bench: runner

@@ -17,7 +17,7 @@ def same(what, wanted, got):
     wanted, got = (it if isinstance(it, str) else sorted(set(it) - {""}) for it in (wanted, got))
     told.append(bool(wanted) and wanted == got)
     if not told[-1]:
-        print(f"options: {what} has: {got}; wanted is: {wanted}")
+        print(f"options: {what} has: {got}\nwanted is: {wanted}")
 
 
 def said(*words):
