@@ -66,8 +66,8 @@ bench: runner
 record-check: tracer
 	scripts/record-check.sh
 
-# A release that needs no kit, out/neddwyrol-VERSION.tar.gz, which is unpacked and tried.
-dist: build
+# A release that needs no kit, out/neddwyrol-VERSION-x86_64-linux.tar.gz, which is unpacked and tried.
+dist: build library
 	@bash scripts/dist.sh
 
 # The programs, their man pages, and the completions of bash, zsh and fish, below PREFIX; DESTDIR goes in front of it.

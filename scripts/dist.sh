@@ -19,7 +19,7 @@ pack() {
             install -D -m 644 "completions/$it.fish" "$tree/share/fish/vendor_completions.d/$it.fish" || return 1
     done
     # (where README and the scripts look for the library and the program)
-    bash bindings/install.sh out/library /usr/local "$tree" && mkdir "$tree/scripts" "$tree/out" && ln -s ../lib "$tree/out/library" &&
+    bash bindings/install.sh out/library '${pcfiledir}/../..' "$tree" && mkdir "$tree/scripts" "$tree/out" && ln -s ../lib "$tree/out/library" &&
         cp -r scripts/{record.sh,check-kernel.sh,kernel} "$tree/scripts/" &&
         sed -i 's|/crates/grubtrace/out/grubtrace|/bin/grubtrace|' "$tree/scripts/check-kernel.sh" &&
         git archive HEAD bindings | tar -xC "$tree" && cp -r examples docs README.md LICENSE CHANGELOG.md "$tree/" || return 1
