@@ -94,7 +94,7 @@ boot() {
     [[ -z ${KEEP_CONSOLE:-} ]] || cp "$work/console" "$out/console"
     tr -d '\r' < "$work/records" > "$work/told"
 }
-died() { grep -aE 'Oops|BUG|panic|record: ' "$work/console" | head -n 2 | tr '\r\n' '  '; }
+died() { grep -aE 'Oops|BUG|panic|=== bandwidth left behind' "$work/console" | head -n 2 | tr '\r\n' '  '; }
 # Under emulation about one boot in ten dies, so it is repeated.
 if [[ -n $run ]]; then
     cp "$run" "$guest/run.sh"
@@ -108,11 +108,11 @@ if [[ -n $run ]]; then
     exit 0
 fi
 
-# A boot records what is left to be recorded.
+# A boot records what is left to be recorded. Of boots that record nothing there are six.
 left=$loads
-boots=0
+boots=0 failed=0
 for load in $loads; do rm -f "$out/$load.txt" "$out/$load.verdict"; done
-while [[ -n $left && $boots -lt ${BOOTS:-6} ]]; do
+while [[ -n $left && $failed -lt ${BOOTS:-6} ]]; do
     boots=$((boots + 1))
     for load in $warm $left; do line_of "$load" | cut -f1,3-; done > "$guest/loads"
     # shellcheck disable=SC2086
@@ -126,6 +126,7 @@ while [[ -n $left && $boots -lt ${BOOTS:-6} ]]; do
         release=$(sed -n 's/^# grub: notes.* kernel=\([^ ]*\).*/\1/p;2q' "$out/$load.txt")
     done
     left=$(for load in $left; do [[ " $recorded " == *" $load "* ]] || echo "$load"; done)
+    [[ -n $recorded ]] || failed=$((failed + 1))
     [[ -z $left ]] || say "boot $boots ended before" $left: "$(died)"
 done
 
