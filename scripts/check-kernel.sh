@@ -87,7 +87,7 @@ else machine=(-accel 'tcg,thread=multi'); fi
 boot() {
     say "boot $boots${1:+: $*}"
     (cd "$guest" && find . | cpio -o -H newc --quiet | gzip -1) > "$work/initramfs"
-    timeout "${SECONDS_A_BOOT:-600}" qemu-system-x86_64 "${machine[@]}" -cpu max -smp "$cpus" -m 1024 -no-reboot \
+    timeout "${SECONDS_A_BOOT:-$((300 + 60 * $#))}" qemu-system-x86_64 "${machine[@]}" -cpu max -smp "$cpus" -m 1024 -no-reboot \
         -display none -monitor none -serial "file:$work/console" -serial "file:$work/records" \
         -kernel "$kernel" -initrd "$work/initramfs" -append "console=ttyS0 quiet panic=-1 tsc=reliable noirqdebug ${APPEND:-}" \
         < /dev/null 2> "$work/said" || say "qemu ended with $? $(head -n 1 "$work/said")"
