@@ -132,7 +132,7 @@ done
 
 # The verdicts.
 [[ $cpus == 1 || -n $virtual ]] && time=virtual || time="the host's"
-echo "kernel ${release:-that does not tell its version}, processors $cpus, in $time time"
+[[ -z ${release:-} ]] || echo "kernel $release, processors $cpus, in $time time"
 status=0
 for load in $loads; do
     if [[ ! -f $out/$load.txt ]]; then
