@@ -4,6 +4,7 @@ use Rattle.std.specs.Option.{option_or}
 use Rattle.std.specs.List.{ends_with, position_or_len}
 use Rattle.std.specs.Char.{is_ascii_digit}
 use Rattle.trace_line.specs.Numbers.{number, bracketed, moment}
+use Rattle.trace_line.specs.Words.{without_spaces}
 use Rattle.grub_text.specs.Lines.{is_space, words_of}
 use Rattle.trace_line.specs.declared.opening.CpuWord.{CpuWord}
 use Rattle.trace_line.specs.declared.opening.Opening.{Opening}
@@ -43,3 +44,14 @@ last_digits text = drop (length text - length_behind (λ b. not (is_ascii_digit 
 -- the pid of the task that runs, from what stands before the CPU's word
 abbrev pub running : List ℕ → Option ℕ
 running front = number (last_digits (before_brackets (trimmed front)))
+
+abbrev pub without_last : List ℕ → List ℕ
+without_last text = take (length text - 1) text
+
+-- what stands before the pid of the task that runs and the byte in front of it
+abbrev pub comm_before : List ℕ → List ℕ
+comm_before text = without_last (take (length text - length (last_digits text)) text)
+
+-- the comm of the task that runs, from what stands before the CPU's word
+abbrev pub running_comm : List ℕ → List ℕ
+running_comm front = without_spaces (trimmed (comm_before (before_brackets (trimmed front))))

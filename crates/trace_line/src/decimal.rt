@@ -3,9 +3,11 @@
 ghost use Rattle.std.specs.Prelude.{◌≡◌, ◌<◌, ◌*◌, ◌+◌, ◌&&◌, ◌==◌, min, true, position, option_map};
 ghost use Rattle.std.specs.List.{list_all};
 ghost use Rattle.std.specs.Char.{is_ascii_digit};
-ghost use Rattle.trace_line.specs.Numbers.{after, before_end, bracketed, fraction, is_deadline, moment, nanos, number, point_text, small_number};
+ghost use Rattle.trace_line.specs.Numbers.{before_end, bracketed, fraction, is_deadline, moment, nanos, number, point_text, small_number};
 ghost use Rattle.grub_text.specs.Digits.{value};
 ghost use Rattle.trace_line.specs.Words.{text_of};
+
+use crate::front::after;
 
 /// The number that a word of digits spells, or the greatest `u64` where it is greater.
 pub fn number(word: &[u8]) -> Option<u64>
@@ -47,13 +49,6 @@ pub fn small_number(word: &[u8]) -> Option<u32>
     ensures { result ≡ small_number word.now }
 {
     Some(number(word)?.min(u64::from(u32::MAX)) as u32)
-}
-
-/// What follows the key at the front of a word.
-pub fn after<'a>(key: &[u8], word: &'a [u8]) -> Option<&'a [u8]>
-    ensures { option_map text_of result ≡ after key.now word.now }
-{
-    word.strip_prefix(key)
 }
 
 /// What stands before the key at the end of a word.

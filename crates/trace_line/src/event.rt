@@ -5,8 +5,9 @@ ghost use Rattle.trace_line.specs.Events.{armed, bare, cancelled, event_of, expi
 ghost use Rattle.trace_line.specs.inside.Events.{event_text, said_text, shown_text, shown_with_text};
 ghost use Rattle.trace_line.specs.inside.OpeningFits.{StartsWithin};
 
-use crate::decimal::{after, before_end};
+use crate::decimal::before_end;
 use crate::field::{behind, cpu_field, deadline_field, number_field, place_of, value_of};
+use crate::front::after;
 use crate::opening::{Opening, running};
 
 /// A task as a line shows it; `T` is a text.

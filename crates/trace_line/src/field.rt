@@ -4,6 +4,7 @@ ghost use Rattle.std.specs.Prelude.{◌≡◌, ◌+◌, ◌≤◌, IfSome, lengt
 ghost use Rattle.trace_line.specs.Words.{behind, cpu_field, deadline_field, filled, number_field, place_of, text_of, value_of};
 
 use crate::decimal::{is_deadline, number, small_number};
+use crate::front::begins;
 use grub_text::{first_word, space_in};
 
 /// How many bytes stand before the first space that the key follows.
@@ -18,7 +19,7 @@ pub fn place_of(key: &[u8], text: &[u8]) -> Option<usize>
             return None;
         };
         let next = &rest[space + 1..];
-        if next.starts_with(key) {
+        if begins(next, key) {
             return Some(from + space);
         }
         from += space + 1;

@@ -6,6 +6,7 @@ ghost use Rattle.grub_text.specs.Lines.{words_of};
 
 use crate::decimal::number;
 use crate::field::{behind, cpu_field};
+use crate::front::begins;
 use crate::spaces::without_spaces;
 use grub_text::first_word;
 
@@ -30,7 +31,7 @@ fn says_lost(line: &[u8]) -> bool
     let mut opened = false;
     loop {
         let (word, rest) = first_word(text);
-        if word.starts_with(b"PERF_RECORD_LOST") || (opened && word == b"EVENTS]".as_slice()) {
+        if begins(word, b"PERF_RECORD_LOST") || (opened && word == b"EVENTS]".as_slice()) {
             return true;
         }
         opened = opened || word == b"[LOST".as_slice();

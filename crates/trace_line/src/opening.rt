@@ -3,10 +3,11 @@
 ghost use Rattle.std.specs.Prelude.{◌≡◌, ◌==◌, ◌≤◌, IfSome, length, not, position, reverse};
 ghost use Rattle.std.specs.Char.{is_ascii_digit};
 ghost use Rattle.grub_text.specs.Lines.{is_space};
-ghost use Rattle.trace_line.specs.Opening.{before_brackets, last_digits, later_cpu, opening_of, running, trimmed};
+ghost use Rattle.trace_line.specs.Opening.{before_brackets, last_digits, later_cpu, opening_of, running, running_comm, trimmed, without_last};
 ghost use Rattle.trace_line.specs.inside.OpeningFits.{StartsWithin};
 
 use crate::decimal::{bracketed, moment, number};
+use crate::spaces::without_spaces;
 use grub_text::first_word;
 
 /// The word of a line that names its CPU.
@@ -117,4 +118,21 @@ pub fn running(front: &[u8]) -> Option<u64>
     ensures { result ≡ running front.now }
 {
     number(last_digits(before_brackets(trimmed(front))))
+}
+
+/// A text without its last byte, which stands between a comm and its pid.
+fn without_last(text: &[u8]) -> &[u8]
+    ensures { result.now ≡ without_last text.now }
+{
+    &text[..text.len().saturating_sub(1)]
+}
+
+/// The comm of the task that runs, from what stands before the CPU's word.
+pub fn running_comm(front: &[u8]) -> &[u8]
+    ensures { result.now ≡ running_comm front.now }
+{
+    let text = before_brackets(trimmed(front));
+    let digits = last_digits(text).len();
+    let comm = without_last(&text[..text.len().saturating_sub(digits)]);
+    without_spaces(trimmed(comm))
 }
