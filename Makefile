@@ -58,9 +58,10 @@ cases: build
 options: build
 	python3 scripts/options.py
 
-# grubrun beside plain Rust without proofs (bench/, which wants cargo), in one run.
-bench: runner
+# grubrun beside plain Rust without proofs (bench/, which wants cargo), in one run; and how long `grubtrace size` takes as jobs grow.
+bench: runner tracer
 	@python3 bench/compare.py
+	@python3 bench/sizing.py
 
 # Records a load of four tasks on this machine and checks the record; elsewhere it says why it cannot.
 record-check: tracer

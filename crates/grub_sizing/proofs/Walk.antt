@@ -1,12 +1,12 @@
 -- The renewals that a walk keeps answer as all jobs so far do.
-use Rattle.std.proofs.Common.{length, get_or, drop, ◌^◌, ◌≡◌, ℕ, ◌+◌, ◌-◌, ◌*◌, ◌<◌, ◌≤◌, min, Bool, true, false, ◌&&◌, ◌==◌, cond, nat_le, nat_lt, List, [], ◌∷◌, ◌++◌, map, inl, inr, refl, sym, ap, ◌∙◌, arith}
+use Rattle.std.proofs.Common.{length, get_or, drop, ◌^◌, ◌≡◌, ℕ, ◌+◌, ◌-◌, ◌*◌, ◌<◌, ◌≤◌, min, Bool, true, false, ◌&&◌, ◌==◌, cond, nat_le, nat_lt, List, [], ◌∷◌, ◌++◌, map, inl, inr, refl, sym, ap, ◌∙◌, append_assoc, arith}
 use Rattle.std.specs.List.{list_any, list_all}
 use Rattle.std.proofs.lemmas.Bool.{le-leb, lt-leb, lt-ltb, le-ltb, leb-true, cases_lt, cases_Bool, or_cases, and_parts, and_right, eqb-true}
 use Rattle.std.proofs.lemmas.Nat.{mul-le}
 use Rattle.std.proofs.lemmas.List.Folds.{list_all-append}
 use Rattle.grub_sizing.specs.Span.{budgets_of, span}
 use Rattle.std.proofs.lemmas.List.{at_drop_more}
-use Rattle.grub_sizing.specs.Jobs.{is_done_by, late_after}
+use Rattle.grub_sizing.specs.Jobs.{is_done_by, late_after, lates_after}
 use Rattle.grub_sizing.specs.inside.Renewals.{finish_after, all_done_by, advanced, covers, remembered, joined, stepped, AreWithin, Stand}
 use Rattle.grub_sizing.specs.declared.job.Job.{Job}
 use Rattle.grub_sizing.specs.declared.renewal.Renewal.{Renewal}
@@ -209,3 +209,22 @@ count-next q p count i whole jobs past rs rs' job done count' some within item b
     count_both : (done : Bool) (count count' rest whole : ℕ) → count' ≡ cond done count (count + 1) → count + (cond done 0 1 + rest) ≡ whole → count' + rest ≡ whole
     count_both true count count' rest whole is sum = omega arith
     count_both false count count' rest whole is sum = omega arith
+
+-- the list of a walk after one more job
+pub lates-next : (q p i : ℕ) (whole lates lates' : List ℕ) (jobs past : List Job) (rs rs' : List Renewal) (job : Job) (late : ℕ) → 0 < q → i < length jobs → job ≡ get_or jobs i job → job.due < 2 ^ 63
+    → Stand q p rs past → rs' ≡ stepped q p job rs → lates ++ lates_after q p past (drop i jobs) ≡ whole
+    → late ≡ cond (list_all (λ r. nat_le r.finish job.due) rs') 0 1 → lates' ≡ lates ++ late ∷ []
+    → Stand q p rs' (job ∷ past) × (lates' ++ lates_after q p (job ∷ past) (drop (i + 1) jobs) ≡ whole)
+lates-next q p i whole lates lates' jobs past rs rs' job late some within item bounded stand steps told tests is =
+    let stand' : Stand q p rs' (job ∷ past) = rw steps (Stand-stepped q p job rs past some stand) in
+    let test : list_all (λ r. nat_le r.finish job.due) rs' ≡ is_done_by q p job.due 0 (job ∷ past) = all-now q p job.due rs' some ∙ stand'.answers job.due 0 (omega arith) in
+    let split : lates_after q p past (drop i jobs) ≡ lates_after q p past (job ∷ drop (i + 1) jobs) = at_drop_more (lates_after q p past) jobs i job within ∙ ap (λ j. lates_after q p past (j ∷ drop (i + 1) jobs)) (sym item) in
+    let here : late ≡ cond (is_done_by q p job.due 0 (job ∷ past)) 0 1 = tests ∙ ap (λ (b : Bool). cond b 0 1) test in
+    let rest = lates_after q p (job ∷ past) (drop (i + 1) jobs) in (
+      stand',
+      ap (λ (xs : List ℕ). xs ++ rest) is
+          ∙ append_assoc lates (late ∷ []) rest
+          ∙ ap (λ (n : ℕ). lates ++ n ∷ rest) here
+          ∙ ap (λ (xs : List ℕ). lates ++ xs) (sym split)
+          ∙ told,
+    )

@@ -23,3 +23,9 @@ late_after runtime period past (job ∷ jobs) =
 -- how many of the jobs of a record are not in time
 abbrev pub late_of : ℕ → ℕ → List Job → ℕ
 late_of runtime period jobs = late_after runtime period [] jobs
+
+-- for each of the jobs 1 where it is not in time, else 0, where `past` are the jobs before them, the newest first
+abbrev pub lates_after : ℕ → ℕ → List Job → List Job → List ℕ
+lates_after runtime period past [] = []
+lates_after runtime period past (job ∷ jobs) =
+    (if is_done_by runtime period job.due 0 (job ∷ past) then 0 else 1) ∷ lates_after runtime period (job ∷ past) jobs

@@ -1,7 +1,8 @@
 //! How many jobs may be late.
 
-ghost use Rattle.std.specs.Prelude.{◌≡◌, ◌≤◌, ◌<◌, IfOk, IsTrue, ◌↔◌};
-ghost use Rattle.grub_sizing.specs.Jobs.{late_of};
+ghost use Rattle.std.specs.Prelude.{◌≡◌, ◌≤◌, ◌<◌, IfOk, IsTrue, ◌↔◌, [], cond, nat_le};
+ghost use Rattle.std.specs.List.{list_all};
+ghost use Rattle.grub_sizing.specs.Jobs.{late_of, lates_after};
 ghost use Rattle.grub_sizing.specs.inside.Counting.{IsUpTo};
 
 use crate::job::Job;
@@ -63,4 +64,31 @@ fn count_up_to(
         }
     }
     Ok(count)
+}
+
+/// For each of the jobs 1 where it may be late with the runtime in each period, else 0.
+pub fn lates_of(
+    alloc: Global,
+    jobs: &[Job],
+    runtime: u32,
+    period: u32,
+) -> Result<Vec<u32>, AllocError>
+    requires some { 0 < runtime }
+    requires room { runtime ≤ period }
+    ensures { IfOk result (λ v. v.items ≡ lates_after runtime period [] jobs.now) }
+{
+    let mut renewals = Vec::new(alloc);
+    let mut lates = Vec::new(alloc);
+    for job in jobs {
+        step(&mut renewals, job, runtime, period)?;
+        lates.push(late_by(&renewals, job.due))?;
+    }
+    Ok(lates)
+}
+
+/// 1 where from one of the renewals the work until now is not done by the moment.
+fn late_by(renewals: &[Renewal], due: u64) -> u32
+    ensures { result ≡ cond (list_all (λ r. nat_le r.finish due) renewals.now) 0 1 }
+{
+    if are_done_by(renewals, due) { 0 } else { 1 }
 }

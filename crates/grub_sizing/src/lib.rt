@@ -9,7 +9,7 @@ mod renewal;
 mod witness;
 
 pub use job::Job;
-pub use late::late_count;
+pub use late::{late_count, lates_of};
 pub use laws::{jobs_are_in_time_as_told, more_runtime_is_never_later};
 pub use least::least_runtime;
-pub use witness::{Late, count_late_each, first_late};
+pub use witness::{Late, first_late};

@@ -78,24 +78,3 @@ pub fn first_late(
     }
     Ok(None)
 }
-
-/// Counts one at the index of each job that may be late with the runtime in each period.
-pub fn count_late_each(
-    alloc: Global,
-    jobs: &[Job],
-    runtime: u32,
-    period: u32,
-    counts: &mut [u32],
-) -> Result<(), AllocError>
-    requires some { 0 < runtime }
-    requires room { runtime ≤ period }
-{
-    let mut renewals = Vec::new(alloc);
-    for (count, job) in counts.iter_mut().zip(jobs) {
-        step(&mut renewals, job, runtime, period)?;
-        if !are_done_by(&renewals, job.due) {
-            *count = count.saturating_add(1);
-        }
-    }
-    Ok(())
-}

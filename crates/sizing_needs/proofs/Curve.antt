@@ -111,7 +111,7 @@ max-test a b q =
       ])
     ]
 
-done-need : (p q due after : ℕ) (past : List Job) → 1 ≤ q → q ≤ p → AllWork past → is_done_by q p due after past ≡ nat_le (need_after p due after past) q
+pub done-need : (p q due after : ℕ) (past : List Job) → 1 ≤ q → q ≤ p → AllWork past → is_done_by q p due after past ≡ nat_le (need_after p due after past) q
 done-need p q due after [] some room all = sym (le-leb 1 q some)
 done-need p q due after (job ∷ past) some room all =
     let work = all.0 in
@@ -119,7 +119,7 @@ done-need p q due after (job ∷ past) some room all =
     let tail = done-need p q due (job.work + after) past some room all.1 in
     rw (head, tail) (sym (max-test (need_by p due job.release (job.work + after)) (need_after p due (job.work + after) past) q))
 
-flip-test : (n q : ℕ) → ◌≡◌ {A = ℕ} (cond (nat_le n q) 0 1) (cond (nat_lt q n) 1 0)
+pub flip-test : (n q : ℕ) → ◌≡◌ {A = ℕ} (cond (nat_le n q) 0 1) (cond (nat_lt q n) 1 0)
 flip-test n q =
     elim (cases_lt q n) [
       | inl above ↦ rw (lt-leb n q above) (rw (lt-ltb q n above) refl)
