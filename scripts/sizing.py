@@ -1,13 +1,15 @@
 #!/usr/bin/env python3
 """Holds `grubtrace size` to its definition by brute force: a job is late with a runtime Q in each period P where, from some job up to it
-on, release + ceil(work / Q) * (P - Q) + work is after its due moment. Small records are made at random, and the least runtimes for
-0, 1, 2 .. late jobs are compared, which are the whole curve of late jobs; with --trace, those of a task of a recorded trace.
-The last line is 'N passed, M failed'.
+on, release + ceil(work / Q) * (P - Q) + work is after its due moment. The last line is 'N passed, M failed'.
 
-    scripts/sizing.py PROGRAM [COUNT [SEED]]
-    scripts/sizing.py PROGRAM --trace TRACE NAME PERIOD
+    scripts/sizing.py PROGRAM [COUNT [SEED]]             small records made at random: for each, how many jobs are late with each Q
+    scripts/sizing.py PROGRAM --trace TRACE NAME PERIOD  some counts of late jobs of a task of a recorded trace
+    scripts/sizing.py PROGRAM --told FOLDER              each number that was told of the records of a folder by other means
+    scripts/sizing.py PROGRAM --page PAGE                what a page shows behind each line '$ grubtrace ..' is what is printed
+
+In that folder NAME.told has what a program in Python printed of the trace NAME.txt.xz, and its first line the words of NAME's task.
 """
-import os, random, re, subprocess, sys, tempfile
+import lzma, os, random, re, subprocess, sys, tempfile
 
 def late(jobs, runtime, period):
     count = 0
@@ -20,11 +22,6 @@ def late(jobs, runtime, period):
                 break
     return count
 
-def least(jobs, period, allowed):
-    for runtime in range(1, period + 1):
-        if late(jobs, runtime, period) <= allowed: return runtime
-    return None
-
 def searched(jobs, period, allowed):
     if late(jobs, period, period) > allowed: return None
     low, high = 0, period
@@ -34,43 +31,91 @@ def searched(jobs, period, allowed):
         else: high = middle
     return high
 
-def text_of(jobs):
-    """A trace with these jobs (release, work), in microseconds, of the task t with the pid 7; each ends when its work is done."""
-    at = lambda us: f'{us // 1000000}.{us % 1000000:06d}'
-    lines = ['# tracer: nop']
-    for release, work in jobs:
-        lines.append(f'          <idle>-0       [001] d..2. {at(release)}: sched_wakeup: comm=t pid=7 prio=120 target_cpu=001')
-        lines.append(f'               t-7       [001] d..2. {at(release + work)}: sched_stat_runtime: comm=t pid=7 runtime={work * 1000} [ns]')
-        lines.append(f'               t-7       [001] d..2. {at(release + work)}: sched_switch: prev_comm=t prev_pid=7 prev_prio=120 prev_state=S ==> next_comm=swapper/1 next_pid=0 next_prio=120')
-    return '\n'.join(lines) + '\n'
+def page(program, path):
+    """The blocks of a page that begin with a command: `..` in place of a line stands for any lines."""
+    passed = failed = 0
+    root = os.path.dirname(os.path.dirname(os.path.abspath(path)))
+    for command, shown in re.findall(r'^    \$ grubtrace (.*)\n((?:    .*\n|\n(?=    ))*)', open(path).read(), re.M):
+        run = subprocess.run([program, *command.split()], capture_output=True, text=True, cwd=root)
+        wanted = '\n'.join(it[4:] for it in shown.rstrip('\n').split('\n')) + '\n'
+        parts = [re.escape(it) for it in re.split(r'^ *\.\.\n', wanted, flags=re.M)]
+        if run.returncode == 0 and re.fullmatch('(?:.*\n)*'.join(parts), run.stdout): passed += 1
+        else:
+            failed += 1
+            print(f'sizing: the page shows of {command}\n{wanted}and printed is\n{run.stdout}{run.stderr}')
+    if passed + failed == 0: failed += 1
+    return passed, failed
 
-def told(program, trace, words):
+def lines_of(jobs, pid, rng):
+    """The lines of a task's jobs (release, work), in microseconds, with their moments: each ends when its work is done."""
+    for release, work in jobs:
+        cut = rng.randint(0, work)
+        yield release, f'sched_wakeup: comm=t{pid} pid={pid} prio=120 target_cpu=001'
+        for nanos in (cut * 1000, (work - cut) * 1000 - rng.randint(0, 999) if work > cut else 0):
+            if nanos: yield release + work, f'sched_stat_runtime: comm=t{pid} pid={pid} runtime={nanos} [ns]'
+        yield release + work, f'sched_switch: prev_comm=t{pid} prev_pid={pid} prev_prio=120 prev_state=S ==> next_comm=swapper/1 next_pid=0 next_prio=120'
+
+def write_trace(path, tasks, rng):
+    lines = sorted((line for pid, jobs in tasks for line in lines_of(jobs, pid, rng)), key=lambda it: it[0])
+    with open(path, 'w') as f:
+        f.write('# tracer: nop\n')
+        for at, text in lines: f.write(f'          <idle>-0       [001] d..2. {at // 1000000}.{at % 1000000:06d}: {text}\n')
+
+def sections(program, trace, words):
+    """What is printed of each task, by its pid, or the fault."""
     run = subprocess.run([program, 'size', *words, trace], capture_output=True, text=True)
-    if run.returncode: return f'status {run.returncode}: {run.stderr}'
-    if 'no runtime is enough' in run.stdout: return None
-    found = re.search(r'^ *(\d+) .*  the least', run.stdout, re.M) or re.search(r'^ *(\d+) .*  proposed', run.stdout, re.M)
-    return int(found[1]) if found else run.stdout
+    if run.returncode: return {None: f'status {run.returncode}: {run.stderr}'}
+    return {int(it[1]): it[2] for it in re.finditer(r'^task \S+ pid=(\d+): (.*?)(?=^task|\nall proposals|\Z)', run.stdout, re.M | re.S)}
+
+def table_of(text):
+    """The rows of runtimes: runtime, percent, late, percent late, words."""
+    return [(int(a), b, int(c), d, e) for a, b, c, d, e in re.findall(r'^ +(\d+) +(\d+\.\d\d) +(\d+) +(\d+\.\d\d)(.*)$', text, re.M)]
+
+def least_told(text):
+    """The runtime that is called the least, None where none is enough, or the text."""
+    if 'no runtime is enough' in text: return None
+    found = [it for it in table_of(text) if 'the least' in it[4]]
+    if not found: found = [it for it in table_of(text) if 'proposed' in it[4]]
+    return found[0][0] if found else text
+
+def record_of(rng):
+    """A period, in how long jobs are to be done, and jobs: a few, or more of them with little time between."""
+    period, jobs, at = rng.randint(100, 160), [], 1000 + rng.randint(0, 50)
+    longest, pause = rng.choice([10, 60, 120]), rng.choice([5, 60, 200])
+    for _ in range(rng.randint(1, rng.choice([3, 5, 8]))):
+        ran = rng.randint(1, longest)
+        jobs.append((at, ran))
+        at += ran + rng.randint(0, pause)
+    return period, rng.choice([period, period, rng.randint(1, 400)]), jobs
+
+BATCH = 100
 
 def small(program, count, seed):
-    rng, passed, failed = random.Random(seed), 0, 0
+    rng, passed, failed, tried = random.Random(seed), 0, 0, 0
     with tempfile.TemporaryDirectory() as work:
         trace = os.path.join(work, 't.txt')
-        for _ in range(count):
-            period, jobs, at = rng.randint(100, 160), [], 1000 + rng.randint(0, 50)
-            for _ in range(rng.randint(1, 5)):
-                ran = rng.randint(1, rng.choice([10, 60, 120]))
-                jobs.append((at, ran))
-                at += ran + rng.randint(0, rng.choice([5, 60, 200]))
-            within = rng.choice([period, period, rng.randint(1, 250)])
-            with open(trace, 'w') as f: f.write(text_of(jobs))
-            full = [(r, w, r + within) for r, w in jobs]
-            words = ['--task', f't={period}', '--margin', '0'] + (['--within', f't={within}'] if within != period else [])
-            for allowed in range(len(jobs)):
-                wanted, got = least(full, period, allowed), told(program, trace, words + ['--late', str(allowed)])
-                if wanted == got: passed += 1
+        for start in range(0, count, BATCH):
+            records = {1000 + i: record_of(rng) for i in range(min(BATCH, count - start))}
+            write_trace(trace, [(pid, jobs) for pid, (_, _, jobs) in records.items()], rng)
+            words = ['--margin', '10']
+            for pid, (period, within, _) in records.items():
+                words += ['--task', f'{pid}={period}'] + (['--within', f'{pid}={within}'] if within != period else [])
+            told = [sections(program, trace, words + ['--late', str(k)]) for k in range(max(len(it[2]) for it in records.values()))]
+            for pid, (period, within, jobs) in records.items():
+                full = [(r, w, r + within) for r, w in jobs]
+                wanted = [late(full, q, period) for q in range(1, period + 1)]
+                texts = [it.get(pid, str(it.get(None))) for it in told[:len(jobs)]]
+                least = [least_told(it) for it in texts]
+                wrong = [it for it in least if isinstance(it, str)]
+                if not wrong and [sum(it is None or it > q for it in least) for q in range(1, period + 1)] != wanted: wrong.append(f'the least {least}')
+                rows = [it for text in texts for it in table_of(text)]
+                wrong += [f'row {it}' for it in rows if it[2] != wanted[it[0] - 1]]
+                tried += period
+                if not wrong: passed += 1
                 else:
                     failed += 1
-                    print(f'sizing: jobs {jobs}, within {within}, period {period}, {allowed} late: {got}, wanted {wanted}')
+                    print(f'sizing: jobs {jobs}, within {within}, period {period}: {wrong[0]}')
+    print(f'sizing: {count} random records, {tried} runtimes')
     return passed, failed
 
 def jobs_of(path, name):
@@ -98,16 +143,119 @@ def recorded(program, trace, name, period):
     jobs = [(r, w, r + period) for r, w in jobs_of(trace, name)]
     passed = failed = 0
     for allowed in (0, 1, 2, 3, 5, len(jobs) // 20, len(jobs) // 4):
-        wanted, got = searched(jobs, period, allowed), told(program, trace, ['--task', f'{name}={period}', '--margin', '0', '--late', str(allowed)])
+        texts = sections(program, trace, ['--task', f'{name}={period}', '--margin', '0', '--late', str(allowed)])
+        wanted, got = searched(jobs, period, allowed), least_told(list(texts.values())[0])
         if wanted == got: passed += 1
         else:
             failed += 1
             print(f'sizing: {trace} {name}={period}, {allowed} late: {got}, wanted {wanted}')
     return passed, failed
 
+class Told:
+    """Compares what was told of a record with what the program prints."""
+    def __init__(self, program, trace, words):
+        self.program, self.trace, self.words, self.passed, self.failed = program, trace, words, 0, 0
+
+    def out(self, words):
+        run = subprocess.run([self.program, 'size', *words, self.trace], capture_output=True, text=True)
+        return run.stdout if not run.returncode else f'status {run.returncode}: {run.stderr}'
+
+    def same(self, what, wanted, got):
+        if wanted == got: self.passed += 1
+        else:
+            self.failed += 1
+            print(f'sizing: {os.path.basename(self.trace)}, {what}: {got}, wanted {wanted}')
+
+    def rows(self, told, out):
+        """The distribution: the numbers behind each name."""
+        for name in ('woke every', 'ran', 'done after'):
+            find = lambda text: re.search(rf'^ +{name} +(\d.*)$', text, re.M)[1].split()
+            self.same(name, find(told), find(out))
+
+    def head(self, told, out):
+        pid, jobs, seconds = re.search(r'^task \S+ pid=(\d+) .*?: (\d+) jobs in (\S+) s', told, re.M).groups()
+        self.same('the task', [pid, jobs, seconds], list(re.search(r'^task \S+ pid=(\d+): (\d+) jobs in (\S+) s', out, re.M).groups()))
+        for old, new in (('left out as its thread began', 'as its thread began'), ('left out as its thread ended', 'at its end'), ('without an end', 'without an end'), ('without a beginning', 'without a beginning')):
+            find = lambda text, words: (re.search(rf'(\d+) {words}', text) or [0, '0'])[1]
+            self.same(new, find(told.split('\n')[1], old), find(out.split('\n')[0], new))
+
+    def least_of(self, words):
+        return [list(it[:4]) for it in table_of(self.out(words)) if 'the least' in it[4]]
+
+    def runtimes(self, told, out, name, within):
+        shown = {it[0]: it for it in table_of(out)}
+        n = int(re.search(r'(\d+) jobs in', told)[1])
+        for runtime, percent, count, share, why in table_of(told):
+            got = list(shown[runtime][:4]) if runtime in shown else (self.least_of(['--task', f'{name}={within}', '--late', str(count)]) or [None])[0]
+            self.same(f'runtime {runtime}', [runtime, percent, count, share], got)
+        proposed, least, less = ([it[0] for it in table_of(told) if words in it[4]][0] for words in ('proposed', 'the least', '15 % less'))
+        for runtime, words in ((proposed, 'proposed'), (least, 'the least'), (less, '15 % less')): self.same(words, [runtime], [it[0] for it in table_of(out) if words in it[4]])
+        witness = lambda text: re.search(r'with (\d+) job (\d+), line (\d+), may be (\d+) us late(?:, by the work from job (\d+) on)?', text).groups()
+        self.same('the witness', witness(told), witness(out))
+        self.same('jobs', [str(n), str(n + 1)], re.search(r'(\d+) jobs were seen.* 1 in (\d+)', out).groups() and list(re.search(r'(\d+) jobs were seen.* 1 in (\d+)', out).groups()))
+        for line in re.findall(r'^ +chrt .*$', told, re.M): self.same('chrt', line.strip(), re.search(r'chrt .*', out)[0])
+
+    def periods(self, told, out, name, within):
+        rows = re.findall(r'^ +(\d+) +(\d+|-) +(\d+\.\d\d|-)$', told.split('other periods')[1], re.M)
+        shown = dict(re.findall(r'(\d+) (\d+\.\d\d) %', re.search(r'other periods: .*', out)[0]))
+        for period, runtime, percent in rows:
+            if period in shown: self.same(f'period {period}', percent, shown[period])
+            got = self.least_of(['--task', f'{name}={period}', '--within', f'{name}={within}'])
+            self.same(f'runtime in {period}', [[int(runtime), percent]], [it[:2] for it in got])
+
+    def sums(self, told, out):
+        old, new = told.split('all proposals')[1], out.split('all proposals')[1]
+        row = re.findall(r'^ +(\S+) +(\d+) +(\d+) +(\d+) +(\d+\.\d\d)$', old, re.M)
+        self.same('proposals', [[a, q, p, u] for a, q, _, p, u in row], [list(it) for it in re.findall(r'^ +(\S+) +(\d+) +(\d+) +(\d+\.\d\d)$', new, re.M)])
+        sums = re.search(r'(\S+) % of a processor; (\d+) of them admit (\S+), of which fair servers hold (\S+): (\w+)', old).groups()
+        self.same('admission', sums, re.search(r'(\S+) % of a processor; (\d+) processors admit (\S+) %, less (\S+) % for fair servers: (\w+)', new).groups())
+        bound = lambda text: re.search(r'([\d.]+) \+ (\S+) (<=|>) (\d+) - (\d+) \* ([\d.]+)', text).groups()
+        self.same('the sum in time', bound(old), bound(new))
+
+    def prices(self, told, out):
+        find = lambda text: [it.split() for it in re.findall(r'^ +\d+ +(?:\d+|-)(?: +[\d.]+| +-){5}$', text, re.M)]
+        self.same('prices', find(told), find(out))
+
+    def census(self, told, out):
+        for line in told.split('\n'):
+            cells = re.split(r'  +', line.strip())
+            if not re.match(r'task +pid', line) and len(cells) == 14:
+                self.same(f'the task {cells[0]}', cells[:12] + cells[13:], re.split(r'  +', (re.search(rf'^{cells[0]} .*$', out, re.M) or [''])[0]))
+
+    def all(self, told):
+        if not self.words: return self.census(told, self.out([]))
+        name, _, within = self.words[1].partition('=')
+        out = self.out(self.words)
+        self.head(told, out)
+        self.rows(told, out)
+        if 'The price of each' in told: return self.prices(told, out)
+        within = within or re.search(r'within (\d+) us', told)[1]
+        self.same('within', re.findall(r'within (\d+) us', told), re.findall(r'within (\d+) us', out))
+        self.runtimes(told, out, name, within)
+        self.periods(told, out, name, within)
+        self.sums(told, out)
+
+def told(program, folder):
+    passed = failed = 0
+    with tempfile.TemporaryDirectory() as work:
+        for name in sorted(it for it in os.listdir(folder) if it.endswith('.told')):
+            head, _, text = open(os.path.join(folder, name)).read().partition('\n')
+            trace, *words = head.split()
+            path = os.path.join(work, 'trace')
+            with lzma.open(os.path.join(folder, trace)) as packed, open(path, 'wb') as f: f.write(packed.read())
+            one = Told(program, path, words)
+            try: one.all(text)
+            except (TypeError, IndexError, AttributeError) as wrong:
+                one.failed += 1
+                print(f'sizing: {name}: a part of it is not there: {wrong!r}')
+            passed, failed = passed + one.passed, failed + one.failed
+    return passed, failed
+
 if __name__ == '__main__':
     program, words = os.path.abspath(sys.argv[1]), sys.argv[2:]
     if words[:1] == ['--trace']: passed, failed = recorded(program, words[1], words[2], int(words[3]))
+    elif words[:1] == ['--page']: passed, failed = page(program, words[1])
+    elif words[:1] == ['--told']: passed, failed = told(program, words[1])
     else: passed, failed = small(program, int(words[0]) if words else 100, int(words[1]) if len(words) > 1 else 1)
     print(f'{passed} passed, {failed} failed')
     sys.exit(failed > 0)
