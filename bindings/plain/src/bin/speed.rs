@@ -5,6 +5,9 @@ use plain::{Op, Params, Queue, Reply};
 use std::hint::black_box;
 use std::time::Instant;
 
+/// What a task runs at a time: so much that its block waits, and a timer fires.
+const RUN: u32 = 16;
+
 fn plain_run(rounds: u32, charges_alone: bool) -> (u64, u64, f64) {
     let params = vec![Params::new(100, 1000).unwrap(); 8];
     let mut book = black_box(plain::Book::new(&params, &[Queue { umax: 996_147, uextra: 0 }]));
@@ -15,7 +18,7 @@ fn plain_run(rounds: u32, charges_alone: bool) -> (u64, u64, f64) {
     let start = Instant::now();
     for i in 0..rounds {
         let (moment, task) = (i * 16, i & 7);
-        if let Reply::Charged(charged, ..) = book.ask(task, Op::Charge(0, 5)) {
+        if let Reply::Charged(charged, ..) = book.ask(task, Op::Charge(0, RUN)) {
             sum += charged;
         }
         ops += 1;
@@ -46,7 +49,7 @@ fn library_run(rounds: u32, charges_alone: bool) -> (u64, u64, f64) {
     let start = Instant::now();
     for i in 0..rounds {
         let (moment, task) = (i * 16, i & 7);
-        sum += book.run(task, 0, 5).charged;
+        sum += book.run(task, 0, RUN).charged;
         ops += 1;
         if charges_alone {
             continue;
