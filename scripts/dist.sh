@@ -45,7 +45,7 @@ mkdir "$tree" "$work/empty"
 pack || { echo "dist: out/$name.tar.gz cannot be made"; echo '0 passed, 1 failed'; exit 1; }
 tar -C "$work/empty" -xzf "out/$name.tar.gz"
 says 'agrees, bit for bit' 'xz -dc examples/records/probes/6.12-back.txt.xz > back.txt && grubtrace check back.txt'
-says 'chrt -d -T 11538000 -D 30000000' 'grubtrace size --task ld_req=30000 examples/sizing/requests.txt'
+says 'chrt -d -T 12269000 -D 30000000' 'grubtrace size --task ld_req=30000 examples/sizing/requests.txt'
 says 'at 3 wake A: woken q=4 d=11' 'grubrun examples/first.grub'
 says 'waiting ticket=1 z=4' 'cc -I bindings/include bindings/c/documentation.c out/library/libneddwyrol.a -o documentation && ./documentation'
 says 'waiting ticket=1 z=4' 'PYTHONPATH=bindings/python NEDDWYROL_SO=lib/libneddwyrol.so.1 python3 bindings/python/documentation.py'
