@@ -1,0 +1,251 @@
+//! The two panels of a task.
+
+ghost use Rattle.std.specs.Prelude.{◌≡◌, ◌++◌, IfOk, OnOk};
+ghost use Rattle.size_picture.specs.Strokes.{DrawsNeeds, bar_of, bars_of, height_of, line_of, lines_text, look_of};
+
+use crate::column::{Column, Need, PANEL, WIDTH, columns_of};
+use crate::scale::{place_of, put_counts, put_runtimes, put_time};
+use crate::stroke::{Look, Stroke, put_strokes};
+use grub_shapes::{LEFT, put_number};
+use std::alloc::{AllocError, Global};
+
+/// What is drawn of a task. Runtimes and durations are in microseconds.
+#[derive(Clone, Copy)]
+pub struct Panel<'a> {
+    pub comm: &'a [u8],
+    pub period: u32,
+
+    /// In how long after its wake each job is to be done.
+    pub within: u32,
+
+    /// The runtime at the top of the scale.
+    pub top: u32,
+    pub proposed: u32,
+    pub least: u32,
+
+    /// Fifteen percent less than the least.
+    pub less: u32,
+
+    /// How long the record is.
+    pub span: u64,
+
+    /// What each job needs, in the order of the record.
+    pub needs: &'a [Need],
+
+    /// The same, the greatest first, as many as the curve shows.
+    pub sorted: &'a [Need],
+
+    /// How many late jobs the scale of the curve has.
+    pub most: u64,
+}
+
+/// How high the two panels of a task are, with their title and their scales, in pixels.
+pub(crate) const HEIGHT: u64 = 424;
+
+/// How high a runtime is on a scale that ends at `top`.
+fn height_of(top: u32, runtime: u32) -> u64
+    ensures { result ≡ height_of top runtime }
+{
+    u64::from(runtime.min(top)) * u64::from(PANEL) / u64::from(top.max(1))
+}
+
+fn look_of(shade: u32) -> Look
+    ensures { result ≡ look_of shade }
+{
+    if shade == 0 {
+        Look::Pale
+    } else if shade == 1 {
+        Look::Late
+    } else {
+        Look::Dark
+    }
+}
+
+fn bar_of(base: u64, column: Column) -> Stroke
+    ensures { result ≡ bar_of base column }
+{
+    Stroke {
+        look: look_of(column.shade),
+        x: column.x,
+        y: base,
+        to_x: column.x,
+        to_y: base.saturating_sub(u64::from(column.height)),
+    }
+}
+
+fn bars_of(alloc: Global, base: u64, columns: &[Column]) -> Result<Vec<Stroke>, AllocError>
+    ensures { IfOk result (λ v. v.items ≡ bars_of base columns.now) }
+{
+    let mut bars = Vec::new(alloc);
+    for column in columns {
+        bars.push(bar_of(base, *column))?;
+    }
+    Ok(bars)
+}
+
+/// The curve: from each column to the next, and from the last down to where it ends.
+fn curve_of(
+    alloc: Global,
+    base: u64,
+    end: u64,
+    columns: &[Column],
+) -> Result<Vec<Stroke>, AllocError> {
+    let mut curve = Vec::new(alloc);
+    for (i, column) in columns.iter().enumerate() {
+        let (to_x, height) = match columns.get(i + 1) {
+            Some(next) => (next.x, next.height),
+            None => (end, 0),
+        };
+        curve.push(Stroke {
+            look: Look::Curve,
+            x: column.x,
+            y: base.saturating_sub(u64::from(column.height)),
+            to_x,
+            to_y: base.saturating_sub(u64::from(height)),
+        })?;
+    }
+    Ok(curve)
+}
+
+fn line_of(base: u64, top: u32, look: Look, runtime: u32) -> Stroke
+    ensures { result ≡ line_of base top look runtime }
+{
+    let y = base.saturating_sub(height_of(top, runtime));
+    Stroke {
+        look,
+        x: LEFT,
+        y,
+        to_x: LEFT + WIDTH,
+        to_y: y,
+    }
+}
+
+/// The lines at what is proposed, at the least, and at 15 percent less.
+fn put_lines(out: &mut Vec<u8>, panel: &Panel<'_>, base: u64) -> Result<(), AllocError>
+    ensures { OnOk result (out.new.items ≡ out.old.items ++ lines_text base panel.now) }
+{
+    let lines = [
+        line_of(base, panel.top, Look::Proposed, panel.proposed),
+        line_of(base, panel.top, Look::Least, panel.least),
+        line_of(base, panel.top, Look::Less, panel.less),
+    ];
+    put_strokes(out, &lines)
+}
+
+/// Puts a name of any bytes: what could not stand in a document is told otherwise.
+fn put_name(out: &mut Vec<u8>, name: &[u8]) -> Result<(), AllocError> {
+    for byte in name {
+        match *byte {
+            b'&' => out.extend_from_slice(b"&amp;")?,
+            b'<' => out.extend_from_slice(b"&lt;")?,
+            32..=126 => out.push(*byte)?,
+            _ => out.push(b'?')?,
+        }
+    }
+    Ok(())
+}
+
+/// What the panels are of.
+fn put_title(out: &mut Vec<u8>, panel: &Panel<'_>, y: u64) -> Result<(), AllocError> {
+    put_number(out, b"<text class=\"q\" x=\"130\" y=\"", y)?;
+    out.extend_from_slice(b"\">")?;
+    put_name(out, panel.comm)?;
+    put_number(out, b": runtime ", u64::from(panel.proposed))?;
+    put_number(out, b" (the least ", u64::from(panel.least))?;
+    put_number(out, b") in each period of ", u64::from(panel.period))?;
+    put_number(out, b" us; ", panel.needs.len() as u64)?;
+    put_number(
+        out,
+        b" jobs, each to be done within ",
+        u64::from(panel.within),
+    )?;
+    out.extend_from_slice(b" us</text>\n")?;
+    Ok(())
+}
+
+/// What a panel shows, at its left.
+fn put_side(out: &mut Vec<u8>, y: u64, first: &[u8], second: &[u8]) -> Result<(), AllocError> {
+    put_number(out, b"<text x=\"8\" y=\"", y)?;
+    out.extend_from_slice(b"\">")?;
+    out.extend_from_slice(first)?;
+    put_number(out, b"</text><text x=\"8\" y=\"", y.saturating_add(14))?;
+    out.extend_from_slice(b"\">")?;
+    out.extend_from_slice(second)?;
+    out.extend_from_slice(b"</text>\n")?;
+    Ok(())
+}
+
+/// The scales of the upper panel.
+fn needs_scales(alloc: Global, panel: &Panel<'_>, base: u64) -> Result<Vec<u8>, AllocError> {
+    let mut out = Vec::new(alloc);
+    put_side(
+        &mut out,
+        base.saturating_sub(140),
+        b"need of a",
+        b"job, in us",
+    )?;
+    put_runtimes(&mut out, base, u64::from(panel.top))?;
+    put_time(&mut out, base, panel.span)?;
+    Ok(out)
+}
+
+/// The upper panel: what each job needs, over the time of the record.
+fn put_needs(
+    alloc: Global,
+    out: &mut Vec<u8>,
+    panel: &Panel<'_>,
+    base: u64,
+) -> Result<(), AllocError>
+    ensures { OnOk result (DrawsNeeds panel.now base out.old.items out.new.items) }
+{
+    let columns = columns_of(alloc, panel.needs, panel.span)?;
+    let bars = bars_of(alloc, base, &columns)?;
+    let scales = needs_scales(alloc, panel, base)?;
+    put_strokes(out, &bars)?;
+    put_lines(out, panel, base)?;
+    out.extend_from_slice(&scales)?;
+    Ok(())
+}
+
+/// The scales of the lower panel.
+fn curve_scales(alloc: Global, panel: &Panel<'_>, base: u64) -> Result<Vec<u8>, AllocError> {
+    let mut out = Vec::new(alloc);
+    put_side(
+        &mut out,
+        base.saturating_sub(140),
+        b"runtime for",
+        b"n late jobs",
+    )?;
+    put_runtimes(&mut out, base, u64::from(panel.top))?;
+    put_counts(&mut out, base, panel.most)?;
+    Ok(out)
+}
+
+/// The lower panel: the runtime for 0, 1, 2 and more late jobs.
+fn put_curve(
+    alloc: Global,
+    out: &mut Vec<u8>,
+    panel: &Panel<'_>,
+    base: u64,
+) -> Result<(), AllocError> {
+    let columns = columns_of(alloc, panel.sorted, panel.most)?;
+    let end = LEFT + place_of(panel.sorted.len() as u64, panel.most, WIDTH);
+    let curve = curve_of(alloc, base, end, &columns)?;
+    let scales = curve_scales(alloc, panel, base)?;
+    put_strokes(out, &curve)?;
+    put_lines(out, panel, base)?;
+    out.extend_from_slice(&scales)?;
+    Ok(())
+}
+
+/// The two panels of a task, below `y`.
+pub(crate) fn put_panel(
+    alloc: Global,
+    out: &mut Vec<u8>,
+    panel: &Panel<'_>,
+    y: u64,
+) -> Result<(), AllocError> {
+    put_title(out, panel, y.saturating_add(14))?;
+    put_needs(alloc, out, panel, y.saturating_add(180))?;
+    put_curve(alloc, out, panel, y.saturating_add(376))
+}

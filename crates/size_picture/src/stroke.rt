@@ -1,0 +1,79 @@
+//! Strokes and labels, of which a picture is made.
+
+ghost use Rattle.std.specs.Prelude.{◌≡◌, ◌++◌, OnOk};
+ghost use Rattle.std.specs.List.{flat_map};
+ghost use Rattle.size_picture.specs.Strokes.{class_of, stroke_text};
+
+use grub_shapes::put_number;
+use std::alloc::AllocError;
+
+/// How a stroke looks.
+#[derive(Clone, Copy, Debug, PartialEq, Eq)]
+pub enum Look {
+    /// A job that is in time with 15 percent less than the least.
+    Pale,
+
+    /// One that may be late then.
+    Late,
+
+    /// One that may be late with the least.
+    Dark,
+
+    /// The curve of late jobs.
+    Curve,
+
+    /// Lines at runtimes.
+    Proposed,
+    Least,
+    Less,
+
+    /// Axes and their marks.
+    Axis,
+}
+
+/// A line along and then up or down, in pixels.
+#[derive(Clone, Copy, Debug, PartialEq, Eq)]
+pub struct Stroke {
+    pub look: Look,
+    pub x: u64,
+    pub y: u64,
+    pub to_x: u64,
+    pub to_y: u64,
+}
+
+fn class_of(look: Look) -> &'static [u8]
+    ensures { result.now ≡ class_of look }
+{
+    match look {
+        Look::Pale => b"b",
+        Look::Late => b"l",
+        Look::Dark => b"d",
+        Look::Curve => b"c",
+        Look::Proposed => b"p",
+        Look::Least => b"m",
+        Look::Less => b"s",
+        Look::Axis => b"a",
+    }
+}
+
+pub(crate) fn put_stroke(out: &mut Vec<u8>, stroke: Stroke) -> Result<(), AllocError>
+    ensures { OnOk result (out.new.items ≡ out.old.items ++ stroke_text stroke) }
+{
+    out.extend_from_slice(b"<path class=\"")?;
+    out.extend_from_slice(class_of(stroke.look))?;
+    put_number(out, b"\" d=\"M", stroke.x)?;
+    put_number(out, b" ", stroke.y)?;
+    put_number(out, b"H", stroke.to_x)?;
+    put_number(out, b"V", stroke.to_y)?;
+    out.extend_from_slice(b"\"/>\n")?;
+    Ok(())
+}
+
+pub(crate) fn put_strokes(out: &mut Vec<u8>, strokes: &[Stroke]) -> Result<(), AllocError>
+    ensures { OnOk result (out.new.items ≡ out.old.items ++ flat_map stroke_text strokes.now) }
+{
+    for stroke in strokes {
+        put_stroke(out, *stroke)?;
+    }
+    Ok(())
+}
