@@ -86,6 +86,25 @@ def processors(path, count):
     write(path, *lines)
 
 
+def noted(path, count):
+    """A record with notes: so many tasks, each alone on one of the last CPUs that a record may name. Each wakes, runs for 1 ms and blocks, four times."""
+    head = ["# grub: notes 1 kernel=6.18.44 domain=0-8191 max-bw=996147\n"]
+    lines = []
+    for task in range(count):
+        cpu, pid, at = 8191 - task, 100000 + task, 10**12 + 20000 * task
+        head.append(f"# grub: task pid={pid} at=start cpu={cpu} runtime=5000000 deadline=100000000 period=100000000 flags=0x2 comm=task_{task}\n")
+        for wake in range(at, at + 8 * 10**8, 2 * 10**8):
+            # A run of 1 ms costs the budget 79318 ns, by what is left of the processor.
+            lines += [
+                (wake, f"x-1 [{cpu:03}] d. {{}}: sched_wakeup: comm=task_{task} pid={pid} prio=-1 target_cpu={cpu:03}\n"),
+                (wake + 1000000, f"task_{task}-{pid} [{cpu:03}] d. {{}}: sched_stat_runtime: comm=task_{task} pid={pid} runtime=1000000 [ns]\n"),
+                (wake + 1000001, f"task_{task}-{pid} [{cpu:03}] d. {{}}: hrtimer_start: hrtimer={0xffff0000 + task:x} function=inactive_task_timer expires={wake + 1586361}\n"),
+                (wake + 1000002, f"task_{task}-{pid} [{cpu:03}] d. {{}}: sched_switch: prev_comm=task_{task} prev_pid={pid} prev_prio=-1 prev_state=S ==> next_comm=x next_pid=0 next_prio=120\n"),
+            ]
+    lines.sort(key=lambda it: it[0])
+    write(path, *head, *(text.format(f"{at // 10**9}.{at % 10**9:09}") for at, text in lines))
+
+
 def record(path, name, *edits):
     """A record of examples/records, changed by these commands of sed."""
     script = [it for edit in ("", *edits) for it in ("-e", edit)]
@@ -94,5 +113,5 @@ def record(path, name, *edits):
 
 
 def make(path, kind, words):
-    kinds = (zeros, readings, queues, crowded, trace, processors, record)
+    kinds = (zeros, readings, queues, crowded, trace, processors, noted, record)
     {it.__name__: it for it in kinds}[kind](path, *(int(it) if it.isdecimal() else it for it in words))
