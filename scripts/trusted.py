@@ -1,10 +1,10 @@
 #!/usr/bin/env python3
 """Which definitions a reader must trust: those that public contracts reach, and how many lines they have, crate by crate.
 
-docs/READING.md names each file of these. The last line is 'N passed, M failed': the definitions that must be trusted, and the
-files that READING leaves out. Remarks, which do not fail: in each crate specs/ is to hold these and nothing else, definitions that
-only proofs and private functions need lie in specs/inside/, and no line of a contract has more than 100 columns. With --list it prints each trusted definition with its
-crate and module. With --of CRATE.. it only counts what the public contracts of these crates reach.
+In each crate specs/ holds these and nothing else; definitions that only proofs and private functions need lie in
+specs/inside/; and docs/READING.md names each file of the former. No line of a contract has more than 100 columns. In the crates
+of UNMENDED the first and the last are remarks, which do not fail. The last line is 'N passed, M failed': a definition at its
+place, or not. With --list it prints each trusted definition with its crate and module. With --of CRATE.. it only counts what the public contracts of these crates reach.
 """
 import os
 import re
@@ -16,6 +16,7 @@ HEAD = re.compile(r"^(?:(?:abbrev|unfoldable|opaque|instance|pub)\s+)+(?:(?:reco
 INNER = {"data": re.compile(r"\s+(?:pub\s+)?([\w']+)\s*:"), "module": re.compile(r"  (?:abbrev |unfoldable )?pub (?:record |data )?([\w']+)")}
 IMPORT = re.compile(r"\buse\s+Rattle\.(\w+)\.specs\.([\w.]+?)(?:\.\{([^}]*)\}|\s+as\s+(\w+))?\s*;?\s*$", re.M)
 WIDEST = 100
+UNMENDED = {"deadline_machine", "deadline_rules", "exact_words", "record_line", "trace_line", "trace_probes", "trace_reader"}
 PUBLIC_USE = re.compile(r"\bpub use ([\w:]+)(?:::\{([^}]*)\})?;", re.S)
 
 
@@ -236,6 +237,11 @@ def too_wide():
                         yield f"{os.path.relpath(path, ROOT)}:{text.count(chr(10), 0, first) + at + 1}"
 
 
+def word_for(crate):
+    """How a line begins that tells of a crate."""
+    return "remark" if crate in UNMENDED else "trusted"
+
+
 def count(reached):
     """Tells how many lines these definitions have, crate by crate."""
     total = 0
@@ -261,16 +267,18 @@ def main():
             if it in reached:
                 print(it.label())
     for it in wrong:
-        print(f"remark: {it.label()} {'is reached by a public contract' if it.is_inside() else 'belongs in specs/inside'}")
+        print(f"{word_for(it.crate)}: {it.label()} {'is reached by a public contract' if it.is_inside() else 'belongs in specs/inside'}")
     missing = unread(reached)
     for crate, module in missing:
         print(f"trusted: docs/READING.md does not name {crate}/specs/{module}")
     wide = list(too_wide())
     for it in wide:
-        print(f"remark: {it} has more than {WIDEST} columns")
+        print(f"{word_for(it.split('/')[1])}: {it} has more than {WIDEST} columns")
     count(reached)
-    print(f"{len(reached)} passed, {len(missing)} failed")
-    return 1 if missing else 0
+    left = [it for it in wrong if it.crate not in UNMENDED]
+    failed = len(left) + len(missing) + sum(it.split("/")[1] not in UNMENDED for it in wide)
+    print(f"{len(definitions) - len(left)} passed, {failed} failed")
+    return 1 if failed else 0
 
 
 if __name__ == "__main__":

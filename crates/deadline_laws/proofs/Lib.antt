@@ -6,3 +6,4 @@ pub mod RechargeLemmas
 pub mod SumLemmas
 pub mod EnqueueLemmas
 pub mod MoreSums
+pub mod AdmittingLemmas

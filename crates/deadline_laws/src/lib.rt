@@ -2,9 +2,11 @@
 //! its replenishment, and the sums of a runqueue event by event.
 #![tactic(auto)]
 
+mod admitted;
 mod law;
 mod sums;
 
+pub use admitted::extra_stays;
 pub use law::{
     charges_are_alike, charges_are_hardly_less, charges_are_no_more, recharges_are_least,
     wakes_answer_alike,

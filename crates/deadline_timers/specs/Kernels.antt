@@ -1,5 +1,5 @@
 -- What is fixed for a kernel: its equation of charges, its limits (init_dl_rq_bw_ratio), and how its fair servers stop.
-use Rattle.std.specs.Prelude.{ℕ, ◌-◌, ℤ, pos, int_lt, ◌/◌, ◌^◌, Bool, true, false, not, ◌&&◌, ◌||◌, ◌==◌, nat_lt, nat_le, if◌then◌else◌}
+use Rattle.std.specs.Prelude.{ℕ, ◌-◌, pos, int_lt, ◌/◌, ◌^◌, Bool, true, false, not, ◌&&◌, ◌||◌, ◌==◌, nat_lt, nat_le, min, if◌then◌else◌, Result, Ok, Err, length, fold, unwrap_or}
 use Rattle.std.specs.Int.{w64, cast_unsigned}
 use Rattle.trace_words.specs.declared.note.Kernel.{Kernel}
 use Rattle.trace_words.specs.declared.note.Limit.{Limit}
@@ -11,6 +11,9 @@ use Rattle.deadline_rules.specs.declared.charge.Law.TheVariants.{LinuxBefore65, 
 use Rattle.deadline_timers.specs.declared.setup.FairServer.{FairServer}
 use Rattle.deadline_timers.specs.declared.setup.FairServer.TheVariants as fair
 use Rattle.deadline_timers.specs.declared.setup.Limits.{Limits}
+use Rattle.deadline_timers.specs.declared.setup.NoSums.{NoSums}
+use Rattle.deadline_timers.specs.declared.setup.Options.{Options}
+use Rattle.deadline_timers.specs.declared.setup.Start.{Start}
 use Rattle.deadline_timers.specs.declared.setup.Servers.{Servers}
 use Rattle.deadline_timers.specs.declared.setup.Servers.TheVariants.{Absent, StopWithTimer, StopAtPick, StopAtIdle}
 use Rattle.deadline_timers.specs.declared.setup.Setup.{Setup}
@@ -44,9 +47,7 @@ limits_by (Runtime runtime period) =
 
 abbrev pub is_absent : Servers → Bool
 is_absent Absent = true
-is_absent StopWithTimer = false
-is_absent StopAtPick = false
-is_absent StopAtIdle = false
+is_absent _ = false
 
 -- fair_server_init: 50 ms in 1 s
 abbrev pub server_bw_by : FairServer → Servers → ℕ
@@ -61,3 +62,44 @@ limits_at s cpu = if cpu == s.first_cpu then s.first else s.others
 -- extra_bw where only the fair servers were admitted
 abbrev pub first_extra_of : Setup → ℕ → ℕ
 first_extra_of s cpu = less (limits_at s cpu).max_bw (times s.cpus (share_of s.server_bw s.cpus))
+
+-- __pick_task_dl: a fair server stops when it is picked and has no task
+abbrev pub picks_of : Servers → Bool
+picks_of StopAtPick = true
+picks_of _ = false
+
+-- dl_server_stop: with its last fair task
+abbrev pub stops_with_timer_of : Servers → Bool
+stops_with_timer_of StopWithTimer = true
+stops_with_timer_of _ = false
+
+-- where nothing is said: a current kernel, and 950000 us in 1000000 us
+abbrev pub current : Kernel
+current = record { major = 6; minor = 18; patch = 0 }
+
+abbrev pub default_limit : Limit
+default_limit = Runtime (pos 950000) 1000000
+
+-- before 6.5 a limit that is written after the boot reaches the first processor only
+abbrev pub other_limits_by : Kernel → Limits → Limits
+other_limits_by k first = if is_from_of k 6 5 then first else limits_by default_limit
+
+abbrev pub law_for : Options → Kernel → Law
+law_for o k = if o.is_by_documentation then Documentation else law_by_kernel k
+
+abbrev pub fixed_of : Options → Start → Kernel → Setup
+fixed_of o x k = record {
+  law = law_for o k; servers = servers_by k; server_bw = server_bw_by o.fair_server (servers_by k);
+  first = limits_by (unwrap_or o.limit default_limit);
+  others = other_limits_by k (limits_by (unwrap_or o.limit default_limit));
+  first_cpu = fold min (2 ^ 32 - 1) x.domain.items; cpus = length x.domain.items;
+}
+
+-- from 6.12 to 6.16 the sums depend on the boot: a note has to tell them
+abbrev pub wants_sums_of : Servers → Bool
+wants_sums_of s = stops_with_timer_of s || picks_of s
+
+abbrev pub setup_by : Options → Start → Result Setup NoSums
+setup_by o x =
+    let k = unwrap_or o.kernel current in
+    if wants_sums_of (servers_by k) && length x.sums.items == 0 then Err (record { kernel = k }) else Ok (fixed_of o x k)

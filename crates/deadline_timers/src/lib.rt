@@ -5,15 +5,24 @@
 //! bandwidths are units of 2^-20 of a processor; numbers are the kernel's u64 and s64, and wrap.
 #![tactic(auto)]
 
+mod counting;
 mod counts;
+mod events;
 mod machine;
+mod opening;
 mod place;
 mod playing;
 mod setup;
+mod steps;
+mod telling;
+mod terms;
+mod timers;
+mod turns;
 
 pub use counts::{Counts, Rule};
 pub use machine::{Charged, Machine, Outcome, Watch};
-pub use playing::play;
+pub use playing::{play, tell_until};
 pub use setup::{
     FairServer, Limits, NoSums, Options, RunqueueSums, Servers, Setup, Start, setup_of,
 };
+pub use terms::Terms;

@@ -1,12 +1,17 @@
 //! A record, played.
 
+ghost use Rattle.std.specs.Prelude.{◌≡◌, IfOk, drop};
+ghost use Rattle.deadline_timers.specs.Playing.{left_after, observations_of, told_until};
+ghost use Rattle.deadline_timers.specs.States.{state_of};
+
 use crate::machine::{Machine, Outcome, Watch};
 use crate::setup::{Setup, Start};
 use std::alloc::{AllocError, Global};
-use timer_lines::Lines;
+use timer_lines::{Lines, Told};
 
 /// Plays the lines of a record by the kernel's rules, and observes its timers: those that are at most `within` nanoseconds from the
 /// prediction agree.
+#[tactic(auto, unfolding(crate::specs::Playing::observations_of))]
 pub fn play(
     alloc: Global,
     setup: Setup,
@@ -14,7 +19,10 @@ pub fn play(
     lines: &Lines,
     within: u64,
     watch: Option<Watch>,
-) -> Result<Outcome, AllocError> {
+) -> Result<Outcome, AllocError>
+    ensures { IfOk result (λ o. o.observations.items
+        ≡ observations_of setup start.now lines.now within) }
+{
     let mut machine = Machine::new(alloc, setup, start, lines, within, watch)?;
     let mut come = 0usize;
     for kept in &lines.kept {
@@ -24,16 +32,27 @@ pub fn play(
     Ok(machine.finish())
 }
 
-/// The notes from a place on whose moments have come; the place after them.
-fn tell_until(machine: &mut Machine, lines: &Lines, come: usize, at: u64) -> usize {
-    for i in come..lines.told.len() {
-        let Some(told) = lines.told.get(i) else {
-            return i;
-        };
-        if told.moment > at {
+/// Tells the notes from a place on whose moments have come; the place after them.
+pub fn tell_until(machine: &mut Machine, lines: &Lines, come: usize, at: u64) -> usize
+    ensures state { state_of machine.new
+        ≡ told_until at (drop come lines.now.told.items) (state_of machine.old) }
+    ensures rest { drop result lines.now.told.items
+        ≡ left_after at (drop come lines.now.told.items) }
+{
+    tell_some(machine, &lines.told, come, at)
+}
+
+fn tell_some(machine: &mut Machine, told: &[Told], come: usize, at: u64) -> usize
+    ensures state { state_of machine.new
+        ≡ told_until at (drop come told.now) (state_of machine.old) }
+    ensures rest { drop result told.now ≡ left_after at (drop come told.now) }
+{
+    for i in come..told.len() {
+        let x = told[i];
+        if x.moment > at {
             return i;
         }
-        machine.tell(*told);
+        machine.tell(x);
     }
-    lines.told.len().max(come)
+    told.len()
 }

@@ -1,7 +1,7 @@
 //! What is fixed for a record: the kernel's rules, its limits, and the processors of the root domain.
 
-ghost use Rattle.std.specs.Prelude.{◌≡◌};
-ghost use Rattle.deadline_timers.specs.Kernels.{first_extra_of, inverse_of, is_absent, is_from_of, law_by_kernel, limits_at, limits_by, no_limits, server_bw_by, servers_by};
+ghost use Rattle.std.specs.Prelude.{◌≡◌, ◌-◌, ◌^◌, fold, min};
+ghost use Rattle.deadline_timers.specs.Kernels.{first_extra_of, fixed_of, inverse_of, is_absent, is_from_of, law_by_kernel, law_for, limits_at, limits_by, no_limits, other_limits_by, picks_of, server_bw_by, servers_by, setup_by, stops_with_timer_of, wants_sums_of};
 
 use deadline_rules::{BW_UNIT, Law, ratio, share};
 use std::alloc::{AllocError, Global};
@@ -197,6 +197,26 @@ fn are_absent(servers: Servers) -> bool
     }
 }
 
+/// Whether fair servers stop when they are picked.
+pub(crate) fn picks(servers: Servers) -> bool
+    ensures { result ≡ picks_of servers }
+{
+    match servers {
+        Servers::StopAtPick => true,
+        Servers::Absent | Servers::StopWithTimer | Servers::StopAtIdle => false,
+    }
+}
+
+/// Whether fair servers stop with their last fair task.
+pub(crate) fn stops_with_timer(servers: Servers) -> bool
+    ensures { result ≡ stops_with_timer_of servers }
+{
+    match servers {
+        Servers::StopWithTimer => true,
+        Servers::Absent | Servers::StopAtPick | Servers::StopAtIdle => false,
+    }
+}
+
 /// The bandwidth of a fair server (`fair_server_init`: 50 ms in 1 s).
 fn server_bw(server: FairServer, servers: Servers) -> u64
     ensures { result ≡ server_bw_by server servers }
@@ -215,11 +235,15 @@ fn server_bw(server: FairServer, servers: Servers) -> u64
 }
 
 /// Whether the sums of a kernel's runqueues depend on its boot, so that a note has to tell them.
-fn wants_sums(servers: Servers) -> bool {
-    servers == Servers::StopWithTimer || servers == Servers::StopAtPick
+fn wants_sums(servers: Servers) -> bool
+    ensures { result ≡ wants_sums_of servers }
+{
+    stops_with_timer(servers) || picks(servers)
 }
 
-fn law_by(options: Options, kernel: Kernel) -> Law {
+fn law_by(options: Options, kernel: Kernel) -> Law
+    ensures { result ≡ law_for options kernel }
+{
     if options.is_by_documentation {
         Law::Documentation
     } else {
@@ -229,7 +253,9 @@ fn law_by(options: Options, kernel: Kernel) -> Law {
 
 /// The limits of the processors that are not the root domain's first: before 6.5 a limit that was written after the boot reaches the first
 /// one only.
-fn other_limits(kernel: Kernel, limits: Limits) -> Limits {
+fn other_limits(kernel: Kernel, limits: Limits) -> Limits
+    ensures { result ≡ other_limits_by kernel limits }
+{
     if is_from(kernel, 6, 5) {
         limits
     } else {
@@ -237,23 +263,19 @@ fn other_limits(kernel: Kernel, limits: Limits) -> Limits {
     }
 }
 
-fn first_cpu(domain: &[u32]) -> u32 {
-    let mut first = u32::MAX;
-    for cpu in domain {
-        first = first.min(*cpu);
-    }
-    first
+fn first_cpu(domain: &[u32]) -> u32
+    ensures { result ≡ fold min (2 ^ 32 - 1) domain.now }
+{
+    domain.iter().fold(u32::MAX, |first: u32, cpu| first.min(*cpu))
 }
 
-/// What is fixed for a record that begins so.
-pub fn setup_of(options: Options, start: &Start) -> Result<Setup, NoSums> {
-    let kernel = options.kernel.unwrap_or(CURRENT);
+/// What is fixed for a record of this kernel that begins so.
+fn fixed(options: Options, start: &Start, kernel: Kernel) -> Setup
+    ensures { result ≡ fixed_of options start.now kernel }
+{
     let servers = servers_of(kernel);
-    if wants_sums(servers) && start.sums.is_empty() {
-        return Err(NoSums { kernel });
-    }
     let first = limits_of(options.limit.unwrap_or(DEFAULT_LIMIT));
-    Ok(Setup {
+    Setup {
         law: law_by(options, kernel),
         servers,
         server_bw: server_bw(options.fair_server, servers),
@@ -261,7 +283,18 @@ pub fn setup_of(options: Options, start: &Start) -> Result<Setup, NoSums> {
         others: other_limits(kernel, first),
         first_cpu: first_cpu(&start.domain),
         cpus: start.domain.len() as u64,
-    })
+    }
+}
+
+/// What is fixed for a record that begins so. NoSums comes where a kernel's sums depend on its boot, and no note tells them.
+pub fn setup_of(options: Options, start: &Start) -> Result<Setup, NoSums>
+    ensures { result ≡ setup_by options start.now }
+{
+    let kernel = options.kernel.unwrap_or(CURRENT);
+    if wants_sums(servers_of(kernel)) && start.sums.len() == 0 {
+        return Err(NoSums { kernel });
+    }
+    Ok(fixed(options, start, kernel))
 }
 
 impl Setup {
@@ -277,13 +310,17 @@ impl Setup {
     }
 
     /// Lines that say no more than that a CPU idles bear on its fair server.
-    pub fn wants_idle(&self) -> bool {
-        self.servers == Servers::StopAtPick
+    pub fn wants_idle(&self) -> bool
+        ensures { result ≡ picks_of self.now.servers }
+    {
+        picks(self.servers)
     }
 
     /// Lines of cancelled timers bear on fair servers.
-    pub fn wants_cancels(&self) -> bool {
-        self.servers == Servers::StopWithTimer
+    pub fn wants_cancels(&self) -> bool
+        ensures { result ≡ stops_with_timer_of self.now.servers }
+    {
+        stops_with_timer(self.servers)
     }
 
     /// `extra_bw` of a processor where only the fair servers were admitted (`__dl_sub`).

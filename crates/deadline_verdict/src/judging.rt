@@ -1,6 +1,7 @@
 //! Whether a kernel's timers are where its rules put them.
 
 ghost use Rattle.std.specs.Prelude.{◌≡◌, ◌↔◌, All, IsTrue, IfOk, false, position};
+ghost use Rattle.deadline_timers.specs.Playing.{observations_of};
 ghost use Rattle.deadline_verdict.specs.Verdicts.{IsJudged, deviates, is_deviation};
 
 use deadline_timers::{Outcome, Setup, Start, Watch, play};
@@ -58,7 +59,9 @@ pub fn judge(
     lines: &Lines,
     within: u64,
 ) -> Result<Judged, AllocError>
-    ensures { IfOk result (λ j. IsJudged j) }
+    ensures judged { IfOk result (λ j. IsJudged j) }
+    ensures observed { IfOk result (λ j. j.outcome.observations.items
+        ≡ observations_of setup start.now lines.now within) }
 {
     let judged = judged_of(play(alloc, setup, start, lines, within, None)?);
     let Some(watch) = watch_of(&judged) else {

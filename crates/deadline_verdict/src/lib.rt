@@ -2,10 +2,14 @@
 #![tactic(auto)]
 
 mod cause;
+mod charges;
+mod figures;
+mod first;
 mod heading;
 mod judging;
 mod numbers;
 mod table;
+mod tested;
 mod text;
 mod writing;
 

@@ -1,7 +1,7 @@
 //! How many observations there are, and how far they lie from the kernel's timers.
 
-ghost use Rattle.std.specs.Prelude.{◌≡◌};
-ghost use Rattle.deadline_verdict.specs.Verdicts.{is_comparison};
+ghost use Rattle.std.specs.Prelude.{◌≡◌, IfOk, count_by};
+ghost use Rattle.deadline_verdict.specs.Numbers.{AreCounts, comes_to_of, is_kind, number_of};
 
 use std::alloc::{AllocError, Global};
 use timer_rules::{Answer, Kind, Observation};
@@ -31,9 +31,7 @@ impl Numbers {
 }
 
 /// Whether it is compared.
-pub(crate) fn is_compared(answer: Answer) -> bool
-    ensures { result ≡ is_comparison answer }
-{
+pub(crate) fn is_compared(answer: Answer) -> bool {
     match answer {
         Answer::Agrees | Answer::Differs => true,
         Answer::End | Answer::Unknown | Answer::Edge | Answer::Gap => false,
@@ -41,48 +39,67 @@ pub(crate) fn is_compared(answer: Answer) -> bool
 }
 
 /// Whether it is of this kind.
-pub(crate) fn is_of(kind: Kind, observation: &Observation) -> bool {
+pub(crate) fn is_of(kind: Kind, observation: &Observation) -> bool
+    ensures { result ≡ is_kind kind observation.now }
+{
     match (kind, observation.kind) {
         (Kind::Block, Kind::Block) | (Kind::Replenish, Kind::Replenish) => true,
         (Kind::Block, Kind::Replenish) | (Kind::Replenish, Kind::Block) => false,
     }
 }
 
-/// The numbers with one more of this answer.
-fn with(numbers: Numbers, answer: Answer) -> Numbers {
-    let all = numbers.all.saturating_add(1);
+/// Answers by number.
+fn number(answer: Answer) -> u8
+    ensures { result ≡ number_of answer }
+{
     match answer {
-        Answer::Agrees => Numbers {
-            all,
-            agree: numbers.agree.saturating_add(1),
-            ..numbers
-        },
-        Answer::Differs => Numbers {
-            all,
-            differ: numbers.differ.saturating_add(1),
-            ..numbers
-        },
-        Answer::End => Numbers {
-            all,
-            ends: numbers.ends.saturating_add(1),
-            ..numbers
-        },
-        Answer::Unknown => Numbers {
-            all,
-            unknown: numbers.unknown.saturating_add(1),
-            ..numbers
-        },
-        Answer::Edge => Numbers {
-            all,
-            edges: numbers.edges.saturating_add(1),
-            ..numbers
-        },
-        Answer::Gap => Numbers {
-            all,
-            gaps: numbers.gaps.saturating_add(1),
-            ..numbers
-        },
+        Answer::Agrees => 0,
+        Answer::Differs => 1,
+        Answer::End => 2,
+        Answer::Unknown => 3,
+        Answer::Edge => 4,
+        Answer::Gap => 5,
     }
+}
+
+/// Whether an observation of a kind comes to an answer.
+fn comes_to(kind: Kind, answer: Answer, observation: &Observation) -> bool
+    ensures { result ≡ comes_to_of kind answer observation.now }
+{
+    is_of(kind, observation) && number(observation.answer) == number(answer)
+}
+
+/// How many observations of a kind there are.
+fn count_all(observations: &[Observation], kind: Kind) -> u64
+    ensures { result ≡ count_by (is_kind kind) observations.now }
+{
+    observations.iter().filter(|o| is_of(kind, o)).count() as u64
+}
+
+/// How many of them come to an answer.
+fn count(observations: &[Observation], kind: Kind, answer: Answer) -> u64
+    ensures { result ≡ count_by (comes_to_of kind answer) observations.now }
+{
+    observations
+        .iter()
+        .filter(|o| comes_to(kind, answer, o))
+        .count() as u64
+}
+
+/// The differences of those of a kind that are compared, by their size.
+fn differences(
+    alloc: Global,
+    observations: &[Observation],
+    kind: Kind,
+) -> Result<Vec<i64>, AllocError> {
+    let mut differences: Vec<i64> = Vec::new(alloc);
+    for observation in observations {
+        if is_of(kind, observation) && is_compared(observation.answer) {
+            differences.push(observation.difference)?;
+        }
+    }
+    differences.sort_unstable();
+    Ok(differences)
 }
 
 fn at(sorted: &[i64], place: usize) -> i64 {
@@ -94,36 +111,22 @@ pub fn numbers_of(
     alloc: Global,
     observations: &[Observation],
     kind: Kind,
-) -> Result<Numbers, AllocError> {
-    let mut differences: Vec<i64> = Vec::new(alloc);
-    let mut numbers = Numbers {
-        all: 0,
-        agree: 0,
-        differ: 0,
-        ends: 0,
-        unknown: 0,
-        edges: 0,
-        gaps: 0,
-        least: 0,
-        median: 0,
-        high: 0,
-        greatest: 0,
-    };
-    for observation in observations {
-        if is_of(kind, observation) {
-            numbers = with(numbers, observation.answer);
-            if is_compared(observation.answer) {
-                differences.push(observation.difference)?;
-            }
-        }
-    }
-    differences.sort_unstable();
-    let last = differences.len().saturating_sub(1);
+) -> Result<Numbers, AllocError>
+    ensures { IfOk result (λ n. AreCounts n kind observations.now) }
+{
+    let sorted = differences(alloc, observations, kind)?;
+    let last = sorted.len().saturating_sub(1);
     Ok(Numbers {
-        least: at(&differences, 0),
-        median: at(&differences, differences.len() / 2),
-        high: at(&differences, last - last / 100),
-        greatest: at(&differences, last),
-        ..numbers
+        all: count_all(observations, kind),
+        agree: count(observations, kind, Answer::Agrees),
+        differ: count(observations, kind, Answer::Differs),
+        ends: count(observations, kind, Answer::End),
+        unknown: count(observations, kind, Answer::Unknown),
+        edges: count(observations, kind, Answer::Edge),
+        gaps: count(observations, kind, Answer::Gap),
+        least: at(&sorted, 0),
+        median: at(&sorted, sorted.len() / 2),
+        high: at(&sorted, last - last / 100),
+        greatest: at(&sorted, last),
     })
 }

@@ -1,3 +1,3 @@
 pub mod Votes
 pub mod Timers
-pub mod Moments
+pub mod inside

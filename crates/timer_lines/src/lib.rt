@@ -8,6 +8,7 @@ mod before;
 mod event;
 mod lines;
 mod moment;
+mod passing;
 mod record;
 mod vote;
 

@@ -1,7 +1,7 @@
 //! When the kernel took a change that a note tells of.
 
 ghost use Rattle.std.specs.Prelude.{◌≡◌};
-ghost use Rattle.timer_lines.specs.Moments.{near_of, wake_clock_of};
+ghost use Rattle.timer_lines.specs.inside.Moments.{near_of, wake_clock_of};
 
 /// A charge so much before a note may be that within the call.
 const CALL: u64 = 30_000;
@@ -41,7 +41,7 @@ pub struct Passing {
 }
 
 impl Passing {
-    ghost use Rattle.timer_lines.specs.Moments.{calling_of, change_of, charged_of, passing_at_first, told_of};
+    ghost use Rattle.timer_lines.specs.inside.Moments.{calling_of, change_of, charged_of, passing_at_first, told_of};
 
     /// A task of which no line has passed by.
     pub fn new() -> Passing

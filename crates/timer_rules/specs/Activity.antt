@@ -1,26 +1,18 @@
 -- Where a task's bandwidth is, and what is known of its budget.
 use Rattle.std.specs.Prelude.{Bool, true, false}
 use Rattle.timer_rules.specs.declared.activity.Activity.{Activity}
-use Rattle.timer_rules.specs.declared.activity.Activity.TheVariants.{Contending, NonContending, Inactive, Away}
+use Rattle.timer_rules.specs.declared.activity.Activity.TheVariants.{Contending}
 use Rattle.timer_rules.specs.declared.activity.Knowledge.{Knowledge}
-use Rattle.timer_rules.specs.declared.activity.Knowledge.TheVariants.{Known, Unseen, Unknown, Edge, Gap}
+use Rattle.timer_rules.specs.declared.activity.Knowledge.TheVariants.{Known, Unseen}
 
 abbrev pub is_awake_of : Activity → Bool
 is_awake_of Contending = true
-is_awake_of NonContending = false
-is_awake_of Inactive = false
-is_awake_of Away = false
+is_awake_of _ = false
 
 abbrev pub is_known_of : Knowledge → Bool
 is_known_of Known = true
-is_known_of Unseen = false
-is_known_of Unknown = false
-is_known_of Edge = false
-is_known_of Gap = false
+is_known_of _ = false
 
 abbrev pub is_unseen_of : Knowledge → Bool
-is_unseen_of Known = false
 is_unseen_of Unseen = true
-is_unseen_of Unknown = false
-is_unseen_of Edge = false
-is_unseen_of Gap = false
+is_unseen_of _ = false

@@ -3,7 +3,7 @@ use Rattle.std.specs.Prelude.{ℕ, if◌then◌else◌}
 use Rattle.deadline_rules.specs.Clock.{plus, less}
 use Rattle.deadline_rules.specs.Sums.{share_of}
 use Rattle.timer_rules.specs.declared.activity.Activity.{Activity}
-use Rattle.timer_rules.specs.declared.activity.Activity.TheVariants.{Contending, NonContending, Inactive, Away}
+use Rattle.timer_rules.specs.declared.activity.Activity.TheVariants.{Inactive, Away}
 use Rattle.timer_rules.specs.declared.effect.Effect.{Effect}
 use Rattle.timer_rules.specs.declared.runqueue.Runqueue.{Runqueue}
 use Rattle.timer_rules.specs.declared.server.ServerState.{ServerState}
@@ -12,10 +12,9 @@ use Rattle.timer_rules.specs.Server.{is_stopped_of}
 
 -- a task is in this_bw while it is on the runqueue, in running_bw while it contends or its 0-lag time is to come
 abbrev pub effect_by : Activity → ℕ → Effect
-effect_by Contending bw = record { this_bw = bw; running_bw = bw }
-effect_by NonContending bw = record { this_bw = bw; running_bw = bw }
 effect_by Inactive bw = record { this_bw = bw; running_bw = 0 }
 effect_by Away bw = record { this_bw = 0; running_bw = 0 }
+effect_by _ bw = record { this_bw = bw; running_bw = bw }
 
 abbrev pub task_effect_of : Task → Effect
 task_effect_of t = effect_by t.activity t.entity.dl_bw

@@ -48,8 +48,7 @@ admitted_of t moment itself cpu p =
 abbrev pub changed_by : Activity → Task → Entity → ℕ → Task
 changed_by Contending t e moment = record t { entity = if comes_before e.budget.deadline moment then renewed_of e moment else e }
 changed_by NonContending t e moment = record t { entity = e; activity = Inactive }
-changed_by Inactive t e moment = record t { entity = e }
-changed_by Away t e moment = record t { entity = e }
+changed_by _ t e moment = record t { entity = e }
 
 abbrev pub changed_of : Task → ℕ → Parameters → Task
 changed_of t moment p = changed_by t.activity t (reserved_of t.entity p) moment

@@ -5,7 +5,7 @@ use Rattle.trace_words.specs.declared.fixed.Stop.{Stop}
 use Rattle.deadline_rules.specs.Activity.{zero_lag_of}
 use Rattle.deadline_rules.specs.Clock.{plus, less, signed}
 use Rattle.timer_rules.specs.declared.activity.Knowledge.{Knowledge}
-use Rattle.timer_rules.specs.declared.activity.Knowledge.TheVariants.{Known, Unseen, Unknown, Edge, Gap}
+use Rattle.timer_rules.specs.declared.activity.Knowledge.TheVariants.{Known, Edge, Gap}
 use Rattle.timer_rules.specs.declared.observation.Answer.{Answer}
 use Rattle.timer_rules.specs.declared.observation.Answer.TheVariants as answers
 use Rattle.timer_rules.specs.declared.observation.Moments.{Moments}
@@ -28,10 +28,9 @@ next_period_of t = plus (less t.entity.budget.deadline t.entity.parameters.dl_de
 -- a task whose budget and deadline are known is compared, whatever comes of it
 abbrev pub answer_by : Knowledge → ℤ → ℕ → Answer
 answer_by Known difference within = if nat_le (unsigned_abs difference) within then answers.Agrees else answers.Differs
-answer_by Unseen difference within = answers.Unknown
-answer_by Unknown difference within = answers.Unknown
 answer_by Edge difference within = answers.Edge
 answer_by Gap difference within = answers.Gap
+answer_by _ difference within = answers.Unknown
 
 -- the kernel's timer is relative, and its base is read as much later than the charge as its line is
 abbrev pub lag_moments_by : Option Armed → ℕ → ℕ → Moments

@@ -1,7 +1,7 @@
 -- What a line of a record does to a task.
 use Rattle.std.specs.Prelude.{ℕ, Bool, true, false, not, ◌&&◌, ◌||◌, if◌then◌else◌, Option, Some, None, is_some}
 use Rattle.trace_words.specs.declared.fixed.Stop.{Stop}
-use Rattle.trace_words.specs.declared.fixed.Stop.TheVariants.{Ready, Blocks, Ends}
+use Rattle.trace_words.specs.declared.fixed.Stop.TheVariants.{Ready, Ends}
 use Rattle.deadline_rules.specs.Reservation.{fresh_of}
 use Rattle.deadline_rules.specs.Charge.{cost_of}
 use Rattle.deadline_rules.specs.Budget.{charged_of, replenished_of}
@@ -21,16 +21,8 @@ use Rattle.timer_rules.specs.Wakes.{awakened_by, known_after_by}
 
 abbrev pub unseen_task : Task
 unseen_task = record {
-  entity = fresh_of false;
-  cpu = 0;
-  activity = Away;
-  is_admitted = false;
-  knowledge = Unseen;
-  armed = None;
-  exceeded = None;
-  charged = None;
-  blocked = None;
-  is_lag_over = false;
+  entity = fresh_of false; cpu = 0; activity = Away; is_admitted = false; knowledge = Unseen;
+  armed = None; exceeded = None; charged = None; blocked = None; is_lag_over = false;
 }
 
 -- enqueue_task_dl with ENQUEUE_WAKEUP
@@ -40,9 +32,7 @@ woken_by t cpu clock w edge = record t { entity = awakened_by t.entity clock w; 
 -- a ready task's bandwidth goes along; a blocked one is off the sums until it wakes (migrate_task_rq_dl)
 abbrev pub activity_after_move : Activity → Activity
 activity_after_move Contending = Contending
-activity_after_move NonContending = Away
-activity_after_move Inactive = Away
-activity_after_move Away = Away
+activity_after_move _ = Away
 
 abbrev pub moved_of : Task → ℕ → Task
 moved_of t cpu = record t { cpu = cpu; activity = activity_after_move t.activity }
@@ -78,9 +68,7 @@ lag_started_of t at expires = if t.entity.is_in_class then record t { armed = So
 -- inactive_task_timer, of a task of the class
 abbrev pub lag_over_of : Activity → Task → Task
 lag_over_of NonContending t = if t.entity.is_dead then record t { activity = Away; is_admitted = false; is_lag_over = true } else record t { activity = Inactive; is_lag_over = true }
-lag_over_of Contending t = t
-lag_over_of Inactive t = t
-lag_over_of Away t = t
+lag_over_of _ t = t
 
 -- inactive_task_timer
 abbrev pub lag_fired_of : Task → Task
@@ -98,14 +86,12 @@ abbrev pub switched_of : Task → Task
 switched_of t = record t { armed = None }
 
 abbrev pub ends_of : Stop → Bool
-ends_of Ready = false
-ends_of Blocks = false
 ends_of Ends = true
+ends_of _ = false
 
 abbrev pub stays_ready_of : Stop → Bool
 stays_ready_of Ready = true
-stays_ready_of Blocks = false
-stays_ready_of Ends = false
+stays_ready_of _ = false
 
 -- a task that is blocked already did something between, which no line shows
 abbrev pub known_after_block_of : Knowledge → Activity → Knowledge

@@ -41,9 +41,7 @@ waking_by law t begins clock =
 abbrev pub is_tested_of : Waking → Bool
 is_tested_of (Tested w) = true
 is_tested_of Waits = true
-is_tested_of StaysThrottled = false
-is_tested_of Guessed = false
-is_tested_of Sure = false
+is_tested_of _ = false
 
 abbrev pub kind_of_wake : Wake → ℕ
 kind_of_wake Kept = 0
@@ -53,9 +51,7 @@ kind_of_wake Renewed = 2
 abbrev pub kind_of : Waking → ℕ
 kind_of (Tested w) = kind_of_wake w
 kind_of Waits = 3
-kind_of StaysThrottled = 4
-kind_of Guessed = 4
-kind_of Sure = 4
+kind_of _ = 4
 
 -- the rules answer otherwise at two clocks
 unfoldable pub differs_between_of : Law → Entity → ℕ → ℕ → Bool
@@ -76,9 +72,8 @@ is_edge_of law e clock =
 abbrev pub awakened_by : Entity → ℕ → Waking → Entity
 awakened_by e clock StaysThrottled = e
 awakened_by e clock Waits = waiting_of e
-awakened_by e clock Guessed = renewed_of e clock
-awakened_by e clock Sure = renewed_of e clock
 awakened_by e clock (Tested w) = woken_of e clock w
+awakened_by e clock _ = renewed_of e clock
 
 abbrev pub known_after_by : Knowledge → Waking → Bool → Knowledge
 known_after_by k Sure edge = Known

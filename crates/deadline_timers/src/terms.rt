@@ -1,0 +1,15 @@
+//! What is fixed while a record is played.
+
+use crate::setup::Setup;
+
+/// What is fixed while a record is played.
+#[derive(Clone, Copy)]
+pub struct Terms {
+    pub setup: Setup,
+
+    /// The moment of the record's first line.
+    pub begins: u64,
+
+    /// Timers that are at most so many nanoseconds from the prediction agree.
+    pub within: u64,
+}

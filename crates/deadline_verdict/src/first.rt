@@ -1,0 +1,78 @@
+//! The first deviation, in words.
+
+use crate::table::name_of;
+use crate::writing::{put, put_micros, put_number, put_seconds, put_signed};
+use std::alloc::{AllocError, Global};
+use timer_lines::Lines;
+use timer_rules::{Kind, Observation};
+
+/// Appends the first deviation: where it is, both moments, and the task's budget and deadline.
+pub(crate) fn put_first(
+    alloc: Global,
+    out: &mut Vec<u8>,
+    first: &Observation,
+    lines: &Lines,
+    names: &[Vec<u8>],
+) -> Result<(), AllocError> {
+    put(out, b"  first at line ")?;
+    put_number(alloc, out, first.line)?;
+    put(out, b", ")?;
+    put_seconds(alloc, out, first.at)?;
+    put(out, kind_phrase(first.kind))?;
+    put(out, name_of(names, first.task))?;
+    put_pid(alloc, out, lines, first.task)?;
+    put(out, b" on CPU ")?;
+    put_number(alloc, out, u64::from(first.cpu))?;
+    put(out, b"\n")?;
+    put_both_moments(alloc, out, first)?;
+    put_budget(alloc, out, first)
+}
+
+fn kind_phrase(kind: Kind) -> &'static [u8] {
+    match kind {
+        Kind::Block => b", block of ",
+        Kind::Replenish => b", replenishment timer of ",
+    }
+}
+
+fn put_pid(alloc: Global, out: &mut Vec<u8>, lines: &Lines, task: u32) -> Result<(), AllocError> {
+    if let Some(of_task) = lines.tasks.get(task as usize) {
+        put(out, b" (pid ")?;
+        put_number(alloc, out, of_task.pid)?;
+        put(out, b")")?;
+    }
+    Ok(())
+}
+
+fn put_both_moments(
+    alloc: Global,
+    out: &mut Vec<u8>,
+    first: &Observation,
+) -> Result<(), AllocError> {
+    put(out, b"  by the rules its timer fires at ")?;
+    put_seconds(alloc, out, first.predicted)?;
+    match first.kernel {
+        Some(kernel) => {
+            put(out, b", in the kernel at ")?;
+            put_seconds(alloc, out, kernel)?;
+            put(out, b": ")?;
+        }
+        None => put(out, b", the kernel started none: ")?,
+    }
+    put_micros(alloc, out, first.difference)?;
+    put(out, b" us\n")
+}
+
+fn put_budget(alloc: Global, out: &mut Vec<u8>, first: &Observation) -> Result<(), AllocError> {
+    put(out, b"  budget ")?;
+    put_signed(alloc, out, first.runtime)?;
+    put(out, b" ns, deadline ")?;
+    put_seconds(alloc, out, first.deadline)?;
+    put(out, b", this ")?;
+    put_number(alloc, out, first.sums.this_bw)?;
+    put(out, b", running ")?;
+    put_number(alloc, out, first.sums.running_bw)?;
+    put(out, b", extra ")?;
+    put_signed(alloc, out, first.sums.extra_bw.cast_signed())?;
+    put(out, b"\n")
+}
