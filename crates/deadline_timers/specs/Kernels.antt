@@ -89,10 +89,13 @@ law_for o k = if o.is_by_documentation then Documentation else law_by_kernel k
 
 abbrev pub fixed_of : Options → Start → Kernel → Setup
 fixed_of o x k = record {
-  law = law_for o k; servers = servers_by k; server_bw = server_bw_by o.fair_server (servers_by k);
+  law = law_for o k;
+  servers = servers_by k;
+  server_bw = server_bw_by o.fair_server (servers_by k);
   first = limits_by (unwrap_or o.limit default_limit);
   others = other_limits_by k (limits_by (unwrap_or o.limit default_limit));
-  first_cpu = fold min (2 ^ 32 - 1) x.domain.items; cpus = length x.domain.items;
+  first_cpu = fold min (2 ^ 32 - 1) x.domain.items;
+  cpus = length x.domain.items;
 }
 
 -- from 6.12 to 6.16 the sums depend on the boot: a note has to tell them

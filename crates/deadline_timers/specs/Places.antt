@@ -38,7 +38,16 @@ sums_of None taken = record { this_bw = 0; running_bw = 0; extra_bw = 0 }
 -- an observation is of the task as it is at the line
 abbrev pub observation_of : Kept → ℕ → Task → Kind → Moments → Sums → Answer → Observation
 observation_of k number t kind m sums answer = record {
-  line = k.line; at = k.at; cpu = t.cpu; task = number; kind = kind;
-  predicted = m.predicted; kernel = m.kernel; difference = m.difference;
-  runtime = t.entity.budget.runtime; deadline = t.entity.budget.deadline; sums = sums; answer = answer;
+  line = k.line;
+  at = k.at;
+  cpu = t.cpu;
+  task = number;
+  kind = kind;
+  predicted = m.predicted;
+  kernel = m.kernel;
+  difference = m.difference;
+  runtime = t.entity.budget.runtime;
+  deadline = t.entity.budget.deadline;
+  sums = sums;
+  answer = answer;
 }

@@ -24,10 +24,7 @@ pub record State : Type 0 where
   pub seen : List Observation
 
 abbrev pub state_of : Machine → State
-state_of m = record {
-  terms = m.terms; tasks = m.tasks.items; runqueues = m.runqueues.items;
-  taken = m.taken; owners = m.owners.items; seen = m.observations.items;
-}
+state_of m = record { terms = m.terms; tasks = m.tasks.items; runqueues = m.runqueues.items; taken = m.taken; owners = m.owners.items; seen = m.observations.items }
 
 -- a task becomes another
 unfoldable pub replaced : ℕ → Task → State → State
@@ -79,7 +76,4 @@ is_number None b = false
 
 -- what a charge on a CPU reads
 abbrev pub runqueue_for : ℕ → State → Charging
-runqueue_for cpu m = record {
-  sums = sums_of (slice_get m.runqueues cpu) m.taken;
-  max_bw = (limits_at m.terms.setup cpu).max_bw; bw_ratio = (limits_at m.terms.setup cpu).bw_ratio;
-}
+runqueue_for cpu m = record { sums = sums_of (slice_get m.runqueues cpu) m.taken; max_bw = (limits_at m.terms.setup cpu).max_bw; bw_ratio = (limits_at m.terms.setup cpu).bw_ratio }

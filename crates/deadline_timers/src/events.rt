@@ -16,8 +16,8 @@ use deadline_rules::{Runqueue, charging, cost};
 use std::alloc::AllocError;
 use timer_lines::{Kept, TaskLines};
 use timer_rules::{
-    Answer, Kind, Observation, ServerState, Task, after_idle, block_answer,
-    block_moments, ends, refilled, refills, stays_ready, waking_of,
+    Answer, Kind, Observation, ServerState, Task, after_idle, block_answer, block_moments, ends,
+    refilled, refills, stays_ready, waking_of,
 };
 use trace_words::{Parameters, Stop};
 

@@ -1,8 +1,8 @@
 //! The tasks and runqueues of a record before its first line.
 
-ghost use Rattle.std.specs.Prelude.{◌≡◌, ◌+◌, ◌==◌, IfOk, find, fold, is_some, map, max, position, reverse};
+ghost use Rattle.std.specs.Prelude.{◌≡◌, IfOk, None, fold, is_some, map, max, position};
 ghost use Rattle.std.specs.List.{range_with_len};
-ghost use Rattle.deadline_timers.specs.Opening.{first_owner, first_runqueue, first_state, cpus_of, runs_at_first, server_owner, starts_server, starts_with_start, task_owner, told_runqueue, untold_runqueue};
+ghost use Rattle.deadline_timers.specs.Opening.{first_owner, first_runqueue, first_state, cpus_of, later_of, opened, runs_at_first, server_owner, starts_server, starts_with_start, task_owner, told_runqueue, untold_runqueue};
 ghost use Rattle.deadline_timers.specs.States.{state_of};
 ghost use Rattle.timer_rules.specs.Tasks.{unseen_task};
 
@@ -12,7 +12,7 @@ use crate::place::is_it;
 use crate::setup::{RunqueueSums, Setup, Start};
 use crate::terms::Terms;
 use std::alloc::{AllocError, Global};
-use timer_lines::{FirstLine, Lines, TimerLines};
+use timer_lines::{FirstLine, Lines, TaskLines, TimerLines};
 use timer_rules::{Runqueue, ServerState, Task, unseen};
 use trace_words::Sums;
 
@@ -73,19 +73,32 @@ fn told(setup: &Setup, sums: Sums) -> Runqueue
 
 /// The sums of a CPU that the last note of it tells.
 fn sums_told(notes: &[RunqueueSums], cpu: u32) -> Option<RunqueueSums>
-    ensures { result ≡ find (λ x. x.cpu == cpu) (reverse notes.now) }
+    ensures { result ≡ fold (later_of cpu) None notes.now }
 {
-    notes.iter().rev().find(|note| note.cpu == cpu).copied()
+    notes
+        .iter()
+        .fold(None, |found, note| later(cpu, found, *note))
+}
+
+/// The later of two notes that is of a CPU.
+fn later(cpu: u32, found: Option<RunqueueSums>, note: RunqueueSums) -> Option<RunqueueSums>
+    ensures { result ≡ later_of cpu found note }
+{
+    if note.cpu == cpu { Some(note) } else { found }
+}
+
+/// The timer of a CPU's fair server that begins with a start, by its place.
+fn first_start(timers: &[TimerLines], cpu: u32) -> Option<usize>
+    ensures { result ≡ position (starts_server cpu) timers.now }
+{
+    timers.iter().position(|timer| is_started(timer, cpu))
 }
 
 /// Whether the timer of a CPU's fair server begins with a start: it was stopped before.
 fn was_stopped(timers: &[TimerLines], cpu: u32) -> bool
     ensures { result ≡ is_some (position (starts_server cpu) timers.now) }
 {
-    timers
-        .iter()
-        .position(|timer| is_started(timer, cpu))
-        .is_some()
+    first_start(timers, cpu).is_some()
 }
 
 /// A runqueue as a record begins.
@@ -122,7 +135,7 @@ fn runqueues(
 ) -> Result<Vec<Runqueue>, AllocError>
     ensures { IfOk result (λ v. v.items
         ≡ map (first_runqueue setup.now start.now.sums.items timers.now)
-            (range_with_len 0 (cpus_of start.now))) }
+        (range_with_len 0 (cpus_of start.now))) }
 {
     let last = greatest(&start.domain).max(greatest_told(&start.sums));
     (0..last.saturating_add(1))
@@ -149,6 +162,7 @@ fn owner_of_server(number: Option<u32>) -> Owner
 }
 
 /// Whose a timer is from the beginning.
+#[tactic(auto, unfolding(crate::specs::Opening::first_owner))]
 fn first_owner_of(timer: &TimerLines) -> Owner
     ensures { result ≡ first_owner timer.now }
 {
@@ -169,6 +183,38 @@ fn owners(alloc: Global, timers: &[TimerLines]) -> Result<Vec<Owner>, AllocError
         .collect(alloc)
 }
 
+/// The tasks, of which no line has shown one.
+fn unseen_tasks(alloc: Global, tasks: &[TaskLines]) -> Result<Vec<Task>, AllocError>
+    ensures { IfOk result (λ v. v.items ≡ map (λ y. unseen_task) tasks.now) }
+{
+    tasks.iter().map(|_| unseen()).collect(alloc)
+}
+
+/// The machine with these tasks, runqueues and owners of timers.
+#[tactic(auto, unfolding(crate::specs::Opening::opened))]
+fn machine_of(
+    alloc: Global,
+    terms: Terms,
+    tasks: Vec<Task>,
+    runqueues: Vec<Runqueue>,
+    owners: Vec<Owner>,
+    watch: Option<Watch>,
+) -> Machine
+    ensures { state_of result ≡ opened terms tasks.items runqueues.items owners.items }
+{
+    Machine {
+        terms,
+        tasks,
+        runqueues,
+        taken: 0,
+        owners,
+        observations: Vec::new(alloc),
+        counts: Counts::new(),
+        charges: Vec::new(alloc),
+        watch,
+    }
+}
+
 impl Machine {
     /// The machine before the first line.
     #[tactic(auto, unfolding(crate::specs::Opening::first_state))]
@@ -182,23 +228,14 @@ impl Machine {
     ) -> Result<Machine, AllocError>
         ensures { IfOk result (λ m. state_of m ≡ first_state setup start.now lines.now within) }
     {
-        let tasks: Vec<Task> = lines.tasks.iter().map(|_| unseen()).collect(alloc)?;
+        let tasks = unseen_tasks(alloc, &lines.tasks)?;
         let runqueues = runqueues(alloc, &setup, start, &lines.timers)?;
         let owners = owners(alloc, &lines.timers)?;
-        Ok(Machine {
-            terms: Terms {
-                setup,
-                begins: lines.begins.unwrap_or(0),
-                within,
-            },
-            tasks,
-            runqueues,
-            taken: 0,
-            owners,
-            observations: Vec::new(alloc),
-            counts: Counts::new(),
-            charges: Vec::new(alloc),
-            watch,
-        })
+        let terms = Terms {
+            setup,
+            begins: lines.begins.unwrap_or(0),
+            within,
+        };
+        Ok(machine_of(alloc, terms, tasks, runqueues, owners, watch))
     }
 }

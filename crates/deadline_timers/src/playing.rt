@@ -1,7 +1,7 @@
 //! A record, played.
 
-ghost use Rattle.std.specs.Prelude.{◌≡◌, IfOk, drop};
-ghost use Rattle.deadline_timers.specs.Playing.{left_after, observations_of, told_until};
+ghost use Rattle.std.specs.Prelude.{◌≡◌, IfOk, OnOk, drop};
+ghost use Rattle.deadline_timers.specs.Playing.{left_after, observations_of, played, told_until};
 ghost use Rattle.deadline_timers.specs.States.{state_of};
 
 use crate::machine::{Machine, Outcome, Watch};
@@ -24,12 +24,22 @@ pub fn play(
         ≡ observations_of setup start.now lines.now within) }
 {
     let mut machine = Machine::new(alloc, setup, start, lines, within, watch)?;
+    play_lines(&mut machine, lines)?;
+    Ok(machine.finish())
+}
+
+/// Plays each line, after the notes whose moments have come.
+fn play_lines(machine: &mut Machine, lines: &Lines) -> Result<(), AllocError>
+    ensures { OnOk result (state_of machine.new
+        ≡ played lines.now.tasks.items lines.now.told.items lines.now.kept.items
+        (state_of machine.old)) }
+{
     let mut come = 0usize;
     for kept in &lines.kept {
-        come = tell_until(&mut machine, lines, come, kept.at);
+        come = tell_until(machine, lines, come, kept.at);
         machine.step(lines, *kept)?;
     }
-    Ok(machine.finish())
+    Ok(())
 }
 
 /// Tells the notes from a place on whose moments have come; the place after them.

@@ -266,7 +266,9 @@ fn other_limits(kernel: Kernel, limits: Limits) -> Limits
 fn first_cpu(domain: &[u32]) -> u32
     ensures { result ≡ fold min (2 ^ 32 - 1) domain.now }
 {
-    domain.iter().fold(u32::MAX, |first: u32, cpu| first.min(*cpu))
+    domain
+        .iter()
+        .fold(u32::MAX, |first: u32, cpu| first.min(*cpu))
 }
 
 /// What is fixed for a record of this kernel that begins so.

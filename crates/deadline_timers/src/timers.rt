@@ -67,7 +67,7 @@ impl Machine {
     )
         ensures { state_of self.new
             ≡ lag_started_by (own_timer_of tasks.now timer running) kept timer expires
-                (state_of self.old) }
+            (state_of self.old) }
     {
         match own_timer(tasks, timer, running) {
             Some(number) => {
@@ -111,7 +111,7 @@ impl Machine {
     ) -> Result<(), AllocError>
         ensures { OnOk result (state_of self.new
             ≡ replenish_started_by (owner_at timer (state_of self.old)) kept expires
-                (state_of self.old)) }
+            (state_of self.old)) }
     {
         match self.owner(timer) {
             Owner::Nobody => Ok(()),

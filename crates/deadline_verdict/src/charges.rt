@@ -9,7 +9,11 @@ use timer_rules::{Kind, Observation};
 use trace_words::Parameters;
 
 /// Appends the charges since the wake of the task, with the rate and the three sums of each.
-pub(crate) fn put_charges(alloc: Global, out: &mut Vec<u8>, charges: &[Charged]) -> Result<(), AllocError> {
+pub(crate) fn put_charges(
+    alloc: Global,
+    out: &mut Vec<u8>,
+    charges: &[Charged],
+) -> Result<(), AllocError> {
     for charged in charges {
         put_charge(alloc, out, charged)?;
     }

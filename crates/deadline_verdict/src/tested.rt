@@ -25,7 +25,11 @@ pub(crate) fn put_item(
 }
 
 /// Appends which rules the record put to the test.
-pub(crate) fn put_tested(alloc: Global, out: &mut Vec<u8>, counts: &Counts) -> Result<(), AllocError> {
+pub(crate) fn put_tested(
+    alloc: Global,
+    out: &mut Vec<u8>,
+    counts: &Counts,
+) -> Result<(), AllocError> {
     put(out, b"put to the test: ")?;
     let first = put_charges_tested(alloc, out, counts)?;
     let first = put_wakes_tested(alloc, out, first, counts)?;

@@ -19,11 +19,8 @@ use Rattle.timer_rules.specs.Activity.{is_awake_of, is_unseen_of}
 use Rattle.timer_rules.specs.Throttle.{has_budget_of, held_of, held_back_by}
 use Rattle.timer_rules.specs.Wakes.{awakened_by, known_after_by}
 
-abbrev pub unseen_task : Task
-unseen_task = record {
-  entity = fresh_of false; cpu = 0; activity = Away; is_admitted = false; knowledge = Unseen;
-  armed = None; exceeded = None; charged = None; blocked = None; is_lag_over = false;
-}
+unfoldable pub unseen_task : Task
+unseen_task = record { entity = fresh_of false; cpu = 0; activity = Away; is_admitted = false; knowledge = Unseen; armed = None; exceeded = None; charged = None; blocked = None; is_lag_over = false }
 
 -- enqueue_task_dl with ENQUEUE_WAKEUP
 abbrev pub woken_by : Task → ℕ → ℕ → Waking → Bool → Task

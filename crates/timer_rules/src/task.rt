@@ -49,6 +49,7 @@ pub struct Task {
 }
 
 /// A task without a reservation, which no line has shown.
+#[tactic(auto, unfolding(crate::specs::Tasks::unseen_task))]
 pub fn unseen() -> Task
     ensures { result ≡ unseen_task }
 {
