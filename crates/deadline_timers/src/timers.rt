@@ -87,7 +87,8 @@ impl Machine {
     /// `inactive_task_timer` fires.
     #[tactic(auto, unfolding(crate::specs::Events::lag_fired_by, crate::specs::Events::edited))]
     pub(crate) fn fire_lag(&mut self, timer: u32)
-        ensures { state_of self.new ≡ lag_fired_by (owner_at timer (state_of self.old)) (state_of self.old) }
+        ensures { state_of self.new
+            ≡ lag_fired_by (owner_at timer (state_of self.old)) (state_of self.old) }
     {
         match self.owner(timer) {
             Owner::Nobody => {}
@@ -128,7 +129,8 @@ impl Machine {
 
     #[tactic(auto, unfolding(crate::specs::Events::edited))]
     fn hold(&mut self, kept: Kept, number: u32)
-        ensures { state_of self.new ≡ edited (λ t. at_hold_of t kept.at) number (state_of self.old) }
+        ensures { state_of self.new
+            ≡ edited (λ t. at_hold_of t kept.at) number (state_of self.old) }
     {
         let Some(task) = self.task(number) else {
             return;
@@ -192,7 +194,8 @@ impl Machine {
     /// A timer is cancelled.
     #[tactic(auto, unfolding(crate::specs::Events::cancelled_by))]
     pub(crate) fn cancel(&mut self, timer: u32)
-        ensures { state_of self.new ≡ cancelled_by (owner_at timer (state_of self.old)) (state_of self.old) }
+        ensures { state_of self.new
+            ≡ cancelled_by (owner_at timer (state_of self.old)) (state_of self.old) }
     {
         if let Owner::Server(cpu) = self.owner(timer) {
             if stops_with_timer(self.terms.setup.servers) {
