@@ -2,9 +2,9 @@
 """Which definitions a reader must trust: those that public contracts reach, and how many lines they have, crate by crate.
 
 In each crate specs/ holds these and nothing else; definitions that only proofs and private functions need lie in
-specs/inside/; and docs/READING.md names each file of the former. No line of a contract has more than 100 columns. In the crates
-of UNMENDED the first and the last are remarks, which do not fail. The last line is 'N passed, M failed': a definition at its
-place, or not. With --list it prints each trusted definition with its crate and module. With --of CRATE.. it only counts what the public contracts of these crates reach.
+specs/inside/; and docs/READING.md names each file of the former. No line of a contract has more than 100 columns. The first
+and the last fail in the crates whose names begin as HELD says, and are remarks elsewhere. The last line is 'N passed, M failed': a
+definition at its place, or not. With --list it prints each trusted definition with its crate and module. With --of CRATE.. it only counts what the public contracts of these crates reach.
 """
 import os
 import re
@@ -16,7 +16,7 @@ HEAD = re.compile(r"^(?:(?:abbrev|unfoldable|opaque|instance|pub)\s+)+(?:(?:reco
 INNER = {"data": re.compile(r"\s+(?:pub\s+)?([\w']+)\s*:"), "module": re.compile(r"  (?:abbrev |unfoldable )?pub (?:record |data )?([\w']+)")}
 IMPORT = re.compile(r"\buse\s+Rattle\.(\w+)\.specs\.([\w.]+?)(?:\.\{([^}]*)\}|\s+as\s+(\w+))?\s*;?\s*$", re.M)
 WIDEST = 100
-UNMENDED = {"deadline_machine", "deadline_rules", "exact_words", "record_line", "trace_line", "trace_probes", "trace_reader"}
+HELD = ("grub", "timer_lines", "timer_rules", "deadline_events", "deadline_laws", "deadline_timers", "deadline_verdict", "neddwyrol")
 PUBLIC_USE = re.compile(r"\bpub use ([\w:]+)(?:::\{([^}]*)\})?;", re.S)
 
 
@@ -239,7 +239,7 @@ def too_wide():
 
 def word_for(crate):
     """How a line begins that tells of a crate."""
-    return "remark" if crate in UNMENDED else "trusted"
+    return "trusted" if crate.startswith(HELD) else "remark"
 
 
 def count(reached):
@@ -275,8 +275,8 @@ def main():
     for it in wide:
         print(f"{word_for(it.split('/')[1])}: {it} has more than {WIDEST} columns")
     count(reached)
-    left = [it for it in wrong if it.crate not in UNMENDED]
-    failed = len(left) + len(missing) + sum(it.split("/")[1] not in UNMENDED for it in wide)
+    left = [it for it in wrong if it.crate.startswith(HELD)]
+    failed = len(left) + len(missing) + sum(it.split("/")[1].startswith(HELD) for it in wide)
     print(f"{len(definitions) - len(left)} passed, {failed} failed")
     return 1 if failed else 0
 
