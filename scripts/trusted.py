@@ -3,8 +3,9 @@
 
 In each crate specs/ holds these and nothing else; definitions that only proofs and private functions need lie in
 specs/inside/; and docs/READING.md names each file of the former. No line of a contract has more than 100 columns. The first
-and the last fail in the crates whose names begin as HELD says, and are remarks elsewhere. The last line is 'N passed, M failed': a
-definition at its place, or not. With --list it prints each trusted definition with its crate and module. With --of CRATE.. it only counts what the public contracts of these crates reach.
+and the last fail in the crates whose names begin as HELD says, and are remarks elsewhere. The last line is 'N passed, M failed':
+a definition at its place, or not. With --list it prints each trusted definition with its crate and module. With --of CRATE.. it
+only counts what the public contracts of these crates reach.
 """
 import os
 import re
@@ -16,7 +17,7 @@ HEAD = re.compile(r"^(?:(?:abbrev|unfoldable|opaque|instance|pub)\s+)+(?:(?:reco
 INNER = {"data": re.compile(r"\s+(?:pub\s+)?([\w']+)\s*:"), "module": re.compile(r"  (?:abbrev |unfoldable )?pub (?:record |data )?([\w']+)")}
 IMPORT = re.compile(r"\buse\s+Rattle\.(\w+)\.specs\.([\w.]+?)(?:\.\{([^}]*)\}|\s+as\s+(\w+))?\s*;?\s*$", re.M)
 WIDEST = 100
-HELD = ("grub", "timer_lines", "timer_rules", "deadline_events", "deadline_laws", "deadline_timers", "deadline_verdict", "neddwyrol")
+HELD = ("grub", "timer_lines", "timer_rules", "deadline_events", "deadline_laws", "deadline_timers", "deadline_verdict")
 PUBLIC_USE = re.compile(r"\bpub use ([\w:]+)(?:::\{([^}]*)\})?;", re.S)
 
 
