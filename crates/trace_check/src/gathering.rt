@@ -21,6 +21,9 @@ pub(crate) struct Gathering<'o> {
     pub head: Head,
     pub names: Names,
 
+    /// The pid of the last line that showed a task.
+    last: Option<u64>,
+
     /// Of each given task, whether a line has shown it.
     found: Vec<bool>,
 
@@ -68,6 +71,7 @@ impl<'o> Gathering<'o> {
             options,
             head: Head::new(alloc),
             names: Names::new(alloc),
+            last: None,
             found,
             record: None,
             has_timers: false,
@@ -148,7 +152,8 @@ impl<'o> Gathering<'o> {
 
     /// A line shows this pid with this comm.
     fn show(&mut self, pid: u64, comm: &[u8]) -> Result<(), AllocError> {
-        if self.names.has(pid) {
+        if self.last == Some(pid) || self.names.has(pid) {
+            self.last = Some(pid);
             return Ok(());
         }
         self.names.show(self.alloc, pid, comm)?;
