@@ -3,7 +3,7 @@
 ghost use Rattle.std.specs.Prelude.{◌≡◌, option_map};
 ghost use Rattle.record_line.specs.Fixed.{address, address_field, alone, cancelled, fired, migrated, migrated_with, ran, started, started_deadline, stop_in, stop_of, switched, switched_from, switched_to, woken, woken_with};
 ghost use Rattle.record_line.specs.inside.Texts.{named_text};
-ghost use Rattle.trace_line.specs.inside.Events.{shown_text};
+ghost use Rattle.trace_line.specs.Texts.{shown_text};
 ghost use Rattle.trace_line.specs.Words.{text_of};
 
 use trace_line::{Shown, after, cpu_field, deadline_field, number_field, shown_by, value_of};
@@ -111,7 +111,8 @@ fn switched_to<'a>(
     stop: Stop,
     rest: &'a [u8],
 ) -> Option<Named<&'a [u8]>>
-    ensures { option_map named_text result ≡ switched_to (shown_text task.entry) is_deadline stop rest.now }
+    ensures { option_map named_text result
+        ≡ switched_to (shown_text task.entry) is_deadline stop rest.now }
 {
     let next_pid = number_field(b"next_pid=", rest)?;
     let next_is_deadline = deadline_field(b"next_prio=", rest)?;

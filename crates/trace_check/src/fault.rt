@@ -155,7 +155,8 @@ fn tell_unknown<E: Write>(
     pid: u64,
 ) -> io::Result<()>
     ensures { OnOk result
-        (Appends (E.contents to.old) (E.contents to.new) (unknown_line path.now line comm.now pid)) }
+        (Appends (E.contents to.old) (E.contents to.new)
+        (unknown_line path.now line comm.now pid)) }
 {
     tell_at(to, path, line, b"50 UnknownTask ")?;
     to.write_all(comm)?;

@@ -1,7 +1,8 @@
 pub mod Numbers
 pub mod Words
 pub mod Opening
+pub mod OpeningFits
 pub mod Head
 pub mod Events
 pub mod Lines
-pub mod inside
+pub mod Texts
