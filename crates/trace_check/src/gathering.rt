@@ -136,7 +136,16 @@ impl<'o> Gathering<'o> {
         }
     }
 
+    /// Whether the verdict is by lines of probes: lines of timers are not kept then.
+    fn plays_probes(&self) -> bool {
+        self.probes.has_lines() && !self.options.by_timers
+    }
+
+    /// Takes a line of a probe.
     fn probe(&mut self, kept: Kept) -> Result<(), AllocError> {
+        if self.plays_probes() {
+            self.record = None;
+        }
         self.head.greatest_cpu = self.head.greatest_cpu.max(kept.cpu);
         self.probes.take(kept, &self.head, self.options, &self.names)
     }
@@ -274,6 +283,9 @@ impl<'o> Gathering<'o> {
         fixed: Fixed,
     ) -> Result<(), AllocError> {
         self.head.greatest_cpu = self.head.greatest_cpu.max(cpu).max(cpu_of(&fixed));
+        if self.plays_probes() {
+            return Ok(());
+        }
         self.has_timers = self.has_timers || matches!(fixed, Fixed::TimerStarted { .. });
         self.begin()?;
         match &mut self.record {
@@ -296,7 +308,7 @@ impl<'o> Gathering<'o> {
     }
 
     fn unlisted(&self) -> Option<Unlisted> {
-        if self.has_notes || self.probes.has_lines() && !self.options.by_timers {
+        if self.has_notes || self.plays_probes() {
             return None;
         }
         match &self.record {
