@@ -6,6 +6,7 @@ use Rattle.trace_line.specs.Words.{without_spaces}
 use Rattle.trace_line.specs.Opening.{opening_of, running, running_comm}
 use Rattle.trace_line.specs.Head.{is_comment, is_lost, processors}
 use Rattle.trace_line.specs.declared.event.Shown.{Shown}
+use Rattle.trace_line.specs.declared.opening.CpuWord.{CpuWord}
 use Rattle.trace_line.specs.declared.opening.Opening.{Opening}
 use Rattle.trace_probes.specs.Shown.{probe_of}
 use Rattle.trace_probes.specs.declared.shown.ProbeEvent.{ProbeEvent}
@@ -143,13 +144,14 @@ abbrev pub told_running : Opening → ℕ → ℕ → Verb → List ℕ → List
 told_running opening grain cpu verb fields front pid =
     option_map (λ named. checked opening.at grain cpu pid named) (said_by verb fields front pid)
 
+-- what a line of an event tells whose CPU stands there
+abbrev pub told_at : List ℕ → Opening → Verb → List ℕ → CpuWord → Option (Told (List ℕ))
+told_at text opening verb fields c =
+    option_and_then (told_running opening (grain_of (take opening.end text)) c.cpu verb fields (take c.start text)) (running (take c.start text))
+
 -- what a line of an event tells
 abbrev pub told_said : List ℕ → Opening → Verb → List ℕ → Option (Told (List ℕ))
-told_said text opening verb fields =
-    option_and_then
-        (λ c. let front = take c.start text in
-            option_and_then (λ pid. told_running opening (grain_of (take opening.end text)) c.cpu verb fields front pid) (running front))
-        opening.cpu
+told_said text opening verb fields = option_and_then (told_at text opening verb fields) opening.cpu
 
 abbrev pub said_or_bad : Option (Told (List ℕ)) → Told (List ℕ)
 said_or_bad None = told_line (line.Flawed BadTraceLine)

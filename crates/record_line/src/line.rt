@@ -241,12 +241,7 @@ fn probed<'a>(
 }
 
 /// What the fields of an event say, while the task of this pid runs; none where one is missing or wrong.
-fn said_by<'a>(
-    verb: Verb,
-    fields: &'a [u8],
-    front: &'a [u8],
-    pid: u64,
-) -> Option<Named<&'a [u8]>>
+fn said_by<'a>(verb: Verb, fields: &'a [u8], front: &'a [u8], pid: u64) -> Option<Named<&'a [u8]>>
     ensures { option_map named_text result ≡ said_by verb fields.now front.now pid }
 {
     match verb {

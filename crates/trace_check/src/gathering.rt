@@ -147,7 +147,8 @@ impl<'o> Gathering<'o> {
             self.record = None;
         }
         self.head.greatest_cpu = self.head.greatest_cpu.max(kept.cpu);
-        self.probes.take(kept, &self.head, self.options, &self.names)
+        self.probes
+            .take(kept, &self.head, self.options, &self.names)
     }
 
     /// The CPUs of the root domain, as a note lists them.

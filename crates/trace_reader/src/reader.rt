@@ -27,7 +27,7 @@ pub trait Lines {
     fn take(&mut self, number: u64, told: &Told<&[u8]>) -> Result<bool, AllocError>
         ensures { IfOk result
             (λ more. after_of more (seen self.new)
-                ≡ step number (told_text told.now) (seen self.old)) };
+            ≡ step number (told_text told.now) (seen self.old)) };
 }
 
 /// The line at which a text is read no further.
