@@ -2,7 +2,7 @@
 
 ghost use Rattle.std.specs.Prelude.{◌≡◌, ◌==◌, ◌++◌, ◌∷◌, [], List, OnOk, map, position};
 ghost use Rattle.grub_facts.specs.Census.{Tally, census_text, seen, sighting_of, tallied, tally_first, tally_step, tally_text, tally_with};
-ghost use Rattle.trace_line.specs.Texts.{event_text};
+ghost use Rattle.trace_line.specs.inside.Events.{event_text};
 ghost use Rattle.grub_facts.specs.inside.Sightings.{sighting_text};
 
 use crate::counted::Counted;

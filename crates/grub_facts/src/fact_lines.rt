@@ -2,7 +2,7 @@
 
 ghost use Rattle.std.specs.Prelude.{◌≡◌, IfOk, map};
 ghost use Rattle.trace_line.specs.Head.{is_comment};
-ghost use Rattle.trace_line.specs.Texts.{said_text};
+ghost use Rattle.trace_line.specs.inside.Events.{said_text};
 ghost use Rattle.grub_facts.specs.Keeping.{told_text};
 ghost use Rattle.grub_facts.specs.inside.Keeping.{after_of};
 ghost use Rattle.grub_facts.specs.Reading.{Told, counted, event_step, fact_step, head_counts, head_line, is_bad_count, is_head, is_start, line_counts, no_counts, other_line, runqueues_of, runqueues_told, told_first};

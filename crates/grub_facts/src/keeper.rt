@@ -1,7 +1,7 @@
 //! The facts of the given tasks.
 
 ghost use Rattle.std.specs.Prelude.{◌≡◌, ◌++◌, [], IfOk, OnOk, Some, map, option_map};
-ghost use Rattle.trace_line.specs.Texts.{event_text, said_text, shown_text};
+ghost use Rattle.trace_line.specs.inside.Events.{event_text, said_text, shown_text};
 ghost use Rattle.grub_facts.specs.Faults.{problem_of};
 ghost use Rattle.grub_facts.specs.Given.{Task, fact_told, finding_text, move_trouble, noted_by, problem_of_trouble, tasks_given, tasks_text, trouble_of, trouble_told, wake_trouble, what_told, woken_by};
 ghost use Rattle.grub_facts.specs.Keeping.{noted_text};

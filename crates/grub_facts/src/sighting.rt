@@ -2,7 +2,7 @@
 
 ghost use Rattle.std.specs.Prelude.{◌≡◌, option_map};
 ghost use Rattle.grub_facts.specs.Census.{blocks_of, sighting_of};
-ghost use Rattle.trace_line.specs.Texts.{event_text};
+ghost use Rattle.trace_line.specs.inside.Events.{event_text};
 ghost use Rattle.grub_facts.specs.inside.Sightings.{sighting_text};
 
 use crate::fact::Stop;

@@ -1,7 +1,7 @@
 //! The tasks that were given, and what lines show of them.
 
 ghost use Rattle.std.specs.Prelude.{◌≡◌, ◌<◌, ◌++◌, ◌∷◌, [], IfOk, IfSome, OnOk, if◌then◌else◌, map, option_map, position, vec_len};
-ghost use Rattle.trace_line.specs.Texts.{event_text, shown_text};
+ghost use Rattle.trace_line.specs.inside.Events.{event_text, shown_text};
 ghost use Rattle.grub_facts.specs.Given.{Task, arming, disowned, finding_text, given_by, given_text, has_pid, has_timer, index_of, index_of_comm, index_of_timer, index_shown, index_told, is_sugov, seeks, settled, showing, shown_index, tasks_after, tasks_given, tasks_text};
 ghost use Rattle.trace_line.specs.Numbers.{number};
 ghost use Rattle.trace_line.specs.Words.{text_of};

@@ -5,7 +5,7 @@ ghost use Rattle.grub_text.specs.Lines.{word_of};
 ghost use Rattle.memchr.specs.Find.{is_byte};
 ghost use Rattle.trace_line.specs.Head.{is_lost};
 ghost use Rattle.trace_line.specs.Opening.{opening_of};
-ghost use Rattle.trace_line.specs.OpeningFits.{StartsWithin};
+ghost use Rattle.trace_line.specs.inside.OpeningFits.{StartsWithin};
 ghost use Rattle.record_line.specs.Lines.{checked, comment_line, drift, event_line, fixed_cpu, flaw_of, grain_behind, grain_of, head_line, line_behind, note_cpu, note_line, noted_line, probe_cpu, probed, said_by, said_cpu, told_by, told_line, told_said};
 ghost use Rattle.record_line.specs.inside.Texts.{named_text, noted_text};
 ghost use Rattle.record_line.specs.ToldTexts.{told_text};

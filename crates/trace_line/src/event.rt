@@ -2,8 +2,8 @@
 
 ghost use Rattle.std.specs.Prelude.{◌≡◌, ◌≤◌, length, option_map};
 ghost use Rattle.trace_line.specs.Events.{armed, bare, cancelled, event_of, expired, is_zero_lag, migrated, migrated_with, ran, said_of, shown_at, shown_by, started, switched, switched_with, verb_named, verb_of, woken, woken_with};
-ghost use Rattle.trace_line.specs.Texts.{event_text, said_text, shown_text, shown_with_text};
-ghost use Rattle.trace_line.specs.OpeningFits.{StartsWithin};
+ghost use Rattle.trace_line.specs.inside.Events.{event_text, said_text, shown_text, shown_with_text};
+ghost use Rattle.trace_line.specs.inside.OpeningFits.{StartsWithin};
 
 use crate::decimal::before_end;
 use crate::field::{behind, cpu_field, deadline_field, number_field, place_of, value_of};

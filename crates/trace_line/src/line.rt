@@ -1,11 +1,11 @@
 //! What a line of a trace tells, whatever tasks were given.
 
 ghost use Rattle.std.specs.Prelude.{◌≡◌, length};
-ghost use Rattle.trace_line.specs.Texts.{said_text};
+ghost use Rattle.trace_line.specs.inside.Events.{said_text};
 ghost use Rattle.trace_line.specs.Opening.{opening_of};
 ghost use Rattle.trace_line.specs.Lines.{checked, drift, event_line, has_cpu_above, line_behind, line_of, other_cpu};
-ghost use Rattle.trace_line.specs.Texts.{line_text};
-ghost use Rattle.trace_line.specs.OpeningFits.{StartsWithin};
+ghost use Rattle.trace_line.specs.inside.Lines.{line_text};
+ghost use Rattle.trace_line.specs.inside.OpeningFits.{StartsWithin};
 
 use crate::event::{Event, Said, said_of, verb_of};
 use crate::head::{is_comment, is_lost};

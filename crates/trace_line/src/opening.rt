@@ -4,7 +4,7 @@ ghost use Rattle.std.specs.Prelude.{◌≡◌, ◌==◌, ◌≤◌, ◌+◌, IfS
 ghost use Rattle.std.specs.Char.{is_ascii_digit};
 ghost use Rattle.grub_text.specs.Lines.{is_space, words_of};
 ghost use Rattle.trace_line.specs.Opening.{before_brackets, last_digits, later_cpu, opening_from, opening_of, running, running_comm, trimmed, without_last};
-ghost use Rattle.trace_line.specs.OpeningFits.{StartsWithin};
+ghost use Rattle.trace_line.specs.inside.OpeningFits.{StartsWithin};
 
 use crate::decimal::{bracketed, moment, number};
 use crate::spaces::without_spaces;

@@ -1,6 +1,6 @@
 use Rattle.std.proofs.Common.{◌≡◌, ◌+◌, length}
 use Rattle.trace_line.specs.Opening.{opening_from, opening_of}
-use Rattle.trace_line.specs.OpeningFits.{StartsWithin}
+use Rattle.trace_line.specs.inside.OpeningFits.{StartsWithin}
 use Rattle.grub_text.specs.Lines.{words_of}
 use Rattle.trace_line.proofs.opening.opening_of.Given as goal
 

@@ -1,12 +1,10 @@
--- The texts that the slices of a line point to.
+-- The texts that the slices of an event point to.
 use Rattle.std.specs.Prelude.{ℕ, List}
 use Rattle.std.specs.Borrow.{Bor}
 use Rattle.trace_line.specs.declared.event.Shown.{Shown}
 use Rattle.trace_line.specs.declared.event.Event.{Event}
 use Rattle.trace_line.specs.declared.event.Event.TheVariants.{Woken, Migrated, Ran, Switched, Armed, Started, Cancelled, Expired}
 use Rattle.trace_line.specs.declared.event.Said.{Said}
-use Rattle.trace_line.specs.declared.line.Line.{Line}
-use Rattle.trace_line.specs.declared.line.Line.TheVariants.{Nothing, Says, Wrong}
 use Rattle.trace_line.specs.Events.{ShownWith}
 
 abbrev pub shown_text : Shown (Bor (List ℕ)) → Shown (List ℕ)
@@ -27,8 +25,3 @@ event_text (Expired timer zero_lag now) = Expired timer.now zero_lag now
 
 abbrev pub said_text : Said (Bor (List ℕ)) → Said (List ℕ)
 said_text said = record { at = said.at; cpu = said.cpu; event = event_text said.event }
-
-abbrev pub line_text : Line (Bor (List ℕ)) → Line (List ℕ)
-line_text Nothing = Nothing
-line_text (Says said) = Says (said_text said)
-line_text (Wrong flaw) = Wrong flaw
