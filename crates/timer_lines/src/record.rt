@@ -129,6 +129,13 @@ impl Record {
         )
     }
 
+    /// Of the tasks of the class that have a 0-lag timer and no reservation so far, the one that woke first.
+    pub fn unlisted(&self) -> Option<Unlisted>
+        ensures { result ≡ self.now.lines.unlisted }
+    {
+        self.lines.unlisted
+    }
+
     /// The lines, when there are no more.
     pub fn finish(mut self) -> Result<Lines, AllocError> {
         self.tell(u64::MAX)?;

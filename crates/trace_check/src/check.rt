@@ -4,8 +4,9 @@ ghost use Rattle.std.specs.Prelude.{◌≡◌, ◌⊎◌};
 ghost use Rattle.trace_check.specs.declared.fault.TheConstants.{STATUS_DIFFERS, STATUS_FILE, STATUS_SYSTEM};
 
 use crate::fault::{Fault, STATUS_DIFFERS, STATUS_SYSTEM};
-use crate::gathering::{Gathering, Played};
+use crate::gathering::Gathering;
 use crate::options::Options;
+use crate::probes::Played;
 use deadline_machine::Machine;
 use deadline_timers::setup_of;
 use deadline_verdict::{Heading as TimerHeading, judge, put_table, put_verdict as put_timers};
@@ -15,7 +16,7 @@ use probe_verdict::{
 use std::alloc::{AllocError, Global};
 use std::io;
 use std::io::Write;
-use trace_words::Flaw;
+use trace_reader::{Halt, RecordReader};
 
 /// The bytes of a piece of a trace.
 const PIECE: usize = 65_536;
@@ -37,13 +38,6 @@ struct Verdict {
     table: Vec<u8>,
 }
 
-/// What was carried over from the pieces so far: the line that has not ended, and how many lines ended.
-#[derive(Drop)]
-struct Cut {
-    carried: Vec<u8>,
-    lines: u64,
-}
-
 /// Reads a trace to its end, or to its first line with a fault.
 fn read_lines<'o, D, N: Fn(&mut D, &mut [u8]) -> io::Result<usize>>(
     alloc: Global,
@@ -56,24 +50,21 @@ fn read_lines<'o, D, N: Fn(&mut D, &mut [u8]) -> io::Result<usize>>(
     let Ok(mut room) = Vec::from_elem(alloc, 0u8, PIECE) else {
         return Err(Fault::NoMemory);
     };
-    let mut cut = Cut {
-        carried: Vec::new(alloc),
-        lines: 0,
-    };
+    let mut reader = RecordReader::new(alloc);
     for _ in 0..u64::MAX {
-        if !read_piece(read, file, &mut room, &mut cut, gathering)? {
-            return end_of(&cut);
+        if !read_piece(read, file, &mut room, &mut reader, gathering)? {
+            return end_of(reader);
         }
     }
     Err(Fault::Unreadable)
 }
 
-/// Reads the next piece, and takes its lines; false at the end of the trace.
+/// Reads the next piece, and takes its lines; false at the end of the trace, or behind a line with a flaw.
 fn read_piece<'o, D, N: Fn(&mut D, &mut [u8]) -> io::Result<usize>>(
     read: &N,
     file: &mut D,
     room: &mut Vec<u8>,
-    cut: &mut Cut,
+    reader: &mut RecordReader,
     gathering: &mut Gathering<'o>,
 ) -> Result<bool, Fault<'o>>
     requires read { N.IsAlwaysCallable read.now }
@@ -82,83 +73,34 @@ fn read_piece<'o, D, N: Fn(&mut D, &mut [u8]) -> io::Result<usize>>(
         Ok(count) => count,
         Err(_) => return Err(Fault::Unreadable),
     };
-    if count == 0 {
-        return Ok(false);
-    }
     let piece = room.get(..count).unwrap_or(&[]);
-    match take_piece(piece, cut, gathering) {
+    match reader.feed(gathering, piece) {
         Ok(()) => {}
         Err(AllocError) => return Err(Fault::NoMemory),
     }
     match gathering.fault.take() {
         Some(fault) => Err(fault),
-        None => Ok(true),
+        None => Ok(count > 0 && reader.halt.is_none()),
     }
 }
 
-/// A last line that no byte ends is cut.
-fn end_of<'o>(cut: &Cut) -> Result<(), Fault<'o>> {
-    if cut.carried.is_empty() {
-        Ok(())
-    } else {
-        Err(Fault::Line {
-            line: cut.lines.saturating_add(1),
-            flaw: Flaw::BadTraceLine,
-        })
-    }
-}
-
-/// Takes the lines that end in a piece, and carries the rest.
-fn take_piece(
-    piece: &[u8],
-    cut: &mut Cut,
-    gathering: &mut Gathering<'_>,
-) -> Result<(), AllocError> {
-    let mut rest = piece;
-    for _ in 0..piece.len() {
-        let Some((line, behind)) = first_line(rest) else {
-            break;
-        };
-        rest = behind;
-        take_line(line, cut, gathering)?;
-        if gathering.fault.is_some() {
-            return Ok(());
-        }
-    }
-    cut.carried.extend_from_slice(rest)?;
-    Ok(())
-}
-
-/// Takes a line whose last part this is.
-fn take_line(line: &[u8], cut: &mut Cut, gathering: &mut Gathering<'_>) -> Result<(), AllocError> {
-    cut.lines = cut.lines.saturating_add(1);
-    if cut.carried.is_empty() {
-        return gathering.take(cut.lines, without_return(line));
-    }
-    cut.carried.extend_from_slice(line)?;
-    gathering.take(cut.lines, without_return(cut.carried.as_slice()))?;
-    cut.carried.clear();
-    Ok(())
-}
-
-/// The first line of a text, and what stands behind the byte that ends it.
-fn first_line(text: &[u8]) -> Option<(&[u8], &[u8])> {
-    let end = memchr::memchr(b'\n', text)?;
-    Some((text.get(..end)?, text.get(end.saturating_add(1)..)?))
-}
-
-/// A line without a carriage return at its end.
-fn without_return(line: &[u8]) -> &[u8] {
-    match line.strip_suffix(b"\r") {
-        Some(line) => line,
-        None => line,
+/// What is wrong with the line at which the reading ended.
+fn end_of<'o>(reader: RecordReader) -> Result<(), Fault<'o>> {
+    match reader.end() {
+        Some(
+            Halt {
+                line,
+                flaw: Some(flaw),
+            },
+        ) => Err(Fault::Line { line, flaw }),
+        _ => Ok(()),
     }
 }
 
 /// The names of the tasks that probes show in the class.
 fn class_names(alloc: Global, gathering: &Gathering<'_>) -> Result<Vec<TaskName>, AllocError> {
     let mut names = Vec::new(alloc);
-    for pid in &gathering.in_class {
+    for pid in &gathering.probes.in_class {
         let comm = gathering.names.comm(alloc, *pid)?;
         names.push(TaskName { pid: *pid, comm })?;
     }
@@ -172,7 +114,7 @@ fn probe_verdict(
     options: &Options<'_>,
     gathering: &Gathering<'_>,
 ) -> Result<Option<Verdict>, AllocError> {
-    match &gathering.played {
+    match &gathering.probes.played {
         None => Ok(None),
         Some(played) => {
             let verdict = verdict_by(alloc, wanted, options, gathering, played)?;
@@ -199,10 +141,10 @@ fn verdict_by(
         from: played.from,
         to: played.to,
         lost: gathering.lost,
-        takes_sums: !gathering.shape().has_dequeues,
+        takes_sums: !gathering.probes.shape.has_dequeues,
     };
     let text = probe_text(alloc, heading, &played.machine)?;
-    let table = probe_table(alloc, wanted, &gathering.rows)?;
+    let table = probe_table(alloc, wanted, &gathering.probes.rows)?;
     Ok(Verdict {
         agrees: agrees(played.machine.first(), played.machine.broken()),
         text,
@@ -303,6 +245,33 @@ fn judged_verdict(
     })
 }
 
+/// Of a fault of the reading and of a task that is not known, the one whose line comes first.
+fn first_fault<'o>(
+    read_on: Result<(), Fault<'o>>,
+    unknown: Option<Fault<'o>>,
+) -> Result<(), Fault<'o>> {
+    match (read_on, unknown) {
+        (Ok(()), None) => Ok(()),
+        (Ok(()), Some(unknown)) => Err(unknown),
+        (Err(fault), None) => Err(fault),
+        (Err(fault), Some(unknown)) => {
+            if is_before(unknown.line(), fault.line()) {
+                Err(unknown)
+            } else {
+                Err(fault)
+            }
+        }
+    }
+}
+
+/// Whether there are two lines, of which the first one comes before the other.
+fn is_before(line: Option<u64>, other: Option<u64>) -> bool {
+    match (line, other) {
+        (Some(line), Some(other)) => line < other,
+        _ => false,
+    }
+}
+
 /// The verdict on the trace of a path.
 fn verdict_of<
     'o,
@@ -326,7 +295,11 @@ fn verdict_of<
         Ok(file) => file,
         Err(_) => return Err(Fault::Unreadable),
     };
-    read_lines(alloc, read, &mut file, &mut gathering)?;
+    let read_on = read_lines(alloc, read, &mut file, &mut gathering);
+    match gathering.unknown() {
+        Ok(unknown) => first_fault(read_on, unknown)?,
+        Err(AllocError) => return Err(Fault::NoMemory),
+    }
     if let Some(name) = gathering.not_found() {
         return Err(Fault::NoSuchTask { name });
     }

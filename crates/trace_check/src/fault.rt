@@ -1,7 +1,9 @@
 //! Why there is no verdict, and the program's status then.
 
-ghost use Rattle.std.specs.Prelude.{◌≡◌};
-ghost use Rattle.trace_check.specs.Faults.{status_of};
+ghost use Rattle.std.specs.Prelude.{◌≡◌, ◌++◌, OnOk};
+ghost use Rattle.std.specs.Io.KnownBytes.{Appends};
+ghost use Rattle.trace_check.specs.Faults.{line_of, status_of};
+ghost use Rattle.trace_check.specs.Messages.{fault_line, file_place, flaw_told, kernel_line, line_place, no_task_line, unknown_line};
 
 use std::io;
 use std::io::Write;
@@ -70,46 +72,105 @@ impl Fault<'_> {
         }
     }
 
-    /// Writes the line that tells it, of the trace at this path.
-    pub fn tell<E: Write>(&self, path: &str, to: &mut E) -> io::Result<()> {
+    /// The line of the trace that is at fault, where one is.
+    pub fn line(&self) -> Option<u64>
+        ensures { result ≡ line_of self.now }
+    {
         match self {
-            Fault::Line { line, flaw } => {
-                let name = name_of(*flaw);
-                writeln!(to, "grubtrace: {path}:{line}: {name}")
-            }
-            Fault::NoSuchTask { name } => {
-                writeln!(to, "grubtrace: {path}: 49 NoSuchTask {name}")
-            }
-            Fault::UnknownTask { line, pid, comm } => {
-                write!(to, "grubtrace: {path}:{line}: 50 UnknownTask ")?;
-                to.write_all(comm)?;
-                writeln!(to, " (pid {pid})")
-            }
-            Fault::NoTimers => writeln!(to, "grubtrace: {path}: 53 NoTimers"),
-            Fault::OutsideDomain { line } => writeln!(to, "grubtrace: {path}:{line}: 54 TooLong"),
-            Fault::BadNote { line } => writeln!(to, "grubtrace: {path}:{line}: 55 BadTraceLine"),
-            Fault::FileExists { path } => writeln!(to, "grubtrace: {path}: 56 FileExists"),
-            Fault::Changed { line } => writeln!(to, "grubtrace: {path}:{line}: 59 Changed rt"),
-            Fault::NoSums { kernel } => {
-                let (major, minor, patch) = (kernel.major, kernel.minor, kernel.patch);
-                writeln!(
-                    to,
-                    "grubtrace: {path}: 60 NoSums kernel {major}.{minor}.{patch}"
-                )
-            }
+            Fault::Line { line, .. }
+            | Fault::UnknownTask { line, .. }
+            | Fault::OutsideDomain { line }
+            | Fault::BadNote { line }
+            | Fault::Changed { line } => Some(*line),
+            _ => None,
+        }
+    }
+
+    /// Writes the line that tells it, of the trace at this path.
+    pub fn tell<E: Write>(&self, path: &str, to: &mut E) -> io::Result<()>
+        ensures { OnOk result
+            (Appends (E.contents to.old) (E.contents to.new) (fault_line path.now self.now)) }
+    {
+        match self {
+            Fault::Line { line, flaw } => tell_at(to, path, *line, flaw_text(*flaw)),
+            Fault::NoSuchTask { name } => tell_no_task(to, path, name),
+            Fault::UnknownTask { line, pid, comm } => tell_unknown(to, path, *line, comm, *pid),
+            Fault::NoTimers => tell_of(to, path, b"53 NoTimers\n"),
+            Fault::OutsideDomain { line } => tell_at(to, path, *line, b"54 TooLong\n"),
+            Fault::BadNote { line } => tell_at(to, path, *line, b"55 BadTraceLine\n"),
+            Fault::FileExists { path } => tell_of(to, path, b"56 FileExists\n"),
+            Fault::Changed { line } => tell_at(to, path, *line, b"59 Changed rt\n"),
+            Fault::NoSums { kernel } => tell_kernel(to, path, *kernel),
             Fault::Write => to.write_all(b"grubtrace: 45 WriteFault\n"),
-            Fault::Unreadable => writeln!(to, "grubtrace: {path}: 46 ReadFault"),
+            Fault::Unreadable => tell_of(to, path, b"46 ReadFault\n"),
             Fault::NoMemory => to.write_all(b"grubtrace: 47 NoMemory\n"),
         }
     }
 }
 
 /// The number and the name of what is wrong with a line.
-fn name_of(flaw: Flaw) -> &'static str {
+fn flaw_text(flaw: Flaw) -> &'static [u8]
+    ensures { result.now ≡ flaw_told flaw }
+{
     match flaw {
-        Flaw::WrongClock => "51 WrongClock",
-        Flaw::LostEvents => "52 LostEvents",
-        Flaw::TooLong => "54 TooLong",
-        Flaw::BadTraceLine => "55 BadTraceLine",
+        Flaw::WrongClock => b"51 WrongClock\n",
+        Flaw::LostEvents => b"52 LostEvents\n",
+        Flaw::TooLong => b"54 TooLong\n",
+        Flaw::BadTraceLine => b"55 BadTraceLine\n",
     }
+}
+
+/// Writes what is told of a file.
+fn tell_of<E: Write>(to: &mut E, path: &str, what: &[u8]) -> io::Result<()>
+    ensures { OnOk result
+        (Appends (E.contents to.old) (E.contents to.new) (file_place path.now ++ what.now)) }
+{
+    write!(to, "grubtrace: {path}: ")?;
+    to.write_all(what)
+}
+
+/// Writes what is told of a line of a trace.
+fn tell_at<E: Write>(to: &mut E, path: &str, line: u64, what: &[u8]) -> io::Result<()>
+    ensures { OnOk result
+        (Appends (E.contents to.old) (E.contents to.new) (line_place path.now line ++ what.now)) }
+{
+    write!(to, "grubtrace: {path}:{line}: ")?;
+    to.write_all(what)
+}
+
+/// Writes that a task was given which the trace does not show.
+fn tell_no_task<E: Write>(to: &mut E, path: &str, name: &str) -> io::Result<()>
+    ensures { OnOk result
+        (Appends (E.contents to.old) (E.contents to.new) (no_task_line path.now name.now)) }
+{
+    writeln!(to, "grubtrace: {path}: 49 NoSuchTask {name}")
+}
+
+/// Writes which task was not given; its comm may be no text.
+fn tell_unknown<E: Write>(
+    to: &mut E,
+    path: &str,
+    line: u64,
+    comm: &[u8],
+    pid: u64,
+) -> io::Result<()>
+    ensures { OnOk result
+        (Appends (E.contents to.old) (E.contents to.new)
+        (unknown_line path.now line comm.now pid)) }
+{
+    tell_at(to, path, line, b"50 UnknownTask ")?;
+    to.write_all(comm)?;
+    writeln!(to, " (pid {pid})")
+}
+
+/// Writes of which kernel no note tells the sums.
+fn tell_kernel<E: Write>(to: &mut E, path: &str, kernel: Kernel) -> io::Result<()>
+    ensures { OnOk result
+        (Appends (E.contents to.old) (E.contents to.new) (kernel_line path.now kernel)) }
+{
+    let (major, minor, patch) = (kernel.major, kernel.minor, kernel.patch);
+    writeln!(
+        to,
+        "grubtrace: {path}: 60 NoSums kernel {major}.{minor}.{patch}"
+    )
 }

@@ -2,47 +2,16 @@
 
 use crate::fault::Fault;
 use crate::head::{Head, cpus_of};
-use crate::names::{Names, running_comm};
+use crate::names::Names;
 use crate::options::{CPU_MAX, Options};
-use deadline_machine::{Machine, Shape};
+use crate::probes::{Kept, Probes};
 use deadline_timers::{RunqueueSums, setup_of};
-use probe_verdict::{Lost, put_row};
-use record_line::{Lost as LostLines, told_by};
+use probe_verdict::Lost;
+use record_line::{Lost as LostLines, Told};
 use std::alloc::{AllocError, Global};
-use timer_lines::{Given, Record};
-use trace_line::processors;
-use trace_words::{Fixed, Limit, Line, Note, Parameters, Policy, Probe, Said, TimerFunction};
-
-/// So many lines of probes are kept until it is known which events the record has.
-const LOOK: usize = 16_384;
-
-/// A line of a probe that is kept.
-#[derive(Clone, Copy)]
-struct Kept {
-    line: u64,
-    at: u64,
-    cpu: u32,
-    pid: u64,
-    probe: Probe,
-}
-
-/// A task of the class of which nothing was told, and the line at which it first woke.
-#[derive(Clone, Copy)]
-struct Unknown {
-    pid: u64,
-    line: u64,
-}
-
-/// What lines of probes came to so far.
-#[derive(Drop)]
-pub(crate) struct Played {
-    pub machine: Machine,
-
-    /// How many lines there were, and the moments of the first and the last one.
-    pub lines: u64,
-    pub from: u64,
-    pub to: u64,
-}
+use timer_lines::{Given, Record, Unlisted};
+use trace_reader::Lines;
+use trace_words::{Fixed, Limit, Line, Note, Parameters, Policy, Said};
 
 /// A record that is being read.
 #[derive(Drop)]
@@ -52,6 +21,9 @@ pub(crate) struct Gathering<'o> {
     pub head: Head,
     pub names: Names,
 
+    /// The pid of the last line that showed a task.
+    last: Option<u64>,
+
     /// Of each given task, whether a line has shown it.
     found: Vec<bool>,
 
@@ -59,26 +31,29 @@ pub(crate) struct Gathering<'o> {
     record: Option<Record>,
     has_timers: bool,
 
-    /// Lines of probes that were not played yet, and which events they have.
-    kept: Vec<Kept>,
-    shape: Shape,
-    pub played: Option<Played>,
-
-    /// The tasks that probes show in the class.
-    pub in_class: Vec<u64>,
-
-    /// The pids of the given tasks that were found, and whether a note tells of a task.
-    given: Vec<u64>,
+    /// Whether a note tells of a task.
     has_notes: bool,
-
-    /// SCHED_DEADLINE tasks that woke, of which neither an option nor a note tells.
-    unknown: Vec<Unknown>,
+    pub probes: Probes,
     pub lost: Option<Lost>,
-    keeps_rows: bool,
-
-    /// The rows of the comparisons so far.
-    pub rows: Vec<u8>,
     pub fault: Option<Fault<'o>>,
+}
+
+impl Lines for Gathering<'_> {
+    ghost use Rattle.std.specs.Prelude.{ℕ, true};
+
+    ghost Seen = { ℕ };
+
+    ghost seen = { λ gathering. 0 };
+
+    ghost step = { λ n told seen. record { more = true; seen = 0 } };
+
+    /// Behind a fault nothing is taken.
+    fn take(&mut self, number: u64, told: &Told<&[u8]>) -> Result<bool, AllocError> {
+        if self.fault.is_none() {
+            self.take_told(number, told)?;
+        }
+        Ok(true)
+    }
 }
 
 impl<'o> Gathering<'o> {
@@ -96,27 +71,20 @@ impl<'o> Gathering<'o> {
             options,
             head: Head::new(alloc),
             names: Names::new(alloc),
+            last: None,
             found,
             record: None,
             has_timers: false,
-            kept: Vec::new(alloc),
-            shape: Shape::new(),
-            played: None,
-            in_class: Vec::new(alloc),
-            given: Vec::new(alloc),
             has_notes: false,
-            unknown: Vec::new(alloc),
+            probes: Probes::new(alloc, keeps_rows),
             lost: None,
-            keeps_rows,
-            rows: Vec::new(alloc),
             fault: None,
         })
     }
 
-    /// Takes a line, whose number counts from 1.
-    pub fn take(&mut self, number: u64, line: &[u8]) -> Result<(), AllocError> {
-        self.see_head(number, line);
-        let told = told_by(line);
+    /// Takes what a line tells, whose number counts from 1.
+    fn take_told(&mut self, number: u64, told: &Told<&[u8]>) -> Result<(), AllocError> {
+        self.see_head(number, told.processors);
         if let Some(domain) = told.domain {
             self.note_domain(number, domain)?;
         }
@@ -124,16 +92,35 @@ impl<'o> Gathering<'o> {
         if let Some(shown) = told.shown {
             self.show(shown.pid, shown.comm)?;
         }
-        self.take_told(number, line, told.line)
+        match told.line {
+            Line::Quiet | Line::Flawed(_) => Ok(()),
+            Line::Note(note) => self.note(number, note),
+            Line::Event {
+                at,
+                cpu,
+                pid,
+                said,
+                ..
+            } => match said {
+                Said::Fixed(fixed) => self.fixed(number, at, cpu, pid, fixed),
+                Said::Probe(probe) => self.probe(Kept {
+                    line: number,
+                    at,
+                    cpu,
+                    pid,
+                    probe,
+                }),
+            },
+        }
     }
 
     /// The head of a trace may say how many processors there are.
-    fn see_head(&mut self, number: u64, line: &[u8]) {
-        if self.head.processors.is_some() || line.first() != Some(&b'#') {
+    fn see_head(&mut self, number: u64, processors: Option<u32>) {
+        if self.head.processors.is_some() {
             return;
         }
-        self.head.processors = processors(line);
-        if let Some(count) = self.head.processors
+        self.head.processors = processors;
+        if let Some(count) = processors
             && (count == 0 || count > CPU_MAX.saturating_add(1))
         {
             self.fault = Some(Fault::OutsideDomain { line: number });
@@ -149,61 +136,19 @@ impl<'o> Gathering<'o> {
         }
     }
 
-    fn take_told(&mut self, number: u64, line: &[u8], told: Line) -> Result<(), AllocError> {
-        match told {
-            Line::Quiet => Ok(()),
-            Line::Flawed(flaw) => {
-                self.fault = Some(Fault::Line { line: number, flaw });
-                Ok(())
-            }
-            Line::Note(note) => self.note(number, note),
-            Line::Event {
-                at,
-                cpu,
-                pid,
-                said,
-                ..
-            } => match said {
-                Said::Fixed(fixed) => self.fixed(number, at, cpu, pid, fixed),
-                Said::Probe(probe) => self.probe_line(
-                    line,
-                    Kept {
-                        line: number,
-                        at,
-                        cpu,
-                        pid,
-                        probe,
-                    },
-                ),
-            },
-        }
+    /// Whether the verdict is by lines of probes: lines of timers are not kept then.
+    fn plays_probes(&self) -> bool {
+        self.probes.has_lines() && !self.options.by_timers
     }
 
-    /// A line of a probe; at its head stands the task that runs.
-    fn probe_line(&mut self, line: &[u8], kept: Kept) -> Result<(), AllocError> {
+    /// Takes a line of a probe.
+    fn probe(&mut self, kept: Kept) -> Result<(), AllocError> {
+        if self.plays_probes() {
+            self.record = None;
+        }
         self.head.greatest_cpu = self.head.greatest_cpu.max(kept.cpu);
-        if !self.names.has(kept.pid) {
-            self.show_running(line, kept.pid)?;
-        }
-        self.see_class(&kept.probe)?;
-        self.probe(kept)
-    }
-
-    fn show_running(&mut self, line: &[u8], pid: u64) -> Result<(), AllocError> {
-        match running_comm(line) {
-            Some(comm) => self.show(pid, comm),
-            None => Ok(()),
-        }
-    }
-
-    /// The tasks that are enqueued are of the class.
-    fn see_class(&mut self, probe: &Probe) -> Result<(), AllocError> {
-        if let Probe::Enqueued(line) = probe
-            && !self.in_class.contains(&line.pid)
-        {
-            self.in_class.push(line.pid)?;
-        }
-        Ok(())
+        self.probes
+            .take(kept, &self.head, self.options, &self.names)
     }
 
     /// The CPUs of the root domain, as a note lists them.
@@ -217,7 +162,8 @@ impl<'o> Gathering<'o> {
 
     /// A line shows this pid with this comm.
     fn show(&mut self, pid: u64, comm: &[u8]) -> Result<(), AllocError> {
-        if self.names.has(pid) {
+        if self.last == Some(pid) || self.names.has(pid) {
+            self.last = Some(pid);
             return Ok(());
         }
         self.names.show(self.alloc, pid, comm)?;
@@ -250,7 +196,6 @@ impl<'o> Gathering<'o> {
     }
 
     fn give_to(&mut self, pid: u64, parameters: Parameters) -> Result<(), AllocError> {
-        self.given.push(pid)?;
         self.begin()?;
         match &mut self.record {
             Some(record) => record.give(Given { pid, parameters }),
@@ -339,8 +284,10 @@ impl<'o> Gathering<'o> {
         fixed: Fixed,
     ) -> Result<(), AllocError> {
         self.head.greatest_cpu = self.head.greatest_cpu.max(cpu).max(cpu_of(&fixed));
+        if self.plays_probes() {
+            return Ok(());
+        }
         self.has_timers = self.has_timers || matches!(fixed, Fixed::TimerStarted { .. });
-        self.see_unknown(number, pid, &fixed)?;
         self.begin()?;
         match &mut self.record {
             Some(record) => record.line(number, at, cpu, pid, fixed),
@@ -348,131 +295,32 @@ impl<'o> Gathering<'o> {
         }
     }
 
-    /// Where no note tells of tasks, each SCHED_DEADLINE task with a 0-lag timer is to be given.
-    fn see_unknown(&mut self, number: u64, pid: u64, fixed: &Fixed) -> Result<(), AllocError> {
-        if self.has_notes {
-            return Ok(());
-        }
-        match *fixed {
-            Fixed::Woken {
-                pid,
-                is_deadline: true,
-                ..
-            } => self.wakes_unknown(number, pid),
-            Fixed::TimerStarted {
-                function: TimerFunction::ZeroLag,
-                ..
-            } => self.arms_unknown(pid),
-            _ => Ok(()),
-        }
-    }
-
-    fn wakes_unknown(&mut self, line: u64, pid: u64) -> Result<(), AllocError> {
-        if !self.given.contains(&pid) && self.unknown_line(pid).is_none() {
-            self.unknown.push(Unknown { pid, line })?;
-        }
-        Ok(())
-    }
-
-    fn unknown_line(&self, pid: u64) -> Option<u64> {
-        for unknown in &self.unknown {
-            if unknown.pid == pid {
-                return Some(unknown.line);
-            }
-        }
-        None
-    }
-
-    fn arms_unknown(&mut self, pid: u64) -> Result<(), AllocError> {
-        if let Some(line) = self.unknown_line(pid) {
-            let comm = self.names.comm(self.alloc, pid)?;
-            self.fault = Some(Fault::UnknownTask { line, pid, comm });
-        }
-        Ok(())
-    }
-
-    fn probe(&mut self, kept: Kept) -> Result<(), AllocError> {
-        if self.played.is_some() {
-            return self.play(kept);
-        }
-        self.shape.see(&kept.probe);
-        self.kept.push(kept)?;
-        if self.shape.is_complete() || self.kept.len() >= LOOK {
-            self.play_kept()?;
-        }
-        Ok(())
-    }
-
-    /// Plays the lines that were kept.
-    fn play_kept(&mut self) -> Result<(), AllocError> {
-        self.make_machine()?;
-        for place in 0..self.kept.len() {
-            if let Some(kept) = self.kept.get(place) {
-                let kept = *kept;
-                self.play(kept)?;
-            }
-        }
-        self.kept.clear();
-        Ok(())
-    }
-
-    /// Makes the machine for the lines that were kept, if there are any.
-    fn make_machine(&mut self) -> Result<(), AllocError> {
-        let Some(first) = self.kept.first() else {
-            return Ok(());
+    /// The first task with a 0-lag timer that neither an option nor a note gives, where timers are compared and no note tells of tasks.
+    pub fn unknown(&self) -> Result<Option<Fault<'o>>, AllocError> {
+        let Some(unlisted) = self.unlisted() else {
+            return Ok(None);
         };
-        let from = first.at;
-        let domain = self.head.cpus(self.alloc, self.options)?;
-        let law = self.head.law(self.options);
-        self.played = Some(Played {
-            machine: Machine::new(self.alloc, law, self.shape, domain, self.keeps_rows),
-            lines: 0,
-            from,
-            to: from,
-        });
-        Ok(())
+        let comm = self.names.comm(self.alloc, unlisted.pid)?;
+        Ok(Some(Fault::UnknownTask {
+            line: unlisted.line,
+            pid: unlisted.pid,
+            comm,
+        }))
     }
 
-    fn play(&mut self, kept: Kept) -> Result<(), AllocError> {
-        if let Some(played) = &mut self.played {
-            played.lines = played.lines.saturating_add(1);
-            played.to = kept.at;
-            played
-                .machine
-                .take(kept.line, kept.at, kept.cpu, kept.pid, &kept.probe)?;
+    fn unlisted(&self) -> Option<Unlisted> {
+        if self.has_notes || self.plays_probes() {
+            return None;
         }
-        self.put_rows()
-    }
-
-    /// Appends the rows of the comparisons since the last time.
-    fn put_rows(&mut self) -> Result<(), AllocError> {
-        if !self.keeps_rows {
-            return Ok(());
+        match &self.record {
+            Some(record) => record.unlisted(),
+            None => None,
         }
-        if let Some(played) = &mut self.played {
-            for row in played.machine.rows() {
-                put_row(self.alloc, &mut self.rows, row, &self.names.tasks)?;
-            }
-            played.machine.clear_rows();
-        }
-        Ok(())
     }
 
     /// Ends the lines of probes.
     pub fn end_probes(&mut self) -> Result<(), AllocError> {
-        if self.played.is_none() {
-            self.play_kept()?;
-        }
-        let has_servers = self.head.has_servers(self.options);
-        if let Some(played) = &mut self.played {
-            played.machine.finish(has_servers)?;
-        }
-        self.put_rows()
-    }
-
-    /// Which events the lines of probes have.
-    pub fn shape(&self) -> Shape {
-        self.shape
+        self.probes.end(&self.head, self.options, &self.names)
     }
 
     /// Whether a timer of any kind was started.

@@ -50,24 +50,3 @@ impl Names {
         Ok(out)
     }
 }
-
-/// The comm of the task that runs, before its pid at the head of a line: `gr_0-23650   [003]`, or `gr_0  3001 [003]`.
-pub fn running_comm(line: &[u8]) -> Option<&[u8]> {
-    let bracket = line.iter().position(|b| *b == b'[')?;
-    let head = trimmed(line.get(..bracket)?);
-    let digits = head.iter().rev().position(|b| !b.is_ascii_digit())?;
-    let end = head.len().checked_sub(digits)?.checked_sub(1)?;
-    Some(trimmed(head.get(..end)?))
-}
-
-/// A text without the spaces about it.
-fn trimmed(text: &[u8]) -> &[u8] {
-    let Some(from) = text.iter().position(|b| *b != b' ') else {
-        return &[];
-    };
-    let Some(behind) = text.iter().rev().position(|b| *b != b' ') else {
-        return &[];
-    };
-    text.get(from..text.len().saturating_sub(behind))
-        .unwrap_or(&[])
-}

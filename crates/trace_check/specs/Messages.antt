@@ -1,0 +1,51 @@
+-- The line that the program writes for each fault: the file and the line it is at, its number, its name and what it tells.
+use Rattle.std.specs.Prelude.{ℕ, List, ◌++◌, codes, decimal}
+use Rattle.trace_words.specs.declared.line.Flaw.{Flaw}
+use Rattle.trace_words.specs.declared.line.Flaw.TheVariants.{WrongClock, LostEvents, TooLong, BadTraceLine}
+use Rattle.trace_words.specs.declared.note.Kernel.{Kernel}
+use Rattle.trace_check.specs.declared.fault.Fault.{Fault}
+use Rattle.trace_check.specs.declared.fault.Fault.TheVariants as fault
+
+-- of a file
+abbrev pub file_place : List ℕ → List ℕ
+file_place path = codes "grubtrace: " ++ (path ++ codes ": ")
+
+-- of a line of a trace
+abbrev pub line_place : List ℕ → ℕ → List ℕ
+line_place path line = codes "grubtrace: " ++ (path ++ (codes ":" ++ (decimal line ++ codes ": ")))
+
+-- what is wrong with a line
+abbrev pub flaw_told : Flaw → List ℕ
+flaw_told WrongClock = codes "51 WrongClock\n"
+flaw_told LostEvents = codes "52 LostEvents\n"
+flaw_told TooLong = codes "54 TooLong\n"
+flaw_told BadTraceLine = codes "55 BadTraceLine\n"
+
+-- a task was given that the trace does not show
+abbrev pub no_task_line : List ℕ → List ℕ → List ℕ
+no_task_line path name = codes "grubtrace: " ++ (path ++ (codes ": 49 NoSuchTask " ++ (name ++ codes "\n")))
+
+-- a task was not given, by its comm and its pid
+abbrev pub unknown_line : List ℕ → ℕ → List ℕ → ℕ → List ℕ
+unknown_line path line comm pid =
+    line_place path line ++ codes "50 UnknownTask " ++ (comm ++ (codes " (pid " ++ (decimal pid ++ codes ")\n")))
+
+-- a kernel whose sums no note tells
+abbrev pub kernel_line : List ℕ → Kernel → List ℕ
+kernel_line path kernel =
+    codes "grubtrace: " ++ (path ++ (codes ": 60 NoSums kernel " ++ (decimal kernel.major ++ (codes "." ++ (decimal kernel.minor ++ (codes "." ++ (decimal kernel.patch ++ codes "\n")))))))
+
+-- of the trace at a path
+abbrev pub fault_line : List ℕ → Fault → List ℕ
+fault_line path (fault.Line line flaw) = line_place path line ++ flaw_told flaw
+fault_line path (fault.NoSuchTask name) = no_task_line path name.now
+fault_line path (fault.UnknownTask line pid comm) = unknown_line path line comm.items pid
+fault_line path fault.NoTimers = file_place path ++ codes "53 NoTimers\n"
+fault_line path (fault.OutsideDomain line) = line_place path line ++ codes "54 TooLong\n"
+fault_line path (fault.BadNote line) = line_place path line ++ codes "55 BadTraceLine\n"
+fault_line path (fault.FileExists made) = file_place made.now ++ codes "56 FileExists\n"
+fault_line path (fault.Changed line) = line_place path line ++ codes "59 Changed rt\n"
+fault_line path (fault.NoSums kernel) = kernel_line path kernel
+fault_line path fault.Write = codes "grubtrace: 45 WriteFault\n"
+fault_line path fault.Unreadable = file_place path ++ codes "46 ReadFault\n"
+fault_line path fault.NoMemory = codes "grubtrace: 47 NoMemory\n"
