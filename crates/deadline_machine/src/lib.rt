@@ -1,14 +1,16 @@
 //! The exact check: kernel/sched/deadline.c played from lines of probes, and each value that a line shows compared.
 #![tactic(auto)]
 
-mod actor;
-mod comparing;
+mod admissions;
+mod dequeues;
+mod enqueues;
 mod machine;
 mod pending;
-mod playing;
-mod runqueue;
-mod shape;
-mod values;
+mod runs;
+mod servers;
+mod shown;
+mod timers;
 
 pub use machine::Machine;
-pub use shape::{Runs, Shape};
+pub use machine_state::{Runs, Shape};
+pub use rule_changes::RuleChange;

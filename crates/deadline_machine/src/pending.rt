@@ -1,44 +1,7 @@
-//! What is not certain or not done yet.
+//! What a CPU has still to do.
 
-use deadline_events::Delayed;
-use exact_words::{Place, Whose};
+use exact_words::Whose;
 use trace_words::TimerFunction;
-
-/// Whose runqueue an effect is on, and what it does.
-#[derive(Clone, Copy)]
-pub enum Effect {
-    /// To `extra_bw`.
-    Extra(u64),
-
-    /// To `this_bw` and `running_bw`, of an entity of this bandwidth.
-    Sums {
-        whose: Whose,
-        delayed: Delayed,
-        bw: u64,
-    },
-}
-
-/// An effect of a function whose line is before its lock.
-#[derive(Clone, Copy)]
-pub struct Later {
-    /// The CPU that runs the function.
-    pub by: u32,
-
-    /// The CPU of the runqueue.
-    pub cpu: u32,
-
-    /// The moment of the function's line.
-    pub at: u64,
-    pub effect: Effect,
-}
-
-/// An `extra_bw` that no value explains yet.
-#[derive(Clone, Copy)]
-pub struct Reading {
-    pub place: Place,
-    pub cpu: u32,
-    pub extra_bw: u64,
-}
 
 /// A timer that a CPU must arm now.
 #[derive(Clone, Copy)]
@@ -73,13 +36,6 @@ pub struct Rest {
     pub clock: u64,
     pub current: u64,
     pub awaited: Awaited,
-}
-
-/// A budget that a charge by a later `extra_bw` would have left.
-#[derive(Clone, Copy)]
-pub struct Alternative {
-    pub whose: Whose,
-    pub runtime: i64,
 }
 
 /// A CPU that dequeues a task of before the record, whose timer it may arm.

@@ -18,12 +18,12 @@ const LOOK: usize = 16_384;
 
 /// A line of a probe that is kept.
 #[derive(Clone, Copy)]
-struct Kept {
-    line: u64,
-    at: u64,
-    cpu: u32,
-    pid: u64,
-    probe: Probe,
+pub(crate) struct Kept {
+    pub line: u64,
+    pub at: u64,
+    pub cpu: u32,
+    pub pid: u64,
+    pub probe: Probe,
 }
 
 /// A task of the class of which nothing was told, and the line at which it first woke.
@@ -64,6 +64,9 @@ pub(crate) struct Gathering<'o> {
     shape: Shape,
     pub played: Option<Played>,
 
+    /// The lines of probes that were played, where they may be played again.
+    pub again: Vec<Kept>,
+
     /// The tasks that probes show in the class.
     pub in_class: Vec<u64>,
 
@@ -102,6 +105,7 @@ impl<'o> Gathering<'o> {
             kept: Vec::new(alloc),
             shape: Shape::new(),
             played: None,
+            again: Vec::new(alloc),
             in_class: Vec::new(alloc),
             given: Vec::new(alloc),
             has_notes: false,
@@ -425,7 +429,7 @@ impl<'o> Gathering<'o> {
         let domain = self.head.cpus(self.alloc, self.options)?;
         let law = self.head.law(self.options);
         self.played = Some(Played {
-            machine: Machine::new(self.alloc, law, self.shape, domain, self.keeps_rows),
+            machine: Machine::new(self.alloc, law, self.shape, domain, self.keeps_rows, None),
             lines: 0,
             from,
             to: from,
@@ -434,6 +438,9 @@ impl<'o> Gathering<'o> {
     }
 
     fn play(&mut self, kept: Kept) -> Result<(), AllocError> {
+        if self.options.explains {
+            self.again.push(kept)?;
+        }
         if let Some(played) = &mut self.played {
             played.lines = played.lines.saturating_add(1);
             played.to = kept.at;

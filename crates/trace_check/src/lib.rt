@@ -7,6 +7,7 @@ mod gathering;
 mod head;
 mod names;
 mod options;
+mod why;
 
 pub use check::{Wanted, serve_check};
 pub use fault::{Fault, STATUS_DIFFERS, STATUS_FILE, STATUS_SYSTEM, STATUS_USAGE};
