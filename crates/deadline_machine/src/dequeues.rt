@@ -9,9 +9,7 @@ use crate::shown::{shown_dequeued, shown_left};
 use deadline_events::{Arrival, Delayed};
 use deadline_rules::{Block, Change, REPLENISH, has};
 use exact_words::{Place, Rule};
-use machine_state::{
-    Actor, Runs, compare_budget, compare_contending, compare_flags, forgotten, why,
-};
+use machine_state::{Actor, Runs, compare_dequeued, compare_left, forgotten, why};
 use rule_changes::{dequeue_by, leave_by};
 use std::alloc::AllocError;
 use trace_words::{Dequeued, LeftClass, Migrating, Probe, TimerFunction};
@@ -24,15 +22,7 @@ impl Machine {
         self.state.take_sums(place, line.cpu, line.sums)?;
         let found = self.state.task(line.pid);
         let actor = self.state.with_alternative(found, line.budget.runtime);
-        compare_budget(
-            &mut self.state.sheet,
-            place,
-            actor,
-            line.budget.runtime,
-            line.budget.deadline,
-        )?;
-        compare_flags(&mut self.state.sheet, place, actor, line.budget)?;
-        compare_contending(&mut self.state.sheet, place, actor, line.is_non_contending)?;
+        compare_dequeued(&mut self.state.sheet, place, actor, line)?;
         self.state.keep_actor(shown_dequeued(actor, line))?;
         self.rests.push(Rest {
             by: place.cpu,
@@ -208,14 +198,7 @@ impl Machine {
         self.state.take_sums(place, line.cpu, line.sums)?;
         let found = self.state.task(line.pid);
         let actor = self.state.with_alternative(found, line.runtime);
-        compare_budget(
-            &mut self.state.sheet,
-            place,
-            actor,
-            line.runtime,
-            line.deadline,
-        )?;
-        compare_contending(&mut self.state.sheet, place, actor, line.is_non_contending)?;
+        compare_left(&mut self.state.sheet, place, actor, line)?;
         let shown = shown_left(actor, line);
         self.state.sheet.note(Rule::LeftClass);
         self.state.note_runqueue(place, line.cpu, Rule::LeftClass)?;

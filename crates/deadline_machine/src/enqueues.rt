@@ -5,9 +5,7 @@ use crate::shown::shown_enqueued;
 use deadline_events::{Arrival, Boost, Enqueuing, Refill};
 use deadline_rules::{Contention, Wake, is_before, replenished_blocked, reserved};
 use exact_words::{Place, Rule};
-use machine_state::{
-    Actor, compare_budget, compare_contending, compare_flags, compare_parameters, why,
-};
+use machine_state::{Actor, compare_enqueued, why};
 use rule_changes::enqueue_by;
 use std::alloc::AllocError;
 use trace_words::Enqueued;
@@ -24,19 +22,9 @@ impl Machine {
         let settled = self.state.task(line.pid);
         let refreshed = self.refreshed(place, settled, &line);
         let actor = self.state.with_alternative(refreshed, line.budget.runtime);
-        compare_budget(
-            &mut self.state.sheet,
-            place,
-            actor,
-            line.budget.runtime,
-            line.budget.deadline,
-        )?;
-        compare_flags(&mut self.state.sheet, place, actor, line.budget)?;
-        if self.state.shape.has_dequeues {
-            compare_contending(&mut self.state.sheet, place, actor, line.is_non_contending)?;
-            compare_parameters(&mut self.state.sheet, place, actor, line.parameters)?;
-        }
-        let shown = shown_enqueued(actor, line, self.state.shape.has_dequeues);
+        let is_whole = self.state.shape.has_dequeues;
+        compare_enqueued(&mut self.state.sheet, place, actor, line, is_whole)?;
+        let shown = shown_enqueued(actor, line, is_whole);
         let done = enqueue_by(self.change, self.law, shown.entity, line);
         self.keep_enqueued(place, shown, &line, done)
     }

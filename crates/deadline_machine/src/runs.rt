@@ -6,7 +6,7 @@ use crate::shown::{charged_runqueue, delta_of, off_tree};
 use deadline_events::{Spending, Spent};
 use deadline_rules::{Charge, Runqueue as Charged, charged};
 use exact_words::{Place, Rule};
-use machine_state::{Actor, Alternative, Effect, compare_budget, compare_flags, why};
+use machine_state::{Actor, Alternative, Effect, compare_updated, why};
 use rule_changes::{charging_by, cost_by, spend_by};
 use std::alloc::AllocError;
 use trace_words::Updated;
@@ -37,14 +37,7 @@ impl Machine {
         if line.budget.is_yielded {
             shown.entity.budget.is_yielded = true;
         }
-        compare_budget(
-            &mut self.state.sheet,
-            place,
-            shown,
-            line.budget.runtime,
-            line.budget.deadline,
-        )?;
-        compare_flags(&mut self.state.sheet, place, shown, line.budget)?;
+        compare_updated(&mut self.state.sheet, place, shown, line.budget)?;
         shown.entity.budget = line.budget;
         let delta = delta_of(line.ran);
         let charged = self.charge(place, shown, &line, delta)?;

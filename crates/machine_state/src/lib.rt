@@ -5,6 +5,7 @@
 mod actor;
 mod comparing;
 mod effects;
+mod lines;
 mod pending;
 mod runqueue;
 mod shape;
@@ -12,11 +13,9 @@ mod state;
 mod values;
 
 pub use actor::{Actor, new_server, new_task, server_parameters};
+pub use lines::{compare_dequeued, compare_enqueued, compare_left, compare_updated};
 pub use pending::{Alternative, Effect, Later, Reading};
 pub use runqueue::{Runqueue, ThisBw, forgotten, with_change, with_extra};
 pub use shape::{Runs, Shape};
 pub use state::{State, why};
-pub use values::{
-    compare_budget, compare_contending, compare_extra, compare_flags, compare_parameters,
-    compare_sums,
-};
+pub use values::{compare_contending, compare_extra, compare_sums};

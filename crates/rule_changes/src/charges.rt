@@ -108,7 +108,7 @@ fn changed_law(change: RuleChange, law: Law) -> Law {
     }
 }
 
-fn reckoned(change: RuleChange, law: Law, entity: Entity, runqueue: Runqueue) -> Reckoned {
+fn reckon(change: RuleChange, law: Law, entity: Entity, runqueue: Runqueue) -> Reckoned {
     Reckoned {
         law: changed_law(change, law),
         entity: changed_entity(change, entity),
@@ -128,7 +128,7 @@ pub fn charging_by(
     match change {
         None => charging(law, entity, runqueue),
         Some(change) => {
-            let by = reckoned(change, law, entity, runqueue);
+            let by = reckon(change, law, entity, runqueue);
             charging(by.law, by.entity, by.runqueue)
         }
     }
@@ -147,7 +147,7 @@ pub fn cost_by(
     match change {
         None => cost(law, entity, runqueue, nanos),
         Some(change) => {
-            let by = reckoned(change, law, entity, runqueue);
+            let by = reckon(change, law, entity, runqueue);
             cost(by.law, by.entity, by.runqueue, nanos)
         }
     }
