@@ -1,6 +1,6 @@
 //! A reservation is asked for (`sched_dl_overflow`).
 
-use crate::machine::Machine;
+use crate::player::Player;
 use crate::shown::known_admitted;
 use deadline_events::Admission;
 use deadline_rules::DEADLINE_POLICY;
@@ -10,7 +10,7 @@ use rule_changes::admit_by;
 use std::alloc::AllocError;
 use trace_words::Admitted;
 
-impl Machine {
+impl Player {
     pub(crate) fn admitted(&mut self, place: Place, line: Admitted) -> Result<(), AllocError> {
         if line.policy != DEADLINE_POLICY {
             return Ok(());

@@ -3,8 +3,8 @@
 ghost use Rattle.std.specs.Prelude.{◌≡◌};
 ghost use Rattle.deadline_machine.specs.inside.Shown.{awaits_by};
 
-use crate::machine::Machine;
 use crate::pending::{Awaited, Blind, Duty, Rest};
+use crate::player::Player;
 use crate::shown::{shown_dequeued, shown_left};
 use deadline_events::{Arrival, Delayed};
 use deadline_rules::{Block, Change, REPLENISH, has};
@@ -17,7 +17,7 @@ use trace_words::{Dequeued, LeftClass, Migrating, Probe, TimerFunction};
 /// TASK_WAKING.
 const WAKING: u64 = 0x200;
 
-impl Machine {
+impl Player {
     pub(crate) fn dequeued(&mut self, place: Place, line: Dequeued) -> Result<(), AllocError> {
         self.state.take_sums(place, line.cpu, line.sums)?;
         let found = self.state.task(line.pid);

@@ -1,6 +1,6 @@
 //! A task is enqueued (`enqueue_task_dl`).
 
-use crate::machine::Machine;
+use crate::player::Player;
 use crate::shown::shown_enqueued;
 use deadline_events::{Arrival, Boost, Enqueuing, Refill};
 use deadline_rules::{Contention, Wake, is_before, replenished_blocked, reserved};
@@ -10,7 +10,7 @@ use rule_changes::enqueue_by;
 use std::alloc::AllocError;
 use trace_words::Enqueued;
 
-impl Machine {
+impl Player {
     pub(crate) fn enqueued(&mut self, place: Place, line: Enqueued) -> Result<(), AllocError> {
         self.state.take_sums(place, line.cpu, line.sums)?;
         let found = self.state.task(line.pid);

@@ -6,6 +6,7 @@ mod dequeues;
 mod enqueues;
 mod machine;
 mod pending;
+mod player;
 mod runs;
 mod servers;
 mod shown;
@@ -13,4 +14,5 @@ mod timers;
 
 pub use machine::Machine;
 pub use machine_state::{Runs, Shape};
+pub use player::Player;
 pub use rule_changes::RuleChange;

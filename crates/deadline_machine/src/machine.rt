@@ -1,32 +1,25 @@
-//! The machine: a state, and what each CPU has still to do.
+//! The machine: lines of probes, each played once.
 
-ghost use Rattle.std.specs.Prelude.{◌≡◌};
+ghost use Rattle.std.specs.Prelude.{◌≡◌, ◌+◌, ◌%◌, ◌^◌, OnOk};
 ghost use Rattle.exact_words.specs.Tallies.{none_differs};
 
-use crate::pending::{Blind, Duty, Rest};
+use crate::player::Player;
 use deadline_rules::Law;
 use exact_laws::Broken;
-use exact_words::{Comparison, Counts, Deviation, Event, Place, RuleCounts, Whose};
-use machine_state::{Shape, State};
+use exact_words::{Comparison, Counts, Deviation, Event, Place, RuleCounts};
+use machine_state::Shape;
 use rule_changes::RuleChange;
 use std::alloc::{AllocError, Global};
-use std::collections::HashMap;
 use trace_words::Probe;
 
 /// A kernel's accounting, played from lines of probes; each value that a line shows is compared with the rules'.
 #[derive(Drop)]
 pub struct Machine {
-    pub(crate) law: Law,
+    pub player: Player,
 
-    /// The one rule that is changed, if one is.
-    pub(crate) change: Option<RuleChange>,
-    pub state: State,
-
-    /// Whose the timer at an address is.
-    pub(crate) timers: HashMap<u64, Whose>,
-    pub(crate) duties: Vec<Duty>,
-    pub(crate) rests: Vec<Rest>,
-    pub(crate) blinds: Vec<Blind>,
+    /// How many lines were played, modulo 2^64, and the number of the last one.
+    pub lines: u64,
+    pub last: u64,
 }
 
 impl Machine {
@@ -39,52 +32,50 @@ impl Machine {
         domain: Vec<u32>,
         keeps_rows: bool,
         change: Option<RuleChange>,
-    ) -> Machine {
+    ) -> Machine
+        ensures { result.lines ≡ 0 }
+    {
         Machine {
-            law,
-            change,
-            state: State::new(alloc, shape, domain, keeps_rows),
-            timers: HashMap::new(alloc),
-            duties: Vec::new(alloc),
-            rests: Vec::new(alloc),
-            blinds: Vec::new(alloc),
+            player: Player::new(alloc, law, shape, domain, keeps_rows, change),
+            lines: 0,
+            last: 0,
         }
     }
 
     /// Whether each value that was compared is the kernel's, and each law holds.
     pub fn agrees(&self) -> bool
-        ensures { result ≡ none_differs self.now.state.sheet.counts }
+        ensures { result ≡ none_differs self.now.player.state.sheet.counts }
     {
-        self.state.sheet.agrees()
+        self.player.state.sheet.agrees()
     }
 
     /// How many values of each kind were compared.
     pub fn counts(&self) -> Counts {
-        self.state.sheet.counts
+        self.player.state.sheet.counts
     }
 
     /// How often each rule was put to the test.
     pub fn rules(&self) -> RuleCounts {
-        self.state.sheet.rules
+        self.player.state.sheet.rules
     }
 
     /// The first comparison that differs.
     pub fn first(&self) -> Option<Deviation> {
-        self.state.sheet.first
+        self.player.state.sheet.first
     }
 
     /// The first law that is broken.
     pub fn broken(&self) -> Option<Broken> {
-        self.state.laws.broken
+        self.player.state.laws.broken
     }
 
     /// The comparisons since the last `clear_rows`.
     pub fn rows(&self) -> &[Comparison] {
-        self.state.sheet.rows.as_slice()
+        self.player.state.sheet.rows.as_slice()
     }
 
     pub fn clear_rows(&mut self) {
-        self.state.sheet.rows.clear();
+        self.player.state.sheet.rows.clear();
     }
 
     /// Plays a line, and compares each value that it shows.
@@ -95,7 +86,10 @@ impl Machine {
         cpu: u32,
         pid: u64,
         probe: &Probe,
-    ) -> Result<(), AllocError> {
+    ) -> Result<(), AllocError>
+        ensures lines { OnOk result (self.new.lines ≡ (self.old.lines + 1) % 2 ^ 64) }
+        ensures last { OnOk result (self.new.last ≡ line) }
+    {
         let place = Place {
             line,
             at,
@@ -103,40 +97,15 @@ impl Machine {
             pid,
             event: event_of(probe),
         };
-        self.state.laws.see(place, probe)?;
-        self.state.take_due_effects(place)?;
-        self.state.close_readings(place)?;
-        let awaited = self.end_other_rest(place, probe)?;
-        if !matches!(probe, Probe::Armed(_)) {
-            self.close_duties(place)?;
-        }
-        self.play(place, probe)?;
-        if awaited && matches!(probe, Probe::Enqueued(_)) {
-            self.finish_rest(place)?;
-        }
+        self.player.step(place, probe)?;
+        self.lines = self.lines.wrapping_add(1);
+        self.last = line;
         Ok(())
     }
 
     /// Compares what is still pending at the end of a record, and the laws.
     pub fn finish(&mut self, has_servers: bool) -> Result<(), AllocError> {
-        self.state.close_all_readings()?;
-        self.state.laws.finish(has_servers, &mut self.state.sheet)
-    }
-
-    fn play(&mut self, place: Place, probe: &Probe) -> Result<(), AllocError> {
-        match probe {
-            Probe::Enqueued(line) => self.enqueued(place, *line),
-            Probe::Updated(line) => self.updated(place, *line),
-            Probe::Dequeued(line) => self.dequeued(place, *line),
-            Probe::Migrating(line) => self.migrating(place, *line),
-            Probe::LeftClass(line) => self.left_class(place, *line),
-            Probe::Admitted(line) => self.admitted(place, *line),
-            Probe::ZeroLagFired { timer } => self.zero_lag_fired(place, *timer),
-            Probe::ReplenishFired { timer } => self.replenish_fired(place, *timer),
-            Probe::Armed(line) => self.armed(place, *line),
-            Probe::ServerStarted(line) => self.server_started(place, *line),
-            Probe::Picked(line) => self.picked(place, *line),
-        }
+        self.player.finish(has_servers)
     }
 }
 

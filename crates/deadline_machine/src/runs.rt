@@ -1,7 +1,7 @@
 //! A task has run (`update_curr_dl_se`).
 
-use crate::machine::Machine;
 use crate::pending::Awaited;
+use crate::player::Player;
 use crate::shown::{charged_runqueue, delta_of, off_tree};
 use deadline_events::{Spending, Spent};
 use deadline_rules::{Charge, Runqueue as Charged, charged};
@@ -11,7 +11,7 @@ use rule_changes::{charging_by, cost_by, spend_by};
 use std::alloc::AllocError;
 use trace_words::Updated;
 
-impl Machine {
+impl Player {
     pub(crate) fn updated(&mut self, place: Place, line: Updated) -> Result<(), AllocError> {
         self.state.take_sums(place, line.cpu, line.sums)?;
         let found = self.state.task(line.pid);

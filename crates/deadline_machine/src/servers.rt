@@ -1,6 +1,6 @@
 //! A fair server starts, or stops (`enqueue_dl_entity`, `pick_task_dl`).
 
-use crate::machine::Machine;
+use crate::player::Player;
 use crate::shown::shown_contending;
 use deadline_rules::{QUEUED, WAKEUP, contended, contending, contending_change, has, reserved};
 use exact_words::{Place, Rule, Whose};
@@ -9,7 +9,7 @@ use rule_changes::dequeue_by;
 use std::alloc::AllocError;
 use trace_words::{Picked, ServerStarted};
 
-impl Machine {
+impl Player {
     pub(crate) fn server(&self, cpu: u32, dl_runtime: u64, dl_period: u64) -> Actor {
         let actor = self.state.actor(Whose::Server { cpu });
         Actor {

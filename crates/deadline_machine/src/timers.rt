@@ -1,7 +1,7 @@
 //! Timers that fire, and timers that are armed (`inactive_task_timer`, `dl_task_timer`, `hrtimer_start_range_ns`).
 
-use crate::machine::Machine;
 use crate::pending::Duty;
+use crate::player::Player;
 use crate::shown::{fits, with_runtime};
 use deadline_events::Delayed;
 use deadline_rules::{Change, unchanged, zero_lag};
@@ -11,7 +11,7 @@ use rule_changes::{fired_by, replenish_fired_by};
 use std::alloc::AllocError;
 use trace_words::{Armed, Expiry, TimerFunction};
 
-impl Machine {
+impl Player {
     /// Timers that this CPU should have armed by now.
     pub(crate) fn close_duties(&mut self, place: Place) -> Result<(), AllocError> {
         let by = place.cpu;
