@@ -56,18 +56,18 @@ cases: build
 
 # Man pages and completions beside --help of the programs.
 options: build
-	bash scripts/options.sh
+	python3 scripts/options.py
 
 # grubrun beside plain Rust without proofs (bench/, which wants cargo), in one run.
 bench: runner
 	@python3 bench/compare.py
 
-# Records a load of three tasks on this machine and checks the record; elsewhere it says why it cannot.
+# Records a load of four tasks on this machine and checks the record; elsewhere it says why it cannot.
 record-check: tracer
 	scripts/record-check.sh
 
-# A release that needs no kit, out/neddwyrol-VERSION.tar.gz, which is unpacked and tried.
-dist: build
+# A release that needs no kit, out/neddwyrol-VERSION-x86_64-linux.tar.gz, which is unpacked and tried.
+dist: build library
 	@bash scripts/dist.sh
 
 # The programs, their man pages, and the completions of bash, zsh and fish, below PREFIX; DESTDIR goes in front of it.

@@ -3,8 +3,8 @@
 
 A program is the one that the gate or `make build` left, where no path is named. A table is read line by line:
 
-    file NAME [of PATH] [made KIND NUMBER..]
-                              makes a file of the lines '| ..' below, or copies one of the repository, or makes one by inputs.py
+    file NAME [of PATH] [made KIND WORD..]
+                              makes a file of the lines '| ..' below, or copies one of the repository (PATH.xz is unpacked), or makes one by inputs.py
     case NAME                 begins a case; its first line below is
     run PROGRAM WORD..        and its status is 0, and both outputs are empty, where it does not say otherwise:
     status N
@@ -23,11 +23,11 @@ A program is the one that the gate or `make build` left, where no path is named.
 
 '{WORD N times}' stands for a word so many times, and '{all of FOLDER}' for the files of a folder. The last line is 'N passed, M failed'.
 """
+import lzma
 import os
 import re
 import resource
 import shlex
-import shutil
 import signal
 import subprocess
 import sys
@@ -157,9 +157,10 @@ class Table:
 
     def read_line(self, key, rest):
         if key == "file":
-            name, how, *path = rest.split(" ") if " " in rest else (rest, "")
+            name, how, *path = shlex.split(rest) if " " in rest else (rest, "")
             if how == "of":
-                shutil.copy(f"{ROOT}/{path[0]}", name)
+                with open(name, "wb") as it:
+                    it.write((lzma.decompress if path[0].endswith(".xz") else bytes)(bytes_of(f"{ROOT}/{path[0]}")))
             elif how == "made":
                 make(name, path[0], path[1:])
             else:

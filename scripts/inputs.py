@@ -1,5 +1,7 @@
-"""Inputs at the limits, made where a table of cases names them: file NAME made KIND NUMBER.."""
+"""Inputs made where a table of cases names them: file NAME made KIND WORD.."""
+import lzma
 import os
+import subprocess
 
 ROOT = os.path.dirname(os.path.dirname(os.path.abspath(__file__)))
 PROCESSOR = 1048576
@@ -84,5 +86,13 @@ def processors(path, count):
     write(path, *lines)
 
 
-def make(path, kind, numbers):
-    {it.__name__: it for it in (zeros, readings, queues, crowded, trace, processors)}[kind](path, *map(int, numbers))
+def record(path, name, *edits):
+    """A record of examples/records, changed by these commands of sed."""
+    script = [it for edit in ("", *edits) for it in ("-e", edit)]
+    with lzma.open(f"{ROOT}/examples/records/{name}.txt.xz") as packed, open(path, "wb") as it:
+        subprocess.run(["sed", "-E", *script], input=packed.read(), stdout=it, check=True)
+
+
+def make(path, kind, words):
+    kinds = (zeros, readings, queues, crowded, trace, processors, record)
+    {it.__name__: it for it in kinds}[kind](path, *(int(it) if it.isdecimal() else it for it in words))

@@ -1,9 +1,9 @@
 #!/usr/bin/env python3
 """Holds the declarations of the library for C to its source: the header, the Rust crate and the Python module.
 
-library-declarations.py [LIBRARY]: the structs with their fields, the calls with the types of their arguments, and every
-number of a state, an op, a reply and a fault have to be those of crates/grub_flat and crates/neddwyrol. The Python module
-is looked at as it is loaded, with the shared library LIBRARY. It prints what differs, and ends with 0 where nothing does.
+library-declarations.py LIBRARY: the structs with their fields, the calls with the types of their arguments, and every
+number have to be those of crates/grub_flat and crates/neddwyrol. The Python module is looked at as it is loaded, with the
+shared library LIBRARY. It prints what differs, and ends with 0 where nothing does.
 """
 import ctypes
 import os
@@ -11,141 +11,100 @@ import re
 import sys
 
 ROOT = os.path.dirname(os.path.dirname(os.path.abspath(__file__)))
-C_TYPES = {"u32": "uint32_t", "u64": "uint64_t", "i64": "int64_t", "usize": "size_t"}
-PYTHON_TYPES = {"u32": ctypes.c_uint32, "u64": ctypes.c_uint64, "i64": ctypes.c_int64, "usize": ctypes.c_size_t}
-faults = []
+STRUCT = r"#\[repr\(C\)\]\n(?:#[^\n]*\n)*pub struct (?:Nd)?(\w+) \{(.*?)\n\}"
+NUMBER = r"pub const (?P<name>\w+): \w+ = (?P<n>\d+);"
 
 
-def text_of(path):
-    with open(f"{ROOT}/{path}", encoding="utf-8") as it:
-        return it.read()
+def text_of(*paths):
+    return "\n".join(open(f"{ROOT}/{it}", encoding="utf-8").read() for it in paths)
 
 
-def differs(what, wanted, got):
-    if wanted != got:
-        faults.append(f"{what}: the source has {wanted}, and here it is {got}")
+def all_of(pattern, text):
+    return re.findall(pattern, text, re.S | re.M)
 
 
 def snake(name):
     return re.sub(r"(?<=[a-z0-9])(?=[A-Z])", "_", name).lower()
 
 
-def fields_of(body, form):
-    return [tuple(reversed(it) if form == "c" else it) for it in re.findall(
-        r"(\w+) (\w+);" if form == "c" else r"pub (\w+): (\w+),", re.sub(r"/\*.*?\*/|//.*", "", body, flags=re.S if form == "c" else 0))]
+def numbers_of(pattern, text):
+    return {snake(it["name"]).upper(): int(it["n"]) for it in re.finditer(pattern, text, re.S | re.M)}
+
+
+def fields_of(body):
+    return [(name, kind.removeprefix("Nd")) for name, kind in all_of(r"pub (\w+): (\w+),", re.sub("//.*", "", body))]
+
+
+def calls_of(pattern, text):
+    return {name: ([it.split(":")[1].strip() for it in arguments.split(",") if ":" in it], result) for name, arguments, result in all_of(pattern, text)}
 
 
 def source():
-    """The structs, calls and numbers of the source: {name: fields}, {name: (arguments, result)}, {name: number}."""
-    structs, calls, numbers = {}, {}, {}
-    for name in ("memory", "asked", "numbers"):
-        text = text_of(f"crates/grub_flat/src/{name}.rt")
-        for struct, body in re.findall(r"#\[repr\(C\)\]\n(?:#[^\n]*\n)*pub struct Nd(\w+) \{(.*?)\n\}", text, re.S):
-            structs[struct] = fields_of(body, "rust")
-    for name in ("arithmetic", "book", "checks"):
-        text = text_of(f"crates/neddwyrol/src/{name}.rt")
-        for call, arguments, result in re.findall(r'extern "C" fn (\w+)\((.*?)\) -> (\w+)', text, re.S):
-            calls[call] = ([it.split(":")[1].strip() for it in arguments.split(",") if ":" in it], result)
-    for name in ("codes", "checker"):
-        text = text_of(f"crates/grub_flat/src/{name}.rt")
-        numbers |= {it: int(number) for it, number in re.findall(r"pub const (\w+): u32 = (\d+);", text)}
-    spoken = text_of("crates/grub_flat/src/calls.rt")
-    for number, op in re.findall(r"(\d+) => Some\(Op::(\w+)", spoken):
-        numbers[snake(op).upper()] = int(number)
-    for reply, number in re.findall(r"Reply::(\w+)(?: \{.*?\}|\(\w\))? => \w+\((\d+)", spoken):
-        numbers[snake(reply).upper()] = int(number)
-    numbers["CHARGED"] = int(re.search(r"Reply::Charged \{.*?kind: (\d+)", spoken, re.S)[1])
-    placed = text_of("crates/grub_flat/src/records.rt")
-    numbers["AWAY"] = int(re.search(r"(\d+) => Place::Away", placed)[1])
-    for number, state in re.findall(r"(\d+) => Place::On\(queue, State::(\w+)\)", placed):
-        numbers[snake(state).upper()] = int(number)
-    numbers["GONE_FOR_GOOD"] = int(re.search(r"Place::Gone => \((\d+)", placed)[1])
-    limits = text_of("crates/grub_flat/src/memory.rt")
-    for it in ("QUEUES_MAX", "TASKS_MAX"):
-        numbers[it] = int(re.search(rf"FLAT_{it}: usize = (\d+)", limits)[1])
-    numbers["UNIT"] = int(re.search(r"BW_UNIT: u32 = (\d+)", text_of("crates/grub_bw/src/queue.rt"))[1])
-    numbers["ABI"] = int(re.search(r"pub const ABI: u32 = (\d+)", text_of("crates/neddwyrol/src/checks.rt"))[1])
-    return structs, calls, numbers
+    """The structs, calls and numbers: {name: fields}, {name: (arguments, result)}, {name: number}."""
+    flat = text_of(*(f"crates/grub_flat/src/{it}.rt" for it in ("memory", "asked", "numbers", "codes", "checker")))
+    exports = text_of(*(f"crates/neddwyrol/src/{it}.rt" for it in ("arithmetic", "book", "checks")))
+    spoken, placed = text_of("crates/grub_flat/src/calls.rt"), text_of("crates/grub_flat/src/records.rt")
+    numbers = numbers_of(r"Place::(?P<name>Gone) => \((?P<n>\d+)", placed)
+    numbers = {"GONE_FOR_GOOD": numbers["GONE"]}
+    for pattern, text in (
+        (r"pub const (?:FLAT_)?(?P<name>\w+): \w+ = (?P<n>\d+);", flat + exports),
+        (r"BW_(?P<name>UNIT): u32 = (?P<n>\d+)", text_of("crates/grub_bw/src/queue.rt")),
+        (r"(?P<n>\d+) => Some\(Op::(?P<name>\w+)", spoken),
+        (r"Reply::(?P<name>\w+)(?: \{[^{}]*\}|\(\w\))? => \w+(?: \{\s*kind: |\()(?P<n>\d+)", spoken),
+        (r"(?P<n>\d+) => Place::(?:On\(queue, State::)?(?P<name>\w+)", placed),
+    ):
+        numbers |= numbers_of(pattern, text)
+    structs = {name: fields_of(body) for name, body in all_of(STRUCT, flat)}
+    return structs, calls_of(r'extern "C" fn (\w+)\((.*?)\) -> (\w+)', exports), numbers
 
 
-def spread(kind, plain, pointer, constant):
-    """An argument of the source as those of C: a slice is a pointer and a count."""
-    part = re.fullmatch(r"&(mut )?(\[?)(?:Nd)?(\w+)\]?", kind)
-    if not part:
-        return [plain(kind)]
-    at = pointer(plain(part[3])) if part[1] else constant(plain(part[3]))
-    return [at, plain("usize")] if part[2] else [at]
-
-
-def as_named(kind):
-    return kind[2:] if kind.startswith("Nd") else kind
-
-
-def header(structs, calls, numbers):
+def header():
     text = re.sub(r"/\*.*?\*/", "", text_of("bindings/include/neddwyrol.h"), flags=re.S)
-    found = {name: fields_of(body, "c") for body, name in re.findall(r"typedef struct \{(.*?)\} nd_(\w+);", text, re.S) if name != "book"}
-
-    def plain(kind):
-        return C_TYPES.get(kind) or "nd_" + snake(as_named(kind))
-
-    differs("the header's structs", {snake(it): [(name, plain(kind)) for name, kind in fields] for it, fields in structs.items()}, found)
-    declared = {}
-    for result, name, arguments in re.findall(r"^(\w+) (nd_\w+)\((.*?)\);", text, re.S | re.M):
-        kinds = [] if arguments == "void" else [re.sub(r"\s*\w+$", "", re.sub(r"\s+", " ", it.strip())) for it in arguments.split(",")]
-        declared[name] = (kinds, result)
-    wanted = {}
-    for name, (arguments, result) in calls.items():
-        wanted[name] = ([it for kind in arguments for it in spread(kind, plain, lambda k: f"{k} *", lambda k: f"const {k} *")], plain(result))
-    differs("the header's calls", wanted, declared)
-    got = {it: int(number) for it, number in re.findall(r"ND_(\w+) = (\d+)", text)}
-    got |= {it: int(number) for it, number in re.findall(r"#define ND_(\w+) (\d+)", text)}
-    differs("the header's numbers", dict(sorted(numbers.items())), dict(sorted(got.items())))
+    kinds = {"u32": "uint32_t", "u64": "uint64_t", "i64": "int64_t", "usize": "size_t"}
+    structs = {f"nd_{name}": [it[::-1] for it in all_of(r"(\w+) (\w+);", body)] for body, name in all_of(r"typedef struct \{(.*?)\} nd_(\w+);", text) if name != "book"}
+    calls = {}
+    for result, name, arguments in all_of(r"^(\w+) (nd_\w+)\((.*?)\);", text):
+        calls[name] = ([re.sub(r"\w+$", "", " ".join(it.split())).strip() for it in arguments.split(",") if it != "void"], result)
+    numbers = numbers_of(r"ND_(?P<name>\w+) = (?P<n>\d+)", text) | numbers_of(r"#define ND_(?P<name>\w+) (?P<n>\d+)", text)
+    return lambda kind: kinds.get(kind) or "nd_" + snake(kind), lambda kind, mut: f"{kind} *" if mut else f"const {kind} *", structs, calls, numbers
 
 
-def crate(structs, calls, numbers):
-    text = text_of("bindings/rust/src/lib.rs")
-    found = {name: fields_of(body, "rust") for name, body in re.findall(r"#\[repr\(C\)\]\n(?:#[^\n]*\n)*pub struct (\w+) \{(.*?)\n\}", text, re.S)}
-    differs("the crate's structs", {it: [(name, as_named(kind)) for name, kind in fields] for it, fields in structs.items()}, found)
-    declared = {}
-    for name, arguments, result in re.findall(r"pub fn (nd_\w+)\((.*?)\) -> (\w+);", text_of("bindings/rust/src/raw.rs"), re.S):
-        declared[name] = ([it.split(":")[1].strip() for it in arguments.split(",") if ":" in it], result)
-    wanted = {}
-    for name, (arguments, result) in calls.items():
-        wanted[name] = ([it for kind in arguments for it in spread(kind, as_named, "*mut {}".format, "*const {}".format)], as_named(result))
-    differs("the crate's calls", wanted, declared)
-    got = {it: int(number) for it, number in re.findall(r"pub const (\w+): \w+ = (\d+);", text_of("bindings/rust/src/codes.rs"))}
-    differs("the crate's numbers", dict(sorted(numbers.items())), dict(sorted(got.items())))
+def crate():
+    structs = {name: fields_of(body) for name, body in all_of(STRUCT, text_of("bindings/rust/src/lib.rs"))}
+    calls = calls_of(r"pub fn (nd_\w+)\((.*?)\) -> (\w+);", text_of("bindings/rust/src/raw.rs"))
+    numbers = numbers_of(NUMBER, text_of("bindings/rust/src/codes.rs"))
+    return lambda kind: kind, lambda kind, mut: f"*{'mut' if mut else 'const'} {kind}", structs, calls, numbers
 
 
-def module(structs, calls, numbers):
+def module(names, numbers):
     sys.path.insert(0, f"{ROOT}/bindings/python")
-    sys.dont_write_bytecode = True
-    import neddwyrol
+    import neddwyrol as it
 
-    def plain(kind):
-        return PYTHON_TYPES.get(kind) or getattr(neddwyrol, as_named(kind), kind)
+    kinds = {"u32": ctypes.c_uint32, "u64": ctypes.c_uint64, "i64": ctypes.c_int64, "usize": ctypes.c_size_t}
+    structs = {getattr(it, name): [(field.rstrip("_"), kind) for field, kind in getattr(it, name)._fields_] for name in names}
+    calls = {name: (arguments, result) for name, (result, arguments) in it.CALLS.items()}
+    return lambda kind: kinds.get(kind) or getattr(it, kind), lambda kind, _: ctypes.POINTER(kind), structs, calls, {name: getattr(it, name, None) for name in numbers}
 
-    for name, fields in structs.items():
-        got = [(it.rstrip("_"), kind) for it, kind in getattr(neddwyrol, name)._fields_]
-        differs(f"the module's {name}", [(it, plain(kind)) for it, kind in fields], got)
-    wanted = {}
-    for name, (arguments, result) in calls.items():
-        wanted[name] = (plain(result), [it for kind in arguments for it in spread(kind, plain, ctypes.POINTER, ctypes.POINTER)])
-    differs("the module's calls", wanted, neddwyrol.CALLS)
-    for name, number in numbers.items():
-        differs(f"the module's {name}", number, getattr(neddwyrol, name, None))
+
+def spread(kind, plain, pointer):
+    """An argument of the source as those of C: a slice is a pointer and a count."""
+    ref, mut, is_slice, name = re.fullmatch(r"(&?)(mut )?(\[?)(?:Nd)?(\w+)\]?", kind).groups()
+    return [pointer(plain(name), mut) if ref else plain(name)] + [plain("usize")] * bool(is_slice)
 
 
 def main(words):
-    if words:
-        os.environ["NEDDWYROL_SO"] = os.path.abspath(words[0])
-    told = source()
-    structs, calls, numbers = told
-    if len(structs) != 10 or len(calls) != 14 or len(numbers) != 61:
-        faults.append(f"the source was not read: {len(structs)} structs, {len(calls)} calls, {len(numbers)} numbers")
-    header(*told)
-    crate(*told)
-    module(*told)
+    os.environ["NEDDWYROL_SO"] = os.path.abspath(words[0])
+    sys.dont_write_bytecode = True
+    structs, calls, numbers = source()
+    faults = [] if (len(structs), len(calls), len(numbers)) == (10, 14, 61) else [f"the source was not read: {len(structs)} structs, {len(calls)} calls, {len(numbers)} numbers"]
+    for where, (plain, pointer, *found) in (("the header", header()), ("the crate", crate()), ("the module", module(structs, numbers))):
+        wanted = (
+            {plain(name): [(field, plain(kind)) for field, kind in fields] for name, fields in structs.items()},
+            {name: ([it for kind in arguments for it in spread(kind, plain, pointer)], plain(result.removeprefix("Nd"))) for name, (arguments, result) in calls.items()},
+            numbers,
+        )
+        for want, got in zip(wanted, found):
+            faults += [f"{where}: the source has {it} as {want.get(it)}, and here it is {got.get(it)}" for it in {**want, **got} if want.get(it) != got.get(it)]
     for it in faults:
         print(f"library-declarations: {it}")
     return 1 if faults else 0

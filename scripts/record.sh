@@ -35,11 +35,11 @@ command -v "$1" > /dev/null || fail "there is no program $1"
 part=$out.part
 
 # ---- What is made here is unmade in finish, in the opposite order.
-mounts= record= calls= notes= program= set=
+mounts= record= exits= enters= notes= program= set=
 finish() {
     trap '' HUP INT TERM
     for process in $program $notes; do kill "$process" 2> /dev/null; done
-    for instance in $record $calls; do
+    for instance in $record $exits $enters; do
         [ -d "$instance" ] || continue
         echo 0 > "$instance/tracing_on"
         echo 0 > "$instance/events/enable"
@@ -123,13 +123,18 @@ fi
 echo "# grub: notes 1 kernel=$(uname -r) domain=$domain$(limits)" 2> /dev/null > "$part" || fail "$out cannot be written"
 "$kernel_scripts/probes.sh" sums >> "$part"
 
-calls=$tracefs/instances/grub.$$.calls
-instance "$calls" 256
-for event in $system_calls; do turn_on "$calls" "syscalls/$event"; done
+exits=$tracefs/instances/grub.$$.exits
+enters=$tracefs/instances/grub.$$.enters
+instance "$exits" 256
+instance "$enters" 256
+for event in $system_calls; do
+    case $event in sys_enter*) turn_on "$enters" "syscalls/$event" ;; *) turn_on "$exits" "syscalls/$event" ;; esac
+done
 [ ! "$no_calls" ] || say "no events of sched_setattr: the notes have the tasks that are there at the start alone"
-"$kernel_scripts/notes.pl" "$calls" >> "$part" &
+echo 1 > "$enters/tracing_on"
+"$kernel_scripts/notes.pl" "$exits" "$enters" >> "$part" &
 notes=$!
-until [ "$(cat "$calls/tracing_on")" = 1 ] || ! kill -0 "$notes" 2> /dev/null; do sleep 0.05; done
+until [ "$(cat "$exits/tracing_on")" = 1 ] || ! kill -0 "$notes" 2> /dev/null; do sleep 0.05; done
 
 # ---- The run. A signal ends PROGRAM, and what was recorded by then is kept.
 stopped=
@@ -155,7 +160,7 @@ trap 'exit 130' INT
 trap 'exit 143' TERM
 
 # ---- The text.
-{ echo 'grub: end' > "$calls/trace_marker"; } 2> /dev/null
+{ echo 'grub: end' > "$exits/trace_marker"; } 2> /dev/null
 wait "$notes" || say "the notes of tasks end early: give --task for what they lack"
 notes=
 lost=$(cat "$record"/per_cpu/cpu*/stats | awk '/^(overrun|commit overrun|dropped events):/ { lost += $NF } END { print lost + 0 }')

@@ -6,7 +6,7 @@ Every charge is the book's, and what happened is recorded and held to the book. 
 
 import sys
 
-from neddwyrol import BLOCK, CHARGE, CONTENDING, JOIN, NON_CONTENDING, TIMER, WAKE, Book, Event, Op
+from neddwyrol import BLOCK, CHARGE, CONTENDING, JOIN, NON_CONTENDING, TIMER, UNIT, WAKE, Book, Event, Op
 
 RESERVATIONS, RUNQUEUE = [(2000, 8000), (3000, 12000), (4000, 16000)], (996147, 209715)
 DEMAND = [1500, 2500, 9000]  # of each job; a job comes each period
@@ -74,8 +74,12 @@ if len(sys.argv) > 1:
     except ImportError:
         print("matplotlib is not there: nothing is drawn", file=sys.stderr)
         sys.exit(0 if given == len(history) else 1)
-    plot.step(*zip(*readings), where="post")
-    plot.xlabel("microseconds")
-    plot.ylabel("running_bw in 1/2^20")
+    moments, sums = zip(*readings, (now, book.queues[0].running_bw))
+    plot.figure(figsize=(9, 3))
+    plot.fill_between([it / 1000 for it in moments], [it / UNIT for it in sums], step="post", alpha=0.4)
+    plot.ylim(0, 1)
+    plot.xlabel("milliseconds")
+    plot.ylabel("running_bw of a processor")
+    plot.tight_layout()
     plot.savefig(sys.argv[1])
 sys.exit(0 if given == len(history) else 1)

@@ -1,8 +1,9 @@
 #!/usr/bin/perl
-# notes.pl INSTANCE: which SCHED_DEADLINE tasks there are, with their parameters, as notes for the head of a record: first those
-# that are there already, then each that sched_setattr or sched_setscheduler makes, changes or takes out of the class. It reads
-# these system calls in the trace_pipe of a tracefs instance, which it turns on, and asks sched_getattr for the task. It ends at the
-# marker "grub: end" there.
+# notes.pl EXITS ENTERS: which SCHED_DEADLINE tasks there are, with their parameters, as notes for the head of a record: first those
+# that are there already, then each that sched_setattr or sched_setscheduler makes, changes or takes out of the class. It reads the
+# exits of these system calls in the trace_pipe of the tracefs instance EXITS, which it turns on, and asks sched_getattr for the task
+# that the call's entry named. It ends at the marker "grub: end" there. The entries are in an instance of their own, which is read
+# without waiting: else they would wake this program in the midst of the call, and charge the task there.
 use strict;
 use warnings;
 $| = 1;
@@ -45,11 +46,27 @@ open(my $pipe, '<', "$ARGV[0]/trace_pipe") or die "there is no trace_pipe\n";
 open(my $on, '>', "$ARGV[0]/tracing_on") or die "there is no tracing_on\n";
 print $on 1;
 close $on;
-my %asked;
+my $lost = qr/\[LOST \d+ EVENTS\]/;
+my $where = qr/-(\d+)\s+\[(\d+)\]\s+\S+\s+(\d+\.\d+): sys_sched_set(?:attr|scheduler)/;
+my $nonblock = 2048;
+sysopen(my $enters, "$ARGV[1]/trace_pipe", $nonblock) or die "there is no trace_pipe\n";
+my ($unread, %calls) = ('');
+
+# The task that the last call of this pid up to a moment was about; 0 is the caller itself.
+sub asked {
+    my ($by, $at) = @_;
+    while (sysread($enters, $unread, 65536, length $unread)) { }
+    while ($unread =~ s/^(.*)\n//) {
+        my $line = $1;
+        die "notes were lost\n" if $line =~ $lost;
+        push @{$calls{$1}}, [$3, hex $4] if $line =~ /$where\(pid: (?:0x)?([0-9a-f]+)/;
+    }
+    my ($told) = grep { $_->[0] <= $at } reverse @{$calls{$by} || []};
+    return $told && $told->[1] || $by;
+}
+
 while (<$pipe>) {
     last if /tracing_mark_write: grub: end/;
-    die "notes were lost\n" if /\[LOST \d+ EVENTS\]/;
-    my ($by, $cpu, $at, $call) = /-(\d+)\s+\[(\d+)\]\s+\S+\s+(\d+\.\d+): sys_sched_set(?:attr|scheduler)(.*)/ or next;
-    if ($call =~ /^\(pid: ([0-9a-f]+)/) { $asked{$by} = hex $1 }
-    elsif ($call =~ /^ -> 0x0/) { note($asked{$by} || $by, "at=$at by=$by cpu=" . ($cpu + 0)) }
+    die "notes were lost\n" if $_ =~ $lost;
+    note(asked($1, $3), "at=$3 by=$1 cpu=" . ($2 + 0)) if /$where -> 0x0/;
 }
