@@ -1,46 +1,47 @@
-//! What a CPU has still to do.
+//! What is not certain yet.
 
-use exact_words::Whose;
-use trace_words::TimerFunction;
+use deadline_events::Delayed;
+use exact_words::{Place, Whose};
 
-/// A timer that a CPU must arm now.
+/// Whose runqueue an effect is on, and what it does.
 #[derive(Clone, Copy)]
-pub struct Duty {
-    pub by: u32,
-    pub whose: Whose,
-    pub function: TimerFunction,
+pub enum Effect {
+    /// To `extra_bw`.
+    Extra(u64),
 
-    /// The 0-lag time, and the moment of the line that armed it.
-    pub zero_lag: Option<i64>,
-    pub at: u64,
+    /// To `this_bw` and `running_bw`, of an entity of this bandwidth.
+    Sums {
+        whose: Whose,
+        delayed: Delayed,
+        bw: u64,
+    },
 }
 
-/// The line within a dequeue that comes before its rest.
+/// An effect of a function whose line is before its lock.
 #[derive(Clone, Copy)]
-pub enum Awaited {
-    /// The charge of the task that runs.
-    Charge,
-
-    /// The enqueue of a task that is replenished at once.
-    Enqueue,
-}
-
-/// A dequeue whose rest is to come.
-#[derive(Clone, Copy)]
-pub struct Rest {
+pub struct Later {
+    /// The CPU that runs the function.
     pub by: u32,
-    pub whose: Whose,
+
+    /// The CPU of the runqueue.
     pub cpu: u32,
-    pub flags: u64,
-    pub on_rq: u64,
-    pub clock: u64,
-    pub current: u64,
-    pub awaited: Awaited,
+
+    /// The moment of the function's line.
+    pub at: u64,
+    pub effect: Effect,
 }
 
-/// A CPU that dequeues a task of before the record, whose timer it may arm.
+/// An `extra_bw` that no value explains yet.
 #[derive(Clone, Copy)]
-pub struct Blind {
-    pub by: u32,
+pub struct Reading {
+    pub place: Place,
+    pub cpu: u32,
+    pub extra_bw: u64,
+}
+
+/// A budget that a charge by a later `extra_bw` would have left.
+#[derive(Clone, Copy)]
+pub struct Alternative {
     pub whose: Whose,
+    pub runtime: i64,
 }

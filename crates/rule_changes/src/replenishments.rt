@@ -91,9 +91,9 @@ fn changed_fired(change: RuleChange, entity: Entity) -> Entity {
         ..entity
     };
     match change {
-        RuleChange::BudgetSet | RuleChange::YieldKeeps => replenish_fired(with_left(
-            change, entity,
-        )),
+        RuleChange::BudgetSet | RuleChange::YieldKeeps if is_blocked(entity) => {
+            replenish_fired(with_left(change, entity))
+        }
         RuleChange::BlockedStays if is_blocked(entity) => Entity {
             is_late: true,
             ..disarmed

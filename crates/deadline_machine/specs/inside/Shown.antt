@@ -16,10 +16,10 @@ use Rattle.deadline_rules.specs.declared.charge.Runqueue.{Runqueue}
 use Rattle.deadline_rules.specs.declared.flags.TheConstants.{REPLENISH}
 use Rattle.deadline_rules.specs.Clock.{plus, less, signed, contains_bits}
 use Rattle.deadline_rules.specs.Reservation.{reserved_of, cleared_of}
-use Rattle.machine_state.specs.declared.actor.Actor.{Actor}
-use Rattle.deadline_machine.specs.declared.pending.Awaited.{Awaited}
-use Rattle.deadline_machine.specs.declared.pending.Awaited.TheVariants.{Charge, Enqueue}
-use Rattle.deadline_machine.specs.declared.pending.Rest.{Rest}
+use Rattle.deadline_machine.specs.declared.actor.Actor.{Actor}
+use Rattle.deadline_machine.specs.declared.waiting.Awaited.{Awaited}
+use Rattle.deadline_machine.specs.declared.waiting.Awaited.TheVariants.{Charge, Enqueue}
+use Rattle.deadline_machine.specs.declared.waiting.Rest.{Rest}
 
 -- an enqueue shows all but the 0-lag state, which a record without dequeues does not show either
 abbrev pub enqueued_shown : Actor → Enqueued → Bool → Actor

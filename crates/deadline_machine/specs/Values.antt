@@ -13,10 +13,10 @@ use Rattle.exact_words.specs.declared.words.Quantity.TheVariants.{Runtime, Deadl
 use Rattle.exact_words.specs.declared.counts.Counts.{Counts}
 use Rattle.exact_words.specs.Kinds.{kind_by}
 use Rattle.exact_words.specs.Tallies.{counted_of}
-use Rattle.machine_state.specs.declared.actor.Actor.{Actor}
-use Rattle.machine_state.specs.declared.runqueue.Runqueue.{Runqueue}
-use Rattle.machine_state.specs.declared.runqueue.ThisBw.{ThisBw}
-use Rattle.machine_state.specs.declared.runqueue.ThisBw.TheVariants.{Unknown, FromStart, Known}
+use Rattle.deadline_machine.specs.declared.actor.Actor.{Actor}
+use Rattle.deadline_machine.specs.declared.runqueue.Runqueue.{Runqueue}
+use Rattle.deadline_machine.specs.declared.runqueue.ThisBw.{ThisBw}
+use Rattle.deadline_machine.specs.declared.runqueue.ThisBw.TheVariants.{Unknown, FromStart, Known}
 
 -- counts after these comparisons
 abbrev pub counts_from : Counts → List Deviation → Counts
