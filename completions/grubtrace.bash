@@ -29,7 +29,7 @@ _grubtrace() {
         help) words='tasks events check size' ;;
         tasks) words='-h --help' ;;
         events) words='--task --cpus --rt --fair-server --out -h --help' ;;
-        check) words='--task --cpus --domain --rt --fair-server --kernel --within --by --timers --table -h --help' ;;
+        check) words='--task --cpus --domain --rt --fair-server --kernel --within --by --timers --why --table -h --help' ;;
         size) words='--task --within --late --margin --cpus --rt --fair-server -h --help' ;;
     esac
     if [[ $current == -* || -z ${command-} || $command == help ]]; then

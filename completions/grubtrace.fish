@@ -18,6 +18,7 @@ complete -c grubtrace -n '__fish_seen_subcommand_from check' -l domain -x -d 'Th
 complete -c grubtrace -n '__fish_seen_subcommand_from check' -l kernel -x -d 'The kernel that was recorded'
 complete -c grubtrace -n '__fish_seen_subcommand_from check' -l by -x -a 'kernel documentation' -d 'Whose arithmetic the record is played by'
 complete -c grubtrace -n '__fish_seen_subcommand_from check' -l timers -d 'Compare timers, not probes'
+complete -c grubtrace -n '__fish_seen_subcommand_from check' -l why -d 'Name the one changed rule that explains a record'
 complete -c grubtrace -n '__fish_seen_subcommand_from check' -l table -r -d 'A row for each comparison'
 complete -c grubtrace -n '__fish_seen_subcommand_from size' -l task -x -d 'A task, and its period in microseconds'
 complete -c grubtrace -n '__fish_seen_subcommand_from size' -l within -x -d 'In how many microseconds a job is to be done'

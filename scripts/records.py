@@ -4,7 +4,8 @@
 Beside a record of timers lies NAME.table: a line for each block, as an independent model in Python gave it. `grubtrace check --table` has to
 give the same moments, budgets, deadlines and answers; a block that it leaves out as an edge is passed over. Beside a record of probes
 lies NAME.counts: for each kind of value how many are equal and how many differ, and the first line that differs. A verdict agrees
-(status 0) exactly where no line differs, else its status is 4. The last line is 'N passed, M failed'.
+(status 0) exactly where no line differs, else its status is 4. Where NAME.why lies beside it, `check --why` has to name the changed
+rules that stand there, a line each, and no other. The last line is 'N passed, M failed'.
 """
 import lzma
 import os
@@ -57,21 +58,32 @@ def timer_faults(wanted, rows):
         yield f"line {line}: a block that the model does not have"
 
 
-def probe_faults(wanted, rows):
-    """What is wrong with the comparisons of a table."""
+def probe_faults(wanted, rows, text):
+    """What is wrong with the comparisons of a table, and with the first deviation that the verdict names."""
     counts = Counter((row["kind"], row["answer"]) for row in rows)
     first = None
     for line in wanted.split("\n")[1:]:
         fields = line.split("\t")
-        if len(fields) == 3 and fields[1].isdigit() and fields[0] != "laws":
+        if len(fields) == 3 and fields[1].isdigit():
             for answer, number in (("equal", int(fields[1])), ("differs", int(fields[2]))):
                 if counts[(fields[0], answer)] != number:
                     yield f"{fields[0]}: {counts[(fields[0], answer)]} {answer}, wanted {number}"
         elif m := re.search(r"line (\d+)", line):
             first = first or m[1]
-    told = next((row["line"] for row in rows if row["answer"] == "differs"), None)
-    if first and told and told != first:
-        yield f"first deviation at line {told}, wanted {first}"
+    told = re.search(r"first at line (\d+)", text)
+    if first != (told and told[1]):
+        yield f"first deviation at line {told and told[1]}, wanted {first}"
+
+
+def why_faults(wanted, program, trace):
+    """What is wrong with the changed rules that `--why` names."""
+    done = subprocess.run([program, "check", "--why", trace], capture_output=True, text=True)
+    named = re.findall(r'^  with one rule changed, "(.*)": the kernel agrees, bit for bit$', done.stdout, re.MULTILINE)
+    if named != wanted.split("\n")[:-1]:
+        yield f"--why names {named}, wanted {wanted!r}"
+    has_answer = "one rule changed" in done.stdout or "no one changed rule" in done.stdout
+    if has_answer != (done.returncode == 4):
+        yield f"--why answers {has_answer} with status {done.returncode}"
 
 
 def main(words):
@@ -95,8 +107,11 @@ def main(words):
                     faults = list(timer_faults(rows_of(wanted), rows))
                     differs = any(row["answer"] == "differs" for row in rows)
                 else:
-                    faults = list(probe_faults(wanted, rows))
+                    faults = list(probe_faults(wanted, rows, text))
                     differs = any(line.split("\t")[2:3] not in (["0"], ["differ"], []) for line in wanted.split("\n"))
+                if os.path.exists(f"{base}.why"):
+                    with open(f"{base}.why") as file:
+                        faults += why_faults(file.read(), program, trace)
                 if status != (4 if differs else 0):
                     faults.insert(0, f"status {status}: {text[:300]}")
                 if faults:

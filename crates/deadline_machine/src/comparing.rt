@@ -1,29 +1,16 @@
-//! Values of a line against the rules', and which pending effects explain them.
+//! The values of a line against the rules': sums with the pending effects that explain them, timers, budgets by a later charge.
 
 use crate::actor::Actor;
-use crate::machine::Machine;
-use crate::pending::{Alternative, Effect, Later, Reading};
-use crate::runqueue::{Runqueue, ThisBw, with_change, with_extra};
+use crate::effects::Sort;
+use crate::pending::{Alternative, Reading};
+use crate::runqueue::{Runqueue, ThisBw};
+use crate::state::State;
 use crate::values::{compare_extra, compare_sums};
-use deadline_events::{after_delayed, delayed_change};
-use deadline_rules::{Change, share};
-use exact_words::{
-    Amount, Comparison, Picked, Place, Quantity, Rule, Subject, Value, Whose, Why, pick,
-};
+use exact_words::{Amount, Comparison, Place, Quantity, Rule, Subject, Value, Whose, Why};
 use std::alloc::AllocError;
 use trace_words::Sums;
 
-/// How old a later effect is, in nanoseconds, that is certain all the same.
-const LONG: u64 = 20_000_000;
-
-/// Whose effects are asked for.
-#[derive(Clone, Copy)]
-pub(crate) enum Sort {
-    Extra,
-    Sums,
-}
-
-impl Machine {
+impl State {
     /// Counts a comparison.
     fn compare(
         &mut self,
@@ -52,7 +39,7 @@ impl Machine {
         )
     }
 
-    pub(crate) fn compare_timer(
+    pub fn compare_timer(
         &mut self,
         place: Place,
         subject: Subject,
@@ -76,7 +63,7 @@ impl Machine {
     }
 
     /// The 0-lag time of an armed timer.
-    pub(crate) fn compare_zero_lag(
+    pub fn compare_zero_lag(
         &mut self,
         place: Place,
         actor: &Actor,
@@ -98,183 +85,8 @@ impl Machine {
         )
     }
 
-    /// What changed a runqueue's sums.
-    pub(crate) fn change(&mut self, cpu: u32, change: Change) -> Result<(), AllocError> {
-        let runqueue = self.runqueue(cpu);
-        self.keep_runqueue(with_change(runqueue, change))
-    }
-
-    /// Notes a rule that changed a runqueue.
-    pub(crate) fn note_runqueue(
-        &mut self,
-        place: Place,
-        cpu: u32,
-        rule: Rule,
-    ) -> Result<(), AllocError> {
-        let runqueue = self.runqueue(cpu);
-        self.keep_runqueue(Runqueue {
-            why: Why {
-                line: place.line,
-                event: place.event,
-                rule: Some(rule),
-            },
-            ..runqueue
-        })
-    }
-
-    /// A later effect becomes certain.
-    fn take_effect(&mut self, place: Place, later: Later) -> Result<(), AllocError> {
-        let runqueue = self.runqueue(later.cpu);
-        match later.effect {
-            Effect::Extra(by) => self.keep_runqueue(with_extra(
-                runqueue,
-                by,
-                Why {
-                    line: place.line,
-                    event: place.event,
-                    rule: None,
-                },
-            )),
-            Effect::Sums { whose, delayed, bw } => {
-                let actor = self.actor(whose);
-                let change = delayed_change(actor.entity, delayed, bw);
-                self.keep_runqueue(with_change(runqueue, change))?;
-                self.keep_actor(Actor {
-                    entity: after_delayed(actor.entity, delayed),
-                    ..actor
-                })
-            }
-        }
-    }
-
-    /// Functions of this CPU are done, and old ones anywhere: their effects are certain.
-    pub(crate) fn take_due_effects(&mut self, place: Place) -> Result<(), AllocError> {
-        for _ in 0..self.later.len() {
-            match due_place(self.later.as_slice(), place) {
-                Some(index) => {
-                    if index < self.later.len() {
-                        let later = self.later.remove(index);
-                        self.take_effect(place, later)?;
-                    }
-                }
-                None => break,
-            }
-        }
-        Ok(())
-    }
-
-    /// Effects of an entity's own functions that a line of it shows to be done.
-    pub(crate) fn settle(
-        &mut self,
-        place: Place,
-        whose: Whose,
-        is_zero_lag_done: bool,
-    ) -> Result<(), AllocError> {
-        for _ in 0..self.later.len() {
-            match own_place(self.later.as_slice(), whose, is_zero_lag_done) {
-                Some(index) => {
-                    if index < self.later.len() {
-                        let later = self.later.remove(index);
-                        self.take_effect(place, later)?;
-                    }
-                }
-                None => break,
-            }
-        }
-        Ok(())
-    }
-
-    /// The amounts of the pending effects on a runqueue.
-    fn gather(&mut self, cpu: u32, sort: Sort) -> Result<(), AllocError> {
-        self.amounts.clear();
-        for i in 0..self.later.len() {
-            if i < self.later.len() {
-                let later = self.later[i];
-                if later.cpu == cpu && is_of_sort(&later, sort) {
-                    let amount = self.amount(&later);
-                    self.amounts.push(amount)?;
-                }
-            }
-        }
-        Ok(())
-    }
-
-    fn amount(&self, later: &Later) -> Amount {
-        match later.effect {
-            Effect::Extra(by) => Amount {
-                this_bw: by,
-                running_bw: 0,
-            },
-            Effect::Sums { whose, delayed, bw } => {
-                let change = delayed_change(self.actor(whose).entity, delayed, bw);
-                Amount {
-                    this_bw: change.this_bw,
-                    running_bw: change.running_bw,
-                }
-            }
-        }
-    }
-
-    /// Takes the smallest set of pending effects on a runqueue that adds up to what is wanted. False where none does.
-    fn explain(
-        &mut self,
-        place: Place,
-        cpu: u32,
-        sort: Sort,
-        wanted: Amount,
-    ) -> Result<bool, AllocError> {
-        if wanted.this_bw == 0 && wanted.running_bw == 0 {
-            return Ok(true);
-        }
-        if self.later.is_empty() {
-            return Ok(false);
-        }
-        self.gather(cpu, sort)?;
-        match pick(self.amounts.as_slice(), wanted) {
-            Some(picked) => {
-                self.take_picked(place, cpu, sort, picked)?;
-                Ok(true)
-            }
-            None => Ok(false),
-        }
-    }
-
-    /// Takes picked effects; their places are among those of the runqueue, in the order of lines.
-    fn take_picked(
-        &mut self,
-        place: Place,
-        cpu: u32,
-        sort: Sort,
-        picked: Picked,
-    ) -> Result<(), AllocError> {
-        let mut index = 0usize;
-        let mut rank = 0usize;
-        for _ in 0..self.later.len() {
-            if index < self.later.len() {
-                let later = self.later[index];
-                let is_candidate = later.cpu == cpu && is_of_sort(&later, sort);
-                if is_candidate && picked.contains(rank) {
-                    let taken = self.later.remove(index);
-                    self.take_effect(place, taken)?;
-                    self.sheet.note(Rule::BeforeItsLock);
-                } else {
-                    index = index.wrapping_add(1);
-                }
-                if is_candidate {
-                    rank = rank.wrapping_add(1);
-                }
-            }
-        }
-        Ok(())
-    }
-
     /// Compares the sums of a line, and takes them.
-    pub(crate) fn take_sums(
-        &mut self,
-        place: Place,
-        cpu: u32,
-        sums: Sums,
-    ) -> Result<(), AllocError> {
+    pub fn take_sums(&mut self, place: Place, cpu: u32, sums: Sums) -> Result<(), AllocError> {
         if !self.shape.has_dequeues {
             let runqueue = self.runqueue(cpu);
             return self.keep_runqueue(Runqueue {
@@ -356,7 +168,7 @@ impl Machine {
     }
 
     /// Readings of this CPU that nothing explained are compared, and taken.
-    pub(crate) fn close_readings(&mut self, place: Place) -> Result<(), AllocError> {
+    pub fn close_readings(&mut self, place: Place) -> Result<(), AllocError> {
         for _ in 0..self.readings.len() {
             match reading_place(self.readings.as_slice(), place.cpu) {
                 Some(index) => {
@@ -371,7 +183,18 @@ impl Machine {
         Ok(())
     }
 
-    pub(crate) fn close_reading(&mut self, reading: Reading, now: u64) -> Result<(), AllocError> {
+    /// Readings that nothing explained until the end of the record are compared.
+    pub fn close_all_readings(&mut self) -> Result<(), AllocError> {
+        for _ in 0..self.readings.len() {
+            if !self.readings.is_empty() {
+                let reading = self.readings.remove(0);
+                self.close_reading(reading, u64::MAX)?;
+            }
+        }
+        Ok(())
+    }
+
+    fn close_reading(&mut self, reading: Reading, now: u64) -> Result<(), AllocError> {
         let runqueue = self.runqueue(reading.cpu);
         if let Some(known) = runqueue.extra_bw {
             compare_extra(
@@ -390,102 +213,8 @@ impl Machine {
         })
     }
 
-    /// Readings of other CPUs that a new effect explains.
-    fn explain_readings(&mut self, place: Place) -> Result<(), AllocError> {
-        let mut index = 0usize;
-        for _ in 0..self.readings.len() {
-            if index < self.readings.len() {
-                let reading = self.readings[index];
-                if reading.place.cpu != place.cpu && self.explains(place, reading)? {
-                    if index < self.readings.len() {
-                        self.readings.remove(index);
-                    }
-                    let runqueue = self.runqueue(reading.cpu);
-                    compare_extra(
-                        &mut self.sheet,
-                        reading.place,
-                        runqueue,
-                        reading.extra_bw,
-                        reading.extra_bw,
-                        place.line,
-                        false,
-                    )?;
-                    self.sheet.note(Rule::ExtraReadLater);
-                } else {
-                    index = index.wrapping_add(1);
-                }
-            }
-        }
-        Ok(())
-    }
-
-    fn explains(&mut self, place: Place, reading: Reading) -> Result<bool, AllocError> {
-        match self.runqueue(reading.cpu).extra_bw {
-            Some(known) => {
-                let wanted = Amount {
-                    this_bw: reading.extra_bw.wrapping_sub(known),
-                    running_bw: 0,
-                };
-                self.explain(place, reading.cpu, Sort::Extra, wanted)
-            }
-            None => Ok(false),
-        }
-    }
-
-    /// A bandwidth goes back to the root domain of a CPU, or is taken from it: to `extra_bw` of each of its CPUs, later.
-    fn spread(
-        &mut self,
-        place: Place,
-        cpu: u32,
-        bw: u64,
-        is_taken: bool,
-    ) -> Result<(), AllocError> {
-        if !self.is_in_domain(cpu) {
-            for runqueue in self.runqueues.iter_mut() {
-                if !runqueue.is_in_domain {
-                    runqueue.extra_bw = None;
-                }
-            }
-            return Ok(());
-        }
-        let part = share(bw, self.domain.len() as u64);
-        let by = if is_taken {
-            0u64.wrapping_sub(part)
-        } else {
-            part
-        };
-        for i in 0..self.runqueues.len() {
-            if i < self.runqueues.len() && self.runqueues[i].is_in_domain {
-                let to = self.runqueues[i].cpu;
-                self.later.push(Later {
-                    by: place.cpu,
-                    cpu: to,
-                    at: place.at,
-                    effect: Effect::Extra(by),
-                })?;
-            }
-        }
-        self.explain_readings(place)
-    }
-
-    /// What the root domain of a CPU gets back and gives.
-    pub(crate) fn change_extra(
-        &mut self,
-        place: Place,
-        cpu: u32,
-        change: Change,
-    ) -> Result<(), AllocError> {
-        if let Some(bw) = change.freed {
-            self.spread(place, cpu, bw, false)?;
-        }
-        if let Some(bw) = change.taken {
-            self.spread(place, cpu, bw, true)?;
-        }
-        Ok(())
-    }
-
     /// A budget that a charge by a later `extra_bw` would have left, where the line shows it: it is taken. Others are dropped.
-    pub(crate) fn with_alternative(&mut self, actor: Actor, runtime: i64) -> Actor {
+    pub fn with_alternative(&mut self, actor: Actor, runtime: i64) -> Actor {
         if self.alternatives.is_empty() {
             return actor;
         }
@@ -501,39 +230,6 @@ impl Machine {
             actor
         }
     }
-}
-
-fn is_of_sort(later: &Later, sort: Sort) -> bool {
-    match later.effect {
-        Effect::Extra(_) => matches!(sort, Sort::Extra),
-        Effect::Sums { .. } => matches!(sort, Sort::Sums),
-    }
-}
-
-fn due_place(later: &[Later], place: Place) -> Option<usize> {
-    for (index, one) in later.iter().enumerate() {
-        if one.by == place.cpu || place.at.saturating_sub(one.at) > LONG {
-            return Some(index);
-        }
-    }
-    None
-}
-
-/// The first effect of an entity that is done: of a move always, of its 0-lag timer where it is told so.
-fn own_place(later: &[Later], whose: Whose, is_zero_lag_done: bool) -> Option<usize> {
-    for (index, one) in later.iter().enumerate() {
-        if let Effect::Sums {
-            whose: of,
-            delayed,
-            ..
-        } = one.effect
-        {
-            if of == whose && (delayed == deadline_events::Delayed::Moved || is_zero_lag_done) {
-                return Some(index);
-            }
-        }
-    }
-    None
 }
 
 fn reading_place(readings: &[Reading], by: u32) -> Option<usize> {
@@ -552,13 +248,4 @@ fn has_alternative(alternatives: &[Alternative], whose: Whose, runtime: i64) -> 
         }
     }
     false
-}
-
-/// What a line of this event says changed a value.
-pub(crate) fn why(place: Place, rule: Rule) -> Why {
-    Why {
-        line: place.line,
-        event: place.event,
-        rule: Some(rule),
-    }
 }

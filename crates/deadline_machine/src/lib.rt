@@ -2,13 +2,26 @@
 #![tactic(auto)]
 
 mod actor;
+mod admissions;
 mod comparing;
+mod dequeues;
+mod effects;
+mod enqueues;
+mod lines;
 mod machine;
 mod pending;
-mod playing;
+mod player;
 mod runqueue;
+mod runs;
+mod servers;
 mod shape;
+mod shown;
+mod state;
+mod timers;
 mod values;
+mod waiting;
 
 pub use machine::Machine;
+pub use player::Player;
+pub use rule_changes::RuleChange;
 pub use shape::{Runs, Shape};

@@ -30,8 +30,10 @@ fn add_unsigned(
     rules: u64,
     kernel: u64,
 ) -> Result<(), AllocError>
-    ensures counts { OnOk result (sheet.new.counts ≡ counts_from sheet.old.counts (unsigned_of place actor quantity rules kernel)) }
-    ensures first { OnOk result (sheet.new.first ≡ first_from sheet.old.first (unsigned_of place actor quantity rules kernel)) }
+    ensures counts { OnOk result (sheet.new.counts
+        ≡ counts_from sheet.old.counts (unsigned_of place actor quantity rules kernel)) }
+    ensures first { OnOk result (sheet.new.first
+        ≡ first_from sheet.old.first (unsigned_of place actor quantity rules kernel)) }
 {
     let comparison = Comparison {
         place,
@@ -52,8 +54,10 @@ fn add_signed(
     rules: i64,
     kernel: i64,
 ) -> Result<(), AllocError>
-    ensures counts { OnOk result (sheet.new.counts ≡ counts_from sheet.old.counts (signed_of place actor quantity rules kernel)) }
-    ensures first { OnOk result (sheet.new.first ≡ first_from sheet.old.first (signed_of place actor quantity rules kernel)) }
+    ensures counts { OnOk result (sheet.new.counts
+        ≡ counts_from sheet.old.counts (signed_of place actor quantity rules kernel)) }
+    ensures first { OnOk result (sheet.new.first
+        ≡ first_from sheet.old.first (signed_of place actor quantity rules kernel)) }
 {
     let comparison = Comparison {
         place,
@@ -74,8 +78,10 @@ fn add_flag(
     rules: bool,
     kernel: bool,
 ) -> Result<(), AllocError>
-    ensures counts { OnOk result (sheet.new.counts ≡ counts_from sheet.old.counts (flag_of place actor quantity rules kernel)) }
-    ensures first { OnOk result (sheet.new.first ≡ first_from sheet.old.first (flag_of place actor quantity rules kernel)) }
+    ensures counts { OnOk result (sheet.new.counts
+        ≡ counts_from sheet.old.counts (flag_of place actor quantity rules kernel)) }
+    ensures first { OnOk result (sheet.new.first
+        ≡ first_from sheet.old.first (flag_of place actor quantity rules kernel)) }
 {
     let comparison = Comparison {
         place,
@@ -97,8 +103,10 @@ fn add_sum(
     kernel: u64,
     since: Why,
 ) -> Result<(), AllocError>
-    ensures counts { OnOk result (sheet.new.counts ≡ counts_from sheet.old.counts (sum_of place cpu quantity rules kernel since)) }
-    ensures first { OnOk result (sheet.new.first ≡ first_from sheet.old.first (sum_of place cpu quantity rules kernel since)) }
+    ensures counts { OnOk result (sheet.new.counts
+        ≡ counts_from sheet.old.counts (sum_of place cpu quantity rules kernel since)) }
+    ensures first { OnOk result (sheet.new.first
+        ≡ first_from sheet.old.first (sum_of place cpu quantity rules kernel since)) }
 {
     let comparison = Comparison {
         place,
@@ -119,8 +127,10 @@ pub fn compare_budget(
     runtime: i64,
     deadline: u64,
 ) -> Result<(), AllocError>
-    ensures counts { OnOk result (sheet.new.counts ≡ counts_from sheet.old.counts (budget_compared place actor runtime deadline)) }
-    ensures first { OnOk result (sheet.new.first ≡ first_from sheet.old.first (budget_compared place actor runtime deadline)) }
+    ensures counts { OnOk result (sheet.new.counts
+        ≡ counts_from sheet.old.counts (budget_compared place actor runtime deadline)) }
+    ensures first { OnOk result (sheet.new.first
+        ≡ first_from sheet.old.first (budget_compared place actor runtime deadline)) }
 {
     if !actor.knows_budget {
         return Ok(());
@@ -151,8 +161,10 @@ pub fn compare_flags(
     actor: Actor,
     budget: Budget,
 ) -> Result<(), AllocError>
-    ensures counts { OnOk result (sheet.new.counts ≡ counts_from sheet.old.counts (flags_compared place actor budget)) }
-    ensures first { OnOk result (sheet.new.first ≡ first_from sheet.old.first (flags_compared place actor budget)) }
+    ensures counts { OnOk result (sheet.new.counts
+        ≡ counts_from sheet.old.counts (flags_compared place actor budget)) }
+    ensures first { OnOk result (sheet.new.first
+        ≡ first_from sheet.old.first (flags_compared place actor budget)) }
 {
     if !actor.knows_budget && !actor.knows_parameters {
         return Ok(());
@@ -183,8 +195,10 @@ pub fn compare_contending(
     actor: Actor,
     is_non_contending: bool,
 ) -> Result<(), AllocError>
-    ensures counts { OnOk result (sheet.new.counts ≡ counts_from sheet.old.counts (contending_compared place actor is_non_contending)) }
-    ensures first { OnOk result (sheet.new.first ≡ first_from sheet.old.first (contending_compared place actor is_non_contending)) }
+    ensures counts { OnOk result (sheet.new.counts
+        ≡ counts_from sheet.old.counts (contending_compared place actor is_non_contending)) }
+    ensures first { OnOk result (sheet.new.first
+        ≡ first_from sheet.old.first (contending_compared place actor is_non_contending)) }
 {
     if !actor.knows_contending || !actor.knows_budget && !actor.knows_parameters {
         return Ok(());
@@ -206,8 +220,10 @@ pub fn compare_parameters(
     actor: Actor,
     shown: Parameters,
 ) -> Result<(), AllocError>
-    ensures counts { OnOk result (sheet.new.counts ≡ counts_from sheet.old.counts (parameters_compared place actor shown)) }
-    ensures first { OnOk result (sheet.new.first ≡ first_from sheet.old.first (parameters_compared place actor shown)) }
+    ensures counts { OnOk result (sheet.new.counts
+        ≡ counts_from sheet.old.counts (parameters_compared place actor shown)) }
+    ensures first { OnOk result (sheet.new.first
+        ≡ first_from sheet.old.first (parameters_compared place actor shown)) }
 {
     if !actor.knows_parameters {
         return Ok(());
@@ -253,8 +269,10 @@ fn compare_this(
     runqueue: Runqueue,
     this_bw: u64,
 ) -> Result<(), AllocError>
-    ensures counts { OnOk result (sheet.new.counts ≡ counts_from sheet.old.counts (this_compared place runqueue runqueue.this_bw this_bw)) }
-    ensures first { OnOk result (sheet.new.first ≡ first_from sheet.old.first (this_compared place runqueue runqueue.this_bw this_bw)) }
+    ensures counts { OnOk result (sheet.new.counts
+        ≡ counts_from sheet.old.counts (this_compared place runqueue runqueue.this_bw this_bw)) }
+    ensures first { OnOk result (sheet.new.first
+        ≡ first_from sheet.old.first (this_compared place runqueue runqueue.this_bw this_bw)) }
 {
     match runqueue.this_bw {
         ThisBw::Unknown | ThisBw::FromStart(_) => Ok(()),
@@ -276,8 +294,12 @@ fn compare_running(
     runqueue: Runqueue,
     running_bw: u64,
 ) -> Result<(), AllocError>
-    ensures counts { OnOk result (sheet.new.counts ≡ counts_from sheet.old.counts (running_compared place runqueue runqueue.running_bw running_bw)) }
-    ensures first { OnOk result (sheet.new.first ≡ first_from sheet.old.first (running_compared place runqueue runqueue.running_bw running_bw)) }
+    ensures counts { OnOk result (sheet.new.counts
+        ≡ counts_from sheet.old.counts
+        (running_compared place runqueue runqueue.running_bw running_bw)) }
+    ensures first { OnOk result (sheet.new.first
+        ≡ first_from sheet.old.first
+        (running_compared place runqueue runqueue.running_bw running_bw)) }
 {
     match runqueue.running_bw {
         None => Ok(()),
@@ -300,8 +322,14 @@ pub fn compare_sums(
     runqueue: Runqueue,
     sums: Sums,
 ) -> Result<(), AllocError>
-    ensures counts { OnOk result (sheet.new.counts ≡ counts_from (counts_from sheet.old.counts (this_compared place runqueue runqueue.this_bw sums.this_bw)) (running_compared place runqueue runqueue.running_bw sums.running_bw)) }
-    ensures first { OnOk result (sheet.new.first ≡ first_from (first_from sheet.old.first (this_compared place runqueue runqueue.this_bw sums.this_bw)) (running_compared place runqueue runqueue.running_bw sums.running_bw)) }
+    ensures counts { OnOk result (sheet.new.counts
+        ≡ counts_from (counts_from sheet.old.counts
+        (this_compared place runqueue runqueue.this_bw sums.this_bw))
+        (running_compared place runqueue runqueue.running_bw sums.running_bw)) }
+    ensures first { OnOk result (sheet.new.first
+        ≡ first_from (first_from sheet.old.first
+        (this_compared place runqueue runqueue.this_bw sums.this_bw))
+        (running_compared place runqueue runqueue.running_bw sums.running_bw)) }
 {
     compare_this(sheet, place, runqueue, sums.this_bw)?;
     compare_running(sheet, place, runqueue, sums.running_bw)
@@ -317,8 +345,10 @@ pub fn compare_extra(
     now: u64,
     is_early: bool,
 ) -> Result<(), AllocError>
-    ensures counts { OnOk result (sheet.new.counts ≡ counts_from sheet.old.counts (extra_compared place runqueue rules kernel)) }
-    ensures first { OnOk result (sheet.new.first ≡ first_from sheet.old.first (extra_compared place runqueue rules kernel)) }
+    ensures counts { OnOk result (sheet.new.counts
+        ≡ counts_from sheet.old.counts (extra_compared place runqueue rules kernel)) }
+    ensures first { OnOk result (sheet.new.first
+        ≡ first_from sheet.old.first (extra_compared place runqueue rules kernel)) }
 {
     let comparison = Comparison {
         place,

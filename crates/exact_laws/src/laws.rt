@@ -1,7 +1,8 @@
 //! Laws that a record can break though it is consistent.
 
+use crate::compared::{Ratio, compared_ratio, compared_start, compared_wake, is_broken, is_late};
 use deadline_rules::{BW_UNIT, DEADLINE_POLICY, WAKEUP, has, ratio};
-use exact_words::{Comparison, FIRST_SEEN, Place, Quantity, Sheet, Subject, Value};
+use exact_words::{FIRST_SEEN, Place, Sheet};
 use std::alloc::{AllocError, Global};
 use std::collections::HashMap;
 use trace_words::{Enqueued, Probe, Ran, Updated};
@@ -10,9 +11,6 @@ use trace_words::{Enqueued, Probe, Ran, Updated};
 const FAIR_RUNTIME: u64 = 50_000_000;
 
 const FAIR_PERIOD: u64 = 1_000_000_000;
-
-/// How far behind the clock of a wake may be, in nanoseconds.
-const BEHIND: i64 = 100_000;
 
 /// A law.
 #[derive(Clone, Copy)]
@@ -53,23 +51,18 @@ struct Start {
 }
 
 /// A CPU's `max_bw` and `bw_ratio`, and the first line that shows them.
-#[derive(Clone, Copy, PartialEq, Eq, Hash)]
-struct Ratio {
-    cpu: u32,
-    max_bw: u64,
-    bw_ratio: u64,
-}
-
 #[derive(Clone, Copy)]
 struct FirstRatio {
     ratio: Ratio,
-    line: u64,
+    place: Place,
 }
 
+/// A wake, and how far the clock of its CPU is behind the line's moment.
 #[derive(Clone, Copy)]
 struct Lag {
     nanos: i64,
-    line: u64,
+    cpu: u32,
+    place: Place,
 }
 
 /// What the laws need of a record.
@@ -80,6 +73,7 @@ pub struct Laws {
     starts: Vec<Start>,
     servers: HashMap<u32, u64>,
     limits: HashMap<u64, ()>,
+    last_limit: u64,
     ratios: HashMap<Ratio, ()>,
     first_ratios: Vec<FirstRatio>,
     lags: Vec<Lag>,
@@ -94,6 +88,7 @@ impl Laws {
             starts: Vec::new(alloc),
             servers: HashMap::new(alloc),
             limits: HashMap::new(alloc),
+            last_limit: 0,
             ratios: HashMap::new(alloc),
             first_ratios: Vec::new(alloc),
             lags: Vec::new(alloc),
@@ -125,6 +120,7 @@ impl Laws {
                     self.admitted.insert(line.pid, ())?;
                 }
                 self.limits.insert(line.limit, ())?;
+                self.last_limit = line.limit;
                 Ok(())
             }
             Probe::Enqueued(line) => self.see_enqueued(place, line),
@@ -160,7 +156,8 @@ impl Laws {
         if has(line.flags, WAKEUP) {
             self.lags.push(Lag {
                 nanos: place.at.wrapping_sub(line.clock).cast_signed(),
-                line: place.line,
+                cpu: line.cpu,
+                place,
             })?;
         }
         Ok(())
@@ -180,26 +177,15 @@ impl Laws {
             };
             if self.ratios.get(&ratio).is_none() {
                 self.ratios.insert(ratio, ())?;
-                self.first_ratios.push(FirstRatio {
-                    ratio,
-                    line: place.line,
-                })?;
+                self.first_ratios.push(FirstRatio { ratio, place })?;
             }
         }
         Ok(())
     }
 
-    /// Whether these are what the kernel computes of the limit (`init_dl_rq_bw_ratio`).
-    fn is_right(&self, ratio: &Ratio) -> bool {
-        let expected = if ratio.max_bw >= BW_UNIT || ratio.max_bw == 0 {
-            256
-        } else {
-            (1u64 << 40) / ratio.max_bw >> 12
-        };
-        let is_limit = self.limits.is_empty()
-            || self.limits.get(&ratio.max_bw).is_some()
-            || ratio.max_bw >= BW_UNIT;
-        ratio.bw_ratio == expected && is_limit
+    /// Whether the test of admissions has this limit, as far as the record shows.
+    fn is_limit(&self, max_bw: u64) -> bool {
+        self.limits.is_empty() || self.limits.get(&max_bw).is_some() || max_bw >= BW_UNIT
     }
 
     fn least_lag(&self) -> i64 {
@@ -217,9 +203,8 @@ impl Laws {
         if !self.has_older {
             self.end_starts(has_servers, sheet)?;
         }
-        self.end_ratios(sheet);
-        self.end_clock(sheet);
-        Ok(())
+        self.end_ratios(sheet)?;
+        self.end_clock(sheet)
     }
 
     /// `this_bw` of a runqueue begins with its server's bandwidth, where no task is older than the record.
@@ -229,88 +214,106 @@ impl Laws {
         } else {
             0
         };
-        for i in 0..self.starts.len() {
-            if i < self.starts.len() {
-                let start = self.starts[i];
-                let server = self.servers.get(&start.cpu).copied().unwrap_or(fair);
-                let rules = server.wrapping_add(start.more);
-                sheet.add_late(
-                    Comparison {
-                        place: start.place,
-                        subject: Subject::Runqueue(start.cpu),
-                        quantity: Quantity::ThisBw,
-                        rules: Value::Unsigned(rules),
-                        kernel: Value::Unsigned(start.this_bw),
-                        is_equal: rules == start.this_bw,
-                    },
-                    FIRST_SEEN,
-                )?;
+        for start in self.starts.as_slice() {
+            let server = self.servers.get(&start.cpu).copied().unwrap_or(fair);
+            let rules = server.wrapping_add(start.more);
+            let compared = compared_start(start.place, start.cpu, rules, start.this_bw);
+            sheet.add_late(compared, FIRST_SEEN)?;
+        }
+        Ok(())
+    }
+
+    fn end_ratios(&mut self, sheet: &mut Sheet) -> Result<(), AllocError> {
+        for i in 0..self.first_ratios.len() {
+            if let Some(one) = self.first_ratios.get(i) {
+                let one = *one;
+                self.end_ratio(one, sheet)?;
             }
         }
         Ok(())
     }
 
-    fn end_ratios(&mut self, sheet: &mut Sheet) {
-        for i in 0..self.first_ratios.len() {
-            if i < self.first_ratios.len() {
-                let one = self.first_ratios[i];
-                let holds = self.is_right(&one.ratio);
-                sheet.add_law(holds);
-                if !holds && self.broken.is_none() {
-                    self.broken = Some(Broken {
-                        law: Law::Ratio,
-                        line: one.line,
-                        cpu: one.ratio.cpu,
-                        max_bw: one.ratio.max_bw,
-                        bw_ratio: one.ratio.bw_ratio,
-                        late: 0,
-                        wakes: 0,
-                        behind: 0,
-                    });
-                }
-            }
+    fn end_ratio(&mut self, one: FirstRatio, sheet: &mut Sheet) -> Result<(), AllocError> {
+        let is_limit = self.is_limit(one.ratio.max_bw);
+        let compared = compared_ratio(one.place, one.ratio, is_limit, self.last_limit);
+        if !compared.is_equal {
+            self.break_law(Broken {
+                law: Law::Ratio,
+                line: one.place.line,
+                cpu: one.ratio.cpu,
+                max_bw: one.ratio.max_bw,
+                bw_ratio: one.ratio.bw_ratio,
+                late: 0,
+                wakes: 0,
+                behind: 0,
+            });
+        }
+        sheet.add(compared, FIRST_SEEN, one.place.line, false)
+    }
+
+    /// Keeps the first law that is broken.
+    fn break_law(&mut self, broken: Broken) {
+        if self.broken.is_none() {
+            self.broken = Some(broken);
         }
     }
 
-    fn end_clock(&mut self, sheet: &mut Sheet) {
-        let least = self.least_lag();
+    /// How many wakes are late.
+    fn late_wakes(&self, least: i64) -> u64 {
         let mut late = 0u64;
-        let mut first: Option<Lag> = None;
-        for i in 0..self.lags.len() {
-            if i < self.lags.len() {
-                let lag = self.lags[i];
-                if lag.nanos.wrapping_sub(least) > BEHIND {
-                    late = late.wrapping_add(1);
-                    if first.is_none() {
-                        first = Some(lag);
-                    }
-                }
+        for lag in self.lags.as_slice() {
+            if is_late(lag.nanos, least) {
+                late = late.wrapping_add(1);
             }
         }
+        late
+    }
+
+    /// Each wake counts as one that is equal; where the law is broken, those in time do, and one differs.
+    fn end_clock(&mut self, sheet: &mut Sheet) -> Result<(), AllocError> {
+        let least = self.least_lag();
+        let late = self.late_wakes(least);
         let wakes = self.lags.len() as u64;
-        let is_broken = late > wakes / 2;
-        let held = if is_broken {
-            wakes.wrapping_sub(late)
-        } else {
-            wakes
-        };
-        sheet.counts.laws.equal = sheet.counts.laws.equal.wrapping_add(held);
-        if is_broken {
-            sheet.add_law(false);
-            if let Some(first) = first {
-                if self.broken.is_none() {
-                    self.broken = Some(Broken {
-                        law: Law::Clock,
-                        line: first.line,
-                        cpu: 0,
-                        max_bw: 0,
-                        bw_ratio: 0,
-                        late,
-                        wakes,
-                        behind: first.nanos.wrapping_sub(least),
-                    });
-                }
+        if is_broken(late, wakes) {
+            self.end_late(least, late, sheet)?;
+        }
+        let counts_late = !is_broken(late, wakes);
+        for lag in self.lags.as_slice() {
+            if counts_late || !is_late(lag.nanos, least) {
+                let compared = compared_wake(lag.place, lag.cpu, lag.nanos, least, true);
+                sheet.add(compared, FIRST_SEEN, lag.place.line, false)?;
             }
         }
+        Ok(())
+    }
+
+    fn first_late(&self, least: i64) -> Option<Lag> {
+        for lag in self.lags.as_slice() {
+            if is_late(lag.nanos, least) {
+                return Some(*lag);
+            }
+        }
+        None
+    }
+
+    /// The first wake that is late.
+    fn end_late(&mut self, least: i64, late: u64, sheet: &mut Sheet) -> Result<(), AllocError> {
+        let wakes = self.lags.len() as u64;
+        let Some(lag) = self.first_late(least) else {
+            return Ok(());
+        };
+        let compared = compared_wake(lag.place, lag.cpu, lag.nanos, least, false);
+        sheet.add(compared, FIRST_SEEN, lag.place.line, false)?;
+        self.break_law(Broken {
+            law: Law::Clock,
+            line: lag.place.line,
+            cpu: lag.cpu,
+            max_bw: 0,
+            bw_ratio: 0,
+            late,
+            wakes,
+            behind: lag.nanos.wrapping_sub(least),
+        });
+        Ok(())
     }
 }

@@ -1,8 +1,8 @@
 -- Of which kind a value is.
 use Rattle.exact_words.specs.declared.words.Quantity.{Quantity}
-use Rattle.exact_words.specs.declared.words.Quantity.TheVariants.{Runtime, Deadline as DeadlineValue, Throttled, Yielded, NonContending, DlRuntime, DlDeadline, DlPeriod, SchedFlags, ThisBw as ThisBwValue, RunningBw as RunningBwValue, ExtraBw as ExtraBwValue, ZeroLag as ZeroLagValue, ZeroLagMoment as ZeroLagMomentValue, Timer}
+use Rattle.exact_words.specs.declared.words.Quantity.TheVariants.{Runtime, Deadline as DeadlineValue, Throttled, Yielded, NonContending, DlRuntime, DlDeadline, DlPeriod, SchedFlags, ThisBw as ThisBwValue, RunningBw as RunningBwValue, ExtraBw as ExtraBwValue, ZeroLag as ZeroLagValue, ZeroLagMoment as ZeroLagMomentValue, Timer, BwRatio, MaxBw, ClockLag}
 use Rattle.exact_words.specs.declared.words.Kind.{Kind}
-use Rattle.exact_words.specs.declared.words.Kind.TheVariants.{Budget, Deadline, Flags, Parameters, ThisBw, RunningBw, ExtraBw, ZeroLag, ZeroLagMoment, Timers}
+use Rattle.exact_words.specs.declared.words.Kind.TheVariants.{Budget, Deadline, Flags, Parameters, ThisBw, RunningBw, ExtraBw, ZeroLag, ZeroLagMoment, Timers, Laws}
 
 abbrev pub kind_by : Quantity → Kind
 kind_by Runtime = Budget
@@ -20,3 +20,6 @@ kind_by ExtraBwValue = ExtraBw
 kind_by ZeroLagValue = ZeroLag
 kind_by ZeroLagMomentValue = ZeroLagMoment
 kind_by Timer = Timers
+kind_by BwRatio = Laws
+kind_by MaxBw = Laws
+kind_by ClockLag = Laws

@@ -1,14 +1,32 @@
 -- How many values of each kind were compared.
-use Rattle.std.specs.Prelude.{ℕ, ◌+◌, ◌%◌, ◌^◌, Bool, true, false}
+use Rattle.std.specs.Prelude.{◌≡◌, ℕ, ◌+◌, ◌-◌, ◌%◌, ◌^◌, ◌==◌, min, Bool, true, false, ◌&&◌}
 use Rattle.exact_words.specs.declared.counts.Tally.{Tally}
 use Rattle.exact_words.specs.declared.counts.Counts.{Counts}
 use Rattle.exact_words.specs.declared.words.Kind.{Kind}
 use Rattle.exact_words.specs.declared.words.Kind.TheVariants.{Budget, Deadline, Flags, Parameters, ThisBw, RunningBw, ExtraBw, ZeroLag, ZeroLagMoment, Timers, Laws}
 
--- one comparison more
+abbrev pub no_tally : Tally
+no_tally = record { equal = 0; differ = 0 }
+
+abbrev pub no_counts : Counts
+no_counts = record {
+  budget = no_tally;
+  deadline = no_tally;
+  flags = no_tally;
+  parameters = no_tally;
+  this_bw = no_tally;
+  running_bw = no_tally;
+  extra_bw = no_tally;
+  zero_lag = no_tally;
+  zero_lag_moment = no_tally;
+  timers = no_tally;
+  laws = no_tally;
+}
+
+-- one comparison more; those that differ never come to 0 again
 abbrev pub tallied : Tally → Bool → Tally
 tallied t true = record t { equal = (t.equal + 1) % 2 ^ 64 }
-tallied t false = record t { differ = (t.differ + 1) % 2 ^ 64 }
+tallied t false = record t { differ = min (t.differ + 1) (2 ^ 64 - 1) }
 
 abbrev pub tally_of : Counts → Kind → Tally
 tally_of c Budget = c.budget
@@ -36,3 +54,12 @@ counted_of c ZeroLag b = record c { zero_lag = tallied c.zero_lag b }
 counted_of c ZeroLagMoment b = record c { zero_lag_moment = tallied c.zero_lag_moment b }
 counted_of c Timers b = record c { timers = tallied c.timers b }
 counted_of c Laws b = record c { laws = tallied c.laws b }
+
+-- how many comparisons of all kinds differ
+abbrev pub differing : Counts → ℕ
+differing c =
+    c.budget.differ + c.deadline.differ + c.flags.differ + c.parameters.differ + c.this_bw.differ + c.running_bw.differ
+    + c.extra_bw.differ + c.zero_lag.differ + c.zero_lag_moment.differ + c.timers.differ + c.laws.differ
+
+abbrev pub none_differs : Counts → Bool
+none_differs c = differing c == 0

@@ -1,7 +1,7 @@
 //! How many values were compared, and how many differ.
 
 ghost use Rattle.std.specs.Prelude.{◌≡◌};
-ghost use Rattle.exact_words.specs.Tallies.{tallied, tally_of, counted_of};
+ghost use Rattle.exact_words.specs.Tallies.{tallied, tally_of, counted_of, no_tally, no_counts};
 
 use crate::words::{Kind, RULES, Rule};
 
@@ -43,14 +43,16 @@ fn counted(tally: Tally, is_equal: bool) -> Tally
         }
     } else {
         Tally {
-            differ: tally.differ.wrapping_add(1),
+            differ: tally.differ.saturating_add(1),
             ..tally
         }
     }
 }
 
 impl Counts {
-    pub fn new() -> Counts {
+    pub fn new() -> Counts
+        ensures { result ≡ no_counts }
+    {
         Counts {
             budget: NONE,
             deadline: NONE,

@@ -84,6 +84,15 @@ pub enum Quantity {
 
     /// Whether, and whose, a timer is armed.
     Timer,
+
+    /// A law: `bw_ratio` is that of `max_bw`.
+    BwRatio,
+
+    /// A law: `max_bw` is the limit of the admission test.
+    MaxBw,
+
+    /// A law: how far the clock of a wake is behind.
+    ClockLag,
 }
 
 /// A kind of value: each has its counts.
@@ -119,6 +128,7 @@ pub fn kind_of(quantity: Quantity) -> Kind
         Quantity::ZeroLag => Kind::ZeroLag,
         Quantity::ZeroLagMoment => Kind::ZeroLagMoment,
         Quantity::Timer => Kind::Timers,
+        Quantity::BwRatio | Quantity::MaxBw | Quantity::ClockLag => Kind::Laws,
     }
 }
 
@@ -128,6 +138,9 @@ pub enum Value {
     Unsigned(u64),
     Signed(i64),
     Flag(bool),
+
+    /// A number that is not greater.
+    AtMost(u64),
 
     /// This timer is armed.
     Armed(TimerFunction),

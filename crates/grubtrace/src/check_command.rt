@@ -81,6 +81,13 @@ fn timers_arg<'a>(alloc: Global) -> Arg<'a> {
         .action(ArgAction::SetTrue)
 }
 
+fn why_arg<'a>(alloc: Global) -> Arg<'a> {
+    Arg::new(alloc, "why")
+        .long("why")
+        .help("Names the one changed rule that explains a record of probes that differs")
+        .action(ArgAction::SetTrue)
+}
+
 fn table_arg<'a>(alloc: Global) -> Arg<'a> {
     Arg::new(alloc, "table")
         .long("table")
@@ -102,6 +109,7 @@ pub(crate) fn check_command<'a>(alloc: Global, trace: Arg<'a>) -> Result<Command
         .arg(within_arg(alloc))?
         .arg(by_arg(alloc))?
         .arg(timers_arg(alloc))?
+        .arg(why_arg(alloc))?
         .arg(table_arg(alloc))?
         .arg(trace)
 }

@@ -133,6 +133,7 @@ fn check<
         within: matches.get_one::<u32>("within").unwrap_or(WITHIN),
         by_documentation: matches.get_str("by") == Some("documentation"),
         by_timers: matches.get_flag("timers"),
+        explains: matches.get_flag("why"),
     };
     let wanted = Wanted {
         path: matches.get_str("TRACE").unwrap_or(""),

@@ -1,11 +1,15 @@
 //! The last lines of a verdict: that each value is the kernel's, or the first that is not.
 
+ghost use Rattle.std.specs.Prelude.{◌≡◌};
+ghost use Rattle.exact_words.specs.Kinds.{kind_by};
+ghost use Rattle.probe_verdict.specs.inside.Told.{difference_of, is_law};
+
 use crate::heading::TaskName;
 use crate::names::{event_name, function_of, quantity_name, rule_function, rule_name};
 use crate::text::total_of;
 use crate::writing::{put, put_count, put_seconds, put_subject, put_value};
 use exact_laws::{Broken, Law};
-use exact_words::{Comparison, Counts, Deviation, Event, Place, Rule, Value, Why};
+use exact_words::{Comparison, Counts, Deviation, Event, Kind, Place, Rule, Value, Why, kind_of};
 use std::alloc::{AllocError, Global};
 
 /// Appends whether each value is the kernel's and each law holds, or the first that is not, and does not.
@@ -17,10 +21,22 @@ pub fn put_answer(
     first: Option<Deviation>,
     broken: Option<Broken>,
 ) -> Result<(), AllocError> {
-    match (first, broken) {
-        (None, None) => put_agreement(out, total_of(counts).equal),
-        (None, Some(broken)) => put_broken(alloc, out, broken),
-        (Some(first), _) => put_differs(alloc, out, names, total_of(counts).differ, first),
+    match first {
+        None => put_agreement(out, total_of(counts).equal),
+        Some(first) => match broken {
+            Some(broken) if is_of_law(first) => put_broken(alloc, out, broken),
+            _ => put_differs(alloc, out, names, total_of(counts).differ, first),
+        },
+    }
+}
+
+/// Whether it is no value that differs, but a law that is broken.
+fn is_of_law(first: Deviation) -> bool
+    ensures { result ≡ is_law (kind_by first.comparison.quantity) }
+{
+    match kind_of(first.comparison.quantity) {
+        Kind::Laws => true,
+        _ => false,
     }
 }
 
@@ -114,7 +130,9 @@ fn put_values(
 }
 
 /// By how much the kernel's number is above the rules', if both are numbers.
-fn difference(rules: Value, kernel: Value) -> Option<i128> {
+fn difference(rules: Value, kernel: Value) -> Option<i128>
+    ensures { result ≡ difference_of rules kernel }
+{
     match (rules, kernel) {
         (Value::Unsigned(rules), Value::Unsigned(kernel)) => {
             Some(i128::from(kernel) - i128::from(rules))

@@ -87,6 +87,9 @@ pub fn quantity_name(quantity: Quantity) -> &'static str {
         Quantity::ExtraBw => "extra_bw",
         Quantity::ZeroLag | Quantity::ZeroLagMoment => "the 0-lag time",
         Quantity::Timer => "the timer",
+        Quantity::BwRatio => "bw_ratio",
+        Quantity::MaxBw => "max_bw",
+        Quantity::ClockLag => "the runqueue's clock, in nanoseconds behind,",
     }
 }
 

@@ -3,19 +3,19 @@
 use crate::heading::{Heading, Lost};
 use crate::names::{ALL, KINDS, kind_plural, rule_name};
 use crate::writing::{put, put_bytes, put_comma, put_count, put_number};
-use exact_laws::Broken;
-use exact_words::{Counts, Deviation, Kind, Rule, RuleCounts};
+use exact_words::{Counts, Kind, Rule, RuleCounts};
 use std::alloc::{AllocError, Global};
 use trace_words::Kernel;
 
 /// How many values of all kinds are equal, and how many differ.
 #[derive(Clone, Copy)]
-pub(crate) struct Total {
+pub struct Total {
     pub equal: u64,
     pub differ: u64,
 }
 
-pub(crate) fn total_of(counts: &Counts) -> Total {
+/// The counts of all kinds together.
+pub fn total_of(counts: &Counts) -> Total {
     let mut total = Total {
         equal: 0,
         differ: 0,
@@ -205,9 +205,4 @@ fn put_missing(out: &mut Vec<u8>, rule: Rule, rules: &RuleCounts) -> Result<(), 
     }
     put_comma(out)?;
     put(out, rule_name(rule))
-}
-
-/// Whether each value that was compared is the kernel's, and each law holds.
-pub fn agrees(first: Option<Deviation>, broken: Option<Broken>) -> bool {
-    first.is_none() && broken.is_none()
 }

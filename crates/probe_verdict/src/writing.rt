@@ -150,12 +150,19 @@ pub(crate) fn put_value(
     match value {
         Value::Unsigned(n) => put_number(alloc, out, n),
         Value::Signed(n) => put_signed(alloc, out, n),
+        Value::AtMost(n) => put_at_most(alloc, out, n),
         Value::Flag(true) => put(out, "1"),
         Value::Flag(false) => put(out, "0"),
         Value::Armed(function) => put(out, timer_name(function)),
         Value::NotArmed(function) => put_no(out, timer_name(function)),
         Value::Owner(whose) => put_whose(alloc, out, whose, names),
     }
+}
+
+/// Appends a number that is not to be exceeded.
+fn put_at_most(alloc: Global, out: &mut Vec<u8>, n: u64) -> Result<(), AllocError> {
+    put(out, "at most ")?;
+    put_number(alloc, out, n)
 }
 
 fn put_no(out: &mut Vec<u8>, name: &str) -> Result<(), AllocError> {

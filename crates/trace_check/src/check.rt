@@ -7,11 +7,12 @@ use crate::fault::{Fault, STATUS_DIFFERS, STATUS_SYSTEM};
 use crate::gathering::Gathering;
 use crate::options::Options;
 use crate::probes::Played;
+use crate::why::tried;
 use deadline_machine::Machine;
 use deadline_timers::setup_of;
 use deadline_verdict::{Heading as TimerHeading, judge, put_table, put_verdict as put_timers};
 use probe_verdict::{
-    Heading as ProbeHeading, TABLE_HEAD, TaskName, agrees, put_answer, put_heading,
+    Heading as ProbeHeading, TABLE_HEAD, TaskName, put_answer, put_explanation, put_heading,
 };
 use std::alloc::{AllocError, Global};
 use std::io;
@@ -143,10 +144,16 @@ fn verdict_by(
         lost: gathering.lost,
         takes_sums: !gathering.probes.shape.has_dequeues,
     };
-    let text = probe_text(alloc, heading, &played.machine)?;
+    let mut text = probe_text(alloc, heading, &played.machine)?;
+    let agrees = played.machine.agrees();
+    if options.explains && !agrees {
+        let trials = tried(alloc, options, gathering)?;
+        let counts = played.machine.counts();
+        put_explanation(alloc, &mut text, agrees, &counts, &trials)?;
+    }
     let table = probe_table(alloc, wanted, &gathering.probes.rows)?;
     Ok(Verdict {
-        agrees: agrees(played.machine.first(), played.machine.broken()),
+        agrees,
         text,
         table,
     })

@@ -8,6 +8,7 @@ mod head;
 mod names;
 mod options;
 mod probes;
+mod why;
 
 pub use check::{Wanted, serve_check};
 pub use fault::{Fault, STATUS_DIFFERS, STATUS_FILE, STATUS_SYSTEM, STATUS_USAGE};

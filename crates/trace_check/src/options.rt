@@ -64,6 +64,9 @@ pub struct Options<'a> {
 
     /// Whether timers are compared though there are lines of probes.
     pub by_timers: bool,
+
+    /// Whether a record that differs is played again with one rule changed at a time.
+    pub explains: bool,
 }
 
 /// Which option says nothing that it may say.
@@ -268,6 +271,7 @@ pub struct Words<'a> {
     pub within: u32,
     pub by_documentation: bool,
     pub by_timers: bool,
+    pub explains: bool,
 }
 
 /// The CPUs of the root domain by `--domain`, else by `--cpus`; none are said where neither is given.
@@ -354,6 +358,7 @@ pub fn options_of<'a>(
                 Arithmetic::Kernel
             },
             by_timers: words.by_timers,
+            explains: words.explains,
         })),
         (Err(wrong), _, _) | (_, Err(wrong), _) | (_, _, Err(wrong)) => Ok(Err(wrong)),
     }

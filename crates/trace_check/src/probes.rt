@@ -45,6 +45,9 @@ pub(crate) struct Probes {
     pub shape: Shape,
     pub played: Option<Played>,
 
+    /// Those that were played, where they may be played again.
+    pub again: Vec<Kept>,
+
     /// The tasks that they show in the class, in the order of their first lines.
     pub in_class: Vec<u64>,
     places: HashMap<u64, usize>,
@@ -61,6 +64,7 @@ impl Probes {
             kept: Vec::new(alloc),
             shape: Shape::new(),
             played: None,
+            again: Vec::new(alloc),
             in_class: Vec::new(alloc),
             places: HashMap::new(alloc),
             keeps_rows,
@@ -83,7 +87,7 @@ impl Probes {
     ) -> Result<(), AllocError> {
         self.see_class(&kept.probe)?;
         if self.played.is_some() {
-            self.play(kept)?;
+            self.play(kept, options)?;
             return self.put_rows(names);
         }
         self.shape.see(&kept.probe);
@@ -129,7 +133,7 @@ impl Probes {
         for place in 0..self.kept.len() {
             if let Some(kept) = self.kept.get(place) {
                 let kept = *kept;
-                self.play(kept)?;
+                self.play(kept, options)?;
             }
         }
         self.kept.clear();
@@ -145,7 +149,7 @@ impl Probes {
         let domain = head.cpus(self.alloc, options)?;
         let law = head.law(options);
         self.played = Some(Played {
-            machine: Machine::new(self.alloc, law, self.shape, domain, self.keeps_rows),
+            machine: Machine::new(self.alloc, law, self.shape, domain, self.keeps_rows, None),
             lines: 0,
             from,
             to: from,
@@ -153,7 +157,10 @@ impl Probes {
         Ok(())
     }
 
-    fn play(&mut self, kept: Kept) -> Result<(), AllocError> {
+    fn play(&mut self, kept: Kept, options: &Options<'_>) -> Result<(), AllocError> {
+        if options.explains {
+            self.again.push(kept)?;
+        }
         if let Some(played) = &mut self.played {
             played.lines = played.lines.saturating_add(1);
             played.to = kept.at;

@@ -1,0 +1,164 @@
+//! A task is enqueued (`enqueue_task_dl`).
+
+use crate::actor::Actor;
+use crate::lines::compare_enqueued;
+use crate::player::Player;
+use crate::shown::shown_enqueued;
+use crate::state::why;
+use deadline_events::{Arrival, Boost, Enqueuing, Refill};
+use deadline_rules::{Contention, Wake, is_before, replenished_blocked, reserved};
+use exact_words::{Place, Rule};
+use rule_changes::enqueue_by;
+use std::alloc::AllocError;
+use trace_words::Enqueued;
+
+impl Player {
+    pub(crate) fn enqueued(&mut self, place: Place, line: Enqueued) -> Result<(), AllocError> {
+        self.state.take_sums(place, line.cpu, line.sums)?;
+        let found = self.state.task(line.pid);
+        self.state.settle(
+            place,
+            found.whose,
+            found.entity.is_non_contending && !line.is_non_contending,
+        )?;
+        let settled = self.state.task(line.pid);
+        let refreshed = self.refreshed(place, settled, &line);
+        let actor = self.state.with_alternative(refreshed, line.budget.runtime);
+        let is_whole = self.state.shape.has_dequeues;
+        compare_enqueued(&mut self.state.sheet, place, actor, line, is_whole)?;
+        let shown = shown_enqueued(actor, line, is_whole);
+        let done = enqueue_by(self.change, self.law, shown.entity, line);
+        self.keep_enqueued(place, shown, &line, done)
+    }
+
+    /// The entity as it should be at an enqueue: a replenishment whose clock was not known is taken from the line, and new parameters stand.
+    pub(crate) fn refreshed(&mut self, place: Place, actor: Actor, line: &Enqueued) -> Actor {
+        let mut fresh = actor;
+        if !self.state.shape.has_dequeues
+            && fresh.entity.budget.is_throttled
+            && !line.budget.is_throttled
+        {
+            fresh.entity = replenished_blocked(fresh.entity);
+            fresh.entity.is_late = true;
+            self.state.sheet.note(Rule::Replenished);
+            fresh.why = why(place, Rule::Replenished);
+        }
+        let begin = line
+            .budget
+            .deadline
+            .wrapping_sub(fresh.entity.parameters.dl_deadline);
+        if fresh.entity.is_late
+            && fresh.knows_budget
+            && line.budget.runtime == fresh.entity.parameters.dl_runtime.cast_signed()
+            && is_before(fresh.entity.budget.deadline, begin)
+            && !is_before(line.clock, begin)
+        {
+            fresh.entity.budget.runtime = line.budget.runtime;
+            fresh.entity.budget.deadline = line.budget.deadline;
+            self.state.sheet.note(Rule::ReplenishedBlockedLate);
+            fresh.why = why(place, Rule::ReplenishedBlockedLate);
+        }
+        fresh.entity.is_late = false;
+        if let Some(parameters) = fresh.entity.new_parameters {
+            fresh.entity = reserved(fresh.entity, parameters);
+        }
+        fresh
+    }
+
+    pub(crate) fn keep_enqueued(
+        &mut self,
+        place: Place,
+        actor: Actor,
+        line: &Enqueued,
+        done: Enqueuing,
+    ) -> Result<(), AllocError> {
+        self.state.change(line.cpu, done.change)?;
+        if done.starts_timer {
+            self.start_deadline_timer(place, actor.whose)?;
+        }
+        match done.arrival {
+            Arrival::Stays => {}
+            Arrival::Moves => {
+                self.state.sheet.note(Rule::MovedIn);
+                self.state.note_runqueue(place, line.cpu, Rule::MovedIn)?;
+            }
+            Arrival::Restores => {
+                self.state.sheet.note(Rule::Restored);
+                self.state.note_runqueue(place, line.cpu, Rule::Restored)?;
+            }
+        }
+        if let Some(contention) = done.contention {
+            self.note_contention(place, line.cpu, contention)?;
+        }
+        let last = self.note_enqueue(&done);
+        self.state.keep_actor(Actor {
+            entity: done.entity,
+            why: match last {
+                Some(rule) => why(place, rule),
+                None => actor.why,
+            },
+            ..actor
+        })
+    }
+
+    pub(crate) fn note_contention(
+        &mut self,
+        place: Place,
+        cpu: u32,
+        contention: Contention,
+    ) -> Result<(), AllocError> {
+        match contention {
+            Contention::Unreserved => Ok(()),
+            Contention::StillRuns => {
+                self.state.sheet.note(Rule::WakeBeforeZeroLag);
+                self.state
+                    .note_runqueue(place, cpu, Rule::WakeBeforeZeroLag)
+            }
+            Contention::RunsAgain => {
+                self.state.sheet.note(Rule::WakeAfterZeroLag);
+                self.state.note_runqueue(place, cpu, Rule::WakeAfterZeroLag)
+            }
+        }
+    }
+
+    /// Counts the rules of an enqueue; the last that changed the entity.
+    pub(crate) fn note_enqueue(&mut self, done: &Enqueuing) -> Option<Rule> {
+        match done.boost {
+            Boost::Ordinary => {}
+            Boost::Boosted => self.state.sheet.note(Rule::Boosted),
+            Boost::Ends => {
+                self.state.sheet.note(Rule::BoostEnds);
+                return Some(Rule::BoostEnds);
+            }
+        }
+        if done.is_constrained {
+            self.state.sheet.note(Rule::Constrained);
+        }
+        let refill = refill_rule(done);
+        match refill {
+            Some(rule) => {
+                self.state.sheet.note(rule);
+                refill
+            }
+            None => {
+                if done.is_constrained {
+                    Some(Rule::Constrained)
+                } else {
+                    None
+                }
+            }
+        }
+    }
+}
+
+fn refill_rule(done: &Enqueuing) -> Option<Rule> {
+    match done.refill {
+        Refill::Waits => done.contention.map(|_| Rule::WakeThrottled),
+        Refill::Stays => None,
+        Refill::Wakes(Wake::Kept) => Some(Rule::WakeKept),
+        Refill::Wakes(Wake::Revised) => Some(Rule::WakeRevised),
+        Refill::Wakes(Wake::Renewed) => Some(Rule::WakeNewPeriod),
+        Refill::Replenishes => Some(Rule::Replenished),
+        Refill::Restarts => Some(Rule::RestoredNewPeriod),
+    }
+}

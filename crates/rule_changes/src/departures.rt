@@ -1,0 +1,254 @@
+//! A task has run, is dequeued, leaves the class, ends, or asks for another reservation, with one rule changed.
+
+ghost use Rattle.std.specs.Prelude.{◌≡◌, None};
+ghost use Rattle.deadline_events.specs.Spend.{spending_of};
+ghost use Rattle.deadline_events.specs.Dequeue.{dequeuing_of};
+ghost use Rattle.deadline_events.specs.Leave.{leaving_of};
+ghost use Rattle.deadline_events.specs.Timer.{fired_of};
+ghost use Rattle.deadline_events.specs.Admit.{admitting_of};
+
+use crate::change::RuleChange;
+use deadline_events::{
+    Admission, Admitting, Arrival, Dequeuing, Fired, Leaving, Spending, admit, dequeue, leave,
+    spend, zero_lag_fired,
+};
+use deadline_rules::{Block, Change, Entity, unchanged, zero_lag};
+use trace_words::{Admitted, Parameters};
+
+fn with_period(entity: Entity, dl_period: u64) -> Entity {
+    Entity {
+        parameters: Parameters {
+            dl_period,
+            ..entity.parameters
+        },
+        ..entity
+    }
+}
+
+fn changed_spend(change: RuleChange, entity: Entity, clock: u64, has_run: bool) -> Spending {
+    match change {
+        RuleChange::UntilDeadline => {
+            let by = with_period(entity, entity.parameters.dl_deadline);
+            let done = spend(by, clock, has_run);
+            Spending {
+                entity: with_period(done.entity, entity.parameters.dl_period),
+                ..done
+            }
+        }
+        _ => spend(entity, clock, has_run),
+    }
+}
+
+/// What becomes of an entity that was charged at this clock.
+pub fn spend_by(change: Option<RuleChange>, entity: Entity, clock: u64, has_run: bool) -> Spending
+    ensures { change ≡ None → result ≡ spending_of entity clock has_run }
+{
+    match change {
+        None => spend(entity, clock, has_run),
+        Some(change) => changed_spend(change, entity, clock, has_run),
+    }
+}
+
+/// The clock by which the wait for the 0-lag time is so many hundredths of what it is.
+fn clock_for(entity: Entity, clock: u64, hundredths: i64) -> u64 {
+    let wait = zero_lag(entity, clock);
+    let other = wait.wrapping_mul(hundredths).div_euclid(100);
+    clock.wrapping_add(wait.wrapping_sub(other).cast_unsigned())
+}
+
+/// The entity by which a block reckons, and its clock.
+fn blocks_by(change: RuleChange, entity: Entity) -> Entity {
+    match change {
+        RuleChange::ZeroLagByDeadline => with_period(entity, entity.parameters.dl_deadline),
+        RuleChange::ZeroLagNever => Entity {
+            has_inactive_timer: true,
+            ..entity
+        },
+        _ => entity,
+    }
+}
+
+fn blocks_at(change: RuleChange, entity: Entity, clock: u64) -> u64 {
+    match change {
+        RuleChange::ZeroLagShorter => clock_for(entity, clock, 95),
+        RuleChange::ZeroLagLonger => clock_for(entity, clock, 101),
+        _ => clock,
+    }
+}
+
+/// The entity after such a block, with what it had itself.
+fn own_again(change: RuleChange, before: Entity, after: Entity) -> Entity {
+    match change {
+        RuleChange::ZeroLagByDeadline if after.parameters.dl_runtime != 0 => {
+            with_period(after, before.parameters.dl_period)
+        }
+        RuleChange::ZeroLagNever => Entity {
+            has_inactive_timer: before.has_inactive_timer,
+            ..after
+        },
+        _ => after,
+    }
+}
+
+/// What a block past the 0-lag time does, where it leaves `running_bw`.
+fn runs_on(change: RuleChange, entity: Entity, block: Option<Block>, sums: Change) -> Change {
+    match block {
+        Some(Block::Past)
+            if change == RuleChange::PastRunsOn && (entity.is_server || entity.is_in_class) =>
+            Change {
+                running_bw: sums.running_bw.wrapping_add(entity.dl_bw),
+                ..sums
+            },
+        _ => sums,
+    }
+}
+
+/// What a dequeue that moves the task leaves behind.
+fn left_behind(change: RuleChange, entity: Entity, departure: Arrival, sums: Change) -> Change {
+    match (change, departure) {
+        (RuleChange::MoveLeavesThis, Arrival::Moves) => Change {
+            this_bw: sums.this_bw.wrapping_add(entity.dl_bw),
+            ..sums
+        },
+        (RuleChange::MoveLeavesRunning, Arrival::Moves) => Change {
+            running_bw: sums.running_bw.wrapping_add(entity.dl_bw),
+            ..sums
+        },
+        _ => sums,
+    }
+}
+
+fn changed_dequeue(
+    change: RuleChange,
+    entity: Entity,
+    flags: u64,
+    on_rq: u64,
+    clock: u64,
+) -> Dequeuing {
+    let by = blocks_by(change, entity);
+    let done = dequeue(by, flags, on_rq, blocks_at(change, entity, clock));
+    let sums = left_behind(change, entity, done.departure, done.change);
+    Dequeuing {
+        entity: own_again(change, entity, done.entity),
+        change: runs_on(change, entity, done.block, sums),
+        ..done
+    }
+}
+
+/// What a dequeue with these DEQUEUE_ flags does, after the charge in it.
+pub fn dequeue_by(
+    change: Option<RuleChange>,
+    entity: Entity,
+    flags: u64,
+    on_rq: u64,
+    clock: u64,
+) -> Dequeuing
+    ensures { change ≡ None → result ≡ dequeuing_of entity flags on_rq clock }
+{
+    match change {
+        None => dequeue(entity, flags, on_rq, clock),
+        Some(change) => changed_dequeue(change, entity, flags, on_rq, clock),
+    }
+}
+
+/// Leaving the class with no block.
+fn left_at_once(entity: Entity) -> Leaving {
+    Leaving {
+        entity: Entity {
+            is_in_class: false,
+            is_non_contending: false,
+            ..entity
+        },
+        change: unchanged(),
+        block: None,
+    }
+}
+
+fn changed_leave(change: RuleChange, entity: Entity, on_rq: u64, clock: u64) -> Leaving {
+    let by = blocks_by(change, entity);
+    let done = leave(by, on_rq, blocks_at(change, entity, clock));
+    if change == RuleChange::LeavesAtOnce && done.block.is_some() {
+        return left_at_once(entity);
+    }
+    let freed = if change == RuleChange::LeavingFreesNothing && !entity.is_dead {
+        None
+    } else {
+        done.change.freed
+    };
+    Leaving {
+        entity: own_again(change, entity, done.entity),
+        change: Change {
+            freed,
+            ..done.change
+        },
+        ..done
+    }
+}
+
+/// What leaving the class at this clock does.
+pub fn leave_by(change: Option<RuleChange>, entity: Entity, on_rq: u64, clock: u64) -> Leaving
+    ensures { change ≡ None → result ≡ leaving_of entity on_rq clock }
+{
+    match change {
+        None => leave(entity, on_rq, clock),
+        Some(change) => changed_leave(change, entity, on_rq, clock),
+    }
+}
+
+fn changed_fired(change: RuleChange, entity: Entity) -> Fired {
+    let done = zero_lag_fired(entity);
+    match change {
+        RuleChange::EndFreesNothing => Fired {
+            freed: None,
+            ..done
+        },
+        RuleChange::LeavingFreesNothing if !entity.is_dead => Fired {
+            freed: None,
+            ..done
+        },
+        RuleChange::ServerRunsOn if entity.is_server => Fired {
+            stops: false,
+            ..done
+        },
+        _ => done,
+    }
+}
+
+/// What the timer of the 0-lag time does.
+pub fn fired_by(change: Option<RuleChange>, entity: Entity) -> Fired
+    ensures { change ≡ None → result ≡ fired_of entity }
+{
+    match change {
+        None => zero_lag_fired(entity),
+        Some(change) => changed_fired(change, entity),
+    }
+}
+
+fn changed_admit(change: RuleChange, entity: Entity, line: Admitted, cpus: u64) -> Admitting {
+    let done = admit(entity, line, cpus);
+    let sums = match (change, done.admission) {
+        (RuleChange::AdmissionTakesNothing, Admission::New | Admission::Back) => Change {
+            taken: None,
+            ..done.change
+        },
+        (RuleChange::ChangeFreesNothing, Admission::Changed | Admission::Back) => Change {
+            freed: None,
+            ..done.change
+        },
+        _ => done.change,
+    };
+    Admitting {
+        change: sums,
+        ..done
+    }
+}
+
+/// What a call does that asks for a reservation in a root domain of so many CPUs.
+pub fn admit_by(change: Option<RuleChange>, entity: Entity, line: Admitted, cpus: u64) -> Admitting
+    ensures { change ≡ None → result ≡ admitting_of entity line cpus }
+{
+    match change {
+        None => admit(entity, line, cpus),
+        Some(change) => changed_admit(change, entity, line, cpus),
+    }
+}
