@@ -13,7 +13,7 @@ mod setup;
 
 pub use counts::{Counts, Rule};
 pub use machine::{Charged, Machine, Outcome, Watch};
-pub use playing::play;
+pub use playing::{play, tell_until};
 pub use setup::{
     FairServer, Limits, NoSums, Options, RunqueueSums, Servers, Setup, Start, setup_of,
 };

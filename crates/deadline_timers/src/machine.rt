@@ -240,8 +240,13 @@ impl Machine {
         }
     }
 
+    /// How many runqueues there are.
+    pub fn cpus(&self) -> usize {
+        self.runqueues.len()
+    }
+
     /// The sums of a runqueue.
-    fn sums(&self, cpu: u32) -> Sums
+    pub fn sums(&self, cpu: u32) -> Sums
         ensures { result ≡ sums_of (slice_get self.now.runqueues.items cpu) self.now.taken }
     {
         sums_at(&self.runqueues, cpu, self.taken)
@@ -309,7 +314,8 @@ impl Machine {
         }
     }
 
-    fn task(&self, number: u32) -> Option<Task> {
+    /// The task of a number.
+    pub fn task(&self, number: u32) -> Option<Task> {
         self.tasks.get(number as usize).copied()
     }
 

@@ -24,8 +24,8 @@ pub fn play(
     Ok(machine.finish())
 }
 
-/// The notes from a place on whose moments have come; the place after them.
-fn tell_until(machine: &mut Machine, lines: &Lines, come: usize, at: u64) -> usize {
+/// Tells the notes from a place on whose moments have come; the place after them.
+pub fn tell_until(machine: &mut Machine, lines: &Lines, come: usize, at: u64) -> usize {
     for i in come..lines.told.len() {
         let Some(told) = lines.told.get(i) else {
             return i;

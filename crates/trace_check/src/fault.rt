@@ -49,6 +49,9 @@ pub enum Fault<'a> {
     /// 60: the sums of this kernel depend on its past, and no note tells them.
     NoSums { kernel: Kernel },
 
+    /// The states of a part of the record are wanted that lies outside of it.
+    OutsideRecord,
+
     /// 45: what is told could not be written.
     Write,
 
@@ -66,6 +69,7 @@ impl Fault<'_> {
     {
         match self {
             Fault::Write | Fault::Unreadable | Fault::NoMemory => STATUS_SYSTEM,
+            Fault::OutsideRecord => STATUS_USAGE,
             _ => STATUS_FILE,
         }
     }
@@ -96,6 +100,9 @@ impl Fault<'_> {
                     to,
                     "grubtrace: {path}: 60 NoSums kernel {major}.{minor}.{patch}"
                 )
+            }
+            Fault::OutsideRecord => {
+                to.write_all(b"error: --from and --to name no part of the record\n")
             }
             Fault::Write => to.write_all(b"grubtrace: 45 WriteFault\n"),
             Fault::Unreadable => writeln!(to, "grubtrace: {path}: 46 ReadFault"),
