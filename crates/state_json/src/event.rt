@@ -15,7 +15,7 @@ use timer_rules::{Answer, Kind, Observation};
 const TASKS: u64 = 1;
 
 /// Nanoseconds as the format's microseconds.
-pub(crate) fn micros(nanos: u64) -> f64 {
+pub fn micros(nanos: u64) -> f64 {
     nanos as f64 / 1000.0
 }
 
@@ -76,14 +76,14 @@ fn process_event(alloc: Global, process: u64, name: &str) -> Result<Value, Alloc
 }
 
 /// The process of the tasks has a name.
-pub(crate) fn tasks_event(alloc: Global) -> Result<Value, AllocError>
+pub fn tasks_event(alloc: Global) -> Result<Value, AllocError>
     ensures { IfOk result (λ v. view v ≡ process_data 1 (codes "SCHED_DEADLINE tasks")) }
 {
     process_event(alloc, TASKS, "SCHED_DEADLINE tasks")
 }
 
 /// The thread of a task has the task's name.
-pub(crate) fn task_event(alloc: Global, pid: u64, comm: &str) -> Result<Value, AllocError>
+pub fn task_event(alloc: Global, pid: u64, comm: &str) -> Result<Value, AllocError>
     ensures { IfOk result (λ v. view v ≡ thread_data pid comm.now) }
 {
     let mut members = head(alloc, "thread_name", "M", TASKS)?;
@@ -98,7 +98,7 @@ pub(crate) fn task_event(alloc: Global, pid: u64, comm: &str) -> Result<Value, A
 }
 
 /// The process of a runqueue has a name.
-pub(crate) fn runqueue_event(alloc: Global, cpu: u32) -> Result<Value, AllocError>
+pub fn runqueue_event(alloc: Global, cpu: u32) -> Result<Value, AllocError>
     ensures { IfOk result
         (λ v. view v ≡ process_data (process_of cpu) (codes "runqueue " ++ decimal cpu)) }
 {
@@ -107,7 +107,7 @@ pub(crate) fn runqueue_event(alloc: Global, cpu: u32) -> Result<Value, AllocErro
 }
 
 /// A state of the task of this pid, from `ts` on for `dur`.
-pub(crate) fn slice_event(
+pub fn slice_event(
     alloc: Global,
     slice: Slice,
     pid: u64,
@@ -129,7 +129,7 @@ pub(crate) fn slice_event(
 }
 
 /// A counter of a process, in a unit.
-pub(crate) fn counter_event(
+pub fn counter_event(
     alloc: Global,
     name: &str,
     unit: &str,
@@ -151,7 +151,7 @@ pub(crate) fn counter_event(
 }
 
 /// `this_bw` of a runqueue.
-pub(crate) fn this_event(alloc: Global, slice: SumsSlice, ts: f64) -> Result<Value, AllocError>
+pub fn this_event(alloc: Global, slice: SumsSlice, ts: f64) -> Result<Value, AllocError>
     ensures { IfOk result (λ v. view v
         ≡ counter_data (codes "this_bw") (codes "bw") (process_of slice.cpu)
         (cast_signed w64 slice.sums.this_bw) ts) }
@@ -161,7 +161,7 @@ pub(crate) fn this_event(alloc: Global, slice: SumsSlice, ts: f64) -> Result<Val
 }
 
 /// `running_bw` of a runqueue.
-pub(crate) fn running_event(alloc: Global, slice: SumsSlice, ts: f64) -> Result<Value, AllocError>
+pub fn running_event(alloc: Global, slice: SumsSlice, ts: f64) -> Result<Value, AllocError>
     ensures { IfOk result (λ v. view v
         ≡ counter_data (codes "running_bw") (codes "bw") (process_of slice.cpu)
         (cast_signed w64 slice.sums.running_bw) ts) }
@@ -171,7 +171,7 @@ pub(crate) fn running_event(alloc: Global, slice: SumsSlice, ts: f64) -> Result<
 }
 
 /// `extra_bw` of a runqueue, which may be below 0.
-pub(crate) fn extra_event(alloc: Global, slice: SumsSlice, ts: f64) -> Result<Value, AllocError>
+pub fn extra_event(alloc: Global, slice: SumsSlice, ts: f64) -> Result<Value, AllocError>
     ensures { IfOk result (λ v. view v
         ≡ counter_data (codes "extra_bw") (codes "bw") (process_of slice.cpu)
         (cast_signed w64 slice.sums.extra_bw) ts) }
@@ -181,7 +181,7 @@ pub(crate) fn extra_event(alloc: Global, slice: SumsSlice, ts: f64) -> Result<Va
 }
 
 /// The budget of a task, in nanoseconds.
-pub(crate) fn budget_event(
+pub fn budget_event(
     alloc: Global,
     slice: BudgetSlice,
     name: &str,
@@ -254,7 +254,7 @@ fn timer_args(alloc: Global, observation: Observation) -> Result<Value, AllocErr
 }
 
 /// A timer of the task of this pid.
-pub(crate) fn timer_event(
+pub fn timer_event(
     alloc: Global,
     observation: Observation,
     pid: u64,
@@ -267,7 +267,7 @@ pub(crate) fn timer_event(
 }
 
 /// The first deviation of a record.
-pub(crate) fn deviation_event(
+pub fn deviation_event(
     alloc: Global,
     observation: Observation,
     pid: u64,

@@ -16,7 +16,7 @@ mod text;
 
 pub use bar::{Bar, bars_of};
 pub use curve::{Point, Sum, points_of};
-pub use frame::{Frame, LEFT};
+pub use frame::{Frame, LEFT, height_of};
 pub use lane::{Lane, Row, lanes_of, rows_of};
 pub use mark::{Mark, MarkKind, marks_of};
 pub use picture::picture_of;

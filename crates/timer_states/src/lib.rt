@@ -3,4 +3,4 @@
 
 mod playing;
 
-pub use playing::states_of;
+pub use playing::{see_task, states_of};
