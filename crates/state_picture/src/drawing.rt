@@ -7,6 +7,7 @@ use crate::frame::{CURVE, Frame, LEFT, height_of};
 use crate::key::put_head;
 use crate::lane::{LANE, Lane, Row, TOP, rows_of};
 use crate::mark::{Mark, MarkKind, marks_of};
+use crate::picture::MOST;
 use crate::text::{put, put_length, put_percent, put_seconds, put_seen};
 use deadline_states::{Scene, State};
 use std::alloc::{AllocError, Global};
@@ -273,6 +274,7 @@ fn put_runqueue(
     put_admitted(alloc, out, frame, base, &points)
 }
 
+/// Draws lanes, until the document is too large.
 fn put_rows(
     alloc: Global,
     out: &mut Vec<u8>,
@@ -281,6 +283,9 @@ fn put_rows(
     rows: &[Row],
 ) -> Result<(), AllocError> {
     for row in rows {
+        if out.len() >= MOST {
+            break;
+        }
         if row.is_first {
             put_runqueue(alloc, out, scene, frame, row.lane.cpu, row.y)?;
         }

@@ -35,9 +35,9 @@ impl Frame {
     {
         let length = self.span.to.saturating_sub(self.span.from).max(1);
         let into = at.min(self.span.to).saturating_sub(self.span.from);
-        let columns = PLOT / u64::from(self.unit.max(1));
-        let column = u128::from(into) * u128::from(columns) / u128::from(length);
-        LEFT + column.min(u128::from(PLOT)) as u64 * u64::from(self.unit)
+        let pixel = u128::from(into) * u128::from(PLOT) / u128::from(length);
+        let pixel = pixel.min(u128::from(PLOT)) as u64;
+        LEFT + pixel.saturating_sub(pixel % u64::from(self.unit.max(1)))
     }
 
     /// Where the span ends.

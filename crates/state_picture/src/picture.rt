@@ -4,12 +4,11 @@ ghost use Rattle.std.specs.Prelude.{◌≡◌, ◌<◌, ◌^◌, IfOk, vec_len};
 
 use crate::drawing::{Grain, put_drawing};
 use crate::lane::lanes_of;
-use crate::text::put;
 use deadline_states::Scene;
 use std::alloc::{AllocError, Global};
 
 /// A picture is smaller than 4 MiB.
-const MOST: usize = 1 << 22;
+pub(crate) const MOST: usize = 1 << 22;
 
 /// How much is drawn, in the order in which it is tried: ever wider columns, and then ever fewer lanes.
 fn grain_of(trial: u32, lanes: usize) -> Grain {
@@ -44,11 +43,9 @@ pub fn picture_of(alloc: Global, scene: Scene<'_>, trace: &str) -> Result<Vec<u8
             return Ok(out);
         }
     }
-    let mut out = Vec::new(alloc);
-    put(&mut out, NOTHING)?;
-    Ok(out)
+    Vec::from_slice(alloc, NOTHING)
 }
 
 /// What is drawn where nothing else is small enough.
-const NOTHING: &str =
-    "<svg xmlns=\"http://www.w3.org/2000/svg\" width=\"1290\" height=\"40\"><text x=\"8\" y=\"24\">left out, so that this picture is below 4 MiB: all runqueues and tasks</text></svg>\n";
+const NOTHING: &[u8] =
+    b"<svg xmlns=\"http://www.w3.org/2000/svg\"><text y=\"12\">too large to draw</text></svg>\n";
