@@ -101,12 +101,18 @@ fn put_label(
 fn put_mark(alloc: Global, out: &mut Vec<u8>, row: Row, mark: Mark) -> Result<(), AllocError> {
     let (x, y) = (mark.x, row.y);
     let shape = match mark.kind {
-        MarkKind::ZeroLag => format!(in alloc; "<path class=\"z\" d=\"M{x} {y}m-3 0h6l-3 8z\">")?,
-        MarkKind::Replenishment => {
-            let foot = y.saturating_add(LANE);
-            format!(in alloc; "<path class=\"z\" d=\"M{x} {foot}m-3 0h6l-3 -8z\">")?
+        MarkKind::ZeroLag => {
+            let top = y.saturating_sub(2);
+            format!(in alloc; "<path class=\"z\" d=\"M{x} {top}m-2 0h4l-2 4z\">")?
         }
-        MarkKind::Deviation => format!(in alloc; "<path class=\"x\" d=\"M{x} {y}m-4 0h8l-4 9z\">")?,
+        MarkKind::Replenishment => {
+            let foot = y.saturating_add(2);
+            format!(in alloc; "<path class=\"z\" d=\"M{x} {foot}m-2 0h4l-2 -4z\">")?
+        }
+        MarkKind::Deviation => {
+            let top = y.saturating_sub(3);
+            format!(in alloc; "<path class=\"x\" d=\"M{x} {top}m-4 0h8l-4 8z\">")?
+        }
     };
     put(out, shape.as_str())?;
     put_mark_title(alloc, out, &mark.observation)?;

@@ -27,9 +27,9 @@ const KEY: &str = "\
 <rect class=\"throttled\" x=\"402\" y=\"54\" width=\"18\" height=\"6\"/><text x=\"425\" y=\"59\">throttled: no budget left</text>\
 <rect class=\"non-contending\" x=\"588\" y=\"55\" width=\"18\" height=\"5\"/><text x=\"611\" y=\"59\">blocked, 0-lag time to come (non-contending)</text>\
 <rect class=\"inactive\" x=\"872\" y=\"58\" width=\"18\" height=\"2\"/><text x=\"895\" y=\"59\">blocked, 0-lag time past (inactive)</text>\n\
-<path class=\"z\" d=\"M185 69m-3 0h6l-3 8z\"/><text x=\"199\" y=\"78\">kernel's 0-lag timer</text>\
-<path class=\"z\" d=\"M317 77m-3 0h6l-3 -8z\"/><text x=\"330\" y=\"78\">kernel's replenishment timer</text>\
-<path class=\"x\" d=\"M507 68m-4 0h8l-4 9z\"/><text x=\"520\" y=\"78\">a timer that differs from the rules</text>\
+<path class=\"z\" d=\"M185 72m-2 0h4l-2 4z\"/><text x=\"199\" y=\"78\">kernel's 0-lag timer</text>\
+<path class=\"z\" d=\"M320 76m-2 0h4l-2 -4z\"/><text x=\"330\" y=\"78\">kernel's replenishment timer</text>\
+<path class=\"x\" d=\"M507 69m-4 0h8l-4 8z\"/><text x=\"520\" y=\"78\">a timer that differs from the rules</text>\
 <path class=\"f\" d=\"M720 66V80\"/><text x=\"730\" y=\"78\">the first deviation</text>\n";
 
 fn put_heading(
