@@ -53,7 +53,6 @@ fn push_lane(lanes: &mut Vec<Lane>, slices: &[Slice], lane: Lane) -> Result<(), 
 }
 
 /// The lanes of a runqueue, of so many tasks.
-#[tactic(auto, using(std::proofs::lemmas::List::FromFn::filter_of_map_range_with_len_more))]
 fn lanes_on(alloc: Global, slices: &[Slice], tasks: u32, cpu: u32) -> Result<Vec<Lane>, AllocError>
     ensures { IfOk result (λ v. v.items ≡ lanes_on slices.now tasks cpu) }
 {
@@ -70,16 +69,24 @@ fn is_busy(slices: &[Slice], cpu: u32) -> bool
     slices.iter().any(|slice| slice.cpu == cpu)
 }
 
+/// Appends a runqueue, if a task is on it.
+fn push_busy(busy: &mut Vec<u32>, slices: &[Slice], cpu: u32) -> Result<(), AllocError>
+    ensures { OnOk result (busy.new.items ≡ busy.old.items
+        ++ (if is_busy slices.now cpu then cpu ∷ [] else [])) }
+{
+    if is_busy(slices, cpu) {
+        busy.push(cpu)?;
+    }
+    Ok(())
+}
+
 /// Those of so many runqueues on which there is a task.
-#[tactic(auto, using(std::proofs::lemmas::List::FromFn::filter_of_map_range_with_len_more))]
 fn busy_cpus(alloc: Global, slices: &[Slice], cpus: u32) -> Result<Vec<u32>, AllocError>
     ensures { IfOk result (λ v. v.items ≡ busy_in slices.now cpus) }
 {
     let mut busy = Vec::new(alloc);
     for cpu in 0..cpus {
-        if is_busy(slices, cpu) {
-            busy.push(cpu)?;
-        }
+        push_busy(&mut busy, slices, cpu)?;
     }
     Ok(busy)
 }
