@@ -10,7 +10,7 @@ _grubtrace() {
         esac
     done
     case ${COMP_WORDS[COMP_CWORD - 1]} in
-        --task | --cpus | --domain | --rt | --kernel | --within | --late | --margin)
+        --task | --cpus | --domain | --rt | --kernel | --within | --late | --margin | --from | --to)
             compopt +o default 2> /dev/null
             return
             ;;
@@ -22,14 +22,14 @@ _grubtrace() {
             mapfile -t COMPREPLY < <(compgen -W 'kernel documentation' -- "$current")
             return
             ;;
-        --out | --table) return ;;
+        --out | --table | --json | --picture) return ;;
     esac
     case ${command-} in
         '') words='tasks events check size help -h --help -V --version' ;;
         help) words='tasks events check size' ;;
         tasks) words='-h --help' ;;
         events) words='--task --cpus --rt --fair-server --out -h --help' ;;
-        check) words='--task --cpus --domain --rt --fair-server --kernel --within --by --timers --why --table -h --help' ;;
+        check) words='--task --cpus --domain --rt --fair-server --kernel --within --by --timers --why --table --json --picture --from --to -h --help' ;;
         size) words='--task --within --late --margin --cpus --rt --fair-server -h --help' ;;
     esac
     if [[ $current == -* || -z ${command-} || $command == help ]]; then

@@ -96,6 +96,38 @@ fn table_arg<'a>(alloc: Global) -> Arg<'a> {
         .action(ArgAction::Set)
 }
 
+fn json_arg<'a>(alloc: Global) -> Arg<'a> {
+    Arg::new(alloc, "json")
+        .long("json")
+        .value_name("FILE")
+        .help("Writes the states of tasks and runqueues, for ui.perfetto.dev and chrome://tracing")
+        .action(ArgAction::Set)
+}
+
+fn picture_arg<'a>(alloc: Global) -> Arg<'a> {
+    Arg::new(alloc, "picture")
+        .long("picture")
+        .value_name("FILE")
+        .help("Draws the states of tasks and runqueues, as SVG")
+        .action(ArgAction::Set)
+}
+
+fn from_arg<'a>(alloc: Global) -> Arg<'a> {
+    Arg::new(alloc, "from")
+        .long("from")
+        .value_name("S")
+        .help("With --json or --picture: from when on, in seconds of the trace")
+        .action(ArgAction::Set)
+}
+
+fn to_arg<'a>(alloc: Global) -> Arg<'a> {
+    Arg::new(alloc, "to")
+        .long("to")
+        .value_name("S")
+        .help("With --json or --picture: until when, in seconds of the trace")
+        .action(ArgAction::Set)
+}
+
 pub(crate) fn check_command<'a>(alloc: Global, trace: Arg<'a>) -> Result<Command<'a>, AllocError> {
     Command::new(alloc, "check")
         .about("Says whether the kernel accounted as its rules say")
@@ -111,5 +143,9 @@ pub(crate) fn check_command<'a>(alloc: Global, trace: Arg<'a>) -> Result<Command
         .arg(timers_arg(alloc))?
         .arg(why_arg(alloc))?
         .arg(table_arg(alloc))?
+        .arg(json_arg(alloc))?
+        .arg(picture_arg(alloc))?
+        .arg(from_arg(alloc))?
+        .arg(to_arg(alloc))?
         .arg(trace)
 }

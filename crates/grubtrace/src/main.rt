@@ -58,9 +58,19 @@ fn faults_go_to_terminal(files: &impl Files, alloc: Global) -> bool {
     }
 }
 
-/// Makes a file with these bytes, where there is none.
+/// Makes a file with these bytes, where there is none; where they cannot all be written, there is none after it.
 fn make(files: &impl Files, path: &str, bytes: &[u8]) -> io::Result<()> {
     let mut file = fs::File::create_new(files, path)?;
+    match write_whole(&mut file, bytes) {
+        Ok(()) => Ok(()),
+        Err(error) => {
+            let _ = fs::remove_file(files, path);
+            Err(error)
+        }
+    }
+}
+
+fn write_whole<W: Write>(file: &mut W, bytes: &[u8]) -> io::Result<()> {
     file.write_all(bytes)?;
     file.flush()
 }
@@ -91,10 +101,21 @@ fn main(rt: HostRuntime) -> ExitCode {
         exists: |path: &str| rt.symlink_metadata(path).is_ok(),
         make: |path: &str, bytes: &[u8]| make(&rt, path, bytes),
     };
+    let remove = |path: &str| {
+        let _ = fs::remove_file(&rt, path);
+    };
     let mut out = rt.stdout();
     let mut faults = rt.stderr();
     let status = match env::args(&rt).and_then(|args| Ok(args.collect::<Vec<String>>(alloc)?)) {
-        Ok(words) => serve(alloc, &words, &input, &target, &mut out, &mut faults),
+        Ok(words) => serve(
+            alloc,
+            &words,
+            &input,
+            &target,
+            &remove,
+            &mut out,
+            &mut faults,
+        ),
         Err(error) => serve_no_words(&error, &mut faults),
     };
     ExitCode::from(status)

@@ -14,7 +14,8 @@ use std::alloc::{AllocError, Global};
 use std::io;
 use std::io::Write;
 use trace_check::{
-    Wanted, Words as CheckWords, WrongOption, options_of as check_options, serve_check,
+    Wanted, Window, Words as CheckWords, WrongOption, options_of as check_options, serve_check,
+    window_of,
 };
 
 /// How many percent more than the least runtime are proposed, where the words do not say it.
@@ -35,6 +36,7 @@ pub(crate) fn serve<
     N: Fn(&mut D, &mut [u8]) -> io::Result<usize>,
     X: Fn(&str) -> bool,
     M: Fn(&str, &[u8]) -> io::Result<()>,
+    R: Fn(&str),
     W: Write,
     E: Write,
 >(
@@ -42,6 +44,7 @@ pub(crate) fn serve<
     words: &[String],
     input: &Input<O, N>,
     target: &Target<X, M>,
+    remove: &R,
     out: &mut W,
     faults: &mut E,
 ) -> u8
@@ -49,6 +52,7 @@ pub(crate) fn serve<
     requires read { N.IsAlwaysCallable input.now.read }
     requires exists { X.IsAlwaysCallable target.now.exists }
     requires make { M.IsAlwaysCallable target.now.make }
+    requires remove { R.IsAlwaysCallable remove.now }
     ensures status { result ≤ 4 }
     // Where the trace is at fault, or the words are, nothing was printed.
     ensures nothing { (result ≡ 1) ⊎ (result ≡ 2) → out.new ≡ out.old }
@@ -56,7 +60,7 @@ pub(crate) fn serve<
     match matches_of(alloc, words) {
         Ok(matches) => match matches.subcommand() {
             Some(("events", matches)) => events(alloc, matches, input, target, faults),
-            Some(("check", matches)) => check(alloc, matches, input, target, out, faults),
+            Some(("check", matches)) => check(alloc, matches, input, target, remove, out, faults),
             Some(("size", matches)) => size(alloc, matches, input, out, faults),
             Some((_, matches)) => {
                 let path = matches.get_str("TRACE").unwrap_or("");
@@ -105,6 +109,7 @@ fn check<
     N: Fn(&mut D, &mut [u8]) -> io::Result<usize>,
     X: Fn(&str) -> bool,
     M: Fn(&str, &[u8]) -> io::Result<()>,
+    R: Fn(&str),
     W: Write,
     E: Write,
 >(
@@ -112,6 +117,7 @@ fn check<
     matches: &ArgMatches<'_>,
     input: &Input<O, N>,
     target: &Target<X, M>,
+    remove: &R,
     out: &mut W,
     faults: &mut E,
 ) -> u8
@@ -119,6 +125,7 @@ fn check<
     requires read { N.IsAlwaysCallable input.now.read }
     requires exists { X.IsAlwaysCallable target.now.exists }
     requires make { M.IsAlwaysCallable target.now.make }
+    requires remove { R.IsAlwaysCallable remove.now }
     ensures status { result ≤ 4 }
     ensures nothing { (result ≡ 1) ⊎ (result ≡ 2) → out.new ≡ out.old }
 {
@@ -135,9 +142,18 @@ fn check<
         by_timers: matches.get_flag("timers"),
         explains: matches.get_flag("why"),
     };
+    let json = matches.get_str("json");
+    let picture = matches.get_str("picture");
+    let window = match window_in(matches, json.is_some() || picture.is_some()) {
+        Ok(window) => window,
+        Err(wrong) => return wrong_option(wrong, faults),
+    };
     let wanted = Wanted {
         path: matches.get_str("TRACE").unwrap_or(""),
         table: matches.get_str("table"),
+        json,
+        picture,
+        window,
     };
     match check_options(alloc, words) {
         Ok(Ok(options)) => serve_check(
@@ -146,6 +162,7 @@ fn check<
             &input.read,
             &target.exists,
             &target.make,
+            remove,
             wanted,
             &options,
             out,
@@ -153,6 +170,17 @@ fn check<
         ),
         Ok(Err(wrong)) => wrong_option(wrong, faults),
         Err(_) => no_memory(faults),
+    }
+}
+
+/// The part of the record that `--from` and `--to` name, which only states have.
+fn window_in<'a>(matches: &ArgMatches<'a>, shows_states: bool) -> Result<Window, WrongOption<'a>> {
+    let from = matches.get_str("from");
+    let to = matches.get_str("to");
+    match (from, to) {
+        (Some(from), _) if !shows_states => Err(WrongOption::From(from)),
+        (_, Some(to)) if !shows_states => Err(WrongOption::To(to)),
+        _ => window_of(from, to),
     }
 }
 
@@ -166,6 +194,8 @@ fn wrong_option<E: Write>(wrong: WrongOption<'_>, faults: &mut E) -> u8
         WrongOption::Rt(value) => ("--rt", value),
         WrongOption::FairServer(value) => ("--fair-server", value),
         WrongOption::Kernel(value) => ("--kernel", value),
+        WrongOption::From(value) => ("--from", value),
+        WrongOption::To(value) => ("--to", value),
     };
     let _ = writeln!(faults, "error: invalid value '{value}' for '{name}'");
     STATUS_USAGE

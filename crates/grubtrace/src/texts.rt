@@ -41,7 +41,8 @@ the notes. The verdict ends in `agrees` (status 0), or in what is needed to find
 kernel `differs` (status 4). docs/KERNEL.md says what is compared and what is not.
 
     grubtrace check trace.txt
-    grubtrace check --task gr_0=5000:50000 --task gr_1=10000:40000 trace.txt";
+    grubtrace check --task gr_0=5000:50000 --task gr_1=10000:40000 trace.txt
+    grubtrace check --picture run.svg --from 1927.5 --to 1927.8 trace.txt";
 
 /// What stands below the help of `size`.
 pub const AFTER_SIZE: &str = "\

@@ -46,6 +46,7 @@ fault_line path (fault.BadNote line) = line_place path line ++ codes "55 BadTrac
 fault_line path (fault.FileExists made) = file_place made.now ++ codes "56 FileExists\n"
 fault_line path (fault.Changed line) = line_place path line ++ codes "59 Changed rt\n"
 fault_line path (fault.NoSums kernel) = kernel_line path kernel
+fault_line path fault.OutsideRecord = codes "error: --from and --to name no part of the record\n"
 fault_line path fault.Write = codes "grubtrace: 45 WriteFault\n"
 fault_line path fault.Unreadable = file_place path ++ codes "46 ReadFault\n"
 fault_line path fault.NoMemory = codes "grubtrace: 47 NoMemory\n"

@@ -1,13 +1,16 @@
 //! A record is read, played, and judged.
 
 ghost use Rattle.std.specs.Prelude.{◌≡◌, ◌⊎◌};
-ghost use Rattle.trace_check.specs.declared.fault.TheConstants.{STATUS_DIFFERS, STATUS_FILE, STATUS_SYSTEM};
+ghost use Rattle.trace_check.specs.declared.fault.TheConstants.{STATUS_DIFFERS, STATUS_FILE, STATUS_SYSTEM, STATUS_USAGE};
 
 use crate::fault::{Fault, STATUS_DIFFERS, STATUS_SYSTEM};
+use crate::files::{first_there, make_all};
 use crate::gathering::Gathering;
 use crate::options::Options;
 use crate::probes::Played;
+use crate::showing::{Shown, nothing_shown, shown_of};
 use crate::why::tried;
+use crate::window::Window;
 use deadline_machine::Machine;
 use deadline_timers::setup_of;
 use deadline_verdict::{Heading as TimerHeading, judge, put_table, put_verdict as put_timers};
@@ -27,16 +30,22 @@ const PIECE: usize = 65_536;
 pub struct Wanted<'a> {
     pub path: &'a str,
 
-    /// Where the table is to be written.
+    /// Where the table is to be written, the states as JSON, and their picture.
     pub table: Option<&'a str>,
+    pub json: Option<&'a str>,
+    pub picture: Option<&'a str>,
+
+    /// The part of the record whose states are written.
+    pub window: Window,
 }
 
-/// A verdict: its text, whether the kernel agrees, and the table that was wanted.
+/// A verdict: its text, whether the kernel agrees, the table that was wanted, and the states; none where the window has none.
 #[derive(Drop)]
 struct Verdict {
     agrees: bool,
     text: Vec<u8>,
     table: Vec<u8>,
+    shown: Option<Shown>,
 }
 
 /// Reads a trace to its end, or to its first line with a fault.
@@ -156,6 +165,7 @@ fn verdict_by(
         agrees,
         text,
         table,
+        shown: Some(nothing_shown(alloc)),
     })
 }
 
@@ -245,10 +255,12 @@ fn judged_verdict(
     if wanted.table.is_some() {
         put_table(alloc, &mut table, &judged.outcome.observations, &names)?;
     }
+    let shown = shown_of(alloc, wanted, setup, start, &lines, &names, &judged)?;
     Ok(Verdict {
         agrees: judged.first.is_none(),
         text,
         table,
+        shown,
     })
 }
 
@@ -279,6 +291,22 @@ fn is_before(line: Option<u64>, other: Option<u64>) -> bool {
     }
 }
 
+/// A verdict by probes, with the states that the lines of timers beside them show.
+fn with_states<'o>(
+    alloc: Global,
+    wanted: Wanted<'_>,
+    options: &Options<'o>,
+    gathering: &mut Gathering<'o>,
+    mut verdict: Verdict,
+) -> Result<Verdict, Fault<'o>> {
+    if wanted.json.is_none() && wanted.picture.is_none() {
+        return Ok(verdict);
+    }
+    let by_timers = timer_verdict(alloc, wanted, options, gathering)?;
+    verdict.shown = by_timers.shown;
+    Ok(verdict)
+}
+
 /// The verdict on the trace of a path.
 fn verdict_of<
     'o,
@@ -295,7 +323,8 @@ fn verdict_of<
     requires opens { O.IsAlwaysCallable opens.now }
     requires read { N.IsAlwaysCallable read.now }
 {
-    let Ok(mut gathering) = Gathering::new(alloc, options, wanted.table.is_some()) else {
+    let shows = wanted.json.is_some() || wanted.picture.is_some();
+    let Ok(mut gathering) = Gathering::new(alloc, options, wanted.table.is_some(), shows) else {
         return Err(Fault::NoMemory);
     };
     let mut file = match opens(wanted.path) {
@@ -315,7 +344,13 @@ fn verdict_of<
             return Err(Fault::NoMemory);
         }
         match probe_verdict(alloc, wanted, options, &gathering) {
-            Ok(Some(verdict)) => return Ok(verdict),
+            Ok(Some(verdict)) => return with_states(
+                alloc,
+                wanted,
+                options,
+                &mut gathering,
+                verdict,
+            ),
             Ok(None) => {}
             Err(AllocError) => return Err(Fault::NoMemory),
         }
@@ -323,21 +358,25 @@ fn verdict_of<
     timer_verdict(alloc, wanted, options, &mut gathering)
 }
 
-/// Writes the table that is wanted, over no file that is there.
-fn write_table<'o, M: Fn(&str, &[u8]) -> io::Result<()>>(
+/// The files of a verdict: none is written where one of them cannot be.
+fn write_files<'o, M: Fn(&str, &[u8]) -> io::Result<()>, R: Fn(&str)>(
     make: &M,
+    remove: &R,
     wanted: Wanted<'o>,
     verdict: &Verdict,
 ) -> Result<(), Fault<'o>>
     requires make { M.IsAlwaysCallable make.now }
+    requires remove { R.IsAlwaysCallable remove.now }
 {
-    let Some(path) = wanted.table else {
-        return Ok(());
+    let Some(shown) = &verdict.shown else {
+        return Err(Fault::OutsideRecord);
     };
-    match make(path, verdict.table.as_slice()) {
-        Ok(()) => Ok(()),
-        Err(_) => Err(Fault::Write),
-    }
+    let files = [
+        (wanted.table, verdict.table.as_slice()),
+        (wanted.json, shown.json.as_slice()),
+        (wanted.picture, shown.picture.as_slice()),
+    ];
+    make_all(make, remove, &files)
 }
 
 /// Prints the verdict on the trace of a path, or the line of its fault, and gives the status: 0 where the kernel agrees, 4 where
@@ -348,6 +387,7 @@ pub fn serve_check<
     N: Fn(&mut D, &mut [u8]) -> io::Result<usize>,
     X: Fn(&str) -> bool,
     M: Fn(&str, &[u8]) -> io::Result<()>,
+    R: Fn(&str),
     W: Write,
     E: Write,
 >(
@@ -356,6 +396,7 @@ pub fn serve_check<
     read: &N,
     exists: &X,
     make: &M,
+    remove: &R,
     wanted: Wanted<'_>,
     options: &Options<'_>,
     out: &mut W,
@@ -365,14 +406,13 @@ pub fn serve_check<
     requires read { N.IsAlwaysCallable read.now }
     requires exists { X.IsAlwaysCallable exists.now }
     requires make { M.IsAlwaysCallable make.now }
+    requires remove { R.IsAlwaysCallable remove.now }
     ensures status { (result ≡ 0) ⊎ (result ≡ STATUS_DIFFERS) ⊎ (result ≡ STATUS_FILE)
-        ⊎ (result ≡ STATUS_SYSTEM) }
-    // Where the trace is at fault, nothing was printed.
-    ensures nothing { result ≡ STATUS_FILE → out.new ≡ out.old }
+        ⊎ (result ≡ STATUS_USAGE) ⊎ (result ≡ STATUS_SYSTEM) }
+    // Where the trace is at fault, or the words are, nothing was printed.
+    ensures nothing { (result ≡ STATUS_FILE) ⊎ (result ≡ STATUS_USAGE) → out.new ≡ out.old }
 {
-    if let Some(path) = wanted.table
-        && exists(path)
-    {
+    if let Some(path) = first_there(exists, wanted) {
         let fault = Fault::FileExists { path };
         let _ = fault.tell(wanted.path, faults);
         return fault.status();
@@ -384,7 +424,7 @@ pub fn serve_check<
             return fault.status();
         }
     };
-    if let Err(fault) = write_table(make, wanted, &verdict) {
+    if let Err(fault) = write_files(make, remove, wanted, &verdict) {
         let _ = fault.tell(wanted.path, faults);
         return fault.status();
     }

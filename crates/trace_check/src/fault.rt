@@ -51,6 +51,9 @@ pub enum Fault<'a> {
     /// 60: the sums of this kernel depend on its past, and no note tells them.
     NoSums { kernel: Kernel },
 
+    /// The states of a part of the record are wanted that lies outside of it.
+    OutsideRecord,
+
     /// 45: what is told could not be written.
     Write,
 
@@ -68,6 +71,7 @@ impl Fault<'_> {
     {
         match self {
             Fault::Write | Fault::Unreadable | Fault::NoMemory => STATUS_SYSTEM,
+            Fault::OutsideRecord => STATUS_USAGE,
             _ => STATUS_FILE,
         }
     }
@@ -101,6 +105,9 @@ impl Fault<'_> {
             Fault::FileExists { path } => tell_of(to, path, b"56 FileExists\n"),
             Fault::Changed { line } => tell_at(to, path, *line, b"59 Changed rt\n"),
             Fault::NoSums { kernel } => tell_kernel(to, path, *kernel),
+            Fault::OutsideRecord => {
+                to.write_all(b"error: --from and --to name no part of the record\n")
+            }
             Fault::Write => to.write_all(b"grubtrace: 45 WriteFault\n"),
             Fault::Unreadable => tell_of(to, path, b"46 ReadFault\n"),
             Fault::NoMemory => to.write_all(b"grubtrace: 47 NoMemory\n"),

@@ -33,6 +33,9 @@ pub(crate) struct Gathering<'o> {
 
     /// Whether a note tells of a task.
     has_notes: bool,
+
+    /// Whether lines of timers are kept beside lines of probes, for the states that they show.
+    keeps_timers: bool,
     pub probes: Probes,
     pub lost: Option<Lost>,
     pub fault: Option<Fault<'o>>,
@@ -61,6 +64,7 @@ impl<'o> Gathering<'o> {
         alloc: Global,
         options: &'o Options<'o>,
         keeps_rows: bool,
+        keeps_timers: bool,
     ) -> Result<Gathering<'o>, AllocError> {
         let mut found = Vec::new(alloc);
         for _ in 0..options.tasks.len() {
@@ -76,6 +80,7 @@ impl<'o> Gathering<'o> {
             record: None,
             has_timers: false,
             has_notes: false,
+            keeps_timers,
             probes: Probes::new(alloc, keeps_rows),
             lost: None,
             fault: None,
@@ -143,7 +148,7 @@ impl<'o> Gathering<'o> {
 
     /// Takes a line of a probe.
     fn probe(&mut self, kept: Kept) -> Result<(), AllocError> {
-        if self.plays_probes() {
+        if self.plays_probes() && !self.keeps_timers {
             self.record = None;
         }
         self.head.greatest_cpu = self.head.greatest_cpu.max(kept.cpu);
@@ -284,7 +289,7 @@ impl<'o> Gathering<'o> {
         fixed: Fixed,
     ) -> Result<(), AllocError> {
         self.head.greatest_cpu = self.head.greatest_cpu.max(cpu).max(cpu_of(&fixed));
-        if self.plays_probes() {
+        if self.plays_probes() && !self.keeps_timers {
             return Ok(());
         }
         self.has_timers = self.has_timers || matches!(fixed, Fixed::TimerStarted { .. });

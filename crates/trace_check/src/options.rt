@@ -77,6 +77,8 @@ pub enum WrongOption<'a> {
     Rt(&'a str),
     FairServer(&'a str),
     Kernel(&'a str),
+    From(&'a str),
+    To(&'a str),
 }
 
 /// The number that digits spell; none where there are others, or where it is above 2^64 - 1.

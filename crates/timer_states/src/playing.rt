@@ -1,0 +1,77 @@
+//! A record's states, line by line.
+
+ghost use Rattle.std.specs.Prelude.{◌≡◌, OnOk};
+ghost use Rattle.timer_states.specs.Seen.{begin_in, is_running, states_seen};
+
+use deadline_states::{History, Slice, Span, State, is_on_cpu, state_of};
+use deadline_timers::{Machine, Setup, Start, tell_until};
+use std::alloc::{AllocError, Global};
+use timer_lines::{Event, Kept, Lines};
+use timer_rules::Task;
+
+/// Plays the lines of a record, and gives the states that they come to in a part of it.
+pub fn states_of(
+    alloc: Global,
+    setup: Setup,
+    start: &Start,
+    lines: &Lines,
+    window: Span,
+) -> Result<History, AllocError> {
+    let mut machine = Machine::new(alloc, setup, start, lines, 0, None)?;
+    let mut history = History::new(alloc, lines.tasks.len(), machine.cpus(), window)?;
+    let mut come = 0usize;
+    for kept in &lines.kept {
+        come = tell_until(&mut machine, lines, come, kept.at);
+        machine.step(lines, *kept)?;
+        see(&mut history, &machine, *kept)?;
+    }
+    history.finish(lines.ends)?;
+    Ok(history)
+}
+
+/// Shows to a history what the machine came to by a line.
+fn see(history: &mut History, machine: &Machine, kept: Kept) -> Result<(), AllocError> {
+    for number in 0..history.tasks() {
+        if let Some(task) = machine.task(number) {
+            see_task(history, kept, number, task)?;
+        }
+    }
+    for cpu in 0..history.cpus() {
+        history.show_sums(cpu, machine.sums(cpu), kept.at)?;
+    }
+    Ok(())
+}
+
+/// Shows to a history what a line left a task in.
+pub fn see_task(history: &mut History, kept: Kept, number: u32, task: Task) -> Result<(), AllocError>
+    ensures { OnOk result
+        (history.new.states.items ≡ states_seen history.old kept number task) }
+{
+    let is_running = is_on_cpu(kept.event, number, is_running(history.current(number)));
+    let state = state_of(task, is_running);
+    history.show(number, task.cpu, state, begin_of(kept, number))?;
+    if state.is_some() {
+        let budget = task.entity.budget;
+        history.show_budget(number, budget.runtime, budget.deadline, kept.at)?;
+    }
+    Ok(())
+}
+
+fn is_running(last: Option<Slice>) -> bool
+    ensures { result ≡ is_running last }
+{
+    match last {
+        Some(slice) => matches!(slice.state, State::Running),
+        None => false,
+    }
+}
+
+/// When the state begins in which a line shows a task: a charge is of the span before it.
+fn begin_of(kept: Kept, number: u32) -> u64
+    ensures { result ≡ begin_in kept.event kept.at number }
+{
+    match kept.event {
+        Event::Ran { task, nanos } if task == number => kept.at.saturating_sub(nanos),
+        _ => kept.at,
+    }
+}

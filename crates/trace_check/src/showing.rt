@@ -1,0 +1,104 @@
+//! The states of a record, as a document of JSON and as a picture.
+
+use crate::check::Wanted;
+use crate::fault::Fault;
+use crate::window::Window;
+use deadline_states::{Scene, Span, TaskName};
+use deadline_timers::{Setup, Start};
+use deadline_verdict::Judged;
+use state_json::put_document;
+use state_picture::picture_of;
+use std::alloc::{AllocError, Global};
+use timer_lines::Lines;
+use timer_states::states_of;
+
+/// The documents that are wanted.
+#[derive(Drop)]
+pub(crate) struct Shown {
+    pub json: Vec<u8>,
+    pub picture: Vec<u8>,
+}
+
+/// Nothing is wanted.
+pub(crate) fn nothing_shown(alloc: Global) -> Shown {
+    Shown {
+        json: Vec::new(alloc),
+        picture: Vec::new(alloc),
+    }
+}
+
+/// The window, of a record from its first line to its last; none where it lies outside.
+fn span_of(window: Window, lines: &Lines) -> Option<Span> {
+    let from = window.from.unwrap_or(lines.begins.unwrap_or(0));
+    let to = window.to.unwrap_or(lines.ends);
+    if from < to && from < lines.ends {
+        Some(Span { from, to })
+    } else {
+        None
+    }
+}
+
+fn task_names(
+    alloc: Global,
+    lines: &Lines,
+    names: &[Vec<u8>],
+) -> Result<Vec<TaskName>, AllocError> {
+    let mut tasks = Vec::new(alloc);
+    for (place, task) in lines.tasks.iter().enumerate() {
+        let comm = match names.get(place) {
+            Some(name) => String::from_utf8_lossy(alloc, name.as_slice())?,
+            None => String::new(alloc),
+        };
+        tasks.push(TaskName {
+            pid: task.pid,
+            comm,
+        })?;
+    }
+    Ok(tasks)
+}
+
+/// `max_bw` of so many runqueues.
+fn limits_of(alloc: Global, setup: &Setup, cpus: u32) -> Result<Vec<u64>, AllocError> {
+    let mut limits = Vec::new(alloc);
+    for cpu in 0..cpus {
+        limits.push(setup.limits(cpu).max_bw)?;
+    }
+    Ok(limits)
+}
+
+/// The documents of a record that was played.
+pub(crate) fn shown_of(
+    alloc: Global,
+    wanted: Wanted<'_>,
+    setup: Setup,
+    start: &Start,
+    lines: &Lines,
+    names: &[Vec<u8>],
+    judged: &Judged,
+) -> Result<Option<Shown>, AllocError> {
+    let mut shown = nothing_shown(alloc);
+    if wanted.json.is_none() && wanted.picture.is_none() {
+        return Ok(Some(shown));
+    }
+    let Some(span) = span_of(wanted.window, lines) else {
+        return Ok(None);
+    };
+    let history = states_of(alloc, setup, start, lines, span)?;
+    let limits = limits_of(alloc, &setup, history.cpus())?;
+    let tasks = task_names(alloc, lines, names)?;
+    let scene = Scene {
+        history: &history,
+        tasks: &tasks,
+        observations: &judged.outcome.observations,
+        first: judged.first,
+        span,
+        limits: &limits,
+    };
+    if wanted.json.is_some() {
+        put_document(alloc, &mut shown.json, scene)?;
+    }
+    if wanted.picture.is_some() {
+        shown.picture = picture_of(alloc, scene, wanted.path)?;
+    }
+    Ok(Some(shown))
+}
