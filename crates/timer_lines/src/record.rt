@@ -2,7 +2,7 @@
 
 use crate::before::Before;
 use crate::event::{Event, Kept};
-use crate::lines::{Given, Lines, TaskLines, TimerLines, Told};
+use crate::lines::{Given, Lines, TaskLines, TimerLines, Told, Unlisted};
 use crate::moment::{Passing, ROUNDING};
 use std::alloc::{AllocError, Global};
 use std::collections::HashMap;
