@@ -3,9 +3,10 @@ use Rattle.std.specs.Prelude.{ℕ, Bool, ◌==◌, nat_lt, nat_le, ◌+◌, ◌-
 use Rattle.std.specs.Option.{option_map_or}
 use Rattle.grub_text.specs.Lines.{word_of, words_of}
 use Rattle.trace_line.specs.Words.{without_spaces}
-use Rattle.trace_line.specs.Opening.{opening_of, running}
+use Rattle.trace_line.specs.Opening.{opening_of, running, running_comm}
 use Rattle.trace_line.specs.Head.{is_comment, is_lost, processors}
 use Rattle.trace_line.specs.declared.event.Shown.{Shown}
+use Rattle.trace_line.specs.declared.opening.CpuWord.{CpuWord}
 use Rattle.trace_line.specs.declared.opening.Opening.{Opening}
 use Rattle.trace_probes.specs.Shown.{probe_of}
 use Rattle.trace_probes.specs.declared.shown.ProbeEvent.{ProbeEvent}
@@ -112,21 +113,23 @@ abbrev pub flaw_of : ℕ → ℕ → Said → Option Flaw
 flaw_of at cpu said =
     if nat_le CPUS (max cpu (said_cpu said)) then Some TooLong else (if nat_lt CLOCK_MAX (drift at said) then Some WrongClock else None)
 
-abbrev pub probed : ProbeEvent → List ℕ → Option (Named (List ℕ))
-probed event fields = option_map (λ p. record { said = said.Probe p; shown = None }) (probe_of event (words_of fields))
+-- a line of a probe shows the task that runs
+abbrev pub probed : ProbeEvent → List ℕ → List ℕ → ℕ → Option (Named (List ℕ))
+probed event fields front pid =
+    option_map (λ p. record { said = said.Probe p; shown = Some (record { comm = running_comm front; pid = pid }) }) (probe_of event (words_of fields))
 
--- what the fields of an event say
-abbrev pub said_by : Verb → List ℕ → Option (Named (List ℕ))
-said_by verb.Wake fields = woken fields
-said_by verb.Migrate fields = migrated fields
-said_by verb.Run fields = ran fields
-said_by verb.Switch fields = switched fields
-said_by verb.Start fields = started fields
-said_by verb.Cancel fields = cancelled fields
-said_by verb.Expire fields = fired fields
-said_by verb.Call fields = Some (alone fixed.PolicyCalled)
-said_by verb.Return fields = Some (alone fixed.PolicyReturned)
-said_by (verb.Probe event) fields = probed event fields
+-- what the fields of an event say, while the task of this pid runs
+abbrev pub said_by : Verb → List ℕ → List ℕ → ℕ → Option (Named (List ℕ))
+said_by verb.Wake fields front pid = woken fields
+said_by verb.Migrate fields front pid = migrated fields
+said_by verb.Run fields front pid = ran fields
+said_by verb.Switch fields front pid = switched fields
+said_by verb.Start fields front pid = started fields
+said_by verb.Cancel fields front pid = cancelled fields
+said_by verb.Expire fields front pid = fired fields
+said_by verb.Call fields front pid = Some (alone fixed.PolicyCalled)
+said_by verb.Return fields front pid = Some (alone fixed.PolicyReturned)
+said_by (verb.Probe event) fields front pid = probed event fields front pid
 
 abbrev pub unflawed : Option Flaw → ℕ → ℕ → ℕ → ℕ → Named (List ℕ) → Told (List ℕ)
 unflawed None at grain cpu pid named = record { line = line.Event at grain cpu pid named.said; shown = named.shown; domain = None; lost = None; processors = None }
@@ -136,10 +139,19 @@ unflawed (Some flaw) at grain cpu pid named = told_line (line.Flawed flaw)
 abbrev pub checked : ℕ → ℕ → ℕ → ℕ → Named (List ℕ) → Told (List ℕ)
 checked at grain cpu pid named = unflawed (flaw_of at cpu named.said) at grain cpu pid named
 
+-- what a line of an event tells, before whose CPU this stands, while the task of this pid runs
+abbrev pub told_running : Opening → ℕ → ℕ → Verb → List ℕ → List ℕ → ℕ → Option (Told (List ℕ))
+told_running opening grain cpu verb fields front pid =
+    option_map (λ named. checked opening.at grain cpu pid named) (said_by verb fields front pid)
+
+-- what a line of an event tells whose CPU stands there
+abbrev pub told_at : List ℕ → Opening → Verb → List ℕ → CpuWord → Option (Told (List ℕ))
+told_at text opening verb fields c =
+    option_and_then (told_running opening (grain_of (take opening.end text)) c.cpu verb fields (take c.start text)) (running (take c.start text))
+
 -- what a line of an event tells
 abbrev pub told_said : List ℕ → Opening → Verb → List ℕ → Option (Told (List ℕ))
-told_said text opening verb fields =
-    option_and_then (λ c. option_and_then (λ pid. option_map (λ named. checked opening.at (grain_of (take opening.end text)) c.cpu pid named) (said_by verb fields)) (running (take c.start text))) opening.cpu
+told_said text opening verb fields = option_and_then (told_at text opening verb fields) opening.cpu
 
 abbrev pub said_or_bad : Option (Told (List ℕ)) → Told (List ℕ)
 said_or_bad None = told_line (line.Flawed BadTraceLine)

@@ -111,7 +111,8 @@ fn switched_to<'a>(
     stop: Stop,
     rest: &'a [u8],
 ) -> Option<Named<&'a [u8]>>
-    ensures { option_map named_text result ≡ switched_to (shown_text task.entry) is_deadline stop rest.now }
+    ensures { option_map named_text result
+        ≡ switched_to (shown_text task.entry) is_deadline stop rest.now }
 {
     let next_pid = number_field(b"next_pid=", rest)?;
     let next_is_deadline = deadline_field(b"next_prio=", rest)?;

@@ -7,7 +7,8 @@ ghost use Rattle.trace_line.specs.Head.{is_lost};
 ghost use Rattle.trace_line.specs.Opening.{opening_of};
 ghost use Rattle.trace_line.specs.inside.OpeningFits.{StartsWithin};
 ghost use Rattle.record_line.specs.Lines.{checked, comment_line, drift, event_line, fixed_cpu, flaw_of, grain_behind, grain_of, head_line, line_behind, note_cpu, note_line, noted_line, probe_cpu, probed, said_by, said_cpu, told_by, told_line, told_said};
-ghost use Rattle.record_line.specs.inside.Texts.{named_text, noted_text, told_text};
+ghost use Rattle.record_line.specs.inside.Texts.{named_text, noted_text};
+ghost use Rattle.record_line.specs.ToldTexts.{told_text};
 
 use crate::fixed::{
     Named, called, cancelled, fired, migrated, ran, returned, started, switched, woken,
@@ -18,7 +19,8 @@ use crate::word::CPUS;
 use grub_text::first_word;
 use memchr::memchr;
 use trace_line::{
-    Opening, Shown, is_comment, is_lost, opening_of, processors, running, without_spaces,
+    Opening, Shown, is_comment, is_lost, opening_of, processors, running, running_comm,
+    without_spaces,
 };
 use trace_probes::{ProbeEvent, probe_of};
 use trace_words::{Fixed, Flaw, Line, Note, Probe, Said, TimerFunction};
@@ -31,7 +33,7 @@ pub const CLOCK_MAX: u64 = 1000000;
 pub struct Told<T> {
     pub line: Line,
 
-    /// The task that the line shows by comm and pid.
+    /// The task that the line shows by comm and pid; of a line of a probe the one that runs.
     pub shown: Option<Shown<T>>,
 
     /// The CPUs of the root domain, as `0-3,5`, where a note has them.
@@ -219,19 +221,28 @@ fn flaw_of(at: u64, cpu: u32, said: &Said) -> Option<Flaw>
     }
 }
 
-fn probed<'a>(event: ProbeEvent, fields: &'a [u8]) -> Option<Named<&'a [u8]>>
-    ensures { option_map named_text result ≡ probed event fields.now }
+/// A line of a probe shows the task that runs.
+fn probed<'a>(
+    event: ProbeEvent,
+    fields: &'a [u8],
+    front: &'a [u8],
+    pid: u64,
+) -> Option<Named<&'a [u8]>>
+    ensures { option_map named_text result ≡ probed event fields.now front.now pid }
 {
     let probe = probe_of(event, fields)?;
     Some(Named {
         said: Said::Probe(probe),
-        shown: None,
+        shown: Some(Shown {
+            comm: running_comm(front),
+            pid,
+        }),
     })
 }
 
-/// What the fields of an event say; none where one is missing or wrong.
-fn said_by(verb: Verb, fields: &[u8]) -> Option<Named<&[u8]>>
-    ensures { option_map named_text result ≡ said_by verb fields.now }
+/// What the fields of an event say, while the task of this pid runs; none where one is missing or wrong.
+fn said_by<'a>(verb: Verb, fields: &'a [u8], front: &'a [u8], pid: u64) -> Option<Named<&'a [u8]>>
+    ensures { option_map named_text result ≡ said_by verb fields.now front.now pid }
 {
     match verb {
         Verb::Wake => woken(fields),
@@ -243,7 +254,7 @@ fn said_by(verb: Verb, fields: &[u8]) -> Option<Named<&[u8]>>
         Verb::Expire => fired(fields),
         Verb::Call => Some(called()),
         Verb::Return => Some(returned()),
-        Verb::Probe(event) => probed(event, fields),
+        Verb::Probe(event) => probed(event, fields, front, pid),
     }
 }
 
@@ -281,8 +292,9 @@ fn told_said<'a>(
     ensures { option_map told_text result ≡ told_said line.now opening verb fields.now }
 {
     let cpu = opening.cpu?;
-    let pid = running(&line[..cpu.start])?;
-    let named = said_by(verb, fields)?;
+    let front = &line[..cpu.start];
+    let pid = running(front)?;
+    let named = said_by(verb, fields, front, pid)?;
     let grain = grain_of(&line[..opening.end]);
     Some(checked(opening.at, grain, cpu.cpu, pid, named))
 }

@@ -3,7 +3,8 @@
 ghost use Rattle.std.specs.Prelude.{◌≡◌, option_map};
 ghost use Rattle.trace_line.specs.Words.{text_of};
 ghost use Rattle.record_line.specs.Notes.{at_of, domain_of, end_note, head_note, head_with, kernel_in, limit_of, lost_note, note_of, noted_by, policy_of, reservation, runqueue_note, sums, task_note, task_with};
-ghost use Rattle.record_line.specs.inside.Texts.{maybe_text, noted_text};
+ghost use Rattle.record_line.specs.inside.Texts.{noted_text};
+ghost use Rattle.record_line.specs.ToldTexts.{maybe_text};
 
 use crate::word::{is_domain, kernel_of, number_in, optional, rt_limit, small, word_in};
 use grub_text::first_word;

@@ -3,7 +3,7 @@
 ghost use Rattle.std.specs.Prelude.{◌≡◌};
 ghost use Rattle.record_line.specs.Verbs.{bare, is_call, is_return, policy_verb, probe_verb, timer_verb, verb_named, verb_of};
 
-use trace_line::{after, before_end};
+use trace_line::{after, before_end, begins};
 use trace_probes::{ProbeEvent, event_named};
 
 /// The event of a line.
@@ -113,7 +113,7 @@ fn verb_named(name: &[u8]) -> Option<Verb>
 fn is_call(word: &[u8]) -> bool
     ensures { result ≡ is_call word.now }
 {
-    word.starts_with(b"sys_sched_setattr(") || word.starts_with(b"sys_sched_setscheduler(")
+    begins(word, b"sys_sched_setattr(") || begins(word, b"sys_sched_setscheduler(")
 }
 
 /// Whether a word begins a return, as tracefs writes it.

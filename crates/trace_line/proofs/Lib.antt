@@ -1,2 +1,3 @@
 pub mod NumberLemmas
 mod WordLemmas
+pub mod OpeningLemmas

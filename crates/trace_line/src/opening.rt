@@ -1,9 +1,9 @@
 //! What stands in front of a line's event: the task that runs, the CPU, the moment.
 
-ghost use Rattle.std.specs.Prelude.{◌≡◌, ◌==◌, ◌≤◌, IfSome, length, not, position, reverse};
+ghost use Rattle.std.specs.Prelude.{◌≡◌, ◌==◌, ◌≤◌, ◌+◌, IfSome, None, length, not, position, reverse};
 ghost use Rattle.std.specs.Char.{is_ascii_digit};
-ghost use Rattle.grub_text.specs.Lines.{is_space};
-ghost use Rattle.trace_line.specs.Opening.{before_brackets, last_digits, later_cpu, opening_of, running, running_comm, trimmed, without_last};
+ghost use Rattle.grub_text.specs.Lines.{is_space, words_of};
+ghost use Rattle.trace_line.specs.Opening.{before_brackets, last_digits, later_cpu, opening_from, opening_of, running, running_comm, trimmed, without_last};
 ghost use Rattle.trace_line.specs.inside.OpeningFits.{StartsWithin};
 
 use crate::decimal::{bracketed, moment, number};
@@ -31,14 +31,23 @@ pub struct Opening {
     pub end: usize,
 }
 
+/// The text of a line behind the spaces at its front, and how many these are.
+#[tactic(auto, using(crate::proofs::OpeningLemmas::behind_spaces, crate::proofs::OpeningLemmas::spaces_len))]
+fn behind_spaces(line: &[u8]) -> (usize, &[u8])
+    ensures opening { opening_from result.0 None (words_of result.1.now) ≡ opening_of line.now }
+    ensures len { result.0 + length result.1.now ≡ length line.now }
+{
+    let text = without_spaces(line);
+    (line.len().saturating_sub(text.len()), text)
+}
+
 /// What a line has up to its moment, where it has one.
 pub fn opening_of(line: &[u8]) -> Option<Opening>
     ensures value { result ≡ opening_of line.now }
     ensures end { IfSome result (λ opening. opening.end ≤ length line.now) }
     ensures cpu { IfSome result (λ opening. StartsWithin opening.cpu (length line.now)) }
 {
-    let mut start = 0;
-    let mut text = line;
+    let (mut start, mut text) = behind_spaces(line);
     let mut cpu = None;
     loop {
         let (word, rest) = first_word(text);

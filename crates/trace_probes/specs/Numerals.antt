@@ -2,10 +2,6 @@
 use Rattle.std.specs.Prelude.{ℕ, ℤ, pos, neg_ℤ, ◌&&◌, ◌==◌, nat_lt, ◌+◌, ◌*◌, ◌^◌, List, [], ◌∷◌, length, take, drop, codes, Option, Some, None, if◌then◌else◌, option_and_then}
 use Rattle.std.specs.Str.{bytes_eq}
 use Rattle.std.specs.Char.{digit_value}
-use Rattle.std.specs.Borrow.{Bor}
-
-abbrev pub text_of : Bor (List ℕ) → List ℕ
-text_of text = text.now
 
 -- what follows the key at the front of a word
 abbrev pub after : List ℕ → List ℕ → Option (List ℕ)

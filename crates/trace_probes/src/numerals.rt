@@ -2,7 +2,8 @@
 
 ghost use Rattle.std.specs.Prelude.{◌≡◌, ◌≤◌, option_map};
 ghost use Rattle.std.specs.Char.{digit_value};
-ghost use Rattle.trace_probes.specs.Numerals.{after, digits_from, negative, numeral, positive, pushed, signed, text_of, unsigned};
+ghost use Rattle.trace_probes.specs.Numerals.{after, digits_from, negative, numeral, positive, pushed, signed, unsigned};
+ghost use Rattle.trace_probes.specs.inside.Texts.{text_of};
 
 /// What a byte counts as a digit, from 0 to 35, or 36 where it is none.
 fn digit(byte: u8) -> u64

@@ -35,7 +35,8 @@ fn next_value<'a>(field: Field, words: Option<&'a [u8]>) -> Option<(Value, Optio
 
 /// The values of these fields, one behind the other, in a text.
 pub(crate) fn values_of(fields: &[Field], text: &[u8]) -> Option<Values>
-    ensures { option_map (λ (v : Values). v.items) result ≡ values_with fields.now no_values (words_left (Some text.entry)) }
+    ensures { option_map (λ (v : Values). v.items) result
+        ≡ values_with fields.now no_values (words_left (Some text.entry)) }
 {
     let mut values = Values {
         items: [Value::Unsigned(0); FIELDS],

@@ -1,7 +1,7 @@
 //! Reads a record whose text comes in pieces.
 
 ghost use Rattle.std.specs.Prelude.{◌≡◌, ℕ, List, ◌++◌, [], IfOk, IsTrue, OnOk, None, is_some};
-ghost use Rattle.record_line.specs.inside.Texts.{told_text};
+ghost use Rattle.record_line.specs.ToldTexts.{told_text};
 ghost use Rattle.record_line.specs.declared.line.Told.{Told};
 ghost use Rattle.trace_reader.specs.Reading.{After, cut_flaw, flaw_told, further, halt_at, halt_at_end, line_ended, taken, without_return};
 ghost use Rattle.trace_reader.specs.Keeping.{after_of, progress};
@@ -26,7 +26,8 @@ pub trait Lines {
     /// Takes a line that has no flaw, and answers whether it wants more; lines are numbered from 1.
     fn take(&mut self, number: u64, told: &Told<&[u8]>) -> Result<bool, AllocError>
         ensures { IfOk result
-            (λ more. after_of more (seen self.new) ≡ step number (told_text told.now) (seen self.old)) };
+            (λ more. after_of more (seen self.new)
+            ≡ step number (told_text told.now) (seen self.old)) };
 }
 
 /// The line at which a text is read no further.

@@ -4,6 +4,9 @@ use Rattle.std.specs.Borrow.{Bor}
 use Rattle.grub_text.specs.Lines.{words_of}
 use Rattle.trace_probes.specs.declared.value.Value.{Value}
 
+abbrev pub text_of : Bor (List ℕ) → List ℕ
+text_of text = text.now
+
 -- the words that are left
 abbrev pub words_left : Option (Bor (List ℕ)) → List (List ℕ)
 words_left None = []
