@@ -1,0 +1,4 @@
+pub mod Spans
+pub mod States
+pub mod Histories
+pub mod Shown
