@@ -1,16 +1,15 @@
 #!/usr/bin/env python3
 """Tries the must-fail edits in crates/NAME/edits: the prover must refuse each in a function that it turns.
 
-edits.py [--look] [--anew] [--proved] [--minutes N] [NAME | NAME/EDIT]..: those of these crates, or these edits, or all. Each crate is
-checked over the libraries that `rt ci` or scripts/build.py left, first as it stands and then with as many edits at once as turn different
-functions: a function is proved from the contracts of those that it calls, so what one edit turns takes no proof from another. Each such check
-is controlled: a function that no edit turns may be unproved for one that it calls, and where it reads as refused for itself, that has failed.
-With --proved a crate is not checked as it stands: that is for a gate that has just seen it proved. Of the crate only the functions that
-edits turn are checked, with those that they call. An edit of which a check tells nothing, since its function calls one that another edit turns, is tried
-apart from that one. An edit for which two other checks tell nothing is tried alone, in a check of all. What was refused is
-kept on this machine, and not tried again, but with --anew, until something changes that its check read. With --look none is tried: it
-says which cannot be applied. What was not tried when N minutes are over has failed. The last line is 'N passed, M failed'.
+edits.py [--proved] [--minutes N] [NAME | NAME/EDIT]..: those of these crates, or these edits, or all. Each crate is checked over the libraries that
+`rt ci` or scripts/build.py left, first as it stands (but with --proved, for a gate that has just seen it proved) and then with as many edits at once
+as turn different functions: a function is proved from the contracts of those that it calls, so what one edit turns takes no proof from another. Of the
+crate only the functions that edits turn are checked, with those that they call. An edit of which a check tells nothing, since its function calls one
+that another edit turns, is tried apart from that one. An edit for which two other checks tell nothing is tried alone, in a check of all. What was
+refused is kept on this machine, by a sum of all that its check read, and not tried again. What was not tried when N minutes are over has failed. The
+last line is 'N passed, M failed'.
 """
+import hashlib
 import os
 import re
 import shutil
@@ -21,12 +20,12 @@ import time
 from concurrent.futures import ThreadPoolExecutor
 from typing import NamedTuple
 
-from crates import LIBRARIES, ROOT, crates, files_below, kit_folder, lanes, text_of, weight
-from kept import Kept, forget_old
+from crates import CACHE, LIBRARIES, ROOT, crates, kit_folder, lanes, sum_of, text_of, weight
 
 PARTS = ("src", "specs", "proofs")
 # A check takes up to so many kB of memory, and no check that goes well so many seconds.
 ROOM, LONGEST = 2_500_000, 1800
+KEPT = f"{CACHE}/grub-edits"
 
 FUNCTION = re.compile(r"^( *)(?:pub(?:\(\w+\))? )?(?:const )?fn (\w+)")
 TYPE = re.compile(r"^ *(?:impl|trait)(?:<.*?>)? (?:([\w:]+)(?:<.*>)? for )?&?([\w:]+)")
@@ -124,16 +123,6 @@ class Function(NamedTuple):
         return self.path == path and self.first <= line <= self.last
 
 
-def functions_of(crate):
-    """All functions of a crate."""
-    found = set()
-    for path in files_below(f"{crate.folder}/src"):
-        lines = text_of(path).split("\n")
-        heads = [it for it, line in enumerate(lines) if FUNCTION.match(line)]
-        found |= {function_at(crate.name, os.path.relpath(path, crate.folder), lines, it) for it in heads}
-    return found - {None}
-
-
 def function_at(crate, path, lines, at):
     """The function that a line stands in, or None outside of functions."""
     for start in range(at, -1, -1):
@@ -187,10 +176,9 @@ def waited_for(functions, turned, said):
 
 
 class How(NamedTuple):
-    """How edits are tried: until which time, also those that were refused earlier, and whether their crates were just proved."""
+    """How edits are tried: until which time, and whether their crates were just proved."""
 
     end: float
-    anew: bool
     is_proved: bool
 
 
@@ -198,8 +186,11 @@ class Trial:
     """The checks of one crate."""
 
     def __init__(self, crate, kit, libraries, room, how):
-        self.how, self.kept, self.by_name, self.functions, self.misread = how, Kept(crate, kit, libraries), True, functions_of(crate), 0
+        self.how, self.by_name = how, True
         self.crate, self.kit, self.libraries, self.room, self.checks, self.began = crate, kit, libraries, f"{room}/{crate.name}", 0, time.time()
+        low = " ".join(sum_of(f"{libraries[it]}/{it}.rlib", start=libraries[it]) for it in crate.below)
+        own = sum_of(*[f"{ROOT}/scripts/{it}.py" for it in ("crates", "edits")], *[f"{crate.folder}/{it}" for it in PARTS])
+        self.read = f"{text_of(f'{kit}/KIT-ID')} {' '.join([crate.name, *crate.uses])} {own} {low}"
 
     def check(self, edits, functions):
         """Checks these functions, or all if there are none, in a copy of the crate with these edits, over what earlier checks of it proved: a check
@@ -257,8 +248,6 @@ class Trial:
             at = {(path, int(line) - 1) for it in bad for path, line in PLACE.findall(it)}
             of = [it for it in edits if it.lines.keys() & at] or (edits if len(edits) == 1 else [])
             return {it: ("bad", bad[0][:200]) for it in of}, set()
-        if not alone and status in (1, 3):
-            self.control(turned, said)
         found, waiting = {}, set()
         for edit in edits:
             place = refused_at(edit.functions, said) if status in (1, 3) else None
@@ -274,20 +263,10 @@ class Trial:
                 found[edit] = ("proved", "the crate is still proved") if status == 0 else ("bad", f"the check ended with status {status}")
         return found, waiting
 
-    def control(self, turned, said):
-        """Tells of each function that no edit of a check turns, and that reads as refused all the same: then a refusal may be another's."""
-        for it in self.functions - turned:
-            place = refused_at({it}, said)
-            if place:
-                say(f"edits: {self.crate.name}: MISREAD: no edit turns {it.path_in_crate}, which reads as refused {place}")
-                self.misread += 1
-
-    def was_refused(self, edit):
-        """Whether an earlier run refused this edit, which is told then."""
-        why = None if self.how.anew else self.kept.find(edit)
-        if why:
-            say(f"edit {edit.label}: refused earlier, {why}")
-        return why is not None
+    def kept(self, edit):
+        """Where it is kept that an edit was refused, over all that its check read."""
+        lines = "\n".join(f"{path}:{at}:{text}" for (path, at), text in sorted(edit.lines.items()))
+        return f"{KEPT}/{hashlib.sha256(f'{self.read} {lines}'.encode()).hexdigest()}"
 
     def run(self, edits):
         """Tries these edits, and returns how many were refused, and how many were not."""
@@ -295,7 +274,7 @@ class Trial:
         for it in wrong:
             say(f"edit {it.label}: BAD: {it.bad}")
         failed = len(wrong)
-        left = [it for it in edits if not it.bad and not self.was_refused(it)]
+        left = [it for it in edits if not it.bad and not os.path.isfile(self.kept(it))]
         earlier = len(edits) - failed - len(left)
         stands = self.how.is_proved or not left or time.time() >= self.how.end
         status, said = (0, "") if stands else self.check_turned([], {of for it in left for of in it.functions})
@@ -315,7 +294,8 @@ class Trial:
                 say(f"edit {edit.label}: {kind}, {why}" if kind == "refused" else f"edit {edit.label}: {kind.upper()}: {why}")
                 failed += kind != "refused"
                 if kind == "refused":
-                    self.kept.keep(edit, why)
+                    with open(self.kept(edit), "w", encoding="utf-8") as it:
+                        it.write(why)
             left = [it for it in left if it not in found]
             if not any(kind == "bad" for kind, _ in found.values()):
                 for edit in batch:
@@ -324,7 +304,6 @@ class Trial:
             say(f"edit {edit.label}: NOT TRIED: the time was over")
         failed += len(left)
         passed = len(edits) - failed
-        failed += self.misread
         took = time.time() - self.began
         told = f"{self.checks} checks, {took:.0f} s" + ("" if self.how.is_proved else f", {stands:.0f} of them as it stands")
         told += f"; {earlier} refused by an earlier run" if earlier else ""
@@ -350,15 +329,6 @@ def chosen(words, known):
     return {name: edits for name, edits in named.items() if edits}
 
 
-def look(of):
-    """Says which edits cannot be applied to their crates' sources."""
-    edits = [it for edits in of.values() for it in edits]
-    wrong = [it for it in edits if it.bad]
-    for it in wrong:
-        say(f"edit {it.label}: BAD: {it.bad}")
-    return len(edits) - len(wrong), len(wrong)
-
-
 def try_all(of, known, how):
     """Tries edits, crates side by side, those that take longest first."""
     libraries = libraries_for({low for it in of for low in known[it].below})
@@ -368,7 +338,10 @@ def try_all(of, known, how):
     kit = kit_folder()
     order = sorted(of, key=lambda it: -weight(known[it]) * len(of[it]))
     os.makedirs(f"{ROOT}/out", exist_ok=True)
-    forget_old()
+    os.makedirs(KEPT, exist_ok=True)
+    for it in os.scandir(KEPT):
+        if time.time() - it.stat().st_mtime > 30 * 24 * 3600:
+            os.remove(it.path)
     with tempfile.TemporaryDirectory(prefix="edits-", dir=f"{ROOT}/out") as room, ThreadPoolExecutor(lanes(ROOM)) as pool:
         told = list(pool.map(lambda it: Trial(known[it], kit, libraries, room, how).run(of[it]), order))
     return tuple(sum(it) for it in zip((0, 0), *told))
@@ -380,8 +353,8 @@ def main(words):
         at = words.index("--minutes")
         end = time.time() + 60 * float(words[at + 1])
         words = words[:at] + words[at + 2 :]
-    of = chosen([it for it in words if it not in ("--look", "--anew", "--proved")], known)
-    passed, failed = look(of) if "--look" in words else try_all(of, known, How(end, "--anew" in words, "--proved" in words))
+    of = chosen([it for it in words if it != "--proved"], known)
+    passed, failed = try_all(of, known, How(end, "--proved" in words))
     say(f"{passed} passed, {failed} failed")
     return 1 if failed else 0
 
