@@ -14,9 +14,14 @@ use timer_rules::{Answer, Kind, Observation};
 /// The process whose threads are the tasks; those of the runqueues come behind it.
 const TASKS: u64 = 1;
 
-/// Nanoseconds as the format's microseconds.
+/// The values of a u32.
+const HALF: u64 = 4_294_967_296;
+
+/// Nanoseconds as the format's microseconds: the number nearest to them that a float has, by 1000.
 pub fn micros(nanos: u64) -> f64 {
-    nanos as f64 / 1000.0
+    let high = (nanos / HALF) as u32;
+    let low = (nanos % HALF) as u32;
+    (f64::from(high) * 4_294_967_296.0 + f64::from(low)) / 1000.0
 }
 
 /// The process of a runqueue.
