@@ -17,7 +17,7 @@ abbrev pub lane_at : ℕ → ℕ → Lane
 lane_at cpu task = record { cpu = cpu; task = task }
 
 -- the lanes of a runqueue, of so many tasks
-abbrev pub lanes_on : List Slice → ℕ → ℕ → List Lane
+unfoldable pub lanes_on : List Slice → ℕ → ℕ → List Lane
 lanes_on slices tasks cpu = filter (has_lane slices) (map (lane_at cpu) (range_with_len 0 tasks))
 
 abbrev pub is_on : ℕ → Slice → Bool

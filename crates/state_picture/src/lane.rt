@@ -1,7 +1,7 @@
 //! Lanes: one for each task on each runqueue on which it is.
 
 ghost use Rattle.std.specs.Prelude.{◌≡◌, ◌∷◌, [], ◌++◌, IfOk, OnOk, None, if◌then◌else◌};
-ghost use Rattle.state_picture.specs.Lanes.{busy_in, has_lane, is_busy, lanes_in, lanes_on, row_by, rows_in};
+ghost use Rattle.state_picture.specs.Lanes.{busy_in, has_lane, is_busy, lanes_at, lanes_in, lanes_on, row_by, rows_in};
 
 use crate::bar::is_in_lane;
 use deadline_states::Slice;
@@ -53,6 +53,7 @@ fn push_lane(lanes: &mut Vec<Lane>, slices: &[Slice], lane: Lane) -> Result<(), 
 }
 
 /// The lanes of a runqueue, of so many tasks.
+#[tactic(auto, unfolding(crate::specs::Lanes::lanes_on))]
 fn lanes_on(alloc: Global, slices: &[Slice], tasks: u32, cpu: u32) -> Result<Vec<Lane>, AllocError>
     ensures { IfOk result (λ v. v.items ≡ lanes_on slices.now tasks cpu) }
 {
@@ -91,6 +92,23 @@ fn busy_cpus(alloc: Global, slices: &[Slice], cpus: u32) -> Result<Vec<u32>, All
     Ok(busy)
 }
 
+/// The lanes of these runqueues.
+fn lanes_at(
+    alloc: Global,
+    slices: &[Slice],
+    tasks: u32,
+    cpus: &[u32],
+) -> Result<Vec<Lane>, AllocError>
+    ensures { IfOk result (λ v. v.items ≡ lanes_at slices.now tasks cpus.now) }
+{
+    let mut lanes = Vec::new(alloc);
+    for cpu in cpus {
+        let those = lanes_on(alloc, slices, tasks, *cpu)?;
+        lanes.extend_from_slice(&those)?;
+    }
+    Ok(lanes)
+}
+
 /// The lanes of these states, by runqueue and task, of which there are so many.
 pub fn lanes_of(
     alloc: Global,
@@ -101,12 +119,7 @@ pub fn lanes_of(
     ensures { IfOk result (λ v. v.items ≡ lanes_in slices.now cpus tasks) }
 {
     let busy = busy_cpus(alloc, slices, cpus)?;
-    let mut lanes = Vec::new(alloc);
-    for cpu in &busy {
-        let those = lanes_on(alloc, slices, tasks, *cpu)?;
-        lanes.extend_from_slice(&those)?;
-    }
-    Ok(lanes)
+    lanes_at(alloc, slices, tasks, &busy)
 }
 
 /// Where a lane stands below the one before it.
