@@ -1,0 +1,5 @@
+pub mod Frames
+pub mod Lanes
+pub mod Bars
+pub mod Curves
+pub mod Marks

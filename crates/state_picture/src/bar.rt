@@ -1,0 +1,69 @@
+//! The bars of a lane.
+
+ghost use Rattle.std.specs.Prelude.{◌≡◌, IfOk};
+ghost use Rattle.state_picture.specs.Lanes.{is_of};
+ghost use Rattle.state_picture.specs.Bars.{bar_after, bars_in, end_by};
+
+use crate::frame::{Frame, LEFT};
+use crate::lane::Lane;
+use deadline_states::{Slice, Span, State};
+use std::alloc::{AllocError, Global};
+
+/// A state of a task, from one edge of a column to a later one.
+#[derive(Clone, Copy)]
+pub struct Bar {
+    pub x: u64,
+    pub right: u64,
+    pub state: State,
+
+    /// From when to when the task was in it.
+    pub span: Span,
+}
+
+/// Whether a state is of the task and the runqueue of a lane.
+pub(crate) fn is_in_lane(lane: Lane, slice: Slice) -> bool
+    ensures { result ≡ is_of lane slice }
+{
+    slice.task == lane.task && slice.cpu == lane.cpu
+}
+
+/// Where the bar of a span ends: it is a column wide at least.
+fn end_of(frame: Frame, span: Span) -> u64
+    ensures { result ≡ end_by frame span }
+{
+    let least = frame.x(span.from) + u64::from(frame.unit);
+    frame.x(span.to).max(least).min(frame.right())
+}
+
+/// The bar of a state; it begins where the one before it ends, or later.
+fn bar_after(frame: Frame, last: u64, slice: Slice) -> Bar
+    ensures { result ≡ bar_after frame last slice }
+{
+    Bar {
+        x: frame.x(slice.span.from).max(last),
+        right: end_of(frame, slice.span),
+        state: slice.state,
+        span: slice.span,
+    }
+}
+
+/// The bars of a lane. Each begins where the one before it ends, or later: of states that share a column the first is drawn there.
+pub fn bars_of(
+    alloc: Global,
+    frame: Frame,
+    slices: &[Slice],
+    lane: Lane,
+) -> Result<Vec<Bar>, AllocError>
+    ensures { IfOk result (λ v. v.items ≡ bars_in frame lane LEFT slices.now) }
+{
+    let mut bars = Vec::new(alloc);
+    let mut last = LEFT;
+    for slice in slices {
+        let right = end_of(frame, slice.span);
+        if is_in_lane(lane, *slice) && last < right {
+            bars.push(bar_after(frame, last, *slice))?;
+            last = right;
+        }
+    }
+    Ok(bars)
+}

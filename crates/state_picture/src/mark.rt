@@ -1,0 +1,78 @@
+//! Marks: the kernel's timers.
+
+ghost use Rattle.std.specs.Prelude.{◌≡◌, IfOk};
+ghost use Rattle.state_picture.specs.Marks.{is_marked_by, kind_by, marks_in};
+
+use crate::frame::Frame;
+use crate::lane::Lane;
+use deadline_states::{is_within, marked_at};
+use std::alloc::{AllocError, Global};
+use timer_rules::{Answer, Kind, Observation};
+
+/// What a mark shows.
+#[derive(Clone, Copy, PartialEq, Eq)]
+pub enum MarkKind {
+    /// A 0-lag timer that agrees, or is not compared.
+    ZeroLag,
+
+    /// A replenishment timer that agrees, or is not compared.
+    Replenishment,
+
+    /// A timer that differs, or a block without one that does.
+    Deviation,
+}
+
+/// A timer, in the column of the moment for which the kernel set it, or of a block at which it set none.
+#[derive(Clone, Copy)]
+pub struct Mark {
+    pub x: u64,
+    pub kind: MarkKind,
+    pub observation: Observation,
+}
+
+fn kind_of(observation: &Observation) -> MarkKind
+    ensures { result ≡ kind_by observation.now.answer observation.now.kind }
+{
+    match (observation.answer, observation.kind) {
+        (Answer::Differs, _) => MarkKind::Deviation,
+        (_, Kind::Block) => MarkKind::ZeroLag,
+        (_, Kind::Replenish) => MarkKind::Replenishment,
+    }
+}
+
+/// Whether a timer is of this lane, of this kind, and in the span; a block at which the kernel rightly set no timer has no mark.
+fn is_marked(frame: Frame, lane: Lane, kind: MarkKind, observation: &Observation) -> bool
+    ensures { result ≡ is_marked_by frame lane kind observation.now }
+{
+    observation.task == lane.task
+        && observation.cpu == lane.cpu
+        && kind_of(observation) == kind
+        && (kind == MarkKind::Deviation || observation.kernel.is_some())
+        && is_within(frame.span, marked_at(observation))
+}
+
+/// The marks of a kind in a lane, one a column at most.
+pub fn marks_of(
+    alloc: Global,
+    frame: Frame,
+    observations: &[Observation],
+    lane: Lane,
+    kind: MarkKind,
+) -> Result<Vec<Mark>, AllocError>
+    ensures { IfOk result (λ v. v.items ≡ marks_in frame lane kind 0 observations.now) }
+{
+    let mut marks = Vec::new(alloc);
+    let mut last = 0;
+    for observation in observations {
+        let x = frame.x(marked_at(observation));
+        if is_marked(frame, lane, kind, observation) && last < x {
+            marks.push(Mark {
+                x,
+                kind,
+                observation: *observation,
+            })?;
+            last = x;
+        }
+    }
+    Ok(marks)
+}
