@@ -1,5 +1,8 @@
 //! What a line of a trace says of tasks, whatever their class.
 
+ghost use Rattle.std.specs.Prelude.{◌≡◌};
+ghost use Rattle.trace_jobs.specs.inside.Watch.{stop_told};
+
 use crate::watch::Stop;
 use grub_text::first_word;
 use trace_line::{
@@ -115,7 +118,10 @@ fn class_in(key: &[u8], text: &[u8]) -> Option<Class> {
     class_of(value_of(key, text)?)
 }
 
-fn stop_of(state: &[u8]) -> Stop {
+/// How a task stops, by the first letter of its state: it is ready (R), maybe put aside (R+, P), or it ends (X, Z), or it blocks.
+fn stop_of(state: &[u8]) -> Stop
+    ensures { result ≡ stop_told state.now }
+{
     match state.first() {
         Some(b'R' | b'P') => Stop::Ready,
         Some(b'X' | b'Z') => Stop::Ends,

@@ -1,6 +1,8 @@
 //! A task of a trace.
 
-ghost use Rattle.std.specs.Prelude.{◌≡◌, OnOk};
+ghost use Rattle.std.specs.Prelude.{◌≡◌, ◌++◌, [], OnOk};
+ghost use Rattle.trace_jobs.specs.declared.watch.Phase.TheVariants as phases;
+ghost use Rattle.trace_jobs.specs.Taking.{jobs_in, jobs_told, phase_told};
 
 use crate::said::Class;
 use crate::watch::{Ended, LeftOut, Phase, Seen, Stop, ran, stopped, woken};
@@ -50,7 +52,10 @@ pub struct Task {
 }
 
 impl Task {
-    pub(crate) fn new(alloc: Global, pid: u64) -> Task {
+    pub(crate) fn new(alloc: Global, pid: u64) -> Task
+        ensures phase { result.phase ≡ phases.Unseen }
+        ensures jobs { result.jobs.items ≡ [] }
+    {
         Task {
             pid,
             comm: Vec::new(alloc),
@@ -63,7 +68,10 @@ impl Task {
         }
     }
 
-    fn end(&mut self, ended: Ended) -> Result<(), AllocError> {
+    fn end(&mut self, ended: Ended) -> Result<(), AllocError>
+        ensures jobs { OnOk result
+            (self.new.jobs.items ≡ self.old.jobs.items ++ jobs_in ended) }
+    {
         match ended {
             Ended::Nothing => {}
             Ended::Job(seen) => self.jobs.push(seen)?,
@@ -77,7 +85,11 @@ impl Task {
     }
 
     /// Takes what a line tells of it.
-    pub(crate) fn take(&mut self, told: Told) -> Result<(), AllocError> {
+    pub(crate) fn take(&mut self, told: Told) -> Result<(), AllocError>
+        ensures phase { OnOk result (self.new.phase ≡ phase_told told self.old.phase) }
+        ensures jobs { OnOk result
+            (self.new.jobs.items ≡ self.old.jobs.items ++ jobs_told told self.old.phase) }
+    {
         match told {
             Told::Wakes { line, at, is_new } => self.phase = woken(self.phase, line, at, is_new),
             Told::Runs { nanos } => self.phase = ran(self.phase, nanos),
@@ -89,5 +101,25 @@ impl Task {
             }
         }
         Ok(())
+    }
+
+    /// Takes the class and the comm that a line shows, and answers whether the comm is another than before.
+    pub(crate) fn show(
+        &mut self,
+        alloc: Global,
+        class: Option<Class>,
+        comm: &[u8],
+    ) -> Result<bool, AllocError>
+        ensures phase { self.new.phase ≡ self.old.phase }
+        ensures jobs { self.new.jobs ≡ self.old.jobs }
+    {
+        if let Some(class) = class {
+            self.class = class;
+        }
+        if self.comm.as_slice() == comm {
+            return Ok(false);
+        }
+        self.comm = Vec::from_slice(alloc, comm)?;
+        Ok(true)
     }
 }

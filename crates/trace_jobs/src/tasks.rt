@@ -1,5 +1,9 @@
 //! The tasks of a trace by their pids.
 
+ghost use Rattle.std.specs.Prelude.{◌≡◌, OnOk, nat_eq};
+ghost use Rattle.std.specs.HashMap.{get};
+ghost use Rattle.trace_jobs.specs.Taking.{Takes, Keeps};
+
 use crate::said::Class;
 use crate::task::{Task, Told};
 use std::alloc::{AllocError, Global};
@@ -44,7 +48,9 @@ impl Tasks {
         self.named.get(comm).copied()
     }
 
-    fn name(&mut self, comm: &[u8], pid: u64) -> Result<(), AllocError> {
+    fn name(&mut self, comm: &[u8], pid: u64) -> Result<(), AllocError>
+        ensures { self.new.by_pid ≡ self.old.by_pid }
+    {
         if self.named.get(comm).is_none() {
             let comm = Vec::from_slice(self.alloc, comm)?;
             self.named.insert(comm, pid)?;
@@ -53,33 +59,36 @@ impl Tasks {
     }
 
     /// Adds a task that no line showed before.
-    fn add(&mut self, pid: u64) -> Result<(), AllocError> {
+    fn add(&mut self, pid: u64) -> Result<(), AllocError>
+        ensures { OnOk result
+            (Keeps pid (get nat_eq self.old.by_pid) (get nat_eq self.new.by_pid)) }
+    {
+        if self.by_pid.get(&pid).is_some() {
+            return Ok(());
+        }
         self.pids.push(pid)?;
         self.by_pid.insert(pid, Task::new(self.alloc, pid))?;
         Ok(())
     }
 
-    /// Takes what a line tells of the task that it shows.
+    /// Takes what a line tells of the task that it shows, and nothing of any other.
     pub(crate) fn take(
         &mut self,
         shown: &Shown<&[u8]>,
         class: Option<Class>,
         told: Told,
-    ) -> Result<(), AllocError> {
-        if self.by_pid.get(&shown.pid).is_none() {
-            self.add(shown.pid)?;
-        }
+    ) -> Result<(), AllocError>
+        ensures { OnOk result (Takes shown.now.pid told
+            (get nat_eq self.old.by_pid) (get nat_eq self.new.by_pid)) }
+    {
+        self.add(shown.pid)?;
         let Some(task) = self.by_pid.get_mut(&shown.pid) else {
             return Ok(());
         };
         task.take(told)?;
-        if let Some(class) = class {
-            task.class = class;
+        if task.show(self.alloc, class, shown.comm)? {
+            self.name(shown.comm, shown.pid)?;
         }
-        if task.comm.as_slice() == shown.comm {
-            return Ok(());
-        }
-        task.comm = Vec::from_slice(self.alloc, shown.comm)?;
-        self.name(shown.comm, shown.pid)
+        Ok(())
     }
 }

@@ -1,5 +1,5 @@
 -- The jobs of a task: each begins at a wake of a task that is in none, and ends at the block after it.
-use Rattle.std.specs.Prelude.{ℕ, ◌+◌, ◌/◌, min, max, Bool, true, false}
+use Rattle.std.specs.Prelude.{ℕ, ◌+◌, ◌/◌, min, max, Bool, true, false, ◌||◌, ◌==◌, List, [], ◌∷◌, if◌then◌else◌}
 use Rattle.std.specs.Int.{div_ceil}
 use Rattle.trace_jobs.specs.declared.watch.Seen.{Seen}
 use Rattle.trace_jobs.specs.declared.watch.Phase.{Phase}
@@ -33,3 +33,8 @@ stopped_of (Busy line wake nanos true) at stop = (Asleep, ended.LeftOut New)
 stopped_of (Busy line wake nanos false) at Ends = (Asleep, ended.LeftOut Last)
 stopped_of (Busy line wake nanos false) at Blocks = (Asleep, ended.Job (seen_of line wake nanos at))
 stopped_of phase at stop = (Asleep, ended.LeftOut NoWake)
+
+-- by the first letter of its state: R or P, X or Z, or another
+abbrev pub stop_told : List ℕ → Stop
+stop_told [] = Blocks
+stop_told (c ∷ more) = if (c == 82) || (c == 80) then Ready else (if (c == 88) || (c == 90) then Ends else Blocks)
