@@ -1,5 +1,7 @@
 //! A record, as its lines are read one by one.
 
+ghost use Rattle.std.specs.Prelude.{◌≡◌};
+
 use crate::before::Before;
 use crate::event::{Event, Kept};
 use crate::lines::{Given, Lines, TaskLines, TimerLines, Told, Unlisted};
