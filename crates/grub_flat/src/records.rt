@@ -1,8 +1,8 @@
 //! What stands in the memory of a book, as the records, constants and readings of `grub_book`.
 
-ghost use Rattle.std.specs.Prelude.{◌≡◌, ◌↔◌, IfSome, IsNone, IsTrue};
-ghost use Rattle.grub_bw.specs.Bandwidth.{IsReservation};
-ghost use Rattle.grub_book.specs.Totals.{Counts};
+ghost use Rattle.std.specs.Prelude.{◌≡◌, ◌↔◌, ◌≤◌, ◌^◌, if◌then◌else◌, IfSome, IsNone, IsTrue};
+ghost use Rattle.grub_bw.specs.Bandwidth.{bandwidth_of};
+ghost use Rattle.grub_book.specs.Totals.{Counts, shifted_of};
 ghost use Rattle.grub_flat.specs.Memory.{place_of, record_of, constants_of, reading_in};
 ghost use Rattle.grub_flat.specs.inside.Ready.{CanStand, IsReady};
 
@@ -73,15 +73,53 @@ pub(crate) fn task_of(held: &Record) -> NdTask
     }
 }
 
-/// Whether a reading counts what a task adds to it.
-pub(crate) fn counts(now: Reading, r: u32, held: &Record) -> bool
-    requires { IsReservation held.now.params }
+/// Whether a reading counts what a task of this bandwidth adds to it.
+pub(crate) fn counts(now: Reading, r: u32, held: &Record, bw: u32) -> bool
+    requires { bw ≡ bandwidth_of held.now.params }
     ensures { IsTrue result ↔ Counts now r held.now }
 {
-    let bw = held.params.bw();
     let active = !held.place.is_active_on(r) || bw <= now.running;
     let on = !held.place.is_on(r) || bw <= now.this;
     active && on
+}
+
+/// The reading of a runqueue after a task's record became another, as `shifted` of `grub_book`, where the bandwidth of the
+/// old record is known. A division is dear, so none is made twice.
+pub(crate) fn shifted(now: Reading, r: u32, held: &Record, next: &Record, bw: u32) -> Reading
+    requires counts { Counts now r held.now }
+    requires bw { bw ≡ bandwidth_of held.now.params }
+    requires bw_most { bw ≤ 2 ^ 20 }
+    requires most { now.this ≤ 2 ^ 20 }
+    requires running { now.running ≤ now.this }
+    ensures { result ≡ shifted_of now r held.now next.now }
+{
+    let new_bw = bandwidth_after(held.params, bw, next.params);
+    let running = now.running - share(held.place.is_active_on(r), bw);
+    let this = now.this - share(held.place.is_on(r), bw);
+    Reading {
+        running: running + share(next.place.is_active_on(r), new_bw),
+        this: this + share(next.place.is_on(r), new_bw),
+    }
+}
+
+/// The bandwidth of the new reservation, which mostly is the old one.
+fn bandwidth_after(old: Params, bw: u32, new: Params) -> u32
+    requires value { bw ≡ bandwidth_of old }
+    requires most { bw ≤ 2 ^ 20 }
+    ensures value { result ≡ bandwidth_of new }
+    ensures most { result ≤ 2 ^ 20 }
+{
+    if new.runtime() == old.runtime() && new.period() == old.period() {
+        bw
+    } else {
+        new.bw()
+    }
+}
+
+fn share(counts: bool, bw: u32) -> u32
+    ensures { result ≡ (if counts then bw else 0) }
+{
+    if counts { bw } else { 0 }
 }
 
 /// The constants and the reading that stand in a runqueue's memory, where a charge may be made of them.

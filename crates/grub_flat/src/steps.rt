@@ -12,8 +12,8 @@ use crate::asked::{NdOp, NdReply};
 use crate::calls::{fits, op_of, plain_reply, reply_of};
 use crate::codes::{DAMAGED, NO_OP, NO_TASK};
 use crate::memory::{NdRunqueue, NdTask};
-use crate::records::{counts, queue_in, record_in, task_of};
-use grub_book::{Op, Reply, refusal, runqueue, settle, shifted};
+use crate::records::{counts, queue_in, record_in, shifted, task_of};
+use grub_book::{Op, Reply, refusal, runqueue, settle};
 
 /// Asks an op that may be asked for task `t`, of which there is one. None where the memory is no book; then, and where the
 /// reply refuses, nothing is written.
@@ -107,14 +107,15 @@ fn stepped(tasks: &mut [NdTask], queues: &mut [NdRunqueue], t: u32, op: Op) -> O
         return None;
     }
     let (queue, now) = queue_in(&queues[on])?;
-    if !counts(now, r, &held) {
+    let bw = held.params.bw();
+    if !counts(now, r, &held, bw) {
         return None;
     }
     let (next, reply) = settle(held, queue, now, op);
     if refuses(reply) {
         return Some(reply);
     }
-    let new = shifted(now, r, &held, &next);
+    let new = shifted(now, r, &held, &next, bw);
     queues[on] = NdRunqueue {
         umax: queue.umax(),
         uextra: queue.uextra(),
