@@ -6,7 +6,7 @@ use timer_rules::{Answer, Kind, Observation};
 /// What the deviations of a record look like.
 #[derive(Clone, Copy)]
 pub enum Cause {
-    /// A sum of a runqueue is wrong: several of its tasks deviate, to one side.
+    /// A sum is wrong: several tasks deviate, to one side.
     Sum,
 
     /// A budget is wrong: one task deviates, at block after block.
@@ -22,15 +22,12 @@ pub enum Cause {
 /// How the observations beside the first deviation are.
 #[derive(Clone, Copy)]
 struct Beside {
-    /// Other tasks of its runqueue that deviate to its side, and to the other.
+    /// Deviations of other tasks to its side, and to the other.
     same_side: u64,
     other_side: u64,
 
     /// The task's own further deviations.
     own: u64,
-
-    /// Deviations of tasks of other runqueues.
-    elsewhere: u64,
 
     /// What comes of the task's next block.
     next: Option<Answer>,
@@ -78,19 +75,11 @@ fn beside_with(first: &Observation, observation: &Observation, beside: Beside) -
     let next = next_of(first, observation, beside.next);
     let differs = is_deviation(observation.answer) && is_after(first, observation);
     let is_own = observation.task == first.task;
-    let is_here = observation.cpu == first.cpu;
     let is_same_side = (observation.difference < 0) == (first.difference < 0);
     Beside {
-        same_side: more(
-            beside.same_side,
-            differs && !is_own && is_here && is_same_side,
-        ),
-        other_side: more(
-            beside.other_side,
-            differs && !is_own && is_here && !is_same_side,
-        ),
+        same_side: more(beside.same_side, differs && !is_own && is_same_side),
+        other_side: more(beside.other_side, differs && !is_own && !is_same_side),
         own: more(beside.own, differs && is_own),
-        elsewhere: more(beside.elsewhere, differs && !is_own && !is_here),
         next,
     }
 }
@@ -100,7 +89,6 @@ fn beside_of(first: &Observation, observations: &[Observation]) -> Beside {
         same_side: 0,
         other_side: 0,
         own: 0,
-        elsewhere: 0,
         next: None,
     };
     for observation in observations {
@@ -116,11 +104,7 @@ pub fn cause_of(first: &Observation, observations: &[Observation]) -> Cause {
         Cause::Sum
     } else if is_agreement(beside.next) {
         Cause::Moment
-    } else if beside.own > 0
-        && beside.same_side == 0
-        && beside.other_side == 0
-        && beside.elsewhere == 0
-    {
+    } else if beside.own > 0 && beside.same_side == 0 && beside.other_side == 0 {
         Cause::Budget
     } else {
         Cause::Mixed

@@ -1,6 +1,7 @@
 //! The verdict on a record: whether a kernel's timers are where its rules put them, in words and as a table.
 #![tactic(auto)]
 
+mod apart;
 mod cause;
 mod charges;
 mod figures;

@@ -62,6 +62,18 @@ pub fn put_verdict(
     let parameters = parameters_of(lines, first.task);
     put_charges(alloc, out, &judged.outcome.charges)?;
     put_implied(alloc, out, first, parameters, &judged.outcome.charges)?;
+    put_ending(alloc, out, first, observations, names)
+}
+
+/// Appends how far each task is off, and what the deviations look like.
+fn put_ending(
+    alloc: Global,
+    out: &mut Vec<u8>,
+    first: &Observation,
+    observations: &[Observation],
+    names: &[Vec<u8>],
+) -> Result<(), AllocError> {
+    crate::apart::put_apart(alloc, out, observations, names)?;
     put_cause(out, cause_of(first, observations))
 }
 
@@ -234,12 +246,13 @@ fn put_cause(out: &mut Vec<u8>, cause: Cause) -> Result<(), AllocError> {
         out,
         match cause {
             Cause::Sum =>
-                b"  looks like a sum: other tasks of its runqueue deviate to the same side. See --rt, --fair-server, --cpus, the kernel's version, and whether each task is told of\n".as_slice(),
+                b"  looks like a sum: several tasks deviate to one side. See --kernel, --rt, --fair-server, --domain, and whether each task is told of\n".as_slice(),
             Cause::Budget =>
                 b"  looks like a budget: this task alone deviates, again and again. See its reservation and flags\n".as_slice(),
             Cause::Moment =>
-                b"  looks like a moment: the task's next block agrees. A busy or emulated machine lags; try --within 100\n".as_slice(),
-            Cause::Mixed => b"  looks like none of a sum, a budget and a moment alone\n".as_slice(),
+                b"  looks like a moment: the task's next block agrees. A busy or emulated machine lags by up to 100 us (--within 100); by more it is a line of the run that is missing\n".as_slice(),
+            Cause::Mixed =>
+                b"  looks like none of a sum, a budget and a moment alone. See the reservation of the task that is farthest off\n".as_slice(),
         },
     )?;
     put(
