@@ -21,6 +21,7 @@ use std::alloc::{AllocError, Global};
 use std::io;
 use std::io::Write;
 use trace_reader::{Halt, RecordReader};
+use trace_words::Flaw;
 
 /// The bytes of a piece of a trace.
 const PIECE: usize = 65_536;
@@ -354,6 +355,12 @@ fn verdict_of<
             Ok(None) => {}
             Err(AllocError) => return Err(Fault::NoMemory),
         }
+    }
+    if let Some(line) = gathering.losing_line() {
+        return Err(Fault::Line {
+            line,
+            flaw: Flaw::LostEvents,
+        });
     }
     timer_verdict(alloc, wanted, options, &mut gathering)
 }

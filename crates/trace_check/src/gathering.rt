@@ -38,6 +38,9 @@ pub(crate) struct Gathering<'o> {
     keeps_timers: bool,
     pub probes: Probes,
     pub lost: Option<Lost>,
+
+    /// The line at which a note says what was lost.
+    lost_line: u64,
     pub fault: Option<Fault<'o>>,
 }
 
@@ -83,6 +86,7 @@ impl<'o> Gathering<'o> {
             keeps_timers,
             probes: Probes::new(alloc, keeps_rows),
             lost: None,
+            lost_line: 0,
             fault: None,
         })
     }
@@ -93,7 +97,7 @@ impl<'o> Gathering<'o> {
         if let Some(domain) = told.domain {
             self.note_domain(number, domain)?;
         }
-        self.see_lost(told.lost);
+        self.see_lost(number, told.lost);
         if let Some(shown) = told.shown {
             self.show(shown.pid, shown.comm)?;
         }
@@ -132,8 +136,9 @@ impl<'o> Gathering<'o> {
         }
     }
 
-    fn see_lost(&mut self, lost: Option<LostLines>) {
+    fn see_lost(&mut self, number: u64, lost: Option<LostLines>) {
         if let Some(lost) = lost {
+            self.lost_line = number;
             self.lost = Some(Lost {
                 lines: lost.lines,
                 hits: lost.missed,
@@ -292,11 +297,33 @@ impl<'o> Gathering<'o> {
         if self.plays_probes() && !self.keeps_timers {
             return Ok(());
         }
+        self.see_cpu(number, &fixed);
         self.has_timers = self.has_timers || matches!(fixed, Fixed::TimerStarted { .. });
         self.begin()?;
         match &mut self.record {
             Some(record) => record.line(number, at, cpu, pid, fixed),
             None => Ok(()),
+        }
+    }
+
+    /// A SCHED_DEADLINE task wakes on a CPU of the root domain.
+    fn see_cpu(&mut self, number: u64, fixed: &Fixed) {
+        if let Fixed::Woken {
+            cpu,
+            is_deadline: true,
+            ..
+        } = *fixed
+            && !self.head.has_cpu(self.options, cpu)
+        {
+            self.fault = Some(Fault::OutsideDomain { line: number });
+        }
+    }
+
+    /// The line at which a note says that lines were lost.
+    pub fn losing_line(&self) -> Option<u64> {
+        match self.lost {
+            Some(lost) if lost.lines > 0 => Some(self.lost_line),
+            _ => None,
         }
     }
 

@@ -101,6 +101,15 @@ impl Head {
         Ok(cpus)
     }
 
+    /// Whether a CPU is of the root domain that an option or a note lists; each is where none does.
+    pub fn has_cpu(&self, options: &Options<'_>, cpu: u32) -> bool {
+        if options.domain.is_empty() {
+            self.domain.is_empty() || self.domain.contains(&cpu)
+        } else {
+            is_listed(&options.domain, cpu)
+        }
+    }
+
     fn last_cpu(&self) -> u32 {
         match self.processors {
             Some(count) => count.saturating_sub(1),
@@ -143,6 +152,15 @@ fn listed(alloc: Global, ranges: &[Range]) -> Result<Vec<u32>, AllocError> {
         push_range(&mut cpus, range.first, range.last)?;
     }
     Ok(cpus)
+}
+
+fn is_listed(ranges: &[Range], cpu: u32) -> bool {
+    for range in ranges {
+        if range.first <= cpu && cpu <= range.last {
+            return true;
+        }
+    }
+    false
 }
 
 fn server_of(fair: FairServer) -> Server {
