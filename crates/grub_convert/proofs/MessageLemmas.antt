@@ -22,8 +22,5 @@ of_five a b c d e = simp append_assoc
 pub named : (a b c d e f : List ℕ) → a ++ b ++ c ++ (d ++ e ++ f) ≡ a ++ (b ++ (c ++ (d ++ (e ++ f))))
 named a b c d e f = simp append_assoc
 
-pub named_line : (a b c d e f g h : List ℕ) → a ++ b ++ c ++ d ++ e ++ (f ++ g ++ h) ≡ a ++ (b ++ (c ++ (d ++ (e ++ (f ++ (g ++ h))))))
-named_line a b c d e f g h = simp append_assoc
-
 pub behind_five : (a b c d e f : List ℕ) → a ++ b ++ c ++ d ++ e ++ f ≡ a ++ (b ++ (c ++ (d ++ e))) ++ f
 behind_five a b c d e f = simp append_assoc

@@ -79,10 +79,8 @@ tasks_given = record {
 -- want of memory or of reading says nothing of the text
 pub of_reading : {O N D : Type 0} (o : Opener O D) (g : Reader N D) (input : Input O N) (name : List ℕ) (e : TraceFault) → IsOfReading e → IsFaultIn o g input name e
 of_reading o g input name (faults.Line path fault) is = absurd is
-of_reading o g input name (faults.NoSuchTask path task) is = tt
-of_reading o g input name (faults.NoTimers path) is = tt
-of_reading o g input name (faults.Overfull path line task) is = tt
-of_reading o g input name (faults.FileExists path) is = tt
+of_reading o g input name (faults.NoSuchTask path task) is = absurd is
+of_reading o g input name (faults.FileExists path) is = absurd is
 of_reading o g input name faults.Write is = tt
 of_reading o g input name (faults.Unreadable path) is = tt
 of_reading o g input name faults.NoMemory is = tt

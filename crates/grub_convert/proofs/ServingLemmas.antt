@@ -1,18 +1,15 @@
 -- Files that are made one after another, and the statuses of that.
-use Rattle.std.proofs.Common.{◌≡◌, ◌<◌, ◌+◌, ◌∙◌, ◌⊎◌, inl, inr, arith, sym, subst, refl, ℕ, zero, suc, List, [], ◌∷◌, ◌++◌, get_or, length, map, take, Option, Result, Ok, Err}
-use Rattle.std.specs.Prelude.{All, IfErr, MatchResult, OnOk}
+use Rattle.std.proofs.Common.{◌≡◌, ◌<◌, ◌+◌, ◌∙◌, ◌⊎◌, inl, inr, ap, arith, sym, subst, refl, ℕ, zero, suc, List, [], ◌∷◌, ◌++◌, get_or, length, map, take, Option, Result, Ok, Err}
+use Rattle.std.specs.Prelude.{All, IfErr, MatchResult, OnOk, Some, slice_get, slice_index_or}
+use Rattle.std.proofs.lemmas.Option.{none-some, same_Some}
 use Rattle.std.specs.List.{AllZip}
 use Rattle.std.proofs.lemmas.List.{length-append, map_more}
 use Rattle.std.proofs.lemmas.List.Elements.{All-push}
 use Rattle.std.proofs.lemmas.Slice.Zip.{all_zipped_more}
-use Rattle.std.specs.Borrow.{Bor}
-use Rattle.grub_facts.specs.declared.fault.LineFault.{LineFault}
-use Rattle.grub_convert.specs.Faults.{explained, status_of}
-use Rattle.grub_convert.specs.Serving.{IsOfTrace, event_path, event_paths}
+use Rattle.grub_convert.specs.Faults.{status_of}
+use Rattle.grub_convert.specs.Serving.{event_path, event_paths}
 use Rattle.grub_convert.specs.declared.fault.TraceFault.{TraceFault}
 use Rattle.grub_convert.specs.declared.fault.TraceFault.TheVariants as faults
-use Rattle.grub_convert.specs.declared.files.FilesFault.{FilesFault}
-use Rattle.grub_convert.specs.declared.files.FilesFault.TheVariants as files
 
 -- one element more
 pub all_next : {A B : Type 0} (P : B → Type 0) (f : A → B) (xs : List A) (i : ℕ) (x : A) → i < length xs → x ≡ get_or xs i x → All P (map f (take i xs)) → P (f x) → All P (map f (take (i + 1) xs))
@@ -31,19 +28,21 @@ pub count_of_paths : (prefix : List ℕ) (n : ℕ) → length (event_paths prefi
 count_of_paths prefix zero = refl
 count_of_paths prefix (suc r) = length-append (event_paths prefix r) (event_path prefix r ∷ []) ∙ omega (arith, count_of_paths prefix r)
 
--- a fault of status 1 is none of memory
-pub of_trace : (path : Bor (List ℕ)) (fault : FilesFault) (own : Option LineFault) → status_of (explained path fault own) ≡ 1 → IsOfTrace fault
-of_trace path (files.TooLong line) own one = tt
-of_trace path files.Line own one = tt
-of_trace path (files.NoSuchTask name) own one = tt
-of_trace path files.NoMemory own one = absurd (omega (arith, one))
-of_trace path files.NoText own one = absurd (omega (arith, one))
+-- what stands at a place of a list
+pub slice_at : {A B : Type 0} (f : A → B) (xs : List A) (i : ℕ) (x : A) → i < length xs → x ≡ get_or xs i x → slice_get (map f xs) i ≡ Some (f x)
+slice_at f [] i x below is = absurd (omega (arith, below))
+slice_at f (z ∷ xs) zero x below is = ap (λ y. Some (f y)) (sym is)
+slice_at f (z ∷ xs) (suc i) x below is = slice_at f xs i x (omega (arith, below)) is
+
+-- what is taken out of a list is what stands there
+pub removed_is : {A B : Type 0} (f : A → B) (xs : List A) (i : ℕ) (x : A) (y : B) → slice_get (map f xs) i ≡ Some y → x ≡ slice_index_or xs i x → f x ≡ y
+removed_is f [] i x y at is = absurd (none-some y at)
+removed_is f (z ∷ xs) zero x y at is = ap f is ∙ same_Some (f z) y at
+removed_is f (z ∷ xs) (suc i) x y at is = removed_is f xs i x y at is
 
 one_or_three : (e : TraceFault) → (status_of e ≡ 1) ⊎ (status_of e ≡ 3)
 one_or_three (faults.Line path fault) = inl refl
 one_or_three (faults.NoSuchTask path task) = inl refl
-one_or_three (faults.NoTimers path) = inl refl
-one_or_three (faults.Overfull path line task) = inl refl
 one_or_three (faults.FileExists path) = inl refl
 one_or_three faults.Write = inr refl
 one_or_three (faults.Unreadable path) = inr refl
@@ -62,6 +61,10 @@ of_done (Ok u) n is nil p = p
 of_done (Err e) n is nil p = absurd (not_done e n is nil)
 
 -- status 1 is that of a fault
-pub of_fault : {U P : Type 0} (r : Result U TraceFault) (n : ℕ) → MatchResult r (λ _. n ≡ 0) (λ e. n ≡ status_of e) → n ≡ 1 → IfErr r (λ e. status_of e ≡ 1 → P) → P
-of_fault (Ok u) n is one p = absurd (omega (arith, is, one))
-of_fault (Err e) n is one p = p (sym is ∙ one)
+pub of_fault : {U : Type 0} (P : TraceFault → Type 0) (r : Result U TraceFault) (n : ℕ) → MatchResult r (λ _. n ≡ 0) (λ e. n ≡ status_of e) → n ≡ 1 → IfErr r (λ e. status_of e ≡ 1 → P e) → (e : TraceFault) × (status_of e ≡ 1) × P e
+of_fault P (Ok u) n is one p = absurd (omega (arith, is, one))
+of_fault P (Err e) n is one p = (e, sym is ∙ one, p (sym is ∙ one))
+
+pub fault_at_one : {U : Type 0} (P : TraceFault → Type 0) (r : Result U TraceFault) → IfErr r P → IfErr r (λ e. status_of e ≡ 1 → P e)
+fault_at_one P (Ok u) p = p
+fault_at_one P (Err e) p = λ _. p

@@ -53,7 +53,9 @@ module _ {O N D : Type 0} (o : Opener O D) (g : Reader N D) (input : Input O N) 
   abbrev pub PrintsTasks : List ℕ → Option (List ℕ) → Option (List ℕ) → Type 0
   PrintsTasks name old new = (tasks : List Counted) × IsShownOf name tasks × Appends old new (tasks_text tasks)
 
-  -- this fault of a line is the first in it; of another fault nothing is said
+  -- a fault of status 1 is that of the first line of this trace with one; of memory and of reading nothing is said
   abbrev pub IsFaultIn : List ℕ → TraceFault → Type 0
-  IsFaultIn name (faults.Line path fault) = IsSoOf name (λ text. fault_counted text ≡ Some (fault_text fault))
+  IsFaultIn name (faults.Line path fault) = (path.now ≡ name) × IsSoOf name (λ text. fault_counted text ≡ Some (fault_text fault))
+  IsFaultIn name (faults.NoSuchTask path task) = ⊥
+  IsFaultIn name (faults.FileExists path) = ⊥
   IsFaultIn name fault = Unit {0}

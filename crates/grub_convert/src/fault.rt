@@ -3,7 +3,7 @@
 ghost use Rattle.std.specs.Prelude.{◌≡◌, OnOk, Some};
 ghost use Rattle.std.specs.Io.KnownBytes.{Appends};
 ghost use Rattle.grub_convert.specs.Faults.{status_of};
-ghost use Rattle.grub_convert.specs.Messages.{fault_line, overfull_told, told_of, unknown_told, wrong_told};
+ghost use Rattle.grub_convert.specs.Messages.{fault_line, told_of, unknown_told, wrong_told};
 
 use grub_facts::{LineFault, Wrong};
 use std::io;
@@ -22,35 +22,15 @@ pub const STATUS_SYSTEM: u8 = 3;
 #[derive(Debug, Drop)]
 pub enum TraceFault<'a> {
     /// 50 to 52, 54 and 55: the first line with a fault.
-    Line {
-        path: &'a str,
-        fault: LineFault,
-    },
+    Line { path: &'a str, fault: LineFault },
     /// 49: a task was given that the trace does not show.
-    NoSuchTask {
-        path: &'a str,
-        name: &'a str,
-    },
-    /// 53: no timer of any kind was recorded, so nothing can be compared.
-    NoTimers {
-        path: &'a str,
-    },
-    /// 57: the book has no room for what the trace tells; without a line for a server of fair tasks.
-    Overfull {
-        path: &'a str,
-        line: Option<u64>,
-        name: String,
-    },
+    NoSuchTask { path: &'a str, name: &'a str },
     /// 56: a file would be written over.
-    FileExists {
-        path: String,
-    },
+    FileExists { path: String },
     /// 45: what is told could not be written.
     Write,
     /// 46: the trace cannot be read.
-    Unreadable {
-        path: &'a str,
-    },
+    Unreadable { path: &'a str },
     /// 47: no memory for what the trace tells.
     NoMemory,
     /// 48: no memory for a text.
@@ -65,8 +45,6 @@ impl TraceFault<'_> {
         match self {
             TraceFault::Line { .. }
             | TraceFault::NoSuchTask { .. }
-            | TraceFault::NoTimers { .. }
-            | TraceFault::Overfull { .. }
             | TraceFault::FileExists { .. } => STATUS_FILE,
             _ => STATUS_SYSTEM,
         }
@@ -81,10 +59,6 @@ impl TraceFault<'_> {
             TraceFault::Line { path, fault } => tell_line(to, path, fault),
             TraceFault::NoSuchTask { path, name } => {
                 writeln!(to, "grubtrace: {path}: 49 NoSuchTask {name}")
-            }
-            TraceFault::NoTimers { path } => writeln!(to, "grubtrace: {path}: 53 NoTimers"),
-            TraceFault::Overfull { path, line, name } => {
-                tell_overfull(to, path, *line, name.as_str())
             }
             TraceFault::FileExists { path } => {
                 let path = path.as_str();
@@ -106,16 +80,6 @@ fn tell_unknown<E: Write>(to: &mut E, comm: &[u8], pid: u64) -> io::Result<()>
     to.write_all(b"50 UnknownTask ")?;
     to.write_all(comm)?;
     writeln!(to, " (pid {pid})")
-}
-
-fn tell_overfull<E: Write>(to: &mut E, path: &str, line: Option<u64>, name: &str) -> io::Result<()>
-    ensures { OnOk result (Appends (E.contents to.old) (E.contents to.new)
-        (told_of path.now line (overfull_told name.now))) }
-{
-    match line {
-        Some(line) => writeln!(to, "grubtrace: {path}:{line}: 57 Overfull {name}"),
-        None => writeln!(to, "grubtrace: {path}: 57 Overfull {name}"),
-    }
 }
 
 /// Writes the end of the line of a fault of a trace's line.

@@ -1,10 +1,11 @@
 //! What the program does with a trace: it prints which tasks there are, or writes the event files.
 
-ghost use Rattle.std.specs.Prelude.{◌≡◌, ◌⊎◌, ◌<◌, None, IfErr, IfOk, IfSome, OnSome, MatchResult, OnOk, length, map, string_bytes};
+ghost use Rattle.std.specs.Prelude.{◌≡◌, ◌⊎◌, ◌<◌, None, IfErr, IfOk, IfSome, MatchResult, ℕ, List, OnOk, length, map, string_bytes};
 ghost use Rattle.grub_plan.specs.Contents.{contents};
 ghost use Rattle.grub_convert.specs.Faults.{explained, status_of};
-ghost use Rattle.grub_convert.specs.Read.{PrintsTasks};
-ghost use Rattle.grub_convert.specs.Serving.{AreFree, AreMade, HasNoEvents, MakesEvents, OneExists, event_path, event_paths};
+ghost use Rattle.grub_convert.specs.Read.{IsFaultIn, PrintsTasks};
+ghost use Rattle.grub_convert.specs.Serving.{AreFree, AreMade, HasNoEvents, IsFirstThere, MakesEvents, event_path, event_paths};
+ghost use Rattle.grub_convert.specs.declared.fault.TraceFault.{TraceFault};
 ghost use Rattle.grub_convert.specs.declared.fault.TraceFault.TheVariants as faults;
 ghost use Rattle.grub_convert.specs.declared.fault.TheConstants.{STATUS_FILE, STATUS_SYSTEM};
 
@@ -50,7 +51,8 @@ fn paths_of(alloc: Global, prefix: &str, count: usize) -> Result<Vec<String>, Al
 fn first_taken<X: Fn(&str) -> bool>(exists: &X, paths: &[String]) -> Option<usize>
     requires { X.IsAlwaysCallable exists.now }
     ensures free { result ≡ None → AreFree X.Fn exists.now (map string_bytes paths.now) }
-    ensures taken { OnSome result (OneExists X.Fn exists.now (map string_bytes paths.now)) }
+    ensures taken { IfSome result (λ i. (path : List ℕ)
+        × IsFirstThere X.Fn exists.now (map string_bytes paths.now) i path) }
     ensures below { IfSome result (λ i. i < length paths.now) }
 {
     for (i, path) in paths.iter().enumerate() {
@@ -124,7 +126,8 @@ fn write_events<
     ensures done { OnOk result
         (MakesEvents O.Fn N.Fn X.Fn M.Fn input.now target.now path.now prefix.now options.now) }
     ensures nothing { IfErr result (λ e. status_of e ≡ 1
-        → HasNoEvents O.Fn N.Fn X.Fn M.Fn input.now target.now path.now prefix.now options.now) }
+        → HasNoEvents O.Fn N.Fn X.Fn M.Fn input.now target.now path.entry prefix.now options.now
+        e) }
 {
     let mut facts = read_facts(alloc, input, path, options)?;
     let files = match event_files(alloc, options, &facts) {
@@ -155,6 +158,7 @@ fn print_tasks<
     ensures done { OnOk result
         (PrintsTasks O.Fn N.Fn input.now path.now (W.contents out.old) (W.contents out.new)) }
     ensures nothing { IfErr result (λ e. status_of e ≡ 1 → out.new ≡ out.old) }
+    ensures fault { IfErr result (IsFaultIn O.Fn N.Fn input.now path.now) }
 {
     let tasks = read_tasks(alloc, input, path)?;
     let Ok(text) = tasks_text(alloc, &tasks) else {
@@ -191,10 +195,12 @@ pub fn serve_tasks<
     requires open { O.IsAlwaysCallable input.now.open }
     requires read { N.IsAlwaysCallable input.now.read }
     ensures status { (result ≡ 0) ⊎ (result ≡ STATUS_FILE) ⊎ (result ≡ STATUS_SYSTEM) }
-    // At 0 the text of the tasks that the trace shows was printed, and where the trace is at fault nothing was.
+    // At 0 the text of the tasks that the trace shows was printed. At 1 nothing was, and its first line with a fault is told.
     ensures done { result ≡ 0
         → PrintsTasks O.Fn N.Fn input.now path.now (W.contents out.old) (W.contents out.new) }
     ensures nothing { result ≡ 1 → out.new ≡ out.old }
+    ensures fault { result ≡ 1
+        → (e : TraceFault) × (status_of e ≡ 1) × IsFaultIn O.Fn N.Fn input.now path.now e }
 {
     let done = print_tasks(alloc, input, path, out);
     told_status(done, faults)
@@ -221,11 +227,13 @@ pub fn serve_events<
     requires read { N.IsAlwaysCallable input.now.read }
     requires exists { X.IsAlwaysCallable target.now.exists }
     requires make { M.IsAlwaysCallable target.now.make }
-    // At 0 the event files of what the trace tells were made at paths where nothing was; at 1 it is at fault, or something was there.
+    // At 0 the event files of what the trace tells were made at paths where nothing was. At 1 the fault is the trace's own, or that of
+    // the first path at which something was.
     ensures done { result ≡ 0
         → MakesEvents O.Fn N.Fn X.Fn M.Fn input.now target.now path.now prefix.now options.now }
-    ensures nothing { result ≡ 1
-        → HasNoEvents O.Fn N.Fn X.Fn M.Fn input.now target.now path.now prefix.now options.now }
+    ensures nothing { result ≡ 1 → (e : TraceFault) × (status_of e ≡ 1)
+        × HasNoEvents O.Fn N.Fn X.Fn M.Fn input.now target.now path.entry prefix.now options.now
+        e }
     ensures status { (result ≡ 0) ⊎ (result ≡ STATUS_FILE) ⊎ (result ≡ STATUS_SYSTEM) }
 {
     let done = write_events(alloc, input, target, path, prefix, options);

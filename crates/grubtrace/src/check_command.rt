@@ -37,6 +37,7 @@ fn rt_arg<'a>(alloc: Global) -> Arg<'a> {
         .long("rt")
         .value_name("RUNTIME:PERIOD")
         .help("The kernel's sched_rt_runtime_us and sched_rt_period_us; -1 is no limit")
+        .allow_hyphen_values(true)
         .action(ArgAction::Set)
 }
 

@@ -1,4 +1,4 @@
-use Rattle.std.proofs.Common.{◌≡◌, Some, subst, sym}
+use Rattle.std.proofs.Common.{◌≡◌, Some, refl, subst, sym}
 use Rattle.std.proofs.lemmas.Result.{err_from_is_err_and}
 use Rattle.grub_convert.specs.Faults.{IsOfReading}
 use Rattle.grub_convert.specs.Read.{IsShownBy}
@@ -14,9 +14,11 @@ returns-in-Ok-clause-shown g c =
     (λ text. IsShownBy text c.in-Ok.tasks.items) c.args.path.now c.new-reader.result c.read_pieces.new.taker c.new-reader.ensures c.in_ok-read_pieces.ensures.taken c.in-Ok.ensures.tasks
 
 pub returns-in-Err-clause-fault : goal.returns-in-Err-clause-fault
-returns-in-Err-clause-fault g c =
-    so_from g.O.Fn g.N.Fn c.args.input.now (λ (old : TaskReader) piece new. CountsOn piece old new) NeedsNoMore HasCounted tasks_given
-    (λ text. fault_counted text ≡ Some (fault_text c.in-Err.fault)) c.args.path.now c.new-reader.result c.read_pieces.new.taker c.new-reader.ensures c.in_ok-read_pieces.ensures.taken c.in-Err.ensures.fault
+returns-in-Err-clause-fault g c = (
+  refl,
+  so_from g.O.Fn g.N.Fn c.args.input.now (λ (old : TaskReader) piece new. CountsOn piece old new) NeedsNoMore HasCounted tasks_given
+      (λ text. fault_counted text ≡ Some (fault_text c.in-Err.fault)) c.args.path.now c.new-reader.result c.read_pieces.new.taker c.new-reader.ensures c.in_ok-read_pieces.ensures.taken c.in-Err.ensures.fault,
+)
 
 pub returns-in_err-read_pieces-clause-fault : goal.returns-in_err-read_pieces-clause-fault
 returns-in_err-read_pieces-clause-fault g c =

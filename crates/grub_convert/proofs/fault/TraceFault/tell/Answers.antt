@@ -13,14 +13,6 @@ returns-in-NoSuchTask g c =
     (codes "grubtrace: " ++ (path ++ (codes ": 49 NoSuchTask " ++ (name ++ codes "\n"))))
     (ap fault_line c.in-NoSuchTask.is ∙ named (codes "grubtrace: ") path (codes ": ") (codes "49 NoSuchTask ") name (codes "\n")) c.writeln.ensures.bytes
 
-pub returns-in-NoTimers : goal.returns-in-NoTimers
-returns-in-NoTimers g c =
-    let writer = g.E.Write.contents in
-    let path = c.in-NoTimers.path.now in
-    told c.writeln-in-NoTimers.result (writer c.args.to.now) (writer c.writeln-in-NoTimers.new.self) (fault_line c.args.self.now)
-    (codes "grubtrace: " ++ (path ++ codes ": 53 NoTimers\n"))
-    (ap fault_line c.in-NoTimers.is ∙ of_four (codes "grubtrace: ") path (codes ": ") (codes "53 NoTimers\n")) c.writeln-in-NoTimers.ensures.bytes
-
 pub returns-in-FileExists : goal.returns-in-FileExists
 returns-in-FileExists g c =
     let writer = g.E.Write.contents in

@@ -1,0 +1,5 @@
+use Rattle.grub_convert.proofs.ServingLemmas.{fault_at_one, of_fault}
+use Rattle.grub_convert.proofs.serving.serve_tasks.Goals as goal
+
+pub returns-clause-fault : goal.returns-clause-fault
+returns-clause-fault g c one = of_fault _ c.print_tasks-done.result c.told_status.result c.told_status.ensures.told one (fault_at_one _ c.print_tasks-done.result c.print_tasks-done.ensures.fault)
