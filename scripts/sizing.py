@@ -31,6 +31,20 @@ def searched(jobs, period, allowed):
         else: high = middle
     return high
 
+def needs(jobs, period):
+    """For each job the least runtime with which it is not late; one more than the period where none is."""
+    all_needs = []
+    for i, (_, _, due) in enumerate(jobs):
+        low, high = 0, period + 1
+        while high - low > 1:
+            middle, work, is_late = (low + high) // 2, 0, False
+            for release, ran, _ in reversed(jobs[:i + 1]):
+                work += ran
+                is_late = is_late or release - (-work // middle) * (period - middle) + work > due
+            low, high = (middle, high) if is_late else (low, middle)
+        all_needs.append(high)
+    return all_needs
+
 def page(program, path):
     """The blocks of a page that begin with a command: `..` in place of a line stands for any lines."""
     passed = failed = 0
@@ -75,7 +89,6 @@ def least_told(text):
     """The runtime that is called the least, None where none is enough, or the text."""
     if 'no runtime is enough' in text: return None
     found = [it for it in table_of(text) if 'the least' in it[4]]
-    if not found: found = [it for it in table_of(text) if 'proposed' in it[4]]
     return found[0][0] if found else text
 
 def record_of(rng):
@@ -97,9 +110,10 @@ def small(program, count, seed):
         for start in range(0, count, BATCH):
             records = {1000 + i: record_of(rng) for i in range(min(BATCH, count - start))}
             write_trace(trace, [(pid, jobs) for pid, (_, _, jobs) in records.items()], rng)
-            words = ['--margin', '10']
+            words, given = ['--margin', str(rng.choice([0, 0, 10]))], {}
             for pid, (period, within, _) in records.items():
-                words += ['--task', f'{pid}={period}'] + (['--within', f'{pid}={within}'] if within != period else [])
+                given[pid] = rng.randint(2, period)
+                words += ['--task', f'{pid}={given[pid]}:{period}'] + (['--within', f'{pid}={within}'] if within != period else [])
             told = [sections(program, trace, words + ['--late', str(k)]) for k in range(max(len(it[2]) for it in records.values()))]
             for pid, (period, within, jobs) in records.items():
                 full = [(r, w, r + within) for r, w in jobs]
@@ -110,6 +124,7 @@ def small(program, count, seed):
                 if not wrong and [sum(it is None or it > q for it in least) for q in range(1, period + 1)] != wanted: wrong.append(f'the least {least}')
                 rows = [it for text in texts for it in table_of(text)]
                 wrong += [f'row {it}' for it in rows if it[2] != wanted[it[0] - 1]]
+                if rows and not any(it[0] == given[pid] and 'given' in it[4] for it in rows): wrong.append('no given runtime')
                 tried += period
                 if not wrong: passed += 1
                 else:

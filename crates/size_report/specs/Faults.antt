@@ -1,5 +1,6 @@
 -- The program's status where a record is not sized.
-use Rattle.std.specs.Prelude.{ℕ}
+use Rattle.std.specs.Prelude.{ℕ, List, Option}
+use Rattle.std.specs.Io.KnownBytes.{Appends}
 use Rattle.size_report.specs.declared.fault.SizeFault.{SizeFault}
 use Rattle.size_report.specs.declared.fault.SizeFault.TheVariants.{Line, NoSuchTask, NoJobs, FileExists, Write, Unreadable, NoMemory, NoText}
 
@@ -13,3 +14,7 @@ status_of Write = 3
 status_of (Unreadable path) = 3
 status_of NoMemory = 3
 status_of NoText = 3
+
+-- a text was printed whole, and nothing else
+abbrev pub PrintsWhole : Option (List ℕ) → Option (List ℕ) → Type 0
+PrintsWhole old new = (text : List ℕ) × Appends old new text

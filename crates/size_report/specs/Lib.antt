@@ -1,1 +1,4 @@
+pub mod Admission
 pub mod Faults
+pub mod Messages
+pub mod Needs

@@ -1,6 +1,6 @@
 //! The tasks of a trace by their pids.
 
-ghost use Rattle.std.specs.Prelude.{◌≡◌, OnOk, nat_eq};
+ghost use Rattle.std.specs.Prelude.{◌≡◌, OnOk, nat_eq, option_copied};
 ghost use Rattle.std.specs.HashMap.{get};
 ghost use Rattle.trace_jobs.specs.Taking.{Takes, Keeps};
 
@@ -39,7 +39,9 @@ impl Tasks {
     }
 
     /// The task of a pid.
-    pub fn task(&self, pid: u64) -> Option<&Task> {
+    pub fn task(&self, pid: u64) -> Option<&Task>
+        ensures { option_copied result ≡ get nat_eq self.now.by_pid pid }
+    {
         self.by_pid.get(&pid)
     }
 
@@ -60,8 +62,7 @@ impl Tasks {
 
     /// Adds a task that no line showed before.
     fn add(&mut self, pid: u64) -> Result<(), AllocError>
-        ensures { OnOk result
-            (Keeps pid (get nat_eq self.old.by_pid) (get nat_eq self.new.by_pid)) }
+        ensures { OnOk result (Keeps pid (get nat_eq self.old.by_pid) (get nat_eq self.new.by_pid)) }
     {
         if self.by_pid.get(&pid).is_some() {
             return Ok(());
