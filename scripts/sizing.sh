@@ -135,38 +135,13 @@ run 'runs' 0 '' --task t=1000 jobs
 hasnt 'runs' 'no line of sched_stat_runtime'
 
 # The picture: its bytes, what it shows, and that no file is written over.
-run 'a picture' 0 '' --task ld_req=30000 --late 2 --picture drawn.svg trace
+run 'a picture' 0 '' --task ld_req=30000 --picture drawn.svg trace
 if cmp -s drawn.svg "$root/examples/sizing/requests.svg"; then passed=$((passed + 1)); else fail 'the picture is not examples/sizing/requests.svg'; fi
-if python3 - drawn.svg "$root" trace <<'PYTHON'; then passed=$((passed + 1)); else fail 'the picture does not show what the jobs need'; fi
-import re, sys, xml.dom.minidom
-sys.path.insert(0, sys.argv[2] + '/scripts')
-import sizing
-text = open(sys.argv[1]).read()
-xml.dom.minidom.parseString(text)
-jobs = [(r, w, r + 30000) for r, w in sizing.jobs_of(sys.argv[3], 'ld_req')]
-title = re.search(r'runtime (\d+) \(the least (\d+)\)', text)
-proposed, least = int(title[1]), int(title[2])
-needs = sizing.needs(jobs, 30000)
-top = max(max(needs), proposed)
-assert least == sorted(needs)[-3]
-first = min(float(it) for it in re.findall(r' (\d+\.\d{6}): sched', open(sys.argv[3]).read()))
-last = max(float(it) for it in re.findall(r' (\d+\.\d{6}): sched', open(sys.argv[3]).read()))
-span = round(last * 1e6) - round(first * 1e6)
-columns = {}
-for (release, _, _), need in zip(jobs, needs):
-    x = 130 + (release - round(first * 1e6)) * 1024 // span
-    shade = 'd' if need > least else 'l' if need > -(-least * 85 // 100) else 'b'
-    old = columns.get(x, (0, 'b'))
-    columns[x] = (max(old[0], need * 150 // top), max(old[1], shade, key='bld'.index))
-bars = re.findall(r'<path class="([bld])" d="M(\d+) (\d+)H\d+V(\d+)"/>', text)
-assert [(int(x), int(y) - int(to), shade) for shade, x, y, to in bars] == [(x, *columns[x]) for x in sorted(columns)], 'bars'
-lines = re.findall(r'<path class="([pms])" d="M130 (\d+)H1154V\2"/>', text)
-for base in (240, 436):
-    for shade, runtime in (('p', proposed), ('m', least), ('s', -(-least * 85 // 100))): assert (shade, str(base - runtime * 150 // top)) in lines, shade
-curve = re.findall(r'<path class="c" d="M(\d+) (\d+)H', text)
-shown, most = sorted(needs, reverse=True), max(10, len(needs) // 10)
-assert [int(y) for _, y in curve] == [436 - shown[k] * 150 // top for k in range(most)], 'curve'
-PYTHON
+run 'a picture with late jobs' 0 '' --task ld_req=30000 --late 2 --picture late.svg trace
+for drawn in drawn.svg:0 late.svg:2; do
+    python3 "$root/scripts/sizing.py" "$program" --drawn "${drawn%:*}" trace ld_req 30000 "${drawn#*:}" > said
+    tail -n 1 said | grep -q ' 0 failed' && passed=$((passed + 1)) || fail "$(cat said)"
+done
 cp drawn.svg before
 run 'a picture that is there' 1 'grubtrace: drawn.svg: 56 FileExists' --task ld_req=30000 --picture drawn.svg trace
 if cmp -s drawn.svg before; then passed=$((passed + 1)); else fail 'a picture was written over'; fi

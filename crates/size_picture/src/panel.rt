@@ -181,8 +181,8 @@ fn needs_scales(alloc: Global, panel: Panel<'_>, base: u64) -> Result<Vec<u8>, A
     put_side(
         &mut out,
         base.saturating_sub(140),
-        b"what each job",
-        b"needs, in us",
+        b"need of a",
+        b"job, in us",
     )?;
     put_runtimes(&mut out, base, u64::from(panel.top))?;
     put_time(&mut out, base, panel.span)?;
@@ -213,8 +213,8 @@ fn curve_scales(alloc: Global, panel: Panel<'_>, base: u64) -> Result<Vec<u8>, A
     put_side(
         &mut out,
         base.saturating_sub(140),
-        b"runtime for so",
-        b"many late jobs",
+        b"runtime for",
+        b"n late jobs",
     )?;
     put_runtimes(&mut out, base, u64::from(panel.top))?;
     put_counts(&mut out, base, panel.most)?;

@@ -101,7 +101,8 @@ pub(crate) fn drawn_of(
     requires { 1 ≤ wanted.period }
 {
     let period = wanted.period;
-    let top = greatest_need(alloc, jobs, period)?.max(needed.proposed);
+    let most_needed = greatest_need(alloc, jobs, period)?.max(needed.proposed);
+    let top = most_needed.min(period.saturating_add(1)).max(1);
     let heights = heights_of(alloc, jobs, period, top)?;
     let least = late_with(alloc, jobs, needed.least, period)?;
     let less = late_with(alloc, jobs, needed.less, period)?;
@@ -127,7 +128,7 @@ pub(crate) fn picture_of(alloc: Global, all: &[Drawn], span: u64) -> Result<Vec<
     let mut panels = Vec::new(alloc);
     for one in all {
         panels.push(Panel {
-            comm: &one.comm,
+            comm: one.comm.as_slice(),
             period: one.period,
             within: one.within,
             top: one.top,
@@ -135,8 +136,8 @@ pub(crate) fn picture_of(alloc: Global, all: &[Drawn], span: u64) -> Result<Vec<
             least: one.least,
             less: one.less,
             span,
-            needs: &one.needs,
-            sorted: &one.sorted,
+            needs: one.needs.as_slice(),
+            sorted: one.sorted.as_slice(),
             most: one.most,
         })?;
     }

@@ -1,6 +1,10 @@
 //! How high the needs of jobs are on a scale.
 
-ghost use Rattle.std.specs.Prelude.{◌≡◌, ◌≤◌, ◌+◌};
+ghost use Rattle.std.specs.Prelude.{◌≡◌, ◌≤◌, ◌<◌, ◌+◌, ◌-◌, ◌*◌, IfOk, map, [], get_or};
+ghost use Rattle.grub_sizing.specs.Span.{budgets_of};
+ghost use Rattle.sizing_needs.specs.Needs.{AllWork, needs_after};
+ghost use Rattle.sizing_needs.specs.Heights.{height_in};
+ghost use Rattle.sizing_needs.specs.inside.Rising.{flag, summed};
 
 use grub_sizing::{Job, lates_of};
 use std::alloc::{AllocError, Global};
@@ -8,57 +12,69 @@ use std::alloc::{AllocError, Global};
 /// How many steps a scale has.
 pub const STEPS: u32 = 150;
 
-/// How high the need of each job is on a scale of 150 steps that ends at the runtime `top`, which is at most one more than the period:
-/// `need * 150 / top`, where the need of a job with which no runtime is enough is one more than the period. A period is at least 1.
+/// How high the need of each job is on a scale of 150 steps that ends at the runtime `top`, from 1 to one more than the period:
+/// `need * 150 / top`, where the need of a job with which no runtime is enough is one more than the period.
 pub fn heights_of(
     alloc: Global,
     jobs: &[Job],
     period: u32,
     top: u32,
 ) -> Result<Vec<u32>, AllocError>
-    requires some { 1 ≤ period }
+    requires some { 1 ≤ top }
+    requires room { top ≤ period + 1 }
+    ensures { AllWork jobs.now → IfOk result
+        (λ v. v.items ≡ map (height_in 150 top) (needs_after period [] jobs.now)) }
 {
-    let mut heights = Vec::from_elem(alloc, 0u32, jobs.len())?;
+    let mut heights = each(alloc, jobs, 0)?;
     for step in 0..STEPS {
-        heights = raised(alloc, &heights, jobs, period, below_of(top, step + 1))?;
+        let more = flags_of(alloc, jobs, period, below_of(top, step))?;
+        heights = sums_of(alloc, &heights, &more)?;
     }
     Ok(heights)
 }
 
-/// More than this is needed where a need is so many steps high.
-fn below_of(top: u32, step: u32) -> u32 {
-    (u64::from(top) * u64::from(step))
-        .div_ceil(u64::from(STEPS))
-        .saturating_sub(1)
-        .min(u64::from(u32::MAX)) as u32
+/// More than this is needed where a need is more than so many steps high.
+fn below_of(top: u32, step: u32) -> u32
+    requires some { 1 ≤ top }
+    requires within { step < 150 }
+    ensures value { result ≡ budgets_of (top * (step + 1)) 150 - 1 }
+    ensures most { result < top }
+{
+    let steps = u64::from(top) * (u64::from(step) + 1);
+    steps.div_ceil(150).saturating_sub(1) as u32
 }
 
-/// A step more for each job that needs more than a runtime.
-fn raised(
-    alloc: Global,
-    heights: &[u32],
-    jobs: &[Job],
-    period: u32,
-    below: u32,
-) -> Result<Vec<u32>, AllocError>
-    requires some { 1 ≤ period }
+/// The same number for each job.
+fn each(alloc: Global, jobs: &[Job], n: u32) -> Result<Vec<u32>, AllocError>
+    ensures { IfOk result (λ v. v.items ≡ map (λ job. n) jobs.now) }
+{
+    let mut all = Vec::new(alloc);
+    for job in jobs {
+        let _ = job;
+        all.push(n)?;
+    }
+    Ok(all)
+}
+
+/// 1 for each job that needs more than a runtime.
+fn flags_of(alloc: Global, jobs: &[Job], period: u32, below: u32) -> Result<Vec<u32>, AllocError>
+    requires { below ≤ period }
+    ensures { AllWork jobs.now → IfOk result
+        (λ v. v.items ≡ map (flag below) (needs_after period [] jobs.now)) }
 {
     if below == 0 {
-        let ones = Vec::from_elem(alloc, 1u32, jobs.len())?;
-        return added(alloc, heights, &ones);
+        return each(alloc, jobs, 1);
     }
-    if below > period {
-        return Vec::from_slice(alloc, heights);
-    }
-    let lates = lates_of(alloc, jobs, below, period)?;
-    added(alloc, heights, &lates)
+    lates_of(alloc, jobs, below, period)
 }
 
-fn added(alloc: Global, heights: &[u32], lates: &[u32]) -> Result<Vec<u32>, AllocError> {
+fn sums_of(alloc: Global, heights: &[u32], more: &[u32]) -> Result<Vec<u32>, AllocError>
+    ensures { IfOk result (λ v. v.items ≡ summed heights.now more.now) }
+{
     let mut sums = Vec::new(alloc);
-    for (i, height) in heights.iter().enumerate() {
-        let late = lates.get(i).copied().unwrap_or(0);
-        sums.push(height.saturating_add(late))?;
+    let count = heights.len().min(more.len());
+    for i in 0..count {
+        sums.push(heights[i].saturating_add(more[i]))?;
     }
     Ok(sums)
 }
