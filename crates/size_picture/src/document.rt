@@ -50,7 +50,7 @@ fn drawn(alloc: Global, panels: &[Panel<'_>], count: usize) -> Result<Vec<u8>, A
     }
     let mut y = 60u64;
     for panel in &panels[..count] {
-        put_panel(alloc, &mut out, *panel, y)?;
+        put_panel(alloc, &mut out, panel, y)?;
         y = y.saturating_add(HEIGHT);
     }
     out.extend_from_slice(b"</svg>\n")?;

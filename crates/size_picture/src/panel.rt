@@ -121,8 +121,8 @@ fn line_of(base: u64, top: u32, look: Look, runtime: u32) -> Stroke
 }
 
 /// The lines at what is proposed, at the least, and at 15 percent less.
-fn put_lines(out: &mut Vec<u8>, panel: Panel<'_>, base: u64) -> Result<(), AllocError>
-    ensures { OnOk result (out.new.items ≡ out.old.items ++ lines_text base panel) }
+fn put_lines(out: &mut Vec<u8>, panel: &Panel<'_>, base: u64) -> Result<(), AllocError>
+    ensures { OnOk result (out.new.items ≡ out.old.items ++ lines_text base panel.now) }
 {
     let lines = [
         line_of(base, panel.top, Look::Proposed, panel.proposed),
@@ -146,7 +146,7 @@ fn put_name(out: &mut Vec<u8>, name: &[u8]) -> Result<(), AllocError> {
 }
 
 /// What the panels are of.
-fn put_title(out: &mut Vec<u8>, panel: Panel<'_>, y: u64) -> Result<(), AllocError> {
+fn put_title(out: &mut Vec<u8>, panel: &Panel<'_>, y: u64) -> Result<(), AllocError> {
     put_number(out, b"<text class=\"q\" x=\"130\" y=\"", y)?;
     out.extend_from_slice(b"\">")?;
     put_name(out, panel.comm)?;
@@ -176,7 +176,7 @@ fn put_side(out: &mut Vec<u8>, y: u64, first: &[u8], second: &[u8]) -> Result<()
 }
 
 /// The scales of the upper panel.
-fn needs_scales(alloc: Global, panel: Panel<'_>, base: u64) -> Result<Vec<u8>, AllocError> {
+fn needs_scales(alloc: Global, panel: &Panel<'_>, base: u64) -> Result<Vec<u8>, AllocError> {
     let mut out = Vec::new(alloc);
     put_side(
         &mut out,
@@ -193,10 +193,10 @@ fn needs_scales(alloc: Global, panel: Panel<'_>, base: u64) -> Result<Vec<u8>, A
 fn put_needs(
     alloc: Global,
     out: &mut Vec<u8>,
-    panel: Panel<'_>,
+    panel: &Panel<'_>,
     base: u64,
 ) -> Result<(), AllocError>
-    ensures { OnOk result (DrawsNeeds panel base out.old.items out.new.items) }
+    ensures { OnOk result (DrawsNeeds panel.now base out.old.items out.new.items) }
 {
     let columns = columns_of(alloc, panel.needs, panel.span)?;
     let bars = bars_of(alloc, base, &columns)?;
@@ -208,7 +208,7 @@ fn put_needs(
 }
 
 /// The scales of the lower panel.
-fn curve_scales(alloc: Global, panel: Panel<'_>, base: u64) -> Result<Vec<u8>, AllocError> {
+fn curve_scales(alloc: Global, panel: &Panel<'_>, base: u64) -> Result<Vec<u8>, AllocError> {
     let mut out = Vec::new(alloc);
     put_side(
         &mut out,
@@ -225,7 +225,7 @@ fn curve_scales(alloc: Global, panel: Panel<'_>, base: u64) -> Result<Vec<u8>, A
 fn put_curve(
     alloc: Global,
     out: &mut Vec<u8>,
-    panel: Panel<'_>,
+    panel: &Panel<'_>,
     base: u64,
 ) -> Result<(), AllocError> {
     let columns = columns_of(alloc, panel.sorted, panel.most)?;
@@ -242,7 +242,7 @@ fn put_curve(
 pub(crate) fn put_panel(
     alloc: Global,
     out: &mut Vec<u8>,
-    panel: Panel<'_>,
+    panel: &Panel<'_>,
     y: u64,
 ) -> Result<(), AllocError> {
     put_title(out, panel, y.saturating_add(14))?;

@@ -1,5 +1,7 @@
 //! Scales: the marks of runtimes, of moments and of counts.
 
+ghost use Rattle.std.specs.Prelude.{◌≤◌};
+
 use crate::column::{PANEL, WIDTH};
 use crate::stroke::{Look, Stroke, put_stroke};
 use grub_shapes::{LEFT, put_number, put_text};

@@ -11,16 +11,12 @@ flaw_told LostEvents = codes "52 LostEvents"
 flaw_told TooLong = codes "54 TooLong"
 flaw_told BadTraceLine = codes "55 BadTraceLine"
 
--- what is told of a file
-abbrev pub told_of : List ℕ → List ℕ → List ℕ
-told_of path what = codes "grubtrace: " ++ path ++ codes ": " ++ what ++ codes "\n"
-
 abbrev pub fault_line : SizeFault → List ℕ
-fault_line (Line path line flaw) = codes "grubtrace: " ++ path.now ++ codes ":" ++ decimal line ++ codes ": " ++ flaw_told flaw ++ codes "\n"
-fault_line (NoSuchTask path name) = told_of path.now (codes "49 NoSuchTask " ++ name.now)
-fault_line (NoJobs path name) = told_of path.now (codes "58 NoJobs " ++ name.now)
-fault_line (FileExists path) = told_of path.now (codes "56 FileExists")
+fault_line (Line path line flaw) = codes "grubtrace: " ++ (path.now ++ (codes ":" ++ (decimal line ++ (codes ": " ++ (flaw_told flaw ++ codes "\n")))))
+fault_line (NoSuchTask path name) = codes "grubtrace: " ++ (path.now ++ (codes ": 49 NoSuchTask " ++ (name.now ++ codes "\n")))
+fault_line (NoJobs path name) = codes "grubtrace: " ++ (path.now ++ (codes ": 58 NoJobs " ++ (name.now ++ codes "\n")))
+fault_line (FileExists path) = codes "grubtrace: " ++ (path.now ++ codes ": 56 FileExists\n")
 fault_line Write = codes "grubtrace: 45 WriteFault\n"
-fault_line (Unreadable path) = told_of path.now (codes "46 ReadFault")
+fault_line (Unreadable path) = codes "grubtrace: " ++ (path.now ++ codes ": 46 ReadFault\n")
 fault_line NoMemory = codes "grubtrace: 47 NoMemory\n"
 fault_line NoText = codes "grubtrace: 48 NoMemory\n"

@@ -1,9 +1,9 @@
 -- Heights that grow step by step are those of needs.
-use Rattle.std.proofs.Common.{◌≡◌, ℕ, ◌+◌, ◌-◌, ◌*◌, ◌/◌, ◌<◌, ◌≤◌, min, max, Bool, cond, nat_le, nat_lt, List, [], ◌∷◌, ◌++◌, map, length, get_or, drop, inl, inr, refl, sym, ap, ◌∙◌, append_assoc, arith}
+use Rattle.std.proofs.Common.{◌≡◌, ℕ, ◌+◌, ◌-◌, ◌*◌, ◌/◌, ◌<◌, ◌≤◌, min, max, Bool, cond, nat_le, nat_lt, List, [], ◌∷◌, ◌++◌, map, length, drop, inl, inr, refl, sym, ap, ◌∙◌, arith}
 use Rattle.std.proofs.Math.Nat.{le-div_iff_mul-le}
 use Rattle.std.proofs.lemmas.Nat.{mul-le}
 use Rattle.std.proofs.lemmas.Bool.{le-ltb, lt-ltb, cases_lt}
-use Rattle.std.proofs.lemmas.List.{drop_more, drop_all}
+use Rattle.std.proofs.lemmas.List.{drop_all}
 use Rattle.grub_sizing.specs.Span.{budgets_of}
 use Rattle.grub_sizing.specs.Jobs.{lates_after}
 use Rattle.grub_sizing.specs.declared.job.Job.{Job}
@@ -75,20 +75,6 @@ late-flags p q past (job ∷ jobs) some room before all =
     ∙ ap (λ (m : ℕ). m ∷ lates_after q p (job ∷ past) jobs) (flip-test n q)
     ∙ ap (λ (ms : List ℕ). flag q n ∷ ms) (late-flags p q (job ∷ past) jobs some room (all.0, before) all.1)
 
--- the sums of a loop after one more
-pub sum-next : (hs ms sums sums' whole : List ℕ) (i h m : ℕ) → i < length hs → i < length ms → h ≡ get_or hs i h → m ≡ get_or ms i m
-    → sums ++ summed (drop i hs) (drop i ms) ≡ whole → sums' ≡ sums ++ min (h + m) 4294967295 ∷ []
-    → sums' ++ summed (drop (i + 1) hs) (drop (i + 1) ms) ≡ whole
-sum-next hs ms sums sums' whole i h m in_h in_m is_h is_m told is =
-    let rest = summed (drop (i + 1) hs) (drop (i + 1) ms) in
-    let split_h : drop i hs ≡ h ∷ drop (i + 1) hs = drop_more hs i h in_h ∙ ap (λ (x : ℕ). x ∷ drop (i + 1) hs) (sym is_h) in
-    let split_m : drop i ms ≡ m ∷ drop (i + 1) ms = drop_more ms i m in_m ∙ ap (λ (x : ℕ). x ∷ drop (i + 1) ms) (sym is_m) in
-    let split : summed (drop i hs) (drop i ms) ≡ min (h + m) 4294967295 ∷ rest = rw (split_h, split_m) refl in
-    ap (λ (xs : List ℕ). xs ++ rest) is
-    ∙ append_assoc sums (min (h + m) 4294967295 ∷ []) rest
-    ∙ ap (λ (xs : List ℕ). sums ++ xs) (sym split)
-    ∙ told
-
 summed-none : (hs : List ℕ) → summed hs [] ≡ []
 summed-none [] = refl
 summed-none (h ∷ hs) = refl
@@ -99,10 +85,3 @@ sums-end hs ms i end =
       | inl within ↦ rw (drop_all i ms (omega arith)) (summed-none (drop i hs))
       | inr beyond ↦ rw (drop_all i hs (omega arith)) refl
     ]
-
--- the highest runtime below a step is below the top
-pub below-top : (top v : ℕ) → 1 ≤ top → v < 150 → budgets_of (top * (v + 1)) 150 - 1 < top
-below-top top v some within =
-    let times : top * (v + 1) ≤ top * 150 = mul-le top (v + 1) top 150 (omega arith) (omega arith) in
-    let few : budgets_of (top * (v + 1)) 150 ≤ top = budgets-le (top * (v + 1)) 150 top (omega arith) times in
-    omega arith
