@@ -2,8 +2,7 @@
 
 ghost use Rattle.std.specs.Prelude.{◌≡◌, ◌<◌, ◌⊎◌, IfErr, IfOk, OnOk, length, vec_len};
 ghost use Rattle.std.specs.Io.KnownBytes.{Appends};
-ghost use Rattle.size_report.specs.Faults.{PrintsWhole, status_of};
-ghost use Rattle.size_report.specs.declared.fault.SizeFault.TheVariants as faults;
+ghost use Rattle.size_report.specs.Faults.{IsOfTask, PrintsWhole, status_of};
 
 use crate::admission::{Machine, Proposal, put_proposals};
 use crate::census::{census_text, duration};
@@ -208,8 +207,7 @@ fn asked_task<'r, 'a>(
     name: &'a str,
 ) -> Result<&'r Task, SizeFault<'a>>
     ensures jobs { IfOk result (λ t. 0 < vec_len t.now.jobs) }
-    ensures fault { IfErr result
-        (λ e. (e ≡ faults.NoSuchTask path name) ⊎ (e ≡ faults.NoJobs path name)) }
+    ensures fault { IfErr result (IsOfTask path.now name.now) }
 {
     let Some(task) = task_named(record, name) else {
         return Err(SizeFault::NoSuchTask { path, name });

@@ -1,6 +1,7 @@
 //! A task of a trace.
 
-ghost use Rattle.std.specs.Prelude.{◌≡◌, ◌++◌, OnOk};
+ghost use Rattle.std.specs.Prelude.{◌≡◌, ◌++◌, [], OnOk};
+ghost use Rattle.trace_jobs.specs.declared.watch.Phase.TheVariants as phases;
 ghost use Rattle.trace_jobs.specs.Taking.{jobs_in, jobs_told, phase_told};
 
 use crate::said::Class;

@@ -1,8 +1,7 @@
 //! The tasks of a trace by their pids.
 
-ghost use Rattle.std.specs.Prelude.{◌≡◌, OnOk, nat_eq, option_copied};
+ghost use Rattle.std.specs.Prelude.{◌≡◌, nat_eq, option_copied};
 ghost use Rattle.std.specs.HashMap.{get};
-ghost use Rattle.trace_jobs.specs.Taking.{Takes, Keeps};
 
 use crate::said::Class;
 use crate::task::{Task, Told};
@@ -61,9 +60,7 @@ impl Tasks {
     }
 
     /// Adds a task that no line showed before.
-    fn add(&mut self, pid: u64) -> Result<(), AllocError>
-        ensures { OnOk result (Keeps pid (get nat_eq self.old.by_pid) (get nat_eq self.new.by_pid)) }
-    {
+    fn add(&mut self, pid: u64) -> Result<(), AllocError> {
         if self.by_pid.get(&pid).is_some() {
             return Ok(());
         }
@@ -78,10 +75,7 @@ impl Tasks {
         shown: &Shown<&[u8]>,
         class: Option<Class>,
         told: Told,
-    ) -> Result<(), AllocError>
-        ensures { OnOk result (Takes shown.now.pid told
-            (get nat_eq self.old.by_pid) (get nat_eq self.new.by_pid)) }
-    {
+    ) -> Result<(), AllocError> {
         self.add(shown.pid)?;
         let Some(task) = self.by_pid.get_mut(&shown.pid) else {
             return Ok(());
