@@ -1,4 +1,3 @@
 pub mod Admission
 pub mod Faults
-pub mod Messages
 pub mod Needs

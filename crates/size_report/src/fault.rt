@@ -1,9 +1,7 @@
 //! Why a record was not sized, and the program's status then.
 
-ghost use Rattle.std.specs.Prelude.{◌≡◌, OnOk};
-ghost use Rattle.std.specs.Io.KnownBytes.{Appends};
+ghost use Rattle.std.specs.Prelude.{◌≡◌};
 ghost use Rattle.size_report.specs.Faults.{status_of};
-ghost use Rattle.size_report.specs.Messages.{fault_line, flaw_told};
 
 use std::io;
 use std::io::Write;
@@ -51,9 +49,7 @@ pub enum SizeFault<'a> {
     NoText,
 }
 
-fn flaw_text(flaw: Flaw) -> &'static str
-    ensures { result.now ≡ flaw_told flaw }
-{
+fn flaw_text(flaw: Flaw) -> &'static str {
     match flaw {
         Flaw::WrongClock => "51 WrongClock",
         Flaw::LostEvents => "52 LostEvents",
@@ -80,10 +76,7 @@ impl SizeFault<'_> {
     }
 
     /// Writes the line that tells it.
-    pub fn tell<E: Write>(&self, to: &mut E) -> io::Result<()>
-        ensures { OnOk result
-            (Appends (E.contents to.old) (E.contents to.new) (fault_line self.now)) }
-    {
+    pub fn tell<E: Write>(&self, to: &mut E) -> io::Result<()> {
         match self {
             SizeFault::Line { path, line, flaw } => {
                 let text = flaw_text(*flaw);
