@@ -1,7 +1,8 @@
 //! The tasks of a trace by their pids.
 
-ghost use Rattle.std.specs.Prelude.{◌≡◌, nat_eq, option_copied};
+ghost use Rattle.std.specs.Prelude.{◌≡◌, OnOk, nat_eq};
 ghost use Rattle.std.specs.HashMap.{get};
+ghost use Rattle.trace_jobs.specs.Taking.{Takes, Keeps};
 
 use crate::said::Class;
 use crate::task::{Task, Told};
@@ -38,9 +39,7 @@ impl Tasks {
     }
 
     /// The task of a pid.
-    pub fn task(&self, pid: u64) -> Option<&Task>
-        ensures { option_copied result ≡ get nat_eq self.now.by_pid pid }
-    {
+    pub fn task(&self, pid: u64) -> Option<&Task> {
         self.by_pid.get(&pid)
     }
 
@@ -60,7 +59,10 @@ impl Tasks {
     }
 
     /// Adds a task that no line showed before.
-    fn add(&mut self, pid: u64) -> Result<(), AllocError> {
+    fn add(&mut self, pid: u64) -> Result<(), AllocError>
+        ensures { OnOk result
+            (Keeps pid (get nat_eq self.old.by_pid) (get nat_eq self.new.by_pid)) }
+    {
         if self.by_pid.get(&pid).is_some() {
             return Ok(());
         }
@@ -75,7 +77,10 @@ impl Tasks {
         shown: &Shown<&[u8]>,
         class: Option<Class>,
         told: Told,
-    ) -> Result<(), AllocError> {
+    ) -> Result<(), AllocError>
+        ensures { OnOk result (Takes shown.now.pid told
+            (get nat_eq self.old.by_pid) (get nat_eq self.new.by_pid)) }
+    {
         self.add(shown.pid)?;
         let Some(task) = self.by_pid.get_mut(&shown.pid) else {
             return Ok(());
