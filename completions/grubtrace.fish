@@ -28,3 +28,4 @@ complete -c grubtrace -n '__fish_seen_subcommand_from size' -l task -x -d 'A tas
 complete -c grubtrace -n '__fish_seen_subcommand_from size' -l within -x -d 'In how many microseconds a job is to be done'
 complete -c grubtrace -n '__fish_seen_subcommand_from size' -l late -x -d 'How many jobs may be late'
 complete -c grubtrace -n '__fish_seen_subcommand_from size' -l margin -x -d 'How much more than the least is proposed'
+complete -c grubtrace -n '__fish_seen_subcommand_from size' -l picture -r -d 'Draws what each job needs'

@@ -5,11 +5,12 @@ on, release + ceil(work / Q) * (P - Q) + work is after its due moment. The last 
     scripts/sizing.py PROGRAM [COUNT [SEED]]             small records made at random: for each, how many jobs are late with each Q
     scripts/sizing.py PROGRAM --trace TRACE NAME PERIOD  some counts of late jobs of a task of a recorded trace
     scripts/sizing.py PROGRAM --told FOLDER              each number that was told of the records of a folder by other means
+    scripts/sizing.py PROGRAM --drawn PICTURE TRACE NAME PERIOD LATE    what the picture of a task shows is what its jobs need
     scripts/sizing.py PROGRAM --page PAGE                what a page shows behind each line '$ grubtrace ..' is what is printed
 
 In that folder NAME.told has what a program in Python printed of the trace NAME.txt.xz, and its first line the words of NAME's task.
 """
-import lzma, os, random, re, subprocess, sys, tempfile
+import lzma, os, random, re, subprocess, sys, tempfile, xml.dom.minidom
 
 def late(jobs, runtime, period):
     count = 0
@@ -30,6 +31,51 @@ def searched(jobs, period, allowed):
         if late(jobs, middle, period) > allowed: low = middle
         else: high = middle
     return high
+
+def needs(jobs, period):
+    """For each job the least runtime with which it is not late; one more than the period where none is."""
+    all_needs = []
+    for i, (_, _, due) in enumerate(jobs):
+        low, high = 0, period + 1
+        while high - low > 1:
+            middle, work, is_late = (low + high) // 2, 0, False
+            for release, ran, _ in reversed(jobs[:i + 1]):
+                work += ran
+                is_late = is_late or release - (-work // middle) * (period - middle) + work > due
+            low, high = (middle, high) if is_late else (low, middle)
+        all_needs.append(high)
+    return all_needs
+
+def drawn(picture, trace, name, period, allowed):
+    """The bars, the lines and the curve of a picture against needs that are searched for, job by job."""
+    text, passed, failed = open(picture).read(), 0, 0
+    def same(what, wanted, got):
+        nonlocal passed, failed
+        if wanted == got: passed += 1
+        else:
+            failed += 1
+            print(f'sizing: {what} of {picture}: {got}, wanted {wanted}')
+    xml.dom.minidom.parseString(text)
+    jobs = [(release, ran, release + period) for release, ran in jobs_of(trace, name)]
+    needed = needs(jobs, period)
+    least = sorted(needed, reverse=True)[allowed]
+    proposed, less = min(period, max(2, -(-least * 110 // 100))), -(-least * 85 // 100)
+    top = max(max(needed), proposed)
+    same('the title', (str(proposed), str(least)), re.search(r'runtime (\d+) \(the least (\d+)\)', text).groups())
+    moments = [int(it.replace('.', '')) for it in re.findall(r' (\d+\.\d{6}): sched_', open(trace).read())]
+    columns = {}
+    for (release, _, _), need in zip(jobs, needed):
+        x = 130 + (release - moments[0]) * 1024 // (moments[-1] - moments[0])
+        shade, before = 'd' if need > least else 'l' if need > less else 'b', columns.get(x, (0, 'b'))
+        columns[x] = (max(before[0], need * 150 // top), max(before[1], shade, key='bld'.index))
+    bars = re.findall(r'<path class="([bld])" d="M(\d+) 240H\2V(\d+)"/>', text)
+    same('the bars', [(x, *columns[x]) for x in sorted(columns)], [(int(x), 240 - int(y), shade) for shade, x, y in bars])
+    lines = re.findall(r'<path class="([pms])" d="M130 (\d+)H1154V\2"/>', text)
+    same('the lines', [(shade, str(base - runtime * 150 // top)) for base in (240, 436) for shade, runtime in (('p', proposed), ('m', least), ('s', less))], lines)
+    curve = re.findall(r'<path class="c" d="M(\d+) (\d+)H', text)
+    most = max(10, len(needed) // 10)
+    same('the curve', [(str(130 + k * 1024 // most), str(436 - need * 150 // top)) for k, need in enumerate(sorted(needed, reverse=True)[:most])], curve)
+    return passed, failed
 
 def page(program, path):
     """The blocks of a page that begin with a command: `..` in place of a line stands for any lines."""
@@ -75,7 +121,6 @@ def least_told(text):
     """The runtime that is called the least, None where none is enough, or the text."""
     if 'no runtime is enough' in text: return None
     found = [it for it in table_of(text) if 'the least' in it[4]]
-    if not found: found = [it for it in table_of(text) if 'proposed' in it[4]]
     return found[0][0] if found else text
 
 def record_of(rng):
@@ -97,9 +142,10 @@ def small(program, count, seed):
         for start in range(0, count, BATCH):
             records = {1000 + i: record_of(rng) for i in range(min(BATCH, count - start))}
             write_trace(trace, [(pid, jobs) for pid, (_, _, jobs) in records.items()], rng)
-            words = ['--margin', '10']
+            words, given = ['--margin', str(rng.choice([0, 0, 10]))], {}
             for pid, (period, within, _) in records.items():
-                words += ['--task', f'{pid}={period}'] + (['--within', f'{pid}={within}'] if within != period else [])
+                given[pid] = rng.randint(2, period)
+                words += ['--task', f'{pid}={given[pid]}:{period}'] + (['--within', f'{pid}={within}'] if within != period else [])
             told = [sections(program, trace, words + ['--late', str(k)]) for k in range(max(len(it[2]) for it in records.values()))]
             for pid, (period, within, jobs) in records.items():
                 full = [(r, w, r + within) for r, w in jobs]
@@ -110,6 +156,7 @@ def small(program, count, seed):
                 if not wrong and [sum(it is None or it > q for it in least) for q in range(1, period + 1)] != wanted: wrong.append(f'the least {least}')
                 rows = [it for text in texts for it in table_of(text)]
                 wrong += [f'row {it}' for it in rows if it[2] != wanted[it[0] - 1]]
+                if rows and not any(it[0] == given[pid] and 'given' in it[4] for it in rows): wrong.append('no given runtime')
                 tried += period
                 if not wrong: passed += 1
                 else:
@@ -254,6 +301,7 @@ def told(program, folder):
 if __name__ == '__main__':
     program, words = os.path.abspath(sys.argv[1]), sys.argv[2:]
     if words[:1] == ['--trace']: passed, failed = recorded(program, words[1], words[2], int(words[3]))
+    elif words[:1] == ['--drawn']: passed, failed = drawn(*words[1:4], int(words[4]), int(words[5]))
     elif words[:1] == ['--page']: passed, failed = page(program, words[1])
     elif words[:1] == ['--told']: passed, failed = told(program, words[1])
     else: passed, failed = small(program, int(words[0]) if words else 100, int(words[1]) if len(words) > 1 else 1)

@@ -56,6 +56,9 @@ run 'one late' 0 '' --task ld_req=30000 --late 1 trace
 has 'one late' '9751  32.50     1    0.63  '
 run 'no margin' 0 '' --task ld_req=30000 --margin 0 trace
 has 'no margin' 'chrt -d -T 11153000 -D 30000000'
+has 'no margin' 'proposed, the least: with 11152 job 130, line 684, may be 18849 us late'
+run 'the least given' 0 '' --task ld_req=11153:30000 trace
+has 'the least given' 'given, the least: with 11152 job 130, line 684, may be 18849 us late'
 run 'a margin of 1000' 0 '' --task ld_req=30000 --margin 1000 trace
 has 'a margin stops at the period' 'chrt -d -T 30000000 -D 30000000'
 run 'processors' 0 '' --task ld_req=30000 --cpus 1 trace
@@ -121,6 +124,32 @@ has 'sched_waking beside sched_wakeup' 'left out 1 as its thread began, 1 at its
 { cat jobs; sed 's/t pid=7/t pid=8/g; s/prev_pid=7/prev_pid=8/g' jobs; } > two
 run 'two threads of one comm' 0 '' two
 [[ $(grep -c '^t ' out) == 2 ]] && passed=$((passed + 1)) || fail "two threads of one comm: $(cat out)"
+
+# A record without a line of sched_stat_runtime is told as such, of all tasks and of one.
+grep -v sched_stat_runtime jobs > without
+run 'no runs' 0 '' without
+has 'no runs' 'no line of sched_stat_runtime tells how long a task ran'
+run 'no runs of a task' 0 '' --task t=1000 without
+has 'no runs of a task' 'no line of sched_stat_runtime tells how long it ran'
+run 'runs' 0 '' --task t=1000 jobs
+hasnt 'runs' 'no line of sched_stat_runtime'
+
+# The picture: its bytes, what it shows, and that no file is written over.
+run 'a picture' 0 '' --task ld_req=30000 --picture drawn.svg trace
+if cmp -s drawn.svg "$root/examples/sizing/requests.svg"; then passed=$((passed + 1)); else fail 'the picture is not examples/sizing/requests.svg'; fi
+run 'a picture with late jobs' 0 '' --task ld_req=30000 --late 2 --picture late.svg trace
+for drawn in drawn.svg:0 late.svg:2; do
+    python3 "$root/scripts/sizing.py" "$program" --drawn "${drawn%:*}" trace ld_req 30000 "${drawn#*:}" > said
+    tail -n 1 said | grep -q ' 0 failed' && passed=$((passed + 1)) || fail "$(cat said)"
+done
+cp drawn.svg before
+run 'a picture that is there' 1 'grubtrace: drawn.svg: 56 FileExists' --task ld_req=30000 --picture drawn.svg trace
+if cmp -s drawn.svg before; then passed=$((passed + 1)); else fail 'a picture was written over'; fi
+run 'a picture without a task' 2 'some text' --picture none.svg trace
+run 'a picture in no folder' 3 'grubtrace: 45 WriteFault' --task ld_req=30000 --picture nowhere/none.svg trace
+sed 's/ld_req/a<\&b/g' trace > named
+run 'a name with a bracket' 0 '' --task 'a<&b=30000' --picture named.svg named
+if python3 -c 'import xml.dom.minidom; xml.dom.minidom.parse("named.svg")' 2> /dev/null && grep -qF '>a&lt;&amp;b: runtime ' named.svg; then passed=$((passed + 1)); else fail 'a name with a bracket is no XML'; fi
 
 # The numbers that were told of three records by other means.
 python3 "$root/scripts/sizing.py" "$program" --told "$root/examples/sizing" > said

@@ -93,6 +93,16 @@ fn margin_arg<'a>(alloc: Global) -> Arg<'a> {
         .default_value("10")
 }
 
+fn picture_arg<'a>(alloc: Global) -> Arg<'a> {
+    Arg::new(alloc, "picture")
+        .long("picture")
+        .value_name("FILE")
+        .help(
+            "Draws what each job of the tasks needs, as an SVG document; a file that is there is not written over",
+        )
+        .action(ArgAction::Set)
+}
+
 fn tasks_command<'a>(alloc: Global) -> Result<Command<'a>, AllocError> {
     Command::new(alloc, "tasks")
         .about("Prints the SCHED_DEADLINE tasks that a trace shows")
@@ -129,6 +139,7 @@ fn size_command<'a>(alloc: Global) -> Result<Command<'a>, AllocError> {
         .arg(cpus_arg(alloc))?
         .arg(rt_arg(alloc))?
         .arg(fair_arg(alloc))?
+        .arg(picture_arg(alloc))?
         .arg(trace_arg(alloc))
 }
 

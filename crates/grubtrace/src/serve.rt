@@ -60,8 +60,8 @@ pub(crate) fn serve<
     match matches_of(alloc, words) {
         Ok(matches) => match matches.subcommand() {
             Some(("events", matches)) => events(alloc, matches, input, target, faults),
-            Some(("check", matches)) => check(alloc, matches, input, target, remove, out, faults),
-            Some(("size", matches)) => size(alloc, matches, input, out, faults),
+            Some(("check", matches)) => check(alloc, matches, input, target, out, faults),
+            Some(("size", matches)) => size(alloc, matches, input, target, out, faults),
             Some((_, matches)) => {
                 let path = matches.get_str("TRACE").unwrap_or("");
                 serve_tasks(alloc, input, path, out, faults)
@@ -226,11 +226,22 @@ fn size<
     D: Drop,
     O: Fn(&str) -> io::Result<D>,
     N: Fn(&mut D, &mut [u8]) -> io::Result<usize>,
+    X: Fn(&str) -> bool,
+    M: Fn(&str, &[u8]) -> io::Result<()>,
     W: Write,
     E: Write,
->(alloc: Global, matches: &ArgMatches<'_>, input: &Input<O, N>, out: &mut W, faults: &mut E) -> u8
+>(
+    alloc: Global,
+    matches: &ArgMatches<'_>,
+    input: &Input<O, N>,
+    target: &Target<X, M>,
+    out: &mut W,
+    faults: &mut E,
+) -> u8
     requires open { O.IsAlwaysCallable input.now.open }
     requires read { N.IsAlwaysCallable input.now.read }
+    requires exists { X.IsAlwaysCallable target.now.exists }
+    requires make { M.IsAlwaysCallable target.now.make }
     ensures status { result ≤ 4 }
     ensures nothing { (result ≡ 1) ⊎ (result ≡ 2) → out.new ≡ out.old }
 {
@@ -245,9 +256,20 @@ fn size<
         cpus: matches.get_one::<u32>("cpus"),
         rt: matches.get_str("rt").unwrap_or(""),
         fair: matches.get_str("fair-server").unwrap_or(""),
+        picture: matches.get_str("picture"),
     };
     match size_options_of(alloc, words) {
-        Ok(options) => serve_size(alloc, &input.open, &input.read, path, &options, out, faults),
+        Ok(options) => serve_size(
+            alloc,
+            &input.open,
+            &input.read,
+            &target.exists,
+            &target.make,
+            path,
+            &options,
+            out,
+            faults,
+        ),
         Err(fault) => no_sizing(fault, faults),
     }
 }
@@ -270,6 +292,10 @@ fn no_sizing<E: Write>(fault: OptionFault<'_>, faults: &mut E) -> u8
         OptionFault::Fair(word) => writeln!(
             faults,
             "error: --fair-server {word} is no RUNTIME:PERIOD, nor none"
+        ),
+        OptionFault::Picture(path) => writeln!(
+            faults,
+            "error: --picture {path} wants a --task, of which it is drawn"
         ),
         OptionFault::NoMemory => return no_memory(faults),
     };

@@ -53,6 +53,7 @@ the kernel admits the sum.
 
     grubtrace size trace.txt
     grubtrace size --task dsp=5333 --task logger=4000:100000 trace.txt
+    grubtrace size --task dsp=5333 --picture dsp.svg trace.txt
 
 Record with real-time priority, as by chrt -f 50 PROGRAM: a task that is late hides its
 next wakes.";

@@ -1,5 +1,6 @@
 -- The program's status where a record is not sized.
-use Rattle.std.specs.Prelude.{ℕ}
+use Rattle.std.specs.Prelude.{◌≡◌, ℕ, List, Option}
+use Rattle.std.specs.Io.KnownBytes.{Appends}
 use Rattle.size_report.specs.declared.fault.SizeFault.{SizeFault}
 use Rattle.size_report.specs.declared.fault.SizeFault.TheVariants.{Line, NoSuchTask, NoJobs, FileExists, Write, Unreadable, NoMemory, NoText}
 
@@ -13,3 +14,13 @@ status_of Write = 3
 status_of (Unreadable path) = 3
 status_of NoMemory = 3
 status_of NoText = 3
+
+-- a text was printed whole, and nothing else
+abbrev pub PrintsWhole : Option (List ℕ) → Option (List ℕ) → Type 0
+PrintsWhole old new = (text : List ℕ) × Appends old new text
+
+-- that the task of this name is not in the trace of this path, or has no job
+abbrev pub IsOfTask : List ℕ → List ℕ → SizeFault → Type 0
+IsOfTask path name (NoSuchTask p n) = (p.now ≡ path) × (n.now ≡ name)
+IsOfTask path name (NoJobs p n) = (p.now ≡ path) × (n.now ≡ name)
+IsOfTask path name fault = ⊥

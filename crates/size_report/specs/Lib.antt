@@ -1,1 +1,3 @@
+pub mod Admission
 pub mod Faults
+pub mod Needs

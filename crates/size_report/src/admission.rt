@@ -1,6 +1,7 @@
 //! Whether a kernel admits reservations, and whether they are kept on several processors together.
 
-ghost use Rattle.std.specs.Prelude.{◌≡◌, ◌≤◌, ◌*◌, ◌/◌, ◌^◌};
+ghost use Rattle.std.specs.Prelude.{◌≡◌, ◌≤◌, ◌↔◌, ◌*◌, ◌/◌, ◌^◌, IsTrue};
+ghost use Rattle.size_report.specs.Admission.{IsAdmitted, KeepsDeadlines};
 
 use crate::table::{
     Row, heading, hundredths_cell, number_cell, put_hundredths, put_number, put_table, put_text,
@@ -56,17 +57,21 @@ fn greatest(bandwidths: &[u64]) -> u64 {
 }
 
 /// Whether a root domain admits this sum (the kernel's `sched-deadline.rst`, "Admission of SCHED_DEADLINE tasks").
-pub(crate) fn is_admitted(sum: u64, machine: Machine) -> bool {
-    let room = machine.most.saturating_sub(machine.fair);
-    sum <= u64::from(room).saturating_mul(u64::from(machine.processors))
+pub(crate) fn is_admitted(sum: u64, machine: Machine) -> bool
+    ensures { IsTrue result ↔ IsAdmitted sum machine }
+{
+    let room = u128::from(machine.most.saturating_sub(machine.fair));
+    u128::from(sum) <= room * u128::from(machine.processors)
 }
 
 /// Whether global EDF keeps all deadlines of reservations of this sum, of which this is the greatest (Goossens, Funk and Baruah 2003).
-pub(crate) fn is_in_time(sum: u64, greatest: u64, machine: Machine) -> bool {
-    let processors = u64::from(machine.processors);
-    let fair = u64::from(machine.fair).saturating_mul(processors);
-    let others = processors.saturating_sub(1).saturating_mul(greatest);
-    sum.saturating_add(fair).saturating_add(others) <= processors * UNIT
+pub(crate) fn is_in_time(sum: u64, greatest: u64, machine: Machine) -> bool
+    ensures { IsTrue result ↔ KeepsDeadlines sum greatest machine }
+{
+    let processors = u128::from(machine.processors);
+    let fair = u128::from(machine.fair) * processors;
+    let others = processors.saturating_sub(1) * u128::from(greatest);
+    u128::from(sum) + fair + others <= processors * 1048576
 }
 
 fn bandwidths_of(alloc: Global, proposals: &[Proposal]) -> Result<Vec<u64>, AllocError> {

@@ -1,7 +1,7 @@
 //! The tasks of a record.
 
 use crate::figures::{Figures, at, most, regular_period, share, total};
-use crate::table::{Row, heading, hundredths_cell, number_cell, put_table, text_cell};
+use crate::table::{Row, heading, hundredths_cell, number_cell, put_table, put_text, text_cell};
 use std::alloc::{AllocError, Global};
 use trace_jobs::{Class, Record, Task};
 
@@ -69,8 +69,14 @@ pub(crate) fn census_text(alloc: Global, record: &Record) -> Result<Vec<u8>, All
     }
     let mut out = Vec::new(alloc);
     put_table(&mut out, &rows, &[0, 2, 12], 0)?;
+    if !record.has_runs {
+        put_text(&mut out, NO_RUNS)?;
+    }
     Ok(out)
 }
+
+const NO_RUNS: &str =
+    "no line of sched_stat_runtime tells how long a task ran, so each job counts as 1 us: record that event too, as scripts/record.sh --all does\n";
 
 const HEADING: [&str; 13] = [
     "task",

@@ -6,6 +6,7 @@ mod census;
 mod fault;
 mod figures;
 mod options;
+mod picture;
 mod price;
 mod serving;
 mod sizing;

@@ -42,6 +42,9 @@ pub struct SizeOptions<'a> {
 
     /// What its fair server has of that, in 1/2^20.
     pub fair: u32,
+
+    /// Where the picture is written.
+    pub picture: Option<&'a str>,
 }
 
 /// The words of the options, as they were given.
@@ -54,6 +57,7 @@ pub struct Words<'w, 'a> {
     pub cpus: Option<u32>,
     pub rt: &'a str,
     pub fair: &'a str,
+    pub picture: Option<&'a str>,
 }
 
 /// Why the words of an option say nothing.
@@ -71,6 +75,9 @@ pub enum OptionFault<'a> {
     /// It is no RUNTIME:PERIOD.
     Rt(&'a str),
     Fair(&'a str),
+
+    /// A picture is asked for, and no task.
+    Picture(&'a str),
     NoMemory,
 }
 
@@ -210,6 +217,11 @@ pub fn size_options_of<'a>(
     let Some(fair) = fair_of(words.fair) else {
         return Err(OptionFault::Fair(words.fair));
     };
+    if tasks.is_empty()
+        && let Some(path) = words.picture
+    {
+        return Err(OptionFault::Picture(path));
+    }
     Ok(SizeOptions {
         tasks,
         late: words.late as usize,
@@ -217,5 +229,6 @@ pub fn size_options_of<'a>(
         cpus: words.cpus,
         most,
         fair,
+        picture: words.picture,
     })
 }

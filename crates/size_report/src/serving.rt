@@ -1,18 +1,20 @@
 //! What the program does with a record: it lists its tasks, or sizes some of them.
 
-ghost use Rattle.std.specs.Prelude.{◌≡◌, ◌<◌, ◌⊎◌, IfErr, length};
-ghost use Rattle.size_report.specs.Faults.{status_of};
+ghost use Rattle.std.specs.Prelude.{◌≡◌, ◌<◌, ◌⊎◌, IfErr, IfOk, OnOk, length, vec_len};
+ghost use Rattle.std.specs.Io.KnownBytes.{Appends};
+ghost use Rattle.size_report.specs.Faults.{IsOfTask, PrintsWhole, status_of};
 
 use crate::admission::{Machine, Proposal, put_proposals};
 use crate::census::{census_text, duration};
 use crate::fault::SizeFault;
 use crate::figures::{Figures, regular_period};
 use crate::options::{Asked, SizeOptions};
+use crate::picture::{Drawn, drawn_of, picture_of};
 use crate::price::put_prices;
 use crate::sizing::{PERIOD_LEAST, PERIOD_MOST, Wanted, jobs_of, needed_of};
 use crate::task_text::{
-    put_chance, put_choices, put_command, put_figures, put_head, put_none, put_not_regular,
-    put_others, put_question,
+    put_chance, put_choices, put_command, put_figures, put_head, put_no_runs, put_none,
+    put_not_regular, put_others, put_question,
 };
 use grub_files::read_once;
 use grub_sizing::{Job, first_late};
@@ -29,6 +31,9 @@ const PIECE_BYTES: usize = 65536;
 struct Sheet {
     text: Vec<u8>,
     proposals: Vec<Proposal>,
+
+    /// What is drawn of them, where a picture is asked for.
+    drawn: Vec<Drawn>,
 }
 
 /// One piece of an opened trace: whether there may be more.
@@ -115,12 +120,21 @@ fn period_of(asked: &Asked<'_>, figures: &Figures) -> Option<u32> {
     }
 }
 
+/// Where the jobs of a task stand in a record, and in how long after its wake each is to be done.
+#[derive(Clone, Copy)]
+struct Span {
+    first: u64,
+    within: u32,
+    is_drawn: bool,
+}
+
 /// Writes what a task needs in a period.
 fn put_needed(
     sheet: &mut Sheet,
     task: &Task,
     jobs: &[Job],
     wanted: Wanted,
+    span: Span,
 ) -> Result<(), AllocError> {
     let alloc = *sheet.text.allocator();
     let period = wanted.period;
@@ -131,17 +145,14 @@ fn put_needed(
         let late = first_late(alloc, jobs, period, period)?;
         return put_none(&mut sheet.text, &task.jobs, late);
     };
-    put_choices(
-        &mut sheet.text,
-        &needed,
-        &task.jobs,
-        jobs,
-        period,
-        wanted.margin,
-    )?;
+    put_choices(&mut sheet.text, &needed, &task.jobs, jobs, wanted)?;
     put_others(&mut sheet.text, &needed.others)?;
     put_chance(&mut sheet.text, task.jobs.len())?;
     put_command(&mut sheet.text, needed.proposed, period, task.pid)?;
+    if span.is_drawn {
+        let drawn = drawn_of(alloc, task, span.first, jobs, wanted, span.within, &needed)?;
+        sheet.drawn.push(drawn)?;
+    }
     sheet.proposals.push(Proposal {
         comm: Vec::from_slice(alloc, &task.comm)?,
         runtime: needed.proposed,
@@ -165,6 +176,9 @@ fn put_asked(
     }
     put_head(&mut sheet.text, task, duration(record))?;
     put_figures(&mut sheet.text, &figures)?;
+    if !task.has_runs {
+        put_no_runs(&mut sheet.text)?;
+    }
     let Some(period) = period_of(asked, &figures) else {
         put_not_regular(&mut sheet.text)?;
         return put_prices(&mut sheet.text, &task.jobs, &figures, asked.within);
@@ -178,7 +192,30 @@ fn put_asked(
         margin: options.margin,
         given: asked.runtime,
     };
-    put_needed(sheet, task, &jobs, wanted)
+    let span = Span {
+        first: record.first / 1000,
+        within,
+        is_drawn: options.picture.is_some(),
+    };
+    put_needed(sheet, task, &jobs, wanted, span)
+}
+
+/// The task of a name, which has a job.
+fn asked_task<'r, 'a>(
+    record: &'r Record,
+    path: &'a str,
+    name: &'a str,
+) -> Result<&'r Task, SizeFault<'a>>
+    ensures jobs { IfOk result (λ t. 0 < vec_len t.now.jobs) }
+    ensures fault { IfErr result (IsOfTask path.now name.now) }
+{
+    let Some(task) = task_named(record, name) else {
+        return Err(SizeFault::NoSuchTask { path, name });
+    };
+    if task.jobs.is_empty() {
+        return Err(SizeFault::NoJobs { path, name });
+    }
+    Ok(task)
 }
 
 /// What is printed of the tasks that are asked for.
@@ -189,28 +226,17 @@ fn sheet_of<'a>(
     options: &SizeOptions<'a>,
 ) -> Result<Sheet, SizeFault<'a>> {
     for asked in &options.tasks {
-        if task_named(record, asked.name).is_none() {
-            return Err(SizeFault::NoSuchTask {
-                path,
-                name: asked.name,
-            });
-        }
+        let _ = asked_task(record, path, asked.name)?;
     }
     let mut sheet = Sheet {
         text: Vec::new(alloc),
         proposals: Vec::new(alloc),
+        drawn: Vec::new(alloc),
     };
     for asked in &options.tasks {
-        if let Some(task) = task_named(record, asked.name) {
-            if task.jobs.is_empty() {
-                return Err(SizeFault::NoJobs {
-                    path,
-                    name: asked.name,
-                });
-            }
-            if put_asked(&mut sheet, record, task, asked, options).is_err() {
-                return Err(SizeFault::NoText);
-            }
+        let task = asked_task(record, path, asked.name)?;
+        if put_asked(&mut sheet, record, task, asked, options).is_err() {
+            return Err(SizeFault::NoText);
         }
     }
     Ok(sheet)
@@ -225,7 +251,8 @@ fn machine_of(record: &Record, options: &SizeOptions<'_>) -> Machine {
 }
 
 fn print<'a, W: Write>(out: &mut W, text: &[u8]) -> Result<(), SizeFault<'a>>
-    ensures { IfErr result (λ e. status_of e ≡ 3) }
+    ensures fault { IfErr result (λ e. status_of e ≡ 3) }
+    ensures whole { OnOk result (Appends (W.contents out.old) (W.contents out.new) text.now) }
 {
     if out.write_all(text).is_err() || out.flush().is_err() {
         return Err(SizeFault::Write);
@@ -233,25 +260,74 @@ fn print<'a, W: Write>(out: &mut W, text: &[u8]) -> Result<(), SizeFault<'a>>
     Ok(())
 }
 
-fn sized_text<'a>(
+/// What is printed, and the picture where one is asked for.
+#[derive(Drop)]
+struct Answer {
+    text: Vec<u8>,
+    picture: Option<Vec<u8>>,
+}
+
+fn answer_of<'a>(
     alloc: Global,
     record: &Record,
     path: &'a str,
     options: &SizeOptions<'a>,
-) -> Result<Vec<u8>, SizeFault<'a>> {
-    let mut sheet = sheet_of(alloc, record, path, options)?;
-    if !sheet.proposals.is_empty()
-        && put_proposals(
-            &mut sheet.text,
-            &sheet.proposals,
-            machine_of(record, options),
-        )
-        .is_err()
-    {
-        return Err(SizeFault::NoText);
+) -> Result<Answer, SizeFault<'a>> {
+    if options.tasks.is_empty() {
+        let Ok(text) = census_text(alloc, record) else {
+            return Err(SizeFault::NoText);
+        };
+        return Ok(Answer {
+            text,
+            picture: None,
+        });
     }
-    let Sheet { text, .. } = sheet;
-    Ok(text)
+    let sheet = sheet_of(alloc, record, path, options)?;
+    let Ok(answer) = answer_in(sheet, record, options) else {
+        return Err(SizeFault::NoText);
+    };
+    Ok(answer)
+}
+
+/// What a sheet comes to: all proposals together stand below it.
+fn answer_in(
+    sheet: Sheet,
+    record: &Record,
+    options: &SizeOptions<'_>,
+) -> Result<Answer, AllocError> {
+    let Sheet {
+        mut text,
+        proposals,
+        drawn,
+    } = sheet;
+    let alloc = *text.allocator();
+    if !proposals.is_empty() {
+        put_proposals(&mut text, &proposals, machine_of(record, options))?;
+    }
+    let picture = if options.picture.is_some() {
+        Some(picture_of(alloc, &drawn, duration(record))?)
+    } else {
+        None
+    };
+    Ok(Answer { text, picture })
+}
+
+/// Writes the picture, where one is asked for.
+fn write_picture<'a, M: Fn(&str, &[u8]) -> io::Result<()>>(
+    make: &M,
+    path: Option<&'a str>,
+    picture: &Option<Vec<u8>>,
+) -> Result<(), SizeFault<'a>>
+    requires make { M.IsAlwaysCallable make.now }
+    ensures { IfErr result (λ e. status_of e ≡ 3) }
+{
+    if let Some(path) = path
+        && let Some(text) = picture
+        && make(path, text.as_slice()).is_err()
+    {
+        return Err(SizeFault::Write);
+    }
+    Ok(())
 }
 
 fn size<
@@ -259,41 +335,53 @@ fn size<
     D: Drop,
     O: Fn(&str) -> io::Result<D>,
     N: Fn(&mut D, &mut [u8]) -> io::Result<usize>,
+    X: Fn(&str) -> bool,
+    M: Fn(&str, &[u8]) -> io::Result<()>,
     W: Write,
 >(
     alloc: Global,
     opener: &O,
     read: &N,
+    exists: &X,
+    make: &M,
     path: &'a str,
     options: &SizeOptions<'a>,
     out: &mut W,
 ) -> Result<(), SizeFault<'a>>
     requires opens { O.IsAlwaysCallable opener.now }
     requires read { N.IsAlwaysCallable read.now }
-    ensures { IfErr result (λ e. status_of e ≡ 1 → out.new ≡ out.old) }
+    requires exists { X.IsAlwaysCallable exists.now }
+    requires make { M.IsAlwaysCallable make.now }
+    ensures fault { IfErr result (λ e. status_of e ≡ 1 → out.new ≡ out.old) }
+    ensures whole { OnOk result (PrintsWhole (W.contents out.old) (W.contents out.new)) }
 {
-    let record = read_record(alloc, opener, read, path)?;
-    if options.tasks.is_empty() {
-        let Ok(text) = census_text(alloc, &record) else {
-            return Err(SizeFault::NoText);
-        };
-        return print(out, &text);
+    if let Some(picture) = options.picture
+        && exists(picture)
+    {
+        return Err(SizeFault::FileExists { path: picture });
     }
-    let text = sized_text(alloc, &record, path, options)?;
-    print(out, &text)
+    let record = read_record(alloc, opener, read, path)?;
+    let answer = answer_of(alloc, &record, path, options)?;
+    write_picture(make, options.picture, &answer.picture)?;
+    print(out, &answer.text)
 }
 
-/// Lists the tasks of the trace of a name, or sizes those that are asked for, or tells a fault, and gives the status.
+/// Lists the tasks of the trace of a name, or sizes those that are asked for, or tells a fault, and gives the status. Where a picture
+/// is asked for, its file is made before anything is printed; a file that is there is not written over.
 pub fn serve_size<
     D: Drop,
     O: Fn(&str) -> io::Result<D>,
     N: Fn(&mut D, &mut [u8]) -> io::Result<usize>,
+    X: Fn(&str) -> bool,
+    M: Fn(&str, &[u8]) -> io::Result<()>,
     W: Write,
     E: Write,
 >(
     alloc: Global,
     opener: &O,
     read: &N,
+    exists: &X,
+    make: &M,
     path: &str,
     options: &SizeOptions<'_>,
     out: &mut W,
@@ -301,11 +389,15 @@ pub fn serve_size<
 ) -> u8
     requires opens { O.IsAlwaysCallable opener.now }
     requires read { N.IsAlwaysCallable read.now }
+    requires exists { X.IsAlwaysCallable exists.now }
+    requires make { M.IsAlwaysCallable make.now }
     ensures status { (result ≡ 0) ⊎ (result ≡ 1) ⊎ (result ≡ 3) }
     // Where the trace is at fault nothing was printed.
     ensures nothing { result ≡ 1 → out.new ≡ out.old }
+    // With status 0 the whole answer was printed, and nothing else.
+    ensures whole { result ≡ 0 → PrintsWhole (W.contents out.old) (W.contents out.new) }
 {
-    match size(alloc, opener, read, path, options, out) {
+    match size(alloc, opener, read, exists, make, path, options, out) {
         Ok(()) => 0,
         Err(fault) => {
             let _ = fault.tell(faults);

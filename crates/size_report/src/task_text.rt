@@ -2,7 +2,7 @@
 
 use crate::admission::{bandwidth, hundredths};
 use crate::figures::{Figures, at, share};
-use crate::sizing::{Choice, Needed, Why};
+use crate::sizing::{Needed, Wanted};
 use crate::table::{
     Row, heading, hundredths_cell, number_cell, put_hundredths, put_number, put_table, put_text,
     text_cell,
@@ -163,36 +163,83 @@ fn put_witness(
     Ok(())
 }
 
+/// Puts a reason, behind those before it.
+fn put_reason(out: &mut Vec<u8>, text: &str) -> Result<(), AllocError> {
+    if !out.is_empty() {
+        put_text(out, ", ")?;
+    }
+    put_text(out, text)
+}
+
+fn put_proposed(
+    out: &mut Vec<u8>,
+    wanted: Wanted,
+    needed: &Needed,
+    runtime: u32,
+) -> Result<(), AllocError> {
+    if runtime != needed.proposed {
+        return Ok(());
+    }
+    put_reason(out, "proposed")?;
+    if wanted.margin > 0 {
+        put_text(out, ": ")?;
+        put_number(out, u64::from(wanted.margin))?;
+        put_text(out, " % more")?;
+    }
+    Ok(())
+}
+
+fn put_percents(
+    out: &mut Vec<u8>,
+    percents: &[(u32, u32)],
+    runtime: u32,
+) -> Result<(), AllocError> {
+    for (percent, least) in percents {
+        if *least == runtime {
+            put_reason(out, "at most ")?;
+            put_number(out, u64::from(*percent))?;
+            put_text(out, " %")?;
+        }
+    }
+    Ok(())
+}
+
+fn put_least(
+    out: &mut Vec<u8>,
+    needed: &Needed,
+    seen: &[Seen],
+    jobs: &[Job],
+    runtime: u32,
+) -> Result<(), AllocError> {
+    if runtime != needed.least {
+        return Ok(());
+    }
+    put_reason(out, "the least")?;
+    if let Some(late) = needed.witness {
+        put_witness(out, needed.least, seen, jobs, late)?;
+    }
+    Ok(())
+}
+
+/// Why a runtime stands in the table.
 fn why_text(
     alloc: Global,
-    choice: &Choice,
-    margin: u32,
+    runtime: u32,
+    wanted: Wanted,
     needed: &Needed,
     seen: &[Seen],
     jobs: &[Job],
 ) -> Result<Vec<u8>, AllocError> {
     let mut out = Vec::new(alloc);
-    match choice.why {
-        Why::Given => put_text(&mut out, "given")?,
-        Why::Proposed => {
-            put_text(&mut out, "proposed: ")?;
-            put_number(&mut out, u64::from(margin))?;
-            put_text(&mut out, " % more")?;
-        }
-        Why::Least => {
-            put_text(&mut out, "the least")?;
-            if let Some(late) = needed.witness {
-                put_witness(&mut out, needed.least, seen, jobs, late)?;
-            }
-        }
-        Why::Few => {}
-        Why::Percent(percent) => {
-            put_text(&mut out, "at most ")?;
-            put_number(&mut out, u64::from(percent))?;
-            put_text(&mut out, " %")?;
-        }
-        Why::Less => put_text(&mut out, "15 % less")?,
+    if wanted.given == Some(runtime) {
+        put_reason(&mut out, "given")?;
     }
+    put_proposed(&mut out, wanted, needed, runtime)?;
+    if runtime == needed.less {
+        put_reason(&mut out, "15 % less")?;
+    }
+    put_percents(&mut out, &needed.percents, runtime)?;
+    put_least(&mut out, needed, seen, jobs, runtime)?;
     Ok(out)
 }
 
@@ -202,19 +249,19 @@ pub(crate) fn put_choices(
     needed: &Needed,
     seen: &[Seen],
     jobs: &[Job],
-    period: u32,
-    margin: u32,
+    wanted: Wanted,
 ) -> Result<(), AllocError> {
     let alloc = *out.allocator();
     let mut rows = Vec::new(alloc);
     rows.push(heading(alloc, &["runtime", "%", "late", "% late", ""])?)?;
     for choice in &needed.choices {
+        let bandwidth = bandwidth(choice.runtime, wanted.period);
         let mut row = Vec::new(alloc);
         row.push(number_cell(alloc, u64::from(choice.runtime))?)?;
-        row.push(hundredths_cell(alloc, hundredths(bandwidth(choice.runtime, period)))?)?;
+        row.push(hundredths_cell(alloc, hundredths(bandwidth))?)?;
         row.push(number_cell(alloc, choice.late as u64)?)?;
         row.push(hundredths_cell(alloc, share(choice.late as u64, jobs.len() as u64))?)?;
-        row.push(why_text(alloc, choice, margin, needed, seen, jobs)?)?;
+        row.push(why_text(alloc, choice.runtime, wanted, needed, seen, jobs)?)?;
         rows.push(row)?;
     }
     put_table(out, &rows, &[4], 2)
@@ -279,5 +326,13 @@ pub(crate) fn put_not_regular(out: &mut Vec<u8>) -> Result<(), AllocError> {
     put_text(
         out,
         "  its wakes are not regular: say in how many microseconds a job is to be done, as --task NAME=PERIOD; the price of each:\n",
+    )
+}
+
+/// That no line told how long a task ran, so that nothing is known of its work.
+pub(crate) fn put_no_runs(out: &mut Vec<u8>) -> Result<(), AllocError> {
+    put_text(
+        out,
+        "  no line of sched_stat_runtime tells how long it ran, so each job counts as 1 us: record that event too, as scripts/record.sh --all does\n",
     )
 }

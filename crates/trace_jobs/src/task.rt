@@ -49,6 +49,9 @@ pub struct Task {
 
     /// How many have no wake in the trace.
     pub without_wake: u64,
+
+    /// Whether a line told how long it ran.
+    pub has_runs: bool,
 }
 
 impl Task {
@@ -65,6 +68,7 @@ impl Task {
             begun: 0,
             ended: 0,
             without_wake: 0,
+            has_runs: false,
         }
     }
 
@@ -92,7 +96,10 @@ impl Task {
     {
         match told {
             Told::Wakes { line, at, is_new } => self.phase = woken(self.phase, line, at, is_new),
-            Told::Runs { nanos } => self.phase = ran(self.phase, nanos),
+            Told::Runs { nanos } => {
+                self.phase = ran(self.phase, nanos);
+                self.has_runs = true;
+            }
             Told::Enters => self.phase = ran(self.phase, 0),
             Told::Stops { at, stop } => {
                 let (phase, ended) = stopped(self.phase, at, stop);

@@ -1,0 +1,145 @@
+//! The picture of what the jobs of tasks need.
+
+ghost use Rattle.std.specs.Prelude.{◌≤◌};
+
+use crate::sizing::{Needed, Wanted};
+use grub_sizing::{Job, lates_of, least_runtime};
+use size_picture::{Need, Panel, sizing_picture};
+use sizing_needs::heights_of;
+use std::alloc::{AllocError, Global};
+use trace_jobs::Task;
+
+/// What is drawn of a task.
+#[derive(Drop)]
+pub(crate) struct Drawn {
+    comm: Vec<u8>,
+    period: u32,
+    within: u32,
+    top: u32,
+    proposed: u32,
+    least: u32,
+    less: u32,
+
+    /// What each job needs, in the order of the record.
+    needs: Vec<Need>,
+
+    /// The same, the greatest first, as many as the curve shows.
+    sorted: Vec<Need>,
+    most: u64,
+}
+
+/// The greatest need of a job; one more than the period where no runtime is enough for one.
+fn greatest_need(alloc: Global, jobs: &[Job], period: u32) -> Result<u32, AllocError>
+    requires { 1 ≤ period }
+{
+    let least = least_runtime(alloc, jobs, period, 0)?;
+    Ok(least.unwrap_or(period.saturating_add(1)))
+}
+
+/// 1 for each job that may be late with a runtime; none for any where the period has no room for it.
+fn late_with(
+    alloc: Global,
+    jobs: &[Job],
+    runtime: u32,
+    period: u32,
+) -> Result<Vec<u32>, AllocError> {
+    if runtime == 0 || runtime > period {
+        return Ok(Vec::new(alloc));
+    }
+    lates_of(alloc, jobs, runtime, period)
+}
+
+/// What each job needs; moments are microseconds since the record began.
+fn needs_of(
+    alloc: Global,
+    task: &Task,
+    first: u64,
+    heights: &[u32],
+    least: &[u32],
+    less: &[u32],
+) -> Result<Vec<Need>, AllocError> {
+    let mut needs = Vec::new(alloc);
+    for (i, seen) in task.jobs.iter().enumerate() {
+        let dark = least.get(i).copied().unwrap_or(0);
+        let late = less.get(i).copied().unwrap_or(0);
+        needs.push(Need {
+            at: seen.release.saturating_sub(first),
+            height: heights.get(i).copied().unwrap_or(0),
+            shade: dark.saturating_add(late),
+        })?;
+    }
+    Ok(needs)
+}
+
+/// The greatest needs, one for each count of late jobs below `most`.
+fn sorted_of(alloc: Global, needs: &[Need], most: u64) -> Result<Vec<Need>, AllocError> {
+    let mut all = Vec::from_slice(alloc, needs)?;
+    all.sort_by_key(|need: &Need| u32::MAX - need.height)?;
+    let mut sorted = Vec::new(alloc);
+    for (i, need) in all.iter().enumerate() {
+        if (i as u64) < most {
+            sorted.push(Need {
+                at: i as u64,
+                height: need.height,
+                shade: need.shade,
+            })?;
+        }
+    }
+    Ok(sorted)
+}
+
+/// What is drawn of a task whose jobs are to be done within a time.
+pub(crate) fn drawn_of(
+    alloc: Global,
+    task: &Task,
+    first: u64,
+    jobs: &[Job],
+    wanted: Wanted,
+    within: u32,
+    needed: &Needed,
+) -> Result<Drawn, AllocError>
+    requires { 1 ≤ wanted.period }
+{
+    let period = wanted.period;
+    let most_needed = greatest_need(alloc, jobs, period)?.max(needed.proposed);
+    let top = most_needed.min(period.saturating_add(1)).max(1);
+    let heights = heights_of(alloc, jobs, period, top)?;
+    let least = late_with(alloc, jobs, needed.least, period)?;
+    let less = late_with(alloc, jobs, needed.less, period)?;
+    let needs = needs_of(alloc, task, first, &heights, &least, &less)?;
+    let most = (needs.len() as u64 / 10).max(10);
+    let sorted = sorted_of(alloc, &needs, most)?;
+    Ok(Drawn {
+        comm: Vec::from_slice(alloc, &task.comm)?,
+        period,
+        within,
+        top,
+        proposed: needed.proposed,
+        least: needed.least,
+        less: needed.less,
+        needs,
+        sorted,
+        most,
+    })
+}
+
+/// The picture of all that is drawn of a record of so many microseconds.
+pub(crate) fn picture_of(alloc: Global, all: &[Drawn], span: u64) -> Result<Vec<u8>, AllocError> {
+    let mut panels = Vec::new(alloc);
+    for one in all {
+        panels.push(Panel {
+            comm: one.comm.as_slice(),
+            period: one.period,
+            within: one.within,
+            top: one.top,
+            proposed: one.proposed,
+            least: one.least,
+            less: one.less,
+            span,
+            needs: one.needs.as_slice(),
+            sorted: one.sorted.as_slice(),
+            most: one.most,
+        })?;
+    }
+    sizing_picture(alloc, &panels)
+}
