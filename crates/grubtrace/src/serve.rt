@@ -60,7 +60,7 @@ pub(crate) fn serve<
     match matches_of(alloc, words) {
         Ok(matches) => match matches.subcommand() {
             Some(("events", matches)) => events(alloc, matches, input, target, faults),
-            Some(("check", matches)) => check(alloc, matches, input, target, out, faults),
+            Some(("check", matches)) => check(alloc, matches, input, target, remove, out, faults),
             Some(("size", matches)) => size(alloc, matches, input, target, out, faults),
             Some((_, matches)) => {
                 let path = matches.get_str("TRACE").unwrap_or("");

@@ -43,7 +43,12 @@ fn see(history: &mut History, machine: &Machine, kept: Kept) -> Result<(), Alloc
 }
 
 /// Shows to a history what a line left a task in.
-pub fn see_task(history: &mut History, kept: Kept, number: u32, task: Task) -> Result<(), AllocError>
+pub fn see_task(
+    history: &mut History,
+    kept: Kept,
+    number: u32,
+    task: Task,
+) -> Result<(), AllocError>
     ensures { OnOk result
         (history.new.states.items ≡ states_seen history.old kept number task) }
 {
