@@ -9,12 +9,14 @@ from=$1 prefix=$2 to=${3-$2}
 abi=$(sed -n 's/^#define ND_ABI //p' "$here/include/neddwyrol.h")
 version=$(< "$here/VERSION")
 if [[ $from == --remove ]]; then
-    rm -f "$to/include/neddwyrol.h" "$to/lib/libneddwyrol.a" "$to/lib/libneddwyrol.so" "$to/lib/libneddwyrol.so.$abi" \
+    rm -f "$to"/include/neddwyrol{,_table}.h "$to"/lib/libneddwyrol{,_table}.a "$to/lib/libneddwyrol.so" "$to/lib/libneddwyrol.so.$abi" \
         "$to/lib/libneddwyrol.so.$version" "$to/lib/pkgconfig/neddwyrol.pc"
     exit 0
 fi
-install -D -m 644 "$here/include/neddwyrol.h" "$to/include/neddwyrol.h"
-install -D -m 644 "$from/libneddwyrol.a" "$to/lib/libneddwyrol.a"
+for it in neddwyrol neddwyrol_table; do
+    install -D -m 644 "$here/include/$it.h" "$to/include/$it.h"
+    install -D -m 644 "$from/lib$it.a" "$to/lib/lib$it.a"
+done
 bash "$here/shared.sh" "$from/libneddwyrol.a" "$to/lib"
 mkdir -p "$to/lib/pkgconfig"
 cat > "$to/lib/pkgconfig/neddwyrol.pc" << END

@@ -45,19 +45,25 @@ ran() {
     fi
 }
 
-# built NAME FLAG..: the library by one of the compilers.
+# built NAME FLAG..: the library by one of the compilers, and the shared table, which has the kit's few lines over malloc in it.
 built() {
-    local name=$1
+    local name=$1 it heap
     shift
-    rm -f crates/neddwyrol/out/libneddwyrol.a
+    heap=$(dirname "$(realpath "$(command -v rt)")")/c/liblibc_c.a
+    [[ -f $heap ]] || heap=/opt/rattle/c/liblibc_c.a
     mkdir -p "$made/$name"
-    (cd crates/neddwyrol && rt lib "$@") > "$made/$name.log" 2>&1 && cp crates/neddwyrol/out/libneddwyrol.a "$made/$name" && return
-    tail -n 20 "$made/$name.log"
-    return 1
+    for it in neddwyrol neddwyrol_table; do
+        rm -f "crates/$it/out/lib$it.a"
+        (cd "crates/$it" && rt lib "$@") > "$made/$name.log" 2>&1 && cp "crates/$it/out/lib$it.a" "$made/$name" && continue
+        tail -n 20 "$made/$name.log"
+        return 1
+    done
+    printf 'create %s\naddlib %s\naddlib %s\nsave\nend\n' "$made/$name/whole.a" "$made/$name/libneddwyrol_table.a" "$heap" | ar -M &&
+        mv "$made/$name/whole.a" "$made/$name/libneddwyrol_table.a"
 }
 
 if [[ ${1-} != --built ]]; then
-    if ! { built llvm && built rattle --backend rattle && cp "$made/rattle/libneddwyrol.a" "$made" && bash bindings/shared.sh "$made/libneddwyrol.a" "$made"; }; then
+    if ! { built llvm && built rattle --backend rattle && cp "$made"/rattle/lib*.a "$made" && bash bindings/shared.sh "$made/libneddwyrol.a" "$made"; }; then
         echo '0 passed, 1 failed'
         exit 1
     elif [[ ${1-} == --build ]]; then
@@ -90,6 +96,18 @@ for compiler in gcc clang g++ clang++; do
 done
 if command -v valgrind > /dev/null && cc -g -I bindings/include bindings/c/damage.c "$made/libneddwyrol.a" -o "$work/damage"; then
     tried 'damaged memories under valgrind' - valgrind -q --error-exitcode=1 "$work/damage" 3000
+fi
+
+# The shared table from four threads of C: each history is the book's, and nothing is found by helgrind or valgrind.
+for it in $builds; do
+    ran "four threads over $it" threads cc -std=c11 -pedantic "${warn[@]}" bindings/c/threads.c "$made/$it/libneddwyrol_table.a" "$made/$it/libneddwyrol.a" -pthread
+done
+threads=(-g -I bindings/include bindings/c/threads.c "$made/libneddwyrol_table.a" "$made/libneddwyrol.a" -pthread)
+if command -v valgrind > /dev/null && cc "${threads[@]}" -o "$work/threads"; then
+    tried 'four threads under helgrind' - valgrind -q --tool=helgrind --error-exitcode=1 "$work/threads" 3
+    tried 'four threads under valgrind' - valgrind -q --leak-check=full --error-exitcode=1 "$work/threads" 3
+else
+    echo 'library: there is no valgrind: the threads are not tried under helgrind'
 fi
 
 # What is installed: by pkg-config where it is there, shared and static.

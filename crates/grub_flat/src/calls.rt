@@ -11,7 +11,7 @@ use grub_book::{MOMENT_MAX, Op, RUN_MAX, Reply};
 use grub_bw::Params;
 
 /// The op that is asked, where there is one of this kind.
-pub(crate) fn op_of(op: NdOp) -> Option<Op>
+pub fn op_of(op: NdOp) -> Option<Op>
     ensures { result ≡ op_of op }
 {
     let NdOp { kind, a, b } = op;
@@ -45,7 +45,7 @@ pub(crate) fn fits(op: Op, queues: &[NdRunqueue]) -> bool
 }
 
 /// A reply of this kind, without numbers.
-pub(crate) fn plain_reply(kind: u32) -> NdReply
+pub fn plain_reply(kind: u32) -> NdReply
     ensures { result ≡ plain_reply kind }
 {
     NdReply {
@@ -71,7 +71,7 @@ fn reply_with(kind: u32, number: u32, budget: u32, deadline: u32) -> NdReply
 }
 
 /// A reply of the book in plain numbers.
-pub(crate) fn reply_of(reply: Reply) -> NdReply
+pub fn reply_of(reply: Reply) -> NdReply
     ensures { result ≡ reply_of reply }
 {
     match reply {

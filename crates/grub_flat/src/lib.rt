@@ -27,6 +27,7 @@ pub use arithmetic::{bandwidth, charge_for, depleted_by, woken_to, zero_lag_of};
 pub use asked::{NdAsk, NdEvent, NdOp, NdReply};
 pub use auditor::audit;
 pub use batch::apply_all;
+pub use calls::{op_of, plain_reply, reply_of};
 pub use checker::{CALL, READING, check};
 pub use codes::{
     BUDGET_OUT_OF_RANGE, COUNT_OUT_OF_RANGE, DAMAGED, DEADLINE_OVERFLOW, DONE, MOMENT_OUT_OF_RANGE,

@@ -1,0 +1,115 @@
+/* Neddwyrol: the shared table, which threads use without a lock. Each thread has a pass of its own. It needs
+ * libneddwyrol_table.a, which takes memory by malloc, beside libneddwyrol.a.
+ *
+ * Every call that is made stands at one point of one history, which a book of one thread could have given: what a pass was
+ * answered and read stands in it in its order. That is proved, with every other sentence that stands before a call.
+ *
+ * What the caller owes, beside what neddwyrol.h says:
+ *   - a pass is one that nd_table_open wrote, or that a call gave back, and it is in one call at a time;
+ *   - two passes of one call are of one table;
+ *   - between two threads that use one pass lies a thread's start or end, a lock or an atomic.
+ *
+ * A call takes a pass and gives it back by its argument `back`. The calls at the end, as nd_call, do so by themselves. */
+#ifndef NEDDWYROL_TABLE_H
+#define NEDDWYROL_TABLE_H
+
+#include "neddwyrol.h"
+
+#ifdef __cplusplus
+extern "C" {
+#endif
+
+#define ND_PASSES_MAX 64
+#define ND_TABLE_QUEUES_MAX 64
+#define ND_TABLE_TASKS_MAX 256
+
+/* A pass of a table, with those that it gathered; nothing where it is null. */
+typedef struct {
+    void *at;
+} nd_pass;
+
+enum {
+    ND_NO_PASS = 23,         /* a table of no pass */
+    ND_TOO_MANY_PASSES = 24, /* more than 64 */
+    ND_NO_TABLE_MEMORY = 25, /* memory for the table was refused */
+    ND_MISSING = 26,         /* a pass of the table is not gathered */
+    ND_NO_PART = 27,         /* no pass is gathered, or memory was refused */
+    ND_NO_MEMORY = 42,       /* memory was refused */
+    ND_BUSY = 50, /* another pass has the task, or changed it meanwhile: no call was made */
+    ND_LOST = 52  /* every try was lost to a change of the runqueue's sums: no call was made */
+};
+
+/* Opens a table of the reservations and constants that stand in the memory, at most 256 tasks and 64 runqueues, with 1 to 64
+ * passes, and writes one pass with all others gathered. It answers 0, or the first fault: 1 to 8 as of nd_open, 23, 24 or
+ * 25; then nothing is written. */
+uint32_t nd_table_open(const nd_task *tasks, size_t task_count, const nd_runqueue *queues, size_t queue_count, uint32_t passes,
+                       nd_pass *all);
+
+/* Gives the last pass that was gathered a handle of its own. It answers 0; or 27 where none is gathered or memory was
+ * refused, and then the pass is given back as it was and no other is written. */
+uint32_t nd_pass_part(nd_pass pass, nd_pass *back, nd_pass *part);
+
+/* Asks an op for a task. The call with its reply, as of nd_apply, is all that is new of the pass in the one history of the
+ * table. No call is made where it answers 50, another pass has the task; 52, so many tries were lost, each to a change of the
+ * runqueue's sums; 70 and 71 as of nd_apply. An op that changes no sum needs no try. */
+nd_reply nd_pass_apply(nd_pass pass, uint32_t task, nd_op op, uint8_t tries, nd_pass *back);
+
+/* Reads the sums of a runqueue, at one moment. It answers 0, or 64 where there is no such runqueue and nothing is written. */
+uint32_t nd_pass_read(nd_pass pass, uint32_t queue, nd_reading *reading, nd_pass *back);
+
+/* Afterwards what one of the two has seen is a beginning of what the other has. */
+void nd_pass_meet(nd_pass first, nd_pass second, nd_pass *first_back, nd_pass *second_back);
+
+/* The first pass takes in the second, with those that it gathered. It answers 0, and the second is spent; or 42 where memory
+ * was refused, and both are given back as they were. */
+uint32_t nd_pass_gather(nd_pass first, nd_pass second, nd_pass *first_back, nd_pass *second_back);
+
+/* Closes the table by a pass that has gathered all others, and writes the last sums of each runqueue, as many as there is
+ * room for: those of the book after the whole history. It answers 0, and the pass is spent. Where it is refused nothing is
+ * written and the pass is given back: 26 where a pass is not gathered, 42 where memory was refused. Where there is no memory
+ * even to give it back the table is freed. */
+uint32_t nd_table_close(nd_pass pass, nd_reading *readings, size_t reading_count, nd_pass *back);
+
+/* Frees a pass with those that it gathered, and the table with its last one. */
+void nd_pass_free(nd_pass pass);
+
+/* The same calls, which take a pass where it stands and put it back. */
+static inline nd_pass nd_taken(nd_pass *pass) {
+    nd_pass it = *pass;
+    pass->at = NULL;
+    return it;
+}
+
+static inline uint32_t nd_part(nd_pass *pass, nd_pass *part) { return nd_pass_part(nd_taken(pass), pass, part); }
+
+static inline nd_reply nd_call(nd_pass *pass, uint32_t task, nd_op op, uint8_t tries) {
+    return nd_pass_apply(nd_taken(pass), task, op, tries, pass);
+}
+
+static inline uint32_t nd_read(nd_pass *pass, uint32_t queue, nd_reading *reading) {
+    return nd_pass_read(nd_taken(pass), queue, reading, pass);
+}
+
+static inline void nd_meet(nd_pass *first, nd_pass *second) {
+    nd_pass one = nd_taken(first), other = nd_taken(second);
+    nd_pass_meet(one, other, first, second);
+}
+
+static inline uint32_t nd_gather(nd_pass *first, nd_pass *second) {
+    nd_pass one = nd_taken(first), other = nd_taken(second);
+    return nd_pass_gather(one, other, first, second);
+}
+
+static inline uint32_t nd_close(nd_pass *pass, nd_reading *readings, size_t reading_count) {
+    return nd_table_close(nd_taken(pass), readings, reading_count, pass);
+}
+
+static inline void nd_free(nd_pass *pass) {
+    if (pass->at)
+        nd_pass_free(nd_taken(pass));
+}
+
+#ifdef __cplusplus
+}
+#endif
+#endif

@@ -1,0 +1,4 @@
+pub mod Called
+pub mod Ended
+pub mod Opened
+pub mod Owned

@@ -1,0 +1,44 @@
+//! A call of one pass, from its start to its end.
+
+ghost use Rattle.std.specs.Prelude.{◌≡◌, ◌<◌, ◌⊎◌, [], ◌∷◌, length, IfOk, IfErr};
+ghost use Rattle.grub_book.specs.History.{pass_of};
+ghost use Rattle.grub_book.specs.Op.{IsOp};
+ghost use Rattle.grub_book.specs.declared.event.Event.TheVariants.{Call};
+ghost use Rattle.grub_table.specs.Calls.{terms, seen, number_of, IsPassOf};
+ghost use Rattle.grub_table.specs.Knowing.{GoesOn};
+
+use grub_book::{Op, Reply};
+use grub_table::{Finished, Pass, Shared, Started};
+
+/// Another pass has the task, or changed it meanwhile.
+pub const BUSY: u32 = 50;
+
+/// All tries were lost, each to a change of the runqueue's sums; the task was given back.
+pub const LOST: u32 = 52;
+
+/// One call, with its reply, is all that is new of the pass in the history; where there is no reply nothing is.
+pub(crate) fn ask(
+    shared: &Shared,
+    pass: Pass,
+    t: u32,
+    op: Op,
+    tries: u8,
+) -> (Pass, Result<Reply, u32>)
+    requires of { IsPassOf shared.now pass }
+    requires task { t < length (terms shared.now).setup.tasks }
+    requires op { IsOp (terms shared.now).setup op }
+    ensures of { IsPassOf shared.now result.0 }
+    ensures made { IfOk result.1 (λ reply. GoesOn pass_of (number_of pass) (seen pass)
+        (seen result.0) (Call (number_of pass) t op reply ∷ [])) }
+    ensures none { IfErr result.1 (λ code. ((code ≡ BUSY) ⊎ (code ≡ LOST))
+        × GoesOn pass_of (number_of pass) (seen pass) (seen result.0) []) }
+{
+    match shared.start(pass, t, op) {
+        Started::Answered(pass, reply) => (pass, Ok(reply)),
+        Started::Busy(pass, _) => (pass, Err(BUSY)),
+        Started::Held(claim) => match shared.finish(claim, tries) {
+            Finished::Done(pass, reply) => (pass, Ok(reply)),
+            Finished::Held(claim) => (shared.cancel(claim), Err(LOST)),
+        },
+    }
+}

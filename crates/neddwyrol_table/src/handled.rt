@@ -1,0 +1,188 @@
+//! The calls of a handle, which are made with what it leads to.
+
+ghost use Rattle.std.specs.Prelude.{◌≡◌, ◌≢◌, ◌⊎◌, IsNone, IfSome};
+ghost use Rattle.neddwyrol_table.specs.Called.{IsWell, Stands, IsBeside, IsSame, Keeps, WasAsked, WasRead, Went};
+ghost use Rattle.neddwyrol_table.specs.Ended.{AreOfOne, IsPartedInto, TookIn, HaveMetBy, IsAgain, IsClosedBy};
+ghost use Rattle.neddwyrol_table.specs.declared.held.Kept.{Kept};
+
+use crate::calls::ask;
+use crate::closing::{NO_MEMORY, NO_PART, closed, gathered, met, parted};
+use crate::held::{Held, Kept};
+use grub_flat::{
+    DONE, NO_OP, NO_TASK, NdOp, NdReading, NdReply, QUEUE_OUT_OF_RANGE, op_of, plain_reply,
+    reply_of,
+};
+use std::alloc::Global;
+
+/// Makes a call, where there is such a task and op.
+fn asked(kept: Kept, t: u32, op: NdOp, tries: u8) -> (Kept, NdReply)
+    requires { IsWell kept }
+    ensures well { IsWell result.0 }
+    ensures beside { IsBeside kept result.0 }
+    ensures asked { WasAsked t op result.1 kept result.0 }
+{
+    if !kept.shared.has_task(t) {
+        return (kept, plain_reply(NO_TASK));
+    }
+    let Some(it) = op_of(op) else {
+        return (kept, plain_reply(NO_OP));
+    };
+    if !kept.shared.fits(&it) {
+        return (kept, plain_reply(NO_OP));
+    }
+    let Kept {
+        shared,
+        pass,
+        gathered,
+    } = kept;
+    let (pass, answer) = ask(&shared, pass, t, it, tries);
+    let reply = match answer {
+        Ok(reply) => reply_of(reply),
+        Err(code) => plain_reply(code),
+    };
+    let kept = Kept {
+        shared,
+        pass,
+        gathered,
+    };
+    (kept, reply)
+}
+
+/// Reads a runqueue, where there is one of this number.
+fn looked(kept: Kept, r: u32, reading: &mut NdReading) -> (Kept, u32)
+    requires { IsWell kept }
+    ensures well { IsWell result.0 }
+    ensures beside { IsBeside kept result.0 }
+    ensures read { WasRead r result.1 reading.old reading.new kept result.0 }
+{
+    if !kept.shared.has_queue(r) {
+        return (kept, QUEUE_OUT_OF_RANGE);
+    }
+    let Kept {
+        shared,
+        mut pass,
+        gathered,
+    } = kept;
+    let now = shared.read(&mut pass, r);
+    *reading = NdReading {
+        running_bw: now.running,
+        this_bw: now.this,
+    };
+    let kept = Kept {
+        shared,
+        pass,
+        gathered,
+    };
+    (kept, DONE)
+}
+
+pub(crate) fn call(held: &mut Held, task: u32, op: NdOp, tries: u8) -> NdReply
+    requires { Stands held.old }
+    ensures stands { Stands held.new }
+    ensures asked { Went held.old held.new (WasAsked task op result) }
+{
+    let Some(kept) = held.kept.take() else {
+        unreachable!()
+    };
+    let (kept, reply) = asked(kept, task, op, tries);
+    held.kept = Some(kept);
+    reply
+}
+
+pub(crate) fn look(held: &mut Held, queue: u32, reading: &mut NdReading) -> u32
+    requires { Stands held.old }
+    ensures stands { Stands held.new }
+    ensures read { Went held.old held.new (WasRead queue result reading.old reading.new) }
+{
+    let Some(kept) = held.kept.take() else {
+        unreachable!()
+    };
+    let (kept, code) = looked(kept, queue, reading);
+    held.kept = Some(kept);
+    code
+}
+
+/// The second leads to the last pass that the first had gathered.
+pub(crate) fn part(alloc: Global, first: &mut Held, second: &mut Held) -> u32
+    requires { Stands first.old }
+    ensures stands { Stands first.new }
+    ensures part { result ≡ DONE → Stands second.new }
+    ensures done { result ≡ DONE → IsPartedInto first.old first.new second.new }
+    ensures kept { result ≢ DONE → Went first.old first.new IsSame }
+{
+    let Some(kept) = first.kept.take() else {
+        unreachable!()
+    };
+    let (kept, part) = parted(alloc, kept);
+    first.kept = Some(kept);
+    match part {
+        Some(part) => {
+            second.kept = Some(part);
+            DONE
+        }
+        None => NO_PART,
+    }
+}
+
+pub(crate) fn meet(first: &mut Held, second: &mut Held)
+    requires first { Stands first.old }
+    requires second { Stands second.old }
+    requires table { AreOfOne first.old second.old }
+    ensures first { Stands first.new }
+    ensures second { Stands second.new }
+    ensures met { HaveMetBy first.old second.old first.new second.new }
+{
+    let Some(kept) = first.kept.take() else {
+        unreachable!()
+    };
+    let Some(other) = second.kept.take() else {
+        unreachable!()
+    };
+    let (kept, other) = met(kept, other);
+    first.kept = Some(kept);
+    second.kept = Some(other);
+}
+
+/// The second is empty afterwards, where it is gathered.
+pub(crate) fn gather(first: &mut Held, second: &mut Held) -> u32
+    requires first { Stands first.old }
+    requires second { Stands second.old }
+    requires table { AreOfOne first.old second.old }
+    ensures stands { Stands first.new }
+    ensures done { result ≡ DONE → TookIn first.old second.old first.new }
+    ensures kept { result ≢ DONE → Went first.old first.new IsSame }
+    ensures back { result ≢ DONE → Stands second.new × Went second.old second.new IsSame }
+{
+    let Some(kept) = first.kept.take() else {
+        unreachable!()
+    };
+    let Some(other) = second.kept.take() else {
+        unreachable!()
+    };
+    let (kept, other) = gathered(kept, other);
+    first.kept = Some(kept);
+    match other {
+        Some(other) => {
+            second.kept = Some(other);
+            NO_MEMORY
+        }
+        None => DONE,
+    }
+}
+
+/// It is empty afterwards, where the table is closed.
+pub(crate) fn close(alloc: Global, held: &mut Held, readings: &mut [NdReading]) -> u32
+    requires { Stands held.old }
+    ensures closed { result ≡ DONE → IsClosedBy held.old readings.old readings.new }
+    ensures refused { result ≢ DONE → readings.new ≡ readings.old }
+    ensures well { IfSome held.new.kept IsWell }
+    ensures back { (k l : Kept) → Keeps held.old k → Keeps held.new l → IsAgain k l }
+    ensures lost { IsNone held.new.kept → (result ≡ DONE) ⊎ (result ≡ NO_MEMORY) }
+{
+    let Some(kept) = held.kept.take() else {
+        unreachable!()
+    };
+    let (kept, code) = closed(alloc, kept, readings);
+    held.kept = kept;
+    code
+}
