@@ -22,14 +22,14 @@ _grubtrace() {
             mapfile -t COMPREPLY < <(compgen -W 'kernel documentation' -- "$current")
             return
             ;;
-        --out | --table | --picture) return ;;
+        --out | --table | --json | --picture) return ;;
     esac
     case ${command-} in
         '') words='tasks events check size help -h --help -V --version' ;;
         help) words='tasks events check size' ;;
         tasks) words='-h --help' ;;
         events) words='--task --cpus --rt --fair-server --out -h --help' ;;
-        check) words='--task --cpus --domain --rt --fair-server --kernel --within --by --timers --table -h --help' ;;
+        check) words='--task --cpus --domain --rt --fair-server --kernel --within --by --timers --why --table --json --picture --from --to -h --help' ;;
         size) words='--task --within --late --margin --picture --cpus --rt --fair-server -h --help' ;;
     esac
     if [[ $current == -* || -z ${command-} || $command == help ]]; then
