@@ -1,0 +1,15 @@
+//! The numbers of faults and the limits of a table, as `neddwyrol_table.h` has them. The others are those of
+//! `neddwyrol::codes`.
+
+pub const PASSES_MAX: u32 = 64;
+pub const TABLE_QUEUES_MAX: usize = 64;
+pub const TABLE_TASKS_MAX: usize = 256;
+
+pub const NO_PASS: u32 = 23;
+pub const TOO_MANY_PASSES: u32 = 24;
+pub const NO_TABLE_MEMORY: u32 = 25;
+pub const MISSING: u32 = 26;
+pub const NO_PART: u32 = 27;
+pub const NO_MEMORY: u32 = 42;
+pub const BUSY: u32 = 50;
+pub const LOST: u32 = 52;

@@ -1,0 +1,139 @@
+//! The shared table of Neddwyrol: one book that threads use without a lock, each by a [`Pass`] of its own. Every call that is
+//! made stands at one point of one history, which a book of one thread could have given. `neddwyrol_table.h` says what each
+//! call promises.
+#![no_std]
+#![deny(unsafe_op_in_unsafe_fn)]
+
+pub mod codes;
+mod raw;
+
+use core::sync::atomic::{AtomicU64, Ordering};
+use neddwyrol::{codes::DONE, Fault, Op, Reading, Reply, Runqueue, Task};
+
+/// The number of the next table, by which passes of two tables are told apart.
+static NEXT_TABLE: AtomicU64 = AtomicU64::new(0);
+
+/// The right of one thread to make calls, with the passes that it gathered. It may go to another thread. Its table is freed
+/// with the last pass.
+pub struct Pass {
+    held: raw::Pass,
+    table: u64,
+}
+
+// SAFETY: the library proves that what a pass leads to may go to another thread.
+unsafe impl Send for Pass {}
+
+impl Drop for Pass {
+    fn drop(&mut self) {
+        if !self.held.at.is_null() {
+            // SAFETY: a pass that is not null was given by the library, and is in no other call.
+            unsafe { raw::nd_pass_free(self.taken()) }
+        }
+    }
+}
+
+/// Why a pass was not gathered or a table not closed, with the pass, where there was memory to give it back.
+pub struct Refused {
+    pub fault: Fault,
+    pub pass: Option<Pass>,
+}
+
+impl core::fmt::Debug for Refused {
+    fn fmt(&self, f: &mut core::fmt::Formatter<'_>) -> core::fmt::Result {
+        write!(f, "{}", self.fault)
+    }
+}
+
+fn nothing() -> raw::Pass {
+    raw::Pass { at: core::ptr::null_mut() }
+}
+
+impl Pass {
+    /// Opens a table of these reservations and constants, at most 256 tasks and 64 runqueues, with 1 to 64 passes. The pass has
+    /// all others gathered: [`Pass::part`] gives each to a thread. Faults: 1 to 8 as of `Book::open`, and 23 to 25.
+    pub fn open(tasks: &[Task], queues: &[Runqueue], passes: u32) -> Result<Pass, Fault> {
+        let mut held = nothing();
+        // SAFETY: both point to that many structs, which are only read, and the pass owns nothing yet.
+        match unsafe { raw::nd_table_open(tasks.as_ptr(), tasks.len(), queues.as_ptr(), queues.len(), passes, &mut held) } {
+            DONE => Ok(Pass { held, table: NEXT_TABLE.fetch_add(1, Ordering::SeqCst) }),
+            fault => Err(Fault(fault)),
+        }
+    }
+
+    /// The pass as a call takes it: until it is given back there is nothing here.
+    fn taken(&mut self) -> raw::Pass {
+        core::mem::replace(&mut self.held, nothing())
+    }
+
+    /// # Panics
+    /// Where the other pass is of another table.
+    fn hold_to_table(&self, other: &Pass) {
+        assert_eq!(self.table, other.table, "neddwyrol: two passes of two tables");
+    }
+
+    fn found(held: raw::Pass, table: u64) -> Option<Pass> {
+        (!held.at.is_null()).then_some(Pass { held, table })
+    }
+
+    /// Takes the last pass that was gathered out again. Fault 27: none is gathered, or memory was refused.
+    pub fn part(&mut self) -> Result<Pass, Fault> {
+        let (pass, mut part) = (self.taken(), nothing());
+        // SAFETY: the pass is the library's and in no other call; what is written owns nothing before. So in the calls below.
+        match unsafe { raw::nd_pass_part(pass, &mut self.held, &mut part) } {
+            DONE => Ok(Pass { held: part, table: self.table }),
+            fault => Err(Fault(fault)),
+        }
+    }
+
+    /// Asks an op for a task, as `Book::apply`. No call is made where the kind is 50, another pass has the task, or 52, so many
+    /// tries were lost, each to a change of the runqueue's sums. An op that changes no sum needs no try.
+    pub fn apply(&mut self, task: u32, op: Op, tries: u8) -> Reply {
+        let pass = self.taken();
+        // SAFETY: as above.
+        unsafe { raw::nd_pass_apply(pass, task, op, tries, &mut self.held) }
+    }
+
+    /// The sums of a runqueue at one moment, where it is there.
+    pub fn read(&mut self, queue: u32) -> Option<Reading> {
+        let (pass, mut reading) = (self.taken(), Reading::default());
+        // SAFETY: as above.
+        let fault = unsafe { raw::nd_pass_read(pass, queue, &mut reading, &mut self.held) };
+        (fault == DONE).then_some(reading)
+    }
+
+    /// Afterwards what one of the two has seen is a beginning of what the other has.
+    ///
+    /// # Panics
+    /// Where the other pass is of another table.
+    pub fn meet(&mut self, other: &mut Pass) {
+        self.hold_to_table(other);
+        let (first, second) = (self.taken(), other.taken());
+        // SAFETY: as above, and both are of one table.
+        unsafe { raw::nd_pass_meet(first, second, &mut self.held, &mut other.held) }
+    }
+
+    /// Takes in another pass, with those that it gathered. Fault 42: memory was refused.
+    ///
+    /// # Panics
+    /// Where the other pass is of another table.
+    pub fn gather(&mut self, mut other: Pass) -> Result<(), Refused> {
+        self.hold_to_table(&other);
+        let (first, second, mut back) = (self.taken(), other.taken(), nothing());
+        // SAFETY: as above, and both are of one table.
+        match unsafe { raw::nd_pass_gather(first, second, &mut self.held, &mut back) } {
+            DONE => Ok(()),
+            fault => Err(Refused { fault: Fault(fault), pass: Pass::found(back, self.table) }),
+        }
+    }
+
+    /// Closes the table by a pass that has gathered all others, and writes the last sums of its runqueues, as many as there is
+    /// room for. Fault 26: a pass is not gathered; 42: memory was refused. Then nothing is written.
+    pub fn close(mut self, readings: &mut [Reading]) -> Result<(), Refused> {
+        let (pass, mut back) = (self.taken(), nothing());
+        // SAFETY: as above, and the readings are so many.
+        match unsafe { raw::nd_table_close(pass, readings.as_mut_ptr(), readings.len(), &mut back) } {
+            DONE => Ok(()),
+            fault => Err(Refused { fault: Fault(fault), pass: Pass::found(back, self.table) }),
+        }
+    }
+}

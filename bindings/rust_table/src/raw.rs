@@ -1,0 +1,19 @@
+//! The calls of the shared table, as `neddwyrol_table.h` has them.
+use neddwyrol::{Op, Reading, Reply, Runqueue, Task};
+
+/// A pass as C has it: nothing where it is null.
+#[repr(C)]
+pub struct Pass {
+    pub at: *mut u8,
+}
+
+extern "C" {
+    pub fn nd_table_open(tasks: *const Task, task_count: usize, queues: *const Runqueue, queue_count: usize, passes: u32, all: *mut Pass) -> u32;
+    pub fn nd_pass_part(pass: Pass, back: *mut Pass, part: *mut Pass) -> u32;
+    pub fn nd_pass_apply(pass: Pass, task: u32, op: Op, tries: u8, back: *mut Pass) -> Reply;
+    pub fn nd_pass_read(pass: Pass, queue: u32, reading: *mut Reading, back: *mut Pass) -> u32;
+    pub fn nd_pass_meet(first: Pass, second: Pass, first_back: *mut Pass, second_back: *mut Pass);
+    pub fn nd_pass_gather(first: Pass, second: Pass, first_back: *mut Pass, second_back: *mut Pass) -> u32;
+    pub fn nd_table_close(pass: Pass, readings: *mut Reading, reading_count: usize, back: *mut Pass) -> u32;
+    pub fn nd_pass_free(pass: Pass);
+}
