@@ -27,11 +27,11 @@ run: runner
 
 # The same with nothing proved: an answer in about a minute, with the toolchain's own checks while it runs.
 try:
-	@scripts/try.sh grubrun $(FLAGS) $(FILES)
+	@python3 scripts/quick.py --try grubrun $(FLAGS) $(FILES)
 
 # `grubtrace WORDS TRACE` in the same way.
 try-trace:
-	@scripts/try.sh grubtrace $(WORDS) $(TRACE)
+	@python3 scripts/quick.py --try grubtrace $(WORDS) $(TRACE)
 
 # The gate: every proof that the machine has not kept, the must-fail edits, all tests and the stored run, each growth of memory refused in
 # turn, and the programs' cases.
@@ -65,7 +65,7 @@ bench: runner tracer
 
 # Records a load of four tasks on this machine and checks the record; elsewhere it says why it cannot.
 record-check: tracer
-	scripts/record-check.sh
+	scripts/kernel/record-check.sh
 
 # A release that needs no kit, out/neddwyrol-VERSION-x86_64-linux.tar.gz, which is unpacked and tried.
 dist: build library

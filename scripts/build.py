@@ -1,11 +1,7 @@
 #!/usr/bin/env python3
 """build.py [PROGRAM]..: proves grubrun and grubtrace, or those named, with the crates that they stand on, and builds them into crates/PROGRAM/out.
-
-A crate is proved once those below it are, and crates that do not stand on each other side by side, where there are 2.5 GB of free memory for each.
-It says on standard error what it proved and how long that took; all else is in out/build/CRATE.log. A crate that reads what it read before is not
-proved again. It calls the kit's `rattle` and not `rt`, which lets no second run into a crate or into one below it. The libraries hold statements
-alone, as in the gate, and lie in the user's cache; build.py --clean takes them away. Those of a checkout that is gone go by themselves.
-"""
+What reads the same as before is not proved again. It tells what it proved; all else is in out/build/CRATE.log. It calls the kit's `rattle`, since
+`rt` lets no second run into a crate or one below it. The libraries hold statements alone, in the user's cache, until `build.py --clean`."""
 import fcntl
 import hashlib
 import os
@@ -15,7 +11,8 @@ import sys
 import time
 from concurrent.futures import FIRST_COMPLETED, ThreadPoolExecutor, wait
 
-from crates import LIBRARIES, ROOT, crates, kit_folder, lanes, sum_of, text_of, weight
+from crates import LIBRARIES, crates, kit_folder, lanes, sum_of
+from shared import ROOT, text_of
 
 BUILD = f"{ROOT}/out/build"
 ROOM = 2_500_000
@@ -31,9 +28,8 @@ def made_of(crate):
 
 def reads(crate, kit):
     """A sum of all that a crate's proof reads: its text, the libraries below it, and the kit."""
-    own = sum_of(*[f"{crate.folder}/{it}" for it in ("src", "specs", "proofs")])
     low = [text_of(f"{BUILD}/{it}.made").split()[-1] for it in crate.below]
-    return hashlib.sha256("\n".join([own, *crate.uses, *low, text_of(f"{kit}/KIT-ID")]).encode()).hexdigest()
+    return hashlib.sha256("\n".join([sum_of(*crate.parts), *crate.uses, *low, text_of(f"{kit}/KIT-ID")]).encode()).hexdigest()
 
 
 def logged(log, words, **how):
@@ -74,8 +70,8 @@ def build(known, names, kit):
     behind, made, running = dict.fromkeys(names, 0), set(), {}
     for name in sorted(names, key=lambda it: -len(known[it].below)):
         for low in known[name].below:
-            behind[low] = max(behind[low], behind[name] + weight(known[name]))
-    left, most, well = sorted(names, key=lambda it: -behind[it] - weight(known[it])), lanes(ROOM, 1), True
+            behind[low] = max(behind[low], behind[name] + known[name].weight)
+    left, most, well = sorted(names, key=lambda it: -behind[it] - known[it].weight), lanes(ROOM, 1), True
     with ThreadPoolExecutor(most) as pool:
         while running or well and left:
             able = [it for it in left if well and made.issuperset(known[it].below)][: most - len(running)]
@@ -101,6 +97,7 @@ def main(programs):
     with open(f"{LIBRARIES}/of", "w", encoding="utf-8") as it:
         it.write(ROOT)
     for it in os.scandir(os.path.dirname(LIBRARIES)):
+        # (libraries of a checkout that is gone)
         if os.path.isfile(f"{it.path}/of") and not os.path.isdir(text_of(f"{it.path}/of")):
             shutil.rmtree(it.path, ignore_errors=True)
     with open(f"{BUILD}/lock", "w", encoding="utf-8") as lock:

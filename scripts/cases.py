@@ -1,7 +1,7 @@
 #!/usr/bin/env python3
-"""cases.py [PROGRAM=PATH].. [TABLE]..: runs the built programs on the cases of these tables, or of all in tests/.
-
-A program is the one that the gate or `make build` left, where no path is named. A table is read line by line:
+"""cases.py [PROGRAM=PATH].. [TABLE]..: runs the built programs on the cases of these tables, or of all in tests/. The last line is
+'N passed, M failed'. A program is the one that the gate or `make build` left, where no path is named. A table is read line by line,
+where '{WORD N times}' stands for a word so many times, and '{all of FOLDER}' for the files of a folder:
 
     file NAME [of PATH] [made KIND WORD..]
                               makes a file of the lines '| ..' below, or copies one of the repository (PATH.xz is unpacked), or makes one by inputs.py
@@ -20,10 +20,7 @@ A program is the one that the gate or `make build` left, where no path is named.
     values PROGRAM WORD..     words with {} for the values of the next lines:
     taken VALUE..             runs with each of them, which the program takes: its status is 0 or 4
     refused VALUE..           runs with each of them, of which it says that the words are wrong
-
-'{WORD N times}' stands for a word so many times, and '{all of FOLDER}' for the files of a folder. The last line is 'N passed, M failed'.
 """
-import lzma
 import os
 import re
 import resource
@@ -33,15 +30,12 @@ import subprocess
 import sys
 import tempfile
 
-from inputs import make
+from shared import ROOT, Tried, built, unpacked
 
-ROOT = os.path.dirname(os.path.dirname(os.path.abspath(__file__)))
+sys.path.append(f"{ROOT}/tests")
+from inputs import make  # pylint: disable=wrong-import-position
+
 SECONDS = 60
-
-
-def bytes_of(path):
-    with open(path, "rb") as it:
-        return it.read()
 
 
 def words_of(text):
@@ -113,7 +107,7 @@ class Case:
             elif name == "verdict":
                 well = any(re.match(rf"{what}\b", it) for it in out.decode(errors="replace").split("\n"))
             else:
-                text = texts[name] if name in texts else bytes_of(name) if os.path.isfile(name) else None
+                text = texts[name] if name in texts else unpacked(name) if os.path.isfile(name) else None
                 well = text is not None and says(text, how, what)
             if not well:
                 shown = texts.get(name, out)[-600:].decode(errors="replace")
@@ -126,7 +120,7 @@ def says(text, how, what):
     if how in ("some", "any"):
         return bool(text) or how == "any"
     if how == "as":
-        return text == bytes_of(f"{ROOT}/{what}")
+        return text == unpacked(f"{ROOT}/{what}")
     if how == "has":
         return what.encode() in text
     if how in ("lines", "below"):
@@ -160,7 +154,7 @@ class Table:
             name, how, *path = shlex.split(rest) if " " in rest else (rest, "")
             if how == "of":
                 with open(name, "wb") as it:
-                    it.write((lzma.decompress if path[0].endswith(".xz") else bytes)(bytes_of(f"{ROOT}/{path[0]}")))
+                    it.write(unpacked(f"{ROOT}/{path[0]}"))
             elif how == "made":
                 make(name, path[0], path[1:])
             else:
@@ -201,16 +195,11 @@ class Table:
 
 
 def main(words):
-    programs = {it: f"{ROOT}/crates/{it}/out/{it}" for it in ("grubrun", "grubtrace")}
-    programs.update(it.split("=", 1) for it in words if "=" in it)
+    named = dict(it.split("=", 1) for it in words if "=" in it)
+    programs = {it: os.path.abspath(named[it]) if it in named else built(it) for it in ("grubrun", "grubtrace")}
     tables = [os.path.abspath(it) for it in words if "=" not in it]
     tables = tables or sorted(f"{ROOT}/tests/{it}" for it in os.listdir(f"{ROOT}/tests") if it.endswith(".cases"))
-    for program, path in programs.items():
-        programs[program] = os.path.abspath(path)
-        if not os.access(path, os.X_OK):
-            print(f"cases: there is no {path}; the gate and `make build` make it\n0 passed, 1 failed")
-            return 1
-    passed = failed = 0
+    tried = Tried("cases")
     for path in tables:
         with tempfile.TemporaryDirectory() as folder:
             os.chdir(folder)
@@ -218,14 +207,10 @@ def main(words):
             table, spent = Table(path), {}
             table.read()
             for case in table.cases:
-                wrong = case.judged(programs, spent)
-                passed, failed = passed + (not wrong), failed + bool(wrong)
-                for it in wrong:
-                    print(f"cases: {case.name}: {it}")
+                tried.add(case.name, case.judged(programs, spent))
             os.chdir(ROOT)
-    print(f"{passed} passed, {failed} failed")
-    return 1 if failed else 0
+    tried.end()
 
 
 if __name__ == "__main__":
-    sys.exit(main(sys.argv[1:]))
+    main(sys.argv[1:])

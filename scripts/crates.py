@@ -1,24 +1,14 @@
-"""The crates that crates.txt lists, and the words by which the kit's rattle reads one."""
+"""The crates that crates.txt lists, and the words by which the kit's `rattle` reads one."""
 import hashlib
 import os
 import subprocess
 
-ROOT = os.path.dirname(os.path.dirname(os.path.abspath(__file__)))
+from shared import ROOT, files_below, text_of
+
 CACHE = os.environ.get("XDG_CACHE_HOME") or os.path.expanduser("~/.cache")
 # The libraries that scripts/build.py makes of this checkout. They hold .rt files, at which `rt ci` would stop, so they lie outside of it.
 LIBRARIES = f"{CACHE}/grub-build/{hashlib.sha256(ROOT.encode()).hexdigest()[:16]}"
-
-
-def text_of(path):
-    with open(path, encoding="utf-8") as it:
-        return it.read()
-
-
-def files_below(folder):
-    """The files below a folder, or the file at this path."""
-    if os.path.isfile(folder):
-        return [folder]
-    return sorted(f"{at}/{name}" for at, _, names in os.walk(folder) for name in names)
+PARTS = ("src", "specs", "proofs")
 
 
 def sum_of(*folders, start=ROOT):
@@ -38,6 +28,9 @@ class Crate:
         self.below = list(dict.fromkeys(low for use in uses if use in crates for low in [*crates[use].below, use]))
         self.of_kit = ["std", *[it for it in uses if it not in crates]]
         self.is_program = os.path.isfile(f"{self.folder}/src/main.rt")
+        self.parts = [f"{self.folder}/{it}" for it in PARTS]
+        # About how much there is to prove.
+        self.weight = sum(os.path.getsize(it) for part in self.parts for it in files_below(part))
 
     def words(self, kit, libraries):
         """The words for a check or a build, where the libraries below, by their names, lie in these folders."""
@@ -52,26 +45,19 @@ class Crate:
 
 
 def crates():
-    """All crates, by their names."""
+    """All crates, by their names, each after those that it uses."""
     found = {}
-    lines = [it.split("#")[0].split(":") for it in text_of(f"{ROOT}/crates.txt").split("\n")]
-    uses = {it[0].split()[0]: it[1].split() for it in lines if len(it) == 2}
+    uses = {it[0].split()[0]: it[1].split() for it in (line.split("#")[0].split(":") for line in text_of(f"{ROOT}/crates.txt").split("\n")) if len(it) == 2}
 
     def add(name):
-        if name not in found:
+        if name in uses and name not in found:
             for it in uses[name]:
-                if it in uses:
-                    add(it)
-            found[name] = Crate(name, uses[name], {it: found[it] for it in uses if it in found})
+                add(it)
+            found[name] = Crate(name, uses[name], found)
 
     for name in uses:
         add(name)
     return found
-
-
-def weight(crate):
-    """About how much there is to prove of a crate: the bytes of its files."""
-    return sum(os.path.getsize(it) for part in ("src", "specs", "proofs") for it in files_below(f"{crate.folder}/{part}"))
 
 
 def kit_folder():

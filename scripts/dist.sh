@@ -1,7 +1,6 @@
 #!/usr/bin/env bash
-# Makes out/neddwyrol-VERSION-x86_64-linux.tar.gz, a release that needs no kit: the programs and the library for C as the gate or `make` left
-# them, man pages, completions, bindings, the recorder, examples and documents, and BUILT, which says of which commit and by which kit. Then it
-# unpacks that into an empty folder and runs what README says there. The last line is 'N passed, M failed'.
+# Packs what the gate or `make` left into out/neddwyrol-VERSION-x86_64-linux.tar.gz, a release that needs no kit. BUILT in it says of which commit
+# and by which kit. Then it unpacks that into an empty folder and runs what README says there. The last line is 'N passed, M failed'.
 set -u
 cd "$(dirname "$0")/.." || exit 1
 work=$(mktemp -d)
@@ -21,7 +20,7 @@ pack() {
     # (where README and the scripts look for the library and the program)
     bash bindings/install.sh out/library '${pcfiledir}/../..' "$tree" && mkdir "$tree/scripts" "$tree/out" && ln -s ../lib "$tree/out/library" &&
         cp -r scripts/{record.sh,check-kernel.sh,kernel} "$tree/scripts/" &&
-        sed -i 's|/crates/grubtrace/out/grubtrace|/bin/grubtrace|' "$tree/scripts/check-kernel.sh" &&
+        sed -i 's|/crates/grubtrace/out/grubtrace|/bin/grubtrace|' "$tree"/scripts/{check-kernel.sh,kernel/record-check.sh} &&
         git archive HEAD bindings | tar -xC "$tree" && cp -r examples docs README.md LICENSE CHANGELOG.md "$tree/" || return 1
     printf 'commit %s\nkit %s\n' "$(git describe --always --dirty --abbrev=40)" "$(rt version)" > "$tree/BUILT"
     mkdir -p out && tar -C "$work" --sort=name --owner=0 --group=0 --numeric-owner -czf "out/$name.tar.gz" "$name"

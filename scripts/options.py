@@ -1,33 +1,25 @@
 #!/usr/bin/env python3
-"""Holds the man pages and the completions of bash, zsh and fish to the options, commands and version that --help and --version of the built programs
-tell: none is forgotten, and none is there no more. README's lines of the library are held to the examples in bindings/. The last line is 'N passed,
-M failed'."""
+"""options.py: holds man pages and completions of bash, zsh and fish to the options, commands, views and version that --help and --version
+of the built programs tell: none is forgotten, none is there no more. README's lines of the library are held to the examples in bindings/.
+The last line is 'N passed, M failed'."""
 import re
 import subprocess
-import sys
 
-from crates import ROOT, text_of
+from shared import ROOT, Tried, built, text_of
 
 OFFERED = 'source "$1"; COMP_WORDS=("${@:2}"); COMP_CWORD=$(($# - 2)); "_$2"; echo "${COMPREPLY[@]}"'
-told = []
+TRIED = Tried("options")
 
 
 def same(what, wanted, got):
     """Two texts, or collections of words, are the same, and not empty."""
     wanted, got = (it if isinstance(it, str) else sorted(set(it) - {""}) for it in (wanted, got))
-    told.append(bool(wanted) and wanted == got)
-    if not told[-1]:
-        print(f"options: {what} has: {got}\nwanted is: {wanted}")
+    TRIED.add(what, [] if wanted and wanted == got else [f"it has {got}", f"wanted is {wanted}"])
 
 
-def said(*words):
-    """What a command writes; a program's name stands for the built one."""
-    built = [f"{ROOT}/crates/{words[0]}/out/{words[0]}"] if words[0].startswith("grub") else [words[0]]
-    return subprocess.run([*built, *words[1:]], stdout=subprocess.PIPE, text=True, check=True).stdout
-
-
-def flat(pairs):
-    return [it for pair in pairs for it in pair]
+def said(program, *words):
+    """What a built program or another command writes."""
+    return subprocess.run([built(program) if program.startswith("grub") else program, *words], stdout=subprocess.PIPE, text=True, check=True).stdout
 
 
 def between(text, begin, end):
@@ -36,7 +28,7 @@ def between(text, begin, end):
 
 
 def of_help(*words):
-    return flat(re.findall(r"^ +(?:(-[A-Za-z]), )?(--[a-z-]+)", said(*words, "--help"), re.M))
+    return [it for pair in re.findall(r"^ +(?:(-[A-Za-z]), )?(--[a-z-]+)", said(*words, "--help"), re.M) for it in pair]
 
 
 def of_page(text):
@@ -60,7 +52,7 @@ def of_fish(text, command=""):
     found = []
     for line in re.findall(r"^complete .*", text, re.M):
         seen = re.search(r"__fish_seen_subcommand_from ([a-z$ ]+)", line)
-        if not seen or (not command if '-n "not ' in line else command in seen[1].split()):
+        if not seen or (command in seen[1].split() if command else '-n "not ' in line):
             found += [f"-{it}" for it in re.findall(r" -s ([A-Za-z])", line)] + [f"--{it}" for it in re.findall(r" -l ([a-z-]+)", line)]
     return found
 
@@ -69,15 +61,16 @@ def hold(program):
     page, zsh, fish = (text_of(f"{ROOT}/{it}") for it in (f"docs/{program}.1", f"completions/_{program}", f"completions/{program}.fish"))
     synopsis = re.split(r"^\.Nm", between(page, ".Sh SYNOPSIS", "\n.Sh"), flags=re.M)
     commands = re.findall(r"^  ([a-z]+) ", between(said(program, "--help"), "\nCommands:", "\n\n"), re.M)
-    everything = of_help(program)
-    for words in [[], *[[it] for it in commands if it != "help"]]:
-        own, name = of_help(program, *words), " ".join([program, *words])
+    everything = []
+    for command in ["", *[it for it in commands if it != "help"]]:
+        words = [it for it in (command,) if it]
+        own, name = of_help(program, *words), f"{program} {command}".strip()
         everything += own
         same(f"bash for {name}", own, of_bash(program, *words, "-"))
-        same(f"zsh for {name}", own, of_zsh(zsh, *words))
-        same(f"fish for {name}", own, of_fish(fish, *words))
-        for word in words:
-            same(f"the synopsis of {name}", own, ["-h", "--help", *of_page("".join(it for it in synopsis if f"\n.Cm {word}\n" in it))])
+        same(f"zsh for {name}", own, of_zsh(zsh, command))
+        same(f"fish for {name}", own, of_fish(fish, command))
+        if command:
+            same(f"the synopsis of {name}", own, ["-h", "--help", *of_page("".join(it for it in synopsis if f"\n.Cm {command}\n" in it))])
     same(f"the list of docs/{program}.1", everything, of_page("".join(re.findall(r"^\.It Fl .*", page, re.M))))
     same(f"the version in docs/{program}.1", said(program, "--version").split()[1:], re.findall(r"^\.Os Neddwyrol (.*)", page, re.M))
     if commands:
@@ -96,20 +89,14 @@ def example(path, begin, drop, indent):
     """How an example begins, up to the first line that it prints."""
     text = text_of(f"{ROOT}/bindings/{path}")
     lines = text[re.search(begin, text, re.M).start():].split("\n")
-    last = next(it for it, line in enumerate(lines) if "waiting ticket" in line)
-    return [it.removeprefix(" " * indent) for it in lines[drop:last + 1]]
+    return [it.removeprefix(" " * indent) for it in lines[drop:next(at for at, it in enumerate(lines) if "waiting ticket" in it) + 1]]
 
 
-def main():
+if __name__ == "__main__":
     hold("grubrun")
     hold("grubtrace")
     same("grubtrace --version", *(said(it, "--version").split()[1:] for it in ("grubrun", "grubtrace")))
     shown = re.findall(r"^    (?!cc |\(cd)(.*)", between(text_of(f"{ROOT}/README.md"), "\n## Use the library\n", "\n## "), re.M)
-    wanted = example("c/documentation.c", "^int main", 1, 4) + [it for it in example("python/documentation.py", "^from neddwyrol", 2, 0)]
+    wanted = example("c/documentation.c", "^int main", 1, 4) + example("python/documentation.py", "^from neddwyrol", 2, 0)
     same("README and the examples", "\n".join(wanted), "\n".join(shown))
-    print(f"{told.count(True)} passed, {told.count(False)} failed")
-    return 0 if all(told) else 1
-
-
-if __name__ == "__main__":
-    sys.exit(main())
+    TRIED.end()

@@ -1,40 +1,40 @@
 #!/usr/bin/env python3
-"""quick.py [CRATE]..: runs all tests, and the programs that have a stored output, with nothing proved, by the kit's `rt try`: it stops at an index
-out of bounds, a number that overflows and the like, and tries no contract. Several crates are tried at once. The last line is 'N passed, M failed'."""
+"""quick.py [CRATE]..: runs all tests, and the programs that have a stored output, with nothing proved, by the kit's `rt try`. That stops at an
+index out of bounds, a number that overflows and the like, and tries no contract. The last line is 'N passed, M failed'.
+quick.py --try PROGRAM WORD..: so runs grubrun or grubtrace on these words, and ends with its status. A run has a minute, and may print 1 MiB."""
 import os
 import subprocess
 import sys
 import time
 from concurrent.futures import ThreadPoolExecutor
 
-from crates import ROOT, crates, files_below, lanes, text_of
+from crates import crates, lanes
+from shared import ROOT, Tried, files_below, text_of
 
 # One try takes up to so many kB of memory. Tests with checks are slow, so they have longer than the kit's minute.
 ROOM, SECONDS = 2_000_000, "240"
 
 
-def has_tests(crate):
-    return any("#[test]" in text_of(it) for it in files_below(f"{crate.folder}/src") if it.endswith(".rt"))
+def tried(folder, *words):
+    return subprocess.run(["rt", "try", *words], cwd=folder, stdin=subprocess.DEVNULL, capture_output=True, check=False)
 
 
-def tried(crate, *words):
-    """How a try ends, and what it wrote."""
-    how = {"cwd": crate.folder, "stdin": subprocess.DEVNULL, "stdout": subprocess.PIPE, "stderr": subprocess.PIPE}
-    return subprocess.run(["rt", "try", *words], check=False, **how)
+def data_of(files):
+    """The words that hand these files over, by the names that the program knows them by."""
+    return [word for name, path in files.items() for word in ("--data", f"{name}={path}")]
 
 
 def test(crate):
-    done = tried(crate, "--test", "--seconds", SECONDS)
+    done = tried(crate.folder, "--test", "--seconds", SECONDS)
     return done.returncode == 0, done.stderr
 
 
 def play(crate):
     """Whether a program's output is the stored one."""
     words = text_of(f"{crate.folder}/args").split("\n") if os.path.isfile(f"{crate.folder}/args") else []
-    data = [word for it in files_below(f"{crate.folder}/data") for word in ("--data", f"{os.path.relpath(it, f'{crate.folder}/data')}={it}")]
-    done = tried(crate, *data, "--", *[it for it in words if it])
-    with open(f"{crate.folder}/stdout", "rb") as it:
-        return done.stdout == it.read(), done.stderr
+    files = {os.path.relpath(it, f"{crate.folder}/data"): it for it in files_below(f"{crate.folder}/data")}
+    done = tried(crate.folder, *data_of(files), "--", *[it for it in words if it])
+    return done.stdout.decode(errors="replace") == text_of(f"{crate.folder}/stdout"), done.stderr
 
 
 def judge(job):
@@ -42,21 +42,38 @@ def judge(job):
     began = time.time()
     well, said = work(crate)
     print(f"quick: {name} {crate.name}: {'passed' if well else 'FAILED'}, {time.time() - began:.0f} s", flush=True)
-    if not well:
-        print(said.decode(errors="replace")[-2000:], flush=True)
-    return well
+    return [] if well else [said.decode(errors="replace")[-2000:]]
+
+
+def run(program, words):
+    """One run of a program. It runs in a folder of its own, so each file is handed over under the name that the words give it."""
+    files, given = {}, []
+    for word in words:
+        path = os.path.realpath(word)
+        is_below = os.path.isfile(word) and not word.startswith("/") and ".." not in word.split("/")
+        files.update({word: path} if is_below else {})
+        given.append(path if os.path.isfile(word) and not is_below else word)
+    print(f"try: {program} as it stands, with nothing proved; this takes about a minute", file=sys.stderr, flush=True)
+    done = tried(f"{ROOT}/crates/{program}", *data_of(files), "--", *given)
+    sys.stdout.buffer.write(done.stdout)
+    said = done.stderr.splitlines(True)
+    has_ended = any(it.startswith(b"run=ended status=") for it in said)
+    sys.stderr.buffer.writelines(it for it in said if not (has_ended and it.startswith((b"checked:", b"races:", b"run="))))
+    return done.returncode
 
 
 def main(words):
-    known = crates()
+    if words[:1] == ["--try"]:
+        sys.exit(run(words[1], words[2:]))
+    known, counts = crates(), Tried("quick")
     chosen = [known[it] for it in words] if words else list(known.values())
-    jobs = [("tests of", test, it) for it in chosen if has_tests(it)]
-    jobs += [("program", play, it) for it in chosen if os.path.isfile(f"{it.folder}/stdout")]
+    has_tests = [it for it in chosen if any("#[test]" in text_of(at) for at in files_below(it.parts[0]))]
+    jobs = [("tests of", test, it) for it in has_tests] + [("program", play, it) for it in chosen if os.path.isfile(f"{it.folder}/stdout")]
     with ThreadPoolExecutor(lanes(ROOM)) as pool:
-        told = list(pool.map(judge, jobs))
-    print(f"{sum(told)} passed, {len(told) - sum(told)} failed")
-    return 0 if all(told) else 1
+        for (name, _, crate), wrong in zip(jobs, pool.map(judge, jobs)):
+            counts.add(f"{name} {crate.name}", wrong)
+    counts.end()
 
 
 if __name__ == "__main__":
-    sys.exit(main(sys.argv[1:]))
+    main(sys.argv[1:])

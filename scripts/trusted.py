@@ -1,52 +1,53 @@
 #!/usr/bin/env python3
-"""Which definitions a reader must trust: those that public contracts reach, and how many lines they have, crate by crate.
-
-In each crate specs/ holds these and nothing else; definitions that only proofs and private functions need lie in
-specs/inside/; and docs/READING.md names each file of the former. No line of a contract has more than 100 columns. The first
-and the last fail in the crates whose names begin as HELD says, and are remarks elsewhere. The last line is 'N passed, M failed':
-a definition at its place, or not. With --list it prints each trusted definition with its crate and module. With --of CRATE.. it
-only counts what the public contracts of these crates reach.
-"""
+"""trusted.py: counts the definitions that public contracts reach, which a reader must trust, crate by crate; with --of CRATE.. for these alone.
+It fails where, in a crate that HELD names, one stands in specs/inside/, another one outside of it, or a line of a contract has more than 100
+columns, and where docs/READING.md names a file of trusted ones not. The last line is 'N passed, M failed': definitions."""
 import os
 import re
 import sys
 
-ROOT = os.path.dirname(os.path.dirname(os.path.abspath(__file__)))
+from crates import crates
+from shared import ROOT, files_below, text_of
+
 WORD = re.compile(r"[^\W\d][\w'?]*")
 HEAD = re.compile(r"^(?:(?:abbrev|unfoldable|opaque|instance|pub)\s+)+(?:(?:record|data)\s+)?([^\s:{(]+)|^(?:record|data|module)\s+([^\s:{(]+)")
 INNER = {"data": re.compile(r"\s+(?:pub\s+)?([\w']+)\s*:"), "module": re.compile(r"  (?:abbrev |unfoldable )?pub (?:record |data )?([\w']+)")}
 IMPORT = re.compile(r"\buse\s+Rattle\.(\w+)\.specs\.([\w.]+?)(?:\.\{([^}]*)\}|\s+as\s+(\w+))?\s*;?\s*$", re.M)
+PUBLIC_USE = re.compile(r"\bpub use ([\w:]+)(?:::\{([^}]*)\})?;", re.S)
+FUNCTION = re.compile(r"^( *)(pub(?:\(\w+\))? )?(?:const )?fn (\w+)", re.M)
+CLAUSE = re.compile(r"\b(?:requires|ensures)\b[^{;\n]*\{")
+ITEM = re.compile(r"^(?:pub )?(impl|trait|struct|enum)\b([^{;]*)", re.M)
+GHOST = re.compile(r"\bghost (?:Value|coded|output)\s*=\s*\{")
 WIDEST = 100
 HELD = ("grub", "timer_lines", "timer_rules", "deadline_events", "deadline_laws", "deadline_timers", "deadline_verdict")
-PUBLIC_USE = re.compile(r"\bpub use ([\w:]+)(?:::\{([^}]*)\})?;", re.S)
+CRATES = crates()
 
 
 class Definition:
-    """One definition of a specification: its lines, those of its comment, and the words in it."""
+    """One definition of a specification: its lines, the words in it, and the names that it has besides its own."""
 
     def __init__(self, crate, module, name):
         self.crate, self.module, self.name = crate, module, name
-        self.lines, self.comments, self.words, self.inner = 0, 0, set(), set()
+        self.lines, self.words, self.inner = 0, set(), set()
 
     def is_inside(self):
         return self.module.split(".")[0] == "inside"
 
-    def label(self):
-        name = self.name if self.name != "_" else " ".join(sorted(self.inner))
-        return f"{self.crate}/specs/{self.module.replace('.', '/')}.antt: {name}"
 
-
-def text_of(path):
-    with open(path, encoding="utf-8") as it:
-        return it.read()
-
-
-def files_below(folder, ending):
-    for at, folders, names in os.walk(folder):
-        folders[:] = sorted(it for it in folders if it != "out")
-        for name in sorted(names):
-            if name.endswith(ending):
-                yield os.path.join(at, name)
+def definitions_in(crate, module, text):
+    """The definitions of a module, in order."""
+    found = []
+    for line in text.split("\n"):
+        head = None if line.startswith(("use ", "pub mod")) else HEAD.match(line)
+        if head:
+            found.append(Definition(crate, module, head[1] or head[2]))
+            kind = INNER.get(next((it for it in ("data", "module") if it in line.split()[:3]), None))
+        if found and line.strip() and not line.lstrip().startswith("--"):
+            found[-1].lines += 1
+            found[-1].words |= set(WORD.findall(line.split(" -- ")[0]))
+            inner = kind and kind.match(line)
+            found[-1].inner |= {inner[1]} if inner else set()
+    return found
 
 
 def imports_of(text, modules):
@@ -60,44 +61,30 @@ def imports_of(text, modules):
         rest = parts[len(module.split(".")):]
         if short:
             found[short] = (crate, module, rest[-1] if rest else None)
-        for name in (it.strip() for it in names.split(",")):
-            if name:
-                of, _, known = name.partition(" as ")
-                found[(known or of).strip()] = (crate, module, of.strip())
+        for name in (it.strip() for it in names.split(",") if it.strip()):
+            of, _, known = name.partition(" as ")
+            found[(known or of).strip()] = (crate, module, of.strip())
         if rest and not names:
             found[rest[-1]] = (crate, module, rest[-1])
     return found
 
 
-def definitions_in(crate, module, text):
-    """The definitions of a module, in order."""
-    found, comment, current = [], 0, None
-    for line in text.split("\n"):
-        if line.lstrip().startswith("--"):
-            comment += 1
-            continue
-        head = None if line.startswith(("use ", "pub mod")) else HEAD.match(line)
-        if head:
-            current = Definition(crate, module, head.group(1) or head.group(2))
-            current.comments = comment
-            kind = INNER.get(next((it for it in ("data", "module") if it in line.split()[:3]), None))
-            found.append(current)
-        if not line.strip():
-            comment = 0
-        elif current:
-            current.lines += 1
-            current.comments += 0 if head else comment
-            current.words |= set(WORD.findall(line.split(" -- ")[0]))
-            inner = kind and kind.match(line)
-            if inner:
-                current.inner.add(inner.group(1))
-        comment = 0 if head else comment
-    return found
+def read_specs():
+    """All definitions by (crate, module, name), the imports of each module, and the modules."""
+    found, texts = {}, {}
+    for crate, it in CRATES.items():
+        for path in (at for at in files_below(f"{it.folder}/specs") if at.endswith(".antt")):
+            texts[crate, os.path.relpath(path, f"{it.folder}/specs")[:-5].replace("/", ".")] = text_of(path)
+    for (crate, module), text in texts.items():
+        for it in definitions_in(crate, module, text):
+            for name in it.inner | {it.name} - {"_"}:
+                found.setdefault((crate, module, name), it)
+    return found, {it: imports_of(text, texts) for it, text in texts.items()}, texts
 
 
-def blanked(text):
-    """Rust text without its comments."""
-    return re.sub(r"//[^\n]*", "", text)
+def sources(crate):
+    """The sources of a crate, without its tests."""
+    return [it for it in files_below(f"{crate.folder}/src") if it.endswith(".rt")]
 
 
 def braces(text, at):
@@ -110,43 +97,43 @@ def braces(text, at):
     return ""
 
 
-def public_names(folder):
-    """The names that a library hands out, or, of a program, all that its main names."""
-    lib = f"{folder}/src/lib.rt"
-    if not os.path.isfile(lib):
-        return set(WORD.findall(blanked(text_of(f"{folder}/src/main.rt")))), {}
-    names, text = set(), blanked(text_of(lib))
+def blanked(text):
+    """Rust text without its comments."""
+    return re.sub(r"//[^\n]*", "", text)
+
+
+def public_names(crate):
+    """The names that a library hands out and the modules that it opens, or, of a program, all that its main names."""
+    if crate.is_program:
+        return set(WORD.findall(blanked(text_of(f"{crate.folder}/src/main.rt")))), set()
+    names, text = set(), blanked(text_of(f"{crate.folder}/src/lib.rt"))
     for path, group in PUBLIC_USE.findall(text):
         names |= {it.strip().split(" as ")[-1] for it in group.split(",")} if group else {path.split("::")[-1]}
     return names, set(re.findall(r"\bpub mod (\w+)", text))
 
 
-FUNCTION = re.compile(r"^( *)(pub(?:\(\w+\))? )?(?:const )?fn (\w+)", re.M)
-CLAUSE = re.compile(r"\b(?:requires|ensures)\b[^{;\n]*\{")
-ITEM = re.compile(r"^(?:pub )?(impl|trait|struct|enum)\b([^{;]*)", re.M)
-GHOST = re.compile(r"\bghost (?:Value|coded|output)\s*=\s*\{")
-
-
 def contract_words(text, public, is_open, is_program):
     """The words of all public contracts in a file of Rust."""
     text, words = blanked(text), set()
-    items = [(it.start(), it.group(1), it.group(2)) for it in ITEM.finditer(text)]
+    items = [(it.start(), it[1], it[2]) for it in ITEM.finditer(text)]
+
+    def item_before(at):
+        return next(((kind, head) for start, kind, head in reversed(items) if start < at), ("", ""))
+
     starts = [it.start() for it in FUNCTION.finditer(text)] + [len(text)]
-    for at, match in enumerate(FUNCTION.finditer(text)):
+    for match, end in zip(FUNCTION.finditer(text), starts[1:]):
         indent, shown, name = match.groups()
         is_public = shown == "pub " or shown and is_program
-        before = [it for it in items if it[0] < match.start()]
-        kind, head = before[-1][1:] if indent and before else ("", "")
-        of = set(WORD.findall(head)) & public
-        is_trait = kind == "trait" or re.search(r"\bfor\b", head)
-        seen = bool(of) and (is_public or is_trait) if indent else bool(is_public) and (is_open or name in public)
-        if seen:
-            part = text[match.start():starts[at + 1]]
-            for clause in CLAUSE.finditer(part):
-                words |= set(WORD.findall(braces(part, clause.end() - 1)))
+        kind, head = item_before(match.start()) if indent else ("", "")
+        if indent:
+            seen = set(WORD.findall(head)) & public and (is_public or kind == "trait" or re.search(r"\bfor\b", head))
+        else:
+            seen = is_public and (is_open or name in public)
+        part = text[match.start():end] if seen else ""
+        for clause in CLAUSE.finditer(part):
+            words |= set(WORD.findall(braces(part, clause.end() - 1)))
     for match in GHOST.finditer(text):
-        before = [it for it in items if it[0] < match.start()]
-        if before and set(WORD.findall(before[-1][2])) & public:
+        if set(WORD.findall(item_before(match.start())[1])) & public:
             words |= set(WORD.findall(braces(text, match.end() - 1)))
     for at, kind, head in items:
         if kind == "struct" and set(WORD.findall(head)) & public and "{" in text[at:]:
@@ -158,27 +145,6 @@ def contract_words(text, public, is_open, is_program):
     return words
 
 
-def crates():
-    lines = (it.split("#")[0].strip() for it in text_of(f"{ROOT}/crates.txt").split("\n"))
-    return [it.split(":")[0].split()[0] for it in lines if it]
-
-
-def read_specs():
-    """All definitions by (crate, module, name), and the imports of each module."""
-    found, files = {}, {}
-    for crate in crates():
-        folder = f"{ROOT}/crates/{crate}/specs"
-        for path in files_below(folder, ".antt"):
-            module = os.path.relpath(path, folder)[:-5].replace("/", ".")
-            files[crate, module] = text_of(path)
-    imports = {it: imports_of(text, files) for it, text in files.items()}
-    for (crate, module), text in files.items():
-        for it in definitions_in(crate, module, text):
-            for name in it.inner | {it.name} - {"_"}:
-                found.setdefault((crate, module, name), it)
-    return found, imports, files
-
-
 def meant(words, own, imports, found):
     """The definitions that these words name, in a file with these imports (and of this module, where it is one)."""
     for word in words:
@@ -186,28 +152,19 @@ def meant(words, own, imports, found):
             yield found[(*own, word)]
         elif word in imports:
             crate, module, name = imports[word]
-            if name is None:
-                for other in words:
-                    if (crate, module, other) in found:
-                        yield found[crate, module, other]
-            elif (crate, module, name) in found:
-                yield found[crate, module, name]
+            for other in words if name is None else [name]:
+                if (crate, module, other) in found:
+                    yield found[crate, module, other]
 
 
-def trusted(found, imports, files, names):
+def trusted(found, imports, modules, names):
     """The definitions that the public contracts of these crates reach."""
-    left = []
-    for crate in names:
-        folder = f"{ROOT}/crates/{crate}"
-        public, open_modules = public_names(folder)
-        is_program = os.path.isfile(f"{folder}/src/main.rt")
-        for path in files_below(f"{folder}/src", ".rt"):
-            if "tests" in os.path.relpath(path, folder):
-                continue
-            text = text_of(path)
-            is_open = os.path.basename(path)[:-3] in open_modules
-            left += meant(contract_words(text, public, is_open, is_program), None, imports_of(text, files), found)
-    reached = set()
+    left, reached = [], set()
+    for crate in (CRATES[it] for it in names):
+        public, opened = public_names(crate)
+        for path in (it for it in sources(crate) if "tests" not in os.path.relpath(it, crate.folder)):
+            words = contract_words(text_of(path), public, os.path.basename(path)[:-3] in opened, crate.is_program)
+            left += meant(words, None, imports_of(text_of(path), modules), found)
     while left:
         it = left.pop()
         if it not in reached:
@@ -222,65 +179,44 @@ def unread(reached):
     for path, short in re.findall(r"`(?:(\w+)/specs/)?([A-Z]\w*)`", text_of(f"{ROOT}/docs/READING.md")):
         crate = path or crate
         named.add((crate, short))
-    return sorted({(it.crate, it.module.split(".")[-1]) for it in reached} - named - {(it, "Messages") for it in crates()})
+    return sorted({(it.crate, it.module.split(".")[-1]) for it in reached} - named - {(it, "Messages") for it in CRATES})
 
 
-def too_wide():
-    """The lines of contracts that are too long to be read at a glance, which nothing else wraps."""
-    for crate in crates():
-        for path in files_below(f"{ROOT}/crates/{crate}/src", ".rt"):
-            text = text_of(path)
-            for clause in CLAUSE.finditer(text):
-                end = clause.end() + len(braces(text, clause.end() - 1))
-                first = text.rindex("\n", 0, clause.start()) + 1
-                for at, line in enumerate(text[first:text.index("\n", end)].split("\n")):
-                    if len(line) > WIDEST:
-                        yield f"{os.path.relpath(path, ROOT)}:{text.count(chr(10), 0, first) + at + 1}"
-
-
-def word_for(crate):
-    """How a line begins that tells of a crate."""
-    return "trusted" if crate.startswith(HELD) else "remark"
+def too_wide(crate):
+    """The places of contracts with a line that is too long to be read at a glance, which nothing else wraps."""
+    for path in sources(crate):
+        text = text_of(path)
+        for clause in CLAUSE.finditer(text):
+            first, end = text.rindex("\n", 0, clause.start()) + 1, clause.end() + len(braces(text, clause.end() - 1))
+            if any(len(it) > WIDEST for it in text[first:text.index("\n", end)].split("\n")):
+                yield f"{os.path.relpath(path, ROOT)}:{text.count(chr(10), 0, first) + 1}"
 
 
 def count(reached):
     """Tells how many lines these definitions have, crate by crate."""
-    total = 0
-    for crate in crates():
-        mine = [it for it in reached if it.crate == crate]
-        lines = sum(it.lines for it in mine)
-        total += lines
+    for crate in CRATES:
+        mine = [it.lines for it in reached if it.crate == crate]
         if mine:
-            print(f"trusted: {crate}: {len(mine)} definitions, {lines} lines, {sum(it.comments for it in mine)} lines of comment")
-    print(f"trusted: in all {len(reached)} definitions, {total} lines")
+            print(f"trusted: {crate}: {len(mine)} definitions, {sum(mine)} lines")
+    print(f"trusted: in all {len(reached)} definitions, {sum(it.lines for it in reached)} lines")
 
 
-def main():
-    found, imports, files = read_specs()
-    if "--of" in sys.argv:
-        count(trusted(found, imports, files, sys.argv[sys.argv.index("--of") + 1 :]))
-        return 0
-    definitions = list(dict.fromkeys(found.values()))
-    reached = trusted(found, imports, files, crates())
-    wrong = [it for it in definitions if (it in reached) == it.is_inside()]
-    if "--list" in sys.argv:
-        for it in definitions:
-            if it in reached:
-                print(it.label())
-    for it in wrong:
-        print(f"{word_for(it.crate)}: {it.label()} {'is reached by a public contract' if it.is_inside() else 'belongs in specs/inside'}")
-    missing = unread(reached)
-    for crate, module in missing:
-        print(f"trusted: docs/READING.md does not name {crate}/specs/{module}")
-    wide = list(too_wide())
-    for it in wide:
-        print(f"{word_for(it.split('/')[1])}: {it} has more than {WIDEST} columns")
+def main(words):
+    found, imports, modules = read_specs()
+    reached = trusted(found, imports, modules, words[1:] if words[:1] == ["--of"] else CRATES)
     count(reached)
-    left = [it for it in wrong if it.crate.startswith(HELD)]
-    failed = len(left) + len(missing) + sum(it.split("/")[1].startswith(HELD) for it in wide)
-    print(f"{len(definitions) - len(left)} passed, {failed} failed")
-    return 1 if failed else 0
+    if words:
+        return 0
+    definitions, held = list(dict.fromkeys(found.values())), [it for it in CRATES.values() if it.name.startswith(HELD)]
+    wrong = [it for it in definitions if (it in reached) == it.is_inside() and it.crate.startswith(HELD)]
+    told = [f"{it.crate}/{it.module}: {it.name} {'is reached by a public contract' if it.is_inside() else 'belongs in specs/inside'}" for it in wrong]
+    told += [f"docs/READING.md does not name {crate}/specs/{module}" for crate, module in unread(reached)]
+    told += [f"{at} has more than {WIDEST} columns" for crate in held for at in too_wide(crate)]
+    for it in told:
+        print(f"trusted: {it}")
+    print(f"{len(definitions) - len(wrong)} passed, {len(told)} failed")
+    return 1 if told else 0
 
 
 if __name__ == "__main__":
-    sys.exit(main())
+    sys.exit(main(sys.argv[1:]))

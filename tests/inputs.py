@@ -1,9 +1,9 @@
-"""Inputs made where a table of cases names them: file NAME made KIND WORD.."""
-import lzma
+"""Inputs that a table of cases names: file NAME made KIND WORD.. (scripts/cases.py reads the tables)."""
 import os
 import subprocess
 
-ROOT = os.path.dirname(os.path.dirname(os.path.abspath(__file__)))
+from shared import RECORDS, ROOT, unpacked
+
 PROCESSOR = 1048576
 # What a line of another task has in a trace, which tells nothing of a SCHED_DEADLINE task.
 OTHER = "      x-1       [000] d..2.   {}: sched_wakeup: comm=x pid=1 prio=120 target_cpu=000\n"
@@ -108,8 +108,8 @@ def noted(path, count):
 def record(path, name, *edits):
     """A record of examples/records, changed by these commands of sed."""
     script = [it for edit in ("", *edits) for it in ("-e", edit)]
-    with lzma.open(f"{ROOT}/examples/records/{name}.txt.xz") as packed, open(path, "wb") as it:
-        subprocess.run(["sed", "-E", *script], input=packed.read(), stdout=it, check=True)
+    with open(path, "wb") as it:
+        subprocess.run(["sed", "-E", *script], input=unpacked(f"{RECORDS}/{name}.txt.xz"), stdout=it, check=True)
 
 
 def make(path, kind, words):

@@ -2,7 +2,7 @@
 # Records a load of four SCHED_DEADLINE tasks on this machine and checks the record with grubtrace, which has to be built (GRUBTRACE may
 # name another one). Where the machine does not let it, it says why, and ends with 0.
 set -u
-root=$(cd "$(dirname "$0")/.." && pwd)
+root=$(cd "$(dirname "$0")/../.." && pwd)
 grubtrace=${GRUBTRACE:-$root/crates/grubtrace/out/grubtrace}
 work=$(mktemp -d)
 trap 'rm -rf "$work"' EXIT

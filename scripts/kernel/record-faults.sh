@@ -1,9 +1,9 @@
 #!/bin/sh
 # Runs record.sh in each way in which it can end, as root, and sees that it says why, has the right status, and leaves nothing behind:
 # no tracefs instance, no event, no mount, no process, no half-written file. Its last line is 'N passed, M failed'.
-# On a kernel that can be probed: scripts/check-kernel.sh --run scripts/record-faults.sh KERNEL
+# On a kernel that can be probed: scripts/check-kernel.sh --run scripts/kernel/record-faults.sh KERNEL
 set -u
-record=$(cd "$(dirname "$0")" && pwd)/record.sh
+record=$(cd "$(dirname "$0")/.." && pwd)/record.sh
 [ -f "$record" ] || record=/scripts/record.sh
 work=$(mktemp -d)
 tracefs=$work/tracefs

@@ -1,0 +1,62 @@
+"""What the scripts share: the repository's folder, its files, the built programs, records, and the counts that end a step of the gate."""
+import lzma
+import os
+import subprocess
+import sys
+
+ROOT = os.path.dirname(os.path.dirname(os.path.abspath(__file__)))
+RECORDS = f"{ROOT}/examples/records"
+
+
+def text_of(path):
+    with open(path, encoding="utf-8") as it:
+        return it.read()
+
+
+def files_below(folder):
+    """The files below a folder, or the file at this path."""
+    if os.path.isfile(folder):
+        return [folder]
+    return sorted(f"{at}/{name}" for at, _, names in os.walk(folder) for name in names)
+
+
+def built(program):
+    """The program that the gate or `make build` left. Where there is none, the step fails."""
+    path = f"{ROOT}/crates/{program}/out/{program}"
+    if not os.access(path, os.X_OK):
+        sys.exit(f"there is no {path}; the gate and `make build` make it\n0 passed, 1 failed")
+    return path
+
+
+def ran(*words, seconds=60, **how):
+    """A run of a command: its status, and its two outputs as text."""
+    return subprocess.run(words, stdin=subprocess.DEVNULL, capture_output=True, text=True, timeout=seconds, check=False, **how)
+
+
+def records(kind):
+    """The paths of the recorded traces of this kind, without `.txt.xz`."""
+    return [it.removesuffix(".txt.xz") for it in files_below(f"{RECORDS}/{kind}") if it.endswith(".txt.xz")]
+
+
+def unpacked(path):
+    """The bytes of a file, unpacked where its name ends with `.xz`."""
+    with (lzma.open if path.endswith(".xz") else open)(path, "rb") as it:
+        return it.read()
+
+
+class Tried:
+    """Counts what was tried, and tells what failed."""
+
+    def __init__(self, step):
+        self.step, self.passed, self.failed = step, 0, 0
+
+    def add(self, name, wrong):
+        """One more: `wrong` is a list of what is wrong with it."""
+        self.passed, self.failed = self.passed + (not wrong), self.failed + bool(wrong)
+        if wrong:
+            print(f"{self.step}: {name}: {len(wrong)} wrong: " + "; ".join(wrong[:4]), flush=True)
+
+    def end(self):
+        """Prints the counts, and ends with 0 where none failed."""
+        print(f"{self.passed} passed, {self.failed} failed")
+        sys.exit(self.failed > 0)
