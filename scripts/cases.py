@@ -29,6 +29,7 @@ import signal
 import subprocess
 import sys
 import tempfile
+from contextlib import ExitStack
 
 from shared import ROOT, Tried, built, unpacked
 
@@ -67,27 +68,23 @@ class Case:
 
     def ran(self, programs, words):
         """The status, both outputs, and the seconds of a processor that a run took."""
-        out = subprocess.PIPE
-        given = None if self.input in (None, "nothing") else open(self.input, "rb")
-        if self.into == "gone":
-            gone, out = os.pipe()
-            os.close(gone)
-        elif self.into and self.into != "closed":
-            out = open(self.into, "wb")
-        before = resource.getrusage(resource.RUSAGE_CHILDREN)
-        try:
-            done = subprocess.run([programs[words[0]], *words[1:]], stdin=given or subprocess.DEVNULL, stdout=out, stderr=subprocess.PIPE,
-                                  preexec_fn=self.limits, timeout=SECONDS, check=False)
-            after = resource.getrusage(resource.RUSAGE_CHILDREN)
-            return done.returncode, done.stdout or b"", done.stderr, after.ru_utime - before.ru_utime
-        except subprocess.TimeoutExpired:
-            return None, b"", b"no end", SECONDS
-        finally:
-            for it in (given, out):
-                if isinstance(it, int) and it >= 0:
-                    os.close(it)
-                elif hasattr(it, "close"):
-                    it.close()
+        with ExitStack() as opened:
+            given, out = subprocess.DEVNULL, subprocess.PIPE
+            if self.input not in (None, "nothing"):
+                given = opened.enter_context(open(self.input, "rb"))
+            if self.into == "gone":
+                gone, end = os.pipe()
+                os.close(gone)
+                out = opened.enter_context(os.fdopen(end, "wb"))
+            elif self.into not in (None, "closed"):
+                out = opened.enter_context(open(self.into, "wb"))
+            before = resource.getrusage(resource.RUSAGE_CHILDREN).ru_utime
+            try:
+                done = subprocess.run([programs[words[0]], *words[1:]], stdin=given, stdout=out, stderr=subprocess.PIPE, preexec_fn=self.limits,
+                                      timeout=SECONDS, check=False)
+            except subprocess.TimeoutExpired:
+                return None, b"", b"no end", SECONDS
+            return done.returncode, done.stdout or b"", done.stderr, resource.getrusage(resource.RUSAGE_CHILDREN).ru_utime - before
 
     def judged(self, programs, spent):
         """What is wrong with a run, in words."""
