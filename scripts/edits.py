@@ -153,7 +153,7 @@ class Trial:
         misread = UNREAD.search(said)
         if status == 0:
             return ["NOT REFUSED: the crate is still proved"]
-        if status != 1 or misread or "logic=not-proved" not in said:
+        if status != 1 or misread or not ("logic=not-proved" in said or VERDICT.search(said)):
             return [f"BAD: {misread[0][:200] if misread else f'the check ended with status {status}: {said[-300:]}'}"]
         return []
 
