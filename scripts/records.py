@@ -66,12 +66,14 @@ def why_faults(wanted, trace):
 def check_table(path, trace, work):
     """What is wrong with the table, the verdict and the status of a record. The status is 4 where a row differs."""
     done, is_timers = ran(PROGRAM, "check", "--table", f"{work}/table", trace), os.path.exists(f"{path}.table")
+    if done.returncode not in VERDICT:
+        return [f"status {done.returncode}: {done.stderr}"]
     rows, wanted = rows_of(text_of(f"{work}/table")), text_of(f"{path}.{'table' if is_timers else 'counts'}")
     wrong = list(timer_faults(rows_of(wanted), rows) if is_timers else probe_faults(wanted, rows, done.stdout))
     if os.path.exists(f"{path}.why"):
         wrong += why_faults(text_of(f"{path}.why"), trace)
     differs = any(row["answer"] == "differs" for row in rows)
-    return wrong if done.returncode == 4 * differs else [f"status {done.returncode}: {done.stdout[:300]}{done.stderr}", *wrong]
+    return wrong if done.returncode == 4 * differs else [f"status {done.returncode}: {done.stdout[:300]}", *wrong]
 
 
 class States:
