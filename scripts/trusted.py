@@ -19,7 +19,7 @@ CLAUSE = re.compile(r"\b(?:requires|ensures)\b[^{;\n]*\{")
 ITEM = re.compile(r"^(?:pub )?(impl|trait|struct|enum)\b([^{;]*)", re.M)
 GHOST = re.compile(r"\bghost (?:Value|coded|output)\s*=\s*\{")
 WIDEST = 100
-HELD = ("grub", "timer_lines", "timer_rules", "deadline_events", "deadline_laws", "deadline_timers", "deadline_verdict")
+HELD = ("grub", "record_line", "trace_probes", "trace_reader", "trace_words", "timer_lines", "timer_rules", "deadline_events", "deadline_laws", "deadline_timers", "deadline_verdict")
 CRATES = crates()
 
 
