@@ -36,7 +36,7 @@ from shared import ROOT, Tried, built, unpacked
 sys.path.append(f"{ROOT}/tests")
 from inputs import make  # pylint: disable=wrong-import-position
 
-SECONDS = 60
+SECONDS = 180
 
 
 def words_of(text):

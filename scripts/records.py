@@ -15,7 +15,7 @@ from shared import Tried, built, ran, records, text_of, unpacked
 
 TIMERS = {"block": "0-lag timer", "replenish": "replenishment timer"}
 AWAKE = {"running", "contending", "throttled"}
-LINES, MUTATED = 600, 200
+LINES, MUTATED, SECONDS = 600, 200, 600
 VERDICT = {0: re.compile(r"^agrees", re.M), 4: re.compile(r"^differs", re.M)}
 FAULT = re.compile(r"grubtrace: [^\n]*: \d\d [A-Z]\w+[^\n]*\n")
 
@@ -55,7 +55,7 @@ def probe_faults(wanted, rows, text):
 
 def why_faults(wanted, trace):
     """What is wrong with the changed rules that `--why` names."""
-    done = ran(PROGRAM, "check", "--why", trace)
+    done = ran(PROGRAM, "check", "--why", trace, seconds=SECONDS)
     named = re.findall(r'^  with one rule changed, "(.*)": the kernel agrees, bit for bit$', done.stdout, re.M)
     if named != wanted.split("\n")[:-1]:
         yield f"--why names {named}, wanted {wanted!r}"
@@ -65,7 +65,7 @@ def why_faults(wanted, trace):
 
 def check_table(path, trace, work):
     """What is wrong with the table, the verdict and the status of a record. The status is 4 where a row differs."""
-    done, is_timers = ran(PROGRAM, "check", "--table", f"{work}/table", trace), os.path.exists(f"{path}.table")
+    done, is_timers = ran(PROGRAM, "check", "--table", f"{work}/table", trace, seconds=SECONDS), os.path.exists(f"{path}.table")
     if done.returncode not in VERDICT:
         return [f"status {done.returncode}: {done.stderr}"]
     rows, wanted = rows_of(text_of(f"{work}/table")), text_of(f"{path}.{'table' if is_timers else 'counts'}")
@@ -141,7 +141,7 @@ class States:
 
 def check_states(trace, work):
     """What the JSON of a record says otherwise than its table."""
-    done = ran(PROGRAM, "check", "--table", f"{work}/table", "--json", f"{work}/json", trace)
+    done = ran(PROGRAM, "check", "--table", f"{work}/table", "--json", f"{work}/json", trace, seconds=SECONDS)
     if done.returncode not in VERDICT:
         return [done.stderr]
     return list(States(json.loads(text_of(f"{work}/json"))).faults(rows_of(text_of(f"{work}/table"))))
