@@ -36,7 +36,7 @@ pub fn is_guess(as_it_stands: u64, changed: u64) -> bool
     changed != 0 && changed <= as_it_stands / 10
 }
 
-/// Appends the changes that explain the record, or else those that take away nine tenths of what differs; `agrees` is the answer
+/// Appends the changes that explain the record, and then those that take away nine tenths of what differs; `agrees` is the answer
 /// of the play as it stands.
 pub fn put_explanation(
     alloc: Global,
@@ -45,18 +45,12 @@ pub fn put_explanation(
     counts: &Counts,
     trials: &[Trial],
 ) -> Result<(), AllocError> {
-    let differ = total_of(counts).differ;
-    let mut is_named = false;
-    for trial in trials {
-        if explains(agrees, trial.agrees) {
-            is_named = true;
-            put_explaining(out, trial.change)?;
-        }
-    }
-    if is_named {
+    let is_explained = put_explaining(out, agrees, trials)?;
+    let is_guessed = put_guesses(alloc, out, total_of(counts).differ, trials)?;
+    if is_explained || is_guessed {
         return Ok(());
     }
-    put_guesses(alloc, out, differ, trials)
+    put(out, "  no one changed rule explains it\n")
 }
 
 fn put_change(out: &mut Vec<u8>, change: RuleChange) -> Result<(), AllocError> {
@@ -65,17 +59,26 @@ fn put_change(out: &mut Vec<u8>, change: RuleChange) -> Result<(), AllocError> {
     put(out, "\": ")
 }
 
-fn put_explaining(out: &mut Vec<u8>, change: RuleChange) -> Result<(), AllocError> {
-    put_change(out, change)?;
-    put(out, "the kernel agrees, bit for bit\n")
+/// Appends the changes with which the record agrees. True where there is one.
+fn put_explaining(out: &mut Vec<u8>, agrees: bool, trials: &[Trial]) -> Result<bool, AllocError> {
+    let mut is_named = false;
+    for trial in trials {
+        if explains(agrees, trial.agrees) {
+            is_named = true;
+            put_change(out, trial.change)?;
+            put(out, "the kernel agrees, bit for bit\n")?;
+        }
+    }
+    Ok(is_named)
 }
 
+/// Appends the changes that take away nine tenths of what differs, and not all. True where there is one.
 fn put_guesses(
     alloc: Global,
     out: &mut Vec<u8>,
     differ: u64,
     trials: &[Trial],
-) -> Result<(), AllocError> {
+) -> Result<bool, AllocError> {
     let mut is_named = false;
     for trial in trials {
         if is_guess(differ, trial.differ) {
@@ -83,10 +86,7 @@ fn put_guesses(
             put_guess(alloc, out, *trial)?;
         }
     }
-    if is_named {
-        return Ok(());
-    }
-    put(out, "  no one changed rule explains it\n")
+    Ok(is_named)
 }
 
 fn put_guess(alloc: Global, out: &mut Vec<u8>, trial: Trial) -> Result<(), AllocError> {
