@@ -12,6 +12,7 @@ import sys
 import tempfile
 import time
 from concurrent.futures import ThreadPoolExecutor
+from functools import cache
 
 from crates import CACHE, LIBRARIES, PARTS, crates, kit_folder, lanes, sum_of
 from shared import ROOT, Tried, text_of
@@ -104,12 +105,16 @@ class Trial:
     def __init__(self, libraries, room, end):
         self.kit, self.libraries, self.room, self.end = kit_folder(), libraries, room, end
 
-    def kept(self, edit):
-        """Where it is kept that an edit was refused, over all that its check read."""
-        crate, scripts = edit.crate, [f"{ROOT}/scripts/{it}.py" for it in ("crates", "edits")]
+    @cache
+    def read(self, crate):
+        """A sum of all that checks of a crate read."""
+        scripts = [f"{ROOT}/scripts/{it}.py" for it in ("crates", "edits")]
         low = [sum_of(f"{self.libraries[it]}/{it}.rlib", start=self.libraries[it]) for it in crate.below]
-        read = [text_of(f"{self.kit}/KIT-ID"), crate.name, *crate.uses, sum_of(*scripts, *crate.parts), *low, *map(str, sorted(edit.lines.items()))]
-        return f"{KEPT}/{hashlib.sha256(' '.join(read).encode()).hexdigest()}"
+        return " ".join([text_of(f"{self.kit}/KIT-ID"), crate.name, *crate.uses, sum_of(*scripts, *crate.parts), *low])
+
+    def kept(self, edit):
+        """Where it is kept that an edit was refused."""
+        return f"{KEPT}/{hashlib.sha256(f'{self.read(edit.crate)} {sorted(edit.lines.items())}'.encode()).hexdigest()}"
 
     def check(self, edits, functions):
         """Checks these functions, or all if there are none, in a copy of the crate with these edits: the status, and what was said."""
@@ -159,7 +164,7 @@ class Trial:
 
     def run(self, edits):
         """What is wrong with each of these edits of one crate."""
-        told = {it: [f"BAD: {it.bad}"] if it.bad else [] for it in edits}
+        told, began = {it: [f"BAD: {it.bad}"] if it.bad else [] for it in edits}, time.time()
         left = [it for it in edits if not it.bad and not os.path.isfile(self.kept(it))]
         while left and time.time() < self.end:
             done = self.refused_at_once(left)
@@ -172,6 +177,7 @@ class Trial:
                         it.write(edit.label)
             left = [it for it in left if it not in done]
         told.update({it: ["NOT TRIED: the time was over"] for it in left})
+        print(f"edits: {edits[0].crate.name}: {list(told.values()).count([])} of {len(edits)} refused, {time.time() - began:.0f} s", flush=True)
         return told
 
 
