@@ -2,6 +2,7 @@
 
 ghost use Rattle.std.specs.Prelude.{◌≡◌};
 ghost use Rattle.timer_lines.specs.Votes.{more_of, voted_by};
+ghost use Rattle.timer_lines.specs.inside.Given.{policy_above_of};
 
 use crate::event::Kept;
 use crate::vote::Vote;
@@ -129,6 +130,16 @@ fn with_some(vote: Vote, candidate: Option<u32>) -> Vote
 pub struct Given {
     pub pid: u64,
     pub parameters: Parameters,
+}
+
+/// What a note tells of a task to which an option may give a reservation: that stands above the note's.
+pub(crate) fn policy_above(policy: Policy, given: Option<Parameters>) -> Policy
+    ensures { result ≡ policy_above_of policy given }
+{
+    match (policy, given) {
+        (Policy::Deadline(_), Some(given)) => Policy::Deadline(given),
+        _ => policy,
+    }
 }
 
 /// What a note tells of a task, and when the kernel did so.

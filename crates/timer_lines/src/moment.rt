@@ -24,11 +24,14 @@ pub struct Passing {
     /// The moment of its last charge.
     pub charged: Option<u64>,
 
-    /// It is within a call of sched_setattr(2), before a charge.
+    /// It is within a call of sched_setattr(2), and no line has shown that the kernel has taken the change.
     pub is_calling: bool,
 
-    /// The moment of the first charge within its last call.
+    /// The moment of the last charge within its last call, before the change was seen.
     pub within_call: Option<u64>,
+
+    /// The moment of the charge before that one, within the same call.
+    pub earlier_in_call: Option<u64>,
 
     /// It has had a note before.
     pub has_note: bool,
@@ -41,7 +44,7 @@ pub struct Passing {
 }
 
 impl Passing {
-    ghost use Rattle.timer_lines.specs.inside.Moments.{calling_of, change_of, charged_of, passing_at_first, told_of};
+    ghost use Rattle.timer_lines.specs.inside.Moments.{calling_of, change_of, charged_of, in_class_of, passing_at_first, returned_of, told_of};
 
     /// A task of which no line has passed by.
     pub fn new() -> Passing
@@ -51,6 +54,7 @@ impl Passing {
             charged: None,
             is_calling: false,
             within_call: None,
+            earlier_in_call: None,
             has_note: false,
             is_deadline: false,
             woken: None,
@@ -61,15 +65,43 @@ impl Passing {
     pub fn charged(self, at: u64) -> Passing
         ensures { result ≡ charged_of self at }
     {
-        Passing {
+        let passing = Passing {
             charged: Some(at),
-            is_calling: false,
-            within_call: if self.is_calling {
-                Some(at)
-            } else {
-                self.within_call
-            },
             woken: None,
+            ..self
+        };
+        if self.is_calling {
+            Passing {
+                within_call: Some(at),
+                earlier_in_call: self.within_call,
+                ..passing
+            }
+        } else {
+            passing
+        }
+    }
+
+    /// The task after it is switched out as one of the class: a call that puts it there was taken before the last charge.
+    pub fn in_class(self) -> Passing
+        ensures { result ≡ in_class_of self }
+    {
+        if self.is_calling && !self.is_deadline {
+            Passing {
+                is_calling: false,
+                within_call: self.earlier_in_call.or(self.within_call),
+                ..self
+            }
+        } else {
+            self
+        }
+    }
+
+    /// The task after its call returned.
+    pub fn returned(self) -> Passing
+        ensures { result ≡ returned_of self }
+    {
+        Passing {
+            is_calling: false,
             ..self
         }
     }
@@ -81,6 +113,7 @@ impl Passing {
         Passing {
             is_calling: true,
             within_call: None,
+            earlier_in_call: None,
             ..self
         }
     }

@@ -36,6 +36,9 @@ impl Record {
                 let is_idle = place.is_idle || stopped == 0;
                 let place = Place { is_idle, ..place };
                 let task = self.task_of(stopped);
+                if is_deadline {
+                    self.see_in_class(task);
+                }
                 if task.is_none() && !(is_deadline && next_pid == 0) {
                     return self.keep_idle(place);
                 }
@@ -65,14 +68,40 @@ impl Record {
                 now: _,
             } => self.fired(place, timer, function),
             Fixed::PolicyCalled => {
-                if let Some(task) = self.task_of(pid) {
-                    if let Some(passing) = self.passing.get_mut(task as usize) {
-                        *passing = passing.calling();
-                    }
-                }
+                self.see_call(pid);
                 self.set_before(place.cpu, Before::Nothing)
             }
-            Fixed::PolicyReturned => self.set_before(place.cpu, Before::Nothing),
+            Fixed::PolicyReturned => {
+                self.see_return(pid);
+                self.set_before(place.cpu, Before::Nothing)
+            }
+        }
+    }
+
+    /// A call of sched_setattr(2) of the task of this pid.
+    fn see_call(&mut self, pid: u64) {
+        if let Some(task) = self.task_of(pid) {
+            if let Some(passing) = self.passing.get_mut(task as usize) {
+                *passing = passing.calling();
+            }
+        }
+    }
+
+    /// And its return.
+    fn see_return(&mut self, pid: u64) {
+        if let Some(task) = self.task_of(pid) {
+            if let Some(passing) = self.passing.get_mut(task as usize) {
+                *passing = passing.returned();
+            }
+        }
+    }
+
+    /// A task that has a reservation is switched out as one of the class.
+    fn see_in_class(&mut self, task: Option<u32>) {
+        if let Some(task) = task {
+            if let Some(passing) = self.passing.get_mut(task as usize) {
+                *passing = passing.in_class();
+            }
         }
     }
 

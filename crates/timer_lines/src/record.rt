@@ -4,7 +4,7 @@ ghost use Rattle.std.specs.Prelude.{◌≡◌};
 
 use crate::before::Before;
 use crate::event::{Event, Kept};
-use crate::lines::{Given, Lines, TaskLines, TimerLines, Told, Unlisted};
+use crate::lines::{Given, Lines, TaskLines, TimerLines, Told, Unlisted, policy_above};
 use crate::moment::{Passing, ROUNDING};
 use std::alloc::{AllocError, Global};
 use std::collections::HashMap;
@@ -76,7 +76,7 @@ impl Record {
         }
     }
 
-    /// An option's reservation for the task of this pid: it stands above notes.
+    /// An option's reservation for the task of this pid: it stands above what notes say of its reservation, not of when it is admitted.
     pub fn give(&mut self, given: Given) -> Result<(), AllocError> {
         let task = self.task(given.pid)?;
         if let Some(lines) = self.lines.tasks.get_mut(task as usize) {
@@ -141,6 +141,7 @@ impl Record {
     /// The lines, when there are no more.
     pub fn finish(mut self) -> Result<Lines, AllocError> {
         self.tell(u64::MAX)?;
+        put_given_above(&mut self.lines.told, &mut self.lines.tasks);
         let Record {
             lines,
             passing: _,
@@ -283,6 +284,22 @@ fn is_deadline(policy: Policy) -> bool {
     match policy {
         Policy::Deadline(_) => true,
         Policy::Other => false,
+    }
+}
+
+/// What options give stands above notes, which still tell when a task is of the class.
+fn put_given_above(told: &mut [Told], tasks: &mut [TaskLines]) {
+    for i in 0..told.len() {
+        if let Some(task) = tasks.get(told[i].task as usize) {
+            told[i].policy = policy_above(told[i].policy, task.given);
+        }
+    }
+    for note in told {
+        if let Policy::Deadline(_) = note.policy {
+            if let Some(task) = tasks.get_mut(note.task as usize) {
+                task.given = None;
+            }
+        }
     }
 }
 
