@@ -1,7 +1,8 @@
 -- What becomes of a task at a line that is about it.
-use Rattle.std.specs.Prelude.{ℕ, Bool, not, ◌&&◌, ◌||◌, ◌==◌, if◌then◌else◌, Option, Some, None, is_some}
+use Rattle.std.specs.Prelude.{ℕ, Bool, not, ◌&&◌, ◌||◌, ◌==◌, if◌then◌else◌, Option, Some, None, is_some, unwrap_or}
 use Rattle.trace_words.specs.declared.fixed.Stop.{Stop}
 use Rattle.trace_words.specs.declared.quantities.Parameters.{Parameters}
+use Rattle.deadline_rules.specs.Budget.{timer_is_ahead}
 use Rattle.deadline_rules.specs.declared.charge.Law.{Law}
 use Rattle.deadline_rules.specs.declared.charge.Runqueue.{Runqueue}
 use Rattle.timer_lines.specs.declared.event.Kept.{Kept}
@@ -42,8 +43,9 @@ at_sight_of t None cpu = t
 unfoldable pub at_run_of : Task → Kept → Task
 at_run_of t k = charged_at_of (seen_running_of t k.cpu) k.at
 
+-- start_dl_timer starts no timer for a next period that has begun
 unfoldable pub at_refill_of : Task → Task
-at_refill_of t = if runs_of t then refilled_of t else t
+at_refill_of t = if runs_of t && not (timer_is_ahead t.entity (unwrap_or t.exceeded 0)) then refilled_of t else t
 
 unfoldable pub at_charge_of : Law → Task → ℕ → ℕ → Runqueue → Task
 at_charge_of law t at nanos r = if runs_of t then ran_of law t at nanos r else t

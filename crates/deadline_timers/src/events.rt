@@ -10,7 +10,8 @@ use crate::counting::{rule_of_charge, rule_of_wake};
 use crate::counts::Rule;
 use crate::machine::{Charged, Machine, observation};
 use crate::turns::{
-    at_charge, at_move, at_refill, at_run, at_sight, at_switch, at_wake, is_edge_wake, runs, wakes,
+    at_charge, at_move, at_refill, at_run, at_sight, at_switch, at_wake, is_edge_wake, runs,
+    runs_late, wakes,
 };
 use deadline_rules::{Runqueue, charging, cost};
 use std::alloc::AllocError;
@@ -127,7 +128,7 @@ impl Machine {
         let Some(task) = self.task(number) else {
             return;
         };
-        if runs(task) && refills(task) {
+        if runs_late(task) && refills(task) {
             self.counts.add(Rule::ReplenishedAtOnce);
         }
         self.replace(number, at_refill(task));

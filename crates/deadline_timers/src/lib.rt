@@ -20,7 +20,7 @@ mod timers;
 mod turns;
 
 pub use counts::{Counts, Rule};
-pub use machine::{Charged, Machine, Outcome, Watch};
+pub use machine::{Charged, Machine, Outcome, Owner, Watch};
 pub use playing::{play, tell_until};
 pub use setup::{
     FairServer, Limits, NoSums, Options, RunqueueSums, Servers, Setup, Start, setup_of,

@@ -20,7 +20,7 @@ use trace_words::Sums;
 
 /// Whose a timer is.
 #[derive(Clone, Copy)]
-pub(crate) enum Owner {
+pub enum Owner {
     Nobody,
     Task(u32),
 
@@ -128,8 +128,22 @@ impl Machine {
         sums_at(&self.runqueues, cpu, self.taken)
     }
 
+    /// What the tasks that are admitted take from `extra_bw` of each CPU of the root domain.
+    pub fn taken(&self) -> u64
+        ensures { result ≡ (state_of self.now).taken }
+    {
+        self.taken
+    }
+
+    /// The tasks take so much from each `extra_bw`, whatever they reserve.
+    pub fn set_taken(&mut self, taken: u64)
+        ensures { state_of self.new ≡ record (state_of self.old) { taken = taken } }
+    {
+        self.taken = taken;
+    }
+
     /// What a charge on a CPU reads.
-    pub(crate) fn charging_runqueue(&self, cpu: u32) -> deadline_rules::Runqueue
+    pub fn charging_runqueue(&self, cpu: u32) -> deadline_rules::Runqueue
         ensures { result ≡ runqueue_for cpu (state_of self.now) }
     {
         let limits = self.terms.setup.limits(cpu);
@@ -141,7 +155,7 @@ impl Machine {
     }
 
     /// Whose a timer is.
-    pub(crate) fn owner(&self, timer: u32) -> Owner
+    pub fn owner(&self, timer: u32) -> Owner
         ensures { result ≡ owner_at timer (state_of self.now) }
     {
         owner_of(&self.owners, timer)
@@ -163,7 +177,7 @@ impl Machine {
 
     /// A task becomes another: the sums lose what it had in them, and get what it has.
     #[tactic(auto, unfolding(crate::specs::States::replaced))]
-    pub(crate) fn replace(&mut self, number: u32, task: Task)
+    pub fn replace(&mut self, number: u32, task: Task)
         ensures { state_of self.new ≡ replaced number task (state_of self.old) }
     {
         let Some(before) = set_task(&mut self.tasks, number, task) else {

@@ -1,10 +1,11 @@
 //! What becomes of a task at a line that is about it.
 
-ghost use Rattle.std.specs.Prelude.{◌≡◌};
+ghost use Rattle.std.specs.Prelude.{◌≡◌, ◌&&◌, not, unwrap_or};
+ghost use Rattle.deadline_rules.specs.Budget.{timer_is_ahead};
 ghost use Rattle.deadline_timers.specs.Turns.{at_charge_of, at_hold_of, at_move_of, at_refill_of, at_run_of, at_sight_of, at_switch_of, at_wake_of, is_edge_at, runs_of, wakes_of};
 
 use crate::terms::Terms;
-use deadline_rules::{Law, Runqueue};
+use deadline_rules::{Law, Runqueue, has_timer_ahead};
 use timer_lines::Kept;
 use timer_rules::{
     Task, Waking, blocked, charged_at, is_awake, is_edge, is_tested, moved, ran, refilled,
@@ -89,12 +90,24 @@ pub(crate) fn at_run(task: Task, kept: Kept) -> Task
     charged_at(seen_running(task, kept.cpu), kept.at)
 }
 
-/// The task after a budget that was used up is filled at once, where it runs.
+/// Whether a task runs whose next period had begun when its budget was used up, so that no timer could wait for it.
+pub(crate) fn runs_late(task: Task) -> bool
+    ensures { result ≡ (runs_of task
+        && not (timer_is_ahead task.entity (unwrap_or task.exceeded 0))) }
+{
+    runs(task) && !has_timer_ahead(task.entity, task.exceeded.unwrap_or(0))
+}
+
+/// The task after a budget that was used up is filled at once, where it runs on.
 #[tactic(auto, unfolding(crate::specs::Turns::at_refill_of))]
 pub(crate) fn at_refill(task: Task) -> Task
     ensures { result ≡ at_refill_of task }
 {
-    if runs(task) { refilled(task) } else { task }
+    if runs_late(task) {
+        refilled(task)
+    } else {
+        task
+    }
 }
 
 /// The task after its charge, where it runs.

@@ -1,5 +1,5 @@
 -- What the rules give beside what the kernel did: task_non_contending and start_dl_timer.
-use Rattle.std.specs.Prelude.{ℕ, ℤ, pos, unsigned_abs, nat_le, ◌||◌, if◌then◌else◌, Option, Some, None, unwrap_or}
+use Rattle.std.specs.Prelude.{ℕ, ℤ, pos, unsigned_abs, nat_le, nat_lt, ◌&&◌, ◌||◌, if◌then◌else◌, Option, Some, None, unwrap_or}
 use Rattle.std.specs.Int.{w64, cast_unsigned, int_max}
 use Rattle.trace_words.specs.declared.fixed.Stop.{Stop}
 use Rattle.deadline_rules.specs.Activity.{zero_lag_of}
@@ -9,6 +9,7 @@ use Rattle.timer_rules.specs.declared.activity.Knowledge.TheVariants.{Known, Edg
 use Rattle.timer_rules.specs.declared.observation.Answer.{Answer}
 use Rattle.timer_rules.specs.declared.observation.Answer.TheVariants as answers
 use Rattle.timer_rules.specs.declared.observation.Moments.{Moments}
+use Rattle.timer_rules.specs.declared.observation.TheConstants.{LATE}
 use Rattle.timer_rules.specs.declared.task.Armed.{Armed}
 use Rattle.timer_rules.specs.declared.task.Task.{Task}
 use Rattle.timer_rules.specs.Activity.{is_awake_of, is_unseen_of}
@@ -43,7 +44,7 @@ abbrev pub block_moments_of : Task → ℕ → Moments
 block_moments_of t at = lag_moments_by t.armed (zero_lag_moment_of t) (unwrap_or t.charged at)
 
 abbrev pub late_by : Task → ℕ → ℕ
-late_by t at = if is_awake_of t.activity then less at (unwrap_or t.charged at) else 0
+late_by t at = if is_awake_of t.activity && nat_lt (less at (unwrap_or t.charged at)) LATE then less at (unwrap_or t.charged at) else 0
 
 abbrev pub replenish_moments_of : Task → ℕ → ℕ → Moments
 replenish_moments_of t at expires =

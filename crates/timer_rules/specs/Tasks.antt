@@ -1,5 +1,5 @@
 -- What a line of a record does to a task.
-use Rattle.std.specs.Prelude.{ℕ, Bool, true, false, not, ◌&&◌, ◌||◌, if◌then◌else◌, Option, Some, None, is_some}
+use Rattle.std.specs.Prelude.{ℕ, Bool, true, false, not, ◌&&◌, ◌||◌, if◌then◌else◌, Option, Some, None, is_some, unwrap_or}
 use Rattle.trace_words.specs.declared.fixed.Stop.{Stop}
 use Rattle.trace_words.specs.declared.fixed.Stop.TheVariants.{Ready, Ends}
 use Rattle.deadline_rules.specs.Reservation.{fresh_of}
@@ -42,12 +42,8 @@ seen_running_of t cpu = if t.entity.is_in_class && is_unseen_of t.knowledge then
 abbrev pub refills_of : Task → Bool
 refills_of t = is_some t.exceeded && t.entity.budget.is_throttled && not (has_budget_of t.entity)
 
-abbrev pub refilled_at : Option ℕ → Task → Entity
-refilled_at (Some at) t = if refills_of t then replenished_of t.entity at else t.entity
-refilled_at None t = t.entity
-
 abbrev pub refilled_of : Task → Task
-refilled_of t = record t { entity = refilled_at t.exceeded t; exceeded = None }
+refilled_of t = record t { entity = if refills_of t then replenished_of t.entity (unwrap_or t.exceeded 0) else t.entity; exceeded = None }
 
 -- update_curr_dl_se: at 0 or below it is throttled
 abbrev pub ran_of : Law → Task → ℕ → ℕ → Runqueue → Task
@@ -107,5 +103,5 @@ blocked_of t at cpu stop = record t {
   knowledge = known_after_block_of t.knowledge t.activity;
   armed = None;
   blocked = Some at;
-  is_lag_over = not (is_some t.armed);
+  is_lag_over = not (is_some t.armed) && (is_unseen_of t.knowledge || is_awake_of t.activity);
 }

@@ -29,14 +29,11 @@ abbrev pub is_sure_since : Option ℕ → Task → ℕ → ℕ → Bool
 is_sure_since (Some blocked) t begins clock = (t.is_lag_over && not (is_constrained_of t.entity)) || nat_lt t.entity.parameters.dl_period (clock - blocked)
 is_sure_since None t begins clock = is_unseen_of t.knowledge && nat_le t.entity.parameters.dl_period (clock - begins)
 
-abbrev pub is_sure_of : Task → ℕ → ℕ → Bool
-is_sure_of t begins clock = is_sure_since t.blocked t begins clock
-
 abbrev pub waking_by : Law → Task → ℕ → ℕ → Waking
 waking_by law t begins clock =
     if t.entity.budget.is_throttled then StaysThrottled
     else (if is_known_of t.knowledge then tested_by law t.entity clock
-    else (if is_sure_of t begins clock then Sure else Guessed))
+    else (if is_sure_since t.blocked t begins clock then Sure else Guessed))
 
 abbrev pub is_tested_of : Waking → Bool
 is_tested_of (Tested w) = true

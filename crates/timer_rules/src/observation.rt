@@ -140,12 +140,16 @@ pub fn block_moments(task: Task, at: u64) -> Moments
     }
 }
 
+/// A charge that is farther from the start of a replenishment timer is not that of the same moment: its line is missing.
+const LATE: u64 = 1_000_000;
+
 /// How much later than the charge the base of a replenishment timer was read; of a task that is asleep no charge tells it.
 fn late(task: Task, at: u64) -> u64
     ensures { result ≡ late_by task at }
 {
-    if is_awake(task.activity) {
-        at.wrapping_sub(task.charged.unwrap_or(at))
+    let late = at.wrapping_sub(task.charged.unwrap_or(at));
+    if is_awake(task.activity) && late < LATE {
+        late
     } else {
         0
     }

@@ -122,18 +122,12 @@ pub fn refills(task: Task) -> bool
 pub fn refilled(task: Task) -> Task
     ensures { result ≡ refilled_of task }
 {
-    let entity = match task.exceeded {
-        Some(exceeded) => {
-            if refills(task) {
-                deadline_rules::replenished(task.entity, exceeded)
-            } else {
-                task.entity
-            }
-        }
-        None => task.entity,
-    };
     Task {
-        entity,
+        entity: if refills(task) {
+            deadline_rules::replenished(task.entity, task.exceeded.unwrap_or(0))
+        } else {
+            task.entity
+        },
         exceeded: None,
         ..task
     }
@@ -271,7 +265,8 @@ pub fn stays_ready(stop: Stop) -> bool
 }
 
 /// The task after it blocks on this CPU at this moment, or ends (`task_non_contending`): its bandwidth runs on where the kernel started its
-/// 0-lag timer; else it is off `running_bw`, and off `this_bw` and given back where the task has ended.
+/// 0-lag timer; else it is off `running_bw`, and off `this_bw` and given back where the task has ended. Where lines are missing before the
+/// block, one of them may have started the timer.
 pub fn blocked(task: Task, at: u64, cpu: u32, stop: Stop) -> Task
     ensures { result ≡ blocked_of task at cpu stop }
 {
@@ -298,7 +293,7 @@ pub fn blocked(task: Task, at: u64, cpu: u32, stop: Stop) -> Task
         knowledge: known_after_block(task.knowledge, task.activity),
         armed: None,
         blocked: Some(at),
-        is_lag_over: !is_armed,
+        is_lag_over: !is_armed && (is_unseen(task.knowledge) || is_awake(task.activity)),
         ..task
     }
 }

@@ -1,7 +1,7 @@
 //! What a wake does, and whether the kernel may have answered otherwise.
 
 ghost use Rattle.std.specs.Prelude.{◌≡◌};
-ghost use Rattle.timer_rules.specs.Wakes.{awakened_by, differs_between_of, differs_within_of, is_edge_of, is_sure_of, is_tested_of, kind_of, known_after_by, tested_by, waits_of, waking_by};
+ghost use Rattle.timer_rules.specs.Wakes.{awakened_by, differs_between_of, differs_within_of, is_edge_of, is_sure_since, is_tested_of, kind_of, known_after_by, tested_by, waits_of, waking_by};
 
 use crate::activity::{Knowledge, is_known, is_unseen};
 use crate::task::Task;
@@ -59,7 +59,7 @@ fn tested(law: Law, entity: Entity, clock: u64) -> Waking
 /// Whether a wake begins a new period whatever budget and deadline were: the 0-lag time after the last block has come, and the period ends
 /// with the deadline; or a period has passed since that block; or, of a task that was not seen, since the record began.
 fn is_sure(task: Task, begins: u64, clock: u64) -> bool
-    ensures { result ≡ is_sure_of task begins clock }
+    ensures { result ≡ is_sure_since task.blocked task begins clock }
 {
     let period = task.entity.parameters.dl_period;
     match task.blocked {
