@@ -2,7 +2,7 @@
  * threads of which the first wakes the second (ld_one, ld_two). Each thread counts its jobs, and those that were not done within
  * their time by its own clock, from the moment at which it was to wake.
  *
- *     cc -O2 -pthread -o loads scripts/sizing-loads.c
+ *     cc -O2 -pthread -o loads examples/sizing/loads.c
  *     chrt -f 50 ./loads SECONDS                           with real-time priority, to be recorded
  *     ./loads SECONDS ld_per=RUNTIME:PERIOD ..             as SCHED_DEADLINE tasks, in microseconds
  */
