@@ -11,6 +11,7 @@ on, release + ceil(work / Q) * (P - Q) + work is after its due moment. The last 
 In that folder NAME.told has what a program in Python printed of the trace NAME.txt.xz, and its first line the words of NAME's task.
 """
 import lzma, os, random, re, subprocess, sys, tempfile, xml.dom.minidom
+from xml.sax.saxutils import escape
 
 ROOT = os.path.dirname(os.path.dirname(os.path.abspath(__file__)))
 COUNTS = {True: 0, False: 0}
@@ -43,13 +44,14 @@ def ran(program, *words, **more):
     run = subprocess.run([program, *words], capture_output=True, text=True, **more)
     return run.stdout if not run.returncode else f'status {run.returncode}: {run.stderr}'
 
-def drawn(picture, trace, period, allowed, jobs, needed):
+def drawn(picture, trace, name, period, allowed, jobs, needed):
     """The bars, the lines and the curve of a picture against needs that are searched for, job by job."""
     text = open(picture).read()
     xml.dom.minidom.parseString(text)
     least = sorted(needed, reverse=True)[allowed]
     proposed, less = min(period, max(2, -(-least * 110 // 100))), -(-least * 85 // 100)
     top = max(max(needed), proposed)
+    same('the name', True, f'>{escape(name)}: runtime ' in text)
     same('the title', (str(proposed), str(least)), re.search(r'runtime (\d+) \(the least (\d+)\)', text).groups())
     moments = [int(it.replace('.', '')) for it in re.findall(r' (\d+\.\d{6}): sched_', open(trace).read())]
     columns = {}
@@ -173,7 +175,7 @@ def recorded(program, trace, name, period):
         with open(trace) as whole, open(f'{work}/named', 'w') as named: named.write(whole.read().replace(name, 'a<&b'))
         for source, task, allowed in ((trace, name, 0), (trace, name, 2), (f'{work}/named', 'a<&b', 0)):
             ran(program, 'size', '--task', f'{task}={period}', '--late', str(allowed), '--picture', f'{work}/{allowed}{len(task)}.svg', source)
-            drawn(f'{work}/{allowed}{len(task)}.svg', source, period, allowed, jobs, needed)
+            drawn(f'{work}/{allowed}{len(task)}.svg', source, task, period, allowed, jobs, needed)
 
 class Told:
     """Compares what was told of a record with what the program prints."""
