@@ -107,7 +107,11 @@ library-test:
 
 # Nanoseconds a transition, beside plain Rust (bindings/plain, which wants cargo) and from Python.
 library-bench: library
-	@bash scripts/library-bench.sh
+	@for it in rattle llvm; do \
+	    echo "built by $$it" && NEDDWYROL_LIB=$(CURDIR)/out/library/$$it CARGO_TARGET_DIR=$(CURDIR)/out/library/cargo \
+	        cargo run -q --offline --release --manifest-path bindings/plain/Cargo.toml --bin speed || exit 1; \
+	done
+	@NEDDWYROL_SO=out/library/libneddwyrol.so.1 python3 bindings/python/speed.py
 
 # Library, header and pkg-config file below PREFIX.
 install-library: library
