@@ -97,6 +97,7 @@ if __name__ == "__main__":
     hold("grubtrace")
     same("grubtrace --version", *(said(it, "--version").split()[1:] for it in ("grubrun", "grubtrace")))
     shown = re.findall(r"^    (?!cc |\(cd)(.*)", between(text_of(f"{ROOT}/README.md"), "\n## Use the library\n", "\n## "), re.M)
-    wanted = example("c/documentation.c", "^int main", 1, 4) + example("python/documentation.py", "^from neddwyrol", 2, 0)
+    wanted = example("c/documentation.c", "^int main", 1, 4) + example("rust/examples/documentation.rs", "^fn main", 1, 4)
+    wanted += example("python/documentation.py", "^from neddwyrol", 2, 0)
     same("README and the examples", "\n".join(wanted), "\n".join(shown))
     TRIED.end()
