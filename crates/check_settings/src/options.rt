@@ -1,4 +1,4 @@
-//! What the options of `grubtrace check` say.
+//! The options, but for those of what is shown.
 
 use std::alloc::{AllocError, Global};
 use trace_words::{Kernel, Limit, Parameters};
@@ -241,7 +241,7 @@ fn range_of(text: &str) -> Option<Range> {
 }
 
 /// The CPUs of a list as `0-3,8`, which increase; none where it is no such list.
-pub(crate) fn domain_of(alloc: Global, text: &str) -> Result<Option<Vec<Range>>, AllocError> {
+pub fn domain_of(alloc: Global, text: &str) -> Result<Option<Vec<Range>>, AllocError> {
     let mut ranges: Vec<Range> = Vec::new(alloc);
     let mut least = 0u32;
     for word in text.split(',') {
