@@ -8,8 +8,8 @@ use Rattle.exact_words.specs.declared.words.Place.{Place}
 use Rattle.exact_words.specs.declared.words.Deviation.{Deviation}
 use Rattle.exact_words.specs.declared.counts.Counts.{Counts}
 use Rattle.exact_words.specs.Firsts.{first_from}
-use Rattle.deadline_machine.specs.declared.actor.Actor.{Actor}
-use Rattle.deadline_machine.specs.Values.{counts_from, budget_compared, flags_compared, contending_compared, parameters_compared}
+use Rattle.machine_state.specs.declared.actor.Actor.{Actor}
+use Rattle.machine_state.specs.Values.{counts_from, budget_compared, flags_compared, contending_compared, parameters_compared}
 
 -- counts, and the first deviation, after these comparisons
 abbrev pub counts_after : Counts → List (List Deviation) → Counts

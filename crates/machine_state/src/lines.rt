@@ -2,8 +2,8 @@
 
 ghost use Rattle.std.specs.Prelude.{◌≡◌, OnOk};
 ghost use Rattle.exact_words.specs.Firsts.{first_from};
-ghost use Rattle.deadline_machine.specs.Values.{counts_from, contending_compared, parameters_compared};
-ghost use Rattle.deadline_machine.specs.Lines.{counts_after, first_after, where_whole, enqueued_compared, updated_compared, dequeued_compared, left_compared};
+ghost use Rattle.machine_state.specs.Values.{counts_from, contending_compared, parameters_compared};
+ghost use Rattle.machine_state.specs.Lines.{counts_after, first_after, where_whole, enqueued_compared, updated_compared, dequeued_compared, left_compared};
 
 use crate::actor::Actor;
 use crate::values::{compare_budget, compare_contending, compare_flags, compare_parameters};

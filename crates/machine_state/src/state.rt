@@ -19,8 +19,8 @@ pub struct State {
     pub domain: Vec<u32>,
 
     /// Of a pid that came again: how many tasks of it have ended before.
-    pub(crate) lives: HashMap<u64, u32>,
-    pub(crate) actors: HashMap<Whose, Actor>,
+    lives: HashMap<u64, u32>,
+    actors: HashMap<Whose, Actor>,
     pub(crate) runqueues: Vec<Runqueue>,
     pub later: Vec<Later>,
     pub(crate) readings: Vec<Reading>,
@@ -72,6 +72,7 @@ impl State {
         }
     }
 
+    /// Keeps what is known of an entity.
     pub fn keep_actor(&mut self, actor: Actor) -> Result<(), AllocError> {
         self.actors.insert(actor.whose, actor)?;
         Ok(())
@@ -84,6 +85,7 @@ impl State {
         Ok(new_task(pid, life))
     }
 
+    /// Whether this CPU is of the tasks' root domain.
     pub fn is_in_domain(&self, cpu: u32) -> bool {
         is_among(self.domain.as_slice(), cpu)
     }
@@ -111,6 +113,7 @@ impl State {
         }
     }
 
+    /// Keeps what is known of a runqueue.
     pub fn keep_runqueue(&mut self, runqueue: Runqueue) -> Result<(), AllocError> {
         match runqueue_place(self.runqueues.as_slice(), runqueue.cpu) {
             Some(place) => {

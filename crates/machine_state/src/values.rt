@@ -2,7 +2,7 @@
 
 ghost use Rattle.std.specs.Prelude.{◌≡◌, OnOk};
 ghost use Rattle.exact_words.specs.Firsts.{first_from};
-ghost use Rattle.deadline_machine.specs.Values.{counts_from, same_flag, same_signed, unsigned_of, signed_of, flag_of, sum_of, budget_compared, flags_compared, contending_compared, parameters_compared, this_compared, running_compared, extra_compared};
+ghost use Rattle.machine_state.specs.Values.{counts_from, same_flag, same_signed, unsigned_of, signed_of, flag_of, sum_of, budget_compared, flags_compared, contending_compared, parameters_compared, this_compared, running_compared, extra_compared};
 
 use crate::actor::Actor;
 use crate::runqueue::{Runqueue, ThisBw};

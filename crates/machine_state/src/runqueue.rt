@@ -1,5 +1,8 @@
 //! What is known of a runqueue's sums.
 
+ghost use Rattle.std.specs.Prelude.{◌≡◌};
+ghost use Rattle.machine_state.specs.Runqueues.{sum_moved, this_moved, with_change_of, with_extra_of, forgotten_of};
+
 use deadline_rules::Change;
 use exact_words::Why;
 
@@ -27,14 +30,18 @@ pub struct Runqueue {
     pub why_extra: Why,
 }
 
-fn moved(sum: Option<u64>, by: u64) -> Option<u64> {
+fn moved(sum: Option<u64>, by: u64) -> Option<u64>
+    ensures { result ≡ sum_moved sum by }
+{
     match sum {
         Some(sum) => Some(sum.wrapping_add(by)),
         None => None,
     }
 }
 
-fn this_moved(sum: ThisBw, by: u64) -> ThisBw {
+fn moved_this(sum: ThisBw, by: u64) -> ThisBw
+    ensures { result ≡ this_moved sum by }
+{
     match sum {
         ThisBw::Unknown => ThisBw::Unknown,
         ThisBw::FromStart(sum) => ThisBw::FromStart(sum.wrapping_add(by)),
@@ -43,16 +50,20 @@ fn this_moved(sum: ThisBw, by: u64) -> ThisBw {
 }
 
 /// The runqueue after a change of `this_bw` and `running_bw`.
-pub fn with_change(runqueue: Runqueue, change: Change) -> Runqueue {
+pub fn with_change(runqueue: Runqueue, change: Change) -> Runqueue
+    ensures { result ≡ with_change_of runqueue change }
+{
     Runqueue {
-        this_bw: this_moved(runqueue.this_bw, change.this_bw),
+        this_bw: moved_this(runqueue.this_bw, change.this_bw),
         running_bw: moved(runqueue.running_bw, change.running_bw),
         ..runqueue
     }
 }
 
 /// The runqueue after a change of `extra_bw`.
-pub fn with_extra(runqueue: Runqueue, by: u64, why: Why) -> Runqueue {
+pub fn with_extra(runqueue: Runqueue, by: u64, why: Why) -> Runqueue
+    ensures { result ≡ with_extra_of runqueue by why }
+{
     Runqueue {
         extra_bw: moved(runqueue.extra_bw, by),
         why_extra: if runqueue.extra_bw.is_some() {
@@ -65,7 +76,9 @@ pub fn with_extra(runqueue: Runqueue, by: u64, why: Why) -> Runqueue {
 }
 
 /// The runqueue with `this_bw` and `running_bw` unknown.
-pub fn forgotten(runqueue: Runqueue) -> Runqueue {
+pub fn forgotten(runqueue: Runqueue) -> Runqueue
+    ensures { result ≡ forgotten_of runqueue }
+{
     Runqueue {
         this_bw: ThisBw::Unknown,
         running_bw: None,

@@ -1,5 +1,12 @@
 //! The values of a line against the rules': sums with the pending effects that explain them, timers, budgets by a later charge.
 
+ghost use Rattle.std.specs.Prelude.{◌≡◌, OnOk};
+ghost use Rattle.exact_words.specs.Kinds.{kind_by};
+ghost use Rattle.exact_words.specs.declared.words.Kind.TheVariants.{Timers};
+ghost use Rattle.exact_words.specs.Tallies.{counted_of};
+ghost use Rattle.exact_words.specs.Firsts.{first_with};
+ghost use Rattle.machine_state.specs.Values.{deviation_of, timer_compared, zero_lag_compared};
+
 use crate::actor::Actor;
 use crate::effects::Sort;
 use crate::pending::{Alternative, Reading};
@@ -23,7 +30,12 @@ impl State {
         since: Why,
         now: u64,
         is_early: bool,
-    ) -> Result<(), AllocError> {
+    ) -> Result<(), AllocError>
+        ensures counts { OnOk result (self.new.sheet.counts
+            ≡ counted_of self.old.sheet.counts (kind_by quantity) is_equal) }
+        ensures first { OnOk result (self.new.sheet.first ≡ first_with self.old.sheet.first
+            (deviation_of place subject quantity rules kernel is_equal since)) }
+    {
         self.sheet.add(
             Comparison {
                 place,
@@ -39,6 +51,7 @@ impl State {
         )
     }
 
+    /// Counts a comparison of a timer that is armed or not, or of whose it is.
     pub fn compare_timer(
         &mut self,
         place: Place,
@@ -48,7 +61,12 @@ impl State {
         is_equal: bool,
         since: Why,
         is_early: bool,
-    ) -> Result<(), AllocError> {
+    ) -> Result<(), AllocError>
+        ensures counts { OnOk result (self.new.sheet.counts
+            ≡ counted_of self.old.sheet.counts Timers is_equal) }
+        ensures first { OnOk result (self.new.sheet.first ≡ first_with self.old.sheet.first
+            (timer_compared place subject rules kernel is_equal since)) }
+    {
         self.compare(
             place,
             subject,
@@ -71,7 +89,12 @@ impl State {
         rules: i64,
         kernel: i64,
         is_equal: bool,
-    ) -> Result<(), AllocError> {
+    ) -> Result<(), AllocError>
+        ensures counts { OnOk result (self.new.sheet.counts
+            ≡ counted_of self.old.sheet.counts (kind_by quantity) is_equal) }
+        ensures first { OnOk result (self.new.sheet.first ≡ first_with self.old.sheet.first
+            (zero_lag_compared place actor.now quantity rules kernel is_equal)) }
+    {
         self.compare(
             place,
             Subject::Entity(actor.whose),
@@ -85,7 +108,7 @@ impl State {
         )
     }
 
-    /// Compares the sums of a line, and takes them.
+    /// Compares the sums of a line, and takes them; of a record that shows no dequeue they are taken alone.
     pub fn take_sums(&mut self, place: Place, cpu: u32, sums: Sums) -> Result<(), AllocError> {
         if !self.shape.has_dequeues {
             let runqueue = self.runqueue(cpu);

@@ -6,17 +6,19 @@ use Rattle.trace_words.specs.declared.quantities.Parameters.{Parameters}
 use Rattle.exact_words.specs.declared.words.Place.{Place}
 use Rattle.exact_words.specs.declared.words.Why.{Why}
 use Rattle.exact_words.specs.declared.words.Deviation.{Deviation}
+use Rattle.exact_words.specs.declared.words.Subject.{Subject}
 use Rattle.exact_words.specs.declared.words.Subject.TheVariants.{Entity, Runqueue as OfRunqueue}
+use Rattle.exact_words.specs.declared.words.Value.{Value}
 use Rattle.exact_words.specs.declared.words.Value.TheVariants.{Unsigned, Signed, Flag}
 use Rattle.exact_words.specs.declared.words.Quantity.{Quantity}
-use Rattle.exact_words.specs.declared.words.Quantity.TheVariants.{Runtime, Deadline, Throttled, Yielded, NonContending, DlRuntime, DlDeadline, DlPeriod, SchedFlags, ThisBw as ThisBwValue, RunningBw, ExtraBw}
+use Rattle.exact_words.specs.declared.words.Quantity.TheVariants.{Runtime, Deadline, Throttled, Yielded, NonContending, DlRuntime, DlDeadline, DlPeriod, SchedFlags, ThisBw as ThisBwValue, RunningBw, ExtraBw, Timer}
 use Rattle.exact_words.specs.declared.counts.Counts.{Counts}
 use Rattle.exact_words.specs.Kinds.{kind_by}
 use Rattle.exact_words.specs.Tallies.{counted_of}
-use Rattle.deadline_machine.specs.declared.actor.Actor.{Actor}
-use Rattle.deadline_machine.specs.declared.runqueue.Runqueue.{Runqueue}
-use Rattle.deadline_machine.specs.declared.runqueue.ThisBw.{ThisBw}
-use Rattle.deadline_machine.specs.declared.runqueue.ThisBw.TheVariants.{Unknown, FromStart, Known}
+use Rattle.machine_state.specs.declared.actor.Actor.{Actor}
+use Rattle.machine_state.specs.declared.runqueue.Runqueue.{Runqueue}
+use Rattle.machine_state.specs.declared.runqueue.ThisBw.{ThisBw}
+use Rattle.machine_state.specs.declared.runqueue.ThisBw.TheVariants.{Unknown, FromStart, Known}
 
 -- counts after these comparisons
 abbrev pub counts_from : Counts → List Deviation → Counts
@@ -92,3 +94,18 @@ running_compared place r (Some known) kernel = sum_of place r.cpu RunningBw know
 
 abbrev pub extra_compared : Place → Runqueue → ℕ → ℕ → List Deviation
 extra_compared place r rules kernel = sum_of place r.cpu ExtraBw rules kernel r.why_extra
+
+-- a comparison, and what changed its value last
+abbrev pub deviation_of : Place → Subject → Quantity → Value → Value → Bool → Why → Deviation
+deviation_of place subject quantity rules kernel equal since = record {
+  comparison = record { place = place; subject = subject; quantity = quantity; rules = rules; kernel = kernel; is_equal = equal };
+  since = since;
+}
+
+-- a timer that is armed or not, or whose it is
+abbrev pub timer_compared : Place → Subject → Value → Value → Bool → Why → Deviation
+timer_compared place subject rules kernel equal since = deviation_of place subject Timer rules kernel equal since
+
+-- the 0-lag time of a timer that is armed
+abbrev pub zero_lag_compared : Place → Actor → Quantity → ℤ → ℤ → Bool → Deviation
+zero_lag_compared place a quantity rules kernel equal = deviation_of place (Entity a.whose) quantity (Signed rules) (Signed kernel) equal a.why

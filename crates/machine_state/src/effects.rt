@@ -6,7 +6,6 @@ use crate::runqueue::{with_change, with_extra};
 use crate::state::State;
 use crate::values::compare_extra;
 use deadline_events::{Delayed, after_delayed, delayed_change};
-use deadline_rules::{Change, share};
 use exact_words::{Amount, Picked, Place, Rule, Whose, Why, pick};
 use std::alloc::AllocError;
 
@@ -186,60 +185,8 @@ impl State {
         Ok(())
     }
 
-    /// A bandwidth goes back to the root domain of a CPU, or is taken from it: to `extra_bw` of each of its CPUs, later.
-    fn spread(
-        &mut self,
-        place: Place,
-        cpu: u32,
-        bw: u64,
-        is_taken: bool,
-    ) -> Result<(), AllocError> {
-        if !self.is_in_domain(cpu) {
-            for runqueue in self.runqueues.iter_mut() {
-                if !runqueue.is_in_domain {
-                    runqueue.extra_bw = None;
-                }
-            }
-            return Ok(());
-        }
-        let part = share(bw, self.domain.len() as u64);
-        let by = if is_taken {
-            0u64.wrapping_sub(part)
-        } else {
-            part
-        };
-        for i in 0..self.runqueues.len() {
-            if i < self.runqueues.len() && self.runqueues[i].is_in_domain {
-                let to = self.runqueues[i].cpu;
-                self.later.push(Later {
-                    by: place.cpu,
-                    cpu: to,
-                    at: place.at,
-                    effect: Effect::Extra(by),
-                })?;
-            }
-        }
-        self.explain_readings(place)
-    }
-
-    /// What the root domain of a CPU gets back and gives.
-    pub fn change_extra(
-        &mut self,
-        place: Place,
-        cpu: u32,
-        change: Change,
-    ) -> Result<(), AllocError> {
-        if let Some(bw) = change.freed {
-            self.spread(place, cpu, bw, false)?;
-        }
-        if let Some(bw) = change.taken {
-            self.spread(place, cpu, bw, true)?;
-        }
-        Ok(())
-    }
-
     /// Readings of other CPUs that a new effect explains.
-    fn explain_readings(&mut self, place: Place) -> Result<(), AllocError> {
+    pub(crate) fn explain_readings(&mut self, place: Place) -> Result<(), AllocError> {
         let mut index = 0usize;
         for _ in 0..self.readings.len() {
             if index < self.readings.len() {
