@@ -231,8 +231,8 @@ take_claim-found-requires-clause-free c = c.in-Ok.ensures.told.of.0 ∙ c.args.p
 pub take_claim-found-requires-clause-fits : goal.take_claim-found-requires-clause-fits
 take_claim-found-requires-clause-fits c = c.in-Ok.ensures.free.0
 
-pub take_claim-found-requires-clause-unclaimed : goal.take_claim-found-requires-clause-unclaimed
-take_claim-found-requires-clause-unclaimed c = c.in-Ok.ensures.free.1
+pub take_claim-found-requires-clause-word : goal.take_claim-found-requires-clause-word
+take_claim-found-requires-clause-word c = c.pack_task-loaded.ensures ∙ ap (task_word c.in-Ok.shown.place c.in-Ok.shown.count) c.in-Ok.ensures.free.1
 
 pub returns-in-Some-clause-started : goal.returns-in-Some-clause-started
 returns-in-Some-clause-started c = answered c.args.self.now c.args.pass c.args.t c.args.op _ c.in-Ok.shown c.in-Some.reply c.in-Ok.ensures.told (sym c.refusal.ensures ∙ c.in-Some.is)
