@@ -91,14 +91,7 @@ impl Shared {
     }
 
     /// Sets the claim bit where the word is still the one that was loaded, and returns the word as it was.
-    fn take_claim(
-        &self,
-        seated: &mut Seated,
-        t: u32,
-        op: Op,
-        shown: TaskWord,
-        loaded: u64,
-    ) -> u64
+    fn take_claim(&self, seated: &mut Seated, t: u32, op: Op, shown: TaskWord, loaded: u64) -> u64
         requires seat { IsSeatOf self.now seated.old }
         requires free { hold_of seated.old ≡ Free }
         requires task { t < length (terms self.now).setup.tasks }

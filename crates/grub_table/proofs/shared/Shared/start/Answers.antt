@@ -278,4 +278,4 @@ returns-clause-started c =
     is_taken c.args.self.now c.args.pass c.args.t c.args.op c.in-Ok.shown c.in-Ok.ensures.free.1 c.look_at_task.new.seated c.in-Ok.ensures.told _ c.refusal.ensures c.in_default.is c.pack_task-loaded.result c.take_claim-found.result c.pack_task-loaded.ensures c.take_claim-found.new.seated c.take_claim-found.ensures.told c.if-found-loaded.false c.in-Ok.ensures.free.0.place c.requires.task c.requires.op c.load_record-held.result c.load_record-held.new.seated c.load_record-held.ensures.told _ refl refl refl refl (sym c.early.ensures ∙ c.in_default-early.is)
 
 pub returns-in-Some-early-clause-brief : goal.returns-in-Some-early-clause-brief
-returns-in-Some-early-clause-brief c = starts_early _ _ _ _ _ _ _ _ _ _ c.in-Ok.ensures.made c.take_claim-found.ensures.made c.load_record-held.ensures.made c.hand_back-pass.ensures.made refl refl
+returns-in-Some-early-clause-brief c = starts_early _ _ _ c.load_record-held.result.params _ _ _ _ _ _ c.in-Ok.ensures.made c.take_claim-found.ensures.made c.load_record-held.ensures.made c.hand_back-pass.ensures.made refl refl

@@ -1,5 +1,4 @@
-use Rattle.std.proofs.Common.{◌==◌, [], ◌∷◌, ◌++◌, ap, sym, subst, ◌∙◌, arith}
-use Rattle.grub_words.specs.Words.{task_word}
+use Rattle.std.proofs.Common.{◌==◌, ◌+◌, [], ◌∷◌, ◌++◌, true, ap, sym, subst, ◌∙◌, arith}
 use Rattle.grub_words.proofs.Tasks.{task_word-claimed}
 use Rattle.grub_words.proofs.Bounds.{task_word-lt}
 use Rattle.grub_table.specs.declared.view.Access.TheVariants.{Exchange}
@@ -8,6 +7,11 @@ use Rattle.grub_table.specs.Calls.{made_on}
 use Rattle.grub_table.specs.inside.Tellings.{TookClaim}
 use Rattle.grub_table.proofs.TaskTurns.{take_claim_allowed}
 use Rattle.grub_table.proofs.shared.Shared.take_claim.Goals as goal
+
+pub overflow_add-claimed : goal.overflow_add-claimed
+overflow_add-claimed c =
+    let w = c.args.shown in
+    omega (arith, c.requires.word, task_word-claimed w.place w.count, task_word-lt w.place w.count true c.requires.fits.place c.requires.fits.count)
 
 pub exchange_saying-requires-clause-allowed : goal.exchange_saying-requires-clause-allowed
 exchange_saying-requires-clause-allowed c =
