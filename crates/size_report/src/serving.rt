@@ -4,7 +4,7 @@ ghost use Rattle.std.specs.Prelude.{◌≡◌, ◌<◌, ◌⊎◌, IfErr, IfOk, 
 ghost use Rattle.std.specs.Io.KnownBytes.{Appends};
 ghost use Rattle.size_report.specs.Faults.{IsOfTask, PrintsWhole, status_of};
 
-use crate::admission::{Machine, Proposal, put_proposals};
+use size_admission::{Machine, Proposal, put_proposals};
 use crate::census::{census_text, duration};
 use crate::fault::SizeFault;
 use crate::figures::{Figures, regular_period};

@@ -3,43 +3,48 @@
 use std::alloc::{AllocError, Global};
 
 /// The cells of a line.
-pub(crate) type Row = Vec<Vec<u8>>;
+pub type Row = Vec<Vec<u8>>;
 
-pub(crate) fn put_text(out: &mut Vec<u8>, text: &str) -> Result<(), AllocError> {
+/// Writes a text.
+pub fn put_text(out: &mut Vec<u8>, text: &str) -> Result<(), AllocError> {
     out.extend_from_slice(text.as_bytes())
 }
 
-pub(crate) fn put_number(out: &mut Vec<u8>, n: u64) -> Result<(), AllocError> {
+/// Writes a number.
+pub fn put_number(out: &mut Vec<u8>, n: u64) -> Result<(), AllocError> {
     let text = format!(in *out.allocator(); "{n}")?;
     out.extend_from_slice(text.as_bytes())
 }
 
 /// Hundredths as a number with two digits behind the point.
-pub(crate) fn put_hundredths(out: &mut Vec<u8>, n: u64) -> Result<(), AllocError> {
+pub fn put_hundredths(out: &mut Vec<u8>, n: u64) -> Result<(), AllocError> {
     let whole = n / 100;
     let part = n % 100;
     let text = format!(in *out.allocator(); "{whole}.{part:02}")?;
     out.extend_from_slice(text.as_bytes())
 }
 
-pub(crate) fn text_cell(alloc: Global, text: &str) -> Result<Vec<u8>, AllocError> {
+/// A text as a cell.
+pub fn text_cell(alloc: Global, text: &str) -> Result<Vec<u8>, AllocError> {
     Vec::from_slice(alloc, text.as_bytes())
 }
 
-pub(crate) fn number_cell(alloc: Global, n: u64) -> Result<Vec<u8>, AllocError> {
+/// A number as a cell.
+pub fn number_cell(alloc: Global, n: u64) -> Result<Vec<u8>, AllocError> {
     let mut cell = Vec::new(alloc);
     put_number(&mut cell, n)?;
     Ok(cell)
 }
 
-pub(crate) fn hundredths_cell(alloc: Global, n: u64) -> Result<Vec<u8>, AllocError> {
+/// Hundredths as a cell, with two digits behind the point.
+pub fn hundredths_cell(alloc: Global, n: u64) -> Result<Vec<u8>, AllocError> {
     let mut cell = Vec::new(alloc);
     put_hundredths(&mut cell, n)?;
     Ok(cell)
 }
 
 /// The cells of a heading.
-pub(crate) fn heading(alloc: Global, texts: &[&str]) -> Result<Row, AllocError> {
+pub fn heading(alloc: Global, texts: &[&str]) -> Result<Row, AllocError> {
     let mut row = Vec::new(alloc);
     for text in texts {
         row.push(text_cell(alloc, text)?)?;
@@ -109,7 +114,7 @@ fn put_row(
 }
 
 /// Writes a table whose columns are two spaces apart; those of `left` begin at their left, the others end at their right.
-pub(crate) fn put_table(
+pub fn put_table(
     out: &mut Vec<u8>,
     rows: &[Row],
     left: &[usize],

@@ -1,6 +1,6 @@
 -- Which reservations a machine takes, by the sum of their bandwidths in 1/2^20.
 use Rattle.std.specs.Prelude.{ℕ, ◌+◌, ◌-◌, ◌*◌, ◌^◌, ◌≤◌}
-use Rattle.size_report.specs.declared.admission.Machine.{Machine}
+use Rattle.size_admission.specs.declared.admission.Machine.{Machine}
 
 -- admission of a root domain: what each processor admits, but for its fair server
 abbrev pub IsAdmitted : ℕ → Machine → Type 0
