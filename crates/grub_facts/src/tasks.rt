@@ -236,7 +236,8 @@ impl Tasks {
         report: &Report<&[u8]>,
     ) -> Result<Option<usize>, AllocError>
         ensures tasks { OnOk result
-            (tasks_text self.new ≡ tasks_after line (report_text report.now) (tasks_text self.old)) }
+            (tasks_text self.new
+            ≡ tasks_after line (report_text report.now) (tasks_text self.old)) }
         ensures index { IfOk result
             (λ i. i ≡ index_told (report_text report.now) (tasks_text self.old)) }
     {
