@@ -1,12 +1,11 @@
 //! A reservation is asked for (`sched_dl_overflow`).
 
-use crate::actor::Actor;
 use crate::player::Player;
 use crate::shown::known_admitted;
-use crate::state::why;
 use deadline_events::Admission;
 use deadline_rules::DEADLINE_POLICY;
 use exact_words::{Place, Rule};
+use machine_state::{Actor, why};
 use rule_changes::admit_by;
 use std::alloc::AllocError;
 use trace_words::Admitted;

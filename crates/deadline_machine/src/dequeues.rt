@@ -3,17 +3,13 @@
 ghost use Rattle.std.specs.Prelude.{◌≡◌};
 ghost use Rattle.deadline_machine.specs.inside.Shown.{awaits_by};
 
-use crate::actor::Actor;
-use crate::lines::{compare_dequeued, compare_left};
 use crate::player::Player;
-use crate::runqueue::forgotten;
-use crate::shape::Runs;
 use crate::shown::{shown_dequeued, shown_left};
-use crate::state::why;
 use crate::waiting::{Awaited, Blind, Duty, Rest};
 use deadline_events::{Arrival, Delayed};
 use deadline_rules::{Block, Change, REPLENISH, has};
 use exact_words::{Place, Rule};
+use machine_state::{Actor, Runs, compare_dequeued, compare_left, forgotten, why};
 use rule_changes::{dequeue_by, leave_by};
 use std::alloc::AllocError;
 use trace_words::{Dequeued, LeftClass, Migrating, Probe, TimerFunction};

@@ -1,13 +1,11 @@
 //! A task is enqueued (`enqueue_task_dl`).
 
-use crate::actor::Actor;
-use crate::lines::compare_enqueued;
 use crate::player::Player;
 use crate::shown::shown_enqueued;
-use crate::state::why;
 use deadline_events::{Arrival, Boost, Enqueuing, Refill};
 use deadline_rules::{Contention, Wake, is_before, replenished_blocked, reserved};
 use exact_words::{Place, Rule};
+use machine_state::{Actor, compare_enqueued, why};
 use rule_changes::enqueue_by;
 use std::alloc::AllocError;
 use trace_words::Enqueued;

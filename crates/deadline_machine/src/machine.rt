@@ -4,10 +4,10 @@ ghost use Rattle.std.specs.Prelude.{◌≡◌, ◌+◌, ◌%◌, ◌^◌, OnOk};
 ghost use Rattle.exact_words.specs.Tallies.{none_differs};
 
 use crate::player::Player;
-use crate::shape::Shape;
 use deadline_rules::Law;
 use exact_laws::Broken;
 use exact_words::{Comparison, Counts, Deviation, Event, Place, RuleCounts};
+use machine_state::Shape;
 use rule_changes::RuleChange;
 use std::alloc::{AllocError, Global};
 use trace_words::Probe;

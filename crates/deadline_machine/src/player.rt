@@ -1,10 +1,9 @@
 //! A state, and what each CPU has still to do: lines are played on it.
 
-use crate::shape::Shape;
-use crate::state::State;
 use crate::waiting::{Blind, Duty, Rest};
 use deadline_rules::Law;
 use exact_words::{Place, Whose};
+use machine_state::{Shape, State};
 use rule_changes::RuleChange;
 use std::alloc::{AllocError, Global};
 use std::collections::HashMap;

@@ -1,15 +1,12 @@
 //! A task has run (`update_curr_dl_se`).
 
-use crate::actor::Actor;
-use crate::lines::compare_updated;
-use crate::pending::{Alternative, Effect};
 use crate::player::Player;
 use crate::shown::{charged_runqueue, delta_of, off_tree};
-use crate::state::why;
 use crate::waiting::Awaited;
 use deadline_events::{Spending, Spent};
 use deadline_rules::{Charge, Runqueue as Charged, charged};
 use exact_words::{Place, Rule};
+use machine_state::{Actor, Alternative, Effect, compare_updated, why};
 use rule_changes::{charging_by, cost_by, spend_by};
 use std::alloc::AllocError;
 use trace_words::Updated;

@@ -1,11 +1,10 @@
 //! A fair server starts, or stops (`enqueue_dl_entity`, `pick_task_dl`).
 
-use crate::actor::{Actor, server_parameters};
 use crate::player::Player;
 use crate::shown::shown_contending;
-use crate::values::compare_contending;
 use deadline_rules::{QUEUED, WAKEUP, contended, contending, contending_change, has, reserved};
 use exact_words::{Place, Rule, Whose};
+use machine_state::{Actor, compare_contending, server_parameters};
 use rule_changes::dequeue_by;
 use std::alloc::AllocError;
 use trace_words::{Picked, ServerStarted};

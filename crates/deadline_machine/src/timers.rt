@@ -1,13 +1,12 @@
 //! Timers that fire, and timers that are armed (`inactive_task_timer`, `dl_task_timer`, `hrtimer_start_range_ns`).
 
-use crate::actor::Actor;
 use crate::player::Player;
 use crate::shown::{fits, with_runtime};
-use crate::state::why;
 use crate::waiting::Duty;
 use deadline_events::Delayed;
 use deadline_rules::{Change, unchanged, zero_lag};
 use exact_words::{FIRST_SEEN, Place, Quantity, Rule, Subject, Value, Whose};
+use machine_state::{Actor, why};
 use rule_changes::{fired_by, replenish_fired_by};
 use std::alloc::AllocError;
 use trace_words::{Armed, Expiry, TimerFunction};

@@ -1,7 +1,7 @@
 //! The first deviation, in words.
 
 use crate::table::name_of;
-use crate::writing::{put, put_micros, put_number, put_seconds, put_signed};
+use crate::writing::{put, put_micros, put_number, put_seconds, put_signed, put_signed_seconds};
 use std::alloc::{AllocError, Global};
 use timer_lines::Lines;
 use timer_rules::{Kind, Observation};
@@ -50,7 +50,7 @@ fn put_both_moments(
     first: &Observation,
 ) -> Result<(), AllocError> {
     put(out, b"  by the rules its timer fires at ")?;
-    put_seconds(alloc, out, first.predicted)?;
+    put_signed_seconds(alloc, out, first.predicted.cast_signed())?;
     match first.kernel {
         Some(kernel) => {
             put(out, b", in the kernel at ")?;

@@ -53,7 +53,7 @@ fn put_moments(
     out: &mut Vec<u8>,
     observation: &Observation,
 ) -> Result<(), AllocError> {
-    put_number(alloc, out, observation.predicted)?;
+    put_signed(alloc, out, observation.predicted.cast_signed())?;
     out.push(b'\t')?;
     if let Some(kernel) = observation.kernel {
         put_number(alloc, out, kernel)?;

@@ -53,6 +53,18 @@ pub(crate) fn put_seconds(alloc: Global, out: &mut Vec<u8>, nanos: u64) -> Resul
     put(out, text.as_bytes())
 }
 
+/// Appends a moment that may be before 0, as -0.004000000.
+pub(crate) fn put_signed_seconds(
+    alloc: Global,
+    out: &mut Vec<u8>,
+    nanos: i64,
+) -> Result<(), AllocError> {
+    if nanos < 0 {
+        out.push(b'-')?;
+    }
+    put_seconds(alloc, out, nanos.unsigned_abs())
+}
+
 /// Appends a span in milliseconds, as 3 ms or 0.5 ms.
 pub(crate) fn put_millis(alloc: Global, out: &mut Vec<u8>, nanos: u64) -> Result<(), AllocError> {
     let whole = nanos / 1_000_000;

@@ -17,7 +17,7 @@ use Rattle.std.proofs.lemmas.Str.Parse.{parse_digits}
 use Rattle.grub_text.proofs.Digits.{numerals}
 use Rattle.grub_text.specs.Digits.{value}
 use Rattle.trace_line.specs.Words.{text_of}
-use Rattle.grub_convert.specs.Options.{Task, given_task, has_name, number_in, task_in, tasks_in, tasks_on}
+use Rattle.grub_convert.specs.Options.{Task, given_task, has_name, number_in, task_in, tasks_on}
 use Rattle.grub_convert.specs.declared.options.Given.{Given}
 use Rattle.grub_convert.specs.inside.Words.{is_named, texts_of}
 
@@ -64,11 +64,6 @@ cut_last c text (Some x) h low =
 pub same_names : (name : List ℕ) (tasks : List Given) → list_any (is_named name) tasks ≡ has_name name (map given_task tasks)
 same_names name [] = refl
 same_names name (task ∷ tasks) = ap (λ b. bytes_eq task.name.now name || b) (same_names name tasks)
-
--- there are words
-pub all_words : (words : List (Bor (List ℕ))) (i : ℕ) → i < length words → tasks_in (map text_of words) ≡ tasks_on [] (map text_of words)
-all_words [] i lt = absurd (omega arith)
-all_words (word ∷ words) i lt = cond-false _ _ _ (ne_eqb (length (map text_of (word ∷ words))) 0 (λ e. absurd (omega (arith, e))))
 
 -- one word more says a task
 next_word : (tasks : List Task) (words : List (Bor (List ℕ))) (i : ℕ) (d : Bor (List ℕ)) (task : Task) → i < length words → Some task ≡ task_in (get_or words i d).now

@@ -1,5 +1,14 @@
 -- The event files of what a trace tells.
-use Rattle.std.specs.Prelude.{◌≡◌, ◌≤◌, ◌<◌, ◌^◌, All, ℕ, zero, suc, ◌+◌, Bool, true, false, List, [], ◌∷◌, ◌++◌, map, find, slice_get, if◌then◌else◌, length, Option, Some, None, IsSome, IsNone}
+use Rattle.std.specs.Prelude.{◌≡◌, ◌≤◌, ◌<◌, ◌^◌, ◌-◌, All, ℕ, zero, suc, ◌+◌, pos, int_lt, Bool, true, false, ◌&&◌, ◌||◌, ◌==◌, nat_le, nat_lt, List, [], ◌∷◌, ◌++◌, map, find, slice_get, if◌then◌else◌, length, Option, Some, None, IsSome, IsNone, option_and_then, unwrap_or}
+use Rattle.std.specs.Int.{w64, cast_unsigned}
+use Rattle.trace_words.specs.declared.note.Kernel.{Kernel}
+use Rattle.trace_words.specs.declared.note.Limit.{Limit}
+use Rattle.trace_words.specs.declared.note.Limit.TheVariants.{MaxBw, Runtime}
+use Rattle.grub_bw.specs.declared.queue.TheConstants.{BW_UNIT}
+use Rattle.grub_convert.specs.Options.{admitted, most_from, reservation_from}
+use Rattle.grub_convert.specs.declared.files.TheConstants.{FAIR_PERIOD, FAIR_RUNTIME, UMAX_USUAL}
+use Rattle.grub_convert.specs.declared.options.FairServer.{FairServer}
+use Rattle.grub_convert.specs.declared.options.FairServer.TheVariants.{Usual, Absent, Reserves}
 use Rattle.grub_bw.specs.Bandwidth.{IsMost, Reservation}
 use Rattle.grub_facts.specs.declared.fact.Facts.{Facts}
 use Rattle.grub_facts.specs.declared.fact.Found.{Found}
@@ -26,21 +35,55 @@ params_in task = task.params
 abbrev pub reservation_of : Given → Reservation
 reservation_of task = task.params
 
--- what the files say beside the events: the runqueue's constants, and the given tasks by their names
-pub record IsSetting (options : Options) (facts : Facts) (setting : Setting) : Type 0 where
-  pub most : setting.queue.most ≡ options.umax
-  pub extra : setting.queue.extra ≡ extra_of options.umax options.fair (map reservation_of options.tasks.items) facts.runqueues
-  pub fair : setting.fair ≡ options.fair
-  pub names : map name_in setting.tasks.items ≡ names_of facts.runqueues facts.found.items
-  pub params : map params_in setting.tasks.items ≡ map reservation_of options.tasks.items
+-- what the given tasks reserve, and behind them those of notes
+abbrev pub reservations : Options → Facts → List Reservation
+reservations options facts = map reservation_of options.tasks.items ++ facts.noted.items
 
--- options and facts of one trace fit together: there is a runqueue, the facts are those of as many tasks as the options have,
--- and a runqueue may have the most bandwidth
+-- a limit of bandwidth as the kernel has it, where that is 1 to 2^20; 2^64 - 1 is no limit
+abbrev pub most_by_bw : ℕ → Option ℕ
+most_by_bw bw = if bw == 2 ^ 64 - 1 then Some BW_UNIT else (if bw == 0 || nat_lt BW_UNIT bw then None else Some bw)
+
+-- the most bandwidth of deadline tasks on a runqueue by a note, where that is 1 to 2^20; no limit is all of a processor
+abbrev pub most_noted : Limit → Option ℕ
+most_noted (MaxBw bw) = most_by_bw bw
+most_noted (Runtime runtime period) = if int_lt runtime (pos 0) then Some BW_UNIT else most_from (cast_unsigned w64 runtime, period)
+
+-- by an option, else by a note, else the kernel's default
+abbrev pub most_of : Options → Facts → ℕ
+most_of options facts = unwrap_or options.umax (unwrap_or (option_and_then most_noted facts.limit) UMAX_USUAL)
+
+-- kernels from 6.12 on have servers of fair tasks
+abbrev pub has_servers : Option Kernel → Bool
+has_servers None = true
+has_servers (Some kernel) = nat_lt 6 kernel.major || (kernel.major == 6 && nat_le 12 kernel.minor)
+
+abbrev pub usual_server : Option Reservation
+usual_server = admitted (reservation_from (FAIR_RUNTIME, FAIR_PERIOD))
+
+abbrev pub fair_by : FairServer → Option Kernel → Option Reservation
+fair_by Usual kernel = if has_servers kernel then usual_server else None
+fair_by Absent kernel = None
+fair_by (Reserves reservation) kernel = Some reservation
+
+-- the server of fair tasks of each runqueue: by an option, else the recorded kernel's
+abbrev pub fair_of : Options → Facts → Option Reservation
+fair_of options facts = fair_by options.fair facts.kernel
+
+-- what the files say beside the events: the runqueue's constants, and the tasks by their names
+pub record IsSetting (options : Options) (facts : Facts) (setting : Setting) : Type 0 where
+  pub most : setting.queue.most ≡ most_of options facts
+  pub extra : setting.queue.extra ≡ extra_of (most_of options facts) (fair_of options facts) (reservations options facts) facts.runqueues
+  pub fair : setting.fair ≡ fair_of options facts
+  pub names : map name_in setting.tasks.items ≡ names_of facts.runqueues facts.found.items
+  pub params : map params_in setting.tasks.items ≡ reservations options facts
+
+-- options and facts of one trace fit together: there is a runqueue, the facts are those of as many tasks as options and notes
+-- give, and a runqueue may have the most bandwidth
 pub record FitTogether (options : Options) (facts : Facts) : Type 0 where
   pub runqueues : 1 ≤ facts.runqueues
-  pub tasks : length facts.found.items ≡ length options.tasks.items
-  pub few : length options.tasks.items < 2 ^ 32
-  pub most : IsMost options.umax
+  pub tasks : length facts.found.items ≡ length (reservations options facts)
+  pub few : length (reservations options facts) < 2 ^ 32
+  pub most : IsMost (most_of options facts)
 
 -- each fact is one of a given task
 abbrev pub AreGiven : Facts → Type 0

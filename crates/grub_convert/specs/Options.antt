@@ -6,6 +6,8 @@ use Rattle.std.specs.Path.{rsplit_once}
 use Rattle.std.specs.Str.{bytes_eq}
 use Rattle.grub_bw.specs.Bandwidth.{Reservation, reservation_fits}
 use Rattle.grub_text.specs.Digits.{value}
+use Rattle.grub_convert.specs.declared.options.FairServer.{FairServer}
+use Rattle.grub_convert.specs.declared.options.FairServer.TheVariants.{Usual, Absent, Reserves}
 use Rattle.grub_convert.specs.declared.options.Given.{Given}
 use Rattle.grub_convert.specs.declared.options.Options.{Options}
 
@@ -52,9 +54,9 @@ tasks_on tasks [] = Some tasks
 tasks_on tasks (word ∷ words) =
     option_and_then (λ task. if has_name task.name tasks then None else tasks_on (tasks ++ task ∷ []) words) (task_in word)
 
--- the tasks that all `--task` say, of which there is one at least
+-- the tasks that all `--task` say
 abbrev pub tasks_in : List (List ℕ) → Option (List Task)
-tasks_in words = if length words == 0 then None else tasks_on [] words
+tasks_in words = tasks_on [] words
 
 -- the most bandwidth of deadline tasks on a runqueue: RUNTIME of each PERIOD, in 1/2^20, where that is 1 to 2^20
 abbrev pub most_from : ℕ × ℕ → Option ℕ
@@ -65,24 +67,33 @@ most_from pair =
 abbrev pub most_in : List ℕ → Option ℕ
 most_in text = option_and_then most_from (pair_in text)
 
+abbrev pub maybe_most_in : Option (List ℕ) → Option (Option ℕ)
+maybe_most_in None = Some None
+maybe_most_in (Some text) = option_map (λ most. Some most) (most_in text)
+
 -- the server of fair tasks on each runqueue, RUNTIME:PERIOD or none
-abbrev pub fair_in : List ℕ → Option (Option Reservation)
-fair_in text = if bytes_eq text (codes "none") then Some None else option_map (λ server. Some server) (reservation_in text)
+abbrev pub fair_in : List ℕ → Option FairServer
+fair_in text = if bytes_eq text (codes "none") then Some Absent else option_map (λ server. Reserves server) (reservation_in text)
+
+-- that of an option, or the recorded kernel's where it is not given
+abbrev pub maybe_fair_in : Option (List ℕ) → Option FairServer
+maybe_fair_in None = Some Usual
+maybe_fair_in (Some text) = fair_in text
 
 -- what is known beside the trace
 pub record Said : Type 0 where
   pub tasks : List Task
   pub cpus : Option ℕ
-  pub umax : ℕ
-  pub fair : Option Reservation
+  pub umax : Option ℕ
+  pub fair : FairServer
 
-abbrev pub said_from : Option ℕ → List Task → ℕ → Option Reservation → Said
+abbrev pub said_from : Option ℕ → List Task → Option ℕ → FairServer → Said
 said_from cpus tasks umax fair = record { tasks = tasks; cpus = cpus; umax = umax; fair = fair }
 
 -- what all options say; none where one of them says nothing
-abbrev pub said_in : List (List ℕ) → Option ℕ → List ℕ → List ℕ → Option Said
+abbrev pub said_in : List (List ℕ) → Option ℕ → Option (List ℕ) → Option (List ℕ) → Option Said
 said_in words cpus rt fair =
-    option_and_then (λ tasks. option_and_then (λ umax. option_map (said_from cpus tasks umax) (fair_in fair)) (most_in rt)) (tasks_in words)
+    option_and_then (λ tasks. option_and_then (λ umax. option_map (said_from cpus tasks umax) (maybe_fair_in fair)) (maybe_most_in rt)) (tasks_in words)
 
 abbrev pub given_task : Given → Task
 given_task given = task_from given.name.now given.params

@@ -1,12 +1,12 @@
 -- What a trace that is read in pieces tells, by what the calls that open and read it may answer.
-use Rattle.std.specs.Prelude.{◌≡◌, ◌⊎◌, ℕ, List, ◌++◌, Ok, Option, None, Some, map}
+use Rattle.std.specs.Prelude.{◌≡◌, ◌⊎◌, ℕ, List, ◌++◌, Ok, Option, Some, map}
 use Rattle.std.specs.Fn.{FnReturnsAt}
 use Rattle.grub_files.specs.Source.{Opener, Reader, Reads, ReadsWhole}
 use Rattle.std.specs.Io.KnownBytes.{Appends}
-use Rattle.grub_facts.specs.Census.{fault_counted, tallies_reading, tally_text}
+use Rattle.grub_facts.specs.Census.{AreShown, fault_counted}
 use Rattle.grub_facts.specs.Faults.{fault_text}
 use Rattle.grub_facts.specs.Told.{IsTold}
-use Rattle.grub_facts.specs.declared.counted.Counted.{Counted}
+use Rattle.grub_facts.specs.declared.counted.Tasks.{Tasks}
 use Rattle.grub_facts.specs.declared.fact.Facts.{Facts}
 use Rattle.grub_convert.specs.Census.{tasks_text}
 use Rattle.grub_convert.specs.declared.fault.TraceFault.{TraceFault}
@@ -25,10 +25,6 @@ names_in options = map name_of options.tasks.items
 abbrev pub IsToldBy : Options → List ℕ → Facts → Type 0
 IsToldBy options text facts = IsTold (names_in options) options.cpus text facts
 
--- these are the tasks that a text shows, in which nothing is wrong
-abbrev pub IsShownBy : List ℕ → List Counted → Type 0
-IsShownBy text tasks = (map tally_text tasks ≡ (tallies_reading text).told) × (fault_counted text ≡ None)
-
 module _ {O N D : Type 0} (o : Opener O D) (g : Reader N D) (input : Input O N) where
   -- it is so of all bytes of an opened trace, or of its first ones, whatever follows them
   abbrev pub IsSoIn : D → (List ℕ → Type 0) → Type 0
@@ -46,12 +42,12 @@ module _ {O N D : Type 0} (o : Opener O D) (g : Reader N D) (input : Input O N) 
   IsToldOf name options facts = IsSoOf name (λ text. IsToldBy options text facts)
 
   -- these tasks are shown by it
-  abbrev pub IsShownOf : List ℕ → List Counted → Type 0
-  IsShownOf name tasks = IsSoOf name (λ text. IsShownBy text tasks)
+  abbrev pub IsShownOf : List ℕ → Tasks → Type 0
+  IsShownOf name tasks = IsSoOf name (λ text. AreShown text tasks)
 
   -- the text of such tasks was printed and nothing else
   abbrev pub PrintsTasks : List ℕ → Option (List ℕ) → Option (List ℕ) → Type 0
-  PrintsTasks name old new = (tasks : List Counted) × IsShownOf name tasks × Appends old new (tasks_text tasks)
+  PrintsTasks name old new = (tasks : Tasks) × IsShownOf name tasks × Appends old new (tasks_text tasks)
 
   -- a fault of status 1 is that of the first line of this trace with one; of memory and of reading nothing is said
   abbrev pub IsFaultIn : List ℕ → TraceFault → Type 0

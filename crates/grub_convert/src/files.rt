@@ -3,16 +3,26 @@
 ghost use Rattle.std.specs.Prelude.{◌≡◌, ◌<◌, ◌↔◌, All, IsTrue, IfOk, IfErr, None, OnOk, find, length, map, option_map};
 ghost use Rattle.grub_plan.specs.Contents.{contents};
 ghost use Rattle.grub_events.specs.Order.{FirstBeyond, is_beyond};
-ghost use Rattle.grub_convert.specs.Files.{AreFiles, AreGiven, FitTogether, IsSetting, IsFault, IsSound, events_told, files_of, is_shown, missing_from, name_in, params_in, reservation_of};
+ghost use Rattle.grub_convert.specs.Files.{AreFiles, AreGiven, FitTogether, IsSetting, IsFault, IsSound, events_told, fair_of, files_of, has_servers, is_shown, missing_from, most_by_bw, most_noted, most_of, name_in, params_in, reservation_of, reservations};
+ghost use Rattle.grub_convert.specs.Options.{most_from};
 ghost use Rattle.trace_line.specs.Words.{text_of};
 
-use crate::options::{Given, Options};
-use grub_bw::Params;
+use crate::options::{FairServer, Given, Options, admitted};
+use grub_bw::{BW_UNIT, Params};
 use grub_events::{
-    Declared, OrderFault, Placed, Setting, event_file, names_of, place_facts, queue_of,
+    Declared, OrderFault, Placed, Setting, event_file, names_of, place_facts, queue_of, umax_of,
 };
 use grub_facts::{Fact, Facts, Found};
 use std::alloc::{AllocError, Global};
+use trace_words::{Kernel, Limit};
+
+/// Of each runqueue 950 ms in a second, in 1/2^20: the kernel's default for deadline tasks.
+const UMAX_USUAL: u32 = 996147;
+
+/// What a server of fair tasks reserves by the kernel's default, in microseconds.
+const FAIR_RUNTIME: u32 = 50000;
+
+const FAIR_PERIOD: u32 = 1000000;
 
 /// Why a trace tells no event files.
 #[derive(Clone, Copy, Debug)]
@@ -34,6 +44,80 @@ fn are_given(facts: &[Fact], tasks: usize) -> bool
     ensures { IsTrue result ↔ All (λ f. f.task < tasks) facts.now }
 {
     facts.iter().all(|fact| fact.task < tasks)
+}
+
+/// A limit of bandwidth as the kernel has it, in 1/2^20: 2^64 - 1 is no limit. None where it is not 1 to 2^20.
+fn most_by_bw(bw: u64) -> Option<u32>
+    ensures { result ≡ most_by_bw bw }
+{
+    if bw == u64::MAX {
+        Some(BW_UNIT)
+    } else if bw == 0 || bw > u64::from(BW_UNIT) {
+        None
+    } else {
+        Some(bw as u32)
+    }
+}
+
+/// The most bandwidth of deadline tasks on a runqueue by a note, in 1/2^20; none where it is not 1 to 2^20.
+fn most_noted(limit: Limit) -> Option<u32>
+    ensures { result ≡ most_noted limit }
+{
+    match limit {
+        Limit::MaxBw(bw) => most_by_bw(bw),
+        Limit::Runtime { runtime, period } => {
+            if runtime < 0 {
+                Some(BW_UNIT)
+            } else {
+                most_from(runtime.cast_unsigned(), period)
+            }
+        }
+    }
+}
+
+/// The most bandwidth of deadline tasks on a runqueue by the kernel's runtime and period; none where it is not 1 to 2^20.
+fn most_from(runtime: u64, period: u64) -> Option<u32>
+    ensures { result ≡ most_from (runtime, period) }
+{
+    umax_of(runtime, period)
+}
+
+/// The most bandwidth of deadline tasks on a runqueue: by an option, else by a note, else the kernel's default.
+fn most_of(options: &Options<'_>, facts: &Facts) -> u32
+    ensures { result ≡ most_of options.now facts.now }
+{
+    if let Some(most) = options.umax {
+        return most;
+    }
+    match facts.limit {
+        Some(limit) => most_noted(limit).unwrap_or(UMAX_USUAL),
+        None => UMAX_USUAL,
+    }
+}
+
+/// Whether each runqueue of a kernel has a server of fair tasks, where nothing else is said: from 6.12 on.
+fn has_servers(kernel: Option<Kernel>) -> bool
+    ensures { result ≡ has_servers kernel }
+{
+    match kernel {
+        None => true,
+        Some(kernel) => kernel.major > 6 || kernel.major == 6 && kernel.minor >= 12,
+    }
+}
+
+/// The server of fair tasks of each runqueue: by an option, else the recorded kernel's.
+fn fair_of(options: &Options<'_>, facts: &Facts) -> Option<Params>
+    ensures { result ≡ fair_of options.now facts.now }
+{
+    match options.fair {
+        FairServer::Absent => None,
+        FairServer::Reserves(params) => Some(params),
+        FairServer::Usual => if has_servers(facts.kernel) {
+            admitted(FAIR_RUNTIME, FAIR_PERIOD)
+        } else {
+            None
+        },
+    }
 }
 
 /// The events of a trace at their moments. Facts of a task that is none of those that were given, which no trace tells, are
@@ -70,10 +154,23 @@ fn missing<'a>(tasks: &[Given<'a>], found: &[Option<Found>]) -> Option<&'a str>
     None
 }
 
-fn reservations(alloc: Global, tasks: &[Given<'_>]) -> Result<Vec<Params>, AllocError>
+fn given_reservations(alloc: Global, tasks: &[Given<'_>]) -> Result<Vec<Params>, AllocError>
     ensures { IfOk result (λ v. v.items ≡ map reservation_of tasks.now) }
 {
     tasks.iter().map(|task| task.params).collect(alloc)
+}
+
+/// What the given tasks reserve, and behind them those of notes.
+fn reservations(
+    alloc: Global,
+    options: &Options<'_>,
+    facts: &Facts,
+) -> Result<Vec<Params>, AllocError>
+    ensures { IfOk result (λ v. v.items ≡ reservations options.now facts.now) }
+{
+    let mut all = given_reservations(alloc, &options.tasks)?;
+    all.extend_from_slice(&facts.noted)?;
+    Ok(all)
 }
 
 /// A task of the event files.
@@ -112,18 +209,15 @@ pub fn setting_of(
     ensures setting { IfOk result (IsSetting options.now facts.now) }
     ensures fit { OnOk result (FitTogether options.now facts.now) }
 {
-    let params = reservations(alloc, &options.tasks)?;
+    let params = reservations(alloc, options, facts)?;
     let names = names_of(alloc, facts.runqueues, &facts.found)?;
     if facts.runqueues == 0 || params.len() > u32::MAX as usize || names.len() != params.len() {
         return Err(AllocError);
     }
     let tasks = declarations(alloc, &names, &params)?;
-    match queue_of(options.umax, options.fair, &params, facts.runqueues) {
-        Some(queue) => Ok(Setting {
-            queue,
-            fair: options.fair,
-            tasks,
-        }),
+    let fair = fair_of(options, facts);
+    match queue_of(most_of(options, facts), fair, &params, facts.runqueues) {
+        Some(queue) => Ok(Setting { queue, fair, tasks }),
         None => Err(AllocError),
     }
 }

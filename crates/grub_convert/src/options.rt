@@ -5,7 +5,7 @@ ghost use Rattle.std.specs.Char.{is_ascii_digit};
 ghost use Rattle.std.specs.List.{list_all, list_any};
 ghost use Rattle.std.specs.Path.{rsplit_once};
 ghost use Rattle.trace_line.specs.Words.{text_of};
-ghost use Rattle.grub_convert.specs.Options.{fair_in, given_task, most_in, number_in, pair_in, reservation_in, said_by, said_in, task_in, tasks_in};
+ghost use Rattle.grub_convert.specs.Options.{admitted, fair_in, given_task, maybe_fair_in, maybe_most_in, most_in, number_in, pair_in, reservation_from, reservation_in, said_by, said_in, task_in, tasks_in};
 ghost use Rattle.grub_convert.specs.inside.Words.{is_named, texts_of};
 
 use grub_bw::Params;
@@ -19,7 +19,16 @@ pub struct Given<'a> {
     pub params: Params,
 }
 
-/// What is known beside the trace.
+/// The server of fair tasks that each runqueue has.
+#[derive(Clone, Copy, Debug)]
+pub enum FairServer {
+    /// That of the recorded kernel.
+    Usual,
+    Absent,
+    Reserves(Params),
+}
+
+/// What is known beside the trace; it stands above the trace's own notes.
 #[derive(Debug, Drop)]
 pub struct Options<'a> {
     pub tasks: Vec<Given<'a>>,
@@ -28,10 +37,8 @@ pub struct Options<'a> {
     pub cpus: Option<u32>,
 
     /// The most bandwidth of deadline tasks on a runqueue, in 1/2^20.
-    pub umax: u32,
-
-    /// The server of fair tasks of each runqueue.
-    pub fair: Option<Params>,
+    pub umax: Option<u32>,
+    pub fair: FairServer,
 }
 
 fn are_digits(text: &str) -> bool
@@ -69,13 +76,20 @@ fn pair_of(text: &str) -> Option<(u64, u64)>
     }
 }
 
+/// A reservation of these numbers, where a book admits it.
+pub(crate) fn admitted(runtime: u32, period: u32) -> Option<Params>
+    ensures { result ≡ admitted (reservation_from (runtime, period)) }
+{
+    Params::new(runtime, period).ok()
+}
+
 /// The reservation of `RUNTIME:PERIOD`, in microseconds.
 fn params_of(text: &str) -> Option<Params>
     ensures { result ≡ reservation_in text.now }
 {
     let (runtime, period) = pair_of(text)?;
     match (u32::try_from(runtime), u32::try_from(period)) {
-        (Ok(runtime), Ok(period)) => Params::new(runtime, period).ok(),
+        (Ok(runtime), Ok(period)) => admitted(runtime, period),
         _ => None,
     }
 }
@@ -90,13 +104,23 @@ fn task_of(text: &str) -> Option<Given<'_>>
 }
 
 /// The server of fair tasks of `RUNTIME:PERIOD` or `none`.
-fn fair_of(text: &str) -> Option<Option<Params>>
+fn fair_of(text: &str) -> Option<FairServer>
     ensures { result ≡ fair_in text.now }
 {
     if text == "none" {
-        return Some(None);
+        return Some(FairServer::Absent);
     }
-    Some(Some(params_of(text)?))
+    Some(FairServer::Reserves(params_of(text)?))
+}
+
+/// That of an option, or the recorded kernel's where it is not given.
+fn maybe_fair_of(text: Option<&str>) -> Option<FairServer>
+    ensures { result ≡ maybe_fair_in (option_map text_of text.entry) }
+{
+    match text {
+        None => Some(FairServer::Usual),
+        Some(text) => fair_of(text),
+    }
 }
 
 /// Whether a name is among these tasks.
@@ -106,14 +130,11 @@ fn names(tasks: &[Given<'_>], name: &str) -> bool
     tasks.iter().any(|task| task.name == name)
 }
 
-/// The tasks of these words; none where one of them says no task, or one name comes twice, or there are none.
+/// The tasks of these words; none where one of them says no task, or one name comes twice.
 fn tasks_of<'a>(alloc: Global, words: &[&'a str]) -> Result<Option<Vec<Given<'a>>>, AllocError>
     ensures { IfOk result
         (λ made. option_map (λ v. map given_task v.items) made ≡ tasks_in (map text_of words.now)) }
 {
-    if words.is_empty() {
-        return Ok(None);
-    }
     let mut tasks = Vec::new(alloc);
     for word in words {
         let Some(task) = task_of(word) else {
@@ -137,22 +158,33 @@ fn most_of(text: &str) -> Option<u32>
     umax_of(runtime, period)
 }
 
+/// That of an option; none where it says nothing, and nothing where it is not given.
+fn maybe_most_of(text: Option<&str>) -> Option<Option<u32>>
+    ensures { result ≡ maybe_most_in (option_map text_of text.entry) }
+{
+    match text {
+        None => Some(None),
+        Some(text) => Some(Some(most_of(text)?)),
+    }
+}
+
 /// What the values of the options say: each `--task`, `--cpus`, `--rt` and `--fair-server`; none where one of them says
 /// nothing.
 pub fn options_of<'a>(
     alloc: Global,
     tasks: &[&'a str],
     cpus: Option<u32>,
-    rt: &str,
-    fair: &str,
+    rt: Option<&str>,
+    fair: Option<&str>,
 ) -> Result<Option<Options<'a>>, AllocError>
     ensures { IfOk result
-        (λ made. option_map said_by made ≡ said_in (map text_of tasks.now) cpus rt.now fair.now) }
+        (λ made. option_map said_by made ≡ said_in (map text_of tasks.now) cpus
+        (option_map text_of rt.entry) (option_map text_of fair.entry)) }
 {
     let Some(tasks) = tasks_of(alloc, tasks)? else {
         return Ok(None);
     };
-    match (most_of(rt), fair_of(fair)) {
+    match (maybe_most_of(rt), maybe_fair_of(fair)) {
         (Some(umax), Some(fair)) => Ok(Some(Options {
             tasks,
             cpus,

@@ -11,7 +11,7 @@ ghost use Rattle.grub_convert.specs.inside.Taking.{TookAll, TookEnough, TookFrom
 
 use crate::fault::TraceFault;
 use crate::options::Options;
-use grub_facts::{Counted, FactReader, Facts, TaskReader};
+use grub_facts::{FactReader, Facts, TaskReader, Tasks};
 use grub_files::read_once;
 use std::alloc::{AllocError, Global};
 use std::io;
@@ -164,7 +164,7 @@ fn fact_reader(alloc: Global, options: &Options<'_>) -> Result<FactReader, Alloc
     Ok(reader)
 }
 
-/// What the trace of a name tells of the given tasks.
+/// What the trace of a name tells of the given tasks, and of those of its notes.
 pub fn read_facts<
     'a,
     D: Drop,
@@ -197,10 +197,10 @@ pub(crate) fn read_tasks<
     D: Drop,
     O: Fn(&str) -> io::Result<D>,
     N: Fn(&mut D, &mut [u8]) -> io::Result<usize>,
->(alloc: Global, input: &Input<O, N>, path: &'a str) -> Result<Vec<Counted>, TraceFault<'a>>
+>(alloc: Global, input: &Input<O, N>, path: &'a str) -> Result<Tasks, TraceFault<'a>>
     requires open { O.IsAlwaysCallable input.now.open }
     requires read { N.IsAlwaysCallable input.now.read }
-    ensures shown { IfOk result (λ tasks. IsShownOf O.Fn N.Fn input.now path.now tasks.items) }
+    ensures shown { IfOk result (IsShownOf O.Fn N.Fn input.now path.now) }
     ensures fault { IfErr result (IsFaultIn O.Fn N.Fn input.now path.now) }
 {
     let mut reader = TaskReader::new(alloc);

@@ -4,7 +4,8 @@ use Rattle.std.specs.List.{position, position_or_len, prefix_len}
 use Rattle.std.proofs.lemmas.List.{length-map}
 use Rattle.trace_line.specs.declared.event.Shown.{Shown}
 use Rattle.grub_facts.specs.declared.fact.Found.{Found}
-use Rattle.grub_facts.specs.Given.{Task, changed_at, changed_where, finding_text, first_shown, settled_by}
+use Rattle.grub_facts.specs.Given.{Task, changed_at, changed_where, first_shown, settled_by}
+use Rattle.grub_facts.specs.Keeping.{finding_text}
 
 prefix_map : {X Y : Type 0} (p : Y → Bool) (f : X → Y) (xs : List X) → prefix_len p (map f xs) ≡ prefix_len (λ x. p (f x)) xs
 prefix_map p f [] = refl
@@ -44,7 +45,3 @@ first_is t (Some f) line shown comm none same = absurd cc
 pub later_is : (t : Task) (o : Option Found) (line : ℕ) (shown : Shown (List ℕ)) → is_some o ≡ true → ◌≡◌ {A = Task} (first_shown line shown (record { sought = t.sought; pid = t.pid; found = option_map finding_text o; timer = t.timer })) (record { sought = t.sought; pid = t.pid; found = option_map finding_text o; timer = t.timer })
 later_is t None line shown some = absurd cc
 later_is t (Some f) line shown some = refl
-
--- a task with another timer, by its texts
-pub timer_is : (t : Task) (x y : List ℕ) → x ≡ y → ◌≡◌ {A = Task} (record { sought = t.sought; pid = t.pid; found = t.found; timer = x }) (record t { timer = y })
-timer_is t x y e = rw e refl

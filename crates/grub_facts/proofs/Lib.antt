@@ -1,3 +1,2 @@
 mod GivenLemmas
-mod TextLemmas
 mod CensusLemmas

@@ -1,20 +1,28 @@
--- Which SCHED_DEADLINE tasks the lines of a trace show, and how often they wake and block.
-use Rattle.std.specs.Prelude.{◌≡◌, ℕ, Bool, ◌+◌, ◌==◌, nat_le, min, List, [], ◌∷◌, ◌++◌, Option, Some, None, is_some, map, if◌then◌else◌}
-use Rattle.grub_facts.specs.Faults.{Problem, fault_text, flawed}
-use Rattle.grub_facts.specs.Given.{is_sugov, stop_of}
-use Rattle.grub_facts.specs.Keeping.{progress}
-use Rattle.trace_line.specs.Lines.{line_of}
-use Rattle.grub_facts.specs.Texts.{After, Progress, fault_at_end, reading}
+-- Which SCHED_DEADLINE tasks the lines of a trace show, how often they wake and block, and what notes say that tasks reserve.
+use Rattle.std.specs.Prelude.{◌≡◌, ℕ, Bool, true, ◌+◌, ◌==◌, nat_le, min, List, [], ◌∷◌, ◌++◌, Option, Some, None, is_some, map, if◌then◌else◌}
+use Rattle.trace_line.specs.declared.event.Shown.{Shown}
+use Rattle.trace_words.specs.declared.fixed.Fixed.{Fixed}
+use Rattle.trace_words.specs.declared.fixed.Fixed.TheVariants.{Woken, Migrated, Switched}
+use Rattle.trace_words.specs.declared.fixed.Stop.{Stop}
+use Rattle.trace_words.specs.declared.fixed.Stop.TheVariants.{Ready, Blocks, Ends}
+use Rattle.trace_words.specs.declared.line.Line.{Line}
+use Rattle.trace_words.specs.declared.line.Line.TheVariants as line
+use Rattle.trace_words.specs.declared.line.Said.{Said}
+use Rattle.trace_words.specs.declared.line.Said.TheVariants as said
+use Rattle.trace_words.specs.declared.note.Note.{Note}
+use Rattle.trace_words.specs.declared.note.Note.TheVariants as note
+use Rattle.trace_words.specs.declared.note.Policy.{Policy}
+use Rattle.trace_words.specs.declared.note.Policy.TheVariants as policy
+use Rattle.record_line.specs.declared.line.Told.{Told}
+use Rattle.trace_reader.specs.Keeping.{progress}
+use Rattle.trace_reader.specs.Reading.{After, Progress, halt_at_end, reading}
+use Rattle.grub_facts.specs.Faults.{Problem, fault_of_halt, fault_text}
+use Rattle.grub_facts.specs.Given.{is_sugov}
 use Rattle.grub_facts.specs.declared.census.Census.{Census}
 use Rattle.grub_facts.specs.declared.counted.Counted.{Counted}
-use Rattle.trace_line.specs.declared.event.Event.{Event}
-use Rattle.trace_line.specs.declared.event.Event.TheVariants.{Woken, Migrated, Switched}
-use Rattle.trace_line.specs.declared.event.Shown.{Shown}
-use Rattle.grub_facts.specs.declared.fact.Stop.{Stop}
-use Rattle.grub_facts.specs.declared.fact.Stop.TheVariants.{Ready, Blocks, Ends}
+use Rattle.grub_facts.specs.declared.counted.Reserved.{Reserved}
+use Rattle.grub_facts.specs.declared.counted.Tasks.{Tasks}
 use Rattle.grub_facts.specs.declared.fault.LineFault.{LineFault}
-use Rattle.trace_line.specs.declared.line.Line.{Line}
-use Rattle.trace_line.specs.declared.line.Line.TheVariants as line
 use Rattle.grub_facts.specs.declared.task_reader.TaskReader.{TaskReader}
 
 -- a line that shows a SCHED_DEADLINE task on a CPU: how many wakes and blocks it is
@@ -30,15 +38,15 @@ blocks_of Ready = 0
 blocks_of Blocks = 1
 blocks_of Ends = 1
 
--- what an event shows on a line of this CPU
-abbrev pub sighting_of : ℕ → Event (List ℕ) → Option Sighting
-sighting_of own (Woken task deadline cpu) =
+-- what an event shows of this task, on a line of this CPU
+abbrev pub sighting_of : ℕ → Fixed → Shown (List ℕ) → Option Sighting
+sighting_of own (Woken pid deadline cpu) task =
     if deadline then Some (record { task = task; cpu = cpu; wakes = 1; blocks = 0 }) else None
-sighting_of own (Migrated task deadline cpu) =
+sighting_of own (Migrated pid deadline cpu) task =
     if deadline then Some (record { task = task; cpu = cpu; wakes = 0; blocks = 0 }) else None
-sighting_of own (Switched task deadline state) =
-    if deadline then Some (record { task = task; cpu = own; wakes = 0; blocks = blocks_of (stop_of state) }) else None
-sighting_of own event = None
+sighting_of own (Switched pid deadline stop next next_deadline) task =
+    if deadline then Some (record { task = task; cpu = own; wakes = 0; blocks = blocks_of stop }) else None
+sighting_of own event task = None
 
 -- what is counted of a task: its comm at the first line that shows it, its pid, that line, and its CPUs, increasing
 pub record Tally : Type 0 where
@@ -76,31 +84,63 @@ abbrev pub tallied : ℕ → Sighting → List Tally → List Tally
 tallied line s [] = tally_with s (tally_first line s.task) ∷ []
 tallied line s (tally ∷ tallies) = if tally.pid == s.task.pid then tally_with s tally ∷ tallies else tally ∷ tallied line s tallies
 
+-- the tasks, and what notes say that tasks reserve
+pub record Roll : Type 0 where
+  pub tallies : List Tally
+  pub reserved : List Reserved
+
+abbrev pub roll_first : Roll
+roll_first = record { tallies = []; reserved = [] }
+
 -- kernel threads that have no bandwidth are passed over
 abbrev pub seen : ℕ → Option Sighting → List Tally → List Tally
 seen line None tallies = tallies
 seen line (Some s) tallies = if is_sugov s.task.comm then tallies else tallied line s tallies
 
-abbrev pub tallies_told : ℕ → Line (List ℕ) → List Tally → After (List Tally)
-tallies_told n (line.Wrong flaw) tallies = record { wrong = Some (flawed flaw); told = tallies }
-tallies_told n line.Nothing tallies = record { wrong = None; told = tallies }
-tallies_told n (line.Says said) tallies = record { wrong = None; told = seen n (sighting_of said.cpu said.event) tallies }
+abbrev pub shown_rolled : ℕ → ℕ → Fixed → Shown (List ℕ) → Roll → Roll
+shown_rolled n cpu event task roll = record roll { tallies = seen n (sighting_of cpu event task) roll.tallies }
 
--- what a line comes to, whose number and text these are
-abbrev pub tally_step : ℕ → List ℕ → List Tally → After (List Tally)
-tally_step line text tallies = tallies_told line (line_of text) tallies
+abbrev pub fixed_rolled : ℕ → ℕ → Fixed → Option (Shown (List ℕ)) → Roll → Roll
+fixed_rolled n cpu event None roll = roll
+fixed_rolled n cpu event (Some task) roll = shown_rolled n cpu event task roll
+
+abbrev pub said_rolled : ℕ → ℕ → Said → Option (Shown (List ℕ)) → Roll → Roll
+said_rolled n cpu (said.Fixed event) shown roll = fixed_rolled n cpu event shown roll
+said_rolled n cpu (said.Probe probe) shown roll = roll
+
+abbrev pub policy_rolled : ℕ → Policy → Roll → Roll
+policy_rolled pid (policy.Deadline parameters) roll =
+    record roll { reserved = roll.reserved ++ record { pid = pid; parameters = parameters } ∷ [] }
+policy_rolled pid policy.Other roll = roll
+
+abbrev pub note_rolled : Note → Roll → Roll
+note_rolled (note.Task pid at by cpu policy) roll = policy_rolled pid policy roll
+note_rolled note roll = roll
+
+-- what is told with a line that tells this
+abbrev pub rolled : ℕ → Option (Shown (List ℕ)) → Line → Roll → Roll
+rolled n shown (line.Event at grain cpu pid said) roll = said_rolled n cpu said shown roll
+rolled n shown (line.Note note) roll = note_rolled note roll
+rolled n shown line roll = roll
+
+-- what a line comes to, whose number and words these are
+abbrev pub census_step : ℕ → Told (List ℕ) → Roll → After Roll
+census_step n told roll = record { more = true; seen = rolled n told.shown told.line roll }
 
 -- how far a trace is read
-abbrev pub tallies_reading : List ℕ → Progress (List Tally)
-tallies_reading text = reading tally_step text []
+abbrev pub tallies_reading : List ℕ → Progress Roll
+tallies_reading text = reading census_step text roll_first
 
 -- what the code holds, in these words
 
 abbrev pub tally_text : Counted → Tally
 tally_text task = record { comm = task.comm.items; pid = task.pid; line = task.line; wakes = task.wakes; blocks = task.blocks; cpus = task.cpus.items }
 
-abbrev pub census_text : Census → List Tally
-census_text census = map tally_text census.tasks.items
+abbrev pub tallies_text : Census → List Tally
+tallies_text census = map tally_text census.tasks.items
+
+abbrev pub census_text : Census → Roll
+census_text census = record { tallies = tallies_text census; reserved = census.reserved.items }
 
 -- a reader was given this text, whatever its pieces were
 abbrev pub HasCounted : List ℕ → TaskReader → Type 0
@@ -111,7 +151,7 @@ CountsOn piece old new = (text : List ℕ) → HasCounted text old → HasCounte
 
 -- whether the text that a reader was given has a line with a fault
 abbrev pub TellsStop : TaskReader → Bool → Type 0
-TellsStop reader stops = (text : List ℕ) → HasCounted text reader → stops ≡ is_some (tallies_reading text).fault
+TellsStop reader stops = (text : List ℕ) → HasCounted text reader → stops ≡ is_some (tallies_reading text).halt
 
 -- whatever follows the text that a reader was given, it need not be given
 abbrev pub NeedsNoMore : TaskReader → Type 0
@@ -119,12 +159,17 @@ NeedsNoMore reader = (text more : List ℕ) → HasCounted text reader → HasCo
 
 -- the fault of a trace that ends here
 abbrev pub fault_counted : List ℕ → Option (ℕ × Problem)
-fault_counted text = fault_at_end (tallies_reading text).fault (tallies_reading text).line (tallies_reading text).rest
+fault_counted text = fault_of_halt (halt_at_end (tallies_reading text).halt (tallies_reading text).line (tallies_reading text).rest)
 
--- what is answered for a reader are the tasks that the text shows that it was given, which has no fault
-abbrev pub ShowsAll : TaskReader → List Counted → Type 0
-ShowsAll reader tasks =
-    (text : List ℕ) → HasCounted text reader → (map tally_text tasks ≡ (tallies_reading text).told) × (fault_counted text ≡ None)
+-- the tasks that a text shows, and what its notes say that tasks reserve; nothing is wrong in it
+pub record AreShown (text : List ℕ) (tasks : Tasks) : Type 0 where
+  pub counted : map tally_text tasks.counted.items ≡ (tallies_reading text).seen.tallies
+  pub reserved : tasks.reserved.items ≡ (tallies_reading text).seen.reserved
+  pub right : fault_counted text ≡ None
+
+-- what is answered for a reader are the tasks of the text that it was given, which has no fault
+abbrev pub ShowsAll : TaskReader → Tasks → Type 0
+ShowsAll reader tasks = (text : List ℕ) → HasCounted text reader → AreShown text tasks
 
 -- what is answered for a reader is the first fault of the text that it was given
 abbrev pub StopsAt : TaskReader → LineFault → Type 0

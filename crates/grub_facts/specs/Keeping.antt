@@ -1,20 +1,34 @@
 -- What the code holds of a trace, in the words of the definitions.
-use Rattle.std.specs.Prelude.{option_map}
+use Rattle.std.specs.Prelude.{List, map, option_map}
 use Rattle.grub_facts.specs.Faults.{fault_text}
-use Rattle.grub_facts.specs.Given.{Noted, tasks_text}
-use Rattle.grub_facts.specs.Reading.{Told}
-use Rattle.grub_facts.specs.Texts.{Progress}
+use Rattle.grub_facts.specs.Given.{Finding, Noted, Task}
+use Rattle.grub_facts.specs.Reading.{Gathered}
+use Rattle.grub_facts.specs.declared.fact.Found.{Found}
 use Rattle.grub_facts.specs.declared.fact_lines.FactLines.{FactLines}
+use Rattle.grub_facts.specs.declared.given.Given.{Given}
 use Rattle.grub_facts.specs.declared.keeper.Keeper.{Keeper}
-use Rattle.grub_facts.specs.declared.text.Text.{Text}
+use Rattle.grub_facts.specs.declared.tasks.Tasks.{Tasks}
+
+abbrev pub finding_text : Found → Finding
+finding_text found = record { pid = found.pid; comm = found.comm.items; line = found.line }
+
+abbrev pub given_text : Given → Task
+given_text given =
+    record { sought = option_map (λ v. v.items) given.sought; pid = given.pid; found = option_map finding_text given.found; timer = given.timer }
+
+abbrev pub tasks_text : Tasks → List Task
+tasks_text tasks = map given_text tasks.given.items
 
 abbrev pub noted_text : Keeper → Noted
-noted_text keeper = record { tasks = tasks_text keeper.tasks; facts = keeper.facts.items }
+noted_text keeper = record { tasks = tasks_text keeper.tasks; reserved = keeper.reserved.items; facts = keeper.facts.items }
 
-abbrev pub told_text : FactLines → Told
-told_text lines = record { cpus = lines.cpus; counts = lines.counts; noted = noted_text lines.keeper }
-
--- how far a text was read that stands so, and whose lines tell this
-abbrev pub progress : {S : Type 0} → Text → S → Progress S
-progress text told =
-    record { fault = option_map fault_text text.fault; line = text.line; rest = text.carry.items; told = told }
+abbrev pub gathered_text : FactLines → Gathered
+gathered_text lines = record {
+  cpus = lines.cpus;
+  processors = lines.processors;
+  greatest_cpu = lines.greatest_cpu;
+  kernel = lines.kernel;
+  limit = lines.limit;
+  noted = noted_text lines.keeper;
+  fault = option_map fault_text lines.fault;
+}

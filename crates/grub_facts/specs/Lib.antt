@@ -1,6 +1,5 @@
 pub mod Faults
 pub mod Given
-pub mod Texts
 pub mod Reading
 pub mod Keeping
 pub mod inside

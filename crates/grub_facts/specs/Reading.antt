@@ -1,105 +1,121 @@
 -- What the lines of a trace tell of given tasks and beside them, one after another.
-use Rattle.std.specs.Prelude.{ℕ, Bool, true, false, ◌&&◌, ◌||◌, ◌==◌, nat_lt, ◌+◌, min, max, List, [], length, Option, Some, None, is_none, option_map, unwrap_or, if◌then◌else◌}
+use Rattle.std.specs.Prelude.{ℕ, Bool, false, ◌&&◌, ◌||◌, ◌==◌, nat_le, nat_lt, ◌+◌, min, max, List, [], Option, Some, None, is_none, option_map, unwrap_or, if◌then◌else◌}
 use Rattle.std.specs.Option.{option_or}
-use Rattle.trace_line.specs.Head.{is_comment, processors}
-use Rattle.trace_line.specs.Lines.{drift, line_of, other_cpu}
-use Rattle.grub_facts.specs.Faults.{Problem, flawed}
-use Rattle.grub_facts.specs.Given.{Noted, noted_by, problem_of_trouble, tasks_given, trouble_of}
-use Rattle.grub_facts.specs.Texts.{After}
-use Rattle.trace_line.specs.declared.event.Event.{Event}
-use Rattle.trace_line.specs.declared.event.Event.TheVariants.{Armed, Started}
-use Rattle.trace_line.specs.declared.event.Said.{Said}
-use Rattle.grub_facts.specs.declared.fact.Counts.{Counts}
-use Rattle.trace_words.specs.declared.line.Flaw.TheVariants.{TooLong}
-use Rattle.trace_line.specs.declared.line.Line.{Line}
-use Rattle.trace_line.specs.declared.line.Line.TheVariants as line
+use Rattle.trace_line.specs.declared.event.Shown.{Shown}
 use Rattle.trace_line.specs.declared.line.TheConstants.{CPUS_MAX}
+use Rattle.trace_words.specs.declared.line.Flaw.TheVariants.{TooLong}
+use Rattle.trace_words.specs.declared.line.Line.{Line}
+use Rattle.trace_words.specs.declared.line.Line.TheVariants as line
+use Rattle.trace_words.specs.declared.line.Said.{Said}
+use Rattle.trace_words.specs.declared.line.Said.TheVariants as said
+use Rattle.trace_words.specs.declared.note.Kernel.{Kernel}
+use Rattle.trace_words.specs.declared.note.Limit.{Limit}
+use Rattle.trace_words.specs.declared.note.Note.{Note}
+use Rattle.trace_words.specs.declared.note.Note.TheVariants as note
+use Rattle.trace_words.specs.declared.note.Policy.{Policy}
+use Rattle.trace_words.specs.declared.note.Policy.TheVariants as policy
+use Rattle.record_line.specs.declared.line.Told.{Told}
+use Rattle.trace_reader.specs.Reading.{After}
+use Rattle.grub_facts.specs.Faults.{Outcome, Problem, flawed}
+use Rattle.grub_facts.specs.Given.{Noted, noted_by, other_cpu, problem_of_trouble, reserving, tasks_given, trouble_of}
+use Rattle.grub_facts.specs.declared.report.Report.{Report}
 
--- what lines told, and how many runqueues there are, where that was given
-pub record Told : Type 0 where
+-- what lines told, how many runqueues there are, where that was given, and the first fault
+pub record Gathered : Type 0 where
   pub cpus : Option ℕ
-  pub counts : Counts
+  pub processors : Option ℕ
+  pub greatest_cpu : Option ℕ
+  pub kernel : Option Kernel
+  pub limit : Option Limit
   pub noted : Noted
-
--- the counts of no lines
-abbrev pub no_counts : Counts
-no_counts = record { lines = 0; processors = None; first = None; greatest_cpu = None; has_timers = false; clock = 0 }
+  pub fault : Option (ℕ × Problem)
 
 -- what is told before the first line, where tasks with these names were given
-abbrev pub told_first : List (List ℕ) → Option ℕ → Told
-told_first names cpus = record { cpus = cpus; counts = no_counts; noted = record { tasks = tasks_given names; facts = [] } }
-
--- how many runqueues the option or the head tell of
-abbrev pub runqueues_told : Option ℕ → Counts → Option ℕ
-runqueues_told cpus counts = option_or cpus counts.processors
-
--- how many runqueues there are: else one more than the greatest CPU of a line, at least one; the most that there may be where a head or a CPU tells of more, which is a fault
-abbrev pub runqueues_of : Told → ℕ
-runqueues_of told =
-    min (unwrap_or (runqueues_told told.cpus told.counts) (unwrap_or (option_map (λ cpu. cpu + 1) told.counts.greatest_cpu) 1)) CPUS_MAX
-
-abbrev pub is_start : {T : Type 0} → Event T → Bool
-is_start (Armed timer pid expires) = true
-is_start Started = true
-is_start event = false
-
--- the counts after a line of an event
-abbrev pub counted : Said (List ℕ) → Counts → Counts
-counted said counts = record {
-  lines = counts.lines;
-  processors = counts.processors;
-  first = Some (unwrap_or counts.first said.at);
-  greatest_cpu = Some (max (unwrap_or counts.greatest_cpu 0) (max said.cpu (other_cpu said.event)));
-  has_timers = counts.has_timers || is_start said.event;
-  clock = max counts.clock (drift said);
+abbrev pub gathered_first : List (List ℕ) → Option ℕ → Gathered
+gathered_first names cpus = record {
+  cpus = cpus;
+  processors = None;
+  greatest_cpu = None;
+  kernel = None;
+  limit = None;
+  noted = record { tasks = tasks_given names; reserved = []; facts = [] };
+  fault = None;
 }
 
--- whether the head may still tell the number of processors
-abbrev pub is_head : Counts → Bool
-is_head counts = counts.lines == 0 && is_none counts.processors
+-- how many runqueues the option or the head tell of
+abbrev pub runqueues_told : Gathered → Option ℕ
+runqueues_told g = option_or g.cpus g.processors
 
--- the counts after a line that begins with #
-abbrev pub head_counts : List ℕ → Counts → Counts
-head_counts text counts = if is_head counts then record counts { processors = processors text } else counts
-
--- the counts after another line
-abbrev pub line_counts : List ℕ → Counts → Counts
-line_counts text counts = if length text == 0 then counts else record counts { lines = min (counts.lines + 1) 18446744073709551615 }
+-- how many runqueues there are: else one more than the greatest CPU of a line, at least one; the most that there may be where a head tells of more, which is a fault
+abbrev pub runqueues_of : Gathered → ℕ
+runqueues_of g = min (unwrap_or (runqueues_told g) (unwrap_or (option_map (λ cpu. cpu + 1) g.greatest_cpu) 1)) CPUS_MAX
 
 -- whether a number of runqueues is none
 abbrev pub is_bad_count : Option ℕ → Bool
 is_bad_count None = false
 is_bad_count (Some n) = n == 0 || nat_lt CPUS_MAX n
 
--- what is wrong with a line that begins with #: it tells of a number of runqueues that is none
-abbrev pub head_problem : List ℕ → Told → Option Problem
-head_problem text told =
-    if is_head told.counts && is_bad_count (runqueues_told told.cpus (head_counts text told.counts)) then Some (flawed TooLong) else None
+-- whether the head may still tell the number of processors: no event was read yet
+abbrev pub is_head : Gathered → Bool
+is_head g = is_none g.greatest_cpu && is_none g.processors
 
--- a line that begins with #
-abbrev pub head_line : List ℕ → Told → After Told
-head_line text told =
-    record { wrong = head_problem text told; told = record told { counts = head_counts text told.counts } }
+-- nothing is wrong with a line
+abbrev pub right : Gathered → Outcome Gathered
+right g = record { wrong = None; told = g }
 
--- another line that tells nothing
-abbrev pub other_line : List ℕ → Told → After Told
-other_line text told = record { wrong = None; told = record told { counts = line_counts text told.counts } }
+abbrev pub counted_line : Gathered → Outcome Gathered
+counted_line g = record { wrong = if is_bad_count (runqueues_told g) then Some (flawed TooLong) else None; told = g }
 
--- a line of an event
-abbrev pub event_step : ℕ → Said (List ℕ) → Told → After Told
-event_step n said told =
-    let trouble = trouble_of said told.noted.tasks (unwrap_or (runqueues_told told.cpus told.counts) CPUS_MAX) in
+-- a line that tells no event, but maybe how many processors there are
+abbrev pub head_line : Option ℕ → Gathered → Outcome Gathered
+head_line processors g = if is_head g then counted_line (record g { processors = processors }) else right g
+
+-- the greatest CPU that a line names
+abbrev pub cpu_of : Report (List ℕ) → ℕ
+cpu_of report = max report.cpu (other_cpu report.event)
+
+-- a line of an event whose CPUs may be runqueues
+abbrev pub event_within : ℕ → Report (List ℕ) → Gathered → Outcome Gathered
+event_within n report g =
+    let trouble = trouble_of report g.noted.tasks (unwrap_or (runqueues_told g) CPUS_MAX) in
     record {
-      wrong = problem_of_trouble said.event trouble;
-      told = record { cpus = told.cpus; counts = counted said told.counts; noted = noted_by n said told.noted trouble };
+      wrong = problem_of_trouble report trouble;
+      told = record g { greatest_cpu = Some (max (unwrap_or g.greatest_cpu 0) (cpu_of report)); noted = noted_by n report g.noted trouble };
     }
 
--- a line that tells this
-abbrev pub line_told : ℕ → List ℕ → Told → Line (List ℕ) → After Told
-line_told n text told (line.Wrong flaw) = record { wrong = Some (flawed flaw); told = told }
-line_told n text told line.Nothing = if is_comment text then head_line text told else other_line text told
-line_told n text told (line.Says said) = event_step n said (record told { counts = line_counts text told.counts })
+-- a line of an event
+abbrev pub event_line : ℕ → Report (List ℕ) → Gathered → Outcome Gathered
+event_line n report g = if nat_le CPUS_MAX (cpu_of report) then record { wrong = Some (flawed TooLong); told = g } else event_within n report g
 
--- what a line comes to, whose number and text these are
-abbrev pub fact_step : ℕ → List ℕ → Told → After Told
-fact_step n text told = line_told n text told (line_of text)
+abbrev pub said_line : ℕ → ℕ → ℕ → ℕ → Said → Option (Shown (List ℕ)) → Gathered → Outcome Gathered
+said_line n at cpu pid (said.Fixed event) shown g = event_line n (record { at = at; cpu = cpu; pid = pid; event = event; shown = shown }) g
+said_line n at cpu pid (said.Probe probe) shown g = right g
+
+abbrev pub reserved_line : Outcome Noted → Gathered → Outcome Gathered
+reserved_line outcome g = record { wrong = outcome.wrong; told = record g { noted = outcome.told } }
+
+-- a note of a task, by its policy
+abbrev pub policy_line : Policy → Option (Shown (List ℕ)) → Gathered → Outcome Gathered
+policy_line (policy.Deadline parameters) (Some shown) g = reserved_line (reserving shown parameters g.noted) g
+policy_line policy shown g = right g
+
+-- a note
+abbrev pub note_line : Note → Option (Shown (List ℕ)) → Gathered → Outcome Gathered
+note_line (note.Head kernel limit total) shown g = right (record g { kernel = kernel; limit = limit })
+note_line (note.Task pid at by cpu policy) shown g = policy_line policy shown g
+note_line note shown g = right g
+
+-- what a line comes to that tells this
+abbrev pub outcome : ℕ → Option (Shown (List ℕ)) → Option ℕ → Line → Gathered → Outcome Gathered
+outcome n shown processors line.Quiet g = head_line processors g
+outcome n shown processors (line.Note note) g = note_line note shown g
+outcome n shown processors (line.Event at grain cpu pid said) g = said_line n at cpu pid said shown g
+outcome n shown processors (line.Flawed flaw) g = right g
+
+-- no more lines are wanted behind one with a fault
+abbrev pub ended : ℕ → Outcome Gathered → After Gathered
+ended n o = record { more = is_none o.wrong; seen = record o.told { fault = option_map (λ wrong. (n, wrong)) o.wrong } }
+
+-- what a line comes to, whose number and words these are
+abbrev pub gather_step : ℕ → Told (List ℕ) → Gathered → After Gathered
+gather_step n told g = ended n (outcome n told.shown told.processors told.line g)

@@ -1,23 +1,28 @@
 //! The SCHED_DEADLINE tasks that a trace shows.
 
-ghost use Rattle.std.specs.Prelude.{◌≡◌, ◌==◌, ◌++◌, ◌∷◌, [], List, OnOk, map, position};
-ghost use Rattle.grub_facts.specs.Census.{Tally, census_text, seen, sighting_of, tallied, tally_first, tally_step, tally_text, tally_with};
-ghost use Rattle.trace_line.specs.inside.Events.{event_text};
+ghost use Rattle.std.specs.Prelude.{◌≡◌, ◌==◌, ◌++◌, ◌∷◌, [], OnOk, map, position};
+ghost use Rattle.grub_facts.specs.Census.{Roll, census_step, census_text, note_rolled, roll_first, rolled, seen, shown_rolled, tallied, tallies_text, tally_first, tally_text, tally_with};
+ghost use Rattle.grub_facts.specs.inside.Reports.{maybe_shown};
 ghost use Rattle.grub_facts.specs.inside.Sightings.{sighting_text};
+ghost use Rattle.trace_line.specs.inside.Events.{shown_text};
 
-use crate::counted::Counted;
-use crate::fault::Wrong;
+use crate::counted::{Counted, Reserved};
 use crate::given::is_sugov;
 use crate::sighting::{Sighting, sighting_of};
-use crate::text::Lines;
+use record_line::Told;
 use std::alloc::{AllocError, Global};
-use trace_line::{Line, Said, line_of};
+use trace_line::Shown;
+use trace_reader::Lines;
+use trace_words::{Fixed, Line, Note, Policy, Said};
 
 /// The tasks that were shown so far, in the order of their first lines.
 #[derive(Drop)]
 pub struct Census {
     alloc: Global,
     tasks: Vec<Counted>,
+
+    /// What notes say that tasks reserve, in their order.
+    reserved: Vec<Reserved>,
 }
 
 fn place_of_pid(tasks: &[Counted], pid: u64) -> Option<usize>
@@ -29,19 +34,21 @@ fn place_of_pid(tasks: &[Counted], pid: u64) -> Option<usize>
 impl Census {
     /// A census of no line.
     pub(crate) fn new(alloc: Global) -> Census
-        ensures { census_text result ≡ [] }
+        ensures { census_text result ≡ roll_first }
     {
         Census {
             alloc,
             tasks: Vec::new(alloc),
+            reserved: Vec::new(alloc),
         }
     }
 
     /// Counts a line of a task that is not counted yet.
     fn begin(&mut self, line: u64, sighting: &Sighting<'_>) -> Result<(), AllocError>
-        ensures { OnOk result
-            (census_text self.new ≡ census_text self.old ++ tally_with (sighting_text sighting.now)
+        ensures tasks { OnOk result (tallies_text self.new
+            ≡ tallies_text self.old ++ tally_with (sighting_text sighting.now)
             (tally_first line (sighting_text sighting.now).task) ∷ []) }
+        ensures reserved { self.new.reserved ≡ self.old.reserved }
     {
         let mut task = Counted::new(self.alloc, line, &sighting.task)?;
         task.add(sighting)?;
@@ -51,8 +58,9 @@ impl Census {
 
     /// Counts a line of a task.
     fn count(&mut self, line: u64, sighting: &Sighting<'_>) -> Result<(), AllocError>
-        ensures { OnOk result (census_text self.new
-            ≡ tallied line (sighting_text sighting.now) (census_text self.old)) }
+        ensures tasks { OnOk result (tallies_text self.new
+            ≡ tallied line (sighting_text sighting.now) (tallies_text self.old)) }
+        ensures reserved { self.new.reserved ≡ self.old.reserved }
     {
         match place_of_pid(&self.tasks, sighting.task.pid) {
             None => self.begin(line, sighting)?,
@@ -61,12 +69,18 @@ impl Census {
         Ok(())
     }
 
-    /// Takes what a line says.
-    fn take(&mut self, line: u64, said: &Said<&[u8]>) -> Result<(), AllocError>
-        ensures { OnOk result (census_text self.new ≡ seen line
-            (sighting_of said.now.cpu (event_text said.now.event)) (census_text self.old)) }
+    /// Takes an event of a line of this CPU, and the task that the line shows.
+    fn take_event(
+        &mut self,
+        line: u64,
+        cpu: u32,
+        event: &Fixed,
+        task: Shown<&[u8]>,
+    ) -> Result<(), AllocError>
+        ensures { OnOk result (census_text self.new
+            ≡ shown_rolled line cpu event.now (shown_text task.entry) (census_text self.old)) }
     {
-        if let Some(sighting) = sighting_of(said.cpu, &said.event) {
+        if let Some(sighting) = sighting_of(cpu, event, task) {
             if !is_sugov(sighting.task.comm) {
                 self.count(line, &sighting)?;
             }
@@ -74,30 +88,63 @@ impl Census {
         Ok(())
     }
 
-    /// The tasks.
-    pub(crate) fn finish(self) -> Vec<Counted>
-        ensures { map tally_text result.items ≡ census_text self }
+    /// Takes a note.
+    fn take_note(&mut self, note: Note) -> Result<(), AllocError>
+        ensures { OnOk result (census_text self.new ≡ note_rolled note (census_text self.old)) }
     {
-        let Census { tasks, .. } = self;
-        tasks
+        if let Note::Task {
+            pid,
+            policy: Policy::Deadline(parameters),
+            ..
+        } = note
+        {
+            self.reserved.push(Reserved { pid, parameters })?;
+        }
+        Ok(())
+    }
+
+    /// Takes what a line tells.
+    fn take_told(&mut self, number: u64, told: &Told<&[u8]>) -> Result<(), AllocError>
+        ensures { OnOk result (census_text self.new
+            ≡ rolled number (maybe_shown told.now.shown) told.now.line (census_text self.old)) }
+    {
+        match (told.line, told.shown) {
+            (
+                Line::Event {
+                    cpu,
+                    said: Said::Fixed(event),
+                    ..
+                },
+                Some(task),
+            ) => self.take_event(number, cpu, &event, task),
+            (Line::Note(note), _) => self.take_note(note),
+            _ => Ok(()),
+        }
+    }
+
+    /// The tasks, and what notes say that tasks reserve.
+    pub(crate) fn finish(self) -> (Vec<Counted>, Vec<Reserved>)
+        ensures tasks { map tally_text result.0.items ≡ (census_text self).tallies }
+        ensures reserved { result.1.items ≡ (census_text self).reserved }
+    {
+        let Census {
+            tasks,
+            reserved,
+            ..
+        } = self;
+        (tasks, reserved)
     }
 }
 
 impl Lines for Census {
-    ghost Told = { List Tally };
+    ghost Seen = { Roll };
 
-    ghost told = { census_text };
+    ghost seen = { census_text };
 
-    ghost step = { tally_step };
+    ghost step = { census_step };
 
-    fn take_line(&mut self, line: u64, text: &[u8]) -> Result<Option<Wrong>, AllocError> {
-        match line_of(text) {
-            Line::Nothing => Ok(None),
-            Line::Wrong(flaw) => Ok(Some(Wrong::of_flaw(flaw))),
-            Line::Says(said) => {
-                self.take(line, &said)?;
-                Ok(None)
-            }
-        }
+    fn take(&mut self, number: u64, told: &Told<&[u8]>) -> Result<bool, AllocError> {
+        self.take_told(number, told)?;
+        Ok(true)
     }
 }

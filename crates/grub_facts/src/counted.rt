@@ -8,6 +8,7 @@ ghost use Rattle.grub_facts.specs.inside.Sightings.{sighting_text};
 use crate::sighting::Sighting;
 use std::alloc::{AllocError, Global};
 use trace_line::Shown;
+use trace_words::Parameters;
 
 /// What a trace shows of a SCHED_DEADLINE task.
 #[derive(Debug, Drop)]
@@ -26,6 +27,20 @@ pub struct Counted {
 
     /// The CPUs that it wakes on, is sent to or stops on, increasing.
     pub cpus: Vec<u32>,
+}
+
+/// What a note says that a task reserves.
+#[derive(Clone, Copy)]
+pub struct Reserved {
+    pub pid: u64,
+    pub parameters: Parameters,
+}
+
+/// The tasks that a trace shows, in the order of their first lines, and what its notes say that tasks reserve, in theirs.
+#[derive(Drop)]
+pub struct Tasks {
+    pub counted: Vec<Counted>,
+    pub reserved: Vec<Reserved>,
 }
 
 /// Where the first of these increasing numbers stands that is not below this one.

@@ -1,6 +1,8 @@
-//! Facts: what a trace tells of the tasks that were given.
+//! Facts: what a trace tells of the tasks that were given, by options or by its own notes.
 
 use crate::fault::LineFault;
+use grub_bw::Params;
+use trace_words::{Kernel, Limit};
 
 /// The state in which a task stops to run, by the first letter of the trace's `prev_state`.
 #[derive(Clone, Copy, Debug, PartialEq, Eq)]
@@ -49,7 +51,7 @@ pub struct Fact {
     /// The moment of the line, in nanoseconds.
     pub at: u64,
 
-    /// The index of the task among those that were given.
+    /// The index of the task among those that were given, and those of notes behind them.
     pub task: usize,
 
     pub what: What,
@@ -67,38 +69,21 @@ pub struct Found {
     pub line: u64,
 }
 
-/// What the lines of a trace tell beside the facts of tasks.
-#[derive(Clone, Copy, Debug, PartialEq, Eq)]
-pub struct Counts {
-    /// How many lines are neither empty nor begin with `#`.
-    pub lines: u64,
-
-    /// The N of the first word `#P:N` of the head.
-    pub processors: Option<u32>,
-
-    /// The moment, in nanoseconds, of the first line of an event that is read.
-    pub first: Option<u64>,
-
-    /// The greatest CPU of such lines: their own, target_cpu and dest_cpu.
-    pub greatest_cpu: Option<u32>,
-
-    /// Whether an hrtimer_start of any timer was seen.
-    pub has_timers: bool,
-
-    /// How far the `now` of a 0-lag timer that fires lies from the moment of its line, at most, in nanoseconds.
-    pub clock: u64,
-}
-
 /// What a trace tells up to its end, or up to its first line with a fault.
-#[derive(Debug, Drop)]
+#[derive(Drop)]
 pub struct Facts {
     /// In the order of their lines.
     pub facts: Vec<Fact>,
 
-    /// For each given task in turn, where the trace shows it.
+    /// For each task in turn, where the trace shows it: those that were given, and behind them those of notes.
     pub found: Vec<Option<Found>>,
 
-    pub counts: Counts,
+    /// What the tasks of notes reserve, in microseconds.
+    pub noted: Vec<Params>,
+
+    /// What notes say of the kernel.
+    pub kernel: Option<Kernel>,
+    pub limit: Option<Limit>,
 
     /// How many runqueues there are.
     pub runqueues: u32,

@@ -1,54 +1,40 @@
-//! The facts of given tasks and what is counted beside them, line by line.
+//! The facts of given tasks and what is told beside them, line by line.
 
-ghost use Rattle.std.specs.Prelude.{◌≡◌, IfOk, map};
-ghost use Rattle.trace_line.specs.Head.{is_comment};
-ghost use Rattle.trace_line.specs.inside.Events.{said_text};
-ghost use Rattle.grub_facts.specs.Keeping.{told_text};
-ghost use Rattle.grub_facts.specs.inside.Keeping.{after_of};
-ghost use Rattle.grub_facts.specs.Reading.{Told, counted, event_step, fact_step, head_counts, head_line, is_bad_count, is_head, is_start, line_counts, no_counts, other_line, runqueues_of, runqueues_told, told_first};
+ghost use Rattle.std.specs.Prelude.{◌≡◌, IfOk, map, option_map};
+ghost use Rattle.grub_facts.specs.Reading.{Gathered, cpu_of, ended, event_line, gather_step, gathered_first, head_line, is_bad_count, is_head, note_line, outcome, runqueues_of, runqueues_told};
+ghost use Rattle.grub_facts.specs.Keeping.{gathered_text};
+ghost use Rattle.grub_facts.specs.inside.Outcomes.{outcome_of};
+ghost use Rattle.grub_facts.specs.inside.Reports.{maybe_shown, report_text};
 ghost use Rattle.trace_line.specs.Words.{text_of};
+ghost use Rattle.trace_reader.specs.Keeping.{after_of};
 
-use crate::fact::Counts;
-use crate::fault::Wrong;
+use crate::fault::{LineFault, Wrong};
 use crate::keeper::Keeper;
-use crate::text::Lines;
+use crate::report::{Report, other_cpu};
+use record_line::Told;
 use std::alloc::{AllocError, Global};
-use trace_line::{CPUS_MAX, Event, Line, Said, drift, is_comment, line_of, other_cpu, processors};
+use trace_line::{CPUS_MAX, Shown};
+use trace_reader::Lines;
+use trace_words::{Kernel, Limit, Line, Note, Policy, Said};
 
 /// The facts of given tasks, as lines are read.
 #[derive(Drop)]
 pub struct FactLines {
     pub keeper: Keeper,
-    pub counts: Counts,
 
     /// How many runqueues there are, where that was given.
     pub cpus: Option<u32>,
-}
 
-/// The counts of no lines.
-fn no_counts() -> Counts
-    ensures { result ≡ no_counts }
-{
-    Counts {
-        lines: 0,
-        processors: None,
-        first: None,
-        greatest_cpu: None,
-        has_timers: false,
-        clock: 0,
-    }
-}
+    /// The N of the first word `#P:N` of the head.
+    pub processors: Option<u32>,
 
-fn is_start(event: &Event<&[u8]>) -> bool
-    ensures { result ≡ is_start event.now }
-{
-    matches!(*event, Event::Armed { .. } | Event::Started)
-}
+    /// The greatest CPU that a line of an event names.
+    pub greatest_cpu: Option<u32>,
 
-fn is_head(counts: Counts) -> bool
-    ensures { result ≡ is_head counts }
-{
-    counts.lines == 0 && counts.processors.is_none()
+    /// What notes say of the kernel.
+    pub kernel: Option<Kernel>,
+    pub limit: Option<Limit>,
+    pub fault: Option<LineFault>,
 }
 
 fn is_bad_count(count: Option<u32>) -> bool
@@ -60,52 +46,11 @@ fn is_bad_count(count: Option<u32>) -> bool
     }
 }
 
-fn counted(said: &Said<&[u8]>, counts: Counts) -> Counts
-    ensures { result ≡ counted (said_text said.now) counts }
+/// The greatest CPU that a line names.
+fn cpu_of(report: &Report<&[u8]>) -> u32
+    ensures { result ≡ cpu_of (report_text report.now) }
 {
-    let cpu = said.cpu.max(other_cpu(&said.event));
-    Counts {
-        lines: counts.lines,
-        processors: counts.processors,
-        first: Some(counts.first.unwrap_or(said.at)),
-        greatest_cpu: Some(counts.greatest_cpu.unwrap_or(0).max(cpu)),
-        has_timers: counts.has_timers || is_start(&said.event),
-        clock: counts.clock.max(drift(said)),
-    }
-}
-
-fn head_counts(text: &[u8], counts: Counts) -> Counts
-    ensures { result ≡ head_counts text.now counts }
-{
-    if is_head(counts) {
-        Counts {
-            lines: counts.lines,
-            processors: processors(text),
-            first: counts.first,
-            greatest_cpu: counts.greatest_cpu,
-            has_timers: counts.has_timers,
-            clock: counts.clock,
-        }
-    } else {
-        counts
-    }
-}
-
-fn line_counts(text: &[u8], counts: Counts) -> Counts
-    ensures { result ≡ line_counts text.now counts }
-{
-    if text.is_empty() {
-        counts
-    } else {
-        Counts {
-            lines: counts.lines.saturating_add(1),
-            processors: counts.processors,
-            first: counts.first,
-            greatest_cpu: counts.greatest_cpu,
-            has_timers: counts.has_timers,
-            clock: counts.clock,
-        }
-    }
+    report.cpu.max(other_cpu(&report.event))
 }
 
 impl FactLines {
@@ -115,34 +60,39 @@ impl FactLines {
         names: &[&[u8]],
         cpus: Option<u32>,
     ) -> Result<FactLines, AllocError>
-        ensures { IfOk result (λ lines. told_text lines ≡ told_first (map text_of names.now) cpus) }
+        ensures { IfOk result
+            (λ lines. gathered_text lines ≡ gathered_first (map text_of names.now) cpus) }
     {
         let keeper = Keeper::new(alloc, names)?;
         Ok(FactLines {
             keeper,
-            counts: no_counts(),
             cpus,
+            processors: None,
+            greatest_cpu: None,
+            kernel: None,
+            limit: None,
+            fault: None,
         })
     }
 
     /// How many runqueues the options or the head tell of.
     fn runqueues_told(&self) -> Option<u32>
-        ensures { result ≡ runqueues_told self.now.cpus self.now.counts }
+        ensures { result ≡ runqueues_told (gathered_text self.now) }
     {
         match self.cpus {
-            None => self.counts.processors,
+            None => self.processors,
             Some(cpus) => Some(cpus),
         }
     }
 
     /// How many runqueues there are: else one more than the greatest CPU of a line, at least one. It is the most that there may
-    /// be where a head or a CPU tells of more, which is a fault, so that no work grows with a number that is none.
+    /// be where a head tells of more, which is a fault, so that no work grows with a number that is none.
     pub(crate) fn runqueues(&self) -> u32
-        ensures { result ≡ runqueues_of (told_text self.now) }
+        ensures { result ≡ runqueues_of (gathered_text self.now) }
     {
         let told = match self.runqueues_told() {
             Some(n) => n,
-            None => match self.counts.greatest_cpu {
+            None => match self.greatest_cpu {
                 None => 1,
                 Some(cpu) => cpu.saturating_add(1),
             },
@@ -150,59 +100,125 @@ impl FactLines {
         told.min(CPUS_MAX)
     }
 
-    /// Takes a line that begins with `#` and tells of no lost events.
-    fn take_head(&mut self, text: &[u8]) -> Option<Wrong>
-        ensures { after_of result (told_text self.new) ≡ head_line text.now (told_text self.old) }
+    /// Whether the head may still tell the number of processors: no event was read yet.
+    fn is_head(&self) -> bool
+        ensures { result ≡ is_head (gathered_text self.now) }
     {
-        let was_head = is_head(self.counts);
-        self.counts = head_counts(text, self.counts);
-        if was_head && is_bad_count(self.runqueues_told()) {
+        self.greatest_cpu.is_none() && self.processors.is_none()
+    }
+
+    /// Takes a line that tells no event, but maybe how many processors there are.
+    fn take_head(&mut self, processors: Option<u32>) -> Option<Wrong>
+        ensures { outcome_of result (gathered_text self.new)
+            ≡ head_line processors (gathered_text self.old) }
+    {
+        if !self.is_head() {
+            return None;
+        }
+        self.processors = processors;
+        if is_bad_count(self.runqueues_told()) {
             Some(Wrong::TooLong)
         } else {
             None
         }
     }
 
-    /// Takes what a line of an event says.
-    fn take_said(&mut self, line: u64, said: &Said<&[u8]>) -> Result<Option<Wrong>, AllocError>
-        ensures { IfOk result (λ wrong. after_of wrong (told_text self.new)
-            ≡ event_step line (said_text said.now) (told_text self.old)) }
+    /// Takes a note, and the task that it shows.
+    fn take_note(
+        &mut self,
+        note: Note,
+        shown: Option<Shown<&[u8]>>,
+    ) -> Result<Option<Wrong>, AllocError>
+        ensures { IfOk result (λ wrong. outcome_of wrong (gathered_text self.new)
+            ≡ note_line note (maybe_shown shown.entry) (gathered_text self.old)) }
     {
-        self.counts = counted(said, self.counts);
-        let runqueues = self.runqueues_told().unwrap_or(CPUS_MAX);
-        self.keeper.take(line, said, runqueues)
+        match (note, shown) {
+            (Note::Head { kernel, limit, .. }, _) => {
+                self.kernel = kernel;
+                self.limit = limit;
+                Ok(None)
+            }
+            (
+                Note::Task {
+                    policy: Policy::Deadline(parameters),
+                    ..
+                },
+                Some(shown),
+            ) => self.keeper.reserve(&shown, parameters),
+            _ => Ok(None),
+        }
     }
 
-    /// Takes another line that tells nothing.
-    fn take_other(&mut self, text: &[u8])
-        ensures { told_text self.new ≡ (other_line text.now (told_text self.old)).told }
+    /// Takes a line of an event.
+    fn take_event(&mut self, line: u64, report: &Report<&[u8]>) -> Result<Option<Wrong>, AllocError>
+        ensures { IfOk result (λ wrong. outcome_of wrong (gathered_text self.new)
+            ≡ event_line line (report_text report.now) (gathered_text self.old)) }
     {
-        self.counts = line_counts(text, self.counts);
+        let cpu = cpu_of(report);
+        if CPUS_MAX <= cpu {
+            return Ok(Some(Wrong::TooLong));
+        }
+        let runqueues = self.runqueues_told().unwrap_or(CPUS_MAX);
+        self.greatest_cpu = Some(self.greatest_cpu.unwrap_or(0).max(cpu));
+        self.keeper.take(line, report, runqueues)
+    }
+
+    /// Takes what a line tells, and answers what is wrong with it by the tasks that were given.
+    fn take_told(&mut self, line: u64, told: &Told<&[u8]>) -> Result<Option<Wrong>, AllocError>
+        ensures { IfOk result (λ wrong. outcome_of wrong (gathered_text self.new)
+            ≡ outcome line (maybe_shown told.now.shown) told.now.processors told.now.line
+            (gathered_text self.old)) }
+    {
+        match told.line {
+            Line::Quiet => Ok(self.take_head(told.processors)),
+            Line::Note(note) => self.take_note(note, told.shown),
+            Line::Event {
+                at,
+                cpu,
+                pid,
+                said: Said::Fixed(event),
+                ..
+            } => {
+                let report = Report {
+                    at,
+                    cpu,
+                    pid,
+                    event,
+                    shown: told.shown,
+                };
+                self.take_event(line, &report)
+            }
+            Line::Event { .. } | Line::Flawed(_) => Ok(None),
+        }
+    }
+
+    /// Keeps what is wrong with a line, and answers whether more lines are wanted.
+    fn end_line(&mut self, line: u64, wrong: Option<Wrong>) -> bool
+        ensures { after_of result (gathered_text self.new)
+            ≡ ended line (outcome_of wrong (gathered_text self.old)) }
+    {
+        match wrong {
+            None => {
+                self.fault = None;
+                true
+            }
+            Some(wrong) => {
+                self.fault = Some(LineFault { line, wrong });
+                false
+            }
+        }
     }
 }
 
 impl Lines for FactLines {
-    ghost Told = { Told };
+    ghost Seen = { Gathered };
 
-    ghost told = { told_text };
+    ghost seen = { gathered_text };
 
-    ghost step = { fact_step };
+    ghost step = { gather_step };
 
-    fn take_line(&mut self, line: u64, text: &[u8]) -> Result<Option<Wrong>, AllocError> {
-        match line_of(text) {
-            Line::Wrong(flaw) => Ok(Some(Wrong::of_flaw(flaw))),
-            Line::Nothing => {
-                if is_comment(text) {
-                    Ok(self.take_head(text))
-                } else {
-                    self.take_other(text);
-                    Ok(None)
-                }
-            }
-            Line::Says(said) => {
-                self.counts = line_counts(text, self.counts);
-                self.take_said(line, &said)
-            }
-        }
+    fn take(&mut self, number: u64, told: &Told<&[u8]>) -> Result<bool, AllocError> {
+        let wrong = self.take_told(number, told)?;
+        Ok(self.end_line(number, wrong))
     }
 }

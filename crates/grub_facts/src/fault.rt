@@ -1,7 +1,9 @@
 //! What is wrong with a line of a trace.
 
-ghost use Rattle.std.specs.Prelude.{◌≡◌};
+ghost use Rattle.std.specs.Prelude.{◌≡◌, option_map};
+ghost use Rattle.grub_facts.specs.Faults.{fault_text, first_fault};
 
+use trace_reader::Halt;
 use trace_words::Flaw;
 
 /// What is wrong with a line.
@@ -16,7 +18,7 @@ pub enum Wrong {
     /// 52: events were lost.
     LostEvents,
 
-    /// 54: a CPU that is no runqueue's.
+    /// 54: a CPU that is no runqueue's, or a note of a reservation that event files cannot have.
     TooLong,
 
     /// 55: a field is missing or no number, or the last line has no byte that ends it.
@@ -46,4 +48,18 @@ impl Wrong {
             Flaw::BadTraceLine => Wrong::BadTraceLine,
         }
     }
+}
+
+/// The first fault of a text: that of its lines by the tasks that were given, else that of the line at which it halts.
+pub(crate) fn first_fault(own: Option<LineFault>, halt: Option<Halt>) -> Option<LineFault>
+    ensures { option_map fault_text result ≡ first_fault (option_map fault_text own) halt }
+{
+    if let Some(fault) = own {
+        return Some(fault);
+    }
+    let halt = halt?;
+    Some(LineFault {
+        line: halt.line,
+        wrong: Wrong::of_flaw(halt.flaw?),
+    })
 }

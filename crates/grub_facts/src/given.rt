@@ -1,9 +1,10 @@
 //! A task that was given.
 
 ghost use Rattle.std.specs.Prelude.{◌≡◌};
-ghost use Rattle.grub_facts.specs.Given.{given_text, has_pid, has_timer, is_sugov, seeks, stop_of};
+ghost use Rattle.grub_facts.specs.Given.{has_pid, has_timer, is_number, is_sugov, seeks};
+ghost use Rattle.grub_facts.specs.Keeping.{given_text};
 
-use crate::fact::{Found, Stop};
+use crate::fact::Found;
 
 /// A task that was given, by its comm or its pid.
 #[derive(Drop)]
@@ -16,8 +17,8 @@ pub struct Given {
 
     pub found: Option<Found>,
 
-    /// The hrtimer that is its 0-lag timer; empty before there is one.
-    pub timer: Vec<u8>,
+    /// The address of its 0-lag timer, once there is one.
+    pub timer: Option<u64>,
 }
 
 /// Whether a comm is that of the kernel threads that have no bandwidth.
@@ -27,16 +28,12 @@ pub(crate) fn is_sugov(comm: &[u8]) -> bool
     comm.starts_with(b"sugov:")
 }
 
-/// How a task stops to run, by the state's first letter.
-pub(crate) fn stop_of(state: &[u8]) -> Stop
-    ensures { result ≡ stop_of state.now }
+fn is_number(number: u64, maybe: Option<u64>) -> bool
+    ensures { result ≡ is_number number maybe }
 {
-    if state.starts_with(b"R") || state.starts_with(b"P") {
-        Stop::Ready
-    } else if state.starts_with(b"X") || state.starts_with(b"Z") {
-        Stop::Ends
-    } else {
-        Stop::Blocks
+    match maybe {
+        None => false,
+        Some(own) => own == number,
     }
 }
 
@@ -45,10 +42,7 @@ impl Given {
     pub(crate) fn has_pid(&self, pid: u64) -> bool
         ensures { result ≡ has_pid pid (given_text self.now) }
     {
-        match self.pid {
-            None => false,
-            Some(own) => own == pid,
-        }
+        is_number(pid, self.pid)
     }
 
     /// Whether this comm is the one that is still looked for.
@@ -61,10 +55,10 @@ impl Given {
         }
     }
 
-    /// Whether this hrtimer is its 0-lag timer.
-    pub(crate) fn has_timer(&self, timer: &[u8]) -> bool
-        ensures { result ≡ has_timer timer.now (given_text self.now) }
+    /// Whether the timer at this address is its 0-lag timer.
+    pub(crate) fn has_timer(&self, timer: u64) -> bool
+        ensures { result ≡ has_timer timer (given_text self.now) }
     {
-        self.timer.as_slice() == timer
+        is_number(timer, self.timer)
     }
 }

@@ -1,19 +1,27 @@
 //! The facts of the given tasks.
 
 ghost use Rattle.std.specs.Prelude.{◌≡◌, ◌++◌, [], IfOk, OnOk, Some, map, option_map};
-ghost use Rattle.trace_line.specs.inside.Events.{event_text, said_text, shown_text};
+ghost use Rattle.trace_line.specs.inside.Events.{shown_text};
 ghost use Rattle.grub_facts.specs.Faults.{problem_of};
-ghost use Rattle.grub_facts.specs.Given.{Task, fact_told, finding_text, move_trouble, noted_by, problem_of_trouble, tasks_given, tasks_text, trouble_of, trouble_told, wake_trouble, what_told, woken_by};
-ghost use Rattle.grub_facts.specs.Keeping.{noted_text};
+ghost use Rattle.grub_facts.specs.inside.Outcomes.{outcome_of};
+ghost use Rattle.grub_facts.specs.Given.{Task, fact_told, given_noted, is_passed, move_trouble, noted_by, problem_of_trouble, reservation_noted, reserving, reserving_problem, tasks_given, trouble_of, trouble_told, wake_trouble, what_told, woken_by};
+ghost use Rattle.grub_facts.specs.Keeping.{finding_text, noted_text, tasks_text};
+ghost use Rattle.grub_facts.specs.inside.Reports.{maybe_shown, report_text};
 ghost use Rattle.trace_line.specs.Words.{text_of};
 ghost use Rattle.grub_facts.specs.declared.keeper.Trouble.TheVariants.{Unknown};
 
 use crate::fact::{Fact, Found, What};
 use crate::fault::Wrong;
-use crate::given::{is_sugov, stop_of};
+use crate::given::is_sugov;
+use crate::report::{Report, is_zero_lag, stop_of};
 use crate::tasks::Tasks;
+use grub_bw::Params;
 use std::alloc::{AllocError, Global};
-use trace_line::{Event, Said, Shown};
+use trace_line::Shown;
+use trace_words::{Fixed, Parameters};
+
+/// Nanoseconds of a microsecond.
+const MICRO: u64 = 1000;
 
 /// What is wrong with a line by the tasks that were given.
 #[derive(Clone, Copy)]
@@ -33,37 +41,47 @@ pub enum Trouble {
 pub struct Keeper {
     alloc: Global,
     tasks: Tasks,
+
+    /// What the tasks reserve that notes give, which stand behind the others.
+    reserved: Vec<Params>,
     facts: Vec<Fact>,
 }
 
-fn what_told(own: u32, event: &Event<&[u8]>) -> Option<What>
-    ensures { result ≡ what_told own (event_text event.now) }
+fn what_told(own: u32, event: &Fixed) -> Option<What>
+    ensures { result ≡ what_told own event.now }
 {
     match *event {
-        Event::Woken {
+        Fixed::Woken {
             is_deadline: true,
             cpu,
             ..
         } => Some(What::Wakes { cpu }),
-        Event::Migrated {
+        Fixed::Migrated {
             is_deadline: true,
             cpu,
             ..
         } => Some(What::Sent { cpu }),
-        Event::Ran { nanos, .. } => Some(What::Ran { nanos }),
-        Event::Switched {
+        Fixed::Ran { nanos, .. } => Some(What::Ran { nanos }),
+        Fixed::Switched {
             is_deadline: true,
-            state,
+            stop,
             ..
         } => Some(What::Stops {
             cpu: own,
-            state: stop_of(state),
+            state: stop_of(stop),
         }),
-        Event::Armed { expires, .. } => Some(What::Armed { expires }),
-        Event::Cancelled { .. } => Some(What::Cancelled),
-        Event::Expired { now, .. } => Some(What::Fired { now }),
-        Event::Woken { .. } | Event::Migrated { .. } | Event::Switched { .. } | Event::Started =>
-            None,
+        Fixed::TimerStarted {
+            function,
+            expires,
+            ..
+        } => if is_zero_lag(function) {
+            Some(What::Armed { expires })
+        } else {
+            None
+        },
+        Fixed::TimerCancelled { .. } => Some(What::Cancelled),
+        Fixed::TimerFired { now, .. } => Some(What::Fired { now }),
+        _ => None,
     }
 }
 
@@ -93,20 +111,30 @@ fn move_trouble(task: Option<usize>, cpu: u32, runqueues: u32) -> Trouble
     }
 }
 
-fn trouble_told(event: &Event<&[u8]>, task: Option<usize>, runqueues: u32) -> Trouble
-    ensures { result ≡ trouble_told (event_text event.now) task runqueues }
+/// Whether the task that a line shows is passed over.
+fn is_passed(shown: Option<Shown<&[u8]>>) -> bool
+    ensures { result ≡ is_passed (maybe_shown shown.entry) }
 {
-    match *event {
-        Event::Woken {
-            task: shown,
+    match shown {
+        None => false,
+        Some(shown) => is_sugov(shown.comm),
+    }
+}
+
+fn trouble_told(report: &Report<&[u8]>, task: Option<usize>, runqueues: u32) -> Trouble
+    ensures { result ≡ trouble_told (report_text report.now) task runqueues }
+{
+    match report.event {
+        Fixed::Woken {
             is_deadline,
             cpu,
-        } => if is_deadline && !is_sugov(shown.comm) {
+            ..
+        } => if is_deadline && !is_passed(report.shown) {
             wake_trouble(task, cpu, runqueues)
         } else {
             Trouble::NoTrouble
         },
-        Event::Migrated {
+        Fixed::Migrated {
             is_deadline: true,
             cpu,
             ..
@@ -115,22 +143,22 @@ fn trouble_told(event: &Event<&[u8]>, task: Option<usize>, runqueues: u32) -> Tr
     }
 }
 
-/// The task of a wake, or none.
-fn woken_by<'a>(event: &Event<&'a [u8]>) -> Shown<&'a [u8]>
-    ensures { shown_text result ≡ woken_by (event_text event.now) }
+/// The task that the line of a wake shows.
+fn woken_by(shown: Option<Shown<&[u8]>>) -> Shown<&[u8]>
+    ensures { shown_text result ≡ woken_by (maybe_shown shown.entry) }
 {
-    match *event {
-        Event::Woken { task, .. } => task,
-        _ => Shown { comm: b"", pid: 0 },
+    match shown {
+        Some(shown) => shown,
+        None => Shown { comm: b"", pid: 0 },
     }
 }
 
 /// The fault of a wake of a task that was not given.
-fn unknown(alloc: Global, event: &Event<&[u8]>) -> Result<Wrong, AllocError>
+fn unknown(alloc: Global, report: &Report<&[u8]>) -> Result<Wrong, AllocError>
     ensures { IfOk result
-        (λ wrong. Some (problem_of wrong) ≡ problem_of_trouble (event_text event.now) Unknown) }
+        (λ wrong. Some (problem_of wrong) ≡ problem_of_trouble (report_text report.now) Unknown) }
 {
-    let task = woken_by(event);
+    let task = woken_by(report.shown);
     let comm = Vec::from_slice(alloc, task.comm)?;
     Ok(Wrong::UnknownTask {
         comm,
@@ -138,17 +166,32 @@ fn unknown(alloc: Global, event: &Event<&[u8]>) -> Result<Wrong, AllocError>
     })
 }
 
+/// A reservation of a note, in whole microseconds; none where event files cannot have it.
+fn reservation_noted(parameters: Parameters) -> Option<Params>
+    ensures { result ≡ reservation_noted parameters }
+{
+    match (
+        u32::try_from(parameters.dl_runtime / MICRO),
+        u32::try_from(parameters.dl_period / MICRO),
+    ) {
+        (Ok(runtime), Ok(period)) => Params::new(runtime, period).ok(),
+        _ => None,
+    }
+}
+
 impl Keeper {
     /// A keeper of the tasks with these names.
     pub(crate) fn new(alloc: Global, names: &[&[u8]]) -> Result<Keeper, AllocError>
         ensures tasks { IfOk result
             (λ keeper. (noted_text keeper).tasks ≡ tasks_given (map text_of names.now)) }
+        ensures reserved { IfOk result (λ keeper. (noted_text keeper).reserved ≡ []) }
         ensures facts { IfOk result (λ keeper. (noted_text keeper).facts ≡ []) }
     {
         let tasks = Tasks::new(alloc, names)?;
         Ok(Keeper {
             alloc,
             tasks,
+            reserved: Vec::new(alloc),
             facts: Vec::new(alloc),
         })
     }
@@ -163,6 +206,7 @@ impl Keeper {
         ensures facts { OnOk result
             (self.new.facts.items ≡ self.old.facts.items ++ fact_told line at task what) }
         ensures tasks { tasks_text self.new.tasks ≡ tasks_text self.old.tasks }
+        ensures reserved { self.new.reserved ≡ self.old.reserved }
     {
         if let Some(task) = task {
             if let Some(what) = what {
@@ -181,35 +225,76 @@ impl Keeper {
     pub(crate) fn take(
         &mut self,
         line: u64,
-        said: &Said<&[u8]>,
+        report: &Report<&[u8]>,
         runqueues: u32,
     ) -> Result<Option<Wrong>, AllocError>
         ensures fault { IfOk result
-            (λ wrong. option_map problem_of wrong ≡ problem_of_trouble (event_text said.now.event)
-            (trouble_of (said_text said.now) (noted_text self.old).tasks runqueues)) }
-        ensures noted { IfOk result
-            (λ wrong. noted_text self.new ≡ noted_by line (said_text said.now) (noted_text self.old)
-            (trouble_of (said_text said.now) (noted_text self.old).tasks runqueues)) }
+            (λ wrong. option_map problem_of wrong ≡ problem_of_trouble (report_text report.now)
+            (trouble_of (report_text report.now) (noted_text self.old).tasks runqueues)) }
+        ensures noted { IfOk result (λ wrong. noted_text self.new
+            ≡ noted_by line (report_text report.now) (noted_text self.old)
+            (trouble_of (report_text report.now) (noted_text self.old).tasks runqueues)) }
     {
-        let task = self.tasks.note(line, &said.event)?;
-        match trouble_told(&said.event, task, runqueues) {
-            Trouble::Unknown => Ok(Some(unknown(self.alloc, &said.event)?)),
+        let task = self.tasks.note(line, report)?;
+        match trouble_told(report, task, runqueues) {
+            Trouble::Unknown => Ok(Some(unknown(self.alloc, report)?)),
             Trouble::TooLong => Ok(Some(Wrong::TooLong)),
             Trouble::NoTrouble => {
-                self.tell(line, said.at, task, what_told(said.cpu, &said.event))?;
+                self.tell(line, report.at, task, what_told(report.cpu, &report.event))?;
                 Ok(None)
             }
         }
     }
 
-    /// The facts, and where each given task was first shown.
-    pub(crate) fn finish(self) -> Result<(Vec<Fact>, Vec<Option<Found>>), AllocError>
+    /// One more task, which a note gives with this reservation, unless event files cannot have that.
+    fn give(&mut self, pid: u64, parameters: Parameters) -> Result<Option<Wrong>, AllocError>
+        ensures fault { IfOk result (λ wrong. option_map problem_of wrong
+            ≡ reserving_problem (reservation_noted parameters)) }
+        ensures noted { IfOk result (λ wrong. noted_text self.new
+            ≡ given_noted pid (reservation_noted parameters) (noted_text self.old)) }
+    {
+        match reservation_noted(parameters) {
+            None => Ok(Some(Wrong::TooLong)),
+            Some(params) => {
+                self.tasks.give_pid(pid)?;
+                self.reserved.push(params)?;
+                Ok(None)
+            }
+        }
+    }
+
+    /// Takes a note of a task and its reservation, which is the task's own where nothing gave it before.
+    pub(crate) fn reserve(
+        &mut self,
+        task: &Shown<&[u8]>,
+        parameters: Parameters,
+    ) -> Result<Option<Wrong>, AllocError>
+        ensures { IfOk result (λ wrong. outcome_of wrong (noted_text self.new)
+            ≡ reserving (shown_text task.now) parameters (noted_text self.old)) }
+    {
+        if is_sugov(task.comm) {
+            return Ok(None);
+        }
+        match self.tasks.settle(task) {
+            Some(_) => Ok(None),
+            None => self.give(task.pid, parameters),
+        }
+    }
+
+    /// The facts, where each task was first shown, and the reservations of those that notes give.
+    pub(crate) fn finish(self) -> Result<(Vec<Fact>, Vec<Option<Found>>, Vec<Params>), AllocError>
         ensures facts { IfOk result (λ r. r.0.items ≡ (noted_text self).facts) }
         ensures found { IfOk result (λ r. map (option_map finding_text) r.1.items
             ≡ map (λ (t : Task). t.found) (noted_text self).tasks) }
+        ensures reserved { IfOk result (λ r. r.2.items ≡ (noted_text self).reserved) }
     {
-        let Keeper { tasks, facts, .. } = self;
+        let Keeper {
+            tasks,
+            facts,
+            reserved,
+            ..
+        } = self;
         let found = tasks.finish()?;
-        Ok((facts, found))
+        Ok((facts, found, reserved))
     }
 }

@@ -9,13 +9,13 @@ mod fault;
 mod given;
 mod keeper;
 mod reader;
+mod report;
 mod sighting;
 mod task_reader;
 mod tasks;
-mod text;
 
-pub use counted::Counted;
-pub use fact::{Counts, Fact, Facts, Found, Stop, What};
+pub use counted::{Counted, Reserved, Tasks};
+pub use fact::{Fact, Facts, Found, Stop, What};
 pub use fault::{LineFault, Wrong};
 pub use reader::FactReader;
 pub use task_reader::TaskReader;

@@ -6,13 +6,14 @@ ghost use Rattle.grub_facts.specs.Told.{HasRead, NeedsNoMore, ReadsOn, TellsAll,
 
 use crate::fact::Facts;
 use crate::fact_lines::FactLines;
-use crate::text::Text;
+use crate::fault::first_fault;
 use std::alloc::{AllocError, Global};
+use trace_reader::RecordReader;
 
-/// Reads the facts of given tasks from a trace's text.
+/// Reads the facts of given tasks, and of those that its notes give, from a trace's text.
 #[derive(Drop)]
 pub struct FactReader {
-    text: Text,
+    text: RecordReader,
     lines: FactLines,
 }
 
@@ -24,7 +25,7 @@ impl FactReader {
     {
         let lines = FactLines::new(alloc, names, cpus)?;
         Ok(FactReader {
-            text: Text::new(alloc),
+            text: RecordReader::new(alloc),
             lines,
         })
     }
@@ -42,7 +43,7 @@ impl FactReader {
         ensures fault { TellsStop self.now result }
         ensures rest { IsTrue result → NeedsNoMore self.now }
     {
-        self.text.is_stopped()
+        self.text.is_halted(&self.lines)
     }
 
     /// What the text tells, which ends here.
@@ -51,14 +52,22 @@ impl FactReader {
     {
         let FactReader { text, lines } = self;
         let runqueues = lines.runqueues();
-        let FactLines { keeper, counts, .. } = lines;
-        let (facts, found) = keeper.finish()?;
+        let FactLines {
+            keeper,
+            kernel,
+            limit,
+            fault,
+            ..
+        } = lines;
+        let (facts, found, noted) = keeper.finish()?;
         Ok(Facts {
             facts,
             found,
-            counts,
+            noted,
+            kernel,
+            limit,
             runqueues,
-            fault: text.end(),
+            fault: first_fault(fault, text.end()),
         })
     }
 }

@@ -1,13 +1,12 @@
 //! What an event shows of a SCHED_DEADLINE task.
 
 ghost use Rattle.std.specs.Prelude.{◌≡◌, option_map};
+ghost use Rattle.trace_line.specs.inside.Events.{shown_text};
 ghost use Rattle.grub_facts.specs.Census.{blocks_of, sighting_of};
-ghost use Rattle.trace_line.specs.inside.Events.{event_text};
 ghost use Rattle.grub_facts.specs.inside.Sightings.{sighting_text};
 
-use crate::fact::Stop;
-use crate::given::stop_of;
-use trace_line::{Event, Shown};
+use trace_line::Shown;
+use trace_words::{Fixed, Stop};
 
 /// A line that shows a SCHED_DEADLINE task on a CPU.
 #[derive(Clone, Copy)]
@@ -29,40 +28,44 @@ fn blocks_of(stop: Stop) -> u64
     }
 }
 
-/// What an event shows on a line of this CPU.
-pub(crate) fn sighting_of<'a>(own: u32, event: &Event<&'a [u8]>) -> Option<Sighting<'a>>
-    ensures { option_map sighting_text result ≡ sighting_of own (event_text event.now) }
+/// What an event shows of this task, on a line of this CPU.
+pub(crate) fn sighting_of<'a>(
+    own: u32,
+    event: &Fixed,
+    task: Shown<&'a [u8]>,
+) -> Option<Sighting<'a>>
+    ensures { option_map sighting_text result ≡ sighting_of own event.now (shown_text task.entry) }
 {
     match *event {
-        Event::Woken {
-            task,
+        Fixed::Woken {
             is_deadline: true,
             cpu,
+            ..
         } => Some(Sighting {
             task,
             cpu,
             wakes: 1,
             blocks: 0,
         }),
-        Event::Migrated {
-            task,
+        Fixed::Migrated {
             is_deadline: true,
             cpu,
+            ..
         } => Some(Sighting {
             task,
             cpu,
             wakes: 0,
             blocks: 0,
         }),
-        Event::Switched {
-            task,
+        Fixed::Switched {
             is_deadline: true,
-            state,
+            stop,
+            ..
         } => Some(Sighting {
             task,
             cpu: own,
             wakes: 0,
-            blocks: blocks_of(stop_of(state)),
+            blocks: blocks_of(stop),
         }),
         _ => None,
     }

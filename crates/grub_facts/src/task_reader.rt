@@ -4,15 +4,15 @@ ghost use Rattle.std.specs.Prelude.{[], IfErr, IfOk, IsTrue, OnOk};
 ghost use Rattle.grub_facts.specs.Census.{CountsOn, HasCounted, NeedsNoMore, ShowsAll, StopsAt, TellsStop};
 
 use crate::census::Census;
-use crate::counted::Counted;
-use crate::fault::LineFault;
-use crate::text::Text;
+use crate::counted::Tasks;
+use crate::fault::{LineFault, first_fault};
 use std::alloc::{AllocError, Global};
+use trace_reader::RecordReader;
 
 /// Reads which SCHED_DEADLINE tasks a trace's text shows.
 #[derive(Drop)]
 pub struct TaskReader {
-    text: Text,
+    text: RecordReader,
     census: Census,
 }
 
@@ -22,7 +22,7 @@ impl TaskReader {
         ensures { HasCounted [] result }
     {
         TaskReader {
-            text: Text::new(alloc),
+            text: RecordReader::new(alloc),
             census: Census::new(alloc),
         }
     }
@@ -40,18 +40,21 @@ impl TaskReader {
         ensures fault { TellsStop self.now result }
         ensures rest { IsTrue result → NeedsNoMore self.now }
     {
-        self.text.is_stopped()
+        self.text.is_halted(&self.census)
     }
 
     /// The tasks in the order of their first lines, or the first fault.
-    pub fn end(self) -> Result<Vec<Counted>, LineFault>
-        ensures tasks { IfOk result (λ tasks. ShowsAll self tasks.items) }
+    pub fn end(self) -> Result<Tasks, LineFault>
+        ensures tasks { IfOk result (ShowsAll self) }
         ensures fault { IfErr result (StopsAt self) }
     {
         let TaskReader { text, census } = self;
-        match text.end() {
+        match first_fault(None, text.end()) {
             Some(fault) => Err(fault),
-            None => Ok(census.finish()),
+            None => {
+                let (counted, reserved) = census.finish();
+                Ok(Tasks { counted, reserved })
+            }
         }
     }
 }

@@ -1,15 +1,19 @@
 //! The tasks that were given, and what lines show of them.
 
 ghost use Rattle.std.specs.Prelude.{◌≡◌, ◌<◌, ◌++◌, ◌∷◌, [], IfOk, IfSome, OnOk, if◌then◌else◌, map, option_map, position, vec_len};
-ghost use Rattle.trace_line.specs.inside.Events.{event_text, shown_text};
-ghost use Rattle.grub_facts.specs.Given.{Task, arming, disowned, finding_text, given_by, given_text, has_pid, has_timer, index_of, index_of_comm, index_of_timer, index_shown, index_told, is_sugov, seeks, settled, showing, shown_index, tasks_after, tasks_given, tasks_text};
+ghost use Rattle.trace_line.specs.inside.Events.{shown_text};
+ghost use Rattle.grub_facts.specs.Given.{Task, armed_after, arming, disowned, given_by, has_pid, has_timer, index_of, index_of_comm, index_of_timer, index_shown, index_timed, index_told, is_sugov, seeks, settled, showing, shown_index, task_of_pid, tasks_after, tasks_given};
+ghost use Rattle.grub_facts.specs.Keeping.{finding_text, given_text, tasks_text};
+ghost use Rattle.grub_facts.specs.inside.Reports.{report_text};
 ghost use Rattle.trace_line.specs.Numbers.{number};
 ghost use Rattle.trace_line.specs.Words.{text_of};
 
 use crate::fact::Found;
 use crate::given::{Given, is_sugov};
+use crate::report::{Report, is_zero_lag};
 use std::alloc::{AllocError, Global};
-use trace_line::{Event, Shown, number};
+use trace_line::{Shown, number};
+use trace_words::Fixed;
 
 /// The tasks that were given, in their order.
 #[derive(Drop)]
@@ -30,8 +34,8 @@ fn place_of_comm(given: &[Given], comm: &[u8]) -> Option<usize>
     given.iter().position(|task| task.seeks(comm))
 }
 
-fn place_of_timer(given: &[Given], timer: &[u8]) -> Option<usize>
-    ensures { result ≡ position (λ g. has_timer timer.now (given_text g)) given.now }
+fn place_of_timer(given: &[Given], timer: u64) -> Option<usize>
+    ensures { result ≡ position (λ g. has_timer timer (given_text g)) given.now }
 {
     given.iter().position(|task| task.has_timer(timer))
 }
@@ -71,7 +75,7 @@ impl Tasks {
                 sought: Some(Vec::from_slice(self.alloc, name)?),
                 pid: None,
                 found: None,
-                timer: Vec::new(self.alloc),
+                timer: None,
             }),
             Some(pid) => {
                 let is_taken = self.index_of(pid).is_some();
@@ -79,7 +83,7 @@ impl Tasks {
                     sought: None,
                     pid: if is_taken { None } else { Some(pid) },
                     found: None,
-                    timer: Vec::new(self.alloc),
+                    timer: None,
                 })
             }
         }
@@ -102,15 +106,15 @@ impl Tasks {
     }
 
     /// The index of the task whose 0-lag timer this is.
-    fn index_of_timer(&self, timer: &[u8]) -> Option<usize>
-        ensures index { result ≡ index_of_timer (tasks_text self.now) timer.now }
+    fn index_of_timer(&self, timer: u64) -> Option<usize>
+        ensures index { result ≡ index_of_timer (tasks_text self.now) timer }
         ensures bound { IfSome result (λ i. i < vec_len self.now.given) }
     {
         place_of_timer(&self.given, timer)
     }
 
     /// The index of the task that a line shows, whose comm is no longer looked for.
-    fn settle(&mut self, shown: &Shown<&[u8]>) -> Option<usize>
+    pub(crate) fn settle(&mut self, shown: &Shown<&[u8]>) -> Option<usize>
         ensures tasks { tasks_text self.new ≡ settled (tasks_text self.old) (shown_text shown.now) }
         ensures index { result ≡ shown_index (tasks_text self.old) (shown_text shown.now) }
         ensures bound { IfSome result (λ i. i < vec_len self.new.given) }
@@ -153,29 +157,40 @@ impl Tasks {
         Ok(index)
     }
 
-    /// Takes an hrtimer from the task whose 0-lag timer it was.
-    fn disown(&mut self, timer: &[u8])
-        ensures { tasks_text self.new ≡ disowned timer.now (tasks_text self.old) }
+    /// One more task, of which a note tells, with this pid.
+    pub(crate) fn give_pid(&mut self, pid: u64) -> Result<(), AllocError>
+        ensures { OnOk result
+            (tasks_text self.new ≡ tasks_text self.old ++ task_of_pid pid ∷ []) }
+    {
+        self.given.push(Given {
+            sought: None,
+            pid: Some(pid),
+            found: None,
+            timer: None,
+        })?;
+        Ok(())
+    }
+
+    /// Takes a timer from the task whose 0-lag timer it was.
+    fn disown(&mut self, timer: u64)
+        ensures { tasks_text self.new ≡ disowned timer (tasks_text self.old) }
     {
         if let Some(i) = self.index_of_timer(timer) {
-            self.given[i].timer.clear();
+            self.given[i].timer = None;
         }
     }
 
-    /// Makes an hrtimer the 0-lag timer of the task with this pid, and of no other.
-    fn arm(&mut self, timer: &[u8], pid: u64) -> Result<Option<usize>, AllocError>
-        ensures tasks { OnOk result
-            (tasks_text self.new ≡ arming timer.now pid (tasks_text self.old)) }
-        ensures index { IfOk result
-            (λ i. i ≡ index_of (disowned timer.now (tasks_text self.old)) pid) }
+    /// Makes a timer the 0-lag timer of the task with this pid, and of no other.
+    fn arm(&mut self, timer: u64, pid: u64) -> Option<usize>
+        ensures tasks { tasks_text self.new ≡ arming timer pid (tasks_text self.old) }
+        ensures index { result ≡ index_of (disowned timer (tasks_text self.old)) pid }
     {
         self.disown(timer);
         let index = self.index_of(pid);
         if let Some(i) = index {
-            let timer = Vec::from_slice(self.alloc, timer)?;
-            self.given[i].timer = timer;
+            self.given[i].timer = Some(timer);
         }
-        Ok(index)
+        index
     }
 
     /// Notes a task that a line shows, unless it is a kernel thread that has no bandwidth.
@@ -192,27 +207,43 @@ impl Tasks {
         self.show(line, shown)
     }
 
-    /// Notes what an event shows, and answers the index of the task that it tells of.
+    /// Notes what a timer does while the task with this pid runs, and answers the index of its task.
+    fn note_timer(&mut self, pid: u64, event: &Fixed) -> Option<usize>
+        ensures tasks { tasks_text self.new ≡ armed_after pid event.now (tasks_text self.old) }
+        ensures index { result ≡ index_timed pid event.now (tasks_text self.old) }
+    {
+        match *event {
+            Fixed::TimerStarted {
+                timer,
+                function,
+                ..
+            } => if is_zero_lag(function) {
+                self.arm(timer, pid)
+            } else {
+                None
+            },
+            Fixed::TimerCancelled { timer } | Fixed::TimerFired { timer, .. } => {
+                self.index_of_timer(timer)
+            }
+            _ => None,
+        }
+    }
+
+    /// Notes what a line shows, and answers the index of the task that it tells of.
     pub(crate) fn note(
         &mut self,
         line: u64,
-        event: &Event<&[u8]>,
+        report: &Report<&[u8]>,
     ) -> Result<Option<usize>, AllocError>
         ensures tasks { OnOk result
-            (tasks_text self.new ≡ tasks_after line (event_text event.now) (tasks_text self.old)) }
+            (tasks_text self.new
+            ≡ tasks_after line (report_text report.now) (tasks_text self.old)) }
         ensures index { IfOk result
-            (λ i. i ≡ index_told (event_text event.now) (tasks_text self.old)) }
+            (λ i. i ≡ index_told (report_text report.now) (tasks_text self.old)) }
     {
-        match *event {
-            Event::Woken { task, .. }
-            | Event::Migrated { task, .. }
-            | Event::Ran { task, .. }
-            | Event::Switched { task, .. } => self.note_shown(line, &task),
-            Event::Armed { timer, pid, .. } => self.arm(timer, pid),
-            Event::Started => Ok(None),
-            Event::Cancelled { timer } | Event::Expired { timer, .. } => {
-                Ok(self.index_of_timer(timer))
-            }
+        match &report.shown {
+            Some(shown) => self.note_shown(line, shown),
+            None => Ok(self.note_timer(report.pid, &report.event)),
         }
     }
 

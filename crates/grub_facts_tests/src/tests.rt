@@ -4,4 +4,5 @@ mod events;
 mod faults;
 mod fixtures;
 mod fronts;
+mod notes;
 mod tasks;

@@ -1,6 +1,7 @@
 -- A step over memory that is a book.
-use Rattle.std.proofs.Common.{◌≡◌, inl, inr, true, false, ℕ, ◌<◌, ◌≤◌, List, [], length, get_or, set, map, Option, Some, None, IfSome, ◌≢◌, refl, sym, ap, subst, ◌∙◌, arith}
-use Rattle.std.proofs.lemmas.Bool.{cases_eq}
+use Rattle.std.proofs.Common.{◌≡◌, inl, inr, true, false, ℕ, ◌+◌, ◌<◌, ◌≤◌, nat_eq, nat_lt, List, [], length, get_or, set, map, Option, Some, None, IfSome, ◌≢◌, refl, sym, ap, subst, ◌∙◌, arith}
+use Rattle.std.proofs.lemmas.Bool.{cases_eq, eq-eqb, lt-leb, lt-ltb, ne_eqb}
+use Rattle.std.proofs.Math.Nat.{ne_of_lt}
 use Rattle.std.proofs.lemmas.List.{get_or-map, get_or-set_same, get_or-set_other, length-map, length-set, map-set, set-get_or}
 use Rattle.grub_bw.specs.Bandwidth.{Capacity, bandwidth_of}
 use Rattle.grub_bw.specs.Server.{charge_of, depleted_of}
@@ -9,13 +10,15 @@ use Rattle.grub_book.specs.Machine.{Machine, queue_at}
 use Rattle.grub_book.specs.Op.{IsOp}
 use Rattle.grub_book.specs.Sums.{Records, record_at, reading_of}
 use Rattle.grub_book.specs.Sound.{IsThere, IsSound, Standing}
-use Rattle.grub_book.specs.Step.{Refuses, charged, is_under_claim, refused, runqueue_of, step, settled}
+use Rattle.grub_book.specs.Step.{Refuses, changes_sum, charged, is_under_claim, lag_moment, refused, runqueue_of, step, settled}
 use Rattle.grub_book.specs.Totals.{Counts, shifted_of}
 use Rattle.grub_book.specs.declared.place.Record.{Record}
+use Rattle.grub_book.specs.declared.rules.TheConstants.{COUNT_MAX}
 use Rattle.grub_book.specs.declared.event.Reading.{Reading}
 use Rattle.grub_book.specs.declared.op.Op.{Op}
 use Rattle.grub_book.specs.declared.op.Op.TheVariants.{Join, Wake, Block, Leave, Timer, Exit, Charge, Retune}
 use Rattle.grub_book.specs.declared.reply.Reply.{Reply}
+use Rattle.grub_book.specs.declared.reply.Reply.TheVariants.{Waiting}
 use Rattle.grub_book.proofs.Claims.{settled_under}
 use Rattle.grub_book.proofs.Readings.{step_unchanged, reading_elsewhere}
 use Rattle.grub_book.proofs.Refusals.{refused_same}
@@ -23,7 +26,7 @@ use Rattle.grub_book.proofs.Soundness.{moved, moved_from, runqueue_there, sound_
 use Rattle.grub_book.proofs.Tallies.{running_le_this}
 use Rattle.grub_book.proofs.Totals.{counts_each, shifted_set}
 use Rattle.grub_flat.specs.Memory.{record_of, records_of, constants_of, reading_in, machine_of, IsBook}
-use Rattle.grub_flat.specs.inside.Ready.{CanStand, IsReady, ChangesNone}
+use Rattle.grub_flat.specs.inside.Ready.{CanStand, IsReady}
 use Rattle.grub_flat.specs.declared.memory.NdTask.{NdTask}
 use Rattle.grub_flat.specs.declared.memory.NdRunqueue.{NdRunqueue}
 
@@ -56,6 +59,22 @@ charge_puts task x queue now r dt m held is =
     let dq = charge_of dt (bandwidth_of x.params) queue now.running now.this in
     let alone : m.0 ≡ record x { server = m.0.server } = subst (λ (z : Record × Reply). z.0 ≡ record x { server = z.0.server }) (sym is) (server_alone x dq (depleted_of x.server x.params dq)) in
     sym (alone ∙ ap (λ (z : Record). record z { server = m.0.server }) held)
+
+-- a block that waits writes the count and the place
+module _ (task : NdTask) (r m z : ℕ) (on : (task.state ≡ 1) × (task.queue ≡ r)) (few : task.count < COUNT_MAX) (later : (z ≡ lag_moment (record_of task)) × (m < z)) where
+  pub block_free : refused (record_of task).place (record_of task).count (Block r m) ≡ None
+  block_free =
+      let here : nat_eq r r ≡ true = eq-eqb r r refl in
+      let below : nat_eq task.count COUNT_MAX ≡ false = ne_eqb task.count COUNT_MAX (ne_of_lt few) in
+      rw (on.0, on.1, here, below) refl
+
+  pub block_waits : (queue : Capacity) (now : Reading) → (record_of (record task { count = task.count + 1; state = 2 }), Waiting (task.count + 1) z) ≡ settled (record_of task) queue now (Block r m)
+  block_waits queue now =
+      let test : nat_lt m (lag_moment (record_of task)) ≡ true = rw (← later.0) (lt-ltb m z later.1) in
+      rw (test, ← later.0, ← on.1) refl
+
+  pub block_quiet : changes_sum (record_of task) (Block r m) ≡ false
+  block_quiet = rw (← later.0) (lt-leb z m later.1)
 
 -- what is said of an op, of the same op
 pub of_same : (s : Machine) (was now : Records) (t : ℕ) (given : Option Reply) (a b : Op) → a ≡ b → IfSome given (λ reply. (now, reply) ≡ step s was t b) → IfSome given (λ reply. (now, reply) ≡ step s was t a)
@@ -148,7 +167,7 @@ module _ (s : Machine) (tasks : List NdTask) (queues : List NdRunqueue) (book : 
                   let same : (step s (records_of tasks) t op).0 ≡ records_of (set tasks t y) = ap (λ z. z.0) (sym steps) in
                   subst (IsSound s) same (sound_step s (records_of tasks) t op book.sound task fits_setup)
 
-              pub stays_quiet : ChangesNone op → IsBook s (set tasks t y) queues
+              pub stays_quiet : changes_sum (record_at (records_of tasks) t) op ≡ false → IsBook s (set tasks t y) queues
               stays_quiet quiet =
                   let records = records_of tasks in
                   let same : (step s records t op).0 ≡ records_of (set tasks t y) = ap (λ z. z.0) (sym steps) in
@@ -156,7 +175,7 @@ module _ (s : Machine) (tasks : List NdTask) (queues : List NdRunqueue) (book : 
                     machine = book.machine;
                     sound = sound_after;
                     capacities = book.capacities;
-                    totals = λ k e within. book.totals k e within ∙ sym (step_unchanged s records t op k in_records (quiet (record_at records t))) ∙ ap (λ (rs : Records). reading_of rs k) same;
+                    totals = λ k e within. book.totals k e within ∙ sym (step_unchanged s records t op k in_records quiet) ∙ ap (λ (rs : Records). reading_of rs k) same;
                   }
 
               module _ (new : Reading) (shifts : new ≡ shifted_of now r x m.0) (q : NdRunqueue) (constants : constants_of q ≡ queue) (reads : reading_in q ≡ new) where

@@ -1,8 +1,10 @@
 //! What stands in the memory of a book, as the records, constants and readings of `grub_book`.
 
-ghost use Rattle.std.specs.Prelude.{◌≡◌, ◌↔◌, ◌≤◌, ◌^◌, if◌then◌else◌, IfSome, IsNone, IsTrue};
+ghost use Rattle.std.specs.Prelude.{◌≡◌, ◌↔◌, ◌<◌, ◌≤◌, ◌^◌, if◌then◌else◌, IfSome, IsNone, IsTrue};
 ghost use Rattle.grub_bw.specs.Bandwidth.{bandwidth_of};
+ghost use Rattle.grub_book.specs.Step.{lag_moment};
 ghost use Rattle.grub_book.specs.Totals.{Counts, shifted_of};
+ghost use Rattle.grub_book.specs.declared.rules.TheConstants.{COUNT_MAX};
 ghost use Rattle.grub_flat.specs.Memory.{place_of, record_of, constants_of, reading_in};
 ghost use Rattle.grub_flat.specs.inside.Ready.{CanStand, IsReady};
 
@@ -71,6 +73,33 @@ pub(crate) fn task_of(held: &Record) -> NdTask
         state,
         queue,
     }
+}
+
+/// The 0-lag moment of a task that contends on runqueue `r`, where its block at `m` waits for it.
+#[inline(always)]
+pub(crate) fn waits_until(task: &NdTask, r: u32, m: u32) -> Option<u32>
+    ensures on { IfSome result (λ z. (task.now.state ≡ 1) × (task.now.queue ≡ r)) }
+    ensures count { IfSome result (λ z. task.now.count < COUNT_MAX) }
+    ensures moment { IfSome result (λ z. (z ≡ lag_moment (record_of task.now)) × (m < z)) }
+{
+    let NdTask {
+        runtime,
+        period,
+        budget,
+        deadline,
+        count,
+        state,
+        queue,
+    } = *task;
+    if state != 1 || queue != r || count >= COUNT_MAX || runtime == 0 {
+        return None;
+    }
+    let lag = u64::from(budget) * u64::from(period) / u64::from(runtime);
+    let d = u64::from(deadline);
+    if d <= lag + u64::from(m) {
+        return None;
+    }
+    Some((d - lag) as u32)
 }
 
 /// Whether a reading counts what a task of this bandwidth adds to it.

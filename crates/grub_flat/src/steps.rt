@@ -12,7 +12,7 @@ use crate::asked::{NdOp, NdReply};
 use crate::calls::{fits, op_of, plain_reply, reply_of};
 use crate::codes::{DAMAGED, NO_OP, NO_TASK};
 use crate::memory::{NdRunqueue, NdTask};
-use crate::records::{counts, queue_in, record_in, shifted, task_of};
+use crate::records::{counts, queue_in, record_in, shifted, task_of, waits_until};
 use grub_book::{Op, Reply, refusal, runqueue, settle};
 
 /// Asks an op that may be asked for task `t`, of which there is one. None where the memory is no book; then, and where the
@@ -38,7 +38,10 @@ pub(crate) fn asked(
 {
     match op {
         Op::Charge { r, dt } => charged(tasks, queues, t, r, dt),
-        _ => stepped(tasks, queues, t, op),
+        Op::Block { r, m } => blocked(tasks, queues, t, r, m),
+        Op::Timer { ticket, m } => stepped(tasks, queues, t, Op::Timer { ticket, m }),
+        Op::Wake { r, m } => stepped(tasks, queues, t, Op::Wake { r, m }),
+        _ => seldom(tasks, queues, t, op),
     }
 }
 
@@ -82,7 +85,54 @@ fn charged(
     Some(reply)
 }
 
-/// `asked` of any op.
+/// `asked` of a block. Where it waits, as it mostly does, no sum changes, and no bandwidth is wanted.
+#[inline(always)]
+fn blocked(tasks: &mut [NdTask], queues: &mut [NdRunqueue], t: u32, r: u32, m: u32) -> Option<Reply>
+    requires task { t < length tasks.old }
+    requires fits { IsOp (machine_of [] queues.old) (Op.Block r m) }
+    ensures step { (s : Machine) → IsBook s tasks.old queues.old
+        → IfSome result (λ reply. (records_of tasks.new, reply)
+        ≡ step s (records_of tasks.old) t (Op.Block r m)) }
+    ensures book { (s : Machine) → IsBook s tasks.old queues.old
+        → IsBook s tasks.new queues.new }
+    ensures some { (s : Machine) → IsBook s tasks.old queues.old → IsSome result }
+    ensures none { IsNone result → (tasks.new ≡ tasks.old) × (queues.new ≡ queues.old) }
+    ensures kept { IfSome result (λ reply. Refuses reply
+        → (tasks.new ≡ tasks.old) × (queues.new ≡ queues.old)) }
+{
+    let at = t as usize;
+    let task = tasks[at];
+    if let Some(z) = waits_until(&task, r, m) {
+        let count = task.count + 1;
+        tasks[at] = NdTask {
+            count,
+            state: 2,
+            ..task
+        };
+        return Some(Reply::Waiting { ticket: count, z });
+    }
+    stepped(tasks, queues, t, Op::Block { r, m })
+}
+
+/// `asked` of an op that is asked seldom, by one code for all.
+fn seldom(tasks: &mut [NdTask], queues: &mut [NdRunqueue], t: u32, op: Op) -> Option<Reply>
+    requires task { t < length tasks.old }
+    requires fits { IsOp (machine_of [] queues.old) op }
+    ensures step { (s : Machine) → IsBook s tasks.old queues.old
+        → IfSome result (λ reply. (records_of tasks.new, reply)
+        ≡ step s (records_of tasks.old) t op) }
+    ensures book { (s : Machine) → IsBook s tasks.old queues.old
+        → IsBook s tasks.new queues.new }
+    ensures some { (s : Machine) → IsBook s tasks.old queues.old → IsSome result }
+    ensures none { IsNone result → (tasks.new ≡ tasks.old) × (queues.new ≡ queues.old) }
+    ensures kept { IfSome result (λ reply. Refuses reply
+        → (tasks.new ≡ tasks.old) × (queues.new ≡ queues.old)) }
+{
+    stepped(tasks, queues, t, op)
+}
+
+/// `asked` of any op. Where the op's kind is known, what other kinds want is no part of the code.
+#[inline(always)]
 fn stepped(tasks: &mut [NdTask], queues: &mut [NdRunqueue], t: u32, op: Op) -> Option<Reply>
     requires task { t < length tasks.old }
     requires fits { IsOp (machine_of [] queues.old) op }

@@ -91,3 +91,40 @@ rest_over work runtime some over =
     let below = mod_below work runtime some in
     let is = budgets-is work runtime (work / runtime + 1) some (omega arith) (omega arith) in
     rw is (omega arith)
+
+-- one budget more where work is left
+pub budgets-renewed : (work runtime : ℕ) → 0 < runtime → 0 < work → budgets_of work runtime ≡ budgets_of (work - runtime) runtime + 1
+budgets-renewed work runtime some left =
+    let k = budgets_of (work - runtime) runtime in
+    let enough : work - runtime ≤ k * runtime = budgets-enough (work - runtime) runtime some in
+    let few : k * runtime < (work - runtime) + runtime = budgets-few (work - runtime) runtime some in
+    elim (cases_lt runtime work) [
+      | inl more ↦ budgets-is work runtime (k + 1) some (omega arith) (omega arith)
+      | inr within ↦ let none : k ≡ 0 = (let zero_work : work - runtime ≡ 0 = omega arith in rw zero_work (budgets-zero runtime some)) in
+          let times : k * runtime ≡ 0 = rw none (omega arith) in
+          budgets-is work runtime (k + 1) some (omega arith) (omega arith)
+    ]
+
+-- whole budgets of work take as many
+pub budgets-whole : (whole runtime used left w : ℕ) → 0 < runtime → used ≤ left → left < used + runtime
+    → budgets_of (whole * runtime + used + w - left) runtime ≡ whole + budgets_of (w - (left - used)) runtime
+budgets-whole whole runtime used left w some has less =
+    let k = budgets_of (w - (left - used)) runtime in
+    let enough : w - (left - used) ≤ k * runtime = budgets-enough (w - (left - used)) runtime some in
+    let few : k * runtime < (w - (left - used)) + runtime = budgets-few (w - (left - used)) runtime some in
+    elim (cases_lt w (left - used)) [
+      | inl within ↦ let none : k ≡ 0 = (let zero_work : w - (left - used) ≡ 0 = omega arith in rw zero_work (budgets-zero runtime some)) in
+          let times : k * runtime ≡ 0 = rw none (omega arith) in
+          budgets-is (whole * runtime + used + w - left) runtime (whole + k) some (omega arith) (omega arith)
+      | inr beyond ↦ budgets-is (whole * runtime + used + w - left) runtime (whole + k) some (omega arith) (omega arith)
+    ]
+
+pub budgets-at_least : (whole runtime w left : ℕ) → 0 < runtime → left < runtime → whole ≤ budgets_of (whole * runtime + w - left) runtime
+budgets-at_least whole runtime w left some less =
+    let k = budgets_of (whole * runtime + w - left) runtime in
+    let enough : whole * runtime + w - left ≤ k * runtime = budgets-enough (whole * runtime + w - left) runtime some in
+    elim (cases_lt k whole) [
+      | inl few ↦ let times : (k + 1) * runtime ≤ whole * runtime = mul-le (k + 1) runtime whole runtime (omega arith) (omega arith) in
+          absurd (omega arith)
+      | inr le ↦ le
+    ]

@@ -1,4 +1,5 @@
 pub mod Budgets
+pub mod Row
 pub mod Walk
 pub mod Monotone
 pub mod Told

@@ -1,2 +1,3 @@
-pub mod Renewals
+pub mod Queue
+pub mod Walk
 pub mod Counting

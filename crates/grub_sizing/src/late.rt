@@ -1,12 +1,13 @@
 //! How many jobs may be late.
 
 ghost use Rattle.std.specs.Prelude.{◌≡◌, ◌≤◌, ◌<◌, IfOk, IsTrue, ◌↔◌, [], cond, nat_le};
-ghost use Rattle.std.specs.List.{list_all};
+ghost use Rattle.grub_sizing.specs.inside.Queue.{latest_of};
 ghost use Rattle.grub_sizing.specs.Jobs.{late_of, lates_after};
 ghost use Rattle.grub_sizing.specs.inside.Counting.{IsUpTo};
 
 use crate::job::Job;
-use crate::renewal::{Renewal, are_done_by, step};
+use crate::renewal::Renewals;
+use crate::step::{are_done_by, step};
 use std::alloc::{AllocError, Global};
 
 /// How many of the jobs may be late with the runtime in each period, in microseconds: not done by their due moment
@@ -52,7 +53,7 @@ fn count_up_to(
     requires room { runtime ≤ period }
     ensures { IfOk result (λ n. IsUpTo most n (late_of runtime period jobs.now)) }
 {
-    let mut renewals = Vec::new(alloc);
+    let mut renewals = Renewals::new(alloc);
     let mut count = 0;
     for job in jobs {
         step(&mut renewals, job, runtime, period)?;
@@ -77,7 +78,7 @@ pub fn lates_of(
     requires room { runtime ≤ period }
     ensures { IfOk result (λ v. v.items ≡ lates_after runtime period [] jobs.now) }
 {
-    let mut renewals = Vec::new(alloc);
+    let mut renewals = Renewals::new(alloc);
     let mut lates = Vec::new(alloc);
     for job in jobs {
         step(&mut renewals, job, runtime, period)?;
@@ -87,8 +88,8 @@ pub fn lates_of(
 }
 
 /// 1 where from one of the renewals the work until now is not done by the moment.
-fn late_by(renewals: &[Renewal], due: u64) -> u32
-    ensures { result ≡ cond (list_all (λ r. nat_le r.finish due) renewals.now) 0 1 }
+fn late_by(renewals: &Renewals, due: u64) -> u32
+    ensures { result ≡ cond (nat_le (latest_of renewals.now) due) 0 1 }
 {
     if are_done_by(renewals, due) { 0 } else { 1 }
 }

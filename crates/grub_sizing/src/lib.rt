@@ -6,6 +6,7 @@ mod late;
 mod laws;
 mod least;
 mod renewal;
+mod step;
 mod witness;
 
 pub use job::Job;

@@ -1,13 +1,12 @@
 //! The renewals of a server that count.
 
-ghost use Rattle.std.specs.Prelude.{◌≡◌, ◌≤◌, ◌<◌, ◌-◌, ◌*◌, map, nat_le};
-ghost use Rattle.std.specs.List.{list_any, list_all};
-ghost use Rattle.grub_sizing.specs.Span.{budgets_of};
-ghost use Rattle.grub_sizing.specs.inside.Renewals.{advanced, covers, joined, remembered, stepped};
-ghost use Rattle.std.specs.Prelude.{OnOk};
+ghost use Rattle.std.specs.Prelude.{◌≡◌, ◌<◌, ◌+◌, ◌%◌, ◌^◌, List, map, OnOk, ◌∷◌, []};
+ghost use Rattle.grub_sizing.specs.inside.Queue.{first_of, latest_of, HasRoom, CanPass, passed, after_first, told, turned};
+ghost use Rattle.grub_sizing.specs.declared.renewal.Renewal.{Renewal};
 
-use crate::job::Job;
-use std::alloc::AllocError;
+use std::alloc::{AllocError, Global};
+use std::collections::VecDeque;
+use std::marker::Model;
 
 /// A renewal of the server at a release, played until now with each budget as late as it may be had.
 #[derive(Clone, Copy)]
@@ -19,101 +18,107 @@ pub struct Renewal {
     pub left: u64,
 }
 
-/// The renewal after so much more work.
-pub(crate) fn advanced(renewal: Renewal, work: u64, runtime: u32, period: u32) -> Renewal
-    requires some { 0 < runtime }
-    requires room { runtime ≤ period }
-    ensures { result ≡ advanced runtime period work renewal }
+/// The moment that is as much earlier as a clock shows. Both wrap.
+fn before(moment: u64, clock: u64) -> u64
+    ensures { (result + clock) % 2 ^ 64 ≡ moment }
 {
-    if work <= renewal.left {
-        return Renewal {
-            finish: renewal.finish.saturating_add(work),
-            left: renewal.left - work,
-        };
-    }
-    let more = work - renewal.left;
-    let budgets = more.div_ceil(u64::from(runtime));
-    Renewal {
-        finish: renewal
-            .finish
-            .saturating_add(work)
-            .saturating_add(budgets.saturating_mul(u64::from(period - runtime))),
-        left: rest(more, runtime),
-    }
+    moment.wrapping_sub(clock)
 }
 
-/// Keeps the renewals whose work until now may take beyond a release.
-fn forget(renewals: &mut Vec<Renewal>, release: u64)
-    ensures { renewals.new.items ≡ remembered release renewals.old.items }
-{
-    renewals.retain(|r| r.finish > release);
+/// Renewals in a row, of which only the ends are looked at. All go on at once.
+#[derive(Drop)]
+pub(crate) struct Renewals {
+    /// Each as it stands where both clocks show 0.
+    kept: VecDeque<Renewal>,
+
+    /// How much later each is done.
+    later: u64,
+
+    /// How much more is left of each budget.
+    more: u64,
 }
 
-/// Adds a renewal at the release, where none of those before it takes as long.
-fn join(renewals: &mut Vec<Renewal>, release: u64, gap: u32) -> Result<(), AllocError>
-    ensures { OnOk result (renewals.new.items ≡ joined gap release renewals.old.items) }
-{
-    if !is_covered(renewals, release, gap) {
-        renewals.push(Renewal {
-            finish: release,
-            left: 0,
+impl Model for Renewals {
+    ghost Value = { List Renewal };
+
+    ghost view = { λ r. map (told r.later r.more) r.kept.items };
+}
+
+impl Renewals {
+    pub(crate) fn new(alloc: Global) -> Renewals
+        ensures { result ≡ [] }
+    {
+        Renewals {
+            kept: VecDeque::new(alloc),
+            later: 0,
+            more: 0,
+        }
+    }
+
+    pub(crate) fn first(&self) -> Option<Renewal>
+        ensures { result ≡ first_of self.now }
+    {
+        let first = self.kept.front()?;
+        Some(Renewal {
+            finish: first.finish.wrapping_add(self.later),
+            left: first.left.wrapping_add(self.more),
+        })
+    }
+
+    /// When the last of them is done; 0 where there is none.
+    pub(crate) fn latest(&self) -> u64
+        ensures { result ≡ latest_of self.now }
+    {
+        match self.kept.back() {
+            Some(last) => last.finish.wrapping_add(self.later),
+            None => 0,
+        }
+    }
+
+    pub(crate) fn drop_first(&mut self)
+        ensures { self.new ≡ after_first self.old }
+    {
+        let _first = self.kept.pop_front();
+    }
+
+    pub(crate) fn push_first(&mut self, renewal: Renewal) -> Result<(), AllocError>
+        ensures { OnOk result (self.new ≡ renewal ∷ self.old) }
+    {
+        self.kept.push_front(Renewal {
+            finish: before(renewal.finish, self.later),
+            left: before(renewal.left, self.more),
         })?;
+        Ok(())
     }
-    Ok(())
-}
 
-fn advance(renewals: &mut [Renewal], work: u64, runtime: u32, period: u32)
-    requires some { 0 < runtime }
-    requires room { runtime ≤ period }
-    ensures { renewals.new ≡ map (advanced runtime period work) renewals.old }
-{
-    for r in renewals.iter_mut() {
-        *r = advanced(*r, work, runtime, period);
+    /// Renews the first, which goes to the end.
+    pub(crate) fn turn(&mut self, gap: u64, runtime: u64) -> Result<(), AllocError>
+        requires { HasRoom gap runtime self.old }
+        ensures { OnOk result (self.new ≡ turned gap runtime self.old) }
+    {
+        if let Some(first) = self.kept.pop_front() {
+            self.kept.push_back(Renewal {
+                finish: first.finish.wrapping_add(gap),
+                left: first.left.wrapping_add(runtime),
+            })?;
+        }
+        Ok(())
     }
-}
 
-/// Goes from the renewals that stand before a job to those that stand after it.
-pub(crate) fn step(
-    renewals: &mut Vec<Renewal>,
-    job: &Job,
-    runtime: u32,
-    period: u32,
-) -> Result<(), AllocError>
-    requires some { 0 < runtime }
-    requires room { runtime ≤ period }
-    ensures { OnOk result
-        (renewals.new.items ≡ stepped runtime period job.now renewals.old.items) }
-{
-    forget(renewals, job.release);
-    join(renewals, job.release, period - runtime)?;
-    advance(renewals.as_mut_slice(), job.work, runtime, period);
-    Ok(())
-}
-
-/// What is left of the last budget that the work needs.
-fn rest(work: u64, runtime: u32) -> u64
-    requires { 0 < runtime }
-    ensures { result ≡ budgets_of work runtime * runtime - work }
-{
-    let over = work % u64::from(runtime);
-    if over == 0 {
-        0
-    } else {
-        u64::from(runtime) - over
+    /// Lets all be done so much later, with so much of each budget used.
+    pub(crate) fn pass(&mut self, time: u64, used: u64)
+        requires { CanPass time used self.old }
+        ensures { self.new ≡ map (passed time used) self.old }
+    {
+        self.later = self.later.wrapping_add(time);
+        self.more = self.more.wrapping_sub(used);
     }
-}
 
-/// Whether one of the renewals takes as long as one at the release or longer, whatever follows.
-fn is_covered(renewals: &[Renewal], release: u64, gap: u32) -> bool
-    ensures { result ≡ list_any (covers gap release) renewals.now }
-{
-    renewals.iter().any(|r| r.left == 0 && release <= r.finish
-        || release.saturating_add(u64::from(gap)) <= r.finish)
-}
-
-/// Whether from each of the renewals the work until now is done by the moment.
-pub(crate) fn are_done_by(renewals: &[Renewal], due: u64) -> bool
-    ensures { result ≡ list_all (λ r. nat_le r.finish due) renewals.now }
-{
-    renewals.iter().all(|r| r.finish <= due)
+    /// Puts one in the place of all.
+    pub(crate) fn replace_all(&mut self, renewal: Renewal) -> Result<(), AllocError>
+        ensures { OnOk result (self.new ≡ renewal ∷ []) }
+    {
+        self.kept.clear();
+        self.push_first(renewal)
+    }
 }

@@ -3,7 +3,8 @@
 ghost use Rattle.std.specs.Prelude.{◌≡◌, ◌≤◌, ◌<◌, IfOk, IfSome, OnOk, length};
 
 use crate::job::Job;
-use crate::renewal::{are_done_by, step};
+use crate::renewal::Renewals;
+use crate::step::{are_done_by, step};
 use std::alloc::{AllocError, Global};
 
 /// A job that may be late.
@@ -69,7 +70,7 @@ pub fn first_late(
     ensures { IfOk result
         (λ o. IfSome o (λ late. (late.job < length jobs.now) × (late.from ≤ late.job))) }
 {
-    let mut renewals = Vec::new(alloc);
+    let mut renewals = Renewals::new(alloc);
     for (i, job) in jobs.iter().enumerate() {
         step(&mut renewals, job, runtime, period)?;
         if !are_done_by(&renewals, job.due) {

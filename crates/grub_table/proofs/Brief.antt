@@ -5,7 +5,7 @@ use Rattle.std.proofs.lemmas.Bool.{ne_eqb}
 use Rattle.grub_bw.specs.Bandwidth.{Reservation}
 use Rattle.grub_book.specs.declared.place.Record.{Record}
 use Rattle.grub_book.specs.declared.reply.Reply.{Reply}
-use Rattle.grub_words.specs.Words.{params_word}
+use Rattle.std.specs.Prelude.{◌&&◌}
 use Rattle.grub_table.specs.declared.view.Access.{Access}
 use Rattle.grub_table.specs.declared.view.Access.TheVariants.{Load, Store, Exchange}
 use Rattle.grub_table.specs.Accesses.{is_exchange_of, exchanges_of, lost_tries, FinishesBriefly, StartsBriefly}
@@ -42,7 +42,7 @@ module _ (w p t : ℕ) (held next : Reservation) (before mid after : List Access
 
   made_briefly : (tries : ℕ) (sum : Bool) → exchanges_of w first ≤ tries → (sum ≡ false → exchanges_of w first ≡ 0) → length first ≤ 2 * exchanges_of w first + 2 → FinishesBriefly w tries sum before after
   made_briefly tries sum tried quiet few =
-      let same : Bool = eqb (params_word next) (params_word held) in
+      let same : Bool = eqb next.runtime held.runtime && eqb next.period held.period in
       let none = stored_quiet w p t same in
       let most = stored_few p t same in
       let all : exchanges_of w (first ++ last) ≡ exchanges_of w first = omega (arith, exchanges_more w first last, none) in
@@ -135,7 +135,7 @@ starts_early w p s held won before one two three after a b c d at_p at_s =
     let not_s = counts_none s w (λ same. omega (arith, same, at_s)) in
     record {
       made = Load w ∷ Exchange w won ∷ Load p ∷ Load s ∷ Store w ∷ [];
-      grown = d ∙ append_assoc three (changed_store p held held) (Store w ∷ []) ∙ ap (λ same. three ++ stored_if p w same) (eq-eqb (params_word held) (params_word held) refl) ∙ ap (λ l. l ++ Store w ∷ []) (c ∙ ap (λ l. l ++ Load p ∷ Load s ∷ []) (two_and w won before one two a b) ∙ append_assoc before (Load w ∷ Exchange w won ∷ []) (Load p ∷ Load s ∷ []))
+      grown = d ∙ append_assoc three (changed_store p held held) (Store w ∷ []) ∙ ap (λ same. three ++ stored_if p w same) (λ i. eq-eqb held.runtime held.runtime refl i && eq-eqb held.period held.period refl i) ∙ ap (λ l. l ++ Store w ∷ []) (c ∙ ap (λ l. l ++ Load p ∷ Load s ∷ []) (two_and w won before one two a b) ∙ append_assoc before (Load w ∷ Exchange w won ∷ []) (Load p ∷ Load s ∷ []))
           ∙ append_assoc before (Load w ∷ Exchange w won ∷ Load p ∷ Load s ∷ []) (Store w ∷ []);
       load = omega (arith, counts_one w, not_p, not_s);
       exchange = omega (arith, counts_one w);

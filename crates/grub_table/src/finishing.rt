@@ -250,7 +250,7 @@ impl Shared {
         ensures made { made_on seated.new ≡ made_on seated.old ++ changed_store
             (params_word_at (terms self.now).setup task) held.now.params next.now.params }
     {
-        if pack_params(next.params) != pack_params(held.params) {
+        if next.params != held.params {
             self.store_params(seated, task, next.params);
         }
     }

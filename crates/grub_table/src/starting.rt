@@ -41,6 +41,9 @@ impl Asked for Brand {
     ghost note = { no_note };
 }
 
+/// What a claim adds to a task's word.
+const CLAIM_BIT: u64 = 8;
+
 /// The load of a task's word, for the call that `J` tells.
 pub(crate) struct LoadTask<J> {
     asked: PhantomData<J>,
@@ -87,25 +90,20 @@ impl Shared {
         self.load::<LoadTask<J>>(seated, at)
     }
 
-    /// Sets the claim bit where the word still says this, and returns the word as it was.
-    fn take_claim(&self, seated: &mut Seated, t: u32, op: Op, shown: TaskWord) -> u64
+    /// Sets the claim bit where the word is still the one that was loaded, and returns the word as it was.
+    fn take_claim(&self, seated: &mut Seated, t: u32, op: Op, shown: TaskWord, loaded: u64) -> u64
         requires seat { IsSeatOf self.now seated.old }
         requires free { hold_of seated.old ≡ Free }
         requires task { t < length (terms self.now).setup.tasks }
         requires fits { TaskFits shown }
-        requires unclaimed { shown.claimed ≡ false }
+        requires word { loaded ≡ task_word shown.place shown.count false }
         ensures told { Tells self.now (TookClaim (record { task = t; op = op })
             (task_word shown.place shown.count false) result) seated.old seated.new }
         ensures made { made_on seated.new
             ≡ made_on seated.old ++ Exchange (task_word_at (terms self.now).setup t)
             (result == task_word shown.place shown.count false) ∷ [] }
     {
-        let loaded = pack_task(shown);
-        let claimed = pack_task(TaskWord {
-            place: shown.place,
-            claimed: true,
-            count: shown.count,
-        });
+        let claimed = loaded + CLAIM_BIT;
         let at = task_word_at(&self.terms.setup, t);
         let note = Note { task: t, op };
         self.exchange_saying::<TakeClaim>(seated, at, loaded, claimed, &note)
@@ -192,7 +190,7 @@ impl Shared {
             return Started::Answered(Pass { seated }, reply);
         }
         let loaded = pack_task(shown);
-        let found = self.take_claim(&mut seated, t, op, shown);
+        let found = self.take_claim(&mut seated, t, op, shown, loaded);
         if found != loaded {
             return Started::Busy(Pass { seated }, Sighting::Changed { loaded, found });
         }

@@ -18,7 +18,6 @@ fn task_arg<'a>(alloc: Global) -> Arg<'a> {
         .long("task")
         .value_name("NAME=RUNTIME:PERIOD")
         .help("A task's comm or pid, and what it reserves, in microseconds; once for each task")
-        .required(true)
         .action(ArgAction::Append)
 }
 
@@ -35,7 +34,7 @@ fn rt_arg<'a>(alloc: Global) -> Arg<'a> {
         .long("rt")
         .value_name("RUNTIME:PERIOD")
         .help("The kernel's sched_rt_runtime_us and sched_rt_period_us")
-        .default_value("950000:1000000")
+        .action(ArgAction::Set)
 }
 
 fn fair_arg<'a>(alloc: Global) -> Arg<'a> {
@@ -43,7 +42,7 @@ fn fair_arg<'a>(alloc: Global) -> Arg<'a> {
         .long("fair-server")
         .value_name("RUNTIME:PERIOD")
         .help("What each runqueue reserves for fair tasks, in microseconds, or none")
-        .default_value("50000:1000000")
+        .action(ArgAction::Set)
 }
 
 fn out_arg<'a>(alloc: Global) -> Arg<'a> {
@@ -105,12 +104,12 @@ fn picture_arg<'a>(alloc: Global) -> Arg<'a> {
 
 fn tasks_command<'a>(alloc: Global) -> Result<Command<'a>, AllocError> {
     Command::new(alloc, "tasks")
-        .about("Prints the SCHED_DEADLINE tasks that a trace shows")
+        .about("Prints the SCHED_DEADLINE tasks that a trace shows, and what they reserve")
         .after_help(AFTER_TASKS)
         .arg(trace_arg(alloc))
 }
 
-/// The options that say what was traced: tasks, runqueues, and what the kernel reserves.
+/// The options that say what was traced: tasks, runqueues, and what the kernel reserves. Each stands above the trace's notes.
 fn with_setting<'a>(alloc: Global, command: Command<'a>) -> Result<Command<'a>, AllocError> {
     command
         .arg(task_arg(alloc))?
@@ -137,8 +136,8 @@ fn size_command<'a>(alloc: Global) -> Result<Command<'a>, AllocError> {
         .arg(late_arg(alloc))?
         .arg(margin_arg(alloc))?
         .arg(cpus_arg(alloc))?
-        .arg(rt_arg(alloc))?
-        .arg(fair_arg(alloc))?
+        .arg(rt_arg(alloc).default_value("950000:1000000"))?
+        .arg(fair_arg(alloc).default_value("50000:1000000"))?
         .arg(picture_arg(alloc))?
         .arg(trace_arg(alloc))
 }

@@ -207,9 +207,13 @@ fn options_in<'a>(
     matches: &ArgMatches<'a>,
 ) -> Result<Option<Options<'a>>, AllocError> {
     let tasks = matches.get_strs("task").unwrap_or(&[]);
-    let rt = matches.get_str("rt").unwrap_or("");
-    let fair = matches.get_str("fair-server").unwrap_or("");
-    options_of(alloc, tasks, matches.get_one::<u32>("cpus"), rt, fair)
+    options_of(
+        alloc,
+        tasks,
+        matches.get_one::<u32>("cpus"),
+        matches.get_str("rt"),
+        matches.get_str("fair-server"),
+    )
 }
 
 fn no_options<E: Write>(faults: &mut E) -> u8

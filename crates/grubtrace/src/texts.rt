@@ -9,7 +9,7 @@ A TRACE is the text of a kernel's trace of the scheduler's and the timers' event
 scripts/record.sh makes it: the file `trace` of tracefs, or what perf script prints.
 
     grubtrace tasks trace.txt
-    grubtrace events --task gr_0=5000:50000 --out run trace.txt
+    grubtrace events --out run trace.txt
     grubtrace check trace.txt
 
 The first tells which tasks there are, the second writes run.cpu0.grub and so on, which
@@ -23,12 +23,18 @@ was refused, 4 the kernel differs.";
 pub const AFTER_TASKS: &str = "\
 A line tells of one task, in the order in which they are seen:
 
-    task gr_0 pid=12926 wakes=1 blocks=0 cpus=1 line=341";
+    task gr_0 pid=831 wakes=58 blocks=57 cpus=0,2 line=341 reserves=5000:50000
+
+What it reserves stands there where a note of the trace says it, in the words of --task:
+RUNTIME:PERIOD[:DEADLINE] in microseconds, and ,norec of a task without SCHED_FLAG_RECLAIM.";
 
 /// What stands below the help of `events`.
 pub const AFTER_EVENTS: &str = "\
-A file that is there already is never written over (status 1).
+A record of scripts/record.sh needs no option: its notes say what tasks reserve, and what the
+kernel does. An option stands above the notes. A task that wakes and has no reservation by
+either is a fault (50, status 1). A file that is there already is never written over (status 1).
 
+    grubtrace events --out run trace.txt
     grubtrace events --task gr_0=5000:50000 --task gr_1=10000:40000 --out run trace.txt
     grubrun --view summary $(ls -v run.cpu*.grub)";
 

@@ -1,3 +1,4 @@
 pub mod AsBox
+pub mod Calling
 pub mod Gathering
 pub mod Machines

@@ -1,5 +1,5 @@
 -- What a call by a handle does with the pass that it keeps.
-use Rattle.std.specs.Prelude.{◌≡◌, ◌<◌, ◌≤◌, ℕ, ◌⊎◌, List, [], ◌∷◌, ◌++◌, length, Some, IsSome, IfSome}
+use Rattle.std.specs.Prelude.{◌≡◌, ◌<◌, ◌≤◌, ℕ, ◌⊎◌, List, [], ◌∷◌, ◌++◌, length, Some, IsSome, IfSome, Result, Ok, Err}
 use Rattle.std.specs.Arc.{arc_value}
 use Rattle.std.specs.List.{All}
 use Rattle.grub_book.specs.History.{pass_of}
@@ -10,15 +10,23 @@ use Rattle.grub_book.specs.declared.reply.Reply.{Reply}
 use Rattle.grub_book.specs.declared.event.Event.{Event}
 use Rattle.grub_book.specs.declared.event.Event.TheVariants.{Call, Look}
 use Rattle.grub_book.specs.declared.event.Reading.{Reading}
-use Rattle.grub_table.specs.Calls.{terms, IsPassOf, number_of, seen, marks, share_of}
+use Rattle.grub_table.specs.Accesses.{StartsBriefly}
+use Rattle.grub_table.specs.Calls.{terms, IsPassOf, IsStarted, IsFinished, IsWithin, IsCancelled, number_of, seen, marks, share_of, accesses, started_accesses}
 use Rattle.grub_table.specs.Histories.{EndsWith}
 use Rattle.grub_table.specs.Knowing.{GoesOn, Learns}
+use Rattle.grub_table.specs.Layout.{task_word_at}
+use Rattle.grub_table.specs.declared.answer.Started.{Started}
+use Rattle.grub_table.specs.declared.answer.Started.TheVariants as started
+use Rattle.grub_table.specs.declared.answer.Finished.{Finished}
+use Rattle.grub_table.specs.declared.answer.Finished.TheVariants as finished
+use Rattle.grub_table.specs.declared.claim.Claim.{Claim}
 use Rattle.grub_table.specs.declared.pass.Pass.{Pass}
 use Rattle.grub_table.specs.declared.shared.Shared.{Shared}
 use Rattle.grub_flat.specs.Asked.{op_of, plain_reply, reply_of}
 use Rattle.grub_flat.specs.declared.asked.NdOp.{NdOp}
 use Rattle.grub_flat.specs.declared.asked.NdReply.{NdReply}
 use Rattle.grub_flat.specs.declared.numbers.NdReading.{NdReading}
+use Rattle.neddwyrol_table.specs.declared.calls.TheConstants.{BUSY, LOST}
 use Rattle.neddwyrol_table.specs.declared.held.Kept.{Kept}
 use Rattle.neddwyrol_table.specs.declared.held.Held.{Held}
 
@@ -61,13 +69,39 @@ GoesOnBy k l events = GoesOn pass_of (number_of k.pass) (seen k.pass) (seen l.pa
 abbrev pub WasMade : ℕ → Op → NdReply → Kept → Kept → Type 0
 WasMade t it reply k l = (x : Reply) × (reply ≡ reply_of x) × GoesOnBy k l (Call (number_of k.pass) t it x ∷ [])
 
--- another pass had the task, or each try was lost: no call was made
-abbrev pub WasBusy : NdReply → Kept → Kept → Type 0
-WasBusy reply k l = ((reply ≡ plain_reply 50) ⊎ (reply ≡ plain_reply 52)) × GoesOnBy k l []
+-- no call was made
+abbrev pub WasNotMade : NdReply → Kept → Kept → Type 0
+WasNotMade reply k l = ((reply ≡ plain_reply BUSY) ⊎ (reply ≡ plain_reply LOST)) × GoesOnBy k l []
+
+-- a reply, or the number of why there is none
+abbrev pub code_reply : Result Reply ℕ → NdReply
+code_reply (Ok x) = reply_of x
+code_reply (Err code) = plain_reply code
+
+-- what `finish` of the table answered: the reply, or LOST where it lost each try, and then `cancel` gave the task back
+abbrev pub EndsBy : Shared → Finished → NdReply → Pass → Type 0
+EndsBy s (finished.Done p x) reply q = (reply ≡ reply_of x) × (q ≡ p)
+EndsBy s (finished.Held c) reply q = (reply ≡ plain_reply LOST) × IsCancelled s c q
+
+-- what `start` of the table answered: the reply, BUSY where another pass had the task, or a claim, which `finish` ended with so many tries
+abbrev pub GoesBy : Shared → ℕ → Started → NdReply → Pass → Type 0
+GoesBy s tries (started.Answered p x) reply q = (reply ≡ reply_of x) × (q ≡ p)
+GoesBy s tries (started.Busy p sighting) reply q = (reply ≡ plain_reply BUSY) × (q ≡ p)
+GoesBy s tries (started.Held c) reply q = (f : Finished) × IsFinished s c tries f × IsWithin c tries f × EndsBy s f reply q
+
+-- the whole call of a pass, by `start`, `finish` and `cancel` of the table
+abbrev pub WasCalled : Shared → Pass → ℕ → Op → ℕ → NdReply → Pass → Type 0
+WasCalled s p t it tries reply q =
+    (b : Started) × IsStarted s p t it b × StartsBriefly (task_word_at (terms s).setup t) (accesses p) (started_accesses b) × GoesBy s tries b reply q
+
+-- the same of what was asked, where there is such a task and op
+abbrev pub WasCalledBy : ℕ → NdOp → ℕ → NdReply → Kept → Kept → Type 0
+WasCalledBy t op tries reply k l =
+    (it : Op) → t < length (setup_of k).tasks → op_of op ≡ Some it → IsOp (setup_of k) it → WasCalled (table_of k) k.pass t it tries reply l.pass
 
 -- what was asked: no such task and no such op are answered 70 and 71, and change nothing
 pub record WasAsked (t : ℕ) (op : NdOp) (reply : NdReply) (k l : Kept) : Type 0 where
-  pub asked : (it : Op) → t < length (setup_of k).tasks → op_of op ≡ Some it → IsOp (setup_of k) it → WasMade t it reply k l ⊎ WasBusy reply k l
+  pub asked : (it : Op) → t < length (setup_of k).tasks → op_of op ≡ Some it → IsOp (setup_of k) it → WasMade t it reply k l ⊎ WasNotMade reply k l
   pub no_task : length (setup_of k).tasks ≤ t → (reply ≡ plain_reply 70) × (l.pass ≡ k.pass)
   pub no_op : t < length (setup_of k).tasks → ((it : Op) → op_of op ≡ Some it → ¬ IsOp (setup_of k) it) → (reply ≡ plain_reply 71) × (l.pass ≡ k.pass)
 

@@ -6,6 +6,7 @@ ghost use Rattle.grub_book.specs.Op.{IsOp};
 ghost use Rattle.grub_book.specs.declared.event.Event.TheVariants.{Call};
 ghost use Rattle.grub_table.specs.Calls.{terms, seen, number_of, IsPassOf};
 ghost use Rattle.grub_table.specs.Knowing.{GoesOn};
+ghost use Rattle.neddwyrol_table.specs.Called.{WasCalled, code_reply};
 
 use grub_book::{Op, Reply};
 use grub_table::{Finished, Pass, Shared, Started};
@@ -32,6 +33,7 @@ pub(crate) fn ask(
         (seen result.0) (Call (number_of pass) t op reply ∷ [])) }
     ensures none { IfErr result.1 (λ code. ((code ≡ BUSY) ⊎ (code ≡ LOST))
         × GoesOn pass_of (number_of pass) (seen pass) (seen result.0) []) }
+    ensures called { WasCalled shared.now pass t op tries (code_reply result.1) result.0 }
 {
     match shared.start(pass, t, op) {
         Started::Answered(pass, reply) => (pass, Ok(reply)),

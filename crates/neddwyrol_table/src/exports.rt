@@ -3,7 +3,7 @@
 ghost use Rattle.std.specs.Prelude.{◌≡◌, ◌≢◌, ◌⊎◌};
 ghost use denote.RawPtr.{InBlock};
 ghost use Rattle.grub_flat.specs.Memory.{machine_of};
-ghost use Rattle.neddwyrol_table.specs.Called.{Keeps, Stands, Went, IsSame, WasAsked, WasRead};
+ghost use Rattle.neddwyrol_table.specs.Called.{Keeps, Stands, Went, IsSame, WasAsked, WasCalledBy, WasRead};
 ghost use Rattle.neddwyrol_table.specs.Ended.{AreOfOne, IsPartedInto, TookIn, HaveMetBy, IsAgain, IsClosedBy};
 ghost use Rattle.neddwyrol_table.specs.Opened.{IsOpenedFor, open_fault};
 ghost use Rattle.neddwyrol_table.specs.declared.held.Kept.{Kept};
@@ -59,6 +59,7 @@ pub extern "C" fn nd_pass_apply(
     ensures there { InBlock back.new.at }
     ensures stands { Stands back.new.held }
     ensures asked { Went pass.held back.new.held (WasAsked task op result) }
+    ensures called { Went pass.held back.new.held (WasCalledBy task op tries result) }
 {
     let mut held = pass.into_parts().into_box();
     let reply = call(held.as_mut(), task, op, tries);

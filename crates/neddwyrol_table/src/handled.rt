@@ -1,7 +1,7 @@
 //! The calls of a handle, which are made with what it leads to.
 
 ghost use Rattle.std.specs.Prelude.{◌≡◌, ◌≢◌, ◌⊎◌, IsNone, IfSome};
-ghost use Rattle.neddwyrol_table.specs.Called.{IsWell, Stands, IsBeside, IsSame, Keeps, WasAsked, WasRead, Went};
+ghost use Rattle.neddwyrol_table.specs.Called.{IsWell, Stands, IsBeside, IsSame, Keeps, WasAsked, WasCalledBy, WasRead, Went};
 ghost use Rattle.neddwyrol_table.specs.Ended.{AreOfOne, IsPartedInto, TookIn, HaveMetBy, IsAgain, IsClosedBy};
 ghost use Rattle.neddwyrol_table.specs.declared.held.Kept.{Kept};
 
@@ -20,6 +20,7 @@ fn asked(kept: Kept, t: u32, op: NdOp, tries: u8) -> (Kept, NdReply)
     ensures well { IsWell result.0 }
     ensures beside { IsBeside kept result.0 }
     ensures asked { WasAsked t op result.1 kept result.0 }
+    ensures called { WasCalledBy t op tries result.1 kept result.0 }
 {
     if !kept.shared.has_task(t) {
         return (kept, plain_reply(NO_TASK));
@@ -36,16 +37,15 @@ fn asked(kept: Kept, t: u32, op: NdOp, tries: u8) -> (Kept, NdReply)
         gathered,
     } = kept;
     let (pass, answer) = ask(&shared, pass, t, it, tries);
-    let reply = match answer {
-        Ok(reply) => reply_of(reply),
-        Err(code) => plain_reply(code),
-    };
     let kept = Kept {
         shared,
         pass,
         gathered,
     };
-    (kept, reply)
+    match answer {
+        Ok(reply) => (kept, reply_of(reply)),
+        Err(code) => (kept, plain_reply(code)),
+    }
 }
 
 /// Reads a runqueue, where there is one of this number.
@@ -80,6 +80,7 @@ pub(crate) fn call(held: &mut Held, task: u32, op: NdOp, tries: u8) -> NdReply
     requires { Stands held.old }
     ensures stands { Stands held.new }
     ensures asked { Went held.old held.new (WasAsked task op result) }
+    ensures called { Went held.old held.new (WasCalledBy task op tries result) }
 {
     let Some(kept) = held.kept.take() else {
         unreachable!()

@@ -1,7 +1,9 @@
 //! The tasks of a record.
 
 use crate::figures::{Figures, at, most, regular_period, share, total};
-use crate::table::{Row, heading, hundredths_cell, number_cell, put_table, put_text, text_cell};
+use size_admission::table::{
+    Row, heading, hundredths_cell, number_cell, put_table, put_text, text_cell,
+};
 use std::alloc::{AllocError, Global};
 use trace_jobs::{Class, Record, Task};
 

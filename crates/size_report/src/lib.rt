@@ -1,7 +1,6 @@
 //! What `grubtrace size` prints: the tasks of a record, and the reservations that they need.
 #![tactic(auto)]
 
-mod admission;
 mod census;
 mod fault;
 mod figures;
@@ -10,7 +9,6 @@ mod picture;
 mod price;
 mod serving;
 mod sizing;
-mod table;
 mod task_text;
 
 pub use fault::SizeFault;

@@ -1,10 +1,10 @@
 //! What a task whose wakes are not regular costs at several periods.
 
-use crate::admission::{bandwidth, hundredths};
 use crate::figures::{Figures, at, most, rounded};
 use crate::sizing::{PERIOD_LEAST, PERIOD_MOST, jobs_of};
-use crate::table::{Row, heading, hundredths_cell, number_cell, put_table, text_cell};
 use grub_sizing::least_runtime;
+use size_admission::table::{Row, heading, hundredths_cell, number_cell, put_table, text_cell};
+use size_admission::{bandwidth, hundredths};
 use std::alloc::{AllocError, Global};
 use trace_jobs::Seen;
 

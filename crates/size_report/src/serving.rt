@@ -4,7 +4,6 @@ ghost use Rattle.std.specs.Prelude.{◌≡◌, ◌<◌, ◌⊎◌, IfErr, IfOk, 
 ghost use Rattle.std.specs.Io.KnownBytes.{Appends};
 ghost use Rattle.size_report.specs.Faults.{IsOfTask, PrintsWhole, status_of};
 
-use crate::admission::{Machine, Proposal, put_proposals};
 use crate::census::{census_text, duration};
 use crate::fault::SizeFault;
 use crate::figures::{Figures, regular_period};
@@ -18,6 +17,7 @@ use crate::task_text::{
 };
 use grub_files::read_once;
 use grub_sizing::{Job, first_late};
+use size_admission::{Machine, Proposal, put_proposals};
 use std::alloc::{AllocError, Global};
 use std::io;
 use std::io::Write;

@@ -1,13 +1,13 @@
 //! The text of one task.
 
-use crate::admission::{bandwidth, hundredths};
 use crate::figures::{Figures, at, share};
 use crate::sizing::{Needed, Wanted};
-use crate::table::{
+use grub_sizing::{Job, Late};
+use size_admission::table::{
     Row, heading, hundredths_cell, number_cell, put_hundredths, put_number, put_table, put_text,
     text_cell,
 };
-use grub_sizing::{Job, Late};
+use size_admission::{bandwidth, hundredths};
 use std::alloc::{AllocError, Global};
 use trace_jobs::{Phase, Seen, Task};
 

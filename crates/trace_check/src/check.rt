@@ -6,11 +6,10 @@ ghost use Rattle.trace_check.specs.declared.fault.TheConstants.{STATUS_DIFFERS, 
 use crate::fault::{Fault, STATUS_DIFFERS, STATUS_SYSTEM};
 use crate::files::{first_there, make_all};
 use crate::gathering::Gathering;
-use crate::options::Options;
 use crate::probes::Played;
 use crate::showing::{Shown, nothing_shown, shown_of};
-use crate::why::tried;
-use crate::window::Window;
+use crate::why::{put_timer_explanation, tried};
+use check_settings::{Options, Window};
 use deadline_machine::Machine;
 use deadline_timers::setup_of;
 use deadline_verdict::{Heading as TimerHeading, judge, put_table, put_verdict as put_timers};
@@ -252,6 +251,9 @@ fn judged_verdict(
     };
     let mut text = Vec::new(alloc);
     put_timers(alloc, &mut text, heading, &setup, &lines, &names, &judged)?;
+    if options.explains {
+        put_timer_explanation(alloc, &mut text, options, setup, start, &lines, &judged)?;
+    }
     let mut table = Vec::new(alloc);
     if wanted.table.is_some() {
         put_table(alloc, &mut table, &judged.outcome.observations, &names)?;

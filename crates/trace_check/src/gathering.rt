@@ -3,15 +3,18 @@
 use crate::fault::Fault;
 use crate::head::{Head, cpus_of};
 use crate::names::Names;
-use crate::options::{CPU_MAX, Options};
 use crate::probes::{Kept, Probes};
+use check_settings::{CPU_MAX, Options};
 use deadline_timers::{RunqueueSums, setup_of};
 use probe_verdict::Lost;
 use record_line::{Lost as LostLines, Told};
 use std::alloc::{AllocError, Global};
 use timer_lines::{Given, Record, Unlisted};
 use trace_reader::Lines;
-use trace_words::{Fixed, Limit, Line, Note, Parameters, Policy, Said};
+use trace_words::{Fixed, Flaw, Limit, Line, Note, Parameters, Policy, Said};
+
+/// A moment that is greater than each number of nanoseconds is read as this one.
+const TOO_LATE: u64 = u64::MAX;
 
 /// A record that is being read.
 #[derive(Drop)]
@@ -93,6 +96,13 @@ impl<'o> Gathering<'o> {
 
     /// Takes what a line tells, whose number counts from 1.
     fn take_told(&mut self, number: u64, told: &Told<&[u8]>) -> Result<(), AllocError> {
+        if is_too_late(&told.line) {
+            self.fault = Some(Fault::Line {
+                line: number,
+                flaw: Flaw::BadTraceLine,
+            });
+            return Ok(());
+        }
         self.see_head(number, told.processors);
         if let Some(domain) = told.domain {
             self.note_domain(number, domain)?;
@@ -376,6 +386,15 @@ fn is_named(name: &str, pid: u64, comm: &[u8]) -> bool {
         }
     } else {
         bytes == comm
+    }
+}
+
+/// Whether the moment of a line, or that of its note, is greater than each number of nanoseconds.
+fn is_too_late(line: &Line) -> bool {
+    match *line {
+        Line::Event { at, .. } => at == TOO_LATE,
+        Line::Note(Note::Task { at: Some(at), .. }) => at == TOO_LATE,
+        _ => false,
     }
 }
 

@@ -1,6 +1,6 @@
 //! What options and notes say of the kernel that was recorded.
 
-use crate::options::{Arithmetic, FairServer, Options, Range, domain_of};
+use check_settings::{Arithmetic, FairServer, Options, Range, domain_of};
 use deadline_rules::Law;
 use deadline_timers::{FairServer as Server, Options as Kernels, RunqueueSums, Start};
 use std::alloc::{AllocError, Global};

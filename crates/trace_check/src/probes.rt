@@ -2,7 +2,7 @@
 
 use crate::head::Head;
 use crate::names::Names;
-use crate::options::Options;
+use check_settings::Options;
 use deadline_machine::{Machine, Shape};
 use probe_verdict::put_row;
 use std::alloc::{AllocError, Global};

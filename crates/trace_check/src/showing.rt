@@ -2,7 +2,7 @@
 
 use crate::check::Wanted;
 use crate::fault::Fault;
-use crate::window::Window;
+use check_settings::Window;
 use deadline_states::{Scene, Span, TaskName};
 use deadline_timers::{Setup, Start};
 use deadline_verdict::Judged;

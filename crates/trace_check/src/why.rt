@@ -1,12 +1,17 @@
 //! A record is played again, with one rule changed at a time.
 
 use crate::gathering::Gathering;
-use crate::options::Options;
 use crate::probes::Kept;
+use check_settings::Options;
 use deadline_machine::Machine;
+use deadline_timers::{Setup, Start};
+use deadline_verdict::Judged;
 use probe_verdict::{Trial, total_of};
 use rule_changes::{ALL, RuleChange};
 use std::alloc::{AllocError, Global};
+use timer_changes::put_explanation;
+use timer_lines::Lines;
+use timer_rules::Answer;
 
 /// What the plays of a record come to, each with another rule changed.
 pub(crate) fn tried(
@@ -46,4 +51,32 @@ fn trial_of(
 
 fn play(machine: &mut Machine, kept: &Kept) -> Result<(), AllocError> {
     machine.take(kept.line, kept.at, kept.cpu, kept.pid, &kept.probe)
+}
+
+/// Appends which changed rule explains what timers show, where they differ.
+pub(crate) fn put_timer_explanation(
+    alloc: Global,
+    out: &mut Vec<u8>,
+    options: &Options<'_>,
+    setup: Setup,
+    start: &Start,
+    lines: &Lines,
+    judged: &Judged,
+) -> Result<(), AllocError> {
+    if judged.first.is_none() {
+        return Ok(());
+    }
+    let trials = timer_changes::tried(alloc, setup, start, lines, options.within)?;
+    put_explanation(alloc, out, differ(judged), &trials)
+}
+
+/// How many timers differ.
+fn differ(judged: &Judged) -> u64 {
+    let mut differ = 0u64;
+    for observation in &judged.outcome.observations {
+        if let Answer::Differs = observation.answer {
+            differ = differ.saturating_add(1);
+        }
+    }
+    differ
 }

@@ -16,7 +16,7 @@ use Rattle.deadline_rules.specs.declared.charge.Runqueue.{Runqueue}
 use Rattle.deadline_rules.specs.declared.flags.TheConstants.{REPLENISH}
 use Rattle.deadline_rules.specs.Clock.{plus, less, signed, contains_bits}
 use Rattle.deadline_rules.specs.Reservation.{reserved_of, cleared_of}
-use Rattle.deadline_machine.specs.declared.actor.Actor.{Actor}
+use Rattle.machine_state.specs.declared.actor.Actor.{Actor}
 use Rattle.deadline_machine.specs.declared.waiting.Awaited.{Awaited}
 use Rattle.deadline_machine.specs.declared.waiting.Awaited.TheVariants.{Charge, Enqueue}
 use Rattle.deadline_machine.specs.declared.waiting.Rest.{Rest}

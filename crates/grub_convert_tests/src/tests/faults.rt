@@ -40,7 +40,7 @@ fn refuses_pieces(
 const WAKE: &str = " x-1 [000] d. 1.000000: sched_wakeup: comm=a pid=7 prio=-1 target_cpu=000\n";
 
 const SLEEP: &str =
-    " a-7 [001] d. 3000.000000: sched_switch: prev_comm=a prev_pid=7 prev_prio=-1 prev_state=S\n";
+    " a-7 [001] d. 3000.000000: sched_switch: prev_comm=a prev_pid=7 prev_prio=-1 prev_state=S ==> next_comm=x next_pid=1 next_prio=120\n";
 
 const RUN: &str =
     " a-7 [000] d. 1.5: x\n a-7 [000] d. 1.500000: sched_stat_runtime: comm=a pid=7 runtime=16777217000 [ns]\n";

@@ -49,10 +49,10 @@ const MOVES: &str = "# entries-in-buffer/entries-written: 9/9   #P:2
  x-1 [000] d. 100.000500000: sched_stat_runtime: comm=a pid=7 runtime=400600 [ns]
  a-7 [001] d. 100.000600000: sched_stat_runtime: comm=a pid=7 runtime=600 [ns]
  a-7 [001] d. 100.000600100: sched_stat_runtime: comm=a pid=7 runtime=1 [ns]
- a-7 [001] d. 100.000700000: sched_switch: prev_comm=a prev_pid=7 prev_prio=-1 prev_state=R+ ==> next_comm=b
+ a-7 [001] d. 100.000700000: sched_switch: prev_comm=a prev_pid=7 prev_prio=-1 prev_state=R+ ==> next_comm=b next_pid=1 next_prio=120
  x-1 [001] d. 100.000700500: sched_migrate_task: comm=a pid=7 prio=-1 orig_cpu=1 dest_cpu=0
  a-7 [000] d. 100.000800000: sched_stat_runtime: comm=a pid=7 runtime=99 [ns]
- a-7 [000] d. 100.000900000: sched_switch: prev_comm=a prev_pid=7 prev_prio=-1 prev_state=S ==> next_comm=b
+ a-7 [000] d. 100.000900000: sched_switch: prev_comm=a prev_pid=7 prev_prio=-1 prev_state=S ==> next_comm=b next_pid=1 next_prio=120
 ";
 
 const MOVES_FILES: [&str; 2] = [
@@ -83,12 +83,12 @@ fn moves(rt: HostRuntime) {
 }
 
 const OPENINGS: &str = " x-1 [000] d. 5.000000: sched_stat_runtime: comm=w pid=7 runtime=5000 [ns]
- w-8 [001] d. 5.000100: sched_switch: prev_comm=w prev_pid=8 prev_prio=-1 prev_state=S ==> next_comm=x
- x-9 [000] d. 5.000200: sched_switch: prev_comm=my task prev_pid=9 prev_prio=-1 prev_state=X ==> next_comm=x
+ w-8 [001] d. 5.000100: sched_switch: prev_comm=w prev_pid=8 prev_prio=-1 prev_state=S ==> next_comm=x next_pid=1 next_prio=120
+ x-9 [000] d. 5.000200: sched_switch: prev_comm=my task prev_pid=9 prev_prio=-1 prev_state=X ==> next_comm=x next_pid=1 next_prio=120
  x-1 [000] d. 5.000300: sched_wakeup_new: comm=w pid=7 prio=-1 target_cpu=001
  x-1 [000] d. 5.000310: sched_wakeup: comm=w pid=7 prio=-1 target_cpu=000
  w-7 [001] d. 5.001300: sched_stat_runtime: comm=w pid=7 runtime=1000 [ns]
- w-7 [001] d. 5.001300: sched_switch: prev_comm=w prev_pid=7 prev_prio=-1 prev_state=Z ==> next_comm=x
+ w-7 [001] d. 5.001300: sched_switch: prev_comm=w prev_pid=7 prev_prio=-1 prev_state=Z ==> next_comm=x next_pid=1 next_prio=120
  x-1 [000] d. 5.001400: sched_migrate_task: comm=w pid=8 prio=-1 orig_cpu=1 dest_cpu=0
  x-1 [000] d. 5.001400: sched_wakeup: comm=w pid=8 prio=-1 target_cpu=000
 ";
@@ -135,8 +135,8 @@ const CROSSING: &str = "#           TASK-PID     CPU#  |||||  TIMESTAMP  FUNCTIO
  b-8 [001] d. 1.001100: sched_stat_runtime: comm=b pid=8 runtime=1000000 [ns]
  x-1 [000] d. 1.002000100: sched_migrate_task: comm=a pid=7 prio=-1 orig_cpu=0 dest_cpu=1
  x-1 [000] d. 1.002000900: sched_migrate_task: comm=b pid=8 prio=-1 orig_cpu=1 dest_cpu=0
- a-7 [001] d. 1.003000: sched_switch: prev_comm=a prev_pid=7 prev_prio=-1 prev_state=S ==> next_comm=x
- b-8 [000] d. 1.003000: sched_switch: prev_comm=b prev_pid=8 prev_prio=-1 prev_state=S ==> next_comm=x
+ a-7 [001] d. 1.003000: sched_switch: prev_comm=a prev_pid=7 prev_prio=-1 prev_state=S ==> next_comm=x next_pid=1 next_prio=120
+ b-8 [000] d. 1.003000: sched_switch: prev_comm=b prev_pid=8 prev_prio=-1 prev_state=S ==> next_comm=x next_pid=1 next_prio=120
 ";
 
 const CROSSING_FILES: [&str; 2] = [
@@ -180,11 +180,11 @@ fn two_tasks_cross(rt: HostRuntime) {
 const MOVED_TWICE: &str = "#           TASK-PID     CPU#  |||||  TIMESTAMP  FUNCTION  #P:3
  x-1 [000] d. 1.000000: sched_wakeup: comm=a pid=7 prio=-1 target_cpu=000
  a-7 [000] d. 1.001000: sched_stat_runtime: comm=a pid=7 runtime=1000000 [ns]
- a-7 [000] d. 1.001500: sched_switch: prev_comm=a prev_pid=7 prev_prio=-1 prev_state=R ==> next_comm=x
+ a-7 [000] d. 1.001500: sched_switch: prev_comm=a prev_pid=7 prev_prio=-1 prev_state=R ==> next_comm=x next_pid=1 next_prio=120
  x-1 [000] d. 1.002000: sched_migrate_task: comm=a pid=7 prio=-1 orig_cpu=0 dest_cpu=1
  x-1 [001] d. 1.002100: sched_migrate_task: comm=a pid=7 prio=-1 orig_cpu=1 dest_cpu=2
  a-7 [002] d. 1.002600: sched_stat_runtime: comm=a pid=7 runtime=500000 [ns]
- a-7 [002] d. 1.003000: sched_switch: prev_comm=a prev_pid=7 prev_prio=-1 prev_state=S ==> next_comm=x
+ a-7 [002] d. 1.003000: sched_switch: prev_comm=a prev_pid=7 prev_prio=-1 prev_state=S ==> next_comm=x next_pid=1 next_prio=120
 ";
 
 const MOVED_TWICE_FILES: [&str; 3] = [
@@ -225,4 +225,27 @@ fn a_task_is_moved_twice(rt: HostRuntime) {
             &MOVED_TWICE_FILES
         )
     );
+}
+
+const NOTED: &str = "# grub: notes 1 kernel=6.1.0 domain=0-0 max-bw=500000 total-bw=0
+# grub: task pid=7 at=start cpu=0 runtime=1000000 deadline=10000000 period=10000000 flags=0x2 comm=a
+# grub: task pid=8 at=start cpu=0 runtime=3000000 deadline=30000000 period=30000000 flags=0x2 comm=b
+ x-1 [000] d. 1.000000: sched_wakeup: comm=a pid=7 prio=-1 target_cpu=000
+ x-1 [000] d. 1.000100: sched_wakeup: comm=b pid=8 prio=-1 target_cpu=000
+";
+
+const NOTED_FILES: [&str; 1] = [
+    "grub 1
+queue 500000 185428
+task a 2000 10000
+task b 3000 30000
+at 2000 join a
+at 2100 join b
+",
+];
+
+/// Notes of a kernel without servers of fair tasks, of its limit and of two tasks, one of which an option gives too.
+#[test]
+fn notes_stand_below_options(rt: HostRuntime) {
+    assert!(rt; tells(rt.alloc(), &["a=2000:10000"], NOTED, &NOTED_FILES));
 }

@@ -1,4 +1,4 @@
-//! How a text is read, and the options of a kernel's defaults.
+//! How a text is read, and the options of given tasks.
 
 use grub_convert::{Options, options_of};
 use std::alloc::Global;
@@ -15,9 +15,9 @@ pub(crate) fn read_text(text: &[u8], at: &mut usize, room: &mut [u8]) -> io::Res
     Ok(count)
 }
 
-/// The options of a kernel's defaults, with these tasks; None where the words say none, or memory is refused.
+/// The options of these tasks alone; None where the words say none, or memory is refused.
 pub(crate) fn options<'a>(alloc: Global, tasks: &[&'a str]) -> Option<Options<'a>> {
-    match options_of(alloc, tasks, None, "950000:1000000", "50000:1000000") {
+    match options_of(alloc, tasks, None, None, None) {
         Ok(options) => options,
         Err(_) => None,
     }

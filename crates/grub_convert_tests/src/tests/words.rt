@@ -7,7 +7,7 @@ const RIGHT: [&str; 1] = ["a=b=1:10"];
 
 /// The words of `--task`, `--rt` and `--fair-server`, and whether they are right.
 static WORDS: [(&[&str], &str, &str, bool); 12] = [
-    (&[], "1:1", "none", false),
+    (&[], "1:1", "none", true),
     (&["a"], "1:1", "none", false),
     (&["a=1"], "1:1", "none", false),
     (&["a=2:1"], "1:1", "none", false),
@@ -23,7 +23,7 @@ static WORDS: [(&[&str], &str, &str, bool); 12] = [
 
 /// Whether these words are taken; None where memory is refused.
 fn takes(alloc: Global, tasks: &[&str], limit: &str, fair: &str) -> Option<bool> {
-    match options_of(alloc, tasks, None, limit, fair) {
+    match options_of(alloc, tasks, None, Some(limit), Some(fair)) {
         Ok(options) => Some(options.is_some()),
         Err(_) => None,
     }

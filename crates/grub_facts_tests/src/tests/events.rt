@@ -80,7 +80,7 @@ fn timers_are_told(alloc: Global) -> Result<bool, AllocError> {
             what: What::Fired { now: 1020411634000 },
         },
     ];
-    Ok(are_told(&told, wanted.as_slice()) && told.counts.clock == 1000 && told.counts.has_timers)
+    Ok(are_told(&told, wanted.as_slice()))
 }
 
 /// Whether a switch away from a task in this state is told as this stop.
@@ -90,7 +90,7 @@ fn tells_stop(alloc: Global, state: &[u8], stop: Stop) -> Result<bool, AllocErro
         [
             b"a-1 [3] 1.000001: sched_switch: prev_comm=b prev_pid=77 prev_prio=-1 prev_state=".as_slice(),
             state,
-            b" ==> x\n".as_slice(),
+            b" ==> next_comm=x next_pid=1 next_prio=120\n".as_slice(),
         ]
         .as_slice(),
     )?;
@@ -121,7 +121,7 @@ fn a_state_is_told_by_its_first_letter(rt: HostRuntime) -> Result<(), Fail> {
 fn other_priorities_and_states_are_no_facts(rt: HostRuntime) -> Result<(), Fail> {
     let alloc = rt.alloc();
     let none = b"a-1 [3] 1.000001: sched_wakeup: comm=gr_0 pid=8 prio=120 target_cpu=003\n";
-    assert_eq!(rt; numbers_of(alloc, none)?, Some((0, 4, 1)));
+    assert_eq!(rt; numbers_of(alloc, none)?, Some((0, 4)));
     assert!(rt;
         tells(
             alloc,
@@ -147,6 +147,6 @@ fn a_timer_is_that_of_the_task_that_armed_it_last(rt: HostRuntime) -> Result<(),
         ]
         .as_slice(),
     )?;
-    assert_eq!(rt; numbers_of(alloc, text.as_slice())?, Some((1, 1, 4)));
+    assert_eq!(rt; numbers_of(alloc, text.as_slice())?, Some((1, 1)));
     Ok(())
 }

@@ -90,7 +90,7 @@ static BAD: [&[u8]; 14] = [
     b"a-1 [0] 1.000001: sched_wakeup: pid=1 prio=120 target_cpu=1\n",
     b"a-1 [0] 1.000001: sched_stat_runtime: comm=b pid=1 runtime=1.5\n",
     b"a-1 [0] 1.000001: sched_switch: gr_0:3001 [-1] S ==> swapper/3:0 [120]\n",
-    b"a-1 [0] 1.000001: sched_switch: prev_comm=b prev_pid=1 prev_prio=-1 prev_state= ==> next_comm=c\n",
+    b"a-1 [0] 1.000001: sched_switch: prev_comm=b prev_pid=1 prev_prio=-1 prev_state= ==> next_comm=c next_pid=1 next_prio=120\n",
 ];
 
 /// Lines that tell nothing.
@@ -189,7 +189,7 @@ static COUNTED: [(&[u8], u64); 4] = [
     ),
     (b"CPU:2 [LOST 12 EVENTS]\n", 52),
     (
-        b"a-1 [0] 1.000001: sched_wakeup: comm=b pid=1 prio=120 target_cpu=64\n",
+        b"a-1 [0] 1.000001: sched_wakeup: comm=b pid=1 prio=120 target_cpu=8192\n",
         54,
     ),
     (b"a-1 [0] 1.000001: hrtimer_cancel: hrtimer=\n", 55),

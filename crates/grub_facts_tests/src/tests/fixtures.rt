@@ -55,16 +55,13 @@ pub(crate) fn fault_of(alloc: Global, text: &[u8]) -> Result<(u64, u64), AllocEr
     Ok(place(&read(alloc, text)?.fault))
 }
 
-/// How many facts, runqueues and lines a text tells, if it has no fault.
-pub(crate) fn numbers_of(
-    alloc: Global,
-    text: &[u8],
-) -> Result<Option<(usize, u32, u64)>, AllocError> {
+/// How many facts and runqueues a text tells, if it has no fault.
+pub(crate) fn numbers_of(alloc: Global, text: &[u8]) -> Result<Option<(usize, u32)>, AllocError> {
     let told = read(alloc, text)?;
     if told.fault.is_some() {
         return Ok(None);
     }
-    Ok(Some((told.facts.len(), told.runqueues, told.counts.lines)))
+    Ok(Some((told.facts.len(), told.runqueues)))
 }
 
 /// Whether these facts are told and no other, and no fault.

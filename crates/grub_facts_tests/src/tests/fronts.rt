@@ -44,7 +44,7 @@ fn is_found_blocking(told: &Facts, comm: &[u8]) -> bool {
 /// Whether a comm that looks like the fields after it is told whole.
 fn a_comm_of_words_is_told(alloc: Global) -> Result<bool, AllocError> {
     let line =
-        b"a-1 [3] 1.000001: sched_switch: prev_comm=a prev b prev_pid=77 prev_prio=-1 prev_state=S ==> next_comm=prev_state=R next_pid=1\n";
+        b"a-1 [3] 1.000001: sched_switch: prev_comm=a prev b prev_pid=77 prev_prio=-1 prev_state=S ==> next_comm=prev_state=R next_pid=1 next_prio=120\n";
     let told = read(alloc, line)?;
     Ok(is_found_blocking(&told, b"a prev b"))
 }
@@ -54,7 +54,7 @@ fn lines_end_as_they_may(rt: HostRuntime) -> Result<(), Fail> {
     let alloc = rt.alloc();
     let line = b"a-1 [3] 1.000001: sched_wakeup: comm=b pid=77 prio=-1 target_cpu=003\r\n";
     assert!(rt; tells_wake(alloc, line));
-    assert_eq!(rt; numbers_of(alloc, b"\n\r\n# x\na\n")?, Some((0, 1, 1)));
+    assert_eq!(rt; numbers_of(alloc, b"\n\r\n# x\na\n")?, Some((0, 1)));
     Ok(())
 }
 

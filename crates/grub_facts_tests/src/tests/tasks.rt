@@ -64,14 +64,17 @@ fn read_tasks(alloc: Global) -> Result<Option<Vec<Counted>>, AllocError> {
     let mut reader = TaskReader::new(alloc);
     for line in [
         b"x-1 [0] 1.000001: sched_wakeup: comm=old pid=8 prio=120 target_cpu=5\n".as_slice(),
-        b"x-1 [4] 1.000001: sched_switch: prev_comm=a b prev_pid=8 prev_prio=-1 prev_state=S ==> x\n".as_slice(),
+        b"x-1 [4] 1.000001: sched_switch: prev_comm=a b prev_pid=8 prev_prio=-1 prev_state=S ==> next_comm=x next_pid=1 next_prio=120\n".as_slice(),
         b"x-1 [0] 1.000001: sched_wakeup: comm=sugov:0 pid=9 prio=-1 target_cpu=3\n".as_slice(),
         b"x-1 [0] 1.000001: sched_wakeup: comm=a b pid=8 prio=-1 target_cpu=1\n".as_slice(),
-        b"x-1 [2] 1.000001: sched_switch: prev_comm=a b prev_pid=8 prev_prio=-1 prev_state=R+ ==> x\n".as_slice(),
+        b"x-1 [2] 1.000001: sched_switch: prev_comm=a b prev_pid=8 prev_prio=-1 prev_state=R+ ==> next_comm=x next_pid=1 next_prio=120\n".as_slice(),
     ] {
         reader.feed(line)?;
     }
-    Ok(reader.end().ok())
+    match reader.end() {
+        Ok(tasks) => Ok(Some(tasks.counted)),
+        Err(_) => Ok(None),
+    }
 }
 
 /// Whether these are the one task that is meant, with its wakes, blocks and processors.

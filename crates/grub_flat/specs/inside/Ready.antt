@@ -1,11 +1,9 @@
 -- Numbers that a step may be made of, whether the memory is a book or not.
-use Rattle.std.specs.Prelude.{◌≡◌, ◌≤◌, false}
+use Rattle.std.specs.Prelude.{◌≤◌}
 use Rattle.grub_bw.specs.Bandwidth.{Capacity, IsReservation, IsCapacity}
 use Rattle.grub_bw.specs.Server.{Fits}
-use Rattle.grub_book.specs.Step.{changes_sum}
 use Rattle.grub_book.specs.declared.rules.TheConstants.{COUNT_MAX}
 use Rattle.grub_book.specs.declared.event.Reading.{Reading}
-use Rattle.grub_book.specs.declared.op.Op.{Op}
 use Rattle.grub_book.specs.declared.place.Record.{Record}
 
 -- a record whose numbers a step may be made of
@@ -19,7 +17,3 @@ pub record IsReady (c : Capacity) (now : Reading) : Type 0 where
   pub capacity : IsCapacity c
   pub running : now.running ≤ now.this
   pub this : now.this ≤ c.most
-
--- an op that changes no sum, whatever its task's record is
-abbrev pub ChangesNone : Op → Type 0
-ChangesNone op = (x : Record) → changes_sum x op ≡ false

@@ -1,7 +1,7 @@
 use Rattle.std.proofs.Common.{◌≡◌, ◌++◌, ◌∷◌, [], sym, ap, ◌∙◌, map, drop, List, rules, ◌+◌}
 use Rattle.std.specs.List.{list_any}
 use Rattle.grub_convert.specs.inside.Words.{is_named}
-use Rattle.grub_convert.proofs.OptionLemmas.{all_words, first_time, second_time}
+use Rattle.grub_convert.proofs.OptionLemmas.{first_time, second_time}
 use Rattle.grub_convert.specs.declared.options.Given.{Given}
 use Rattle.trace_line.specs.Words.{text_of}
 use Rattle.grub_convert.specs.Options.{given_task, tasks_on}
@@ -12,7 +12,7 @@ returns-then-names c =
     let words = c.args.words.now in
     let i = c.loop-word.word-index in
     let before = ap (list_any (is_named c.in-Some.task.name.now)) (sym c.deref.ensures.value) ∙ sym c.names.ensures ∙ c.if-names.true in
-    sym (all_words words i c.loop-word-test.true ∙ sym c.loop-word.invariant
+    sym (sym c.loop-word.invariant
     ∙ second_time c.loop-word.tasks.items words i _ c.in-Some.task c.loop-word-test.true c.in-Some.ensures before)
 
 pub loop-word-preserved : goal.loop-word-preserved

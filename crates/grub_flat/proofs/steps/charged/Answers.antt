@@ -36,7 +36,7 @@ returns-clause-book c =
     let held = c.in_ok-held.ensures.some.0 ∙ record_is s _ _ book c.args.t c.requires.task _ in
     let free : refused c.in_ok-held.held.place c.in_ok-held.held.count (Charge c.args.r c.args.dt) ≡ None = cc in
     let put = charge_puts (get_or c.args.tasks.now c.args.t (record { runtime = 0; period = 0; budget = 0; deadline = 0; count = 0; state = 0; queue = 0 })) c.in_ok-held.held c.in_ok-queue.queue c.in_ok-queue.now c.args.r c.args.dt _ c.in_ok-held.ensures.some.0 c.settle-next.ensures in
-    stays_quiet s _ _ book c.args.t c.requires.task (Charge c.args.r c.args.dt) c.requires.fits c.in_ok-held.held held c.args.r refl _ _ _ c.in_ok-queue.ensures.some.0 c.in_ok-queue.ensures.some.1 _ free c.settle-next.ensures _ put (λ x. refl)
+    stays_quiet s _ _ book c.args.t c.requires.task (Charge c.args.r c.args.dt) c.requires.fits c.in_ok-held.held held c.args.r refl _ _ _ c.in_ok-queue.ensures.some.0 c.in_ok-queue.ensures.some.1 _ free c.settle-next.ensures _ put refl
 
 pub returns-clause-kept : goal.returns-clause-kept
 returns-clause-kept c =

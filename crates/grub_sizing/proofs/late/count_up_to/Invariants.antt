@@ -1,12 +1,12 @@
-use Rattle.std.proofs.Common.{◌≡◌, ◌≤◌, ◌+◌, List, drop}
+use Rattle.std.proofs.Common.{◌≡◌, ◌≤◌, ◌+◌, ◌-◌, List, drop}
 use Rattle.grub_sizing.specs.Jobs.{late_after, late_of}
-use Rattle.grub_sizing.specs.inside.Renewals.{Stand}
+use Rattle.grub_sizing.specs.inside.Walk.{Answers, IsKept}
 use Rattle.grub_sizing.specs.declared.job.Job.{Job}
 use Rattle.grub_sizing.proofs.late.count_up_to.Given as goal
 
 abbrev pub invariant-loop-job : goal.invariant-loop-job
 invariant-loop-job l =
-    (past : List Job) × Stand l.runtime l.period l.renewals.items past
+    (past : List Job) × IsKept (l.period - l.runtime) l.runtime l.renewals × Answers l.runtime l.period l.renewals past
     × (l.count + late_after l.runtime l.period past (drop l.job-index l.jobs) ≡ late_of l.runtime l.period l.jobs)
     × (l.count ≤ l.most)
     × (l.count ≤ l.job-index)

@@ -1,5 +1,6 @@
 use Rattle.std.proofs.Common.{◌≡◌, map, option_map}
-use Rattle.grub_facts.specs.Given.{Task, finding_text, given_text}
+use Rattle.grub_facts.specs.Given.{Task}
+use Rattle.grub_facts.specs.Keeping.{finding_text, given_text}
 use Rattle.grub_facts.proofs.tasks.Tasks.finish.Given as goal
 
 abbrev pub invariant-loop-task : goal.invariant-loop-task

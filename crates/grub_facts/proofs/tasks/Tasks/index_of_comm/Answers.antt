@@ -1,7 +1,8 @@
 use Rattle.std.proofs.Common.{ap, ◌∙◌, List}
 use Rattle.std.specs.List.{position}
 use Rattle.grub_facts.specs.declared.given.Given.{Given}
-use Rattle.grub_facts.specs.Given.{given_text, seeks}
+use Rattle.grub_facts.specs.Given.{seeks}
+use Rattle.grub_facts.specs.Keeping.{given_text}
 use Rattle.grub_facts.proofs.GivenLemmas.{position_map}
 use Rattle.grub_facts.proofs.tasks.Tasks.index_of_comm.Goals as goal
 

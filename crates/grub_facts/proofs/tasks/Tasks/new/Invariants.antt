@@ -1,5 +1,6 @@
 use Rattle.std.proofs.Common.{◌≡◌, drop, map}
-use Rattle.grub_facts.specs.Given.{tasks_behind, tasks_given, tasks_text}
+use Rattle.grub_facts.specs.Given.{tasks_behind, tasks_given}
+use Rattle.grub_facts.specs.Keeping.{tasks_text}
 use Rattle.trace_line.specs.Words.{text_of}
 use Rattle.grub_facts.proofs.tasks.Tasks.new.Given as goal
 

@@ -1,5 +1,6 @@
 use Rattle.std.proofs.Common.{Some, None, is_some, refl, sym, ap, ◌∙◌, arith}
-use Rattle.grub_facts.specs.Given.{given_text, index_of, index_of_comm, tasks_text}
+use Rattle.grub_facts.specs.Given.{index_of, index_of_comm}
+use Rattle.grub_facts.specs.Keeping.{given_text, tasks_text}
 use Rattle.grub_facts.proofs.GivenLemmas.{changed_map, settled_first, settled_second}
 use Rattle.grub_facts.proofs.tasks.Tasks.settle.Goals as goal
 

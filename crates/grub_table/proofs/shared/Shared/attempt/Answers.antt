@@ -12,6 +12,8 @@ use Rattle.grub_table.specs.Calls.{claim_share}
 use Rattle.grub_table.specs.Histories.{WasBefore}
 use Rattle.grub_table.specs.inside.Between.{Tells}
 use Rattle.grub_table.specs.inside.Tellings.{Finishes, StoredServer}
+use Rattle.grub_table.specs.Layout.{task_word_at}
+use Rattle.grub_table.specs.inside.Layout.{params_word_at}
 use Rattle.grub_table.proofs.Brief.{made_by_try}
 use Rattle.grub_table.proofs.Tries.{IsMade, done, lost, tried}
 use Rattle.grub_table.proofs.shared.Shared.attempt.Goals as goal
@@ -70,4 +72,7 @@ returns-clause-finished c =
     one = omega arith
 
 pub returns-clause-within : goal.returns-clause-within
-returns-clause-within c = made_by_try _ _ _ _ _ _ _ (c.in-Some.next, c.in-Some.reply) _ _ _ _ c.in-Some.ensures.made c.store_server.ensures.made c.hand_back-pass.ensures.made
+returns-clause-within c =
+    let task = c.args.claim.task in
+    let setup = c.args.self.now.terms.setup in
+    made_by_try _ _ (params_word_at setup task) (task_word_at setup task) c.args.claim.held.params c.in-Some.next.params _ (c.in-Some.next, c.in-Some.reply) _ _ _ _ c.in-Some.ensures.made c.store_server.ensures.made c.hand_back-pass.ensures.made

@@ -18,6 +18,8 @@ use Rattle.grub_table.specs.inside.Between.{Tells}
 use Rattle.grub_table.specs.Calls.{share_on, claim_share, claim_changes_sum, IsClaimOf}
 use Rattle.grub_table.specs.inside.Tellings.{settled_quietly, Decides, SettledServer}
 use Rattle.grub_table.specs.inside.Tries.{is_charge, half_stored}
+use Rattle.grub_table.specs.Layout.{task_word_at}
+use Rattle.grub_table.specs.inside.Layout.{params_word_at}
 use Rattle.grub_table.proofs.Brief.{made_by_store}
 use Rattle.grub_table.proofs.Tries.{quiet_blind, claim_holds, IsMade, done}
 use Rattle.grub_table.proofs.shared.Shared.finish_quiet.Goals as goal
@@ -82,4 +84,7 @@ returns-clause-finished c tries =
     done c.args.self.now c.args.claim c.requires.of _ _ c.settle_server.new.seated made tries _ c.hand_back-pass.ensures.seen c.hand_back-pass.ensures.told (λ sum. absurd (both_ways _ c.requires.sum sum))
 
 pub returns-clause-within : goal.returns-clause-within
-returns-clause-within c tries = made_by_store _ _ _ _ _ _ tries _ _ _ _ c.settle_server.ensures.made c.hand_back-pass.ensures.made
+returns-clause-within c tries =
+    let task = c.args.claim.task in
+    let setup = c.args.self.now.terms.setup in
+    made_by_store _ _ (params_word_at setup task) (task_word_at setup task) c.args.claim.held.params c.settle-reply.result.0.params tries _ _ _ _ c.settle_server.ensures.made c.hand_back-pass.ensures.made

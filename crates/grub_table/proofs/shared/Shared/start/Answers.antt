@@ -231,8 +231,8 @@ take_claim-found-requires-clause-free c = c.in-Ok.ensures.told.of.0 ∙ c.args.p
 pub take_claim-found-requires-clause-fits : goal.take_claim-found-requires-clause-fits
 take_claim-found-requires-clause-fits c = c.in-Ok.ensures.free.0
 
-pub take_claim-found-requires-clause-unclaimed : goal.take_claim-found-requires-clause-unclaimed
-take_claim-found-requires-clause-unclaimed c = c.in-Ok.ensures.free.1
+pub take_claim-found-requires-clause-word : goal.take_claim-found-requires-clause-word
+take_claim-found-requires-clause-word c = c.pack_task-loaded.ensures ∙ ap (task_word c.in-Ok.shown.place c.in-Ok.shown.count) c.in-Ok.ensures.free.1
 
 pub returns-in-Some-clause-started : goal.returns-in-Some-clause-started
 returns-in-Some-clause-started c = answered c.args.self.now c.args.pass c.args.t c.args.op _ c.in-Ok.shown c.in-Some.reply c.in-Ok.ensures.told (sym c.refusal.ensures ∙ c.in-Some.is)
@@ -278,4 +278,4 @@ returns-clause-started c =
     is_taken c.args.self.now c.args.pass c.args.t c.args.op c.in-Ok.shown c.in-Ok.ensures.free.1 c.look_at_task.new.seated c.in-Ok.ensures.told _ c.refusal.ensures c.in_default.is c.pack_task-loaded.result c.take_claim-found.result c.pack_task-loaded.ensures c.take_claim-found.new.seated c.take_claim-found.ensures.told c.if-found-loaded.false c.in-Ok.ensures.free.0.place c.requires.task c.requires.op c.load_record-held.result c.load_record-held.new.seated c.load_record-held.ensures.told _ refl refl refl refl (sym c.early.ensures ∙ c.in_default-early.is)
 
 pub returns-in-Some-early-clause-brief : goal.returns-in-Some-early-clause-brief
-returns-in-Some-early-clause-brief c = starts_early _ _ _ _ _ _ _ _ _ _ c.in-Ok.ensures.made c.take_claim-found.ensures.made c.load_record-held.ensures.made c.hand_back-pass.ensures.made refl refl
+returns-in-Some-early-clause-brief c = starts_early _ _ _ c.load_record-held.result.params _ _ _ _ _ _ c.in-Ok.ensures.made c.take_claim-found.ensures.made c.load_record-held.ensures.made c.hand_back-pass.ensures.made refl refl

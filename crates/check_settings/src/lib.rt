@@ -1,0 +1,11 @@
+//! What the options of `grubtrace check` say.
+#![tactic(auto)]
+
+mod options;
+mod window;
+
+pub use options::{
+    Arithmetic, CPU_MAX, FairServer, Given, Options, Range, Words, WrongOption, domain_of,
+    options_of,
+};
+pub use window::{Window, window_of};

@@ -1,9 +1,0 @@
--- What comes after a line, by its answer.
-use Rattle.std.specs.Prelude.{Option, option_map}
-use Rattle.grub_facts.specs.Faults.{problem_of}
-use Rattle.grub_facts.specs.Texts.{After}
-use Rattle.grub_facts.specs.declared.fault.Wrong.{Wrong}
-
--- a line's answer, and what is told with it
-abbrev pub after_of : {S : Type 0} → Option Wrong → S → After S
-after_of wrong told = record { wrong = option_map problem_of wrong; told = told }

@@ -1,0 +1,54 @@
+//! What a line says of an event that each kernel has.
+
+ghost use Rattle.std.specs.Prelude.{◌≡◌};
+ghost use Rattle.grub_facts.specs.Given.{is_zero_lag, other_cpu, stop_of};
+
+use crate::fact::Stop;
+use trace_line::Shown;
+use trace_words::{Fixed, Stop as Stopped, TimerFunction};
+
+/// What a line says of such an event; `T` is a text.
+#[derive(Clone, Copy)]
+pub struct Report<T> {
+    /// The moment, in nanoseconds.
+    pub at: u64,
+
+    /// The CPU that wrote the line.
+    pub cpu: u32,
+
+    /// The task that ran there.
+    pub pid: u64,
+
+    pub event: Fixed,
+
+    /// The task that the line shows by comm and pid.
+    pub shown: Option<Shown<T>>,
+}
+
+/// How a task stops to run.
+pub(crate) fn stop_of(stop: Stopped) -> Stop
+    ensures { result ≡ stop_of stop }
+{
+    match stop {
+        Stopped::Ready => Stop::Ready,
+        Stopped::Blocks => Stop::Blocks,
+        Stopped::Ends => Stop::Ends,
+    }
+}
+
+/// Whether a timer tells of a 0-lag time.
+pub(crate) fn is_zero_lag(function: TimerFunction) -> bool
+    ensures { result ≡ is_zero_lag function }
+{
+    matches!(function, TimerFunction::ZeroLag)
+}
+
+/// The CPU that an event names beside its line's, or 0.
+pub(crate) fn other_cpu(event: &Fixed) -> u32
+    ensures { result ≡ other_cpu event.now }
+{
+    match *event {
+        Fixed::Woken { cpu, .. } | Fixed::Migrated { cpu, .. } => cpu,
+        _ => 0,
+    }
+}

@@ -1,0 +1,4 @@
+pub mod Values
+pub mod Lines
+pub mod Runqueues
+pub mod inside

@@ -1,0 +1,343 @@
+//! A record, played with one rule changed.
+
+use crate::rules::{blocks_as, fired_by, moved_by, ran_by, refilled_by, waits_as, woken_by};
+use deadline_rules::{Law, has_timer_ahead, share};
+use deadline_timers::{Machine, Owner, Setup};
+use rule_changes::RuleChange;
+use std::alloc::AllocError;
+use std::collections::HashMap;
+use timer_lines::{Event, Kept, Lines, Told};
+use timer_rules::{
+    Activity, Answer, Task, answer_of, block_answer, block_moments, charged_at, is_awake,
+    replenish_moments, seen_running, waking_of,
+};
+use trace_words::Stop;
+
+/// A play with one rule changed. It is that of the machine but for the lines that the rule is about.
+#[derive(Drop)]
+pub(crate) struct Play {
+    pub change: RuleChange,
+    pub setup: Setup,
+
+    /// The moment of the record's first line.
+    pub begins: u64,
+    pub within: u64,
+    pub machine: Machine,
+
+    /// What timers come to whose moments the changed rule gives, by their lines.
+    pub answers: HashMap<u64, Answer>,
+}
+
+fn runs(task: Task) -> bool {
+    task.entity.is_in_class && is_awake(task.activity)
+}
+
+/// A line that says nothing of a task or a timer.
+fn quiet(kept: Kept) -> Kept {
+    Kept {
+        event: Event::Idles,
+        ..kept
+    }
+}
+
+impl Play {
+    fn law(&self) -> Law {
+        self.setup.law
+    }
+
+    /// Tells the notes from a place on whose moments have come; the place after them.
+    fn tell_until(&mut self, told: &[Told], come: usize, at: u64) -> usize {
+        for i in come..told.len() {
+            let note = told[i];
+            if note.moment > at {
+                return i;
+            }
+            let before = self.machine.task(note.task);
+            let taken = self.machine.taken();
+            self.machine.tell(note);
+            self.keep_taken(note.task, before, taken);
+        }
+        told.len()
+    }
+
+    /// Plays each line, after the notes whose moments have come.
+    pub fn play_lines(&mut self, lines: &Lines) -> Result<(), AllocError> {
+        let mut come = 0usize;
+        for kept in &lines.kept {
+            come = self.tell_until(&lines.told, come, kept.at);
+            self.step(lines, *kept)?;
+        }
+        Ok(())
+    }
+
+    /// How many timers differ.
+    pub fn differ(self) -> u64 {
+        let Play {
+            change: _,
+            setup: _,
+            begins: _,
+            within: _,
+            machine,
+            answers,
+        } = self;
+        let outcome = machine.finish();
+        let mut differ = 0u64;
+        for observation in &outcome.observations {
+            let answer = match answers.get(&observation.line) {
+                Some(answer) => *answer,
+                None => observation.answer,
+            };
+            if let Answer::Differs = answer {
+                differ = differ.saturating_add(1);
+            }
+        }
+        differ
+    }
+
+    fn step(&mut self, lines: &Lines, kept: Kept) -> Result<(), AllocError> {
+        let kept = self.served(kept);
+        match kept.event {
+            Event::Ran { task, nanos } => self.run(lines, kept, task, nanos),
+            Event::Woken { task, clock, .. } => self.wake(lines, kept, task, clock),
+            Event::Migrated { task, .. } => self.migrate(lines, kept, task),
+            Event::Switched {
+                task: Some(task),
+                is_deadline: true,
+                stop,
+                ..
+            } => self.switch(lines, kept, task, stop),
+            Event::ReplenishStarted { timer, expires } => {
+                self.start(lines, kept, timer, expires)
+            }
+            Event::ReplenishFired { timer } => self.fire(lines, kept, timer),
+            Event::ZeroLagStarted {
+                task: Some(task),
+                ..
+            } => self.step_of(lines, kept, task),
+            Event::ZeroLagFired { timer } => match self.machine.owner(timer) {
+                Owner::Task(task) => self.step_of(lines, kept, task),
+                _ => self.machine.step(lines, kept),
+            },
+            _ => self.machine.step(lines, kept),
+        }
+    }
+
+    /// A line as it is for fair servers that never leave `running_bw`, where that is the change.
+    fn served(&self, kept: Kept) -> Kept {
+        if self.change != RuleChange::ServerRunsOn {
+            return kept;
+        }
+        let kept = Kept {
+            is_idle: false,
+            ..kept
+        };
+        match kept.event {
+            Event::Cancelled { .. } => quiet(kept),
+            Event::ZeroLagFired { timer } => match self.machine.owner(timer) {
+                Owner::Server(_) => quiet(kept),
+                _ => kept,
+            },
+            Event::Switched {
+                task,
+                is_deadline,
+                stop,
+                ..
+            } => Kept {
+                event: Event::Switched {
+                    task,
+                    is_deadline,
+                    stop,
+                    is_next_idle: false,
+                },
+                ..kept
+            },
+            _ => kept,
+        }
+    }
+
+    /// A line about a task that may give its bandwidth back.
+    fn step_of(&mut self, lines: &Lines, kept: Kept, number: u32) -> Result<(), AllocError> {
+        let before = self.machine.task(number);
+        let taken = self.machine.taken();
+        self.machine.step(lines, kept)?;
+        self.keep_taken(number, before, taken);
+        Ok(())
+    }
+
+    /// What a task takes from `extra_bw`, by the changed rule: it took so much before a line or a note.
+    fn keep_taken(&mut self, number: u32, before: Option<Task>, taken: u64) {
+        let (Some(before), Some(after)) = (before, self.machine.task(number)) else {
+            return;
+        };
+        let was = before.entity.is_in_class;
+        let is = after.entity.is_in_class;
+        match self.change {
+            RuleChange::AdmissionTakesNothing if !was && is => self.machine.set_taken(taken),
+            RuleChange::LeavingFreesNothing if !is => self.machine.set_taken(taken),
+            RuleChange::EndFreesNothing if is && after.entity.is_dead => {
+                self.machine.set_taken(taken)
+            }
+            RuleChange::ChangeFreesNothing
+                if was && is && before.entity.dl_bw != after.entity.dl_bw => self.machine.set_taken(
+                taken.wrapping_add(share(after.entity.dl_bw, self.setup.cpus)),
+            ),
+            _ => {}
+        }
+    }
+
+    /// A task is charged.
+    fn run(
+        &mut self,
+        lines: &Lines,
+        kept: Kept,
+        number: u32,
+        nanos: u64,
+    ) -> Result<(), AllocError> {
+        self.machine.step(lines, quiet(kept))?;
+        let Some(task) = self.machine.task(number) else {
+            return Ok(());
+        };
+        let shown = charged_at(seen_running(task, kept.cpu), kept.at);
+        self.machine.replace(number, shown);
+        if runs(shown) {
+            let ready = self.refilled(shown);
+            let runqueue = self.machine.charging_runqueue(ready.cpu);
+            let after = ran_by(self.change, self.law(), ready, kept.at, nanos, runqueue);
+            self.machine.replace(number, after);
+        }
+        Ok(())
+    }
+
+    /// A task that runs on, after a budget that was used up is filled at once.
+    fn refilled(&self, task: Task) -> Task {
+        if has_timer_ahead(task.entity, task.exceeded.unwrap_or(0)) {
+            task
+        } else {
+            refilled_by(self.change, self.law(), task)
+        }
+    }
+
+    /// A task wakes.
+    fn wake(
+        &mut self,
+        lines: &Lines,
+        kept: Kept,
+        number: u32,
+        clock: u64,
+    ) -> Result<(), AllocError> {
+        let before = self.machine.task(number);
+        self.machine.step(lines, kept)?;
+        let (Some(before), Some(after)) = (before, self.machine.task(number)) else {
+            return Ok(());
+        };
+        if before.entity.is_in_class && !runs(before) {
+            let did = waking_of(self.law(), before, self.begins, clock);
+            let woken = woken_by(self.change, self.law(), before, after, did, clock);
+            self.machine.replace(number, woken);
+        }
+        Ok(())
+    }
+
+    /// A task moves to another CPU.
+    fn migrate(&mut self, lines: &Lines, kept: Kept, number: u32) -> Result<(), AllocError> {
+        let before = self.machine.task(number);
+        self.machine.step(lines, kept)?;
+        let (Some(before), Some(after)) = (before, self.machine.task(number)) else {
+            return Ok(());
+        };
+        if self.change == RuleChange::MoveWakes && before.cpu != after.cpu {
+            let moved = moved_by(self.law(), after, kept.at);
+            self.machine.replace(number, moved);
+        }
+        Ok(())
+    }
+
+    /// A task is switched out.
+    fn switch(
+        &mut self,
+        lines: &Lines,
+        kept: Kept,
+        number: u32,
+        stop: Stop,
+    ) -> Result<(), AllocError> {
+        let Some(task) = self.machine.task(number) else {
+            return self.machine.step(lines, kept);
+        };
+        let before = refilled_by(self.change, self.law(), task);
+        self.machine.replace(number, before);
+        self.see_block(kept, before, stop)?;
+        self.step_of(lines, kept, number)?;
+        if let Some(after) = self.machine.task(number) {
+            self.run_on(number, before, after, stop);
+        }
+        Ok(())
+    }
+
+    /// What the 0-lag timer at a block comes to, where the changed rule gives its moment.
+    fn see_block(&mut self, kept: Kept, task: Task, stop: Stop) -> Result<(), AllocError> {
+        let difference = if self.change == RuleChange::ZeroLagNever {
+            if task.armed.is_some() { i64::MAX } else { 0 }
+        } else {
+            match blocks_as(self.change, task, kept.at) {
+                Some(other) => block_moments(other, kept.at).difference,
+                None => return Ok(()),
+            }
+        };
+        let answer = block_answer(task, stop, difference, self.within);
+        self.answers.insert(kept.line, answer)?;
+        Ok(())
+    }
+
+    /// A task that blocks after its 0-lag time leaves `running_bw` as it is, where that is the change.
+    fn run_on(&mut self, number: u32, before: Task, after: Task, stop: Stop) {
+        if self.change == RuleChange::PastRunsOn
+            && runs(before)
+            && matches!(stop, Stop::Blocks)
+            && matches!(after.activity, Activity::Inactive)
+        {
+            self.machine.replace(
+                number,
+                Task {
+                    activity: Activity::NonContending,
+                    ..after
+                },
+            );
+        }
+    }
+
+    /// `dl_task_timer` is started.
+    fn start(
+        &mut self,
+        lines: &Lines,
+        kept: Kept,
+        timer: u32,
+        expires: u64,
+    ) -> Result<(), AllocError> {
+        self.machine.step(lines, kept)?;
+        let Owner::Task(number) = self.machine.owner(timer) else {
+            return Ok(());
+        };
+        let Some(task) = self.machine.task(number) else {
+            return Ok(());
+        };
+        if let Some(other) = waits_as(self.change, task) {
+            let moments = replenish_moments(other, kept.at, expires);
+            let answer = answer_of(task.knowledge, moments.difference, self.within);
+            self.answers.insert(kept.line, answer)?;
+        }
+        Ok(())
+    }
+
+    /// `dl_task_timer` fires.
+    fn fire(&mut self, lines: &Lines, kept: Kept, timer: u32) -> Result<(), AllocError> {
+        let Owner::Task(number) = self.machine.owner(timer) else {
+            return self.machine.step(lines, kept);
+        };
+        self.machine.step(lines, quiet(kept))?;
+        if let Some(task) = self.machine.task(number) {
+            let fired = fired_by(self.change, self.law(), task, kept.at);
+            self.machine.replace(number, fired);
+        }
+        Ok(())
+    }
+}

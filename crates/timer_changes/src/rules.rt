@@ -1,0 +1,194 @@
+//! What a line of a record does to a task, with one rule changed.
+
+use deadline_rules::{
+    Entity, Law, QUEUED, REPLENISH, Runqueue, WAKEUP, charged, replenished, waking, woken, zero_lag,
+};
+use rule_changes::{RuleChange, cost_by, enqueue_by};
+use timer_rules::{Task, Throttling, Waking, is_awake, is_tested, refills, throttled};
+use trace_words::{Budget, Donor, Enqueued, Parameters, Sums};
+
+/// A number that stands for an entity's address.
+const OWN: u64 = 1;
+
+/// The entity is enqueued by itself with these ENQUEUE_ flags.
+fn line_of(entity: Entity, flags: u64, clock: u64) -> Enqueued {
+    Enqueued {
+        pid: 0,
+        cpu: 0,
+        flags,
+        clock,
+        budget: entity.budget,
+        is_non_contending: false,
+        parameters: entity.parameters,
+        on_rq: QUEUED,
+        normal_prio: -1,
+        entity: OWN,
+        served_by: OWN,
+        donor: Donor {
+            dl_runtime: 0,
+            dl_deadline: 0,
+            dl_period: 0,
+        },
+        sums: Sums {
+            this_bw: 0,
+            running_bw: 0,
+            extra_bw: 0,
+        },
+    }
+}
+
+/// The entity with another budget, after an enqueue with these flags.
+fn enqueued(change: RuleChange, law: Law, entity: Entity, flags: u64, clock: u64) -> Entity {
+    let done = enqueue_by(Some(change), law, entity, line_of(entity, flags, clock));
+    Entity {
+        budget: done.entity.budget,
+        ..entity
+    }
+}
+
+/// The task after a wake, whose state before was this one: where the kernel's test was made, by the changed rule.
+pub(crate) fn woken_by(
+    change: RuleChange,
+    law: Law,
+    before: Task,
+    after: Task,
+    did: Waking,
+    clock: u64,
+) -> Task {
+    if is_tested(did) {
+        Task {
+            entity: enqueued(change, law, before.entity, WAKEUP, clock),
+            ..after
+        }
+    } else {
+        after
+    }
+}
+
+/// The task after a move to another CPU, which is a wake.
+pub(crate) fn moved_by(law: Law, task: Task, at: u64) -> Task {
+    if task.entity.is_in_class && is_awake(task.activity) && !task.entity.budget.is_throttled {
+        let wake = waking(law, task.entity, at);
+        Task {
+            entity: woken(task.entity, at, wake),
+            ..task
+        }
+    } else {
+        task
+    }
+}
+
+/// The entity after a replenishment at this moment.
+fn replenished_by(change: RuleChange, law: Law, entity: Entity, at: u64) -> Entity {
+    match change {
+        RuleChange::BudgetSet | RuleChange::OnePeriod | RuleChange::YieldKeeps => {
+            enqueued(change, law, entity, REPLENISH, at)
+        }
+        _ => replenished(entity, at),
+    }
+}
+
+/// The task after its `dl_task_timer` fires at this moment.
+pub(crate) fn fired_by(change: RuleChange, law: Law, task: Task, at: u64) -> Task {
+    if task.entity.budget.is_throttled {
+        Task {
+            entity: replenished_by(change, law, task.entity, at),
+            ..task
+        }
+    } else {
+        task
+    }
+}
+
+/// The task after a budget that was used up is filled at once, since no timer was started for it.
+pub(crate) fn refilled_by(change: RuleChange, law: Law, task: Task) -> Task {
+    match task.exceeded {
+        Some(exceeded) if refills(task) => Task {
+            entity: replenished_by(change, law, task.entity, exceeded),
+            exceeded: None,
+            ..task
+        },
+        _ => Task {
+            exceeded: None,
+            ..task
+        },
+    }
+}
+
+/// The task after a charge at this moment.
+pub(crate) fn ran_by(
+    change: RuleChange,
+    law: Law,
+    task: Task,
+    at: u64,
+    nanos: u64,
+    runqueue: Runqueue,
+) -> Task {
+    let cost = cost_by(Some(change), law, task.entity, runqueue, nanos);
+    let after = Task {
+        entity: charged(task.entity, cost),
+        ..task
+    };
+    if after.entity.budget.runtime > 0 {
+        after
+    } else {
+        Task {
+            exceeded: Some(at),
+            ..throttled(after, Throttling::UsedUp)
+        }
+    }
+}
+
+fn with_period(task: Task, dl_period: u64) -> Task {
+    Task {
+        entity: Entity {
+            parameters: Parameters {
+                dl_period,
+                ..task.entity.parameters
+            },
+            ..task.entity
+        },
+        ..task
+    }
+}
+
+/// The task whose 0-lag time, from its last charge on, is so many hundredths of what it is; at a block of this moment.
+fn with_wait(task: Task, at: u64, hundredths: i64) -> Task {
+    let wait = zero_lag(task.entity, task.charged.unwrap_or(at));
+    let other = wait.wrapping_mul(hundredths).div_euclid(100);
+    let deadline = task
+        .entity
+        .budget
+        .deadline
+        .wrapping_sub(wait.wrapping_sub(other).cast_unsigned());
+    Task {
+        entity: Entity {
+            budget: Budget {
+                deadline,
+                ..task.entity.budget
+            },
+            ..task.entity
+        },
+        ..task
+    }
+}
+
+/// The task by which the 0-lag moment of a block at this moment is reckoned; none where the rule of blocks is not changed.
+pub(crate) fn blocks_as(change: RuleChange, task: Task, at: u64) -> Option<Task> {
+    match change {
+        RuleChange::ZeroLagByDeadline => {
+            Some(with_period(task, task.entity.parameters.dl_deadline))
+        }
+        RuleChange::ZeroLagShorter => Some(with_wait(task, at, 95)),
+        RuleChange::ZeroLagLonger => Some(with_wait(task, at, 101)),
+        _ => None,
+    }
+}
+
+/// The task by which the moment of a replenishment timer is reckoned; none where that rule is not changed.
+pub(crate) fn waits_as(change: RuleChange, task: Task) -> Option<Task> {
+    match change {
+        RuleChange::UntilDeadline => Some(with_period(task, task.entity.parameters.dl_deadline)),
+        _ => None,
+    }
+}
