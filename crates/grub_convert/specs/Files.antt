@@ -5,7 +5,7 @@ use Rattle.trace_words.specs.declared.note.Kernel.{Kernel}
 use Rattle.trace_words.specs.declared.note.Limit.{Limit}
 use Rattle.trace_words.specs.declared.note.Limit.TheVariants.{MaxBw, Runtime}
 use Rattle.grub_bw.specs.declared.queue.TheConstants.{BW_UNIT}
-use Rattle.grub_convert.specs.Options.{most_from}
+use Rattle.grub_convert.specs.Options.{admitted, most_from, reservation_from}
 use Rattle.grub_convert.specs.declared.files.TheConstants.{FAIR_PERIOD, FAIR_RUNTIME, UMAX_USUAL}
 use Rattle.grub_convert.specs.declared.options.FairServer.{FairServer}
 use Rattle.grub_convert.specs.declared.options.FairServer.TheVariants.{Usual, Absent, Reserves}
@@ -57,11 +57,11 @@ abbrev pub has_servers : Option Kernel → Bool
 has_servers None = true
 has_servers (Some kernel) = nat_lt 6 kernel.major || (kernel.major == 6 && nat_le 12 kernel.minor)
 
-abbrev pub usual_server : Reservation
-usual_server = record { runtime = FAIR_RUNTIME; period = FAIR_PERIOD }
+abbrev pub usual_server : Option Reservation
+usual_server = admitted (reservation_from (FAIR_RUNTIME, FAIR_PERIOD))
 
 abbrev pub fair_by : FairServer → Option Kernel → Option Reservation
-fair_by Usual kernel = if has_servers kernel then Some usual_server else None
+fair_by Usual kernel = if has_servers kernel then usual_server else None
 fair_by Absent kernel = None
 fair_by (Reserves reservation) kernel = Some reservation
 

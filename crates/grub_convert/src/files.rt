@@ -7,7 +7,7 @@ ghost use Rattle.grub_convert.specs.Files.{AreFiles, AreGiven, FitTogether, IsSe
 ghost use Rattle.grub_convert.specs.Options.{most_from};
 ghost use Rattle.trace_line.specs.Words.{text_of};
 
-use crate::options::{FairServer, Given, Options};
+use crate::options::{FairServer, Given, Options, admitted};
 use grub_bw::{BW_UNIT, Params};
 use grub_events::{
     Declared, OrderFault, Placed, Setting, event_file, names_of, place_facts, queue_of, umax_of,
@@ -113,7 +113,7 @@ fn fair_of(options: &Options<'_>, facts: &Facts) -> Option<Params>
         FairServer::Absent => None,
         FairServer::Reserves(params) => Some(params),
         FairServer::Usual => if has_servers(facts.kernel) {
-            Params::new(FAIR_RUNTIME, FAIR_PERIOD).ok()
+            admitted(FAIR_RUNTIME, FAIR_PERIOD)
         } else {
             None
         },
@@ -215,9 +215,13 @@ pub fn setting_of(
         return Err(AllocError);
     }
     let tasks = declarations(alloc, &names, &params)?;
-    let fair = fair_of(options, facts);
-    match queue_of(most_of(options, facts), fair, &params, facts.runqueues) {
-        Some(queue) => Ok(Setting { queue, fair, tasks }),
+    let most = most_of(options, facts);
+    match queue_of(most, fair_of(options, facts), &params, facts.runqueues) {
+        Some(queue) => Ok(Setting {
+            queue,
+            fair: fair_of(options, facts),
+            tasks,
+        }),
         None => Err(AllocError),
     }
 }

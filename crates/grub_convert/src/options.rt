@@ -5,7 +5,7 @@ ghost use Rattle.std.specs.Char.{is_ascii_digit};
 ghost use Rattle.std.specs.List.{list_all, list_any};
 ghost use Rattle.std.specs.Path.{rsplit_once};
 ghost use Rattle.trace_line.specs.Words.{text_of};
-ghost use Rattle.grub_convert.specs.Options.{fair_in, given_task, maybe_fair_in, maybe_most_in, most_in, number_in, pair_in, reservation_in, said_by, said_in, task_in, tasks_in};
+ghost use Rattle.grub_convert.specs.Options.{admitted, fair_in, given_task, maybe_fair_in, maybe_most_in, most_in, number_in, pair_in, reservation_from, reservation_in, said_by, said_in, task_in, tasks_in};
 ghost use Rattle.grub_convert.specs.inside.Words.{is_named, texts_of};
 
 use grub_bw::Params;
@@ -76,13 +76,20 @@ fn pair_of(text: &str) -> Option<(u64, u64)>
     }
 }
 
+/// A reservation of these numbers, where a book admits it.
+pub(crate) fn admitted(runtime: u32, period: u32) -> Option<Params>
+    ensures { result ≡ admitted (reservation_from (runtime, period)) }
+{
+    Params::new(runtime, period).ok()
+}
+
 /// The reservation of `RUNTIME:PERIOD`, in microseconds.
 fn params_of(text: &str) -> Option<Params>
     ensures { result ≡ reservation_in text.now }
 {
     let (runtime, period) = pair_of(text)?;
     match (u32::try_from(runtime), u32::try_from(period)) {
-        (Ok(runtime), Ok(period)) => Params::new(runtime, period).ok(),
+        (Ok(runtime), Ok(period)) => admitted(runtime, period),
         _ => None,
     }
 }
