@@ -18,7 +18,7 @@ cpus_text (cpu ∷ cpus) = decimal cpu ++ flat_map cpus_behind cpus
 
 -- the three digits of what is below a microsecond, behind a point
 abbrev pub fraction_text : ℕ → List ℕ
-fraction_text n = if n == 0 then [] else 46 ∷ 48 + n / 100 ∷ 48 + n / 10 % 10 ∷ 48 + n % 10 ∷ []
+fraction_text n = if n == 0 then [] else 46 ∷ (48 + n / 100) ∷ (48 + n / 10 % 10) ∷ (48 + n % 10) ∷ []
 
 -- nanoseconds as microseconds
 abbrev pub micros_text : ℕ → List ℕ

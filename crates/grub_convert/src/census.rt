@@ -1,6 +1,6 @@
 //! The text that tells which SCHED_DEADLINE tasks a trace shows.
 
-ghost use Rattle.std.specs.Prelude.{◌≡◌, ◌++◌, IfOk, OnOk};
+ghost use Rattle.std.specs.Prelude.{◌≡◌, ◌<◌, ◌++◌, IfOk, OnOk};
 ghost use Rattle.std.specs.List.{flat_map};
 ghost use Rattle.grub_facts.specs.Census.{tally_text};
 ghost use Rattle.grub_convert.specs.Census.{cpus_behind, cpus_text, deadline_text, fraction_text, micros_text, parameters_text, reservation_of, reserves_text, task_line, tasks_text};

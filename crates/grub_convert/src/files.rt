@@ -215,9 +215,13 @@ pub fn setting_of(
         return Err(AllocError);
     }
     let tasks = declarations(alloc, &names, &params)?;
-    let fair = fair_of(options, facts);
-    match queue_of(most_of(options, facts), fair, &params, facts.runqueues) {
-        Some(queue) => Ok(Setting { queue, fair, tasks }),
+    let most = most_of(options, facts);
+    match queue_of(most, fair_of(options, facts), &params, facts.runqueues) {
+        Some(queue) => Ok(Setting {
+            queue,
+            fair: fair_of(options, facts),
+            tasks,
+        }),
         None => Err(AllocError),
     }
 }
