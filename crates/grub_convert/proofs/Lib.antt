@@ -1,4 +1,5 @@
 mod MessageLemmas
 mod OptionLemmas
+mod PrintLemmas
 mod ReadLemmas
 mod ServingLemmas

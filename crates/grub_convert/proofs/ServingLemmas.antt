@@ -1,5 +1,5 @@
 -- Files that are made one after another, and the statuses of that.
-use Rattle.std.proofs.Common.{◌≡◌, ◌<◌, ◌+◌, ◌∙◌, ◌⊎◌, inl, inr, ap, arith, sym, subst, refl, ℕ, zero, suc, List, [], ◌∷◌, ◌++◌, get_or, length, map, take, Option, Result, Ok, Err}
+use Rattle.std.proofs.Common.{◌≡◌, ◌<◌, ◌+◌, ◌∙◌, ◌⊎◌, inl, inr, ap, arith, sym, subst, refl, ℕ, zero, suc, List, [], ◌∷◌, ◌++◌, get_or, length, map, take, Result, Ok, Err}
 use Rattle.std.specs.Prelude.{All, IfErr, MatchResult, OnOk, Some, slice_get, slice_index_or}
 use Rattle.std.proofs.lemmas.Option.{none-some, same_Some}
 use Rattle.std.specs.List.{AllZip}
