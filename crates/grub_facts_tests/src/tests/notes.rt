@@ -7,8 +7,8 @@ use std::test::Fail;
 
 /// Notes of two tasks, the first of which changes what it reserves, and of one of another class.
 const NOTES: &[u8] = b"# grub: notes 1 kernel=6.18.44 domain=0-3 max-bw=996147 total-bw=0
-# grub: task pid=12926 at=1.5 by=12926 cpu=2 runtime=5000999 deadline=50000000 period=50000999 flags=0x2 comm=gr_0
-# grub: task pid=12926 at=1.6 by=12926 cpu=2 runtime=6000000 deadline=50000000 period=50000000 flags=0x2 comm=gr_0
+# grub: task pid=12926 at=1.500000 by=12926 cpu=2 runtime=5000999 deadline=50000000 period=50000999 flags=0x2 comm=gr_0
+# grub: task pid=12926 at=1.600000 by=12926 cpu=2 runtime=6000000 deadline=50000000 period=50000000 flags=0x2 comm=gr_0
 # grub: task pid=9 at=start cpu=2 policy=0 comm=x
 # grub: task pid=8 at=start cpu=2 runtime=3000000 deadline=20000000 period=30000000 flags=0x0 comm=a b
 # grub: task pid=7 at=start cpu=2 runtime=1000000 deadline=10000000 period=10000000 flags=0x0 comm=sugov:0
