@@ -2,7 +2,7 @@
 use Rattle.std.proofs.Common.{◌≡◌, ℕ, zero, suc, ◌+◌, ◌<◌, Bool, true, false, not, cond, ltb, List, [], ◌∷◌, length, map, set, get_or, Option, Some, None, is_some, option_map, refl, sym, ap, ◌∙◌, arith}
 use Rattle.std.specs.List.{position, position_or_len, prefix_len}
 use Rattle.std.proofs.lemmas.List.{length-map}
-use Rattle.trace_line.specs.declared.event.Shown.{Shown}
+use Rattle.trace_line.specs.declared.shown.Shown.{Shown}
 use Rattle.grub_facts.specs.declared.fact.Found.{Found}
 use Rattle.grub_facts.specs.Given.{Task, changed_at, changed_where, first_shown, settled_by}
 use Rattle.grub_facts.specs.Keeping.{finding_text}

@@ -1,6 +1,6 @@
 -- Which SCHED_DEADLINE tasks the lines of a trace show, how often they wake and block, and what notes say that tasks reserve.
 use Rattle.std.specs.Prelude.{◌≡◌, ℕ, Bool, true, ◌+◌, ◌==◌, nat_le, min, List, [], ◌∷◌, ◌++◌, Option, Some, None, is_some, map, if◌then◌else◌}
-use Rattle.trace_line.specs.declared.event.Shown.{Shown}
+use Rattle.trace_line.specs.declared.shown.Shown.{Shown}
 use Rattle.trace_words.specs.declared.fixed.Fixed.{Fixed}
 use Rattle.trace_words.specs.declared.fixed.Fixed.TheVariants.{Woken, Migrated, Switched}
 use Rattle.trace_words.specs.declared.fixed.Stop.{Stop}

@@ -6,7 +6,7 @@ use Rattle.std.specs.List.{starts_with}
 use Rattle.std.specs.Str.{bytes_eq}
 use Rattle.grub_bw.specs.Bandwidth.{Reservation, reservation_fits}
 use Rattle.trace_line.specs.Numbers.{number}
-use Rattle.trace_line.specs.declared.event.Shown.{Shown}
+use Rattle.trace_line.specs.declared.shown.Shown.{Shown}
 use Rattle.trace_words.specs.declared.fixed.Fixed.{Fixed}
 use Rattle.trace_words.specs.declared.fixed.Fixed.TheVariants.{Woken, Migrated, Ran, Switched, TimerStarted, TimerCancelled, TimerFired}
 use Rattle.trace_words.specs.declared.fixed.Stop.{Stop as Stopped}

@@ -1,8 +1,8 @@
 -- What the lines of a trace tell of given tasks and beside them, one after another.
 use Rattle.std.specs.Prelude.{ℕ, Bool, false, ◌&&◌, ◌||◌, ◌==◌, nat_le, nat_lt, ◌+◌, min, max, List, [], Option, Some, None, is_none, option_map, unwrap_or, if◌then◌else◌}
 use Rattle.std.specs.Option.{option_or}
-use Rattle.trace_line.specs.declared.event.Shown.{Shown}
-use Rattle.trace_line.specs.declared.line.TheConstants.{CPUS_MAX}
+use Rattle.trace_line.specs.declared.shown.Shown.{Shown}
+use Rattle.trace_line.specs.declared.opening.TheConstants.{CPUS_MAX}
 use Rattle.trace_words.specs.declared.line.Flaw.TheVariants.{TooLong}
 use Rattle.trace_words.specs.declared.line.Line.{Line}
 use Rattle.trace_words.specs.declared.line.Line.TheVariants as line

@@ -4,7 +4,7 @@ ghost use Rattle.std.specs.Prelude.{◌≡◌, ◌==◌, ◌++◌, ◌∷◌, []
 ghost use Rattle.grub_facts.specs.Census.{Roll, census_step, census_text, note_rolled, roll_first, rolled, seen, shown_rolled, tallied, tallies_text, tally_first, tally_text, tally_with};
 ghost use Rattle.grub_facts.specs.inside.Reports.{maybe_shown};
 ghost use Rattle.grub_facts.specs.inside.Sightings.{sighting_text};
-ghost use Rattle.trace_line.specs.inside.Events.{shown_text};
+ghost use Rattle.trace_line.specs.Shown.{shown_text};
 
 use crate::counted::{Counted, Reserved};
 use crate::given::is_sugov;

@@ -2,7 +2,7 @@
 
 ghost use Rattle.std.specs.Prelude.{◌≡◌, IfOk, OnOk, nat_le, position};
 ghost use Rattle.grub_facts.specs.Census.{tally_first, tally_text, tally_with, with_number};
-ghost use Rattle.trace_line.specs.inside.Events.{shown_text};
+ghost use Rattle.trace_line.specs.Shown.{shown_text};
 ghost use Rattle.grub_facts.specs.inside.Sightings.{sighting_text};
 
 use crate::sighting::Sighting;

@@ -1,7 +1,7 @@
 //! The facts of the given tasks.
 
 ghost use Rattle.std.specs.Prelude.{◌≡◌, ◌++◌, [], IfOk, OnOk, Some, map, option_map};
-ghost use Rattle.trace_line.specs.inside.Events.{shown_text};
+ghost use Rattle.trace_line.specs.Shown.{shown_text};
 ghost use Rattle.grub_facts.specs.Faults.{problem_of};
 ghost use Rattle.grub_facts.specs.inside.Outcomes.{outcome_of};
 ghost use Rattle.grub_facts.specs.Given.{Task, fact_told, given_noted, is_passed, move_trouble, noted_by, problem_of_trouble, reservation_noted, reserving, reserving_problem, tasks_given, trouble_of, trouble_told, wake_trouble, what_told, woken_by};

@@ -1,7 +1,7 @@
 //! What an event shows of a SCHED_DEADLINE task.
 
 ghost use Rattle.std.specs.Prelude.{◌≡◌, option_map};
-ghost use Rattle.trace_line.specs.inside.Events.{shown_text};
+ghost use Rattle.trace_line.specs.Shown.{shown_text};
 ghost use Rattle.grub_facts.specs.Census.{blocks_of, sighting_of};
 ghost use Rattle.grub_facts.specs.inside.Sightings.{sighting_text};
 

@@ -1,7 +1,7 @@
 //! The tasks that were given, and what lines show of them.
 
 ghost use Rattle.std.specs.Prelude.{◌≡◌, ◌<◌, ◌++◌, ◌∷◌, [], IfOk, IfSome, OnOk, if◌then◌else◌, map, option_map, position, vec_len};
-ghost use Rattle.trace_line.specs.inside.Events.{shown_text};
+ghost use Rattle.trace_line.specs.Shown.{shown_text};
 ghost use Rattle.grub_facts.specs.Given.{Task, armed_after, arming, disowned, given_by, has_pid, has_timer, index_of, index_of_comm, index_of_timer, index_shown, index_timed, index_told, is_sugov, seeks, settled, showing, shown_index, task_of_pid, tasks_after, tasks_given};
 ghost use Rattle.grub_facts.specs.Keeping.{finding_text, given_text, tasks_text};
 ghost use Rattle.grub_facts.specs.inside.Reports.{report_text};

@@ -3,8 +3,8 @@ use Rattle.std.specs.Prelude.{ℕ, Bool, ◌||◌, ◌&&◌, ◌==◌, List, [],
 use Rattle.std.specs.Char.{is_ascii_digit}
 use Rattle.trace_line.specs.Numbers.{after}
 use Rattle.trace_line.specs.Words.{cpu_field, deadline_field, number_field, value_of}
-use Rattle.trace_line.specs.Events.{shown_by, task_of}
-use Rattle.trace_line.specs.declared.event.Shown.{Shown}
+use Rattle.trace_line.specs.Shown.{shown_by, task_of}
+use Rattle.trace_line.specs.declared.shown.Shown.{Shown}
 use Rattle.trace_probes.specs.Numerals.{numeral}
 use Rattle.trace_probes.specs.Fields.{timer_function}
 use Rattle.trace_words.specs.declared.fixed.Stop.{Stop}

@@ -5,7 +5,7 @@ use Rattle.grub_text.specs.Lines.{word_of, words_of}
 use Rattle.trace_line.specs.Words.{without_spaces}
 use Rattle.trace_line.specs.Opening.{opening_of, running, running_comm}
 use Rattle.trace_line.specs.Head.{is_comment, is_lost, processors}
-use Rattle.trace_line.specs.declared.event.Shown.{Shown}
+use Rattle.trace_line.specs.declared.shown.Shown.{Shown}
 use Rattle.trace_line.specs.declared.opening.CpuWord.{CpuWord}
 use Rattle.trace_line.specs.declared.opening.Opening.{Opening}
 use Rattle.trace_probes.specs.Shown.{probe_of}

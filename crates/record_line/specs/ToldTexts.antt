@@ -2,7 +2,7 @@
 use Rattle.std.specs.Prelude.{ℕ, List, Option, option_map}
 use Rattle.std.specs.Borrow.{Bor}
 use Rattle.trace_line.specs.Words.{text_of}
-use Rattle.trace_line.specs.inside.Events.{shown_text}
+use Rattle.trace_line.specs.Shown.{shown_text}
 use Rattle.record_line.specs.declared.line.Told.{Told}
 
 abbrev pub maybe_text : Option (Bor (List ℕ)) → Option (List ℕ)

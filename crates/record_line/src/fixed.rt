@@ -3,7 +3,7 @@
 ghost use Rattle.std.specs.Prelude.{◌≡◌, option_map};
 ghost use Rattle.record_line.specs.Fixed.{address, address_field, alone, cancelled, fired, migrated, migrated_with, ran, started, started_deadline, stop_in, stop_of, switched, switched_from, switched_to, woken, woken_with};
 ghost use Rattle.record_line.specs.inside.Texts.{named_text};
-ghost use Rattle.trace_line.specs.inside.Events.{shown_text};
+ghost use Rattle.trace_line.specs.Shown.{shown_text};
 ghost use Rattle.trace_line.specs.Words.{text_of};
 
 use trace_line::{Shown, after, cpu_field, deadline_field, number_field, shown_by, value_of};

@@ -2,6 +2,5 @@ pub mod Numbers
 pub mod Words
 pub mod Opening
 pub mod Head
-pub mod Events
-pub mod Lines
+pub mod Shown
 pub mod inside

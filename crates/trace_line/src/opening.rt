@@ -10,6 +10,9 @@ use crate::decimal::{bracketed, moment, number};
 use crate::spaces::without_spaces;
 use grub_text::first_word;
 
+/// How many CPUs a trace may name, from 0 on, and how many runqueues there may be.
+pub const CPUS_MAX: u32 = 64;
+
 /// The word of a line that names its CPU.
 #[derive(Clone, Copy)]
 pub struct CpuWord {

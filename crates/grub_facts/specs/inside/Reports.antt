@@ -1,8 +1,8 @@
 -- What a line says, by the texts that the slices of the code point to.
 use Rattle.std.specs.Prelude.{ℕ, List, Option, option_map}
 use Rattle.std.specs.Borrow.{Bor}
-use Rattle.trace_line.specs.declared.event.Shown.{Shown}
-use Rattle.trace_line.specs.inside.Events.{shown_text}
+use Rattle.trace_line.specs.declared.shown.Shown.{Shown}
+use Rattle.trace_line.specs.Shown.{shown_text}
 use Rattle.grub_facts.specs.declared.report.Report.{Report}
 
 abbrev pub maybe_shown : Option (Shown (Bor (List ℕ))) → Option (Shown (List ℕ))

@@ -1,6 +1,6 @@
 -- What a line shows of a task, by the texts that the slices of the code point to.
 use Rattle.grub_facts.specs.Census.{Sighting}
-use Rattle.trace_line.specs.inside.Events.{shown_text}
+use Rattle.trace_line.specs.Shown.{shown_text}
 use Rattle.grub_facts.specs.declared.sighting.Sighting.{Sighting as Shows}
 
 abbrev pub sighting_text : Shows → Sighting

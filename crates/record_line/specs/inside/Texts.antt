@@ -1,7 +1,7 @@
 -- The texts that the slices of the code point to.
 use Rattle.std.specs.Prelude.{ℕ, List, option_map}
 use Rattle.std.specs.Borrow.{Bor}
-use Rattle.trace_line.specs.inside.Events.{shown_text}
+use Rattle.trace_line.specs.Shown.{shown_text}
 use Rattle.record_line.specs.declared.fixed.Named.{Named}
 use Rattle.record_line.specs.declared.note.Noted.{Noted}
 use Rattle.record_line.specs.declared.note.Noted.TheVariants.{Quiet, Head, Task, Other, Lost}

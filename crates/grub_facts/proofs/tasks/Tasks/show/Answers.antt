@@ -1,5 +1,5 @@
 use Rattle.std.proofs.Common.{List, sym, ap, ◌∙◌, arith}
-use Rattle.trace_line.specs.inside.Events.{shown_text}
+use Rattle.trace_line.specs.Shown.{shown_text}
 use Rattle.grub_facts.specs.Given.{Task, changed_at, first_shown, settled, shown_index}
 use Rattle.grub_facts.specs.Keeping.{given_text, tasks_text}
 use Rattle.grub_facts.proofs.GivenLemmas.{changed_map, changed_where_some, first_is, later_is}
