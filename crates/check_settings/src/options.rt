@@ -14,7 +14,7 @@ const RECLAIM: u64 = 2;
 
 /// A task that is given: its comm or its pid, and its reservation.
 #[derive(Clone, Copy)]
-pub struct Given<'a> {
+pub struct TaskOption<'a> {
     pub name: &'a str,
     pub parameters: Parameters,
 }
@@ -31,7 +31,7 @@ pub enum Arithmetic {
 
 /// The server of fair tasks that each runqueue has.
 #[derive(Clone, Copy)]
-pub enum FairServer {
+pub enum FairServerOption {
     /// That of the recorded kernel.
     Usual,
     Absent,
@@ -49,13 +49,13 @@ pub struct Range {
 
 /// What is known beside the trace; it stands above the trace's own notes.
 #[derive(Drop)]
-pub struct Options<'a> {
-    pub tasks: Vec<Given<'a>>,
+pub struct CheckOptions<'a> {
+    pub tasks: Vec<TaskOption<'a>>,
 
     /// The CPUs of the root domain, increasing.
     pub domain: Vec<Range>,
     pub limit: Option<Limit>,
-    pub fair: FairServer,
+    pub fair: FairServerOption,
     pub kernel: Option<Kernel>,
 
     /// How far a moment may lie from the kernel's, in nanoseconds.
@@ -121,7 +121,7 @@ fn parameters_of(text: &str, flags: u64) -> Option<Parameters> {
 }
 
 /// The task of `NAME=RUNTIME:PERIOD[:DEADLINE][,norec]`, whose name ends at the last `=`.
-fn given_of(text: &str) -> Option<Given<'_>> {
+fn given_of(text: &str) -> Option<TaskOption<'_>> {
     let (name, reservation) = text.rsplit_once('=')?;
     if name.is_empty() {
         return None;
@@ -130,11 +130,11 @@ fn given_of(text: &str) -> Option<Given<'_>> {
         Some(reservation) => parameters_of(reservation, 0)?,
         None => parameters_of(reservation, RECLAIM)?,
     };
-    Some(Given { name, parameters })
+    Some(TaskOption { name, parameters })
 }
 
 /// Whether a name is among these tasks.
-fn has_name(tasks: &[Given<'_>], name: &str) -> bool {
+fn has_name(tasks: &[TaskOption<'_>], name: &str) -> bool {
     tasks.iter().any(|task| task.name == name)
 }
 
@@ -142,7 +142,7 @@ fn has_name(tasks: &[Given<'_>], name: &str) -> bool {
 fn tasks_of<'a>(
     alloc: Global,
     words: &[&'a str],
-) -> Result<Result<Vec<Given<'a>>, WrongOption<'a>>, AllocError> {
+) -> Result<Result<Vec<TaskOption<'a>>, WrongOption<'a>>, AllocError> {
     let mut tasks = Vec::new(alloc);
     for word in words {
         let Some(task) = given_of(word) else {
@@ -181,12 +181,12 @@ fn limit_of(text: &str) -> Option<Limit> {
     })
 }
 
-fn fair_of(text: &str) -> Option<FairServer> {
+fn fair_of(text: &str) -> Option<FairServerOption> {
     if text == "none" {
-        return Some(FairServer::Absent);
+        return Some(FairServerOption::Absent);
     }
     let parameters = parameters_of(text, 0)?;
-    Some(FairServer::Reserves {
+    Some(FairServerOption::Reserves {
         dl_runtime: parameters.dl_runtime,
         dl_period: parameters.dl_period,
     })
@@ -261,7 +261,7 @@ pub fn domain_of(alloc: Global, text: &str) -> Result<Option<Vec<Range>>, AllocE
 
 /// The words of the options of `grubtrace check`.
 #[derive(Clone, Copy)]
-pub struct Words<'a> {
+pub struct CheckWords<'a> {
     pub tasks: &'a [&'a str],
     pub cpus: Option<u32>,
     pub domain: Option<&'a str>,
@@ -279,7 +279,7 @@ pub struct Words<'a> {
 /// The CPUs of the root domain by `--domain`, else by `--cpus`; none are said where neither is given.
 fn cpus_of<'a>(
     alloc: Global,
-    words: Words<'a>,
+    words: CheckWords<'a>,
 ) -> Result<Result<Vec<Range>, WrongOption<'a>>, AllocError> {
     if let Some(text) = words.domain {
         return match domain_of(alloc, text)? {
@@ -301,7 +301,7 @@ fn cpus_of<'a>(
 }
 
 /// The limit of `--rt`, where it is given.
-fn rt_of<'a>(words: Words<'a>) -> Result<Option<Limit>, WrongOption<'a>> {
+fn rt_of<'a>(words: CheckWords<'a>) -> Result<Option<Limit>, WrongOption<'a>> {
     match words.rt {
         None => Ok(None),
         Some(text) => match limit_of(text) {
@@ -312,7 +312,7 @@ fn rt_of<'a>(words: Words<'a>) -> Result<Option<Limit>, WrongOption<'a>> {
 }
 
 /// The kernel of `--kernel`, where it is given.
-fn version_of<'a>(words: Words<'a>) -> Result<Option<Kernel>, WrongOption<'a>> {
+fn version_of<'a>(words: CheckWords<'a>) -> Result<Option<Kernel>, WrongOption<'a>> {
     match words.kernel {
         None => Ok(None),
         Some(text) => match kernel_of(text) {
@@ -323,9 +323,9 @@ fn version_of<'a>(words: Words<'a>) -> Result<Option<Kernel>, WrongOption<'a>> {
 }
 
 /// The fair server of `--fair-server`, or the kernel's own.
-fn server_of<'a>(words: Words<'a>) -> Result<FairServer, WrongOption<'a>> {
+fn server_of<'a>(words: CheckWords<'a>) -> Result<FairServerOption, WrongOption<'a>> {
     match words.fair {
-        None => Ok(FairServer::Usual),
+        None => Ok(FairServerOption::Usual),
         Some(text) => match fair_of(text) {
             Some(server) => Ok(server),
             None => Err(WrongOption::FairServer(text)),
@@ -336,8 +336,8 @@ fn server_of<'a>(words: Words<'a>) -> Result<FairServer, WrongOption<'a>> {
 /// What the words say, or the first of them that says nothing.
 pub fn options_of<'a>(
     alloc: Global,
-    words: Words<'a>,
-) -> Result<Result<Options<'a>, WrongOption<'a>>, AllocError> {
+    words: CheckWords<'a>,
+) -> Result<Result<CheckOptions<'a>, WrongOption<'a>>, AllocError> {
     let tasks = match tasks_of(alloc, words.tasks)? {
         Ok(tasks) => tasks,
         Err(wrong) => return Ok(Err(wrong)),
@@ -347,7 +347,7 @@ pub fn options_of<'a>(
         Err(wrong) => return Ok(Err(wrong)),
     };
     match (rt_of(words), server_of(words), version_of(words)) {
-        (Ok(limit), Ok(fair), Ok(kernel)) => Ok(Ok(Options {
+        (Ok(limit), Ok(fair), Ok(kernel)) => Ok(Ok(CheckOptions {
             tasks,
             domain,
             limit,

@@ -3,7 +3,7 @@ use Rattle.std.specs.Prelude.{ℕ, ◌-◌, ◌^◌, Bool, true, false, not, ◌
 use Rattle.trace_words.specs.declared.probe.Admitted.{Admitted}
 use Rattle.trace_words.specs.declared.quantities.Parameters.{Parameters}
 use Rattle.deadline_rules.specs.declared.entity.Entity.{Entity}
-use Rattle.deadline_rules.specs.declared.sums.Change.{Change}
+use Rattle.deadline_rules.specs.declared.sums.SumsChange.{SumsChange}
 use Rattle.deadline_rules.specs.declared.flags.TheConstants.{KEPT_FLAGS, DEADLINE_POLICY}
 use Rattle.deadline_rules.specs.Clock.{plus, less, times, ratio_of}
 use Rattle.deadline_rules.specs.Sums.{no_change}
@@ -55,7 +55,7 @@ admitted_of e l Back = enters_of e
 admitted_of e l New = enters_of e
 
 -- this_bw and running_bw of a blocked task, and what the root domain gets back and gives
-abbrev pub admitting_change : Entity → Admitted → ℕ → Admission → Change
+abbrev pub admitting_change : Entity → Admitted → ℕ → Admission → SumsChange
 admitting_change e l new Other = no_change
 admitting_change e l new Refused = no_change
 admitting_change e l new Same = no_change

@@ -1,7 +1,7 @@
 -- A task is dequeued: dequeue_task_dl, dequeue_dl_entity.
 use Rattle.std.specs.Prelude.{ℕ, false, ◌==◌, if◌then◌else◌, Some, None}
 use Rattle.deadline_rules.specs.declared.entity.Entity.{Entity}
-use Rattle.deadline_rules.specs.declared.sums.Change.{Change}
+use Rattle.deadline_rules.specs.declared.sums.SumsChange.{SumsChange}
 use Rattle.deadline_rules.specs.declared.flags.TheConstants.{WAKEUP, RESTORE, MOVING}
 use Rattle.deadline_rules.specs.Clock.{plus, less, contains_bits}
 use Rattle.deadline_rules.specs.Sums.{no_change}
@@ -13,10 +13,10 @@ use Rattle.deadline_events.specs.declared.dequeues.Dequeuing.{Dequeuing}
 unfoldable pub departing_of : ℕ → ℕ → Arrival
 departing_of flags on_rq = if on_rq == MOVING then Moves else (if contains_bits flags RESTORE then Restores else Stays)
 
-abbrev pub gone_with : ℕ → Change
+abbrev pub gone_with : ℕ → SumsChange
 gone_with bw = record { this_bw = less 0 bw; running_bw = less 0 bw; freed = None; taken = None }
 
-unfoldable pub departing_change : Entity → Arrival → Change
+unfoldable pub departing_change : Entity → Arrival → SumsChange
 departing_change e Stays = no_change
 departing_change e Moves = gone_with e.dl_bw
 departing_change e Restores = gone_with e.dl_bw
@@ -24,7 +24,7 @@ departing_change e Restores = gone_with e.dl_bw
 unfoldable pub off_of : Entity → Entity
 off_of e = record e { is_in_tree = false; is_queued = false }
 
-unfoldable pub sleeping_of : Entity → ℕ → Change → Arrival → Dequeuing
+unfoldable pub sleeping_of : Entity → ℕ → SumsChange → Arrival → Dequeuing
 sleeping_of e clock c departure =
     let block = blocking_of e clock in
     let more = blocking_change_of e block in

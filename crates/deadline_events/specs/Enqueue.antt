@@ -3,8 +3,8 @@ use Rattle.std.specs.Prelude.{ℕ, pos, int_le, Bool, true, false, not, ◌&&◌
 use Rattle.std.specs.Int.{int_min}
 use Rattle.trace_words.specs.declared.probe.Enqueued.{Enqueued}
 use Rattle.deadline_rules.specs.declared.entity.Entity.{Entity}
-use Rattle.deadline_rules.specs.declared.charge.Law.{Law}
-use Rattle.deadline_rules.specs.declared.sums.Change.{Change}
+use Rattle.deadline_rules.specs.declared.charge.ChargeLaw.{ChargeLaw}
+use Rattle.deadline_rules.specs.declared.sums.SumsChange.{SumsChange}
 use Rattle.deadline_rules.specs.declared.flags.TheConstants.{WAKEUP, RESTORE, REPLENISH, MOVING}
 use Rattle.deadline_rules.specs.Clock.{plus, less, comes_before, contains_bits}
 use Rattle.deadline_rules.specs.Sums.{no_change}
@@ -17,7 +17,7 @@ use Rattle.deadline_events.specs.declared.enqueues.Arrival.TheVariants.{Stays, M
 use Rattle.deadline_events.specs.declared.enqueues.Refill.{Refill}
 use Rattle.deadline_events.specs.declared.enqueues.Refill.TheVariants.{Waits, Stays as RefillStays, Wakes, Replenishes, Restarts}
 use Rattle.deadline_events.specs.declared.enqueues.Enqueuing.{Enqueuing}
-use Rattle.deadline_events.specs.declared.enqueues.Waking.{Waking}
+use Rattle.deadline_events.specs.declared.enqueues.ZeroLagWake.{ZeroLagWake}
 
 -- whose priority the task has
 unfoldable pub boosting_of : Enqueued → Boost
@@ -57,13 +57,13 @@ constrained_of e b =
 unfoldable pub arriving_of : Enqueued → Arrival
 arriving_of l = if l.on_rq == MOVING then Moves else (if contains_bits l.flags RESTORE then Restores else Stays)
 
-unfoldable pub arriving_change : Entity → Arrival → Change
+unfoldable pub arriving_change : Entity → Arrival → SumsChange
 arriving_change e Stays = no_change
 arriving_change e Moves = record { this_bw = e.dl_bw; running_bw = e.dl_bw; freed = None; taken = None }
 arriving_change e Restores = record { this_bw = e.dl_bw; running_bw = e.dl_bw; freed = None; taken = None }
 
 -- task_contending, where it wakes
-unfoldable pub waking_up_of : Entity → Change → ℕ → Waking
+unfoldable pub waking_up_of : Entity → SumsChange → ℕ → ZeroLagWake
 waking_up_of e c flags =
     if contains_bits flags WAKEUP
     then (let how = contending_of e in
@@ -76,7 +76,7 @@ waking_up_of e c flags =
     else record { entity = e; change = c; contention = None }
 
 -- what happens to budget and deadline (enqueue_dl_entity)
-unfoldable pub refilling_of : Law → Entity → Enqueued → Refill
+unfoldable pub refilling_of : ChargeLaw → Entity → Enqueued → Refill
 refilling_of law e l =
     if e.budget.is_throttled && not (contains_bits l.flags REPLENISH) then Waits
     else (if contains_bits l.flags WAKEUP then Wakes (waking_of law e l.clock)
@@ -103,7 +103,7 @@ ended_of placed boost = record {
   refill = Waits;
 }
 
-abbrev pub entered_of : Law → Entity → Enqueued → Boost → Enqueuing
+abbrev pub entered_of : ChargeLaw → Entity → Enqueued → Boost → Enqueuing
 entered_of law placed l boost =
     let throttled = is_constrained_of placed l.clock in
     let e = constrained_of placed throttled in
@@ -122,10 +122,10 @@ entered_of law placed l boost =
     }
 
 -- the steps of enqueue_task_dl by whose priority the task has; the boost of a task of another class may end
-abbrev pub enqueuing_by : Law → Entity → Enqueued → Boost → Enqueuing
+abbrev pub enqueuing_by : ChargeLaw → Entity → Enqueued → Boost → Enqueuing
 enqueuing_by law e l Ends = ended_of (placed_of e l Ends) Ends
 enqueuing_by law e l Ordinary = entered_of law (placed_of e l Ordinary) l Ordinary
 enqueuing_by law e l Boosted = entered_of law (placed_of e l Boosted) l Boosted
 
-unfoldable pub enqueuing_of : Law → Entity → Enqueued → Enqueuing
+unfoldable pub enqueuing_of : ChargeLaw → Entity → Enqueued → Enqueuing
 enqueuing_of law e l = enqueuing_by law e l (boosting_of l)

@@ -1,7 +1,7 @@
 -- A task leaves the class: switched_from_dl.
 use Rattle.std.specs.Prelude.{ℕ, false, ◌==◌, if◌then◌else◌, Some, None}
 use Rattle.deadline_rules.specs.declared.entity.Entity.{Entity}
-use Rattle.deadline_rules.specs.declared.sums.Change.{Change}
+use Rattle.deadline_rules.specs.declared.sums.SumsChange.{SumsChange}
 use Rattle.deadline_rules.specs.declared.flags.TheConstants.{QUEUED}
 use Rattle.deadline_rules.specs.Clock.{less}
 use Rattle.deadline_rules.specs.Activity.{blocking_of, blocked_of, blocking_change_of}
@@ -13,7 +13,7 @@ outside_of e = record e { is_in_class = false }
 unfoldable pub contends_no_more : Entity → Entity
 contends_no_more e = record e { is_non_contending = false }
 
-unfoldable pub leaving_change : Entity → Change
+unfoldable pub leaving_change : Entity → SumsChange
 leaving_change e = record {
   this_bw = less 0 e.dl_bw;
   running_bw = if e.is_non_contending then less 0 e.dl_bw else 0;

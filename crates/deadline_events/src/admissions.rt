@@ -3,7 +3,7 @@
 ghost use Rattle.std.specs.Prelude.{◌≡◌};
 ghost use Rattle.deadline_events.specs.Admit.{wanted_of, is_queued_of, old_of, is_refused, admission_of, admitting_of, admitted_of, admitting_change, still_of, enters_of};
 
-use deadline_rules::{Change, DEADLINE_POLICY, Entity, KEPT_FLAGS, ratio, reserved, unchanged};
+use deadline_rules::{SumsChange, DEADLINE_POLICY, Entity, KEPT_FLAGS, ratio, reserved, unchanged};
 use trace_words::{Admitted, Parameters};
 
 /// What becomes of the call.
@@ -32,7 +32,7 @@ pub enum Admission {
 #[derive(Clone, Copy)]
 pub struct Admitting {
     pub entity: Entity,
-    pub change: Change,
+    pub change: SumsChange,
     pub admission: Admission,
 }
 
@@ -144,12 +144,12 @@ fn admitted(entity: Entity, line: Admitted, admission: Admission) -> Entity
     }
 }
 
-fn change(entity: Entity, line: Admitted, new: u64, admission: Admission) -> Change
+fn change(entity: Entity, line: Admitted, new: u64, admission: Admission) -> SumsChange
     ensures { result ≡ admitting_change entity line new admission }
 {
     match admission {
         Admission::Other | Admission::Refused | Admission::Same => unchanged(),
-        Admission::Changed => Change {
+        Admission::Changed => SumsChange {
             this_bw: if is_queued(line) {
                 0
             } else {
@@ -163,13 +163,13 @@ fn change(entity: Entity, line: Admitted, new: u64, admission: Admission) -> Cha
             freed: Some(entity.dl_bw),
             taken: Some(new),
         },
-        Admission::Back => Change {
+        Admission::Back => SumsChange {
             this_bw: if is_queued(line) { 0 } else { new },
             running_bw: 0,
             freed: Some(entity.dl_bw),
             taken: Some(new),
         },
-        Admission::New => Change {
+        Admission::New => SumsChange {
             this_bw: if is_queued(line) { 0 } else { new },
             running_bw: 0,
             freed: None,

@@ -3,7 +3,7 @@
 ghost use Rattle.std.specs.Prelude.{◌≡◌};
 ghost use Rattle.deadline_events.specs.Later.{delayed_change_of, after_delayed_of};
 
-use deadline_rules::{Change, Entity};
+use deadline_rules::{SumsChange, Entity};
 
 /// Which function.
 #[derive(Clone, Copy, PartialEq, Eq)]
@@ -16,12 +16,12 @@ pub enum Delayed {
 }
 
 /// What it does to the sums: a bandwidth runs no more only where the entity does not contend.
-pub fn delayed_change(entity: Entity, delayed: Delayed, bw: u64) -> Change
+pub fn delayed_change(entity: Entity, delayed: Delayed, bw: u64) -> SumsChange
     ensures { result ≡ delayed_change_of entity delayed bw }
 {
     let off = 0u64.wrapping_sub(bw);
     let stopped = if entity.is_non_contending { off } else { 0 };
-    Change {
+    SumsChange {
         this_bw: match delayed {
             Delayed::Moved => off,
             Delayed::ZeroLag => { if entity.is_dead { stopped } else { 0 } }

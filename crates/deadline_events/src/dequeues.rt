@@ -5,7 +5,7 @@ ghost use Rattle.deadline_events.specs.Dequeue.{departing_of, departing_change, 
 
 use crate::enqueues::Arrival;
 use deadline_rules::{
-    Block, Change, Entity, MOVING, RESTORE, WAKEUP, blocked, blocking, blocking_change, has,
+    Block, SumsChange, Entity, MOVING, RESTORE, WAKEUP, blocked, blocking, blocking_change, has,
     unchanged,
 };
 
@@ -13,7 +13,7 @@ use deadline_rules::{
 #[derive(Clone, Copy)]
 pub struct Dequeuing {
     pub entity: Entity,
-    pub change: Change,
+    pub change: SumsChange,
     pub departure: Arrival,
     pub block: Option<Block>,
 }
@@ -32,12 +32,12 @@ fn departing(flags: u64, on_rq: u64) -> Arrival
 }
 
 #[tactic(auto, unfolding(crate::specs::Dequeue::departing_change))]
-fn departure_change(entity: Entity, departure: Arrival) -> Change
+fn departure_change(entity: Entity, departure: Arrival) -> SumsChange
     ensures { result ≡ departing_change entity departure }
 {
     match departure {
         Arrival::Stays => unchanged(),
-        Arrival::Moves | Arrival::Restores => Change {
+        Arrival::Moves | Arrival::Restores => SumsChange {
             this_bw: 0u64.wrapping_sub(entity.dl_bw),
             running_bw: 0u64.wrapping_sub(entity.dl_bw),
             freed: None,
@@ -47,14 +47,14 @@ fn departure_change(entity: Entity, departure: Arrival) -> Change
 }
 
 #[tactic(auto, unfolding(crate::specs::Dequeue::sleeping_of))]
-fn sleeping(entity: Entity, clock: u64, change: Change, departure: Arrival) -> Dequeuing
+fn sleeping(entity: Entity, clock: u64, change: SumsChange, departure: Arrival) -> Dequeuing
     ensures { result ≡ sleeping_of entity clock change departure }
 {
     let block = blocking(entity, clock);
     let more = blocking_change(entity, block);
     Dequeuing {
         entity: blocked(entity, block),
-        change: Change {
+        change: SumsChange {
             this_bw: change.this_bw.wrapping_add(more.this_bw),
             running_bw: change.running_bw.wrapping_add(more.running_bw),
             freed: more.freed,

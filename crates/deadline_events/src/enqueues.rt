@@ -4,7 +4,7 @@ ghost use Rattle.std.specs.Prelude.{◌≡◌};
 ghost use Rattle.deadline_events.specs.Enqueue.{boosting_of, placed_of, is_constrained_of, constrained_of, arriving_of, arriving_change, waking_up_of, refilling_of, refilled_of, enqueuing_of};
 
 use deadline_rules::{
-    Change, Contention, Entity, Law, MIGRATED, MOVING, REPLENISH, RESTORE, WAKEUP, Wake, contended,
+    SumsChange, Contention, Entity, ChargeLaw, MIGRATED, MOVING, REPLENISH, RESTORE, WAKEUP, Wake, contended,
     contending, contending_change, has, has_timer_ahead, is_before, renewed, replenished,
     unchanged, waking, woken,
 };
@@ -55,7 +55,7 @@ pub enum Refill {
 #[derive(Clone, Copy)]
 pub struct Enqueuing {
     pub entity: Entity,
-    pub change: Change,
+    pub change: SumsChange,
     pub boost: Boost,
 
     /// Its deadline is before its period, and between the two it is throttled (`dl_check_constrained_dl`).
@@ -70,9 +70,9 @@ pub struct Enqueuing {
 
 /// What a wake does to the 0-lag state.
 #[derive(Clone, Copy)]
-struct Waking {
+struct ZeroLagWake {
     entity: Entity,
-    change: Change,
+    change: SumsChange,
     contention: Option<Contention>,
 }
 
@@ -177,12 +177,12 @@ fn arriving(line: Enqueued) -> Arrival
 }
 
 #[tactic(auto, unfolding(crate::specs::Enqueue::arriving_change))]
-fn arrival_change(entity: Entity, arrival: Arrival) -> Change
+fn arrival_change(entity: Entity, arrival: Arrival) -> SumsChange
     ensures { result ≡ arriving_change entity arrival }
 {
     match arrival {
         Arrival::Stays => unchanged(),
-        Arrival::Moves | Arrival::Restores => Change {
+        Arrival::Moves | Arrival::Restores => SumsChange {
             this_bw: entity.dl_bw,
             running_bw: entity.dl_bw,
             freed: None,
@@ -192,15 +192,15 @@ fn arrival_change(entity: Entity, arrival: Arrival) -> Change
 }
 
 #[tactic(auto, unfolding(crate::specs::Enqueue::waking_up_of))]
-fn waking_up(entity: Entity, change: Change, flags: u64) -> Waking
+fn waking_up(entity: Entity, change: SumsChange, flags: u64) -> ZeroLagWake
     ensures { result ≡ waking_up_of entity change flags }
 {
     if has(flags, WAKEUP) {
         let contention = contending(entity);
         let more = contending_change(entity, flags, contention);
-        Waking {
+        ZeroLagWake {
             entity: contended(entity, contention),
-            change: Change {
+            change: SumsChange {
                 this_bw: change.this_bw.wrapping_add(more.this_bw),
                 running_bw: change.running_bw.wrapping_add(more.running_bw),
                 ..change
@@ -208,7 +208,7 @@ fn waking_up(entity: Entity, change: Change, flags: u64) -> Waking
             contention: Some(contention),
         }
     } else {
-        Waking {
+        ZeroLagWake {
             entity,
             change,
             contention: None,
@@ -217,7 +217,7 @@ fn waking_up(entity: Entity, change: Change, flags: u64) -> Waking
 }
 
 #[tactic(auto, unfolding(crate::specs::Enqueue::refilling_of))]
-fn refilling(law: Law, entity: Entity, line: Enqueued) -> Refill
+fn refilling(law: ChargeLaw, entity: Entity, line: Enqueued) -> Refill
     ensures { result ≡ refilling_of law entity line }
 {
     if entity.budget.is_throttled && !has(line.flags, REPLENISH) {
@@ -263,7 +263,7 @@ fn refilled(entity: Entity, clock: u64, refill: Refill) -> Entity
 
 /// What an enqueue does to an entity that has the values of the line (`enqueue_task_dl`, `enqueue_dl_entity`).
 #[tactic(auto, unfolding(crate::specs::Enqueue::enqueuing_of))]
-pub fn enqueue(law: Law, entity: Entity, line: Enqueued) -> Enqueuing
+pub fn enqueue(law: ChargeLaw, entity: Entity, line: Enqueued) -> Enqueuing
     ensures { result ≡ enqueuing_of law entity line }
 {
     let boost = boosting(line);

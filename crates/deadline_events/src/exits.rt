@@ -3,13 +3,13 @@
 ghost use Rattle.std.specs.Prelude.{◌≡◌};
 ghost use Rattle.deadline_events.specs.Leave.{leaving_of, outside_of, contends_no_more, leaving_change};
 
-use deadline_rules::{Block, Change, Entity, QUEUED, blocked, blocking, blocking_change};
+use deadline_rules::{Block, SumsChange, Entity, QUEUED, blocked, blocking, blocking_change};
 
 /// What leaving does.
 #[derive(Clone, Copy)]
 pub struct Leaving {
     pub entity: Entity,
-    pub change: Change,
+    pub change: SumsChange,
     pub block: Option<Block>,
 }
 
@@ -34,11 +34,11 @@ fn settled(entity: Entity) -> Entity
 }
 
 #[tactic(auto, unfolding(crate::specs::Leave::leaving_change))]
-fn change(entity: Entity) -> Change
+fn change(entity: Entity) -> SumsChange
     ensures { result ≡ leaving_change entity }
 {
     let off = 0u64.wrapping_sub(entity.dl_bw);
-    Change {
+    SumsChange {
         this_bw: off,
         running_bw: if entity.is_non_contending { off } else { 0 },
         freed: None,

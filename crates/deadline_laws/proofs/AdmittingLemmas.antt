@@ -2,7 +2,7 @@
 use Rattle.std.proofs.Common.{◌≡◌, ℕ, ◌+◌, ◌^◌, ◌<◌, zero, suc, List, [], ◌∷◌, Some, None, slice_get, slice_set, ap, sym, ◌∙◌, refl, arith}
 use Rattle.std.proofs.lemmas.Option.{none-some, same_Some}
 use Rattle.deadline_rules.specs.Clock.{plus, less}
-use Rattle.timer_rules.specs.declared.task.Task.{Task}
+use Rattle.timer_rules.specs.declared.task.DeadlineTask.{DeadlineTask}
 use Rattle.timer_rules.specs.Effects.{task_share_of}
 use Rattle.deadline_timers.specs.Places.{taken_after}
 use Rattle.deadline_timers.specs.States.{State, replaced}
@@ -14,11 +14,11 @@ here x y rest hx hy hr = omega arith
 there : (x y z rest after : ℕ) → after ≡ plus (less rest y) z → plus x after ≡ plus (less (plus x rest) y) z
 there x y z rest after e = omega arith
 
-pub total_below : (ts : List Task) (cpus : ℕ) → total_share ts cpus < 2 ^ 64
+pub total_below : (ts : List DeadlineTask) (cpus : ℕ) → total_share ts cpus < 2 ^ 64
 total_below [] cpus = omega arith
 total_below (t ∷ ts) cpus = omega arith
 
-pub total_set : (ts : List Task) (n : ℕ) (before t : Task) (cpus : ℕ)
+pub total_set : (ts : List DeadlineTask) (n : ℕ) (before t : DeadlineTask) (cpus : ℕ)
     → slice_get ts n ≡ Some before → Fits before cpus → Fits t cpus
     → total_share (slice_set ts n t) cpus ≡ plus (less (total_share ts cpus) (task_share_of before cpus)) (task_share_of t cpus)
 total_set [] n before t cpus e hb ht = absurd (none-some before e)
@@ -27,7 +27,7 @@ total_set (x ∷ xs) zero before t cpus e hb ht =
 total_set (x ∷ xs) (suc n) before t cpus e hb ht =
     there (task_share_of x cpus) (task_share_of before cpus) (task_share_of t cpus) (total_share xs cpus) (total_share (slice_set xs n t) cpus) (total_set xs n before t cpus e hb ht)
 
-pub taken_stays : (n : ℕ) (before t : Task) (m : State) → TakenStays n before t m
+pub taken_stays : (n : ℕ) (before t : DeadlineTask) (m : State) → TakenStays n before t m
 unfolding replaced
 taken_stays n before t m e hb ht h =
     rw e (rw h (sym (total_set m.tasks n before t m.terms.setup.cpus e hb ht)))

@@ -1,7 +1,7 @@
 -- An enqueue balances.
 use Rattle.std.proofs.Common.{◌≡◌, ℕ, ◌^◌, ◌<◌, ◌==◌, Bool, true, false, not, if◌then◌else◌, arith, refl, sym, ◌∙◌}
 use Rattle.deadline_rules.specs.declared.entity.Entity.{Entity}
-use Rattle.deadline_rules.specs.declared.charge.Law.{Law}
+use Rattle.deadline_rules.specs.declared.charge.ChargeLaw.{ChargeLaw}
 use Rattle.deadline_rules.specs.declared.flags.TheConstants.{WAKEUP, RESTORE, MIGRATED, MOVING}
 use Rattle.deadline_rules.specs.declared.budget.Wake.TheVariants.{Kept, Revised, Renewed}
 use Rattle.deadline_rules.specs.Clock.{plus, contains_bits}
@@ -69,7 +69,7 @@ wakes_up x flags h r w false n = record {
   bw = rw w (rw r (rw n refl));
 }
 
-wake_enters : (law : Law) (e : Entity) (l : Enqueued) (x : Entity) → x.dl_bw ≡ e.dl_bw → x.is_non_contending ≡ e.is_non_contending → WakesUp x l.flags
+wake_enters : (law : ChargeLaw) (e : Entity) (l : Enqueued) (x : Entity) → x.dl_bw ≡ e.dl_bw → x.is_non_contending ≡ e.is_non_contending → WakesUp x l.flags
     → Balances e (waking_place (contains_bits l.flags MIGRATED) e.is_non_contending) (waking_up_of x no_change l.flags).change
     (refilled_of (waking_up_of x no_change l.flags).entity l.clock (refilling_of law (waking_up_of x no_change l.flags).entity l)) active
 wake_enters law e l x same_bw same_non w =
@@ -128,7 +128,7 @@ comes_up e l o boost w =
     let r : ((coming e l boost).parameters.dl_runtime == 0) ≡ false = rw (con_runtime (placed_of e l boost) (is_constrained_of (placed_of e l boost) l.clock) ∙ place_runtime e l boost) o.reserved in
     wakes_up (coming e l boost) l.flags h r w _ refl
 
-waking_by : (law : Law) (e : Entity) (l : Enqueued) (o : IsEnqueue e l) (boost : Boost) → (boost ≡ Ends → ⊥) → contains_bits l.flags WAKEUP ≡ true
+waking_by : (law : ChargeLaw) (e : Entity) (l : Enqueued) (o : IsEnqueue e l) (boost : Boost) → (boost ≡ Ends → ⊥) → contains_bits l.flags WAKEUP ≡ true
     → contains_bits l.flags RESTORE ≡ false → (l.on_rq == MOVING) ≡ false
     → Balances e (waking_place (contains_bits l.flags MIGRATED) e.is_non_contending) (enqueuing_by law e l boost).change (enqueuing_by law e l boost).entity active
 unfolding arriving_of arriving_change
@@ -138,7 +138,7 @@ waking_by law e l o Ordinary bad w s m =
 waking_by law e l o Boosted bad w s m =
     rw m (rw s (wake_enters law e l (coming e l Boosted) (coming_bw e l Boosted) (coming_non e l Boosted) (comes_up e l o Boosted w)))
 
-pub wake_balances : (law : Law) (e : Entity) (l : Enqueued) → WakeBalances law e l
+pub wake_balances : (law : ChargeLaw) (e : Entity) (l : Enqueued) → WakeBalances law e l
 unfolding enqueuing_of
 wake_balances law e l o w s m = waking_by law e l o (boosting_of l) o.ordinary w s m
 
@@ -149,10 +149,10 @@ stays : (bw : ℕ) → bw < 2 ^ 64 → plus bw 0 ≡ bw
 stays bw h = omega arith
 
 -- the task in the tree keeps its bandwidth
-in_tree : (law : Law) (e : Entity) (l : Enqueued) (boost : Boost) → (refilled_of (coming e l boost) l.clock (refilling_of law (coming e l boost) l)).dl_bw ≡ e.dl_bw
+in_tree : (law : ChargeLaw) (e : Entity) (l : Enqueued) (boost : Boost) → (refilled_of (coming e l boost) l.clock (refilling_of law (coming e l boost) l)).dl_bw ≡ e.dl_bw
 in_tree law e l boost = refill_keeps _ l.clock _ ∙ coming_bw e l boost
 
-restoring_by : (law : Law) (e : Entity) (l : Enqueued) (o : IsEnqueue e l) (boost : Boost) (a : Arrival) → (boost ≡ Ends → ⊥) → (a ≡ Stays → ⊥) → arriving_of l ≡ a
+restoring_by : (law : ChargeLaw) (e : Entity) (l : Enqueued) (o : IsEnqueue e l) (boost : Boost) (a : Arrival) → (boost ≡ Ends → ⊥) → (a ≡ Stays → ⊥) → arriving_of l ≡ a
     → contains_bits l.flags WAKEUP ≡ false
     → Balances e away (enqueuing_by law e l boost).change (enqueuing_by law e l boost).entity active
 unfolding arriving_change waking_up_of
@@ -167,11 +167,11 @@ restoring_by law e l o Boosted Moves bad some is w =
 restoring_by law e l o Boosted Restores bad some is w =
     rw is (rw w (record { this = rw (in_tree law e l Boosted) (rw (coming_bw e l Boosted) (all e.dl_bw o.fits)); running = rw (in_tree law e l Boosted) (rw (coming_bw e l Boosted) (all e.dl_bw o.fits)) }))
 
-pub restore_balances : (law : Law) (e : Entity) (l : Enqueued) → RestoreBalances law e l
+pub restore_balances : (law : ChargeLaw) (e : Entity) (l : Enqueued) → RestoreBalances law e l
 unfolding enqueuing_of
 restore_balances law e l o w some = restoring_by law e l o (boosting_of l) (arriving_of l) o.ordinary some refl w
 
-replenishing_by : (law : Law) (e : Entity) (l : Enqueued) (o : IsEnqueue e l) (boost : Boost) → (boost ≡ Ends → ⊥) → arriving_of l ≡ Stays
+replenishing_by : (law : ChargeLaw) (e : Entity) (l : Enqueued) (o : IsEnqueue e l) (boost : Boost) → (boost ≡ Ends → ⊥) → arriving_of l ≡ Stays
     → contains_bits l.flags WAKEUP ≡ false
     → Balances e active (enqueuing_by law e l boost).change (enqueuing_by law e l boost).entity active
 unfolding arriving_change waking_up_of
@@ -181,6 +181,6 @@ replenishing_by law e l o Ordinary bad is w =
 replenishing_by law e l o Boosted bad is w =
     rw is (rw w (record { this = rw (in_tree law e l Boosted) (stays e.dl_bw o.fits); running = rw (in_tree law e l Boosted) (stays e.dl_bw o.fits) }))
 
-pub replenish_balances : (law : Law) (e : Entity) (l : Enqueued) → ReplenishBalances law e l
+pub replenish_balances : (law : ChargeLaw) (e : Entity) (l : Enqueued) → ReplenishBalances law e l
 unfolding enqueuing_of
 replenish_balances law e l o w is = replenishing_by law e l o (boosting_of l) o.ordinary is w

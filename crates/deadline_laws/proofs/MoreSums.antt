@@ -4,7 +4,7 @@ use Rattle.std.proofs.Math.Nat.{mod-lt, div-le_self}
 use Rattle.trace_words.specs.declared.quantities.Sums.{Sums}
 use Rattle.trace_words.specs.declared.probe.Admitted.{Admitted}
 use Rattle.deadline_rules.specs.declared.entity.Entity.{Entity}
-use Rattle.deadline_rules.specs.declared.sums.Change.{Change}
+use Rattle.deadline_rules.specs.declared.sums.SumsChange.{SumsChange}
 use Rattle.deadline_rules.specs.declared.flags.TheConstants.{QUEUED}
 use Rattle.deadline_rules.specs.declared.activity.Block.{Block}
 use Rattle.deadline_rules.specs.declared.activity.Block.TheVariants.{Unreserved, ZeroLagTimer, Past}
@@ -36,7 +36,7 @@ running_stays : (before : List Standing) (one after : Standing) (ss : List Stand
 running_stays [] one after ss c h = joined _ _ c (total_running ss) h
 running_stays (s ∷ before) one after ss c h = behind _ _ _ c (running_stays before one after ss c h)
 
-pub sums_stay : (before : List Standing) (one : Standing) (ss : List Standing) (sums : Sums) (change : Change) (after : Standing) → SumsStay before one ss sums change after
+pub sums_stay : (before : List Standing) (one : Standing) (ss : List Standing) (sums : Sums) (change : SumsChange) (after : Standing) → SumsStay before one ss sums change after
 sums_stay before one ss sums change after are b = record {
   this = rw are.this (this_stays before one after ss change.this_bw b.this);
   running = rw are.running (running_stays before one after ss change.running_bw b.running);

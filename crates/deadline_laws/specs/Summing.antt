@@ -1,8 +1,8 @@
 -- What an event does to the sums of a runqueue, and what its entity adds to them before and after.
 use Rattle.std.specs.Prelude.{ℕ, ◌≡◌, ◌^◌, ◌<◌, Bool, true, false, not, ◌==◌, if◌then◌else◌, List, [], ◌∷◌, ◌++◌}
 use Rattle.deadline_rules.specs.declared.entity.Entity.{Entity}
-use Rattle.deadline_rules.specs.declared.sums.Change.{Change}
-use Rattle.deadline_rules.specs.declared.charge.Law.{Law}
+use Rattle.deadline_rules.specs.declared.sums.SumsChange.{SumsChange}
+use Rattle.deadline_rules.specs.declared.charge.ChargeLaw.{ChargeLaw}
 use Rattle.trace_words.specs.declared.probe.Enqueued.{Enqueued}
 use Rattle.deadline_rules.specs.declared.flags.TheConstants.{WAKEUP, RESTORE, MIGRATED, MOVING, QUEUED}
 use Rattle.deadline_rules.specs.declared.activity.Block.{Block}
@@ -46,7 +46,7 @@ abbrev pub blocked_place : Bool → Place
 blocked_place non_contending = record { in_this = true; in_running = non_contending }
 
 -- the sums change by what the entity adds after the event less what it added before, modulo 2 ^ 64
-pub record Balances (before : Entity) (was : Place) (change : Change) (after : Entity) (is : Place) : Type 0 where
+pub record Balances (before : Entity) (was : Place) (change : SumsChange) (after : Entity) (is : Place) : Type 0 where
   pub this : plus (counted was.in_this before.dl_bw) change.this_bw ≡ counted is.in_this after.dl_bw
   pub running : plus (counted was.in_running before.dl_bw) change.running_bw ≡ counted is.in_running after.dl_bw
 
@@ -95,20 +95,20 @@ abbrev pub waking_place : Bool → Bool → Place
 waking_place migrated non_contending = record { in_this = not migrated; in_running = non_contending }
 
 -- enqueue_task_dl with ENQUEUE_WAKEUP: a blocked task is active; one that moved here was counted elsewhere
-abbrev pub WakeBalances : Law → Entity → Enqueued → Type 0
+abbrev pub WakeBalances : ChargeLaw → Entity → Enqueued → Type 0
 WakeBalances law e l =
     IsEnqueue e l → contains_bits l.flags WAKEUP ≡ true → contains_bits l.flags RESTORE ≡ false → (l.on_rq == MOVING) ≡ false
     → let d = enqueuing_of law e l in
     Balances e (waking_place (contains_bits l.flags MIGRATED) e.is_non_contending) d.change d.entity active
 
 -- enqueue_task_dl with ENQUEUE_RESTORE, or from another runqueue: counted here from now on
-abbrev pub RestoreBalances : Law → Entity → Enqueued → Type 0
+abbrev pub RestoreBalances : ChargeLaw → Entity → Enqueued → Type 0
 RestoreBalances law e l =
     IsEnqueue e l → contains_bits l.flags WAKEUP ≡ false → (arriving_of l ≡ Stays → ⊥)
     → let d = enqueuing_of law e l in Balances e away d.change d.entity active
 
 -- any other enqueue, as a replenishment: counted as before
-abbrev pub ReplenishBalances : Law → Entity → Enqueued → Type 0
+abbrev pub ReplenishBalances : ChargeLaw → Entity → Enqueued → Type 0
 ReplenishBalances law e l =
     IsEnqueue e l → contains_bits l.flags WAKEUP ≡ false → arriving_of l ≡ Stays
     → let d = enqueuing_of law e l in Balances e active d.change d.entity active
@@ -156,7 +156,7 @@ pub record AreSums (sums : Sums) (standing : List Standing) : Type 0 where
   pub running : sums.running_bw ≡ total_running standing
 
 -- they stay so at an event of one entity that balances
-abbrev pub SumsStay : List Standing → Standing → List Standing → Sums → Change → Standing → Type 0
+abbrev pub SumsStay : List Standing → Standing → List Standing → Sums → SumsChange → Standing → Type 0
 SumsStay before one behind sums change after =
     AreSums sums (before ++ one ∷ behind) → Balances one.entity one.place change after.entity after.place
     → AreSums (changed_of sums change) (before ++ after ∷ behind)

@@ -1,7 +1,7 @@
 -- How the test of a wake rounds: dl_entity_overflow drops ten bits of each factor, the documentation none.
 use Rattle.std.specs.Prelude.{ℕ, pos, ◌≡◌, ◌+◌, ◌*◌, ◌^◌, ◌<◌, ◌≤◌, true, false}
 use Rattle.trace_words.specs.declared.quantities.Donor.{Donor}
-use Rattle.deadline_rules.specs.declared.charge.Law.TheVariants.{LinuxFrom65, Documentation}
+use Rattle.deadline_rules.specs.declared.charge.ChargeLaw.TheVariants.{LinuxFrom65, Documentation}
 use Rattle.deadline_rules.specs.Budget.{overflows_by}
 
 -- a budget, a span to the deadline and a reservation, each below 18 minutes

@@ -3,9 +3,9 @@
 ghost use Rattle.std.specs.Prelude.{ℕ, List};
 ghost use Rattle.trace_words.specs.declared.quantities.Sums.{Sums};
 ghost use Rattle.trace_words.specs.declared.probe.Admitted.{Admitted};
-ghost use Rattle.deadline_rules.specs.declared.sums.Change.{Change};
+ghost use Rattle.deadline_rules.specs.declared.sums.SumsChange.{SumsChange};
 ghost use Rattle.deadline_rules.specs.declared.entity.Entity.{Entity};
-ghost use Rattle.deadline_rules.specs.declared.charge.Law.{Law};
+ghost use Rattle.deadline_rules.specs.declared.charge.ChargeLaw.{ChargeLaw};
 ghost use Rattle.trace_words.specs.declared.probe.Enqueued.{Enqueued};
 ghost use Rattle.deadline_laws.specs.Summing.{SleepBalances, SaveBalances, MoveBalances, ZeroLagBalances, WakeBalances, RestoreBalances, ReplenishBalances, LeaveBalances, AdmissionBalances, Standing, SumsStay};
 
@@ -33,23 +33,23 @@ pub fn sleeps_balance()
 
 /// A blocked task that wakes is active.
 pub fn wakes_balance()
-    ensures { (law : Law) → (e : Entity) → (l : Enqueued) → WakeBalances law e l }
+    ensures { (law : ChargeLaw) → (e : Entity) → (l : Enqueued) → WakeBalances law e l }
 {}
 
 /// A task that is restored, or comes from another runqueue, is counted here from now on.
 pub fn restores_balance()
-    ensures { (law : Law) → (e : Entity) → (l : Enqueued) → RestoreBalances law e l }
+    ensures { (law : ChargeLaw) → (e : Entity) → (l : Enqueued) → RestoreBalances law e l }
 {}
 
 /// Any other enqueue of a task, as at its replenishment, leaves the sums.
 pub fn replenishments_balance()
-    ensures { (law : Law) → (e : Entity) → (l : Enqueued) → ReplenishBalances law e l }
+    ensures { (law : ChargeLaw) → (e : Entity) → (l : Enqueued) → ReplenishBalances law e l }
 {}
 
 /// Where this_bw and running_bw are the sums over what stands on a runqueue, they stay so at each event that balances.
 pub fn sums_stay()
     ensures { (before : List Standing) → (one : Standing) → (behind : List Standing)
-        → (sums : Sums) → (change : Change) → (after : Standing)
+        → (sums : Sums) → (change : SumsChange) → (after : Standing)
         → SumsStay before one behind sums change after }
 {}
 

@@ -1,17 +1,17 @@
 //! A reservation is asked for (`sched_dl_overflow`).
 
-use crate::player::Player;
+use crate::player::ProbePlayer;
 use crate::shown::known_admitted;
 use deadline_events::Admission;
 use deadline_rules::DEADLINE_POLICY;
-use exact_words::{Place, Rule};
+use exact_words::{ProbedLine, ExactRule};
 use machine_state::{Actor, why};
 use rule_changes::admit_by;
 use std::alloc::AllocError;
 use trace_words::Admitted;
 
-impl Player {
-    pub(crate) fn admitted(&mut self, place: Place, line: Admitted) -> Result<(), AllocError> {
+impl ProbePlayer {
+    pub(crate) fn admitted(&mut self, place: ProbedLine, line: Admitted) -> Result<(), AllocError> {
         if line.policy != DEADLINE_POLICY {
             return Ok(());
         }
@@ -40,7 +40,7 @@ impl Player {
             Some(rule) => {
                 self.state.sheet.note(rule);
                 self.state.keep_actor(Actor {
-                    why: if matches!(rule, Rule::Refused) {
+                    why: if matches!(rule, ExactRule::Refused) {
                         after.why
                     } else {
                         why(place, rule)
@@ -53,12 +53,12 @@ impl Player {
     }
 }
 
-fn admission_rule(admission: Admission) -> Option<Rule> {
+fn admission_rule(admission: Admission) -> Option<ExactRule> {
     match admission {
         Admission::Other | Admission::Same => None,
-        Admission::Refused => Some(Rule::Refused),
-        Admission::Changed => Some(Rule::BandwidthChanged),
-        Admission::Back => Some(Rule::BackBeforeZeroLag),
-        Admission::New => Some(Rule::Admitted),
+        Admission::Refused => Some(ExactRule::Refused),
+        Admission::Changed => Some(ExactRule::BandwidthChanged),
+        Admission::Back => Some(ExactRule::BackBeforeZeroLag),
+        Admission::New => Some(ExactRule::Admitted),
     }
 }

@@ -3,12 +3,12 @@
 ghost use Rattle.std.specs.Prelude.{◌≡◌};
 ghost use Rattle.deadline_machine.specs.inside.Shown.{awaits_by};
 
-use crate::player::Player;
+use crate::player::ProbePlayer;
 use crate::shown::{shown_dequeued, shown_left};
 use crate::waiting::{Awaited, Blind, Duty, Rest};
 use deadline_events::{Arrival, Delayed};
-use deadline_rules::{Block, Change, REPLENISH, has};
-use exact_words::{Place, Rule};
+use deadline_rules::{Block, SumsChange, REPLENISH, has};
+use exact_words::{ProbedLine, ExactRule};
 use machine_state::{Actor, Runs, compare_dequeued, compare_left, forgotten, why};
 use rule_changes::{dequeue_by, leave_by};
 use std::alloc::AllocError;
@@ -17,8 +17,8 @@ use trace_words::{Dequeued, LeftClass, Migrating, Probe, TimerFunction};
 /// TASK_WAKING.
 const WAKING: u64 = 0x200;
 
-impl Player {
-    pub(crate) fn dequeued(&mut self, place: Place, line: Dequeued) -> Result<(), AllocError> {
+impl ProbePlayer {
+    pub(crate) fn dequeued(&mut self, place: ProbedLine, line: Dequeued) -> Result<(), AllocError> {
         self.state.take_sums(place, line.cpu, line.sums)?;
         let found = self.state.task(line.pid);
         let actor = self.state.with_alternative(found, line.budget.runtime);
@@ -46,7 +46,7 @@ impl Player {
     /// Ends the rest of a dequeue that waits on this CPU for another line than this. True where it waits for this one.
     pub(crate) fn end_other_rest(
         &mut self,
-        place: Place,
+        place: ProbedLine,
         probe: &Probe,
     ) -> Result<bool, AllocError> {
         match self.rest(place.cpu) {
@@ -72,7 +72,7 @@ impl Player {
     }
 
     /// The rest of a dequeue, after the charge in it (`dequeue_dl_entity`).
-    pub(crate) fn finish_rest(&mut self, place: Place) -> Result<(), AllocError> {
+    pub(crate) fn finish_rest(&mut self, place: ProbedLine) -> Result<(), AllocError> {
         let by = place.cpu;
         match self.rest(by) {
             None => Ok(()),
@@ -90,7 +90,7 @@ impl Player {
 
     pub(crate) fn dequeue_blindly(
         &mut self,
-        place: Place,
+        place: ProbedLine,
         rest: Rest,
         actor: Actor,
     ) -> Result<(), AllocError> {
@@ -116,7 +116,7 @@ impl Player {
 
     pub(crate) fn dequeue_rest(
         &mut self,
-        place: Place,
+        place: ProbedLine,
         rest: Rest,
         actor: Actor,
     ) -> Result<(), AllocError> {
@@ -131,12 +131,12 @@ impl Player {
         match done.departure {
             Arrival::Stays => {}
             Arrival::Moves => {
-                self.state.sheet.note(Rule::MovedOut);
-                self.state.note_runqueue(place, rest.cpu, Rule::MovedOut)?;
+                self.state.sheet.note(ExactRule::MovedOut);
+                self.state.note_runqueue(place, rest.cpu, ExactRule::MovedOut)?;
             }
             Arrival::Restores => {
-                self.state.sheet.note(Rule::Saved);
-                self.state.note_runqueue(place, rest.cpu, Rule::Saved)?;
+                self.state.sheet.note(ExactRule::Saved);
+                self.state.note_runqueue(place, rest.cpu, ExactRule::Saved)?;
             }
         }
         let after = Actor {
@@ -152,11 +152,11 @@ impl Player {
     /// Keeps an entity that blocked, with the timer that is to be armed.
     pub(crate) fn keep_blocked(
         &mut self,
-        place: Place,
+        place: ProbedLine,
         actor: Actor,
         cpu: u32,
         block: Block,
-        change: Change,
+        change: SumsChange,
     ) -> Result<(), AllocError> {
         match block {
             Block::Unreserved => self.state.keep_actor(actor),
@@ -168,16 +168,16 @@ impl Player {
                     zero_lag: Some(zero_lag),
                     at: place.at,
                 })?;
-                self.state.keep_noted(place, actor, cpu, Rule::ZeroLagArmed)
+                self.state.keep_noted(place, actor, cpu, ExactRule::ZeroLagArmed)
             }
             Block::Past => {
-                self.state.keep_noted(place, actor, cpu, Rule::ZeroLagPast)?;
+                self.state.keep_noted(place, actor, cpu, ExactRule::ZeroLagPast)?;
                 self.state.change_extra(place, actor.cpu, change)
             }
         }
     }
 
-    pub(crate) fn migrating(&mut self, place: Place, line: Migrating) -> Result<(), AllocError> {
+    pub(crate) fn migrating(&mut self, place: ProbedLine, line: Migrating) -> Result<(), AllocError> {
         if line.state != WAKING {
             return Ok(());
         }
@@ -191,19 +191,19 @@ impl Player {
         }
         self.state.delay(place, &actor, Delayed::Moved)?;
         self.state
-            .keep_noted(place, actor, actor.cpu, Rule::MovedAtWake)
+            .keep_noted(place, actor, actor.cpu, ExactRule::MovedAtWake)
     }
 
-    pub(crate) fn left_class(&mut self, place: Place, line: LeftClass) -> Result<(), AllocError> {
+    pub(crate) fn left_class(&mut self, place: ProbedLine, line: LeftClass) -> Result<(), AllocError> {
         self.state.take_sums(place, line.cpu, line.sums)?;
         let found = self.state.task(line.pid);
         let actor = self.state.with_alternative(found, line.runtime);
         compare_left(&mut self.state.sheet, place, actor, line)?;
         let shown = shown_left(actor, line);
-        self.state.sheet.note(Rule::LeftClass);
-        self.state.note_runqueue(place, line.cpu, Rule::LeftClass)?;
+        self.state.sheet.note(ExactRule::LeftClass);
+        self.state.note_runqueue(place, line.cpu, ExactRule::LeftClass)?;
         let noted = Actor {
-            why: why(place, Rule::LeftClass),
+            why: why(place, ExactRule::LeftClass),
             ..shown
         };
         if !noted.knows_parameters {

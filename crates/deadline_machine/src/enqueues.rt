@@ -1,17 +1,17 @@
 //! A task is enqueued (`enqueue_task_dl`).
 
-use crate::player::Player;
+use crate::player::ProbePlayer;
 use crate::shown::shown_enqueued;
 use deadline_events::{Arrival, Boost, Enqueuing, Refill};
 use deadline_rules::{Contention, Wake, is_before, replenished_blocked, reserved};
-use exact_words::{Place, Rule};
+use exact_words::{ProbedLine, ExactRule};
 use machine_state::{Actor, compare_enqueued, why};
 use rule_changes::enqueue_by;
 use std::alloc::AllocError;
 use trace_words::Enqueued;
 
-impl Player {
-    pub(crate) fn enqueued(&mut self, place: Place, line: Enqueued) -> Result<(), AllocError> {
+impl ProbePlayer {
+    pub(crate) fn enqueued(&mut self, place: ProbedLine, line: Enqueued) -> Result<(), AllocError> {
         self.state.take_sums(place, line.cpu, line.sums)?;
         let found = self.state.task(line.pid);
         self.state.settle(
@@ -30,7 +30,7 @@ impl Player {
     }
 
     /// The entity as it should be at an enqueue: a replenishment whose clock was not known is taken from the line, and new parameters stand.
-    pub(crate) fn refreshed(&mut self, place: Place, actor: Actor, line: &Enqueued) -> Actor {
+    pub(crate) fn refreshed(&mut self, place: ProbedLine, actor: Actor, line: &Enqueued) -> Actor {
         let mut fresh = actor;
         if !self.state.shape.has_dequeues
             && fresh.entity.budget.is_throttled
@@ -38,8 +38,8 @@ impl Player {
         {
             fresh.entity = replenished_blocked(fresh.entity);
             fresh.entity.is_late = true;
-            self.state.sheet.note(Rule::Replenished);
-            fresh.why = why(place, Rule::Replenished);
+            self.state.sheet.note(ExactRule::Replenished);
+            fresh.why = why(place, ExactRule::Replenished);
         }
         let begin = line
             .budget
@@ -53,8 +53,8 @@ impl Player {
         {
             fresh.entity.budget.runtime = line.budget.runtime;
             fresh.entity.budget.deadline = line.budget.deadline;
-            self.state.sheet.note(Rule::ReplenishedBlockedLate);
-            fresh.why = why(place, Rule::ReplenishedBlockedLate);
+            self.state.sheet.note(ExactRule::ReplenishedBlockedLate);
+            fresh.why = why(place, ExactRule::ReplenishedBlockedLate);
         }
         fresh.entity.is_late = false;
         if let Some(parameters) = fresh.entity.new_parameters {
@@ -65,7 +65,7 @@ impl Player {
 
     pub(crate) fn keep_enqueued(
         &mut self,
-        place: Place,
+        place: ProbedLine,
         actor: Actor,
         line: &Enqueued,
         done: Enqueuing,
@@ -77,12 +77,12 @@ impl Player {
         match done.arrival {
             Arrival::Stays => {}
             Arrival::Moves => {
-                self.state.sheet.note(Rule::MovedIn);
-                self.state.note_runqueue(place, line.cpu, Rule::MovedIn)?;
+                self.state.sheet.note(ExactRule::MovedIn);
+                self.state.note_runqueue(place, line.cpu, ExactRule::MovedIn)?;
             }
             Arrival::Restores => {
-                self.state.sheet.note(Rule::Restored);
-                self.state.note_runqueue(place, line.cpu, Rule::Restored)?;
+                self.state.sheet.note(ExactRule::Restored);
+                self.state.note_runqueue(place, line.cpu, ExactRule::Restored)?;
             }
         }
         if let Some(contention) = done.contention {
@@ -101,36 +101,36 @@ impl Player {
 
     pub(crate) fn note_contention(
         &mut self,
-        place: Place,
+        place: ProbedLine,
         cpu: u32,
         contention: Contention,
     ) -> Result<(), AllocError> {
         match contention {
             Contention::Unreserved => Ok(()),
             Contention::StillRuns => {
-                self.state.sheet.note(Rule::WakeBeforeZeroLag);
+                self.state.sheet.note(ExactRule::WakeBeforeZeroLag);
                 self.state
-                    .note_runqueue(place, cpu, Rule::WakeBeforeZeroLag)
+                    .note_runqueue(place, cpu, ExactRule::WakeBeforeZeroLag)
             }
             Contention::RunsAgain => {
-                self.state.sheet.note(Rule::WakeAfterZeroLag);
-                self.state.note_runqueue(place, cpu, Rule::WakeAfterZeroLag)
+                self.state.sheet.note(ExactRule::WakeAfterZeroLag);
+                self.state.note_runqueue(place, cpu, ExactRule::WakeAfterZeroLag)
             }
         }
     }
 
     /// Counts the rules of an enqueue; the last that changed the entity.
-    pub(crate) fn note_enqueue(&mut self, done: &Enqueuing) -> Option<Rule> {
+    pub(crate) fn note_enqueue(&mut self, done: &Enqueuing) -> Option<ExactRule> {
         match done.boost {
             Boost::Ordinary => {}
-            Boost::Boosted => self.state.sheet.note(Rule::Boosted),
+            Boost::Boosted => self.state.sheet.note(ExactRule::Boosted),
             Boost::Ends => {
-                self.state.sheet.note(Rule::BoostEnds);
-                return Some(Rule::BoostEnds);
+                self.state.sheet.note(ExactRule::BoostEnds);
+                return Some(ExactRule::BoostEnds);
             }
         }
         if done.is_constrained {
-            self.state.sheet.note(Rule::Constrained);
+            self.state.sheet.note(ExactRule::Constrained);
         }
         let refill = refill_rule(done);
         match refill {
@@ -140,7 +140,7 @@ impl Player {
             }
             None => {
                 if done.is_constrained {
-                    Some(Rule::Constrained)
+                    Some(ExactRule::Constrained)
                 } else {
                     None
                 }
@@ -149,14 +149,14 @@ impl Player {
     }
 }
 
-fn refill_rule(done: &Enqueuing) -> Option<Rule> {
+fn refill_rule(done: &Enqueuing) -> Option<ExactRule> {
     match done.refill {
-        Refill::Waits => done.contention.map(|_| Rule::WakeThrottled),
+        Refill::Waits => done.contention.map(|_| ExactRule::WakeThrottled),
         Refill::Stays => None,
-        Refill::Wakes(Wake::Kept) => Some(Rule::WakeKept),
-        Refill::Wakes(Wake::Revised) => Some(Rule::WakeRevised),
-        Refill::Wakes(Wake::Renewed) => Some(Rule::WakeNewPeriod),
-        Refill::Replenishes => Some(Rule::Replenished),
-        Refill::Restarts => Some(Rule::RestoredNewPeriod),
+        Refill::Wakes(Wake::Kept) => Some(ExactRule::WakeKept),
+        Refill::Wakes(Wake::Revised) => Some(ExactRule::WakeRevised),
+        Refill::Wakes(Wake::Renewed) => Some(ExactRule::WakeNewPeriod),
+        Refill::Replenishes => Some(ExactRule::Replenished),
+        Refill::Restarts => Some(ExactRule::RestoredNewPeriod),
     }
 }

@@ -12,7 +12,7 @@ mod shown;
 mod timers;
 mod waiting;
 
-pub use machine::Machine;
+pub use machine::ProbedMachine;
 pub use machine_state::{Runs, Shape};
-pub use player::Player;
+pub use player::ProbePlayer;
 pub use rule_changes::RuleChange;

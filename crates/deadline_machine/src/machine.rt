@@ -3,10 +3,10 @@
 ghost use Rattle.std.specs.Prelude.{◌≡◌, ◌+◌, ◌%◌, ◌^◌, OnOk};
 ghost use Rattle.exact_words.specs.Tallies.{none_differs};
 
-use crate::player::Player;
-use deadline_rules::Law;
+use crate::player::ProbePlayer;
+use deadline_rules::ChargeLaw;
 use exact_laws::Broken;
-use exact_words::{Comparison, Counts, Deviation, Event, Place, RuleCounts};
+use exact_words::{Comparison, KindCounts, Deviation, ProbedFunction, ProbedLine, RuleCounts};
 use machine_state::Shape;
 use rule_changes::RuleChange;
 use std::alloc::{AllocError, Global};
@@ -14,29 +14,29 @@ use trace_words::Probe;
 
 /// A kernel's accounting, played from lines of probes; each value that a line shows is compared with the rules'.
 #[derive(Drop)]
-pub struct Machine {
-    pub player: Player,
+pub struct ProbedMachine {
+    pub player: ProbePlayer,
 
     /// How many lines were played, modulo 2^64, and the number of the last one.
     pub lines: u64,
     pub last: u64,
 }
 
-impl Machine {
+impl ProbedMachine {
     /// A machine of this law, with one rule changed or none, over a record of this shape, whose tasks are of a root domain with
     /// these CPUs. With `keeps_rows` each comparison is kept until `clear_rows`.
     pub fn new(
         alloc: Global,
-        law: Law,
+        law: ChargeLaw,
         shape: Shape,
         domain: Vec<u32>,
         keeps_rows: bool,
         change: Option<RuleChange>,
-    ) -> Machine
+    ) -> ProbedMachine
         ensures { result.lines ≡ 0 }
     {
-        Machine {
-            player: Player::new(alloc, law, shape, domain, keeps_rows, change),
+        ProbedMachine {
+            player: ProbePlayer::new(alloc, law, shape, domain, keeps_rows, change),
             lines: 0,
             last: 0,
         }
@@ -50,7 +50,7 @@ impl Machine {
     }
 
     /// How many values of each kind were compared.
-    pub fn counts(&self) -> Counts {
+    pub fn counts(&self) -> KindCounts {
         self.player.state.sheet.counts
     }
 
@@ -90,7 +90,7 @@ impl Machine {
         ensures lines { OnOk result (self.new.lines ≡ (self.old.lines + 1) % 2 ^ 64) }
         ensures last { OnOk result (self.new.last ≡ line) }
     {
-        let place = Place {
+        let place = ProbedLine {
             line,
             at,
             cpu,
@@ -110,18 +110,18 @@ impl Machine {
 }
 
 /// The function whose entry a line shows.
-fn event_of(probe: &Probe) -> Event {
+fn event_of(probe: &Probe) -> ProbedFunction {
     match probe {
-        Probe::Enqueued(_) => Event::Enqueue,
-        Probe::Updated(_) => Event::Update,
-        Probe::Dequeued(_) => Event::Dequeue,
-        Probe::Migrating(_) => Event::Migrate,
-        Probe::LeftClass(_) => Event::Leave,
-        Probe::Admitted(_) => Event::Admit,
-        Probe::ZeroLagFired { .. } => Event::ZeroLagFires,
-        Probe::ReplenishFired { .. } => Event::ReplenishFires,
-        Probe::Armed(_) => Event::TimerStarts,
-        Probe::ServerStarted(_) => Event::ServerStarts,
-        Probe::Picked(_) => Event::Pick,
+        Probe::Enqueued(_) => ProbedFunction::Enqueue,
+        Probe::Updated(_) => ProbedFunction::Update,
+        Probe::Dequeued(_) => ProbedFunction::Dequeue,
+        Probe::Migrating(_) => ProbedFunction::Migrate,
+        Probe::LeftClass(_) => ProbedFunction::Leave,
+        Probe::Admitted(_) => ProbedFunction::Admit,
+        Probe::ZeroLagFired { .. } => ProbedFunction::ZeroLagFires,
+        Probe::ReplenishFired { .. } => ProbedFunction::ReplenishFires,
+        Probe::Armed(_) => ProbedFunction::TimerStarts,
+        Probe::ServerStarted(_) => ProbedFunction::ServerStarts,
+        Probe::Picked(_) => ProbedFunction::Pick,
     }
 }

@@ -1,9 +1,9 @@
 //! A state, and what each CPU has still to do: lines are played on it.
 
 use crate::waiting::{Blind, Duty, Rest};
-use deadline_rules::Law;
-use exact_words::{Place, Whose};
-use machine_state::{Shape, State};
+use deadline_rules::ChargeLaw;
+use exact_words::{ProbedLine, Whose};
+use machine_state::{Shape, KernelState};
 use rule_changes::RuleChange;
 use std::alloc::{AllocError, Global};
 use std::collections::HashMap;
@@ -11,12 +11,12 @@ use trace_words::Probe;
 
 /// What a kernel's accounting has come to by the lines that were played.
 #[derive(Drop)]
-pub struct Player {
-    pub(crate) law: Law,
+pub struct ProbePlayer {
+    pub(crate) law: ChargeLaw,
 
     /// The one rule that is changed, if one is.
     pub(crate) change: Option<RuleChange>,
-    pub state: State,
+    pub state: KernelState,
 
     /// Whose the timer at an address is.
     pub(crate) timers: HashMap<u64, Whose>,
@@ -25,19 +25,19 @@ pub struct Player {
     pub(crate) blinds: Vec<Blind>,
 }
 
-impl Player {
+impl ProbePlayer {
     pub(crate) fn new(
         alloc: Global,
-        law: Law,
+        law: ChargeLaw,
         shape: Shape,
         domain: Vec<u32>,
         keeps_rows: bool,
         change: Option<RuleChange>,
-    ) -> Player {
-        Player {
+    ) -> ProbePlayer {
+        ProbePlayer {
             law,
             change,
-            state: State::new(alloc, shape, domain, keeps_rows),
+            state: KernelState::new(alloc, shape, domain, keeps_rows),
             timers: HashMap::new(alloc),
             duties: Vec::new(alloc),
             rests: Vec::new(alloc),
@@ -46,7 +46,7 @@ impl Player {
     }
 
     /// Plays a line, and compares each value that it shows.
-    pub(crate) fn step(&mut self, place: Place, probe: &Probe) -> Result<(), AllocError> {
+    pub(crate) fn step(&mut self, place: ProbedLine, probe: &Probe) -> Result<(), AllocError> {
         self.state.laws.see(place, probe)?;
         self.state.take_due_effects(place)?;
         self.state.close_readings(place)?;
@@ -67,7 +67,7 @@ impl Player {
         self.state.laws.finish(has_servers, &mut self.state.sheet)
     }
 
-    fn play(&mut self, place: Place, probe: &Probe) -> Result<(), AllocError> {
+    fn play(&mut self, place: ProbedLine, probe: &Probe) -> Result<(), AllocError> {
         match probe {
             Probe::Enqueued(line) => self.enqueued(place, *line),
             Probe::Updated(line) => self.updated(place, *line),

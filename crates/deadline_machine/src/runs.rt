@@ -1,18 +1,18 @@
 //! A task has run (`update_curr_dl_se`).
 
-use crate::player::Player;
+use crate::player::ProbePlayer;
 use crate::shown::{charged_runqueue, delta_of, off_tree};
 use crate::waiting::Awaited;
 use deadline_events::{Spending, Spent};
-use deadline_rules::{Charge, Runqueue as Charged, charged};
-use exact_words::{Place, Rule};
+use deadline_rules::{Charge, ChargedRunqueue as Charged, charged};
+use exact_words::{ProbedLine, ExactRule};
 use machine_state::{Actor, Alternative, Effect, compare_updated, why};
 use rule_changes::{charging_by, cost_by, spend_by};
 use std::alloc::AllocError;
 use trace_words::Updated;
 
-impl Player {
-    pub(crate) fn updated(&mut self, place: Place, line: Updated) -> Result<(), AllocError> {
+impl ProbePlayer {
+    pub(crate) fn updated(&mut self, place: ProbedLine, line: Updated) -> Result<(), AllocError> {
         self.state.take_sums(place, line.cpu, line.sums)?;
         let found = self.state.task(line.pid);
         let actor = off_tree(found, &line, self.state.shape.has_dequeues);
@@ -29,7 +29,7 @@ impl Player {
     /// Charges a run. True where an enqueue follows in the same call, and the rest of a dequeue waits for it.
     pub(crate) fn run(
         &mut self,
-        place: Place,
+        place: ProbedLine,
         actor: Actor,
         line: Updated,
     ) -> Result<bool, AllocError> {
@@ -47,7 +47,7 @@ impl Player {
 
     pub(crate) fn charge(
         &mut self,
-        place: Place,
+        place: ProbedLine,
         actor: Actor,
         line: &Updated,
         delta: i64,
@@ -97,14 +97,14 @@ impl Player {
 
     pub(crate) fn keep_spent(
         &mut self,
-        place: Place,
+        place: ProbedLine,
         actor: Actor,
         done: Spending,
     ) -> Result<bool, AllocError> {
         let rule = match done.spent {
             Spent::RunsOn => None,
-            Spent::Throttled => Some(Rule::Throttled),
-            Spent::Yielded => Some(Rule::Yielded),
+            Spent::Throttled => Some(ExactRule::Throttled),
+            Spent::Yielded => Some(ExactRule::Yielded),
         };
         let mut since = actor.why;
         if let Some(rule) = rule {
@@ -112,8 +112,8 @@ impl Player {
             since = why(place, rule);
         }
         if done.is_enqueued_again {
-            self.state.sheet.note(Rule::ReplenishedAtOnce);
-            since = why(place, Rule::ReplenishedAtOnce);
+            self.state.sheet.note(ExactRule::ReplenishedAtOnce);
+            since = why(place, ExactRule::ReplenishedAtOnce);
         }
         if done.starts_timer {
             self.start_deadline_timer(place, actor.whose)?;
@@ -139,10 +139,10 @@ impl Player {
     }
 }
 
-fn charge_rule(charge: Charge) -> Rule {
+fn charge_rule(charge: Charge) -> ExactRule {
     match charge {
-        Charge::InFull => Rule::ChargeInFull,
-        Charge::ByItsBandwidth => Rule::ChargeByItsBandwidth,
-        Charge::ByWhatIsLeft => Rule::ChargeByWhatIsLeft,
+        Charge::InFull => ExactRule::ChargeInFull,
+        Charge::ByItsBandwidth => ExactRule::ChargeByItsBandwidth,
+        Charge::ByWhatIsLeft => ExactRule::ChargeByWhatIsLeft,
     }
 }

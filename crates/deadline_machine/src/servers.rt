@@ -1,15 +1,15 @@
 //! A fair server starts, or stops (`enqueue_dl_entity`, `pick_task_dl`).
 
-use crate::player::Player;
+use crate::player::ProbePlayer;
 use crate::shown::shown_contending;
 use deadline_rules::{QUEUED, WAKEUP, contended, contending, contending_change, has, reserved};
-use exact_words::{Place, Rule, Whose};
+use exact_words::{ProbedLine, ExactRule, Whose};
 use machine_state::{Actor, compare_contending, server_parameters};
 use rule_changes::dequeue_by;
 use std::alloc::AllocError;
 use trace_words::{Picked, ServerStarted};
 
-impl Player {
+impl ProbePlayer {
     pub(crate) fn server(&self, cpu: u32, dl_runtime: u64, dl_period: u64) -> Actor {
         let actor = self.state.actor(Whose::Server { cpu });
         Actor {
@@ -21,7 +21,7 @@ impl Player {
 
     pub(crate) fn server_started(
         &mut self,
-        place: Place,
+        place: ProbedLine,
         line: ServerStarted,
     ) -> Result<(), AllocError> {
         if !line.is_server || !has(line.flags, WAKEUP) {
@@ -42,14 +42,14 @@ impl Player {
         self.state
             .change(line.cpu, contending_change(shown.entity, 0, contention))?;
         self.note_contention(place, line.cpu, contention)?;
-        self.state.sheet.note(Rule::ServerStarted);
+        self.state.sheet.note(ExactRule::ServerStarted);
         self.state.keep_actor(Actor {
             entity: contended(shown.entity, contention),
             ..shown
         })
     }
 
-    pub(crate) fn picked(&mut self, place: Place, line: Picked) -> Result<(), AllocError> {
+    pub(crate) fn picked(&mut self, place: ProbedLine, line: Picked) -> Result<(), AllocError> {
         if !line.is_active
             || line.is_throttled
             || line.fair_tasks != 0
@@ -66,7 +66,7 @@ impl Player {
         shown.knows_budget = true;
         let done = dequeue_by(self.change, shown.entity, WAKEUP, QUEUED, line.clock);
         self.state.change(line.cpu, done.change)?;
-        self.state.sheet.note(Rule::ServerStopped);
+        self.state.sheet.note(ExactRule::ServerStopped);
         let after = Actor {
             entity: done.entity,
             ..shown

@@ -1,19 +1,19 @@
 //! Timers that fire, and timers that are armed (`inactive_task_timer`, `dl_task_timer`, `hrtimer_start_range_ns`).
 
-use crate::player::Player;
+use crate::player::ProbePlayer;
 use crate::shown::{fits, with_runtime};
 use crate::waiting::Duty;
 use deadline_events::Delayed;
-use deadline_rules::{Change, unchanged, zero_lag};
-use exact_words::{FIRST_SEEN, Place, Quantity, Rule, Subject, Value, Whose};
+use deadline_rules::{SumsChange, unchanged, zero_lag};
+use exact_words::{FIRST_SEEN, ProbedLine, Quantity, ExactRule, Subject, ExactValue, Whose};
 use machine_state::{Actor, why};
 use rule_changes::{fired_by, replenish_fired_by};
 use std::alloc::AllocError;
 use trace_words::{Armed, Expiry, TimerFunction};
 
-impl Player {
+impl ProbePlayer {
     /// Timers that this CPU should have armed by now.
-    pub(crate) fn close_duties(&mut self, place: Place) -> Result<(), AllocError> {
+    pub(crate) fn close_duties(&mut self, place: ProbedLine) -> Result<(), AllocError> {
         let by = place.cpu;
         if !self.blinds.is_empty() {
             self.blinds.retain(|one| one.by != by);
@@ -28,8 +28,8 @@ impl Player {
                             self.state.compare_timer(
                                 place,
                                 Subject::Entity(duty.whose),
-                                Value::Armed(duty.function),
-                                Value::NotArmed(duty.function),
+                                ExactValue::Armed(duty.function),
+                                ExactValue::NotArmed(duty.function),
                                 false,
                                 since,
                                 true,
@@ -45,7 +45,7 @@ impl Player {
 
     pub(crate) fn start_deadline_timer(
         &mut self,
-        place: Place,
+        place: ProbedLine,
         whose: Whose,
     ) -> Result<(), AllocError> {
         self.duties.push(Duty {
@@ -58,7 +58,7 @@ impl Player {
         Ok(())
     }
 
-    pub(crate) fn zero_lag_fired(&mut self, place: Place, timer: u64) -> Result<(), AllocError> {
+    pub(crate) fn zero_lag_fired(&mut self, place: ProbedLine, timer: u64) -> Result<(), AllocError> {
         match self.timers.get(&timer).copied() {
             None => {
                 self.state.forget_all(false);
@@ -80,7 +80,7 @@ impl Player {
         }
     }
 
-    pub(crate) fn fire_zero_lag(&mut self, place: Place, actor: Actor) -> Result<(), AllocError> {
+    pub(crate) fn fire_zero_lag(&mut self, place: ProbedLine, actor: Actor) -> Result<(), AllocError> {
         let fired = fired_by(self.change, actor.entity);
         if fired.stops {
             self.state.delay(place, &actor, Delayed::ZeroLag)?;
@@ -92,24 +92,24 @@ impl Player {
                 ..actor
             },
             actor.cpu,
-            Rule::ZeroLagFired,
+            ExactRule::ZeroLagFired,
         )?;
-        let change = Change {
+        let change = SumsChange {
             freed: fired.freed,
             ..unchanged()
         };
         self.state.change_extra(place, actor.cpu, change)
     }
 
-    pub(crate) fn replenish_fired(&mut self, place: Place, timer: u64) -> Result<(), AllocError> {
+    pub(crate) fn replenish_fired(&mut self, place: ProbedLine, timer: u64) -> Result<(), AllocError> {
         match self.timers.get(&timer).copied() {
             None => Ok(()),
             Some(whose) => {
                 let actor = self.state.actor(whose);
                 let entity = replenish_fired_by(self.change, actor.entity);
                 let since = if entity.is_late && !actor.entity.is_late {
-                    self.state.sheet.note(Rule::ReplenishedBlocked);
-                    why(place, Rule::ReplenishedBlocked)
+                    self.state.sheet.note(ExactRule::ReplenishedBlocked);
+                    why(place, ExactRule::ReplenishedBlocked)
                 } else {
                     actor.why
                 };
@@ -122,7 +122,7 @@ impl Player {
         }
     }
 
-    pub(crate) fn armed(&mut self, place: Place, line: Armed) -> Result<(), AllocError> {
+    pub(crate) fn armed(&mut self, place: ProbedLine, line: Armed) -> Result<(), AllocError> {
         if matches!(line.function, TimerFunction::Other) {
             return Ok(());
         }
@@ -142,7 +142,7 @@ impl Player {
     /// A timer that this CPU was to arm.
     pub(crate) fn arm(
         &mut self,
-        place: Place,
+        place: ProbedLine,
         line: Armed,
         duty: Duty,
         known: Option<Whose>,
@@ -155,8 +155,8 @@ impl Player {
         self.state.compare_timer(
             place,
             Subject::Entity(duty.whose),
-            Value::Owner(duty.whose),
-            Value::Owner(owner),
+            ExactValue::Owner(duty.whose),
+            ExactValue::Owner(owner),
             is_same(owner, duty.whose),
             actor.why,
             false,
@@ -170,7 +170,7 @@ impl Player {
 
     pub(crate) fn arm_zero_lag(
         &mut self,
-        place: Place,
+        place: ProbedLine,
         line: Armed,
         duty: Duty,
         rules: i64,
@@ -189,7 +189,7 @@ impl Player {
                     if one.whose == duty.whose && fits(line.expiry, duty.at, place.at, later) {
                         expected = later;
                         taken.entity = other;
-                        self.state.sheet.note(Rule::ChargeReadLater);
+                        self.state.sheet.note(ExactRule::ChargeReadLater);
                         break;
                     }
                 }
@@ -212,7 +212,7 @@ impl Player {
     /// A timer that this CPU was not to arm.
     pub(crate) fn arm_unasked(
         &mut self,
-        place: Place,
+        place: ProbedLine,
         line: Armed,
         known: Option<Whose>,
     ) -> Result<(), AllocError> {
@@ -230,8 +230,8 @@ impl Player {
                 self.state.compare_timer(
                     place,
                     Subject::Entity(whose),
-                    Value::NotArmed(line.function),
-                    Value::Armed(line.function),
+                    ExactValue::NotArmed(line.function),
+                    ExactValue::Armed(line.function),
                     false,
                     actor.why,
                     false,
@@ -246,8 +246,8 @@ impl Player {
                     self.state.compare_timer(
                         place,
                         Subject::Nobody,
-                        Value::NotArmed(line.function),
-                        Value::Armed(line.function),
+                        ExactValue::NotArmed(line.function),
+                        ExactValue::Armed(line.function),
                         false,
                         FIRST_SEEN,
                         false,

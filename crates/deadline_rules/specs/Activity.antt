@@ -5,7 +5,7 @@ use Rattle.deadline_rules.specs.declared.activity.Block.{Block}
 use Rattle.deadline_rules.specs.declared.activity.Block.TheVariants.{Unreserved, ZeroLagTimer, Past}
 use Rattle.deadline_rules.specs.declared.activity.Contention.{Contention}
 use Rattle.deadline_rules.specs.declared.activity.Contention.TheVariants.{Unreserved as WasUnreserved, StillRuns, RunsAgain}
-use Rattle.deadline_rules.specs.declared.sums.Change.{Change}
+use Rattle.deadline_rules.specs.declared.sums.SumsChange.{SumsChange}
 use Rattle.deadline_rules.specs.declared.entity.Entity.{Entity}
 use Rattle.deadline_rules.specs.declared.flags.TheConstants.{MIGRATED}
 use Rattle.deadline_rules.specs.Clock.{less, signed, quotient_of, contains_bits}
@@ -32,7 +32,7 @@ blocked_of e Unreserved = e
 blocked_of e (ZeroLagTimer _) = record e { is_non_contending = true; has_inactive_timer = true }
 blocked_of e Past = if ends_of e then cleared_of e else e
 
-abbrev pub blocking_change_of : Entity → Block → Change
+abbrev pub blocking_change_of : Entity → Block → SumsChange
 blocking_change_of e Unreserved = no_change
 blocking_change_of e (ZeroLagTimer _) = no_change
 blocking_change_of e Past = record {
@@ -58,7 +58,7 @@ running_again_of e RunsAgain = e.dl_bw
 abbrev pub arriving_of : Entity → ℕ → ℕ
 arriving_of e flags = if contains_bits flags MIGRATED then e.dl_bw else 0
 
-abbrev pub contending_change_of : Entity → ℕ → Contention → Change
+abbrev pub contending_change_of : Entity → ℕ → Contention → SumsChange
 contending_change_of e flags WasUnreserved = no_change
 contending_change_of e flags StillRuns = record { this_bw = arriving_of e flags; running_bw = 0; freed = None; taken = None }
 contending_change_of e flags RunsAgain = record { this_bw = arriving_of e flags; running_bw = e.dl_bw; freed = None; taken = None }

@@ -2,8 +2,8 @@
 use Rattle.std.specs.Prelude.{ℕ, ◌+◌, ◌*◌, ◌/◌, ◌^◌, ℤ, pos, negsuc, int_lt, unsigned_abs, Bool, false, not, ◌&&◌, ◌||◌, ◌==◌, nat_lt, if◌then◌else◌, is_none}
 use Rattle.std.specs.Int.{w64, cast_unsigned, int_shr, int_wrapping_add, int_wrapping_sub}
 use Rattle.trace_words.specs.declared.quantities.Donor.{Donor}
-use Rattle.deadline_rules.specs.declared.charge.Law.{Law}
-use Rattle.deadline_rules.specs.declared.charge.Law.TheVariants.{LinuxBefore65, LinuxFrom65, Documentation}
+use Rattle.deadline_rules.specs.declared.charge.ChargeLaw.{ChargeLaw}
+use Rattle.deadline_rules.specs.declared.charge.ChargeLaw.TheVariants.{LinuxBefore65, LinuxFrom65, Documentation}
 use Rattle.deadline_rules.specs.declared.budget.Wake.{Wake}
 use Rattle.deadline_rules.specs.declared.budget.Wake.TheVariants.{Kept, Revised, Renewed}
 use Rattle.deadline_rules.specs.declared.entity.Entity.{Entity}
@@ -17,16 +17,16 @@ renewed_of e clock =
     record e { budget = record e.budget { runtime = signed by.dl_runtime; deadline = plus clock by.dl_deadline } }
 
 -- dl_entity_overflow: the budget over the span to the deadline is more than runtime over deadline; the kernel drops 10 bits of each factor
-abbrev pub overflows_by : Law → Donor → ℤ → ℕ → Bool
+abbrev pub overflows_by : ChargeLaw → Donor → ℤ → ℕ → Bool
 overflows_by LinuxBefore65 by q span = comes_before (times (span / 2 ^ 10) (by.dl_runtime / 2 ^ 10)) (times (by.dl_deadline / 2 ^ 10) (cast_unsigned w64 (int_shr q 10)))
 overflows_by LinuxFrom65 by q span = comes_before (times (span / 2 ^ 10) (by.dl_runtime / 2 ^ 10)) (times (by.dl_deadline / 2 ^ 10) (cast_unsigned w64 (int_shr q 10)))
 overflows_by Documentation by q span = int_lt (pos 0) q && nat_lt (span * by.dl_runtime) (cast_unsigned w64 q * by.dl_deadline)
 
-unfoldable pub overflows_of : Law → Entity → ℕ → Bool
+unfoldable pub overflows_of : ChargeLaw → Entity → ℕ → Bool
 overflows_of law e clock = overflows_by law (serving_of e) e.budget.runtime (less e.budget.deadline clock)
 
 -- update_dl_entity
-unfoldable pub waking_of : Law → Entity → ℕ → Wake
+unfoldable pub waking_of : ChargeLaw → Entity → ℕ → Wake
 waking_of law e clock =
     if comes_before e.budget.deadline clock then Renewed
     else (if overflows_of law e clock

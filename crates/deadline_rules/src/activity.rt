@@ -7,7 +7,7 @@ use crate::clock::quotient;
 use crate::entity::Entity;
 use crate::flags::{MIGRATED, has};
 use crate::reservation::cleared;
-use crate::sums::{Change, unchanged};
+use crate::sums::{SumsChange, unchanged};
 
 /// What a block comes to.
 #[derive(Clone, Copy, PartialEq, Eq)]
@@ -99,7 +99,7 @@ pub fn blocked(entity: Entity, block: Block) -> Entity
 }
 
 /// What such a block does to the sums, by the entity before it.
-pub fn blocking_change(entity: Entity, block: Block) -> Change
+pub fn blocking_change(entity: Entity, block: Block) -> SumsChange
     ensures { result ≡ blocking_change_of entity block }
 {
     match block {
@@ -108,7 +108,7 @@ pub fn blocking_change(entity: Entity, block: Block) -> Change
             let off = 0u64.wrapping_sub(entity.dl_bw);
             let has_run = entity.is_server || entity.is_in_class;
             let has_ended = ends(entity);
-            Change {
+            SumsChange {
                 this_bw: if has_ended && entity.is_dead { off } else { 0 },
                 running_bw: if has_run { off } else { 0 },
                 freed: if has_ended { Some(entity.dl_bw) } else { None },
@@ -147,12 +147,12 @@ pub fn contended(entity: Entity, contention: Contention) -> Entity
 }
 
 /// What such a wake with these ENQUEUE_ flags does to the sums, by the entity before it.
-pub fn contending_change(entity: Entity, flags: u64, contention: Contention) -> Change
+pub fn contending_change(entity: Entity, flags: u64, contention: Contention) -> SumsChange
     ensures { result ≡ contending_change_of entity flags contention }
 {
     match contention {
         Contention::Unreserved => unchanged(),
-        Contention::StillRuns | Contention::RunsAgain => Change {
+        Contention::StillRuns | Contention::RunsAgain => SumsChange {
             this_bw: if has(flags, MIGRATED) {
                 entity.dl_bw
             } else {

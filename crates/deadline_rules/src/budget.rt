@@ -3,7 +3,7 @@
 ghost use Rattle.std.specs.Prelude.{◌≡◌};
 ghost use Rattle.deadline_rules.specs.Budget.{renewed_of, overflows_of, waking_of, woken_of, recharges_of, left_of, recharged_of, ready_of, replenished_of, replenished_blocked_of, timer_is_ahead, charged_of};
 
-use crate::charge::Law;
+use crate::charge::ChargeLaw;
 use crate::clock::{is_before, ratio};
 use crate::entity::Entity;
 use crate::reservation::served_by;
@@ -40,19 +40,19 @@ pub fn renewed(entity: Entity, clock: u64) -> Entity
 
 /// Whether the budget until the deadline is more than the reservation gives (`dl_entity_overflow`).
 #[tactic(auto, unfolding(crate::specs::Budget::overflows_of))]
-pub fn overflows(law: Law, entity: Entity, clock: u64) -> bool
+pub fn overflows(law: ChargeLaw, entity: Entity, clock: u64) -> bool
     ensures { result ≡ overflows_of law entity clock }
 {
     let serving = served_by(entity);
     let budget = entity.budget.runtime;
     let span = entity.budget.deadline.wrapping_sub(clock);
     match law {
-        Law::LinuxBefore65 | Law::LinuxFrom65 => {
+        ChargeLaw::LinuxBefore65 | ChargeLaw::LinuxFrom65 => {
             let left = (serving.dl_deadline >> 10).wrapping_mul((budget >> 10).cast_unsigned());
             let right = (span >> 10).wrapping_mul(serving.dl_runtime >> 10);
             is_before(right, left)
         }
-        Law::Documentation => {
+        ChargeLaw::Documentation => {
             budget > 0
                 && u128::from(span) * u128::from(serving.dl_runtime)
                     < u128::from(budget.cast_unsigned()) * u128::from(serving.dl_deadline)
@@ -62,7 +62,7 @@ pub fn overflows(law: Law, entity: Entity, clock: u64) -> bool
 
 /// What a wake at this clock does (`update_dl_entity`).
 #[tactic(auto, unfolding(crate::specs::Budget::waking_of))]
-pub fn waking(law: Law, entity: Entity, clock: u64) -> Wake
+pub fn waking(law: ChargeLaw, entity: Entity, clock: u64) -> Wake
     ensures { result ≡ waking_of law entity clock }
 {
     if is_before(entity.budget.deadline, clock) {

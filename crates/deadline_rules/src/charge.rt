@@ -9,7 +9,7 @@ use trace_words::Sums;
 
 /// Whose arithmetic.
 #[derive(Clone, Copy)]
-pub enum Law {
+pub enum ChargeLaw {
     /// Linux before 6.5: the own bandwidth is scaled, and a whole processor shared.
     LinuxBefore65,
 
@@ -22,7 +22,7 @@ pub enum Law {
 
 /// What a charge reads of its runqueue.
 #[derive(Clone, Copy)]
-pub struct Runqueue {
+pub struct ChargedRunqueue {
     pub sums: Sums,
     pub max_bw: u64,
 
@@ -44,28 +44,28 @@ pub enum Charge {
 }
 
 /// The bandwidth that an entity is charged by at least.
-fn least(law: Law, entity: Entity, runqueue: Runqueue) -> u64
+fn least(law: ChargeLaw, entity: Entity, runqueue: ChargedRunqueue) -> u64
     ensures { result ≡ least_of law entity runqueue }
 {
     match law {
-        Law::LinuxBefore65 => entity.dl_bw.wrapping_mul(runqueue.bw_ratio) / 256,
-        Law::LinuxFrom65 | Law::Documentation => entity.dl_bw,
+        ChargeLaw::LinuxBefore65 => entity.dl_bw.wrapping_mul(runqueue.bw_ratio) / 256,
+        ChargeLaw::LinuxFrom65 | ChargeLaw::Documentation => entity.dl_bw,
     }
 }
 
 /// The bandwidth that is shared.
-fn top(law: Law, runqueue: Runqueue) -> u64
+fn top(law: ChargeLaw, runqueue: ChargedRunqueue) -> u64
     ensures { result ≡ top_of law runqueue }
 {
     match law {
-        Law::LinuxBefore65 => BW_UNIT,
-        Law::LinuxFrom65 | Law::Documentation => runqueue.max_bw,
+        ChargeLaw::LinuxBefore65 => BW_UNIT,
+        ChargeLaw::LinuxFrom65 | ChargeLaw::Documentation => runqueue.max_bw,
     }
 }
 
 /// How a run is charged (the test of `grub_reclaim`).
 #[tactic(auto, unfolding(crate::specs::Charge::charging_of))]
-pub fn charging(law: Law, entity: Entity, runqueue: Runqueue) -> Charge
+pub fn charging(law: ChargeLaw, entity: Entity, runqueue: ChargedRunqueue) -> Charge
     ensures { result ≡ charging_of law entity runqueue }
 {
     if !has(entity.parameters.flags, RECLAIM) {
@@ -82,7 +82,7 @@ pub fn charging(law: Law, entity: Entity, runqueue: Runqueue) -> Charge
 }
 
 /// The rate of a charge with the flag, in units of 2^-20, before it is scaled.
-fn rate(law: Law, entity: Entity, runqueue: Runqueue, charge: Charge) -> u64
+fn rate(law: ChargeLaw, entity: Entity, runqueue: ChargedRunqueue, charge: Charge) -> u64
     ensures { result ≡ rate_of law entity runqueue charge }
 {
     match charge {
@@ -100,7 +100,7 @@ fn rate(law: Law, entity: Entity, runqueue: Runqueue, charge: Charge) -> u64
 
 /// What a run of `nanos` takes from the budget (`grub_reclaim`): all of it without SCHED_FLAG_RECLAIM.
 #[tactic(auto, unfolding(crate::specs::Charge::cost_of))]
-pub fn cost(law: Law, entity: Entity, runqueue: Runqueue, nanos: u64) -> u64
+pub fn cost(law: ChargeLaw, entity: Entity, runqueue: ChargedRunqueue, nanos: u64) -> u64
     ensures { result ≡ cost_of law entity runqueue nanos }
 {
     let charge = charging(law, entity, runqueue);
@@ -112,13 +112,13 @@ pub fn cost(law: Law, entity: Entity, runqueue: Runqueue, nanos: u64) -> u64
 }
 
 /// So much of a span as the rate says.
-fn scaled(law: Law, runqueue: Runqueue, rate: u64, nanos: u64) -> u64
+fn scaled(law: ChargeLaw, runqueue: ChargedRunqueue, rate: u64, nanos: u64) -> u64
     ensures { result ≡ scaled_of law runqueue rate nanos }
 {
     match law {
-        Law::LinuxBefore65 => nanos.wrapping_mul(rate) >> 20,
-        Law::LinuxFrom65 => nanos.wrapping_mul(rate.wrapping_mul(runqueue.bw_ratio) >> 8) >> 20,
-        Law::Documentation => {
+        ChargeLaw::LinuxBefore65 => nanos.wrapping_mul(rate) >> 20,
+        ChargeLaw::LinuxFrom65 => nanos.wrapping_mul(rate.wrapping_mul(runqueue.bw_ratio) >> 8) >> 20,
+        ChargeLaw::Documentation => {
             if runqueue.max_bw == 0 {
                 0
             } else {

@@ -21,7 +21,7 @@ pub use budget::{
     Wake, charged, has_timer_ahead, overflows, recharges, renewed, replenished,
     replenished_blocked, waking, woken,
 };
-pub use charge::{Charge, Law, Runqueue, charging, cost};
+pub use charge::{Charge, ChargeLaw, ChargedRunqueue, charging, cost};
 pub use clock::{is_before, quotient, ratio};
 pub use entity::{Entity, fresh};
 pub use flags::{
@@ -29,4 +29,4 @@ pub use flags::{
     WAKEUP, has,
 };
 pub use reservation::{cleared, reserved, served_by};
-pub use sums::{Change, changed, share, unchanged};
+pub use sums::{SumsChange, changed, share, unchanged};

@@ -8,7 +8,7 @@ use trace_words::Sums;
 /// What an event adds to `this_bw` and `running_bw` of one runqueue, modulo 2^64, and what it gives back to or takes
 /// from the root domain, whose CPUs each have a share of it in `extra_bw`.
 #[derive(Clone, Copy)]
-pub struct Change {
+pub struct SumsChange {
     pub this_bw: u64,
     pub running_bw: u64,
     pub freed: Option<u64>,
@@ -16,10 +16,10 @@ pub struct Change {
 }
 
 /// Nothing.
-pub fn unchanged() -> Change
+pub fn unchanged() -> SumsChange
     ensures { result ≡ no_change }
 {
-    Change {
+    SumsChange {
         this_bw: 0,
         running_bw: 0,
         freed: None,
@@ -28,7 +28,7 @@ pub fn unchanged() -> Change
 }
 
 /// `this_bw` and `running_bw` after a change (`__add_rq_bw`, `__sub_rq_bw`, `__add_running_bw`, `__sub_running_bw`).
-pub fn changed(sums: Sums, change: Change) -> Sums
+pub fn changed(sums: Sums, change: SumsChange) -> Sums
     ensures { result ≡ changed_of sums change }
 {
     Sums {

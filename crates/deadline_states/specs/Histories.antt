@@ -7,7 +7,7 @@ use Rattle.deadline_states.specs.declared.history.BudgetSlice.{BudgetSlice}
 use Rattle.deadline_states.specs.declared.history.Slice.{Slice}
 use Rattle.deadline_states.specs.declared.history.SumsSlice.{SumsSlice}
 use Rattle.deadline_states.specs.declared.span.Span.{Span}
-use Rattle.deadline_states.specs.declared.state.State.{State}
+use Rattle.deadline_states.specs.declared.state.TaskState.{TaskState}
 use Rattle.deadline_states.specs.Spans.{common_of}
 use Rattle.deadline_states.specs.States.{is_same_state}
 
@@ -45,7 +45,7 @@ abbrev pub last_of : List (Option Slice) → ℕ → Option Slice
 last_of lasts task = option_and_then (λ (s : Option Slice). s) (slice_get lasts task)
 
 -- it is still in that state
-abbrev pub is_still_in : Option Slice → ℕ → Option State → Bool
+abbrev pub is_still_in : Option Slice → ℕ → Option TaskState → Bool
 is_still_in None cpu None = true
 is_still_in (Some s) cpu (Some state) = s.cpu == cpu && is_same_state s.state state
 is_still_in last cpu state = false
@@ -55,17 +55,17 @@ abbrev pub begin_by : Option Slice → ℕ → ℕ
 begin_by (Some s) at = max at s.span.from
 begin_by None at = at
 
-abbrev pub slice_by : ℕ → ℕ → Option State → ℕ → Option Slice
+abbrev pub slice_by : ℕ → ℕ → Option TaskState → ℕ → Option Slice
 slice_by task cpu (Some state) at = Some (record { task = task; cpu = cpu; state = state; span = begun_at at })
 slice_by task cpu None at = None
 
 -- the states that ended, after a task is shown in a state from a moment on
-abbrev pub states_after : Span → List Slice → Option Slice → ℕ → Option State → ℕ → List Slice
+abbrev pub states_after : Span → List Slice → Option Slice → ℕ → Option TaskState → ℕ → List Slice
 states_after window states last cpu state at =
     if is_still_in last cpu state then states else states ++ state_ended window (begin_by last at) last
 
 -- the states that no task has left
-abbrev pub lasts_after : List (Option Slice) → ℕ → ℕ → Option State → ℕ → List (Option Slice)
+abbrev pub lasts_after : List (Option Slice) → ℕ → ℕ → Option TaskState → ℕ → List (Option Slice)
 lasts_after lasts task cpu state at =
     if is_still_in (last_of lasts task) cpu state then lasts
     else slice_set lasts task (slice_by task cpu state (begin_by (last_of lasts task) at))

@@ -5,7 +5,7 @@ use Rattle.trace_words.specs.declared.quantities.Sums.{Sums}
 use Rattle.deadline_states.specs.declared.history.BudgetSlice.{BudgetSlice}
 use Rattle.deadline_states.specs.declared.history.History.{History}
 use Rattle.deadline_states.specs.declared.history.SumsSlice.{SumsSlice}
-use Rattle.deadline_states.specs.declared.state.State.{State}
+use Rattle.deadline_states.specs.declared.state.TaskState.{TaskState}
 use Rattle.deadline_states.specs.Histories.{are_still_in, begun_at, budget_ended, is_budget_still_in, last_of, lasts_after, state_ended, states_after, sums_ended}
 
 abbrev pub last_sums_of : History → ℕ → Option SumsSlice
@@ -15,7 +15,7 @@ abbrev pub last_budget_of : History → ℕ → Option BudgetSlice
 last_budget_of h task = option_and_then (λ (s : Option BudgetSlice). s) (slice_get h.last_budgets.items task)
 
 -- a task in a state from a moment on: the one before it ends there, where it is another
-pub record IsShown (h : History) (task cpu : ℕ) (state : Option State) (at : ℕ) (after : History) : Type 0 where
+pub record IsShown (h : History) (task cpu : ℕ) (state : Option TaskState) (at : ℕ) (after : History) : Type 0 where
   pub states : after.states.items ≡ states_after h.window h.states.items (last_of h.last_states.items task) cpu state at
   pub lasts : after.last_states.items ≡ lasts_after h.last_states.items task cpu state at
   pub sums : after.sums ≡ h.sums

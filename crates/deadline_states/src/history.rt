@@ -5,7 +5,7 @@ ghost use Rattle.std.specs.List.{flat_map};
 ghost use Rattle.deadline_states.specs.Histories.{are_still_in, begin_by, begun_at, budget_ended, ended_by, is_budget_still_in, is_still_in, last_of, slice_by, state_ended, sums_ended};
 
 use crate::span::{Span, common};
-use crate::state::{State, is_same};
+use crate::state::{TaskState, is_same};
 use std::alloc::{AllocError, Global};
 use trace_words::Sums;
 
@@ -14,7 +14,7 @@ use trace_words::Sums;
 pub struct Slice {
     pub task: u32,
     pub cpu: u32,
-    pub state: State,
+    pub state: TaskState,
     pub span: Span,
 }
 
@@ -136,7 +136,7 @@ fn end_budget(
 }
 
 /// Whether a task is still in the state of its last slice.
-fn is_still(last: Option<Slice>, cpu: u32, state: Option<State>) -> bool
+fn is_still(last: Option<Slice>, cpu: u32, state: Option<TaskState>) -> bool
     ensures { result ≡ is_still_in last cpu state }
 {
     match (last, state) {
@@ -156,7 +156,7 @@ fn begin_after(last: Option<Slice>, at: u64) -> u64
     }
 }
 
-fn next_slice(task: u32, cpu: u32, state: Option<State>, at: u64) -> Option<Slice>
+fn next_slice(task: u32, cpu: u32, state: Option<TaskState>, at: u64) -> Option<Slice>
     ensures { result ≡ slice_by task cpu state at }
 {
     match state {
@@ -267,7 +267,7 @@ impl History {
         &mut self,
         task: u32,
         cpu: u32,
-        state: Option<State>,
+        state: Option<TaskState>,
         at: u64,
     ) -> Result<(), AllocError>
         ensures { OnOk result (IsShown self.old task cpu state at self.new) }

@@ -10,6 +10,6 @@ mod span;
 mod state;
 
 pub use history::{BudgetSlice, History, Slice, SumsSlice};
-pub use scene::{Scene, TaskName, is_within, marked_at};
+pub use scene::{RecordScene, TaskName, is_within, marked_at};
 pub use span::{Span, common};
-pub use state::{State, is_on_cpu, state_of};
+pub use state::{TaskState, is_on_cpu, state_of};

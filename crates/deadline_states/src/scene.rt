@@ -16,7 +16,7 @@ pub struct TaskName {
 
 /// What is shown of a record: the states of its tasks and runqueues, its timers, and the first that differs.
 #[derive(Clone, Copy)]
-pub struct Scene<'a> {
+pub struct RecordScene<'a> {
     pub history: &'a History,
 
     /// By the numbers of the tasks.
@@ -45,7 +45,7 @@ pub fn is_within(span: Span, at: u64) -> bool
     span.from <= at && at <= span.to
 }
 
-impl<'a> Scene<'a> {
+impl<'a> RecordScene<'a> {
     /// The first observation that differs, where it is in the span.
     pub fn deviation(&self) -> Option<&'a Observation> {
         let observation = self.observations.get(self.first?)?;

@@ -3,12 +3,12 @@
 ghost use Rattle.std.specs.Prelude.{◌≡◌};
 ghost use Rattle.deadline_states.specs.States.{awake_by, is_on_cpu_after, is_same_state, state_by};
 
-use timer_lines::Event;
-use timer_rules::{Activity, Task};
+use timer_lines::KeptEvent;
+use timer_rules::{Activity, DeadlineTask};
 
 /// What a task of SCHED_DEADLINE does.
 #[derive(Clone, Copy, PartialEq, Eq)]
-pub enum State {
+pub enum TaskState {
     /// It is ready, and waits for its CPU.
     Contending,
 
@@ -26,55 +26,55 @@ pub enum State {
 }
 
 /// The state of a task that is on its CPU or not; none where it is on no runqueue.
-pub fn state_of(task: Task, is_on_cpu: bool) -> Option<State>
+pub fn state_of(task: DeadlineTask, is_on_cpu: bool) -> Option<TaskState>
     ensures { result ≡ state_by task is_on_cpu }
 {
     match task.activity {
         Activity::Away => None,
-        Activity::NonContending => Some(State::NonContending),
-        Activity::Inactive => Some(State::Inactive),
+        Activity::NonContending => Some(TaskState::NonContending),
+        Activity::Inactive => Some(TaskState::Inactive),
         Activity::Contending => Some(awake_state(is_on_cpu, task.entity.budget.is_throttled)),
     }
 }
 
-fn awake_state(is_on_cpu: bool, is_throttled: bool) -> State
+fn awake_state(is_on_cpu: bool, is_throttled: bool) -> TaskState
     ensures { result ≡ awake_by is_on_cpu is_throttled }
 {
     if is_on_cpu {
-        State::Running
+        TaskState::Running
     } else if is_throttled {
-        State::Throttled
+        TaskState::Throttled
     } else {
-        State::Contending
+        TaskState::Contending
     }
 }
 
 /// Whether a task is on its CPU after an event: its charge shows it there, and its switch away, its wake or its move that it is not.
-pub fn is_on_cpu(event: Event, number: u32, was: bool) -> bool
+pub fn is_on_cpu(event: KeptEvent, number: u32, was: bool) -> bool
     ensures { result ≡ is_on_cpu_after event number was }
 {
     match event {
-        Event::Ran { task, .. } => was || task == number,
-        Event::Switched {
+        KeptEvent::Ran { task, .. } => was || task == number,
+        KeptEvent::Switched {
             task: Some(task),
             ..
         }
-        | Event::Woken { task, .. }
-        | Event::Migrated { task, .. } => was && task != number,
+        | KeptEvent::Woken { task, .. }
+        | KeptEvent::Migrated { task, .. } => was && task != number,
         _ => was,
     }
 }
 
 /// Whether two states are the same.
-pub(crate) fn is_same(one: State, other: State) -> bool
+pub(crate) fn is_same(one: TaskState, other: TaskState) -> bool
     ensures { result ≡ is_same_state one other }
 {
     match (one, other) {
-        (State::Contending, State::Contending)
-        | (State::Running, State::Running)
-        | (State::Throttled, State::Throttled)
-        | (State::NonContending, State::NonContending)
-        | (State::Inactive, State::Inactive) => true,
+        (TaskState::Contending, TaskState::Contending)
+        | (TaskState::Running, TaskState::Running)
+        | (TaskState::Throttled, TaskState::Throttled)
+        | (TaskState::NonContending, TaskState::NonContending)
+        | (TaskState::Inactive, TaskState::Inactive) => true,
         _ => false,
     }
 }

@@ -2,16 +2,16 @@
 use Rattle.std.specs.Prelude.{ℕ, Bool, true, false, not, ◌&&◌, ◌==◌, nat_lt, if◌then◌else◌, List, [], ◌∷◌, Option, Some, None, slice_get}
 use Rattle.trace_words.specs.declared.fixed.Stop.{Stop}
 use Rattle.trace_words.specs.declared.quantities.Parameters.{Parameters}
-use Rattle.timer_lines.specs.declared.event.Event.{Event}
-use Rattle.timer_lines.specs.declared.event.Event.TheVariants.{Idles, Woken, OtherWoken, Migrated, Ran, Switched, ZeroLagStarted, ReplenishStarted, Cancelled, ZeroLagFired, ReplenishFired}
-use Rattle.timer_lines.specs.declared.event.Kept.{Kept}
+use Rattle.timer_lines.specs.declared.event.KeptEvent.{KeptEvent}
+use Rattle.timer_lines.specs.declared.event.KeptEvent.TheVariants.{Idles, Woken, OtherWoken, Migrated, Ran, Switched, ZeroLagStarted, ReplenishStarted, Cancelled, ZeroLagFired, ReplenishFired}
+use Rattle.timer_lines.specs.declared.event.KeptLine.{KeptLine}
 use Rattle.timer_lines.specs.declared.lines.TaskLines.{TaskLines}
 use Rattle.timer_lines.specs.Votes.{winner_of}
-use Rattle.timer_rules.specs.declared.observation.Kind.TheVariants.{Block, Replenish}
+use Rattle.timer_rules.specs.declared.observation.TimerKind.TheVariants.{Block, Replenish}
 use Rattle.timer_rules.specs.declared.observation.Observation.{Observation}
 use Rattle.timer_rules.specs.declared.server.ServerState.{ServerState}
 use Rattle.timer_rules.specs.declared.server.ServerState.TheVariants.{Active, Stopping}
-use Rattle.timer_rules.specs.declared.task.Task.{Task}
+use Rattle.timer_rules.specs.declared.task.DeadlineTask.{DeadlineTask}
 use Rattle.timer_rules.specs.Observations.{answer_by, block_answer_of, block_moments_of, replenish_moments_of}
 use Rattle.timer_rules.specs.Server.{after_cancel_of, after_fire_of, after_idle_of, after_lag_of, after_wake_of}
 use Rattle.timer_rules.specs.Tasks.{lag_fired_of, lag_started_of, refilled_of, replenished_by, stays_ready_of}
@@ -23,11 +23,11 @@ use Rattle.deadline_timers.specs.States.{State, is_number, noted, owned, owner_a
 use Rattle.deadline_timers.specs.Turns.{at_charge_of, at_hold_of, at_move_of, at_refill_of, at_run_of, at_sight_of, at_switch_of, at_wake_of}
 
 -- a task becomes what a rule makes of it
-abbrev pub edited_by : Option Task → (Task → Task) → ℕ → State → State
+abbrev pub edited_by : Option DeadlineTask → (DeadlineTask → DeadlineTask) → ℕ → State → State
 edited_by (Some t) f n m = replaced n (f t) m
 edited_by None f n m = m
 
-unfoldable pub edited : (Task → Task) → ℕ → State → State
+unfoldable pub edited : (DeadlineTask → DeadlineTask) → ℕ → State → State
 edited f n m = edited_by (slice_get m.tasks n) f n m
 
 -- a fair server comes to what a rule makes of its state
@@ -51,36 +51,36 @@ unfoldable pub woken_in : ℕ → ℕ → ℕ → State → State
 woken_in n cpu clock m = edited (λ t. at_wake_of m.terms t cpu clock) n m
 
 -- sched_stat_runtime
-unfoldable pub charged_in : Kept → ℕ → ℕ → State → State
+unfoldable pub charged_in : KeptLine → ℕ → ℕ → State → State
 charged_in k n nanos m = edited (λ t. at_charge_of m.terms.setup.law t k.at nanos (runqueue_for t.cpu m)) n m
 
-abbrev pub ran_in : Kept → ℕ → ℕ → State → State
+abbrev pub ran_in : KeptLine → ℕ → ℕ → State → State
 ran_in k n nanos m = charged_in k n nanos (edited at_refill_of n (edited (λ t. at_run_of t k) n m))
 
 -- sched_switch away: a block is observed, and then the task is switched out
-abbrev pub blocks_of : Task → Bool → Stop → Bool
+abbrev pub blocks_of : DeadlineTask → Bool → Stop → Bool
 blocks_of t deadline stop = deadline && t.entity.is_in_class && not (stays_ready_of stop)
 
-abbrev pub block_observation : Kept → ℕ → Task → Stop → State → Observation
+abbrev pub block_observation : KeptLine → ℕ → DeadlineTask → Stop → State → Observation
 block_observation k n t stop m =
     let moments = block_moments_of t k.at in
     observation_of k n t Block moments (sums_of (slice_get m.runqueues t.cpu) m.taken) (block_answer_of t stop moments.difference m.terms.within)
 
-abbrev pub block_seen_by : Option Task → Kept → ℕ → Bool → Stop → State → State
+abbrev pub block_seen_by : Option DeadlineTask → KeptLine → ℕ → Bool → Stop → State → State
 block_seen_by (Some t) k n deadline stop m = if blocks_of t deadline stop then noted (block_observation k n t stop m) m else m
 block_seen_by None k n deadline stop m = m
 
-unfoldable pub block_seen : Kept → ℕ → Bool → Stop → State → State
+unfoldable pub block_seen : KeptLine → ℕ → Bool → Stop → State → State
 block_seen k n deadline stop m = block_seen_by (slice_get m.tasks n) k n deadline stop m
 
 abbrev pub sighted_if : Bool → List TaskLines → ℕ → ℕ → State → State
 sighted_if deadline xs n cpu m = if deadline then sighted_in xs n cpu m else m
 
-abbrev pub switched_in : List TaskLines → Kept → ℕ → Bool → Stop → State → State
+abbrev pub switched_in : List TaskLines → KeptLine → ℕ → Bool → Stop → State → State
 switched_in xs k n deadline stop m =
     edited (λ t. at_switch_of t k deadline stop) n (block_seen k n deadline stop (edited refilled_of n (sighted_if deadline xs n k.cpu m)))
 
-abbrev pub switched_by : Option ℕ → List TaskLines → Kept → Bool → Stop → State → State
+abbrev pub switched_by : Option ℕ → List TaskLines → KeptLine → Bool → Stop → State → State
 switched_by (Some n) xs k deadline stop m = switched_in xs k n deadline stop m
 switched_by None xs k deadline stop m = m
 
@@ -98,7 +98,7 @@ own_timer_of xs timer (Some n) = if owns_by (slice_get xs n) timer then Some n e
 own_timer_of xs timer None = None
 
 -- inactive_task_timer is started; one that is not the running task's own is a fair server's that stops
-unfoldable pub lag_started_by : Option ℕ → Kept → ℕ → ℕ → State → State
+unfoldable pub lag_started_by : Option ℕ → KeptLine → ℕ → ℕ → State → State
 lag_started_by (Some n) k timer expires m = edited (λ t. lag_started_of t k.at expires) n (owned timer (owners.Task n) m)
 lag_started_by None k timer expires m = served_where_any Stopping k.cpu (owned timer (owners.Server k.cpu) m)
 
@@ -109,19 +109,19 @@ lag_fired_by (owners.Task n) m = edited lag_fired_of n m
 lag_fired_by (owners.Server cpu) m = turned after_lag_of cpu m
 
 -- dl_task_timer is started: it is observed as the task is then
-abbrev pub hold_observation : Kept → ℕ → Task → ℕ → State → Observation
+abbrev pub hold_observation : KeptLine → ℕ → DeadlineTask → ℕ → State → Observation
 hold_observation k n t expires m =
     let moments = replenish_moments_of t k.at expires in
     observation_of k n t Replenish moments (sums_of (slice_get m.runqueues t.cpu) m.taken) (answer_by t.knowledge moments.difference m.terms.within)
 
-abbrev pub hold_seen_by : Option Task → Kept → ℕ → ℕ → State → State
+abbrev pub hold_seen_by : Option DeadlineTask → KeptLine → ℕ → ℕ → State → State
 hold_seen_by (Some t) k n expires m = if t.entity.is_in_class then noted (hold_observation k n t expires m) m else m
 hold_seen_by None k n expires m = m
 
-unfoldable pub hold_seen : Kept → ℕ → ℕ → State → State
+unfoldable pub hold_seen : KeptLine → ℕ → ℕ → State → State
 hold_seen k n expires m = hold_seen_by (slice_get m.tasks n) k n expires m
 
-unfoldable pub replenish_started_by : Owner → Kept → ℕ → State → State
+unfoldable pub replenish_started_by : Owner → KeptLine → ℕ → State → State
 replenish_started_by owners.Nobody k expires m = m
 replenish_started_by (owners.Task n) k expires m = hold_seen k n expires (edited (λ t. at_hold_of t k.at) n m)
 replenish_started_by (owners.Server cpu) k expires m = served_where_any Active cpu m
@@ -130,7 +130,7 @@ replenish_started_by (owners.Server cpu) k expires m = served_where_any Active c
 abbrev pub after_fire_at : Bool → ServerState → ServerState
 after_fire_at picked s = if picked then after_idle_of (after_fire_of s) else after_fire_of s
 
-unfoldable pub replenish_fired_by : Owner → Kept → State → State
+unfoldable pub replenish_fired_by : Owner → KeptLine → State → State
 replenish_fired_by owners.Nobody k m = m
 replenish_fired_by (owners.Task n) k m = edited (λ t. replenished_by t k.at) n m
 replenish_fired_by (owners.Server cpu) k m = turned (after_fire_at (picks_of m.terms.setup.servers && k.is_idle)) cpu m
@@ -141,7 +141,7 @@ cancelled_by owners.Nobody m = m
 cancelled_by (owners.Task n) m = m
 cancelled_by (owners.Server cpu) m = if stops_with_timer_of m.terms.setup.servers then turned after_cancel_of cpu m else m
 
-abbrev pub event_in : Event → List TaskLines → Kept → State → State
+abbrev pub event_in : KeptEvent → List TaskLines → KeptLine → State → State
 event_in Idles xs k m = m
 event_in (Woken n cpu clock) xs k m = woken_in n cpu clock (sighted_in xs n cpu m)
 event_in (OtherWoken cpu) xs k m = served_where_any (after_wake_of (server_at cpu m)) cpu m
@@ -154,7 +154,7 @@ event_in (Cancelled timer) xs k m = cancelled_by (owner_at timer m) m
 event_in (ZeroLagFired timer) xs k m = lag_fired_by (owner_at timer m) m
 event_in (ReplenishFired timer) xs k m = replenish_fired_by (owner_at timer m) k m
 
-abbrev pub is_of_timer_by : Event → Bool
+abbrev pub is_of_timer_by : KeptEvent → Bool
 is_of_timer_by (ZeroLagStarted timer n expires) = true
 is_of_timer_by (ReplenishStarted timer expires) = true
 is_of_timer_by (ZeroLagFired timer) = true
@@ -162,5 +162,5 @@ is_of_timer_by (ReplenishFired timer) = true
 is_of_timer_by _ = false
 
 -- a line: where fair servers stop at a pick, any line of an idle CPU but a timer's tells of one
-unfoldable pub step_in : List TaskLines → Kept → State → State
+unfoldable pub step_in : List TaskLines → KeptLine → State → State
 step_in xs k m = event_in k.event xs k (idled_in (picks_of m.terms.setup.servers && k.is_idle && not (is_of_timer_by k.event)) k.cpu m)

@@ -6,23 +6,23 @@ use Rattle.trace_words.specs.declared.note.Limit.{Limit}
 use Rattle.trace_words.specs.declared.note.Limit.TheVariants.{MaxBw, Runtime}
 use Rattle.deadline_rules.specs.Clock.{less, ratio_of, times}
 use Rattle.deadline_rules.specs.Sums.{share_of}
-use Rattle.deadline_rules.specs.declared.charge.Law.{Law}
-use Rattle.deadline_rules.specs.declared.charge.Law.TheVariants.{LinuxBefore65, LinuxFrom65, Documentation}
+use Rattle.deadline_rules.specs.declared.charge.ChargeLaw.{ChargeLaw}
+use Rattle.deadline_rules.specs.declared.charge.ChargeLaw.TheVariants.{LinuxBefore65, LinuxFrom65, Documentation}
 use Rattle.deadline_timers.specs.declared.setup.FairServer.{FairServer}
 use Rattle.deadline_timers.specs.declared.setup.FairServer.TheVariants as fair
 use Rattle.deadline_timers.specs.declared.setup.Limits.{Limits}
 use Rattle.deadline_timers.specs.declared.setup.NoSums.{NoSums}
-use Rattle.deadline_timers.specs.declared.setup.Options.{Options}
-use Rattle.deadline_timers.specs.declared.setup.Start.{Start}
+use Rattle.deadline_timers.specs.declared.setup.KernelSettings.{KernelSettings}
+use Rattle.deadline_timers.specs.declared.setup.RecordStart.{RecordStart}
 use Rattle.deadline_timers.specs.declared.setup.Servers.{Servers}
 use Rattle.deadline_timers.specs.declared.setup.Servers.TheVariants.{Absent, StopWithTimer, StopAtPick, StopAtIdle}
-use Rattle.deadline_timers.specs.declared.setup.Setup.{Setup}
+use Rattle.deadline_timers.specs.declared.setup.RecordSetup.{RecordSetup}
 
 -- of this version or later
 abbrev pub is_from_of : Kernel → ℕ → ℕ → Bool
 is_from_of k major minor = nat_lt major k.major || (k.major == major && nat_le minor k.minor)
 
-abbrev pub law_by_kernel : Kernel → Law
+abbrev pub law_by_kernel : Kernel → ChargeLaw
 law_by_kernel k = if is_from_of k 6 5 then LinuxFrom65 else LinuxBefore65
 
 abbrev pub servers_by : Kernel → Servers
@@ -56,11 +56,11 @@ server_bw_by (fair.Reserves runtime period) s = ratio_of runtime period
 server_bw_by fair.Default s = if is_absent s then 0 else ratio_of 50000000 1000000000
 
 -- the root domain's first processor has other limits before 6.5
-abbrev pub limits_at : Setup → ℕ → Limits
+abbrev pub limits_at : RecordSetup → ℕ → Limits
 limits_at s cpu = if cpu == s.first_cpu then s.first else s.others
 
 -- extra_bw where only the fair servers were admitted
-abbrev pub first_extra_of : Setup → ℕ → ℕ
+abbrev pub first_extra_of : RecordSetup → ℕ → ℕ
 first_extra_of s cpu = less (limits_at s cpu).max_bw (times s.cpus (share_of s.server_bw s.cpus))
 
 -- __pick_task_dl: a fair server stops when it is picked and has no task
@@ -84,10 +84,10 @@ default_limit = Runtime (pos 950000) 1000000
 abbrev pub other_limits_by : Kernel → Limits → Limits
 other_limits_by k first = if is_from_of k 6 5 then first else limits_by default_limit
 
-abbrev pub law_for : Options → Kernel → Law
+abbrev pub law_for : KernelSettings → Kernel → ChargeLaw
 law_for o k = if o.is_by_documentation then Documentation else law_by_kernel k
 
-abbrev pub fixed_of : Options → Start → Kernel → Setup
+abbrev pub fixed_of : KernelSettings → RecordStart → Kernel → RecordSetup
 fixed_of o x k = record {
   law = law_for o k;
   servers = servers_by k;
@@ -102,7 +102,7 @@ fixed_of o x k = record {
 abbrev pub wants_sums_of : Servers → Bool
 wants_sums_of s = stops_with_timer_of s || picks_of s
 
-abbrev pub setup_by : Options → Start → Result Setup NoSums
+abbrev pub setup_by : KernelSettings → RecordStart → Result RecordSetup NoSums
 setup_by o x =
     let k = unwrap_or o.kernel current in
     if wants_sums_of (servers_by k) && length x.sums.items == 0 then Err (record { kernel = k }) else Ok (fixed_of o x k)

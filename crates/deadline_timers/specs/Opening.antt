@@ -4,21 +4,21 @@ use Rattle.std.specs.List.{range_with_len}
 use Rattle.trace_words.specs.declared.quantities.Sums.{Sums}
 use Rattle.timer_lines.specs.declared.lines.FirstLine.{FirstLine}
 use Rattle.timer_lines.specs.declared.lines.FirstLine.TheVariants.{Start as WithStart}
-use Rattle.timer_lines.specs.declared.lines.Lines.{Lines}
+use Rattle.timer_lines.specs.declared.lines.KeptLines.{KeptLines}
 use Rattle.timer_lines.specs.declared.lines.TimerLines.{TimerLines}
 use Rattle.timer_lines.specs.Timers.{is_of_task_by}
 use Rattle.timer_lines.specs.Votes.{winner_of}
 use Rattle.timer_rules.specs.declared.runqueue.Runqueue.{Runqueue}
 use Rattle.timer_rules.specs.declared.server.ServerState.{ServerState}
 use Rattle.timer_rules.specs.declared.server.ServerState.TheVariants.{Stopped, Active}
-use Rattle.timer_rules.specs.declared.task.Task.{Task}
+use Rattle.timer_rules.specs.declared.task.DeadlineTask.{DeadlineTask}
 use Rattle.timer_rules.specs.Tasks.{unseen_task}
 use Rattle.deadline_timers.specs.declared.machine.Owner.{Owner}
 use Rattle.deadline_timers.specs.declared.machine.Owner.TheVariants.{Nobody, Task as OfTask, Server}
 use Rattle.deadline_timers.specs.declared.setup.RunqueueSums.{RunqueueSums}
-use Rattle.deadline_timers.specs.declared.setup.Setup.{Setup}
-use Rattle.deadline_timers.specs.declared.setup.Start.{Start}
-use Rattle.deadline_timers.specs.declared.terms.Terms.{Terms}
+use Rattle.deadline_timers.specs.declared.setup.RecordSetup.{RecordSetup}
+use Rattle.deadline_timers.specs.declared.setup.RecordStart.{RecordStart}
+use Rattle.deadline_timers.specs.declared.terms.PlayTerms.{PlayTerms}
 use Rattle.deadline_timers.specs.Kernels.{first_extra_of}
 use Rattle.deadline_timers.specs.States.{State, is_number}
 
@@ -46,7 +46,7 @@ abbrev pub runs_at_first : Bool → ServerState
 runs_at_first runs = if runs then Active else Stopped
 
 -- where no note tells the sums, the fair servers alone are in them
-abbrev pub untold_runqueue : Setup → ℕ → Bool → Runqueue
+abbrev pub untold_runqueue : RecordSetup → ℕ → Bool → Runqueue
 untold_runqueue s cpu stopped =
     let runs = nat_lt 0 s.server_bw && not stopped in
     record {
@@ -55,28 +55,28 @@ untold_runqueue s cpu stopped =
       is_told = false;
     }
 
-abbrev pub told_runqueue : Setup → Sums → Runqueue
+abbrev pub told_runqueue : RecordSetup → Sums → Runqueue
 told_runqueue s sums = record { sums = sums; server = runs_at_first (nat_lt 0 s.server_bw && nat_le s.server_bw sums.running_bw); is_told = true }
 
 -- of the notes of a CPU the last
 abbrev pub later_of : ℕ → Option RunqueueSums → RunqueueSums → Option RunqueueSums
 later_of cpu found x = if x.cpu == cpu then Some x else found
 
-abbrev pub first_by : Option RunqueueSums → Setup → List TimerLines → ℕ → Runqueue
+abbrev pub first_by : Option RunqueueSums → RecordSetup → List TimerLines → ℕ → Runqueue
 first_by (Some x) s timers cpu = told_runqueue s x.sums
 first_by None s timers cpu = untold_runqueue s cpu (is_some (position (starts_server cpu) timers))
 
-unfoldable pub first_runqueue : Setup → List RunqueueSums → List TimerLines → ℕ → Runqueue
+unfoldable pub first_runqueue : RecordSetup → List RunqueueSums → List TimerLines → ℕ → Runqueue
 first_runqueue s xs timers cpu = first_by (fold (later_of cpu) None xs) s timers cpu
 
 -- up to the greatest CPU of the root domain and of the notes
-abbrev pub cpus_of : Start → ℕ
+abbrev pub cpus_of : RecordStart → ℕ
 cpus_of x = min (max (fold max 0 x.domain.items) (fold (λ (most : ℕ) (y : RunqueueSums). max most y.cpu) 0 x.sums.items) + 1) (2 ^ 32 - 1)
 
-unfoldable pub opened : Terms → List Task → List Runqueue → List Owner → State
+unfoldable pub opened : PlayTerms → List DeadlineTask → List Runqueue → List Owner → State
 opened f ts rs os = record { terms = f; tasks = ts; runqueues = rs; taken = 0; owners = os; seen = [] }
 
-unfoldable pub first_state : Setup → Start → Lines → ℕ → State
+unfoldable pub first_state : RecordSetup → RecordStart → KeptLines → ℕ → State
 first_state s x lines within =
     opened (record { setup = s; begins = unwrap_or lines.begins 0; within = within }) (map (λ y. unseen_task) lines.tasks.items)
     (map (first_runqueue s x.sums.items lines.timers.items) (range_with_len 0 (cpus_of x))) (map first_owner lines.timers.items)

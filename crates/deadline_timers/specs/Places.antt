@@ -1,14 +1,14 @@
 -- What the lists of tasks and runqueues become.
 use Rattle.std.specs.Prelude.{ℕ, List, Option, Some, None, slice_get, slice_set}
 use Rattle.trace_words.specs.declared.quantities.Sums.{Sums}
-use Rattle.timer_lines.specs.declared.event.Kept.{Kept}
+use Rattle.timer_lines.specs.declared.event.KeptLine.{KeptLine}
 use Rattle.deadline_rules.specs.Clock.{plus, less}
-use Rattle.timer_rules.specs.declared.observation.Answer.{Answer}
-use Rattle.timer_rules.specs.declared.observation.Kind.{Kind}
+use Rattle.timer_rules.specs.declared.observation.ObservedAnswer.{ObservedAnswer}
+use Rattle.timer_rules.specs.declared.observation.TimerKind.{TimerKind}
 use Rattle.timer_rules.specs.declared.observation.Moments.{Moments}
 use Rattle.timer_rules.specs.declared.observation.Observation.{Observation}
 use Rattle.timer_rules.specs.declared.runqueue.Runqueue.{Runqueue}
-use Rattle.timer_rules.specs.declared.task.Task.{Task}
+use Rattle.timer_rules.specs.declared.task.DeadlineTask.{DeadlineTask}
 use Rattle.timer_rules.specs.Effects.{task_effect_of, task_share_of, with_of, without_of}
 
 -- the runqueue of a CPU becomes what a rule makes of it
@@ -20,13 +20,13 @@ abbrev pub at_cpu : (Runqueue → Runqueue) → List Runqueue → ℕ → List R
 at_cpu f rs cpu = at_cpu_by (slice_get rs cpu) f rs cpu
 
 -- a task becomes another: its runqueue loses what it had in the sums, and the other's gains what that has
-abbrev pub runqueues_after : Option Task → Task → List Runqueue → List Runqueue
+abbrev pub runqueues_after : Option DeadlineTask → DeadlineTask → List Runqueue → List Runqueue
 runqueues_after (Some before) t rs =
     at_cpu (λ r. with_of r (task_effect_of t)) (at_cpu (λ r. without_of r (task_effect_of before)) rs before.cpu) t.cpu
 runqueues_after None t rs = rs
 
 -- and so does extra_bw of each CPU of the root domain, modulo 2 ^ 64
-abbrev pub taken_after : Option Task → Task → ℕ → ℕ → ℕ
+abbrev pub taken_after : Option DeadlineTask → DeadlineTask → ℕ → ℕ → ℕ
 taken_after (Some before) t cpus taken = plus (less taken (task_share_of before cpus)) (task_share_of t cpus)
 taken_after None t cpus taken = taken
 
@@ -36,7 +36,7 @@ sums_of (Some r) taken = record { this_bw = r.sums.this_bw; running_bw = r.sums.
 sums_of None taken = record { this_bw = 0; running_bw = 0; extra_bw = 0 }
 
 -- an observation is of the task as it is at the line
-abbrev pub observation_of : Kept → ℕ → Task → Kind → Moments → Sums → Answer → Observation
+abbrev pub observation_of : KeptLine → ℕ → DeadlineTask → TimerKind → Moments → Sums → ObservedAnswer → Observation
 observation_of k number t kind m sums answer = record {
   line = k.line;
   at = k.at;

@@ -1,33 +1,33 @@
 -- The tasks and runqueues of a record, and what each line makes of them.
 use Rattle.std.specs.Prelude.{ℕ, ◌+◌, ◌^◌, Bool, false, ◌&&◌, ◌||◌, ◌==◌, if◌then◌else◌, List, [], ◌∷◌, ◌++◌, Option, Some, None, slice_get, slice_set}
-use Rattle.deadline_rules.specs.declared.charge.Runqueue.{Runqueue as Charging}
+use Rattle.deadline_rules.specs.declared.charge.ChargedRunqueue.{ChargedRunqueue}
 use Rattle.timer_rules.specs.declared.observation.Observation.{Observation}
 use Rattle.timer_rules.specs.declared.runqueue.Runqueue.{Runqueue}
 use Rattle.timer_rules.specs.declared.server.ServerState.{ServerState}
 use Rattle.timer_rules.specs.declared.server.ServerState.TheVariants.{Stopped}
-use Rattle.timer_rules.specs.declared.task.Task.{Task}
+use Rattle.timer_rules.specs.declared.task.DeadlineTask.{DeadlineTask}
 use Rattle.timer_rules.specs.Effects.{served_of}
-use Rattle.deadline_timers.specs.declared.machine.Machine.{Machine}
+use Rattle.deadline_timers.specs.declared.machine.TimedMachine.{TimedMachine}
 use Rattle.deadline_timers.specs.declared.machine.Owner.{Owner}
 use Rattle.deadline_timers.specs.declared.machine.Owner.TheVariants as owners
-use Rattle.deadline_timers.specs.declared.terms.Terms.{Terms}
+use Rattle.deadline_timers.specs.declared.terms.PlayTerms.{PlayTerms}
 use Rattle.deadline_timers.specs.Kernels.{limits_at}
 use Rattle.deadline_timers.specs.Places.{at_cpu, runqueues_after, sums_of, taken_after}
 
 -- what is fixed; tasks and runqueues; what is taken from each extra_bw; whose each timer is; what was observed
 pub record State : Type 0 where
-  pub terms : Terms
-  pub tasks : List Task
+  pub terms : PlayTerms
+  pub tasks : List DeadlineTask
   pub runqueues : List Runqueue
   pub taken : ℕ
   pub owners : List Owner
   pub seen : List Observation
 
-abbrev pub state_of : Machine → State
+abbrev pub state_of : TimedMachine → State
 state_of m = record { terms = m.terms; tasks = m.tasks.items; runqueues = m.runqueues.items; taken = m.taken; owners = m.owners.items; seen = m.observations.items }
 
 -- a task becomes another
-unfoldable pub replaced : ℕ → Task → State → State
+unfoldable pub replaced : ℕ → DeadlineTask → State → State
 replaced n t m = record m {
   tasks = slice_set m.tasks n t;
   runqueues = runqueues_after (slice_get m.tasks n) t m.runqueues;
@@ -43,7 +43,7 @@ abbrev pub is_told_at : List Runqueue → ℕ → Bool
 is_told_at rs cpu = is_told_by (slice_get rs cpu)
 
 -- a task was there before the record began: sums that a note tells have it already
-unfoldable pub begun_with : ℕ → Task → State → State
+unfoldable pub begun_with : ℕ → DeadlineTask → State → State
 begun_with n t m = if is_told_at m.runqueues t.cpu then record m { tasks = slice_set m.tasks n t } else replaced n t m
 
 -- the fair server of a CPU comes to another state
@@ -75,5 +75,5 @@ is_number (Some a) b = a == b
 is_number None b = false
 
 -- what a charge on a CPU reads
-abbrev pub runqueue_for : ℕ → State → Charging
+abbrev pub runqueue_for : ℕ → State → ChargedRunqueue
 runqueue_for cpu m = record { sums = sums_of (slice_get m.runqueues cpu) m.taken; max_bw = (limits_at m.terms.setup cpu).max_bw; bw_ratio = (limits_at m.terms.setup cpu).bw_ratio }

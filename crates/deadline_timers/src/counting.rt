@@ -1,34 +1,34 @@
 //! Which rule a line puts to the test.
 
-use crate::counts::Rule;
+use crate::counts::TimerRule;
 use deadline_rules::{Charge, Wake};
 use timer_rules::{Throttling, Waking};
 
 /// The rule that a wake puts to the test.
-pub(crate) fn rule_of_wake(waking: Waking) -> Rule {
+pub(crate) fn rule_of_wake(waking: Waking) -> TimerRule {
     match waking {
-        Waking::StaysThrottled => Rule::WakeThrottled,
-        Waking::Waits => Rule::WakeWaits,
-        Waking::Guessed | Waking::Sure | Waking::Tested(Wake::Renewed) => Rule::WakeRenewed,
-        Waking::Tested(Wake::Kept) => Rule::WakeKept,
-        Waking::Tested(Wake::Revised) => Rule::WakeRevised,
+        Waking::StaysThrottled => TimerRule::WakeThrottled,
+        Waking::Waits => TimerRule::WakeWaits,
+        Waking::Guessed | Waking::Sure | Waking::Tested(Wake::Renewed) => TimerRule::WakeRenewed,
+        Waking::Tested(Wake::Kept) => TimerRule::WakeKept,
+        Waking::Tested(Wake::Revised) => TimerRule::WakeRevised,
     }
 }
 
 /// The rule that a charge puts to the test.
-pub(crate) fn rule_of_charge(charge: Charge) -> Rule {
+pub(crate) fn rule_of_charge(charge: Charge) -> TimerRule {
     match charge {
-        Charge::InFull => Rule::ChargeInFull,
-        Charge::ByItsBandwidth => Rule::ChargeByBandwidth,
-        Charge::ByWhatIsLeft => Rule::ChargeByWhatIsLeft,
+        Charge::InFull => TimerRule::ChargeInFull,
+        Charge::ByItsBandwidth => TimerRule::ChargeByBandwidth,
+        Charge::ByWhatIsLeft => TimerRule::ChargeByWhatIsLeft,
     }
 }
 
 /// The rule that a start of a replenishment timer puts to the test.
-pub(crate) fn rule_of_throttling(throttling: Throttling) -> Rule {
+pub(crate) fn rule_of_throttling(throttling: Throttling) -> TimerRule {
     match throttling {
-        Throttling::Yields => Rule::Yielded,
-        Throttling::Waits => Rule::WakeWaits,
-        Throttling::UsedUp | Throttling::Untold => Rule::Throttled,
+        Throttling::Yields => TimerRule::Yielded,
+        Throttling::Waits => TimerRule::WakeWaits,
+        Throttling::UsedUp | Throttling::Untold => TimerRule::Throttled,
     }
 }

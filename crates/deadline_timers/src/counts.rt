@@ -2,7 +2,7 @@
 
 /// A rule.
 #[derive(Clone, Copy, PartialEq, Eq)]
-pub enum Rule {
+pub enum TimerRule {
     ChargeInFull,
     ChargeByBandwidth,
     ChargeByWhatIsLeft,
@@ -30,7 +30,7 @@ pub enum Rule {
 
 /// How often each rule was put to the test.
 #[derive(Clone, Copy)]
-pub struct Counts {
+pub struct TimerRuleCounts {
     pub in_full: u64,
     pub by_bandwidth: u64,
     pub by_what_is_left: u64,
@@ -54,9 +54,9 @@ pub struct Counts {
     pub gaps: u64,
 }
 
-impl Counts {
-    pub fn new() -> Counts {
-        Counts {
+impl TimerRuleCounts {
+    pub fn new() -> TimerRuleCounts {
+        TimerRuleCounts {
             in_full: 0,
             by_bandwidth: 0,
             by_what_is_left: 0,
@@ -82,29 +82,29 @@ impl Counts {
     }
 
     /// One more of a rule.
-    pub fn add(&mut self, rule: Rule) {
+    pub fn add(&mut self, rule: TimerRule) {
         let count = match rule {
-            Rule::ChargeInFull => &mut self.in_full,
-            Rule::ChargeByBandwidth => &mut self.by_bandwidth,
-            Rule::ChargeByWhatIsLeft => &mut self.by_what_is_left,
-            Rule::WakeKept => &mut self.kept,
-            Rule::WakeRevised => &mut self.revised,
-            Rule::WakeRenewed => &mut self.renewed,
-            Rule::WakeWaits => &mut self.waits,
-            Rule::WakeThrottled => &mut self.woken_throttled,
-            Rule::Replenished => &mut self.replenished,
-            Rule::ReplenishedAtOnce => &mut self.replenished_at_once,
-            Rule::Throttled => &mut self.throttled,
-            Rule::Yielded => &mut self.yielded,
-            Rule::Admitted => &mut self.admitted,
-            Rule::Changed => &mut self.changed,
-            Rule::Left => &mut self.left,
-            Rule::Ended => &mut self.ended,
-            Rule::Moved => &mut self.moved,
-            Rule::ServerStarted => &mut self.server_starts,
-            Rule::ServerStopped => &mut self.server_stops,
-            Rule::Edge => &mut self.edges,
-            Rule::Gap => &mut self.gaps,
+            TimerRule::ChargeInFull => &mut self.in_full,
+            TimerRule::ChargeByBandwidth => &mut self.by_bandwidth,
+            TimerRule::ChargeByWhatIsLeft => &mut self.by_what_is_left,
+            TimerRule::WakeKept => &mut self.kept,
+            TimerRule::WakeRevised => &mut self.revised,
+            TimerRule::WakeRenewed => &mut self.renewed,
+            TimerRule::WakeWaits => &mut self.waits,
+            TimerRule::WakeThrottled => &mut self.woken_throttled,
+            TimerRule::Replenished => &mut self.replenished,
+            TimerRule::ReplenishedAtOnce => &mut self.replenished_at_once,
+            TimerRule::Throttled => &mut self.throttled,
+            TimerRule::Yielded => &mut self.yielded,
+            TimerRule::Admitted => &mut self.admitted,
+            TimerRule::Changed => &mut self.changed,
+            TimerRule::Left => &mut self.left,
+            TimerRule::Ended => &mut self.ended,
+            TimerRule::Moved => &mut self.moved,
+            TimerRule::ServerStarted => &mut self.server_starts,
+            TimerRule::ServerStopped => &mut self.server_stops,
+            TimerRule::Edge => &mut self.edges,
+            TimerRule::Gap => &mut self.gaps,
         };
         *count = count.saturating_add(1);
     }

@@ -7,17 +7,17 @@ ghost use Rattle.deadline_timers.specs.Turns.{at_move_of, at_refill_of, at_run_o
 ghost use Rattle.timer_rules.specs.Tasks.{refilled_of};
 
 use crate::counting::{rule_of_charge, rule_of_wake};
-use crate::counts::Rule;
-use crate::machine::{Charged, Machine, observation};
+use crate::counts::TimerRule;
+use crate::machine::{Charged, TimedMachine, observation};
 use crate::turns::{
     at_charge, at_move, at_refill, at_run, at_sight, at_switch, at_wake, is_edge_wake, runs,
     runs_late, wakes,
 };
-use deadline_rules::{Runqueue, charging, cost};
+use deadline_rules::{ChargedRunqueue, charging, cost};
 use std::alloc::AllocError;
-use timer_lines::{Kept, TaskLines};
+use timer_lines::{KeptLine, TaskLines};
 use timer_rules::{
-    Answer, Kind, Observation, ServerState, Task, after_idle, block_answer, block_moments, ends,
+    ObservedAnswer, TimerKind, Observation, ServerState, DeadlineTask, after_idle, block_answer, block_moments, ends,
     refilled, refills, stays_ready, waking_of,
 };
 use trace_words::{Parameters, Stop};
@@ -36,13 +36,13 @@ fn given(tasks: &[TaskLines], number: u32) -> Option<Parameters>
 }
 
 /// Whether a switch away is a block of a task of the class.
-fn blocks(task: Task, is_deadline: bool, stop: Stop) -> bool
+fn blocks(task: DeadlineTask, is_deadline: bool, stop: Stop) -> bool
     ensures { result ≡ blocks_of task is_deadline stop }
 {
     is_deadline && task.entity.is_in_class && !stays_ready(stop)
 }
 
-impl Machine {
+impl TimedMachine {
     /// A line shows a task in the class: one that an option gives is admitted at the first.
     #[tactic(auto, unfolding(crate::specs::Events::sighted_in, crate::specs::Events::edited))]
     pub(crate) fn sight(&mut self, tasks: &[TaskLines], number: u32, cpu: u32)
@@ -53,7 +53,7 @@ impl Machine {
         };
         let after = at_sight(task, given(tasks, number), cpu);
         if after.entity.is_in_class && !task.entity.is_in_class {
-            self.counts.add(Rule::Admitted);
+            self.counts.add(TimerRule::Admitted);
         }
         self.replace(number, after);
     }
@@ -71,14 +71,14 @@ impl Machine {
         self.replace(number, after);
     }
 
-    fn count_wake(&mut self, line: u64, number: u32, task: Task, clock: u64)
+    fn count_wake(&mut self, line: u64, number: u32, task: DeadlineTask, clock: u64)
         ensures { state_of self.new ≡ state_of self.old }
     {
         if wakes(task) {
             let waking = waking_of(self.terms.setup.law, task, self.terms.begins, clock);
             self.counts.add(rule_of_wake(waking));
             if is_edge_wake(self.terms.setup.law, task, waking, clock) {
-                self.counts.add(Rule::Edge);
+                self.counts.add(TimerRule::Edge);
             }
             if self.keeps(number, line) {
                 self.charges.clear();
@@ -95,13 +95,13 @@ impl Machine {
             return;
         };
         if runs(task) && task.cpu != cpu {
-            self.counts.add(Rule::Moved);
+            self.counts.add(TimerRule::Moved);
         }
         self.replace(number, at_move(task, cpu));
     }
 
     /// A task runs, and is charged.
-    pub(crate) fn run(&mut self, kept: Kept, number: u32, nanos: u64) -> Result<(), AllocError>
+    pub(crate) fn run(&mut self, kept: KeptLine, number: u32, nanos: u64) -> Result<(), AllocError>
         ensures { OnOk result (state_of self.new ≡ ran_in kept number nanos (state_of self.old)) }
     {
         self.show(kept, number);
@@ -111,7 +111,7 @@ impl Machine {
 
     /// A line shows a task that runs.
     #[tactic(auto, unfolding(crate::specs::Events::edited))]
-    fn show(&mut self, kept: Kept, number: u32)
+    fn show(&mut self, kept: KeptLine, number: u32)
         ensures { state_of self.new ≡ edited (λ t. at_run_of t kept) number (state_of self.old) }
     {
         let Some(task) = self.task(number) else {
@@ -129,7 +129,7 @@ impl Machine {
             return;
         };
         if runs_late(task) && refills(task) {
-            self.counts.add(Rule::ReplenishedAtOnce);
+            self.counts.add(TimerRule::ReplenishedAtOnce);
         }
         self.replace(number, at_refill(task));
     }
@@ -143,14 +143,14 @@ impl Machine {
             return;
         };
         if refills(task) {
-            self.counts.add(Rule::ReplenishedAtOnce);
+            self.counts.add(TimerRule::ReplenishedAtOnce);
         }
         self.replace(number, refilled(task));
     }
 
     /// A task is charged.
     #[tactic(auto, unfolding(crate::specs::Events::charged_in, crate::specs::Events::edited))]
-    fn charge(&mut self, kept: Kept, number: u32, nanos: u64) -> Result<(), AllocError>
+    fn charge(&mut self, kept: KeptLine, number: u32, nanos: u64) -> Result<(), AllocError>
         ensures { OnOk result (state_of self.new
             ≡ charged_in kept number nanos (state_of self.old)) }
     {
@@ -167,11 +167,11 @@ impl Machine {
     /// A charge is counted, and kept where its task is watched.
     fn keep_charge(
         &mut self,
-        kept: Kept,
+        kept: KeptLine,
         number: u32,
-        task: Task,
+        task: DeadlineTask,
         nanos: u64,
-        runqueue: Runqueue,
+        runqueue: ChargedRunqueue,
     ) -> Result<(), AllocError>
         ensures { state_of self.new ≡ state_of self.old }
     {
@@ -206,7 +206,7 @@ impl Machine {
     pub(crate) fn switch_some(
         &mut self,
         tasks: &[TaskLines],
-        kept: Kept,
+        kept: KeptLine,
         number: Option<u32>,
         is_deadline: bool,
         stop: Stop,
@@ -224,7 +224,7 @@ impl Machine {
     fn switch(
         &mut self,
         tasks: &[TaskLines],
-        kept: Kept,
+        kept: KeptLine,
         number: u32,
         is_deadline: bool,
         stop: Stop,
@@ -252,7 +252,7 @@ impl Machine {
     #[tactic(auto, unfolding(crate::specs::Events::block_seen))]
     fn see_block(
         &mut self,
-        kept: Kept,
+        kept: KeptLine,
         number: u32,
         is_deadline: bool,
         stop: Stop,
@@ -273,28 +273,28 @@ impl Machine {
     }
 
     /// The observation of a block.
-    fn block(&self, kept: Kept, number: u32, task: Task, stop: Stop) -> Observation
+    fn block(&self, kept: KeptLine, number: u32, task: DeadlineTask, stop: Stop) -> Observation
         ensures { result ≡ block_observation kept number task stop (state_of self.now) }
     {
         let moments = block_moments(task, kept.at);
         let answer = block_answer(task, stop, moments.difference, self.terms.within);
         let sums = self.sums(task.cpu);
-        observation(kept, number, task, Kind::Block, moments, sums, answer)
+        observation(kept, number, task, TimerKind::Block, moments, sums, answer)
     }
 
-    fn count_block(&mut self, stop: Stop, answer: Answer)
+    fn count_block(&mut self, stop: Stop, answer: ObservedAnswer)
         ensures { state_of self.new ≡ state_of self.old }
     {
         if ends(stop) {
-            self.counts.add(Rule::Ended);
+            self.counts.add(TimerRule::Ended);
         }
-        if let Answer::Gap = answer {
-            self.counts.add(Rule::Gap);
+        if let ObservedAnswer::Gap = answer {
+            self.counts.add(TimerRule::Gap);
         }
     }
 
     #[tactic(auto, unfolding(crate::specs::Events::edited))]
-    fn leave(&mut self, kept: Kept, number: u32, is_deadline: bool, stop: Stop)
+    fn leave(&mut self, kept: KeptLine, number: u32, is_deadline: bool, stop: Stop)
         ensures { state_of self.new
             ≡ edited (λ t. at_switch_of t kept is_deadline stop) number (state_of self.old) }
     {

@@ -19,10 +19,10 @@ mod terms;
 mod timers;
 mod turns;
 
-pub use counts::{Counts, Rule};
-pub use machine::{Charged, Machine, Outcome, Owner, Watch};
+pub use counts::{TimerRuleCounts, TimerRule};
+pub use machine::{Charged, TimedMachine, RecordOutcome, Owner, Watch};
 pub use playing::{play, tell_until};
 pub use setup::{
-    FairServer, Limits, NoSums, Options, RunqueueSums, Servers, Setup, Start, setup_of,
+    FairServer, Limits, NoSums, KernelSettings, RunqueueSums, Servers, RecordSetup, RecordStart, setup_of,
 };
-pub use terms::Terms;
+pub use terms::PlayTerms;

@@ -4,16 +4,16 @@ ghost use Rattle.std.specs.Prelude.{◌≡◌, ◌++◌, ◌∷◌, [], OnOk, le
 ghost use Rattle.deadline_timers.specs.Places.{observation_of, sums_of};
 ghost use Rattle.deadline_timers.specs.States.{begun_with, noted, owned, owner_at, replaced, runqueue_for, server_at, served_in, state_of};
 
-use crate::counts::{Counts, Rule};
+use crate::counts::{TimerRuleCounts, TimerRule};
 use crate::place::{
     gain, is_told, lose, owner_of, serve_at, server_of, set_owner, set_task, sums_at,
 };
-use crate::terms::Terms;
+use crate::terms::PlayTerms;
 use deadline_rules::Charge;
 use std::alloc::AllocError;
-use timer_lines::Kept;
+use timer_lines::KeptLine;
 use timer_rules::{
-    Answer, Kind, Moments, Observation, Runqueue, ServerState, Task, is_stopped, task_effect,
+    ObservedAnswer, TimerKind, Moments, Observation, Runqueue, ServerState, DeadlineTask, is_stopped, task_effect,
     task_share,
 };
 use trace_words::Sums;
@@ -51,8 +51,8 @@ pub struct Charged {
 
 /// What a record comes to.
 #[derive(Drop)]
-pub struct Outcome {
-    pub counts: Counts,
+pub struct RecordOutcome {
+    pub counts: TimerRuleCounts,
 
     /// In the order of their lines.
     pub observations: Vec<Observation>,
@@ -63,9 +63,9 @@ pub struct Outcome {
 
 /// The tasks and runqueues of a record.
 #[derive(Drop)]
-pub struct Machine {
-    pub(crate) terms: Terms,
-    pub(crate) tasks: Vec<Task>,
+pub struct TimedMachine {
+    pub(crate) terms: PlayTerms,
+    pub(crate) tasks: Vec<DeadlineTask>,
     pub(crate) runqueues: Vec<Runqueue>,
 
     /// What the tasks that are admitted take from `extra_bw` of each CPU of the root domain.
@@ -74,21 +74,21 @@ pub struct Machine {
     /// Who owns each timer, by its number.
     pub(crate) owners: Vec<Owner>,
     pub(crate) observations: Vec<Observation>,
-    pub(crate) counts: Counts,
+    pub(crate) counts: TimerRuleCounts,
 
     /// The charges of the watched task since its last wake.
     pub(crate) charges: Vec<Charged>,
     pub(crate) watch: Option<Watch>,
 }
 
-impl Machine {
+impl TimedMachine {
     /// What came of the lines.
-    pub fn finish(self) -> Outcome
+    pub fn finish(self) -> RecordOutcome
         ensures counts { result.counts ≡ self.counts }
         ensures observations { result.observations.items ≡ (state_of self).seen }
         ensures charges { result.charges ≡ self.charges }
     {
-        let Machine {
+        let TimedMachine {
             terms: _,
             tasks: _,
             runqueues: _,
@@ -99,7 +99,7 @@ impl Machine {
             charges,
             watch: _,
         } = self;
-        Outcome {
+        RecordOutcome {
             counts,
             observations,
             charges,
@@ -114,7 +114,7 @@ impl Machine {
     }
 
     /// The task of this number.
-    pub fn task(&self, number: u32) -> Option<Task>
+    pub fn task(&self, number: u32) -> Option<DeadlineTask>
         ensures { result ≡ slice_get (state_of self.now).tasks number }
     {
         self.tasks.get(number as usize).copied()
@@ -143,11 +143,11 @@ impl Machine {
     }
 
     /// What a charge on a CPU reads.
-    pub fn charging_runqueue(&self, cpu: u32) -> deadline_rules::Runqueue
+    pub fn charging_runqueue(&self, cpu: u32) -> deadline_rules::ChargedRunqueue
         ensures { result ≡ runqueue_for cpu (state_of self.now) }
     {
         let limits = self.terms.setup.limits(cpu);
-        deadline_rules::Runqueue {
+        deadline_rules::ChargedRunqueue {
             sums: self.sums(cpu),
             max_bw: limits.max_bw,
             bw_ratio: limits.bw_ratio,
@@ -177,7 +177,7 @@ impl Machine {
 
     /// A task becomes another: the sums lose what it had in them, and get what it has.
     #[tactic(auto, unfolding(crate::specs::States::replaced))]
-    pub fn replace(&mut self, number: u32, task: Task)
+    pub fn replace(&mut self, number: u32, task: DeadlineTask)
         ensures { state_of self.new ≡ replaced number task (state_of self.old) }
     {
         let Some(before) = set_task(&mut self.tasks, number, task) else {
@@ -193,7 +193,7 @@ impl Machine {
 
     /// A task was there before the record began: sums that a note tells have it already.
     #[tactic(auto, unfolding(crate::specs::States::begun_with))]
-    pub(crate) fn begin_with(&mut self, number: u32, task: Task)
+    pub(crate) fn begin_with(&mut self, number: u32, task: DeadlineTask)
         ensures { state_of self.new ≡ begun_with number task (state_of self.old) }
     {
         if is_told(&self.runqueues, task.cpu) {
@@ -223,23 +223,23 @@ impl Machine {
 }
 
 /// A fair server starts, or stops.
-fn count_service(counts: &mut Counts, was_stopped: bool, is_stopped: bool) {
+fn count_service(counts: &mut TimerRuleCounts, was_stopped: bool, is_stopped: bool) {
     if was_stopped && !is_stopped {
-        counts.add(Rule::ServerStarted);
+        counts.add(TimerRule::ServerStarted);
     } else if !was_stopped && is_stopped {
-        counts.add(Rule::ServerStopped);
+        counts.add(TimerRule::ServerStopped);
     }
 }
 
 /// The observation of a task's timer at a line.
 pub(crate) fn observation(
-    kept: Kept,
+    kept: KeptLine,
     task: u32,
-    state: Task,
-    kind: Kind,
+    state: DeadlineTask,
+    kind: TimerKind,
     moments: Moments,
     sums: Sums,
-    answer: Answer,
+    answer: ObservedAnswer,
 ) -> Observation
     ensures { result ≡ observation_of kept task state kind moments sums answer }
 {

@@ -6,14 +6,14 @@ ghost use Rattle.deadline_timers.specs.Opening.{first_owner, first_runqueue, fir
 ghost use Rattle.deadline_timers.specs.States.{state_of};
 ghost use Rattle.timer_rules.specs.Tasks.{unseen_task};
 
-use crate::counts::Counts;
-use crate::machine::{Machine, Owner, Watch};
+use crate::counts::TimerRuleCounts;
+use crate::machine::{TimedMachine, Owner, Watch};
 use crate::place::is_it;
-use crate::setup::{RunqueueSums, Setup, Start};
-use crate::terms::Terms;
+use crate::setup::{RunqueueSums, RecordSetup, RecordStart};
+use crate::terms::PlayTerms;
 use std::alloc::{AllocError, Global};
-use timer_lines::{FirstLine, Lines, TaskLines, TimerLines};
-use timer_rules::{Runqueue, ServerState, Task, unseen};
+use timer_lines::{FirstLine, KeptLines, TaskLines, TimerLines};
+use timer_rules::{Runqueue, ServerState, DeadlineTask, unseen};
 use trace_words::Sums;
 
 /// Whether a timer's first line is a start.
@@ -45,7 +45,7 @@ fn state(runs: bool) -> ServerState
 }
 
 /// A runqueue of which no note tells.
-fn untold(setup: &Setup, cpu: u32, was_stopped: bool) -> Runqueue
+fn untold(setup: &RecordSetup, cpu: u32, was_stopped: bool) -> Runqueue
     ensures { result ≡ untold_runqueue setup.now cpu was_stopped }
 {
     let runs = setup.server_bw > 0 && !was_stopped;
@@ -61,7 +61,7 @@ fn untold(setup: &Setup, cpu: u32, was_stopped: bool) -> Runqueue
 }
 
 /// A runqueue of which a note tells the sums.
-fn told(setup: &Setup, sums: Sums) -> Runqueue
+fn told(setup: &RecordSetup, sums: Sums) -> Runqueue
     ensures { result ≡ told_runqueue setup.now sums }
 {
     Runqueue {
@@ -103,7 +103,7 @@ fn was_stopped(timers: &[TimerLines], cpu: u32) -> bool
 
 /// A runqueue as a record begins.
 #[tactic(auto, unfolding(crate::specs::Opening::first_runqueue))]
-fn first(setup: &Setup, notes: &[RunqueueSums], timers: &[TimerLines], cpu: u32) -> Runqueue
+fn first(setup: &RecordSetup, notes: &[RunqueueSums], timers: &[TimerLines], cpu: u32) -> Runqueue
     ensures { result ≡ first_runqueue setup.now notes.now timers.now cpu }
 {
     match sums_told(notes, cpu) {
@@ -129,8 +129,8 @@ fn greatest_told(notes: &[RunqueueSums]) -> u32
 /// Each runqueue of a record, up to the greatest CPU of the root domain and of the notes.
 fn runqueues(
     alloc: Global,
-    setup: &Setup,
-    start: &Start,
+    setup: &RecordSetup,
+    start: &RecordStart,
     timers: &[TimerLines],
 ) -> Result<Vec<Runqueue>, AllocError>
     ensures { IfOk result (λ v. v.items
@@ -184,7 +184,7 @@ fn owners(alloc: Global, timers: &[TimerLines]) -> Result<Vec<Owner>, AllocError
 }
 
 /// The tasks, of which no line has shown one.
-fn unseen_tasks(alloc: Global, tasks: &[TaskLines]) -> Result<Vec<Task>, AllocError>
+fn unseen_tasks(alloc: Global, tasks: &[TaskLines]) -> Result<Vec<DeadlineTask>, AllocError>
     ensures { IfOk result (λ v. v.items ≡ map (λ y. unseen_task) tasks.now) }
 {
     tasks.iter().map(|_| unseen()).collect(alloc)
@@ -194,44 +194,44 @@ fn unseen_tasks(alloc: Global, tasks: &[TaskLines]) -> Result<Vec<Task>, AllocEr
 #[tactic(auto, unfolding(crate::specs::Opening::opened))]
 fn machine_of(
     alloc: Global,
-    terms: Terms,
-    tasks: Vec<Task>,
+    terms: PlayTerms,
+    tasks: Vec<DeadlineTask>,
     runqueues: Vec<Runqueue>,
     owners: Vec<Owner>,
     watch: Option<Watch>,
-) -> Machine
+) -> TimedMachine
     ensures { state_of result ≡ opened terms tasks.items runqueues.items owners.items }
 {
-    Machine {
+    TimedMachine {
         terms,
         tasks,
         runqueues,
         taken: 0,
         owners,
         observations: Vec::new(alloc),
-        counts: Counts::new(),
+        counts: TimerRuleCounts::new(),
         charges: Vec::new(alloc),
         watch,
     }
 }
 
-impl Machine {
+impl TimedMachine {
     /// The machine before the first line.
     #[tactic(auto, unfolding(crate::specs::Opening::first_state))]
     pub fn new(
         alloc: Global,
-        setup: Setup,
-        start: &Start,
-        lines: &Lines,
+        setup: RecordSetup,
+        start: &RecordStart,
+        lines: &KeptLines,
         within: u64,
         watch: Option<Watch>,
-    ) -> Result<Machine, AllocError>
+    ) -> Result<TimedMachine, AllocError>
         ensures { IfOk result (λ m. state_of m ≡ first_state setup start.now lines.now within) }
     {
         let tasks = unseen_tasks(alloc, &lines.tasks)?;
         let runqueues = runqueues(alloc, &setup, start, &lines.timers)?;
         let owners = owners(alloc, &lines.timers)?;
-        let terms = Terms {
+        let terms = PlayTerms {
             setup,
             begins: lines.begins.unwrap_or(0),
             within,

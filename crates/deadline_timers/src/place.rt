@@ -6,12 +6,12 @@ ghost use Rattle.timer_rules.specs.Effects.{served_of, with_of, without_of};
 ghost use Rattle.deadline_timers.specs.States.{is_number, is_told_at, owner_by, server_by};
 
 use crate::machine::Owner;
-use timer_rules::{Effect, Runqueue, ServerState, Task, served, with, without};
+use timer_rules::{BandwidthShare, Runqueue, ServerState, DeadlineTask, served, with, without};
 use trace_words::Sums;
 
 /// A task becomes another; the one before is given back.
 #[tactic(auto, using(std::proofs::lemmas::Option::slice_get_past))]
-pub(crate) fn set_task(tasks: &mut [Task], number: u32, task: Task) -> Option<Task>
+pub(crate) fn set_task(tasks: &mut [DeadlineTask], number: u32, task: DeadlineTask) -> Option<DeadlineTask>
     ensures before { result ≡ slice_get tasks.old number }
     ensures after { tasks.new ≡ slice_set tasks.old number task }
 {
@@ -27,7 +27,7 @@ pub(crate) fn set_task(tasks: &mut [Task], number: u32, task: Task) -> Option<Ta
 
 /// The runqueue of a CPU loses what a task had in its sums.
 #[tactic(auto, using(std::proofs::lemmas::Option::slice_get_past))]
-pub(crate) fn lose(runqueues: &mut [Runqueue], cpu: u32, effect: Effect)
+pub(crate) fn lose(runqueues: &mut [Runqueue], cpu: u32, effect: BandwidthShare)
     ensures { runqueues.new ≡ at_cpu (λ r. without_of r effect) runqueues.old cpu }
 {
     let place = cpu as usize;
@@ -38,7 +38,7 @@ pub(crate) fn lose(runqueues: &mut [Runqueue], cpu: u32, effect: Effect)
 
 /// The runqueue of a CPU gains what a task has in its sums.
 #[tactic(auto, using(std::proofs::lemmas::Option::slice_get_past))]
-pub(crate) fn gain(runqueues: &mut [Runqueue], cpu: u32, effect: Effect)
+pub(crate) fn gain(runqueues: &mut [Runqueue], cpu: u32, effect: BandwidthShare)
     ensures { runqueues.new ≡ at_cpu (λ r. with_of r effect) runqueues.old cpu }
 {
     let place = cpu as usize;

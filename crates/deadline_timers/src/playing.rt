@@ -4,32 +4,32 @@ ghost use Rattle.std.specs.Prelude.{◌≡◌, IfOk, OnOk, drop};
 ghost use Rattle.deadline_timers.specs.Playing.{left_after, observations_of, played, told_until};
 ghost use Rattle.deadline_timers.specs.States.{state_of};
 
-use crate::machine::{Machine, Outcome, Watch};
-use crate::setup::{Setup, Start};
+use crate::machine::{TimedMachine, RecordOutcome, Watch};
+use crate::setup::{RecordSetup, RecordStart};
 use std::alloc::{AllocError, Global};
-use timer_lines::{Lines, Told};
+use timer_lines::{KeptLines, TaskNote};
 
 /// Plays the lines of a record by the kernel's rules, and observes its timers: those that are at most `within` nanoseconds from the
 /// prediction agree.
 #[tactic(auto, unfolding(crate::specs::Playing::observations_of))]
 pub fn play(
     alloc: Global,
-    setup: Setup,
-    start: &Start,
-    lines: &Lines,
+    setup: RecordSetup,
+    start: &RecordStart,
+    lines: &KeptLines,
     within: u64,
     watch: Option<Watch>,
-) -> Result<Outcome, AllocError>
+) -> Result<RecordOutcome, AllocError>
     ensures { IfOk result (λ o. o.observations.items
         ≡ observations_of setup start.now lines.now within) }
 {
-    let mut machine = Machine::new(alloc, setup, start, lines, within, watch)?;
+    let mut machine = TimedMachine::new(alloc, setup, start, lines, within, watch)?;
     play_lines(&mut machine, lines)?;
     Ok(machine.finish())
 }
 
 /// Plays each line, after the notes whose moments have come.
-fn play_lines(machine: &mut Machine, lines: &Lines) -> Result<(), AllocError>
+fn play_lines(machine: &mut TimedMachine, lines: &KeptLines) -> Result<(), AllocError>
     ensures { OnOk result (state_of machine.new
         ≡ played lines.now.tasks.items lines.now.told.items lines.now.kept.items
         (state_of machine.old)) }
@@ -43,7 +43,7 @@ fn play_lines(machine: &mut Machine, lines: &Lines) -> Result<(), AllocError>
 }
 
 /// Tells the notes from a place on whose moments have come; the place after them.
-pub fn tell_until(machine: &mut Machine, lines: &Lines, come: usize, at: u64) -> usize
+pub fn tell_until(machine: &mut TimedMachine, lines: &KeptLines, come: usize, at: u64) -> usize
     ensures state { state_of machine.new
         ≡ told_until at (drop come lines.now.told.items) (state_of machine.old) }
     ensures rest { drop result lines.now.told.items
@@ -52,7 +52,7 @@ pub fn tell_until(machine: &mut Machine, lines: &Lines, come: usize, at: u64) ->
     tell_some(machine, &lines.told, come, at)
 }
 
-fn tell_some(machine: &mut Machine, told: &[Told], come: usize, at: u64) -> usize
+fn tell_some(machine: &mut TimedMachine, told: &[TaskNote], come: usize, at: u64) -> usize
     ensures state { state_of machine.new
         ≡ told_until at (drop come told.now) (state_of machine.old) }
     ensures rest { drop result told.now ≡ left_after at (drop come told.now) }

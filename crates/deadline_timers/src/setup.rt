@@ -3,7 +3,7 @@
 ghost use Rattle.std.specs.Prelude.{◌≡◌, ◌-◌, ◌^◌, fold, min};
 ghost use Rattle.deadline_timers.specs.Kernels.{first_extra_of, fixed_of, inverse_of, is_absent, is_from_of, law_by_kernel, law_for, limits_at, limits_by, no_limits, other_limits_by, picks_of, server_bw_by, servers_by, setup_by, stops_with_timer_of, wants_sums_of};
 
-use deadline_rules::{BW_UNIT, Law, ratio, share};
+use deadline_rules::{BW_UNIT, ChargeLaw, ratio, share};
 use std::alloc::{AllocError, Global};
 use trace_words::{Kernel, Limit, Sums};
 
@@ -36,7 +36,7 @@ pub enum FairServer {
 
 /// What options and notes say of a kernel.
 #[derive(Clone, Copy)]
-pub struct Options {
+pub struct KernelSettings {
     /// A current one where nothing is said.
     pub kernel: Option<Kernel>,
 
@@ -57,7 +57,7 @@ pub struct RunqueueSums {
 
 /// What a record begins with.
 #[derive(Drop)]
-pub struct Start {
+pub struct RecordStart {
     /// The CPUs of the root domain.
     pub domain: Vec<u32>,
     pub sums: Vec<RunqueueSums>,
@@ -78,8 +78,8 @@ pub struct Limits {
 
 /// What is fixed for a record.
 #[derive(Clone, Copy)]
-pub struct Setup {
-    pub law: Law,
+pub struct RecordSetup {
+    pub law: ChargeLaw,
     pub servers: Servers,
 
     /// What each fair server reserves, as a bandwidth.
@@ -117,13 +117,13 @@ fn is_from(kernel: Kernel, major: u32, minor: u32) -> bool
 }
 
 /// Whose arithmetic a kernel has (`grub_reclaim`).
-fn law_of(kernel: Kernel) -> Law
+fn law_of(kernel: Kernel) -> ChargeLaw
     ensures { result ≡ law_by_kernel kernel }
 {
     if is_from(kernel, 6, 5) {
-        Law::LinuxFrom65
+        ChargeLaw::LinuxFrom65
     } else {
-        Law::LinuxBefore65
+        ChargeLaw::LinuxBefore65
     }
 }
 
@@ -241,11 +241,11 @@ fn wants_sums(servers: Servers) -> bool
     stops_with_timer(servers) || picks(servers)
 }
 
-fn law_by(options: Options, kernel: Kernel) -> Law
+fn law_by(options: KernelSettings, kernel: Kernel) -> ChargeLaw
     ensures { result ≡ law_for options kernel }
 {
     if options.is_by_documentation {
-        Law::Documentation
+        ChargeLaw::Documentation
     } else {
         law_of(kernel)
     }
@@ -272,12 +272,12 @@ fn first_cpu(domain: &[u32]) -> u32
 }
 
 /// What is fixed for a record of this kernel that begins so.
-fn fixed(options: Options, start: &Start, kernel: Kernel) -> Setup
+fn fixed(options: KernelSettings, start: &RecordStart, kernel: Kernel) -> RecordSetup
     ensures { result ≡ fixed_of options start.now kernel }
 {
     let servers = servers_of(kernel);
     let first = limits_of(options.limit.unwrap_or(DEFAULT_LIMIT));
-    Setup {
+    RecordSetup {
         law: law_by(options, kernel),
         servers,
         server_bw: server_bw(options.fair_server, servers),
@@ -289,7 +289,7 @@ fn fixed(options: Options, start: &Start, kernel: Kernel) -> Setup
 }
 
 /// What is fixed for a record that begins so. NoSums comes where a kernel's sums depend on its boot, and no note tells them.
-pub fn setup_of(options: Options, start: &Start) -> Result<Setup, NoSums>
+pub fn setup_of(options: KernelSettings, start: &RecordStart) -> Result<RecordSetup, NoSums>
     ensures { result ≡ setup_by options start.now }
 {
     let kernel = options.kernel.unwrap_or(CURRENT);
@@ -299,7 +299,7 @@ pub fn setup_of(options: Options, start: &Start) -> Result<Setup, NoSums>
     Ok(fixed(options, start, kernel))
 }
 
-impl Setup {
+impl RecordSetup {
     /// The limits of a processor.
     pub fn limits(&self, cpu: u32) -> Limits
         ensures { result ≡ limits_at self.now cpu }

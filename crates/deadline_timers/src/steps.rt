@@ -4,35 +4,35 @@ ghost use Rattle.std.specs.Prelude.{◌≡◌, OnOk};
 ghost use Rattle.deadline_timers.specs.Events.{event_in, is_of_timer_by, step_in};
 ghost use Rattle.deadline_timers.specs.States.{state_of};
 
-use crate::machine::Machine;
+use crate::machine::TimedMachine;
 use crate::setup::picks;
 use std::alloc::AllocError;
-use timer_lines::{Event, Kept, Lines, TaskLines};
+use timer_lines::{KeptEvent, KeptLine, KeptLines, TaskLines};
 use timer_rules::after_wake;
 
 /// Whether a line is a timer's.
-fn is_of_timer(event: Event) -> bool
+fn is_of_timer(event: KeptEvent) -> bool
     ensures { result ≡ is_of_timer_by event }
 {
     match event {
-        Event::ZeroLagStarted { .. }
-        | Event::ReplenishStarted { .. }
-        | Event::ZeroLagFired { .. }
-        | Event::ReplenishFired { .. } => true,
-        Event::Idles
-        | Event::Woken { .. }
-        | Event::OtherWoken { .. }
-        | Event::Migrated { .. }
-        | Event::Ran { .. }
-        | Event::Switched { .. }
-        | Event::Cancelled { .. } => false,
+        KeptEvent::ZeroLagStarted { .. }
+        | KeptEvent::ReplenishStarted { .. }
+        | KeptEvent::ZeroLagFired { .. }
+        | KeptEvent::ReplenishFired { .. } => true,
+        KeptEvent::Idles
+        | KeptEvent::Woken { .. }
+        | KeptEvent::OtherWoken { .. }
+        | KeptEvent::Migrated { .. }
+        | KeptEvent::Ran { .. }
+        | KeptEvent::Switched { .. }
+        | KeptEvent::Cancelled { .. } => false,
     }
 }
 
-impl Machine {
+impl TimedMachine {
     /// A kept line. A task that an option gives is admitted at the first line that shows it in the class.
     #[tactic(auto, unfolding(crate::specs::Events::step_in))]
-    pub fn step(&mut self, lines: &Lines, kept: Kept) -> Result<(), AllocError>
+    pub fn step(&mut self, lines: &KeptLines, kept: KeptLine) -> Result<(), AllocError>
         ensures { OnOk result (state_of self.new
             ≡ step_in lines.now.tasks.items kept (state_of self.old)) }
     {
@@ -41,28 +41,28 @@ impl Machine {
         self.event(&lines.tasks, kept)
     }
 
-    fn event(&mut self, tasks: &[TaskLines], kept: Kept) -> Result<(), AllocError>
+    fn event(&mut self, tasks: &[TaskLines], kept: KeptLine) -> Result<(), AllocError>
         ensures { OnOk result (state_of self.new
             ≡ event_in kept.event tasks.now kept (state_of self.old)) }
     {
         match kept.event {
-            Event::Idles => Ok(()),
-            Event::Woken { task, cpu, clock } => {
+            KeptEvent::Idles => Ok(()),
+            KeptEvent::Woken { task, cpu, clock } => {
                 self.sight(tasks, task, cpu);
                 self.wake(kept.line, task, cpu, clock);
                 Ok(())
             }
-            Event::OtherWoken { cpu } => {
+            KeptEvent::OtherWoken { cpu } => {
                 self.serve_where_any(cpu, after_wake(self.server(cpu)));
                 Ok(())
             }
-            Event::Migrated { task, cpu } => {
+            KeptEvent::Migrated { task, cpu } => {
                 self.sight(tasks, task, cpu);
                 self.migrate(task, cpu);
                 Ok(())
             }
-            Event::Ran { task, nanos } => self.run(kept, task, nanos),
-            Event::Switched {
+            KeptEvent::Ran { task, nanos } => self.run(kept, task, nanos),
+            KeptEvent::Switched {
                 task,
                 is_deadline,
                 stop,
@@ -71,7 +71,7 @@ impl Machine {
                 self.idle(is_deadline && is_next_idle, kept.cpu);
                 self.switch_some(tasks, kept, task, is_deadline, stop)
             }
-            Event::ZeroLagStarted {
+            KeptEvent::ZeroLagStarted {
                 timer,
                 task,
                 expires,
@@ -79,18 +79,18 @@ impl Machine {
                 self.start_lag(tasks, kept, timer, task, expires);
                 Ok(())
             }
-            Event::ReplenishStarted { timer, expires } => {
+            KeptEvent::ReplenishStarted { timer, expires } => {
                 self.start_replenish(kept, timer, expires)
             }
-            Event::Cancelled { timer } => {
+            KeptEvent::Cancelled { timer } => {
                 self.cancel(timer);
                 Ok(())
             }
-            Event::ZeroLagFired { timer } => {
+            KeptEvent::ZeroLagFired { timer } => {
                 self.fire_lag(timer);
                 Ok(())
             }
-            Event::ReplenishFired { timer } => {
+            KeptEvent::ReplenishFired { timer } => {
                 self.fire_replenish(kept, timer);
                 Ok(())
             }

@@ -1,11 +1,11 @@
 //! What is fixed while a record is played.
 
-use crate::setup::Setup;
+use crate::setup::RecordSetup;
 
 /// What is fixed while a record is played.
 #[derive(Clone, Copy)]
-pub struct Terms {
-    pub setup: Setup,
+pub struct PlayTerms {
+    pub setup: RecordSetup,
 
     /// The moment of the record's first line.
     pub begins: u64,

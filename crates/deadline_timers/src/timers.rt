@@ -6,15 +6,15 @@ ghost use Rattle.deadline_timers.specs.States.{owner_at, state_of};
 ghost use Rattle.deadline_timers.specs.Turns.{at_hold_of};
 
 use crate::counting::rule_of_throttling;
-use crate::counts::Rule;
-use crate::machine::{Machine, Owner, observation};
+use crate::counts::TimerRule;
+use crate::machine::{TimedMachine, Owner, observation};
 use crate::place::is_it;
 use crate::setup::{picks, stops_with_timer};
 use crate::turns::at_hold;
 use std::alloc::AllocError;
-use timer_lines::{Kept, TaskLines};
+use timer_lines::{KeptLine, TaskLines};
 use timer_rules::{
-    Kind, Observation, ServerState, Task, after_cancel, after_fire, after_idle, after_lag,
+    TimerKind, Observation, ServerState, DeadlineTask, after_cancel, after_fire, after_idle, after_lag,
     answer_of, lag_fired, lag_started, replenish_moments, replenished, throttling_of,
 };
 
@@ -54,13 +54,13 @@ fn after_fire_picked(is_picked: bool, state: ServerState) -> ServerState
     }
 }
 
-impl Machine {
+impl TimedMachine {
     /// `inactive_task_timer` is started.
     #[tactic(auto, unfolding(crate::specs::Events::lag_started_by, crate::specs::Events::edited))]
     pub(crate) fn start_lag(
         &mut self,
         tasks: &[TaskLines],
-        kept: Kept,
+        kept: KeptLine,
         timer: u32,
         running: Option<u32>,
         expires: u64,
@@ -106,7 +106,7 @@ impl Machine {
     #[tactic(auto, unfolding(crate::specs::Events::replenish_started_by))]
     pub(crate) fn start_replenish(
         &mut self,
-        kept: Kept,
+        kept: KeptLine,
         timer: u32,
         expires: u64,
     ) -> Result<(), AllocError>
@@ -128,7 +128,7 @@ impl Machine {
     }
 
     #[tactic(auto, unfolding(crate::specs::Events::edited))]
-    fn hold(&mut self, kept: Kept, number: u32)
+    fn hold(&mut self, kept: KeptLine, number: u32)
         ensures { state_of self.new
             ≡ edited (λ t. at_hold_of t kept.at) number (state_of self.old) }
     {
@@ -142,7 +142,7 @@ impl Machine {
 
     /// A start of a replenishment timer is observed.
     #[tactic(auto, unfolding(crate::specs::Events::hold_seen))]
-    fn see_hold(&mut self, kept: Kept, number: u32, expires: u64) -> Result<(), AllocError>
+    fn see_hold(&mut self, kept: KeptLine, number: u32, expires: u64) -> Result<(), AllocError>
         ensures { OnOk result (state_of self.new
             ≡ hold_seen kept number expires (state_of self.old)) }
     {
@@ -158,18 +158,18 @@ impl Machine {
     }
 
     /// The observation of a start of a replenishment timer.
-    fn start_of(&self, kept: Kept, number: u32, task: Task, expires: u64) -> Observation
+    fn start_of(&self, kept: KeptLine, number: u32, task: DeadlineTask, expires: u64) -> Observation
         ensures { result ≡ hold_observation kept number task expires (state_of self.now) }
     {
         let moments = replenish_moments(task, kept.at, expires);
         let answer = answer_of(task.knowledge, moments.difference, self.terms.within);
         let sums = self.sums(task.cpu);
-        observation(kept, number, task, Kind::Replenish, moments, sums, answer)
+        observation(kept, number, task, TimerKind::Replenish, moments, sums, answer)
     }
 
     /// `dl_task_timer` fires.
     #[tactic(auto, unfolding(crate::specs::Events::replenish_fired_by, crate::specs::Events::edited))]
-    pub(crate) fn fire_replenish(&mut self, kept: Kept, timer: u32)
+    pub(crate) fn fire_replenish(&mut self, kept: KeptLine, timer: u32)
         ensures { state_of self.new ≡ replenish_fired_by (owner_at timer (state_of self.old)) kept
             (state_of self.old) }
     {
@@ -180,7 +180,7 @@ impl Machine {
                     return;
                 };
                 if task.entity.budget.is_throttled {
-                    self.counts.add(Rule::Replenished);
+                    self.counts.add(TimerRule::Replenished);
                 }
                 self.replace(number, replenished(task, kept.at));
             }

@@ -4,31 +4,31 @@ ghost use Rattle.std.specs.Prelude.{◌≡◌, ◌&&◌, not, unwrap_or};
 ghost use Rattle.deadline_rules.specs.Budget.{timer_is_ahead};
 ghost use Rattle.deadline_timers.specs.Turns.{at_charge_of, at_hold_of, at_move_of, at_refill_of, at_run_of, at_sight_of, at_switch_of, at_wake_of, is_edge_at, runs_of, wakes_of};
 
-use crate::terms::Terms;
-use deadline_rules::{Law, Runqueue, has_timer_ahead};
-use timer_lines::Kept;
+use crate::terms::PlayTerms;
+use deadline_rules::{ChargeLaw, ChargedRunqueue, has_timer_ahead};
+use timer_lines::KeptLine;
 use timer_rules::{
-    Task, Waking, blocked, charged_at, is_awake, is_edge, is_tested, moved, ran, refilled,
+    DeadlineTask, Waking, blocked, charged_at, is_awake, is_edge, is_tested, moved, ran, refilled,
     seen_running, sighted, stays_ready, switched, throttled, throttling_of, waking_of, woken,
 };
 use trace_words::{Parameters, Stop};
 
 /// Whether a task is of the class, and awake.
-pub(crate) fn runs(task: Task) -> bool
+pub(crate) fn runs(task: DeadlineTask) -> bool
     ensures { result ≡ runs_of task }
 {
     task.entity.is_in_class && is_awake(task.activity)
 }
 
 /// Whether a wake is of a task of the class that is not awake.
-pub(crate) fn wakes(task: Task) -> bool
+pub(crate) fn wakes(task: DeadlineTask) -> bool
     ensures { result ≡ wakes_of task }
 {
     task.entity.is_in_class && !is_awake(task.activity)
 }
 
 /// Whether the kernel may have answered a wake otherwise.
-pub(crate) fn is_edge_wake(law: Law, task: Task, waking: Waking, clock: u64) -> bool
+pub(crate) fn is_edge_wake(law: ChargeLaw, task: DeadlineTask, waking: Waking, clock: u64) -> bool
     ensures { result ≡ is_edge_at law task waking clock }
 {
     is_tested(waking) && is_edge(law, task.entity, clock)
@@ -36,7 +36,7 @@ pub(crate) fn is_edge_wake(law: Law, task: Task, waking: Waking, clock: u64) -> 
 
 /// The task after a wake on this CPU at this clock.
 #[tactic(auto, unfolding(crate::specs::Turns::at_wake_of))]
-pub(crate) fn at_wake(terms: Terms, task: Task, cpu: u32, clock: u64) -> Task
+pub(crate) fn at_wake(terms: PlayTerms, task: DeadlineTask, cpu: u32, clock: u64) -> DeadlineTask
     ensures { result ≡ at_wake_of terms task cpu clock }
 {
     if wakes(task) {
@@ -55,7 +55,7 @@ pub(crate) fn at_wake(terms: Terms, task: Task, cpu: u32, clock: u64) -> Task
 
 /// The task after sched_migrate_task to this CPU.
 #[tactic(auto, unfolding(crate::specs::Turns::at_move_of))]
-pub(crate) fn at_move(task: Task, cpu: u32) -> Task
+pub(crate) fn at_move(task: DeadlineTask, cpu: u32) -> DeadlineTask
     ensures { result ≡ at_move_of task cpu }
 {
     if task.entity.is_in_class && task.cpu != cpu {
@@ -67,7 +67,7 @@ pub(crate) fn at_move(task: Task, cpu: u32) -> Task
 
 /// The task after a line that shows it in the class: one that an option gives is admitted at the first.
 #[tactic(auto, unfolding(crate::specs::Turns::at_sight_of))]
-pub(crate) fn at_sight(task: Task, given: Option<Parameters>, cpu: u32) -> Task
+pub(crate) fn at_sight(task: DeadlineTask, given: Option<Parameters>, cpu: u32) -> DeadlineTask
     ensures { result ≡ at_sight_of task given cpu }
 {
     match given {
@@ -84,14 +84,14 @@ pub(crate) fn at_sight(task: Task, given: Option<Parameters>, cpu: u32) -> Task
 
 /// The task after a line that charges it, before the charge.
 #[tactic(auto, unfolding(crate::specs::Turns::at_run_of))]
-pub(crate) fn at_run(task: Task, kept: Kept) -> Task
+pub(crate) fn at_run(task: DeadlineTask, kept: KeptLine) -> DeadlineTask
     ensures { result ≡ at_run_of task kept }
 {
     charged_at(seen_running(task, kept.cpu), kept.at)
 }
 
 /// Whether a task runs whose next period had begun when its budget was used up, so that no timer could wait for it.
-pub(crate) fn runs_late(task: Task) -> bool
+pub(crate) fn runs_late(task: DeadlineTask) -> bool
     ensures { result ≡ (runs_of task
         && not (timer_is_ahead task.entity (unwrap_or task.exceeded 0))) }
 {
@@ -100,7 +100,7 @@ pub(crate) fn runs_late(task: Task) -> bool
 
 /// The task after a budget that was used up is filled at once, where it runs on.
 #[tactic(auto, unfolding(crate::specs::Turns::at_refill_of))]
-pub(crate) fn at_refill(task: Task) -> Task
+pub(crate) fn at_refill(task: DeadlineTask) -> DeadlineTask
     ensures { result ≡ at_refill_of task }
 {
     if runs_late(task) {
@@ -112,7 +112,7 @@ pub(crate) fn at_refill(task: Task) -> Task
 
 /// The task after its charge, where it runs.
 #[tactic(auto, unfolding(crate::specs::Turns::at_charge_of))]
-pub(crate) fn at_charge(law: Law, task: Task, at: u64, nanos: u64, runqueue: Runqueue) -> Task
+pub(crate) fn at_charge(law: ChargeLaw, task: DeadlineTask, at: u64, nanos: u64, runqueue: ChargedRunqueue) -> DeadlineTask
     ensures { result ≡ at_charge_of law task at nanos runqueue }
 {
     if runs(task) {
@@ -124,7 +124,7 @@ pub(crate) fn at_charge(law: Law, task: Task, at: u64, nanos: u64, runqueue: Run
 
 /// The task after it is switched out.
 #[tactic(auto, unfolding(crate::specs::Turns::at_switch_of))]
-pub(crate) fn at_switch(task: Task, kept: Kept, is_deadline: bool, stop: Stop) -> Task
+pub(crate) fn at_switch(task: DeadlineTask, kept: KeptLine, is_deadline: bool, stop: Stop) -> DeadlineTask
     ensures { result ≡ at_switch_of task kept is_deadline stop }
 {
     if !(is_deadline && task.entity.is_in_class) {
@@ -138,7 +138,7 @@ pub(crate) fn at_switch(task: Task, kept: Kept, is_deadline: bool, stop: Stop) -
 
 /// The task after its `dl_task_timer` is started at this moment.
 #[tactic(auto, unfolding(crate::specs::Turns::at_hold_of))]
-pub(crate) fn at_hold(task: Task, at: u64) -> Task
+pub(crate) fn at_hold(task: DeadlineTask, at: u64) -> DeadlineTask
     ensures { result ≡ at_hold_of task at }
 {
     throttled(task, throttling_of(task, at))

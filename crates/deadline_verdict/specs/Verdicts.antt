@@ -1,11 +1,11 @@
 -- When a record agrees, and what is told of the first timer that does not.
 use Rattle.std.specs.Prelude.{◌≡◌, Bool, true, false, position}
-use Rattle.timer_rules.specs.declared.observation.Answer.{Answer}
-use Rattle.timer_rules.specs.declared.observation.Answer.TheVariants.{Differs}
+use Rattle.timer_rules.specs.declared.observation.ObservedAnswer.{ObservedAnswer}
+use Rattle.timer_rules.specs.declared.observation.ObservedAnswer.TheVariants.{Differs}
 use Rattle.timer_rules.specs.declared.observation.Observation.{Observation}
 use Rattle.deadline_verdict.specs.declared.judging.Judged.{Judged}
 
-abbrev pub is_deviation : Answer → Bool
+abbrev pub is_deviation : ObservedAnswer → Bool
 is_deviation Differs = true
 is_deviation _ = false
 

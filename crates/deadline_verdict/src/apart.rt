@@ -4,7 +4,7 @@ use crate::numbers::{is_compared, is_of};
 use crate::table::name_of;
 use crate::writing::{put, put_count, put_micros};
 use std::alloc::{AllocError, Global};
-use timer_rules::{Answer, Kind, Observation};
+use timer_rules::{ObservedAnswer, TimerKind, Observation};
 
 /// So many tasks are told of.
 const TASKS: u64 = 16;
@@ -25,10 +25,10 @@ const NONE: Apart = Apart {
     greatest: i64::MIN,
 };
 
-fn differs(answer: Answer) -> bool {
+fn differs(answer: ObservedAnswer) -> bool {
     match answer {
-        Answer::Differs => true,
-        Answer::Agrees | Answer::End | Answer::Unknown | Answer::Edge | Answer::Gap => false,
+        ObservedAnswer::Differs => true,
+        ObservedAnswer::Agrees | ObservedAnswer::End | ObservedAnswer::Unknown | ObservedAnswer::Edge | ObservedAnswer::Gap => false,
     }
 }
 
@@ -54,7 +54,7 @@ fn apart_of(
     let mut all: Vec<Apart> = Vec::new(alloc);
     all.resize(tasks, NONE)?;
     for observation in observations {
-        if is_of(Kind::Block, observation) && is_compared(observation.answer) {
+        if is_of(TimerKind::Block, observation) && is_compared(observation.answer) {
             if let Some(place) = all.get_mut(observation.task as usize) {
                 *place = with(*place, observation);
             }

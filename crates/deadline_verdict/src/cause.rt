@@ -1,7 +1,7 @@
 //! What the deviations of a record look like.
 
 use crate::numbers::is_of;
-use timer_rules::{Answer, Kind, Observation};
+use timer_rules::{ObservedAnswer, TimerKind, Observation};
 
 /// What the deviations of a record look like.
 #[derive(Clone, Copy)]
@@ -30,19 +30,19 @@ struct Beside {
     own: u64,
 
     /// What comes of the task's next block.
-    next: Option<Answer>,
+    next: Option<ObservedAnswer>,
 }
 
-fn is_deviation(answer: Answer) -> bool {
+fn is_deviation(answer: ObservedAnswer) -> bool {
     match answer {
-        Answer::Differs => true,
-        Answer::Agrees | Answer::End | Answer::Unknown | Answer::Edge | Answer::Gap => false,
+        ObservedAnswer::Differs => true,
+        ObservedAnswer::Agrees | ObservedAnswer::End | ObservedAnswer::Unknown | ObservedAnswer::Edge | ObservedAnswer::Gap => false,
     }
 }
 
-fn is_agreement(answer: Option<Answer>) -> bool {
+fn is_agreement(answer: Option<ObservedAnswer>) -> bool {
     match answer {
-        Some(Answer::Agrees) => true,
+        Some(ObservedAnswer::Agrees) => true,
         _ => false,
     }
 }
@@ -51,10 +51,10 @@ fn is_after(first: &Observation, observation: &Observation) -> bool {
     observation.line > first.line
 }
 
-fn next_of(first: &Observation, observation: &Observation, next: Option<Answer>) -> Option<Answer> {
+fn next_of(first: &Observation, observation: &Observation, next: Option<ObservedAnswer>) -> Option<ObservedAnswer> {
     let is_next = next.is_none()
         && observation.task == first.task
-        && is_of(Kind::Block, observation)
+        && is_of(TimerKind::Block, observation)
         && is_after(first, observation);
     if is_next {
         Some(observation.answer)

@@ -5,7 +5,7 @@ use crate::writing::{put, put_number, put_rate, put_signed};
 use deadline_rules::{Charge, RECLAIM, has};
 use deadline_timers::Charged;
 use std::alloc::{AllocError, Global};
-use timer_rules::{Kind, Observation};
+use timer_rules::{TimerKind, Observation};
 use trace_words::Parameters;
 
 /// Appends the charges since the wake of the task, with the rate and the three sums of each.
@@ -92,7 +92,7 @@ pub(crate) fn put_implied(
     let Some(parameters) = parameters else {
         return Ok(());
     };
-    if !is_of(Kind::Block, first) || first.kernel.is_none() || charges.is_empty() {
+    if !is_of(TimerKind::Block, first) || first.kernel.is_none() || charges.is_empty() {
         return Ok(());
     }
     let executed = executed(charges);

@@ -1,6 +1,6 @@
 //! How many observations there are and how far off they are, in words.
 
-use crate::numbers::Numbers;
+use crate::numbers::KindNumbers;
 use crate::tested::put_item;
 use crate::writing::{put, put_count, put_micros};
 use std::alloc::{AllocError, Global};
@@ -12,7 +12,7 @@ pub(crate) fn put_numbers(
     name: &[u8],
     unit: &[u8],
     within: u64,
-    numbers: Numbers,
+    numbers: KindNumbers,
 ) -> Result<(), AllocError> {
     put(out, name)?;
     put(out, b": ")?;
@@ -33,7 +33,7 @@ pub(crate) fn put_numbers(
     put_spread(alloc, out, numbers)
 }
 
-fn put_left_out(alloc: Global, out: &mut Vec<u8>, numbers: Numbers) -> Result<(), AllocError> {
+fn put_left_out(alloc: Global, out: &mut Vec<u8>, numbers: KindNumbers) -> Result<(), AllocError> {
     let left_out = numbers.all.saturating_sub(numbers.compared());
     if left_out == 0 {
         return Ok(());
@@ -46,7 +46,7 @@ fn put_left_out(alloc: Global, out: &mut Vec<u8>, numbers: Numbers) -> Result<()
     Ok(())
 }
 
-fn put_spread(alloc: Global, out: &mut Vec<u8>, numbers: Numbers) -> Result<(), AllocError> {
+fn put_spread(alloc: Global, out: &mut Vec<u8>, numbers: KindNumbers) -> Result<(), AllocError> {
     put(out, b"  rules - kernel in us: least ")?;
     put_micros(alloc, out, numbers.least)?;
     put(out, b", median ")?;

@@ -3,15 +3,15 @@
 use crate::table::name_of;
 use crate::writing::{put, put_micros, put_number, put_seconds, put_signed, put_signed_seconds};
 use std::alloc::{AllocError, Global};
-use timer_lines::Lines;
-use timer_rules::{Kind, Observation};
+use timer_lines::KeptLines;
+use timer_rules::{TimerKind, Observation};
 
 /// Appends the first deviation: where it is, both moments, and the task's budget and deadline.
 pub(crate) fn put_first(
     alloc: Global,
     out: &mut Vec<u8>,
     first: &Observation,
-    lines: &Lines,
+    lines: &KeptLines,
     names: &[Vec<u8>],
 ) -> Result<(), AllocError> {
     put(out, b"  first at line ")?;
@@ -28,14 +28,14 @@ pub(crate) fn put_first(
     put_budget(alloc, out, first)
 }
 
-fn kind_phrase(kind: Kind) -> &'static [u8] {
+fn kind_phrase(kind: TimerKind) -> &'static [u8] {
     match kind {
-        Kind::Block => b", block of ",
-        Kind::Replenish => b", replenishment timer of ",
+        TimerKind::Block => b", block of ",
+        TimerKind::Replenish => b", replenishment timer of ",
     }
 }
 
-fn put_pid(alloc: Global, out: &mut Vec<u8>, lines: &Lines, task: u32) -> Result<(), AllocError> {
+fn put_pid(alloc: Global, out: &mut Vec<u8>, lines: &KeptLines, task: u32) -> Result<(), AllocError> {
     if let Some(of_task) = lines.tasks.get(task as usize) {
         put(out, b" (pid ")?;
         put_number(alloc, out, of_task.pid)?;

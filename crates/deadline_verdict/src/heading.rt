@@ -4,7 +4,7 @@ use trace_words::Kernel;
 
 /// What a verdict says of a record besides its timers.
 #[derive(Clone, Copy)]
-pub struct Heading<'a> {
+pub struct TimerHeading<'a> {
     /// The name of the record.
     pub trace: &'a [u8],
     pub kernel: Option<Kernel>,

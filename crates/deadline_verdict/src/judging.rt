@@ -4,27 +4,27 @@ ghost use Rattle.std.specs.Prelude.{◌≡◌, ◌↔◌, All, IsTrue, IfOk, fal
 ghost use Rattle.deadline_timers.specs.Playing.{observations_of};
 ghost use Rattle.deadline_verdict.specs.Verdicts.{IsJudged, deviates, is_deviation};
 
-use deadline_timers::{Outcome, Setup, Start, Watch, play};
+use deadline_timers::{RecordOutcome, RecordSetup, RecordStart, Watch, play};
 use std::alloc::{AllocError, Global};
-use timer_lines::Lines;
-use timer_rules::{Answer, Observation};
+use timer_lines::KeptLines;
+use timer_rules::{ObservedAnswer, Observation};
 
 /// A record that was judged.
 #[derive(Drop)]
 pub struct Judged {
     /// With the charges of the first deviation's task since its last wake.
-    pub outcome: Outcome,
+    pub outcome: RecordOutcome,
 
     /// The first observation that differs, by its place.
     pub first: Option<usize>,
 }
 
-fn differs(answer: Answer) -> bool
+fn differs(answer: ObservedAnswer) -> bool
     ensures { result ≡ is_deviation answer }
 {
     match answer {
-        Answer::Differs => true,
-        Answer::Agrees | Answer::End | Answer::Unknown | Answer::Edge | Answer::Gap => false,
+        ObservedAnswer::Differs => true,
+        ObservedAnswer::Agrees | ObservedAnswer::End | ObservedAnswer::Unknown | ObservedAnswer::Edge | ObservedAnswer::Gap => false,
     }
 }
 
@@ -43,7 +43,7 @@ pub fn agrees(observations: &[Observation]) -> bool
 }
 
 /// Judges what a record came to.
-pub fn judged_of(outcome: Outcome) -> Judged
+pub fn judged_of(outcome: RecordOutcome) -> Judged
     ensures judged { IsJudged result }
     ensures same { result.outcome ≡ outcome }
 {
@@ -54,9 +54,9 @@ pub fn judged_of(outcome: Outcome) -> Judged
 /// Plays a record and judges it; where it differs, it is played again, to tell the charges before the first deviation.
 pub fn judge(
     alloc: Global,
-    setup: Setup,
-    start: &Start,
-    lines: &Lines,
+    setup: RecordSetup,
+    start: &RecordStart,
+    lines: &KeptLines,
     within: u64,
 ) -> Result<Judged, AllocError>
     ensures judged { IfOk result (λ j. IsJudged j) }

@@ -15,8 +15,8 @@ mod text;
 mod writing;
 
 pub use cause::{Cause, cause_of};
-pub use heading::Heading;
+pub use heading::TimerHeading;
 pub use judging::{Judged, agrees, first_deviation, judge, judged_of};
-pub use numbers::{Numbers, numbers_of};
+pub use numbers::{KindNumbers, numbers_of};
 pub use table::{put_row, put_table, table_head};
 pub use text::put_verdict;

@@ -4,11 +4,11 @@ ghost use Rattle.std.specs.Prelude.{◌≡◌, IfOk, count_by};
 ghost use Rattle.deadline_verdict.specs.Numbers.{AreCounts, comes_to_of, is_kind, number_of};
 
 use std::alloc::{AllocError, Global};
-use timer_rules::{Answer, Kind, Observation};
+use timer_rules::{ObservedAnswer, TimerKind, Observation};
 
 /// Of the observations of one kind. Differences are nanoseconds.
 #[derive(Clone, Copy)]
-pub struct Numbers {
+pub struct KindNumbers {
     pub all: u64,
     pub agree: u64,
     pub differ: u64,
@@ -24,60 +24,60 @@ pub struct Numbers {
     pub greatest: i64,
 }
 
-impl Numbers {
+impl KindNumbers {
     pub fn compared(self) -> u64 {
         self.agree.saturating_add(self.differ)
     }
 }
 
 /// Whether it is compared.
-pub(crate) fn is_compared(answer: Answer) -> bool {
+pub(crate) fn is_compared(answer: ObservedAnswer) -> bool {
     match answer {
-        Answer::Agrees | Answer::Differs => true,
-        Answer::End | Answer::Unknown | Answer::Edge | Answer::Gap => false,
+        ObservedAnswer::Agrees | ObservedAnswer::Differs => true,
+        ObservedAnswer::End | ObservedAnswer::Unknown | ObservedAnswer::Edge | ObservedAnswer::Gap => false,
     }
 }
 
 /// Whether it is of this kind.
-pub(crate) fn is_of(kind: Kind, observation: &Observation) -> bool
+pub(crate) fn is_of(kind: TimerKind, observation: &Observation) -> bool
     ensures { result ≡ is_kind kind observation.now }
 {
     match (kind, observation.kind) {
-        (Kind::Block, Kind::Block) | (Kind::Replenish, Kind::Replenish) => true,
-        (Kind::Block, Kind::Replenish) | (Kind::Replenish, Kind::Block) => false,
+        (TimerKind::Block, TimerKind::Block) | (TimerKind::Replenish, TimerKind::Replenish) => true,
+        (TimerKind::Block, TimerKind::Replenish) | (TimerKind::Replenish, TimerKind::Block) => false,
     }
 }
 
 /// Answers by number.
-fn number(answer: Answer) -> u8
+fn number(answer: ObservedAnswer) -> u8
     ensures { result ≡ number_of answer }
 {
     match answer {
-        Answer::Agrees => 0,
-        Answer::Differs => 1,
-        Answer::End => 2,
-        Answer::Unknown => 3,
-        Answer::Edge => 4,
-        Answer::Gap => 5,
+        ObservedAnswer::Agrees => 0,
+        ObservedAnswer::Differs => 1,
+        ObservedAnswer::End => 2,
+        ObservedAnswer::Unknown => 3,
+        ObservedAnswer::Edge => 4,
+        ObservedAnswer::Gap => 5,
     }
 }
 
 /// Whether an observation of a kind comes to an answer.
-fn comes_to(kind: Kind, answer: Answer, observation: &Observation) -> bool
+fn comes_to(kind: TimerKind, answer: ObservedAnswer, observation: &Observation) -> bool
     ensures { result ≡ comes_to_of kind answer observation.now }
 {
     is_of(kind, observation) && number(observation.answer) == number(answer)
 }
 
 /// How many observations of a kind there are.
-fn count_all(observations: &[Observation], kind: Kind) -> u64
+fn count_all(observations: &[Observation], kind: TimerKind) -> u64
     ensures { result ≡ count_by (is_kind kind) observations.now }
 {
     observations.iter().filter(|o| is_of(kind, o)).count() as u64
 }
 
 /// How many of them come to an answer.
-fn count(observations: &[Observation], kind: Kind, answer: Answer) -> u64
+fn count(observations: &[Observation], kind: TimerKind, answer: ObservedAnswer) -> u64
     ensures { result ≡ count_by (comes_to_of kind answer) observations.now }
 {
     observations
@@ -90,7 +90,7 @@ fn count(observations: &[Observation], kind: Kind, answer: Answer) -> u64
 fn differences(
     alloc: Global,
     observations: &[Observation],
-    kind: Kind,
+    kind: TimerKind,
 ) -> Result<Vec<i64>, AllocError> {
     let mut differences: Vec<i64> = Vec::new(alloc);
     for observation in observations {
@@ -110,20 +110,20 @@ fn at(sorted: &[i64], place: usize) -> i64 {
 pub fn numbers_of(
     alloc: Global,
     observations: &[Observation],
-    kind: Kind,
-) -> Result<Numbers, AllocError>
+    kind: TimerKind,
+) -> Result<KindNumbers, AllocError>
     ensures { IfOk result (λ n. AreCounts n kind observations.now) }
 {
     let sorted = differences(alloc, observations, kind)?;
     let last = sorted.len().saturating_sub(1);
-    Ok(Numbers {
+    Ok(KindNumbers {
         all: count_all(observations, kind),
-        agree: count(observations, kind, Answer::Agrees),
-        differ: count(observations, kind, Answer::Differs),
-        ends: count(observations, kind, Answer::End),
-        unknown: count(observations, kind, Answer::Unknown),
-        edges: count(observations, kind, Answer::Edge),
-        gaps: count(observations, kind, Answer::Gap),
+        agree: count(observations, kind, ObservedAnswer::Agrees),
+        differ: count(observations, kind, ObservedAnswer::Differs),
+        ends: count(observations, kind, ObservedAnswer::End),
+        unknown: count(observations, kind, ObservedAnswer::Unknown),
+        edges: count(observations, kind, ObservedAnswer::Edge),
+        gaps: count(observations, kind, ObservedAnswer::Gap),
         least: at(&sorted, 0),
         median: at(&sorted, sorted.len() / 2),
         high: at(&sorted, last - last / 100),

@@ -3,7 +3,7 @@
 use crate::numbers::is_compared;
 use crate::writing::{put, put_number, put_signed};
 use std::alloc::{AllocError, Global};
-use timer_rules::{Answer, Kind, Observation};
+use timer_rules::{ObservedAnswer, TimerKind, Observation};
 
 /// The first line of a table. Moments, differences and budgets are nanoseconds, sums units of 2^-20 of a processor.
 pub fn table_head() -> &'static [u8] {
@@ -11,21 +11,21 @@ pub fn table_head() -> &'static [u8] {
 }
 
 /// The word of an answer.
-pub(crate) fn answer_word(answer: Answer) -> &'static [u8] {
+pub(crate) fn answer_word(answer: ObservedAnswer) -> &'static [u8] {
     match answer {
-        Answer::Agrees => b"agrees",
-        Answer::Differs => b"differs",
-        Answer::End => b"end",
-        Answer::Unknown => b"unknown",
-        Answer::Edge => b"edge",
-        Answer::Gap => b"gap",
+        ObservedAnswer::Agrees => b"agrees",
+        ObservedAnswer::Differs => b"differs",
+        ObservedAnswer::End => b"end",
+        ObservedAnswer::Unknown => b"unknown",
+        ObservedAnswer::Edge => b"edge",
+        ObservedAnswer::Gap => b"gap",
     }
 }
 
-fn kind_word(kind: Kind) -> &'static [u8] {
+fn kind_word(kind: TimerKind) -> &'static [u8] {
     match kind {
-        Kind::Block => b"block",
-        Kind::Replenish => b"replenish",
+        TimerKind::Block => b"block",
+        TimerKind::Replenish => b"replenish",
     }
 }
 

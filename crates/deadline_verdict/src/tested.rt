@@ -1,7 +1,7 @@
 //! Which rules a record put to the test, in words.
 
 use crate::writing::{put, put_count};
-use deadline_timers::Counts;
+use deadline_timers::TimerRuleCounts;
 use std::alloc::{AllocError, Global};
 
 /// Appends a count of a list, with what it counts, where it is one.
@@ -28,7 +28,7 @@ pub(crate) fn put_item(
 pub(crate) fn put_tested(
     alloc: Global,
     out: &mut Vec<u8>,
-    counts: &Counts,
+    counts: &TimerRuleCounts,
 ) -> Result<(), AllocError> {
     put(out, b"put to the test: ")?;
     let first = put_charges_tested(alloc, out, counts)?;
@@ -44,7 +44,7 @@ pub(crate) fn put_tested(
 fn put_charges_tested(
     alloc: Global,
     out: &mut Vec<u8>,
-    counts: &Counts,
+    counts: &TimerRuleCounts,
 ) -> Result<bool, AllocError> {
     let first = put_item(
         alloc,
@@ -67,7 +67,7 @@ fn put_wakes_tested(
     alloc: Global,
     out: &mut Vec<u8>,
     first: bool,
-    counts: &Counts,
+    counts: &TimerRuleCounts,
 ) -> Result<bool, AllocError> {
     let first = put_item(
         alloc,
@@ -97,7 +97,7 @@ fn put_throttles_tested(
     alloc: Global,
     out: &mut Vec<u8>,
     first: bool,
-    counts: &Counts,
+    counts: &TimerRuleCounts,
 ) -> Result<bool, AllocError> {
     let first = put_item(alloc, out, first, b"throttles", counts.throttled)?;
     let first = put_item(alloc, out, first, b"yields", counts.yielded)?;
@@ -115,7 +115,7 @@ fn put_changes_tested(
     alloc: Global,
     out: &mut Vec<u8>,
     first: bool,
-    counts: &Counts,
+    counts: &TimerRuleCounts,
 ) -> Result<bool, AllocError> {
     let first = put_item(alloc, out, first, b"admissions", counts.admitted)?;
     let first = put_item(alloc, out, first, b"changes", counts.changed)?;

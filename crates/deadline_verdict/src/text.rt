@@ -4,26 +4,26 @@ use crate::cause::{Cause, cause_of};
 use crate::charges::{put_charges, put_implied};
 use crate::figures::put_numbers;
 use crate::first::put_first;
-use crate::heading::Heading;
+use crate::heading::TimerHeading;
 use crate::judging::Judged;
-use crate::numbers::{Numbers, numbers_of};
+use crate::numbers::{KindNumbers, numbers_of};
 use crate::table::name_of;
 use crate::tested::put_tested;
 use crate::writing::{put, put_count, put_cpus, put_millis, put_number, put_seconds};
 use deadline_rules::{RECLAIM, has, ratio};
-use deadline_timers::Setup;
+use deadline_timers::RecordSetup;
 use std::alloc::{AllocError, Global};
-use timer_lines::Lines;
-use timer_rules::{Kind, Observation};
+use timer_lines::KeptLines;
+use timer_rules::{TimerKind, Observation};
 use trace_words::{Kernel, Parameters, Policy};
 
 /// Appends the verdict on a record; names are those of the tasks, by their numbers.
 pub fn put_verdict(
     alloc: Global,
     out: &mut Vec<u8>,
-    heading: Heading<'_>,
-    setup: &Setup,
-    lines: &Lines,
+    heading: TimerHeading<'_>,
+    setup: &RecordSetup,
+    lines: &KeptLines,
     names: &[Vec<u8>],
     judged: &Judged,
 ) -> Result<(), AllocError> {
@@ -32,7 +32,7 @@ pub fn put_verdict(
     put_tasks(alloc, out, lines, names)?;
     put_tested(alloc, out, &judged.outcome.counts)?;
     put_boosted(alloc, out, lines.boosted)?;
-    let blocks = numbers_of(alloc, observations, Kind::Block)?;
+    let blocks = numbers_of(alloc, observations, TimerKind::Block)?;
     put_numbers(
         alloc,
         out,
@@ -41,7 +41,7 @@ pub fn put_verdict(
         heading.within,
         blocks,
     )?;
-    let starts = numbers_of(alloc, observations, Kind::Replenish)?;
+    let starts = numbers_of(alloc, observations, TimerKind::Replenish)?;
     put_numbers(
         alloc,
         out,
@@ -81,8 +81,8 @@ fn put_ending(
 fn put_record(
     alloc: Global,
     out: &mut Vec<u8>,
-    heading: Heading<'_>,
-    lines: &Lines,
+    heading: TimerHeading<'_>,
+    lines: &KeptLines,
 ) -> Result<(), AllocError> {
     put(out, heading.trace)?;
     put(out, b": ")?;
@@ -110,7 +110,7 @@ fn put_kernel(alloc: Global, out: &mut Vec<u8>, kernel: Option<Kernel>) -> Resul
 }
 
 /// The reservation of a task: an option's, or that of its first note.
-pub(crate) fn parameters_of(lines: &Lines, task: u32) -> Option<Parameters> {
+pub(crate) fn parameters_of(lines: &KeptLines, task: u32) -> Option<Parameters> {
     if let Some(of_task) = lines.tasks.get(task as usize) {
         if of_task.given.is_some() {
             return of_task.given;
@@ -129,7 +129,7 @@ pub(crate) fn parameters_of(lines: &Lines, task: u32) -> Option<Parameters> {
 fn put_tasks(
     alloc: Global,
     out: &mut Vec<u8>,
-    lines: &Lines,
+    lines: &KeptLines,
     names: &[Vec<u8>],
 ) -> Result<(), AllocError> {
     for (i, task) in lines.tasks.iter().enumerate() {
@@ -182,9 +182,9 @@ fn put_boosted(alloc: Global, out: &mut Vec<u8>, boosted: u64) -> Result<(), All
 fn put_total(
     alloc: Global,
     out: &mut Vec<u8>,
-    heading: Heading<'_>,
-    setup: &Setup,
-    lines: &Lines,
+    heading: TimerHeading<'_>,
+    setup: &RecordSetup,
+    lines: &KeptLines,
 ) -> Result<(), AllocError> {
     let Some(total_bw) = heading.total_bw else {
         return Ok(());
@@ -215,7 +215,7 @@ fn bw_at_start(at: Option<u64>, policy: Policy) -> u64 {
     }
 }
 
-fn put_agreement(out: &mut Vec<u8>, blocks: Numbers, starts: Numbers) -> Result<(), AllocError> {
+fn put_agreement(out: &mut Vec<u8>, blocks: KindNumbers, starts: KindNumbers) -> Result<(), AllocError> {
     if blocks.compared() == 0 && starts.compared() == 0 {
         put(out, b"agrees: nothing was compared\n")
     } else {
@@ -226,8 +226,8 @@ fn put_agreement(out: &mut Vec<u8>, blocks: Numbers, starts: Numbers) -> Result<
 fn put_differs(
     alloc: Global,
     out: &mut Vec<u8>,
-    blocks: Numbers,
-    starts: Numbers,
+    blocks: KindNumbers,
+    starts: KindNumbers,
 ) -> Result<(), AllocError> {
     put(out, b"differs: ")?;
     put_count(alloc, out, blocks.differ)?;

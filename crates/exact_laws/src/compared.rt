@@ -4,7 +4,7 @@ ghost use Rattle.std.specs.Prelude.{◌≡◌};
 ghost use Rattle.exact_laws.specs.inside.Compared.{ratio_for, ratio_compared, is_late_by, clock_is_broken, wake_compared, start_compared};
 
 use deadline_rules::BW_UNIT;
-use exact_words::{Comparison, Place, Quantity, Subject, Value};
+use exact_words::{Comparison, ProbedLine, Quantity, Subject, ExactValue};
 
 /// How far behind the clock of a wake may be, in nanoseconds.
 const BEHIND: i64 = 100_000;
@@ -29,7 +29,7 @@ fn expected(max_bw: u64) -> u64
 }
 
 /// Whether `bw_ratio` is that of `max_bw`, and `max_bw` a limit of the test of admissions; `limit` is the last that was shown.
-pub fn compared_ratio(place: Place, ratio: Ratio, is_limit: bool, limit: u64) -> Comparison
+pub fn compared_ratio(place: ProbedLine, ratio: Ratio, is_limit: bool, limit: u64) -> Comparison
     ensures { result ≡ ratio_compared place ratio.cpu ratio.max_bw ratio.bw_ratio is_limit limit }
 {
     let rules = expected(ratio.max_bw);
@@ -39,8 +39,8 @@ pub fn compared_ratio(place: Place, ratio: Ratio, is_limit: bool, limit: u64) ->
             place,
             subject: Subject::Runqueue(ratio.cpu),
             quantity: Quantity::MaxBw,
-            rules: Value::Unsigned(limit),
-            kernel: Value::Unsigned(ratio.max_bw),
+            rules: ExactValue::Unsigned(limit),
+            kernel: ExactValue::Unsigned(ratio.max_bw),
             is_equal: false,
         }
     } else {
@@ -48,8 +48,8 @@ pub fn compared_ratio(place: Place, ratio: Ratio, is_limit: bool, limit: u64) ->
             place,
             subject: Subject::Runqueue(ratio.cpu),
             quantity: Quantity::BwRatio,
-            rules: Value::Unsigned(rules),
-            kernel: Value::Unsigned(ratio.bw_ratio),
+            rules: ExactValue::Unsigned(rules),
+            kernel: ExactValue::Unsigned(ratio.bw_ratio),
             is_equal: is_right,
         }
     }
@@ -70,29 +70,29 @@ pub fn is_broken(late: u64, wakes: u64) -> bool
 }
 
 /// A wake on this CPU, whose clock is so far behind.
-pub fn compared_wake(place: Place, cpu: u32, lag: i64, least: i64, is_equal: bool) -> Comparison
+pub fn compared_wake(place: ProbedLine, cpu: u32, lag: i64, least: i64, is_equal: bool) -> Comparison
     ensures { result ≡ wake_compared place cpu lag least is_equal }
 {
     Comparison {
         place,
         subject: Subject::Runqueue(cpu),
         quantity: Quantity::ClockLag,
-        rules: Value::AtMost(100_000),
-        kernel: Value::Signed(lag.wrapping_sub(least)),
+        rules: ExactValue::AtMost(100_000),
+        kernel: ExactValue::Signed(lag.wrapping_sub(least)),
         is_equal,
     }
 }
 
 /// `this_bw` of the first line of a CPU.
-pub fn compared_start(place: Place, cpu: u32, rules: u64, this_bw: u64) -> Comparison
+pub fn compared_start(place: ProbedLine, cpu: u32, rules: u64, this_bw: u64) -> Comparison
     ensures { result ≡ start_compared place cpu rules this_bw }
 {
     Comparison {
         place,
         subject: Subject::Runqueue(cpu),
         quantity: Quantity::ThisBw,
-        rules: Value::Unsigned(rules),
-        kernel: Value::Unsigned(this_bw),
+        rules: ExactValue::Unsigned(rules),
+        kernel: ExactValue::Unsigned(this_bw),
         is_equal: rules == this_bw,
     }
 }

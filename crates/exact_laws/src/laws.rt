@@ -2,7 +2,7 @@
 
 use crate::compared::{Ratio, compared_ratio, compared_start, compared_wake, is_broken, is_late};
 use deadline_rules::{BW_UNIT, DEADLINE_POLICY, WAKEUP, has, ratio};
-use exact_words::{FIRST_SEEN, Place, Sheet};
+use exact_words::{FIRST_SEEN, ProbedLine, Findings};
 use std::alloc::{AllocError, Global};
 use std::collections::HashMap;
 use trace_words::{Enqueued, Probe, Ran, Updated};
@@ -44,7 +44,7 @@ pub struct Broken {
 /// The first `this_bw` that a line of a CPU shows.
 #[derive(Clone, Copy)]
 struct Start {
-    place: Place,
+    place: ProbedLine,
     cpu: u32,
     more: u64,
     this_bw: u64,
@@ -54,7 +54,7 @@ struct Start {
 #[derive(Clone, Copy)]
 struct FirstRatio {
     ratio: Ratio,
-    place: Place,
+    place: ProbedLine,
 }
 
 /// A wake, and how far the clock of its CPU is behind the line's moment.
@@ -62,7 +62,7 @@ struct FirstRatio {
 struct Lag {
     nanos: i64,
     cpu: u32,
-    place: Place,
+    place: ProbedLine,
 }
 
 /// What the laws need of a record.
@@ -98,7 +98,7 @@ impl Laws {
 
     pub fn keep_start(
         &mut self,
-        place: Place,
+        place: ProbedLine,
         cpu: u32,
         more: u64,
         this_bw: u64,
@@ -113,7 +113,7 @@ impl Laws {
     }
 
     /// Takes a line.
-    pub fn see(&mut self, place: Place, probe: &Probe) -> Result<(), AllocError> {
+    pub fn see(&mut self, place: ProbedLine, probe: &Probe) -> Result<(), AllocError> {
         match probe {
             Probe::Admitted(line) => {
                 if line.policy == DEADLINE_POLICY && line.policy_before != DEADLINE_POLICY {
@@ -149,7 +149,7 @@ impl Laws {
         }
     }
 
-    fn see_enqueued(&mut self, place: Place, line: &Enqueued) -> Result<(), AllocError> {
+    fn see_enqueued(&mut self, place: ProbedLine, line: &Enqueued) -> Result<(), AllocError> {
         if line.normal_prio < 0 {
             self.see_task(line.pid);
         }
@@ -168,7 +168,7 @@ impl Laws {
         Ok(())
     }
 
-    fn see_ratio(&mut self, place: Place, line: &Updated) -> Result<(), AllocError> {
+    fn see_ratio(&mut self, place: ProbedLine, line: &Updated) -> Result<(), AllocError> {
         if let Ran::Span { max_bw, .. } = line.ran {
             let ratio = Ratio {
                 cpu: line.cpu,
@@ -199,7 +199,7 @@ impl Laws {
     }
 
     /// Compares the laws at the end of a record, of a kernel that has fair servers or not.
-    pub fn finish(&mut self, has_servers: bool, sheet: &mut Sheet) -> Result<(), AllocError> {
+    pub fn finish(&mut self, has_servers: bool, sheet: &mut Findings) -> Result<(), AllocError> {
         if !self.has_older {
             self.end_starts(has_servers, sheet)?;
         }
@@ -208,7 +208,7 @@ impl Laws {
     }
 
     /// `this_bw` of a runqueue begins with its server's bandwidth, where no task is older than the record.
-    fn end_starts(&self, has_servers: bool, sheet: &mut Sheet) -> Result<(), AllocError> {
+    fn end_starts(&self, has_servers: bool, sheet: &mut Findings) -> Result<(), AllocError> {
         let fair = if has_servers {
             ratio(FAIR_RUNTIME, FAIR_PERIOD)
         } else {
@@ -223,7 +223,7 @@ impl Laws {
         Ok(())
     }
 
-    fn end_ratios(&mut self, sheet: &mut Sheet) -> Result<(), AllocError> {
+    fn end_ratios(&mut self, sheet: &mut Findings) -> Result<(), AllocError> {
         for i in 0..self.first_ratios.len() {
             if let Some(one) = self.first_ratios.get(i) {
                 let one = *one;
@@ -233,7 +233,7 @@ impl Laws {
         Ok(())
     }
 
-    fn end_ratio(&mut self, one: FirstRatio, sheet: &mut Sheet) -> Result<(), AllocError> {
+    fn end_ratio(&mut self, one: FirstRatio, sheet: &mut Findings) -> Result<(), AllocError> {
         let is_limit = self.is_limit(one.ratio.max_bw);
         let compared = compared_ratio(one.place, one.ratio, is_limit, self.last_limit);
         if !compared.is_equal {
@@ -270,7 +270,7 @@ impl Laws {
     }
 
     /// Each wake counts as one that is equal; where the law is broken, those in time do, and one differs.
-    fn end_clock(&mut self, sheet: &mut Sheet) -> Result<(), AllocError> {
+    fn end_clock(&mut self, sheet: &mut Findings) -> Result<(), AllocError> {
         let least = self.least_lag();
         let late = self.late_wakes(least);
         let wakes = self.lags.len() as u64;
@@ -297,7 +297,7 @@ impl Laws {
     }
 
     /// The first wake that is late.
-    fn end_late(&mut self, least: i64, late: u64, sheet: &mut Sheet) -> Result<(), AllocError> {
+    fn end_late(&mut self, least: i64, late: u64, sheet: &mut Findings) -> Result<(), AllocError> {
         let wakes = self.lags.len() as u64;
         let Some(lag) = self.first_late(least) else {
             return Ok(());

@@ -2,9 +2,9 @@
 use Rattle.std.proofs.Common.{arith, rules, ◌≡◌, ℕ, ◌+◌, ◌-◌, ◌^◌, ◌<◌, ◌==◌, min, Bool, true, false, ◌&&◌, Option, Some, None, refl, if◌then◌else◌}
 use Rattle.std.specs.Prelude.{is_none}
 use Rattle.std.proofs.Math.Nat.{le-min}
-use Rattle.exact_words.specs.declared.words.Kind.{Kind}
-use Rattle.exact_words.specs.declared.words.Kind.TheVariants.{Budget, Deadline, Flags, Parameters, ThisBw, RunningBw, ExtraBw, ZeroLag, ZeroLagMoment, Timers, Laws}
-use Rattle.exact_words.specs.declared.counts.Counts.{Counts}
+use Rattle.exact_words.specs.declared.words.QuantityKind.{QuantityKind}
+use Rattle.exact_words.specs.declared.words.QuantityKind.TheVariants.{Budget, Deadline, Flags, Parameters, ThisBw, RunningBw, ExtraBw, ZeroLag, ZeroLagMoment, Timers, Laws}
+use Rattle.exact_words.specs.declared.counts.KindCounts.{KindCounts}
 use Rattle.exact_words.specs.declared.words.Deviation.{Deviation}
 use Rattle.exact_words.specs.Tallies.{counted_of, differing, none_differs}
 use Rattle.exact_words.specs.Firsts.{first_with}
@@ -15,7 +15,7 @@ some n = le-min (omega arith) (omega arith)
 not_zero : (n : ℕ) → 0 < n → (n == 0) ≡ false
 not_zero n h = search (rules, h)
 
-differs : (c : Counts) (k : Kind) → none_differs (counted_of c k false) ≡ false
+differs : (c : KindCounts) (k : QuantityKind) → none_differs (counted_of c k false) ≡ false
 differs c Budget = not_zero (differing (counted_of c Budget false)) (omega (arith, some c.budget.differ))
 differs c Deadline = not_zero (differing (counted_of c Deadline false)) (omega (arith, some c.deadline.differ))
 differs c Flags = not_zero (differing (counted_of c Flags false)) (omega (arith, some c.flags.differ))
@@ -28,7 +28,7 @@ differs c ZeroLagMoment = not_zero (differing (counted_of c ZeroLagMoment false)
 differs c Timers = not_zero (differing (counted_of c Timers false)) (omega (arith, some c.timers.differ))
 differs c Laws = not_zero (differing (counted_of c Laws false)) (omega (arith, some c.laws.differ))
 
-equal : (c : Counts) (k : Kind) → none_differs (counted_of c k true) ≡ none_differs c
+equal : (c : KindCounts) (k : QuantityKind) → none_differs (counted_of c k true) ≡ none_differs c
 equal c Budget = refl
 equal c Deadline = refl
 equal c Flags = refl
@@ -41,7 +41,7 @@ equal c ZeroLagMoment = refl
 equal c Timers = refl
 equal c Laws = refl
 
-pub counting : (c : Counts) (k : Kind) (b : Bool) → none_differs (counted_of c k b) ≡ (b && none_differs c)
+pub counting : (c : KindCounts) (k : QuantityKind) (b : Bool) → none_differs (counted_of c k b) ≡ (b && none_differs c)
 counting c k true = equal c k
 counting c k false = differs c k
 
@@ -54,6 +54,6 @@ with_one None d = elim d.comparison.is_equal as (λ b. is_none (if b then None e
 with_one (Some first) d = elim d.comparison.is_equal as (λ b. false ≡ (b && false)) [ true ↦ refl | false ↦ refl ]
 
 -- the first deviation is none exactly where none differs, also after one comparison more
-pub still_told : (found : Option Deviation) (d : Deviation) (c : Counts) (k : Kind) → is_none found ≡ none_differs c
+pub still_told : (found : Option Deviation) (d : Deviation) (c : KindCounts) (k : QuantityKind) → is_none found ≡ none_differs c
     → is_none (first_with found d) ≡ none_differs (counted_of c k d.comparison.is_equal)
 still_told found d c k h = rw (with_one found d) (rw (counting c k d.comparison.is_equal) (rw h refl))

@@ -1,10 +1,10 @@
 -- Of which kind a value is.
 use Rattle.exact_words.specs.declared.words.Quantity.{Quantity}
 use Rattle.exact_words.specs.declared.words.Quantity.TheVariants.{Runtime, Deadline as DeadlineValue, Throttled, Yielded, NonContending, DlRuntime, DlDeadline, DlPeriod, SchedFlags, ThisBw as ThisBwValue, RunningBw as RunningBwValue, ExtraBw as ExtraBwValue, ZeroLag as ZeroLagValue, ZeroLagMoment as ZeroLagMomentValue, Timer, BwRatio, MaxBw, ClockLag}
-use Rattle.exact_words.specs.declared.words.Kind.{Kind}
-use Rattle.exact_words.specs.declared.words.Kind.TheVariants.{Budget, Deadline, Flags, Parameters, ThisBw, RunningBw, ExtraBw, ZeroLag, ZeroLagMoment, Timers, Laws}
+use Rattle.exact_words.specs.declared.words.QuantityKind.{QuantityKind}
+use Rattle.exact_words.specs.declared.words.QuantityKind.TheVariants.{Budget, Deadline, Flags, Parameters, ThisBw, RunningBw, ExtraBw, ZeroLag, ZeroLagMoment, Timers, Laws}
 
-abbrev pub kind_by : Quantity → Kind
+abbrev pub kind_by : Quantity → QuantityKind
 kind_by Runtime = Budget
 kind_by DeadlineValue = Deadline
 kind_by Throttled = Flags

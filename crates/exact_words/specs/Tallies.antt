@@ -1,14 +1,14 @@
 -- How many values of each kind were compared.
 use Rattle.std.specs.Prelude.{◌≡◌, ℕ, ◌+◌, ◌-◌, ◌%◌, ◌^◌, ◌==◌, min, Bool, true, false, ◌&&◌}
-use Rattle.exact_words.specs.declared.counts.Tally.{Tally}
-use Rattle.exact_words.specs.declared.counts.Counts.{Counts}
-use Rattle.exact_words.specs.declared.words.Kind.{Kind}
-use Rattle.exact_words.specs.declared.words.Kind.TheVariants.{Budget, Deadline, Flags, Parameters, ThisBw, RunningBw, ExtraBw, ZeroLag, ZeroLagMoment, Timers, Laws}
+use Rattle.exact_words.specs.declared.counts.Comparisons.{Comparisons}
+use Rattle.exact_words.specs.declared.counts.KindCounts.{KindCounts}
+use Rattle.exact_words.specs.declared.words.QuantityKind.{QuantityKind}
+use Rattle.exact_words.specs.declared.words.QuantityKind.TheVariants.{Budget, Deadline, Flags, Parameters, ThisBw, RunningBw, ExtraBw, ZeroLag, ZeroLagMoment, Timers, Laws}
 
-abbrev pub no_tally : Tally
+abbrev pub no_tally : Comparisons
 no_tally = record { equal = 0; differ = 0 }
 
-abbrev pub no_counts : Counts
+abbrev pub no_counts : KindCounts
 no_counts = record {
   budget = no_tally;
   deadline = no_tally;
@@ -24,11 +24,11 @@ no_counts = record {
 }
 
 -- one comparison more; those that differ never come to 0 again
-abbrev pub tallied : Tally → Bool → Tally
+abbrev pub tallied : Comparisons → Bool → Comparisons
 tallied t true = record t { equal = (t.equal + 1) % 2 ^ 64 }
 tallied t false = record t { differ = min (t.differ + 1) (2 ^ 64 - 1) }
 
-abbrev pub tally_of : Counts → Kind → Tally
+abbrev pub tally_of : KindCounts → QuantityKind → Comparisons
 tally_of c Budget = c.budget
 tally_of c Deadline = c.deadline
 tally_of c Flags = c.flags
@@ -42,7 +42,7 @@ tally_of c Timers = c.timers
 tally_of c Laws = c.laws
 
 -- one comparison more of this kind, and of no other
-abbrev pub counted_of : Counts → Kind → Bool → Counts
+abbrev pub counted_of : KindCounts → QuantityKind → Bool → KindCounts
 counted_of c Budget b = record c { budget = tallied c.budget b }
 counted_of c Deadline b = record c { deadline = tallied c.deadline b }
 counted_of c Flags b = record c { flags = tallied c.flags b }
@@ -56,10 +56,10 @@ counted_of c Timers b = record c { timers = tallied c.timers b }
 counted_of c Laws b = record c { laws = tallied c.laws b }
 
 -- how many comparisons of all kinds differ
-abbrev pub differing : Counts → ℕ
+abbrev pub differing : KindCounts → ℕ
 differing c =
     c.budget.differ + c.deadline.differ + c.flags.differ + c.parameters.differ + c.this_bw.differ + c.running_bw.differ
     + c.extra_bw.differ + c.zero_lag.differ + c.zero_lag_moment.differ + c.timers.differ + c.laws.differ
 
-abbrev pub none_differs : Counts → Bool
+abbrev pub none_differs : KindCounts → Bool
 none_differs c = differing c == 0

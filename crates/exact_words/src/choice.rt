@@ -15,12 +15,12 @@ pub const MOST: usize = 4;
 
 /// The places of effects that were picked.
 #[derive(Clone, Copy)]
-pub struct Picked {
+pub struct PickedEffects {
     pub places: [usize; MOST],
     pub count: usize,
 }
 
-impl Picked {
+impl PickedEffects {
     /// Whether this place was picked.
     pub fn contains(&self, place: usize) -> bool {
         let mut is_picked = false;
@@ -33,16 +33,16 @@ impl Picked {
     }
 }
 
-fn none() -> Picked
+fn none() -> PickedEffects
     ensures { result ≡ none_picked }
 {
-    Picked {
+    PickedEffects {
         places: [0; MOST],
         count: 0,
     }
 }
 
-fn with(picked: Picked, place: usize) -> Picked
+fn with(picked: PickedEffects, place: usize) -> PickedEffects
     ensures { result ≡ picked_with picked place }
 {
     let mut more = picked;
@@ -69,7 +69,7 @@ fn is_nothing(amount: Amount) -> bool
 }
 
 /// The first set of `count` of these amounts that add up to what is wanted; `place` is the place of the first of them.
-fn pick_some(amounts: &[Amount], place: usize, count: usize, wanted: Amount) -> Option<Picked>
+fn pick_some(amounts: &[Amount], place: usize, count: usize, wanted: Amount) -> Option<PickedEffects>
     ensures { result ≡ pick_some_of amounts.now place count wanted }
 {
     match amounts {
@@ -88,7 +88,7 @@ fn pick_some(amounts: &[Amount], place: usize, count: usize, wanted: Amount) -> 
 }
 
 /// No effect, where nothing is wanted.
-fn nothing(wanted: Amount) -> Option<Picked>
+fn nothing(wanted: Amount) -> Option<PickedEffects>
     ensures { result ≡ none_for wanted }
 {
     if is_nothing(wanted) {
@@ -99,7 +99,7 @@ fn nothing(wanted: Amount) -> Option<Picked>
 }
 
 /// The smallest set of at most four that add up to what is wanted, of equal ones the first.
-pub fn pick(amounts: &[Amount], wanted: Amount) -> Option<Picked>
+pub fn pick(amounts: &[Amount], wanted: Amount) -> Option<PickedEffects>
     ensures { result ≡ pick_of amounts.now wanted }
 {
     if let Some(picked) = pick_some(amounts, 0, 0, wanted) {

@@ -3,57 +3,57 @@
 ghost use Rattle.std.specs.Prelude.{◌≡◌};
 ghost use Rattle.exact_words.specs.Tallies.{tallied, tally_of, counted_of, no_tally, no_counts};
 
-use crate::words::{Kind, RULES, Rule};
+use crate::words::{QuantityKind, RULES, ExactRule};
 
 /// How many comparisons of a kind are equal, and how many differ.
 #[derive(Clone, Copy)]
-pub struct Tally {
+pub struct Comparisons {
     pub equal: u64,
     pub differ: u64,
 }
 
 /// The tallies of all kinds.
 #[derive(Clone, Copy)]
-pub struct Counts {
-    pub budget: Tally,
-    pub deadline: Tally,
-    pub flags: Tally,
-    pub parameters: Tally,
-    pub this_bw: Tally,
-    pub running_bw: Tally,
-    pub extra_bw: Tally,
-    pub zero_lag: Tally,
-    pub zero_lag_moment: Tally,
-    pub timers: Tally,
-    pub laws: Tally,
+pub struct KindCounts {
+    pub budget: Comparisons,
+    pub deadline: Comparisons,
+    pub flags: Comparisons,
+    pub parameters: Comparisons,
+    pub this_bw: Comparisons,
+    pub running_bw: Comparisons,
+    pub extra_bw: Comparisons,
+    pub zero_lag: Comparisons,
+    pub zero_lag_moment: Comparisons,
+    pub timers: Comparisons,
+    pub laws: Comparisons,
 }
 
-const NONE: Tally = Tally {
+const NONE: Comparisons = Comparisons {
     equal: 0,
     differ: 0,
 };
 
-fn counted(tally: Tally, is_equal: bool) -> Tally
+fn counted(tally: Comparisons, is_equal: bool) -> Comparisons
     ensures { result ≡ tallied tally is_equal }
 {
     if is_equal {
-        Tally {
+        Comparisons {
             equal: tally.equal.wrapping_add(1),
             ..tally
         }
     } else {
-        Tally {
+        Comparisons {
             differ: tally.differ.saturating_add(1),
             ..tally
         }
     }
 }
 
-impl Counts {
-    pub fn new() -> Counts
+impl KindCounts {
+    pub fn new() -> KindCounts
         ensures { result ≡ no_counts }
     {
-        Counts {
+        KindCounts {
             budget: NONE,
             deadline: NONE,
             flags: NONE,
@@ -69,40 +69,40 @@ impl Counts {
     }
 
     /// The tally of one kind.
-    pub fn of(&self, kind: Kind) -> Tally
+    pub fn of(&self, kind: QuantityKind) -> Comparisons
         ensures { result ≡ tally_of self.now kind }
     {
         match kind {
-            Kind::Budget => self.budget,
-            Kind::Deadline => self.deadline,
-            Kind::Flags => self.flags,
-            Kind::Parameters => self.parameters,
-            Kind::ThisBw => self.this_bw,
-            Kind::RunningBw => self.running_bw,
-            Kind::ExtraBw => self.extra_bw,
-            Kind::ZeroLag => self.zero_lag,
-            Kind::ZeroLagMoment => self.zero_lag_moment,
-            Kind::Timers => self.timers,
-            Kind::Laws => self.laws,
+            QuantityKind::Budget => self.budget,
+            QuantityKind::Deadline => self.deadline,
+            QuantityKind::Flags => self.flags,
+            QuantityKind::Parameters => self.parameters,
+            QuantityKind::ThisBw => self.this_bw,
+            QuantityKind::RunningBw => self.running_bw,
+            QuantityKind::ExtraBw => self.extra_bw,
+            QuantityKind::ZeroLag => self.zero_lag,
+            QuantityKind::ZeroLagMoment => self.zero_lag_moment,
+            QuantityKind::Timers => self.timers,
+            QuantityKind::Laws => self.laws,
         }
     }
 
     /// Counts a comparison.
-    pub fn add(&mut self, kind: Kind, is_equal: bool)
+    pub fn add(&mut self, kind: QuantityKind, is_equal: bool)
         ensures { self.new ≡ counted_of self.old kind is_equal }
     {
         match kind {
-            Kind::Budget => self.budget = counted(self.budget, is_equal),
-            Kind::Deadline => self.deadline = counted(self.deadline, is_equal),
-            Kind::Flags => self.flags = counted(self.flags, is_equal),
-            Kind::Parameters => self.parameters = counted(self.parameters, is_equal),
-            Kind::ThisBw => self.this_bw = counted(self.this_bw, is_equal),
-            Kind::RunningBw => self.running_bw = counted(self.running_bw, is_equal),
-            Kind::ExtraBw => self.extra_bw = counted(self.extra_bw, is_equal),
-            Kind::ZeroLag => self.zero_lag = counted(self.zero_lag, is_equal),
-            Kind::ZeroLagMoment => self.zero_lag_moment = counted(self.zero_lag_moment, is_equal),
-            Kind::Timers => self.timers = counted(self.timers, is_equal),
-            Kind::Laws => self.laws = counted(self.laws, is_equal),
+            QuantityKind::Budget => self.budget = counted(self.budget, is_equal),
+            QuantityKind::Deadline => self.deadline = counted(self.deadline, is_equal),
+            QuantityKind::Flags => self.flags = counted(self.flags, is_equal),
+            QuantityKind::Parameters => self.parameters = counted(self.parameters, is_equal),
+            QuantityKind::ThisBw => self.this_bw = counted(self.this_bw, is_equal),
+            QuantityKind::RunningBw => self.running_bw = counted(self.running_bw, is_equal),
+            QuantityKind::ExtraBw => self.extra_bw = counted(self.extra_bw, is_equal),
+            QuantityKind::ZeroLag => self.zero_lag = counted(self.zero_lag, is_equal),
+            QuantityKind::ZeroLagMoment => self.zero_lag_moment = counted(self.zero_lag_moment, is_equal),
+            QuantityKind::Timers => self.timers = counted(self.timers, is_equal),
+            QuantityKind::Laws => self.laws = counted(self.laws, is_equal),
         }
     }
 }
@@ -119,12 +119,12 @@ impl RuleCounts {
     }
 
     /// How often this one was.
-    pub fn of(&self, rule: Rule) -> u64 {
+    pub fn of(&self, rule: ExactRule) -> u64 {
         self.counts.get(rule as usize).copied().unwrap_or(0)
     }
 
     /// Counts it.
-    pub fn add(&mut self, rule: Rule) {
+    pub fn add(&mut self, rule: ExactRule) {
         if let Some(count) = self.counts.get_mut(rule as usize) {
             *count = count.wrapping_add(1);
         }

@@ -7,11 +7,11 @@ mod law;
 mod sheet;
 mod words;
 
-pub use choice::{Amount, MOST, Picked, pick};
-pub use counts::{Counts, RuleCounts, Tally};
+pub use choice::{Amount, MOST, PickedEffects, pick};
+pub use counts::{KindCounts, RuleCounts, Comparisons};
 pub use law::first_is_first;
-pub use sheet::Sheet;
+pub use sheet::Findings;
 pub use words::{
-    Comparison, Deviation, Event, FIRST_SEEN, Kind, Place, Quantity, RULES, Rule, Subject, Value,
+    Comparison, Deviation, ProbedFunction, FIRST_SEEN, QuantityKind, ProbedLine, Quantity, RULES, ExactRule, Subject, ExactValue,
     Whose, Why, kind_of,
 };

@@ -5,14 +5,14 @@ ghost use Rattle.exact_words.specs.Kinds.{kind_by};
 ghost use Rattle.exact_words.specs.Tallies.{counted_of, none_differs};
 ghost use Rattle.exact_words.specs.Firsts.{first_with};
 
-use crate::counts::{Counts, RuleCounts};
-use crate::words::{Comparison, Deviation, Rule, Why, kind_of};
+use crate::counts::{KindCounts, RuleCounts};
+use crate::words::{Comparison, Deviation, ExactRule, Why, kind_of};
 use std::alloc::{AllocError, Global};
 
 /// Counts, the first deviation, and rows of a table.
 #[derive(Drop)]
-pub struct Sheet {
-    pub counts: Counts,
+pub struct Findings {
+    pub counts: KindCounts,
     pub rules: RuleCounts,
     pub first: Option<Deviation>,
 
@@ -28,12 +28,12 @@ pub struct Sheet {
     pub ghost told: { is_none first ≡ none_differs counts },
 }
 
-impl Sheet {
-    pub fn new(alloc: Global, keeps_rows: bool) -> Sheet
+impl Findings {
+    pub fn new(alloc: Global, keeps_rows: bool) -> Findings
         ensures first { is_none result.first ≡ true }
     {
-        Sheet {
-            counts: Counts::new(),
+        Findings {
+            counts: KindCounts::new(),
             rules: RuleCounts::new(),
             first: None,
             found_at: 0,
@@ -142,7 +142,7 @@ impl Sheet {
         self.first.is_none()
     }
 
-    pub fn note(&mut self, rule: Rule)
+    pub fn note(&mut self, rule: ExactRule)
         ensures counts { self.new.counts ≡ self.old.counts }
         ensures first { self.new.first ≡ self.old.first }
     {

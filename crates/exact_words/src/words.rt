@@ -7,7 +7,7 @@ use trace_words::TimerFunction;
 
 /// The function whose entry a line shows.
 #[derive(Clone, Copy)]
-pub enum Event {
+pub enum ProbedFunction {
     Enqueue,
     Update,
     Dequeue,
@@ -23,7 +23,7 @@ pub enum Event {
 
 /// A line of a record.
 #[derive(Clone, Copy)]
-pub struct Place {
+pub struct ProbedLine {
     /// Its number, from 1.
     pub line: u64,
 
@@ -35,7 +35,7 @@ pub struct Place {
 
     /// The task that ran there.
     pub pid: u64,
-    pub event: Event,
+    pub event: ProbedFunction,
 }
 
 /// Whose entity it is.
@@ -97,7 +97,7 @@ pub enum Quantity {
 
 /// A kind of value: each has its counts.
 #[derive(Clone, Copy)]
-pub enum Kind {
+pub enum QuantityKind {
     Budget,
     Deadline,
     Flags,
@@ -112,29 +112,29 @@ pub enum Kind {
 }
 
 /// The kind of a value.
-pub fn kind_of(quantity: Quantity) -> Kind
+pub fn kind_of(quantity: Quantity) -> QuantityKind
     ensures { result ≡ kind_by quantity }
 {
     match quantity {
-        Quantity::Runtime => Kind::Budget,
-        Quantity::Deadline => Kind::Deadline,
-        Quantity::Throttled | Quantity::Yielded | Quantity::NonContending => Kind::Flags,
+        Quantity::Runtime => QuantityKind::Budget,
+        Quantity::Deadline => QuantityKind::Deadline,
+        Quantity::Throttled | Quantity::Yielded | Quantity::NonContending => QuantityKind::Flags,
         Quantity::DlRuntime | Quantity::DlDeadline | Quantity::DlPeriod | Quantity::SchedFlags => {
-            Kind::Parameters
+            QuantityKind::Parameters
         }
-        Quantity::ThisBw => Kind::ThisBw,
-        Quantity::RunningBw => Kind::RunningBw,
-        Quantity::ExtraBw => Kind::ExtraBw,
-        Quantity::ZeroLag => Kind::ZeroLag,
-        Quantity::ZeroLagMoment => Kind::ZeroLagMoment,
-        Quantity::Timer => Kind::Timers,
-        Quantity::BwRatio | Quantity::MaxBw | Quantity::ClockLag => Kind::Laws,
+        Quantity::ThisBw => QuantityKind::ThisBw,
+        Quantity::RunningBw => QuantityKind::RunningBw,
+        Quantity::ExtraBw => QuantityKind::ExtraBw,
+        Quantity::ZeroLag => QuantityKind::ZeroLag,
+        Quantity::ZeroLagMoment => QuantityKind::ZeroLagMoment,
+        Quantity::Timer => QuantityKind::Timers,
+        Quantity::BwRatio | Quantity::MaxBw | Quantity::ClockLag => QuantityKind::Laws,
     }
 }
 
 /// A value, by the rules or of the kernel.
 #[derive(Clone, Copy)]
-pub enum Value {
+pub enum ExactValue {
     Unsigned(u64),
     Signed(i64),
     Flag(bool),
@@ -154,7 +154,7 @@ pub enum Value {
 
 /// A rule that a record can put to the test.
 #[derive(Clone, Copy)]
-pub enum Rule {
+pub enum ExactRule {
     ChargeInFull,
     ChargeByItsBandwidth,
     ChargeByWhatIsLeft,
@@ -201,27 +201,27 @@ pub const RULES: usize = 37;
 #[derive(Clone, Copy)]
 pub struct Why {
     pub line: u64,
-    pub event: Event,
+    pub event: ProbedFunction,
 
     /// None where the value was only seen.
-    pub rule: Option<Rule>,
+    pub rule: Option<ExactRule>,
 }
 
 /// A value that was only seen.
 pub const FIRST_SEEN: Why = Why {
     line: 0,
-    event: Event::Enqueue,
+    event: ProbedFunction::Enqueue,
     rule: None,
 };
 
 /// A comparison of one value.
 #[derive(Clone, Copy)]
 pub struct Comparison {
-    pub place: Place,
+    pub place: ProbedLine,
     pub subject: Subject,
     pub quantity: Quantity,
-    pub rules: Value,
-    pub kernel: Value,
+    pub rules: ExactValue,
+    pub kernel: ExactValue,
     pub is_equal: bool,
 }
 

@@ -18,7 +18,7 @@ use Rattle.grub_text.proofs.Digits.{numerals}
 use Rattle.grub_text.specs.Digits.{value}
 use Rattle.trace_line.specs.Words.{text_of}
 use Rattle.grub_convert.specs.Options.{Task, given_task, has_name, number_in, task_in, tasks_on}
-use Rattle.grub_convert.specs.declared.options.Given.{Given}
+use Rattle.grub_convert.specs.declared.options.TaskReservation.{TaskReservation}
 use Rattle.grub_convert.specs.inside.Words.{is_named, texts_of}
 
 numbered : {E : Type 0} (bs : List ℕ) (r : Result ℕ E) → list_all is_ascii_digit bs ≡ true → OkIff r ((0 < length bs) × (value bs < 2 ^ 64)) (value bs) → result_ok r ≡ number_in bs
@@ -61,7 +61,7 @@ cut_last c text (Some x) h low =
     (λ t. Some (h.3 t, second t)) ∙ sym (ap (option_map (λ k. (take k text, drop (k + 1) text))) found)
 
 -- a name among tasks, as the code looks for it
-pub same_names : (name : List ℕ) (tasks : List Given) → list_any (is_named name) tasks ≡ has_name name (map given_task tasks)
+pub same_names : (name : List ℕ) (tasks : List TaskReservation) → list_any (is_named name) tasks ≡ has_name name (map given_task tasks)
 same_names name [] = refl
 same_names name (task ∷ tasks) = ap (λ b. bytes_eq task.name.now name || b) (same_names name tasks)
 
@@ -73,13 +73,13 @@ next_word tasks words i d task lt said =
     ∙ ap (option_and_then (λ t. if has_name t.name tasks then None else tasks_on (tasks ++ t ∷ []) (map text_of (drop (i + 1) words)))) (sym said)
 
 -- its name came before
-pub second_time : (given : List Given) (words : List (Bor (List ℕ))) (i : ℕ) (d : Bor (List ℕ)) (task : Given) → i < length words → Some (given_task task) ≡ task_in (get_or words i d).now
+pub second_time : (given : List TaskReservation) (words : List (Bor (List ℕ))) (i : ℕ) (d : Bor (List ℕ)) (task : TaskReservation) → i < length words → Some (given_task task) ≡ task_in (get_or words i d).now
     → list_any (is_named task.name.now) given ≡ true → tasks_on (map given_task given) (map text_of (drop i words)) ≡ None
 second_time given words i d task lt said before =
     next_word (map given_task given) words i d (given_task task) lt said ∙ cond-true _ _ _ (sym (same_names task.name.now given) ∙ before)
 
 -- its name is new
-pub first_time : (given : List Given) (words : List (Bor (List ℕ))) (i : ℕ) (d : Bor (List ℕ)) (task : Given) → i < length words → Some (given_task task) ≡ task_in (get_or words i d).now
+pub first_time : (given : List TaskReservation) (words : List (Bor (List ℕ))) (i : ℕ) (d : Bor (List ℕ)) (task : TaskReservation) → i < length words → Some (given_task task) ≡ task_in (get_or words i d).now
     → list_any (is_named task.name.now) given ≡ false → tasks_on (map given_task given) (map text_of (drop i words)) ≡ tasks_on (map given_task (given ++ task ∷ [])) (map text_of (drop (i + 1) words))
 first_time given words i d task lt said new =
     next_word (map given_task given) words i d (given_task task) lt said ∙ cond-false _ _ _ (sym (same_names task.name.now given) ∙ new)

@@ -9,8 +9,8 @@ use Rattle.grub_facts.specs.declared.reader.FactReader.{FactReader}
 use Rattle.grub_facts.specs.declared.task_reader.TaskReader.{TaskReader}
 use Rattle.grub_convert.specs.Faults.{IsOfReading}
 use Rattle.grub_convert.specs.Read.{IsFaultIn, IsSoIn, IsSoOf}
-use Rattle.grub_convert.specs.declared.fault.TraceFault.{TraceFault}
-use Rattle.grub_convert.specs.declared.fault.TraceFault.TheVariants as faults
+use Rattle.grub_convert.specs.declared.fault.ConvertFault.{ConvertFault}
+use Rattle.grub_convert.specs.declared.fault.ConvertFault.TheVariants as faults
 use Rattle.grub_convert.specs.declared.pieces.Input.{Input}
 use Rattle.grub_convert.specs.inside.Taking.{Took, TookAll, TookEnough, TookFrom}
 
@@ -77,7 +77,7 @@ tasks_given = record {
 }
 
 -- want of memory or of reading says nothing of the text
-pub of_reading : {O N D : Type 0} (o : Opener O D) (g : Reader N D) (input : Input O N) (name : List ℕ) (e : TraceFault) → IsOfReading e → IsFaultIn o g input name e
+pub of_reading : {O N D : Type 0} (o : Opener O D) (g : Reader N D) (input : Input O N) (name : List ℕ) (e : ConvertFault) → IsOfReading e → IsFaultIn o g input name e
 of_reading o g input name (faults.Line path fault) is = absurd is
 of_reading o g input name (faults.NoSuchTask path task) is = absurd is
 of_reading o g input name (faults.FileExists path) is = absurd is

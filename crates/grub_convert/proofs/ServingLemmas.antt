@@ -8,8 +8,8 @@ use Rattle.std.proofs.lemmas.List.Elements.{All-push}
 use Rattle.std.proofs.lemmas.Slice.Zip.{all_zipped_more}
 use Rattle.grub_convert.specs.Faults.{status_of}
 use Rattle.grub_convert.specs.Serving.{event_path, event_paths}
-use Rattle.grub_convert.specs.declared.fault.TraceFault.{TraceFault}
-use Rattle.grub_convert.specs.declared.fault.TraceFault.TheVariants as faults
+use Rattle.grub_convert.specs.declared.fault.ConvertFault.{ConvertFault}
+use Rattle.grub_convert.specs.declared.fault.ConvertFault.TheVariants as faults
 
 -- one element more
 pub all_next : {A B : Type 0} (P : B → Type 0) (f : A → B) (xs : List A) (i : ℕ) (x : A) → i < length xs → x ≡ get_or xs i x → All P (map f (take i xs)) → P (f x) → All P (map f (take (i + 1) xs))
@@ -40,7 +40,7 @@ removed_is f [] i x y at is = absurd (none-some y at)
 removed_is f (z ∷ xs) zero x y at is = ap f is ∙ same_Some (f z) y at
 removed_is f (z ∷ xs) (suc i) x y at is = removed_is f xs i x y at is
 
-one_or_three : (e : TraceFault) → (status_of e ≡ 1) ⊎ (status_of e ≡ 3)
+one_or_three : (e : ConvertFault) → (status_of e ≡ 1) ⊎ (status_of e ≡ 3)
 one_or_three (faults.Line path fault) = inl refl
 one_or_three (faults.NoSuchTask path task) = inl refl
 one_or_three (faults.FileExists path) = inl refl
@@ -49,22 +49,22 @@ one_or_three (faults.Unreadable path) = inr refl
 one_or_three faults.NoMemory = inr refl
 one_or_three faults.NoText = inr refl
 
-not_done : (e : TraceFault) (n : ℕ) → n ≡ status_of e → n ≡ 0 → ⊥
+not_done : (e : ConvertFault) (n : ℕ) → n ≡ status_of e → n ≡ 0 → ⊥
 not_done e n is nil = elim (one_or_three e) [
   | inl one ↦ omega (arith, is, nil, one)
   | inr three ↦ omega (arith, is, nil, three)
 ]
 
 -- status 0 is that of a success
-pub of_done : {U P : Type 0} (r : Result U TraceFault) (n : ℕ) → MatchResult r (λ _. n ≡ 0) (λ e. n ≡ status_of e) → n ≡ 0 → OnOk r P → P
+pub of_done : {U P : Type 0} (r : Result U ConvertFault) (n : ℕ) → MatchResult r (λ _. n ≡ 0) (λ e. n ≡ status_of e) → n ≡ 0 → OnOk r P → P
 of_done (Ok u) n is nil p = p
 of_done (Err e) n is nil p = absurd (not_done e n is nil)
 
 -- status 1 is that of a fault
-pub of_fault : {U : Type 0} (P : TraceFault → Type 0) (r : Result U TraceFault) (n : ℕ) → MatchResult r (λ _. n ≡ 0) (λ e. n ≡ status_of e) → n ≡ 1 → IfErr r (λ e. status_of e ≡ 1 → P e) → (e : TraceFault) × (status_of e ≡ 1) × P e
+pub of_fault : {U : Type 0} (P : ConvertFault → Type 0) (r : Result U ConvertFault) (n : ℕ) → MatchResult r (λ _. n ≡ 0) (λ e. n ≡ status_of e) → n ≡ 1 → IfErr r (λ e. status_of e ≡ 1 → P e) → (e : ConvertFault) × (status_of e ≡ 1) × P e
 of_fault P (Ok u) n is one p = absurd (omega (arith, is, one))
 of_fault P (Err e) n is one p = (e, sym is ∙ one, p (sym is ∙ one))
 
-pub fault_at_one : {U : Type 0} (P : TraceFault → Type 0) (r : Result U TraceFault) → IfErr r P → IfErr r (λ e. status_of e ≡ 1 → P e)
+pub fault_at_one : {U : Type 0} (P : ConvertFault → Type 0) (r : Result U ConvertFault) → IfErr r P → IfErr r (λ e. status_of e ≡ 1 → P e)
 fault_at_one P (Ok u) p = p
 fault_at_one P (Err e) p = λ _. p

@@ -5,7 +5,7 @@ use Rattle.trace_words.specs.declared.quantities.Parameters.{Parameters}
 use Rattle.grub_facts.specs.Census.{Tally, tally_text}
 use Rattle.grub_facts.specs.declared.counted.Counted.{Counted}
 use Rattle.grub_facts.specs.declared.counted.Reserved.{Reserved}
-use Rattle.grub_facts.specs.declared.counted.Tasks.{Tasks}
+use Rattle.grub_facts.specs.declared.counted.ShownTasks.{ShownTasks}
 use Rattle.grub_convert.specs.declared.census.TheConstants.{RECLAIM}
 
 abbrev pub cpus_behind : ℕ → List ℕ
@@ -63,5 +63,5 @@ abbrev pub counted_line : List Reserved → Counted → List ℕ
 counted_line reserved task = task_line (tally_text task) (reservation_of task.pid reserved)
 
 -- a line for each task that a trace shows
-abbrev pub tasks_text : Tasks → List ℕ
+abbrev pub tasks_text : ShownTasks → List ℕ
 tasks_text tasks = flat_map (counted_line tasks.reserved.items) tasks.counted.items

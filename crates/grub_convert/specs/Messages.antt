@@ -2,8 +2,8 @@
 use Rattle.std.specs.Prelude.{ℕ, List, ◌++◌, codes, decimal, string_bytes, Option, Some, None}
 use Rattle.grub_facts.specs.declared.fault.Wrong.{Wrong}
 use Rattle.grub_facts.specs.declared.fault.Wrong.TheVariants.{UnknownTask, WrongClock, LostEvents, TooLong, BadTraceLine}
-use Rattle.grub_convert.specs.declared.fault.TraceFault.{TraceFault}
-use Rattle.grub_convert.specs.declared.fault.TraceFault.TheVariants.{Line, NoSuchTask, FileExists, Write, Unreadable, NoMemory, NoText}
+use Rattle.grub_convert.specs.declared.fault.ConvertFault.{ConvertFault}
+use Rattle.grub_convert.specs.declared.fault.ConvertFault.TheVariants.{Line, NoSuchTask, FileExists, Write, Unreadable, NoMemory, NoText}
 
 -- what is told of a file, or of a line of it
 abbrev pub told_of : List ℕ → Option ℕ → List ℕ → List ℕ
@@ -22,7 +22,7 @@ wrong_told LostEvents = codes "52 LostEvents\n"
 wrong_told TooLong = codes "54 TooLong\n"
 wrong_told BadTraceLine = codes "55 BadTraceLine\n"
 
-abbrev pub fault_line : TraceFault → List ℕ
+abbrev pub fault_line : ConvertFault → List ℕ
 fault_line (Line path fault) = told_of path.now (Some fault.line) (wrong_told fault.wrong)
 fault_line (NoSuchTask path name) = told_of path.now None (codes "49 NoSuchTask " ++ name.now ++ codes "\n")
 fault_line (FileExists path) = told_of (string_bytes path) None (codes "56 FileExists\n")

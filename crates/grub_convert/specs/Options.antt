@@ -6,10 +6,10 @@ use Rattle.std.specs.Path.{rsplit_once}
 use Rattle.std.specs.Str.{bytes_eq}
 use Rattle.grub_bw.specs.Bandwidth.{Reservation, reservation_fits}
 use Rattle.grub_text.specs.Digits.{value}
-use Rattle.grub_convert.specs.declared.options.FairServer.{FairServer}
-use Rattle.grub_convert.specs.declared.options.FairServer.TheVariants.{Usual, Absent, Reserves}
-use Rattle.grub_convert.specs.declared.options.Given.{Given}
-use Rattle.grub_convert.specs.declared.options.Options.{Options}
+use Rattle.grub_convert.specs.declared.options.FairReservation.{FairReservation}
+use Rattle.grub_convert.specs.declared.options.FairReservation.TheVariants.{Usual, Absent, Reserves}
+use Rattle.grub_convert.specs.declared.options.TaskReservation.{TaskReservation}
+use Rattle.grub_convert.specs.declared.options.ConvertOptions.{ConvertOptions}
 
 -- the number of a word of digits, where it has no more than 64 bits
 abbrev pub number_in : List ℕ → Option ℕ
@@ -72,11 +72,11 @@ maybe_most_in None = Some None
 maybe_most_in (Some text) = option_map (λ most. Some most) (most_in text)
 
 -- the server of fair tasks on each runqueue, RUNTIME:PERIOD or none
-abbrev pub fair_in : List ℕ → Option FairServer
+abbrev pub fair_in : List ℕ → Option FairReservation
 fair_in text = if bytes_eq text (codes "none") then Some Absent else option_map (λ server. Reserves server) (reservation_in text)
 
 -- that of an option, or the recorded kernel's where it is not given
-abbrev pub maybe_fair_in : Option (List ℕ) → Option FairServer
+abbrev pub maybe_fair_in : Option (List ℕ) → Option FairReservation
 maybe_fair_in None = Some Usual
 maybe_fair_in (Some text) = fair_in text
 
@@ -85,9 +85,9 @@ pub record Said : Type 0 where
   pub tasks : List Task
   pub cpus : Option ℕ
   pub umax : Option ℕ
-  pub fair : FairServer
+  pub fair : FairReservation
 
-abbrev pub said_from : Option ℕ → List Task → Option ℕ → FairServer → Said
+abbrev pub said_from : Option ℕ → List Task → Option ℕ → FairReservation → Said
 said_from cpus tasks umax fair = record { tasks = tasks; cpus = cpus; umax = umax; fair = fair }
 
 -- what all options say; none where one of them says nothing
@@ -95,9 +95,9 @@ abbrev pub said_in : List (List ℕ) → Option ℕ → Option (List ℕ) → Op
 said_in words cpus rt fair =
     option_and_then (λ tasks. option_and_then (λ umax. option_map (said_from cpus tasks umax) (maybe_fair_in fair)) (maybe_most_in rt)) (tasks_in words)
 
-abbrev pub given_task : Given → Task
+abbrev pub given_task : TaskReservation → Task
 given_task given = task_from given.name.now given.params
 
 -- options of a program, as what they say
-abbrev pub said_by : Options → Said
+abbrev pub said_by : ConvertOptions → Said
 said_by options = said_from options.cpus (map given_task options.tasks.items) options.umax options.fair

@@ -6,23 +6,23 @@ use Rattle.std.specs.Io.KnownBytes.{Appends}
 use Rattle.grub_facts.specs.Census.{AreShown, fault_counted}
 use Rattle.grub_facts.specs.Faults.{fault_text}
 use Rattle.grub_facts.specs.Told.{IsTold}
-use Rattle.grub_facts.specs.declared.counted.Tasks.{Tasks}
+use Rattle.grub_facts.specs.declared.counted.ShownTasks.{ShownTasks}
 use Rattle.grub_facts.specs.declared.fact.Facts.{Facts}
 use Rattle.grub_convert.specs.Census.{tasks_text}
-use Rattle.grub_convert.specs.declared.fault.TraceFault.{TraceFault}
-use Rattle.grub_convert.specs.declared.fault.TraceFault.TheVariants as faults
-use Rattle.grub_convert.specs.declared.options.Given.{Given}
-use Rattle.grub_convert.specs.declared.options.Options.{Options}
+use Rattle.grub_convert.specs.declared.fault.ConvertFault.{ConvertFault}
+use Rattle.grub_convert.specs.declared.fault.ConvertFault.TheVariants as faults
+use Rattle.grub_convert.specs.declared.options.TaskReservation.{TaskReservation}
+use Rattle.grub_convert.specs.declared.options.ConvertOptions.{ConvertOptions}
 use Rattle.grub_convert.specs.declared.pieces.Input.{Input}
 
-abbrev pub name_of : Given → List ℕ
+abbrev pub name_of : TaskReservation → List ℕ
 name_of task = task.name.now
 
-abbrev pub names_in : Options → List (List ℕ)
+abbrev pub names_in : ConvertOptions → List (List ℕ)
 names_in options = map name_of options.tasks.items
 
 -- what a text tells of the given tasks
-abbrev pub IsToldBy : Options → List ℕ → Facts → Type 0
+abbrev pub IsToldBy : ConvertOptions → List ℕ → Facts → Type 0
 IsToldBy options text facts = IsTold (names_in options) options.cpus text facts
 
 module _ {O N D : Type 0} (o : Opener O D) (g : Reader N D) (input : Input O N) where
@@ -38,19 +38,19 @@ module _ {O N D : Type 0} (o : Opener O D) (g : Reader N D) (input : Input O N) 
   IsSoOf name P = (file : D) × FnReturnsAt o input.open name (Ok file) × IsSoIn file P
 
   -- these facts are told by the trace of this name
-  abbrev pub IsToldOf : List ℕ → Options → Facts → Type 0
+  abbrev pub IsToldOf : List ℕ → ConvertOptions → Facts → Type 0
   IsToldOf name options facts = IsSoOf name (λ text. IsToldBy options text facts)
 
   -- these tasks are shown by it
-  abbrev pub IsShownOf : List ℕ → Tasks → Type 0
+  abbrev pub IsShownOf : List ℕ → ShownTasks → Type 0
   IsShownOf name tasks = IsSoOf name (λ text. AreShown text tasks)
 
   -- the text of such tasks was printed and nothing else
   abbrev pub PrintsTasks : List ℕ → Option (List ℕ) → Option (List ℕ) → Type 0
-  PrintsTasks name old new = (tasks : Tasks) × IsShownOf name tasks × Appends old new (tasks_text tasks)
+  PrintsTasks name old new = (tasks : ShownTasks) × IsShownOf name tasks × Appends old new (tasks_text tasks)
 
   -- a fault of status 1 is that of the first line of this trace with one; of memory and of reading nothing is said
-  abbrev pub IsFaultIn : List ℕ → TraceFault → Type 0
+  abbrev pub IsFaultIn : List ℕ → ConvertFault → Type 0
   IsFaultIn name (faults.Line path fault) = (path.now ≡ name) × IsSoOf name (λ text. fault_counted text ≡ Some (fault_text fault))
   IsFaultIn name (faults.NoSuchTask path task) = ⊥
   IsFaultIn name (faults.FileExists path) = ⊥

@@ -9,10 +9,10 @@ use Rattle.grub_facts.specs.declared.fact.Facts.{Facts}
 use Rattle.grub_convert.specs.Faults.{explained}
 use Rattle.grub_convert.specs.Files.{AreFiles, IsFault}
 use Rattle.grub_convert.specs.Read.{IsToldOf}
-use Rattle.grub_convert.specs.declared.fault.TraceFault.{TraceFault}
-use Rattle.grub_convert.specs.declared.fault.TraceFault.TheVariants.{FileExists}
+use Rattle.grub_convert.specs.declared.fault.ConvertFault.{ConvertFault}
+use Rattle.grub_convert.specs.declared.fault.ConvertFault.TheVariants.{FileExists}
 use Rattle.grub_convert.specs.declared.files.FilesFault.{FilesFault}
-use Rattle.grub_convert.specs.declared.options.Options.{Options}
+use Rattle.grub_convert.specs.declared.options.ConvertOptions.{ConvertOptions}
 use Rattle.grub_convert.specs.declared.pieces.Input.{Input}
 use Rattle.grub_convert.specs.declared.serving.Target.{Target}
 use denote.Ref.{Bor}
@@ -35,7 +35,7 @@ abbrev pub Maker : Type 0 → Type 1
 Maker M = Shared M (Bor (List ℕ) × (Bor (List ℕ) × Unit {0})) (Result (Unit {0}) Error)
 
 -- a fault of status 1 that tells of the file at this path
-abbrev pub IsFileThere : TraceFault → List ℕ → Type 0
+abbrev pub IsFileThere : ConvertFault → List ℕ → Type 0
 IsFileThere (FileExists there) path = string_bytes there ≡ path
 IsFileThere fault path = ⊥
 
@@ -56,7 +56,7 @@ AreMade m make paths files = AllZip (λ path bytes. FnReturnsAtPair m make path 
 
 module _ {O N D X M : Type 0} (o : Opener O D) (g : Reader N D) (x : Looker X) (m : Maker M) (input : Input O N) (target : Target X M) where
   -- the event files of what the trace of this name tells were made, and none over another
-  pub record MakesEvents (name prefix : List ℕ) (options : Options) : Type 0 where
+  pub record MakesEvents (name prefix : List ℕ) (options : ConvertOptions) : Type 0 where
     pub facts : Facts
     pub told : IsToldOf o g input name options facts
     pub files : List (List ℕ)
@@ -65,7 +65,7 @@ module _ {O N D X M : Type 0} (o : Opener O D) (g : Reader N D) (x : Looker X) (
     pub made : AreMade m target.make (event_paths prefix (length files)) files
 
   -- this is the fault of what the trace of this name tells, or of the first path of its event files at which there is something
-  pub record HasNoEvents (name : Bor (List ℕ)) (prefix : List ℕ) (options : Options) (e : TraceFault) : Type 0 where
+  pub record HasNoEvents (name : Bor (List ℕ)) (prefix : List ℕ) (options : ConvertOptions) (e : ConvertFault) : Type 0 where
     pub facts : Facts
     pub told : IsToldOf o g input name.now options facts
     pub why : ((fault : FilesFault) × IsFault options facts fault × (e ≡ explained name fault facts.fault))

@@ -5,7 +5,7 @@ ghost use Rattle.std.specs.List.{flat_map};
 ghost use Rattle.grub_facts.specs.Census.{tally_text};
 ghost use Rattle.grub_convert.specs.Census.{cpus_behind, cpus_text, deadline_text, fraction_text, micros_text, parameters_text, reservation_of, reserves_text, task_line, tasks_text};
 
-use grub_facts::{Counted, Reserved, Tasks};
+use grub_facts::{Counted, Reserved, ShownTasks};
 use grub_plan::put_number;
 use std::alloc::{AllocError, Global};
 use trace_words::Parameters;
@@ -125,7 +125,7 @@ fn put_task(
 }
 
 /// A line for each task.
-pub(crate) fn tasks_text(alloc: Global, tasks: &Tasks) -> Result<Vec<u8>, AllocError>
+pub(crate) fn tasks_text(alloc: Global, tasks: &ShownTasks) -> Result<Vec<u8>, AllocError>
     ensures { IfOk result (λ v. v.items ≡ tasks_text tasks.now) }
 {
     let mut out = Vec::new(alloc);

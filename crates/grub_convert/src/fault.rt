@@ -20,7 +20,7 @@ pub const STATUS_SYSTEM: u8 = 3;
 
 /// Why a trace was not converted.
 #[derive(Debug, Drop)]
-pub enum TraceFault<'a> {
+pub enum ConvertFault<'a> {
     /// 50 to 52, 54 and 55: the first line with a fault.
     Line { path: &'a str, fault: LineFault },
     /// 49: a task was given that the trace does not show.
@@ -37,15 +37,15 @@ pub enum TraceFault<'a> {
     NoText,
 }
 
-impl TraceFault<'_> {
+impl ConvertFault<'_> {
     /// The program's status.
     pub fn status(&self) -> u8
         ensures { result ≡ status_of self.now }
     {
         match self {
-            TraceFault::Line { .. }
-            | TraceFault::NoSuchTask { .. }
-            | TraceFault::FileExists { .. } => STATUS_FILE,
+            ConvertFault::Line { .. }
+            | ConvertFault::NoSuchTask { .. }
+            | ConvertFault::FileExists { .. } => STATUS_FILE,
             _ => STATUS_SYSTEM,
         }
     }
@@ -56,18 +56,18 @@ impl TraceFault<'_> {
             (Appends (E.contents to.old) (E.contents to.new) (fault_line self.now)) }
     {
         match self {
-            TraceFault::Line { path, fault } => tell_line(to, path, fault),
-            TraceFault::NoSuchTask { path, name } => {
+            ConvertFault::Line { path, fault } => tell_line(to, path, fault),
+            ConvertFault::NoSuchTask { path, name } => {
                 writeln!(to, "grubtrace: {path}: 49 NoSuchTask {name}")
             }
-            TraceFault::FileExists { path } => {
+            ConvertFault::FileExists { path } => {
                 let path = path.as_str();
                 writeln!(to, "grubtrace: {path}: 56 FileExists")
             }
-            TraceFault::Write => to.write_all(b"grubtrace: 45 WriteFault\n"),
-            TraceFault::Unreadable { path } => writeln!(to, "grubtrace: {path}: 46 ReadFault"),
-            TraceFault::NoMemory => to.write_all(b"grubtrace: 47 NoMemory\n"),
-            TraceFault::NoText => to.write_all(b"grubtrace: 48 NoMemory\n"),
+            ConvertFault::Write => to.write_all(b"grubtrace: 45 WriteFault\n"),
+            ConvertFault::Unreadable { path } => writeln!(to, "grubtrace: {path}: 46 ReadFault"),
+            ConvertFault::NoMemory => to.write_all(b"grubtrace: 47 NoMemory\n"),
+            ConvertFault::NoText => to.write_all(b"grubtrace: 48 NoMemory\n"),
         }
     }
 }

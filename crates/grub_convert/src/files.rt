@@ -7,10 +7,10 @@ ghost use Rattle.grub_convert.specs.Files.{AreFiles, AreGiven, FitTogether, IsSe
 ghost use Rattle.grub_convert.specs.Options.{most_from};
 ghost use Rattle.trace_line.specs.Words.{text_of};
 
-use crate::options::{FairServer, Given, Options, admitted};
+use crate::options::{FairReservation, TaskReservation, ConvertOptions, admitted};
 use grub_bw::{BW_UNIT, Params};
 use grub_events::{
-    Declared, OrderFault, Placed, Setting, event_file, names_of, place_facts, queue_of, umax_of,
+    Declared, OrderFault, TimedEvent, Setting, event_file, names_of, place_facts, queue_of, umax_of,
 };
 use grub_facts::{Fact, Facts, Found};
 use std::alloc::{AllocError, Global};
@@ -83,7 +83,7 @@ fn most_from(runtime: u64, period: u64) -> Option<u32>
 }
 
 /// The most bandwidth of deadline tasks on a runqueue: by an option, else by a note, else the kernel's default.
-fn most_of(options: &Options<'_>, facts: &Facts) -> u32
+fn most_of(options: &ConvertOptions<'_>, facts: &Facts) -> u32
     ensures { result ≡ most_of options.now facts.now }
 {
     if let Some(most) = options.umax {
@@ -106,13 +106,13 @@ fn has_servers(kernel: Option<Kernel>) -> bool
 }
 
 /// The server of fair tasks of each runqueue: by an option, else the recorded kernel's.
-fn fair_of(options: &Options<'_>, facts: &Facts) -> Option<Params>
+fn fair_of(options: &ConvertOptions<'_>, facts: &Facts) -> Option<Params>
     ensures { result ≡ fair_of options.now facts.now }
 {
     match options.fair {
-        FairServer::Absent => None,
-        FairServer::Reserves(params) => Some(params),
-        FairServer::Usual => if has_servers(facts.kernel) {
+        FairReservation::Absent => None,
+        FairReservation::Reserves(params) => Some(params),
+        FairReservation::Usual => if has_servers(facts.kernel) {
             admitted(FAIR_RUNTIME, FAIR_PERIOD)
         } else {
             None
@@ -122,7 +122,7 @@ fn fair_of(options: &Options<'_>, facts: &Facts) -> Option<Params>
 
 /// The events of a trace at their moments. Facts of a task that is none of those that were given, which no trace tells, are
 /// refused as for want of memory.
-fn place(alloc: Global, facts: &Facts) -> Result<Vec<Placed>, OrderFault>
+fn place(alloc: Global, facts: &Facts) -> Result<Vec<TimedEvent>, OrderFault>
     ensures placed { IfOk result (λ v. v.items ≡ events_told facts.now) }
     ensures within { IfOk result (λ v. find (is_beyond facts.now.runqueues) v.items ≡ None) }
     ensures beyond { IfErr result (FirstBeyond facts.now.runqueues (events_told facts.now)) }
@@ -143,7 +143,7 @@ fn is_shown(found: &[Option<Found>], i: usize) -> bool
 }
 
 /// The first given task that the trace does not show.
-fn missing<'a>(tasks: &[Given<'a>], found: &[Option<Found>]) -> Option<&'a str>
+fn missing<'a>(tasks: &[TaskReservation<'a>], found: &[Option<Found>]) -> Option<&'a str>
     ensures { option_map text_of result ≡ missing_from found.now 0 tasks.now }
 {
     for (i, task) in tasks.iter().enumerate() {
@@ -154,7 +154,7 @@ fn missing<'a>(tasks: &[Given<'a>], found: &[Option<Found>]) -> Option<&'a str>
     None
 }
 
-fn given_reservations(alloc: Global, tasks: &[Given<'_>]) -> Result<Vec<Params>, AllocError>
+fn given_reservations(alloc: Global, tasks: &[TaskReservation<'_>]) -> Result<Vec<Params>, AllocError>
     ensures { IfOk result (λ v. v.items ≡ map reservation_of tasks.now) }
 {
     tasks.iter().map(|task| task.params).collect(alloc)
@@ -163,7 +163,7 @@ fn given_reservations(alloc: Global, tasks: &[Given<'_>]) -> Result<Vec<Params>,
 /// What the given tasks reserve, and behind them those of notes.
 fn reservations(
     alloc: Global,
-    options: &Options<'_>,
+    options: &ConvertOptions<'_>,
     facts: &Facts,
 ) -> Result<Vec<Params>, AllocError>
     ensures { IfOk result (λ v. v.items ≡ reservations options.now facts.now) }
@@ -203,7 +203,7 @@ fn declarations(
 /// together, as those of one trace and of options that were read do.
 pub fn setting_of(
     alloc: Global,
-    options: &Options<'_>,
+    options: &ConvertOptions<'_>,
     facts: &Facts,
 ) -> Result<Setting, AllocError>
     ensures setting { IfOk result (IsSetting options.now facts.now) }
@@ -231,7 +231,7 @@ fn texts(
     alloc: Global,
     setting: &Setting,
     runqueues: u32,
-    placed: &[Placed],
+    placed: &[TimedEvent],
 ) -> Result<Vec<Vec<u8>>, AllocError>
     ensures { IfOk result (λ v. contents v.items ≡ files_of setting.now placed.now runqueues) }
 {
@@ -247,9 +247,9 @@ fn texts(
 /// task that is none of those that were given, which no trace tells, are refused as for want of memory.
 pub fn events_told<'a>(
     alloc: Global,
-    options: &Options<'a>,
+    options: &ConvertOptions<'a>,
     facts: &Facts,
-) -> Result<Vec<Placed>, FilesFault<'a>>
+) -> Result<Vec<TimedEvent>, FilesFault<'a>>
     ensures events { IfOk result (λ v. v.items ≡ events_told facts.now) }
     ensures sound { OnOk result (IsSound options.now facts.now) }
     ensures fault { IfErr result (IsFault options.now facts.now) }
@@ -271,9 +271,9 @@ pub fn events_told<'a>(
 /// The files of these events.
 fn files_of_events(
     alloc: Global,
-    options: &Options<'_>,
+    options: &ConvertOptions<'_>,
     facts: &Facts,
-    placed: &[Placed],
+    placed: &[TimedEvent],
 ) -> Result<Vec<Vec<u8>>, AllocError>
     requires { placed.now ≡ events_told facts.now }
     ensures { IfOk result (λ v. AreFiles options.now facts.now (contents v.items)) }
@@ -286,7 +286,7 @@ fn files_of_events(
 /// The event files of what a trace tells, one for each runqueue; or why there are none.
 pub fn event_files<'a>(
     alloc: Global,
-    options: &Options<'a>,
+    options: &ConvertOptions<'a>,
     facts: &Facts,
 ) -> Result<Vec<Vec<u8>>, FilesFault<'a>>
     ensures files { IfOk result (λ v. AreFiles options.now facts.now (contents v.items)) }

@@ -14,14 +14,14 @@ use std::alloc::{AllocError, Global};
 
 /// A task that is given: its comm or its pid, and its reservation.
 #[derive(Clone, Copy, Debug)]
-pub struct Given<'a> {
+pub struct TaskReservation<'a> {
     pub name: &'a str,
     pub params: Params,
 }
 
 /// The server of fair tasks that each runqueue has.
 #[derive(Clone, Copy, Debug)]
-pub enum FairServer {
+pub enum FairReservation {
     /// That of the recorded kernel.
     Usual,
     Absent,
@@ -30,15 +30,15 @@ pub enum FairServer {
 
 /// What is known beside the trace; it stands above the trace's own notes.
 #[derive(Debug, Drop)]
-pub struct Options<'a> {
-    pub tasks: Vec<Given<'a>>,
+pub struct ConvertOptions<'a> {
+    pub tasks: Vec<TaskReservation<'a>>,
 
     /// How many runqueues there are, from 1 to `CPUS_MAX` of `grub_facts`.
     pub cpus: Option<u32>,
 
     /// The most bandwidth of deadline tasks on a runqueue, in 1/2^20.
     pub umax: Option<u32>,
-    pub fair: FairServer,
+    pub fair: FairReservation,
 }
 
 fn are_digits(text: &str) -> bool
@@ -95,43 +95,43 @@ fn params_of(text: &str) -> Option<Params>
 }
 
 /// The task of `NAME=RUNTIME:PERIOD`, whose name ends at the last `=`.
-fn task_of(text: &str) -> Option<Given<'_>>
+fn task_of(text: &str) -> Option<TaskReservation<'_>>
     ensures { option_map given_task result ≡ task_in text.now }
 {
     let (name, reservation) = parts_of(text, '=')?;
     let params = params_of(reservation)?;
-    Some(Given { name, params })
+    Some(TaskReservation { name, params })
 }
 
 /// The server of fair tasks of `RUNTIME:PERIOD` or `none`.
-fn fair_of(text: &str) -> Option<FairServer>
+fn fair_of(text: &str) -> Option<FairReservation>
     ensures { result ≡ fair_in text.now }
 {
     if text == "none" {
-        return Some(FairServer::Absent);
+        return Some(FairReservation::Absent);
     }
-    Some(FairServer::Reserves(params_of(text)?))
+    Some(FairReservation::Reserves(params_of(text)?))
 }
 
 /// That of an option, or the recorded kernel's where it is not given.
-fn maybe_fair_of(text: Option<&str>) -> Option<FairServer>
+fn maybe_fair_of(text: Option<&str>) -> Option<FairReservation>
     ensures { result ≡ maybe_fair_in (option_map text_of text.entry) }
 {
     match text {
-        None => Some(FairServer::Usual),
+        None => Some(FairReservation::Usual),
         Some(text) => fair_of(text),
     }
 }
 
 /// Whether a name is among these tasks.
-fn names(tasks: &[Given<'_>], name: &str) -> bool
+fn names(tasks: &[TaskReservation<'_>], name: &str) -> bool
     ensures { result ≡ list_any (is_named name.now) tasks.now }
 {
     tasks.iter().any(|task| task.name == name)
 }
 
 /// The tasks of these words; none where one of them says no task, or one name comes twice.
-fn tasks_of<'a>(alloc: Global, words: &[&'a str]) -> Result<Option<Vec<Given<'a>>>, AllocError>
+fn tasks_of<'a>(alloc: Global, words: &[&'a str]) -> Result<Option<Vec<TaskReservation<'a>>>, AllocError>
     ensures { IfOk result
         (λ made. option_map (λ v. map given_task v.items) made ≡ tasks_in (map text_of words.now)) }
 {
@@ -176,7 +176,7 @@ pub fn options_of<'a>(
     cpus: Option<u32>,
     rt: Option<&str>,
     fair: Option<&str>,
-) -> Result<Option<Options<'a>>, AllocError>
+) -> Result<Option<ConvertOptions<'a>>, AllocError>
     ensures { IfOk result
         (λ made. option_map said_by made ≡ said_in (map text_of tasks.now) cpus
         (option_map text_of rt.entry) (option_map text_of fair.entry)) }
@@ -185,7 +185,7 @@ pub fn options_of<'a>(
         return Ok(None);
     };
     match (maybe_most_of(rt), maybe_fair_of(fair)) {
-        (Some(umax), Some(fair)) => Ok(Some(Options {
+        (Some(umax), Some(fair)) => Ok(Some(ConvertOptions {
             tasks,
             cpus,
             umax,

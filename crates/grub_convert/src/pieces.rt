@@ -9,9 +9,9 @@ ghost use Rattle.trace_line.specs.Words.{text_of};
 ghost use Rattle.grub_convert.specs.Read.{IsFaultIn, IsShownOf, IsToldOf, names_in};
 ghost use Rattle.grub_convert.specs.inside.Taking.{TookAll, TookEnough, TookFrom};
 
-use crate::fault::TraceFault;
-use crate::options::Options;
-use grub_facts::{FactReader, Facts, TaskReader, Tasks};
+use crate::fault::ConvertFault;
+use crate::options::ConvertOptions;
+use grub_facts::{FactReader, Facts, TaskReader, ShownTasks};
 use grub_files::read_once;
 use std::alloc::{AllocError, Global};
 use std::io;
@@ -80,7 +80,7 @@ fn read_piece<'a, D, N: Fn(&mut D, &mut [u8]) -> io::Result<usize>, T: Takes>(
     file: &mut D,
     room: &mut [u8],
     taker: &mut T,
-) -> Result<bool, TraceFault<'a>>
+) -> Result<bool, ConvertFault<'a>>
     requires callable { N.IsAlwaysCallable read.now }
     requires has_room { 0 < length room.old }
     ensures room { length room.new ≡ length room.old }
@@ -90,10 +90,10 @@ fn read_piece<'a, D, N: Fn(&mut D, &mut [u8]) -> io::Result<usize>, T: Takes>(
     ensures fault { IfErr result IsOfReading }
 {
     let Ok(count) = read_once(read, file, room) else {
-        return Err(TraceFault::Unreadable { path });
+        return Err(ConvertFault::Unreadable { path });
     };
     if taker.take(&room[..count]).is_err() {
-        return Err(TraceFault::NoMemory);
+        return Err(ConvertFault::NoMemory);
     }
     Ok(count > 0 && !taker.is_full())
 }
@@ -105,7 +105,7 @@ fn take_pieces<'a, D, N: Fn(&mut D, &mut [u8]) -> io::Result<usize>, T: Takes>(
     file: &mut D,
     room: &mut [u8],
     taker: &mut T,
-) -> Result<(), TraceFault<'a>>
+) -> Result<(), ConvertFault<'a>>
     requires callable { N.IsAlwaysCallable read.now }
     requires has_room { 0 < length room.old }
     ensures taken { OnOk result (TookAll N.Fn read.now T.takes file.old taker.old taker.new
@@ -117,7 +117,7 @@ fn take_pieces<'a, D, N: Fn(&mut D, &mut [u8]) -> io::Result<usize>, T: Takes>(
             return Ok(());
         }
     }
-    Err(TraceFault::Unreadable { path })
+    Err(ConvertFault::Unreadable { path })
 }
 
 /// Reads the trace of a name up to its end, or until no more is taken.
@@ -127,7 +127,7 @@ fn read_pieces<
     O: Fn(&str) -> io::Result<D>,
     N: Fn(&mut D, &mut [u8]) -> io::Result<usize>,
     T: Takes,
->(alloc: Global, input: &Input<O, N>, path: &'a str, taker: &mut T) -> Result<(), TraceFault<'a>>
+>(alloc: Global, input: &Input<O, N>, path: &'a str, taker: &mut T) -> Result<(), ConvertFault<'a>>
     requires open { O.IsAlwaysCallable input.now.open }
     requires read { N.IsAlwaysCallable input.now.read }
     ensures taken { OnOk result
@@ -135,18 +135,18 @@ fn read_pieces<
     ensures fault { IfErr result IsOfReading }
 {
     let Ok(mut room) = Vec::from_elem(alloc, 0u8, PIECE_BYTES) else {
-        return Err(TraceFault::NoMemory);
+        return Err(ConvertFault::NoMemory);
     };
     let mut file = match (input.open)(path) {
         Ok(file) => file,
-        Err(_) => return Err(TraceFault::Unreadable { path }),
+        Err(_) => return Err(ConvertFault::Unreadable { path }),
     };
     take_pieces(&input.read, path, &mut file, &mut room, taker)?;
     Ok(())
 }
 
 /// The names of the given tasks.
-fn names_of<'a>(alloc: Global, options: &Options<'a>) -> Result<Vec<&'a [u8]>, AllocError>
+fn names_of<'a>(alloc: Global, options: &ConvertOptions<'a>) -> Result<Vec<&'a [u8]>, AllocError>
     ensures { IfOk result (λ names. map text_of names.items ≡ names_in options.now) }
 {
     let mut names = Vec::new(alloc);
@@ -156,7 +156,7 @@ fn names_of<'a>(alloc: Global, options: &Options<'a>) -> Result<Vec<&'a [u8]>, A
     Ok(names)
 }
 
-fn fact_reader(alloc: Global, options: &Options<'_>) -> Result<FactReader, AllocError>
+fn fact_reader(alloc: Global, options: &ConvertOptions<'_>) -> Result<FactReader, AllocError>
     ensures { IfOk result (HasRead (names_in options.now) options.now.cpus []) }
 {
     let names = names_of(alloc, options)?;
@@ -174,20 +174,20 @@ pub fn read_facts<
     alloc: Global,
     input: &Input<O, N>,
     path: &'a str,
-    options: &Options<'_>,
-) -> Result<Facts, TraceFault<'a>>
+    options: &ConvertOptions<'_>,
+) -> Result<Facts, ConvertFault<'a>>
     requires open { O.IsAlwaysCallable input.now.open }
     requires read { N.IsAlwaysCallable input.now.read }
     ensures told { IfOk result (IsToldOf O.Fn N.Fn input.now path.now options.now) }
     ensures fault { IfErr result IsOfReading }
 {
     let Ok(mut reader) = fact_reader(alloc, options) else {
-        return Err(TraceFault::NoMemory);
+        return Err(ConvertFault::NoMemory);
     };
     read_pieces(alloc, input, path, &mut reader)?;
     match reader.end() {
         Ok(facts) => Ok(facts),
-        Err(_) => Err(TraceFault::NoMemory),
+        Err(_) => Err(ConvertFault::NoMemory),
     }
 }
 
@@ -197,7 +197,7 @@ pub(crate) fn read_tasks<
     D: Drop,
     O: Fn(&str) -> io::Result<D>,
     N: Fn(&mut D, &mut [u8]) -> io::Result<usize>,
->(alloc: Global, input: &Input<O, N>, path: &'a str) -> Result<Tasks, TraceFault<'a>>
+>(alloc: Global, input: &Input<O, N>, path: &'a str) -> Result<ShownTasks, ConvertFault<'a>>
     requires open { O.IsAlwaysCallable input.now.open }
     requires read { N.IsAlwaysCallable input.now.read }
     ensures shown { IfOk result (IsShownOf O.Fn N.Fn input.now path.now) }
@@ -207,6 +207,6 @@ pub(crate) fn read_tasks<
     read_pieces(alloc, input, path, &mut reader)?;
     match reader.end() {
         Ok(tasks) => Ok(tasks),
-        Err(fault) => Err(TraceFault::Line { path, fault }),
+        Err(fault) => Err(ConvertFault::Line { path, fault }),
     }
 }

@@ -5,14 +5,14 @@ ghost use Rattle.grub_plan.specs.Contents.{contents};
 ghost use Rattle.grub_convert.specs.Faults.{explained, status_of};
 ghost use Rattle.grub_convert.specs.Read.{IsFaultIn, PrintsTasks};
 ghost use Rattle.grub_convert.specs.Serving.{AreFree, AreMade, HasNoEvents, IsFirstThere, MakesEvents, event_path, event_paths};
-ghost use Rattle.grub_convert.specs.declared.fault.TraceFault.{TraceFault};
-ghost use Rattle.grub_convert.specs.declared.fault.TraceFault.TheVariants as faults;
+ghost use Rattle.grub_convert.specs.declared.fault.ConvertFault.{ConvertFault};
+ghost use Rattle.grub_convert.specs.declared.fault.ConvertFault.TheVariants as faults;
 ghost use Rattle.grub_convert.specs.declared.fault.TheConstants.{STATUS_FILE, STATUS_SYSTEM};
 
 use crate::census::tasks_text;
-use crate::fault::TraceFault;
+use crate::fault::ConvertFault;
 use crate::files::{FilesFault, event_files};
-use crate::options::Options;
+use crate::options::ConvertOptions;
 use crate::pieces::{Input, read_facts, read_tasks};
 use grub_facts::{LineFault, Wrong};
 use std::alloc::{AllocError, Global};
@@ -68,7 +68,7 @@ fn write_files<'a, M: Fn(&str, &[u8]) -> io::Result<()>>(
     make: &M,
     paths: &[String],
     files: &[Vec<u8>],
-) -> Result<(), TraceFault<'a>>
+) -> Result<(), ConvertFault<'a>>
     requires callable { M.IsAlwaysCallable make.now }
     requires same { length paths.now ≡ length files.now }
     ensures made { OnOk result
@@ -78,28 +78,28 @@ fn write_files<'a, M: Fn(&str, &[u8]) -> io::Result<()>>(
     for i in 0..files.len() {
         match make(paths[i].as_str(), files[i].as_slice()) {
             Ok(()) => {}
-            Err(_) => return Err(TraceFault::Write),
+            Err(_) => return Err(ConvertFault::Write),
         }
     }
     Ok(())
 }
 
 /// The fault of the trace of a name that tells no event files, whose own lines have this one.
-pub fn explain<'a>(path: &'a str, fault: FilesFault<'a>, own: Option<LineFault>) -> TraceFault<'a>
+pub fn explain<'a>(path: &'a str, fault: FilesFault<'a>, own: Option<LineFault>) -> ConvertFault<'a>
     ensures { result ≡ explained path.entry fault.entry own }
 {
     match (fault, own) {
-        (FilesFault::TooLong { line }, _) => TraceFault::Line {
+        (FilesFault::TooLong { line }, _) => ConvertFault::Line {
             path,
             fault: LineFault {
                 line,
                 wrong: Wrong::TooLong,
             },
         },
-        (FilesFault::Line, Some(fault)) => TraceFault::Line { path, fault },
-        (FilesFault::NoSuchTask { name }, _) => TraceFault::NoSuchTask { path, name },
-        (FilesFault::NoText, _) => TraceFault::NoText,
-        (FilesFault::NoMemory, _) | (FilesFault::Line, None) => TraceFault::NoMemory,
+        (FilesFault::Line, Some(fault)) => ConvertFault::Line { path, fault },
+        (FilesFault::NoSuchTask { name }, _) => ConvertFault::NoSuchTask { path, name },
+        (FilesFault::NoText, _) => ConvertFault::NoText,
+        (FilesFault::NoMemory, _) | (FilesFault::Line, None) => ConvertFault::NoMemory,
     }
 }
 
@@ -117,8 +117,8 @@ fn write_events<
     target: &Target<X, M>,
     path: &'a str,
     prefix: &str,
-    options: &Options<'a>,
-) -> Result<(), TraceFault<'a>>
+    options: &ConvertOptions<'a>,
+) -> Result<(), ConvertFault<'a>>
     requires open { O.IsAlwaysCallable input.now.open }
     requires read { N.IsAlwaysCallable input.now.read }
     requires exists { X.IsAlwaysCallable target.now.exists }
@@ -135,10 +135,10 @@ fn write_events<
         Err(fault) => return Err(explain(path, fault, facts.fault.take())),
     };
     let Ok(mut paths) = paths_of(alloc, prefix, files.len()) else {
-        return Err(TraceFault::NoText);
+        return Err(ConvertFault::NoText);
     };
     if let Some(i) = first_taken(&target.exists, &paths) {
-        return Err(TraceFault::FileExists {
+        return Err(ConvertFault::FileExists {
             path: paths.remove(i),
         });
     }
@@ -152,7 +152,7 @@ fn print_tasks<
     O: Fn(&str) -> io::Result<D>,
     N: Fn(&mut D, &mut [u8]) -> io::Result<usize>,
     W: Write,
->(alloc: Global, input: &Input<O, N>, path: &'a str, out: &mut W) -> Result<(), TraceFault<'a>>
+>(alloc: Global, input: &Input<O, N>, path: &'a str, out: &mut W) -> Result<(), ConvertFault<'a>>
     requires open { O.IsAlwaysCallable input.now.open }
     requires read { N.IsAlwaysCallable input.now.read }
     ensures done { OnOk result
@@ -162,16 +162,16 @@ fn print_tasks<
 {
     let tasks = read_tasks(alloc, input, path)?;
     let Ok(text) = tasks_text(alloc, &tasks) else {
-        return Err(TraceFault::NoText);
+        return Err(ConvertFault::NoText);
     };
     if out.write_all(&text).is_err() || out.flush().is_err() {
-        return Err(TraceFault::Write);
+        return Err(ConvertFault::Write);
     }
     Ok(())
 }
 
 /// The status of a result, whose fault is told.
-pub fn told_status<E: Write>(done: Result<(), TraceFault<'_>>, faults: &mut E) -> u8
+pub fn told_status<E: Write>(done: Result<(), ConvertFault<'_>>, faults: &mut E) -> u8
     ensures told { MatchResult done.entry (λ _. result ≡ 0) (λ e. result ≡ status_of e) }
     ensures status { (result ≡ 0) ⊎ (result ≡ STATUS_FILE) ⊎ (result ≡ STATUS_SYSTEM) }
 {
@@ -200,7 +200,7 @@ pub fn serve_tasks<
         → PrintsTasks O.Fn N.Fn input.now path.now (W.contents out.old) (W.contents out.new) }
     ensures nothing { result ≡ 1 → out.new ≡ out.old }
     ensures fault { result ≡ 1
-        → (e : TraceFault) × (status_of e ≡ 1) × IsFaultIn O.Fn N.Fn input.now path.now e }
+        → (e : ConvertFault) × (status_of e ≡ 1) × IsFaultIn O.Fn N.Fn input.now path.now e }
 {
     let done = print_tasks(alloc, input, path, out);
     told_status(done, faults)
@@ -220,7 +220,7 @@ pub fn serve_events<
     target: &Target<X, M>,
     path: &str,
     prefix: &str,
-    options: &Options<'_>,
+    options: &ConvertOptions<'_>,
     faults: &mut E,
 ) -> u8
     requires open { O.IsAlwaysCallable input.now.open }
@@ -231,7 +231,7 @@ pub fn serve_events<
     // the first path at which something was.
     ensures done { result ≡ 0
         → MakesEvents O.Fn N.Fn X.Fn M.Fn input.now target.now path.now prefix.now options.now }
-    ensures nothing { result ≡ 1 → (e : TraceFault) × (status_of e ≡ 1)
+    ensures nothing { result ≡ 1 → (e : ConvertFault) × (status_of e ≡ 1)
         × HasNoEvents O.Fn N.Fn X.Fn M.Fn input.now target.now path.entry prefix.now options.now
         e }
     ensures status { (result ≡ 0) ⊎ (result ≡ STATUS_FILE) ⊎ (result ≡ STATUS_SYSTEM) }

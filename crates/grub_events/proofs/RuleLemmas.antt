@@ -5,7 +5,7 @@ use Rattle.grub_facts.specs.declared.fact.Fact.{Fact}
 use Rattle.grub_events.specs.Moved.{wakes_moved, is_moved_wake}
 use Rattle.grub_events.specs.Rules.{sent_to, told, told_all, standing_after}
 use Rattle.grub_events.specs.inside.Rules.{destinations_of}
-use Rattle.grub_events.specs.declared.event.Event.{Event}
+use Rattle.grub_events.specs.declared.event.TaskEvent.{TaskEvent}
 use Rattle.grub_events.specs.declared.standing.Standing.{Standing}
 use Rattle.grub_events.specs.declared.standing.Standing.TheVariants.{Unseen}
 
@@ -20,7 +20,7 @@ pub told_more : (standings : List Standing) (facts : List Fact) (i : ℕ) (f : F
 told_more standings facts i f below = rw (drop-cons facts i f below, destination_at facts i f below) refl
 
 -- one fact more: the events so far, and those of the facts that are left, stay those of all facts
-pub told_step : (all : List Event) (standings standings' : List Standing) (events events' : List Event) (facts : List Fact) (i : ℕ) (d : Fact) (sent : List (Option ℕ)) → i < length facts → sent ≡ destinations_of facts → events' ≡ events ++ told (get_or facts i d) (get_or sent i None) (get_or facts i d).what (get_or standings (get_or facts i d).task Unseen) → standings' ≡ set standings (get_or facts i d).task (standing_after (get_or facts i d).what (get_or standings (get_or facts i d).task Unseen)) → events ++ told_all standings (drop i facts) ≡ all → events' ++ told_all standings' (drop (i + 1) facts) ≡ all
+pub told_step : (all : List TaskEvent) (standings standings' : List Standing) (events events' : List TaskEvent) (facts : List Fact) (i : ℕ) (d : Fact) (sent : List (Option ℕ)) → i < length facts → sent ≡ destinations_of facts → events' ≡ events ++ told (get_or facts i d) (get_or sent i None) (get_or facts i d).what (get_or standings (get_or facts i d).task Unseen) → standings' ≡ set standings (get_or facts i d).task (standing_after (get_or facts i d).what (get_or standings (get_or facts i d).task Unseen)) → events ++ told_all standings (drop i facts) ≡ all → events' ++ told_all standings' (drop (i + 1) facts) ≡ all
 told_step all standings standings' events events' facts i d sent below is put stands so =
     let e = told_more standings facts i d below in
     rw (add-one, put, stands, is, append_assoc, ← e) so

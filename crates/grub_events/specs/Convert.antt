@@ -3,7 +3,7 @@ use Rattle.std.specs.Prelude.{ℕ, Bool, true, false, List, [], ◌∷◌, repli
 use Rattle.grub_facts.specs.declared.fact.Fact.{Fact}
 use Rattle.grub_facts.specs.declared.fact.What.{What}
 use Rattle.grub_facts.specs.declared.fact.What.TheVariants.{Wakes}
-use Rattle.grub_events.specs.declared.event.Placed.{Placed}
+use Rattle.grub_events.specs.declared.event.TimedEvent.{TimedEvent}
 use Rattle.grub_events.specs.declared.standing.Standing.TheVariants.{Unseen}
 use Rattle.grub_events.specs.Rules.{told_all}
 use Rattle.grub_events.specs.Order.{moments_of, nowhere}
@@ -18,5 +18,5 @@ first_wake [] = 0
 first_wake (f ∷ later) = if is_wake f.what then f.at else first_wake later
 
 -- what the facts of so many tasks tell, on so many runqueues, at their moments
-abbrev pub events_of_facts : ℕ → ℕ → List Fact → List Placed
+abbrev pub events_of_facts : ℕ → ℕ → List Fact → List TimedEvent
 events_of_facts runqueues tasks facts = moments_of (first_wake facts) (replicate runqueues 0) (replicate tasks nowhere) (told_all (replicate tasks Unseen) facts)

@@ -3,11 +3,11 @@ use Rattle.std.specs.Prelude.{ℕ, Bool, true, false, not, ◌&&◌, ◌+◌, �
 use Rattle.grub_facts.specs.declared.fact.Fact.{Fact}
 use Rattle.grub_facts.specs.declared.fact.What.{What}
 use Rattle.grub_facts.specs.declared.fact.What.TheVariants.{Sent}
-use Rattle.grub_events.specs.declared.event.Act.{Act}
-use Rattle.grub_events.specs.declared.event.Act.TheVariants.{Join, Wake, Block, Run}
-use Rattle.grub_events.specs.declared.event.Source.{Source}
-use Rattle.grub_events.specs.declared.event.Source.TheVariants.{Told, Ending, Opening, Moving}
-use Rattle.grub_events.specs.declared.event.Placed.{Placed}
+use Rattle.grub_events.specs.declared.event.TaskAct.{TaskAct}
+use Rattle.grub_events.specs.declared.event.TaskAct.TheVariants.{Join, Wake, Block, Run}
+use Rattle.grub_events.specs.declared.event.EventSource.{EventSource}
+use Rattle.grub_events.specs.declared.event.EventSource.TheVariants.{Told, Ending, Opening, Moving}
+use Rattle.grub_events.specs.declared.event.TimedEvent.{TimedEvent}
 use Rattle.grub_events.specs.declared.standing.Standing.{Standing}
 use Rattle.grub_events.specs.declared.standing.Standing.TheVariants.{Unseen, Awake}
 use Rattle.grub_events.specs.Rules.{standing_after}
@@ -24,18 +24,18 @@ wakes_moved standings (f ∷ later) =
     let standing = slice_index_or standings f.task Unseen in
     (if is_moved_wake f.what standing then 1 else 0) + wakes_moved (slice_set standings f.task (standing_after f.what standing)) later
 
-abbrev pub is_waking : Act → Bool
+abbrev pub is_waking : TaskAct → Bool
 is_waking Wake = true
 is_waking Join = false
 is_waking Block = false
 is_waking (Run micros) = false
 
-abbrev pub is_moving : Source → Bool
+abbrev pub is_moving : EventSource → Bool
 is_moving Moving = true
 is_moving Told = false
 is_moving Ending = false
 is_moving Opening = false
 
 -- the wake of a ready task that was moved
-abbrev pub is_moved_task : Placed → Bool
+abbrev pub is_moved_task : TimedEvent → Bool
 is_moved_task p = is_waking p.event.act && is_moving p.event.source

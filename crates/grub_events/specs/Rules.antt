@@ -6,11 +6,11 @@ use Rattle.grub_facts.specs.declared.fact.What.{What}
 use Rattle.grub_facts.specs.declared.fact.What.TheVariants.{Wakes, Sent, Ran, Stops, Armed, Cancelled, Fired}
 use Rattle.grub_facts.specs.declared.fact.Stop.{Stop}
 use Rattle.grub_facts.specs.declared.fact.Stop.TheVariants.{Ready, Blocks, Ends}
-use Rattle.grub_events.specs.declared.event.Act.{Act}
-use Rattle.grub_events.specs.declared.event.Act.TheVariants.{Join, Wake, Block, Run}
-use Rattle.grub_events.specs.declared.event.Source.{Source}
-use Rattle.grub_events.specs.declared.event.Source.TheVariants.{Told, Ending, Opening, Moving}
-use Rattle.grub_events.specs.declared.event.Event.{Event}
+use Rattle.grub_events.specs.declared.event.TaskAct.{TaskAct}
+use Rattle.grub_events.specs.declared.event.TaskAct.TheVariants.{Join, Wake, Block, Run}
+use Rattle.grub_events.specs.declared.event.EventSource.{EventSource}
+use Rattle.grub_events.specs.declared.event.EventSource.TheVariants.{Told, Ending, Opening, Moving}
+use Rattle.grub_events.specs.declared.event.TaskEvent.{TaskEvent}
 use Rattle.grub_events.specs.declared.standing.Standing.{Standing}
 use Rattle.grub_events.specs.declared.standing.Standing.TheVariants.{Unseen, Asleep, Awake}
 
@@ -46,31 +46,31 @@ sent_to task (f ∷ later) = if f.task == task then sent_before f.what (sent_to 
 
 -- ---- the events that a fact tells
 
-abbrev pub event_of : Fact → ℕ → Act → Source → Event
+abbrev pub event_of : Fact → ℕ → TaskAct → EventSource → TaskEvent
 event_of f runqueue act source = record { line = f.line; at = f.at; task = f.task; runqueue = runqueue; act = act; source = source }
 
 -- a run below a microsecond is no event
-abbrev pub run_told : Fact → ℕ → ℕ → List Event
+abbrev pub run_told : Fact → ℕ → ℕ → List TaskEvent
 run_told f runqueue micros = if micros == 0 then [] else event_of f runqueue (Run micros) Told ∷ []
 
 -- a ready task that is moved blocks where it was, and wakes where it is sent to
-abbrev pub move_told : Fact → ℕ → ℕ → List Event
+abbrev pub move_told : Fact → ℕ → ℕ → List TaskEvent
 move_told f from to = if from == to then [] else event_of f from Block Moving ∷ event_of f to Wake Moving ∷ []
 
 -- a task that is first seen as it blocks was there from the beginning
-abbrev pub opening_told : Fact → ℕ → List Event
+abbrev pub opening_told : Fact → ℕ → List TaskEvent
 opening_told f cpu = event_of f cpu Join Opening ∷ event_of f cpu Block Opening ∷ []
 
 -- a task stops to run: one that was not seen was there from the beginning, on this CPU; the block of another, that of a
 -- task that ends too, takes place on its own runqueue; a task that is preempted tells nothing
-unfoldable pub stop_told : Fact → ℕ → Stop → Standing → List Event
+unfoldable pub stop_told : Fact → ℕ → Stop → Standing → List TaskEvent
 stop_told f cpu Blocks Unseen = opening_told f cpu
 stop_told f cpu Blocks (Awake runqueue ran rest) = event_of f runqueue Block Told ∷ []
 stop_told f cpu Ends (Awake runqueue ran rest) = event_of f runqueue Block Ending ∷ []
 stop_told f cpu state standing = []
 
 -- what a fact tells of a task that stands so; `sent` is the CPU that it is sent to before it runs or blocks
-unfoldable pub told : Fact → Option ℕ → What → Standing → List Event
+unfoldable pub told : Fact → Option ℕ → What → Standing → List TaskEvent
 -- a wake takes place where the task is sent to before it runs; the first wake joins
 told f sent (Wakes cpu) Unseen = event_of f (unwrap_or sent cpu) Join Told ∷ []
 told f sent (Wakes cpu) Asleep = event_of f (unwrap_or sent cpu) Wake Told ∷ []
@@ -84,7 +84,7 @@ told f sent (Stops cpu state) standing = stop_told f cpu state standing
 told f sent what standing = []
 
 -- what facts tell in their order, where the tasks stand so
-abbrev pub told_all : List Standing → List Fact → List Event
+abbrev pub told_all : List Standing → List Fact → List TaskEvent
 told_all standings [] = []
 told_all standings (f ∷ later) =
     let standing = slice_index_or standings f.task Unseen in

@@ -4,7 +4,7 @@ ghost use Rattle.std.specs.Prelude.{◌≡◌, ◌<◌, All, IfOk, IfErr, None, 
 ghost use Rattle.grub_events.specs.Convert.{first_wake, is_wake, events_of_facts};
 ghost use Rattle.grub_events.specs.Order.{is_beyond, FirstBeyond};
 
-use crate::event::Placed;
+use crate::event::TimedEvent;
 use crate::order::{OrderFault, place_all};
 use crate::rules::events_of;
 use grub_facts::{Fact, What};
@@ -35,7 +35,7 @@ pub fn place_facts(
     runqueues: u32,
     tasks: usize,
     facts: &[Fact],
-) -> Result<Vec<Placed>, OrderFault>
+) -> Result<Vec<TimedEvent>, OrderFault>
     requires { All (λ f. f.task < tasks) facts.now }
     ensures placed { IfOk result (λ v. v.items ≡ events_of_facts runqueues tasks facts.now) }
     ensures within { IfOk result (λ v. find (is_beyond runqueues) v.items ≡ None) }

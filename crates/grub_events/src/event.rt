@@ -2,7 +2,7 @@
 
 /// What a task does.
 #[derive(Clone, Copy, Debug, PartialEq, Eq)]
-pub enum Act {
+pub enum TaskAct {
     /// It wakes, and was not seen before.
     Join,
     Wake,
@@ -13,7 +13,7 @@ pub enum Act {
 
 /// Where an event comes from.
 #[derive(Clone, Copy, Debug, PartialEq, Eq)]
-pub enum Source {
+pub enum EventSource {
     /// A line of the trace says it: a wake, a run, or a switch away from a task that sleeps.
     Told,
     /// A switch away from a task that ends.
@@ -26,7 +26,7 @@ pub enum Source {
 
 /// An event of a task on a runqueue, before its moment is known.
 #[derive(Clone, Copy, Debug, PartialEq, Eq)]
-pub struct Event {
+pub struct TaskEvent {
     /// The line of the trace that it comes from, from 1.
     pub line: u64,
 
@@ -36,14 +36,14 @@ pub struct Event {
     /// The number of the task.
     pub task: usize,
     pub runqueue: u32,
-    pub act: Act,
-    pub source: Source,
+    pub act: TaskAct,
+    pub source: EventSource,
 }
 
 /// An event at its moment.
 #[derive(Clone, Copy, Debug, PartialEq, Eq)]
-pub struct Placed {
+pub struct TimedEvent {
     /// In microseconds, of which the first wake is at `FIRST_WAKE`.
     pub moment: u32,
-    pub event: Event,
+    pub event: TaskEvent,
 }

@@ -4,7 +4,7 @@ ghost use Rattle.std.specs.Prelude.{◌≡◌, ◌++◌, IfOk, OnOk, codes, deci
 ghost use Rattle.std.specs.List.{flat_map};
 ghost use Rattle.grub_events.specs.Files.{opens_in, happens_in, in_file, head_text, task_line, act_text, event_line, fair_task, fair_join, joining_text, event_text, event_file};
 
-use crate::event::{Act, Placed, Source};
+use crate::event::{TaskAct, TimedEvent, EventSource};
 use crate::names::fair_name;
 use crate::setting::{Declared, Setting};
 use grub_bw::{Params, Queue};
@@ -12,21 +12,21 @@ use grub_plan::put_number;
 use std::alloc::{AllocError, Global};
 
 /// Whether an event is one of a task that is first seen as it blocks, in the file of this runqueue.
-fn opens_in(runqueue: u32, placed: &Placed) -> bool
+fn opens_in(runqueue: u32, placed: &TimedEvent) -> bool
     ensures { result ≡ opens_in runqueue placed.now }
 {
-    matches!(placed.event.source, Source::Opening) && placed.event.runqueue == runqueue
+    matches!(placed.event.source, EventSource::Opening) && placed.event.runqueue == runqueue
 }
 
 /// Whether an event is another one, in the file of this runqueue.
-fn happens_in(runqueue: u32, placed: &Placed) -> bool
+fn happens_in(runqueue: u32, placed: &TimedEvent) -> bool
     ensures { result ≡ happens_in runqueue placed.now }
 {
-    !matches!(placed.event.source, Source::Opening) && placed.event.runqueue == runqueue
+    !matches!(placed.event.source, EventSource::Opening) && placed.event.runqueue == runqueue
 }
 
 /// The events of the file of a runqueue whose tasks are first seen as they block.
-fn openings(alloc: Global, runqueue: u32, placed: &[Placed]) -> Result<Vec<Placed>, AllocError>
+fn openings(alloc: Global, runqueue: u32, placed: &[TimedEvent]) -> Result<Vec<TimedEvent>, AllocError>
     ensures { IfOk result (λ v. v.items ≡ filter (opens_in runqueue) placed.now) }
 {
     placed
@@ -37,7 +37,7 @@ fn openings(alloc: Global, runqueue: u32, placed: &[Placed]) -> Result<Vec<Place
 }
 
 /// The other events of the file of a runqueue.
-fn happenings(alloc: Global, runqueue: u32, placed: &[Placed]) -> Result<Vec<Placed>, AllocError>
+fn happenings(alloc: Global, runqueue: u32, placed: &[TimedEvent]) -> Result<Vec<TimedEvent>, AllocError>
     ensures { IfOk result (λ v. v.items ≡ filter (happens_in runqueue) placed.now) }
 {
     placed
@@ -51,8 +51,8 @@ fn happenings(alloc: Global, runqueue: u32, placed: &[Placed]) -> Result<Vec<Pla
 pub fn file_events(
     alloc: Global,
     runqueue: u32,
-    placed: &[Placed],
-) -> Result<Vec<Placed>, AllocError>
+    placed: &[TimedEvent],
+) -> Result<Vec<TimedEvent>, AllocError>
     ensures { IfOk result (λ v. v.items ≡ in_file runqueue placed.now) }
 {
     let mut events = openings(alloc, runqueue, placed)?;
@@ -99,19 +99,19 @@ fn put_run(out: &mut Vec<u8>, name: &[u8], micros: u64) -> Result<(), AllocError
 }
 
 #[tactic(auto, unfolding(crate::specs::Files::act_text))]
-fn put_act(out: &mut Vec<u8>, name: &[u8], act: Act) -> Result<(), AllocError>
+fn put_act(out: &mut Vec<u8>, name: &[u8], act: TaskAct) -> Result<(), AllocError>
     ensures { OnOk result (out.new.items ≡ out.old.items ++ act_text name.now act) }
 {
     match act {
-        Act::Join => put_named(out, b" join ", name),
-        Act::Wake => put_named(out, b" wake ", name),
-        Act::Block => put_named(out, b" block ", name),
-        Act::Run { micros } => put_run(out, name, micros),
+        TaskAct::Join => put_named(out, b" join ", name),
+        TaskAct::Wake => put_named(out, b" wake ", name),
+        TaskAct::Block => put_named(out, b" block ", name),
+        TaskAct::Run { micros } => put_run(out, name, micros),
     }
 }
 
 /// Puts the line of an event of a task of this name.
-fn put_line(out: &mut Vec<u8>, name: &[u8], moment: u32, act: Act) -> Result<(), AllocError>
+fn put_line(out: &mut Vec<u8>, name: &[u8], moment: u32, act: TaskAct) -> Result<(), AllocError>
     ensures { OnOk result (out.new.items ≡ out.old.items ++ event_line name.now moment act) }
 {
     put_number(out, b"at ", u64::from(moment))?;
@@ -121,17 +121,17 @@ fn put_line(out: &mut Vec<u8>, name: &[u8], moment: u32, act: Act) -> Result<(),
 }
 
 /// Puts the declaration of a task where an event is its join.
-fn put_joining(out: &mut Vec<u8>, tasks: &[Declared], placed: &Placed) -> Result<(), AllocError>
+fn put_joining(out: &mut Vec<u8>, tasks: &[Declared], placed: &TimedEvent) -> Result<(), AllocError>
     ensures { OnOk result (out.new.items ≡ out.old.items ++ joining_text tasks.now placed.now) }
 {
     match (placed.event.act, tasks.get(placed.event.task)) {
-        (Act::Join, Some(task)) => put_task(out, &task.name, task.params),
+        (TaskAct::Join, Some(task)) => put_task(out, &task.name, task.params),
         _ => Ok(()),
     }
 }
 
 /// Puts the line of an event.
-fn put_event(out: &mut Vec<u8>, tasks: &[Declared], placed: &Placed) -> Result<(), AllocError>
+fn put_event(out: &mut Vec<u8>, tasks: &[Declared], placed: &TimedEvent) -> Result<(), AllocError>
     ensures { OnOk result (out.new.items ≡ out.old.items ++ event_text tasks.now placed.now) }
 {
     match tasks.get(placed.event.task) {
@@ -165,12 +165,12 @@ fn put_fair_join(
 {
     if fair.is_some() {
         let name = fair_name(alloc, runqueue)?;
-        put_line(out, &name, 0, Act::Join)?;
+        put_line(out, &name, 0, TaskAct::Join)?;
     }
     Ok(())
 }
 
-fn put_joinings(out: &mut Vec<u8>, tasks: &[Declared], events: &[Placed]) -> Result<(), AllocError>
+fn put_joinings(out: &mut Vec<u8>, tasks: &[Declared], events: &[TimedEvent]) -> Result<(), AllocError>
     ensures { OnOk result
         (out.new.items ≡ out.old.items ++ flat_map (joining_text tasks.now) events.now) }
 {
@@ -180,7 +180,7 @@ fn put_joinings(out: &mut Vec<u8>, tasks: &[Declared], events: &[Placed]) -> Res
     Ok(())
 }
 
-fn put_events(out: &mut Vec<u8>, tasks: &[Declared], events: &[Placed]) -> Result<(), AllocError>
+fn put_events(out: &mut Vec<u8>, tasks: &[Declared], events: &[TimedEvent]) -> Result<(), AllocError>
     ensures { OnOk result
         (out.new.items ≡ out.old.items ++ flat_map (event_text tasks.now) events.now) }
 {
@@ -197,7 +197,7 @@ pub fn event_file(
     alloc: Global,
     setting: &Setting,
     runqueue: u32,
-    placed: &[Placed],
+    placed: &[TimedEvent],
 ) -> Result<Vec<u8>, AllocError>
     ensures { IfOk result (λ v. v.items ≡ event_file setting.now runqueue placed.now) }
 {

@@ -4,7 +4,7 @@ ghost use Rattle.std.specs.Prelude.{◌≡◌, IfOk, count_by, replicate, if◌t
 ghost use Rattle.grub_events.specs.declared.standing.Standing.TheVariants.{Unseen};
 ghost use Rattle.grub_events.specs.Moved.{is_moved_wake, wakes_moved, is_moved_task};
 
-use crate::event::{Act, Placed, Source};
+use crate::event::{TaskAct, TimedEvent, EventSource};
 use crate::lists::{at, put};
 use crate::standing::Standing;
 use grub_facts::{Fact, What};
@@ -49,14 +49,14 @@ pub fn wakes_moved(alloc: Global, tasks: usize, facts: &[Fact]) -> Result<usize,
 }
 
 /// Whether an event is the wake of a ready task that was moved.
-fn is_moved_task(placed: &Placed) -> bool
+fn is_moved_task(placed: &TimedEvent) -> bool
     ensures { result ≡ is_moved_task placed.now }
 {
-    matches!(placed.event.act, Act::Wake) && matches!(placed.event.source, Source::Moving)
+    matches!(placed.event.act, TaskAct::Wake) && matches!(placed.event.source, EventSource::Moving)
 }
 
 /// How often a ready task was moved.
-pub fn tasks_moved(placed: &[Placed]) -> usize
+pub fn tasks_moved(placed: &[TimedEvent]) -> usize
     ensures { result ≡ count_by is_moved_task placed.now }
 {
     placed.iter().filter(|p| is_moved_task(p)).count()

@@ -3,7 +3,7 @@
 ghost use Rattle.std.specs.Prelude.{◌≡◌, ◌++◌, ◌∷◌, [], IfOk, IfErr, OnOk, None, replicate, find};
 ghost use Rattle.grub_events.specs.Order.{after_place, own_moment, moment_of, is_opening, files_after, is_beyond, moments_of, nowhere, FirstBeyond};
 
-use crate::event::{Act, Event, Placed, Source};
+use crate::event::{TaskAct, TaskEvent, TimedEvent, EventSource};
 use crate::lists::{at, put};
 use grub_book::{MOMENT_MAX, RUN_MAX};
 use std::alloc::{AllocError, Global};
@@ -13,13 +13,13 @@ pub const FIRST_WAKE: u64 = 2000;
 
 /// Where a task's last event stands: at a moment, in the file of a runqueue.
 #[derive(Clone, Copy, Debug, PartialEq, Eq)]
-pub struct Place {
+pub struct EventPlace {
     pub moment: u32,
     pub runqueue: u32,
 }
 
 /// Before a task's first event.
-const NOWHERE: Place = Place {
+const NOWHERE: EventPlace = EventPlace {
     moment: 0,
     runqueue: 0,
 };
@@ -33,7 +33,7 @@ pub enum OrderFault {
     NoMemory,
 }
 
-impl Place {
+impl EventPlace {
     /// The least moment at which a line in the file of a runqueue stands after this one: lines stand in the order of
     /// their moments, then of their files, then in that of the file.
     fn next_in(self, runqueue: u32) -> u64
@@ -55,14 +55,14 @@ fn own_moment(first: u64, at: u64) -> u64
 }
 
 /// Whether an event comes from a task that is first seen as it blocks.
-fn is_opening(source: Source) -> bool
+fn is_opening(source: EventSource) -> bool
     ensures { result ≡ is_opening source }
 {
-    matches!(source, Source::Opening)
+    matches!(source, EventSource::Opening)
 }
 
 /// The moment of an event, where its file's last event and its task's last event stand there.
-fn moment_of(first: u64, file: u32, place: Place, event: &Event) -> u64
+fn moment_of(first: u64, file: u32, place: EventPlace, event: &TaskEvent) -> u64
     ensures { result ≡ moment_of first file place event.now }
 {
     if is_opening(event.source) {
@@ -75,22 +75,22 @@ fn moment_of(first: u64, file: u32, place: Place, event: &Event) -> u64
 }
 
 /// Whether an event at this moment passes the limits of event files, or names none of so many runqueues.
-fn is_beyond(runqueues: u32, moment: u64, event: &Event) -> bool
+fn is_beyond(runqueues: u32, moment: u64, event: &TaskEvent) -> bool
     ensures { result ≡ is_beyond runqueues (record { moment = moment; event = event.now }) }
 {
     let is_long = match event.act {
-        Act::Run { micros } => u64::from(RUN_MAX) < micros,
+        TaskAct::Run { micros } => u64::from(RUN_MAX) < micros,
         _ => false,
     };
     runqueues <= event.runqueue || u64::from(MOMENT_MAX) < moment || is_long
 }
 
 /// Puts an event at its moment.
-fn push(placed: &mut Vec<Placed>, moment: u32, event: &Event) -> Result<(), AllocError>
+fn push(placed: &mut Vec<TimedEvent>, moment: u32, event: &TaskEvent) -> Result<(), AllocError>
     ensures { OnOk result (placed.new.items
         ≡ placed.old.items ++ (record { moment = moment; event = event.now }) ∷ []) }
 {
-    placed.push(Placed {
+    placed.push(TimedEvent {
         moment,
         event: *event,
     })?;
@@ -98,7 +98,7 @@ fn push(placed: &mut Vec<Placed>, moment: u32, event: &Event) -> Result<(), Allo
 }
 
 /// Notes the moment of an event as its file's last one.
-fn advance(files: &mut Vec<u32>, moment: u32, event: &Event)
+fn advance(files: &mut Vec<u32>, moment: u32, event: &TaskEvent)
     ensures { files.new.items ≡ files_after files.old.items event.now moment }
 {
     if !is_opening(event.source) {
@@ -114,8 +114,8 @@ pub(crate) fn place_all(
     first: u64,
     runqueues: u32,
     tasks: usize,
-    events: &[Event],
-) -> Result<Vec<Placed>, OrderFault>
+    events: &[TaskEvent],
+) -> Result<Vec<TimedEvent>, OrderFault>
     ensures placed { IfOk result (λ v. v.items
         ≡ moments_of first (replicate runqueues 0) (replicate tasks nowhere) events.now) }
     ensures within { IfOk result (λ v. find (is_beyond runqueues) v.items ≡ None) }
@@ -141,7 +141,7 @@ pub(crate) fn place_all(
             return Err(OrderFault::NoMemory);
         }
         advance(&mut files, moment, event);
-        let place = Place {
+        let place = EventPlace {
             moment,
             runqueue: event.runqueue,
         };

@@ -4,7 +4,7 @@ ghost use Rattle.std.specs.Prelude.{◌≡◌, ◌<◌, ◌++◌, ◌∷◌, [],
 ghost use Rattle.grub_events.specs.Rules.{event_of, run_told, move_told, opening_told, stop_told, told, told_all};
 ghost use Rattle.grub_events.specs.declared.standing.Standing.TheVariants.{Unseen};
 
-use crate::event::{Act, Event, Source};
+use crate::event::{TaskAct, TaskEvent, EventSource};
 use crate::landing::destinations;
 use crate::lists::{at, put};
 use crate::standing::{Standing, whole_micros};
@@ -12,10 +12,10 @@ use grub_facts::{Fact, Stop, What};
 use std::alloc::{AllocError, Global};
 
 /// What a fact tells of its task.
-fn event(fact: Fact, runqueue: u32, act: Act, source: Source) -> Event
+fn event(fact: Fact, runqueue: u32, act: TaskAct, source: EventSource) -> TaskEvent
     ensures { result ≡ event_of fact runqueue act source }
 {
-    Event {
+    TaskEvent {
         line: fact.line,
         at: fact.at,
         task: fact.task,
@@ -27,7 +27,7 @@ fn event(fact: Fact, runqueue: u32, act: Act, source: Source) -> Event
 
 /// Puts what a run tells: nothing below a microsecond.
 fn put_run(
-    events: &mut Vec<Event>,
+    events: &mut Vec<TaskEvent>,
     fact: Fact,
     runqueue: u32,
     micros: u64,
@@ -35,38 +35,38 @@ fn put_run(
     ensures { OnOk result (events.new.items ≡ events.old.items ++ run_told fact runqueue micros) }
 {
     if micros != 0 {
-        events.push(event(fact, runqueue, Act::Run { micros }, Source::Told))?;
+        events.push(event(fact, runqueue, TaskAct::Run { micros }, EventSource::Told))?;
     }
     Ok(())
 }
 
 /// Puts what the move of a ready task tells: it blocks where it was, and wakes where it is sent to.
-fn put_move(events: &mut Vec<Event>, fact: Fact, from: u32, to: u32) -> Result<(), AllocError>
+fn put_move(events: &mut Vec<TaskEvent>, fact: Fact, from: u32, to: u32) -> Result<(), AllocError>
     ensures { OnOk result (events.new.items ≡ events.old.items ++ move_told fact from to) }
 {
     if from != to {
-        events.push(event(fact, from, Act::Block, Source::Moving))?;
-        events.push(event(fact, to, Act::Wake, Source::Moving))?;
+        events.push(event(fact, from, TaskAct::Block, EventSource::Moving))?;
+        events.push(event(fact, to, TaskAct::Wake, EventSource::Moving))?;
     }
     Ok(())
 }
 
 /// Puts a task that is first seen as it blocks.
-fn put_opening(events: &mut Vec<Event>, fact: Fact, runqueue: u32) -> Result<(), AllocError>
+fn put_opening(events: &mut Vec<TaskEvent>, fact: Fact, runqueue: u32) -> Result<(), AllocError>
     ensures { OnOk result (events.new.items ≡ events.old.items ++ opening_told fact runqueue) }
 {
-    events.push(event(fact, runqueue, Act::Join, Source::Opening))?;
-    events.push(event(fact, runqueue, Act::Block, Source::Opening))?;
+    events.push(event(fact, runqueue, TaskAct::Join, EventSource::Opening))?;
+    events.push(event(fact, runqueue, TaskAct::Block, EventSource::Opening))?;
     Ok(())
 }
 
 /// Puts one event.
 fn put_one(
-    events: &mut Vec<Event>,
+    events: &mut Vec<TaskEvent>,
     fact: Fact,
     runqueue: u32,
-    act: Act,
-    source: Source,
+    act: TaskAct,
+    source: EventSource,
 ) -> Result<(), AllocError>
     ensures { OnOk result
         (events.new.items ≡ events.old.items ++ event_of fact runqueue act source ∷ []) }
@@ -78,7 +78,7 @@ fn put_one(
 /// Puts what it tells that a task which stands so stops to run on this CPU.
 #[tactic(auto, unfolding(crate::specs::Rules::stop_told))]
 fn put_stop(
-    events: &mut Vec<Event>,
+    events: &mut Vec<TaskEvent>,
     fact: Fact,
     cpu: u32,
     state: Stop,
@@ -90,10 +90,10 @@ fn put_stop(
     match (state, standing) {
         (Stop::Blocks, Standing::Unseen) => put_opening(events, fact, cpu),
         (Stop::Blocks, Standing::Awake { runqueue, .. }) => {
-            put_one(events, fact, runqueue, Act::Block, Source::Told)
+            put_one(events, fact, runqueue, TaskAct::Block, EventSource::Told)
         }
         (Stop::Ends, Standing::Awake { runqueue, .. }) => {
-            put_one(events, fact, runqueue, Act::Block, Source::Ending)
+            put_one(events, fact, runqueue, TaskAct::Block, EventSource::Ending)
         }
         _ => Ok(()),
     }
@@ -102,7 +102,7 @@ fn put_stop(
 /// Puts what a fact tells of a task that stands so, and that is sent to this CPU before it runs or blocks.
 #[tactic(auto, unfolding(crate::specs::Rules::told))]
 fn put_told(
-    events: &mut Vec<Event>,
+    events: &mut Vec<TaskEvent>,
     fact: Fact,
     sent: Option<u32>,
     standing: Standing,
@@ -112,10 +112,10 @@ fn put_told(
 {
     match (fact.what, standing) {
         (What::Wakes { cpu }, Standing::Unseen) => {
-            put_one(events, fact, sent.unwrap_or(cpu), Act::Join, Source::Told)
+            put_one(events, fact, sent.unwrap_or(cpu), TaskAct::Join, EventSource::Told)
         }
         (What::Wakes { cpu }, Standing::Asleep) => {
-            put_one(events, fact, sent.unwrap_or(cpu), Act::Wake, Source::Told)
+            put_one(events, fact, sent.unwrap_or(cpu), TaskAct::Wake, EventSource::Told)
         }
         (
             What::Sent { cpu },
@@ -138,7 +138,7 @@ pub(crate) fn events_of(
     alloc: Global,
     tasks: usize,
     facts: &[Fact],
-) -> Result<Vec<Event>, AllocError>
+) -> Result<Vec<TaskEvent>, AllocError>
     requires { All (λ f. f.task < tasks) facts.now }
     ensures { IfOk result (λ v. v.items ≡ told_all (replicate tasks Unseen) facts.now) }
 {

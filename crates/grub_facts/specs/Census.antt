@@ -5,15 +5,15 @@ use Rattle.trace_words.specs.declared.fixed.Fixed.{Fixed}
 use Rattle.trace_words.specs.declared.fixed.Fixed.TheVariants.{Woken, Migrated, Switched}
 use Rattle.trace_words.specs.declared.fixed.Stop.{Stop}
 use Rattle.trace_words.specs.declared.fixed.Stop.TheVariants.{Ready, Blocks, Ends}
-use Rattle.trace_words.specs.declared.line.Line.{Line}
-use Rattle.trace_words.specs.declared.line.Line.TheVariants as line
+use Rattle.trace_words.specs.declared.line.RecordLine.{RecordLine}
+use Rattle.trace_words.specs.declared.line.RecordLine.TheVariants as line
 use Rattle.trace_words.specs.declared.line.Said.{Said}
 use Rattle.trace_words.specs.declared.line.Said.TheVariants as said
-use Rattle.trace_words.specs.declared.note.Note.{Note}
-use Rattle.trace_words.specs.declared.note.Note.TheVariants as note
+use Rattle.trace_words.specs.declared.note.TraceNote.{TraceNote}
+use Rattle.trace_words.specs.declared.note.TraceNote.TheVariants as note
 use Rattle.trace_words.specs.declared.note.Policy.{Policy}
 use Rattle.trace_words.specs.declared.note.Policy.TheVariants as policy
-use Rattle.record_line.specs.declared.line.Told.{Told}
+use Rattle.record_line.specs.declared.line.ToldLine.{ToldLine}
 use Rattle.trace_reader.specs.Keeping.{progress}
 use Rattle.trace_reader.specs.Reading.{After, Progress, halt_at_end, reading}
 use Rattle.grub_facts.specs.Faults.{Problem, fault_of_halt, fault_text}
@@ -21,7 +21,7 @@ use Rattle.grub_facts.specs.Given.{is_sugov}
 use Rattle.grub_facts.specs.declared.census.Census.{Census}
 use Rattle.grub_facts.specs.declared.counted.Counted.{Counted}
 use Rattle.grub_facts.specs.declared.counted.Reserved.{Reserved}
-use Rattle.grub_facts.specs.declared.counted.Tasks.{Tasks}
+use Rattle.grub_facts.specs.declared.counted.ShownTasks.{ShownTasks}
 use Rattle.grub_facts.specs.declared.fault.LineFault.{LineFault}
 use Rattle.grub_facts.specs.declared.task_reader.TaskReader.{TaskReader}
 
@@ -113,18 +113,18 @@ policy_rolled pid (policy.Deadline parameters) roll =
     record roll { reserved = roll.reserved ++ record { pid = pid; parameters = parameters } ∷ [] }
 policy_rolled pid policy.Other roll = roll
 
-abbrev pub note_rolled : Note → Roll → Roll
+abbrev pub note_rolled : TraceNote → Roll → Roll
 note_rolled (note.Task pid at by cpu policy) roll = policy_rolled pid policy roll
 note_rolled note roll = roll
 
 -- what is told with a line that tells this
-abbrev pub rolled : ℕ → Option (Shown (List ℕ)) → Line → Roll → Roll
+abbrev pub rolled : ℕ → Option (Shown (List ℕ)) → RecordLine → Roll → Roll
 rolled n shown (line.Event at grain cpu pid said) roll = said_rolled n cpu said shown roll
 rolled n shown (line.Note note) roll = note_rolled note roll
 rolled n shown line roll = roll
 
 -- what a line comes to, whose number and words these are
-abbrev pub census_step : ℕ → Told (List ℕ) → Roll → After Roll
+abbrev pub census_step : ℕ → ToldLine (List ℕ) → Roll → After Roll
 census_step n told roll = record { more = true; seen = rolled n told.shown told.line roll }
 
 -- how far a trace is read
@@ -162,13 +162,13 @@ abbrev pub fault_counted : List ℕ → Option (ℕ × Problem)
 fault_counted text = fault_of_halt (halt_at_end (tallies_reading text).halt (tallies_reading text).line (tallies_reading text).rest)
 
 -- the tasks that a text shows, and what its notes say that tasks reserve; nothing is wrong in it
-pub record AreShown (text : List ℕ) (tasks : Tasks) : Type 0 where
+pub record AreShown (text : List ℕ) (tasks : ShownTasks) : Type 0 where
   pub counted : map tally_text tasks.counted.items ≡ (tallies_reading text).seen.tallies
   pub reserved : tasks.reserved.items ≡ (tallies_reading text).seen.reserved
   pub right : fault_counted text ≡ None
 
 -- what is answered for a reader are the tasks of the text that it was given, which has no fault
-abbrev pub ShowsAll : TaskReader → Tasks → Type 0
+abbrev pub ShowsAll : TaskReader → ShownTasks → Type 0
 ShowsAll reader tasks = (text : List ℕ) → HasCounted text reader → AreShown text tasks
 
 -- what is answered for a reader is the first fault of the text that it was given

@@ -21,7 +21,7 @@ use Rattle.grub_facts.specs.declared.fact.Stop.{Stop}
 use Rattle.grub_facts.specs.declared.fact.Stop.TheVariants.{Ready, Blocks, Ends}
 use Rattle.grub_facts.specs.declared.fact.What.{What}
 use Rattle.grub_facts.specs.declared.fact.What.TheVariants as what
-use Rattle.grub_facts.specs.declared.report.Report.{Report}
+use Rattle.grub_facts.specs.declared.report.EventReport.{EventReport}
 use Rattle.grub_facts.specs.declared.keeper.Trouble.{Trouble}
 use Rattle.grub_facts.specs.declared.keeper.Trouble.TheVariants.{Unknown, TooLong, NoTrouble}
 
@@ -157,7 +157,7 @@ shown_after line n event None tasks = armed_after n event tasks
 shown_after line n event (Some shown) tasks = if is_sugov shown.comm then tasks else showing line shown tasks
 
 -- the tasks after a line that says this
-abbrev pub tasks_after : ℕ → Report (List ℕ) → List Task → List Task
+abbrev pub tasks_after : ℕ → EventReport (List ℕ) → List Task → List Task
 tasks_after line report tasks = shown_after line report.pid report.event report.shown tasks
 
 -- the given task that a line shows, if it is given
@@ -176,7 +176,7 @@ index_by n event None tasks = index_timed n event tasks
 index_by n event (Some shown) tasks = index_shown tasks shown
 
 -- the given task that a line tells of, if it is given
-abbrev pub index_told : Report (List ℕ) → List Task → Option ℕ
+abbrev pub index_told : EventReport (List ℕ) → List Task → Option ℕ
 index_told report tasks = index_by report.pid report.event report.shown tasks
 
 -- what an event tells of its task; a priority of SCHED_DEADLINE is asked for where the event has one
@@ -210,7 +210,7 @@ trouble_by (Woken pid deadline cpu) shown index runqueues =
 trouble_by (Migrated pid deadline cpu) shown index runqueues = if deadline then move_trouble index cpu runqueues else NoTrouble
 trouble_by event shown index runqueues = NoTrouble
 
-abbrev pub trouble_told : Report (List ℕ) → Option ℕ → ℕ → Trouble
+abbrev pub trouble_told : EventReport (List ℕ) → Option ℕ → ℕ → Trouble
 trouble_told report index runqueues = trouble_by report.event report.shown index runqueues
 
 -- what the lines so far gave: the tasks, the reservations of those that notes give, and the facts
@@ -219,11 +219,11 @@ pub record Noted : Type 0 where
   pub reserved : List Reservation
   pub facts : List Fact
 
-abbrev pub told_of : ℕ → Report (List ℕ) → List Task → List Fact
+abbrev pub told_of : ℕ → EventReport (List ℕ) → List Task → List Fact
 told_of line report tasks = fact_told line report.at (index_told report tasks) (what_told report.cpu report.event)
 
 -- the fault of a line that says this, by the tasks before it
-abbrev pub trouble_of : Report (List ℕ) → List Task → ℕ → Trouble
+abbrev pub trouble_of : EventReport (List ℕ) → List Task → ℕ → Trouble
 trouble_of report tasks runqueues = trouble_told report (index_told report tasks) runqueues
 
 -- the task that the line of a wake shows
@@ -232,18 +232,18 @@ woken_by (Some shown) = shown
 woken_by None = record { comm = []; pid = 0 }
 
 -- what is wrong with the line of an event by the tasks that were given
-abbrev pub problem_of_trouble : Report (List ℕ) → Trouble → Option Problem
+abbrev pub problem_of_trouble : EventReport (List ℕ) → Trouble → Option Problem
 problem_of_trouble report NoTrouble = None
 problem_of_trouble report TooLong = Some (flawed flaw.TooLong)
 problem_of_trouble report Unknown = Some (unknown_task (woken_by report.shown).comm (woken_by report.shown).pid)
 
 -- after a line that says this and has no fault
-abbrev pub noted_after : ℕ → Report (List ℕ) → Noted → Noted
+abbrev pub noted_after : ℕ → EventReport (List ℕ) → Noted → Noted
 noted_after line report noted =
     record noted { tasks = tasks_after line report noted.tasks; facts = noted.facts ++ told_of line report noted.tasks }
 
 -- after a line that says this: one with a fault tells no fact
-abbrev pub noted_by : ℕ → Report (List ℕ) → Noted → Trouble → Noted
+abbrev pub noted_by : ℕ → EventReport (List ℕ) → Noted → Trouble → Noted
 noted_by line report noted NoTrouble = noted_after line report noted
 noted_by line report noted other = record noted { tasks = tasks_after line report noted.tasks }
 

@@ -5,18 +5,18 @@ use Rattle.grub_facts.specs.Given.{Finding, Noted, Task}
 use Rattle.grub_facts.specs.Reading.{Gathered}
 use Rattle.grub_facts.specs.declared.fact.Found.{Found}
 use Rattle.grub_facts.specs.declared.fact_lines.FactLines.{FactLines}
-use Rattle.grub_facts.specs.declared.given.Given.{Given}
+use Rattle.grub_facts.specs.declared.given.GivenTask.{GivenTask}
 use Rattle.grub_facts.specs.declared.keeper.Keeper.{Keeper}
-use Rattle.grub_facts.specs.declared.tasks.Tasks.{Tasks}
+use Rattle.grub_facts.specs.declared.tasks.GivenTasks.{GivenTasks}
 
 abbrev pub finding_text : Found → Finding
 finding_text found = record { pid = found.pid; comm = found.comm.items; line = found.line }
 
-abbrev pub given_text : Given → Task
+abbrev pub given_text : GivenTask → Task
 given_text given =
     record { sought = option_map (λ v. v.items) given.sought; pid = given.pid; found = option_map finding_text given.found; timer = given.timer }
 
-abbrev pub tasks_text : Tasks → List Task
+abbrev pub tasks_text : GivenTasks → List Task
 tasks_text tasks = map given_text tasks.given.items
 
 abbrev pub noted_text : Keeper → Noted

@@ -4,21 +4,21 @@ use Rattle.std.specs.Option.{option_or}
 use Rattle.trace_line.specs.declared.shown.Shown.{Shown}
 use Rattle.trace_line.specs.declared.opening.TheConstants.{CPUS_MAX}
 use Rattle.trace_words.specs.declared.line.Flaw.TheVariants.{TooLong}
-use Rattle.trace_words.specs.declared.line.Line.{Line}
-use Rattle.trace_words.specs.declared.line.Line.TheVariants as line
+use Rattle.trace_words.specs.declared.line.RecordLine.{RecordLine}
+use Rattle.trace_words.specs.declared.line.RecordLine.TheVariants as line
 use Rattle.trace_words.specs.declared.line.Said.{Said}
 use Rattle.trace_words.specs.declared.line.Said.TheVariants as said
 use Rattle.trace_words.specs.declared.note.Kernel.{Kernel}
 use Rattle.trace_words.specs.declared.note.Limit.{Limit}
-use Rattle.trace_words.specs.declared.note.Note.{Note}
-use Rattle.trace_words.specs.declared.note.Note.TheVariants as note
+use Rattle.trace_words.specs.declared.note.TraceNote.{TraceNote}
+use Rattle.trace_words.specs.declared.note.TraceNote.TheVariants as note
 use Rattle.trace_words.specs.declared.note.Policy.{Policy}
 use Rattle.trace_words.specs.declared.note.Policy.TheVariants as policy
-use Rattle.record_line.specs.declared.line.Told.{Told}
+use Rattle.record_line.specs.declared.line.ToldLine.{ToldLine}
 use Rattle.trace_reader.specs.Reading.{After}
 use Rattle.grub_facts.specs.Faults.{Outcome, Problem, flawed}
 use Rattle.grub_facts.specs.Given.{Noted, noted_by, other_cpu, problem_of_trouble, reserving, tasks_given, trouble_of}
-use Rattle.grub_facts.specs.declared.report.Report.{Report}
+use Rattle.grub_facts.specs.declared.report.EventReport.{EventReport}
 
 -- what lines told, how many runqueues there are, where that was given, and the first fault
 pub record Gathered : Type 0 where
@@ -71,11 +71,11 @@ abbrev pub head_line : Option ℕ → Gathered → Outcome Gathered
 head_line processors g = if is_head g then counted_line (record g { processors = processors }) else right g
 
 -- the greatest CPU that a line names
-abbrev pub cpu_of : Report (List ℕ) → ℕ
+abbrev pub cpu_of : EventReport (List ℕ) → ℕ
 cpu_of report = max report.cpu (other_cpu report.event)
 
 -- a line of an event whose CPUs may be runqueues
-abbrev pub event_within : ℕ → Report (List ℕ) → Gathered → Outcome Gathered
+abbrev pub event_within : ℕ → EventReport (List ℕ) → Gathered → Outcome Gathered
 event_within n report g =
     let trouble = trouble_of report g.noted.tasks (unwrap_or (runqueues_told g) CPUS_MAX) in
     record {
@@ -84,7 +84,7 @@ event_within n report g =
     }
 
 -- a line of an event
-abbrev pub event_line : ℕ → Report (List ℕ) → Gathered → Outcome Gathered
+abbrev pub event_line : ℕ → EventReport (List ℕ) → Gathered → Outcome Gathered
 event_line n report g = if nat_le CPUS_MAX (cpu_of report) then record { wrong = Some (flawed TooLong); told = g } else event_within n report g
 
 abbrev pub said_line : ℕ → ℕ → ℕ → ℕ → Said → Option (Shown (List ℕ)) → Gathered → Outcome Gathered
@@ -100,13 +100,13 @@ policy_line (policy.Deadline parameters) (Some shown) g = reserved_line (reservi
 policy_line policy shown g = right g
 
 -- a note
-abbrev pub note_line : Note → Option (Shown (List ℕ)) → Gathered → Outcome Gathered
+abbrev pub note_line : TraceNote → Option (Shown (List ℕ)) → Gathered → Outcome Gathered
 note_line (note.Head kernel limit total) shown g = right (record g { kernel = kernel; limit = limit })
 note_line (note.Task pid at by cpu policy) shown g = policy_line policy shown g
 note_line note shown g = right g
 
 -- what a line comes to that tells this
-abbrev pub outcome : ℕ → Option (Shown (List ℕ)) → Option ℕ → Line → Gathered → Outcome Gathered
+abbrev pub outcome : ℕ → Option (Shown (List ℕ)) → Option ℕ → RecordLine → Gathered → Outcome Gathered
 outcome n shown processors line.Quiet g = head_line processors g
 outcome n shown processors (line.Note note) g = note_line note shown g
 outcome n shown processors (line.Event at grain cpu pid said) g = said_line n at cpu pid said shown g
@@ -117,5 +117,5 @@ abbrev pub ended : ℕ → Outcome Gathered → After Gathered
 ended n o = record { more = is_none o.wrong; seen = record o.told { fault = option_map (λ wrong. (n, wrong)) o.wrong } }
 
 -- what a line comes to, whose number and words these are
-abbrev pub gather_step : ℕ → Told (List ℕ) → Gathered → After Gathered
+abbrev pub gather_step : ℕ → ToldLine (List ℕ) → Gathered → After Gathered
 gather_step n told g = ended n (outcome n told.shown told.processors told.line g)

@@ -8,12 +8,12 @@ ghost use Rattle.trace_line.specs.Shown.{shown_text};
 
 use crate::counted::{Counted, Reserved};
 use crate::given::is_sugov;
-use crate::sighting::{Sighting, sighting_of};
-use record_line::Told;
+use crate::sighting::{TaskSighting, sighting_of};
+use record_line::ToldLine;
 use std::alloc::{AllocError, Global};
 use trace_line::Shown;
 use trace_reader::Lines;
-use trace_words::{Fixed, Line, Note, Policy, Said};
+use trace_words::{Fixed, RecordLine, TraceNote, Policy, Said};
 
 /// The tasks that were shown so far, in the order of their first lines.
 #[derive(Drop)]
@@ -44,7 +44,7 @@ impl Census {
     }
 
     /// Counts a line of a task that is not counted yet.
-    fn begin(&mut self, line: u64, sighting: &Sighting<'_>) -> Result<(), AllocError>
+    fn begin(&mut self, line: u64, sighting: &TaskSighting<'_>) -> Result<(), AllocError>
         ensures tasks { OnOk result (tallies_text self.new
             ≡ tallies_text self.old ++ tally_with (sighting_text sighting.now)
             (tally_first line (sighting_text sighting.now).task) ∷ []) }
@@ -57,7 +57,7 @@ impl Census {
     }
 
     /// Counts a line of a task.
-    fn count(&mut self, line: u64, sighting: &Sighting<'_>) -> Result<(), AllocError>
+    fn count(&mut self, line: u64, sighting: &TaskSighting<'_>) -> Result<(), AllocError>
         ensures tasks { OnOk result (tallies_text self.new
             ≡ tallied line (sighting_text sighting.now) (tallies_text self.old)) }
         ensures reserved { self.new.reserved ≡ self.old.reserved }
@@ -89,10 +89,10 @@ impl Census {
     }
 
     /// Takes a note.
-    fn take_note(&mut self, note: Note) -> Result<(), AllocError>
+    fn take_note(&mut self, note: TraceNote) -> Result<(), AllocError>
         ensures { OnOk result (census_text self.new ≡ note_rolled note (census_text self.old)) }
     {
-        if let Note::Task {
+        if let TraceNote::Task {
             pid,
             policy: Policy::Deadline(parameters),
             ..
@@ -104,20 +104,20 @@ impl Census {
     }
 
     /// Takes what a line tells.
-    fn take_told(&mut self, number: u64, told: &Told<&[u8]>) -> Result<(), AllocError>
+    fn take_told(&mut self, number: u64, told: &ToldLine<&[u8]>) -> Result<(), AllocError>
         ensures { OnOk result (census_text self.new
             ≡ rolled number (maybe_shown told.now.shown) told.now.line (census_text self.old)) }
     {
         match (told.line, told.shown) {
             (
-                Line::Event {
+                RecordLine::Event {
                     cpu,
                     said: Said::Fixed(event),
                     ..
                 },
                 Some(task),
             ) => self.take_event(number, cpu, &event, task),
-            (Line::Note(note), _) => self.take_note(note),
+            (RecordLine::Note(note), _) => self.take_note(note),
             _ => Ok(()),
         }
     }
@@ -143,7 +143,7 @@ impl Lines for Census {
 
     ghost step = { census_step };
 
-    fn take(&mut self, number: u64, told: &Told<&[u8]>) -> Result<bool, AllocError> {
+    fn take(&mut self, number: u64, told: &ToldLine<&[u8]>) -> Result<bool, AllocError> {
         self.take_told(number, told)?;
         Ok(true)
     }

@@ -5,7 +5,7 @@ ghost use Rattle.grub_facts.specs.Census.{tally_first, tally_text, tally_with, w
 ghost use Rattle.trace_line.specs.Shown.{shown_text};
 ghost use Rattle.grub_facts.specs.inside.Sightings.{sighting_text};
 
-use crate::sighting::Sighting;
+use crate::sighting::TaskSighting;
 use std::alloc::{AllocError, Global};
 use trace_line::Shown;
 use trace_words::Parameters;
@@ -38,7 +38,7 @@ pub struct Reserved {
 
 /// The tasks that a trace shows, in the order of their first lines, and what its notes say that tasks reserve, in theirs.
 #[derive(Drop)]
-pub struct Tasks {
+pub struct ShownTasks {
     pub counted: Vec<Counted>,
     pub reserved: Vec<Reserved>,
 }
@@ -83,7 +83,7 @@ impl Counted {
     }
 
     /// Counts a line that shows it.
-    pub(crate) fn add(&mut self, sighting: &Sighting<'_>) -> Result<(), AllocError>
+    pub(crate) fn add(&mut self, sighting: &TaskSighting<'_>) -> Result<(), AllocError>
         ensures { OnOk result
             (tally_text self.new ≡ tally_with (sighting_text sighting.now) (tally_text self.old)) }
     {

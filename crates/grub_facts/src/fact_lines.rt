@@ -10,12 +10,12 @@ ghost use Rattle.trace_reader.specs.Keeping.{after_of};
 
 use crate::fault::{LineFault, Wrong};
 use crate::keeper::Keeper;
-use crate::report::{Report, other_cpu};
-use record_line::Told;
+use crate::report::{EventReport, other_cpu};
+use record_line::ToldLine;
 use std::alloc::{AllocError, Global};
 use trace_line::{CPUS_MAX, Shown};
 use trace_reader::Lines;
-use trace_words::{Kernel, Limit, Line, Note, Policy, Said};
+use trace_words::{Kernel, Limit, RecordLine, TraceNote, Policy, Said};
 
 /// The facts of given tasks, as lines are read.
 #[derive(Drop)]
@@ -47,7 +47,7 @@ fn is_bad_count(count: Option<u32>) -> bool
 }
 
 /// The greatest CPU that a line names.
-fn cpu_of(report: &Report<&[u8]>) -> u32
+fn cpu_of(report: &EventReport<&[u8]>) -> u32
     ensures { result ≡ cpu_of (report_text report.now) }
 {
     report.cpu.max(other_cpu(&report.event))
@@ -126,20 +126,20 @@ impl FactLines {
     /// Takes a note, and the task that it shows.
     fn take_note(
         &mut self,
-        note: Note,
+        note: TraceNote,
         shown: Option<Shown<&[u8]>>,
     ) -> Result<Option<Wrong>, AllocError>
         ensures { IfOk result (λ wrong. outcome_of wrong (gathered_text self.new)
             ≡ note_line note (maybe_shown shown.entry) (gathered_text self.old)) }
     {
         match (note, shown) {
-            (Note::Head { kernel, limit, .. }, _) => {
+            (TraceNote::Head { kernel, limit, .. }, _) => {
                 self.kernel = kernel;
                 self.limit = limit;
                 Ok(None)
             }
             (
-                Note::Task {
+                TraceNote::Task {
                     policy: Policy::Deadline(parameters),
                     ..
                 },
@@ -150,7 +150,7 @@ impl FactLines {
     }
 
     /// Takes a line of an event.
-    fn take_event(&mut self, line: u64, report: &Report<&[u8]>) -> Result<Option<Wrong>, AllocError>
+    fn take_event(&mut self, line: u64, report: &EventReport<&[u8]>) -> Result<Option<Wrong>, AllocError>
         ensures { IfOk result (λ wrong. outcome_of wrong (gathered_text self.new)
             ≡ event_line line (report_text report.now) (gathered_text self.old)) }
     {
@@ -164,22 +164,22 @@ impl FactLines {
     }
 
     /// Takes what a line tells, and answers what is wrong with it by the tasks that were given.
-    fn take_told(&mut self, line: u64, told: &Told<&[u8]>) -> Result<Option<Wrong>, AllocError>
+    fn take_told(&mut self, line: u64, told: &ToldLine<&[u8]>) -> Result<Option<Wrong>, AllocError>
         ensures { IfOk result (λ wrong. outcome_of wrong (gathered_text self.new)
             ≡ outcome line (maybe_shown told.now.shown) told.now.processors told.now.line
             (gathered_text self.old)) }
     {
         match told.line {
-            Line::Quiet => Ok(self.take_head(told.processors)),
-            Line::Note(note) => self.take_note(note, told.shown),
-            Line::Event {
+            RecordLine::Quiet => Ok(self.take_head(told.processors)),
+            RecordLine::Note(note) => self.take_note(note, told.shown),
+            RecordLine::Event {
                 at,
                 cpu,
                 pid,
                 said: Said::Fixed(event),
                 ..
             } => {
-                let report = Report {
+                let report = EventReport {
                     at,
                     cpu,
                     pid,
@@ -188,7 +188,7 @@ impl FactLines {
                 };
                 self.take_event(line, &report)
             }
-            Line::Event { .. } | Line::Flawed(_) => Ok(None),
+            RecordLine::Event { .. } | RecordLine::Flawed(_) => Ok(None),
         }
     }
 
@@ -217,7 +217,7 @@ impl Lines for FactLines {
 
     ghost step = { gather_step };
 
-    fn take(&mut self, number: u64, told: &Told<&[u8]>) -> Result<bool, AllocError> {
+    fn take(&mut self, number: u64, told: &ToldLine<&[u8]>) -> Result<bool, AllocError> {
         let wrong = self.take_told(number, told)?;
         Ok(self.end_line(number, wrong))
     }

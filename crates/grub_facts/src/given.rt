@@ -8,7 +8,7 @@ use crate::fact::Found;
 
 /// A task that was given, by its comm or its pid.
 #[derive(Drop)]
-pub struct Given {
+pub struct GivenTask {
     /// The comm that is still looked for.
     pub sought: Option<Vec<u8>>,
 
@@ -37,7 +37,7 @@ fn is_number(number: u64, maybe: Option<u64>) -> bool
     }
 }
 
-impl Given {
+impl GivenTask {
     /// Whether its pid is known, and is this one.
     pub(crate) fn has_pid(&self, pid: u64) -> bool
         ensures { result ≡ has_pid pid (given_text self.now) }

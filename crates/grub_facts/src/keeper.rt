@@ -13,8 +13,8 @@ ghost use Rattle.grub_facts.specs.declared.keeper.Trouble.TheVariants.{Unknown};
 use crate::fact::{Fact, Found, What};
 use crate::fault::Wrong;
 use crate::given::is_sugov;
-use crate::report::{Report, is_zero_lag, stop_of};
-use crate::tasks::Tasks;
+use crate::report::{EventReport, is_zero_lag, stop_of};
+use crate::tasks::GivenTasks;
 use grub_bw::Params;
 use std::alloc::{AllocError, Global};
 use trace_line::Shown;
@@ -40,7 +40,7 @@ pub enum Trouble {
 #[derive(Drop)]
 pub struct Keeper {
     alloc: Global,
-    tasks: Tasks,
+    tasks: GivenTasks,
 
     /// What the tasks reserve that notes give, which stand behind the others.
     reserved: Vec<Params>,
@@ -121,7 +121,7 @@ fn is_passed(shown: Option<Shown<&[u8]>>) -> bool
     }
 }
 
-fn trouble_told(report: &Report<&[u8]>, task: Option<usize>, runqueues: u32) -> Trouble
+fn trouble_told(report: &EventReport<&[u8]>, task: Option<usize>, runqueues: u32) -> Trouble
     ensures { result ≡ trouble_told (report_text report.now) task runqueues }
 {
     match report.event {
@@ -154,7 +154,7 @@ fn woken_by(shown: Option<Shown<&[u8]>>) -> Shown<&[u8]>
 }
 
 /// The fault of a wake of a task that was not given.
-fn unknown(alloc: Global, report: &Report<&[u8]>) -> Result<Wrong, AllocError>
+fn unknown(alloc: Global, report: &EventReport<&[u8]>) -> Result<Wrong, AllocError>
     ensures { IfOk result
         (λ wrong. Some (problem_of wrong) ≡ problem_of_trouble (report_text report.now) Unknown) }
 {
@@ -187,7 +187,7 @@ impl Keeper {
         ensures reserved { IfOk result (λ keeper. (noted_text keeper).reserved ≡ []) }
         ensures facts { IfOk result (λ keeper. (noted_text keeper).facts ≡ []) }
     {
-        let tasks = Tasks::new(alloc, names)?;
+        let tasks = GivenTasks::new(alloc, names)?;
         Ok(Keeper {
             alloc,
             tasks,
@@ -225,7 +225,7 @@ impl Keeper {
     pub(crate) fn take(
         &mut self,
         line: u64,
-        report: &Report<&[u8]>,
+        report: &EventReport<&[u8]>,
         runqueues: u32,
     ) -> Result<Option<Wrong>, AllocError>
         ensures fault { IfOk result

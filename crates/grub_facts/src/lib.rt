@@ -14,7 +14,7 @@ mod sighting;
 mod task_reader;
 mod tasks;
 
-pub use counted::{Counted, Reserved, Tasks};
+pub use counted::{Counted, Reserved, ShownTasks};
 pub use fact::{Fact, Facts, Found, Stop, What};
 pub use fault::{LineFault, Wrong};
 pub use reader::FactReader;

@@ -9,7 +9,7 @@ use trace_words::{Fixed, Stop as Stopped, TimerFunction};
 
 /// What a line says of such an event; `T` is a text.
 #[derive(Clone, Copy)]
-pub struct Report<T> {
+pub struct EventReport<T> {
     /// The moment, in nanoseconds.
     pub at: u64,
 

@@ -10,7 +10,7 @@ use trace_words::{Fixed, Stop};
 
 /// A line that shows a SCHED_DEADLINE task on a CPU.
 #[derive(Clone, Copy)]
-pub struct Sighting<'a> {
+pub struct TaskSighting<'a> {
     pub task: Shown<&'a [u8]>,
     pub cpu: u32,
     pub wakes: u64,
@@ -33,7 +33,7 @@ pub(crate) fn sighting_of<'a>(
     own: u32,
     event: &Fixed,
     task: Shown<&'a [u8]>,
-) -> Option<Sighting<'a>>
+) -> Option<TaskSighting<'a>>
     ensures { option_map sighting_text result ≡ sighting_of own event.now (shown_text task.entry) }
 {
     match *event {
@@ -41,7 +41,7 @@ pub(crate) fn sighting_of<'a>(
             is_deadline: true,
             cpu,
             ..
-        } => Some(Sighting {
+        } => Some(TaskSighting {
             task,
             cpu,
             wakes: 1,
@@ -51,7 +51,7 @@ pub(crate) fn sighting_of<'a>(
             is_deadline: true,
             cpu,
             ..
-        } => Some(Sighting {
+        } => Some(TaskSighting {
             task,
             cpu,
             wakes: 0,
@@ -61,7 +61,7 @@ pub(crate) fn sighting_of<'a>(
             is_deadline: true,
             stop,
             ..
-        } => Some(Sighting {
+        } => Some(TaskSighting {
             task,
             cpu: own,
             wakes: 0,

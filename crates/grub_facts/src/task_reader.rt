@@ -4,7 +4,7 @@ ghost use Rattle.std.specs.Prelude.{[], IfErr, IfOk, IsTrue, OnOk};
 ghost use Rattle.grub_facts.specs.Census.{CountsOn, HasCounted, NeedsNoMore, ShowsAll, StopsAt, TellsStop};
 
 use crate::census::Census;
-use crate::counted::Tasks;
+use crate::counted::ShownTasks;
 use crate::fault::{LineFault, first_fault};
 use std::alloc::{AllocError, Global};
 use trace_reader::RecordReader;
@@ -44,7 +44,7 @@ impl TaskReader {
     }
 
     /// The tasks in the order of their first lines, or the first fault.
-    pub fn end(self) -> Result<Tasks, LineFault>
+    pub fn end(self) -> Result<ShownTasks, LineFault>
         ensures tasks { IfOk result (ShowsAll self) }
         ensures fault { IfErr result (StopsAt self) }
     {
@@ -53,7 +53,7 @@ impl TaskReader {
             Some(fault) => Err(fault),
             None => {
                 let (counted, reserved) = census.finish();
-                Ok(Tasks { counted, reserved })
+                Ok(ShownTasks { counted, reserved })
             }
         }
     }

@@ -9,43 +9,43 @@ ghost use Rattle.trace_line.specs.Numbers.{number};
 ghost use Rattle.trace_line.specs.Words.{text_of};
 
 use crate::fact::Found;
-use crate::given::{Given, is_sugov};
-use crate::report::{Report, is_zero_lag};
+use crate::given::{GivenTask, is_sugov};
+use crate::report::{EventReport, is_zero_lag};
 use std::alloc::{AllocError, Global};
 use trace_line::{Shown, number};
 use trace_words::Fixed;
 
 /// The tasks that were given, in their order.
 #[derive(Drop)]
-pub struct Tasks {
+pub struct GivenTasks {
     pub alloc: Global,
-    pub given: Vec<Given>,
+    pub given: Vec<GivenTask>,
 }
 
-fn place_of_pid(given: &[Given], pid: u64) -> Option<usize>
+fn place_of_pid(given: &[GivenTask], pid: u64) -> Option<usize>
     ensures { result ≡ position (λ g. has_pid pid (given_text g)) given.now }
 {
     given.iter().position(|task| task.has_pid(pid))
 }
 
-fn place_of_comm(given: &[Given], comm: &[u8]) -> Option<usize>
+fn place_of_comm(given: &[GivenTask], comm: &[u8]) -> Option<usize>
     ensures { result ≡ position (λ g. seeks comm.now (given_text g)) given.now }
 {
     given.iter().position(|task| task.seeks(comm))
 }
 
-fn place_of_timer(given: &[Given], timer: u64) -> Option<usize>
+fn place_of_timer(given: &[GivenTask], timer: u64) -> Option<usize>
     ensures { result ≡ position (λ g. has_timer timer (given_text g)) given.now }
 {
     given.iter().position(|task| task.has_timer(timer))
 }
 
-impl Tasks {
+impl GivenTasks {
     /// The tasks with these names.
-    pub(crate) fn new(alloc: Global, names: &[&[u8]]) -> Result<Tasks, AllocError>
+    pub(crate) fn new(alloc: Global, names: &[&[u8]]) -> Result<GivenTasks, AllocError>
         ensures { IfOk result (λ tasks. tasks_text tasks ≡ tasks_given (map text_of names.now)) }
     {
-        let mut tasks = Tasks {
+        let mut tasks = GivenTasks {
             alloc,
             given: Vec::new(alloc),
         };
@@ -66,12 +66,12 @@ impl Tasks {
     }
 
     /// The task of this name, behind these.
-    fn given_by(&self, name: &[u8]) -> Result<Given, AllocError>
+    fn given_by(&self, name: &[u8]) -> Result<GivenTask, AllocError>
         ensures { IfOk result (λ given. given_text given
             ≡ given_by (number name.now) name.now (tasks_text self.now)) }
     {
         match number(name) {
-            None => Ok(Given {
+            None => Ok(GivenTask {
                 sought: Some(Vec::from_slice(self.alloc, name)?),
                 pid: None,
                 found: None,
@@ -79,7 +79,7 @@ impl Tasks {
             }),
             Some(pid) => {
                 let is_taken = self.index_of(pid).is_some();
-                Ok(Given {
+                Ok(GivenTask {
                     sought: None,
                     pid: if is_taken { None } else { Some(pid) },
                     found: None,
@@ -162,7 +162,7 @@ impl Tasks {
         ensures { OnOk result
             (tasks_text self.new ≡ tasks_text self.old ++ task_of_pid pid ∷ []) }
     {
-        self.given.push(Given {
+        self.given.push(GivenTask {
             sought: None,
             pid: Some(pid),
             found: None,
@@ -233,7 +233,7 @@ impl Tasks {
     pub(crate) fn note(
         &mut self,
         line: u64,
-        report: &Report<&[u8]>,
+        report: &EventReport<&[u8]>,
     ) -> Result<Option<usize>, AllocError>
         ensures tasks { OnOk result
             (tasks_text self.new
@@ -252,7 +252,7 @@ impl Tasks {
         ensures { IfOk result (λ found. map (option_map finding_text) found.items
             ≡ map (λ (t : Task). t.found) (tasks_text self)) }
     {
-        let Tasks { alloc, given } = self;
+        let GivenTasks { alloc, given } = self;
         let mut found = Vec::with_capacity(alloc, given.len())?;
         for task in given {
             found.push(task.found)?;

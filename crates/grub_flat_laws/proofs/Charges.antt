@@ -3,24 +3,24 @@ use Rattle.std.proofs.Common.{◌≡◌, ◌<◌, ◌≤◌, ◌/◌, ◌^◌, �
 use Rattle.std.proofs.lemmas.Bool.{lt-ltb, le-ltb}
 use Rattle.deadline_rules.specs.Charge.{cost_of, cost_by, charging_of, least_of, top_of, inactive_of, rate_of}
 use Rattle.deadline_rules.specs.Clock.{contains_bits, less, plus, times}
-use Rattle.deadline_rules.specs.declared.charge.Law.TheVariants.{LinuxBefore65, LinuxFrom65}
+use Rattle.deadline_rules.specs.declared.charge.ChargeLaw.TheVariants.{LinuxBefore65, LinuxFrom65}
 use Rattle.deadline_rules.specs.declared.charge.Charge.TheVariants.{InFull, ByItsBandwidth, ByWhatIsLeft}
-use Rattle.deadline_rules.specs.declared.charge.Runqueue.{Runqueue}
+use Rattle.deadline_rules.specs.declared.charge.ChargedRunqueue.{ChargedRunqueue}
 use Rattle.deadline_rules.specs.declared.entity.Entity.{Entity}
 use Rattle.deadline_rules.specs.declared.flags.TheConstants.{RECLAIM}
 use Rattle.grub_flat.specs.Kernel.{kernel_charge_of, rate_before_6_5, rate_from_6_5}
 
-before_by : (e : Entity) (r : Runqueue) (nanos : ℕ) (b : Bool)
+before_by : (e : Entity) (r : ChargedRunqueue) (nanos : ℕ) (b : Bool)
     → cost_by LinuxBefore65 e r nanos (cond b ByItsBandwidth ByWhatIsLeft) ≡ times nanos (cond b (least_of LinuxBefore65 e r) (rate_of LinuxBefore65 e r ByWhatIsLeft)) / 2 ^ 20
 before_by e r nanos true = refl
 before_by e r nanos false = refl
 
-from_by : (e : Entity) (r : Runqueue) (nanos : ℕ) (b : Bool)
+from_by : (e : Entity) (r : ChargedRunqueue) (nanos : ℕ) (b : Bool)
     → cost_by LinuxFrom65 e r nanos (cond b ByItsBandwidth ByWhatIsLeft) ≡ times nanos (times (cond b (least_of LinuxFrom65 e r) (rate_of LinuxFrom65 e r ByWhatIsLeft)) r.bw_ratio / 2 ^ 8) / 2 ^ 20
 from_by e r nanos true = refl
 from_by e r nanos false = refl
 
-pub charges_before : (e : Entity) (r : Runqueue) (kernel nanos : ℕ) → kernel < 0x060500 → contains_bits e.parameters.flags RECLAIM ≡ true
+pub charges_before : (e : Entity) (r : ChargedRunqueue) (kernel nanos : ℕ) → kernel < 0x060500 → contains_bits e.parameters.flags RECLAIM ≡ true
     → cost_of LinuxBefore65 e r nanos ≡ kernel_charge_of kernel nanos e.dl_bw r.sums.this_bw r.sums.running_bw r.sums.extra_bw r.max_bw r.bw_ratio
 unfolding cost_of charging_of
 charges_before e r kernel nanos old flag =
@@ -29,7 +29,7 @@ charges_before e r kernel nanos old flag =
     ap (λ b. cost_by LinuxBefore65 e r nanos (cond b (cond test ByItsBandwidth ByWhatIsLeft) InFull)) flag ∙ before_by e r nanos test
     ∙ sym (ap (λ b. times nanos (cond b (rate_before_6_5 e.dl_bw inactive r.sums.extra_bw r.bw_ratio) (rate_from_6_5 e.dl_bw inactive r.sums.extra_bw r.max_bw r.bw_ratio)) / 2 ^ 20) (lt-ltb kernel 0x060500 old))
 
-pub charges_from : (e : Entity) (r : Runqueue) (kernel nanos : ℕ) → 0x060500 ≤ kernel → contains_bits e.parameters.flags RECLAIM ≡ true
+pub charges_from : (e : Entity) (r : ChargedRunqueue) (kernel nanos : ℕ) → 0x060500 ≤ kernel → contains_bits e.parameters.flags RECLAIM ≡ true
     → cost_of LinuxFrom65 e r nanos ≡ kernel_charge_of kernel nanos e.dl_bw r.sums.this_bw r.sums.running_bw r.sums.extra_bw r.max_bw r.bw_ratio
 unfolding cost_of charging_of
 charges_from e r kernel nanos new flag =

@@ -2,7 +2,7 @@
 use Rattle.std.specs.Prelude.{ℕ, ◌+◌, ◌*◌, ◌/◌, ◌^◌, nat_lt, min, Bool, true, false, if◌then◌else◌, List, [], ◌∷◌, ◌++◌, length, codes, decimal, fold, filter, find, map, unwrap_or}
 use Rattle.std.specs.List.{range_with_len}
 use Rattle.grub_book.specs.Machine.{Machine, queue_at}
-use Rattle.grub_timeline.specs.declared.told.Told.{Told}
+use Rattle.grub_timeline.specs.declared.told.ToldEntry.{ToldEntry}
 use Rattle.grub_plan.specs.Plans.{name_at}
 use Rattle.grub_steps.specs.declared.book_steps.Step.{Step}
 use Rattle.grub_shapes.specs.declared.frame.Frame.{Frame}
@@ -14,8 +14,8 @@ use Rattle.grub_shapes.specs.Marks.{legend_of}
 use Rattle.grub_steps.specs.Said.{own_steps}
 
 -- the moment of the last entry
-abbrev pub last_moment : List Told → ℕ
-last_moment told = fold (λ (m : ℕ) (x : Told). x.entry.m) 0 told
+abbrev pub last_moment : List ToldEntry → ℕ
+last_moment told = fold (λ (m : ℕ) (x : ToldEntry). x.entry.m) 0 told
 
 -- what is drawn: the runqueues and tasks, their names, the steps, the marks, and the span with the least width of a bar;
 -- so many of the tasks have lanes, and so many of the runqueues are there, from the first on

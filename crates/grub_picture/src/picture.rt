@@ -11,7 +11,7 @@ use crate::drawing::{Scene, put_queue};
 use grub_plan::Plan;
 use grub_shapes::{Frame, Mark, put_axis, put_head, put_legend, put_number, put_text};
 use grub_steps::{Step, ViewFault, replay, steps_of_task};
-use grub_timeline::{TimeLine, Told};
+use grub_timeline::{TimeLine, ToldEntry};
 use std::alloc::{AllocError, Global};
 
 /// A picture is smaller than this, in bytes.
@@ -60,7 +60,7 @@ pub fn end_of(line: &TimeLine) -> u32
 }
 
 /// The moment of the last entry, or 0 where there is none.
-fn last_moment(told: &[Told]) -> u32
+fn last_moment(told: &[ToldEntry]) -> u32
     ensures { result ≡ last_moment told.now }
 {
     match told.last() {

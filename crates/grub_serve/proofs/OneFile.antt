@@ -13,7 +13,7 @@ use Rattle.grub_plan.specs.declared.entry.Entry.{Entry}
 use Rattle.grub_plan.specs.declared.entry.Report.{Report}
 use Rattle.grub_asks.specs.Answers.{IsAnswered, events_told}
 use Rattle.grub_timeline.specs.TimeLines.{AreWithin, IsTimeLine, entries_of as entries_played}
-use Rattle.grub_timeline.specs.declared.told.Told.{Told}
+use Rattle.grub_timeline.specs.declared.told.ToldEntry.{ToldEntry}
 use Rattle.grub_timeline.proofs.OneFile.{one_run}
 use Rattle.grub_workers.specs.Runs.{IsRun, entries_of as entries_reported}
 use Rattle.grub_workers.proofs.OneFile.{alone_of_run}
@@ -27,7 +27,7 @@ calls_all (e ∷ h) all =
     let rest = calls_all h (All-tail (λ (e : Event). pass_of e < 1) e h all) in
     rw first (ap (λ (l : List Event). e ∷ l) rest)
 
-pub run_as_played : (plan : PlanView) (told : List Told) (closing last : List Reading) (tries : ℕ) (reports : List Report)
+pub run_as_played : (plan : PlanView) (told : List ToldEntry) (closing last : List Reading) (tries : ℕ) (reports : List Report)
     → PlanFits plan → length plan.scripts ≡ 1 → IsTimeLine plan told closing → AreWithin plan.setup told → 1 ≤ tries
     → IsRun plan tries reports last → map entries_reported reports ≡ entries_played told ∷ []
 run_as_played plan told closing last tries [] fits one line within some run =

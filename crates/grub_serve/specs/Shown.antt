@@ -2,7 +2,7 @@
 use Rattle.std.specs.Prelude.{◌≡◌, ◌<◌, ◌^◌, ℕ, List, [], length, Option, max, unwrap_or}
 use Rattle.grub_book.specs.declared.event.Reading.{Reading}
 use Rattle.grub_timeline.specs.TimeLines.{IsTimeLine}
-use Rattle.grub_timeline.specs.declared.told.Told.{Told}
+use Rattle.grub_timeline.specs.declared.told.ToldEntry.{ToldEntry}
 use Rattle.grub_trace.specs.Meaning.{Reads}
 use Rattle.grub_trace.specs.Naming.{plan_of}
 use Rattle.grub_plan.specs.Plans.{PlanView}
@@ -20,11 +20,11 @@ abbrev pub first_of : Option ℕ → ℕ
 first_of from = unwrap_or from 0
 
 -- and the one at which it ends: that of the last entry where it is not given, and 1 where that is 0
-abbrev pub end_of : Option ℕ → List Told → ℕ
+abbrev pub end_of : Option ℕ → List ToldEntry → ℕ
 end_of to told = unwrap_or to (max 1 (last_moment told))
 
 -- The text is a view of these entries and closing readings. A picture begins before it ends, and is shorter than 4 MiB.
-abbrev pub IsViewOf : View → PlanView → List Told → List Reading → List ℕ → Type 0
+abbrev pub IsViewOf : View → PlanView → List ToldEntry → List Reading → List ℕ → Type 0
 IsViewOf Timeline plan told closing text = text ≡ timeline_lines plan.names told closing
 IsViewOf Steps plan told closing text = text ≡ step_rows plan.names (steps_of plan.setup told)
 IsViewOf Summary plan told closing text = text ≡ summary_text plan.setup plan.names (steps_of plan.setup told)
@@ -35,7 +35,7 @@ IsViewOf (Picture from to) plan told closing text =
 pub record IsShown (view : View) (files : List (List ℕ)) (text : List ℕ) : Type 0 where
   pub trees : List Tree
   pub read : Reads files trees
-  pub told : List Told
+  pub told : List ToldEntry
   pub closing : List Reading
   pub line : IsTimeLine (plan_of trees) told closing
   pub whole : IsViewOf view (plan_of trees) told closing text

@@ -2,7 +2,7 @@
 use Rattle.std.specs.Prelude.{◌≡◌, ◌≤◌, ⊤, ℕ, List}
 use Rattle.grub_book.specs.declared.event.Reading.{Reading}
 use Rattle.grub_timeline.specs.TimeLines.{IsTimeLine}
-use Rattle.grub_timeline.specs.declared.told.Told.{Told}
+use Rattle.grub_timeline.specs.declared.told.ToldEntry.{ToldEntry}
 use Rattle.grub_trace.specs.FirstFault.{IsOnly, IsTraceFault}
 use Rattle.grub_trace.specs.Meaning.{Reads}
 use Rattle.grub_trace.specs.Naming.{plan_of}
@@ -16,7 +16,7 @@ use Rattle.grub_serve.specs.declared.view.View.{View}
 use Rattle.grub_serve.specs.declared.view.View.TheVariants.{Picture}
 
 -- a picture of these entries would go from this moment to this one, which is not after it
-abbrev pub IsEmptySpan : View → List Told → ℕ → ℕ → Type 0
+abbrev pub IsEmptySpan : View → List ToldEntry → ℕ → ℕ → Type 0
 IsEmptySpan (Picture from to) told first end = (first ≡ first_of from) × (end ≡ end_of to told) × (end ≤ first)
 IsEmptySpan view told first end = ⊥
 
@@ -24,7 +24,7 @@ IsEmptySpan view told first end = ⊥
 pub record HasEmptySpan (view : View) (files : List (List ℕ)) (first end : ℕ) : Type 0 where
   pub trees : List Tree
   pub read : Reads files trees
-  pub told : List Told
+  pub told : List ToldEntry
   pub closing : List Reading
   pub line : IsTimeLine (plan_of trees) told closing
   pub empty : IsEmptySpan view told first end

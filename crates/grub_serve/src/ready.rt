@@ -5,7 +5,7 @@ ghost use Rattle.grub_plan.specs.declared.pieces.TheConstants.{LINE_MAX};
 
 use grub_lines::Blocks;
 use grub_plan::{Plan, report_buffer};
-use grub_timeline::{Playing, Told};
+use grub_timeline::{Playing, ToldEntry};
 use std::alloc::Global;
 
 /// A time line of which nothing was played yet, and room to write it line by line.
@@ -14,7 +14,7 @@ pub struct Ready<'a> {
     pub playing: Playing<'a>,
 
     /// The entries that were played last.
-    pub latest: Vec<Told>,
+    pub latest: Vec<ToldEntry>,
 
     pub blocks: Blocks,
     pub buffer: Vec<u8>,

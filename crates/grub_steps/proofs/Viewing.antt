@@ -14,7 +14,7 @@ use Rattle.grub_plan.specs.declared.entry.Answer.TheVariants.{Replied, Seen}
 use Rattle.grub_plan.specs.Plans.{PlanView, IsAskOf}
 use Rattle.grub_asks.specs.Answers.{IsAnswered, event_told}
 use Rattle.grub_timeline.specs.TimeLines.{AreAnswered, AreWithin, IsTimeLine, history_of}
-use Rattle.grub_timeline.specs.declared.told.Told.{Told}
+use Rattle.grub_timeline.specs.declared.told.ToldEntry.{ToldEntry}
 use Rattle.grub_steps.specs.Fitting.{AreToldIn, IsAskIn, IsToldIn}
 
 -- an ask whose event is legal is in range, and the rest is legal from some book on
@@ -28,15 +28,15 @@ goes s book r (Call t op) (Replied reply) rest legal answered = record { within 
 goes s book r Read (Seen reading) rest legal answered = record { within = tt; book = book; legal = legal.1 }
 goes s book r ask answer rest legal answered = absurd answered
 
-pub legal_within : (s : Machine) (book : Records) (told : List Told) → IsLegalFrom s book (history_of told) → AreAnswered told → AreWithin s told → AreToldIn s told
+pub legal_within : (s : Machine) (book : Records) (told : List ToldEntry) → IsLegalFrom s book (history_of told) → AreAnswered told → AreWithin s told → AreToldIn s told
 legal_within s book [] legal answered within = All-from_recursion (IsToldIn s) [] tt
 legal_within s book (x ∷ told) legal answered within =
-    let AnsweredAt = λ (y : Told). IsAnswered y.entry.ask y.entry.answer in
-    let WithinAt = λ (y : Told). (y.r < length s.queues) × IsAskOf (length s.tasks) y.entry.ask in
+    let AnsweredAt = λ (y : ToldEntry). IsAnswered y.entry.ask y.entry.answer in
+    let WithinAt = λ (y : ToldEntry). (y.r < length s.queues) × IsAskOf (length s.tasks) y.entry.ask in
     let here = goes s book x.r x.entry.ask x.entry.answer (history_of told) legal (All-head AnsweredAt x told answered) in
     let there = All-head WithinAt x told within in
     All-cons (IsToldIn s) x told (record { queue = there.0; ask = here.within })
     (legal_within s here.book told here.legal (All-tail AnsweredAt x told answered) (All-tail WithinAt x told within))
 
-pub viewable : (plan : PlanView) (told : List Told) (closing : List Reading) → IsTimeLine plan told closing → AreWithin plan.setup told → AreToldIn plan.setup told
+pub viewable : (plan : PlanView) (told : List ToldEntry) (closing : List Reading) → IsTimeLine plan told closing → AreWithin plan.setup told → AreToldIn plan.setup told
 viewable plan told closing is within = legal_within plan.setup (opening_book plan.setup) told is.legal is.answered within

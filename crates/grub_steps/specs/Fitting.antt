@@ -4,7 +4,7 @@ use Rattle.grub_book.specs.Machine.{Machine}
 use Rattle.grub_book.specs.Op.{IsOp}
 use Rattle.grub_plan.specs.declared.entry.Ask.{Ask}
 use Rattle.grub_plan.specs.declared.entry.Ask.TheVariants.{Call, Read}
-use Rattle.grub_timeline.specs.declared.told.Told.{Told}
+use Rattle.grub_timeline.specs.declared.told.ToldEntry.{ToldEntry}
 use Rattle.grub_steps.specs.declared.book_steps.Step.{Step}
 
 -- the task of a call is there, and its op is in range
@@ -13,12 +13,12 @@ IsAskIn s (Call t op) = (t < length s.tasks) × IsOp s op
 IsAskIn s Read = Unit {0}
 
 -- and so is the runqueue that it is asked on
-pub record IsToldIn (s : Machine) (x : Told) : Type 0 where
+pub record IsToldIn (s : Machine) (x : ToldEntry) : Type 0 where
   pub queue : x.r < length s.queues
   pub ask : IsAskIn s x.entry.ask
 
 -- the entries are of the runqueues and tasks of a setup
-abbrev pub AreToldIn : Machine → List Told → Type 0
+abbrev pub AreToldIn : Machine → List ToldEntry → Type 0
 AreToldIn s told = All (IsToldIn s) told
 
 -- and so are the entries of these steps

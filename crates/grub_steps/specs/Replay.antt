@@ -7,7 +7,7 @@ use Rattle.grub_book.specs.declared.place.Place.{Place}
 use Rattle.grub_book.specs.declared.place.Place.TheVariants.{Away, Gone, On}
 use Rattle.grub_plan.specs.declared.entry.Ask.{Ask}
 use Rattle.grub_plan.specs.declared.entry.Ask.TheVariants.{Call, Read}
-use Rattle.grub_timeline.specs.declared.told.Told.{Told}
+use Rattle.grub_timeline.specs.declared.told.ToldEntry.{ToldEntry}
 use Rattle.grub_steps.specs.declared.book_steps.Change.{Change}
 use Rattle.grub_steps.specs.declared.book_steps.Step.{Step}
 
@@ -32,16 +32,16 @@ change_of before then (Call t op) = Some (record { t = t; server = (record_at be
 change_of before then Read = None
 
 -- an entry, and what it made of a book
-abbrev pub step_of : Machine → Records → Told → Step
+abbrev pub step_of : Machine → Records → ToldEntry → Step
 step_of s book x =
     let then = book_after s book x.entry.ask in
     let queue = queue_seen book then x.r x.entry.ask in
     record { told = x; change = change_of book then x.entry.ask; queue = queue; reading = reading_of then queue }
 
 -- the steps of these entries, from this book on
-abbrev pub steps_from : Machine → Records → List Told → List Step
+abbrev pub steps_from : Machine → Records → List ToldEntry → List Step
 steps_from s book [] = []
 steps_from s book (x ∷ told) = step_of s book x ∷ steps_from s (book_after s book x.entry.ask) told
 
-unfoldable pub steps_of : Machine → List Told → List Step
+unfoldable pub steps_of : Machine → List ToldEntry → List Step
 steps_of s told = steps_from s (opening_book s) told

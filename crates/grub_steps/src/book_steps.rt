@@ -9,7 +9,7 @@ ghost use Rattle.grub_steps.specs.Replay.{book_after, queue_or, step_of, steps_f
 use grub_book::{Book, Place, Reading, Setup};
 use grub_bw::Server;
 use grub_plan::{Ask, Plan};
-use grub_timeline::{TimeLine, Told};
+use grub_timeline::{TimeLine, ToldEntry};
 use std::alloc::{AllocError, Global};
 
 /// What an entry changed of its task.
@@ -29,7 +29,7 @@ pub struct Change {
 #[derive(Clone, Copy, Debug, PartialEq, Eq)]
 pub struct Step {
     /// The entry, and the runqueue that asked.
-    pub told: Told,
+    pub told: ToldEntry,
 
     /// What it changed of its task; nothing where it read a runqueue.
     pub change: Option<Change>,
@@ -42,7 +42,7 @@ pub struct Step {
 }
 
 /// The steps of these entries, by a book that begins with every task away. It is refused where the allocator refused.
-pub fn replay(alloc: Global, setup: &Setup, told: &[Told]) -> Result<Vec<Step>, AllocError>
+pub fn replay(alloc: Global, setup: &Setup, told: &[ToldEntry]) -> Result<Vec<Step>, AllocError>
     requires { AreToldIn setup.now told.now }
     ensures steps { IfOk result (λ v. v.items ≡ steps_of setup.now told.now) }
     ensures fits { IfOk result (λ v. AreStepsIn setup.now v.items) }
@@ -72,7 +72,7 @@ fn steps_in(alloc: Global, plan: &Plan, line: &TimeLine) -> Result<Vec<Step>, Al
 }
 
 /// Asks the book what the entry asked it.
-pub fn step_after(book: &mut Book, x: &Told) -> Step
+pub fn step_after(book: &mut Book, x: &ToldEntry) -> Step
     requires { IsToldIn book.old.setup x.now }
     ensures setup { book.new.setup ≡ book.old.setup }
     ensures records { book.new.records
@@ -117,7 +117,7 @@ fn queue_or(place: Place, r: u32) -> u32
 }
 
 /// Puts the steps of these entries into a vector that has room for them, by a book that goes on with them.
-pub fn fill_steps(steps: &mut Vec<Step>, book: &mut Book<'_>, told: &[Told])
+pub fn fill_steps(steps: &mut Vec<Step>, book: &mut Book<'_>, told: &[ToldEntry])
     requires told { AreToldIn book.old.setup told.now }
     requires room { length told.now ≤ vec_capacity steps.old }
     ensures steps { steps.new.items ≡ steps_from book.old.setup book.old.records told.now }

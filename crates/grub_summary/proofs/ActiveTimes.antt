@@ -32,7 +32,7 @@ use Rattle.grub_plan.specs.Plans.{IsAskOf}
 use Rattle.grub_plan.specs.declared.entry.Ask.{Ask}
 use Rattle.grub_plan.specs.declared.entry.Ask.TheVariants.{Call, Read}
 use Rattle.grub_timeline.specs.TimeLines.{AreWithin}
-use Rattle.grub_timeline.specs.declared.told.Told.{Told}
+use Rattle.grub_timeline.specs.declared.told.ToldEntry.{ToldEntry}
 use Rattle.grub_summary.specs.ActiveTimes.{active_from, active_of}
 use Rattle.grub_steps.specs.Replay.{book_after, queue_or, queue_seen, step_of, steps_from, steps_of}
 use Rattle.grub_summary.specs.Usage.{no_reading, reading_after, running_from, usage_of}
@@ -147,13 +147,13 @@ length_after : (s : Machine) (book : Records) (ask : Ask) → length (book_after
 length_after s book Read = refl
 length_after s book (Call t op) = length_replied book t (refused (record_at book t).place (record_at book t).count op) (moved s book t op)
 
-area : (s : Machine) (r : ℕ) (book : Records) (now : Reading) (from : ℕ) (told : List Told) → now ≡ reading_of book r → length book ≡ length s.tasks → AreWithin s told
+area : (s : Machine) (r : ℕ) (book : Records) (now : Reading) (from : ℕ) (told : List ToldEntry) → now ≡ reading_of book r → length book ≡ length s.tasks → AreWithin s told
     → running_from r now from (steps_from s book told) ≡ sum_by (λ (t : ℕ). active_from s r t book from told) (range_with_len 0 (length book))
 area s r book now from [] at len within = sym (sum_zero (range_with_len 0 (length book)))
 area s r book now from (x ∷ told) at len within =
     let then = book_after s book x.entry.ask in
     let gap = x.entry.m - from in
-    let In = λ (y : Told). (y.r < length s.queues) × IsAskOf (length s.tasks) y.entry.ask in
+    let In = λ (y : ToldEntry). (y.r < length s.queues) × IsAskOf (length s.tasks) y.entry.ask in
     let of : IsAskOf (length book) x.entry.ask = subst (λ n. IsAskOf n x.entry.ask) (sym len) (All-head In x told within).1 in
     let same : length then ≡ length book = length_after s book x.entry.ask in
     let queue = queue_seen book then x.r x.entry.ask in
@@ -166,7 +166,7 @@ area s r book now from (x ∷ told) at len within =
     rest ∙ ap (λ n. sum_by (λ (t : ℕ). active_from s r t then x.entry.m told) (range_with_len 0 n)) same in
     rw (left, here) (sym (sum_weighted (λ t. share_of (is_active_on r) (record_at book t)) (λ t. active_from s r t then x.entry.m told) gap (range_with_len 0 (length book))))
 
-pub running_area : (s : Machine) (told : List Told) (r : ℕ) → AreWithin s told → (usage_of r (steps_of s told)).running ≡ active_of s r told
+pub running_area : (s : Machine) (told : List ToldEntry) (r : ℕ) → AreWithin s told → (usage_of r (steps_of s told)).running ≡ active_of s r told
 unfolding steps_of
 running_area s told r within =
     let len : length (opening_book s) ≡ length s.tasks = length-map s.tasks opening_record in

@@ -18,7 +18,7 @@ use Rattle.grub_summary.specs.Usage.{changes_from, no_reading, reading_after, ru
 use Rattle.grub_book.specs.Sums.{Records}
 use Rattle.grub_plan.specs.declared.entry.Ask.{Ask}
 use Rattle.grub_plan.specs.declared.entry.Ask.TheVariants.{Call, Read}
-use Rattle.grub_timeline.specs.declared.told.Told.{Told}
+use Rattle.grub_timeline.specs.declared.told.ToldEntry.{ToldEntry}
 use Rattle.grub_steps.specs.Replay.{book_after, change_of, step_of}
 use Rattle.grub_steps.specs.Fitting.{IsAskIn, IsToldIn}
 use Rattle.grub_summary.specs.inside.Adding.{meter_after, meter_of, meters_of, tally_after, tallies_of, IsWithin, IsMeterWithin}
@@ -266,7 +266,7 @@ change_there : (s : Machine) (book then : Records) (n : ℕ) (ask : Ask) → n �
 change_there s book then n (Call t op) is within = subst (λ m. t < m) (sym is) within.0
 change_there s book then n Read is within = tt
 
-pub task_there : (s : Machine) (book : Records) (x : Told) (made : Step) (steps : List Step) (ys : List Tally) → IsToldIn s x → made ≡ step_of s book x → ys ≡ tallies_of s steps → IfSome made.change (λ change. change.t < length ys)
+pub task_there : (s : Machine) (book : Records) (x : ToldEntry) (made : Step) (steps : List Step) (ys : List Tally) → IsToldIn s x → made ≡ step_of s book x → ys ≡ tallies_of s steps → IfSome made.change (λ change. change.t < length ys)
 task_there s book x made steps ys within is ys_is =
     let long : length ys ≡ length s.tasks = ap length ys_is ∙ tallies_length s steps in
     rw is (change_there s book (book_after s book x.entry.ask) (length ys) x.entry.ask long within.ask)

@@ -27,7 +27,7 @@ use Rattle.grub_plan.specs.declared.entry.Answer.{Answer}
 use Rattle.grub_plan.specs.declared.entry.Answer.TheVariants.{Replied, Seen}
 use Rattle.grub_asks.specs.Answers.{IsAnswered, event_told}
 use Rattle.grub_timeline.specs.TimeLines.{AreAnswered, history_of}
-use Rattle.grub_timeline.specs.declared.told.Told.{Told}
+use Rattle.grub_timeline.specs.declared.told.ToldEntry.{ToldEntry}
 use Rattle.grub_book.specs.declared.event.Event.{Event}
 use Rattle.grub_steps.specs.Replay.{book_after, step_of, steps_from, steps_of}
 use Rattle.grub_steps.specs.Said.{charge_in, is_change_of, own_steps, run_of}
@@ -101,10 +101,10 @@ within s book r (Call t op) (Replied reply) rest sound legal answered =
 within s book r Read (Seen reading) rest sound legal answered = record { charge = omega arith; sound = sound; legal = legal.1 }
 within s book r ask answer rest sound legal answered = absurd answered
 
-each_within : (s : Machine) (book : Records) (told : List Told) → IsSound s book → IsLegalFrom s book (history_of told) → AreAnswered told → All ChargesWithin (steps_from s book told)
+each_within : (s : Machine) (book : Records) (told : List ToldEntry) → IsSound s book → IsLegalFrom s book (history_of told) → AreAnswered told → All ChargesWithin (steps_from s book told)
 each_within s book [] sound legal answered = All-from_recursion ChargesWithin [] tt
 each_within s book (x ∷ told) sound legal answered =
-    let AnsweredAt = λ (y : Told). IsAnswered y.entry.ask y.entry.answer in
+    let AnsweredAt = λ (y : ToldEntry). IsAnswered y.entry.ask y.entry.answer in
     let here = within s book x.r x.entry.ask x.entry.answer (history_of told) sound legal (All-head AnsweredAt x told answered) in
     All-cons ChargesWithin (step_of s book x) (steps_from s (book_after s book x.entry.ask) told) here.charge
     (each_within s (book_after s book x.entry.ask) told here.sound here.legal (All-tail AnsweredAt x told answered))
@@ -120,7 +120,7 @@ sums_within {X} f g p (x ∷ xs) all =
       | false ↦ rest
     ]
 
-pub charged_within : (s : Machine) (told : List Told) (t : ℕ) → IsMachine s → IsLegal s (history_of told) → AreAnswered told
+pub charged_within : (s : Machine) (told : List ToldEntry) (t : ℕ) → IsMachine s → IsLegal s (history_of told) → AreAnswered told
     → sum_by (λ (x : Step). charge_in x.told.entry.ask x.told.entry.answer) (own_steps t (steps_of s told)) ≤ sum_by (λ (x : Step). run_of x.told.entry.ask x.told.entry.answer) (own_steps t (steps_of s told))
 unfolding steps_of
 charged_within s told t ok legal answered =

@@ -12,7 +12,7 @@ use crate::tally::Tally;
 use crate::usage::Meter;
 use grub_book::{Book, Setup};
 use grub_steps::{Step, step_after};
-use grub_timeline::Told;
+use grub_timeline::ToldEntry;
 use std::alloc::{AllocError, Global};
 
 /// What is counted of each task, and of each runqueue.
@@ -24,7 +24,7 @@ pub struct Sums {
 
 /// What is counted over these entries, by a book that begins with every task away. No step is kept. It is refused where
 /// the allocator refused.
-pub(crate) fn sums_of(alloc: Global, setup: &Setup, told: &[Told]) -> Result<Sums, AllocError>
+pub(crate) fn sums_of(alloc: Global, setup: &Setup, told: &[ToldEntry]) -> Result<Sums, AllocError>
     requires { AreToldIn setup.now told.now }
     ensures tallies { IfOk result
         (λ v. v.tallies.items ≡ tallies_of setup.now (steps_of setup.now told.now)) }
@@ -74,7 +74,7 @@ fn fill_meters(setup: &Setup, meters: &mut Vec<Meter>)
 }
 
 /// Adds what each entry makes of the book, from its first on.
-fn count_all(book: &mut Book, told: &[Told], tallies: &mut [Tally], meters: &mut [Meter])
+fn count_all(book: &mut Book, told: &[ToldEntry], tallies: &mut [Tally], meters: &mut [Meter])
     requires opening { book.old.records ≡ opening_book book.old.setup }
     requires fits { AreToldIn book.old.setup told.now }
     requires tallies { tallies.old ≡ tallies_of book.old.setup [] }

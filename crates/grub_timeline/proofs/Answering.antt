@@ -15,7 +15,7 @@ use Rattle.grub_plan.specs.declared.entry.Answer.TheVariants.{Replied, Seen}
 use Rattle.grub_plan.specs.declared.entry.Entry.{Entry}
 use Rattle.grub_asks.specs.Answers.{IsAnswered, event_told}
 use Rattle.grub_asks.specs.Asked.{entry}
-use Rattle.grub_timeline.specs.declared.told.Told.{Told}
+use Rattle.grub_timeline.specs.declared.told.ToldEntry.{ToldEntry}
 use Rattle.grub_timeline.specs.TimeLines.{AreAnswered, AreOf, asker, entries_of, history_of}
 
 -- what a book answers, read for runqueue q
@@ -51,25 +51,25 @@ told_by s p q book Read (Seen reading) rest a is legal = (ap Seen (sym legal.0.1
 told_by s p q book ask answer rest a is legal = absurd a
 
 -- each reading is of one of these runqueues
-abbrev pub AreReadFor : ℕ → List ℕ → List Told → Type 0
+abbrev pub AreReadFor : ℕ → List ℕ → List ToldEntry → Type 0
 AreReadFor r rs [] = Unit {0}
 AreReadFor r rs (x ∷ xs) = (x.entry.ask ≡ Read → x.r ≡ get_or rs 0 r) × AreReadFor r (drop 1 rs) xs
 
-pub by_told : (s : Machine) (r : ℕ) (rs : List ℕ) (book : Records) (xs : List Told) → AreAnswered xs → IsLegalFrom s book (history_of xs) → AreReadFor r rs xs → IsBy s r rs book (entries_of xs)
+pub by_told : (s : Machine) (r : ℕ) (rs : List ℕ) (book : Records) (xs : List ToldEntry) → AreAnswered xs → IsLegalFrom s book (history_of xs) → AreReadFor r rs xs → IsBy s r rs book (entries_of xs)
 by_told s r rs book [] a legal read = tt
 by_told s r rs book (x ∷ xs) a legal read =
-    let here = told_by s x.r (get_or rs 0 r) book x.entry.ask x.entry.answer (history_of xs) (All-head (λ (k : Told). IsAnswered k.entry.ask k.entry.answer) x xs a) read.0 legal in
-    (here.0, by_told s r (drop 1 rs) (book_next s book x.entry.ask) xs (All-tail (λ (k : Told). IsAnswered k.entry.ask k.entry.answer) x xs a) here.1 read.1)
+    let here = told_by s x.r (get_or rs 0 r) book x.entry.ask x.entry.answer (history_of xs) (All-head (λ (k : ToldEntry). IsAnswered k.entry.ask k.entry.answer) x xs a) read.0 legal in
+    (here.0, by_told s r (drop 1 rs) (book_next s book x.entry.ask) xs (All-tail (λ (k : ToldEntry). IsAnswered k.entry.ask k.entry.answer) x xs a) here.1 read.1)
 
 -- readings of a line of runqueue r
-read_of : (r : ℕ) (before more : List Told) → AreOf r before more → AreReadFor r [] more
+read_of : (r : ℕ) (before more : List ToldEntry) → AreOf r before more → AreReadFor r [] more
 read_of r before [] of = tt
 read_of r before (x ∷ more) of = (λ is. of.0 ∙ ap (λ ask. asker r (entries_of before) ask) is, read_of r (before ++ x ∷ []) more of.1)
 
-abbrev pub runqueues_of : List Told → List ℕ
-runqueues_of xs = map (λ (x : Told). x.r) xs
+abbrev pub runqueues_of : List ToldEntry → List ℕ
+runqueues_of xs = map (λ (x : ToldEntry). x.r) xs
 
-pub read_line : (r : ℕ) (xs before more : List Told) → AreOf r before more → AreReadFor r (runqueues_of xs) (xs ++ more)
+pub read_line : (r : ℕ) (xs before more : List ToldEntry) → AreOf r before more → AreReadFor r (runqueues_of xs) (xs ++ more)
 read_line r [] before more of = read_of r before more of
 read_line r (x ∷ xs) before more of = (λ is. refl, read_line r xs before more of)
 

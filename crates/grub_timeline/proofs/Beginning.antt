@@ -11,7 +11,7 @@ use Rattle.grub_plan.specs.Plans.{IsAskOf}
 use Rattle.grub_asks.specs.Answers.{IsAnswered}
 use Rattle.grub_asks.specs.Keeping.{places_of}
 use Rattle.grub_asks.proofs.Kept.{kept_nothing}
-use Rattle.grub_timeline.specs.declared.told.Told.{Told}
+use Rattle.grub_timeline.specs.declared.told.ToldEntry.{ToldEntry}
 use Rattle.grub_timeline.specs.declared.player.Player.{Player}
 use Rattle.grub_timeline.specs.TimeLines.{armer, entries_of}
 use Rattle.grub_timeline.specs.inside.Merge.{AreNone}
@@ -31,8 +31,8 @@ known_nothing : (s : Machine) → IsKnown s (opening_book s) []
 known_nothing s = record {
   legal = tt;
   book = refl;
-  answered = All-nil (λ (k : Told). IsAnswered k.entry.ask k.entry.answer);
-  within = All-nil (λ (k : Told). (k.r < length s.queues) × IsAskOf (length s.tasks) k.entry.ask);
+  answered = All-nil (λ (k : ToldEntry). IsAnswered k.entry.ask k.entry.answer);
+  within = All-nil (λ (k : ToldEntry). (k.r < length s.queues) × IsAskOf (length s.tasks) k.entry.ask);
 }
 
 pub playing_first : (p : Player) (s : Machine) → IsChunk p → length s.tasks + 1 ≤ places_of p.wheel → p.book ≡ record { setup = s; records = opening_book s } → p.told.items ≡ [] → p.wheel.timers ≡ map.empty → 1 ≤ length s.queues → length p.armers.items ≡ length s.tasks
@@ -41,7 +41,7 @@ playing_first p s chunk places opens none empty some many zeros =
     let setup : p.book.setup ≡ s = ap (λ (b : Standing). b.setup) opens in record {
       chunk = chunk;
       places = let same = ap (λ (k : Machine). length k.tasks) setup in omega (arith, places, same);
-      told = subst (λ (told : List Told). IsKnown p.book.setup p.book.records told) (sym none) (subst (λ (b : Standing). IsKnown b.setup b.records []) (sym opens) (known_nothing s));
+      told = subst (λ (told : List ToldEntry). IsKnown p.book.setup p.book.records told) (sym none) (subst (λ (b : Standing). IsKnown b.setup b.records []) (sym opens) (known_nothing s));
       kept = kept_nothing p.book.setup (entries_of p.told.items) p.wheel.timers (ap entries_of none) empty;
       armers = subst (λ (k : Machine). AreArmers k (entries_of p.told.items) p.armers.items) (sym setup) (record {
         one_each = many;

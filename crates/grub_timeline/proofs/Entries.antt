@@ -23,30 +23,30 @@ use Rattle.grub_wheel.specs.TimerBag.{TimerBag, WheelState}
 use Rattle.grub_asks.specs.Keeping.{places_of}
 use Rattle.grub_asks.specs.inside.Keeping.{IsKept}
 use Rattle.grub_asks.proofs.Alarms.{few_timers}
-use Rattle.grub_timeline.specs.declared.told.Told.{Told}
+use Rattle.grub_timeline.specs.declared.told.ToldEntry.{ToldEntry}
 use Rattle.grub_timeline.specs.TimeLines.{AreAnswered, AreWithin, entries_of, history_of}
 use Rattle.grub_timeline.specs.inside.TimeLines.{told_of}
 use Rattle.grub_timeline.specs.inside.Playing.{IsKnown}
 
-pub entries_more : (xs : List Told) (x : Told) → entries_of (xs ++ x ∷ []) ≡ entries_of xs ++ x.entry ∷ []
+pub entries_more : (xs : List ToldEntry) (x : ToldEntry) → entries_of (xs ++ x ∷ []) ≡ entries_of xs ++ x.entry ∷ []
 entries_more xs x = grind (arith, common_steps)
 
-pub history_more : (xs : List Told) (x : Told) → history_of (xs ++ x ∷ []) ≡ history_of xs ++ event_told x.r x.entry.ask x.entry.answer
+pub history_more : (xs : List ToldEntry) (x : ToldEntry) → history_of (xs ++ x ∷ []) ≡ history_of xs ++ event_told x.r x.entry.ask x.entry.answer
 history_more xs x = grind (arith, common_steps)
 
-known_event : (s : Machine) (was now : Records) (old new : List Told) (x : Told) (e : Event) → IsKnown s was old → new ≡ old ++ x ∷ [] → event_told x.r x.entry.ask x.entry.answer ≡ e ∷ []
+known_event : (s : Machine) (was now : Records) (old new : List ToldEntry) (x : ToldEntry) (e : Event) → IsKnown s was old → new ≡ old ++ x ∷ [] → event_told x.r x.entry.ask x.entry.answer ≡ e ∷ []
     → IsAnswered x.entry.ask x.entry.answer → x.r < length s.queues → IsAskOf (length s.tasks) x.entry.ask
     → (IsLegal s (history_of old) → IsLegal s (history_of old ++ e ∷ [])) → now ≡ book_of s (history_of old ++ e ∷ []) → IsKnown s now new
 known_event s was now old new x e known list is answered queue task goes then =
     let more : history_of new ≡ history_of old ++ e ∷ [] = ap history_of list ∙ history_more old x ∙ ap (λ es. history_of old ++ es) is in record {
       legal = subst (IsLegal s) (sym more) (goes known.legal);
       book = then ∙ ap (book_of s) (sym more);
-      answered = subst AreAnswered (sym list) (All-push (λ (k : Told). IsAnswered k.entry.ask k.entry.answer) old x known.answered answered);
-      within = subst (AreWithin s) (sym list) (All-push (λ (k : Told). (k.r < length s.queues) × IsAskOf (length s.tasks) k.entry.ask) old x known.within (queue, task));
+      answered = subst AreAnswered (sym list) (All-push (λ (k : ToldEntry). IsAnswered k.entry.ask k.entry.answer) old x known.answered answered);
+      within = subst (AreWithin s) (sym list) (All-push (λ (k : ToldEntry). (k.r < length s.queues) × IsAskOf (length s.tasks) k.entry.ask) old x known.within (queue, task));
     }
 
 -- a call that the book answered
-pub known_call : (s : Machine) (was now : Records) (old new : List Told) (r m t : ℕ) (op : Op) (reply : Reply) → IsKnown s was old → r < length s.queues → t < length s.tasks → IsOp s op → (now, reply) ≡ step s was t op
+pub known_call : (s : Machine) (was now : Records) (old new : List ToldEntry) (r m t : ℕ) (op : Op) (reply : Reply) → IsKnown s was old → r < length s.queues → t < length s.tasks → IsOp s op → (now, reply) ≡ step s was t op
     → new ≡ old ++ told_of r m (Call t op) (Replied reply) ∷ [] → IsKnown s now new
 known_call s was now old new r m t op reply known queue task fits is list =
     let h = history_of old in
@@ -56,7 +56,7 @@ known_call s was now old new r m t op reply known queue task fits is list =
     (ap (λ p. p.0) at ∙ sym (book_push s h (events.Call r t op reply)))
 
 -- a reading of the book
-pub known_look : (s : Machine) (book : Records) (old new : List Told) (r m : ℕ) (reading : Reading) → IsKnown s book old → r < length s.queues → reading ≡ reading_of book r → new ≡ old ++ told_of r m Read (Seen reading) ∷ [] → IsKnown s book new
+pub known_look : (s : Machine) (book : Records) (old new : List ToldEntry) (r m : ℕ) (reading : Reading) → IsKnown s book old → r < length s.queues → reading ≡ reading_of book r → new ≡ old ++ told_of r m Read (Seen reading) ∷ [] → IsKnown s book new
 known_look s book old new r m reading known queue is list =
     let h = history_of old in
     known_event s book book old new (told_of r m Read (Seen reading)) (events.Look r r reading) known list refl tt queue tt
@@ -64,7 +64,7 @@ known_look s book old new r m reading known queue is list =
     (known.book ∙ sym (book_push s h (events.Look r r reading)))
 
 -- one more of the latest entries
-pub chunk_more : (start then was old now new : List Told) (x : Told) → then ≡ start → old ≡ start ++ was → now ≡ was ++ x ∷ [] → new ≡ old ++ x ∷ [] → new ≡ then ++ now
+pub chunk_more : (start then was old now new : List ToldEntry) (x : ToldEntry) → then ≡ start → old ≡ start ++ was → now ≡ was ++ x ∷ [] → new ≡ old ++ x ∷ [] → new ≡ then ++ now
 chunk_more start then was old now new x same tied more list = list ∙ ap (λ l. l ++ x ∷ []) tied ∙ append_assoc start was (x ∷ []) ∙ ap (λ l. start ++ l) (sym more) ∙ ap (λ l. l ++ now) (sym same)
 
 -- ---- the places of the timers

@@ -10,8 +10,8 @@ use Rattle.grub_plan.specs.declared.entry.Answer.TheVariants.{Seen}
 use Rattle.grub_plan.specs.declared.entry.Entry.{Entry}
 use Rattle.grub_asks.specs.Asked.{AsksDue, Follows, ask_of, entry}
 use Rattle.grub_asks.proofs.Lines.{read_follows}
-use Rattle.grub_timeline.specs.declared.order.Placed.{Placed}
-use Rattle.grub_timeline.specs.declared.told.Told.{Told}
+use Rattle.grub_timeline.specs.declared.order.PlacedLine.{PlacedLine}
+use Rattle.grub_timeline.specs.declared.told.ToldEntry.{ToldEntry}
 use Rattle.grub_timeline.specs.TimeLines.{AsksPlaced, asker, entries_of}
 use Rattle.grub_timeline.specs.inside.TimeLines.{told_of}
 use Rattle.grub_timeline.specs.inside.Playing.{GoesOnAt, GoesOnOf, IsLineAsked, IsLookedAt}
@@ -30,7 +30,7 @@ own_asker r m (acts.Retune t q p) before = refl
 own_asker r m acts.Read before = refl
 
 -- a reading
-pub looked : (r : ℕ) (line : Line) (old new : List Told) → ask_of r line.m line.act ≡ Read → IsLookedAt r line.m old new → IsLineAsked r line (entries_of old) (entries_of new)
+pub looked : (r : ℕ) (line : Line) (old new : List ToldEntry) → ask_of r line.m line.act ≡ Read → IsLookedAt r line.m old new → IsLineAsked r line (entries_of old) (entries_of new)
 looked r line old new is look = record {
   answer = Seen look.reading;
   asked = entries_of new;
@@ -38,11 +38,11 @@ looked r line old new is look = record {
   follows = read_follows r line.m line.act (Seen look.reading) (entries_of new) is;
 }
 
-pub looked_of : (r m : ℕ) (old new : List Told) → IsLookedAt r m old new → GoesOnOf r old new
+pub looked_of : (r m : ℕ) (old new : List ToldEntry) → IsLookedAt r m old new → GoesOnOf r old new
 looked_of r m old new look = goes_on r old new (told_of r m Read (Seen look.reading)) refl look.list
 
 -- a call
-pub called : (r : ℕ) (line : Line) (t : ℕ) (op : Op) (answer : Answer) (old asked : List Told) (new : List Entry) → ask_of r line.m line.act ≡ Call t op → asked ≡ old ++ told_of r line.m (Call t op) answer ∷ []
+pub called : (r : ℕ) (line : Line) (t : ℕ) (op : Op) (answer : Answer) (old asked : List ToldEntry) (new : List Entry) → ask_of r line.m line.act ≡ Call t op → asked ≡ old ++ told_of r line.m (Call t op) answer ∷ []
     → Follows r line.m line.act answer (entries_of asked) new → IsLineAsked r line (entries_of old) new
 called r line t op answer old asked new is list follows = record {
   answer = answer;
@@ -51,12 +51,12 @@ called r line t op answer old asked new is list follows = record {
   follows = follows;
 }
 
-pub called_of : (r : ℕ) (line : Line) (t : ℕ) (op : Op) (answer : Answer) (old asked : List Told) → ask_of r line.m line.act ≡ Call t op → asked ≡ old ++ told_of r line.m (Call t op) answer ∷ [] → GoesOnOf r old asked
+pub called_of : (r : ℕ) (line : Line) (t : ℕ) (op : Op) (answer : Answer) (old asked : List ToldEntry) → ask_of r line.m line.act ≡ Call t op → asked ≡ old ++ told_of r line.m (Call t op) answer ∷ [] → GoesOnOf r old asked
 called_of r line t op answer old asked is list =
     goes_on r old asked (told_of r line.m (Call t op) answer) (sym (own_asker r line.m line.act (entries_of old)) ∙ ap (asker r (entries_of old)) is) list
 
 -- timers, and then the line
-pub placed_asked : (p : Placed) (old due new : List Told) → AsksDue p.line.m (entries_of old) (entries_of due) → GoesOnAt old due → IsLineAsked p.r p.line (entries_of due) (entries_of new) → GoesOnOf p.r due new → AsksPlaced old p new
+pub placed_asked : (p : PlacedLine) (old due new : List ToldEntry) → AsksDue p.line.m (entries_of old) (entries_of due) → GoesOnAt old due → IsLineAsked p.r p.line (entries_of due) (entries_of new) → GoesOnOf p.r due new → AsksPlaced old p new
 placed_asked p old due new timers first line then =
     let goes = goes_twice p.r old due new (first p.r) then in record {
       asked = record {

@@ -11,7 +11,7 @@ use native.Mathlib.Decide.{ℕ_discrete}
 use Rattle.grub_bw.specs.declared.server.TheConstants.{MOMENT_MAX}
 use Rattle.grub_plan.specs.Limits.{ActFits, PlanFits, ScriptFits}
 use Rattle.grub_plan.specs.Plans.{Line, PlanView, script_at}
-use Rattle.grub_timeline.specs.declared.order.Placed.{Placed}
+use Rattle.grub_timeline.specs.declared.order.PlacedLine.{PlacedLine}
 use Rattle.grub_timeline.specs.declared.player.Player.{Player}
 use Rattle.grub_timeline.specs.Order.{IsNotLater, IsSorted, left, lines_of}
 use Rattle.grub_timeline.specs.TimeLines.{AsksPlaced}
@@ -21,21 +21,21 @@ use Rattle.grub_timeline.proofs.Left.{past}
 use Rattle.grub_timeline.proofs.Sooner.{head_within, not_later-trans}
 
 -- ---- lists of lines in their order
-sorted_push : (order : List Placed) (x : Placed) → IsSorted order → AllByRecursion (λ q. IsNotLater q x) order → IsSorted (order ++ x ∷ [])
+sorted_push : (order : List PlacedLine) (x : PlacedLine) → IsSorted order → AllByRecursion (λ q. IsNotLater q x) order → IsSorted (order ++ x ∷ [])
 sorted_push [] x s a = (tt, tt)
 sorted_push (p ∷ ps) x s a = (recursion_from_All (IsNotLater p) (ps ++ x ∷ []) (All-push (IsNotLater p) ps x (All-from_recursion (IsNotLater p) ps s.0) a.0), sorted_push ps x s.1 a.1)
 
-lines_more : (r : ℕ) (order : List Placed) (x : Placed) → lines_of r (order ++ x ∷ []) ≡ lines_of r order ++ cond (x.r == r) (x.line ∷ []) []
+lines_more : (r : ℕ) (order : List PlacedLine) (x : PlacedLine) → lines_of r (order ++ x ∷ []) ≡ lines_of r order ++ cond (x.r == r) (x.line ∷ []) []
 lines_more r [] x = go (x.r == r)
   where
-    go : (b : Bool) → map (λ (p : Placed). p.line) (cond b (x ∷ []) []) ≡ cond b (x.line ∷ []) []
+    go : (b : Bool) → map (λ (p : PlacedLine). p.line) (cond b (x ∷ []) []) ≡ cond b (x.line ∷ []) []
     go true = refl
     go false = refl
 lines_more r (p ∷ ps) x = go (p.r == r) (lines_more r ps x)
   where
     go : (b : Bool) → lines_of r (ps ++ x ∷ []) ≡ lines_of r ps ++ cond (x.r == r) (x.line ∷ []) []
-        → map (λ (p : Placed). p.line) (cond b (p ∷ filter (λ (q : Placed). q.r == r) (ps ++ x ∷ [])) (filter (λ (q : Placed). q.r == r) (ps ++ x ∷ [])))
-        ≡ map (λ (p : Placed). p.line) (cond b (p ∷ filter (λ (q : Placed). q.r == r) ps) (filter (λ (q : Placed). q.r == r) ps)) ++ cond (x.r == r) (x.line ∷ []) []
+        → map (λ (p : PlacedLine). p.line) (cond b (p ∷ filter (λ (q : PlacedLine). q.r == r) (ps ++ x ∷ [])) (filter (λ (q : PlacedLine). q.r == r) (ps ++ x ∷ [])))
+        ≡ map (λ (p : PlacedLine). p.line) (cond b (p ∷ filter (λ (q : PlacedLine). q.r == r) ps) (filter (λ (q : PlacedLine). q.r == r) ps)) ++ cond (x.r == r) (x.line ∷ []) []
     go true is = ap (λ l. p.line ∷ l) is
     go false is = is
 
@@ -89,7 +89,7 @@ played_of plan p done mid none = record {
 }
 
 -- ---- one more line
-module _ (plan : PlanView) (p : Player) (done : List ℕ) (x : Placed) (fits : PlanFits plan) (mid : IsMidway plan p done) (first : IsFirst plan.scripts done x) where
+module _ (plan : PlanView) (p : Player) (done : List ℕ) (x : PlacedLine) (fits : PlanFits plan) (mid : IsMidway plan p done) (first : IsFirst plan.scripts done x) where
   pub there : x.r < length plan.scripts
   there = head_within plan.scripts done x.r x.line first.head
 

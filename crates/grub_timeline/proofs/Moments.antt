@@ -14,8 +14,8 @@ use Rattle.grub_plan.specs.declared.entry.Entry.{Entry}
 use Rattle.grub_plan.specs.Plans.{PlanView}
 use Rattle.grub_asks.specs.Asked.{entry}
 use Rattle.grub_asks.proofs.Waits.{waits_step}
-use Rattle.grub_timeline.specs.declared.order.Placed.{Placed}
-use Rattle.grub_timeline.specs.declared.told.Told.{Told}
+use Rattle.grub_timeline.specs.declared.order.PlacedLine.{PlacedLine}
+use Rattle.grub_timeline.specs.declared.told.ToldEntry.{ToldEntry}
 use Rattle.grub_book.specs.declared.event.Reading.{Reading}
 use Rattle.grub_timeline.specs.Order.{IsNotLater, IsSorted}
 use Rattle.grub_timeline.specs.TimeLines.{AsksPlaced, DoNotGoBack, IsTimeLine, entries_of}
@@ -38,21 +38,21 @@ module _ (s : Machine) where
   right_last : (r : ℕ) (rs : List ℕ) (m : ℕ) (ask : Ask) (before : List Entry) (answer : Answer) → IsBy s r rs (opening_book s) (before ++ entry m ask answer ∷ []) → AnswersRightly ask answer
   right_last r rs m ask before answer by = let last = by_last s r rs (opening_book s) before (entry m ask answer) by in right_answer s last.0 last.1 ask answer last.2
 
-  order_rises : (m : ℕ) (order : List Placed) (before after : List Told) → IsSorted order → AllByRecursion (λ (q : Placed). m ≤ q.line.m) order → Rises m (entries_of before) → FoldsTo AsksPlaced before order after → IsGiven s after
+  order_rises : (m : ℕ) (order : List PlacedLine) (before after : List ToldEntry) → IsSorted order → AllByRecursion (λ (q : PlacedLine). m ≤ q.line.m) order → Rises m (entries_of before) → FoldsTo AsksPlaced before order after → IsGiven s after
       → (n : ℕ) × Rises n (entries_of after)
   order_rises m [] before after sorted low was f given = (m, subst (λ told. Rises m (entries_of told)) f was)
   order_rises m (p ∷ ps) before after sorted low was f given =
       let here = given_first s after f.0 (lines_start ps f.0 after f.2) given in
       let P = IsBy s p.r (runqueues_of before) (opening_book s) in
       let next = line_rises P (by_prefix s p.r (runqueues_of before) (opening_book s)) (right_last p.r (runqueues_of before)) m p.r p.line (entries_of before) (entries_of f.0) low.0 was (by_line s p before f.0 f.1 here) f.1.asked in
-      order_rises p.line.m ps f.0 after sorted.1 (recursion_from_All (λ (q : Placed). p.line.m ≤ q.line.m) ps (All-weaker (IsNotLater p) (λ (q : Placed). p.line.m ≤ q.line.m) (λ q h. no_earlier p q h) ps (All-from_recursion (IsNotLater p) ps sorted.0))) next f.2 given
+      order_rises p.line.m ps f.0 after sorted.1 (recursion_from_All (λ (q : PlacedLine). p.line.m ≤ q.line.m) ps (All-weaker (IsNotLater p) (λ (q : PlacedLine). p.line.m ≤ q.line.m) (λ q h. no_earlier p q h) ps (All-from_recursion (IsNotLater p) ps sorted.0))) next f.2 given
     where
-      no_earlier : (p q : Placed) → IsNotLater p q → p.line.m ≤ q.line.m
+      no_earlier : (p q : PlacedLine) → IsNotLater p q → p.line.m ≤ q.line.m
       no_earlier p q a = ⊎_elim (λ (h : p.line.m < q.line.m). omega arith) (λ (h : (p.line.m ≡ q.line.m) × (p.r ≤ q.r)). let same = h.0 in omega (arith, same)) a
 
-from_start : (order : List Placed) → AllByRecursion (λ (q : Placed). 0 ≤ q.line.m) order
+from_start : (order : List PlacedLine) → AllByRecursion (λ (q : PlacedLine). 0 ≤ q.line.m) order
 from_start [] = tt
 from_start (p ∷ ps) = (omega arith, from_start ps)
 
-pub moments_rise : (plan : PlanView) (told : List Told) (closing : List Reading) → IsTimeLine plan told closing → DoNotGoBack told
+pub moments_rise : (plan : PlanView) (told : List ToldEntry) (closing : List Reading) → IsTimeLine plan told closing → DoNotGoBack told
 moments_rise plan told closing f = (order_rises plan.setup 0 f.order [] told f.sorted.sorted (from_start f.order) rises_nothing f.asked (record { legal = f.legal; answered = f.answered })).1.up

@@ -12,7 +12,7 @@ use Rattle.grub_plan.specs.contracts.entry.Answer as Answer
 use Rattle.grub_plan.specs.contracts.entry.Entry as Entry
 use Rattle.grub_plan.specs.contracts.plan.Plan as Plan
 use Rattle.grub_timeline.specs.contracts.log.Log as Log
-use Rattle.grub_timeline.specs.contracts.told.Told as Told
+use Rattle.grub_timeline.specs.contracts.told.ToldEntry as ToldEntry
 use Rattle.grub_timeline.specs.contracts.player.Player as Player
 use Rattle.grub_timeline.specs.contracts.playing.Playing as Playing
 
@@ -37,7 +37,7 @@ Answer-send = search (sendable, Reply-send) depth 40
 Entry-send : IsSend Entry.the_field.row
 Entry-send = search (sendable, Ask-send, Answer-send) depth 40
 
-Told-send : IsSend Told.the_field.row
+Told-send : IsSend ToldEntry.the_field.row
 Told-send = search (sendable, Entry-send) depth 40
 
 Log-send : IsSend Log.the_field.row

@@ -9,14 +9,14 @@ use mathlib.Core.Logic.{dite}
 use native.Mathlib.Decide.{ℕ_discrete}
 use Rattle.grub_plan.specs.Plans.{Line, script_at}
 use Rattle.grub_timeline.specs.declared.order.Lead.{Lead}
-use Rattle.grub_timeline.specs.declared.order.Placed.{Placed}
+use Rattle.grub_timeline.specs.declared.order.PlacedLine.{PlacedLine}
 use Rattle.grub_timeline.specs.Order.{IsNotLater}
 use Rattle.grub_timeline.specs.inside.Merge.{IsAhead, IsBefore, IsBehind, IsFirst, IsLeader, IsNext, NoHead, head_at, leader_of, placed}
 
-pub not_later-refl : (p : Placed) → IsNotLater p p
+pub not_later-refl : (p : PlacedLine) → IsNotLater p p
 not_later-refl p = inr (refl, omega arith)
 
-pub not_later-trans : (p q x : Placed) → IsNotLater p q → IsNotLater q x → IsNotLater p x
+pub not_later-trans : (p q x : PlacedLine) → IsNotLater p q → IsNotLater q x → IsNotLater p x
 not_later-trans p q x a b = ⊎_elim
     (λ (h : p.line.m < q.line.m). ⊎_elim (λ (k : q.line.m < x.line.m). inl (omega arith)) (λ (k : (q.line.m ≡ x.line.m) × (q.r ≤ x.r)). let same = k.0 in inl (omega (arith, h, same))) b)
     (λ (h : (p.line.m ≡ q.line.m) × (p.r ≤ q.r)). ⊎_elim (λ (k : q.line.m < x.line.m). let same = h.0 in inl (omega (arith, k, same)))

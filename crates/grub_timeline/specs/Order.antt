@@ -2,24 +2,24 @@
 use Rattle.std.specs.Prelude.{◌≡◌, ℕ, ◌+◌, ◌-◌, ◌<◌, ◌≤◌, ◌⊎◌, ◌==◌, List, [], ◌∷◌, filter, length, map}
 use Rattle.std.specs.List.{AllByRecursion}
 use Rattle.grub_plan.specs.Plans.{Line, script_at}
-use Rattle.grub_timeline.specs.declared.order.Placed.{Placed}
+use Rattle.grub_timeline.specs.declared.order.PlacedLine.{PlacedLine}
 
 -- the lines of one runqueue
-abbrev pub lines_of : ℕ → List Placed → List Line
-lines_of r order = map (λ (p : Placed). p.line) (filter (λ (p : Placed). p.r == r) order)
+abbrev pub lines_of : ℕ → List PlacedLine → List Line
+lines_of r order = map (λ (p : PlacedLine). p.line) (filter (λ (p : PlacedLine). p.r == r) order)
 
 -- q does not come before p: by moment, and at one moment by file
-abbrev pub IsNotLater : Placed → Placed → Type 0
+abbrev pub IsNotLater : PlacedLine → PlacedLine → Type 0
 IsNotLater p q = (p.line.m < q.line.m) ⊎ ((p.line.m ≡ q.line.m) × (p.r ≤ q.r))
 
 -- no line comes before one in front of it
-abbrev pub IsSorted : List Placed → Type 0
+abbrev pub IsSorted : List PlacedLine → Type 0
 IsSorted [] = Unit {0}
 IsSorted (p ∷ ps) = AllByRecursion (IsNotLater p) ps × IsSorted ps
 
 -- The stable sort of the scripts by moment: it has the lines of each script, all of them and in the order of the script, and no others; moments do not go
 -- back, and lines of one moment go by file.
-pub record IsOrder (scripts : List (List Line)) (order : List Placed) : Type 0 where
+pub record IsOrder (scripts : List (List Line)) (order : List PlacedLine) : Type 0 where
   pub lines : (r : ℕ) → lines_of r order ≡ script_at scripts r
   pub sorted : IsSorted order
 

@@ -17,16 +17,16 @@ use Rattle.grub_plan.specs.declared.entry.Entry.{Entry}
 use Rattle.grub_plan.specs.Plans.{Line, PlanView, IsAskOf}
 use Rattle.grub_asks.specs.Answers.{IsAnswered, event_told, events_told}
 use Rattle.grub_asks.specs.Asked.{Asked, AsksLine}
-use Rattle.grub_timeline.specs.declared.order.Placed.{Placed}
-use Rattle.grub_timeline.specs.declared.told.Told.{Told}
+use Rattle.grub_timeline.specs.declared.order.PlacedLine.{PlacedLine}
+use Rattle.grub_timeline.specs.declared.told.ToldEntry.{ToldEntry}
 use Rattle.grub_timeline.specs.Order.{IsOrder}
 
-abbrev pub entries_of : List Told → List Entry
-entries_of told = map (λ (x : Told). x.entry) told
+abbrev pub entries_of : List ToldEntry → List Entry
+entries_of told = map (λ (x : ToldEntry). x.entry) told
 
 -- the history that the entries tell: each call and reading under the number of its runqueue
-abbrev pub history_of : List Told → List Event
-history_of told = flat_map (λ (x : Told). event_told x.r x.entry.ask x.entry.answer) told
+abbrev pub history_of : List ToldEntry → List Event
+history_of told = flat_map (λ (x : ToldEntry). event_told x.r x.entry.ask x.entry.answer) told
 
 -- ---- whose timer it is
 -- the runqueue that armed the timer of task t last, after an entry
@@ -48,25 +48,25 @@ asker r before (Call t (Timer ticket z)) = armer before t
 asker r before ask = r
 
 -- each of these entries, which follow those before, is of the runqueue that it should be of
-abbrev pub AreOf : ℕ → List Told → List Told → Type 0
+abbrev pub AreOf : ℕ → List ToldEntry → List ToldEntry → Type 0
 AreOf r before [] = Unit {0}
 AreOf r before (x ∷ more) = (x.r ≡ asker r (entries_of before) x.entry.ask) × AreOf r (before ++ x ∷ []) more
 
 -- ---- what is asked
 -- A line asks what it asks in a script of its own runqueue, with the timers of all runqueues.
-pub record AsksPlaced (before : List Told) (p : Placed) (after : List Told) : Type 0 where
+pub record AsksPlaced (before : List ToldEntry) (p : PlacedLine) (after : List ToldEntry) : Type 0 where
   pub asked : AsksLine p.r (entries_of before) p.line (entries_of after)
-  pub more : List Told
+  pub more : List ToldEntry
   pub list : after ≡ before ++ more
   pub runqueues : AreOf p.r before more
 
 -- the entries are those of the lines, in this order, and nothing else
-abbrev pub AskedInOrder : List Placed → List Told → Type 0
+abbrev pub AskedInOrder : List PlacedLine → List ToldEntry → Type 0
 AskedInOrder order told = FoldsTo AsksPlaced [] order told
 
 -- each was answered by a reply or a reading
-abbrev pub AreAnswered : List Told → Type 0
-AreAnswered told = All (λ (x : Told). IsAnswered x.entry.ask x.entry.answer) told
+abbrev pub AreAnswered : List ToldEntry → Type 0
+AreAnswered told = All (λ (x : ToldEntry). IsAnswered x.entry.ask x.entry.answer) told
 
 -- a reading for each runqueue, in the book after this history
 pub record AreClosing (s : Machine) (history : List Event) (closing : List Reading) : Type 0 where
@@ -74,8 +74,8 @@ pub record AreClosing (s : Machine) (history : List Event) (closing : List Readi
   pub readings : (r : ℕ) (reading : Reading) → slice_get closing r ≡ Some reading → reading ≡ reading_of (book_of s history) r
 
 -- The lines of all files were asked in the order of their moments, and each ask was answered by one book, whose history and closing readings these are.
-pub record IsTimeLine (plan : PlanView) (told : List Told) (closing : List Reading) : Type 0 where
-  pub order : List Placed
+pub record IsTimeLine (plan : PlanView) (told : List ToldEntry) (closing : List Reading) : Type 0 where
+  pub order : List PlacedLine
   pub sorted : IsOrder plan.scripts order
   pub asked : AskedInOrder order told
   pub answered : AreAnswered told
@@ -83,28 +83,28 @@ pub record IsTimeLine (plan : PlanView) (told : List Told) (closing : List Readi
   pub closes : AreClosing plan.setup (history_of told) closing
 
 -- the moments of the entries do not go back
-abbrev pub DoNotGoBack : List Told → Type 0
+abbrev pub DoNotGoBack : List ToldEntry → Type 0
 DoNotGoBack told = IsNonDecreasingBy (λ (e : Entry). e.m) (entries_of told)
 
 -- each entry is of a runqueue that is there, and on a task that is
-abbrev pub AreWithin : Machine → List Told → Type 0
-AreWithin s told = All (λ (x : Told). (x.r < length s.queues) × IsAskOf (length s.tasks) x.entry.ask) told
+abbrev pub AreWithin : Machine → List ToldEntry → Type 0
+AreWithin s told = All (λ (x : ToldEntry). (x.r < length s.queues) × IsAskOf (length s.tasks) x.entry.ask) told
 
 -- what playing is to its callers: the plan, the entries so far, the latest of them and how many those are at most, and how many lines are left
 pub record PlayState : Type 0 where
   pub plan : PlanView
-  pub told : List Told
-  pub chunk : List Told
+  pub told : List ToldEntry
+  pub chunk : List ToldEntry
   pub most : ℕ
   pub left : ℕ
 
 -- no other entries and readings than these are the time line of the plan
-pub record IsOnlyTimeLine (plan : PlanView) (told : List Told) (closing : List Reading) : Type 0 where
-  pub no_other : (others : List Told) (last : List Reading) → IsTimeLine plan others last → (others ≡ told) × (last ≡ closing)
+pub record IsOnlyTimeLine (plan : PlanView) (told : List ToldEntry) (closing : List Reading) : Type 0 where
+  pub no_other : (others : List ToldEntry) (last : List Reading) → IsTimeLine plan others last → (others ≡ told) × (last ≡ closing)
 
 -- These are the entries that a script of runqueue 0 asks for, in a history of the one-thread book, and no others that were each answered are: those of a run of
 -- the file alone, in which no ask is given up.
-pub record IsOneRun (s : Machine) (script : List Line) (told : List Told) : Type 0 where
+pub record IsOneRun (s : Machine) (script : List Line) (told : List ToldEntry) : Type 0 where
   pub asked : Asked 0 script (entries_of told)
   pub history : history_of told ≡ events_told 0 (entries_of told)
   pub only : (entries : List Entry) → Asked 0 script entries → All (λ (e : Entry). IsAnswered e.ask e.answer) entries → IsLegal s (events_told 0 entries) → entries ≡ entries_of told

@@ -16,7 +16,7 @@ mod told;
 mod whole;
 
 pub use fault::PlayFault;
-pub use order::Placed;
+pub use order::PlacedLine;
 pub use playing::Playing;
-pub use told::{TimeLine, Told};
+pub use told::{TimeLine, ToldEntry};
 pub use whole::play;

@@ -7,7 +7,7 @@ ghost use Rattle.grub_timeline.specs.TimeLines.{AsksPlaced, entries_of};
 ghost use Rattle.grub_timeline.specs.inside.Playing.{GoesOnOf, IsLineAsked, IsNotPast, IsPlaying};
 
 use crate::due::ask_due;
-use crate::order::Placed;
+use crate::order::PlacedLine;
 use crate::player::{Player, call, look};
 use grub_asks::call_of;
 use grub_book::{Op, Reply};
@@ -95,7 +95,7 @@ fn ask(player: &mut Player<'_>, r: u32, line: Line)
 }
 
 /// Asks for the timers that are due before a line, for the line, and for what follows from its answer.
-pub(crate) fn ask_line(player: &mut Player<'_>, placed: Placed)
+pub(crate) fn ask_line(player: &mut Player<'_>, placed: PlacedLine)
     requires playing { IsPlaying player.old }
     requires act { ActFits (length player.old.book.setup.tasks) placed.line.act }
     requires queue { placed.r < length player.old.book.setup.queues }

@@ -6,7 +6,7 @@ ghost use Rattle.grub_timeline.specs.inside.Merge.{IsAhead, IsMidway, IsNext, No
 ghost use Rattle.grub_timeline.specs.Order.{left};
 
 use crate::line::ask_line;
-use crate::order::{Lead, Placed, first, leads, take};
+use crate::order::{Lead, PlacedLine, first, leads, take};
 use crate::player::Player;
 use grub_plan::Plan;
 
@@ -80,5 +80,5 @@ fn ask_next(player: &mut Player<'_>, plan: &Plan, done: &mut [usize], lead: Lead
     ensures fewer { left plan.now.scripts done.new < left plan.now.scripts done.old }
 {
     let line = take(plan, done, lead.r);
-    ask_line(player, Placed { r: lead.r, line });
+    ask_line(player, PlacedLine { r: lead.r, line });
 }

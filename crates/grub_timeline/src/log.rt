@@ -1,16 +1,16 @@
 //! What was told so far, for clauses alone.
 ghost use Rattle.std.specs.Prelude.{◌≡◌, List, [], ◌∷◌, ◌++◌};
 ghost use Rattle.std.specs.Borrow.{ftrue};
-ghost use Rattle.grub_timeline.specs.declared.told.Told.{Told};
+ghost use Rattle.grub_timeline.specs.declared.told.ToldEntry.{ToldEntry};
 
-use crate::told::Told;
+use crate::told::ToldEntry;
 use std::marker::{Model, PhantomData};
 
 /// A list of entries that has no bytes: clauses read it as `items`.
 #[derive(Drop)]
 pub struct Log {
     marker: PhantomData<u8>,
-    pub ghost items: { List Told },
+    pub ghost items: { List ToldEntry },
 }
 
 impl Model for Log {
@@ -28,7 +28,7 @@ impl Log {
     }
 
     /// The list with one entry more.
-    pub(crate) fn and(&self, told: &Told) -> Log
+    pub(crate) fn and(&self, told: &ToldEntry) -> Log
         ensures { result.items ≡ self.now.items ++ told.now ∷ [] }
     {
         Log {

@@ -6,7 +6,7 @@ use grub_plan::{Line, Plan};
 
 /// A line of the script of runqueue `r`.
 #[derive(Clone, Copy, Debug, PartialEq, Eq)]
-pub struct Placed {
+pub struct PlacedLine {
     pub r: u32,
     pub line: Line,
 }

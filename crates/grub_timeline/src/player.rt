@@ -9,7 +9,7 @@ ghost use Rattle.grub_timeline.specs.inside.Playing.{IsLookedAt, IsOfBlock, IsPl
 
 use crate::armers::note;
 use crate::log::Log;
-use crate::told::Told;
+use crate::told::ToldEntry;
 use grub_asks::keep;
 use grub_book::{Book, Op};
 use grub_plan::{Answer, Ask, Entry};
@@ -29,7 +29,7 @@ pub struct Player<'a> {
     pub start: Snapshot<Log>,
 
     /// The latest entries.
-    pub chunk: Vec<Told>,
+    pub chunk: Vec<ToldEntry>,
     pub wheel: Wheel,
     pub armers: Vec<u32>,
 }
@@ -56,7 +56,7 @@ pub(crate) fn put(player: &mut Player<'_>, r: u32, m: u32, t: u32, op: Op) -> An
 {
     let reply = player.book.apply(t, op);
     let answer = Answer::Replied(reply);
-    let told = Told {
+    let told = ToldEntry {
         r,
         entry: Entry {
             m,
@@ -108,7 +108,7 @@ pub(crate) fn look(player: &mut Player<'_>, r: u32, m: u32)
     ensures room { vec_capacity player.new.chunk ≡ vec_capacity player.old.chunk }
 {
     let reading = player.book.read(r);
-    let told = Told {
+    let told = ToldEntry {
         r,
         entry: Entry {
             m,

@@ -10,7 +10,7 @@ use crate::fault::PlayFault;
 use crate::lines::ask_lines;
 use crate::opening::player_of;
 use crate::player::Player;
-use crate::told::Told;
+use crate::told::ToldEntry;
 use grub_book::Reading;
 use grub_plan::Plan;
 use std::alloc::{AllocError, Global};
@@ -85,7 +85,7 @@ impl<'a> Playing<'a> {
     }
 
     /// The entries of the lines that were asked for last.
-    pub fn chunk(&self) -> &[Told]
+    pub fn chunk(&self) -> &[ToldEntry]
         ensures { result.now ≡ self.now.chunk }
     {
         &self.player.chunk
@@ -102,7 +102,7 @@ impl<'a> Playing<'a> {
     /// Exchanges the vector of the entries of the lines that were asked for last with another, so that these may be read while
     /// the next lines are asked for. The other's entries are dropped. It has to have room for those of a line: a timer of each
     /// task, and three asks.
-    pub fn exchange(&mut self, other: &mut Vec<Told>)
+    pub fn exchange(&mut self, other: &mut Vec<ToldEntry>)
         requires room { length self.old.plan.setup.tasks + 3 ≤ vec_capacity other.old }
         ensures chunk { other.new.items ≡ self.old.chunk }
         ensures none { self.new.chunk ≡ [] }

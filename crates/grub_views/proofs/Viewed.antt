@@ -5,10 +5,10 @@ use Rattle.grub_book.specs.declared.event.Reading.{Reading}
 use Rattle.grub_plan.specs.Plans.{PlanView}
 use Rattle.grub_plan.specs.Writing.{HandsOn, HandsPart}
 use Rattle.grub_timeline.specs.TimeLines.{IsTimeLine}
-use Rattle.grub_timeline.specs.declared.told.Told.{Told}
+use Rattle.grub_timeline.specs.declared.told.ToldEntry.{ToldEntry}
 use Rattle.grub_views.specs.Views.{HandsOnView, HandsPartOfView}
 
-module _ (text_of : List Told → List Reading → List ℕ) (played plan : PlanView) (same : played ≡ plan) (told : List Told) (closing : List Reading) (line : IsTimeLine played told closing)
+module _ (text_of : List ToldEntry → List Reading → List ℕ) (played plan : PlanView) (same : played ≡ plan) (told : List ToldEntry) (closing : List Reading) (line : IsTimeLine played told closing)
     (a b : Option (List ℕ)) (kept : List ℕ) {T E : Type 0} (r : Result T E) where
   pub view_whole : (left : List ℕ) → OnOk r (HandsOn a b kept (text_of told closing) left) → OnOk r (HandsOnView text_of plan a b kept left)
   view_whole left = on_ok_weaker r (λ h. record { told = told; closing = closing; line = subst (λ (p : PlanView). IsTimeLine p told closing) same line; handed = h })

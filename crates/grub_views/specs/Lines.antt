@@ -5,10 +5,10 @@ use Rattle.grub_views.specs.Views.{HandsOnView, HandsPartOfView}
 use Rattle.grub_book.specs.declared.event.Reading.{Reading}
 use Rattle.grub_plan.specs.Texts.{ask_text, answer_text, reading_text}
 use Rattle.grub_plan.specs.Plans.{PlanView}
-use Rattle.grub_timeline.specs.declared.told.Told.{Told}
+use Rattle.grub_timeline.specs.declared.told.ToldEntry.{ToldEntry}
 
 -- the line of an entry, where the tasks have these names
-unfoldable pub told_line : List (List ℕ) → Told → List ℕ
+unfoldable pub told_line : List (List ℕ) → ToldEntry → List ℕ
 told_line names x =
     codes "at " ++ decimal x.entry.m ++ codes " on " ++ decimal x.r ++ codes " " ++ ask_text names x.entry.ask ++ codes ": " ++ answer_text x.entry.answer ++ codes "\n"
 
@@ -22,7 +22,7 @@ close_lines r [] = []
 close_lines r (c ∷ closing) = close_line r c ++ close_lines (r + 1) closing
 
 -- a line for each entry, and then one for each closing reading
-unfoldable pub timeline_lines : List (List ℕ) → List Told → List Reading → List ℕ
+unfoldable pub timeline_lines : List (List ℕ) → List ToldEntry → List Reading → List ℕ
 timeline_lines names told closing = flat_map (told_line names) told ++ close_lines 0 closing
 
 -- the lines of the time line of the plan were handed on, behind what was kept

@@ -13,10 +13,10 @@ use Rattle.grub_plan.specs.declared.entry.Answer.{Answer}
 use Rattle.grub_plan.specs.declared.entry.Answer.TheVariants.{Replied, Seen, Busy, Lost}
 use Rattle.grub_plan.specs.Plans.{PlanView, name_at}
 use Rattle.grub_plan.specs.Texts.{ask_text, reply_text}
-use Rattle.grub_timeline.specs.declared.told.Told.{Told}
+use Rattle.grub_timeline.specs.declared.told.ToldEntry.{ToldEntry}
 use Rattle.grub_steps.specs.Replay.{steps_of}
 use Rattle.grub_steps.specs.declared.book_steps.Step.{Step}
-use Rattle.grub_views.specs.declared.row.Numbers.{Numbers}
+use Rattle.grub_views.specs.declared.row.AnswerNumbers.{AnswerNumbers}
 
 abbrev pub first_word : List ℕ → List ℕ
 first_word text = before_first (λ b. b == 32) text
@@ -54,18 +54,18 @@ abbrev pub arg_field : Ask → List ℕ
 arg_field (Call t op) = op_field op
 arg_field Read = []
 
-abbrev pub no_numbers : Numbers
+abbrev pub no_numbers : AnswerNumbers
 no_numbers = record { dq = None; k = None; q = None; d = None; z = None }
 
 -- the numbers of a reply: a reply that refuses has none
-abbrev pub reply_numbers : Reply → Numbers
+abbrev pub reply_numbers : Reply → AnswerNumbers
 reply_numbers (Joined q d) = record { dq = None; k = None; q = Some q; d = Some d; z = None }
 reply_numbers (Woken q d) = record { dq = None; k = None; q = Some q; d = Some d; z = None }
 reply_numbers (Charged k q d dq) = record { dq = Some dq; k = Some k; q = Some q; d = Some d; z = None }
 reply_numbers (Waiting ticket z) = record { dq = None; k = None; q = None; d = None; z = Some z }
 reply_numbers reply = no_numbers
 
-abbrev pub answer_numbers : Answer → Numbers
+abbrev pub answer_numbers : Answer → AnswerNumbers
 answer_numbers (Replied reply) = reply_numbers reply
 answer_numbers (Seen reading) = no_numbers
 answer_numbers Busy = no_numbers
@@ -76,7 +76,7 @@ abbrev pub number_field : Option ℕ → List ℕ
 number_field (Some n) = decimal n
 number_field None = []
 
-abbrev pub number_fields : Numbers → List (List ℕ)
+abbrev pub number_fields : AnswerNumbers → List (List ℕ)
 number_fields x = number_field x.dq ∷ number_field x.k ∷ number_field x.q ∷ number_field x.d ∷ number_field x.z ∷ []
 
 -- fields with a tab between each two, and the byte that ends a line
@@ -98,7 +98,7 @@ step_row names x = row (asked_fields names x ++ number_fields (answer_numbers x.
 unfoldable pub step_rows : List (List ℕ) → List Step → List ℕ
 step_rows names steps = header ++ flat_map (step_row names) steps
 
-abbrev pub rows_of : PlanView → List Told → List Reading → List ℕ
+abbrev pub rows_of : PlanView → List ToldEntry → List Reading → List ℕ
 rows_of plan told closing = step_rows plan.names (steps_of plan.setup told)
 
 -- the rows of the time line of the plan were handed on, behind what was kept

@@ -13,7 +13,7 @@ use grub_lines::{Blocks, Line, write_lines};
 use grub_plan::{
     LINE_MAX, Plan, append, append_answer, append_ask, append_number, append_reading, make_room,
 };
-use grub_timeline::{Playing, Told};
+use grub_timeline::{Playing, ToldEntry};
 use std::io;
 use std::io::Write;
 use std::thread::Threads;
@@ -28,7 +28,7 @@ pub fn write_timeline<R: Threads + Sync, W: Write>(
     buffer: &mut Vec<u8>,
     out: &mut W,
     plan: &Plan,
-    latest: &mut Vec<Told>,
+    latest: &mut Vec<ToldEntry>,
     mut playing: Playing<'_>,
 ) -> io::Result<()>
     requires plan { playing.plan ≡ plan.now }
@@ -54,7 +54,7 @@ fn write_played<R: Threads + Sync, W: Write>(
     buffer: &mut Vec<u8>,
     out: &mut W,
     plan: &Plan,
-    latest: &mut Vec<Told>,
+    latest: &mut Vec<ToldEntry>,
     playing: &mut Playing<'_>,
 ) -> io::Result<()>
     requires plan { playing.old.plan ≡ plan.now }
@@ -102,18 +102,18 @@ struct PlanLines<'a> {
     plan: &'a Plan,
 }
 
-impl<'a> Line<Told> for PlanLines<'a> {
+impl<'a> Line<ToldEntry> for PlanLines<'a> {
     ghost fits = { λ lines x. IsAskOf (length lines.plan.now.setup.tasks) x.entry.ask };
 
     ghost line = { λ lines x. told_line lines.plan.now.names x };
 
-    fn append(&self, out: &mut Vec<u8>, item: &Told) {
+    fn append(&self, out: &mut Vec<u8>, item: &ToldEntry) {
         append_told(out, self.plan, item);
     }
 }
 
 #[tactic(auto, unfolding(crate::specs::Lines::told_line))]
-fn append_told(out: &mut Vec<u8>, plan: &Plan, x: &Told)
+fn append_told(out: &mut Vec<u8>, plan: &Plan, x: &ToldEntry)
     requires task { IsAskOf (length plan.now.setup.tasks) x.now.entry.ask }
     requires room { vec_len out.old + LINE_MAX ≤ vec_capacity out.old }
     ensures text { out.new.items ≡ out.old.items ++ told_line plan.now.names x.now }

@@ -1,7 +1,7 @@
 //! The end of a time line that nobody reads.
 
 ghost use Rattle.std.specs.Prelude.{◌≡◌, ◌++◌, List};
-ghost use Rattle.grub_timeline.specs.declared.told.Told.{Told};
+ghost use Rattle.grub_timeline.specs.declared.told.ToldEntry.{ToldEntry};
 
 use grub_timeline::Playing;
 
@@ -9,7 +9,7 @@ use grub_timeline::Playing;
 pub(crate) fn play_out(playing: &mut Playing<'_>)
     ensures plan { playing.new.plan ≡ playing.old.plan }
     ensures over { playing.new.left ≡ 0 }
-    ensures told { (more : List Told) × (playing.new.told ≡ playing.old.told ++ more) }
+    ensures told { (more : List ToldEntry) × (playing.new.told ≡ playing.old.told ++ more) }
 {
     while playing.play_on() {}
 }

@@ -13,7 +13,7 @@ use grub_steps::Step;
 
 /// The numbers of an answer, where it has them.
 #[derive(Clone, Copy)]
-struct Numbers {
+struct AnswerNumbers {
     /// What was charged.
     dq: Option<u64>,
 
@@ -30,7 +30,7 @@ struct Numbers {
     z: Option<u32>,
 }
 
-const NO_NUMBERS: Numbers = Numbers {
+const NO_NUMBERS: AnswerNumbers = AnswerNumbers {
     dq: None,
     k: None,
     q: None,
@@ -124,7 +124,7 @@ fn append_reservation(out: &mut Vec<u8>, q: u32, p: u32)
     append_number(out, b"/", u64::from(p));
 }
 
-fn append_numbers(out: &mut Vec<u8>, numbers: Numbers)
+fn append_numbers(out: &mut Vec<u8>, numbers: AnswerNumbers)
     requires { vec_len out.old + NUMBERS_MAX ≤ vec_capacity out.old }
     ensures text { out.new.items ≡ out.old.items ++ flat_map (λ f. 9 ∷ f) (number_fields numbers) }
     ensures len { vec_len out.new ≤ vec_len out.old + NUMBERS_MAX }
@@ -223,7 +223,7 @@ fn reply_word(reply: Reply) -> &'static str
     }
 }
 
-fn numbers_of(answer: Answer) -> Numbers
+fn numbers_of(answer: Answer) -> AnswerNumbers
     ensures { result ≡ answer_numbers answer }
 {
     match answer {
@@ -232,23 +232,23 @@ fn numbers_of(answer: Answer) -> Numbers
     }
 }
 
-fn numbers_told(reply: Reply) -> Numbers
+fn numbers_told(reply: Reply) -> AnswerNumbers
     ensures { result ≡ reply_numbers reply }
 {
     match reply {
-        Reply::Joined { q, d } | Reply::Woken { q, d } => Numbers {
+        Reply::Joined { q, d } | Reply::Woken { q, d } => AnswerNumbers {
             q: Some(q),
             d: Some(d),
             ..NO_NUMBERS
         },
-        Reply::Charged { dq, k, q, d } => Numbers {
+        Reply::Charged { dq, k, q, d } => AnswerNumbers {
             dq: Some(dq),
             k: Some(k),
             q: Some(q),
             d: Some(d),
             z: None,
         },
-        Reply::Waiting { z, .. } => Numbers {
+        Reply::Waiting { z, .. } => AnswerNumbers {
             z: Some(z),
             ..NO_NUMBERS
         },

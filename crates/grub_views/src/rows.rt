@@ -16,7 +16,7 @@ use grub_book::Book;
 use grub_lines::{Blocks, Line, write_lines};
 use grub_plan::{LINE_MAX, Plan, append, make_room};
 use grub_steps::{Step, fill_steps};
-use grub_timeline::{Playing, Told};
+use grub_timeline::{Playing, ToldEntry};
 use std::io;
 use std::io::Write;
 use std::thread::Threads;
@@ -37,7 +37,7 @@ pub fn write_steps<R: Threads + Sync, W: Write>(
     out: &mut W,
     plan: &Plan,
     book: &mut Book<'_>,
-    latest: &mut Vec<Told>,
+    latest: &mut Vec<ToldEntry>,
     steps: &mut Vec<Step>,
     mut playing: Playing<'_>,
 ) -> io::Result<()>
@@ -96,7 +96,7 @@ fn write_rows<R: Threads + Sync, W: Write>(
     out: &mut W,
     plan: &Plan,
     book: &mut Book<'_>,
-    latest: &mut Vec<Told>,
+    latest: &mut Vec<ToldEntry>,
     steps: &mut Vec<Step>,
     playing: &mut Playing<'_>,
 ) -> io::Result<()>

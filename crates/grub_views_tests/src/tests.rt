@@ -9,7 +9,7 @@ use grub_picture::*;
 use grub_plan::{LINE_MAX, Plan, report_buffer, write_buffer};
 use grub_steps::*;
 use grub_summary::*;
-use grub_timeline::{Playing, Told, play};
+use grub_timeline::{Playing, ToldEntry, play};
 use grub_trace::read_files;
 use grub_views::*;
 use grub_worked_examples::{documentation, moving};
@@ -145,7 +145,7 @@ fn play_steps<R: Threads + Sync>(
 }
 
 /// Room for the entries of so many, and for their steps.
-fn room_for(alloc: Global, most: usize) -> Option<(Vec<Told>, Vec<Step>)>
+fn room_for(alloc: Global, most: usize) -> Option<(Vec<ToldEntry>, Vec<Step>)>
     ensures { IfSome result
         (λ room. (most ≤ vec_capacity room.0) × (vec_capacity room.0 ≤ vec_capacity room.1)) }
 {

@@ -8,8 +8,8 @@ use Rattle.grub_table.specs.declared.claim.Claim.{Claim}
 use Rattle.grub_table.specs.declared.shared.Shared.{Shared}
 use Rattle.grub_table.specs.Knowing.{Learns}
 use Rattle.grub_table.specs.Calls.{IsPassOf, IsTaken, number_of, share_of, claim_share, claim_queue, claim_changes_sum, seen, marks}
-use Rattle.grub_workers.specs.declared.asking.Turn.{Turn}
-use Rattle.grub_workers.specs.declared.asking.Turn.TheVariants as turns
+use Rattle.grub_workers.specs.declared.asking.AskTurn.{AskTurn}
+use Rattle.grub_workers.specs.declared.asking.AskTurn.TheVariants as turns
 use Rattle.grub_workers.specs.inside.Evidence.{ShowsHolder}
 use Rattle.grub_workers.specs.inside.Working.{machine}
 
@@ -27,6 +27,6 @@ pub record HasLost (s : Shared) (tries : ℕ) (p : Pass) (t : ℕ) (asked : Op) 
   pub none_own : calls_of (number_of p) (claim_share c).seen ≡ calls_of (number_of p) earlier
   pub changes : HasChanged (machine s) (claim_queue c) earlier (claim_share c).seen tries
 
-abbrev pub IsTurn : Shared → ℕ → ℕ → Pass → ℕ → Op → Turn → Type 0
+abbrev pub IsTurn : Shared → ℕ → ℕ → Pass → ℕ → Op → AskTurn → Type 0
 IsTurn s tries round p t op (turns.Free now) = IsFree s round p t now
 IsTurn s tries round p t op (turns.Held claim) = HasLost s tries p t op claim

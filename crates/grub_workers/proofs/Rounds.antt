@@ -26,8 +26,8 @@ use Rattle.grub_table.specs.Knowing.{GoesOn, Learns}
 use Rattle.grub_table.specs.Calls.{IsTaken, IsBusy, IsDone, IsLost, IsCancelled, IsSighting, IsClaimedSighting, number_of, share_of, claim_share, claim_queue, claim_changes_sum, seen, marks, marks_of_call}
 use Rattle.grub_plan.specs.declared.entry.Ask.TheVariants.{Call}
 use Rattle.grub_plan.specs.declared.entry.Answer.TheVariants.{Replied, Lost}
-use Rattle.grub_workers.specs.declared.asking.Turn.{Turn}
-use Rattle.grub_workers.specs.declared.asking.Turn.TheVariants as turns
+use Rattle.grub_workers.specs.declared.asking.AskTurn.{AskTurn}
+use Rattle.grub_workers.specs.declared.asking.AskTurn.TheVariants as turns
 use Rattle.grub_workers.specs.inside.Evidence.{ShowsHolder}
 use Rattle.grub_asks.specs.Keeping.{IsBlockBefore, WaitsRightly}
 use Rattle.grub_workers.specs.inside.Working.{IsAsked, machine}
@@ -79,10 +79,10 @@ module _ (learns_twice : TwiceLearned) (s : Shared) (p : Pass) (t : ℕ) (asked 
   }
 
   -- it holds the task for its tries, by the claim that it took now, or that the last round left it
-  pub holds_taken : (tries round : ℕ) (turn : Turn) (now : Pass) (c d : Claim) → turn ≡ turns.Free now → IsTurn s tries round p t asked turn → IsTaken s now t asked c → d ≡ c → IsTaken s p t asked d
+  pub holds_taken : (tries round : ℕ) (turn : AskTurn) (now : Pass) (c d : Claim) → turn ≡ turns.Free now → IsTurn s tries round p t asked turn → IsTaken s now t asked c → d ≡ c → IsTaken s p t asked d
   holds_taken tries round turn now c d is was taken same = subst (IsTaken s p t asked) (sym same) (taken_round round now c (subst (IsTurn s tries round p t asked) is was) taken)
 
-  pub holds_left : (tries round : ℕ) (turn : Turn) (c d : Claim) → turn ≡ turns.Held c → IsTurn s tries round p t asked turn → d ≡ c → IsTaken s p t asked d
+  pub holds_left : (tries round : ℕ) (turn : AskTurn) (c d : Claim) → turn ≡ turns.Held c → IsTurn s tries round p t asked turn → d ≡ c → IsTaken s p t asked d
   holds_left tries round turn c d is was same =
       let lost : HasLost s tries p t asked c = subst (IsTurn s tries round p t asked) is was in
       subst (IsTaken s p t asked) (sym same) lost.holding

@@ -13,7 +13,7 @@ use grub_plan::Answer;
 use grub_table::{Claim, Finished, Pass, Started, passes_learn_on};
 
 /// Where an ask stands between two rounds.
-enum Turn {
+enum AskTurn {
     Free(Pass),
     Held(Claim),
 }
@@ -34,26 +34,26 @@ pub(crate) fn ask<G: Gate>(
     ensures waits { WaitsRightly op result.1 }
 {
     passes_learn_on();
-    let mut turn = Turn::Free(pass);
+    let mut turn = AskTurn::Free(pass);
     for _ in 0..desk.rounds {
         let claim = match turn {
-            Turn::Free(pass) => match desk.start(calls, pass, t, op) {
+            AskTurn::Free(pass) => match desk.start(calls, pass, t, op) {
                 Started::Answered(pass, reply) => return (pass, Answer::Replied(reply)),
                 Started::Held(claim) => claim,
                 Started::Busy(pass, _) => {
-                    turn = Turn::Free(pass);
+                    turn = AskTurn::Free(pass);
                     continue;
                 }
             },
-            Turn::Held(claim) => claim,
+            AskTurn::Held(claim) => claim,
         };
         match desk.finish(calls, claim) {
             Finished::Done(pass, reply) => return (pass, Answer::Replied(reply)),
-            Finished::Held(claim) => turn = Turn::Held(claim),
+            Finished::Held(claim) => turn = AskTurn::Held(claim),
         }
     }
     match turn {
-        Turn::Free(pass) => (pass, Answer::Busy),
-        Turn::Held(claim) => (desk.cancel(calls, claim), Answer::Lost),
+        AskTurn::Free(pass) => (pass, Answer::Busy),
+        AskTurn::Held(claim) => (desk.cancel(calls, claim), Answer::Lost),
     }
 }

@@ -20,7 +20,7 @@ type Handle<'a> = PromisedHandle<Result<Worked, AllocError>, WorkOf<'a>>;
 
 /// The workers that were started, in the order of the files: all of them, or those before the refusal.
 #[derive(Drop)]
-struct Started<'a> {
+struct StartedWorkers<'a> {
     handles: Vec<Handle<'a>>,
     refusal: Option<RunFault>,
 }
@@ -80,7 +80,7 @@ fn start_all<'s, 'e, G: Gate>(
     tries: u8,
     rounds: u16,
     gate: &'s G,
-) -> Started<'s>
+) -> StartedWorkers<'s>
     requires len { vec_len passes ≡ length plan.now.scripts }
     requires fresh { AreNew table.now passes.items }
     requires fits { AllFit table.now plan.now }
@@ -93,7 +93,7 @@ fn start_all<'s, 'e, G: Gate>(
 {
     let mut refusal = None;
     let Ok(mut handles) = Vec::with_capacity(alloc, passes.len()) else {
-        return Started {
+        return StartedWorkers {
             handles: Vec::new(alloc),
             refusal: Some(RunFault::NoMemory),
         };
@@ -134,7 +134,7 @@ fn start_all<'s, 'e, G: Gate>(
             unreachable!()
         };
     }
-    Started { handles, refusal }
+    StartedWorkers { handles, refusal }
 }
 
 /// Two empty lists that take this many without growing.
@@ -149,7 +149,7 @@ fn room_for(alloc: Global, count: usize) -> Result<Done, AllocError>
 /// Joins all that was started, and gives the results in order where all went well.
 fn join_all<R: Threads>(
     rt: &R,
-    started: Started<'_>,
+    started: StartedWorkers<'_>,
     done: Done,
     _table: &Shared,
     _plan: &Plan,
@@ -164,7 +164,7 @@ fn join_all<R: Threads>(
     ensures { IfOk result
         (λ d. AllWorked _table.now _tries _plan.now.scripts d.passes.items d.reports.items) }
 {
-    let Started { handles, refusal } = started;
+    let StartedWorkers { handles, refusal } = started;
     let Done {
         mut passes,
         mut reports,

@@ -7,14 +7,14 @@ use crate::command::command;
 use clap::error::ErrorKind;
 use clap::{ArgMatches, Error};
 use grub_convert::{
-    Input, Options, STATUS_SYSTEM, STATUS_USAGE, Target, options_of, serve_events, serve_tasks,
+    Input, ConvertOptions, STATUS_SYSTEM, STATUS_USAGE, Target, options_of, serve_events, serve_tasks,
 };
-use size_report::{OptionFault, Words, serve_size, size_options_of};
+use size_report::{OptionFault, SizeWords, serve_size, size_options_of};
 use std::alloc::{AllocError, Global};
 use std::io;
 use std::io::Write;
 use trace_check::{
-    Wanted, Window, Words as CheckWords, WrongOption, options_of as check_options, serve_check,
+    CheckRequest, Window, CheckWords, WrongOption, options_of as check_options, serve_check,
     window_of,
 };
 
@@ -148,7 +148,7 @@ fn check<
         Ok(window) => window,
         Err(wrong) => return wrong_option(wrong, faults),
     };
-    let wanted = Wanted {
+    let wanted = CheckRequest {
         path: matches.get_str("TRACE").unwrap_or(""),
         table: matches.get_str("table"),
         json,
@@ -205,7 +205,7 @@ fn wrong_option<E: Write>(wrong: WrongOption<'_>, faults: &mut E) -> u8
 fn options_in<'a>(
     alloc: Global,
     matches: &ArgMatches<'a>,
-) -> Result<Option<Options<'a>>, AllocError> {
+) -> Result<Option<ConvertOptions<'a>>, AllocError> {
     let tasks = matches.get_strs("task").unwrap_or(&[]);
     options_of(
         alloc,
@@ -252,7 +252,7 @@ fn size<
     let path = matches.get_str("TRACE").unwrap_or("");
     let tasks = matches.get_strs("task").unwrap_or(&[]);
     let withins = matches.get_strs("within").unwrap_or(&[]);
-    let words = Words {
+    let words = SizeWords {
         tasks,
         withins,
         late: matches.get_one::<u32>("late").unwrap_or(0),

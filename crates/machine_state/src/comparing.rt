@@ -2,30 +2,30 @@
 
 ghost use Rattle.std.specs.Prelude.{◌≡◌, OnOk};
 ghost use Rattle.exact_words.specs.Kinds.{kind_by};
-ghost use Rattle.exact_words.specs.declared.words.Kind.TheVariants.{Timers};
+ghost use Rattle.exact_words.specs.declared.words.QuantityKind.TheVariants.{Timers};
 ghost use Rattle.exact_words.specs.Tallies.{counted_of};
 ghost use Rattle.exact_words.specs.Firsts.{first_with};
 ghost use Rattle.machine_state.specs.Values.{deviation_of, timer_compared, zero_lag_compared};
 
 use crate::actor::Actor;
 use crate::effects::Sort;
-use crate::pending::{Alternative, Reading};
-use crate::runqueue::{Runqueue, ThisBw};
-use crate::state::State;
+use crate::pending::{Alternative, UnexplainedExtra};
+use crate::runqueue::{CpuSums, ThisBw};
+use crate::state::KernelState;
 use crate::values::{compare_extra, compare_sums};
-use exact_words::{Amount, Comparison, Place, Quantity, Rule, Subject, Value, Whose, Why};
+use exact_words::{Amount, Comparison, ProbedLine, Quantity, ExactRule, Subject, ExactValue, Whose, Why};
 use std::alloc::AllocError;
 use trace_words::Sums;
 
-impl State {
+impl KernelState {
     /// Counts a comparison.
     fn compare(
         &mut self,
-        place: Place,
+        place: ProbedLine,
         subject: Subject,
         quantity: Quantity,
-        rules: Value,
-        kernel: Value,
+        rules: ExactValue,
+        kernel: ExactValue,
         is_equal: bool,
         since: Why,
         now: u64,
@@ -54,10 +54,10 @@ impl State {
     /// Counts a comparison of a timer that is armed or not, or of whose it is.
     pub fn compare_timer(
         &mut self,
-        place: Place,
+        place: ProbedLine,
         subject: Subject,
-        rules: Value,
-        kernel: Value,
+        rules: ExactValue,
+        kernel: ExactValue,
         is_equal: bool,
         since: Why,
         is_early: bool,
@@ -83,7 +83,7 @@ impl State {
     /// The 0-lag time of an armed timer.
     pub fn compare_zero_lag(
         &mut self,
-        place: Place,
+        place: ProbedLine,
         actor: &Actor,
         quantity: Quantity,
         rules: i64,
@@ -99,8 +99,8 @@ impl State {
             place,
             Subject::Entity(actor.whose),
             quantity,
-            Value::Signed(rules),
-            Value::Signed(kernel),
+            ExactValue::Signed(rules),
+            ExactValue::Signed(kernel),
             is_equal,
             actor.why,
             place.line,
@@ -109,10 +109,10 @@ impl State {
     }
 
     /// Compares the sums of a line, and takes them; of a record that shows no dequeue they are taken alone.
-    pub fn take_sums(&mut self, place: Place, cpu: u32, sums: Sums) -> Result<(), AllocError> {
+    pub fn take_sums(&mut self, place: ProbedLine, cpu: u32, sums: Sums) -> Result<(), AllocError> {
         if !self.shape.has_dequeues {
             let runqueue = self.runqueue(cpu);
-            return self.keep_runqueue(Runqueue {
+            return self.keep_runqueue(CpuSums {
                 this_bw: ThisBw::Known(sums.this_bw),
                 running_bw: Some(sums.running_bw),
                 extra_bw: Some(sums.extra_bw),
@@ -122,7 +122,7 @@ impl State {
         self.compare_this_and_running(place, cpu, sums)?;
         self.compare_extra_of_line(place, cpu, sums.extra_bw)?;
         let runqueue = self.runqueue(cpu);
-        self.keep_runqueue(Runqueue {
+        self.keep_runqueue(CpuSums {
             this_bw: ThisBw::Known(sums.this_bw),
             running_bw: Some(sums.running_bw),
             ..runqueue
@@ -131,7 +131,7 @@ impl State {
 
     fn compare_this_and_running(
         &mut self,
-        place: Place,
+        place: ProbedLine,
         cpu: u32,
         sums: Sums,
     ) -> Result<(), AllocError> {
@@ -152,13 +152,13 @@ impl State {
 
     fn compare_extra_of_line(
         &mut self,
-        place: Place,
+        place: ProbedLine,
         cpu: u32,
         extra_bw: u64,
     ) -> Result<(), AllocError> {
         let before = self.runqueue(cpu);
         match before.extra_bw {
-            None => self.keep_runqueue(Runqueue {
+            None => self.keep_runqueue(CpuSums {
                 extra_bw: Some(extra_bw),
                 ..before
             }),
@@ -179,7 +179,7 @@ impl State {
                         false,
                     )
                 } else {
-                    self.readings.push(Reading {
+                    self.readings.push(UnexplainedExtra {
                         place,
                         cpu,
                         extra_bw,
@@ -191,7 +191,7 @@ impl State {
     }
 
     /// Readings of this CPU that nothing explained are compared, and taken.
-    pub fn close_readings(&mut self, place: Place) -> Result<(), AllocError> {
+    pub fn close_readings(&mut self, place: ProbedLine) -> Result<(), AllocError> {
         for _ in 0..self.readings.len() {
             match reading_place(self.readings.as_slice(), place.cpu) {
                 Some(index) => {
@@ -217,7 +217,7 @@ impl State {
         Ok(())
     }
 
-    fn close_reading(&mut self, reading: Reading, now: u64) -> Result<(), AllocError> {
+    fn close_reading(&mut self, reading: UnexplainedExtra, now: u64) -> Result<(), AllocError> {
         let runqueue = self.runqueue(reading.cpu);
         if let Some(known) = runqueue.extra_bw {
             compare_extra(
@@ -230,7 +230,7 @@ impl State {
                 true,
             )?;
         }
-        self.keep_runqueue(Runqueue {
+        self.keep_runqueue(CpuSums {
             extra_bw: Some(reading.extra_bw),
             ..runqueue
         })
@@ -245,7 +245,7 @@ impl State {
         let whose = actor.whose;
         self.alternatives.retain(|one| one.whose != whose);
         if is_shown && actor.entity.budget.runtime != runtime {
-            self.sheet.note(Rule::ChargeReadLater);
+            self.sheet.note(ExactRule::ChargeReadLater);
             let mut taken = actor;
             taken.entity.budget.runtime = runtime;
             taken
@@ -255,7 +255,7 @@ impl State {
     }
 }
 
-fn reading_place(readings: &[Reading], by: u32) -> Option<usize> {
+fn reading_place(readings: &[UnexplainedExtra], by: u32) -> Option<usize> {
     for (index, reading) in readings.iter().enumerate() {
         if reading.place.cpu == by {
             return Some(index);

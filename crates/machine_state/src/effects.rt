@@ -1,12 +1,12 @@
 //! Effects of functions whose line comes before their lock: when they become certain, and which of them explain a value.
 
 use crate::actor::Actor;
-use crate::pending::{Effect, Later, Reading};
+use crate::pending::{Effect, Later, UnexplainedExtra};
 use crate::runqueue::{with_change, with_extra};
-use crate::state::State;
+use crate::state::KernelState;
 use crate::values::compare_extra;
 use deadline_events::{Delayed, after_delayed, delayed_change};
-use exact_words::{Amount, Picked, Place, Rule, Whose, Why, pick};
+use exact_words::{Amount, PickedEffects, ProbedLine, ExactRule, Whose, Why, pick};
 use std::alloc::AllocError;
 
 /// How old a later effect is, in nanoseconds, that is certain all the same.
@@ -19,9 +19,9 @@ pub(crate) enum Sort {
     Sums,
 }
 
-impl State {
+impl KernelState {
     /// A later effect becomes certain.
-    pub(crate) fn take_effect(&mut self, place: Place, later: Later) -> Result<(), AllocError> {
+    pub(crate) fn take_effect(&mut self, place: ProbedLine, later: Later) -> Result<(), AllocError> {
         let runqueue = self.runqueue(later.cpu);
         match later.effect {
             Effect::Extra(by) => self.keep_runqueue(with_extra(
@@ -46,7 +46,7 @@ impl State {
     }
 
     /// Functions of this CPU are done, and old ones anywhere: their effects are certain.
-    pub fn take_due_effects(&mut self, place: Place) -> Result<(), AllocError> {
+    pub fn take_due_effects(&mut self, place: ProbedLine) -> Result<(), AllocError> {
         for _ in 0..self.later.len() {
             match due_place(self.later.as_slice(), place) {
                 Some(index) => {
@@ -64,7 +64,7 @@ impl State {
     /// Effects of an entity's own functions that a line of it shows to be done.
     pub fn settle(
         &mut self,
-        place: Place,
+        place: ProbedLine,
         whose: Whose,
         is_zero_lag_done: bool,
     ) -> Result<(), AllocError> {
@@ -84,7 +84,7 @@ impl State {
 
     pub fn delay(
         &mut self,
-        place: Place,
+        place: ProbedLine,
         actor: &Actor,
         delayed: Delayed,
     ) -> Result<(), AllocError> {
@@ -135,7 +135,7 @@ impl State {
     /// Takes the smallest set of pending effects on a runqueue that adds up to what is wanted. False where none does.
     pub(crate) fn explain(
         &mut self,
-        place: Place,
+        place: ProbedLine,
         cpu: u32,
         sort: Sort,
         wanted: Amount,
@@ -159,10 +159,10 @@ impl State {
     /// Takes picked effects; their places are among those of the runqueue, in the order of lines.
     fn take_picked(
         &mut self,
-        place: Place,
+        place: ProbedLine,
         cpu: u32,
         sort: Sort,
-        picked: Picked,
+        picked: PickedEffects,
     ) -> Result<(), AllocError> {
         let mut index = 0usize;
         let mut rank = 0usize;
@@ -173,7 +173,7 @@ impl State {
                 if is_candidate && picked.contains(rank) {
                     let taken = self.later.remove(index);
                     self.take_effect(place, taken)?;
-                    self.sheet.note(Rule::BeforeItsLock);
+                    self.sheet.note(ExactRule::BeforeItsLock);
                 } else {
                     index = index.wrapping_add(1);
                 }
@@ -186,7 +186,7 @@ impl State {
     }
 
     /// Readings of other CPUs that a new effect explains.
-    pub(crate) fn explain_readings(&mut self, place: Place) -> Result<(), AllocError> {
+    pub(crate) fn explain_readings(&mut self, place: ProbedLine) -> Result<(), AllocError> {
         let mut index = 0usize;
         for _ in 0..self.readings.len() {
             if index < self.readings.len() {
@@ -205,7 +205,7 @@ impl State {
                         place.line,
                         false,
                     )?;
-                    self.sheet.note(Rule::ExtraReadLater);
+                    self.sheet.note(ExactRule::ExtraReadLater);
                 } else {
                     index = index.wrapping_add(1);
                 }
@@ -214,7 +214,7 @@ impl State {
         Ok(())
     }
 
-    fn explains(&mut self, place: Place, reading: Reading) -> Result<bool, AllocError> {
+    fn explains(&mut self, place: ProbedLine, reading: UnexplainedExtra) -> Result<bool, AllocError> {
         match self.runqueue(reading.cpu).extra_bw {
             Some(known) => {
                 let wanted = Amount {
@@ -235,7 +235,7 @@ fn is_of_sort(later: &Later, sort: Sort) -> bool {
     }
 }
 
-fn due_place(later: &[Later], place: Place) -> Option<usize> {
+fn due_place(later: &[Later], place: ProbedLine) -> Option<usize> {
     for (index, one) in later.iter().enumerate() {
         if one.by == place.cpu || place.at.saturating_sub(one.at) > LONG {
             return Some(index);

@@ -17,8 +17,8 @@ mod values;
 
 pub use actor::{Actor, server_parameters};
 pub use lines::{compare_dequeued, compare_enqueued, compare_left, compare_updated};
-pub use pending::{Alternative, Effect, Later, Reading};
-pub use runqueue::{Runqueue, ThisBw, forgotten};
+pub use pending::{Alternative, Effect, Later, UnexplainedExtra};
+pub use runqueue::{CpuSums, ThisBw, forgotten};
 pub use shape::{Runs, Shape};
-pub use state::{State, why};
+pub use state::{KernelState, why};
 pub use values::compare_contending;

@@ -7,14 +7,14 @@ ghost use Rattle.machine_state.specs.Lines.{counts_after, first_after, where_who
 
 use crate::actor::Actor;
 use crate::values::{compare_budget, compare_contending, compare_flags, compare_parameters};
-use exact_words::{Place, Sheet};
+use exact_words::{ProbedLine, Findings};
 use std::alloc::AllocError;
 use trace_words::{Budget, Dequeued, Enqueued, LeftClass};
 
 /// Compares what only a record with dequeues tells.
 fn compare_whole(
-    sheet: &mut Sheet,
-    place: Place,
+    sheet: &mut Findings,
+    place: ProbedLine,
     actor: Actor,
     line: Enqueued,
     is_whole: bool,
@@ -39,8 +39,8 @@ fn compare_whole(
 
 /// Compares all that an enqueue shows of its entity; of a record that is not whole, since it shows no dequeue, budget and flags alone.
 pub fn compare_enqueued(
-    sheet: &mut Sheet,
-    place: Place,
+    sheet: &mut Findings,
+    place: ProbedLine,
     actor: Actor,
     line: Enqueued,
     is_whole: bool,
@@ -58,8 +58,8 @@ pub fn compare_enqueued(
 
 /// Compares all that a charge shows of its entity.
 pub fn compare_updated(
-    sheet: &mut Sheet,
-    place: Place,
+    sheet: &mut Findings,
+    place: ProbedLine,
     actor: Actor,
     budget: Budget,
 ) -> Result<(), AllocError>
@@ -74,8 +74,8 @@ pub fn compare_updated(
 
 /// Compares all that a dequeue shows of its entity.
 pub fn compare_dequeued(
-    sheet: &mut Sheet,
-    place: Place,
+    sheet: &mut Findings,
+    place: ProbedLine,
     actor: Actor,
     line: Dequeued,
 ) -> Result<(), AllocError>
@@ -92,8 +92,8 @@ pub fn compare_dequeued(
 
 /// Compares all that a task shows as it leaves the class.
 pub fn compare_left(
-    sheet: &mut Sheet,
-    place: Place,
+    sheet: &mut Findings,
+    place: ProbedLine,
     actor: Actor,
     line: LeftClass,
 ) -> Result<(), AllocError>

@@ -1,7 +1,7 @@
 //! What is not certain yet.
 
 use deadline_events::Delayed;
-use exact_words::{Place, Whose};
+use exact_words::{ProbedLine, Whose};
 
 /// Whose runqueue an effect is on, and what it does.
 #[derive(Clone, Copy)]
@@ -33,8 +33,8 @@ pub struct Later {
 
 /// An `extra_bw` that no value explains yet.
 #[derive(Clone, Copy)]
-pub struct Reading {
-    pub place: Place,
+pub struct UnexplainedExtra {
+    pub place: ProbedLine,
     pub cpu: u32,
     pub extra_bw: u64,
 }

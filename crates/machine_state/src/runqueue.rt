@@ -3,7 +3,7 @@
 ghost use Rattle.std.specs.Prelude.{◌≡◌};
 ghost use Rattle.machine_state.specs.Runqueues.{sum_moved, this_moved, with_change_of, with_extra_of, forgotten_of};
 
-use deadline_rules::Change;
+use deadline_rules::SumsChange;
 use exact_words::Why;
 
 /// What is known of `this_bw`.
@@ -18,7 +18,7 @@ pub enum ThisBw {
 
 /// The sums of a CPU's runqueue.
 #[derive(Clone, Copy)]
-pub struct Runqueue {
+pub struct CpuSums {
     pub cpu: u32,
     pub is_in_domain: bool,
     pub this_bw: ThisBw,
@@ -50,10 +50,10 @@ fn moved_this(sum: ThisBw, by: u64) -> ThisBw
 }
 
 /// The runqueue after a change of `this_bw` and `running_bw`.
-pub fn with_change(runqueue: Runqueue, change: Change) -> Runqueue
+pub fn with_change(runqueue: CpuSums, change: SumsChange) -> CpuSums
     ensures { result ≡ with_change_of runqueue change }
 {
-    Runqueue {
+    CpuSums {
         this_bw: moved_this(runqueue.this_bw, change.this_bw),
         running_bw: moved(runqueue.running_bw, change.running_bw),
         ..runqueue
@@ -61,10 +61,10 @@ pub fn with_change(runqueue: Runqueue, change: Change) -> Runqueue
 }
 
 /// The runqueue after a change of `extra_bw`.
-pub fn with_extra(runqueue: Runqueue, by: u64, why: Why) -> Runqueue
+pub fn with_extra(runqueue: CpuSums, by: u64, why: Why) -> CpuSums
     ensures { result ≡ with_extra_of runqueue by why }
 {
-    Runqueue {
+    CpuSums {
         extra_bw: moved(runqueue.extra_bw, by),
         why_extra: if runqueue.extra_bw.is_some() {
             why
@@ -76,10 +76,10 @@ pub fn with_extra(runqueue: Runqueue, by: u64, why: Why) -> Runqueue
 }
 
 /// The runqueue with `this_bw` and `running_bw` unknown.
-pub fn forgotten(runqueue: Runqueue) -> Runqueue
+pub fn forgotten(runqueue: CpuSums) -> CpuSums
     ensures { result ≡ forgotten_of runqueue }
 {
-    Runqueue {
+    CpuSums {
         this_bw: ThisBw::Unknown,
         running_bw: None,
         ..runqueue

@@ -5,10 +5,10 @@ ghost use Rattle.std.specs.List.{flat_map};
 ghost use Rattle.machine_state.specs.inside.Spread.{freed_share, taken_share, shares_of, on_runqueue, on_each};
 
 use crate::pending::{Effect, Later};
-use crate::runqueue::Runqueue;
-use crate::state::State;
-use deadline_rules::{Change, share};
-use exact_words::Place;
+use crate::runqueue::CpuSums;
+use crate::state::KernelState;
+use deadline_rules::{SumsChange, share};
+use exact_words::ProbedLine;
 use std::alloc::AllocError;
 
 /// What a change adds to `extra_bw` of each CPU of a root domain, modulo 2^64: first what is freed, then what is taken.
@@ -37,7 +37,7 @@ fn share_taken(taken: Option<u64>, cpus: u64) -> Option<u64>
 }
 
 /// The shares of a change in a root domain of so many CPUs. Each call of the kernel divides by itself.
-pub fn shares_in(change: Change, cpus: u64) -> Shares
+pub fn shares_in(change: SumsChange, cpus: u64) -> Shares
     ensures { result ≡ shares_of change cpus }
 {
     Shares {
@@ -49,8 +49,8 @@ pub fn shares_in(change: Change, cpus: u64) -> Shares
 /// Appends an effect on `extra_bw` of a runqueue, where it is of the root domain.
 fn push_on(
     later: &mut Vec<Later>,
-    runqueue: Runqueue,
-    place: Place,
+    runqueue: CpuSums,
+    place: ProbedLine,
     by: u64,
 ) -> Result<(), AllocError>
     ensures { OnOk result (later.new.items ≡ later.old.items ++ on_runqueue place by runqueue) }
@@ -71,8 +71,8 @@ fn push_on(
 /// Appends an effect on `extra_bw` of each runqueue of the root domain, and of no other.
 pub fn push_on_each(
     later: &mut Vec<Later>,
-    runqueues: &[Runqueue],
-    place: Place,
+    runqueues: &[CpuSums],
+    place: ProbedLine,
     by: u64,
 ) -> Result<(), AllocError>
     ensures { OnOk result (later.new.items ≡ later.old.items ++ on_each place by runqueues.now) }
@@ -83,14 +83,14 @@ pub fn push_on_each(
     Ok(())
 }
 
-impl State {
+impl KernelState {
     /// What a change on a CPU gives back to its root domain and takes from it is pending on each runqueue of the domain. Outside the
     /// tasks' domain nothing is known.
     pub fn change_extra(
         &mut self,
-        place: Place,
+        place: ProbedLine,
         cpu: u32,
-        change: Change,
+        change: SumsChange,
     ) -> Result<(), AllocError> {
         if change.freed.is_none() && change.taken.is_none() {
             return Ok(());
@@ -105,7 +105,7 @@ impl State {
     }
 
     /// A share, if there is one, that each CPU of the root domain has later; it may explain what was read already.
-    fn spread(&mut self, place: Place, share: Option<u64>) -> Result<(), AllocError> {
+    fn spread(&mut self, place: ProbedLine, share: Option<u64>) -> Result<(), AllocError> {
         let Some(by) = share else {
             return Ok(());
         };

@@ -1,18 +1,18 @@
 //! What the play of a record holds: entities, runqueues, what is pending, and what was compared.
 
 use crate::actor::{Actor, new_server, new_task};
-use crate::pending::{Alternative, Later, Reading};
-use crate::runqueue::{Runqueue, ThisBw, forgotten, with_change};
+use crate::pending::{Alternative, Later, UnexplainedExtra};
+use crate::runqueue::{CpuSums, ThisBw, forgotten, with_change};
 use crate::shape::Shape;
-use deadline_rules::Change;
+use deadline_rules::SumsChange;
 use exact_laws::Laws;
-use exact_words::{Amount, FIRST_SEEN, Place, Rule, Sheet, Whose, Why};
+use exact_words::{Amount, FIRST_SEEN, ProbedLine, ExactRule, Findings, Whose, Why};
 use std::alloc::{AllocError, Global};
 use std::collections::HashMap;
 
 /// The entities and runqueues of a kernel as the rules have them, the effects that are pending, and what was compared.
 #[derive(Drop)]
-pub struct State {
+pub struct KernelState {
     pub shape: Shape,
 
     /// The CPUs of the tasks' root domain.
@@ -21,20 +21,20 @@ pub struct State {
     /// Of a pid that came again: how many tasks of it have ended before.
     lives: HashMap<u64, u32>,
     actors: HashMap<Whose, Actor>,
-    pub(crate) runqueues: Vec<Runqueue>,
+    pub(crate) runqueues: Vec<CpuSums>,
     pub later: Vec<Later>,
-    pub(crate) readings: Vec<Reading>,
+    pub(crate) readings: Vec<UnexplainedExtra>,
     pub alternatives: Vec<Alternative>,
     pub(crate) amounts: Vec<Amount>,
     pub laws: Laws,
-    pub sheet: Sheet,
+    pub sheet: Findings,
 }
 
-impl State {
+impl KernelState {
     /// Nothing is known of a record of this shape, whose tasks are of a root domain with these CPUs. With `keeps_rows` each
     /// comparison is kept in the sheet.
-    pub fn new(alloc: Global, shape: Shape, domain: Vec<u32>, keeps_rows: bool) -> State {
-        State {
+    pub fn new(alloc: Global, shape: Shape, domain: Vec<u32>, keeps_rows: bool) -> KernelState {
+        KernelState {
             shape,
             domain,
             lives: HashMap::new(alloc),
@@ -45,7 +45,7 @@ impl State {
             alternatives: Vec::new(alloc),
             amounts: Vec::new(alloc),
             laws: Laws::new(alloc),
-            sheet: Sheet::new(alloc, keeps_rows),
+            sheet: Findings::new(alloc, keeps_rows),
         }
     }
 
@@ -91,7 +91,7 @@ impl State {
     }
 
     /// The runqueue of this CPU.
-    pub fn runqueue(&self, cpu: u32) -> Runqueue {
+    pub fn runqueue(&self, cpu: u32) -> CpuSums {
         match runqueue_place(self.runqueues.as_slice(), cpu) {
             Some(place) => match self.runqueues.get(place) {
                 Some(runqueue) => *runqueue,
@@ -101,8 +101,8 @@ impl State {
         }
     }
 
-    fn new_runqueue(&self, cpu: u32) -> Runqueue {
-        Runqueue {
+    fn new_runqueue(&self, cpu: u32) -> CpuSums {
+        CpuSums {
             cpu,
             is_in_domain: self.is_in_domain(cpu),
             this_bw: ThisBw::FromStart(0),
@@ -114,7 +114,7 @@ impl State {
     }
 
     /// Keeps what is known of a runqueue.
-    pub fn keep_runqueue(&mut self, runqueue: Runqueue) -> Result<(), AllocError> {
+    pub fn keep_runqueue(&mut self, runqueue: CpuSums) -> Result<(), AllocError> {
         match runqueue_place(self.runqueues.as_slice(), runqueue.cpu) {
             Some(place) => {
                 if let Some(kept) = self.runqueues.get_mut(place) {
@@ -140,15 +140,15 @@ impl State {
     }
 
     /// What changed a runqueue's sums.
-    pub fn change(&mut self, cpu: u32, change: Change) -> Result<(), AllocError> {
+    pub fn change(&mut self, cpu: u32, change: SumsChange) -> Result<(), AllocError> {
         let runqueue = self.runqueue(cpu);
         self.keep_runqueue(with_change(runqueue, change))
     }
 
     /// Notes a rule that changed a runqueue.
-    pub fn note_runqueue(&mut self, place: Place, cpu: u32, rule: Rule) -> Result<(), AllocError> {
+    pub fn note_runqueue(&mut self, place: ProbedLine, cpu: u32, rule: ExactRule) -> Result<(), AllocError> {
         let runqueue = self.runqueue(cpu);
-        self.keep_runqueue(Runqueue {
+        self.keep_runqueue(CpuSums {
             why: Why {
                 line: place.line,
                 event: place.event,
@@ -161,10 +161,10 @@ impl State {
     /// Keeps an entity that a rule changed, and its runqueue.
     pub fn keep_noted(
         &mut self,
-        place: Place,
+        place: ProbedLine,
         actor: Actor,
         cpu: u32,
-        rule: Rule,
+        rule: ExactRule,
     ) -> Result<(), AllocError> {
         self.sheet.note(rule);
         self.note_runqueue(place, cpu, rule)?;
@@ -184,7 +184,7 @@ fn is_among(cpus: &[u32], cpu: u32) -> bool {
     false
 }
 
-fn runqueue_place(runqueues: &[Runqueue], cpu: u32) -> Option<usize> {
+fn runqueue_place(runqueues: &[CpuSums], cpu: u32) -> Option<usize> {
     for (place, runqueue) in runqueues.iter().enumerate() {
         if runqueue.cpu == cpu {
             return Some(place);
@@ -194,7 +194,7 @@ fn runqueue_place(runqueues: &[Runqueue], cpu: u32) -> Option<usize> {
 }
 
 /// What a line of this event says changed a value.
-pub fn why(place: Place, rule: Rule) -> Why {
+pub fn why(place: ProbedLine, rule: ExactRule) -> Why {
     Why {
         line: place.line,
         event: place.event,

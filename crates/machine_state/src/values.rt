@@ -5,8 +5,8 @@ ghost use Rattle.exact_words.specs.Firsts.{first_from};
 ghost use Rattle.machine_state.specs.Values.{counts_from, same_flag, same_signed, unsigned_of, signed_of, flag_of, sum_of, budget_compared, flags_compared, contending_compared, parameters_compared, this_compared, running_compared, extra_compared};
 
 use crate::actor::Actor;
-use crate::runqueue::{Runqueue, ThisBw};
-use exact_words::{Comparison, Place, Quantity, Sheet, Subject, Value, Why};
+use crate::runqueue::{CpuSums, ThisBw};
+use exact_words::{Comparison, ProbedLine, Quantity, Findings, Subject, ExactValue, Why};
 use std::alloc::AllocError;
 use trace_words::{Budget, Parameters, Sums};
 
@@ -23,8 +23,8 @@ fn is_same_signed(rules: i64, kernel: i64) -> bool
 }
 
 fn add_unsigned(
-    sheet: &mut Sheet,
-    place: Place,
+    sheet: &mut Findings,
+    place: ProbedLine,
     actor: Actor,
     quantity: Quantity,
     rules: u64,
@@ -39,16 +39,16 @@ fn add_unsigned(
         place,
         subject: Subject::Entity(actor.whose),
         quantity,
-        rules: Value::Unsigned(rules),
-        kernel: Value::Unsigned(kernel),
+        rules: ExactValue::Unsigned(rules),
+        kernel: ExactValue::Unsigned(kernel),
         is_equal: rules == kernel,
     };
     sheet.add(comparison, actor.why, place.line, false)
 }
 
 fn add_signed(
-    sheet: &mut Sheet,
-    place: Place,
+    sheet: &mut Findings,
+    place: ProbedLine,
     actor: Actor,
     quantity: Quantity,
     rules: i64,
@@ -63,16 +63,16 @@ fn add_signed(
         place,
         subject: Subject::Entity(actor.whose),
         quantity,
-        rules: Value::Signed(rules),
-        kernel: Value::Signed(kernel),
+        rules: ExactValue::Signed(rules),
+        kernel: ExactValue::Signed(kernel),
         is_equal: is_same_signed(rules, kernel),
     };
     sheet.add(comparison, actor.why, place.line, false)
 }
 
 fn add_flag(
-    sheet: &mut Sheet,
-    place: Place,
+    sheet: &mut Findings,
+    place: ProbedLine,
     actor: Actor,
     quantity: Quantity,
     rules: bool,
@@ -87,16 +87,16 @@ fn add_flag(
         place,
         subject: Subject::Entity(actor.whose),
         quantity,
-        rules: Value::Flag(rules),
-        kernel: Value::Flag(kernel),
+        rules: ExactValue::Flag(rules),
+        kernel: ExactValue::Flag(kernel),
         is_equal: is_same_flag(rules, kernel),
     };
     sheet.add(comparison, actor.why, place.line, false)
 }
 
 fn add_sum(
-    sheet: &mut Sheet,
-    place: Place,
+    sheet: &mut Findings,
+    place: ProbedLine,
     cpu: u32,
     quantity: Quantity,
     rules: u64,
@@ -112,8 +112,8 @@ fn add_sum(
         place,
         subject: Subject::Runqueue(cpu),
         quantity,
-        rules: Value::Unsigned(rules),
-        kernel: Value::Unsigned(kernel),
+        rules: ExactValue::Unsigned(rules),
+        kernel: ExactValue::Unsigned(kernel),
         is_equal: rules == kernel,
     };
     sheet.add(comparison, since, place.line, false)
@@ -121,8 +121,8 @@ fn add_sum(
 
 /// Compares budget and deadline where they are known.
 pub fn compare_budget(
-    sheet: &mut Sheet,
-    place: Place,
+    sheet: &mut Findings,
+    place: ProbedLine,
     actor: Actor,
     runtime: i64,
     deadline: u64,
@@ -156,8 +156,8 @@ pub fn compare_budget(
 
 /// Compares whether it is throttled and whether it yielded, of an entity of which something is known.
 pub fn compare_flags(
-    sheet: &mut Sheet,
-    place: Place,
+    sheet: &mut Findings,
+    place: ProbedLine,
     actor: Actor,
     budget: Budget,
 ) -> Result<(), AllocError>
@@ -190,8 +190,8 @@ pub fn compare_flags(
 
 /// Compares whether it contends, where that is known.
 pub fn compare_contending(
-    sheet: &mut Sheet,
-    place: Place,
+    sheet: &mut Findings,
+    place: ProbedLine,
     actor: Actor,
     is_non_contending: bool,
 ) -> Result<(), AllocError>
@@ -215,8 +215,8 @@ pub fn compare_contending(
 
 /// Compares the reservation where it is known.
 pub fn compare_parameters(
-    sheet: &mut Sheet,
-    place: Place,
+    sheet: &mut Findings,
+    place: ProbedLine,
     actor: Actor,
     shown: Parameters,
 ) -> Result<(), AllocError>
@@ -264,9 +264,9 @@ pub fn compare_parameters(
 }
 
 fn compare_this(
-    sheet: &mut Sheet,
-    place: Place,
-    runqueue: Runqueue,
+    sheet: &mut Findings,
+    place: ProbedLine,
+    runqueue: CpuSums,
     this_bw: u64,
 ) -> Result<(), AllocError>
     ensures counts { OnOk result (sheet.new.counts
@@ -289,9 +289,9 @@ fn compare_this(
 }
 
 fn compare_running(
-    sheet: &mut Sheet,
-    place: Place,
-    runqueue: Runqueue,
+    sheet: &mut Findings,
+    place: ProbedLine,
+    runqueue: CpuSums,
     running_bw: u64,
 ) -> Result<(), AllocError>
     ensures counts { OnOk result (sheet.new.counts
@@ -317,9 +317,9 @@ fn compare_running(
 
 /// Compares `this_bw` and `running_bw` where they are known: one that is known only from the start of the record is a law's.
 pub fn compare_sums(
-    sheet: &mut Sheet,
-    place: Place,
-    runqueue: Runqueue,
+    sheet: &mut Findings,
+    place: ProbedLine,
+    runqueue: CpuSums,
     sums: Sums,
 ) -> Result<(), AllocError>
     ensures counts { OnOk result (sheet.new.counts
@@ -337,9 +337,9 @@ pub fn compare_sums(
 
 /// Compares `extra_bw`: of a line that is played now, or of an earlier one that nothing explained (`is_early`) while the line `now` is.
 pub fn compare_extra(
-    sheet: &mut Sheet,
-    place: Place,
-    runqueue: Runqueue,
+    sheet: &mut Findings,
+    place: ProbedLine,
+    runqueue: CpuSums,
     rules: u64,
     kernel: u64,
     now: u64,
@@ -354,8 +354,8 @@ pub fn compare_extra(
         place,
         subject: Subject::Runqueue(runqueue.cpu),
         quantity: Quantity::ExtraBw,
-        rules: Value::Unsigned(rules),
-        kernel: Value::Unsigned(kernel),
+        rules: ExactValue::Unsigned(rules),
+        kernel: ExactValue::Unsigned(kernel),
         is_equal: rules == kernel,
     };
     sheet.add(comparison, runqueue.why_extra, now, is_early)

@@ -4,20 +4,20 @@ ghost use Rattle.std.specs.Prelude.{◌≡◌};
 ghost use Rattle.exact_words.specs.Kinds.{kind_by};
 ghost use Rattle.probe_verdict.specs.inside.Told.{difference_of, is_law};
 
-use crate::heading::TaskName;
+use crate::heading::NamedTask;
 use crate::names::{event_name, function_of, quantity_name, rule_function, rule_name};
 use crate::text::total_of;
 use crate::writing::{put, put_count, put_seconds, put_subject, put_value};
 use exact_laws::{Broken, Law};
-use exact_words::{Comparison, Counts, Deviation, Event, Kind, Place, Rule, Value, Why, kind_of};
+use exact_words::{Comparison, KindCounts, Deviation, ProbedFunction, QuantityKind, ProbedLine, ExactRule, ExactValue, Why, kind_of};
 use std::alloc::{AllocError, Global};
 
 /// Appends whether each value is the kernel's and each law holds, or the first that is not, and does not.
 pub fn put_answer(
     alloc: Global,
     out: &mut Vec<u8>,
-    names: &[TaskName],
-    counts: &Counts,
+    names: &[NamedTask],
+    counts: &KindCounts,
     first: Option<Deviation>,
     broken: Option<Broken>,
 ) -> Result<(), AllocError> {
@@ -35,7 +35,7 @@ fn is_of_law(first: Deviation) -> bool
     ensures { result ≡ is_law (kind_by first.comparison.quantity) }
 {
     match kind_of(first.comparison.quantity) {
-        Kind::Laws => true,
+        QuantityKind::Laws => true,
         _ => false,
     }
 }
@@ -79,7 +79,7 @@ fn put_agreement(out: &mut Vec<u8>, equal: u64) -> Result<(), AllocError> {
 fn put_differs(
     alloc: Global,
     out: &mut Vec<u8>,
-    names: &[TaskName],
+    names: &[NamedTask],
     differ: u64,
     first: Deviation,
 ) -> Result<(), AllocError> {
@@ -90,7 +90,7 @@ fn put_differs(
     put_since(alloc, out, first.since, first.comparison.place.event)
 }
 
-fn put_place(alloc: Global, out: &mut Vec<u8>, place: Place) -> Result<(), AllocError> {
+fn put_place(alloc: Global, out: &mut Vec<u8>, place: ProbedLine) -> Result<(), AllocError> {
     let line = place.line;
     let text = format!(in alloc; " of these values, first at line {line}, ")?;
     put(out, text.as_str())?;
@@ -98,7 +98,7 @@ fn put_place(alloc: Global, out: &mut Vec<u8>, place: Place) -> Result<(), Alloc
     put_event(alloc, out, place.event, place.cpu)
 }
 
-fn put_event(alloc: Global, out: &mut Vec<u8>, event: Event, cpu: u32) -> Result<(), AllocError> {
+fn put_event(alloc: Global, out: &mut Vec<u8>, event: ProbedFunction, cpu: u32) -> Result<(), AllocError> {
     let (name, function) = (event_name(event), function_of(event));
     let text = format!(in alloc; ", {name} ({function}) on CPU {cpu}\n  ")?;
     put(out, text.as_str())
@@ -108,7 +108,7 @@ fn put_comparison(
     alloc: Global,
     out: &mut Vec<u8>,
     row: &Comparison,
-    names: &[TaskName],
+    names: &[NamedTask],
 ) -> Result<(), AllocError> {
     put(out, quantity_name(row.quantity))?;
     put(out, " of ")?;
@@ -120,7 +120,7 @@ fn put_values(
     alloc: Global,
     out: &mut Vec<u8>,
     row: &Comparison,
-    names: &[TaskName],
+    names: &[NamedTask],
 ) -> Result<(), AllocError> {
     put(out, ": ")?;
     put_value(alloc, out, row.rules, names)?;
@@ -130,14 +130,14 @@ fn put_values(
 }
 
 /// By how much the kernel's number is above the rules', if both are numbers.
-fn difference(rules: Value, kernel: Value) -> Option<i128>
+fn difference(rules: ExactValue, kernel: ExactValue) -> Option<i128>
     ensures { result ≡ difference_of rules kernel }
 {
     match (rules, kernel) {
-        (Value::Unsigned(rules), Value::Unsigned(kernel)) => {
+        (ExactValue::Unsigned(rules), ExactValue::Unsigned(kernel)) => {
             Some(i128::from(kernel) - i128::from(rules))
         }
-        (Value::Signed(rules), Value::Signed(kernel)) => {
+        (ExactValue::Signed(rules), ExactValue::Signed(kernel)) => {
             Some(i128::from(kernel) - i128::from(rules))
         }
         _ => None,
@@ -159,7 +159,7 @@ fn put_difference(
 }
 
 /// Appends what changed the value last by the rules, and the kernel's functions to look at.
-fn put_since(alloc: Global, out: &mut Vec<u8>, since: Why, event: Event) -> Result<(), AllocError> {
+fn put_since(alloc: Global, out: &mut Vec<u8>, since: Why, event: ProbedFunction) -> Result<(), AllocError> {
     match since.rule {
         None => put(out, "  no rule has changed it since it was first seen\n"),
         Some(rule) => put_rule(alloc, out, since, rule, event),
@@ -170,8 +170,8 @@ fn put_rule(
     alloc: Global,
     out: &mut Vec<u8>,
     since: Why,
-    rule: Rule,
-    event: Event,
+    rule: ExactRule,
+    event: ProbedFunction,
 ) -> Result<(), AllocError> {
     let line = since.line;
     let (at, name) = (event_name(since.event), rule_name(rule));

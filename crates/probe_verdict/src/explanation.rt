@@ -6,7 +6,7 @@ ghost use Rattle.probe_verdict.specs.Explained.{is_explained, is_guess_of};
 use crate::changes::change_name;
 use crate::text::total_of;
 use crate::writing::{put, put_count};
-use exact_words::Counts;
+use exact_words::KindCounts;
 use rule_changes::RuleChange;
 use std::alloc::{AllocError, Global};
 
@@ -42,7 +42,7 @@ pub fn put_explanation(
     alloc: Global,
     out: &mut Vec<u8>,
     agrees: bool,
-    counts: &Counts,
+    counts: &KindCounts,
     trials: &[Trial],
 ) -> Result<(), AllocError> {
     let is_explained = put_explaining(out, agrees, trials)?;

@@ -4,7 +4,7 @@ use trace_words::Kernel;
 
 /// A task, as a record names it.
 #[derive(Drop)]
-pub struct TaskName {
+pub struct NamedTask {
     pub pid: u64,
 
     /// Its comm at the first line that shows it.
@@ -13,7 +13,7 @@ pub struct TaskName {
 
 /// How many lines the kernel dropped while the record was made.
 #[derive(Clone, Copy)]
-pub struct Lost {
+pub struct DroppedLines {
     /// Of the trace's buffer.
     pub lines: u64,
 
@@ -23,14 +23,14 @@ pub struct Lost {
 
 /// What a verdict says of a record besides its values.
 #[derive(Clone, Copy)]
-pub struct Heading<'a> {
+pub struct ProbeHeading<'a> {
     /// The name of the record.
     pub trace: &'a [u8],
     pub kernel: Option<Kernel>,
 
     /// The CPUs of the root domain.
     pub domain: &'a [u32],
-    pub tasks: &'a [TaskName],
+    pub tasks: &'a [NamedTask],
 
     /// How many lines of probes it has, and the moments of the first and the last one, in nanoseconds.
     pub lines: u64,
@@ -38,7 +38,7 @@ pub struct Heading<'a> {
     pub to: u64,
 
     /// None where no note tells it.
-    pub lost: Option<Lost>,
+    pub lost: Option<DroppedLines>,
 
     /// Whether the sums were taken from the lines, since no line shows a dequeue.
     pub takes_sums: bool,

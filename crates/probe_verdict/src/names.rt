@@ -1,72 +1,72 @@
 //! Words for what is compared, and the kernel's functions behind them.
 
-use exact_words::{Event, Kind, Quantity, Rule};
+use exact_words::{ProbedFunction, QuantityKind, Quantity, ExactRule};
 
 /// The name of a line's event.
-pub fn event_name(event: Event) -> &'static str {
+pub fn event_name(event: ProbedFunction) -> &'static str {
     match event {
-        Event::Enqueue => "enq",
-        Event::Update => "upd",
-        Event::Dequeue => "deq",
-        Event::Migrate => "mig",
-        Event::Leave => "sfr",
-        Event::Admit => "adm",
-        Event::ZeroLagFires => "ina",
-        Event::ReplenishFires => "dlt",
-        Event::TimerStarts => "hst",
-        Event::ServerStarts => "ede",
-        Event::Pick => "pck",
+        ProbedFunction::Enqueue => "enq",
+        ProbedFunction::Update => "upd",
+        ProbedFunction::Dequeue => "deq",
+        ProbedFunction::Migrate => "mig",
+        ProbedFunction::Leave => "sfr",
+        ProbedFunction::Admit => "adm",
+        ProbedFunction::ZeroLagFires => "ina",
+        ProbedFunction::ReplenishFires => "dlt",
+        ProbedFunction::TimerStarts => "hst",
+        ProbedFunction::ServerStarts => "ede",
+        ProbedFunction::Pick => "pck",
     }
 }
 
 /// The function whose entry a line of this event shows.
-pub fn function_of(event: Event) -> &'static str {
+pub fn function_of(event: ProbedFunction) -> &'static str {
     match event {
-        Event::Enqueue => "enqueue_task_dl",
-        Event::Update => "update_curr_dl_se",
-        Event::Dequeue => "dequeue_task_dl",
-        Event::Migrate => "migrate_task_rq_dl",
-        Event::Leave => "switched_from_dl",
-        Event::Admit => "sched_dl_overflow",
-        Event::ZeroLagFires => "inactive_task_timer",
-        Event::ReplenishFires => "dl_task_timer",
-        Event::TimerStarts => "hrtimer_start_range_ns",
-        Event::ServerStarts => "enqueue_dl_entity",
-        Event::Pick => "pick_task_dl",
+        ProbedFunction::Enqueue => "enqueue_task_dl",
+        ProbedFunction::Update => "update_curr_dl_se",
+        ProbedFunction::Dequeue => "dequeue_task_dl",
+        ProbedFunction::Migrate => "migrate_task_rq_dl",
+        ProbedFunction::Leave => "switched_from_dl",
+        ProbedFunction::Admit => "sched_dl_overflow",
+        ProbedFunction::ZeroLagFires => "inactive_task_timer",
+        ProbedFunction::ReplenishFires => "dl_task_timer",
+        ProbedFunction::TimerStarts => "hrtimer_start_range_ns",
+        ProbedFunction::ServerStarts => "enqueue_dl_entity",
+        ProbedFunction::Pick => "pick_task_dl",
     }
 }
 
 /// The word of a kind in a table.
-pub fn kind_name(kind: Kind) -> &'static str {
+pub fn kind_name(kind: QuantityKind) -> &'static str {
     match kind {
-        Kind::Budget => "budget",
-        Kind::Deadline => "deadline",
-        Kind::Flags => "flags",
-        Kind::Parameters => "parameters",
-        Kind::ThisBw => "this_bw",
-        Kind::RunningBw => "running_bw",
-        Kind::ExtraBw => "extra_bw",
-        Kind::ZeroLag => "0-lag moment",
-        Kind::ZeroLagMoment => "0-lag moment, us",
-        Kind::Timers => "timers armed",
-        Kind::Laws => "laws",
+        QuantityKind::Budget => "budget",
+        QuantityKind::Deadline => "deadline",
+        QuantityKind::Flags => "flags",
+        QuantityKind::Parameters => "parameters",
+        QuantityKind::ThisBw => "this_bw",
+        QuantityKind::RunningBw => "running_bw",
+        QuantityKind::ExtraBw => "extra_bw",
+        QuantityKind::ZeroLag => "0-lag moment",
+        QuantityKind::ZeroLagMoment => "0-lag moment, us",
+        QuantityKind::Timers => "timers armed",
+        QuantityKind::Laws => "laws",
     }
 }
 
 /// The word of a kind in a verdict.
-pub(crate) fn kind_plural(kind: Kind) -> &'static str {
+pub(crate) fn kind_plural(kind: QuantityKind) -> &'static str {
     match kind {
-        Kind::Budget => "budgets",
-        Kind::Deadline => "deadlines",
-        Kind::Flags => "flags",
-        Kind::Parameters => "parameters",
-        Kind::ThisBw => "this_bw",
-        Kind::RunningBw => "running_bw",
-        Kind::ExtraBw => "extra_bw",
-        Kind::ZeroLag => "0-lag moments",
-        Kind::ZeroLagMoment => "0-lag moments to a microsecond",
-        Kind::Timers => "timers",
-        Kind::Laws => "laws",
+        QuantityKind::Budget => "budgets",
+        QuantityKind::Deadline => "deadlines",
+        QuantityKind::Flags => "flags",
+        QuantityKind::Parameters => "parameters",
+        QuantityKind::ThisBw => "this_bw",
+        QuantityKind::RunningBw => "running_bw",
+        QuantityKind::ExtraBw => "extra_bw",
+        QuantityKind::ZeroLag => "0-lag moments",
+        QuantityKind::ZeroLagMoment => "0-lag moments to a microsecond",
+        QuantityKind::Timers => "timers",
+        QuantityKind::Laws => "laws",
     }
 }
 
@@ -94,133 +94,133 @@ pub fn quantity_name(quantity: Quantity) -> &'static str {
 }
 
 /// What a rule does.
-pub fn rule_name(rule: Rule) -> &'static str {
+pub fn rule_name(rule: ExactRule) -> &'static str {
     match rule {
-        Rule::ChargeInFull => "charge in full",
-        Rule::ChargeByItsBandwidth => "charge by its bandwidth",
-        Rule::ChargeByWhatIsLeft => "charge by what is left",
-        Rule::Throttled => "throttled",
-        Rule::Yielded => "yield",
-        Rule::ReplenishedAtOnce => "replenished at once",
-        Rule::Replenished => "replenished",
-        Rule::ReplenishedBlocked => "replenished while blocked",
-        Rule::ReplenishedBlockedLate => "replenished while blocked, too late",
-        Rule::WakeKept => "wake: kept",
-        Rule::WakeRevised => "wake: revised",
-        Rule::WakeNewPeriod => "wake: new period",
-        Rule::WakeThrottled => "wake: throttled",
-        Rule::WakeBeforeZeroLag => "wake before the 0-lag time",
-        Rule::WakeAfterZeroLag => "wake after the 0-lag time",
-        Rule::Constrained => "constrained: throttled",
-        Rule::Boosted => "boosted",
-        Rule::BoostEnds => "end of a boost",
-        Rule::MovedIn => "moved in",
-        Rule::MovedOut => "moved out",
-        Rule::MovedAtWake => "moved at a wake",
-        Rule::Restored => "restored",
-        Rule::RestoredNewPeriod => "restored: new period",
-        Rule::Saved => "saved",
-        Rule::ZeroLagArmed => "0-lag timer armed",
-        Rule::ZeroLagPast => "0-lag time past",
-        Rule::ZeroLagFired => "0-lag timer fired",
-        Rule::Admitted => "admitted",
-        Rule::Refused => "refused",
-        Rule::BandwidthChanged => "bandwidth changed",
-        Rule::BackBeforeZeroLag => "back before its 0-lag time",
-        Rule::LeftClass => "left the class",
-        Rule::ServerStarted => "server started",
-        Rule::ServerStopped => "server stopped",
-        Rule::BeforeItsLock => "effect between a line and its lock",
-        Rule::ExtraReadLater => "extra_bw read after its line",
-        Rule::ChargeReadLater => "charge with an extra_bw read later",
+        ExactRule::ChargeInFull => "charge in full",
+        ExactRule::ChargeByItsBandwidth => "charge by its bandwidth",
+        ExactRule::ChargeByWhatIsLeft => "charge by what is left",
+        ExactRule::Throttled => "throttled",
+        ExactRule::Yielded => "yield",
+        ExactRule::ReplenishedAtOnce => "replenished at once",
+        ExactRule::Replenished => "replenished",
+        ExactRule::ReplenishedBlocked => "replenished while blocked",
+        ExactRule::ReplenishedBlockedLate => "replenished while blocked, too late",
+        ExactRule::WakeKept => "wake: kept",
+        ExactRule::WakeRevised => "wake: revised",
+        ExactRule::WakeNewPeriod => "wake: new period",
+        ExactRule::WakeThrottled => "wake: throttled",
+        ExactRule::WakeBeforeZeroLag => "wake before the 0-lag time",
+        ExactRule::WakeAfterZeroLag => "wake after the 0-lag time",
+        ExactRule::Constrained => "constrained: throttled",
+        ExactRule::Boosted => "boosted",
+        ExactRule::BoostEnds => "end of a boost",
+        ExactRule::MovedIn => "moved in",
+        ExactRule::MovedOut => "moved out",
+        ExactRule::MovedAtWake => "moved at a wake",
+        ExactRule::Restored => "restored",
+        ExactRule::RestoredNewPeriod => "restored: new period",
+        ExactRule::Saved => "saved",
+        ExactRule::ZeroLagArmed => "0-lag timer armed",
+        ExactRule::ZeroLagPast => "0-lag time past",
+        ExactRule::ZeroLagFired => "0-lag timer fired",
+        ExactRule::Admitted => "admitted",
+        ExactRule::Refused => "refused",
+        ExactRule::BandwidthChanged => "bandwidth changed",
+        ExactRule::BackBeforeZeroLag => "back before its 0-lag time",
+        ExactRule::LeftClass => "left the class",
+        ExactRule::ServerStarted => "server started",
+        ExactRule::ServerStopped => "server stopped",
+        ExactRule::BeforeItsLock => "effect between a line and its lock",
+        ExactRule::ExtraReadLater => "extra_bw read after its line",
+        ExactRule::ChargeReadLater => "charge with an extra_bw read later",
     }
 }
 
 /// The kernel's function that has a rule.
-pub(crate) fn rule_function(rule: Rule) -> &'static str {
+pub(crate) fn rule_function(rule: ExactRule) -> &'static str {
     match rule {
-        Rule::ChargeInFull => "dl_scaled_delta_exec",
-        Rule::ChargeByItsBandwidth | Rule::ChargeByWhatIsLeft | Rule::ChargeReadLater => {
+        ExactRule::ChargeInFull => "dl_scaled_delta_exec",
+        ExactRule::ChargeByItsBandwidth | ExactRule::ChargeByWhatIsLeft | ExactRule::ChargeReadLater => {
             "grub_reclaim"
         }
-        Rule::Throttled | Rule::Yielded => "update_curr_dl_se",
-        Rule::ReplenishedAtOnce
-        | Rule::Replenished
-        | Rule::ReplenishedBlocked
-        | Rule::ReplenishedBlockedLate => "replenish_dl_entity",
-        Rule::WakeKept | Rule::WakeNewPeriod => "update_dl_entity",
-        Rule::WakeRevised => "update_dl_revised_wakeup",
-        Rule::WakeThrottled | Rule::RestoredNewPeriod => "enqueue_dl_entity",
-        Rule::WakeBeforeZeroLag | Rule::WakeAfterZeroLag => "task_contending",
-        Rule::Constrained => "dl_check_constrained_dl",
-        Rule::Boosted | Rule::BoostEnds | Rule::MovedIn | Rule::Restored => "enqueue_task_dl",
-        Rule::MovedOut | Rule::Saved => "dequeue_dl_entity",
-        Rule::MovedAtWake => "migrate_task_rq_dl",
-        Rule::ZeroLagArmed | Rule::ZeroLagPast => "task_non_contending",
-        Rule::ZeroLagFired => "inactive_task_timer",
-        Rule::Admitted | Rule::Refused | Rule::BackBeforeZeroLag | Rule::ExtraReadLater => {
+        ExactRule::Throttled | ExactRule::Yielded => "update_curr_dl_se",
+        ExactRule::ReplenishedAtOnce
+        | ExactRule::Replenished
+        | ExactRule::ReplenishedBlocked
+        | ExactRule::ReplenishedBlockedLate => "replenish_dl_entity",
+        ExactRule::WakeKept | ExactRule::WakeNewPeriod => "update_dl_entity",
+        ExactRule::WakeRevised => "update_dl_revised_wakeup",
+        ExactRule::WakeThrottled | ExactRule::RestoredNewPeriod => "enqueue_dl_entity",
+        ExactRule::WakeBeforeZeroLag | ExactRule::WakeAfterZeroLag => "task_contending",
+        ExactRule::Constrained => "dl_check_constrained_dl",
+        ExactRule::Boosted | ExactRule::BoostEnds | ExactRule::MovedIn | ExactRule::Restored => "enqueue_task_dl",
+        ExactRule::MovedOut | ExactRule::Saved => "dequeue_dl_entity",
+        ExactRule::MovedAtWake => "migrate_task_rq_dl",
+        ExactRule::ZeroLagArmed | ExactRule::ZeroLagPast => "task_non_contending",
+        ExactRule::ZeroLagFired => "inactive_task_timer",
+        ExactRule::Admitted | ExactRule::Refused | ExactRule::BackBeforeZeroLag | ExactRule::ExtraReadLater => {
             "sched_dl_overflow"
         }
-        Rule::BandwidthChanged => "dl_change_utilization",
-        Rule::LeftClass => "switched_from_dl",
-        Rule::ServerStarted => "dl_server_start",
-        Rule::ServerStopped => "dl_server_stop",
-        Rule::BeforeItsLock => "add_running_bw",
+        ExactRule::BandwidthChanged => "dl_change_utilization",
+        ExactRule::LeftClass => "switched_from_dl",
+        ExactRule::ServerStarted => "dl_server_start",
+        ExactRule::ServerStopped => "dl_server_stop",
+        ExactRule::BeforeItsLock => "add_running_bw",
     }
 }
 
 /// Every rule, in the order in which a verdict names them.
-pub(crate) const ALL: [Rule; 37] = [
-    Rule::ChargeByWhatIsLeft,
-    Rule::ChargeByItsBandwidth,
-    Rule::ChargeInFull,
-    Rule::WakeKept,
-    Rule::WakeNewPeriod,
-    Rule::WakeRevised,
-    Rule::WakeThrottled,
-    Rule::WakeBeforeZeroLag,
-    Rule::WakeAfterZeroLag,
-    Rule::Throttled,
-    Rule::Yielded,
-    Rule::Constrained,
-    Rule::Replenished,
-    Rule::ReplenishedAtOnce,
-    Rule::ReplenishedBlocked,
-    Rule::ReplenishedBlockedLate,
-    Rule::ZeroLagArmed,
-    Rule::ZeroLagPast,
-    Rule::ZeroLagFired,
-    Rule::MovedIn,
-    Rule::MovedOut,
-    Rule::MovedAtWake,
-    Rule::Saved,
-    Rule::Restored,
-    Rule::RestoredNewPeriod,
-    Rule::Admitted,
-    Rule::Refused,
-    Rule::BandwidthChanged,
-    Rule::BackBeforeZeroLag,
-    Rule::LeftClass,
-    Rule::Boosted,
-    Rule::BoostEnds,
-    Rule::ServerStarted,
-    Rule::ServerStopped,
-    Rule::BeforeItsLock,
-    Rule::ExtraReadLater,
-    Rule::ChargeReadLater,
+pub(crate) const ALL: [ExactRule; 37] = [
+    ExactRule::ChargeByWhatIsLeft,
+    ExactRule::ChargeByItsBandwidth,
+    ExactRule::ChargeInFull,
+    ExactRule::WakeKept,
+    ExactRule::WakeNewPeriod,
+    ExactRule::WakeRevised,
+    ExactRule::WakeThrottled,
+    ExactRule::WakeBeforeZeroLag,
+    ExactRule::WakeAfterZeroLag,
+    ExactRule::Throttled,
+    ExactRule::Yielded,
+    ExactRule::Constrained,
+    ExactRule::Replenished,
+    ExactRule::ReplenishedAtOnce,
+    ExactRule::ReplenishedBlocked,
+    ExactRule::ReplenishedBlockedLate,
+    ExactRule::ZeroLagArmed,
+    ExactRule::ZeroLagPast,
+    ExactRule::ZeroLagFired,
+    ExactRule::MovedIn,
+    ExactRule::MovedOut,
+    ExactRule::MovedAtWake,
+    ExactRule::Saved,
+    ExactRule::Restored,
+    ExactRule::RestoredNewPeriod,
+    ExactRule::Admitted,
+    ExactRule::Refused,
+    ExactRule::BandwidthChanged,
+    ExactRule::BackBeforeZeroLag,
+    ExactRule::LeftClass,
+    ExactRule::Boosted,
+    ExactRule::BoostEnds,
+    ExactRule::ServerStarted,
+    ExactRule::ServerStopped,
+    ExactRule::BeforeItsLock,
+    ExactRule::ExtraReadLater,
+    ExactRule::ChargeReadLater,
 ];
 
 /// Every kind, in the order in which a verdict names them.
-pub(crate) const KINDS: [Kind; 11] = [
-    Kind::Budget,
-    Kind::Deadline,
-    Kind::Flags,
-    Kind::Parameters,
-    Kind::ThisBw,
-    Kind::RunningBw,
-    Kind::ExtraBw,
-    Kind::ZeroLag,
-    Kind::ZeroLagMoment,
-    Kind::Timers,
-    Kind::Laws,
+pub(crate) const KINDS: [QuantityKind; 11] = [
+    QuantityKind::Budget,
+    QuantityKind::Deadline,
+    QuantityKind::Flags,
+    QuantityKind::Parameters,
+    QuantityKind::ThisBw,
+    QuantityKind::RunningBw,
+    QuantityKind::ExtraBw,
+    QuantityKind::ZeroLag,
+    QuantityKind::ZeroLagMoment,
+    QuantityKind::Timers,
+    QuantityKind::Laws,
 ];

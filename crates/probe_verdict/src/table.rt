@@ -1,9 +1,9 @@
 //! A row for each comparison, for pandas and gnuplot.
 
-use crate::heading::TaskName;
+use crate::heading::NamedTask;
 use crate::names::{event_name, kind_name};
 use crate::writing::{put, put_subject, put_value};
-use exact_words::{Comparison, Place, kind_of};
+use exact_words::{Comparison, ProbedLine, kind_of};
 use std::alloc::{AllocError, Global};
 
 /// The first line of a table.
@@ -14,7 +14,7 @@ pub fn put_row(
     alloc: Global,
     out: &mut Vec<u8>,
     row: &Comparison,
-    names: &[TaskName],
+    names: &[NamedTask],
 ) -> Result<(), AllocError> {
     put_place(alloc, out, row.place)?;
     put_subject(alloc, out, row.subject, names)?;
@@ -22,7 +22,7 @@ pub fn put_row(
     put_values(alloc, out, row, names)
 }
 
-fn put_place(alloc: Global, out: &mut Vec<u8>, place: Place) -> Result<(), AllocError> {
+fn put_place(alloc: Global, out: &mut Vec<u8>, place: ProbedLine) -> Result<(), AllocError> {
     let (line, at, cpu) = (place.line, place.at, place.cpu);
     let text = format!(in alloc; "{line}\t{at}\t{cpu}\t")?;
     put(out, text.as_str())
@@ -40,7 +40,7 @@ fn put_values(
     alloc: Global,
     out: &mut Vec<u8>,
     row: &Comparison,
-    names: &[TaskName],
+    names: &[NamedTask],
 ) -> Result<(), AllocError> {
     put_value(alloc, out, row.rules, names)?;
     put(out, "\t")?;

@@ -1,9 +1,9 @@
 //! The words of a verdict.
 
-use crate::heading::{Heading, Lost};
+use crate::heading::{ProbeHeading, DroppedLines};
 use crate::names::{ALL, KINDS, kind_plural, rule_name};
 use crate::writing::{put, put_bytes, put_comma, put_count, put_number};
-use exact_words::{Counts, Kind, Rule, RuleCounts};
+use exact_words::{KindCounts, QuantityKind, ExactRule, RuleCounts};
 use std::alloc::{AllocError, Global};
 use trace_words::Kernel;
 
@@ -15,7 +15,7 @@ pub struct Total {
 }
 
 /// The counts of all kinds together.
-pub fn total_of(counts: &Counts) -> Total {
+pub fn total_of(counts: &KindCounts) -> Total {
     let mut total = Total {
         equal: 0,
         differ: 0,
@@ -34,8 +34,8 @@ pub fn total_of(counts: &Counts) -> Total {
 pub fn put_heading(
     alloc: Global,
     out: &mut Vec<u8>,
-    heading: Heading<'_>,
-    counts: &Counts,
+    heading: ProbeHeading<'_>,
+    counts: &KindCounts,
     rules: &RuleCounts,
 ) -> Result<(), AllocError> {
     put_record(alloc, out, heading)?;
@@ -45,7 +45,7 @@ pub fn put_heading(
     put_untested(out, rules)
 }
 
-fn put_record(alloc: Global, out: &mut Vec<u8>, heading: Heading<'_>) -> Result<(), AllocError> {
+fn put_record(alloc: Global, out: &mut Vec<u8>, heading: ProbeHeading<'_>) -> Result<(), AllocError> {
     put_bytes(out, heading.trace)?;
     put(out, ": ")?;
     put_kernel(alloc, out, heading.kernel)?;
@@ -97,7 +97,7 @@ fn put_list(alloc: Global, out: &mut Vec<u8>, cpus: &[u32]) -> Result<(), AllocE
 }
 
 /// Appends how many tasks and lines there are, and from when to when.
-fn put_size(alloc: Global, out: &mut Vec<u8>, heading: Heading<'_>) -> Result<(), AllocError> {
+fn put_size(alloc: Global, out: &mut Vec<u8>, heading: ProbeHeading<'_>) -> Result<(), AllocError> {
     let tasks = heading.tasks.len();
     let span = heading.to.saturating_sub(heading.from);
     let (whole, tenth) = (span / 1_000_000_000, span % 1_000_000_000 / 100_000_000);
@@ -107,7 +107,7 @@ fn put_size(alloc: Global, out: &mut Vec<u8>, heading: Heading<'_>) -> Result<()
     put(out, " lines of probes")
 }
 
-fn put_lost(alloc: Global, out: &mut Vec<u8>, lost: Option<Lost>) -> Result<(), AllocError> {
+fn put_lost(alloc: Global, out: &mut Vec<u8>, lost: Option<DroppedLines>) -> Result<(), AllocError> {
     match lost {
         None => put(out, "\n"),
         Some(lost) => put_number_lost(alloc, out, lost.lines.saturating_add(lost.hits)),
@@ -149,7 +149,7 @@ fn put_unequal(alloc: Global, out: &mut Vec<u8>, differ: u64) -> Result<(), Allo
     put(out, " differ\n")
 }
 
-fn put_counts(alloc: Global, out: &mut Vec<u8>, counts: &Counts) -> Result<(), AllocError> {
+fn put_counts(alloc: Global, out: &mut Vec<u8>, counts: &KindCounts) -> Result<(), AllocError> {
     put(out, "  ")?;
     for kind in KINDS {
         put_kind(alloc, out, kind, counts)?;
@@ -160,8 +160,8 @@ fn put_counts(alloc: Global, out: &mut Vec<u8>, counts: &Counts) -> Result<(), A
 fn put_kind(
     alloc: Global,
     out: &mut Vec<u8>,
-    kind: Kind,
-    counts: &Counts,
+    kind: QuantityKind,
+    counts: &KindCounts,
 ) -> Result<(), AllocError> {
     let tally = counts.of(kind);
     put_item(
@@ -199,7 +199,7 @@ fn put_untested(out: &mut Vec<u8>, rules: &RuleCounts) -> Result<(), AllocError>
     put(out, "\n")
 }
 
-fn put_missing(out: &mut Vec<u8>, rule: Rule, rules: &RuleCounts) -> Result<(), AllocError> {
+fn put_missing(out: &mut Vec<u8>, rule: ExactRule, rules: &RuleCounts) -> Result<(), AllocError> {
     if rules.of(rule) > 0 {
         return Ok(());
     }

@@ -1,7 +1,7 @@
 //! How values are written.
 
-use crate::heading::TaskName;
-use exact_words::{Subject, Value, Whose};
+use crate::heading::NamedTask;
+use exact_words::{Subject, ExactValue, Whose};
 use std::alloc::{AllocError, Global};
 use trace_words::TimerFunction;
 
@@ -64,7 +64,7 @@ pub(crate) fn put_seconds(alloc: Global, out: &mut Vec<u8>, nanos: u64) -> Resul
 }
 
 /// The comm of a task, if a record shows it.
-fn comm_of(names: &[TaskName], pid: u64) -> Option<&[u8]> {
+fn comm_of(names: &[NamedTask], pid: u64) -> Option<&[u8]> {
     for name in names {
         if name.pid == pid {
             return Some(name.comm.as_slice());
@@ -78,7 +78,7 @@ fn put_task(
     alloc: Global,
     out: &mut Vec<u8>,
     pid: u64,
-    names: &[TaskName],
+    names: &[NamedTask],
 ) -> Result<(), AllocError> {
     match comm_of(names, pid) {
         Some(comm) => {
@@ -98,7 +98,7 @@ pub(crate) fn put_whose(
     alloc: Global,
     out: &mut Vec<u8>,
     whose: Whose,
-    names: &[TaskName],
+    names: &[NamedTask],
 ) -> Result<(), AllocError> {
     match whose {
         Whose::Server { cpu } => {
@@ -114,7 +114,7 @@ pub(crate) fn put_subject(
     alloc: Global,
     out: &mut Vec<u8>,
     subject: Subject,
-    names: &[TaskName],
+    names: &[NamedTask],
 ) -> Result<(), AllocError> {
     match subject {
         Subject::Entity(whose) => put_whose(alloc, out, whose, names),
@@ -144,18 +144,18 @@ fn put_signed(alloc: Global, out: &mut Vec<u8>, n: i64) -> Result<(), AllocError
 pub(crate) fn put_value(
     alloc: Global,
     out: &mut Vec<u8>,
-    value: Value,
-    names: &[TaskName],
+    value: ExactValue,
+    names: &[NamedTask],
 ) -> Result<(), AllocError> {
     match value {
-        Value::Unsigned(n) => put_number(alloc, out, n),
-        Value::Signed(n) => put_signed(alloc, out, n),
-        Value::AtMost(n) => put_at_most(alloc, out, n),
-        Value::Flag(true) => put(out, "1"),
-        Value::Flag(false) => put(out, "0"),
-        Value::Armed(function) => put(out, timer_name(function)),
-        Value::NotArmed(function) => put_no(out, timer_name(function)),
-        Value::Owner(whose) => put_whose(alloc, out, whose, names),
+        ExactValue::Unsigned(n) => put_number(alloc, out, n),
+        ExactValue::Signed(n) => put_signed(alloc, out, n),
+        ExactValue::AtMost(n) => put_at_most(alloc, out, n),
+        ExactValue::Flag(true) => put(out, "1"),
+        ExactValue::Flag(false) => put(out, "0"),
+        ExactValue::Armed(function) => put(out, timer_name(function)),
+        ExactValue::NotArmed(function) => put_no(out, timer_name(function)),
+        ExactValue::Owner(whose) => put_whose(alloc, out, whose, names),
     }
 }
 

@@ -16,12 +16,12 @@ use Rattle.trace_words.specs.declared.fixed.TimerFunction.{TimerFunction}
 use Rattle.trace_words.specs.declared.fixed.TimerFunction.TheVariants.{ZeroLag}
 use Rattle.trace_words.specs.declared.line.Flaw.{Flaw}
 use Rattle.trace_words.specs.declared.line.Flaw.TheVariants.{WrongClock, LostEvents, TooLong, BadTraceLine}
-use Rattle.trace_words.specs.declared.line.Line.{Line}
-use Rattle.trace_words.specs.declared.line.Line.TheVariants as line
+use Rattle.trace_words.specs.declared.line.RecordLine.{RecordLine}
+use Rattle.trace_words.specs.declared.line.RecordLine.TheVariants as line
 use Rattle.trace_words.specs.declared.line.Said.{Said}
 use Rattle.trace_words.specs.declared.line.Said.TheVariants as said
-use Rattle.trace_words.specs.declared.note.Note.{Note}
-use Rattle.trace_words.specs.declared.note.Note.TheVariants as note
+use Rattle.trace_words.specs.declared.note.TraceNote.{TraceNote}
+use Rattle.trace_words.specs.declared.note.TraceNote.TheVariants as note
 use Rattle.trace_words.specs.declared.probe.Probe.{Probe}
 use Rattle.trace_words.specs.declared.probe.Probe.TheVariants as probe
 use Rattle.record_line.specs.Fixed.{alone, cancelled, fired, migrated, ran, started, switched, woken}
@@ -29,7 +29,7 @@ use Rattle.record_line.specs.Notes.{note_of}
 use Rattle.record_line.specs.Verbs.{verb_of}
 use Rattle.record_line.specs.declared.fixed.Named.{Named}
 use Rattle.record_line.specs.declared.line.TheConstants.{CLOCK_MAX}
-use Rattle.record_line.specs.declared.line.Told.{Told}
+use Rattle.record_line.specs.declared.line.ToldLine.{ToldLine}
 use Rattle.record_line.specs.declared.note.Noted.{Noted}
 use Rattle.record_line.specs.declared.note.Noted.TheVariants as noted
 use Rattle.record_line.specs.declared.verb.Verb.{Verb}
@@ -37,34 +37,34 @@ use Rattle.record_line.specs.declared.verb.Verb.TheVariants as verb
 use Rattle.record_line.specs.declared.word.TheConstants.{CPUS}
 
 -- a line with nothing beside it
-abbrev pub told_line : Line → Told (List ℕ)
+abbrev pub told_line : RecordLine → ToldLine (List ℕ)
 told_line told = record { line = told; shown = None; domain = None; lost = None; processors = None }
 
-abbrev pub note_cpu : Note → ℕ
+abbrev pub note_cpu : TraceNote → ℕ
 note_cpu (note.Runqueue cpu sums) = cpu
 note_cpu (note.Task pid at by cpu policy) = cpu
 note_cpu other = 0
 
-abbrev pub note_line : Note → Line
+abbrev pub note_line : TraceNote → RecordLine
 note_line told = if nat_le CPUS (note_cpu told) then line.Flawed TooLong else line.Note told
 
 -- a line of the head that says how many processors there are
-abbrev pub head_line : Option ℕ → Told (List ℕ)
+abbrev pub head_line : Option ℕ → ToldLine (List ℕ)
 head_line count = record { line = line.Quiet; shown = None; domain = None; lost = None; processors = count }
 
-abbrev pub noted_line : List ℕ → Noted (List ℕ) → Told (List ℕ)
+abbrev pub noted_line : List ℕ → Noted (List ℕ) → ToldLine (List ℕ)
 noted_line text noted.Quiet = head_line (processors text)
 noted_line text (noted.Head note domain) = record { line = note_line note; shown = None; domain = domain; lost = None; processors = None }
 noted_line text (noted.Task note pid comm) = record { line = note_line note; shown = Some (record { comm = comm; pid = pid }); domain = None; lost = None; processors = None }
 noted_line text (noted.Other note) = told_line (note_line note)
 noted_line text (noted.Lost lost) = record { line = line.Quiet; shown = None; domain = None; lost = Some lost; processors = None }
 
-abbrev pub comment_by : List ℕ → Option (Noted (List ℕ)) → Told (List ℕ)
+abbrev pub comment_by : List ℕ → Option (Noted (List ℕ)) → ToldLine (List ℕ)
 comment_by text None = told_line (line.Flawed BadTraceLine)
 comment_by text (Some noted) = noted_line text noted
 
 -- what a line tells that begins with #
-abbrev pub comment_line : List ℕ → Told (List ℕ)
+abbrev pub comment_line : List ℕ → ToldLine (List ℕ)
 comment_line text = comment_by text (note_of text)
 
 -- how far a moment may be off behind whose point so many bytes stand: six to nine digits and a colon
@@ -131,44 +131,44 @@ said_by verb.Call fields front pid = Some (alone fixed.PolicyCalled)
 said_by verb.Return fields front pid = Some (alone fixed.PolicyReturned)
 said_by (verb.Probe event) fields front pid = probed event fields front pid
 
-abbrev pub unflawed : Option Flaw → ℕ → ℕ → ℕ → ℕ → Named (List ℕ) → Told (List ℕ)
+abbrev pub unflawed : Option Flaw → ℕ → ℕ → ℕ → ℕ → Named (List ℕ) → ToldLine (List ℕ)
 unflawed None at grain cpu pid named = record { line = line.Event at grain cpu pid named.said; shown = named.shown; domain = None; lost = None; processors = None }
 unflawed (Some flaw) at grain cpu pid named = told_line (line.Flawed flaw)
 
 -- what a line tells whose event says this
-abbrev pub checked : ℕ → ℕ → ℕ → ℕ → Named (List ℕ) → Told (List ℕ)
+abbrev pub checked : ℕ → ℕ → ℕ → ℕ → Named (List ℕ) → ToldLine (List ℕ)
 checked at grain cpu pid named = unflawed (flaw_of at cpu named.said) at grain cpu pid named
 
 -- what a line of an event tells, before whose CPU this stands, while the task of this pid runs
-abbrev pub told_running : Opening → ℕ → ℕ → Verb → List ℕ → List ℕ → ℕ → Option (Told (List ℕ))
+abbrev pub told_running : Opening → ℕ → ℕ → Verb → List ℕ → List ℕ → ℕ → Option (ToldLine (List ℕ))
 told_running opening grain cpu verb fields front pid =
     option_map (λ named. checked opening.at grain cpu pid named) (said_by verb fields front pid)
 
 -- what a line of an event tells whose CPU stands there
-abbrev pub told_at : List ℕ → Opening → Verb → List ℕ → CpuWord → Option (Told (List ℕ))
+abbrev pub told_at : List ℕ → Opening → Verb → List ℕ → CpuWord → Option (ToldLine (List ℕ))
 told_at text opening verb fields c =
     option_and_then (told_running opening (grain_of (take opening.end text)) c.cpu verb fields (take c.start text)) (running (take c.start text))
 
 -- what a line of an event tells
-abbrev pub told_said : List ℕ → Opening → Verb → List ℕ → Option (Told (List ℕ))
+abbrev pub told_said : List ℕ → Opening → Verb → List ℕ → Option (ToldLine (List ℕ))
 told_said text opening verb fields = option_and_then (told_at text opening verb fields) opening.cpu
 
-abbrev pub said_or_bad : Option (Told (List ℕ)) → Told (List ℕ)
+abbrev pub said_or_bad : Option (ToldLine (List ℕ)) → ToldLine (List ℕ)
 said_or_bad None = told_line (line.Flawed BadTraceLine)
 said_or_bad (Some told) = told
 
-abbrev pub line_by : List ℕ → Opening → List ℕ → Option Verb → Told (List ℕ)
+abbrev pub line_by : List ℕ → Opening → List ℕ → Option Verb → ToldLine (List ℕ)
 line_by text opening behind None = told_line line.Quiet
 line_by text opening behind (Some verb) = said_or_bad (told_said text opening verb (slice_range behind (length (word_of behind)) (length behind)))
 
 -- what a line tells whose opening is known, by the text behind its moment
-abbrev pub line_behind : List ℕ → Opening → List ℕ → Told (List ℕ)
+abbrev pub line_behind : List ℕ → Opening → List ℕ → ToldLine (List ℕ)
 line_behind text opening behind = line_by text opening behind (verb_of (word_of behind))
 
-abbrev pub event_line : List ℕ → Option Opening → Told (List ℕ)
+abbrev pub event_line : List ℕ → Option Opening → ToldLine (List ℕ)
 event_line text None = told_line line.Quiet
 event_line text (Some opening) = line_behind text opening (without_spaces (slice_range text opening.end (length text)))
 
 -- what a line tells, without the byte that ends it
-abbrev pub told_by : List ℕ → Told (List ℕ)
+abbrev pub told_by : List ℕ → ToldLine (List ℕ)
 told_by text = if is_lost text then told_line (line.Flawed LostEvents) else (if is_comment text then comment_line text else event_line text (opening_of text))

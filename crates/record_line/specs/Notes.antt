@@ -11,8 +11,8 @@ use Rattle.trace_words.specs.declared.note.Limit.{Limit}
 use Rattle.trace_words.specs.declared.note.Limit.TheVariants.{MaxBw}
 use Rattle.trace_words.specs.declared.note.Policy.{Policy}
 use Rattle.trace_words.specs.declared.note.Policy.TheVariants as policy
-use Rattle.trace_words.specs.declared.note.Note.{Note}
-use Rattle.trace_words.specs.declared.note.Note.TheVariants as note
+use Rattle.trace_words.specs.declared.note.TraceNote.{TraceNote}
+use Rattle.trace_words.specs.declared.note.TraceNote.TheVariants as note
 use Rattle.trace_words.specs.declared.quantities.Sums.{Sums}
 use Rattle.trace_words.specs.declared.quantities.Parameters.{Parameters}
 use Rattle.record_line.specs.NoteWords.{is_domain, kernel_of, number_in, optional, rt_limit, small, word_in}

@@ -3,12 +3,12 @@ use Rattle.std.specs.Prelude.{ℕ, List, Option, option_map}
 use Rattle.std.specs.Borrow.{Bor}
 use Rattle.trace_line.specs.Words.{text_of}
 use Rattle.trace_line.specs.Shown.{shown_text}
-use Rattle.record_line.specs.declared.line.Told.{Told}
+use Rattle.record_line.specs.declared.line.ToldLine.{ToldLine}
 
 abbrev pub maybe_text : Option (Bor (List ℕ)) → Option (List ℕ)
 maybe_text text = option_map text_of text
 
-abbrev pub told_text : Told (Bor (List ℕ)) → Told (List ℕ)
+abbrev pub told_text : ToldLine (Bor (List ℕ)) → ToldLine (List ℕ)
 told_text told = record {
   line = told.line;
   shown = option_map shown_text told.shown;

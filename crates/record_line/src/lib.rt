@@ -7,6 +7,6 @@ mod note;
 mod verb;
 mod word;
 
-pub use line::{CLOCK_MAX, Told, told_by};
+pub use line::{CLOCK_MAX, ToldLine, told_by};
 pub use note::Lost;
 pub use word::CPUS;

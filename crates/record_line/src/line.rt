@@ -23,15 +23,15 @@ use trace_line::{
     without_spaces,
 };
 use trace_probes::{ProbeEvent, probe_of};
-use trace_words::{Fixed, Flaw, Line, Note, Probe, Said, TimerFunction};
+use trace_words::{Fixed, Flaw, RecordLine, TraceNote, Probe, Said, TimerFunction};
 
 /// How far the `now` of a 0-lag timer that fires may lie from the moment of its line, in nanoseconds.
 pub const CLOCK_MAX: u64 = 1000000;
 
 /// What a line tells, and what stands beside it; `T` is a text.
 #[derive(Clone, Copy)]
-pub struct Told<T> {
-    pub line: Line,
+pub struct ToldLine<T> {
+    pub line: RecordLine,
 
     /// The task that the line shows by comm and pid; of a line of a probe the one that runs.
     pub shown: Option<Shown<T>>,
@@ -46,10 +46,10 @@ pub struct Told<T> {
     pub processors: Option<u32>,
 }
 
-fn told_line<'a>(line: Line) -> Told<&'a [u8]>
+fn told_line<'a>(line: RecordLine) -> ToldLine<&'a [u8]>
     ensures { told_text result ≡ told_line line }
 {
-    Told {
+    ToldLine {
         line,
         shown: None,
         domain: None,
@@ -58,31 +58,31 @@ fn told_line<'a>(line: Line) -> Told<&'a [u8]>
     }
 }
 
-fn note_cpu(note: &Note) -> u32
+fn note_cpu(note: &TraceNote) -> u32
     ensures { result ≡ note_cpu note.now }
 {
     match *note {
-        Note::Runqueue { cpu, .. } | Note::Task { cpu, .. } => cpu,
+        TraceNote::Runqueue { cpu, .. } | TraceNote::Task { cpu, .. } => cpu,
         _ => 0,
     }
 }
 
-fn note_line(note: Note) -> Line
+fn note_line(note: TraceNote) -> RecordLine
     ensures { result ≡ note_line note }
 {
     if note_cpu(&note) >= CPUS {
-        Line::Flawed(Flaw::TooLong)
+        RecordLine::Flawed(Flaw::TooLong)
     } else {
-        Line::Note(note)
+        RecordLine::Note(note)
     }
 }
 
 /// A line of the head that says how many processors there are.
-fn head_line<'a>(processors: Option<u32>) -> Told<&'a [u8]>
+fn head_line<'a>(processors: Option<u32>) -> ToldLine<&'a [u8]>
     ensures { told_text result ≡ head_line processors }
 {
-    Told {
-        line: Line::Quiet,
+    ToldLine {
+        line: RecordLine::Quiet,
         shown: None,
         domain: None,
         lost: None,
@@ -90,19 +90,19 @@ fn head_line<'a>(processors: Option<u32>) -> Told<&'a [u8]>
     }
 }
 
-fn noted_line<'a>(line: &'a [u8], noted: Noted<&'a [u8]>) -> Told<&'a [u8]>
+fn noted_line<'a>(line: &'a [u8], noted: Noted<&'a [u8]>) -> ToldLine<&'a [u8]>
     ensures { told_text result ≡ noted_line line.now (noted_text noted.entry) }
 {
     match noted {
         Noted::Quiet => head_line(processors(line)),
-        Noted::Head { note, domain } => Told {
+        Noted::Head { note, domain } => ToldLine {
             line: note_line(note),
             shown: None,
             domain,
             lost: None,
             processors: None,
         },
-        Noted::Task { note, pid, comm } => Told {
+        Noted::Task { note, pid, comm } => ToldLine {
             line: note_line(note),
             shown: Some(Shown { comm, pid }),
             domain: None,
@@ -110,8 +110,8 @@ fn noted_line<'a>(line: &'a [u8], noted: Noted<&'a [u8]>) -> Told<&'a [u8]>
             processors: None,
         },
         Noted::Other { note } => told_line(note_line(note)),
-        Noted::Lost { lost } => Told {
-            line: Line::Quiet,
+        Noted::Lost { lost } => ToldLine {
+            line: RecordLine::Quiet,
             shown: None,
             domain: None,
             lost: Some(lost),
@@ -121,11 +121,11 @@ fn noted_line<'a>(line: &'a [u8], noted: Noted<&'a [u8]>) -> Told<&'a [u8]>
 }
 
 /// What a line tells that begins with `#`.
-fn comment_line(line: &[u8]) -> Told<&[u8]>
+fn comment_line(line: &[u8]) -> ToldLine<&[u8]>
     ensures { told_text result ≡ comment_line line.now }
 {
     match note_of(line) {
-        None => told_line(Line::Flawed(Flaw::BadTraceLine)),
+        None => told_line(RecordLine::Flawed(Flaw::BadTraceLine)),
         Some(noted) => noted_line(line, noted),
     }
 }
@@ -259,13 +259,13 @@ fn said_by<'a>(verb: Verb, fields: &'a [u8], front: &'a [u8], pid: u64) -> Optio
 }
 
 /// What a line tells whose event says this.
-fn checked<'a>(at: u64, grain: u64, cpu: u32, pid: u64, named: Named<&'a [u8]>) -> Told<&'a [u8]>
+fn checked<'a>(at: u64, grain: u64, cpu: u32, pid: u64, named: Named<&'a [u8]>) -> ToldLine<&'a [u8]>
     ensures { told_text result ≡ checked at grain cpu pid (named_text named.entry) }
 {
     match flaw_of(at, cpu, &named.said) {
-        Some(flaw) => told_line(Line::Flawed(flaw)),
-        None => Told {
-            line: Line::Event {
+        Some(flaw) => told_line(RecordLine::Flawed(flaw)),
+        None => ToldLine {
+            line: RecordLine::Event {
                 at,
                 grain,
                 cpu,
@@ -286,7 +286,7 @@ fn told_said<'a>(
     opening: Opening,
     verb: Verb,
     fields: &'a [u8],
-) -> Option<Told<&'a [u8]>>
+) -> Option<ToldLine<&'a [u8]>>
     requires cpu { StartsWithin opening.cpu (length line.now) }
     requires end { opening.end ≤ length line.now }
     ensures { option_map told_text result ≡ told_said line.now opening verb fields.now }
@@ -300,26 +300,26 @@ fn told_said<'a>(
 }
 
 /// What a line tells, by the text behind its moment.
-fn line_behind<'a>(line: &'a [u8], opening: Opening, text: &'a [u8]) -> Told<&'a [u8]>
+fn line_behind<'a>(line: &'a [u8], opening: Opening, text: &'a [u8]) -> ToldLine<&'a [u8]>
     requires cpu { StartsWithin opening.cpu (length line.now) }
     requires end { opening.end ≤ length line.now }
     ensures { told_text result ≡ line_behind line.now opening text.now }
 {
     let (word, _) = first_word(text);
     match verb_of(word) {
-        None => told_line(Line::Quiet),
+        None => told_line(RecordLine::Quiet),
         Some(verb) => match told_said(line, opening, verb, &text[word.len()..]) {
-            None => told_line(Line::Flawed(Flaw::BadTraceLine)),
+            None => told_line(RecordLine::Flawed(Flaw::BadTraceLine)),
             Some(told) => told,
         },
     }
 }
 
-fn event_line(line: &[u8]) -> Told<&[u8]>
+fn event_line(line: &[u8]) -> ToldLine<&[u8]>
     ensures { told_text result ≡ event_line line.now (opening_of line.now) }
 {
     match opening_of(line) {
-        None => told_line(Line::Quiet),
+        None => told_line(RecordLine::Quiet),
         Some(opening) => line_behind(line, opening, without_spaces(&line[opening.end..])),
     }
 }
@@ -344,11 +344,11 @@ fn tells_loss(line: &[u8]) -> bool
 }
 
 /// What a line tells, without the byte that ends it.
-pub fn told_by(line: &[u8]) -> Told<&[u8]>
+pub fn told_by(line: &[u8]) -> ToldLine<&[u8]>
     ensures { told_text result ≡ told_by line.now }
 {
     if tells_loss(line) {
-        told_line(Line::Flawed(Flaw::LostEvents))
+        told_line(RecordLine::Flawed(Flaw::LostEvents))
     } else if is_comment(line) {
         comment_line(line)
     } else {

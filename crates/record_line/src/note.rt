@@ -10,7 +10,7 @@ use crate::word::{is_domain, kernel_of, number_in, optional, rt_limit, small, wo
 use grub_text::first_word;
 use trace_line::{after, behind, place_of, point_text, without_spaces};
 use trace_probes::unsigned;
-use trace_words::{Kernel, Limit, Note, Parameters, Policy, Sums};
+use trace_words::{Kernel, Limit, TraceNote, Parameters, Policy, Sums};
 
 /// How many lines a record lacks: those that its buffers lost, and those that probes missed.
 #[derive(Clone, Copy)]
@@ -26,13 +26,13 @@ pub enum Noted<T> {
     Quiet,
 
     /// The first note, and the CPUs of the root domain, as `0-3,5`, where they stand there.
-    Head { note: Note, domain: Option<T> },
+    Head { note: TraceNote, domain: Option<T> },
 
     /// What is noted of a task, and its comm.
-    Task { note: Note, pid: u64, comm: T },
+    Task { note: TraceNote, pid: u64, comm: T },
 
     /// Another note.
-    Other { note: Note },
+    Other { note: TraceNote },
     Lost { lost: Lost },
 }
 
@@ -80,7 +80,7 @@ fn head_with(text: &[u8]) -> Option<Noted<&[u8]>>
     let total_bw = optional(b"total-bw=", text)?;
     let domain = domain_of(text)?;
     Some(Noted::Head {
-        note: Note::Head {
+        note: TraceNote::Head {
             kernel,
             limit,
             total_bw,
@@ -119,7 +119,7 @@ fn runqueue_note(text: &[u8]) -> Option<Noted<&[u8]>>
     let cpu = small(unsigned(first_word(without_spaces(text)).0)?)?;
     let sums = sums(text)?;
     Some(Noted::Other {
-        note: Note::Runqueue { cpu, sums },
+        note: TraceNote::Runqueue { cpu, sums },
     })
 }
 
@@ -173,7 +173,7 @@ fn task_with<'a>(text: &'a [u8], comm: &'a [u8]) -> Option<Noted<&'a [u8]>>
     let cpu = small(number_in(b"cpu=", text)?)?;
     let policy = policy_of(text)?;
     Some(Noted::Task {
-        note: Note::Task {
+        note: TraceNote::Task {
             pid,
             at,
             by,
@@ -204,7 +204,7 @@ fn end_note(text: &[u8]) -> Option<Noted<&[u8]>>
     let limit = limit_of(text)?;
     let total_bw = optional(b"total-bw=", text)?;
     Some(Noted::Other {
-        note: Note::End { limit, total_bw },
+        note: TraceNote::End { limit, total_bw },
     })
 }
 

@@ -4,7 +4,7 @@ ghost use Rattle.std.specs.Prelude.{◌≡◌, None};
 ghost use Rattle.deadline_rules.specs.Charge.{charging_of, cost_of};
 
 use crate::change::RuleChange;
-use deadline_rules::{BW_UNIT, Charge, Entity, Law, RECLAIM, Runqueue, charging, cost};
+use deadline_rules::{BW_UNIT, Charge, Entity, ChargeLaw, RECLAIM, ChargedRunqueue, charging, cost};
 use trace_words::{Parameters, Sums};
 
 /// `max_bw` where a line of an older kernel has none: 95 % of a processor.
@@ -13,13 +13,13 @@ const USUAL_MAX_BW: u64 = 996_147;
 /// What a charge is reckoned from.
 #[derive(Clone, Copy)]
 struct Reckoned {
-    law: Law,
+    law: ChargeLaw,
     entity: Entity,
-    runqueue: Runqueue,
+    runqueue: ChargedRunqueue,
 }
 
-fn with_sums(runqueue: Runqueue, this_bw: u64, extra_bw: u64) -> Runqueue {
-    Runqueue {
+fn with_sums(runqueue: ChargedRunqueue, this_bw: u64, extra_bw: u64) -> ChargedRunqueue {
+    ChargedRunqueue {
         sums: Sums {
             this_bw,
             extra_bw,
@@ -39,15 +39,15 @@ fn with_flags(entity: Entity, flags: u64) -> Entity {
     }
 }
 
-fn top(law: Law, runqueue: Runqueue) -> u64 {
+fn top(law: ChargeLaw, runqueue: ChargedRunqueue) -> u64 {
     match law {
-        Law::LinuxBefore65 => BW_UNIT,
-        Law::LinuxFrom65 | Law::Documentation => runqueue.max_bw,
+        ChargeLaw::LinuxBefore65 => BW_UNIT,
+        ChargeLaw::LinuxFrom65 | ChargeLaw::Documentation => runqueue.max_bw,
     }
 }
 
 /// The runqueue with no more inactive bandwidth than what `extra_bw` leaves.
-fn left_alone(law: Law, runqueue: Runqueue) -> Runqueue {
+fn left_alone(law: ChargeLaw, runqueue: ChargedRunqueue) -> ChargedRunqueue {
     let sums = runqueue.sums;
     let inactive = sums.this_bw.wrapping_sub(sums.running_bw);
     let most = top(law, runqueue).saturating_sub(sums.extra_bw);
@@ -58,7 +58,7 @@ fn left_alone(law: Law, runqueue: Runqueue) -> Runqueue {
     )
 }
 
-fn changed_runqueue(change: RuleChange, law: Law, entity: Entity, runqueue: Runqueue) -> Runqueue {
+fn changed_runqueue(change: RuleChange, law: ChargeLaw, entity: Entity, runqueue: ChargedRunqueue) -> ChargedRunqueue {
     let sums = runqueue.sums;
     let running = sums.running_bw;
     match change {
@@ -74,11 +74,11 @@ fn changed_runqueue(change: RuleChange, law: Law, entity: Entity, runqueue: Runq
         ),
         RuleChange::OwnBandwidth => with_sums(runqueue, running.wrapping_sub(1), 0),
         RuleChange::WhatIsLeft => left_alone(law, runqueue),
-        RuleChange::RatioPlusOne => Runqueue {
+        RuleChange::RatioPlusOne => ChargedRunqueue {
             bw_ratio: runqueue.bw_ratio.wrapping_add(1),
             ..runqueue
         },
-        RuleChange::EquationFrom65 => Runqueue {
+        RuleChange::EquationFrom65 => ChargedRunqueue {
             max_bw: if runqueue.max_bw == 0 {
                 USUAL_MAX_BW
             } else {
@@ -100,15 +100,15 @@ fn changed_entity(change: RuleChange, entity: Entity) -> Entity {
     }
 }
 
-fn changed_law(change: RuleChange, law: Law) -> Law {
+fn changed_law(change: RuleChange, law: ChargeLaw) -> ChargeLaw {
     match change {
-        RuleChange::EquationBefore65 => Law::LinuxBefore65,
-        RuleChange::EquationFrom65 => Law::LinuxFrom65,
+        RuleChange::EquationBefore65 => ChargeLaw::LinuxBefore65,
+        RuleChange::EquationFrom65 => ChargeLaw::LinuxFrom65,
         _ => law,
     }
 }
 
-fn reckon(change: RuleChange, law: Law, entity: Entity, runqueue: Runqueue) -> Reckoned {
+fn reckon(change: RuleChange, law: ChargeLaw, entity: Entity, runqueue: ChargedRunqueue) -> Reckoned {
     Reckoned {
         law: changed_law(change, law),
         entity: changed_entity(change, entity),
@@ -119,9 +119,9 @@ fn reckon(change: RuleChange, law: Law, entity: Entity, runqueue: Runqueue) -> R
 /// How a run is charged.
 pub fn charging_by(
     change: Option<RuleChange>,
-    law: Law,
+    law: ChargeLaw,
     entity: Entity,
-    runqueue: Runqueue,
+    runqueue: ChargedRunqueue,
 ) -> Charge
     ensures { change ≡ None → result ≡ charging_of law entity runqueue }
 {
@@ -137,9 +137,9 @@ pub fn charging_by(
 /// What a run of `nanos` takes from the budget.
 pub fn cost_by(
     change: Option<RuleChange>,
-    law: Law,
+    law: ChargeLaw,
     entity: Entity,
-    runqueue: Runqueue,
+    runqueue: ChargedRunqueue,
     nanos: u64,
 ) -> u64
     ensures { change ≡ None → result ≡ cost_of law entity runqueue nanos }

@@ -12,7 +12,7 @@ use deadline_events::{
     Admission, Admitting, Arrival, Dequeuing, Fired, Leaving, Spending, admit, dequeue, leave,
     spend, zero_lag_fired,
 };
-use deadline_rules::{Block, Change, Entity, unchanged, zero_lag};
+use deadline_rules::{Block, SumsChange, Entity, unchanged, zero_lag};
 use trace_words::{Admitted, Parameters};
 
 fn with_period(entity: Entity, dl_period: u64) -> Entity {
@@ -91,11 +91,11 @@ fn own_again(change: RuleChange, before: Entity, after: Entity) -> Entity {
 }
 
 /// What a block past the 0-lag time does, where it leaves `running_bw`.
-fn runs_on(change: RuleChange, entity: Entity, block: Option<Block>, sums: Change) -> Change {
+fn runs_on(change: RuleChange, entity: Entity, block: Option<Block>, sums: SumsChange) -> SumsChange {
     match block {
         Some(Block::Past)
             if change == RuleChange::PastRunsOn && (entity.is_server || entity.is_in_class) =>
-            Change {
+            SumsChange {
                 running_bw: sums.running_bw.wrapping_add(entity.dl_bw),
                 ..sums
             },
@@ -104,13 +104,13 @@ fn runs_on(change: RuleChange, entity: Entity, block: Option<Block>, sums: Chang
 }
 
 /// What a dequeue that moves the task leaves behind.
-fn left_behind(change: RuleChange, entity: Entity, departure: Arrival, sums: Change) -> Change {
+fn left_behind(change: RuleChange, entity: Entity, departure: Arrival, sums: SumsChange) -> SumsChange {
     match (change, departure) {
-        (RuleChange::MoveLeavesThis, Arrival::Moves) => Change {
+        (RuleChange::MoveLeavesThis, Arrival::Moves) => SumsChange {
             this_bw: sums.this_bw.wrapping_add(entity.dl_bw),
             ..sums
         },
-        (RuleChange::MoveLeavesRunning, Arrival::Moves) => Change {
+        (RuleChange::MoveLeavesRunning, Arrival::Moves) => SumsChange {
             running_bw: sums.running_bw.wrapping_add(entity.dl_bw),
             ..sums
         },
@@ -177,7 +177,7 @@ fn changed_leave(change: RuleChange, entity: Entity, on_rq: u64, clock: u64) -> 
     };
     Leaving {
         entity: own_again(change, entity, done.entity),
-        change: Change {
+        change: SumsChange {
             freed,
             ..done.change
         },
@@ -227,11 +227,11 @@ pub fn fired_by(change: Option<RuleChange>, entity: Entity) -> Fired
 fn changed_admit(change: RuleChange, entity: Entity, line: Admitted, cpus: u64) -> Admitting {
     let done = admit(entity, line, cpus);
     let sums = match (change, done.admission) {
-        (RuleChange::AdmissionTakesNothing, Admission::New | Admission::Back) => Change {
+        (RuleChange::AdmissionTakesNothing, Admission::New | Admission::Back) => SumsChange {
             taken: None,
             ..done.change
         },
-        (RuleChange::ChangeFreesNothing, Admission::Changed | Admission::Back) => Change {
+        (RuleChange::ChangeFreesNothing, Admission::Changed | Admission::Back) => SumsChange {
             freed: None,
             ..done.change
         },

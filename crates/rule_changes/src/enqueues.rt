@@ -7,7 +7,7 @@ use crate::change::RuleChange;
 use crate::refills::{changed_waking, changed_woken};
 use crate::replenishments::{replenished_once, with_budget, with_left};
 use deadline_events::{Arrival, Enqueuing, Refill, enqueue};
-use deadline_rules::{Change, Contention, Entity, Law, MIGRATED, REPLENISH, has};
+use deadline_rules::{SumsChange, Contention, Entity, ChargeLaw, MIGRATED, REPLENISH, has};
 use trace_words::{Enqueued, Parameters};
 
 /// The entity with the deadline in place of the period.
@@ -31,7 +31,7 @@ fn before_refill(entity: Entity, done: Enqueuing) -> Entity {
 }
 
 /// An enqueue that never throttles a constrained task.
-fn never_constrained(law: Law, entity: Entity, line: Enqueued) -> Enqueuing {
+fn never_constrained(law: ChargeLaw, entity: Entity, line: Enqueued) -> Enqueuing {
     let done = enqueue(law, unconstrained(entity), line);
     with_entity(
         done,
@@ -44,7 +44,7 @@ fn never_constrained(law: Law, entity: Entity, line: Enqueued) -> Enqueuing {
 
 fn changed_constraint(
     change: RuleChange,
-    law: Law,
+    law: ChargeLaw,
     entity: Entity,
     line: Enqueued,
     done: Enqueuing,
@@ -64,7 +64,7 @@ fn changed_constraint(
 
 fn changed_wake(
     change: RuleChange,
-    law: Law,
+    law: ChargeLaw,
     entity: Entity,
     clock: u64,
     done: Enqueuing,
@@ -84,7 +84,7 @@ fn changed_wake(
 }
 
 /// A move that is a wake.
-fn moved_as_wake(law: Law, entity: Entity, line: Enqueued, done: Enqueuing) -> Enqueuing {
+fn moved_as_wake(law: ChargeLaw, entity: Entity, line: Enqueued, done: Enqueuing) -> Enqueuing {
     match (done.arrival, done.refill) {
         (Arrival::Moves, Refill::Stays | Refill::Restarts | Refill::Replenishes) => {
             let before = before_refill(entity, done);
@@ -130,7 +130,7 @@ fn without_this(entity: Entity, line: Enqueued, done: Enqueuing) -> Enqueuing {
     match done.contention {
         Some(Contention::StillRuns | Contention::RunsAgain) if has(line.flags, MIGRATED) => {
             Enqueuing {
-                change: Change {
+                change: SumsChange {
                     this_bw: done.change.this_bw.wrapping_sub(entity.dl_bw),
                     ..done.change
                 },
@@ -172,7 +172,7 @@ fn found(change: RuleChange, entity: Entity, line: Enqueued) -> Entity {
     }
 }
 
-fn changed_enqueue(change: RuleChange, law: Law, entity: Entity, line: Enqueued) -> Enqueuing {
+fn changed_enqueue(change: RuleChange, law: ChargeLaw, entity: Entity, line: Enqueued) -> Enqueuing {
     let done = enqueue(law, found(change, entity, line), line);
     match change {
         RuleChange::NotConstrained | RuleChange::UntilDeadline => {
@@ -194,7 +194,7 @@ fn changed_enqueue(change: RuleChange, law: Law, entity: Entity, line: Enqueued)
 }
 
 /// What an enqueue does to an entity that has the values of the line.
-pub fn enqueue_by(change: Option<RuleChange>, law: Law, entity: Entity, line: Enqueued) -> Enqueuing
+pub fn enqueue_by(change: Option<RuleChange>, law: ChargeLaw, entity: Entity, line: Enqueued) -> Enqueuing
     ensures { change ≡ None → result ≡ enqueuing_of law entity line }
 {
     match change {

@@ -23,7 +23,7 @@ pub struct Proposal {
 
 /// What a machine has.
 #[derive(Clone, Copy)]
-pub struct Machine {
+pub struct RootDomain {
     /// How many processors its root domain has.
     pub processors: u32,
 
@@ -60,7 +60,7 @@ pub(crate) fn greatest(bandwidths: &[u64]) -> u64 {
 }
 
 /// Whether a root domain admits this sum (the kernel's `sched-deadline.rst`, "Admission of SCHED_DEADLINE tasks").
-pub(crate) fn is_admitted(sum: u64, machine: Machine) -> bool
+pub(crate) fn is_admitted(sum: u64, machine: RootDomain) -> bool
     ensures { IsTrue result ↔ IsAdmitted sum machine }
 {
     let room = u128::from(machine.most.saturating_sub(machine.fair));
@@ -68,7 +68,7 @@ pub(crate) fn is_admitted(sum: u64, machine: Machine) -> bool
 }
 
 /// Whether global EDF keeps all deadlines of reservations of this sum, of which this is the greatest (Goossens, Funk and Baruah 2003).
-pub(crate) fn is_in_time(sum: u64, greatest: u64, machine: Machine) -> bool
+pub(crate) fn is_in_time(sum: u64, greatest: u64, machine: RootDomain) -> bool
     ensures { IsTrue result ↔ KeepsDeadlines sum greatest machine }
 {
     let processors = u128::from(machine.processors);
@@ -110,7 +110,7 @@ fn first_fit(used: &[u64], bandwidth: u64, room: u64) -> Option<usize> {
 pub(crate) fn placed_of(
     alloc: Global,
     bandwidths: &[u64],
-    machine: Machine,
+    machine: RootDomain,
 ) -> Result<Option<Vec<usize>>, AllocError> {
     let room = u64::from(machine.most.saturating_sub(machine.fair));
     let mut used = Vec::new(alloc);

@@ -1,17 +1,17 @@
 //! What all proposals together come to, in words.
 
 use crate::admission::{
-    Machine, Proposal, bandwidth, bandwidths_of, greatest, hundredths, is_admitted, is_in_time,
+    RootDomain, Proposal, bandwidth, bandwidths_of, greatest, hundredths, is_admitted, is_in_time,
     placed_of, total,
 };
 use crate::table::{
-    Row, heading, hundredths_cell, number_cell, put_hundredths, put_number, put_table, put_text,
+    TableRow, heading, hundredths_cell, number_cell, put_hundredths, put_number, put_table, put_text,
 };
 use std::alloc::AllocError;
 
 fn put_rows(out: &mut Vec<u8>, proposals: &[Proposal]) -> Result<(), AllocError> {
     let alloc = *out.allocator();
-    let mut rows: Vec<Row> = Vec::new(alloc);
+    let mut rows: Vec<TableRow> = Vec::new(alloc);
     rows.push(heading(alloc, &["task", "runtime", "period", "%"])?)?;
     for one in proposals {
         let mut row = Vec::new(alloc);
@@ -28,7 +28,7 @@ fn put_percent(out: &mut Vec<u8>, bandwidth: u64) -> Result<(), AllocError> {
     put_hundredths(out, hundredths(bandwidth))
 }
 
-fn put_admission(out: &mut Vec<u8>, sum: u64, machine: Machine) -> Result<(), AllocError> {
+fn put_admission(out: &mut Vec<u8>, sum: u64, machine: RootDomain) -> Result<(), AllocError> {
     let processors = u64::from(machine.processors);
     put_text(out, "  ")?;
     put_percent(out, sum)?;
@@ -56,7 +56,7 @@ fn put_in_time(
     out: &mut Vec<u8>,
     sum: u64,
     greatest: u64,
-    machine: Machine,
+    machine: RootDomain,
 ) -> Result<(), AllocError> {
     let processors = u64::from(machine.processors);
     let holds = is_in_time(sum, greatest, machine);
@@ -116,7 +116,7 @@ fn put_placed(
     out: &mut Vec<u8>,
     proposals: &[Proposal],
     bandwidths: &[u64],
-    machine: Machine,
+    machine: RootDomain,
 ) -> Result<(), AllocError> {
     put_text(out, "  a processor each: ")?;
     match placed_of(*out.allocator(), bandwidths, machine)? {
@@ -137,7 +137,7 @@ fn put_placed(
 pub fn put_proposals(
     out: &mut Vec<u8>,
     proposals: &[Proposal],
-    machine: Machine,
+    machine: RootDomain,
 ) -> Result<(), AllocError> {
     let bandwidths = bandwidths_of(*out.allocator(), proposals)?;
     let sum = total(&bandwidths);

@@ -3,7 +3,7 @@
 use std::alloc::{AllocError, Global};
 
 /// The cells of a line.
-pub type Row = Vec<Vec<u8>>;
+pub type TableRow = Vec<Vec<u8>>;
 
 /// Writes a text.
 pub fn put_text(out: &mut Vec<u8>, text: &str) -> Result<(), AllocError> {
@@ -44,7 +44,7 @@ pub fn hundredths_cell(alloc: Global, n: u64) -> Result<Vec<u8>, AllocError> {
 }
 
 /// The cells of a heading.
-pub fn heading(alloc: Global, texts: &[&str]) -> Result<Row, AllocError> {
+pub fn heading(alloc: Global, texts: &[&str]) -> Result<TableRow, AllocError> {
     let mut row = Vec::new(alloc);
     for text in texts {
         row.push(text_cell(alloc, text)?)?;
@@ -52,7 +52,7 @@ pub fn heading(alloc: Global, texts: &[&str]) -> Result<Row, AllocError> {
     Ok(row)
 }
 
-fn widths_of(alloc: Global, rows: &[Row]) -> Result<Vec<usize>, AllocError> {
+fn widths_of(alloc: Global, rows: &[TableRow]) -> Result<Vec<usize>, AllocError> {
     let mut widths = Vec::new(alloc);
     for row in rows {
         for (i, cell) in row.iter().enumerate() {
@@ -85,7 +85,7 @@ fn trim(out: &mut Vec<u8>) {
 
 fn put_row(
     out: &mut Vec<u8>,
-    row: &Row,
+    row: &TableRow,
     widths: &[usize],
     left: &[usize],
     indent: usize,
@@ -116,7 +116,7 @@ fn put_row(
 /// Writes a table whose columns are two spaces apart; those of `left` begin at their left, the others end at their right.
 pub fn put_table(
     out: &mut Vec<u8>,
-    rows: &[Row],
+    rows: &[TableRow],
     left: &[usize],
     indent: usize,
 ) -> Result<(), AllocError> {

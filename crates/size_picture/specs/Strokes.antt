@@ -4,11 +4,11 @@ use Rattle.std.specs.List.{flat_map}
 use Rattle.size_picture.specs.Columns.{columns_of}
 use Rattle.size_picture.specs.declared.column.Column.{Column}
 use Rattle.size_picture.specs.declared.panel.Panel.{Panel}
-use Rattle.size_picture.specs.declared.stroke.Look.{Look}
-use Rattle.size_picture.specs.declared.stroke.Look.TheVariants.{Pale, Late, Dark, Curve, Proposed, Least, Less, Axis}
+use Rattle.size_picture.specs.declared.stroke.StrokeLook.{StrokeLook}
+use Rattle.size_picture.specs.declared.stroke.StrokeLook.TheVariants.{Pale, Late, Dark, Curve, Proposed, Least, Less, Axis}
 use Rattle.size_picture.specs.declared.stroke.Stroke.{Stroke}
 
-abbrev pub class_of : Look → List ℕ
+abbrev pub class_of : StrokeLook → List ℕ
 class_of Pale = codes "b"
 class_of Late = codes "l"
 class_of Dark = codes "d"
@@ -29,7 +29,7 @@ abbrev pub height_of : ℕ → ℕ → ℕ
 height_of top runtime = min runtime top * 150 / max top 1
 
 -- dark where it may be late with the least, lighter where it may be with 15 percent less
-abbrev pub look_of : ℕ → Look
+abbrev pub look_of : ℕ → StrokeLook
 look_of shade = if shade == 0 then Pale else (if shade == 1 then Late else Dark)
 
 -- the bar of a column, as high as what stands in it
@@ -47,7 +47,7 @@ curve_of base end (c ∷ d ∷ ds) =
     record { look = Curve; x = c.x; y = base - c.height; to_x = d.x; to_y = base - d.height } ∷ curve_of base end (d ∷ ds)
 
 -- a line through the panel at a runtime
-abbrev pub line_of : ℕ → ℕ → Look → ℕ → Stroke
+abbrev pub line_of : ℕ → ℕ → StrokeLook → ℕ → Stroke
 line_of base top look runtime =
     record { look = look; x = 130; y = base - height_of top runtime; to_x = 1154; to_y = base - height_of top runtime }
 

@@ -5,7 +5,7 @@ ghost use Rattle.size_picture.specs.Strokes.{DrawsNeeds, bar_of, bars_of, height
 
 use crate::column::{Column, Need, PANEL, WIDTH, columns_of};
 use crate::scale::{place_of, put_counts, put_runtimes, put_time};
-use crate::stroke::{Look, Stroke, put_strokes};
+use crate::stroke::{StrokeLook, Stroke, put_strokes};
 use grub_shapes::{LEFT, put_number};
 use std::alloc::{AllocError, Global};
 
@@ -49,15 +49,15 @@ fn height_of(top: u32, runtime: u32) -> u64
     u64::from(runtime.min(top)) * u64::from(PANEL) / u64::from(top.max(1))
 }
 
-fn look_of(shade: u32) -> Look
+fn look_of(shade: u32) -> StrokeLook
     ensures { result ≡ look_of shade }
 {
     if shade == 0 {
-        Look::Pale
+        StrokeLook::Pale
     } else if shade == 1 {
-        Look::Late
+        StrokeLook::Late
     } else {
-        Look::Dark
+        StrokeLook::Dark
     }
 }
 
@@ -97,7 +97,7 @@ fn curve_of(
             None => (end, 0),
         };
         curve.push(Stroke {
-            look: Look::Curve,
+            look: StrokeLook::Curve,
             x: column.x,
             y: base.saturating_sub(u64::from(column.height)),
             to_x,
@@ -107,7 +107,7 @@ fn curve_of(
     Ok(curve)
 }
 
-fn line_of(base: u64, top: u32, look: Look, runtime: u32) -> Stroke
+fn line_of(base: u64, top: u32, look: StrokeLook, runtime: u32) -> Stroke
     ensures { result ≡ line_of base top look runtime }
 {
     let y = base.saturating_sub(height_of(top, runtime));
@@ -125,9 +125,9 @@ fn put_lines(out: &mut Vec<u8>, panel: &Panel<'_>, base: u64) -> Result<(), Allo
     ensures { OnOk result (out.new.items ≡ out.old.items ++ lines_text base panel.now) }
 {
     let lines = [
-        line_of(base, panel.top, Look::Proposed, panel.proposed),
-        line_of(base, panel.top, Look::Least, panel.least),
-        line_of(base, panel.top, Look::Less, panel.less),
+        line_of(base, panel.top, StrokeLook::Proposed, panel.proposed),
+        line_of(base, panel.top, StrokeLook::Least, panel.least),
+        line_of(base, panel.top, StrokeLook::Less, panel.less),
     ];
     put_strokes(out, &lines)
 }

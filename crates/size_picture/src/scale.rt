@@ -3,7 +3,7 @@
 ghost use Rattle.std.specs.Prelude.{◌≤◌};
 
 use crate::column::{PANEL, WIDTH};
-use crate::stroke::{Look, Stroke, put_stroke};
+use crate::stroke::{StrokeLook, Stroke, put_stroke};
 use grub_shapes::{LEFT, put_number, put_text};
 use std::alloc::AllocError;
 
@@ -52,7 +52,7 @@ fn put_label(
 
 fn axis(x: u64, y: u64, to_x: u64, to_y: u64) -> Stroke {
     Stroke {
-        look: Look::Axis,
+        look: StrokeLook::Axis,
         x,
         y,
         to_x,

@@ -9,7 +9,7 @@ use std::alloc::AllocError;
 
 /// How a stroke looks.
 #[derive(Clone, Copy, Debug, PartialEq, Eq)]
-pub enum Look {
+pub enum StrokeLook {
     /// A job that is in time with 15 percent less than the least.
     Pale,
 
@@ -34,25 +34,25 @@ pub enum Look {
 /// A line along and then up or down, in pixels.
 #[derive(Clone, Copy, Debug, PartialEq, Eq)]
 pub struct Stroke {
-    pub look: Look,
+    pub look: StrokeLook,
     pub x: u64,
     pub y: u64,
     pub to_x: u64,
     pub to_y: u64,
 }
 
-fn class_of(look: Look) -> &'static [u8]
+fn class_of(look: StrokeLook) -> &'static [u8]
     ensures { result.now ≡ class_of look }
 {
     match look {
-        Look::Pale => b"b",
-        Look::Late => b"l",
-        Look::Dark => b"d",
-        Look::Curve => b"c",
-        Look::Proposed => b"p",
-        Look::Least => b"m",
-        Look::Less => b"s",
-        Look::Axis => b"a",
+        StrokeLook::Pale => b"b",
+        StrokeLook::Late => b"l",
+        StrokeLook::Dark => b"d",
+        StrokeLook::Curve => b"c",
+        StrokeLook::Proposed => b"p",
+        StrokeLook::Least => b"m",
+        StrokeLook::Less => b"s",
+        StrokeLook::Axis => b"a",
     }
 }
 

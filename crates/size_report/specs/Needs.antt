@@ -6,7 +6,7 @@ use Rattle.grub_sizing.specs.Least.{IsLeast}
 use Rattle.grub_sizing.specs.declared.job.Job.{Job}
 use Rattle.size_report.specs.declared.sizing.Choice.{Choice}
 use Rattle.size_report.specs.declared.sizing.Needed.{Needed}
-use Rattle.size_report.specs.declared.sizing.Wanted.{Wanted}
+use Rattle.size_report.specs.declared.sizing.SizeRequest.{SizeRequest}
 
 -- so many percent more than the least, rounded up, at least 2 as the kernel wants it, within the period
 abbrev pub proposed_of : ℕ → ℕ → ℕ → ℕ
@@ -26,7 +26,7 @@ IsPriced jobs allowed price =
     IfSome price.1 (IsLeast jobs price.0 allowed) × (IsNone price.1 ↔ (allowed < late_of price.0 price.0 jobs))
 
 -- the least runtime with which at most so many jobs may be late, what is proposed, and what other runtimes and periods cost
-pub record IsNeeded (jobs : List Job) (wanted : Wanted) (needed : Needed) : Type 0 where
+pub record IsNeeded (jobs : List Job) (wanted : SizeRequest) (needed : Needed) : Type 0 where
   pub least : IsLeast jobs wanted.period wanted.allowed needed.least
   pub proposed : needed.proposed ≡ proposed_of needed.least wanted.margin wanted.period
   pub less : needed.less ≡ less_of needed.least

@@ -2,10 +2,10 @@
 
 use crate::figures::{Figures, at, most, regular_period, share, total};
 use size_admission::table::{
-    Row, heading, hundredths_cell, number_cell, put_table, put_text, text_cell,
+    TableRow, heading, hundredths_cell, number_cell, put_table, put_text, text_cell,
 };
 use std::alloc::{AllocError, Global};
-use trace_jobs::{Class, Record, Task};
+use trace_jobs::{Class, JobRecord, JobTask};
 
 pub(crate) fn class_text(class: Class) -> &'static str {
     match class {
@@ -17,17 +17,17 @@ pub(crate) fn class_text(class: Class) -> &'static str {
 
 /// A line of the table, and by how much it is before others.
 #[derive(Drop)]
-struct Line {
+struct CensusLine {
     work: u64,
-    row: Row,
+    row: TableRow,
 }
 
 /// How long a record is, in microseconds.
-pub(crate) fn duration(record: &Record) -> u64 {
+pub(crate) fn duration(record: &JobRecord) -> u64 {
     record.last.saturating_sub(record.first) / 1000
 }
 
-fn row_of(alloc: Global, task: &Task, micros: u64) -> Result<Line, AllocError> {
+fn row_of(alloc: Global, task: &JobTask, micros: u64) -> Result<CensusLine, AllocError> {
     let figures = Figures::new(alloc, &task.jobs)?;
     let work = total(&figures.ran);
     let wakes = if regular_period(&figures.between).is_some() {
@@ -49,11 +49,11 @@ fn row_of(alloc: Global, task: &Task, micros: u64) -> Result<Line, AllocError> {
     row.push(number_cell(alloc, at(&figures.done, 50))?)?;
     row.push(number_cell(alloc, most(&figures.done))?)?;
     row.push(text_cell(alloc, wakes)?)?;
-    Ok(Line { work, row })
+    Ok(CensusLine { work, row })
 }
 
 /// The text that lists the tasks of a record with two jobs or more, by their share of processor time.
-pub(crate) fn census_text(alloc: Global, record: &Record) -> Result<Vec<u8>, AllocError> {
+pub(crate) fn census_text(alloc: Global, record: &JobRecord) -> Result<Vec<u8>, AllocError> {
     let mut lines = Vec::new(alloc);
     for pid in record.tasks.pids() {
         if let Some(task) = record.tasks.task(*pid) {
@@ -62,11 +62,11 @@ pub(crate) fn census_text(alloc: Global, record: &Record) -> Result<Vec<u8>, All
             }
         }
     }
-    lines.sort_by_key(|line: &Line| u64::MAX - line.work)?;
+    lines.sort_by_key(|line: &CensusLine| u64::MAX - line.work)?;
     let mut rows = Vec::new(alloc);
     rows.push(heading(alloc, &HEADING)?)?;
     for line in lines {
-        let Line { row, .. } = line;
+        let CensusLine { row, .. } = line;
         rows.push(row)?;
     }
     let mut out = Vec::new(alloc);

@@ -9,7 +9,7 @@ use std::alloc::{AllocError, Global};
 
 /// A task that is asked for, with durations in microseconds.
 #[derive(Clone, Copy)]
-pub struct Asked<'a> {
+pub struct AskedTask<'a> {
     /// Its comm or its pid.
     pub name: &'a str,
 
@@ -26,7 +26,7 @@ pub struct Asked<'a> {
 /// What is asked of a record.
 #[derive(Drop)]
 pub struct SizeOptions<'a> {
-    pub tasks: Vec<Asked<'a>>,
+    pub tasks: Vec<AskedTask<'a>>,
 
     /// How many jobs of each task may be late.
     pub late: usize,
@@ -49,7 +49,7 @@ pub struct SizeOptions<'a> {
 
 /// The words of the options, as they were given.
 #[derive(Clone, Copy)]
-pub struct Words<'w, 'a> {
+pub struct SizeWords<'w, 'a> {
     pub tasks: &'w [&'a str],
     pub withins: &'w [&'a str],
     pub late: u32,
@@ -94,7 +94,7 @@ fn is_period(period: u32) -> bool {
 }
 
 /// What stands behind the name of a task.
-fn reservation_of<'a>(name: &'a str, text: &str) -> Option<Asked<'a>> {
+fn reservation_of<'a>(name: &'a str, text: &str) -> Option<AskedTask<'a>> {
     let (runtime, period) = match text.rsplit_once(':') {
         None => (None, number_of(text)?),
         Some((runtime, period)) => (Some(number_of(runtime)?), number_of(period)?),
@@ -102,7 +102,7 @@ fn reservation_of<'a>(name: &'a str, text: &str) -> Option<Asked<'a>> {
     if !is_period(period) || runtime.is_some_and(|runtime| runtime < 2 || runtime > period) {
         return None;
     }
-    Some(Asked {
+    Some(AskedTask {
         name,
         period: Some(period),
         runtime,
@@ -111,9 +111,9 @@ fn reservation_of<'a>(name: &'a str, text: &str) -> Option<Asked<'a>> {
 }
 
 /// The task of a word, whose name ends at the last `=`.
-fn asked_of(text: &str) -> Option<Asked<'_>> {
+fn asked_of(text: &str) -> Option<AskedTask<'_>> {
     let asked = match text.rsplit_once('=') {
-        None => Asked {
+        None => AskedTask {
             name: text,
             period: None,
             runtime: None,
@@ -128,11 +128,11 @@ fn asked_of(text: &str) -> Option<Asked<'_>> {
     }
 }
 
-fn is_named(tasks: &[Asked<'_>], name: &str) -> bool {
+fn is_named(tasks: &[AskedTask<'_>], name: &str) -> bool {
     tasks.iter().any(|task| task.name == name)
 }
 
-fn tasks_of<'a>(alloc: Global, words: &[&'a str]) -> Result<Vec<Asked<'a>>, OptionFault<'a>> {
+fn tasks_of<'a>(alloc: Global, words: &[&'a str]) -> Result<Vec<AskedTask<'a>>, OptionFault<'a>> {
     let mut tasks = Vec::new(alloc);
     for word in words {
         let Some(task) = asked_of(word) else {
@@ -149,7 +149,7 @@ fn tasks_of<'a>(alloc: Global, words: &[&'a str]) -> Result<Vec<Asked<'a>>, Opti
 }
 
 /// Gives the task of a name the time within which its jobs are to be done.
-fn set_within(tasks: &mut [Asked<'_>], name: &str, within: u32) -> bool {
+fn set_within(tasks: &mut [AskedTask<'_>], name: &str, within: u32) -> bool {
     for task in tasks.iter_mut() {
         if task.name == name && task.within.is_none() {
             task.within = Some(within);
@@ -168,7 +168,7 @@ fn within_of(text: &str) -> Option<(&str, u32)> {
     Some((name, within))
 }
 
-fn give_withins<'a>(tasks: &mut Vec<Asked<'a>>, words: &[&'a str]) -> Result<(), OptionFault<'a>> {
+fn give_withins<'a>(tasks: &mut Vec<AskedTask<'a>>, words: &[&'a str]) -> Result<(), OptionFault<'a>> {
     for word in words {
         let is_given = match within_of(word) {
             None => false,
@@ -207,7 +207,7 @@ fn fair_of(text: &str) -> Option<u32> {
 /// What the words of the options say, or the first that says nothing.
 pub fn size_options_of<'a>(
     alloc: Global,
-    words: Words<'_, 'a>,
+    words: SizeWords<'_, 'a>,
 ) -> Result<SizeOptions<'a>, OptionFault<'a>> {
     let mut tasks = tasks_of(alloc, words.tasks)?;
     give_withins(&mut tasks, words.withins)?;

@@ -2,12 +2,12 @@
 
 ghost use Rattle.std.specs.Prelude.{◌≤◌};
 
-use crate::sizing::{Needed, Wanted};
+use crate::sizing::{Needed, SizeRequest};
 use grub_sizing::{Job, lates_of, least_runtime};
 use size_picture::{Need, Panel, sizing_picture};
 use sizing_needs::heights_of;
 use std::alloc::{AllocError, Global};
-use trace_jobs::Task;
+use trace_jobs::JobTask;
 
 /// What is drawn of a task.
 #[derive(Drop)]
@@ -52,7 +52,7 @@ fn late_with(
 /// What each job needs; moments are microseconds since the record began.
 fn needs_of(
     alloc: Global,
-    task: &Task,
+    task: &JobTask,
     first: u64,
     heights: &[u32],
     least: &[u32],
@@ -91,10 +91,10 @@ fn sorted_of(alloc: Global, needs: &[Need], most: u64) -> Result<Vec<Need>, Allo
 /// What is drawn of a task whose jobs are to be done within a time.
 pub(crate) fn drawn_of(
     alloc: Global,
-    task: &Task,
+    task: &JobTask,
     first: u64,
     jobs: &[Job],
-    wanted: Wanted,
+    wanted: SizeRequest,
     within: u32,
     needed: &Needed,
 ) -> Result<Drawn, AllocError>

@@ -3,7 +3,7 @@
 use crate::figures::{Figures, at, most, rounded};
 use crate::sizing::{PERIOD_LEAST, PERIOD_MOST, jobs_of};
 use grub_sizing::least_runtime;
-use size_admission::table::{Row, heading, hundredths_cell, number_cell, put_table, text_cell};
+use size_admission::table::{TableRow, heading, hundredths_cell, number_cell, put_table, text_cell};
 use size_admission::{bandwidth, hundredths};
 use std::alloc::{AllocError, Global};
 use trace_jobs::Seen;
@@ -26,7 +26,7 @@ fn periods(alloc: Global, from: u64, to: u64) -> Result<Vec<u32>, AllocError> {
 }
 
 fn put_cells(
-    row: &mut Row,
+    row: &mut TableRow,
     alloc: Global,
     least: Option<u32>,
     period: u32,
@@ -49,7 +49,7 @@ fn row_of(
     seen: &[Seen],
     within: Option<u32>,
     period: u32,
-) -> Result<Row, AllocError> {
+) -> Result<TableRow, AllocError> {
     let jobs = jobs_of(alloc, seen, within.unwrap_or(period))?;
     let mut row = Vec::new(alloc);
     row.push(number_cell(alloc, u64::from(period))?)?;

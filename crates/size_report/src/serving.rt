@@ -7,28 +7,28 @@ ghost use Rattle.size_report.specs.Faults.{IsOfTask, PrintsWhole, status_of};
 use crate::census::{census_text, duration};
 use crate::fault::SizeFault;
 use crate::figures::{Figures, regular_period};
-use crate::options::{Asked, SizeOptions};
+use crate::options::{AskedTask, SizeOptions};
 use crate::picture::{Drawn, drawn_of, picture_of};
 use crate::price::put_prices;
-use crate::sizing::{PERIOD_LEAST, PERIOD_MOST, Wanted, jobs_of, needed_of};
+use crate::sizing::{PERIOD_LEAST, PERIOD_MOST, SizeRequest, jobs_of, needed_of};
 use crate::task_text::{
     put_chance, put_choices, put_command, put_figures, put_head, put_no_runs, put_none,
     put_not_regular, put_others, put_question,
 };
 use grub_files::read_once;
 use grub_sizing::{Job, first_late};
-use size_admission::{Machine, Proposal, put_proposals};
+use size_admission::{RootDomain, Proposal, put_proposals};
 use std::alloc::{AllocError, Global};
 use std::io;
 use std::io::Write;
-use trace_jobs::{Record, RecordReader, Task};
+use trace_jobs::{JobRecord, JobReader, JobTask};
 
 /// The bytes of a piece.
 const PIECE_BYTES: usize = 65536;
 
 /// What is printed of the tasks so far, and what is proposed for them.
 #[derive(Drop)]
-struct Sheet {
+struct SizeSheet {
     text: Vec<u8>,
     proposals: Vec<Proposal>,
 
@@ -42,7 +42,7 @@ fn read_piece<'a, D, N: Fn(&mut D, &mut [u8]) -> io::Result<usize>>(
     path: &'a str,
     file: &mut D,
     room: &mut [u8],
-    reader: &mut RecordReader,
+    reader: &mut JobReader,
 ) -> Result<bool, SizeFault<'a>>
     requires callable { N.IsAlwaysCallable read.now }
     requires has_room { 0 < length room.old }
@@ -61,7 +61,7 @@ fn read_pieces<'a, D, N: Fn(&mut D, &mut [u8]) -> io::Result<usize>>(
     path: &'a str,
     file: &mut D,
     room: &mut [u8],
-    reader: &mut RecordReader,
+    reader: &mut JobReader,
 ) -> Result<(), SizeFault<'a>>
     requires callable { N.IsAlwaysCallable read.now }
     requires has_room { 0 < length room.old }
@@ -80,7 +80,7 @@ fn read_record<
     D: Drop,
     O: Fn(&str) -> io::Result<D>,
     N: Fn(&mut D, &mut [u8]) -> io::Result<usize>,
->(alloc: Global, opener: &O, read: &N, path: &'a str) -> Result<Record, SizeFault<'a>>
+>(alloc: Global, opener: &O, read: &N, path: &'a str) -> Result<JobRecord, SizeFault<'a>>
     requires opens { O.IsAlwaysCallable opener.now }
     requires read { N.IsAlwaysCallable read.now }
 {
@@ -91,7 +91,7 @@ fn read_record<
         Ok(file) => file,
         Err(_) => return Err(SizeFault::Unreadable { path }),
     };
-    let mut reader = RecordReader::new(alloc);
+    let mut reader = JobReader::new(alloc);
     read_pieces(read, path, &mut file, &mut room, &mut reader)?;
     match reader.end() {
         Ok(record) => Ok(record),
@@ -100,7 +100,7 @@ fn read_record<
 }
 
 /// The task of a name: a pid, or the first with this comm.
-fn task_named<'r>(record: &'r Record, name: &str) -> Option<&'r Task> {
+fn task_named<'r>(record: &'r JobRecord, name: &str) -> Option<&'r JobTask> {
     match name.parse::<u64>() {
         Ok(pid) => record.tasks.task(pid),
         Err(_) => record.tasks.task(record.tasks.pid_named(name.as_bytes())?),
@@ -108,7 +108,7 @@ fn task_named<'r>(record: &'r Record, name: &str) -> Option<&'r Task> {
 }
 
 /// The period of a task: that which is given, else that of its wakes.
-fn period_of(asked: &Asked<'_>, figures: &Figures) -> Option<u32> {
+fn period_of(asked: &AskedTask<'_>, figures: &Figures) -> Option<u32> {
     if asked.period.is_some() {
         return asked.period;
     }
@@ -122,7 +122,7 @@ fn period_of(asked: &Asked<'_>, figures: &Figures) -> Option<u32> {
 
 /// Where the jobs of a task stand in a record, and in how long after its wake each is to be done.
 #[derive(Clone, Copy)]
-struct Span {
+struct JobSpan {
     first: u64,
     within: u32,
     is_drawn: bool,
@@ -130,11 +130,11 @@ struct Span {
 
 /// Writes what a task needs in a period.
 fn put_needed(
-    sheet: &mut Sheet,
-    task: &Task,
+    sheet: &mut SizeSheet,
+    task: &JobTask,
     jobs: &[Job],
-    wanted: Wanted,
-    span: Span,
+    wanted: SizeRequest,
+    span: JobSpan,
 ) -> Result<(), AllocError> {
     let alloc = *sheet.text.allocator();
     let period = wanted.period;
@@ -163,10 +163,10 @@ fn put_needed(
 
 /// Writes what is asked of a task.
 fn put_asked(
-    sheet: &mut Sheet,
-    record: &Record,
-    task: &Task,
-    asked: &Asked<'_>,
+    sheet: &mut SizeSheet,
+    record: &JobRecord,
+    task: &JobTask,
+    asked: &AskedTask<'_>,
     options: &SizeOptions<'_>,
 ) -> Result<(), AllocError> {
     let alloc = *sheet.text.allocator();
@@ -186,13 +186,13 @@ fn put_asked(
     let within = asked.within.unwrap_or(period);
     put_question(&mut sheet.text, &figures, within, period)?;
     let jobs = jobs_of(alloc, &task.jobs, within)?;
-    let wanted = Wanted {
+    let wanted = SizeRequest {
         period,
         allowed: options.late,
         margin: options.margin,
         given: asked.runtime,
     };
-    let span = Span {
+    let span = JobSpan {
         first: record.first / 1000,
         within,
         is_drawn: options.picture.is_some(),
@@ -202,10 +202,10 @@ fn put_asked(
 
 /// The task of a name, which has a job.
 fn asked_task<'r, 'a>(
-    record: &'r Record,
+    record: &'r JobRecord,
     path: &'a str,
     name: &'a str,
-) -> Result<&'r Task, SizeFault<'a>>
+) -> Result<&'r JobTask, SizeFault<'a>>
     ensures jobs { IfOk result (λ t. 0 < vec_len t.now.jobs) }
     ensures fault { IfErr result (IsOfTask path.now name.now) }
 {
@@ -221,14 +221,14 @@ fn asked_task<'r, 'a>(
 /// What is printed of the tasks that are asked for.
 fn sheet_of<'a>(
     alloc: Global,
-    record: &Record,
+    record: &JobRecord,
     path: &'a str,
     options: &SizeOptions<'a>,
-) -> Result<Sheet, SizeFault<'a>> {
+) -> Result<SizeSheet, SizeFault<'a>> {
     for asked in &options.tasks {
         let _ = asked_task(record, path, asked.name)?;
     }
-    let mut sheet = Sheet {
+    let mut sheet = SizeSheet {
         text: Vec::new(alloc),
         proposals: Vec::new(alloc),
         drawn: Vec::new(alloc),
@@ -242,8 +242,8 @@ fn sheet_of<'a>(
     Ok(sheet)
 }
 
-fn machine_of(record: &Record, options: &SizeOptions<'_>) -> Machine {
-    Machine {
+fn machine_of(record: &JobRecord, options: &SizeOptions<'_>) -> RootDomain {
+    RootDomain {
         processors: options.cpus.unwrap_or(record.processors),
         most: options.most,
         fair: options.fair,
@@ -262,22 +262,22 @@ fn print<'a, W: Write>(out: &mut W, text: &[u8]) -> Result<(), SizeFault<'a>>
 
 /// What is printed, and the picture where one is asked for.
 #[derive(Drop)]
-struct Answer {
+struct SizeAnswer {
     text: Vec<u8>,
     picture: Option<Vec<u8>>,
 }
 
 fn answer_of<'a>(
     alloc: Global,
-    record: &Record,
+    record: &JobRecord,
     path: &'a str,
     options: &SizeOptions<'a>,
-) -> Result<Answer, SizeFault<'a>> {
+) -> Result<SizeAnswer, SizeFault<'a>> {
     if options.tasks.is_empty() {
         let Ok(text) = census_text(alloc, record) else {
             return Err(SizeFault::NoText);
         };
-        return Ok(Answer {
+        return Ok(SizeAnswer {
             text,
             picture: None,
         });
@@ -291,11 +291,11 @@ fn answer_of<'a>(
 
 /// What a sheet comes to: all proposals together stand below it.
 fn answer_in(
-    sheet: Sheet,
-    record: &Record,
+    sheet: SizeSheet,
+    record: &JobRecord,
     options: &SizeOptions<'_>,
-) -> Result<Answer, AllocError> {
-    let Sheet {
+) -> Result<SizeAnswer, AllocError> {
+    let SizeSheet {
         mut text,
         proposals,
         drawn,
@@ -309,7 +309,7 @@ fn answer_in(
     } else {
         None
     };
-    Ok(Answer { text, picture })
+    Ok(SizeAnswer { text, picture })
 }
 
 /// Writes the picture, where one is asked for.

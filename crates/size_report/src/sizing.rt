@@ -17,7 +17,7 @@ pub(crate) struct Choice {
 
 /// What is asked of a task.
 #[derive(Clone, Copy)]
-pub(crate) struct Wanted {
+pub(crate) struct SizeRequest {
     pub period: u32,
     pub allowed: usize,
     pub margin: u32,
@@ -205,7 +205,7 @@ fn others_of(
 fn witness_of(
     alloc: Global,
     jobs: &[Job],
-    wanted: Wanted,
+    wanted: SizeRequest,
     least: u32,
 ) -> Result<Option<Late>, AllocError> {
     if least < 2 || least > wanted.period || wanted.allowed > 0 {
@@ -218,7 +218,7 @@ fn witness_of(
 fn needed_with(
     alloc: Global,
     jobs: &[Job],
-    wanted: Wanted,
+    wanted: SizeRequest,
     least: u32,
 ) -> Result<Needed, AllocError>
     requires { 1 ≤ wanted.period }
@@ -252,7 +252,7 @@ fn needed_with(
 pub(crate) fn needed_of(
     alloc: Global,
     jobs: &[Job],
-    wanted: Wanted,
+    wanted: SizeRequest,
 ) -> Result<Option<Needed>, AllocError>
     requires { 1 ≤ wanted.period }
     ensures needed { IfOk result (λ o. IfSome o (IsNeeded jobs.now wanted)) }

@@ -1,15 +1,15 @@
 //! The text of one task.
 
 use crate::figures::{Figures, at, share};
-use crate::sizing::{Needed, Wanted};
+use crate::sizing::{Needed, SizeRequest};
 use grub_sizing::{Job, Late};
 use size_admission::table::{
-    Row, heading, hundredths_cell, number_cell, put_hundredths, put_number, put_table, put_text,
+    TableRow, heading, hundredths_cell, number_cell, put_hundredths, put_number, put_table, put_text,
     text_cell,
 };
 use size_admission::{bandwidth, hundredths};
 use std::alloc::{AllocError, Global};
-use trace_jobs::{Phase, Seen, Task};
+use trace_jobs::{Phase, Seen, JobTask};
 
 fn put_left_out(
     out: &mut Vec<u8>,
@@ -28,7 +28,7 @@ fn put_left_out(
 }
 
 /// The head line: how many jobs there are, in how many microseconds, and which were left out.
-pub(crate) fn put_head(out: &mut Vec<u8>, task: &Task, micros: u64) -> Result<(), AllocError> {
+pub(crate) fn put_head(out: &mut Vec<u8>, task: &JobTask, micros: u64) -> Result<(), AllocError> {
     put_text(out, "task ")?;
     out.extend_from_slice(&task.comm)?;
     put_text(out, " pid=")?;
@@ -66,7 +66,7 @@ pub(crate) fn put_head(out: &mut Vec<u8>, task: &Task, micros: u64) -> Result<()
     put_text(out, "\n")
 }
 
-fn row_of(alloc: Global, name: &str, sorted: &[u64]) -> Result<Row, AllocError> {
+fn row_of(alloc: Global, name: &str, sorted: &[u64]) -> Result<TableRow, AllocError> {
     let mut row = Vec::new(alloc);
     row.push(text_cell(alloc, name)?)?;
     if !sorted.is_empty() {
@@ -173,7 +173,7 @@ fn put_reason(out: &mut Vec<u8>, text: &str) -> Result<(), AllocError> {
 
 fn put_proposed(
     out: &mut Vec<u8>,
-    wanted: Wanted,
+    wanted: SizeRequest,
     needed: &Needed,
     runtime: u32,
 ) -> Result<(), AllocError> {
@@ -225,7 +225,7 @@ fn put_least(
 fn why_text(
     alloc: Global,
     runtime: u32,
-    wanted: Wanted,
+    wanted: SizeRequest,
     needed: &Needed,
     seen: &[Seen],
     jobs: &[Job],
@@ -249,7 +249,7 @@ pub(crate) fn put_choices(
     needed: &Needed,
     seen: &[Seen],
     jobs: &[Job],
-    wanted: Wanted,
+    wanted: SizeRequest,
 ) -> Result<(), AllocError> {
     let alloc = *out.allocator();
     let mut rows = Vec::new(alloc);

@@ -3,22 +3,22 @@ use Rattle.std.specs.Prelude.{ℕ, ◌+◌, ℤ, Float, List, codes, option_map,
 use Rattle.serde_json.specs.Data.{Data, null, number, unsigned, string, object, Members, no_members, put}
 use Rattle.serde_json.specs.Find.{of_float, of_integer}
 use Rattle.deadline_states.specs.declared.history.Slice.{Slice}
-use Rattle.deadline_states.specs.declared.state.State.{State}
-use Rattle.deadline_states.specs.declared.state.State.TheVariants.{Contending, Running, Throttled, NonContending, Inactive}
-use Rattle.timer_rules.specs.declared.observation.Answer.{Answer}
-use Rattle.timer_rules.specs.declared.observation.Answer.TheVariants as answer
-use Rattle.timer_rules.specs.declared.observation.Kind.{Kind}
-use Rattle.timer_rules.specs.declared.observation.Kind.TheVariants.{Block, Replenish}
+use Rattle.deadline_states.specs.declared.state.TaskState.{TaskState}
+use Rattle.deadline_states.specs.declared.state.TaskState.TheVariants.{Contending, Running, Throttled, NonContending, Inactive}
+use Rattle.timer_rules.specs.declared.observation.ObservedAnswer.{ObservedAnswer}
+use Rattle.timer_rules.specs.declared.observation.ObservedAnswer.TheVariants as answer
+use Rattle.timer_rules.specs.declared.observation.TimerKind.{TimerKind}
+use Rattle.timer_rules.specs.declared.observation.TimerKind.TheVariants.{Block, Replenish}
 use Rattle.timer_rules.specs.declared.observation.Observation.{Observation}
 
-abbrev pub state_name : State → List ℕ
+abbrev pub state_name : TaskState → List ℕ
 state_name Contending = codes "contending"
 state_name Running = codes "running"
 state_name Throttled = codes "throttled"
 state_name NonContending = codes "non-contending"
 state_name Inactive = codes "inactive"
 
-abbrev pub answer_name : Answer → List ℕ
+abbrev pub answer_name : ObservedAnswer → List ℕ
 answer_name answer.Agrees = codes "agrees"
 answer_name answer.Differs = codes "differs"
 answer_name answer.End = codes "end"
@@ -26,7 +26,7 @@ answer_name answer.Unknown = codes "unknown"
 answer_name answer.Edge = codes "edge"
 answer_name answer.Gap = codes "gap"
 
-abbrev pub timer_name : Kind → List ℕ
+abbrev pub timer_name : TimerKind → List ℕ
 timer_name Block = codes "0-lag timer"
 timer_name Replenish = codes "replenishment timer"
 

@@ -8,7 +8,7 @@ use crate::event::{
     budget_event, deviation_event, extra_event, micros, running_event, runqueue_event, slice_event,
     task_event, tasks_event, this_event, timer_event,
 };
-use deadline_states::{Scene, Slice, SumsSlice, TaskName, is_within, marked_at};
+use deadline_states::{RecordScene, Slice, SumsSlice, TaskName, is_within, marked_at};
 use serde_json::Value;
 use std::alloc::{AllocError, Global};
 
@@ -32,7 +32,7 @@ fn put(alloc: Global, out: &mut Vec<u8>, event: &Value) -> Result<(), AllocError
     Ok(())
 }
 
-fn put_names(alloc: Global, out: &mut Vec<u8>, scene: Scene<'_>) -> Result<(), AllocError> {
+fn put_names(alloc: Global, out: &mut Vec<u8>, scene: RecordScene<'_>) -> Result<(), AllocError> {
     for task in scene.tasks {
         put(
             alloc,
@@ -52,7 +52,7 @@ fn put_state(alloc: Global, out: &mut Vec<u8>, slice: Slice, pid: u64) -> Result
     put(alloc, out, &slice_event(alloc, slice, pid, ts, dur)?)
 }
 
-fn put_states(alloc: Global, out: &mut Vec<u8>, scene: Scene<'_>) -> Result<(), AllocError> {
+fn put_states(alloc: Global, out: &mut Vec<u8>, scene: RecordScene<'_>) -> Result<(), AllocError> {
     for slice in &scene.history.states {
         put_state(alloc, out, *slice, pid_of(scene.tasks, slice.task))?;
     }
@@ -66,7 +66,7 @@ fn put_reading(alloc: Global, out: &mut Vec<u8>, slice: SumsSlice) -> Result<(),
     put(alloc, out, &extra_event(alloc, slice, ts)?)
 }
 
-fn put_sums(alloc: Global, out: &mut Vec<u8>, scene: Scene<'_>) -> Result<(), AllocError> {
+fn put_sums(alloc: Global, out: &mut Vec<u8>, scene: RecordScene<'_>) -> Result<(), AllocError> {
     for slice in &scene.history.sums {
         put_reading(alloc, out, *slice)?;
     }
@@ -81,7 +81,7 @@ fn budget_name(alloc: Global, tasks: &[TaskName], task: u32) -> Result<String, A
     }
 }
 
-fn put_budgets(alloc: Global, out: &mut Vec<u8>, scene: Scene<'_>) -> Result<(), AllocError> {
+fn put_budgets(alloc: Global, out: &mut Vec<u8>, scene: RecordScene<'_>) -> Result<(), AllocError> {
     for slice in &scene.history.budgets {
         let name = budget_name(alloc, scene.tasks, slice.task)?;
         let event = budget_event(alloc, *slice, name.as_str(), micros(slice.span.from))?;
@@ -90,7 +90,7 @@ fn put_budgets(alloc: Global, out: &mut Vec<u8>, scene: Scene<'_>) -> Result<(),
     Ok(())
 }
 
-fn put_timers(alloc: Global, out: &mut Vec<u8>, scene: Scene<'_>) -> Result<(), AllocError> {
+fn put_timers(alloc: Global, out: &mut Vec<u8>, scene: RecordScene<'_>) -> Result<(), AllocError> {
     for observation in scene.observations {
         if is_within(scene.span, observation.at) {
             let pid = pid_of(scene.tasks, observation.task);
@@ -101,7 +101,7 @@ fn put_timers(alloc: Global, out: &mut Vec<u8>, scene: Scene<'_>) -> Result<(), 
     Ok(())
 }
 
-fn put_first(alloc: Global, out: &mut Vec<u8>, scene: Scene<'_>) -> Result<(), AllocError> {
+fn put_first(alloc: Global, out: &mut Vec<u8>, scene: RecordScene<'_>) -> Result<(), AllocError> {
     match scene.deviation() {
         Some(observation) => {
             let pid = pid_of(scene.tasks, observation.task);
@@ -113,7 +113,7 @@ fn put_first(alloc: Global, out: &mut Vec<u8>, scene: Scene<'_>) -> Result<(), A
 }
 
 /// Appends the document of a record's states: names, states, sums, budgets, timers, and the first deviation.
-pub fn put_document(alloc: Global, out: &mut Vec<u8>, scene: Scene<'_>) -> Result<(), AllocError> {
+pub fn put_document(alloc: Global, out: &mut Vec<u8>, scene: RecordScene<'_>) -> Result<(), AllocError> {
     out.extend_from_slice(b"[\n")?;
     out.extend_from_slice(tasks_event(alloc)?.to_string(alloc)?.as_bytes())?;
     put_names(alloc, out, scene)?;

@@ -6,10 +6,10 @@ ghost use Rattle.serde_json.specs.View.{members_view, view};
 ghost use Rattle.state_json.specs.Events.{answer_name, counter_data, deviation_data, instant_data, moments_of, process_data, process_of, slice_data, state_name, thread_data, timer_args, timer_data, timer_name};
 
 use crate::member::{add, head, one, text, timed};
-use deadline_states::{BudgetSlice, Slice, State, SumsSlice};
+use deadline_states::{BudgetSlice, Slice, TaskState, SumsSlice};
 use serde_json::{Map, Value};
 use std::alloc::{AllocError, Global};
-use timer_rules::{Answer, Kind, Observation};
+use timer_rules::{ObservedAnswer, TimerKind, Observation};
 
 /// The process whose threads are the tasks; those of the runqueues come behind it.
 const TASKS: u64 = 1;
@@ -32,37 +32,37 @@ fn process_of(cpu: u32) -> u64
 }
 
 /// The word of a state.
-fn state_name(state: State) -> &'static str
+fn state_name(state: TaskState) -> &'static str
     ensures { result.now ≡ state_name state }
 {
     match state {
-        State::Contending => "contending",
-        State::Running => "running",
-        State::Throttled => "throttled",
-        State::NonContending => "non-contending",
-        State::Inactive => "inactive",
+        TaskState::Contending => "contending",
+        TaskState::Running => "running",
+        TaskState::Throttled => "throttled",
+        TaskState::NonContending => "non-contending",
+        TaskState::Inactive => "inactive",
     }
 }
 
-fn answer_name(answer: Answer) -> &'static str
+fn answer_name(answer: ObservedAnswer) -> &'static str
     ensures { result.now ≡ answer_name answer }
 {
     match answer {
-        Answer::Agrees => "agrees",
-        Answer::Differs => "differs",
-        Answer::End => "end",
-        Answer::Unknown => "unknown",
-        Answer::Edge => "edge",
-        Answer::Gap => "gap",
+        ObservedAnswer::Agrees => "agrees",
+        ObservedAnswer::Differs => "differs",
+        ObservedAnswer::End => "end",
+        ObservedAnswer::Unknown => "unknown",
+        ObservedAnswer::Edge => "edge",
+        ObservedAnswer::Gap => "gap",
     }
 }
 
-fn timer_name(kind: Kind) -> &'static str
+fn timer_name(kind: TimerKind) -> &'static str
     ensures { result.now ≡ timer_name kind }
 {
     match kind {
-        Kind::Block => "0-lag timer",
-        Kind::Replenish => "replenishment timer",
+        TimerKind::Block => "0-lag timer",
+        TimerKind::Replenish => "replenishment timer",
     }
 }
 

@@ -6,7 +6,7 @@ use Rattle.deadline_states.specs.declared.history.SumsSlice.{SumsSlice}
 use Rattle.state_picture.specs.declared.curve.Point.{Point}
 use Rattle.state_picture.specs.declared.curve.Sum.{Sum}
 use Rattle.state_picture.specs.declared.curve.Sum.TheVariants.{This, Running, Admitted}
-use Rattle.state_picture.specs.declared.frame.Frame.{Frame}
+use Rattle.state_picture.specs.declared.frame.PictureFrame.{PictureFrame}
 use Rattle.state_picture.specs.Frames.{x_of}
 
 -- max_bw less extra_bw, 0 where extra_bw is the greater; extra_bw may be below 0, as modulo 2 ^ 64
@@ -21,7 +21,7 @@ bandwidth_in (Admitted max_bw) s = admitted_by max_bw s.extra_bw
 abbrev pub is_on : ℕ → SumsSlice → Bool
 is_on cpu s = s.cpu == cpu
 
-abbrev pub point_of : Frame → Sum → SumsSlice → Point
+abbrev pub point_of : PictureFrame → Sum → SumsSlice → Point
 point_of f sum s = record { x = x_of f s.span.from; bandwidth = bandwidth_in sum s.sums }
 
 -- of a column the last point is shown: one that another column follows
@@ -30,12 +30,12 @@ before_next (Some p) q = if nat_lt p.x q.x then p ∷ [] else []
 before_next None q = []
 
 -- the points of a runqueue's curve, after this one
-abbrev pub points_after : Frame → Sum → ℕ → Option Point → List SumsSlice → List Point
+abbrev pub points_after : PictureFrame → Sum → ℕ → Option Point → List SumsSlice → List Point
 points_after f sum cpu last [] = option_to_list last
 points_after f sum cpu last (s ∷ readings) =
     if is_on cpu s
     then before_next last (point_of f sum s) ++ points_after f sum cpu (Some (point_of f sum s)) readings
     else points_after f sum cpu last readings
 
-abbrev pub points_in : Frame → Sum → ℕ → List SumsSlice → List Point
+abbrev pub points_in : PictureFrame → Sum → ℕ → List SumsSlice → List Point
 points_in f sum cpu readings = points_after f sum cpu None readings

@@ -3,7 +3,7 @@ use Rattle.std.specs.Prelude.{ℕ, ◌+◌, ◌-◌, ◌^◌, min, ◌==◌, ◌
 use Rattle.std.specs.List.{flat_map, list_any, range_with_len}
 use Rattle.deadline_states.specs.declared.history.Slice.{Slice}
 use Rattle.state_picture.specs.declared.lane.Lane.{Lane}
-use Rattle.state_picture.specs.declared.lane.Row.{Row}
+use Rattle.state_picture.specs.declared.lane.LaneRow.{LaneRow}
 use Rattle.state_picture.specs.declared.lane.TheConstants.{TOP, LANE, HEAD}
 
 -- a state is of the task and the runqueue of a lane
@@ -39,7 +39,7 @@ abbrev pub lanes_in : List Slice → ℕ → ℕ → List Lane
 lanes_in slices cpus tasks = lanes_at slices tasks (busy_in slices cpus)
 
 -- how far a lane is below the one before it: above the first lane of a runqueue stand its curves
-abbrev pub gap_of : Row → Lane → ℕ
+abbrev pub gap_of : LaneRow → Lane → ℕ
 gap_of r l = if r.lane.cpu == l.cpu then LANE else LANE + HEAD
 
 -- so many pixels below; u64 is the most
@@ -47,11 +47,11 @@ abbrev pub below : ℕ → ℕ → ℕ
 below y gap = min (y + gap) (2 ^ 64 - 1)
 
 -- where a lane stands, below the one before it
-abbrev pub row_by : Option Row → Lane → Row
+abbrev pub row_by : Option LaneRow → Lane → LaneRow
 row_by None l = record { lane = l; y = TOP + HEAD; is_first = true }
 row_by (Some r) l = record { lane = l; y = below r.y (gap_of r l); is_first = not (r.lane.cpu == l.cpu) }
 
 -- where lanes stand, after this one
-abbrev pub rows_in : Option Row → List Lane → List Row
+abbrev pub rows_in : Option LaneRow → List Lane → List LaneRow
 rows_in before [] = []
 rows_in before (l ∷ lanes) = row_by before l ∷ rows_in (Some (row_by before l)) lanes

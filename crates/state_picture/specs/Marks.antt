@@ -1,19 +1,19 @@
 -- The kernel's timers as marks.
 use Rattle.std.specs.Prelude.{ℕ, ◌==◌, nat_lt, ◌&&◌, ◌||◌, Bool, true, false, List, [], ◌∷◌, unwrap_or, is_some, if◌then◌else◌}
 use Rattle.deadline_states.specs.Spans.{is_within}
-use Rattle.timer_rules.specs.declared.observation.Answer.{Answer}
-use Rattle.timer_rules.specs.declared.observation.Answer.TheVariants.{Differs}
-use Rattle.timer_rules.specs.declared.observation.Kind.{Kind}
-use Rattle.timer_rules.specs.declared.observation.Kind.TheVariants.{Block, Replenish}
+use Rattle.timer_rules.specs.declared.observation.ObservedAnswer.{ObservedAnswer}
+use Rattle.timer_rules.specs.declared.observation.ObservedAnswer.TheVariants.{Differs}
+use Rattle.timer_rules.specs.declared.observation.TimerKind.{TimerKind}
+use Rattle.timer_rules.specs.declared.observation.TimerKind.TheVariants.{Block, Replenish}
 use Rattle.timer_rules.specs.declared.observation.Observation.{Observation}
-use Rattle.state_picture.specs.declared.frame.Frame.{Frame}
+use Rattle.state_picture.specs.declared.frame.PictureFrame.{PictureFrame}
 use Rattle.state_picture.specs.declared.lane.Lane.{Lane}
-use Rattle.state_picture.specs.declared.mark.Mark.{Mark}
+use Rattle.state_picture.specs.declared.mark.TimerMark.{TimerMark}
 use Rattle.state_picture.specs.declared.mark.MarkKind.{MarkKind}
 use Rattle.state_picture.specs.declared.mark.MarkKind.TheVariants.{ZeroLag, Replenishment, Deviation}
 use Rattle.state_picture.specs.Frames.{x_of}
 
-abbrev pub kind_by : Answer → Kind → MarkKind
+abbrev pub kind_by : ObservedAnswer → TimerKind → MarkKind
 kind_by Differs k = Deviation
 kind_by a Block = ZeroLag
 kind_by a Replenish = Replenishment
@@ -35,15 +35,15 @@ abbrev pub is_of_lane : Lane → Observation → Bool
 is_of_lane l o = o.task == l.task && o.cpu == l.cpu
 
 -- a timer of this lane and kind in the span; a block at which the kernel rightly set none has no mark
-abbrev pub is_marked_by : Frame → Lane → MarkKind → Observation → Bool
+abbrev pub is_marked_by : PictureFrame → Lane → MarkKind → Observation → Bool
 is_marked_by f l kind o =
     is_of_lane l o && is_of_kind kind o && (is_some o.kernel || is_same_kind kind Deviation) && is_within f.span (moment_of o)
 
-abbrev pub mark_by : Frame → MarkKind → Observation → Mark
+abbrev pub mark_by : PictureFrame → MarkKind → Observation → TimerMark
 mark_by f kind o = record { x = x_of f (moment_of o); kind = kind; observation = o }
 
 -- the marks of a kind in a lane, one a column
-abbrev pub marks_in : Frame → Lane → MarkKind → ℕ → List Observation → List Mark
+abbrev pub marks_in : PictureFrame → Lane → MarkKind → ℕ → List Observation → List TimerMark
 marks_in f l kind last [] = []
 marks_in f l kind last (o ∷ os) =
     if is_marked_by f l kind o && nat_lt last (x_of f (moment_of o))

@@ -1,6 +1,6 @@
 //! The time axis.
 
-use crate::frame::{Frame, LEFT};
+use crate::frame::{PictureFrame, LEFT};
 use crate::text::{put, put_rounded};
 use std::alloc::{AllocError, Global};
 
@@ -43,7 +43,7 @@ fn power(digits: usize) -> u64 {
 fn put_tick(
     alloc: Global,
     out: &mut Vec<u8>,
-    frame: Frame,
+    frame: PictureFrame,
     top: u64,
     y: u64,
     at: u64,
@@ -69,7 +69,7 @@ fn put_tick(
 pub(crate) fn put_axis(
     alloc: Global,
     out: &mut Vec<u8>,
-    frame: Frame,
+    frame: PictureFrame,
     top: u64,
     y: u64,
 ) -> Result<(), AllocError> {

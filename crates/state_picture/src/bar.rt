@@ -4,17 +4,17 @@ ghost use Rattle.std.specs.Prelude.{◌≡◌, IfOk};
 ghost use Rattle.state_picture.specs.Lanes.{is_of};
 ghost use Rattle.state_picture.specs.Bars.{bar_after, bars_in, end_by};
 
-use crate::frame::{Frame, LEFT};
+use crate::frame::{PictureFrame, LEFT};
 use crate::lane::Lane;
-use deadline_states::{Slice, Span, State};
+use deadline_states::{Slice, Span, TaskState};
 use std::alloc::{AllocError, Global};
 
 /// A state of a task, from one edge of a column to a later one.
 #[derive(Clone, Copy)]
-pub struct Bar {
+pub struct StateBar {
     pub x: u64,
     pub right: u64,
-    pub state: State,
+    pub state: TaskState,
 
     /// From when to when the task was in it.
     pub span: Span,
@@ -28,7 +28,7 @@ pub(crate) fn is_in_lane(lane: Lane, slice: Slice) -> bool
 }
 
 /// Where the bar of a span ends: it is a column wide at least.
-fn end_of(frame: Frame, span: Span) -> u64
+fn end_of(frame: PictureFrame, span: Span) -> u64
     ensures { result ≡ end_by frame span }
 {
     let least = frame.x(span.from) + u64::from(frame.unit);
@@ -36,10 +36,10 @@ fn end_of(frame: Frame, span: Span) -> u64
 }
 
 /// The bar of a state; it begins where the one before it ends, or later.
-fn bar_after(frame: Frame, last: u64, slice: Slice) -> Bar
+fn bar_after(frame: PictureFrame, last: u64, slice: Slice) -> StateBar
     ensures { result ≡ bar_after frame last slice }
 {
-    Bar {
+    StateBar {
         x: frame.x(slice.span.from).max(last),
         right: end_of(frame, slice.span),
         state: slice.state,
@@ -50,10 +50,10 @@ fn bar_after(frame: Frame, last: u64, slice: Slice) -> Bar
 /// The bars of a lane. Each begins where the one before it ends, or later: of states that share a column the first is drawn there.
 pub fn bars_of(
     alloc: Global,
-    frame: Frame,
+    frame: PictureFrame,
     slices: &[Slice],
     lane: Lane,
-) -> Result<Vec<Bar>, AllocError>
+) -> Result<Vec<StateBar>, AllocError>
     ensures { IfOk result (λ v. v.items ≡ bars_in frame lane LEFT slices.now) }
 {
     let mut bars = Vec::new(alloc);

@@ -3,7 +3,7 @@
 ghost use Rattle.std.specs.Prelude.{◌≡◌, ◌++◌, IfOk, OnOk, option_to_list};
 ghost use Rattle.state_picture.specs.Curves.{admitted_by, bandwidth_in, before_next, point_of, points_in};
 
-use crate::frame::Frame;
+use crate::frame::PictureFrame;
 use deadline_states::SumsSlice;
 use std::alloc::{AllocError, Global};
 use trace_words::Sums;
@@ -43,7 +43,7 @@ fn bandwidth_of(sum: Sum, sums: Sums) -> u64
     }
 }
 
-fn point_of(frame: Frame, sum: Sum, reading: SumsSlice) -> Point
+fn point_of(frame: PictureFrame, sum: Sum, reading: SumsSlice) -> Point
     ensures { result ≡ point_of frame sum reading }
 {
     Point {
@@ -80,7 +80,7 @@ fn push_last(points: &mut Vec<Point>, last: Option<Point>) -> Result<(), AllocEr
 /// The points of a curve: of each column the last.
 pub fn points_of(
     alloc: Global,
-    frame: Frame,
+    frame: PictureFrame,
     readings: &[SumsSlice],
     cpu: u32,
     sum: Sum,

@@ -1,15 +1,15 @@
 //! The shapes of a picture, as SVG.
 
 use crate::axis::put_axis;
-use crate::bar::{Bar, bars_of};
+use crate::bar::{StateBar, bars_of};
 use crate::curve::{Point, Sum, points_of};
-use crate::frame::{CURVE, Frame, LEFT, height_of};
+use crate::frame::{CURVE, PictureFrame, LEFT, height_of};
 use crate::key::put_head;
-use crate::lane::{LANE, Lane, Row, TOP, rows_of};
-use crate::mark::{Mark, MarkKind, marks_of};
+use crate::lane::{LANE, Lane, LaneRow, TOP, rows_of};
+use crate::mark::{TimerMark, MarkKind, marks_of};
 use crate::picture::MOST;
 use crate::text::{put, put_length, put_percent, put_seconds, put_seen};
-use deadline_states::{Scene, State};
+use deadline_states::{RecordScene, TaskState};
 use std::alloc::{AllocError, Global};
 use timer_rules::Observation;
 
@@ -21,22 +21,22 @@ pub(crate) struct Grain {
 }
 
 /// What a state looks like: the name of its colour, how far below the lane's top its bar begins, and how high it is.
-fn looks_of(state: State) -> (&'static str, u64, u64) {
+fn looks_of(state: TaskState) -> (&'static str, u64, u64) {
     match state {
-        State::Running => ("running", 2, 12),
-        State::Contending => ("contending", 5, 9),
-        State::Throttled => ("throttled", 8, 6),
-        State::NonContending => ("non-contending", 9, 5),
-        State::Inactive => ("inactive", 12, 2),
+        TaskState::Running => ("running", 2, 12),
+        TaskState::Contending => ("contending", 5, 9),
+        TaskState::Throttled => ("throttled", 8, 6),
+        TaskState::NonContending => ("non-contending", 9, 5),
+        TaskState::Inactive => ("inactive", 12, 2),
     }
 }
 
 fn put_title(
     alloc: Global,
     out: &mut Vec<u8>,
-    scene: Scene<'_>,
+    scene: RecordScene<'_>,
     lane: Lane,
-    bar: Bar,
+    bar: StateBar,
 ) -> Result<(), AllocError> {
     put(out, "<title>")?;
     put_name(out, scene, lane)?;
@@ -52,7 +52,7 @@ fn put_title(
     put(out, "</title>")
 }
 
-fn put_name(out: &mut Vec<u8>, scene: Scene<'_>, lane: Lane) -> Result<(), AllocError> {
+fn put_name(out: &mut Vec<u8>, scene: RecordScene<'_>, lane: Lane) -> Result<(), AllocError> {
     match scene.tasks.get(lane.task as usize) {
         Some(task) => put_seen(out, task.comm.as_str()),
         None => Ok(()),
@@ -62,9 +62,9 @@ fn put_name(out: &mut Vec<u8>, scene: Scene<'_>, lane: Lane) -> Result<(), Alloc
 fn put_bar(
     alloc: Global,
     out: &mut Vec<u8>,
-    scene: Scene<'_>,
-    row: Row,
-    bar: Bar,
+    scene: RecordScene<'_>,
+    row: LaneRow,
+    bar: StateBar,
 ) -> Result<(), AllocError> {
     let (class, below, height) = looks_of(bar.state);
     let (x, y) = (bar.x, row.y.saturating_add(below));
@@ -83,8 +83,8 @@ fn put_bar(
 fn put_label(
     alloc: Global,
     out: &mut Vec<u8>,
-    scene: Scene<'_>,
-    row: Row,
+    scene: RecordScene<'_>,
+    row: LaneRow,
 ) -> Result<(), AllocError> {
     let (x, y) = (LEFT.saturating_sub(6), row.y.saturating_add(13));
     put(
@@ -98,7 +98,7 @@ fn put_label(
     put(out, "</text>\n")
 }
 
-fn put_mark(alloc: Global, out: &mut Vec<u8>, row: Row, mark: Mark) -> Result<(), AllocError> {
+fn put_mark(alloc: Global, out: &mut Vec<u8>, row: LaneRow, mark: TimerMark) -> Result<(), AllocError> {
     let (x, y) = (mark.x, row.y);
     let shape = match mark.kind {
         MarkKind::ZeroLag => {
@@ -143,9 +143,9 @@ fn put_mark_title(
 fn put_lane(
     alloc: Global,
     out: &mut Vec<u8>,
-    scene: Scene<'_>,
-    frame: Frame,
-    row: Row,
+    scene: RecordScene<'_>,
+    frame: PictureFrame,
+    row: LaneRow,
 ) -> Result<(), AllocError> {
     put_label(alloc, out, scene, row)?;
     let bars = bars_of(alloc, frame, &scene.history.states, row.lane)?;
@@ -169,7 +169,7 @@ fn put_lane(
 fn put_curve(
     alloc: Global,
     out: &mut Vec<u8>,
-    frame: Frame,
+    frame: PictureFrame,
     base: u64,
     class: &str,
     points: &[Point],
@@ -200,7 +200,7 @@ fn put_curve(
     put(out, "\"/>\n")
 }
 
-fn put_scale(alloc: Global, out: &mut Vec<u8>, frame: Frame, base: u64) -> Result<(), AllocError> {
+fn put_scale(alloc: Global, out: &mut Vec<u8>, frame: PictureFrame, base: u64) -> Result<(), AllocError> {
     for (percent, height) in [("0 %", 0), ("50 %", CURVE / 2), ("100 %", CURVE)] {
         let y = base.saturating_sub(height);
         let (right, x, label) = (frame.right(), LEFT.saturating_sub(6), y.saturating_add(4));
@@ -218,7 +218,7 @@ fn put_scale(alloc: Global, out: &mut Vec<u8>, frame: Frame, base: u64) -> Resul
 fn put_admitted(
     alloc: Global,
     out: &mut Vec<u8>,
-    frame: Frame,
+    frame: PictureFrame,
     base: u64,
     points: &[Point],
 ) -> Result<(), AllocError> {
@@ -241,8 +241,8 @@ fn put_admitted(
 fn put_runqueue(
     alloc: Global,
     out: &mut Vec<u8>,
-    scene: Scene<'_>,
-    frame: Frame,
+    scene: RecordScene<'_>,
+    frame: PictureFrame,
     cpu: u32,
     y: u64,
 ) -> Result<(), AllocError> {
@@ -284,9 +284,9 @@ fn put_runqueue(
 fn put_rows(
     alloc: Global,
     out: &mut Vec<u8>,
-    scene: Scene<'_>,
-    frame: Frame,
-    rows: &[Row],
+    scene: RecordScene<'_>,
+    frame: PictureFrame,
+    rows: &[LaneRow],
 ) -> Result<(), AllocError> {
     for row in rows {
         if out.len() >= MOST {
@@ -304,8 +304,8 @@ fn put_rows(
 fn put_deviation(
     alloc: Global,
     out: &mut Vec<u8>,
-    scene: Scene<'_>,
-    frame: Frame,
+    scene: RecordScene<'_>,
+    frame: PictureFrame,
     y: u64,
 ) -> Result<(), AllocError> {
     let Some(observation) = scene.deviation() else {
@@ -356,12 +356,12 @@ fn put_notes(
 pub(crate) fn put_drawing(
     alloc: Global,
     out: &mut Vec<u8>,
-    scene: Scene<'_>,
+    scene: RecordScene<'_>,
     trace: &str,
     lanes: &[Lane],
     grain: Grain,
 ) -> Result<(), AllocError> {
-    let frame = Frame {
+    let frame = PictureFrame {
         span: scene.span,
         unit: grain.unit,
     };

@@ -19,14 +19,14 @@ const WHOLE: u64 = 1 << 20;
 
 /// The part of a record that a picture shows, and the width in pixels of its columns: a bar is one wide at least.
 #[derive(Clone, Copy)]
-pub struct Frame {
+pub struct PictureFrame {
     pub span: Span,
 
     /// 1 to 1024.
     pub unit: u16,
 }
 
-impl Frame {
+impl PictureFrame {
     #[tactic(auto, unfolding(crate::specs::Frames::x_of))]
     /// The left edge of the column in which a moment lies; what is outside of the span lies at its ends.
     pub fn x(self, at: u64) -> u64

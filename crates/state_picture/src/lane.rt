@@ -16,7 +16,7 @@ pub struct Lane {
 
 /// A lane, and where it stands.
 #[derive(Clone, Copy)]
-pub struct Row {
+pub struct LaneRow {
     pub lane: Lane,
 
     /// The pixel at its top.
@@ -123,11 +123,11 @@ pub fn lanes_of(
 }
 
 /// Where a lane stands below the one before it.
-fn row_below(before: Option<Row>, lane: Lane) -> Row
+fn row_below(before: Option<LaneRow>, lane: Lane) -> LaneRow
     ensures { result ≡ row_by before lane }
 {
     match before {
-        None => Row {
+        None => LaneRow {
             lane,
             y: TOP + HEAD,
             is_first: true,
@@ -135,7 +135,7 @@ fn row_below(before: Option<Row>, lane: Lane) -> Row
         Some(row) => {
             let is_first = row.lane.cpu != lane.cpu;
             let gap = if is_first { LANE + HEAD } else { LANE };
-            Row {
+            LaneRow {
                 lane,
                 y: row.y.saturating_add(gap),
                 is_first,
@@ -145,7 +145,7 @@ fn row_below(before: Option<Row>, lane: Lane) -> Row
 }
 
 /// Where lanes stand, one below the other.
-pub fn rows_of(alloc: Global, lanes: &[Lane]) -> Result<Vec<Row>, AllocError>
+pub fn rows_of(alloc: Global, lanes: &[Lane]) -> Result<Vec<LaneRow>, AllocError>
     ensures { IfOk result (λ v. v.items ≡ rows_in None lanes.now) }
 {
     let mut rows = Vec::new(alloc);

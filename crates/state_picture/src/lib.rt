@@ -14,9 +14,9 @@ mod mark;
 mod picture;
 mod text;
 
-pub use bar::{Bar, bars_of};
+pub use bar::{StateBar, bars_of};
 pub use curve::{Point, Sum, points_of};
-pub use frame::{Frame, LEFT, height_of};
-pub use lane::{Lane, Row, lanes_of, rows_of};
-pub use mark::{Mark, MarkKind, marks_of};
+pub use frame::{PictureFrame, LEFT, height_of};
+pub use lane::{Lane, LaneRow, lanes_of, rows_of};
+pub use mark::{TimerMark, MarkKind, marks_of};
 pub use picture::picture_of;

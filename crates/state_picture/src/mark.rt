@@ -3,11 +3,11 @@
 ghost use Rattle.std.specs.Prelude.{◌≡◌, IfOk};
 ghost use Rattle.state_picture.specs.Marks.{is_marked_by, kind_by, marks_in};
 
-use crate::frame::Frame;
+use crate::frame::PictureFrame;
 use crate::lane::Lane;
 use deadline_states::{is_within, marked_at};
 use std::alloc::{AllocError, Global};
-use timer_rules::{Answer, Kind, Observation};
+use timer_rules::{ObservedAnswer, TimerKind, Observation};
 
 /// What a mark shows.
 #[derive(Clone, Copy, PartialEq, Eq)]
@@ -24,7 +24,7 @@ pub enum MarkKind {
 
 /// A timer, in the column of the moment for which the kernel set it, or of a block at which it set none.
 #[derive(Clone, Copy)]
-pub struct Mark {
+pub struct TimerMark {
     pub x: u64,
     pub kind: MarkKind,
     pub observation: Observation,
@@ -34,14 +34,14 @@ fn kind_of(observation: &Observation) -> MarkKind
     ensures { result ≡ kind_by observation.now.answer observation.now.kind }
 {
     match (observation.answer, observation.kind) {
-        (Answer::Differs, _) => MarkKind::Deviation,
-        (_, Kind::Block) => MarkKind::ZeroLag,
-        (_, Kind::Replenish) => MarkKind::Replenishment,
+        (ObservedAnswer::Differs, _) => MarkKind::Deviation,
+        (_, TimerKind::Block) => MarkKind::ZeroLag,
+        (_, TimerKind::Replenish) => MarkKind::Replenishment,
     }
 }
 
 /// Whether a timer is of this lane, of this kind, and in the span; a block at which the kernel rightly set no timer has no mark.
-fn is_marked(frame: Frame, lane: Lane, kind: MarkKind, observation: &Observation) -> bool
+fn is_marked(frame: PictureFrame, lane: Lane, kind: MarkKind, observation: &Observation) -> bool
     ensures { result ≡ is_marked_by frame lane kind observation.now }
 {
     observation.task == lane.task
@@ -54,11 +54,11 @@ fn is_marked(frame: Frame, lane: Lane, kind: MarkKind, observation: &Observation
 /// The marks of a kind in a lane, one a column at most.
 pub fn marks_of(
     alloc: Global,
-    frame: Frame,
+    frame: PictureFrame,
     observations: &[Observation],
     lane: Lane,
     kind: MarkKind,
-) -> Result<Vec<Mark>, AllocError>
+) -> Result<Vec<TimerMark>, AllocError>
     ensures { IfOk result (λ v. v.items ≡ marks_in frame lane kind 0 observations.now) }
 {
     let mut marks = Vec::new(alloc);
@@ -66,7 +66,7 @@ pub fn marks_of(
     for observation in observations {
         let x = frame.x(marked_at(observation));
         if is_marked(frame, lane, kind, observation) && last < x {
-            marks.push(Mark {
+            marks.push(TimerMark {
                 x,
                 kind,
                 observation: *observation,

@@ -4,7 +4,7 @@ ghost use Rattle.std.specs.Prelude.{◌≡◌, ◌<◌, ◌^◌, IfOk, vec_len};
 
 use crate::drawing::{Grain, put_drawing};
 use crate::lane::lanes_of;
-use deadline_states::Scene;
+use deadline_states::RecordScene;
 use std::alloc::{AllocError, Global};
 
 /// A picture is smaller than 4 MiB.
@@ -19,7 +19,7 @@ fn grain_of(trial: u32, lanes: usize) -> Grain {
 }
 
 /// The picture of a record's states: the first of its drawings that is smaller than 4 MiB.
-pub fn picture_of(alloc: Global, scene: Scene<'_>, trace: &str) -> Result<Vec<u8>, AllocError>
+pub fn picture_of(alloc: Global, scene: RecordScene<'_>, trace: &str) -> Result<Vec<u8>, AllocError>
     ensures small { IfOk result (λ v. vec_len v < 2 ^ 22) }
     ensures some { IfOk result (λ v. 0 < vec_len v) }
 {

@@ -1,14 +1,14 @@
 //! A record, played with one rule changed.
 
 use crate::rules::{blocks_as, fired_by, moved_by, ran_by, refilled_by, waits_as, woken_by};
-use deadline_rules::{Law, has_timer_ahead, share};
-use deadline_timers::{Machine, Owner, Setup};
+use deadline_rules::{ChargeLaw, has_timer_ahead, share};
+use deadline_timers::{TimedMachine, Owner, RecordSetup};
 use rule_changes::RuleChange;
 use std::alloc::AllocError;
 use std::collections::HashMap;
-use timer_lines::{Event, Kept, Lines, Told};
+use timer_lines::{KeptEvent, KeptLine, KeptLines, TaskNote};
 use timer_rules::{
-    Activity, Answer, Task, answer_of, block_answer, block_moments, charged_at, is_awake,
+    Activity, ObservedAnswer, DeadlineTask, answer_of, block_answer, block_moments, charged_at, is_awake,
     replenish_moments, seen_running, waking_of,
 };
 use trace_words::Stop;
@@ -17,36 +17,36 @@ use trace_words::Stop;
 #[derive(Drop)]
 pub(crate) struct Play {
     pub change: RuleChange,
-    pub setup: Setup,
+    pub setup: RecordSetup,
 
     /// The moment of the record's first line.
     pub begins: u64,
     pub within: u64,
-    pub machine: Machine,
+    pub machine: TimedMachine,
 
     /// What timers come to whose moments the changed rule gives, by their lines.
-    pub answers: HashMap<u64, Answer>,
+    pub answers: HashMap<u64, ObservedAnswer>,
 }
 
-fn runs(task: Task) -> bool {
+fn runs(task: DeadlineTask) -> bool {
     task.entity.is_in_class && is_awake(task.activity)
 }
 
 /// A line that says nothing of a task or a timer.
-fn quiet(kept: Kept) -> Kept {
-    Kept {
-        event: Event::Idles,
+fn quiet(kept: KeptLine) -> KeptLine {
+    KeptLine {
+        event: KeptEvent::Idles,
         ..kept
     }
 }
 
 impl Play {
-    fn law(&self) -> Law {
+    fn law(&self) -> ChargeLaw {
         self.setup.law
     }
 
     /// Tells the notes from a place on whose moments have come; the place after them.
-    fn tell_until(&mut self, told: &[Told], come: usize, at: u64) -> usize {
+    fn tell_until(&mut self, told: &[TaskNote], come: usize, at: u64) -> usize {
         for i in come..told.len() {
             let note = told[i];
             if note.moment > at {
@@ -61,7 +61,7 @@ impl Play {
     }
 
     /// Plays each line, after the notes whose moments have come.
-    pub fn play_lines(&mut self, lines: &Lines) -> Result<(), AllocError> {
+    pub fn play_lines(&mut self, lines: &KeptLines) -> Result<(), AllocError> {
         let mut come = 0usize;
         for kept in &lines.kept {
             come = self.tell_until(&lines.told, come, kept.at);
@@ -87,34 +87,34 @@ impl Play {
                 Some(answer) => *answer,
                 None => observation.answer,
             };
-            if let Answer::Differs = answer {
+            if let ObservedAnswer::Differs = answer {
                 differ = differ.saturating_add(1);
             }
         }
         differ
     }
 
-    fn step(&mut self, lines: &Lines, kept: Kept) -> Result<(), AllocError> {
+    fn step(&mut self, lines: &KeptLines, kept: KeptLine) -> Result<(), AllocError> {
         let kept = self.served(kept);
         match kept.event {
-            Event::Ran { task, nanos } => self.run(lines, kept, task, nanos),
-            Event::Woken { task, clock, .. } => self.wake(lines, kept, task, clock),
-            Event::Migrated { task, .. } => self.migrate(lines, kept, task),
-            Event::Switched {
+            KeptEvent::Ran { task, nanos } => self.run(lines, kept, task, nanos),
+            KeptEvent::Woken { task, clock, .. } => self.wake(lines, kept, task, clock),
+            KeptEvent::Migrated { task, .. } => self.migrate(lines, kept, task),
+            KeptEvent::Switched {
                 task: Some(task),
                 is_deadline: true,
                 stop,
                 ..
             } => self.switch(lines, kept, task, stop),
-            Event::ReplenishStarted { timer, expires } => {
+            KeptEvent::ReplenishStarted { timer, expires } => {
                 self.start(lines, kept, timer, expires)
             }
-            Event::ReplenishFired { timer } => self.fire(lines, kept, timer),
-            Event::ZeroLagStarted {
+            KeptEvent::ReplenishFired { timer } => self.fire(lines, kept, timer),
+            KeptEvent::ZeroLagStarted {
                 task: Some(task),
                 ..
             } => self.step_of(lines, kept, task),
-            Event::ZeroLagFired { timer } => match self.machine.owner(timer) {
+            KeptEvent::ZeroLagFired { timer } => match self.machine.owner(timer) {
                 Owner::Task(task) => self.step_of(lines, kept, task),
                 _ => self.machine.step(lines, kept),
             },
@@ -123,27 +123,27 @@ impl Play {
     }
 
     /// A line as it is for fair servers that never leave `running_bw`, where that is the change.
-    fn served(&self, kept: Kept) -> Kept {
+    fn served(&self, kept: KeptLine) -> KeptLine {
         if self.change != RuleChange::ServerRunsOn {
             return kept;
         }
-        let kept = Kept {
+        let kept = KeptLine {
             is_idle: false,
             ..kept
         };
         match kept.event {
-            Event::Cancelled { .. } => quiet(kept),
-            Event::ZeroLagFired { timer } => match self.machine.owner(timer) {
+            KeptEvent::Cancelled { .. } => quiet(kept),
+            KeptEvent::ZeroLagFired { timer } => match self.machine.owner(timer) {
                 Owner::Server(_) => quiet(kept),
                 _ => kept,
             },
-            Event::Switched {
+            KeptEvent::Switched {
                 task,
                 is_deadline,
                 stop,
                 ..
-            } => Kept {
-                event: Event::Switched {
+            } => KeptLine {
+                event: KeptEvent::Switched {
                     task,
                     is_deadline,
                     stop,
@@ -156,7 +156,7 @@ impl Play {
     }
 
     /// A line about a task that may give its bandwidth back.
-    fn step_of(&mut self, lines: &Lines, kept: Kept, number: u32) -> Result<(), AllocError> {
+    fn step_of(&mut self, lines: &KeptLines, kept: KeptLine, number: u32) -> Result<(), AllocError> {
         let before = self.machine.task(number);
         let taken = self.machine.taken();
         self.machine.step(lines, kept)?;
@@ -165,7 +165,7 @@ impl Play {
     }
 
     /// What a task takes from `extra_bw`, by the changed rule: it took so much before a line or a note.
-    fn keep_taken(&mut self, number: u32, before: Option<Task>, taken: u64) {
+    fn keep_taken(&mut self, number: u32, before: Option<DeadlineTask>, taken: u64) {
         let (Some(before), Some(after)) = (before, self.machine.task(number)) else {
             return;
         };
@@ -188,8 +188,8 @@ impl Play {
     /// A task is charged.
     fn run(
         &mut self,
-        lines: &Lines,
-        kept: Kept,
+        lines: &KeptLines,
+        kept: KeptLine,
         number: u32,
         nanos: u64,
     ) -> Result<(), AllocError> {
@@ -209,7 +209,7 @@ impl Play {
     }
 
     /// A task that runs on, after a budget that was used up is filled at once.
-    fn refilled(&self, task: Task) -> Task {
+    fn refilled(&self, task: DeadlineTask) -> DeadlineTask {
         if has_timer_ahead(task.entity, task.exceeded.unwrap_or(0)) {
             task
         } else {
@@ -220,8 +220,8 @@ impl Play {
     /// A task wakes.
     fn wake(
         &mut self,
-        lines: &Lines,
-        kept: Kept,
+        lines: &KeptLines,
+        kept: KeptLine,
         number: u32,
         clock: u64,
     ) -> Result<(), AllocError> {
@@ -239,7 +239,7 @@ impl Play {
     }
 
     /// A task moves to another CPU.
-    fn migrate(&mut self, lines: &Lines, kept: Kept, number: u32) -> Result<(), AllocError> {
+    fn migrate(&mut self, lines: &KeptLines, kept: KeptLine, number: u32) -> Result<(), AllocError> {
         let before = self.machine.task(number);
         self.machine.step(lines, kept)?;
         let (Some(before), Some(after)) = (before, self.machine.task(number)) else {
@@ -255,8 +255,8 @@ impl Play {
     /// A task is switched out.
     fn switch(
         &mut self,
-        lines: &Lines,
-        kept: Kept,
+        lines: &KeptLines,
+        kept: KeptLine,
         number: u32,
         stop: Stop,
     ) -> Result<(), AllocError> {
@@ -274,7 +274,7 @@ impl Play {
     }
 
     /// What the 0-lag timer at a block comes to, where the changed rule gives its moment.
-    fn see_block(&mut self, kept: Kept, task: Task, stop: Stop) -> Result<(), AllocError> {
+    fn see_block(&mut self, kept: KeptLine, task: DeadlineTask, stop: Stop) -> Result<(), AllocError> {
         let difference = if self.change == RuleChange::ZeroLagNever {
             if task.armed.is_some() { i64::MAX } else { 0 }
         } else {
@@ -289,7 +289,7 @@ impl Play {
     }
 
     /// A task that blocks after its 0-lag time leaves `running_bw` as it is, where that is the change.
-    fn run_on(&mut self, number: u32, before: Task, after: Task, stop: Stop) {
+    fn run_on(&mut self, number: u32, before: DeadlineTask, after: DeadlineTask, stop: Stop) {
         if self.change == RuleChange::PastRunsOn
             && runs(before)
             && matches!(stop, Stop::Blocks)
@@ -297,7 +297,7 @@ impl Play {
         {
             self.machine.replace(
                 number,
-                Task {
+                DeadlineTask {
                     activity: Activity::NonContending,
                     ..after
                 },
@@ -308,8 +308,8 @@ impl Play {
     /// `dl_task_timer` is started.
     fn start(
         &mut self,
-        lines: &Lines,
-        kept: Kept,
+        lines: &KeptLines,
+        kept: KeptLine,
         timer: u32,
         expires: u64,
     ) -> Result<(), AllocError> {
@@ -329,7 +329,7 @@ impl Play {
     }
 
     /// `dl_task_timer` fires.
-    fn fire(&mut self, lines: &Lines, kept: Kept, timer: u32) -> Result<(), AllocError> {
+    fn fire(&mut self, lines: &KeptLines, kept: KeptLine, timer: u32) -> Result<(), AllocError> {
         let Owner::Task(number) = self.machine.owner(timer) else {
             return self.machine.step(lines, kept);
         };

@@ -1,10 +1,10 @@
 //! What a line of a record does to a task, with one rule changed.
 
 use deadline_rules::{
-    Entity, Law, QUEUED, REPLENISH, Runqueue, WAKEUP, charged, replenished, waking, woken, zero_lag,
+    Entity, ChargeLaw, QUEUED, REPLENISH, ChargedRunqueue, WAKEUP, charged, replenished, waking, woken, zero_lag,
 };
 use rule_changes::{RuleChange, cost_by, enqueue_by};
-use timer_rules::{Task, Throttling, Waking, is_awake, is_tested, refills, throttled};
+use timer_rules::{DeadlineTask, Throttling, Waking, is_awake, is_tested, refills, throttled};
 use trace_words::{Budget, Donor, Enqueued, Parameters, Sums};
 
 /// A number that stands for an entity's address.
@@ -38,7 +38,7 @@ fn line_of(entity: Entity, flags: u64, clock: u64) -> Enqueued {
 }
 
 /// The entity with another budget, after an enqueue with these flags.
-fn enqueued(change: RuleChange, law: Law, entity: Entity, flags: u64, clock: u64) -> Entity {
+fn enqueued(change: RuleChange, law: ChargeLaw, entity: Entity, flags: u64, clock: u64) -> Entity {
     let done = enqueue_by(Some(change), law, entity, line_of(entity, flags, clock));
     Entity {
         budget: done.entity.budget,
@@ -49,14 +49,14 @@ fn enqueued(change: RuleChange, law: Law, entity: Entity, flags: u64, clock: u64
 /// The task after a wake, whose state before was this one: where the kernel's test was made, by the changed rule.
 pub(crate) fn woken_by(
     change: RuleChange,
-    law: Law,
-    before: Task,
-    after: Task,
+    law: ChargeLaw,
+    before: DeadlineTask,
+    after: DeadlineTask,
     did: Waking,
     clock: u64,
-) -> Task {
+) -> DeadlineTask {
     if is_tested(did) {
-        Task {
+        DeadlineTask {
             entity: enqueued(change, law, before.entity, WAKEUP, clock),
             ..after
         }
@@ -66,10 +66,10 @@ pub(crate) fn woken_by(
 }
 
 /// The task after a move to another CPU, which is a wake.
-pub(crate) fn moved_by(law: Law, task: Task, at: u64) -> Task {
+pub(crate) fn moved_by(law: ChargeLaw, task: DeadlineTask, at: u64) -> DeadlineTask {
     if task.entity.is_in_class && is_awake(task.activity) && !task.entity.budget.is_throttled {
         let wake = waking(law, task.entity, at);
-        Task {
+        DeadlineTask {
             entity: woken(task.entity, at, wake),
             ..task
         }
@@ -79,7 +79,7 @@ pub(crate) fn moved_by(law: Law, task: Task, at: u64) -> Task {
 }
 
 /// The entity after a replenishment at this moment.
-fn replenished_by(change: RuleChange, law: Law, entity: Entity, at: u64) -> Entity {
+fn replenished_by(change: RuleChange, law: ChargeLaw, entity: Entity, at: u64) -> Entity {
     match change {
         RuleChange::BudgetSet | RuleChange::OnePeriod | RuleChange::YieldKeeps => {
             enqueued(change, law, entity, REPLENISH, at)
@@ -89,9 +89,9 @@ fn replenished_by(change: RuleChange, law: Law, entity: Entity, at: u64) -> Enti
 }
 
 /// The task after its `dl_task_timer` fires at this moment.
-pub(crate) fn fired_by(change: RuleChange, law: Law, task: Task, at: u64) -> Task {
+pub(crate) fn fired_by(change: RuleChange, law: ChargeLaw, task: DeadlineTask, at: u64) -> DeadlineTask {
     if task.entity.budget.is_throttled {
-        Task {
+        DeadlineTask {
             entity: replenished_by(change, law, task.entity, at),
             ..task
         }
@@ -101,14 +101,14 @@ pub(crate) fn fired_by(change: RuleChange, law: Law, task: Task, at: u64) -> Tas
 }
 
 /// The task after a budget that was used up is filled at once, since no timer was started for it.
-pub(crate) fn refilled_by(change: RuleChange, law: Law, task: Task) -> Task {
+pub(crate) fn refilled_by(change: RuleChange, law: ChargeLaw, task: DeadlineTask) -> DeadlineTask {
     match task.exceeded {
-        Some(exceeded) if refills(task) => Task {
+        Some(exceeded) if refills(task) => DeadlineTask {
             entity: replenished_by(change, law, task.entity, exceeded),
             exceeded: None,
             ..task
         },
-        _ => Task {
+        _ => DeadlineTask {
             exceeded: None,
             ..task
         },
@@ -118,29 +118,29 @@ pub(crate) fn refilled_by(change: RuleChange, law: Law, task: Task) -> Task {
 /// The task after a charge at this moment.
 pub(crate) fn ran_by(
     change: RuleChange,
-    law: Law,
-    task: Task,
+    law: ChargeLaw,
+    task: DeadlineTask,
     at: u64,
     nanos: u64,
-    runqueue: Runqueue,
-) -> Task {
+    runqueue: ChargedRunqueue,
+) -> DeadlineTask {
     let cost = cost_by(Some(change), law, task.entity, runqueue, nanos);
-    let after = Task {
+    let after = DeadlineTask {
         entity: charged(task.entity, cost),
         ..task
     };
     if after.entity.budget.runtime > 0 {
         after
     } else {
-        Task {
+        DeadlineTask {
             exceeded: Some(at),
             ..throttled(after, Throttling::UsedUp)
         }
     }
 }
 
-fn with_period(task: Task, dl_period: u64) -> Task {
-    Task {
+fn with_period(task: DeadlineTask, dl_period: u64) -> DeadlineTask {
+    DeadlineTask {
         entity: Entity {
             parameters: Parameters {
                 dl_period,
@@ -153,7 +153,7 @@ fn with_period(task: Task, dl_period: u64) -> Task {
 }
 
 /// The task whose 0-lag time, from its last charge on, is so many hundredths of what it is; at a block of this moment.
-fn with_wait(task: Task, at: u64, hundredths: i64) -> Task {
+fn with_wait(task: DeadlineTask, at: u64, hundredths: i64) -> DeadlineTask {
     let wait = zero_lag(task.entity, task.charged.unwrap_or(at));
     let other = wait.wrapping_mul(hundredths).div_euclid(100);
     let deadline = task
@@ -161,7 +161,7 @@ fn with_wait(task: Task, at: u64, hundredths: i64) -> Task {
         .budget
         .deadline
         .wrapping_sub(wait.wrapping_sub(other).cast_unsigned());
-    Task {
+    DeadlineTask {
         entity: Entity {
             budget: Budget {
                 deadline,
@@ -174,7 +174,7 @@ fn with_wait(task: Task, at: u64, hundredths: i64) -> Task {
 }
 
 /// The task by which the 0-lag moment of a block at this moment is reckoned; none where the rule of blocks is not changed.
-pub(crate) fn blocks_as(change: RuleChange, task: Task, at: u64) -> Option<Task> {
+pub(crate) fn blocks_as(change: RuleChange, task: DeadlineTask, at: u64) -> Option<DeadlineTask> {
     match change {
         RuleChange::ZeroLagByDeadline => {
             Some(with_period(task, task.entity.parameters.dl_deadline))
@@ -186,7 +186,7 @@ pub(crate) fn blocks_as(change: RuleChange, task: Task, at: u64) -> Option<Task>
 }
 
 /// The task by which the moment of a replenishment timer is reckoned; none where that rule is not changed.
-pub(crate) fn waits_as(change: RuleChange, task: Task) -> Option<Task> {
+pub(crate) fn waits_as(change: RuleChange, task: DeadlineTask) -> Option<DeadlineTask> {
     match change {
         RuleChange::UntilDeadline => Some(with_period(task, task.entity.parameters.dl_deadline)),
         _ => None,

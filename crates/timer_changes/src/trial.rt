@@ -1,12 +1,12 @@
 //! What the plays of a record come to, each with another rule changed.
 
 use crate::play::Play;
-use deadline_timers::{Machine, Setup, Start};
+use deadline_timers::{TimedMachine, RecordSetup, RecordStart};
 use probe_verdict::Trial;
 use rule_changes::RuleChange;
 use std::alloc::{AllocError, Global};
 use std::collections::HashMap;
-use timer_lines::Lines;
+use timer_lines::KeptLines;
 
 /// The changes that timers can show.
 pub const CHANGES: [RuleChange; 33] = [
@@ -49,14 +49,14 @@ pub const CHANGES: [RuleChange; 33] = [
 /// prediction agree.
 pub fn tried(
     alloc: Global,
-    setup: Setup,
-    start: &Start,
-    lines: &Lines,
+    setup: RecordSetup,
+    start: &RecordStart,
+    lines: &KeptLines,
     within: u64,
 ) -> Result<Vec<Trial>, AllocError> {
     let mut trials = Vec::new(alloc);
     for change in CHANGES {
-        let machine = Machine::new(alloc, setup, start, lines, within, None)?;
+        let machine = TimedMachine::new(alloc, setup, start, lines, within, None)?;
         let mut play = Play {
             change,
             setup,

@@ -4,7 +4,7 @@ use trace_words::Stop;
 
 /// What a kept line says.
 #[derive(Clone, Copy)]
-pub enum Event {
+pub enum KeptEvent {
     /// No more than which CPU idles.
     Idles,
 
@@ -71,7 +71,7 @@ pub enum Event {
 
 /// A line that is kept.
 #[derive(Clone, Copy)]
-pub struct Kept {
+pub struct KeptLine {
     /// Its number in the text.
     pub line: u64,
     pub at: u64,
@@ -81,5 +81,5 @@ pub struct Kept {
 
     /// The CPU idles, or stops to do so.
     pub is_idle: bool,
-    pub event: Event,
+    pub event: KeptEvent,
 }

@@ -12,7 +12,7 @@ mod passing;
 mod record;
 mod vote;
 
-pub use event::{Event, Kept};
-pub use lines::{FirstLine, Given, Lines, TaskLines, TimerLines, Told, Unlisted};
-pub use record::Record;
+pub use event::{KeptEvent, KeptLine};
+pub use lines::{FirstLine, GivenReservation, KeptLines, TaskLines, TimerLines, TaskNote, Unlisted};
+pub use record::OpenRecord;
 pub use vote::Vote;

@@ -4,7 +4,7 @@ ghost use Rattle.std.specs.Prelude.{◌≡◌};
 ghost use Rattle.timer_lines.specs.Votes.{more_of, voted_by};
 ghost use Rattle.timer_lines.specs.inside.Given.{policy_above_of};
 
-use crate::event::Kept;
+use crate::event::KeptLine;
 use crate::vote::Vote;
 use trace_words::{Parameters, Policy};
 
@@ -127,7 +127,7 @@ fn with_some(vote: Vote, candidate: Option<u32>) -> Vote
 
 /// A reservation that an option gives to a task.
 #[derive(Clone, Copy)]
-pub struct Given {
+pub struct GivenReservation {
     pub pid: u64,
     pub parameters: Parameters,
 }
@@ -144,7 +144,7 @@ pub(crate) fn policy_above(policy: Policy, given: Option<Parameters>) -> Policy
 
 /// What a note tells of a task, and when the kernel did so.
 #[derive(Clone, Copy)]
-pub struct Told {
+pub struct TaskNote {
     pub task: u32,
 
     /// The moment of the note; none where the task was there at the start.
@@ -169,13 +169,13 @@ pub struct Unlisted {
 
 /// The lines of a record.
 #[derive(Drop)]
-pub struct Lines {
+pub struct KeptLines {
     pub tasks: Vec<TaskLines>,
     pub timers: Vec<TimerLines>,
 
     /// What notes tell, by the moment of the change.
-    pub told: Vec<Told>,
-    pub kept: Vec<Kept>,
+    pub told: Vec<TaskNote>,
+    pub kept: Vec<KeptLine>,
 
     /// The moment of the first line.
     pub begins: Option<u64>,

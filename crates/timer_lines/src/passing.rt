@@ -1,15 +1,15 @@
 //! What each line of an event leaves in a record.
 
 use crate::before::Before;
-use crate::event::{Event, Kept};
+use crate::event::{KeptEvent, KeptLine};
 use crate::lines::{Unlisted, first_of};
 use crate::moment::wake_clock;
-use crate::record::{Place, Record};
+use crate::record::{KeptPlace, OpenRecord};
 use std::alloc::AllocError;
 use trace_words::{Fixed, TimerFunction};
 
-impl Record {
-    pub(crate) fn pass(&mut self, place: Place, pid: u64, fixed: Fixed) -> Result<(), AllocError> {
+impl OpenRecord {
+    pub(crate) fn pass(&mut self, place: KeptPlace, pid: u64, fixed: Fixed) -> Result<(), AllocError> {
         match fixed {
             Fixed::Woken {
                 pid: woken,
@@ -34,7 +34,7 @@ impl Record {
             } => {
                 self.set_before(place.cpu, Before::Nothing)?;
                 let is_idle = place.is_idle || stopped == 0;
-                let place = Place { is_idle, ..place };
+                let place = KeptPlace { is_idle, ..place };
                 let task = self.task_of(stopped);
                 if is_deadline {
                     self.see_in_class(task);
@@ -44,7 +44,7 @@ impl Record {
                 }
                 self.keep(
                     place,
-                    Event::Switched {
+                    KeptEvent::Switched {
                         task,
                         is_deadline,
                         stop,
@@ -107,7 +107,7 @@ impl Record {
 
     fn woken(
         &mut self,
-        place: Place,
+        place: KeptPlace,
         pid: u64,
         is_deadline: bool,
         cpu: u32,
@@ -116,7 +116,7 @@ impl Record {
         self.set_before(place.cpu, Before::Nothing)?;
         let Some(task) = self.task_of(pid) else {
             if !is_deadline {
-                return self.keep(place, Event::OtherWoken { cpu });
+                return self.keep(place, KeptEvent::OtherWoken { cpu });
             }
             self.meet(place.line, pid)?;
             return self.keep_idle(place);
@@ -129,7 +129,7 @@ impl Record {
             }
         }
         if !is_deadline {
-            return self.keep(place, Event::OtherWoken { cpu });
+            return self.keep(place, KeptEvent::OtherWoken { cpu });
         }
         let kept = self.lines.kept.len();
         if let Some(passing) = self.passing.get_mut(task as usize) {
@@ -137,7 +137,7 @@ impl Record {
         }
         self.keep(
             place,
-            Event::Woken {
+            KeptEvent::Woken {
                 task,
                 cpu,
                 clock: place.at,
@@ -164,19 +164,19 @@ impl Record {
 
     fn migrated(
         &mut self,
-        place: Place,
+        place: KeptPlace,
         pid: u64,
         is_deadline: bool,
         cpu: u32,
     ) -> Result<(), AllocError> {
         self.set_before(place.cpu, Before::Nothing)?;
         match self.task_of(pid) {
-            Some(task) if is_deadline => self.keep(place, Event::Migrated { task, cpu }),
+            Some(task) if is_deadline => self.keep(place, KeptEvent::Migrated { task, cpu }),
             _ => self.keep_idle(place),
         }
     }
 
-    fn ran(&mut self, place: Place, pid: u64, nanos: u64) -> Result<(), AllocError> {
+    fn ran(&mut self, place: KeptPlace, pid: u64, nanos: u64) -> Result<(), AllocError> {
         let Some(task) = self.task_of(pid) else {
             self.set_before(place.cpu, Before::Nothing)?;
             return self.keep_idle(place);
@@ -194,12 +194,12 @@ impl Record {
             Before::Nothing
         };
         self.set_before(place.cpu, before)?;
-        self.keep(place, Event::Ran { task, nanos })
+        self.keep(place, KeptEvent::Ran { task, nanos })
     }
 
     fn zero_lag_started(
         &mut self,
-        place: Place,
+        place: KeptPlace,
         pid: u64,
         address: u64,
         expires: u64,
@@ -217,7 +217,7 @@ impl Record {
         }
         self.keep(
             place,
-            Event::ZeroLagStarted {
+            KeptEvent::ZeroLagStarted {
                 timer,
                 task,
                 expires,
@@ -227,7 +227,7 @@ impl Record {
 
     fn replenish_started(
         &mut self,
-        place: Place,
+        place: KeptPlace,
         address: u64,
         expires: u64,
     ) -> Result<(), AllocError> {
@@ -240,16 +240,16 @@ impl Record {
             *lines = lines.with_start(place.cpu, expires.saturating_sub(place.at), charged);
         }
         self.set_before(place.cpu, Before::Started { timer })?;
-        self.keep(place, Event::ReplenishStarted { timer, expires })
+        self.keep(place, KeptEvent::ReplenishStarted { timer, expires })
     }
 
-    fn cancelled(&mut self, place: Place, address: u64) -> Result<(), AllocError> {
+    fn cancelled(&mut self, place: KeptPlace, address: u64) -> Result<(), AllocError> {
         let timer = self.timer(address)?;
         if let Some(lines) = self.lines.timers.get_mut(timer as usize) {
             *lines = lines.with_line();
         }
         if self.keeps_cancels {
-            self.keep(place, Event::Cancelled { timer })
+            self.keep(place, KeptEvent::Cancelled { timer })
         } else {
             Ok(())
         }
@@ -257,7 +257,7 @@ impl Record {
 
     fn fired(
         &mut self,
-        place: Place,
+        place: KeptPlace,
         address: u64,
         function: TimerFunction,
     ) -> Result<(), AllocError> {
@@ -270,18 +270,18 @@ impl Record {
             *lines = lines.with_line();
         }
         match function {
-            TimerFunction::ZeroLag => self.keep(place, Event::ZeroLagFired { timer }),
-            TimerFunction::Replenish => self.keep(place, Event::ReplenishFired { timer }),
+            TimerFunction::ZeroLag => self.keep(place, KeptEvent::ZeroLagFired { timer }),
+            TimerFunction::Replenish => self.keep(place, KeptEvent::ReplenishFired { timer }),
             TimerFunction::Other => Ok(()),
         }
     }
 }
 
 /// The wake among kept lines has the clock that this charge tells.
-fn set_wake_clock(kept: &mut [Kept], woken: usize, charged: u64, nanos: u64) {
+fn set_wake_clock(kept: &mut [KeptLine], woken: usize, charged: u64, nanos: u64) {
     if let Some(line) = kept.get_mut(woken) {
-        if let Event::Woken { task, cpu, clock } = line.event {
-            line.event = Event::Woken {
+        if let KeptEvent::Woken { task, cpu, clock } = line.event {
+            line.event = KeptEvent::Woken {
                 task,
                 cpu,
                 clock: wake_clock(clock, charged, nanos),

@@ -3,8 +3,8 @@
 ghost use Rattle.std.specs.Prelude.{◌≡◌};
 
 use crate::before::Before;
-use crate::event::{Event, Kept};
-use crate::lines::{Given, Lines, TaskLines, TimerLines, Told, Unlisted, policy_above};
+use crate::event::{KeptEvent, KeptLine};
+use crate::lines::{GivenReservation, KeptLines, TaskLines, TimerLines, TaskNote, Unlisted, policy_above};
 use crate::moment::{Passing, ROUNDING};
 use std::alloc::{AllocError, Global};
 use std::collections::HashMap;
@@ -12,14 +12,14 @@ use trace_words::{Fixed, Policy};
 
 /// A record that is being read.
 #[derive(Drop)]
-pub struct Record {
-    pub(crate) lines: Lines,
+pub struct OpenRecord {
+    pub(crate) lines: KeptLines,
 
     /// What is known of the tasks so far, by their numbers.
     pub(crate) passing: Vec<Passing>,
 
     /// Notes that are still to come, by their moments.
-    pub(crate) notes: Vec<Told>,
+    pub(crate) notes: Vec<TaskNote>,
 
     /// How many of them came.
     pub(crate) come: usize,
@@ -41,19 +41,19 @@ pub struct Record {
 
 /// Where a line stands.
 #[derive(Clone, Copy)]
-pub(crate) struct Place {
+pub(crate) struct KeptPlace {
     pub(crate) line: u64,
     pub(crate) at: u64,
     pub(crate) cpu: u32,
     pub(crate) is_idle: bool,
 }
 
-impl Record {
+impl OpenRecord {
     /// A record without a line. Lines that say no more than that a CPU idles, and lines of cancelled timers, are kept where they are
     /// wanted.
-    pub fn new(alloc: Global, keeps_idle: bool, keeps_cancels: bool) -> Record {
-        Record {
-            lines: Lines {
+    pub fn new(alloc: Global, keeps_idle: bool, keeps_cancels: bool) -> OpenRecord {
+        OpenRecord {
+            lines: KeptLines {
                 tasks: Vec::new(alloc),
                 timers: Vec::new(alloc),
                 told: Vec::new(alloc),
@@ -77,7 +77,7 @@ impl Record {
     }
 
     /// An option's reservation for the task of this pid: it stands above what notes say of its reservation, not of when it is admitted.
-    pub fn give(&mut self, given: Given) -> Result<(), AllocError> {
+    pub fn give(&mut self, given: GivenReservation) -> Result<(), AllocError> {
         let task = self.task(given.pid)?;
         if let Some(lines) = self.lines.tasks.get_mut(task as usize) {
             lines.given = Some(given.parameters);
@@ -98,7 +98,7 @@ impl Record {
         policy: Policy,
     ) -> Result<(), AllocError> {
         let task = self.task(pid)?;
-        let told = Told {
+        let told = TaskNote {
             task,
             at,
             moment: at.unwrap_or(0),
@@ -120,7 +120,7 @@ impl Record {
     ) -> Result<(), AllocError> {
         self.begin(at)?;
         self.pass(
-            Place {
+            KeptPlace {
                 line,
                 at,
                 cpu,
@@ -139,10 +139,10 @@ impl Record {
     }
 
     /// The lines, when there are no more.
-    pub fn finish(mut self) -> Result<Lines, AllocError> {
+    pub fn finish(mut self) -> Result<KeptLines, AllocError> {
         self.tell(u64::MAX)?;
         put_given_above(&mut self.lines.told, &mut self.lines.tasks);
-        let Record {
+        let OpenRecord {
             lines,
             passing: _,
             notes: _,
@@ -212,7 +212,7 @@ impl Record {
         Ok(())
     }
 
-    fn come_to(&mut self, told: Told) -> Result<(), AllocError> {
+    fn come_to(&mut self, told: TaskNote) -> Result<(), AllocError> {
         let mut moment = told.moment;
         if let Some(passing) = self.passing.get_mut(told.task as usize) {
             if let Some(at) = told.at {
@@ -220,7 +220,7 @@ impl Record {
             }
             *passing = passing.told(is_deadline(told.policy));
         }
-        insert_told(&mut self.lines.told, Told { moment, ..told })
+        insert_told(&mut self.lines.told, TaskNote { moment, ..told })
     }
 
     pub(crate) fn before(&self, cpu: u32) -> Before {
@@ -247,8 +247,8 @@ impl Record {
         }
     }
 
-    pub(crate) fn keep(&mut self, place: Place, event: Event) -> Result<(), AllocError> {
-        self.lines.kept.push(Kept {
+    pub(crate) fn keep(&mut self, place: KeptPlace, event: KeptEvent) -> Result<(), AllocError> {
+        self.lines.kept.push(KeptLine {
             line: place.line,
             at: place.at,
             cpu: place.cpu,
@@ -259,9 +259,9 @@ impl Record {
     }
 
     /// A line that says no more than that a CPU idles; one of many in a row is enough.
-    pub(crate) fn keep_idle(&mut self, place: Place) -> Result<(), AllocError> {
+    pub(crate) fn keep_idle(&mut self, place: KeptPlace) -> Result<(), AllocError> {
         if self.keeps_idle && place.is_idle && !idles_already(&self.lines.kept, place.cpu) {
-            self.keep(place, Event::Idles)
+            self.keep(place, KeptEvent::Idles)
         } else {
             Ok(())
         }
@@ -288,7 +288,7 @@ fn is_deadline(policy: Policy) -> bool {
 }
 
 /// What options give stands above notes, which still tell when a task is of the class.
-fn put_given_above(told: &mut [Told], tasks: &mut [TaskLines]) {
+fn put_given_above(told: &mut [TaskNote], tasks: &mut [TaskLines]) {
     for i in 0..told.len() {
         if let Some(task) = tasks.get(told[i].task as usize) {
             told[i].policy = policy_above(told[i].policy, task.given);
@@ -304,7 +304,7 @@ fn put_given_above(told: &mut [Told], tasks: &mut [TaskLines]) {
 }
 
 /// Notes by their moments, with one more behind those of the same moment.
-fn insert_told(notes: &mut Vec<Told>, told: Told) -> Result<(), AllocError> {
+fn insert_told(notes: &mut Vec<TaskNote>, told: TaskNote) -> Result<(), AllocError> {
     let later = notes.iter().position(|note| note.moment > told.moment);
     match later {
         Some(place) => notes.insert(place, told)?,
@@ -314,10 +314,10 @@ fn insert_told(notes: &mut Vec<Told>, told: Told) -> Result<(), AllocError> {
 }
 
 /// Whether the last kept line says no more than that this CPU idles.
-fn idles_already(kept: &[Kept], cpu: u32) -> bool {
+fn idles_already(kept: &[KeptLine], cpu: u32) -> bool {
     match kept.last() {
         Some(last) => match last.event {
-            Event::Idles => last.cpu == cpu,
+            KeptEvent::Idles => last.cpu == cpu,
             _ => false,
         },
         None => false,

@@ -3,7 +3,7 @@ use Rattle.std.specs.Prelude.{ℕ, pos, int_lt, Bool, true, false, not, ◌&&◌
 use Rattle.std.specs.Int.{int_min}
 use Rattle.deadline_rules.specs.Clock.{comes_before}
 use Rattle.deadline_rules.specs.declared.entity.Entity.{Entity}
-use Rattle.timer_rules.specs.declared.task.Task.{Task}
+use Rattle.timer_rules.specs.declared.task.DeadlineTask.{DeadlineTask}
 use Rattle.timer_rules.specs.declared.throttle.Throttling.{Throttling}
 use Rattle.timer_rules.specs.declared.throttle.Throttling.TheVariants.{UsedUp, Waits, Yields, Untold}
 use Rattle.timer_rules.specs.Activity.{is_awake_of}
@@ -15,7 +15,7 @@ abbrev pub is_constrained_of : Entity → Bool
 is_constrained_of e = not (e.parameters.dl_deadline == e.parameters.dl_period)
 
 -- a timer that is started with a budget left: the task waits for its next period, or has yielded
-abbrev pub throttling_by : Task → ℕ → Throttling
+abbrev pub throttling_by : DeadlineTask → ℕ → Throttling
 throttling_by t at =
     if has_budget_of t.entity
     then (if is_constrained_of t.entity && comes_before t.entity.budget.deadline at then Waits

@@ -4,11 +4,11 @@ use Rattle.deadline_rules.specs.Clock.{plus, less, comes_before}
 use Rattle.deadline_rules.specs.Budget.{renewed_of, waking_of, woken_of}
 use Rattle.deadline_rules.specs.declared.budget.Wake.{Wake}
 use Rattle.deadline_rules.specs.declared.budget.Wake.TheVariants.{Kept, Revised, Renewed}
-use Rattle.deadline_rules.specs.declared.charge.Law.{Law}
+use Rattle.deadline_rules.specs.declared.charge.ChargeLaw.{ChargeLaw}
 use Rattle.deadline_rules.specs.declared.entity.Entity.{Entity}
 use Rattle.timer_rules.specs.declared.activity.Knowledge.{Knowledge}
 use Rattle.timer_rules.specs.declared.activity.Knowledge.TheVariants.{Known, Unknown, Edge}
-use Rattle.timer_rules.specs.declared.task.Task.{Task}
+use Rattle.timer_rules.specs.declared.task.DeadlineTask.{DeadlineTask}
 use Rattle.timer_rules.specs.declared.wake.TheConstants.{CLOCK_SLACK, DEADLINE_SLACK}
 use Rattle.timer_rules.specs.declared.wake.Waking.{Waking}
 use Rattle.timer_rules.specs.declared.wake.Waking.TheVariants.{StaysThrottled, Waits, Guessed, Sure, Tested}
@@ -21,15 +21,15 @@ waits_of e clock =
     is_constrained_of e && comes_before e.budget.deadline clock
     && comes_before clock (plus (less e.budget.deadline e.parameters.dl_deadline) e.parameters.dl_period)
 
-abbrev pub tested_by : Law → Entity → ℕ → Waking
+abbrev pub tested_by : ChargeLaw → Entity → ℕ → Waking
 tested_by law e clock = if waits_of e clock then Waits else Tested (waking_of law e clock)
 
 -- a new period begins whatever budget and deadline were
-abbrev pub is_sure_since : Option ℕ → Task → ℕ → ℕ → Bool
+abbrev pub is_sure_since : Option ℕ → DeadlineTask → ℕ → ℕ → Bool
 is_sure_since (Some blocked) t begins clock = (t.is_lag_over && not (is_constrained_of t.entity)) || nat_lt t.entity.parameters.dl_period (clock - blocked)
 is_sure_since None t begins clock = is_unseen_of t.knowledge && nat_le t.entity.parameters.dl_period (clock - begins)
 
-abbrev pub waking_by : Law → Task → ℕ → ℕ → Waking
+abbrev pub waking_by : ChargeLaw → DeadlineTask → ℕ → ℕ → Waking
 waking_by law t begins clock =
     if t.entity.budget.is_throttled then StaysThrottled
     else (if is_known_of t.knowledge then tested_by law t.entity clock
@@ -51,17 +51,17 @@ kind_of Waits = 3
 kind_of _ = 4
 
 -- the rules answer otherwise at two clocks
-unfoldable pub differs_between_of : Law → Entity → ℕ → ℕ → Bool
+unfoldable pub differs_between_of : ChargeLaw → Entity → ℕ → ℕ → Bool
 differs_between_of law e one other = not (kind_of (tested_by law e one) == kind_of (tested_by law e other))
 
 -- so far before or after
-abbrev pub differs_within_of : Law → Entity → ℕ → ℕ → Bool
+abbrev pub differs_within_of : ChargeLaw → Entity → ℕ → ℕ → Bool
 differs_within_of law e clock slack =
     differs_between_of law e (clock - slack) clock
     || differs_between_of law e (min (clock + slack) (2 ^ 64 - 1)) clock
 
 -- within a microsecond of the clock, or two where that is as near to the deadline
-abbrev pub is_edge_of : Law → Entity → ℕ → Bool
+abbrev pub is_edge_of : ChargeLaw → Entity → ℕ → Bool
 is_edge_of law e clock =
     differs_within_of law e clock CLOCK_SLACK
     || (nat_le ((e.budget.deadline - clock) + (clock - e.budget.deadline)) DEADLINE_SLACK && differs_within_of law e clock DEADLINE_SLACK)

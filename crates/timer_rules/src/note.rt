@@ -4,13 +4,13 @@ ghost use Rattle.std.specs.Prelude.{◌≡◌};
 ghost use Rattle.timer_rules.specs.Notes.{admitted_of, changed_of, keeps_of, left_of, of_class_of, resumed_of, sighted_of, step_by, was_there_of};
 
 use crate::activity::{Activity, Knowledge, is_known};
-use crate::task::Task;
+use crate::task::DeadlineTask;
 use deadline_rules::{Entity, is_before, renewed, reserved};
 use trace_words::{Budget, Parameters, Policy};
 
 /// What a note comes to.
 #[derive(Clone, Copy)]
-pub enum Step {
+pub enum NoteStep {
     /// The task was there before the record began.
     WasThere(Parameters),
     Admitted(Parameters),
@@ -20,24 +20,24 @@ pub enum Step {
 }
 
 /// What a note comes to for a task; one from before the record may tell of a task of the class.
-pub fn step_of(task: Task, policy: Policy, is_before_record: bool) -> Step
+pub fn step_of(task: DeadlineTask, policy: Policy, is_before_record: bool) -> NoteStep
     ensures { result ≡ step_by task policy is_before_record }
 {
     match policy {
         Policy::Deadline(parameters) => {
             if is_before_record {
-                Step::WasThere(parameters)
+                NoteStep::WasThere(parameters)
             } else if task.entity.is_in_class {
-                Step::Changed(parameters)
+                NoteStep::Changed(parameters)
             } else {
-                Step::Admitted(parameters)
+                NoteStep::Admitted(parameters)
             }
         }
         Policy::Other => {
             if task.entity.is_in_class {
-                Step::Left
+                NoteStep::Left
             } else {
-                Step::Nothing
+                NoteStep::Nothing
             }
         }
     }
@@ -61,10 +61,10 @@ fn of_class(entity: Entity, parameters: Parameters) -> Entity
 }
 
 /// The task that was there before the record began: it is on its runqueue, and no more is known.
-pub fn was_there(task: Task, cpu: u32, parameters: Parameters) -> Task
+pub fn was_there(task: DeadlineTask, cpu: u32, parameters: Parameters) -> DeadlineTask
     ensures { result ≡ was_there_of task cpu parameters }
 {
-    Task {
+    DeadlineTask {
         entity: of_class(task.entity, parameters),
         cpu,
         activity: Activity::Inactive,
@@ -74,10 +74,10 @@ pub fn was_there(task: Task, cpu: u32, parameters: Parameters) -> Task
 }
 
 /// The task that an option gives, as the first line shows it that has it in the class.
-pub fn sighted(task: Task, cpu: u32, parameters: Parameters) -> Task
+pub fn sighted(task: DeadlineTask, cpu: u32, parameters: Parameters) -> DeadlineTask
     ensures { result ≡ sighted_of task cpu parameters }
 {
-    Task {
+    DeadlineTask {
         entity: of_class(task.entity, parameters),
         cpu,
         activity: Activity::Away,
@@ -87,14 +87,14 @@ pub fn sighted(task: Task, cpu: u32, parameters: Parameters) -> Task
 }
 
 /// Whether a task that comes back to the class keeps its budget and deadline: they are known, and the deadline is not over.
-fn keeps(task: Task, moment: u64) -> bool
+fn keeps(task: DeadlineTask, moment: u64) -> bool
     ensures { result ≡ keeps_of task moment }
 {
     is_known(task.knowledge) && !is_before(task.entity.budget.deadline, moment)
 }
 
 /// The entity of a task that is admitted at this moment (`switched_to_dl`, `setup_new_dl_entity`).
-fn resumed(task: Task, moment: u64, parameters: Parameters) -> Entity
+fn resumed(task: DeadlineTask, moment: u64, parameters: Parameters) -> Entity
     ensures { result ≡ resumed_of task moment parameters }
 {
     let entity = of_class(task.entity, parameters);
@@ -107,17 +107,17 @@ fn resumed(task: Task, moment: u64, parameters: Parameters) -> Entity
 
 /// The task after it is admitted at this moment (`sched_dl_overflow`): by itself it runs on, by another it is asleep.
 pub fn admitted(
-    task: Task,
+    task: DeadlineTask,
     moment: u64,
     is_by_itself: bool,
     cpu: u32,
     parameters: Parameters,
-) -> Task
+) -> DeadlineTask
     ensures { result ≡ admitted_of task moment is_by_itself cpu parameters }
 {
     let entity = resumed(task, moment, parameters);
     if is_by_itself {
-        Task {
+        DeadlineTask {
             entity,
             cpu,
             activity: Activity::Contending,
@@ -127,7 +127,7 @@ pub fn admitted(
             ..task
         }
     } else {
-        Task {
+        DeadlineTask {
             entity,
             cpu,
             activity: Activity::Inactive,
@@ -142,12 +142,12 @@ pub fn admitted(
 
 /// The task after its parameters change at this moment (`dl_change_utilization`): budget and deadline are kept, but where a ready task's
 /// deadline is over. A blocked task's 0-lag state ends.
-pub fn changed(task: Task, moment: u64, parameters: Parameters) -> Task
+pub fn changed(task: DeadlineTask, moment: u64, parameters: Parameters) -> DeadlineTask
     ensures { result ≡ changed_of task moment parameters }
 {
     let entity = reserved(task.entity, parameters);
     match task.activity {
-        Activity::Contending => Task {
+        Activity::Contending => DeadlineTask {
             entity: if is_before(entity.budget.deadline, moment) {
                 renewed(entity, moment)
             } else {
@@ -155,20 +155,20 @@ pub fn changed(task: Task, moment: u64, parameters: Parameters) -> Task
             },
             ..task
         },
-        Activity::NonContending => Task {
+        Activity::NonContending => DeadlineTask {
             entity,
             activity: Activity::Inactive,
             ..task
         },
-        Activity::Inactive | Activity::Away => Task { entity, ..task },
+        Activity::Inactive | Activity::Away => DeadlineTask { entity, ..task },
     }
 }
 
 /// The task after it leaves the class (`switched_from_dl`): off both sums at once.
-pub fn left(task: Task) -> Task
+pub fn left(task: DeadlineTask) -> DeadlineTask
     ensures { result ≡ left_of task }
 {
-    Task {
+    DeadlineTask {
         entity: Entity {
             is_in_class: false,
             ..task.entity

@@ -4,13 +4,13 @@ ghost use Rattle.std.specs.Prelude.{◌≡◌};
 ghost use Rattle.timer_rules.specs.Observations.{answer_by, block_answer_of, block_moments_of, distance_of, late_by, next_period_of, replenish_moments_of, zero_lag_moment_of};
 
 use crate::activity::{Knowledge, is_awake, is_unseen};
-use crate::task::{Task, ends};
+use crate::task::{DeadlineTask, ends};
 use deadline_rules::zero_lag;
 use trace_words::{Stop, Sums};
 
 /// Which timer is observed.
 #[derive(Clone, Copy)]
-pub enum Kind {
+pub enum TimerKind {
     /// The 0-lag timer, at a block.
     Block,
 
@@ -20,7 +20,7 @@ pub enum Kind {
 
 /// What an observation comes to.
 #[derive(Clone, Copy)]
-pub enum Answer {
+pub enum ObservedAnswer {
     Agrees,
     Differs,
 
@@ -48,7 +48,7 @@ pub struct Observation {
     /// The task's runqueue.
     pub cpu: u32,
     pub task: u32,
-    pub kind: Kind,
+    pub kind: TimerKind,
     pub predicted: u64,
 
     /// When the kernel's timer is to fire; none where it started none.
@@ -61,7 +61,7 @@ pub struct Observation {
 
     /// Of the task's runqueue.
     pub sums: Sums,
-    pub answer: Answer,
+    pub answer: ObservedAnswer,
 }
 
 /// A moment as it is predicted, as the kernel has it, and their difference.
@@ -80,14 +80,14 @@ fn distance(a: u64, b: u64) -> i64
 }
 
 /// The 0-lag moment of a task (`task_non_contending`): its deadline less the time in which the reservation gives the budget.
-pub fn zero_lag_moment(task: Task) -> u64
+pub fn zero_lag_moment(task: DeadlineTask) -> u64
     ensures { result ≡ zero_lag_moment_of task }
 {
     zero_lag(task.entity, 0).cast_unsigned()
 }
 
 /// When the replenishment timer of a task is to fire (`start_dl_timer`): at its next period.
-pub fn next_period(task: Task) -> u64
+pub fn next_period(task: DeadlineTask) -> u64
     ensures { result ≡ next_period_of task }
 {
     let parameters = task.entity.parameters;
@@ -99,18 +99,18 @@ pub fn next_period(task: Task) -> u64
 }
 
 /// What a difference comes to, for a task of which so much is known.
-pub fn answer_of(knowledge: Knowledge, difference: i64, within: u64) -> Answer
+pub fn answer_of(knowledge: Knowledge, difference: i64, within: u64) -> ObservedAnswer
     ensures { result ≡ answer_by knowledge difference within }
 {
     match knowledge {
-        Knowledge::Unseen | Knowledge::Unknown => Answer::Unknown,
-        Knowledge::Edge => Answer::Edge,
-        Knowledge::Gap => Answer::Gap,
+        Knowledge::Unseen | Knowledge::Unknown => ObservedAnswer::Unknown,
+        Knowledge::Edge => ObservedAnswer::Edge,
+        Knowledge::Gap => ObservedAnswer::Gap,
         Knowledge::Known => {
             if difference.unsigned_abs() <= within {
-                Answer::Agrees
+                ObservedAnswer::Agrees
             } else {
-                Answer::Differs
+                ObservedAnswer::Differs
             }
         }
     }
@@ -118,7 +118,7 @@ pub fn answer_of(knowledge: Knowledge, difference: i64, within: u64) -> Answer
 
 /// The 0-lag moments at a block of this moment. The kernel's timer is relative, and its base is read later than the charge: by as much as
 /// the line that starts it is behind the charge's.
-pub fn block_moments(task: Task, at: u64) -> Moments
+pub fn block_moments(task: DeadlineTask, at: u64) -> Moments
     ensures { result ≡ block_moments_of task at }
 {
     let charged = task.charged.unwrap_or(at);
@@ -144,7 +144,7 @@ pub fn block_moments(task: Task, at: u64) -> Moments
 const LATE: u64 = 1_000_000;
 
 /// How much later than the charge the base of a replenishment timer was read; of a task that is asleep no charge tells it.
-fn late(task: Task, at: u64) -> u64
+fn late(task: DeadlineTask, at: u64) -> u64
     ensures { result ≡ late_by task at }
 {
     let late = at.wrapping_sub(task.charged.unwrap_or(at));
@@ -156,7 +156,7 @@ fn late(task: Task, at: u64) -> u64
 }
 
 /// The moments at a start of a replenishment timer.
-pub fn replenish_moments(task: Task, at: u64, expires: u64) -> Moments
+pub fn replenish_moments(task: DeadlineTask, at: u64, expires: u64) -> Moments
     ensures { result ≡ replenish_moments_of task at expires }
 {
     let predicted = next_period(task).wrapping_add(late(task, at));
@@ -168,14 +168,14 @@ pub fn replenish_moments(task: Task, at: u64, expires: u64) -> Moments
 }
 
 /// What the block of a task comes to: an end is not compared, and one that is blocked already has lines missing.
-pub fn block_answer(task: Task, stop: Stop, difference: i64, within: u64) -> Answer
+pub fn block_answer(task: DeadlineTask, stop: Stop, difference: i64, within: u64) -> ObservedAnswer
     ensures { result ≡ block_answer_of task stop difference within }
 {
     if ends(stop) {
-        Answer::End
+        ObservedAnswer::End
     } else if is_unseen(task.knowledge) || is_awake(task.activity) {
         answer_of(task.knowledge, difference, within)
     } else {
-        Answer::Gap
+        ObservedAnswer::Gap
     }
 }

@@ -3,7 +3,7 @@
 ghost use Rattle.std.specs.Prelude.{◌≡◌};
 ghost use Rattle.timer_rules.specs.Effects.{served_of, with_of, without_of};
 
-use crate::effect::{Effect, server_effect};
+use crate::effect::{BandwidthShare, server_effect};
 use crate::server::ServerState;
 use trace_words::Sums;
 
@@ -19,7 +19,7 @@ pub struct Runqueue {
 }
 
 /// The runqueue without what a task or a server had in its sums.
-pub fn without(runqueue: Runqueue, effect: Effect) -> Runqueue
+pub fn without(runqueue: Runqueue, effect: BandwidthShare) -> Runqueue
     ensures { result ≡ without_of runqueue effect }
 {
     Runqueue {
@@ -33,7 +33,7 @@ pub fn without(runqueue: Runqueue, effect: Effect) -> Runqueue
 }
 
 /// The runqueue with what a task or a server has in its sums.
-pub fn with(runqueue: Runqueue, effect: Effect) -> Runqueue
+pub fn with(runqueue: Runqueue, effect: BandwidthShare) -> Runqueue
     ensures { result ≡ with_of runqueue effect }
 {
     Runqueue {

@@ -6,12 +6,12 @@ ghost use Rattle.timer_rules.specs.Tasks.{blocked_of, charged_at_of, ends_of, kn
 use crate::activity::{Activity, Knowledge, is_awake, is_unseen};
 use crate::throttle::{Throttling, has_budget, held, held_back};
 use crate::wake::{Waking, awakened, known_after};
-use deadline_rules::{Entity, Law, Runqueue, charged, cost, fresh};
+use deadline_rules::{Entity, ChargeLaw, ChargedRunqueue, charged, cost, fresh};
 use trace_words::Stop;
 
 /// A timer that the kernel started.
 #[derive(Clone, Copy)]
-pub struct Armed {
+pub struct StartedTimer {
     /// When it is to fire.
     pub expires: u64,
 
@@ -21,7 +21,7 @@ pub struct Armed {
 
 /// A task of SCHED_DEADLINE.
 #[derive(Clone, Copy)]
-pub struct Task {
+pub struct DeadlineTask {
     pub entity: Entity,
 
     /// Its runqueue.
@@ -33,7 +33,7 @@ pub struct Task {
     pub knowledge: Knowledge,
 
     /// The 0-lag timer that the kernel started since the task's last switch away.
-    pub armed: Option<Armed>,
+    pub armed: Option<StartedTimer>,
 
     /// The moment of the charge that used its budget up, where no replenishment timer was started since.
     pub exceeded: Option<u64>,
@@ -50,10 +50,10 @@ pub struct Task {
 
 /// A task without a reservation, which no line has shown.
 #[tactic(auto, unfolding(crate::specs::Tasks::unseen_task))]
-pub fn unseen() -> Task
+pub fn unseen() -> DeadlineTask
     ensures { result ≡ unseen_task }
 {
-    Task {
+    DeadlineTask {
         entity: fresh(false),
         cpu: 0,
         activity: Activity::Away,
@@ -68,10 +68,10 @@ pub fn unseen() -> Task
 }
 
 /// The task after it wakes on this CPU (`enqueue_task_dl` with ENQUEUE_WAKEUP): it contends.
-pub fn woken(task: Task, cpu: u32, clock: u64, waking: Waking, is_edge: bool) -> Task
+pub fn woken(task: DeadlineTask, cpu: u32, clock: u64, waking: Waking, is_edge: bool) -> DeadlineTask
     ensures { result ≡ woken_by task cpu clock waking is_edge }
 {
-    Task {
+    DeadlineTask {
         entity: awakened(task.entity, clock, waking),
         cpu,
         activity: Activity::Contending,
@@ -82,10 +82,10 @@ pub fn woken(task: Task, cpu: u32, clock: u64, waking: Waking, is_edge: bool) ->
 
 /// The task after sched_migrate_task: a ready one takes its bandwidth along, and keeps budget and deadline; a blocked one leaves the sums
 /// until it wakes (`migrate_task_rq_dl`).
-pub fn moved(task: Task, cpu: u32) -> Task
+pub fn moved(task: DeadlineTask, cpu: u32) -> DeadlineTask
     ensures { result ≡ moved_of task cpu }
 {
-    Task {
+    DeadlineTask {
         cpu,
         activity: match task.activity {
             Activity::Contending => Activity::Contending,
@@ -96,11 +96,11 @@ pub fn moved(task: Task, cpu: u32) -> Task
 }
 
 /// A task that runs on this CPU and that no line has shown before contends there.
-pub fn seen_running(task: Task, cpu: u32) -> Task
+pub fn seen_running(task: DeadlineTask, cpu: u32) -> DeadlineTask
     ensures { result ≡ seen_running_of task cpu }
 {
     if task.entity.is_in_class && is_unseen(task.knowledge) {
-        Task {
+        DeadlineTask {
             cpu,
             activity: Activity::Contending,
             knowledge: Knowledge::Unknown,
@@ -112,17 +112,17 @@ pub fn seen_running(task: Task, cpu: u32) -> Task
 }
 
 /// Whether a budget was used up, and is filled at once, since no timer was started for it (`update_curr_dl_se`).
-pub fn refills(task: Task) -> bool
+pub fn refills(task: DeadlineTask) -> bool
     ensures { result ≡ refills_of task }
 {
     task.exceeded.is_some() && task.entity.budget.is_throttled && !has_budget(task.entity)
 }
 
 /// The task after that.
-pub fn refilled(task: Task) -> Task
+pub fn refilled(task: DeadlineTask) -> DeadlineTask
     ensures { result ≡ refilled_of task }
 {
-    Task {
+    DeadlineTask {
         entity: if refills(task) {
             deadline_rules::replenished(task.entity, task.exceeded.unwrap_or(0))
         } else {
@@ -134,14 +134,14 @@ pub fn refilled(task: Task) -> Task
 }
 
 /// The task after a charge at this moment (`update_curr_dl_se`): at 0 or below its budget is used up, and it is throttled.
-pub fn ran(law: Law, task: Task, at: u64, nanos: u64, runqueue: Runqueue) -> Task
+pub fn ran(law: ChargeLaw, task: DeadlineTask, at: u64, nanos: u64, runqueue: ChargedRunqueue) -> DeadlineTask
     ensures { result ≡ ran_of law task at nanos runqueue }
 {
     let entity = charged(task.entity, cost(law, task.entity, runqueue, nanos));
     if has_budget(entity) {
-        Task { entity, ..task }
+        DeadlineTask { entity, ..task }
     } else {
-        Task {
+        DeadlineTask {
             entity: held(entity),
             exceeded: Some(at),
             ..task
@@ -150,10 +150,10 @@ pub fn ran(law: Law, task: Task, at: u64, nanos: u64, runqueue: Runqueue) -> Tas
 }
 
 /// The task whose last charge is at this moment.
-pub fn charged_at(task: Task, at: u64) -> Task
+pub fn charged_at(task: DeadlineTask, at: u64) -> DeadlineTask
     ensures { result ≡ charged_at_of task at }
 {
-    Task {
+    DeadlineTask {
         charged: Some(at),
         ..task
     }
@@ -161,16 +161,16 @@ pub fn charged_at(task: Task, at: u64) -> Task
 
 /// The task after its `inactive_task_timer` is started, in a line of this moment: of a task that has left the class, the bandwidth stays
 /// admitted until it fires (`task_non_contending`).
-pub fn lag_started(task: Task, at: u64, expires: u64) -> Task
+pub fn lag_started(task: DeadlineTask, at: u64, expires: u64) -> DeadlineTask
     ensures { result ≡ lag_started_of task at expires }
 {
     if task.entity.is_in_class {
-        Task {
-            armed: Some(Armed { expires, at }),
+        DeadlineTask {
+            armed: Some(StartedTimer { expires, at }),
             ..task
         }
     } else {
-        Task {
+        DeadlineTask {
             is_admitted: true,
             ..task
         }
@@ -179,11 +179,11 @@ pub fn lag_started(task: Task, at: u64, expires: u64) -> Task
 
 /// The task after its `inactive_task_timer` fires (`inactive_task_timer`): off `running_bw`; one that has ended is off `this_bw` too, and
 /// its bandwidth is given back, as is that of one that has left the class.
-pub fn lag_fired(task: Task) -> Task
+pub fn lag_fired(task: DeadlineTask) -> DeadlineTask
     ensures { result ≡ lag_fired_of task }
 {
     if !task.entity.is_in_class {
-        return Task {
+        return DeadlineTask {
             is_admitted: false,
             ..task
         };
@@ -191,14 +191,14 @@ pub fn lag_fired(task: Task) -> Task
     match task.activity {
         Activity::NonContending => {
             if task.entity.is_dead {
-                Task {
+                DeadlineTask {
                     activity: Activity::Away,
                     is_admitted: false,
                     is_lag_over: true,
                     ..task
                 }
             } else {
-                Task {
+                DeadlineTask {
                     activity: Activity::Inactive,
                     is_lag_over: true,
                     ..task
@@ -210,10 +210,10 @@ pub fn lag_fired(task: Task) -> Task
 }
 
 /// The task after its `dl_task_timer` is started.
-pub fn throttled(task: Task, throttling: Throttling) -> Task
+pub fn throttled(task: DeadlineTask, throttling: Throttling) -> DeadlineTask
     ensures { result ≡ throttled_by task throttling }
 {
-    Task {
+    DeadlineTask {
         entity: held_back(task.entity, throttling),
         exceeded: None,
         ..task
@@ -221,10 +221,10 @@ pub fn throttled(task: Task, throttling: Throttling) -> Task
 }
 
 /// The task after its `dl_task_timer` fires at this moment (`dl_task_timer`, `replenish_dl_entity`).
-pub fn replenished(task: Task, at: u64) -> Task
+pub fn replenished(task: DeadlineTask, at: u64) -> DeadlineTask
     ensures { result ≡ replenished_by task at }
 {
-    Task {
+    DeadlineTask {
         entity: if task.entity.budget.is_throttled {
             deadline_rules::replenished(task.entity, at)
         } else {
@@ -235,10 +235,10 @@ pub fn replenished(task: Task, at: u64) -> Task
 }
 
 /// The task after it is switched out and stays ready.
-pub fn switched(task: Task) -> Task
+pub fn switched(task: DeadlineTask) -> DeadlineTask
     ensures { result ≡ switched_of task }
 {
-    Task {
+    DeadlineTask {
         armed: None,
         ..task
     }
@@ -267,12 +267,12 @@ pub fn stays_ready(stop: Stop) -> bool
 /// The task after it blocks on this CPU at this moment, or ends (`task_non_contending`): its bandwidth runs on where the kernel started its
 /// 0-lag timer; else it is off `running_bw`, and off `this_bw` and given back where the task has ended. Where lines are missing before the
 /// block, one of them may have started the timer.
-pub fn blocked(task: Task, at: u64, cpu: u32, stop: Stop) -> Task
+pub fn blocked(task: DeadlineTask, at: u64, cpu: u32, stop: Stop) -> DeadlineTask
     ensures { result ≡ blocked_of task at cpu stop }
 {
     let has_ended = ends(stop);
     let is_armed = task.armed.is_some();
-    Task {
+    DeadlineTask {
         entity: Entity {
             is_dead: has_ended,
             ..task.entity

@@ -4,7 +4,7 @@ ghost use Rattle.std.specs.Prelude.{◌≡◌};
 ghost use Rattle.timer_rules.specs.Throttle.{has_budget_of, held_back_by, held_of, is_constrained_of, throttling_by, waiting_of, yielded_of};
 
 use crate::activity::is_awake;
-use crate::task::Task;
+use crate::task::DeadlineTask;
 use deadline_rules::{Entity, is_before};
 use trace_words::Budget;
 
@@ -39,7 +39,7 @@ pub(crate) fn is_constrained(entity: Entity) -> bool
 }
 
 /// Why a task's replenishment timer is started at this moment.
-pub fn throttling_of(task: Task, at: u64) -> Throttling
+pub fn throttling_of(task: DeadlineTask, at: u64) -> Throttling
     ensures { result ≡ throttling_by task at }
 {
     if !has_budget(task.entity) {

@@ -4,9 +4,9 @@ ghost use Rattle.std.specs.Prelude.{◌≡◌};
 ghost use Rattle.timer_rules.specs.Wakes.{awakened_by, differs_between_of, differs_within_of, is_edge_of, is_sure_since, is_tested_of, kind_of, known_after_by, tested_by, waits_of, waking_by};
 
 use crate::activity::{Knowledge, is_known, is_unseen};
-use crate::task::Task;
+use crate::task::DeadlineTask;
 use crate::throttle::{is_constrained, waiting};
-use deadline_rules::{Entity, Law, Wake, is_before, renewed, waking, woken};
+use deadline_rules::{Entity, ChargeLaw, Wake, is_before, renewed, waking, woken};
 
 /// What a wake does.
 #[derive(Clone, Copy)]
@@ -46,7 +46,7 @@ fn waits(entity: Entity, clock: u64) -> bool
 }
 
 /// What the kernel's rules say of a wake at this clock.
-fn tested(law: Law, entity: Entity, clock: u64) -> Waking
+fn tested(law: ChargeLaw, entity: Entity, clock: u64) -> Waking
     ensures { result ≡ tested_by law entity clock }
 {
     if waits(entity, clock) {
@@ -58,7 +58,7 @@ fn tested(law: Law, entity: Entity, clock: u64) -> Waking
 
 /// Whether a wake begins a new period whatever budget and deadline were: the 0-lag time after the last block has come, and the period ends
 /// with the deadline; or a period has passed since that block; or, of a task that was not seen, since the record began.
-fn is_sure(task: Task, begins: u64, clock: u64) -> bool
+fn is_sure(task: DeadlineTask, begins: u64, clock: u64) -> bool
     ensures { result ≡ is_sure_since task.blocked task begins clock }
 {
     let period = task.entity.parameters.dl_period;
@@ -72,7 +72,7 @@ fn is_sure(task: Task, begins: u64, clock: u64) -> bool
 }
 
 /// What a wake at this clock does to a task of a record that begins then.
-pub fn waking_of(law: Law, task: Task, begins: u64, clock: u64) -> Waking
+pub fn waking_of(law: ChargeLaw, task: DeadlineTask, begins: u64, clock: u64) -> Waking
     ensures { result ≡ waking_by law task begins clock }
 {
     if task.entity.budget.is_throttled {
@@ -111,14 +111,14 @@ fn kind(waking: Waking) -> u8
 
 /// Whether the rules say otherwise at these two clocks.
 #[tactic(auto, unfolding(crate::specs::Wakes::differs_between_of))]
-fn differs_between(law: Law, entity: Entity, one: u64, other: u64) -> bool
+fn differs_between(law: ChargeLaw, entity: Entity, one: u64, other: u64) -> bool
     ensures { result ≡ differs_between_of law entity one other }
 {
     kind(tested(law, entity, one)) != kind(tested(law, entity, other))
 }
 
 /// Whether the rules say otherwise of a clock that lies so far before or after.
-fn differs_within(law: Law, entity: Entity, clock: u64, slack: u64) -> bool
+fn differs_within(law: ChargeLaw, entity: Entity, clock: u64, slack: u64) -> bool
     ensures { result ≡ differs_within_of law entity clock slack }
 {
     differs_between(law, entity, clock.saturating_sub(slack), clock)
@@ -126,7 +126,7 @@ fn differs_within(law: Law, entity: Entity, clock: u64, slack: u64) -> bool
 }
 
 /// Whether the kernel may have answered a wake otherwise, since its clock is not known to the nanosecond.
-pub fn is_edge(law: Law, entity: Entity, clock: u64) -> bool
+pub fn is_edge(law: ChargeLaw, entity: Entity, clock: u64) -> bool
     ensures { result ≡ is_edge_of law entity clock }
 {
     differs_within(law, entity, clock, CLOCK_SLACK)

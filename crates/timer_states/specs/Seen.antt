@@ -1,18 +1,18 @@
 -- What a line shows of a task.
 use Rattle.std.specs.Prelude.{ℕ, ◌-◌, ◌==◌, Bool, true, false, List, Option, Some, None, if◌then◌else◌}
-use Rattle.timer_lines.specs.declared.event.Event.{Event}
-use Rattle.timer_lines.specs.declared.event.Event.TheVariants.{Ran}
-use Rattle.timer_lines.specs.declared.event.Kept.{Kept}
-use Rattle.timer_rules.specs.declared.task.Task.{Task}
+use Rattle.timer_lines.specs.declared.event.KeptEvent.{KeptEvent}
+use Rattle.timer_lines.specs.declared.event.KeptEvent.TheVariants.{Ran}
+use Rattle.timer_lines.specs.declared.event.KeptLine.{KeptLine}
+use Rattle.timer_rules.specs.declared.task.DeadlineTask.{DeadlineTask}
 use Rattle.deadline_states.specs.declared.history.History.{History}
 use Rattle.deadline_states.specs.declared.history.Slice.{Slice}
-use Rattle.deadline_states.specs.declared.state.State.{State}
-use Rattle.deadline_states.specs.declared.state.State.TheVariants.{Running}
+use Rattle.deadline_states.specs.declared.state.TaskState.{TaskState}
+use Rattle.deadline_states.specs.declared.state.TaskState.TheVariants.{Running}
 use Rattle.deadline_states.specs.Histories.{last_of, states_after}
 use Rattle.deadline_states.specs.States.{is_on_cpu_after, is_same_state, state_by}
 
 -- when the state begins that a line shows: a charge is of the span before it
-abbrev pub begin_in : Event → ℕ → ℕ → ℕ
+abbrev pub begin_in : KeptEvent → ℕ → ℕ → ℕ
 begin_in (Ran task nanos) at number = if task == number then at - nanos else at
 begin_in e at number = at
 
@@ -21,11 +21,11 @@ is_running (Some s) = is_same_state s.state Running
 is_running None = false
 
 -- the task that had this state last is on its CPU after a line
-abbrev pub runs_after : Kept → ℕ → Option Slice → Bool
+abbrev pub runs_after : KeptLine → ℕ → Option Slice → Bool
 runs_after k number last = is_on_cpu_after k.event number (is_running last)
 
 -- the states that ended, after a line that leaves a task so
-abbrev pub states_seen : History → Kept → ℕ → Task → List Slice
+abbrev pub states_seen : History → KeptLine → ℕ → DeadlineTask → List Slice
 states_seen h k number t =
     states_after h.window h.states.items (last_of h.last_states.items number) t.cpu
     (state_by t (runs_after k number (last_of h.last_states.items number))) (begin_in k.event k.at number)

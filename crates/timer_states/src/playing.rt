@@ -3,21 +3,21 @@
 ghost use Rattle.std.specs.Prelude.{◌≡◌, OnOk};
 ghost use Rattle.timer_states.specs.Seen.{begin_in, is_running, states_seen};
 
-use deadline_states::{History, Slice, Span, State, is_on_cpu, state_of};
-use deadline_timers::{Machine, Setup, Start, tell_until};
+use deadline_states::{History, Slice, Span, TaskState, is_on_cpu, state_of};
+use deadline_timers::{TimedMachine, RecordSetup, RecordStart, tell_until};
 use std::alloc::{AllocError, Global};
-use timer_lines::{Event, Kept, Lines};
-use timer_rules::Task;
+use timer_lines::{KeptEvent, KeptLine, KeptLines};
+use timer_rules::DeadlineTask;
 
 /// Plays the lines of a record, and gives the states that they come to in a part of it.
 pub fn states_of(
     alloc: Global,
-    setup: Setup,
-    start: &Start,
-    lines: &Lines,
+    setup: RecordSetup,
+    start: &RecordStart,
+    lines: &KeptLines,
     window: Span,
 ) -> Result<History, AllocError> {
-    let mut machine = Machine::new(alloc, setup, start, lines, 0, None)?;
+    let mut machine = TimedMachine::new(alloc, setup, start, lines, 0, None)?;
     let mut history = History::new(alloc, lines.tasks.len(), machine.cpus(), window)?;
     let mut come = 0usize;
     for kept in &lines.kept {
@@ -30,7 +30,7 @@ pub fn states_of(
 }
 
 /// Shows to a history what the machine came to by a line.
-fn see(history: &mut History, machine: &Machine, kept: Kept) -> Result<(), AllocError> {
+fn see(history: &mut History, machine: &TimedMachine, kept: KeptLine) -> Result<(), AllocError> {
     for number in 0..history.tasks() {
         if let Some(task) = machine.task(number) {
             see_task(history, kept, number, task)?;
@@ -45,9 +45,9 @@ fn see(history: &mut History, machine: &Machine, kept: Kept) -> Result<(), Alloc
 /// Shows to a history what a line left a task in.
 pub fn see_task(
     history: &mut History,
-    kept: Kept,
+    kept: KeptLine,
     number: u32,
-    task: Task,
+    task: DeadlineTask,
 ) -> Result<(), AllocError>
     ensures { OnOk result
         (history.new.states.items ≡ states_seen history.old kept number task) }
@@ -66,17 +66,17 @@ fn is_running(last: Option<Slice>) -> bool
     ensures { result ≡ is_running last }
 {
     match last {
-        Some(slice) => matches!(slice.state, State::Running),
+        Some(slice) => matches!(slice.state, TaskState::Running),
         None => false,
     }
 }
 
 /// When the state begins in which a line shows a task: a charge is of the span before it.
-fn begin_of(kept: Kept, number: u32) -> u64
+fn begin_of(kept: KeptLine, number: u32) -> u64
     ensures { result ≡ begin_in kept.event kept.at number }
 {
     match kept.event {
-        Event::Ran { task, nanos } if task == number => kept.at.saturating_sub(nanos),
+        KeptEvent::Ran { task, nanos } if task == number => kept.at.saturating_sub(nanos),
         _ => kept.at,
     }
 }

@@ -7,14 +7,14 @@ use crate::fault::{Fault, STATUS_DIFFERS, STATUS_SYSTEM};
 use crate::files::{first_there, make_all};
 use crate::gathering::Gathering;
 use crate::probes::Played;
-use crate::showing::{Shown, nothing_shown, shown_of};
+use crate::showing::{Documents, nothing_shown, shown_of};
 use crate::why::{put_timer_explanation, tried};
-use check_settings::{Options, Window};
-use deadline_machine::Machine;
+use check_settings::{CheckOptions, Window};
+use deadline_machine::ProbedMachine;
 use deadline_timers::setup_of;
-use deadline_verdict::{Heading as TimerHeading, judge, put_table, put_verdict as put_timers};
+use deadline_verdict::{TimerHeading, judge, put_table, put_verdict as put_timers};
 use probe_verdict::{
-    Heading as ProbeHeading, TABLE_HEAD, TaskName, put_answer, put_explanation, put_heading,
+    ProbeHeading, TABLE_HEAD, NamedTask, put_answer, put_explanation, put_heading,
 };
 use std::alloc::{AllocError, Global};
 use std::io;
@@ -27,7 +27,7 @@ const PIECE: usize = 65_536;
 
 /// What is wanted of a check.
 #[derive(Clone, Copy)]
-pub struct Wanted<'a> {
+pub struct CheckRequest<'a> {
     pub path: &'a str,
 
     /// Where the table is to be written, the states as JSON, and their picture.
@@ -45,7 +45,7 @@ struct Verdict {
     agrees: bool,
     text: Vec<u8>,
     table: Vec<u8>,
-    shown: Option<Shown>,
+    shown: Option<Documents>,
 }
 
 /// Reads a trace to its end, or to its first line with a fault.
@@ -108,11 +108,11 @@ fn end_of<'o>(reader: RecordReader) -> Result<(), Fault<'o>> {
 }
 
 /// The names of the tasks that probes show in the class.
-fn class_names(alloc: Global, gathering: &Gathering<'_>) -> Result<Vec<TaskName>, AllocError> {
+fn class_names(alloc: Global, gathering: &Gathering<'_>) -> Result<Vec<NamedTask>, AllocError> {
     let mut names = Vec::new(alloc);
     for pid in &gathering.probes.in_class {
         let comm = gathering.names.comm(alloc, *pid)?;
-        names.push(TaskName { pid: *pid, comm })?;
+        names.push(NamedTask { pid: *pid, comm })?;
     }
     Ok(names)
 }
@@ -120,8 +120,8 @@ fn class_names(alloc: Global, gathering: &Gathering<'_>) -> Result<Vec<TaskName>
 /// The verdict by lines of probes; none where the trace has none.
 fn probe_verdict(
     alloc: Global,
-    wanted: Wanted<'_>,
-    options: &Options<'_>,
+    wanted: CheckRequest<'_>,
+    options: &CheckOptions<'_>,
     gathering: &Gathering<'_>,
 ) -> Result<Option<Verdict>, AllocError> {
     match &gathering.probes.played {
@@ -135,8 +135,8 @@ fn probe_verdict(
 
 fn verdict_by(
     alloc: Global,
-    wanted: Wanted<'_>,
-    options: &Options<'_>,
+    wanted: CheckRequest<'_>,
+    options: &CheckOptions<'_>,
     gathering: &Gathering<'_>,
     played: &Played,
 ) -> Result<Verdict, AllocError> {
@@ -172,7 +172,7 @@ fn verdict_by(
 fn probe_text(
     alloc: Global,
     heading: ProbeHeading<'_>,
-    machine: &Machine,
+    machine: &ProbedMachine,
 ) -> Result<Vec<u8>, AllocError> {
     let mut text = Vec::new(alloc);
     let counts = machine.counts();
@@ -188,7 +188,7 @@ fn probe_text(
     Ok(text)
 }
 
-fn probe_table(alloc: Global, wanted: Wanted<'_>, rows: &Vec<u8>) -> Result<Vec<u8>, AllocError> {
+fn probe_table(alloc: Global, wanted: CheckRequest<'_>, rows: &Vec<u8>) -> Result<Vec<u8>, AllocError> {
     let mut table = Vec::new(alloc);
     if wanted.table.is_some() {
         table.extend_from_slice(TABLE_HEAD.as_bytes())?;
@@ -200,8 +200,8 @@ fn probe_table(alloc: Global, wanted: Wanted<'_>, rows: &Vec<u8>) -> Result<Vec<
 /// The verdict by timers.
 fn timer_verdict<'o>(
     alloc: Global,
-    wanted: Wanted<'_>,
-    options: &Options<'o>,
+    wanted: CheckRequest<'_>,
+    options: &CheckOptions<'o>,
     gathering: &mut Gathering<'o>,
 ) -> Result<Verdict, Fault<'o>> {
     let Some(record) = gathering.take_record() else {
@@ -229,12 +229,12 @@ fn timer_verdict<'o>(
 
 fn judged_verdict(
     alloc: Global,
-    wanted: Wanted<'_>,
-    options: &Options<'_>,
+    wanted: CheckRequest<'_>,
+    options: &CheckOptions<'_>,
     gathering: &Gathering<'_>,
-    record: timer_lines::Record,
-    start: &deadline_timers::Start,
-    setup: deadline_timers::Setup,
+    record: timer_lines::OpenRecord,
+    start: &deadline_timers::RecordStart,
+    setup: deadline_timers::RecordSetup,
 ) -> Result<Verdict, AllocError> {
     let lines = record.finish()?;
     let mut names = Vec::new(alloc);
@@ -297,8 +297,8 @@ fn is_before(line: Option<u64>, other: Option<u64>) -> bool {
 /// A verdict by probes, with the states that the lines of timers beside them show.
 fn with_states<'o>(
     alloc: Global,
-    wanted: Wanted<'_>,
-    options: &Options<'o>,
+    wanted: CheckRequest<'_>,
+    options: &CheckOptions<'o>,
     gathering: &mut Gathering<'o>,
     mut verdict: Verdict,
 ) -> Result<Verdict, Fault<'o>> {
@@ -320,8 +320,8 @@ fn verdict_of<
     alloc: Global,
     opens: &O,
     read: &N,
-    wanted: Wanted<'o>,
-    options: &'o Options<'o>,
+    wanted: CheckRequest<'o>,
+    options: &'o CheckOptions<'o>,
 ) -> Result<Verdict, Fault<'o>>
     requires opens { O.IsAlwaysCallable opens.now }
     requires read { N.IsAlwaysCallable read.now }
@@ -371,7 +371,7 @@ fn verdict_of<
 fn write_files<'o, M: Fn(&str, &[u8]) -> io::Result<()>, R: Fn(&str)>(
     make: &M,
     remove: &R,
-    wanted: Wanted<'o>,
+    wanted: CheckRequest<'o>,
     verdict: &Verdict,
 ) -> Result<(), Fault<'o>>
     requires make { M.IsAlwaysCallable make.now }
@@ -406,8 +406,8 @@ pub fn serve_check<
     exists: &X,
     make: &M,
     remove: &R,
-    wanted: Wanted<'_>,
-    options: &Options<'_>,
+    wanted: CheckRequest<'_>,
+    options: &CheckOptions<'_>,
     out: &mut W,
     faults: &mut E,
 ) -> u8

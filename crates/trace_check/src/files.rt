@@ -1,6 +1,6 @@
 //! The files that a check writes.
 
-use crate::check::Wanted;
+use crate::check::CheckRequest;
 use crate::fault::Fault;
 use std::io;
 
@@ -10,7 +10,7 @@ type Wish<'a> = (Option<&'a str>, &'a [u8]);
 /// The first of the files that are wanted that is there already.
 pub(crate) fn first_there<'o, X: Fn(&str) -> bool>(
     exists: &X,
-    wanted: Wanted<'o>,
+    wanted: CheckRequest<'o>,
 ) -> Option<&'o str>
     requires { X.IsAlwaysCallable exists.now }
 {

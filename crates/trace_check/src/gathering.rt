@@ -1,17 +1,17 @@
 //! A record, line by line: notes, lines of timers that are kept, and lines of probes that are played at once.
 
 use crate::fault::Fault;
-use crate::head::{Head, cpus_of};
+use crate::head::{RecordHead, cpus_of};
 use crate::names::Names;
-use crate::probes::{Kept, Probes};
-use check_settings::{CPU_MAX, Options};
+use crate::probes::{KeptProbe, Probes};
+use check_settings::{CPU_MAX, CheckOptions};
 use deadline_timers::{RunqueueSums, setup_of};
-use probe_verdict::Lost;
-use record_line::{Lost as LostLines, Told};
+use probe_verdict::DroppedLines;
+use record_line::{Lost as LostLines, ToldLine};
 use std::alloc::{AllocError, Global};
-use timer_lines::{Given, Record, Unlisted};
+use timer_lines::{GivenReservation, OpenRecord, Unlisted};
 use trace_reader::Lines;
-use trace_words::{Fixed, Flaw, Limit, Line, Note, Parameters, Policy, Said};
+use trace_words::{Fixed, Flaw, Limit, RecordLine, TraceNote, Parameters, Policy, Said};
 
 /// A moment that is greater than each number of nanoseconds is read as this one.
 const TOO_LATE: u64 = u64::MAX;
@@ -20,8 +20,8 @@ const TOO_LATE: u64 = u64::MAX;
 #[derive(Drop)]
 pub(crate) struct Gathering<'o> {
     alloc: Global,
-    options: &'o Options<'o>,
-    pub head: Head,
+    options: &'o CheckOptions<'o>,
+    pub head: RecordHead,
     pub names: Names,
 
     /// The pid of the last line that showed a task.
@@ -31,7 +31,7 @@ pub(crate) struct Gathering<'o> {
     found: Vec<bool>,
 
     /// The lines of timers; none before the first line of an event.
-    record: Option<Record>,
+    record: Option<OpenRecord>,
     has_timers: bool,
 
     /// Whether a note tells of a task.
@@ -40,7 +40,7 @@ pub(crate) struct Gathering<'o> {
     /// Whether lines of timers are kept beside lines of probes, for the states that they show.
     keeps_timers: bool,
     pub probes: Probes,
-    pub lost: Option<Lost>,
+    pub lost: Option<DroppedLines>,
 
     /// The line at which a note says what was lost.
     lost_line: u64,
@@ -57,7 +57,7 @@ impl Lines for Gathering<'_> {
     ghost step = { λ n told seen. record { more = true; seen = 0 } };
 
     /// Behind a fault nothing is taken.
-    fn take(&mut self, number: u64, told: &Told<&[u8]>) -> Result<bool, AllocError> {
+    fn take(&mut self, number: u64, told: &ToldLine<&[u8]>) -> Result<bool, AllocError> {
         if self.fault.is_none() {
             self.take_told(number, told)?;
         }
@@ -68,7 +68,7 @@ impl Lines for Gathering<'_> {
 impl<'o> Gathering<'o> {
     pub fn new(
         alloc: Global,
-        options: &'o Options<'o>,
+        options: &'o CheckOptions<'o>,
         keeps_rows: bool,
         keeps_timers: bool,
     ) -> Result<Gathering<'o>, AllocError> {
@@ -79,7 +79,7 @@ impl<'o> Gathering<'o> {
         Ok(Gathering {
             alloc,
             options,
-            head: Head::new(alloc),
+            head: RecordHead::new(alloc),
             names: Names::new(alloc),
             last: None,
             found,
@@ -95,7 +95,7 @@ impl<'o> Gathering<'o> {
     }
 
     /// Takes what a line tells, whose number counts from 1.
-    fn take_told(&mut self, number: u64, told: &Told<&[u8]>) -> Result<(), AllocError> {
+    fn take_told(&mut self, number: u64, told: &ToldLine<&[u8]>) -> Result<(), AllocError> {
         if is_too_late(&told.line) {
             self.fault = Some(Fault::Line {
                 line: number,
@@ -112,9 +112,9 @@ impl<'o> Gathering<'o> {
             self.show(shown.pid, shown.comm)?;
         }
         match told.line {
-            Line::Quiet | Line::Flawed(_) => Ok(()),
-            Line::Note(note) => self.note(number, note),
-            Line::Event {
+            RecordLine::Quiet | RecordLine::Flawed(_) => Ok(()),
+            RecordLine::Note(note) => self.note(number, note),
+            RecordLine::Event {
                 at,
                 cpu,
                 pid,
@@ -122,7 +122,7 @@ impl<'o> Gathering<'o> {
                 ..
             } => match said {
                 Said::Fixed(fixed) => self.fixed(number, at, cpu, pid, fixed),
-                Said::Probe(probe) => self.probe(Kept {
+                Said::Probe(probe) => self.probe(KeptProbe {
                     line: number,
                     at,
                     cpu,
@@ -149,7 +149,7 @@ impl<'o> Gathering<'o> {
     fn see_lost(&mut self, number: u64, lost: Option<LostLines>) {
         if let Some(lost) = lost {
             self.lost_line = number;
-            self.lost = Some(Lost {
+            self.lost = Some(DroppedLines {
                 lines: lost.lines,
                 hits: lost.missed,
             });
@@ -162,7 +162,7 @@ impl<'o> Gathering<'o> {
     }
 
     /// Takes a line of a probe.
-    fn probe(&mut self, kept: Kept) -> Result<(), AllocError> {
+    fn probe(&mut self, kept: KeptProbe) -> Result<(), AllocError> {
         if self.plays_probes() && !self.keeps_timers {
             self.record = None;
         }
@@ -218,7 +218,7 @@ impl<'o> Gathering<'o> {
     fn give_to(&mut self, pid: u64, parameters: Parameters) -> Result<(), AllocError> {
         self.begin()?;
         match &mut self.record {
-            Some(record) => record.give(Given { pid, parameters }),
+            Some(record) => record.give(GivenReservation { pid, parameters }),
             None => Ok(()),
         }
     }
@@ -243,13 +243,13 @@ impl<'o> Gathering<'o> {
             Ok(setup) => (setup.wants_idle(), setup.wants_cancels()),
             Err(_) => (true, true),
         };
-        self.record = Some(Record::new(self.alloc, keeps_idle, keeps_cancels));
+        self.record = Some(OpenRecord::new(self.alloc, keeps_idle, keeps_cancels));
         Ok(())
     }
 
-    fn note(&mut self, number: u64, note: Note) -> Result<(), AllocError> {
+    fn note(&mut self, number: u64, note: TraceNote) -> Result<(), AllocError> {
         match note {
-            Note::Head {
+            TraceNote::Head {
                 kernel,
                 limit,
                 total_bw,
@@ -259,18 +259,18 @@ impl<'o> Gathering<'o> {
                 self.head.total_bw = total_bw;
                 Ok(())
             }
-            Note::Runqueue { cpu, sums } => {
+            TraceNote::Runqueue { cpu, sums } => {
                 self.head.sums.push(RunqueueSums { cpu, sums })?;
                 Ok(())
             }
-            Note::Task {
+            TraceNote::Task {
                 pid,
                 at,
                 by,
                 cpu,
                 policy,
             } => self.note_task(pid, at, by, cpu, policy),
-            Note::End { limit, .. } => {
+            TraceNote::End { limit, .. } => {
                 if is_another(self.head.limit, limit) {
                     self.fault = Some(Fault::Changed { line: number });
                 }
@@ -371,7 +371,7 @@ impl<'o> Gathering<'o> {
     }
 
     /// Gives the lines of timers out.
-    pub fn take_record(&mut self) -> Option<Record> {
+    pub fn take_record(&mut self) -> Option<OpenRecord> {
         self.record.take()
     }
 }
@@ -390,10 +390,10 @@ fn is_named(name: &str, pid: u64, comm: &[u8]) -> bool {
 }
 
 /// Whether the moment of a line, or that of its note, is greater than each number of nanoseconds.
-fn is_too_late(line: &Line) -> bool {
+fn is_too_late(line: &RecordLine) -> bool {
     match *line {
-        Line::Event { at, .. } => at == TOO_LATE,
-        Line::Note(Note::Task { at: Some(at), .. }) => at == TOO_LATE,
+        RecordLine::Event { at, .. } => at == TOO_LATE,
+        RecordLine::Note(TraceNote::Task { at: Some(at), .. }) => at == TOO_LATE,
         _ => false,
     }
 }

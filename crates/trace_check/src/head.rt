@@ -1,14 +1,14 @@
 //! What options and notes say of the kernel that was recorded.
 
-use check_settings::{Arithmetic, FairServer, Options, Range, domain_of};
-use deadline_rules::Law;
-use deadline_timers::{FairServer as Server, Options as Kernels, RunqueueSums, Start};
+use check_settings::{Arithmetic, FairServerOption, CheckOptions, Range, domain_of};
+use deadline_rules::ChargeLaw;
+use deadline_timers::{FairServer, KernelSettings, RunqueueSums, RecordStart};
 use std::alloc::{AllocError, Global};
 use trace_words::{Kernel, Limit};
 
 /// What notes and the head of a trace say.
 #[derive(Drop)]
-pub struct Head {
+pub struct RecordHead {
     pub kernel: Option<Kernel>,
     pub limit: Option<Limit>,
     pub total_bw: Option<u64>,
@@ -24,9 +24,9 @@ pub struct Head {
     pub sums: Vec<RunqueueSums>,
 }
 
-impl Head {
-    pub fn new(alloc: Global) -> Head {
-        Head {
+impl RecordHead {
+    pub fn new(alloc: Global) -> RecordHead {
+        RecordHead {
             kernel: None,
             limit: None,
             total_bw: None,
@@ -38,7 +38,7 @@ impl Head {
     }
 
     /// The kernel: an option stands above a note.
-    pub fn kernel_by(&self, options: &Options<'_>) -> Option<Kernel> {
+    pub fn kernel_by(&self, options: &CheckOptions<'_>) -> Option<Kernel> {
         match options.kernel {
             Some(kernel) => Some(kernel),
             None => self.kernel,
@@ -46,8 +46,8 @@ impl Head {
     }
 
     /// What the model of timers is told of the kernel.
-    pub fn kernels(&self, options: &Options<'_>) -> Kernels {
-        Kernels {
+    pub fn kernels(&self, options: &CheckOptions<'_>) -> KernelSettings {
+        KernelSettings {
             kernel: self.kernel_by(options),
             limit: self.limit_by(options),
             fair_server: server_of(options.fair),
@@ -55,7 +55,7 @@ impl Head {
         }
     }
 
-    fn limit_by(&self, options: &Options<'_>) -> Option<Limit> {
+    fn limit_by(&self, options: &CheckOptions<'_>) -> Option<Limit> {
         match options.limit {
             Some(limit) => Some(limit),
             None => self.limit,
@@ -63,24 +63,24 @@ impl Head {
     }
 
     /// Whose arithmetic lines of probes are played by.
-    pub fn law(&self, options: &Options<'_>) -> Law {
+    pub fn law(&self, options: &CheckOptions<'_>) -> ChargeLaw {
         if matches!(options.arithmetic, Arithmetic::Documentation) {
-            return Law::Documentation;
+            return ChargeLaw::Documentation;
         }
         match self.kernel_by(options) {
             Some(kernel) => {
                 if kernel.major < 6 || kernel.major == 6 && kernel.minor < 5 {
-                    Law::LinuxBefore65
+                    ChargeLaw::LinuxBefore65
                 } else {
-                    Law::LinuxFrom65
+                    ChargeLaw::LinuxFrom65
                 }
             }
-            None => Law::LinuxFrom65,
+            None => ChargeLaw::LinuxFrom65,
         }
     }
 
     /// Whether the kernel has fair servers: from 6.12 on.
-    pub fn has_servers(&self, options: &Options<'_>) -> bool {
+    pub fn has_servers(&self, options: &CheckOptions<'_>) -> bool {
         match self.kernel_by(options) {
             Some(kernel) => kernel.major > 6 || kernel.major == 6 && kernel.minor >= 12,
             None => false,
@@ -88,7 +88,7 @@ impl Head {
     }
 
     /// The CPUs of the root domain: by an option, a note, the head of the trace, or the greatest CPU that a line names.
-    pub fn cpus(&self, alloc: Global, options: &Options<'_>) -> Result<Vec<u32>, AllocError> {
+    pub fn cpus(&self, alloc: Global, options: &CheckOptions<'_>) -> Result<Vec<u32>, AllocError> {
         if !options.domain.is_empty() {
             return listed(alloc, &options.domain);
         }
@@ -102,7 +102,7 @@ impl Head {
     }
 
     /// Whether a CPU is of the root domain that an option or a note lists; each is where none does.
-    pub fn has_cpu(&self, options: &Options<'_>, cpu: u32) -> bool {
+    pub fn has_cpu(&self, options: &CheckOptions<'_>, cpu: u32) -> bool {
         if options.domain.is_empty() {
             self.domain.is_empty() || self.domain.contains(&cpu)
         } else {
@@ -118,11 +118,11 @@ impl Head {
     }
 
     /// What the model of timers begins with.
-    pub fn start(&self, alloc: Global, options: &Options<'_>) -> Result<Start, AllocError> {
+    pub fn start(&self, alloc: Global, options: &CheckOptions<'_>) -> Result<RecordStart, AllocError> {
         let domain = self.cpus(alloc, options)?;
         let mut sums = Vec::new(alloc);
         sums.extend_from_slice(self.sums.as_slice())?;
-        Ok(Start { domain, sums })
+        Ok(RecordStart { domain, sums })
     }
 }
 
@@ -163,14 +163,14 @@ fn is_listed(ranges: &[Range], cpu: u32) -> bool {
     false
 }
 
-fn server_of(fair: FairServer) -> Server {
+fn server_of(fair: FairServerOption) -> FairServer {
     match fair {
-        FairServer::Usual => Server::Default,
-        FairServer::Absent => Server::None,
-        FairServer::Reserves {
+        FairServerOption::Usual => FairServer::Default,
+        FairServerOption::Absent => FairServer::None,
+        FairServerOption::Reserves {
             dl_runtime,
             dl_period,
-        } => Server::Reserves {
+        } => FairServer::Reserves {
             runtime: dl_runtime,
             period: dl_period,
         },

@@ -11,9 +11,9 @@ mod probes;
 mod showing;
 mod why;
 
-pub use check::{Wanted, serve_check};
+pub use check::{CheckRequest, serve_check};
 pub use check_settings::{
-    Arithmetic, CPU_MAX, FairServer, Given, Options, Range, Window, Words, WrongOption, options_of,
+    Arithmetic, CPU_MAX, FairServerOption, TaskOption, CheckOptions, Range, Window, CheckWords, WrongOption, options_of,
     window_of,
 };
 pub use fault::{Fault, STATUS_DIFFERS, STATUS_FILE, STATUS_SYSTEM, STATUS_USAGE};

@@ -1,13 +1,13 @@
 //! The tasks of a record by name.
 
-use probe_verdict::TaskName;
+use probe_verdict::NamedTask;
 use std::alloc::{AllocError, Global};
 use std::collections::HashMap;
 
 /// The tasks of a record: each pid with its comm at the first line that shows it.
 #[derive(Drop)]
 pub struct Names {
-    pub tasks: Vec<TaskName>,
+    pub tasks: Vec<NamedTask>,
     places: HashMap<u64, usize>,
 }
 
@@ -29,7 +29,7 @@ impl Names {
         let mut kept = Vec::new(alloc);
         kept.extend_from_slice(comm)?;
         let place = self.tasks.len();
-        self.tasks.push(TaskName { pid, comm: kept })?;
+        self.tasks.push(NamedTask { pid, comm: kept })?;
         self.places.insert(pid, place)?;
         Ok(())
     }

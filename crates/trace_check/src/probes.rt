@@ -1,9 +1,9 @@
 //! The lines of probes of a record: they are played as they come.
 
-use crate::head::Head;
+use crate::head::RecordHead;
 use crate::names::Names;
-use check_settings::Options;
-use deadline_machine::{Machine, Shape};
+use check_settings::CheckOptions;
+use deadline_machine::{ProbedMachine, Shape};
 use probe_verdict::put_row;
 use std::alloc::{AllocError, Global};
 use std::collections::HashMap;
@@ -14,7 +14,7 @@ const LOOK: usize = 16_384;
 
 /// A line of a probe that is kept.
 #[derive(Clone, Copy)]
-pub(crate) struct Kept {
+pub(crate) struct KeptProbe {
     pub line: u64,
     pub at: u64,
     pub cpu: u32,
@@ -25,7 +25,7 @@ pub(crate) struct Kept {
 /// What lines of probes came to so far.
 #[derive(Drop)]
 pub(crate) struct Played {
-    pub machine: Machine,
+    pub machine: ProbedMachine,
 
     /// How many lines there were, and the moments of the first and the last one.
     pub lines: u64,
@@ -39,14 +39,14 @@ pub(crate) struct Probes {
     alloc: Global,
 
     /// Those that were not played yet.
-    kept: Vec<Kept>,
+    kept: Vec<KeptProbe>,
 
     /// Which events they have.
     pub shape: Shape,
     pub played: Option<Played>,
 
     /// Those that were played, where they may be played again.
-    pub again: Vec<Kept>,
+    pub again: Vec<KeptProbe>,
 
     /// The tasks that they show in the class, in the order of their first lines.
     pub in_class: Vec<u64>,
@@ -80,9 +80,9 @@ impl Probes {
     /// Takes a line.
     pub fn take(
         &mut self,
-        kept: Kept,
-        head: &Head,
-        options: &Options<'_>,
+        kept: KeptProbe,
+        head: &RecordHead,
+        options: &CheckOptions<'_>,
         names: &Names,
     ) -> Result<(), AllocError> {
         self.see_class(&kept.probe)?;
@@ -102,8 +102,8 @@ impl Probes {
     /// Ends the lines.
     pub fn end(
         &mut self,
-        head: &Head,
-        options: &Options<'_>,
+        head: &RecordHead,
+        options: &CheckOptions<'_>,
         names: &Names,
     ) -> Result<(), AllocError> {
         if self.played.is_none() {
@@ -128,7 +128,7 @@ impl Probes {
     }
 
     /// Plays the lines that were kept.
-    fn play_kept(&mut self, head: &Head, options: &Options<'_>) -> Result<(), AllocError> {
+    fn play_kept(&mut self, head: &RecordHead, options: &CheckOptions<'_>) -> Result<(), AllocError> {
         self.make_machine(head, options)?;
         for place in 0..self.kept.len() {
             if let Some(kept) = self.kept.get(place) {
@@ -141,7 +141,7 @@ impl Probes {
     }
 
     /// Makes the machine for the lines that were kept, if there are any.
-    fn make_machine(&mut self, head: &Head, options: &Options<'_>) -> Result<(), AllocError> {
+    fn make_machine(&mut self, head: &RecordHead, options: &CheckOptions<'_>) -> Result<(), AllocError> {
         let Some(first) = self.kept.first() else {
             return Ok(());
         };
@@ -149,7 +149,7 @@ impl Probes {
         let domain = head.cpus(self.alloc, options)?;
         let law = head.law(options);
         self.played = Some(Played {
-            machine: Machine::new(self.alloc, law, self.shape, domain, self.keeps_rows, None),
+            machine: ProbedMachine::new(self.alloc, law, self.shape, domain, self.keeps_rows, None),
             lines: 0,
             from,
             to: from,
@@ -157,7 +157,7 @@ impl Probes {
         Ok(())
     }
 
-    fn play(&mut self, kept: Kept, options: &Options<'_>) -> Result<(), AllocError> {
+    fn play(&mut self, kept: KeptProbe, options: &CheckOptions<'_>) -> Result<(), AllocError> {
         if options.explains {
             self.again.push(kept)?;
         }

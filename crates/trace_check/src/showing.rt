@@ -1,34 +1,34 @@
 //! The states of a record, as a document of JSON and as a picture.
 
-use crate::check::Wanted;
+use crate::check::CheckRequest;
 use crate::fault::Fault;
 use check_settings::Window;
-use deadline_states::{Scene, Span, TaskName};
-use deadline_timers::{Setup, Start};
+use deadline_states::{RecordScene, Span, TaskName};
+use deadline_timers::{RecordSetup, RecordStart};
 use deadline_verdict::Judged;
 use state_json::put_document;
 use state_picture::picture_of;
 use std::alloc::{AllocError, Global};
-use timer_lines::Lines;
+use timer_lines::KeptLines;
 use timer_states::states_of;
 
 /// The documents that are wanted.
 #[derive(Drop)]
-pub(crate) struct Shown {
+pub(crate) struct Documents {
     pub json: Vec<u8>,
     pub picture: Vec<u8>,
 }
 
 /// Nothing is wanted.
-pub(crate) fn nothing_shown(alloc: Global) -> Shown {
-    Shown {
+pub(crate) fn nothing_shown(alloc: Global) -> Documents {
+    Documents {
         json: Vec::new(alloc),
         picture: Vec::new(alloc),
     }
 }
 
 /// The window, of a record from its first line to its last; none where it lies outside.
-fn span_of(window: Window, lines: &Lines) -> Option<Span> {
+fn span_of(window: Window, lines: &KeptLines) -> Option<Span> {
     let from = window.from.unwrap_or(lines.begins.unwrap_or(0));
     let to = window.to.unwrap_or(lines.ends);
     if from < to && from < lines.ends {
@@ -40,7 +40,7 @@ fn span_of(window: Window, lines: &Lines) -> Option<Span> {
 
 fn task_names(
     alloc: Global,
-    lines: &Lines,
+    lines: &KeptLines,
     names: &[Vec<u8>],
 ) -> Result<Vec<TaskName>, AllocError> {
     let mut tasks = Vec::new(alloc);
@@ -58,7 +58,7 @@ fn task_names(
 }
 
 /// `max_bw` of so many runqueues.
-fn limits_of(alloc: Global, setup: &Setup, cpus: u32) -> Result<Vec<u64>, AllocError> {
+fn limits_of(alloc: Global, setup: &RecordSetup, cpus: u32) -> Result<Vec<u64>, AllocError> {
     let mut limits = Vec::new(alloc);
     for cpu in 0..cpus {
         limits.push(setup.limits(cpu).max_bw)?;
@@ -69,13 +69,13 @@ fn limits_of(alloc: Global, setup: &Setup, cpus: u32) -> Result<Vec<u64>, AllocE
 /// The documents of a record that was played.
 pub(crate) fn shown_of(
     alloc: Global,
-    wanted: Wanted<'_>,
-    setup: Setup,
-    start: &Start,
-    lines: &Lines,
+    wanted: CheckRequest<'_>,
+    setup: RecordSetup,
+    start: &RecordStart,
+    lines: &KeptLines,
     names: &[Vec<u8>],
     judged: &Judged,
-) -> Result<Option<Shown>, AllocError> {
+) -> Result<Option<Documents>, AllocError> {
     let mut shown = nothing_shown(alloc);
     if wanted.json.is_none() && wanted.picture.is_none() {
         return Ok(Some(shown));
@@ -86,7 +86,7 @@ pub(crate) fn shown_of(
     let history = states_of(alloc, setup, start, lines, span)?;
     let limits = limits_of(alloc, &setup, history.cpus())?;
     let tasks = task_names(alloc, lines, names)?;
-    let scene = Scene {
+    let scene = RecordScene {
         history: &history,
         tasks: &tasks,
         observations: &judged.outcome.observations,

@@ -1,22 +1,22 @@
 //! A record is played again, with one rule changed at a time.
 
 use crate::gathering::Gathering;
-use crate::probes::Kept;
-use check_settings::Options;
-use deadline_machine::Machine;
-use deadline_timers::{Setup, Start};
+use crate::probes::KeptProbe;
+use check_settings::CheckOptions;
+use deadline_machine::ProbedMachine;
+use deadline_timers::{RecordSetup, RecordStart};
 use deadline_verdict::Judged;
 use probe_verdict::{Trial, total_of};
 use rule_changes::{ALL, RuleChange};
 use std::alloc::{AllocError, Global};
 use timer_changes::put_explanation;
-use timer_lines::Lines;
-use timer_rules::Answer;
+use timer_lines::KeptLines;
+use timer_rules::ObservedAnswer;
 
 /// What the plays of a record come to, each with another rule changed.
 pub(crate) fn tried(
     alloc: Global,
-    options: &Options<'_>,
+    options: &CheckOptions<'_>,
     gathering: &Gathering<'_>,
 ) -> Result<Vec<Trial>, AllocError> {
     let mut trials = Vec::new(alloc);
@@ -30,14 +30,14 @@ pub(crate) fn tried(
 /// The play with this rule changed.
 fn trial_of(
     alloc: Global,
-    options: &Options<'_>,
+    options: &CheckOptions<'_>,
     gathering: &Gathering<'_>,
     change: RuleChange,
 ) -> Result<Trial, AllocError> {
     let domain = gathering.head.cpus(alloc, options)?;
     let law = gathering.head.law(options);
     let shape = gathering.probes.shape;
-    let mut machine = Machine::new(alloc, law, shape, domain, false, Some(change));
+    let mut machine = ProbedMachine::new(alloc, law, shape, domain, false, Some(change));
     for kept in gathering.probes.again.as_slice() {
         play(&mut machine, kept)?;
     }
@@ -49,7 +49,7 @@ fn trial_of(
     })
 }
 
-fn play(machine: &mut Machine, kept: &Kept) -> Result<(), AllocError> {
+fn play(machine: &mut ProbedMachine, kept: &KeptProbe) -> Result<(), AllocError> {
     machine.take(kept.line, kept.at, kept.cpu, kept.pid, &kept.probe)
 }
 
@@ -57,10 +57,10 @@ fn play(machine: &mut Machine, kept: &Kept) -> Result<(), AllocError> {
 pub(crate) fn put_timer_explanation(
     alloc: Global,
     out: &mut Vec<u8>,
-    options: &Options<'_>,
-    setup: Setup,
-    start: &Start,
-    lines: &Lines,
+    options: &CheckOptions<'_>,
+    setup: RecordSetup,
+    start: &RecordStart,
+    lines: &KeptLines,
     judged: &Judged,
 ) -> Result<(), AllocError> {
     if judged.first.is_none() {
@@ -74,7 +74,7 @@ pub(crate) fn put_timer_explanation(
 fn differ(judged: &Judged) -> u64 {
     let mut differ = 0u64;
     for observation in &judged.outcome.observations {
-        if let Answer::Differs = observation.answer {
+        if let ObservedAnswer::Differs = observation.answer {
             differ = differ.saturating_add(1);
         }
     }

@@ -7,8 +7,8 @@ mod task;
 mod tasks;
 mod watch;
 
-pub use reader::{Record, RecordReader};
+pub use reader::{JobRecord, JobReader};
 pub use said::Class;
-pub use task::Task;
-pub use tasks::Tasks;
+pub use task::JobTask;
+pub use tasks::JobTasks;
 pub use watch::{Phase, Seen};

@@ -1,8 +1,8 @@
 //! A trace, read in pieces.
 
-use crate::said::{Class, Event, Line, Wake, line_of};
-use crate::task::Told;
-use crate::tasks::Tasks;
+use crate::said::{Class, JobEvent, JobLine, WakeKind, line_of};
+use crate::task::JobStep;
+use crate::tasks::JobTasks;
 use grub_text::first_line;
 use std::alloc::{AllocError, Global};
 use trace_line::{CPUS_MAX, Shown, before_end, is_comment, is_lost, processors};
@@ -10,8 +10,8 @@ use trace_words::Flaw;
 
 /// What a trace tells of its tasks.
 #[derive(Drop)]
-pub struct Record {
-    pub tasks: Tasks,
+pub struct JobRecord {
+    pub tasks: JobTasks,
 
     /// The moments of the first and the last line of an event, in nanoseconds.
     pub first: u64,
@@ -29,17 +29,17 @@ pub struct Record {
 
 /// Reads the jobs of all tasks from the text of a trace.
 #[derive(Drop)]
-pub struct RecordReader {
+pub struct JobReader {
     /// What came since the last line ended.
     carry: Vec<u8>,
     line: u64,
     fault: Option<(u64, Flaw)>,
 
     /// With the wakes that sched_wakeup tells of.
-    by_wakeup: Tasks,
+    by_wakeup: JobTasks,
 
     /// With those of sched_waking, until a line of sched_wakeup comes.
-    by_waking: Tasks,
+    by_waking: JobTasks,
     has_wakeup: bool,
     first: u64,
     last: u64,
@@ -56,14 +56,14 @@ fn without_return(line: &[u8]) -> &[u8] {
     }
 }
 
-impl RecordReader {
-    pub fn new(alloc: Global) -> RecordReader {
-        RecordReader {
+impl JobReader {
+    pub fn new(alloc: Global) -> JobReader {
+        JobReader {
             carry: Vec::new(alloc),
             line: 0,
             fault: None,
-            by_wakeup: Tasks::new(alloc),
-            by_waking: Tasks::new(alloc),
+            by_wakeup: JobTasks::new(alloc),
+            by_waking: JobTasks::new(alloc),
             has_wakeup: false,
             first: 0,
             last: 0,
@@ -79,7 +79,7 @@ impl RecordReader {
         &mut self,
         shown: &Shown<&[u8]>,
         class: Option<Class>,
-        told: Told,
+        told: JobStep,
     ) -> Result<(), AllocError> {
         if shown.pid == 0 {
             return Ok(());
@@ -95,19 +95,19 @@ impl RecordReader {
         &mut self,
         shown: &Shown<&[u8]>,
         class: Class,
-        wake: Wake,
+        wake: WakeKind,
         at: u64,
     ) -> Result<(), AllocError> {
-        if wake == Wake::Woken && !self.has_wakeup {
+        if wake == WakeKind::Woken && !self.has_wakeup {
             self.has_wakeup = true;
-            self.by_waking = Tasks::new(*self.carry.allocator());
+            self.by_waking = JobTasks::new(*self.carry.allocator());
         }
-        let told = Told::Wakes {
+        let told = JobStep::Wakes {
             line: self.line,
             at,
-            is_new: wake == Wake::New,
+            is_new: wake == WakeKind::New,
         };
-        if wake != Wake::Waking {
+        if wake != WakeKind::Waking {
             return self.tell(shown, Some(class), told);
         }
         if !self.has_wakeup && shown.pid != 0 {
@@ -116,7 +116,7 @@ impl RecordReader {
         Ok(())
     }
 
-    fn take(&mut self, at: u64, cpu: u32, event: Event<&[u8]>) -> Result<(), AllocError> {
+    fn take(&mut self, at: u64, cpu: u32, event: JobEvent<&[u8]>) -> Result<(), AllocError> {
         if self.events == 0 {
             self.first = at;
         }
@@ -124,21 +124,21 @@ impl RecordReader {
         self.events = self.events.saturating_add(1);
         self.greatest = self.greatest.max(cpu);
         match event {
-            Event::Moves => Ok(()),
-            Event::Wakes { task, class, wake } => self.wake(&task, class, wake, at),
-            Event::Runs { task, nanos } => {
+            JobEvent::Moves => Ok(()),
+            JobEvent::Wakes { task, class, wake } => self.wake(&task, class, wake, at),
+            JobEvent::Runs { task, nanos } => {
                 self.has_runs = true;
-                self.tell(&task, None, Told::Runs { nanos })
+                self.tell(&task, None, JobStep::Runs { nanos })
             }
-            Event::Switches {
+            JobEvent::Switches {
                 task,
                 class,
                 stop,
                 next,
                 next_class,
             } => {
-                self.tell(&task, Some(class), Told::Stops { at, stop })?;
-                self.tell(&next, Some(next_class), Told::Enters)
+                self.tell(&task, Some(class), JobStep::Stops { at, stop })?;
+                self.tell(&next, Some(next_class), JobStep::Enters)
             }
         }
     }
@@ -158,19 +158,19 @@ impl RecordReader {
     fn take_line(&mut self, text: &[u8]) -> Result<(), AllocError> {
         self.line = self.line.saturating_add(1);
         match line_of(text) {
-            Line::Nothing => {
+            JobLine::Nothing => {
                 self.take_head(text);
                 Ok(())
             }
-            Line::Wrong(flaw) => {
+            JobLine::Wrong(flaw) => {
                 self.fault = Some((self.line, flaw));
                 Ok(())
             }
-            Line::Says { cpu, .. } if cpu >= CPUS_MAX => {
+            JobLine::Says { cpu, .. } if cpu >= CPUS_MAX => {
                 self.fault = Some((self.line, Flaw::TooLong));
                 Ok(())
             }
-            Line::Says { at, cpu, event } => self.take(at, cpu, event),
+            JobLine::Says { at, cpu, event } => self.take(at, cpu, event),
         }
     }
 
@@ -204,8 +204,8 @@ impl RecordReader {
     }
 
     /// What the text tells, which ends here, or its first fault with its line.
-    pub fn end(self) -> Result<Record, (u64, Flaw)> {
-        let RecordReader {
+    pub fn end(self) -> Result<JobRecord, (u64, Flaw)> {
+        let JobReader {
             carry,
             line,
             fault,
@@ -230,7 +230,7 @@ impl RecordReader {
             };
             return Err((line.saturating_add(1), flaw));
         }
-        Ok(Record {
+        Ok(JobRecord {
             tasks: if has_wakeup { by_wakeup } else { by_waking },
             first,
             last,

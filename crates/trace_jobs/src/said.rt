@@ -26,7 +26,7 @@ pub enum Class {
 
 /// Which event tells of a wake.
 #[derive(Clone, Copy, Debug, PartialEq, Eq)]
-pub enum Wake {
+pub enum WakeKind {
     /// sched_waking: it is about to wake.
     Waking,
 
@@ -39,13 +39,13 @@ pub enum Wake {
 
 /// What an event says; `T` is a text.
 #[derive(Clone, Copy)]
-pub enum Event<T> {
+pub enum JobEvent<T> {
     /// A task moves: only the moment counts.
     Moves,
     Wakes {
         task: Shown<T>,
         class: Class,
-        wake: Wake,
+        wake: WakeKind,
     },
     Runs {
         task: Shown<T>,
@@ -62,42 +62,42 @@ pub enum Event<T> {
 
 /// What a line says; `T` is a text.
 #[derive(Clone, Copy)]
-pub enum Line<T> {
+pub enum JobLine<T> {
     Nothing,
 
     /// An event at a moment, in nanoseconds, on a CPU.
-    Says { at: u64, cpu: u32, event: Event<T> },
+    Says { at: u64, cpu: u32, event: JobEvent<T> },
     Wrong(Flaw),
 }
 
 #[derive(Clone, Copy)]
-enum Verb {
-    Wake(Wake),
+enum JobVerb {
+    Wake(WakeKind),
     Run,
     Switch,
     Move,
 }
 
-fn verb_named(name: &[u8]) -> Option<Verb> {
+fn verb_named(name: &[u8]) -> Option<JobVerb> {
     if name == b"sched_stat_runtime".as_slice() {
-        Some(Verb::Run)
+        Some(JobVerb::Run)
     } else if name == b"sched_switch".as_slice() {
-        Some(Verb::Switch)
+        Some(JobVerb::Switch)
     } else if name == b"sched_wakeup".as_slice() {
-        Some(Verb::Wake(Wake::Woken))
+        Some(JobVerb::Wake(WakeKind::Woken))
     } else if name == b"sched_waking".as_slice() {
-        Some(Verb::Wake(Wake::Waking))
+        Some(JobVerb::Wake(WakeKind::Waking))
     } else if name == b"sched_wakeup_new".as_slice() {
-        Some(Verb::Wake(Wake::New))
+        Some(JobVerb::Wake(WakeKind::New))
     } else if name == b"sched_migrate_task".as_slice() {
-        Some(Verb::Move)
+        Some(JobVerb::Move)
     } else {
         None
     }
 }
 
 /// The event that a word names, with its colon behind it, and maybe its group before it.
-fn verb_of(word: &[u8]) -> Option<Verb> {
+fn verb_of(word: &[u8]) -> Option<JobVerb> {
     let name = before_end(b":", word)?;
     verb_named(after(b"sched:", name).unwrap_or(name))
 }
@@ -129,25 +129,25 @@ fn stop_of(state: &[u8]) -> Stop
     }
 }
 
-fn wakes(wake: Wake, fields: &[u8]) -> Option<Event<&[u8]>> {
+fn wakes(wake: WakeKind, fields: &[u8]) -> Option<JobEvent<&[u8]>> {
     let (task, rest) = shown_by(b"comm=", b"pid=", fields)?;
     let class = class_in(b"prio=", rest)?;
-    Some(Event::Wakes { task, class, wake })
+    Some(JobEvent::Wakes { task, class, wake })
 }
 
-fn runs(fields: &[u8]) -> Option<Event<&[u8]>> {
+fn runs(fields: &[u8]) -> Option<JobEvent<&[u8]>> {
     let (task, rest) = shown_by(b"comm=", b"pid=", fields)?;
     let nanos = number_field(b"runtime=", rest)?;
-    Some(Event::Runs { task, nanos })
+    Some(JobEvent::Runs { task, nanos })
 }
 
-fn switches(fields: &[u8]) -> Option<Event<&[u8]>> {
+fn switches(fields: &[u8]) -> Option<JobEvent<&[u8]>> {
     let (task, rest) = shown_by(b"prev_comm=", b"prev_pid=", fields)?;
     let class = class_in(b"prev_prio=", rest)?;
     let stop = stop_of(value_of(b"prev_state=", rest)?);
     let (next, rest) = shown_by(b"next_comm=", b"next_pid=", rest)?;
     let next_class = class_in(b"next_prio=", rest)?;
-    Some(Event::Switches {
+    Some(JobEvent::Switches {
         task,
         class,
         stop,
@@ -156,30 +156,30 @@ fn switches(fields: &[u8]) -> Option<Event<&[u8]>> {
     })
 }
 
-fn event_of(verb: Verb, fields: &[u8]) -> Option<Event<&[u8]>> {
+fn event_of(verb: JobVerb, fields: &[u8]) -> Option<JobEvent<&[u8]>> {
     match verb {
-        Verb::Wake(wake) => wakes(wake, fields),
-        Verb::Run => runs(fields),
-        Verb::Switch => switches(fields),
-        Verb::Move => Some(Event::Moves),
+        JobVerb::Wake(wake) => wakes(wake, fields),
+        JobVerb::Run => runs(fields),
+        JobVerb::Switch => switches(fields),
+        JobVerb::Move => Some(JobEvent::Moves),
     }
 }
 
-fn said_of(at: u64, cpu: Option<u32>, event: Option<Event<&[u8]>>) -> Line<&[u8]> {
+fn said_of(at: u64, cpu: Option<u32>, event: Option<JobEvent<&[u8]>>) -> JobLine<&[u8]> {
     match (cpu, event) {
-        (Some(cpu), Some(event)) => Line::Says { at, cpu, event },
-        _ => Line::Wrong(Flaw::BadTraceLine),
+        (Some(cpu), Some(event)) => JobLine::Says { at, cpu, event },
+        _ => JobLine::Wrong(Flaw::BadTraceLine),
     }
 }
 
-fn event_line(line: &[u8]) -> Line<&[u8]> {
+fn event_line(line: &[u8]) -> JobLine<&[u8]> {
     let Some(opening) = opening_of(line) else {
-        return Line::Nothing;
+        return JobLine::Nothing;
     };
     let text = without_spaces(&line[opening.end..]);
     let (word, _) = first_word(text);
     let Some(verb) = verb_of(word) else {
-        return Line::Nothing;
+        return JobLine::Nothing;
     };
     let cpu = match opening.cpu {
         Some(word) => Some(word.cpu),
@@ -189,11 +189,11 @@ fn event_line(line: &[u8]) -> Line<&[u8]> {
 }
 
 /// What a line says of tasks, without the byte that ends it.
-pub(crate) fn line_of(line: &[u8]) -> Line<&[u8]> {
+pub(crate) fn line_of(line: &[u8]) -> JobLine<&[u8]> {
     if is_lost(line) {
-        Line::Wrong(Flaw::LostEvents)
+        JobLine::Wrong(Flaw::LostEvents)
     } else if is_comment(line) {
-        Line::Nothing
+        JobLine::Nothing
     } else {
         event_line(line)
     }

@@ -10,7 +10,7 @@ use std::alloc::{AllocError, Global};
 
 /// What a line tells of one task; moments are nanoseconds.
 #[derive(Clone, Copy, Debug, PartialEq, Eq)]
-pub enum Told {
+pub enum JobStep {
     /// It wakes, at a line.
     Wakes { line: u64, at: u64, is_new: bool },
 
@@ -26,7 +26,7 @@ pub enum Told {
 
 /// A task of a trace, and its jobs.
 #[derive(Debug, Drop)]
-pub struct Task {
+pub struct JobTask {
     pub pid: u64,
 
     /// Its comm at the last line that shows it.
@@ -54,12 +54,12 @@ pub struct Task {
     pub has_runs: bool,
 }
 
-impl Task {
-    pub(crate) fn new(alloc: Global, pid: u64) -> Task
+impl JobTask {
+    pub(crate) fn new(alloc: Global, pid: u64) -> JobTask
         ensures phase { result.phase ≡ phases.Unseen }
         ensures jobs { result.jobs.items ≡ [] }
     {
-        Task {
+        JobTask {
             pid,
             comm: Vec::new(alloc),
             class: Class::Fair,
@@ -89,19 +89,19 @@ impl Task {
     }
 
     /// Takes what a line tells of it.
-    pub(crate) fn take(&mut self, told: Told) -> Result<(), AllocError>
+    pub(crate) fn take(&mut self, told: JobStep) -> Result<(), AllocError>
         ensures phase { OnOk result (self.new.phase ≡ phase_told told self.old.phase) }
         ensures jobs { OnOk result
             (self.new.jobs.items ≡ self.old.jobs.items ++ jobs_told told self.old.phase) }
     {
         match told {
-            Told::Wakes { line, at, is_new } => self.phase = woken(self.phase, line, at, is_new),
-            Told::Runs { nanos } => {
+            JobStep::Wakes { line, at, is_new } => self.phase = woken(self.phase, line, at, is_new),
+            JobStep::Runs { nanos } => {
                 self.phase = ran(self.phase, nanos);
                 self.has_runs = true;
             }
-            Told::Enters => self.phase = ran(self.phase, 0),
-            Told::Stops { at, stop } => {
+            JobStep::Enters => self.phase = ran(self.phase, 0),
+            JobStep::Stops { at, stop } => {
                 let (phase, ended) = stopped(self.phase, at, stop);
                 self.end(ended)?;
                 self.phase = phase;

@@ -5,16 +5,16 @@ ghost use Rattle.std.specs.HashMap.{get};
 ghost use Rattle.trace_jobs.specs.Taking.{Takes, Keeps};
 
 use crate::said::Class;
-use crate::task::{Task, Told};
+use crate::task::{JobTask, JobStep};
 use std::alloc::{AllocError, Global};
 use std::collections::HashMap;
 use trace_line::Shown;
 
 /// The tasks of a trace.
 #[derive(Drop)]
-pub struct Tasks {
+pub struct JobTasks {
     alloc: Global,
-    by_pid: HashMap<u64, Task>,
+    by_pid: HashMap<u64, JobTask>,
 
     /// The pids in the order of their first lines.
     pids: Vec<u64>,
@@ -23,9 +23,9 @@ pub struct Tasks {
     named: HashMap<Vec<u8>, u64>,
 }
 
-impl Tasks {
-    pub(crate) fn new(alloc: Global) -> Tasks {
-        Tasks {
+impl JobTasks {
+    pub(crate) fn new(alloc: Global) -> JobTasks {
+        JobTasks {
             alloc,
             by_pid: HashMap::new(alloc),
             pids: Vec::new(alloc),
@@ -39,7 +39,7 @@ impl Tasks {
     }
 
     /// The task of a pid.
-    pub fn task(&self, pid: u64) -> Option<&Task> {
+    pub fn task(&self, pid: u64) -> Option<&JobTask> {
         self.by_pid.get(&pid)
     }
 
@@ -67,7 +67,7 @@ impl Tasks {
             return Ok(());
         }
         self.pids.push(pid)?;
-        self.by_pid.insert(pid, Task::new(self.alloc, pid))?;
+        self.by_pid.insert(pid, JobTask::new(self.alloc, pid))?;
         Ok(())
     }
 
@@ -76,7 +76,7 @@ impl Tasks {
         &mut self,
         shown: &Shown<&[u8]>,
         class: Option<Class>,
-        told: Told,
+        told: JobStep,
     ) -> Result<(), AllocError>
         ensures { OnOk result (Takes shown.now.pid told
             (get nat_eq self.old.by_pid) (get nat_eq self.new.by_pid)) }

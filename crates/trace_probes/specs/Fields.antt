@@ -5,10 +5,10 @@ use Rattle.std.specs.Str.{bytes_eq}
 use Rattle.trace_probes.specs.Numerals.{after, signed, unsigned}
 use Rattle.trace_probes.specs.declared.field.Field.{Field}
 use Rattle.trace_probes.specs.declared.field.Field.TheVariants.{Pid, Cpu, Flags, Clock, Runtime, Deadline, Throttled, Yielded, NonContending, DlRuntime, DlDeadline, DlPeriod, SchedFlags, OnRq, NormalPrio, Entity, ServedBy, DonorRuntime, DonorDeadline, DonorPeriod, ThisBw, RunningBw, ExtraBw, MaxBw, BwRatio, DeltaExec, ClockTask, ExecStart, State, Current, PolicyBefore, PolicyWanted, Delayed, TotalBw, DomainBw, Timer, FromNow, Expires, Function, Server, FairTasks, Earliest, Active}
-use Rattle.trace_probes.specs.declared.field.Kind.{Kind}
-use Rattle.trace_probes.specs.declared.field.Kind.TheVariants as kind
-use Rattle.trace_probes.specs.declared.value.Value.{Value}
-use Rattle.trace_probes.specs.declared.value.Value.TheVariants as value
+use Rattle.trace_probes.specs.declared.field.FieldKind.{FieldKind}
+use Rattle.trace_probes.specs.declared.field.FieldKind.TheVariants as kind
+use Rattle.trace_probes.specs.declared.value.FieldValue.{FieldValue}
+use Rattle.trace_probes.specs.declared.value.FieldValue.TheVariants as value
 use Rattle.trace_words.specs.declared.fixed.TimerFunction.{TimerFunction}
 use Rattle.trace_words.specs.declared.fixed.TimerFunction.TheVariants.{ZeroLag, Replenish, Other}
 
@@ -59,7 +59,7 @@ key_of Earliest = codes "ea="
 key_of Active = codes "act="
 
 -- what the value of a field is
-abbrev pub kind_of : Field → Kind
+abbrev pub kind_of : Field → FieldKind
 kind_of Runtime = kind.Signed
 kind_of Throttled = kind.Flag
 kind_of Yielded = kind.Flag
@@ -130,23 +130,23 @@ abbrev pub flag_of : ℕ → Option Bool
 flag_of n = if n == 0 then Some false else (if n == 1 then Some true else None)
 
 -- the value of a field of this kind, from its text
-abbrev pub value_of : Kind → List ℕ → Option Value
+abbrev pub value_of : FieldKind → List ℕ → Option FieldValue
 value_of kind.Unsigned text = option_map (λ n. value.Unsigned n) (unsigned text)
 value_of kind.Signed text = option_map (λ z. value.Signed z) (signed text)
 value_of kind.Flag text = option_map (λ b. value.Flag b) (option_and_then flag_of (unsigned text))
 value_of kind.Function text = Some (value.Function (timer_function text))
 
 -- the value of a field, where its text was found, and the words behind it; else what is found later
-abbrev pub value_found : Kind → Option (List ℕ) → List (List ℕ) → Option (Value × List (List ℕ)) → Option (Value × List (List ℕ))
+abbrev pub value_found : FieldKind → Option (List ℕ) → List (List ℕ) → Option (FieldValue × List (List ℕ)) → Option (FieldValue × List (List ℕ))
 value_found kind None words later = later
 value_found kind (Some text) words later = option_map (λ v. (v, words)) (value_of kind text)
 
 -- the value of a field in the first word that has its key, and the words behind it
-abbrev pub next_value : Field → List (List ℕ) → Option (Value × List (List ℕ))
+abbrev pub next_value : Field → List (List ℕ) → Option (FieldValue × List (List ℕ))
 next_value field [] = None
 next_value field (word ∷ words) = value_found (kind_of field) (after (key_of field) word) words (next_value field words)
 
 -- the values of these fields, one behind the other, beside those that are known; none where one is missing or wrong
-abbrev pub values_with : List Field → List Value → List (List ℕ) → Option (List Value)
+abbrev pub values_with : List Field → List FieldValue → List (List ℕ) → Option (List FieldValue)
 values_with [] values words = Some values
 values_with (field ∷ fields) values words = option_and_then (λ v. values_with fields (slice_set values (place_of field) v.0) v.1) (next_value field words)

@@ -9,7 +9,7 @@ use Rattle.trace_probes.specs.declared.field.Field.{Field}
 use Rattle.trace_probes.specs.declared.field.Field.TheVariants.{Active, BwRatio, Clock, ClockTask, Cpu, Current, Deadline, Delayed, DeltaExec, DlDeadline, DlPeriod, DlRuntime, DomainBw, DonorDeadline, DonorPeriod, DonorRuntime, Earliest, Entity, ExecStart, Expires, ExtraBw, FairTasks, Flags, FromNow, Function, MaxBw, NonContending, NormalPrio, OnRq, Pid, PolicyBefore, PolicyWanted, RunningBw, Runtime, SchedFlags, ServedBy, Server, State, ThisBw, Throttled, Timer, TotalBw, Yielded}
 use Rattle.trace_probes.specs.declared.shown.ProbeEvent.{ProbeEvent}
 use Rattle.trace_probes.specs.declared.shown.ProbeEvent.TheVariants.{Enq, Upd, Deq, Mig, Sfr, Adm, Ina, Dlt, Hst, Ede, Pck}
-use Rattle.trace_probes.specs.declared.value.Value.{Value}
+use Rattle.trace_probes.specs.declared.value.FieldValue.{FieldValue}
 use Rattle.trace_words.specs.declared.probe.Expiry.TheVariants.{After, At}
 use Rattle.trace_words.specs.declared.probe.Ran.TheVariants.{Span, Clocks}
 use Rattle.trace_words.specs.declared.probe.Probe.{Probe}
@@ -88,7 +88,7 @@ abbrev pub has_field : Field → List (List ℕ) → Bool
 has_field field words = list_any (λ word. is_some (after (key_of field) word)) words
 
 -- what is shown where the words have these fields
-abbrev pub shows : List Field → (List Value → Probe) → List (List ℕ) → Option Probe
+abbrev pub shows : List Field → (List FieldValue → Probe) → List (List ℕ) → Option Probe
 shows fields show words = option_map show (values_with fields no_values words)
 
 abbrev pub show_enqueued : List (List ℕ) → Option Probe

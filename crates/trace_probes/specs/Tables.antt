@@ -4,8 +4,8 @@ use Rattle.trace_probes.specs.Fields.{place_of}
 use Rattle.trace_probes.specs.declared.field.Field.{Field}
 use Rattle.trace_probes.specs.declared.field.Field.TheVariants.{Active, BwRatio, Clock, ClockTask, Cpu, Current, Deadline, Delayed, DeltaExec, DlDeadline, DlPeriod, DlRuntime, DomainBw, DonorDeadline, DonorPeriod, DonorRuntime, Earliest, Entity, ExecStart, Expires, ExtraBw, FairTasks, Flags, FromNow, Function, MaxBw, NonContending, NormalPrio, OnRq, Pid, PolicyBefore, PolicyWanted, RunningBw, Runtime, SchedFlags, ServedBy, Server, State, ThisBw, Throttled, Timer, TotalBw, Yielded}
 use Rattle.trace_probes.specs.declared.field.TheConstants.{FIELDS}
-use Rattle.trace_probes.specs.declared.value.Value.{Value}
-use Rattle.trace_probes.specs.declared.value.Value.TheVariants as value
+use Rattle.trace_probes.specs.declared.value.FieldValue.{FieldValue}
+use Rattle.trace_probes.specs.declared.value.FieldValue.TheVariants as value
 use Rattle.trace_words.specs.declared.fixed.TimerFunction.{TimerFunction}
 use Rattle.trace_words.specs.declared.fixed.TimerFunction.TheVariants.{Other}
 use Rattle.trace_words.specs.declared.probe.Admitted.{Admitted}
@@ -25,46 +25,46 @@ use Rattle.trace_words.specs.declared.quantities.Sums.{Sums}
 use Rattle.trace_words.specs.declared.probe.Updated.{Updated}
 
 -- no value yet
-abbrev pub no_values : List Value
+abbrev pub no_values : List FieldValue
 no_values = replicate FIELDS (value.Unsigned 0)
 
-abbrev pub unsigned_in : Value → ℕ
+abbrev pub unsigned_in : FieldValue → ℕ
 unsigned_in (value.Unsigned n) = n
 unsigned_in v = 0
 
-abbrev pub signed_in : Value → ℤ
+abbrev pub signed_in : FieldValue → ℤ
 signed_in (value.Signed z) = z
 signed_in v = pos 0
 
-abbrev pub flag_in : Value → Bool
+abbrev pub flag_in : FieldValue → Bool
 flag_in (value.Flag b) = b
 flag_in v = false
 
-abbrev pub function_in : Value → TimerFunction
+abbrev pub function_in : FieldValue → TimerFunction
 function_in (value.Function f) = f
 function_in v = Other
 
-abbrev pub value_at : Field → List Value → Value
+abbrev pub value_at : Field → List FieldValue → FieldValue
 value_at field values = get_or values (place_of field) (value.Unsigned 0)
 
-abbrev pub unsigned_at : Field → List Value → ℕ
+abbrev pub unsigned_at : Field → List FieldValue → ℕ
 unsigned_at field values = unsigned_in (value_at field values)
 
-abbrev pub signed_at : Field → List Value → ℤ
+abbrev pub signed_at : Field → List FieldValue → ℤ
 signed_at field values = signed_in (value_at field values)
 
-abbrev pub flag_at : Field → List Value → Bool
+abbrev pub flag_at : Field → List FieldValue → Bool
 flag_at field values = flag_in (value_at field values)
 
-abbrev pub function_at : Field → List Value → TimerFunction
+abbrev pub function_at : Field → List FieldValue → TimerFunction
 function_at field values = function_in (value_at field values)
 
 -- a CPU, or the greatest of 32 bits
-abbrev pub cpu_at : List Value → ℕ
+abbrev pub cpu_at : List FieldValue → ℕ
 cpu_at values = min (unsigned_at Cpu values) (2 ^ 32 - 1)
 
 -- a reservation
-abbrev pub parameters : List Value → Parameters
+abbrev pub parameters : List FieldValue → Parameters
 parameters v = record {
   dl_runtime = unsigned_at DlRuntime v;
   dl_deadline = unsigned_at DlDeadline v;
@@ -73,7 +73,7 @@ parameters v = record {
 }
 
 -- what is left of a budget
-abbrev pub budget : List Value → Budget
+abbrev pub budget : List FieldValue → Budget
 budget v = record {
   runtime = signed_at Runtime v;
   deadline = unsigned_at Deadline v;
@@ -82,7 +82,7 @@ budget v = record {
 }
 
 -- the reservation by which a task is served
-abbrev pub donor : List Value → Donor
+abbrev pub donor : List FieldValue → Donor
 donor v = record {
   dl_runtime = unsigned_at DonorRuntime v;
   dl_deadline = unsigned_at DonorDeadline v;
@@ -90,7 +90,7 @@ donor v = record {
 }
 
 -- the sums of a runqueue
-abbrev pub sums : List Value → Sums
+abbrev pub sums : List FieldValue → Sums
 sums v = record {
   this_bw = unsigned_at ThisBw v;
   running_bw = unsigned_at RunningBw v;
@@ -98,7 +98,7 @@ sums v = record {
 }
 
 -- enqueue_task_dl
-abbrev pub enqueued : List Value → Enqueued
+abbrev pub enqueued : List FieldValue → Enqueued
 enqueued v = record {
   pid = unsigned_at Pid v;
   cpu = cpu_at v;
@@ -116,7 +116,7 @@ enqueued v = record {
 }
 
 -- update_curr_dl_se, or update_curr_dl
-abbrev pub updated_by : List Value → Ran → Updated
+abbrev pub updated_by : List FieldValue → Ran → Updated
 updated_by v span = record {
   pid = unsigned_at Pid v;
   cpu = cpu_at v;
@@ -128,7 +128,7 @@ updated_by v span = record {
 }
 
 -- dequeue_task_dl
-abbrev pub dequeued : List Value → Dequeued
+abbrev pub dequeued : List FieldValue → Dequeued
 dequeued v = record {
   pid = unsigned_at Pid v;
   cpu = cpu_at v;
@@ -143,14 +143,14 @@ dequeued v = record {
 }
 
 -- migrate_task_rq_dl
-abbrev pub migrating : List Value → Migrating
+abbrev pub migrating : List FieldValue → Migrating
 migrating v = record {
   pid = unsigned_at Pid v;
   state = unsigned_at State v;
 }
 
 -- switched_from_dl
-abbrev pub left_class : List Value → LeftClass
+abbrev pub left_class : List FieldValue → LeftClass
 left_class v = record {
   pid = unsigned_at Pid v;
   cpu = cpu_at v;
@@ -163,7 +163,7 @@ left_class v = record {
 }
 
 -- sched_dl_overflow; is_delayed is false where the kernel has no such field
-abbrev pub admitted : List Value → Admitted
+abbrev pub admitted : List FieldValue → Admitted
 admitted v = record {
   pid = unsigned_at Pid v;
   cpu = cpu_at v;
@@ -177,7 +177,7 @@ admitted v = record {
 }
 
 -- hrtimer_start_range_ns
-abbrev pub armed_by : List Value → Expiry → Armed
+abbrev pub armed_by : List FieldValue → Expiry → Armed
 armed_by v moment = record {
   timer = unsigned_at Timer v;
   function = function_at Function v;
@@ -185,7 +185,7 @@ armed_by v moment = record {
 }
 
 -- enqueue_dl_entity of a fair server
-abbrev pub server_started : List Value → ServerStarted
+abbrev pub server_started : List FieldValue → ServerStarted
 server_started v = record {
   is_server = flag_at Server v;
   cpu = cpu_at v;
@@ -198,7 +198,7 @@ server_started v = record {
 }
 
 -- pick_task_dl
-abbrev pub picked : List Value → Picked
+abbrev pub picked : List FieldValue → Picked
 picked v = record {
   cpu = cpu_at v;
   clock = unsigned_at Clock v;

@@ -141,7 +141,7 @@ pub enum Field {
 
 /// What the value of a field is.
 #[derive(Clone, Copy)]
-pub enum Kind {
+pub enum FieldKind {
     /// A number from 0 on.
     Unsigned,
 
@@ -206,20 +206,20 @@ pub(crate) fn key_of(field: Field) -> &'static [u8]
     }
 }
 
-pub(crate) fn kind_of(field: Field) -> Kind
+pub(crate) fn kind_of(field: Field) -> FieldKind
     ensures { result ≡ kind_of field }
 {
     match field {
         Field::Runtime | Field::NormalPrio | Field::DeltaExec | Field::FromNow | Field::Expires =>
-            Kind::Signed,
+            FieldKind::Signed,
         Field::Throttled
         | Field::Yielded
         | Field::NonContending
         | Field::Delayed
         | Field::Server
-        | Field::Active => Kind::Flag,
-        Field::Function => Kind::Function,
-        _ => Kind::Unsigned,
+        | Field::Active => FieldKind::Flag,
+        Field::Function => FieldKind::Function,
+        _ => FieldKind::Unsigned,
     }
 }
 

@@ -5,13 +5,13 @@ ghost use Rattle.std.specs.List.{before_first};
 ghost use Rattle.trace_probes.specs.Fields.{flag_of, timer_function, value_of};
 ghost use Rattle.trace_probes.specs.Tables.{flag_in, function_in, signed_in, unsigned_in};
 
-use crate::field::Kind;
+use crate::field::FieldKind;
 use crate::numerals::{signed, unsigned};
 use trace_words::TimerFunction;
 
 /// The value of a field.
 #[derive(Clone, Copy)]
-pub enum Value {
+pub enum FieldValue {
     Unsigned(u64),
     Signed(i64),
     Flag(bool),
@@ -58,43 +58,43 @@ fn flag_of(n: u64) -> Option<bool>
     }
 }
 
-fn unsigned_value(text: &[u8]) -> Option<Value>
-    ensures { result ≡ value_of Kind.Unsigned text.now }
+fn unsigned_value(text: &[u8]) -> Option<FieldValue>
+    ensures { result ≡ value_of FieldKind.Unsigned text.now }
 {
-    Some(Value::Unsigned(unsigned(text)?))
+    Some(FieldValue::Unsigned(unsigned(text)?))
 }
 
-fn signed_value(text: &[u8]) -> Option<Value>
-    ensures { result ≡ value_of Kind.Signed text.now }
+fn signed_value(text: &[u8]) -> Option<FieldValue>
+    ensures { result ≡ value_of FieldKind.Signed text.now }
 {
-    Some(Value::Signed(signed(text)?))
+    Some(FieldValue::Signed(signed(text)?))
 }
 
-fn flag_value(text: &[u8]) -> Option<Value>
-    ensures { result ≡ value_of Kind.Flag text.now }
+fn flag_value(text: &[u8]) -> Option<FieldValue>
+    ensures { result ≡ value_of FieldKind.Flag text.now }
 {
-    Some(Value::Flag(flag_of(unsigned(text)?)?))
+    Some(FieldValue::Flag(flag_of(unsigned(text)?)?))
 }
 
 /// The value that a text spells at a field of this kind.
-pub(crate) fn value_of(kind: Kind, text: &[u8]) -> Option<Value>
+pub(crate) fn value_of(kind: FieldKind, text: &[u8]) -> Option<FieldValue>
     ensures { result ≡ value_of kind text.now }
 {
     match kind {
-        Kind::Unsigned => unsigned_value(text),
-        Kind::Signed => signed_value(text),
-        Kind::Flag => flag_value(text),
-        Kind::Function => Some(Value::Function(timer_function(text))),
+        FieldKind::Unsigned => unsigned_value(text),
+        FieldKind::Signed => signed_value(text),
+        FieldKind::Flag => flag_value(text),
+        FieldKind::Function => Some(FieldValue::Function(timer_function(text))),
     }
 }
 
-impl Value {
+impl FieldValue {
     /// The number of an unsigned value, else 0.
     pub(crate) fn unsigned(self) -> u64
         ensures { result ≡ unsigned_in self }
     {
         match self {
-            Value::Unsigned(n) => n,
+            FieldValue::Unsigned(n) => n,
             _ => 0,
         }
     }
@@ -104,7 +104,7 @@ impl Value {
         ensures { result ≡ signed_in self }
     {
         match self {
-            Value::Signed(n) => n,
+            FieldValue::Signed(n) => n,
             _ => 0,
         }
     }
@@ -114,7 +114,7 @@ impl Value {
         ensures { result ≡ flag_in self }
     {
         match self {
-            Value::Flag(is_set) => is_set,
+            FieldValue::Flag(is_set) => is_set,
             _ => false,
         }
     }
@@ -124,7 +124,7 @@ impl Value {
         ensures { result ≡ function_in self }
     {
         match self {
-            Value::Function(function) => function,
+            FieldValue::Function(function) => function,
             _ => TimerFunction::Other,
         }
     }

@@ -6,18 +6,18 @@ ghost use Rattle.trace_probes.specs.Tables.{cpu_at, flag_at, function_at, no_val
 ghost use Rattle.trace_probes.specs.inside.Texts.{next_text, words_left};
 
 use crate::field::{FIELDS, Field, key_of, kind_of, place_of};
-use crate::value::{Value, value_of};
+use crate::value::{FieldValue, value_of};
 use grub_text::first_word;
 use trace_words::TimerFunction;
 
 /// The values of fields, each at its place.
 #[derive(Clone, Copy)]
 pub struct Values {
-    pub items: [Value; FIELDS],
+    pub items: [FieldValue; FIELDS],
 }
 
 /// The value of a field in the first word that has its key, and what stands behind that word.
-fn next_value<'a>(field: Field, words: Option<&'a [u8]>) -> Option<(Value, Option<&'a [u8]>)>
+fn next_value<'a>(field: Field, words: Option<&'a [u8]>) -> Option<(FieldValue, Option<&'a [u8]>)>
     ensures { option_map next_text result ≡ next_value field (words_left words.entry) }
 {
     let key = key_of(field);
@@ -39,7 +39,7 @@ pub(crate) fn values_of(fields: &[Field], text: &[u8]) -> Option<Values>
         ≡ values_with fields.now no_values (words_left (Some text.entry)) }
 {
     let mut values = Values {
-        items: [Value::Unsigned(0); FIELDS],
+        items: [FieldValue::Unsigned(0); FIELDS],
     };
     let mut left = Some(text);
     for field in fields {

@@ -1,7 +1,7 @@
 -- The lines of a text that comes in pieces.
 use Rattle.std.proofs.Common.{◌≡◌, ℕ, Bool, true, false, not, if◌then◌else◌, List, [], ◌∷◌, ◌++◌, Option, Some, None, is_some, refl, sym, ap, ◌∙◌, append_assoc, append-nil}
 use Rattle.std.specs.List.{onto_first}
-use Rattle.record_line.specs.declared.line.Told.{Told}
+use Rattle.record_line.specs.declared.line.ToldLine.{ToldLine}
 use Rattle.record_line.specs.Lines.{told_by}
 use Rattle.trace_words.specs.declared.line.Flaw.{Flaw}
 use Rattle.trace_reader.specs.declared.reader.Halt.{Halt}
@@ -25,7 +25,7 @@ not_halted halt b is e = is ∙ ap not e
 pub halted : (halt : Option Halt) (b : Bool) → is_some halt ≡ not b → b ≡ false → is_some halt ≡ true
 halted halt b is e = is ∙ ap not e
 
-module _ {S : Type 0} (step : ℕ → Told (List ℕ) → S → After S) where
+module _ {S : Type 0} (step : ℕ → ToldLine (List ℕ) → S → After S) where
   -- none is read behind a halt
   pub further_stopped : (p : Progress S) (bytes : List ℕ) → is_some p.halt ≡ true → further step p bytes ≡ p
   further_stopped p bytes e = rw e refl
@@ -44,7 +44,7 @@ module _ {S : Type 0} (step : ℕ → Told (List ℕ) → S → After S) where
   through_line line xs p = let k = has_part is_end xs in rw k.2 refl
 
   -- nothing is kept behind a line
-  rest_none : (flaw : Option Flaw) (n : ℕ) (told : Told (List ℕ)) (seen : S) → (taken_by step flaw n told seen).rest ≡ []
+  rest_none : (flaw : Option Flaw) (n : ℕ) (told : ToldLine (List ℕ)) (seen : S) → (taken_by step flaw n told seen).rest ≡ []
   rest_none None n told seen = refl
   rest_none (Some flaw) n told seen = refl
 

@@ -4,11 +4,11 @@ use Rattle.grub_text.specs.Lines.{parts_of}
 use Rattle.trace_line.specs.Numbers.{before_end}
 use Rattle.trace_line.specs.Head.{is_lost}
 use Rattle.record_line.specs.Lines.{told_by}
-use Rattle.record_line.specs.declared.line.Told.{Told}
+use Rattle.record_line.specs.declared.line.ToldLine.{ToldLine}
 use Rattle.trace_words.specs.declared.line.Flaw.{Flaw}
 use Rattle.trace_words.specs.declared.line.Flaw.TheVariants.{LostEvents, BadTraceLine}
-use Rattle.trace_words.specs.declared.line.Line.{Line}
-use Rattle.trace_words.specs.declared.line.Line.TheVariants.{Flawed}
+use Rattle.trace_words.specs.declared.line.RecordLine.{RecordLine}
+use Rattle.trace_words.specs.declared.line.RecordLine.TheVariants.{Flawed}
 use Rattle.trace_reader.specs.declared.reader.Halt.{Halt}
 
 -- a line without a byte 0D at its end
@@ -20,7 +20,7 @@ abbrev pub next : ℕ → ℕ
 next line = min (line + 1) 18446744073709551615
 
 -- what is wrong with a line
-abbrev pub flaw_told : Line → Option Flaw
+abbrev pub flaw_told : RecordLine → Option Flaw
 flaw_told (Flawed flaw) = Some flaw
 flaw_told line = None
 
@@ -52,13 +52,13 @@ cut_flaw line = if is_lost line then LostEvents else BadTraceLine
 abbrev pub halt_at_end : Option Halt → ℕ → List ℕ → Option Halt
 halt_at_end halt line rest = if is_some halt || length rest == 0 then halt else Some (record { line = next line; flaw = Some (cut_flaw rest) })
 
-module _ {S : Type 0} (step : ℕ → Told (List ℕ) → S → After S) where
+module _ {S : Type 0} (step : ℕ → ToldLine (List ℕ) → S → After S) where
   -- a line of this number that has no flaw, or this one
-  abbrev pub taken_by : Option Flaw → ℕ → Told (List ℕ) → S → Progress S
+  abbrev pub taken_by : Option Flaw → ℕ → ToldLine (List ℕ) → S → Progress S
   taken_by None n told seen = record { halt = halt_at n (step n told seen).more; line = n; rest = []; seen = (step n told seen).seen }
   taken_by (Some flaw) n told seen = record { halt = Some (record { line = n; flaw = Some flaw }); line = n; rest = []; seen = seen }
 
-  abbrev pub taken : ℕ → Told (List ℕ) → S → Progress S
+  abbrev pub taken : ℕ → ToldLine (List ℕ) → S → Progress S
   taken n told seen = taken_by (flaw_told told.line) n told seen
 
   -- one line more

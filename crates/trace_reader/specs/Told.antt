@@ -1,9 +1,9 @@
 -- What a reader promises of a text, wherever that is cut into pieces.
 use Rattle.std.specs.Prelude.{◌≡◌, ℕ, List, ◌++◌}
-use Rattle.record_line.specs.declared.line.Told.{Told}
+use Rattle.record_line.specs.declared.line.ToldLine.{ToldLine}
 use Rattle.trace_reader.specs.Reading.{After, Progress, reading}
 
-module _ {S : Type 0} (step : ℕ → Told (List ℕ) → S → After S) where
+module _ {S : Type 0} (step : ℕ → ToldLine (List ℕ) → S → After S) where
   -- whatever text was read, it is read on by a piece
   abbrev pub ReadsOn : List ℕ → Progress S → Progress S → Type 0
   ReadsOn piece old new =

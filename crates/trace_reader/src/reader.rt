@@ -2,16 +2,16 @@
 
 ghost use Rattle.std.specs.Prelude.{◌≡◌, ℕ, List, ◌++◌, [], IfOk, IsTrue, OnOk, None, is_some};
 ghost use Rattle.record_line.specs.ToldTexts.{told_text};
-ghost use Rattle.record_line.specs.declared.line.Told.{Told};
+ghost use Rattle.record_line.specs.declared.line.ToldLine.{ToldLine};
 ghost use Rattle.trace_reader.specs.Reading.{After, cut_flaw, flaw_told, further, halt_at, halt_at_end, line_ended, taken, without_return};
 ghost use Rattle.trace_reader.specs.Keeping.{after_of, progress};
 ghost use Rattle.trace_reader.specs.Told.{NeedsNoMore, ReadsOn};
 
 use grub_text::first_line;
-use record_line::{Told, told_by};
+use record_line::{ToldLine, told_by};
 use std::alloc::{AllocError, Global};
 use trace_line::{before_end, is_lost};
-use trace_words::{Flaw, Line};
+use trace_words::{Flaw, RecordLine};
 
 /// What lines go to.
 pub trait Lines {
@@ -21,10 +21,10 @@ pub trait Lines {
     ghost seen: { Self → Seen };
 
     // What a line comes to, whose number and words these are.
-    ghost step: { ℕ → Told (List ℕ) → Seen → After Seen };
+    ghost step: { ℕ → ToldLine (List ℕ) → Seen → After Seen };
 
     /// Takes a line that has no flaw, and answers whether it wants more; lines are numbered from 1.
-    fn take(&mut self, number: u64, told: &Told<&[u8]>) -> Result<bool, AllocError>
+    fn take(&mut self, number: u64, told: &ToldLine<&[u8]>) -> Result<bool, AllocError>
         ensures { IfOk result
             (λ more. after_of more (seen self.new)
             ≡ step number (told_text told.now) (seen self.old)) };
@@ -73,11 +73,11 @@ fn cut_flaw(line: &[u8]) -> Flaw
     }
 }
 
-fn flaw_told(line: &Line) -> Option<Flaw>
+fn flaw_told(line: &RecordLine) -> Option<Flaw>
     ensures { result ≡ flaw_told line.now }
 {
     match *line {
-        Line::Flawed(flaw) => Some(flaw),
+        RecordLine::Flawed(flaw) => Some(flaw),
         _ => None,
     }
 }
@@ -108,7 +108,7 @@ impl RecordReader {
     }
 
     /// Hands on a line whose words these are.
-    fn hand_on<L: Lines>(&mut self, lines: &mut L, told: &Told<&[u8]>) -> Result<(), AllocError>
+    fn hand_on<L: Lines>(&mut self, lines: &mut L, told: &ToldLine<&[u8]>) -> Result<(), AllocError>
         requires { self.old.carry.items ≡ [] }
         ensures { OnOk result (progress self.new (L.seen lines.new)
             ≡ taken L.step self.old.line (told_text told.now) (L.seen lines.old)) }

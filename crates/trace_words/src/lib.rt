@@ -8,8 +8,8 @@ mod probe;
 mod quantities;
 
 pub use fixed::{Fixed, Stop, TimerFunction};
-pub use line::{Flaw, Line, Said};
-pub use note::{Kernel, Limit, Note, Policy};
+pub use line::{Flaw, RecordLine, Said};
+pub use note::{Kernel, Limit, TraceNote, Policy};
 pub use probe::{
     Admitted, Armed, Dequeued, Enqueued, Expiry, LeftClass, Migrating, Picked, Probe, Ran,
     ServerStarted, Updated,

@@ -1,7 +1,7 @@
 //! A line of a record.
 
 use crate::fixed::Fixed;
-use crate::note::Note;
+use crate::note::TraceNote;
 use crate::probe::Probe;
 
 /// What is wrong with a line, whatever tasks were given.
@@ -29,10 +29,10 @@ pub enum Said {
 
 /// A line of a record.
 #[derive(Clone, Copy)]
-pub enum Line {
+pub enum RecordLine {
     /// It says nothing that is read.
     Quiet,
-    Note(Note),
+    Note(TraceNote),
 
     /// A line of an event.
     Event {

@@ -31,7 +31,7 @@ pub enum Policy {
 
 /// A note; the CPUs of the root domain and a task's comm stand beside it, as a list and a text.
 #[derive(Clone, Copy)]
-pub enum Note {
+pub enum TraceNote {
     /// `notes 1 kernel=.. domain=.. max-bw=.. total-bw=..`
     Head {
         kernel: Option<Kernel>,

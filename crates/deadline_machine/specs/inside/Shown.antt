@@ -12,7 +12,7 @@ use Rattle.trace_words.specs.declared.probe.Expiry.TheVariants.{After, At}
 use Rattle.trace_words.specs.declared.probe.Probe.{Probe}
 use Rattle.trace_words.specs.declared.probe.Probe.TheVariants.{Enqueued as EnqueuedLine, Updated as UpdatedLine, Dequeued as DequeuedLine, Migrating, LeftClass as LeftClassLine, Admitted, ZeroLagFired, ReplenishFired, Armed, ServerStarted, Picked}
 use Rattle.deadline_rules.specs.declared.entity.Entity.{Entity}
-use Rattle.deadline_rules.specs.declared.charge.Runqueue.{Runqueue}
+use Rattle.deadline_rules.specs.declared.charge.ChargedRunqueue.{ChargedRunqueue}
 use Rattle.deadline_rules.specs.declared.flags.TheConstants.{REPLENISH}
 use Rattle.deadline_rules.specs.Clock.{plus, less, signed, contains_bits}
 use Rattle.deadline_rules.specs.Reservation.{reserved_of, cleared_of}
@@ -79,7 +79,7 @@ abbrev pub max_bw_by : Ran → ℕ
 max_bw_by (Span delta max_bw) = max_bw
 max_bw_by (Clocks now start entity) = 0
 
-abbrev pub runqueue_shown : Updated → Runqueue
+abbrev pub runqueue_shown : Updated → ChargedRunqueue
 runqueue_shown line = record { sums = line.sums; max_bw = max_bw_by line.ran; bw_ratio = line.bw_ratio }
 
 -- a 0-lag time is a timer's, whose duty came up at a moment, and which was armed at another: to a microsecond, where a line shows moments

@@ -1,12 +1,12 @@
 //! Traces and the event files that they tell.
 
 use crate::tests::fixtures::{options, read_text};
-use grub_convert::{Input, Options, event_files, read_facts};
+use grub_convert::{Input, ConvertOptions, event_files, read_facts};
 use grub_facts::Facts;
 use std::alloc::Global;
 
 /// What a text tells of given tasks; None where it has a fault, or memory is refused.
-fn facts_of(alloc: Global, options: &Options<'_>, text: &str) -> Option<Facts> {
+fn facts_of(alloc: Global, options: &ConvertOptions<'_>, text: &str) -> Option<Facts> {
     let input = Input {
         open: |_path: &str| Ok(0usize),
         read: |at: &mut usize, room: &mut [u8]| read_text(text.as_bytes(), at, room),
@@ -25,7 +25,7 @@ fn are_texts(files: &[Vec<u8>], texts: &[&str]) -> bool {
 }
 
 /// Whether facts tell these event files.
-fn tell_files(alloc: Global, options: &Options<'_>, facts: &Facts, files: &[&str]) -> bool {
+fn tell_files(alloc: Global, options: &ConvertOptions<'_>, facts: &Facts, files: &[&str]) -> bool {
     match event_files(alloc, options, facts) {
         Ok(made) => are_texts(&made, files),
         Err(_) => false,

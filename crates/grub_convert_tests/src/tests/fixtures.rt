@@ -1,6 +1,6 @@
 //! How a text is read, and the options of given tasks.
 
-use grub_convert::{Options, options_of};
+use grub_convert::{ConvertOptions, options_of};
 use std::alloc::Global;
 use std::io;
 
@@ -16,7 +16,7 @@ pub(crate) fn read_text(text: &[u8], at: &mut usize, room: &mut [u8]) -> io::Res
 }
 
 /// The options of these tasks alone; None where the words say none, or memory is refused.
-pub(crate) fn options<'a>(alloc: Global, tasks: &[&'a str]) -> Option<Options<'a>> {
+pub(crate) fn options<'a>(alloc: Global, tasks: &[&'a str]) -> Option<ConvertOptions<'a>> {
     match options_of(alloc, tasks, None, None, None) {
         Ok(options) => options,
         Err(_) => None,

@@ -3,11 +3,11 @@ use Rattle.std.specs.Prelude.{ℕ, List, Option, option_map}
 use Rattle.std.specs.Borrow.{Bor}
 use Rattle.trace_line.specs.declared.shown.Shown.{Shown}
 use Rattle.trace_line.specs.Shown.{shown_text}
-use Rattle.grub_facts.specs.declared.report.Report.{Report}
+use Rattle.grub_facts.specs.declared.report.EventReport.{EventReport}
 
 abbrev pub maybe_shown : Option (Shown (Bor (List ℕ))) → Option (Shown (List ℕ))
 maybe_shown shown = option_map shown_text shown
 
-abbrev pub report_text : Report (Bor (List ℕ)) → Report (List ℕ)
+abbrev pub report_text : EventReport (Bor (List ℕ)) → EventReport (List ℕ)
 report_text report =
     record { at = report.at; cpu = report.cpu; pid = report.pid; event = report.event; shown = maybe_shown report.shown }

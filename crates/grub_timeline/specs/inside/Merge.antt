@@ -6,14 +6,14 @@ use Rattle.std.specs.Global.{Vec}
 use Rattle.grub_book.specs.declared.event.Reading.{Reading}
 use Rattle.grub_plan.specs.Limits.{PlanFits}
 use Rattle.grub_timeline.specs.declared.order.Lead.{Lead}
-use Rattle.grub_timeline.specs.declared.order.Placed.{Placed}
+use Rattle.grub_timeline.specs.declared.order.PlacedLine.{PlacedLine}
 use Rattle.grub_plan.specs.Plans.{Line, PlanView, script_at}
 use Rattle.grub_timeline.specs.declared.player.Player.{Player}
 use Rattle.grub_timeline.specs.Order.{IsNotLater, IsSorted, lines_of}
 use Rattle.grub_timeline.specs.TimeLines.{AskedInOrder}
 use Rattle.grub_timeline.specs.inside.Playing.{IsNotPast, IsPlaying}
 
-abbrev pub placed : ℕ → Line → Placed
+abbrev pub placed : ℕ → Line → PlacedLine
 placed r line = record { r = r; line = line }
 
 -- the first line of a file that is not done
@@ -25,7 +25,7 @@ abbrev pub NoHead : List (List Line) → List ℕ → Type 0
 NoHead scripts done = (r : ℕ) → head_at scripts done r ≡ None
 
 -- of the lines that come first, none is sooner
-pub record IsFirst (scripts : List (List Line)) (done : List ℕ) (p : Placed) : Type 0 where
+pub record IsFirst (scripts : List (List Line)) (done : List ℕ) (p : PlacedLine) : Type 0 where
   pub head : head_at scripts done p.r ≡ Some p.line
   pub least : (r : ℕ) (line : Line) → head_at scripts done r ≡ Some line → IsNotLater p (placed r line)
 
@@ -77,7 +77,7 @@ pub record IsMidway (plan : PlanView) (p : Player) (done : List ℕ) : Type 0 wh
   pub playing : IsPlaying p
   pub setup : p.book.setup ≡ plan.setup
   pub one_each : length done ≡ length plan.scripts
-  pub order : List Placed
+  pub order : List PlacedLine
   pub sorted : IsSorted order
   pub lines : (r : ℕ) → lines_of r order ≡ take (slice_index_or done r 0) (script_at plan.scripts r)
   pub asked : AskedInOrder order p.told.items

@@ -15,15 +15,15 @@ use Rattle.grub_plan.specs.Plans.{Line, PlanView}
 use Rattle.grub_asks.specs.Asked.{Follows, ask_of, entry}
 use Rattle.grub_asks.specs.Keeping.{places_of}
 use Rattle.grub_asks.specs.inside.Keeping.{IsKept}
-use Rattle.grub_timeline.specs.declared.order.Placed.{Placed}
-use Rattle.grub_timeline.specs.declared.told.Told.{Told}
+use Rattle.grub_timeline.specs.declared.order.PlacedLine.{PlacedLine}
+use Rattle.grub_timeline.specs.declared.told.ToldEntry.{ToldEntry}
 use Rattle.grub_timeline.specs.declared.player.Player.{Player}
 use Rattle.grub_timeline.specs.Order.{IsOrder}
 use Rattle.grub_timeline.specs.TimeLines.{AreAnswered, AreOf, AreWithin, AskedInOrder, armer, entries_of, history_of}
 use Rattle.grub_timeline.specs.inside.TimeLines.{told_of}
 
 -- the book is the one after the history that the entries tell, which is legal and leaves out none of them
-pub record IsKnown (s : Machine) (records : Records) (told : List Told) : Type 0 where
+pub record IsKnown (s : Machine) (records : Records) (told : List ToldEntry) : Type 0 where
   pub legal : IsLegal s (history_of told)
   pub book : records ≡ book_of s (history_of told)
   pub answered : AreAnswered told
@@ -65,17 +65,17 @@ IsOfBlock r (ops.Block q m) = q ≡ r
 IsOfBlock r op = Unit {0}
 
 -- more entries, in a line of runqueue r
-pub record GoesOnOf (r : ℕ) (before after : List Told) : Type 0 where
-  pub more : List Told
+pub record GoesOnOf (r : ℕ) (before after : List ToldEntry) : Type 0 where
+  pub more : List ToldEntry
   pub list : after ≡ before ++ more
   pub runqueues : AreOf r before more
 
 -- more entries, which are of the same runqueues in whatever line
-abbrev pub GoesOnAt : List Told → List Told → Type 0
+abbrev pub GoesOnAt : List ToldEntry → List ToldEntry → Type 0
 GoesOnAt before after = (r : ℕ) → GoesOnOf r before after
 
 -- the runqueue was read
-pub record IsLookedAt (r m : ℕ) (before after : List Told) : Type 0 where
+pub record IsLookedAt (r m : ℕ) (before after : List ToldEntry) : Type 0 where
   pub reading : Reading
   pub list : after ≡ before ++ told_of r m Read (Seen reading) ∷ []
 
@@ -90,7 +90,7 @@ pub record IsLineAsked (r : ℕ) (line : Line) (before after : List Entry) : Typ
 pub record IsPlayed (plan : PlanView) (p : Player) : Type 0 where
   pub setup : p.book.setup ≡ plan.setup
   pub known : IsToldBy p
-  pub order : List Placed
+  pub order : List PlacedLine
   pub sorted : IsOrder plan.scripts order
   pub asked : AskedInOrder order p.told.items
 

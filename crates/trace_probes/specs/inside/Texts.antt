@@ -2,7 +2,7 @@
 use Rattle.std.specs.Prelude.{ℕ, ◌+◌, List, [], length, Option, Some, None}
 use Rattle.std.specs.Borrow.{Bor}
 use Rattle.grub_text.specs.Lines.{words_of}
-use Rattle.trace_probes.specs.declared.value.Value.{Value}
+use Rattle.trace_probes.specs.declared.value.FieldValue.{FieldValue}
 
 abbrev pub text_of : Bor (List ℕ) → List ℕ
 text_of text = text.now
@@ -12,7 +12,7 @@ abbrev pub words_left : Option (Bor (List ℕ)) → List (List ℕ)
 words_left None = []
 words_left (Some text) = words_of text.now
 
-abbrev pub next_text : Value × Option (Bor (List ℕ)) → Value × List (List ℕ)
+abbrev pub next_text : FieldValue × Option (Bor (List ℕ)) → FieldValue × List (List ℕ)
 next_text v = (v.0, words_left v.1)
 
 -- how many bytes are left, and one more where there is a word

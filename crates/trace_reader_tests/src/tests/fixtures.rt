@@ -1,9 +1,9 @@
 //! A taker that counts lines.
 
-use record_line::Told;
+use record_line::ToldLine;
 use std::alloc::{AllocError, Global};
 use trace_reader::{Halt, Lines, RecordReader};
-use trace_words::{Flaw, Line};
+use trace_words::{Flaw, RecordLine};
 
 /// How many lines were taken of each kind.
 #[derive(Drop)]
@@ -26,11 +26,11 @@ impl Lines for Counted {
 
     ghost step = { λ n told seen. record { more = true; seen = 0 } };
 
-    fn take(&mut self, number: u64, told: &Told<&[u8]>) -> Result<bool, AllocError> {
+    fn take(&mut self, number: u64, told: &ToldLine<&[u8]>) -> Result<bool, AllocError> {
         self.last = number;
         match told.line {
-            Line::Note(_) => self.notes = self.notes.saturating_add(1),
-            Line::Event { at, .. } => {
+            RecordLine::Note(_) => self.notes = self.notes.saturating_add(1),
+            RecordLine::Event { at, .. } => {
                 self.events = self.events.saturating_add(1);
                 self.moments = self.moments.saturating_add(at);
             }

@@ -1,5 +1,5 @@
 use Rattle.std.proofs.Common.{List, ap, ◌∙◌}
-use Rattle.grub_events.specs.declared.event.Placed.{Placed}
+use Rattle.grub_events.specs.declared.event.TimedEvent.{TimedEvent}
 use Rattle.grub_convert.specs.Files.{files_of}
 use Rattle.grub_convert.proofs.files.files_of_events.Goals as goal
 
@@ -7,5 +7,5 @@ pub returns : goal.returns
 returns c = (
   c.in_ok-setting.setting,
   c.in_ok-setting.ensures.setting,
-  c.in_ok-files.ensures ∙ ap (λ (p : List Placed). files_of c.in_ok-setting.setting p c.args.facts.now.runqueues) c.requires,
+  c.in_ok-files.ensures ∙ ap (λ (p : List TimedEvent). files_of c.in_ok-setting.setting p c.args.facts.now.runqueues) c.requires,
 )

@@ -2,7 +2,7 @@ use Rattle.std.proofs.Common.{◌≡◌, ◌++◌, ◌∷◌, [], sym, ap, ◌�
 use Rattle.std.specs.List.{list_any}
 use Rattle.grub_convert.specs.inside.Words.{is_named}
 use Rattle.grub_convert.proofs.OptionLemmas.{first_time, second_time}
-use Rattle.grub_convert.specs.declared.options.Given.{Given}
+use Rattle.grub_convert.specs.declared.options.TaskReservation.{TaskReservation}
 use Rattle.trace_line.specs.Words.{text_of}
 use Rattle.grub_convert.specs.Options.{given_task, tasks_on}
 use Rattle.grub_convert.proofs.options.tasks_of.Goals as goal
@@ -21,6 +21,6 @@ loop-word-preserved c =
     let i = c.loop-word.word-index in
     let new = ap (list_any (is_named c.in-Some.task.name.now)) (sym c.deref.ensures.value) ∙ sym c.names.ensures ∙ c.if-names.false in
     let pushed : c.push.new.self.items ≡ c.loop-word.tasks.items ++ c.in-Some.task ∷ [] = search rules in
-    ap (λ (given : List Given). tasks_on (map given_task given) (map text_of (drop (i + 1) words))) pushed
+    ap (λ (given : List TaskReservation). tasks_on (map given_task given) (map text_of (drop (i + 1) words))) pushed
     ∙ sym (first_time c.loop-word.tasks.items words i _ c.in-Some.task c.loop-word-test.true c.in-Some.ensures new)
     ∙ c.loop-word.invariant

@@ -1,12 +1,12 @@
 use Rattle.std.proofs.Common.{rules, refl, get_or}
 use Rattle.grub_events.specs.Order.{is_beyond}
-use Rattle.grub_events.specs.declared.event.Act.TheVariants.{Join}
-use Rattle.grub_events.specs.declared.event.Event.{Event}
-use Rattle.grub_events.specs.declared.event.Source.TheVariants.{Told}
+use Rattle.grub_events.specs.declared.event.TaskAct.TheVariants.{Join}
+use Rattle.grub_events.specs.declared.event.TaskEvent.{TaskEvent}
+use Rattle.grub_events.specs.declared.event.EventSource.TheVariants.{Told}
 use Rattle.grub_events.proofs.OrderLemmas.{moments_step, moments_more, none_more, first_beyond}
 use Rattle.grub_events.proofs.order.place_all.Goals as goal
 
-some : Event
+some : TaskEvent
 some = record { line = 0; at = 0; task = 0; runqueue = 0; act = Join; source = Told }
 
 pub loop-event-preserved : goal.loop-event-preserved

@@ -2,7 +2,7 @@ use Rattle.std.proofs.Common.{◌≡◌, ℕ, List, subst}
 use Rattle.std.proofs.lemmas.Result.{on_ok_weaker}
 use Rattle.grub_book.specs.declared.event.Reading.{Reading}
 use Rattle.grub_timeline.specs.TimeLines.{IsTimeLine}
-use Rattle.grub_timeline.specs.declared.told.Told.{Told}
+use Rattle.grub_timeline.specs.declared.told.ToldEntry.{ToldEntry}
 use Rattle.grub_trace.specs.Meaning.{Reads}
 use Rattle.grub_trace.specs.Naming.{plan_of}
 use Rattle.grub_plan.specs.Plans.{PlanView}
@@ -13,7 +13,7 @@ use Rattle.grub_serve.specs.declared.view.View.{View}
 use Rattle.grub_serve.proofs.view.write_view.Goals as goal
 
 -- a view of the time line of the plan of these files
-shown : (view : View) (files : List (List ℕ)) (plan : PlanView) (told : List Told) (closing : List Reading) (text : List ℕ) (trees : List Tree)
+shown : (view : View) (files : List (List ℕ)) (plan : PlanView) (told : List ToldEntry) (closing : List Reading) (text : List ℕ) (trees : List Tree)
     → Reads files trees → plan ≡ plan_of trees → IsTimeLine plan told closing → IsViewOf view plan told closing text → IsShown view files text
 shown view files plan told closing text trees read is line whole = record {
   trees = trees;

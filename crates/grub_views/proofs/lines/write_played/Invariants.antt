@@ -2,7 +2,7 @@ use Rattle.std.proofs.Common.{◌≡◌, ◌+◌, ◌≤◌, ◌++◌, [], List,
 use Rattle.std.specs.Bool.{OnFalse}
 use Rattle.std.specs.List.{flat_map}
 use Rattle.grub_timeline.specs.TimeLines.{AreWithin}
-use Rattle.grub_timeline.specs.declared.told.Told.{Told}
+use Rattle.grub_timeline.specs.declared.told.ToldEntry.{ToldEntry}
 use Rattle.grub_plan.specs.declared.pieces.TheConstants.{LINE_MAX}
 use Rattle.grub_plan.specs.Writing.{HandsOn}
 use Rattle.grub_views.specs.Lines.{told_line}
@@ -17,7 +17,7 @@ invariant-loop-more g l = record {
   over : OnFalse l.more (l.playing.left ≡ 0);
   none : OnFalse l.more (l.playing.chunk ≡ []);
   within : AreWithin l.plan.setup l.playing.chunk;
-  before : List Told;
+  before : List ToldEntry;
   told : l.playing.told ≡ before ++ l.playing.chunk;
   so_far : HandsOn (g.W.Write.contents l.initial.out) (g.W.Write.contents l.out) l.initial.buffer.items (flat_map (told_line l.plan.names) before) l.buffer.items;
 }

@@ -6,7 +6,7 @@ use Rattle.grub_plan.specs.Plans.{PlanView, IsAskOf}
 use Rattle.grub_plan.specs.Writing.{HandsOn, HandsPart}
 use Rattle.grub_plan.proofs.Handing.{hands_both, hands_none}
 use Rattle.grub_timeline.specs.TimeLines.{AreWithin}
-use Rattle.grub_timeline.specs.declared.told.Told.{Told}
+use Rattle.grub_timeline.specs.declared.told.ToldEntry.{ToldEntry}
 use Rattle.grub_steps.specs.Replay.{steps_from, steps_of}
 use Rattle.grub_views.specs.Rows.{step_row}
 use Rattle.grub_steps.specs.Past.{book_past}
@@ -19,8 +19,8 @@ unfolding steps_of
 loop-more-init g c =
     let e = c.play_on-more.ensures in let s = c.args.plan.now.setup in let chunk = c.play_on-more.new.self.chunk in
     let is = e.plan ∙ c.requires.plan in
-    let told : c.play_on-more.new.self.told ≡ chunk = e.told ∙ ap (λ (xs : List Told). xs ++ chunk) c.requires.nothing in
-    let none : AreWithin s [] = All-nil (λ (x : Told). (x.r < length s.queues) × IsAskOf (length s.tasks) x.entry.ask) in
+    let told : c.play_on-more.new.self.told ≡ chunk = e.told ∙ ap (λ (xs : List ToldEntry). xs ++ chunk) c.requires.nothing in
+    let none : AreWithin s [] = All-nil (λ (x : ToldEntry). (x.r < length s.queues) × IsAskOf (length s.tasks) x.entry.ask) in
     record {
       plan = is;
       latest = c.requires.latest;
@@ -54,7 +54,7 @@ returns-in-Err-clause-part g c =
     let done = flat_map row (steps_of s inv.before) in let mine = flat_map row (steps_from s begun latest) in
     let text = flat_map row (steps_of s c.play_out.new.playing.told) in let left = flat_map row (steps_from s begun (latest ++ rest)) in
     let part : HandsPart b d c.loop-more.buffer.items mine = rw (c.in-Err.is, is, inv.book) at p.ensures.work.met.1.1.1.1.1.0 in
-    let whole : done ++ left ≡ text = sym (ap (λ (xs : List Told). flat_map row (steps_of s xs)) all ∙ rows_more names s inv.before (latest ++ rest)) in
+    let whole : done ++ left ≡ text = sym (ap (λ (xs : List ToldEntry). flat_map row (steps_of s xs)) all ∙ rows_more names s inv.before (latest ++ rest)) in
     subst (λ w. HandsPart a (g.W.Write.contents w) c.args.buffer.now.items text) (sym (search rules))
     (part_piece a b d c.args.buffer.now.items done c.loop-more.buffer.items mine (flat_map row (steps_from s (book_past s begun latest) rest)) left text inv.so_far part whole (rows_then names s begun latest rest))
 

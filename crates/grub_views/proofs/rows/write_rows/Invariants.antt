@@ -3,7 +3,7 @@ use Rattle.std.specs.Bool.{OnFalse}
 use Rattle.std.specs.List.{flat_map}
 use Rattle.grub_book.specs.Sums.{opening_book}
 use Rattle.grub_timeline.specs.TimeLines.{AreWithin}
-use Rattle.grub_timeline.specs.declared.told.Told.{Told}
+use Rattle.grub_timeline.specs.declared.told.ToldEntry.{ToldEntry}
 use Rattle.grub_plan.specs.declared.pieces.TheConstants.{LINE_MAX}
 use Rattle.grub_plan.specs.Writing.{HandsOn}
 use Rattle.grub_steps.specs.Replay.{steps_of}
@@ -26,7 +26,7 @@ invariant-loop-more g l = record {
   within : AreWithin l.plan.setup l.playing.told;
   viewable : AreToldIn l.plan.setup l.playing.chunk;
   setup : l.book.setup ≡ l.plan.setup;
-  before : List Told;
+  before : List ToldEntry;
   told : l.playing.told ≡ before ++ l.playing.chunk;
   book : l.book.records ≡ book_past l.plan.setup (opening_book l.plan.setup) before;
   so_far : HandsOn (g.W.Write.contents l.initial.out) (g.W.Write.contents l.out) l.initial.buffer.items (flat_map (step_row l.plan.names) (steps_of l.plan.setup before)) l.buffer.items;

@@ -26,7 +26,7 @@ use denote.Triple.Spec.{Meets, triple_of}
 use denote.Triple.Table.{entered}
 use denote.Triple.Walked.{says, Stays, stay_dropped, walk_of, ends_at, walk_Meets, Goes-dropped}
 use Rattle.grub_timeline.specs.declared.log.Log.{Log}
-use Rattle.grub_timeline.specs.contracts.told.Told as Told
+use Rattle.grub_timeline.specs.contracts.told.ToldEntry as ToldEntry
 use Rattle.grub_timeline.specs.contracts.log.Log as T
 use Rattle.grub_timeline.specs.contracts.log.Log.and.Key.{name as #it}
 use Rattle.grub_timeline.specs.contracts.log.Log.and as it
@@ -39,7 +39,7 @@ v = vstruct (vcons (vstruct vnil) vnil)
 abbrev stayed : Stays (it.ended).signature.params (it.ended).kept
 stayed = (
   stay_dropped (RefOf (0 ∷ []) tt (plain (λ _. T.the_row)) (λ _. tt)) yes,
-  (stay_dropped (RefOf (1 ∷ []) tt (plain (λ _. Told.the_row)) (λ _. tt)) yes, tt),
+  (stay_dropped (RefOf (1 ∷ []) tt (plain (λ _. ToldEntry.the_row)) (λ _. tt)) yes, tt),
 )
 
 module _ {M : Type 1} {𝓤 : Ura M} (𝓛 : Logic 𝓤) (at_mem : Memory → SProp 𝓤) (run : Routine → Fun 𝓤) where
@@ -79,7 +79,7 @@ module _ {M : Type 1} {𝓤 : Ura M} (𝓛 : Logic 𝓤) (at_mem : Memory → SP
   meets 𝓣 =
       walk_Meets 𝓛 it.ended stayed (
         Goes-dropped 𝓛 2 (RefOf (0 ∷ []) tt (plain (λ _. T.the_row)) (λ _. tt)) yes (λ κs x f. refl),
-        (Goes-dropped 𝓛 2 (RefOf (1 ∷ []) tt (plain (λ _. Told.the_row)) (λ _. tt)) yes (λ κs x f. refl), tt),
+        (Goes-dropped 𝓛 2 (RefOf (1 ∷ []) tt (plain (λ _. ToldEntry.the_row)) (λ _. tt)) yes (λ κs x f. refl), tt),
       ) held
       (WpFn 𝓤 H 𝓣.C 𝓣.Λ code.function) (WpFn-mono 𝓤 H 𝓛.laws 𝓣 code.function) (walks 𝓣.C 𝓣.Λ)
 

@@ -2,7 +2,7 @@ use Rattle.std.proofs.Common.{Some, None, is_some, refl, sym, ap, ◌∙◌, ari
 use Rattle.grub_facts.specs.Given.{index_of, index_of_comm}
 use Rattle.grub_facts.specs.Keeping.{given_text, tasks_text}
 use Rattle.grub_facts.proofs.GivenLemmas.{changed_map, settled_first, settled_second}
-use Rattle.grub_facts.proofs.tasks.Tasks.settle.Goals as goal
+use Rattle.grub_facts.proofs.tasks.GivenTasks.settle.Goals as goal
 
 pub returns-then-is_some-clause-tasks : goal.returns-then-is_some-clause-tasks
 returns-then-is_some-clause-tasks c =

@@ -2,7 +2,7 @@ use Rattle.std.proofs.Common.{List, Some, refl, sym, ap, ◌∙◌, arith}
 use Rattle.grub_facts.specs.Given.{Task, changed_at, disowned, index_of}
 use Rattle.grub_facts.specs.Keeping.{given_text, tasks_text}
 use Rattle.grub_facts.proofs.GivenLemmas.{changed_map, changed_where_some}
-use Rattle.grub_facts.proofs.tasks.Tasks.arm.Goals as goal
+use Rattle.grub_facts.proofs.tasks.GivenTasks.arm.Goals as goal
 
 pub returns-in-Some-clause-tasks : goal.returns-in-Some-clause-tasks
 returns-in-Some-clause-tasks c =

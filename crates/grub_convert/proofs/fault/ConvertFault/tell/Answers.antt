@@ -2,7 +2,7 @@ use Rattle.std.proofs.Common.{◌++◌, ◌∙◌, ap, sym}
 use Rattle.std.specs.Prelude.{codes, None}
 use Rattle.grub_convert.specs.Messages.{fault_line, told_of}
 use Rattle.grub_convert.proofs.MessageLemmas.{told, of_four, named}
-use Rattle.grub_convert.proofs.fault.TraceFault.tell.Goals as goal
+use Rattle.grub_convert.proofs.fault.ConvertFault.tell.Goals as goal
 
 pub returns-in-NoSuchTask : goal.returns-in-NoSuchTask
 returns-in-NoSuchTask g c =

@@ -2,7 +2,7 @@ use Rattle.std.proofs.Common.{None, refl, sym, ◌∙◌, arith}
 use Rattle.grub_facts.specs.Given.{index_of_timer}
 use Rattle.grub_facts.specs.Keeping.{given_text, tasks_text}
 use Rattle.grub_facts.proofs.GivenLemmas.{changed_map, changed_where_some}
-use Rattle.grub_facts.proofs.tasks.Tasks.disown.Goals as goal
+use Rattle.grub_facts.proofs.tasks.GivenTasks.disown.Goals as goal
 
 pub returns-in-Some : goal.returns-in-Some
 returns-in-Some c =

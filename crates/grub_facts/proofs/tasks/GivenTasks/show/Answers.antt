@@ -3,7 +3,7 @@ use Rattle.trace_line.specs.Shown.{shown_text}
 use Rattle.grub_facts.specs.Given.{Task, changed_at, first_shown, settled, shown_index}
 use Rattle.grub_facts.specs.Keeping.{given_text, tasks_text}
 use Rattle.grub_facts.proofs.GivenLemmas.{changed_map, changed_where_some, first_is, later_is}
-use Rattle.grub_facts.proofs.tasks.Tasks.show.Goals as goal
+use Rattle.grub_facts.proofs.tasks.GivenTasks.show.Goals as goal
 
 pub returns-then-is_some-clause-tasks : goal.returns-then-is_some-clause-tasks
 returns-then-is_some-clause-tasks c =
