@@ -5,7 +5,7 @@ mod options;
 mod window;
 
 pub use options::{
-    Arithmetic, CPU_MAX, FairServerOption, TaskOption, CheckOptions, Range, CheckWords, WrongOption, domain_of,
-    options_of,
+    Arithmetic, CPU_MAX, CheckOptions, CheckWords, FairServerOption, Range, TaskOption,
+    WrongOption, domain_of, options_of,
 };
 pub use window::{Window, window_of};

@@ -3,7 +3,7 @@
 ghost use Rattle.std.specs.Prelude.{◌≡◌};
 ghost use Rattle.deadline_events.specs.Admit.{wanted_of, is_queued_of, old_of, is_refused, admission_of, admitting_of, admitted_of, admitting_change, still_of, enters_of};
 
-use deadline_rules::{SumsChange, DEADLINE_POLICY, Entity, KEPT_FLAGS, ratio, reserved, unchanged};
+use deadline_rules::{DEADLINE_POLICY, Entity, KEPT_FLAGS, SumsChange, ratio, reserved, unchanged};
 use trace_words::{Admitted, Parameters};
 
 /// What becomes of the call.

@@ -3,7 +3,7 @@
 ghost use Rattle.std.specs.Prelude.{◌≡◌};
 ghost use Rattle.deadline_events.specs.Later.{delayed_change_of, after_delayed_of};
 
-use deadline_rules::{SumsChange, Entity};
+use deadline_rules::{Entity, SumsChange};
 
 /// Which function.
 #[derive(Clone, Copy, PartialEq, Eq)]

@@ -5,7 +5,7 @@ ghost use Rattle.deadline_events.specs.Dequeue.{departing_of, departing_change, 
 
 use crate::enqueues::Arrival;
 use deadline_rules::{
-    Block, SumsChange, Entity, MOVING, RESTORE, WAKEUP, blocked, blocking, blocking_change, has,
+    Block, Entity, MOVING, RESTORE, SumsChange, WAKEUP, blocked, blocking, blocking_change, has,
     unchanged,
 };
 

@@ -4,9 +4,9 @@ ghost use Rattle.std.specs.Prelude.{◌≡◌};
 ghost use Rattle.deadline_events.specs.Enqueue.{boosting_of, placed_of, is_constrained_of, constrained_of, arriving_of, arriving_change, waking_up_of, refilling_of, refilled_of, enqueuing_of};
 
 use deadline_rules::{
-    SumsChange, Contention, Entity, ChargeLaw, MIGRATED, MOVING, REPLENISH, RESTORE, WAKEUP, Wake, contended,
-    contending, contending_change, has, has_timer_ahead, is_before, renewed, replenished,
-    unchanged, waking, woken,
+    ChargeLaw, Contention, Entity, MIGRATED, MOVING, REPLENISH, RESTORE, SumsChange, WAKEUP, Wake,
+    contended, contending, contending_change, has, has_timer_ahead, is_before, renewed,
+    replenished, unchanged, waking, woken,
 };
 use trace_words::{Budget, Enqueued};
 

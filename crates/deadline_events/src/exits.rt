@@ -3,7 +3,7 @@
 ghost use Rattle.std.specs.Prelude.{◌≡◌};
 ghost use Rattle.deadline_events.specs.Leave.{leaving_of, outside_of, contends_no_more, leaving_change};
 
-use deadline_rules::{Block, SumsChange, Entity, QUEUED, blocked, blocking, blocking_change};
+use deadline_rules::{Block, Entity, QUEUED, SumsChange, blocked, blocking, blocking_change};
 
 /// What leaving does.
 #[derive(Clone, Copy)]

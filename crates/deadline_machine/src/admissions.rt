@@ -4,7 +4,7 @@ use crate::player::ProbePlayer;
 use crate::shown::known_admitted;
 use deadline_events::Admission;
 use deadline_rules::DEADLINE_POLICY;
-use exact_words::{ProbedLine, ExactRule};
+use exact_words::{ExactRule, ProbedLine};
 use machine_state::{Actor, why};
 use rule_changes::admit_by;
 use std::alloc::AllocError;

@@ -7,8 +7,8 @@ use crate::player::ProbePlayer;
 use crate::shown::{shown_dequeued, shown_left};
 use crate::waiting::{Awaited, Blind, Duty, Rest};
 use deadline_events::{Arrival, Delayed};
-use deadline_rules::{Block, SumsChange, REPLENISH, has};
-use exact_words::{ProbedLine, ExactRule};
+use deadline_rules::{Block, REPLENISH, SumsChange, has};
+use exact_words::{ExactRule, ProbedLine};
 use machine_state::{Actor, Runs, compare_dequeued, compare_left, forgotten, why};
 use rule_changes::{dequeue_by, leave_by};
 use std::alloc::AllocError;
@@ -132,7 +132,8 @@ impl ProbePlayer {
             Arrival::Stays => {}
             Arrival::Moves => {
                 self.state.sheet.note(ExactRule::MovedOut);
-                self.state.note_runqueue(place, rest.cpu, ExactRule::MovedOut)?;
+                self.state
+                    .note_runqueue(place, rest.cpu, ExactRule::MovedOut)?;
             }
             Arrival::Restores => {
                 self.state.sheet.note(ExactRule::Saved);
@@ -168,16 +169,22 @@ impl ProbePlayer {
                     zero_lag: Some(zero_lag),
                     at: place.at,
                 })?;
-                self.state.keep_noted(place, actor, cpu, ExactRule::ZeroLagArmed)
+                self.state
+                    .keep_noted(place, actor, cpu, ExactRule::ZeroLagArmed)
             }
             Block::Past => {
-                self.state.keep_noted(place, actor, cpu, ExactRule::ZeroLagPast)?;
+                self.state
+                    .keep_noted(place, actor, cpu, ExactRule::ZeroLagPast)?;
                 self.state.change_extra(place, actor.cpu, change)
             }
         }
     }
 
-    pub(crate) fn migrating(&mut self, place: ProbedLine, line: Migrating) -> Result<(), AllocError> {
+    pub(crate) fn migrating(
+        &mut self,
+        place: ProbedLine,
+        line: Migrating,
+    ) -> Result<(), AllocError> {
         if line.state != WAKING {
             return Ok(());
         }
@@ -194,14 +201,19 @@ impl ProbePlayer {
             .keep_noted(place, actor, actor.cpu, ExactRule::MovedAtWake)
     }
 
-    pub(crate) fn left_class(&mut self, place: ProbedLine, line: LeftClass) -> Result<(), AllocError> {
+    pub(crate) fn left_class(
+        &mut self,
+        place: ProbedLine,
+        line: LeftClass,
+    ) -> Result<(), AllocError> {
         self.state.take_sums(place, line.cpu, line.sums)?;
         let found = self.state.task(line.pid);
         let actor = self.state.with_alternative(found, line.runtime);
         compare_left(&mut self.state.sheet, place, actor, line)?;
         let shown = shown_left(actor, line);
         self.state.sheet.note(ExactRule::LeftClass);
-        self.state.note_runqueue(place, line.cpu, ExactRule::LeftClass)?;
+        self.state
+            .note_runqueue(place, line.cpu, ExactRule::LeftClass)?;
         let noted = Actor {
             why: why(place, ExactRule::LeftClass),
             ..shown

@@ -4,7 +4,7 @@ use crate::player::ProbePlayer;
 use crate::shown::shown_enqueued;
 use deadline_events::{Arrival, Boost, Enqueuing, Refill};
 use deadline_rules::{Contention, Wake, is_before, replenished_blocked, reserved};
-use exact_words::{ProbedLine, ExactRule};
+use exact_words::{ExactRule, ProbedLine};
 use machine_state::{Actor, compare_enqueued, why};
 use rule_changes::enqueue_by;
 use std::alloc::AllocError;
@@ -78,11 +78,13 @@ impl ProbePlayer {
             Arrival::Stays => {}
             Arrival::Moves => {
                 self.state.sheet.note(ExactRule::MovedIn);
-                self.state.note_runqueue(place, line.cpu, ExactRule::MovedIn)?;
+                self.state
+                    .note_runqueue(place, line.cpu, ExactRule::MovedIn)?;
             }
             Arrival::Restores => {
                 self.state.sheet.note(ExactRule::Restored);
-                self.state.note_runqueue(place, line.cpu, ExactRule::Restored)?;
+                self.state
+                    .note_runqueue(place, line.cpu, ExactRule::Restored)?;
             }
         }
         if let Some(contention) = done.contention {
@@ -114,7 +116,8 @@ impl ProbePlayer {
             }
             Contention::RunsAgain => {
                 self.state.sheet.note(ExactRule::WakeAfterZeroLag);
-                self.state.note_runqueue(place, cpu, ExactRule::WakeAfterZeroLag)
+                self.state
+                    .note_runqueue(place, cpu, ExactRule::WakeAfterZeroLag)
             }
         }
     }

@@ -6,7 +6,7 @@ ghost use Rattle.exact_words.specs.Tallies.{none_differs};
 use crate::player::ProbePlayer;
 use deadline_rules::ChargeLaw;
 use exact_laws::Broken;
-use exact_words::{Comparison, KindCounts, Deviation, ProbedFunction, ProbedLine, RuleCounts};
+use exact_words::{Comparison, Deviation, KindCounts, ProbedFunction, ProbedLine, RuleCounts};
 use machine_state::Shape;
 use rule_changes::RuleChange;
 use std::alloc::{AllocError, Global};

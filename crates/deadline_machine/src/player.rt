@@ -3,7 +3,7 @@
 use crate::waiting::{Blind, Duty, Rest};
 use deadline_rules::ChargeLaw;
 use exact_words::{ProbedLine, Whose};
-use machine_state::{Shape, KernelState};
+use machine_state::{KernelState, Shape};
 use rule_changes::RuleChange;
 use std::alloc::{AllocError, Global};
 use std::collections::HashMap;

@@ -5,7 +5,7 @@ use crate::shown::{charged_runqueue, delta_of, off_tree};
 use crate::waiting::Awaited;
 use deadline_events::{Spending, Spent};
 use deadline_rules::{Charge, ChargedRunqueue as Charged, charged};
-use exact_words::{ProbedLine, ExactRule};
+use exact_words::{ExactRule, ProbedLine};
 use machine_state::{Actor, Alternative, Effect, compare_updated, why};
 use rule_changes::{charging_by, cost_by, spend_by};
 use std::alloc::AllocError;

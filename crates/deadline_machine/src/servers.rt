@@ -3,7 +3,7 @@
 use crate::player::ProbePlayer;
 use crate::shown::shown_contending;
 use deadline_rules::{QUEUED, WAKEUP, contended, contending, contending_change, has, reserved};
-use exact_words::{ProbedLine, ExactRule, Whose};
+use exact_words::{ExactRule, ProbedLine, Whose};
 use machine_state::{Actor, compare_contending, server_parameters};
 use rule_changes::dequeue_by;
 use std::alloc::AllocError;

@@ -3,7 +3,7 @@
 ghost use Rattle.std.specs.Prelude.{◌≡◌};
 ghost use Rattle.deadline_machine.specs.inside.Shown.{enqueued_shown, dequeued_shown, contending_shown, left_shown, admitted_shown, delta_by, max_bw_by, runqueue_shown, fits_by};
 
-use deadline_rules::{Entity, ChargedRunqueue as Charged, cleared, has, reserved};
+use deadline_rules::{ChargedRunqueue as Charged, Entity, cleared, has, reserved};
 use machine_state::Actor;
 use trace_words::{Budget, Dequeued, Enqueued, Expiry, LeftClass, Ran, Updated};
 

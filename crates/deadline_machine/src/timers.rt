@@ -5,7 +5,7 @@ use crate::shown::{fits, with_runtime};
 use crate::waiting::Duty;
 use deadline_events::Delayed;
 use deadline_rules::{SumsChange, unchanged, zero_lag};
-use exact_words::{FIRST_SEEN, ProbedLine, Quantity, ExactRule, Subject, ExactValue, Whose};
+use exact_words::{ExactRule, ExactValue, FIRST_SEEN, ProbedLine, Quantity, Subject, Whose};
 use machine_state::{Actor, why};
 use rule_changes::{fired_by, replenish_fired_by};
 use std::alloc::AllocError;
@@ -58,7 +58,11 @@ impl ProbePlayer {
         Ok(())
     }
 
-    pub(crate) fn zero_lag_fired(&mut self, place: ProbedLine, timer: u64) -> Result<(), AllocError> {
+    pub(crate) fn zero_lag_fired(
+        &mut self,
+        place: ProbedLine,
+        timer: u64,
+    ) -> Result<(), AllocError> {
         match self.timers.get(&timer).copied() {
             None => {
                 self.state.forget_all(false);
@@ -80,7 +84,11 @@ impl ProbePlayer {
         }
     }
 
-    pub(crate) fn fire_zero_lag(&mut self, place: ProbedLine, actor: Actor) -> Result<(), AllocError> {
+    pub(crate) fn fire_zero_lag(
+        &mut self,
+        place: ProbedLine,
+        actor: Actor,
+    ) -> Result<(), AllocError> {
         let fired = fired_by(self.change, actor.entity);
         if fired.stops {
             self.state.delay(place, &actor, Delayed::ZeroLag)?;
@@ -101,7 +109,11 @@ impl ProbePlayer {
         self.state.change_extra(place, actor.cpu, change)
     }
 
-    pub(crate) fn replenish_fired(&mut self, place: ProbedLine, timer: u64) -> Result<(), AllocError> {
+    pub(crate) fn replenish_fired(
+        &mut self,
+        place: ProbedLine,
+        timer: u64,
+    ) -> Result<(), AllocError> {
         match self.timers.get(&timer).copied() {
             None => Ok(()),
             Some(whose) => {

@@ -117,7 +117,8 @@ fn scaled(law: ChargeLaw, runqueue: ChargedRunqueue, rate: u64, nanos: u64) -> u
 {
     match law {
         ChargeLaw::LinuxBefore65 => nanos.wrapping_mul(rate) >> 20,
-        ChargeLaw::LinuxFrom65 => nanos.wrapping_mul(rate.wrapping_mul(runqueue.bw_ratio) >> 8) >> 20,
+        ChargeLaw::LinuxFrom65 => nanos.wrapping_mul(rate.wrapping_mul(runqueue.bw_ratio) >> 8)
+            >> 20,
         ChargeLaw::Documentation => {
             if runqueue.max_bw == 0 {
                 0

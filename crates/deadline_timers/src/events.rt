@@ -17,8 +17,8 @@ use deadline_rules::{ChargedRunqueue, charging, cost};
 use std::alloc::AllocError;
 use timer_lines::{KeptLine, TaskLines};
 use timer_rules::{
-    ObservedAnswer, TimerKind, Observation, ServerState, DeadlineTask, after_idle, block_answer, block_moments, ends,
-    refilled, refills, stays_ready, waking_of,
+    DeadlineTask, Observation, ObservedAnswer, ServerState, TimerKind, after_idle, block_answer,
+    block_moments, ends, refilled, refills, stays_ready, waking_of,
 };
 use trace_words::{Parameters, Stop};
 

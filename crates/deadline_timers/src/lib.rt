@@ -19,10 +19,11 @@ mod terms;
 mod timers;
 mod turns;
 
-pub use counts::{TimerRuleCounts, TimerRule};
-pub use machine::{Charged, TimedMachine, RecordOutcome, Owner, Watch};
+pub use counts::{TimerRule, TimerRuleCounts};
+pub use machine::{Charged, Owner, RecordOutcome, TimedMachine, Watch};
 pub use playing::{play, tell_until};
 pub use setup::{
-    FairServer, Limits, NoSums, KernelSettings, RunqueueSums, Servers, RecordSetup, RecordStart, setup_of,
+    FairServer, KernelSettings, Limits, NoSums, RecordSetup, RecordStart, RunqueueSums, Servers,
+    setup_of,
 };
 pub use terms::PlayTerms;

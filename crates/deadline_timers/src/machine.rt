@@ -4,7 +4,7 @@ ghost use Rattle.std.specs.Prelude.{◌≡◌, ◌++◌, ◌∷◌, [], OnOk, le
 ghost use Rattle.deadline_timers.specs.Places.{observation_of, sums_of};
 ghost use Rattle.deadline_timers.specs.States.{begun_with, noted, owned, owner_at, replaced, runqueue_for, server_at, served_in, state_of};
 
-use crate::counts::{TimerRuleCounts, TimerRule};
+use crate::counts::{TimerRule, TimerRuleCounts};
 use crate::place::{
     gain, is_told, lose, owner_of, serve_at, server_of, set_owner, set_task, sums_at,
 };
@@ -13,8 +13,8 @@ use deadline_rules::Charge;
 use std::alloc::AllocError;
 use timer_lines::KeptLine;
 use timer_rules::{
-    ObservedAnswer, TimerKind, Moments, Observation, Runqueue, ServerState, DeadlineTask, is_stopped, task_effect,
-    task_share,
+    DeadlineTask, Moments, Observation, ObservedAnswer, Runqueue, ServerState, TimerKind,
+    is_stopped, task_effect, task_share,
 };
 use trace_words::Sums;
 

@@ -7,13 +7,13 @@ ghost use Rattle.deadline_timers.specs.States.{state_of};
 ghost use Rattle.timer_rules.specs.Tasks.{unseen_task};
 
 use crate::counts::TimerRuleCounts;
-use crate::machine::{TimedMachine, Owner, Watch};
+use crate::machine::{Owner, TimedMachine, Watch};
 use crate::place::is_it;
-use crate::setup::{RunqueueSums, RecordSetup, RecordStart};
+use crate::setup::{RecordSetup, RecordStart, RunqueueSums};
 use crate::terms::PlayTerms;
 use std::alloc::{AllocError, Global};
 use timer_lines::{FirstLine, KeptLines, TaskLines, TimerLines};
-use timer_rules::{Runqueue, ServerState, DeadlineTask, unseen};
+use timer_rules::{DeadlineTask, Runqueue, ServerState, unseen};
 use trace_words::Sums;
 
 /// Whether a timer's first line is a start.

@@ -6,12 +6,16 @@ ghost use Rattle.timer_rules.specs.Effects.{served_of, with_of, without_of};
 ghost use Rattle.deadline_timers.specs.States.{is_number, is_told_at, owner_by, server_by};
 
 use crate::machine::Owner;
-use timer_rules::{BandwidthShare, Runqueue, ServerState, DeadlineTask, served, with, without};
+use timer_rules::{BandwidthShare, DeadlineTask, Runqueue, ServerState, served, with, without};
 use trace_words::Sums;
 
 /// A task becomes another; the one before is given back.
 #[tactic(auto, using(std::proofs::lemmas::Option::slice_get_past))]
-pub(crate) fn set_task(tasks: &mut [DeadlineTask], number: u32, task: DeadlineTask) -> Option<DeadlineTask>
+pub(crate) fn set_task(
+    tasks: &mut [DeadlineTask],
+    number: u32,
+    task: DeadlineTask,
+) -> Option<DeadlineTask>
     ensures before { result ≡ slice_get tasks.old number }
     ensures after { tasks.new ≡ slice_set tasks.old number task }
 {

@@ -4,7 +4,7 @@ ghost use Rattle.std.specs.Prelude.{◌≡◌, IfOk, OnOk, drop};
 ghost use Rattle.deadline_timers.specs.Playing.{left_after, observations_of, played, told_until};
 ghost use Rattle.deadline_timers.specs.States.{state_of};
 
-use crate::machine::{TimedMachine, RecordOutcome, Watch};
+use crate::machine::{RecordOutcome, TimedMachine, Watch};
 use crate::setup::{RecordSetup, RecordStart};
 use std::alloc::{AllocError, Global};
 use timer_lines::{KeptLines, TaskNote};

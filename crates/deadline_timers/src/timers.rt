@@ -7,15 +7,15 @@ ghost use Rattle.deadline_timers.specs.Turns.{at_hold_of};
 
 use crate::counting::rule_of_throttling;
 use crate::counts::TimerRule;
-use crate::machine::{TimedMachine, Owner, observation};
+use crate::machine::{Owner, TimedMachine, observation};
 use crate::place::is_it;
 use crate::setup::{picks, stops_with_timer};
 use crate::turns::at_hold;
 use std::alloc::AllocError;
 use timer_lines::{KeptLine, TaskLines};
 use timer_rules::{
-    TimerKind, Observation, ServerState, DeadlineTask, after_cancel, after_fire, after_idle, after_lag,
-    answer_of, lag_fired, lag_started, replenish_moments, replenished, throttling_of,
+    DeadlineTask, Observation, ServerState, TimerKind, after_cancel, after_fire, after_idle,
+    after_lag, answer_of, lag_fired, lag_started, replenish_moments, replenished, throttling_of,
 };
 
 /// Whether a 0-lag timer is a task's own.
@@ -164,7 +164,15 @@ impl TimedMachine {
         let moments = replenish_moments(task, kept.at, expires);
         let answer = answer_of(task.knowledge, moments.difference, self.terms.within);
         let sums = self.sums(task.cpu);
-        observation(kept, number, task, TimerKind::Replenish, moments, sums, answer)
+        observation(
+            kept,
+            number,
+            task,
+            TimerKind::Replenish,
+            moments,
+            sums,
+            answer,
+        )
     }
 
     /// `dl_task_timer` fires.

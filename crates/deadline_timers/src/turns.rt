@@ -112,7 +112,13 @@ pub(crate) fn at_refill(task: DeadlineTask) -> DeadlineTask
 
 /// The task after its charge, where it runs.
 #[tactic(auto, unfolding(crate::specs::Turns::at_charge_of))]
-pub(crate) fn at_charge(law: ChargeLaw, task: DeadlineTask, at: u64, nanos: u64, runqueue: ChargedRunqueue) -> DeadlineTask
+pub(crate) fn at_charge(
+    law: ChargeLaw,
+    task: DeadlineTask,
+    at: u64,
+    nanos: u64,
+    runqueue: ChargedRunqueue,
+) -> DeadlineTask
     ensures { result ≡ at_charge_of law task at nanos runqueue }
 {
     if runs(task) {
@@ -124,7 +130,12 @@ pub(crate) fn at_charge(law: ChargeLaw, task: DeadlineTask, at: u64, nanos: u64,
 
 /// The task after it is switched out.
 #[tactic(auto, unfolding(crate::specs::Turns::at_switch_of))]
-pub(crate) fn at_switch(task: DeadlineTask, kept: KeptLine, is_deadline: bool, stop: Stop) -> DeadlineTask
+pub(crate) fn at_switch(
+    task: DeadlineTask,
+    kept: KeptLine,
+    is_deadline: bool,
+    stop: Stop,
+) -> DeadlineTask
     ensures { result ≡ at_switch_of task kept is_deadline stop }
 {
     if !(is_deadline && task.entity.is_in_class) {

@@ -4,7 +4,7 @@ use crate::numbers::{is_compared, is_of};
 use crate::table::name_of;
 use crate::writing::{put, put_count, put_micros};
 use std::alloc::{AllocError, Global};
-use timer_rules::{ObservedAnswer, TimerKind, Observation};
+use timer_rules::{Observation, ObservedAnswer, TimerKind};
 
 /// So many tasks are told of.
 const TASKS: u64 = 16;
@@ -28,7 +28,11 @@ const NONE: Apart = Apart {
 fn differs(answer: ObservedAnswer) -> bool {
     match answer {
         ObservedAnswer::Differs => true,
-        ObservedAnswer::Agrees | ObservedAnswer::End | ObservedAnswer::Unknown | ObservedAnswer::Edge | ObservedAnswer::Gap => false,
+        ObservedAnswer::Agrees
+        | ObservedAnswer::End
+        | ObservedAnswer::Unknown
+        | ObservedAnswer::Edge
+        | ObservedAnswer::Gap => false,
     }
 }
 

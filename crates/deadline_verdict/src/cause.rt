@@ -1,7 +1,7 @@
 //! What the deviations of a record look like.
 
 use crate::numbers::is_of;
-use timer_rules::{ObservedAnswer, TimerKind, Observation};
+use timer_rules::{Observation, ObservedAnswer, TimerKind};
 
 /// What the deviations of a record look like.
 #[derive(Clone, Copy)]
@@ -36,7 +36,11 @@ struct Beside {
 fn is_deviation(answer: ObservedAnswer) -> bool {
     match answer {
         ObservedAnswer::Differs => true,
-        ObservedAnswer::Agrees | ObservedAnswer::End | ObservedAnswer::Unknown | ObservedAnswer::Edge | ObservedAnswer::Gap => false,
+        ObservedAnswer::Agrees
+        | ObservedAnswer::End
+        | ObservedAnswer::Unknown
+        | ObservedAnswer::Edge
+        | ObservedAnswer::Gap => false,
     }
 }
 
@@ -51,7 +55,11 @@ fn is_after(first: &Observation, observation: &Observation) -> bool {
     observation.line > first.line
 }
 
-fn next_of(first: &Observation, observation: &Observation, next: Option<ObservedAnswer>) -> Option<ObservedAnswer> {
+fn next_of(
+    first: &Observation,
+    observation: &Observation,
+    next: Option<ObservedAnswer>,
+) -> Option<ObservedAnswer> {
     let is_next = next.is_none()
         && observation.task == first.task
         && is_of(TimerKind::Block, observation)

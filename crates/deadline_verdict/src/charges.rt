@@ -5,7 +5,7 @@ use crate::writing::{put, put_number, put_rate, put_signed};
 use deadline_rules::{Charge, RECLAIM, has};
 use deadline_timers::Charged;
 use std::alloc::{AllocError, Global};
-use timer_rules::{TimerKind, Observation};
+use timer_rules::{Observation, TimerKind};
 use trace_words::Parameters;
 
 /// Appends the charges since the wake of the task, with the rate and the three sums of each.

@@ -4,7 +4,7 @@ use crate::table::name_of;
 use crate::writing::{put, put_micros, put_number, put_seconds, put_signed, put_signed_seconds};
 use std::alloc::{AllocError, Global};
 use timer_lines::KeptLines;
-use timer_rules::{TimerKind, Observation};
+use timer_rules::{Observation, TimerKind};
 
 /// Appends the first deviation: where it is, both moments, and the task's budget and deadline.
 pub(crate) fn put_first(
@@ -35,7 +35,12 @@ fn kind_phrase(kind: TimerKind) -> &'static [u8] {
     }
 }
 
-fn put_pid(alloc: Global, out: &mut Vec<u8>, lines: &KeptLines, task: u32) -> Result<(), AllocError> {
+fn put_pid(
+    alloc: Global,
+    out: &mut Vec<u8>,
+    lines: &KeptLines,
+    task: u32,
+) -> Result<(), AllocError> {
     if let Some(of_task) = lines.tasks.get(task as usize) {
         put(out, b" (pid ")?;
         put_number(alloc, out, of_task.pid)?;

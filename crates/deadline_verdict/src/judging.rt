@@ -7,7 +7,7 @@ ghost use Rattle.deadline_verdict.specs.Verdicts.{IsJudged, deviates, is_deviati
 use deadline_timers::{RecordOutcome, RecordSetup, RecordStart, Watch, play};
 use std::alloc::{AllocError, Global};
 use timer_lines::KeptLines;
-use timer_rules::{ObservedAnswer, Observation};
+use timer_rules::{Observation, ObservedAnswer};
 
 /// A record that was judged.
 #[derive(Drop)]
@@ -24,7 +24,11 @@ fn differs(answer: ObservedAnswer) -> bool
 {
     match answer {
         ObservedAnswer::Differs => true,
-        ObservedAnswer::Agrees | ObservedAnswer::End | ObservedAnswer::Unknown | ObservedAnswer::Edge | ObservedAnswer::Gap => false,
+        ObservedAnswer::Agrees
+        | ObservedAnswer::End
+        | ObservedAnswer::Unknown
+        | ObservedAnswer::Edge
+        | ObservedAnswer::Gap => false,
     }
 }
 

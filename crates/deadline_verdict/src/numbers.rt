@@ -4,7 +4,7 @@ ghost use Rattle.std.specs.Prelude.{◌≡◌, IfOk, count_by};
 ghost use Rattle.deadline_verdict.specs.Numbers.{AreCounts, comes_to_of, is_kind, number_of};
 
 use std::alloc::{AllocError, Global};
-use timer_rules::{ObservedAnswer, TimerKind, Observation};
+use timer_rules::{Observation, ObservedAnswer, TimerKind};
 
 /// Of the observations of one kind. Differences are nanoseconds.
 #[derive(Clone, Copy)]
@@ -34,7 +34,10 @@ impl KindNumbers {
 pub(crate) fn is_compared(answer: ObservedAnswer) -> bool {
     match answer {
         ObservedAnswer::Agrees | ObservedAnswer::Differs => true,
-        ObservedAnswer::End | ObservedAnswer::Unknown | ObservedAnswer::Edge | ObservedAnswer::Gap => false,
+        ObservedAnswer::End
+        | ObservedAnswer::Unknown
+        | ObservedAnswer::Edge
+        | ObservedAnswer::Gap => false,
     }
 }
 
@@ -44,7 +47,8 @@ pub(crate) fn is_of(kind: TimerKind, observation: &Observation) -> bool
 {
     match (kind, observation.kind) {
         (TimerKind::Block, TimerKind::Block) | (TimerKind::Replenish, TimerKind::Replenish) => true,
-        (TimerKind::Block, TimerKind::Replenish) | (TimerKind::Replenish, TimerKind::Block) => false,
+        (TimerKind::Block, TimerKind::Replenish) | (TimerKind::Replenish, TimerKind::Block) =>
+            false,
     }
 }
 

@@ -3,7 +3,7 @@
 use crate::numbers::is_compared;
 use crate::writing::{put, put_number, put_signed};
 use std::alloc::{AllocError, Global};
-use timer_rules::{ObservedAnswer, TimerKind, Observation};
+use timer_rules::{Observation, ObservedAnswer, TimerKind};
 
 /// The first line of a table. Moments, differences and budgets are nanoseconds, sums units of 2^-20 of a processor.
 pub fn table_head() -> &'static [u8] {

@@ -14,7 +14,7 @@ use deadline_rules::{RECLAIM, has, ratio};
 use deadline_timers::RecordSetup;
 use std::alloc::{AllocError, Global};
 use timer_lines::KeptLines;
-use timer_rules::{TimerKind, Observation};
+use timer_rules::{Observation, TimerKind};
 use trace_words::{Kernel, Parameters, Policy};
 
 /// Appends the verdict on a record; names are those of the tasks, by their numbers.
@@ -215,7 +215,11 @@ fn bw_at_start(at: Option<u64>, policy: Policy) -> u64 {
     }
 }
 
-fn put_agreement(out: &mut Vec<u8>, blocks: KindNumbers, starts: KindNumbers) -> Result<(), AllocError> {
+fn put_agreement(
+    out: &mut Vec<u8>,
+    blocks: KindNumbers,
+    starts: KindNumbers,
+) -> Result<(), AllocError> {
     if blocks.compared() == 0 && starts.compared() == 0 {
         put(out, b"agrees: nothing was compared\n")
     } else {

@@ -4,7 +4,7 @@ ghost use Rattle.std.specs.Prelude.{◌≡◌};
 ghost use Rattle.exact_laws.specs.inside.Compared.{ratio_for, ratio_compared, is_late_by, clock_is_broken, wake_compared, start_compared};
 
 use deadline_rules::BW_UNIT;
-use exact_words::{Comparison, ProbedLine, Quantity, Subject, ExactValue};
+use exact_words::{Comparison, ExactValue, ProbedLine, Quantity, Subject};
 
 /// How far behind the clock of a wake may be, in nanoseconds.
 const BEHIND: i64 = 100_000;
@@ -70,7 +70,13 @@ pub fn is_broken(late: u64, wakes: u64) -> bool
 }
 
 /// A wake on this CPU, whose clock is so far behind.
-pub fn compared_wake(place: ProbedLine, cpu: u32, lag: i64, least: i64, is_equal: bool) -> Comparison
+pub fn compared_wake(
+    place: ProbedLine,
+    cpu: u32,
+    lag: i64,
+    least: i64,
+    is_equal: bool,
+) -> Comparison
     ensures { result ≡ wake_compared place cpu lag least is_equal }
 {
     Comparison {

@@ -2,7 +2,7 @@
 
 use crate::compared::{Ratio, compared_ratio, compared_start, compared_wake, is_broken, is_late};
 use deadline_rules::{BW_UNIT, DEADLINE_POLICY, WAKEUP, has, ratio};
-use exact_words::{FIRST_SEEN, ProbedLine, Findings};
+use exact_words::{FIRST_SEEN, Findings, ProbedLine};
 use std::alloc::{AllocError, Global};
 use std::collections::HashMap;
 use trace_words::{Enqueued, Probe, Ran, Updated};

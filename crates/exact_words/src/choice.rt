@@ -69,7 +69,12 @@ fn is_nothing(amount: Amount) -> bool
 }
 
 /// The first set of `count` of these amounts that add up to what is wanted; `place` is the place of the first of them.
-fn pick_some(amounts: &[Amount], place: usize, count: usize, wanted: Amount) -> Option<PickedEffects>
+fn pick_some(
+    amounts: &[Amount],
+    place: usize,
+    count: usize,
+    wanted: Amount,
+) -> Option<PickedEffects>
     ensures { result ≡ pick_some_of amounts.now place count wanted }
 {
     match amounts {

@@ -3,7 +3,7 @@
 ghost use Rattle.std.specs.Prelude.{◌≡◌};
 ghost use Rattle.exact_words.specs.Tallies.{tallied, tally_of, counted_of, no_tally, no_counts};
 
-use crate::words::{QuantityKind, RULES, ExactRule};
+use crate::words::{ExactRule, QuantityKind, RULES};
 
 /// How many comparisons of a kind are equal, and how many differ.
 #[derive(Clone, Copy)]
@@ -100,7 +100,10 @@ impl KindCounts {
             QuantityKind::RunningBw => self.running_bw = counted(self.running_bw, is_equal),
             QuantityKind::ExtraBw => self.extra_bw = counted(self.extra_bw, is_equal),
             QuantityKind::ZeroLag => self.zero_lag = counted(self.zero_lag, is_equal),
-            QuantityKind::ZeroLagMoment => self.zero_lag_moment = counted(self.zero_lag_moment, is_equal),
+            QuantityKind::ZeroLagMoment => self.zero_lag_moment = counted(
+                self.zero_lag_moment,
+                is_equal,
+            ),
             QuantityKind::Timers => self.timers = counted(self.timers, is_equal),
             QuantityKind::Laws => self.laws = counted(self.laws, is_equal),
         }

@@ -8,10 +8,10 @@ mod sheet;
 mod words;
 
 pub use choice::{Amount, MOST, PickedEffects, pick};
-pub use counts::{KindCounts, RuleCounts, Comparisons};
+pub use counts::{Comparisons, KindCounts, RuleCounts};
 pub use law::first_is_first;
 pub use sheet::Findings;
 pub use words::{
-    Comparison, Deviation, ProbedFunction, FIRST_SEEN, QuantityKind, ProbedLine, Quantity, RULES, ExactRule, Subject, ExactValue,
-    Whose, Why, kind_of,
+    Comparison, Deviation, ExactRule, ExactValue, FIRST_SEEN, ProbedFunction, ProbedLine, Quantity,
+    QuantityKind, RULES, Subject, Whose, Why, kind_of,
 };

@@ -7,10 +7,10 @@ ghost use Rattle.grub_convert.specs.Files.{AreFiles, AreGiven, FitTogether, IsSe
 ghost use Rattle.grub_convert.specs.Options.{most_from};
 ghost use Rattle.trace_line.specs.Words.{text_of};
 
-use crate::options::{FairReservation, TaskReservation, ConvertOptions, admitted};
+use crate::options::{ConvertOptions, FairReservation, TaskReservation, admitted};
 use grub_bw::{BW_UNIT, Params};
 use grub_events::{
-    Declared, OrderFault, TimedEvent, Setting, event_file, names_of, place_facts, queue_of, umax_of,
+    Declared, OrderFault, Setting, TimedEvent, event_file, names_of, place_facts, queue_of, umax_of,
 };
 use grub_facts::{Fact, Facts, Found};
 use std::alloc::{AllocError, Global};
@@ -154,7 +154,10 @@ fn missing<'a>(tasks: &[TaskReservation<'a>], found: &[Option<Found>]) -> Option
     None
 }
 
-fn given_reservations(alloc: Global, tasks: &[TaskReservation<'_>]) -> Result<Vec<Params>, AllocError>
+fn given_reservations(
+    alloc: Global,
+    tasks: &[TaskReservation<'_>],
+) -> Result<Vec<Params>, AllocError>
     ensures { IfOk result (λ v. v.items ≡ map reservation_of tasks.now) }
 {
     tasks.iter().map(|task| task.params).collect(alloc)

@@ -131,7 +131,10 @@ fn names(tasks: &[TaskReservation<'_>], name: &str) -> bool
 }
 
 /// The tasks of these words; none where one of them says no task, or one name comes twice.
-fn tasks_of<'a>(alloc: Global, words: &[&'a str]) -> Result<Option<Vec<TaskReservation<'a>>>, AllocError>
+fn tasks_of<'a>(
+    alloc: Global,
+    words: &[&'a str],
+) -> Result<Option<Vec<TaskReservation<'a>>>, AllocError>
     ensures { IfOk result
         (λ made. option_map (λ v. map given_task v.items) made ≡ tasks_in (map text_of words.now)) }
 {

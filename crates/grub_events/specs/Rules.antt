@@ -4,8 +4,8 @@ use Rattle.std.specs.Prelude.{ℕ, true, false, ◌+◌, ◌/◌, ◌%◌, ◌==
 use Rattle.grub_facts.specs.declared.fact.Fact.{Fact}
 use Rattle.grub_facts.specs.declared.fact.What.{What}
 use Rattle.grub_facts.specs.declared.fact.What.TheVariants.{Wakes, Sent, Ran, Stops, Armed, Cancelled, Fired}
-use Rattle.grub_facts.specs.declared.fact.Stop.{Stop}
-use Rattle.grub_facts.specs.declared.fact.Stop.TheVariants.{Ready, Blocks, Ends}
+use Rattle.trace_words.specs.declared.fixed.Stop.{Stop}
+use Rattle.trace_words.specs.declared.fixed.Stop.TheVariants.{Ready, Blocks, Ends}
 use Rattle.grub_events.specs.declared.event.TaskAct.{TaskAct}
 use Rattle.grub_events.specs.declared.event.TaskAct.TheVariants.{Join, Wake, Block, Run}
 use Rattle.grub_events.specs.declared.event.EventSource.{EventSource}

@@ -4,7 +4,7 @@ ghost use Rattle.std.specs.Prelude.{◌≡◌, ◌++◌, IfOk, OnOk, codes, deci
 ghost use Rattle.std.specs.List.{flat_map};
 ghost use Rattle.grub_events.specs.Files.{opens_in, happens_in, in_file, head_text, task_line, act_text, event_line, fair_task, fair_join, joining_text, event_text, event_file};
 
-use crate::event::{TaskAct, TimedEvent, EventSource};
+use crate::event::{EventSource, TaskAct, TimedEvent};
 use crate::names::fair_name;
 use crate::setting::{Declared, Setting};
 use grub_bw::{Params, Queue};
@@ -26,7 +26,11 @@ fn happens_in(runqueue: u32, placed: &TimedEvent) -> bool
 }
 
 /// The events of the file of a runqueue whose tasks are first seen as they block.
-fn openings(alloc: Global, runqueue: u32, placed: &[TimedEvent]) -> Result<Vec<TimedEvent>, AllocError>
+fn openings(
+    alloc: Global,
+    runqueue: u32,
+    placed: &[TimedEvent],
+) -> Result<Vec<TimedEvent>, AllocError>
     ensures { IfOk result (λ v. v.items ≡ filter (opens_in runqueue) placed.now) }
 {
     placed
@@ -37,7 +41,11 @@ fn openings(alloc: Global, runqueue: u32, placed: &[TimedEvent]) -> Result<Vec<T
 }
 
 /// The other events of the file of a runqueue.
-fn happenings(alloc: Global, runqueue: u32, placed: &[TimedEvent]) -> Result<Vec<TimedEvent>, AllocError>
+fn happenings(
+    alloc: Global,
+    runqueue: u32,
+    placed: &[TimedEvent],
+) -> Result<Vec<TimedEvent>, AllocError>
     ensures { IfOk result (λ v. v.items ≡ filter (happens_in runqueue) placed.now) }
 {
     placed
@@ -170,7 +178,11 @@ fn put_fair_join(
     Ok(())
 }
 
-fn put_joinings(out: &mut Vec<u8>, tasks: &[Declared], events: &[TimedEvent]) -> Result<(), AllocError>
+fn put_joinings(
+    out: &mut Vec<u8>,
+    tasks: &[Declared],
+    events: &[TimedEvent],
+) -> Result<(), AllocError>
     ensures { OnOk result
         (out.new.items ≡ out.old.items ++ flat_map (joining_text tasks.now) events.now) }
 {
@@ -180,7 +192,11 @@ fn put_joinings(out: &mut Vec<u8>, tasks: &[Declared], events: &[TimedEvent]) ->
     Ok(())
 }
 
-fn put_events(out: &mut Vec<u8>, tasks: &[Declared], events: &[TimedEvent]) -> Result<(), AllocError>
+fn put_events(
+    out: &mut Vec<u8>,
+    tasks: &[Declared],
+    events: &[TimedEvent],
+) -> Result<(), AllocError>
     ensures { OnOk result
         (out.new.items ≡ out.old.items ++ flat_map (event_text tasks.now) events.now) }
 {

@@ -5,8 +5,9 @@ ghost use Rattle.grub_events.specs.Rules.{sent_before};
 ghost use Rattle.grub_events.specs.inside.Rules.{destinations_of};
 
 use crate::lists::{at, put};
-use grub_facts::{Fact, Stop, What};
+use grub_facts::{Fact, What};
 use std::alloc::{AllocError, Global};
+use trace_words::Stop;
 
 /// The CPU that a task is sent to before it runs or blocks, from this fact of it on, where `later` is that of its later
 /// facts.

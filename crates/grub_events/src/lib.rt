@@ -14,10 +14,10 @@ mod setting;
 mod standing;
 
 pub use convert::place_facts;
-pub use event::{TaskAct, TaskEvent, TimedEvent, EventSource};
+pub use event::{EventSource, TaskAct, TaskEvent, TimedEvent};
 pub use files::{event_file, file_events};
 pub use moved::{tasks_moved, wakes_moved};
 pub use names::{fair_name, names_of};
-pub use order::{FIRST_WAKE, OrderFault, EventPlace};
+pub use order::{EventPlace, FIRST_WAKE, OrderFault};
 pub use setting::{Declared, Setting, queue_of, umax_of};
 pub use standing::Standing;

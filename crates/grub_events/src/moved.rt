@@ -4,7 +4,7 @@ ghost use Rattle.std.specs.Prelude.{◌≡◌, IfOk, count_by, replicate, if◌t
 ghost use Rattle.grub_events.specs.declared.standing.Standing.TheVariants.{Unseen};
 ghost use Rattle.grub_events.specs.Moved.{is_moved_wake, wakes_moved, is_moved_task};
 
-use crate::event::{TaskAct, TimedEvent, EventSource};
+use crate::event::{EventSource, TaskAct, TimedEvent};
 use crate::lists::{at, put};
 use crate::standing::Standing;
 use grub_facts::{Fact, What};

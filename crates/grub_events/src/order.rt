@@ -3,7 +3,7 @@
 ghost use Rattle.std.specs.Prelude.{◌≡◌, ◌++◌, ◌∷◌, [], IfOk, IfErr, OnOk, None, replicate, find};
 ghost use Rattle.grub_events.specs.Order.{after_place, own_moment, moment_of, is_opening, files_after, is_beyond, moments_of, nowhere, FirstBeyond};
 
-use crate::event::{TaskAct, TaskEvent, TimedEvent, EventSource};
+use crate::event::{EventSource, TaskAct, TaskEvent, TimedEvent};
 use crate::lists::{at, put};
 use grub_book::{MOMENT_MAX, RUN_MAX};
 use std::alloc::{AllocError, Global};

@@ -4,12 +4,13 @@ ghost use Rattle.std.specs.Prelude.{◌≡◌, ◌<◌, ◌++◌, ◌∷◌, [],
 ghost use Rattle.grub_events.specs.Rules.{event_of, run_told, move_told, opening_told, stop_told, told, told_all};
 ghost use Rattle.grub_events.specs.declared.standing.Standing.TheVariants.{Unseen};
 
-use crate::event::{TaskAct, TaskEvent, EventSource};
+use crate::event::{EventSource, TaskAct, TaskEvent};
 use crate::landing::destinations;
 use crate::lists::{at, put};
 use crate::standing::{Standing, whole_micros};
-use grub_facts::{Fact, Stop, What};
+use grub_facts::{Fact, What};
 use std::alloc::{AllocError, Global};
+use trace_words::Stop;
 
 /// What a fact tells of its task.
 fn event(fact: Fact, runqueue: u32, act: TaskAct, source: EventSource) -> TaskEvent
@@ -112,10 +113,22 @@ fn put_told(
 {
     match (fact.what, standing) {
         (What::Wakes { cpu }, Standing::Unseen) => {
-            put_one(events, fact, sent.unwrap_or(cpu), TaskAct::Join, EventSource::Told)
+            put_one(
+                events,
+                fact,
+                sent.unwrap_or(cpu),
+                TaskAct::Join,
+                EventSource::Told,
+            )
         }
         (What::Wakes { cpu }, Standing::Asleep) => {
-            put_one(events, fact, sent.unwrap_or(cpu), TaskAct::Wake, EventSource::Told)
+            put_one(
+                events,
+                fact,
+                sent.unwrap_or(cpu),
+                TaskAct::Wake,
+                EventSource::Told,
+            )
         }
         (
             What::Sent { cpu },

@@ -3,7 +3,8 @@
 ghost use Rattle.std.specs.Prelude.{◌≡◌, ◌+◌, ◌/◌, ◌%◌};
 ghost use Rattle.grub_events.specs.Rules.{standing_after};
 
-use grub_facts::{Stop, What};
+use grub_facts::What;
+use trace_words::Stop;
 
 /// How a task stands.
 #[derive(Clone, Copy, Debug, PartialEq, Eq)]

@@ -9,16 +9,12 @@ use Rattle.trace_line.specs.Numbers.{number}
 use Rattle.trace_line.specs.declared.shown.Shown.{Shown}
 use Rattle.trace_words.specs.declared.fixed.Fixed.{Fixed}
 use Rattle.trace_words.specs.declared.fixed.Fixed.TheVariants.{Woken, Migrated, Ran, Switched, TimerStarted, TimerCancelled, TimerFired}
-use Rattle.trace_words.specs.declared.fixed.Stop.{Stop as Stopped}
-use Rattle.trace_words.specs.declared.fixed.Stop.TheVariants as stopped
 use Rattle.trace_words.specs.declared.fixed.TimerFunction.{TimerFunction}
 use Rattle.trace_words.specs.declared.fixed.TimerFunction.TheVariants.{ZeroLag}
 use Rattle.trace_words.specs.declared.quantities.Parameters.{Parameters}
 use Rattle.trace_words.specs.declared.line.Flaw.TheVariants as flaw
 use Rattle.grub_facts.specs.Faults.{Outcome, Problem, flawed, unknown_task}
 use Rattle.grub_facts.specs.declared.fact.Fact.{Fact}
-use Rattle.grub_facts.specs.declared.fact.Stop.{Stop}
-use Rattle.grub_facts.specs.declared.fact.Stop.TheVariants.{Ready, Blocks, Ends}
 use Rattle.grub_facts.specs.declared.fact.What.{What}
 use Rattle.grub_facts.specs.declared.fact.What.TheVariants as what
 use Rattle.grub_facts.specs.declared.report.EventReport.{EventReport}
@@ -35,11 +31,6 @@ is_passed None = false
 is_passed (Some shown) = is_sugov shown.comm
 
 -- how a task stops to run
-abbrev pub stop_of : Stopped → Stop
-stop_of stopped.Ready = Ready
-stop_of stopped.Blocks = Blocks
-stop_of stopped.Ends = Ends
-
 abbrev pub is_zero_lag : TimerFunction → Bool
 is_zero_lag ZeroLag = true
 is_zero_lag function = false
@@ -184,7 +175,7 @@ abbrev pub what_told : ℕ → Fixed → Option What
 what_told cpu (Woken pid deadline target) = if deadline then Some (what.Wakes target) else None
 what_told cpu (Migrated pid deadline target) = if deadline then Some (what.Sent target) else None
 what_told cpu (Ran pid nanos) = Some (what.Ran nanos)
-what_told cpu (Switched pid deadline state next next_deadline) = if deadline then Some (what.Stops cpu (stop_of state)) else None
+what_told cpu (Switched pid deadline state next next_deadline) = if deadline then Some (what.Stops cpu state) else None
 what_told cpu (TimerStarted timer function expires) = if is_zero_lag function then Some (what.Armed expires) else None
 what_told cpu (TimerCancelled timer) = Some what.Cancelled
 what_told cpu (TimerFired timer function now) = Some (what.Fired now)

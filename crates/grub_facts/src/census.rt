@@ -13,7 +13,7 @@ use record_line::ToldLine;
 use std::alloc::{AllocError, Global};
 use trace_line::Shown;
 use trace_reader::Lines;
-use trace_words::{Fixed, RecordLine, TraceNote, Policy, Said};
+use trace_words::{Fixed, Policy, RecordLine, Said, TraceNote};
 
 /// The tasks that were shown so far, in the order of their first lines.
 #[derive(Drop)]

@@ -2,20 +2,7 @@
 
 use crate::fault::LineFault;
 use grub_bw::Params;
-use trace_words::{Kernel, Limit};
-
-/// The state in which a task stops to run, by the first letter of the trace's `prev_state`.
-#[derive(Clone, Copy, Debug, PartialEq, Eq)]
-pub enum Stop {
-    /// R or P: it is ready, and another task runs in its place.
-    Ready,
-
-    /// It sleeps, or waits for something.
-    Blocks,
-
-    /// X or Z: it has ended.
-    Ends,
-}
+use trace_words::{Kernel, Limit, Stop};
 
 /// What a line tells of a task.
 #[derive(Clone, Copy, Debug, PartialEq, Eq)]

@@ -15,7 +15,7 @@ use record_line::ToldLine;
 use std::alloc::{AllocError, Global};
 use trace_line::{CPUS_MAX, Shown};
 use trace_reader::Lines;
-use trace_words::{Kernel, Limit, RecordLine, TraceNote, Policy, Said};
+use trace_words::{Kernel, Limit, Policy, RecordLine, Said, TraceNote};
 
 /// The facts of given tasks, as lines are read.
 #[derive(Drop)]
@@ -150,7 +150,11 @@ impl FactLines {
     }
 
     /// Takes a line of an event.
-    fn take_event(&mut self, line: u64, report: &EventReport<&[u8]>) -> Result<Option<Wrong>, AllocError>
+    fn take_event(
+        &mut self,
+        line: u64,
+        report: &EventReport<&[u8]>,
+    ) -> Result<Option<Wrong>, AllocError>
         ensures { IfOk result (λ wrong. outcome_of wrong (gathered_text self.new)
             ≡ event_line line (report_text report.now) (gathered_text self.old)) }
     {

@@ -13,7 +13,7 @@ ghost use Rattle.grub_facts.specs.declared.keeper.Trouble.TheVariants.{Unknown};
 use crate::fact::{Fact, Found, What};
 use crate::fault::Wrong;
 use crate::given::is_sugov;
-use crate::report::{EventReport, is_zero_lag, stop_of};
+use crate::report::{EventReport, is_zero_lag};
 use crate::tasks::GivenTasks;
 use grub_bw::Params;
 use std::alloc::{AllocError, Global};
@@ -64,12 +64,9 @@ fn what_told(own: u32, event: &Fixed) -> Option<What>
         Fixed::Ran { nanos, .. } => Some(What::Ran { nanos }),
         Fixed::Switched {
             is_deadline: true,
-            stop,
+            stop: state,
             ..
-        } => Some(What::Stops {
-            cpu: own,
-            state: stop_of(stop),
-        }),
+        } => Some(What::Stops { cpu: own, state }),
         Fixed::TimerStarted {
             function,
             expires,

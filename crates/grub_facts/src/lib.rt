@@ -15,7 +15,7 @@ mod task_reader;
 mod tasks;
 
 pub use counted::{Counted, Reserved, ShownTasks};
-pub use fact::{Fact, Facts, Found, Stop, What};
+pub use fact::{Fact, Facts, Found, What};
 pub use fault::{LineFault, Wrong};
 pub use reader::FactReader;
 pub use task_reader::TaskReader;

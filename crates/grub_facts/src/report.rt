@@ -1,11 +1,10 @@
 //! What a line says of an event that each kernel has.
 
 ghost use Rattle.std.specs.Prelude.{◌≡◌};
-ghost use Rattle.grub_facts.specs.Given.{is_zero_lag, other_cpu, stop_of};
+ghost use Rattle.grub_facts.specs.Given.{is_zero_lag, other_cpu};
 
-use crate::fact::Stop;
 use trace_line::Shown;
-use trace_words::{Fixed, Stop as Stopped, TimerFunction};
+use trace_words::{Fixed, TimerFunction};
 
 /// What a line says of such an event; `T` is a text.
 #[derive(Clone, Copy)]
@@ -23,17 +22,6 @@ pub struct EventReport<T> {
 
     /// The task that the line shows by comm and pid.
     pub shown: Option<Shown<T>>,
-}
-
-/// How a task stops to run.
-pub(crate) fn stop_of(stop: Stopped) -> Stop
-    ensures { result ≡ stop_of stop }
-{
-    match stop {
-        Stopped::Ready => Stop::Ready,
-        Stopped::Blocks => Stop::Blocks,
-        Stopped::Ends => Stop::Ends,
-    }
 }
 
 /// Whether a timer tells of a 0-lag time.

@@ -7,14 +7,15 @@ use crate::command::command;
 use clap::error::ErrorKind;
 use clap::{ArgMatches, Error};
 use grub_convert::{
-    Input, ConvertOptions, STATUS_SYSTEM, STATUS_USAGE, Target, options_of, serve_events, serve_tasks,
+    ConvertOptions, Input, STATUS_SYSTEM, STATUS_USAGE, Target, options_of, serve_events,
+    serve_tasks,
 };
 use size_report::{OptionFault, SizeWords, serve_size, size_options_of};
 use std::alloc::{AllocError, Global};
 use std::io;
 use std::io::Write;
 use trace_check::{
-    CheckRequest, Window, CheckWords, WrongOption, options_of as check_options, serve_check,
+    CheckRequest, CheckWords, Window, WrongOption, options_of as check_options, serve_check,
     window_of,
 };
 

@@ -13,7 +13,9 @@ use crate::pending::{Alternative, UnexplainedExtra};
 use crate::runqueue::{CpuSums, ThisBw};
 use crate::state::KernelState;
 use crate::values::{compare_extra, compare_sums};
-use exact_words::{Amount, Comparison, ProbedLine, Quantity, ExactRule, Subject, ExactValue, Whose, Why};
+use exact_words::{
+    Amount, Comparison, ExactRule, ExactValue, ProbedLine, Quantity, Subject, Whose, Why,
+};
 use std::alloc::AllocError;
 use trace_words::Sums;
 

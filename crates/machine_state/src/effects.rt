@@ -6,7 +6,7 @@ use crate::runqueue::{with_change, with_extra};
 use crate::state::KernelState;
 use crate::values::compare_extra;
 use deadline_events::{Delayed, after_delayed, delayed_change};
-use exact_words::{Amount, PickedEffects, ProbedLine, ExactRule, Whose, Why, pick};
+use exact_words::{Amount, ExactRule, PickedEffects, ProbedLine, Whose, Why, pick};
 use std::alloc::AllocError;
 
 /// How old a later effect is, in nanoseconds, that is certain all the same.
@@ -21,7 +21,11 @@ pub(crate) enum Sort {
 
 impl KernelState {
     /// A later effect becomes certain.
-    pub(crate) fn take_effect(&mut self, place: ProbedLine, later: Later) -> Result<(), AllocError> {
+    pub(crate) fn take_effect(
+        &mut self,
+        place: ProbedLine,
+        later: Later,
+    ) -> Result<(), AllocError> {
         let runqueue = self.runqueue(later.cpu);
         match later.effect {
             Effect::Extra(by) => self.keep_runqueue(with_extra(
@@ -214,7 +218,11 @@ impl KernelState {
         Ok(())
     }
 
-    fn explains(&mut self, place: ProbedLine, reading: UnexplainedExtra) -> Result<bool, AllocError> {
+    fn explains(
+        &mut self,
+        place: ProbedLine,
+        reading: UnexplainedExtra,
+    ) -> Result<bool, AllocError> {
         match self.runqueue(reading.cpu).extra_bw {
             Some(known) => {
                 let wanted = Amount {

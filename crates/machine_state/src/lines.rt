@@ -7,7 +7,7 @@ ghost use Rattle.machine_state.specs.Lines.{counts_after, first_after, where_who
 
 use crate::actor::Actor;
 use crate::values::{compare_budget, compare_contending, compare_flags, compare_parameters};
-use exact_words::{ProbedLine, Findings};
+use exact_words::{Findings, ProbedLine};
 use std::alloc::AllocError;
 use trace_words::{Budget, Dequeued, Enqueued, LeftClass};
 

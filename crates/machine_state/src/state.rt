@@ -6,7 +6,7 @@ use crate::runqueue::{CpuSums, ThisBw, forgotten, with_change};
 use crate::shape::Shape;
 use deadline_rules::SumsChange;
 use exact_laws::Laws;
-use exact_words::{Amount, FIRST_SEEN, ProbedLine, ExactRule, Findings, Whose, Why};
+use exact_words::{Amount, ExactRule, FIRST_SEEN, Findings, ProbedLine, Whose, Why};
 use std::alloc::{AllocError, Global};
 use std::collections::HashMap;
 
@@ -146,7 +146,12 @@ impl KernelState {
     }
 
     /// Notes a rule that changed a runqueue.
-    pub fn note_runqueue(&mut self, place: ProbedLine, cpu: u32, rule: ExactRule) -> Result<(), AllocError> {
+    pub fn note_runqueue(
+        &mut self,
+        place: ProbedLine,
+        cpu: u32,
+        rule: ExactRule,
+    ) -> Result<(), AllocError> {
         let runqueue = self.runqueue(cpu);
         self.keep_runqueue(CpuSums {
             why: Why {

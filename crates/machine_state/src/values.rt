@@ -6,7 +6,7 @@ ghost use Rattle.machine_state.specs.Values.{counts_from, same_flag, same_signed
 
 use crate::actor::Actor;
 use crate::runqueue::{CpuSums, ThisBw};
-use exact_words::{Comparison, ProbedLine, Quantity, Findings, Subject, ExactValue, Why};
+use exact_words::{Comparison, ExactValue, Findings, ProbedLine, Quantity, Subject, Why};
 use std::alloc::AllocError;
 use trace_words::{Budget, Parameters, Sums};
 

@@ -9,7 +9,10 @@ use crate::names::{event_name, function_of, quantity_name, rule_function, rule_n
 use crate::text::total_of;
 use crate::writing::{put, put_count, put_seconds, put_subject, put_value};
 use exact_laws::{Broken, Law};
-use exact_words::{Comparison, KindCounts, Deviation, ProbedFunction, QuantityKind, ProbedLine, ExactRule, ExactValue, Why, kind_of};
+use exact_words::{
+    Comparison, Deviation, ExactRule, ExactValue, KindCounts, ProbedFunction, ProbedLine,
+    QuantityKind, Why, kind_of,
+};
 use std::alloc::{AllocError, Global};
 
 /// Appends whether each value is the kernel's and each law holds, or the first that is not, and does not.
@@ -98,7 +101,12 @@ fn put_place(alloc: Global, out: &mut Vec<u8>, place: ProbedLine) -> Result<(), 
     put_event(alloc, out, place.event, place.cpu)
 }
 
-fn put_event(alloc: Global, out: &mut Vec<u8>, event: ProbedFunction, cpu: u32) -> Result<(), AllocError> {
+fn put_event(
+    alloc: Global,
+    out: &mut Vec<u8>,
+    event: ProbedFunction,
+    cpu: u32,
+) -> Result<(), AllocError> {
     let (name, function) = (event_name(event), function_of(event));
     let text = format!(in alloc; ", {name} ({function}) on CPU {cpu}\n  ")?;
     put(out, text.as_str())
@@ -159,7 +167,12 @@ fn put_difference(
 }
 
 /// Appends what changed the value last by the rules, and the kernel's functions to look at.
-fn put_since(alloc: Global, out: &mut Vec<u8>, since: Why, event: ProbedFunction) -> Result<(), AllocError> {
+fn put_since(
+    alloc: Global,
+    out: &mut Vec<u8>,
+    since: Why,
+    event: ProbedFunction,
+) -> Result<(), AllocError> {
     match since.rule {
         None => put(out, "  no rule has changed it since it was first seen\n"),
         Some(rule) => put_rule(alloc, out, since, rule, event),

@@ -13,7 +13,7 @@ mod writing;
 pub use changes::change_name;
 pub use deviation::put_answer;
 pub use explanation::{Trial, explains, is_guess, put_explanation};
-pub use heading::{ProbeHeading, DroppedLines, NamedTask};
+pub use heading::{DroppedLines, NamedTask, ProbeHeading};
 pub use names::{event_name, function_of, kind_name, quantity_name, rule_name};
 pub use table::{TABLE_HEAD, put_row};
 pub use text::{Total, put_heading, total_of};

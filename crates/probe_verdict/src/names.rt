@@ -1,6 +1,6 @@
 //! Words for what is compared, and the kernel's functions behind them.
 
-use exact_words::{ProbedFunction, QuantityKind, Quantity, ExactRule};
+use exact_words::{ExactRule, ProbedFunction, Quantity, QuantityKind};
 
 /// The name of a line's event.
 pub fn event_name(event: ProbedFunction) -> &'static str {
@@ -140,9 +140,9 @@ pub fn rule_name(rule: ExactRule) -> &'static str {
 pub(crate) fn rule_function(rule: ExactRule) -> &'static str {
     match rule {
         ExactRule::ChargeInFull => "dl_scaled_delta_exec",
-        ExactRule::ChargeByItsBandwidth | ExactRule::ChargeByWhatIsLeft | ExactRule::ChargeReadLater => {
-            "grub_reclaim"
-        }
+        ExactRule::ChargeByItsBandwidth
+        | ExactRule::ChargeByWhatIsLeft
+        | ExactRule::ChargeReadLater => { "grub_reclaim" }
         ExactRule::Throttled | ExactRule::Yielded => "update_curr_dl_se",
         ExactRule::ReplenishedAtOnce
         | ExactRule::Replenished
@@ -153,14 +153,16 @@ pub(crate) fn rule_function(rule: ExactRule) -> &'static str {
         ExactRule::WakeThrottled | ExactRule::RestoredNewPeriod => "enqueue_dl_entity",
         ExactRule::WakeBeforeZeroLag | ExactRule::WakeAfterZeroLag => "task_contending",
         ExactRule::Constrained => "dl_check_constrained_dl",
-        ExactRule::Boosted | ExactRule::BoostEnds | ExactRule::MovedIn | ExactRule::Restored => "enqueue_task_dl",
+        ExactRule::Boosted | ExactRule::BoostEnds | ExactRule::MovedIn | ExactRule::Restored =>
+            "enqueue_task_dl",
         ExactRule::MovedOut | ExactRule::Saved => "dequeue_dl_entity",
         ExactRule::MovedAtWake => "migrate_task_rq_dl",
         ExactRule::ZeroLagArmed | ExactRule::ZeroLagPast => "task_non_contending",
         ExactRule::ZeroLagFired => "inactive_task_timer",
-        ExactRule::Admitted | ExactRule::Refused | ExactRule::BackBeforeZeroLag | ExactRule::ExtraReadLater => {
-            "sched_dl_overflow"
-        }
+        ExactRule::Admitted
+        | ExactRule::Refused
+        | ExactRule::BackBeforeZeroLag
+        | ExactRule::ExtraReadLater => { "sched_dl_overflow" }
         ExactRule::BandwidthChanged => "dl_change_utilization",
         ExactRule::LeftClass => "switched_from_dl",
         ExactRule::ServerStarted => "dl_server_start",

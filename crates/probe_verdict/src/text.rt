@@ -1,9 +1,9 @@
 //! The words of a verdict.
 
-use crate::heading::{ProbeHeading, DroppedLines};
+use crate::heading::{DroppedLines, ProbeHeading};
 use crate::names::{ALL, KINDS, kind_plural, rule_name};
 use crate::writing::{put, put_bytes, put_comma, put_count, put_number};
-use exact_words::{KindCounts, QuantityKind, ExactRule, RuleCounts};
+use exact_words::{ExactRule, KindCounts, QuantityKind, RuleCounts};
 use std::alloc::{AllocError, Global};
 use trace_words::Kernel;
 
@@ -45,7 +45,11 @@ pub fn put_heading(
     put_untested(out, rules)
 }
 
-fn put_record(alloc: Global, out: &mut Vec<u8>, heading: ProbeHeading<'_>) -> Result<(), AllocError> {
+fn put_record(
+    alloc: Global,
+    out: &mut Vec<u8>,
+    heading: ProbeHeading<'_>,
+) -> Result<(), AllocError> {
     put_bytes(out, heading.trace)?;
     put(out, ": ")?;
     put_kernel(alloc, out, heading.kernel)?;
@@ -107,7 +111,11 @@ fn put_size(alloc: Global, out: &mut Vec<u8>, heading: ProbeHeading<'_>) -> Resu
     put(out, " lines of probes")
 }
 
-fn put_lost(alloc: Global, out: &mut Vec<u8>, lost: Option<DroppedLines>) -> Result<(), AllocError> {
+fn put_lost(
+    alloc: Global,
+    out: &mut Vec<u8>,
+    lost: Option<DroppedLines>,
+) -> Result<(), AllocError> {
     match lost {
         None => put(out, "\n"),
         Some(lost) => put_number_lost(alloc, out, lost.lines.saturating_add(lost.hits)),

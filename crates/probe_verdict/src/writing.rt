@@ -1,7 +1,7 @@
 //! How values are written.
 
 use crate::heading::NamedTask;
-use exact_words::{Subject, ExactValue, Whose};
+use exact_words::{ExactValue, Subject, Whose};
 use std::alloc::{AllocError, Global};
 use trace_words::TimerFunction;
 

@@ -23,7 +23,7 @@ use trace_line::{
     without_spaces,
 };
 use trace_probes::{ProbeEvent, probe_of};
-use trace_words::{Fixed, Flaw, RecordLine, TraceNote, Probe, Said, TimerFunction};
+use trace_words::{Fixed, Flaw, Probe, RecordLine, Said, TimerFunction, TraceNote};
 
 /// How far the `now` of a 0-lag timer that fires may lie from the moment of its line, in nanoseconds.
 pub const CLOCK_MAX: u64 = 1000000;
@@ -259,7 +259,13 @@ fn said_by<'a>(verb: Verb, fields: &'a [u8], front: &'a [u8], pid: u64) -> Optio
 }
 
 /// What a line tells whose event says this.
-fn checked<'a>(at: u64, grain: u64, cpu: u32, pid: u64, named: Named<&'a [u8]>) -> ToldLine<&'a [u8]>
+fn checked<'a>(
+    at: u64,
+    grain: u64,
+    cpu: u32,
+    pid: u64,
+    named: Named<&'a [u8]>,
+) -> ToldLine<&'a [u8]>
     ensures { told_text result ≡ checked at grain cpu pid (named_text named.entry) }
 {
     match flaw_of(at, cpu, &named.said) {

@@ -10,7 +10,7 @@ use crate::word::{is_domain, kernel_of, number_in, optional, rt_limit, small, wo
 use grub_text::first_word;
 use trace_line::{after, behind, place_of, point_text, without_spaces};
 use trace_probes::unsigned;
-use trace_words::{Kernel, Limit, TraceNote, Parameters, Policy, Sums};
+use trace_words::{Kernel, Limit, Parameters, Policy, Sums, TraceNote};
 
 /// How many lines a record lacks: those that its buffers lost, and those that probes missed.
 #[derive(Clone, Copy)]

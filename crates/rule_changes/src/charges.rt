@@ -4,7 +4,9 @@ ghost use Rattle.std.specs.Prelude.{◌≡◌, None};
 ghost use Rattle.deadline_rules.specs.Charge.{charging_of, cost_of};
 
 use crate::change::RuleChange;
-use deadline_rules::{BW_UNIT, Charge, Entity, ChargeLaw, RECLAIM, ChargedRunqueue, charging, cost};
+use deadline_rules::{
+    BW_UNIT, Charge, ChargeLaw, ChargedRunqueue, Entity, RECLAIM, charging, cost,
+};
 use trace_words::{Parameters, Sums};
 
 /// `max_bw` where a line of an older kernel has none: 95 % of a processor.
@@ -58,7 +60,12 @@ fn left_alone(law: ChargeLaw, runqueue: ChargedRunqueue) -> ChargedRunqueue {
     )
 }
 
-fn changed_runqueue(change: RuleChange, law: ChargeLaw, entity: Entity, runqueue: ChargedRunqueue) -> ChargedRunqueue {
+fn changed_runqueue(
+    change: RuleChange,
+    law: ChargeLaw,
+    entity: Entity,
+    runqueue: ChargedRunqueue,
+) -> ChargedRunqueue {
     let sums = runqueue.sums;
     let running = sums.running_bw;
     match change {
@@ -108,7 +115,12 @@ fn changed_law(change: RuleChange, law: ChargeLaw) -> ChargeLaw {
     }
 }
 
-fn reckon(change: RuleChange, law: ChargeLaw, entity: Entity, runqueue: ChargedRunqueue) -> Reckoned {
+fn reckon(
+    change: RuleChange,
+    law: ChargeLaw,
+    entity: Entity,
+    runqueue: ChargedRunqueue,
+) -> Reckoned {
     Reckoned {
         law: changed_law(change, law),
         entity: changed_entity(change, entity),

@@ -12,7 +12,7 @@ use deadline_events::{
     Admission, Admitting, Arrival, Dequeuing, Fired, Leaving, Spending, admit, dequeue, leave,
     spend, zero_lag_fired,
 };
-use deadline_rules::{Block, SumsChange, Entity, unchanged, zero_lag};
+use deadline_rules::{Block, Entity, SumsChange, unchanged, zero_lag};
 use trace_words::{Admitted, Parameters};
 
 fn with_period(entity: Entity, dl_period: u64) -> Entity {
@@ -91,7 +91,12 @@ fn own_again(change: RuleChange, before: Entity, after: Entity) -> Entity {
 }
 
 /// What a block past the 0-lag time does, where it leaves `running_bw`.
-fn runs_on(change: RuleChange, entity: Entity, block: Option<Block>, sums: SumsChange) -> SumsChange {
+fn runs_on(
+    change: RuleChange,
+    entity: Entity,
+    block: Option<Block>,
+    sums: SumsChange,
+) -> SumsChange {
     match block {
         Some(Block::Past)
             if change == RuleChange::PastRunsOn && (entity.is_server || entity.is_in_class) =>
@@ -104,7 +109,12 @@ fn runs_on(change: RuleChange, entity: Entity, block: Option<Block>, sums: SumsC
 }
 
 /// What a dequeue that moves the task leaves behind.
-fn left_behind(change: RuleChange, entity: Entity, departure: Arrival, sums: SumsChange) -> SumsChange {
+fn left_behind(
+    change: RuleChange,
+    entity: Entity,
+    departure: Arrival,
+    sums: SumsChange,
+) -> SumsChange {
     match (change, departure) {
         (RuleChange::MoveLeavesThis, Arrival::Moves) => SumsChange {
             this_bw: sums.this_bw.wrapping_add(entity.dl_bw),

@@ -7,7 +7,7 @@ use crate::change::RuleChange;
 use crate::refills::{changed_waking, changed_woken};
 use crate::replenishments::{replenished_once, with_budget, with_left};
 use deadline_events::{Arrival, Enqueuing, Refill, enqueue};
-use deadline_rules::{SumsChange, Contention, Entity, ChargeLaw, MIGRATED, REPLENISH, has};
+use deadline_rules::{ChargeLaw, Contention, Entity, MIGRATED, REPLENISH, SumsChange, has};
 use trace_words::{Enqueued, Parameters};
 
 /// The entity with the deadline in place of the period.
@@ -172,7 +172,12 @@ fn found(change: RuleChange, entity: Entity, line: Enqueued) -> Entity {
     }
 }
 
-fn changed_enqueue(change: RuleChange, law: ChargeLaw, entity: Entity, line: Enqueued) -> Enqueuing {
+fn changed_enqueue(
+    change: RuleChange,
+    law: ChargeLaw,
+    entity: Entity,
+    line: Enqueued,
+) -> Enqueuing {
     let done = enqueue(law, found(change, entity, line), line);
     match change {
         RuleChange::NotConstrained | RuleChange::UntilDeadline => {
@@ -194,7 +199,12 @@ fn changed_enqueue(change: RuleChange, law: ChargeLaw, entity: Entity, line: Enq
 }
 
 /// What an enqueue does to an entity that has the values of the line.
-pub fn enqueue_by(change: Option<RuleChange>, law: ChargeLaw, entity: Entity, line: Enqueued) -> Enqueuing
+pub fn enqueue_by(
+    change: Option<RuleChange>,
+    law: ChargeLaw,
+    entity: Entity,
+    line: Enqueued,
+) -> Enqueuing
     ensures { change ≡ None → result ≡ enqueuing_of law entity line }
 {
     match change {

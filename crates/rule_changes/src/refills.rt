@@ -2,7 +2,7 @@
 
 use crate::change::RuleChange;
 use crate::replenishments::with_budget;
-use deadline_rules::{Entity, ChargeLaw, Wake, is_before, overflows, served_by, waking, woken};
+use deadline_rules::{ChargeLaw, Entity, Wake, is_before, overflows, served_by, waking, woken};
 use trace_words::{Donor, Parameters};
 
 /// A millisecond, as the kernel's shifts have it.
@@ -51,7 +51,12 @@ fn wake_for(entity: Entity, clock: u64, is_too_much: bool) -> Wake {
 }
 
 /// What a wake does to this entity.
-pub(crate) fn changed_waking(change: RuleChange, law: ChargeLaw, entity: Entity, clock: u64) -> Wake {
+pub(crate) fn changed_waking(
+    change: RuleChange,
+    law: ChargeLaw,
+    entity: Entity,
+    clock: u64,
+) -> Wake {
     match change {
         RuleChange::WakeTurned => wake_for(entity, clock, underflows(entity, clock)),
         RuleChange::WakeByPeriod => wake_for(

@@ -5,5 +5,5 @@ mod admission;
 mod proposals;
 pub mod table;
 
-pub use admission::{RootDomain, Proposal, bandwidth, hundredths};
+pub use admission::{Proposal, RootDomain, bandwidth, hundredths};
 pub use proposals::put_proposals;

@@ -1,11 +1,12 @@
 //! What all proposals together come to, in words.
 
 use crate::admission::{
-    RootDomain, Proposal, bandwidth, bandwidths_of, greatest, hundredths, is_admitted, is_in_time,
+    Proposal, RootDomain, bandwidth, bandwidths_of, greatest, hundredths, is_admitted, is_in_time,
     placed_of, total,
 };
 use crate::table::{
-    TableRow, heading, hundredths_cell, number_cell, put_hundredths, put_number, put_table, put_text,
+    TableRow, heading, hundredths_cell, number_cell, put_hundredths, put_number, put_table,
+    put_text,
 };
 use std::alloc::AllocError;
 

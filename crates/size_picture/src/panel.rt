@@ -5,7 +5,7 @@ ghost use Rattle.size_picture.specs.Strokes.{DrawsNeeds, bar_of, bars_of, height
 
 use crate::column::{Column, Need, PANEL, WIDTH, columns_of};
 use crate::scale::{place_of, put_counts, put_runtimes, put_time};
-use crate::stroke::{StrokeLook, Stroke, put_strokes};
+use crate::stroke::{Stroke, StrokeLook, put_strokes};
 use grub_shapes::{LEFT, put_number};
 use std::alloc::{AllocError, Global};
 

@@ -3,7 +3,7 @@
 ghost use Rattle.std.specs.Prelude.{◌≤◌};
 
 use crate::column::{PANEL, WIDTH};
-use crate::stroke::{StrokeLook, Stroke, put_stroke};
+use crate::stroke::{Stroke, StrokeLook, put_stroke};
 use grub_shapes::{LEFT, put_number, put_text};
 use std::alloc::AllocError;
 

@@ -168,7 +168,10 @@ fn within_of(text: &str) -> Option<(&str, u32)> {
     Some((name, within))
 }
 
-fn give_withins<'a>(tasks: &mut Vec<AskedTask<'a>>, words: &[&'a str]) -> Result<(), OptionFault<'a>> {
+fn give_withins<'a>(
+    tasks: &mut Vec<AskedTask<'a>>,
+    words: &[&'a str],
+) -> Result<(), OptionFault<'a>> {
     for word in words {
         let is_given = match within_of(word) {
             None => false,

@@ -3,7 +3,9 @@
 use crate::figures::{Figures, at, most, rounded};
 use crate::sizing::{PERIOD_LEAST, PERIOD_MOST, jobs_of};
 use grub_sizing::least_runtime;
-use size_admission::table::{TableRow, heading, hundredths_cell, number_cell, put_table, text_cell};
+use size_admission::table::{
+    TableRow, heading, hundredths_cell, number_cell, put_table, text_cell,
+};
 use size_admission::{bandwidth, hundredths};
 use std::alloc::{AllocError, Global};
 use trace_jobs::Seen;

@@ -17,11 +17,11 @@ use crate::task_text::{
 };
 use grub_files::read_once;
 use grub_sizing::{Job, first_late};
-use size_admission::{RootDomain, Proposal, put_proposals};
+use size_admission::{Proposal, RootDomain, put_proposals};
 use std::alloc::{AllocError, Global};
 use std::io;
 use std::io::Write;
-use trace_jobs::{JobRecord, JobReader, JobTask};
+use trace_jobs::{JobReader, JobRecord, JobTask};
 
 /// The bytes of a piece.
 const PIECE_BYTES: usize = 65536;

@@ -4,12 +4,12 @@ use crate::figures::{Figures, at, share};
 use crate::sizing::{Needed, SizeRequest};
 use grub_sizing::{Job, Late};
 use size_admission::table::{
-    TableRow, heading, hundredths_cell, number_cell, put_hundredths, put_number, put_table, put_text,
-    text_cell,
+    TableRow, heading, hundredths_cell, number_cell, put_hundredths, put_number, put_table,
+    put_text, text_cell,
 };
 use size_admission::{bandwidth, hundredths};
 use std::alloc::{AllocError, Global};
-use trace_jobs::{Phase, Seen, JobTask};
+use trace_jobs::{JobTask, Phase, Seen};
 
 fn put_left_out(
     out: &mut Vec<u8>,

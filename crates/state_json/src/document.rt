@@ -113,7 +113,11 @@ fn put_first(alloc: Global, out: &mut Vec<u8>, scene: RecordScene<'_>) -> Result
 }
 
 /// Appends the document of a record's states: names, states, sums, budgets, timers, and the first deviation.
-pub fn put_document(alloc: Global, out: &mut Vec<u8>, scene: RecordScene<'_>) -> Result<(), AllocError> {
+pub fn put_document(
+    alloc: Global,
+    out: &mut Vec<u8>,
+    scene: RecordScene<'_>,
+) -> Result<(), AllocError> {
     out.extend_from_slice(b"[\n")?;
     out.extend_from_slice(tasks_event(alloc)?.to_string(alloc)?.as_bytes())?;
     put_names(alloc, out, scene)?;

@@ -1,6 +1,6 @@
 //! The time axis.
 
-use crate::frame::{PictureFrame, LEFT};
+use crate::frame::{LEFT, PictureFrame};
 use crate::text::{put, put_rounded};
 use std::alloc::{AllocError, Global};
 

@@ -4,7 +4,7 @@ ghost use Rattle.std.specs.Prelude.{◌≡◌, IfOk};
 ghost use Rattle.state_picture.specs.Lanes.{is_of};
 ghost use Rattle.state_picture.specs.Bars.{bar_after, bars_in, end_by};
 
-use crate::frame::{PictureFrame, LEFT};
+use crate::frame::{LEFT, PictureFrame};
 use crate::lane::Lane;
 use deadline_states::{Slice, Span, TaskState};
 use std::alloc::{AllocError, Global};

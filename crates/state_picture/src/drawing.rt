@@ -3,10 +3,10 @@
 use crate::axis::put_axis;
 use crate::bar::{StateBar, bars_of};
 use crate::curve::{Point, Sum, points_of};
-use crate::frame::{CURVE, PictureFrame, LEFT, height_of};
+use crate::frame::{CURVE, LEFT, PictureFrame, height_of};
 use crate::key::put_head;
 use crate::lane::{LANE, Lane, LaneRow, TOP, rows_of};
-use crate::mark::{TimerMark, MarkKind, marks_of};
+use crate::mark::{MarkKind, TimerMark, marks_of};
 use crate::picture::MOST;
 use crate::text::{put, put_length, put_percent, put_seconds, put_seen};
 use deadline_states::{RecordScene, TaskState};
@@ -98,7 +98,12 @@ fn put_label(
     put(out, "</text>\n")
 }
 
-fn put_mark(alloc: Global, out: &mut Vec<u8>, row: LaneRow, mark: TimerMark) -> Result<(), AllocError> {
+fn put_mark(
+    alloc: Global,
+    out: &mut Vec<u8>,
+    row: LaneRow,
+    mark: TimerMark,
+) -> Result<(), AllocError> {
     let (x, y) = (mark.x, row.y);
     let shape = match mark.kind {
         MarkKind::ZeroLag => {
@@ -200,7 +205,12 @@ fn put_curve(
     put(out, "\"/>\n")
 }
 
-fn put_scale(alloc: Global, out: &mut Vec<u8>, frame: PictureFrame, base: u64) -> Result<(), AllocError> {
+fn put_scale(
+    alloc: Global,
+    out: &mut Vec<u8>,
+    frame: PictureFrame,
+    base: u64,
+) -> Result<(), AllocError> {
     for (percent, height) in [("0 %", 0), ("50 %", CURVE / 2), ("100 %", CURVE)] {
         let y = base.saturating_sub(height);
         let (right, x, label) = (frame.right(), LEFT.saturating_sub(6), y.saturating_add(4));

@@ -16,7 +16,7 @@ mod text;
 
 pub use bar::{StateBar, bars_of};
 pub use curve::{Point, Sum, points_of};
-pub use frame::{PictureFrame, LEFT, height_of};
+pub use frame::{LEFT, PictureFrame, height_of};
 pub use lane::{Lane, LaneRow, lanes_of, rows_of};
-pub use mark::{TimerMark, MarkKind, marks_of};
+pub use mark::{MarkKind, TimerMark, marks_of};
 pub use picture::picture_of;

@@ -7,7 +7,7 @@ use crate::frame::PictureFrame;
 use crate::lane::Lane;
 use deadline_states::{is_within, marked_at};
 use std::alloc::{AllocError, Global};
-use timer_rules::{ObservedAnswer, TimerKind, Observation};
+use timer_rules::{Observation, ObservedAnswer, TimerKind};
 
 /// What a mark shows.
 #[derive(Clone, Copy, PartialEq, Eq)]

@@ -2,14 +2,14 @@
 
 use crate::rules::{blocks_as, fired_by, moved_by, ran_by, refilled_by, waits_as, woken_by};
 use deadline_rules::{ChargeLaw, has_timer_ahead, share};
-use deadline_timers::{TimedMachine, Owner, RecordSetup};
+use deadline_timers::{Owner, RecordSetup, TimedMachine};
 use rule_changes::RuleChange;
 use std::alloc::AllocError;
 use std::collections::HashMap;
 use timer_lines::{KeptEvent, KeptLine, KeptLines, TaskNote};
 use timer_rules::{
-    Activity, ObservedAnswer, DeadlineTask, answer_of, block_answer, block_moments, charged_at, is_awake,
-    replenish_moments, seen_running, waking_of,
+    Activity, DeadlineTask, ObservedAnswer, answer_of, block_answer, block_moments, charged_at,
+    is_awake, replenish_moments, seen_running, waking_of,
 };
 use trace_words::Stop;
 
@@ -156,7 +156,12 @@ impl Play {
     }
 
     /// A line about a task that may give its bandwidth back.
-    fn step_of(&mut self, lines: &KeptLines, kept: KeptLine, number: u32) -> Result<(), AllocError> {
+    fn step_of(
+        &mut self,
+        lines: &KeptLines,
+        kept: KeptLine,
+        number: u32,
+    ) -> Result<(), AllocError> {
         let before = self.machine.task(number);
         let taken = self.machine.taken();
         self.machine.step(lines, kept)?;
@@ -239,7 +244,12 @@ impl Play {
     }
 
     /// A task moves to another CPU.
-    fn migrate(&mut self, lines: &KeptLines, kept: KeptLine, number: u32) -> Result<(), AllocError> {
+    fn migrate(
+        &mut self,
+        lines: &KeptLines,
+        kept: KeptLine,
+        number: u32,
+    ) -> Result<(), AllocError> {
         let before = self.machine.task(number);
         self.machine.step(lines, kept)?;
         let (Some(before), Some(after)) = (before, self.machine.task(number)) else {
@@ -274,7 +284,12 @@ impl Play {
     }
 
     /// What the 0-lag timer at a block comes to, where the changed rule gives its moment.
-    fn see_block(&mut self, kept: KeptLine, task: DeadlineTask, stop: Stop) -> Result<(), AllocError> {
+    fn see_block(
+        &mut self,
+        kept: KeptLine,
+        task: DeadlineTask,
+        stop: Stop,
+    ) -> Result<(), AllocError> {
         let difference = if self.change == RuleChange::ZeroLagNever {
             if task.armed.is_some() { i64::MAX } else { 0 }
         } else {

@@ -1,7 +1,8 @@
 //! What a line of a record does to a task, with one rule changed.
 
 use deadline_rules::{
-    Entity, ChargeLaw, QUEUED, REPLENISH, ChargedRunqueue, WAKEUP, charged, replenished, waking, woken, zero_lag,
+    ChargeLaw, ChargedRunqueue, Entity, QUEUED, REPLENISH, WAKEUP, charged, replenished, waking,
+    woken, zero_lag,
 };
 use rule_changes::{RuleChange, cost_by, enqueue_by};
 use timer_rules::{DeadlineTask, Throttling, Waking, is_awake, is_tested, refills, throttled};
@@ -89,7 +90,12 @@ fn replenished_by(change: RuleChange, law: ChargeLaw, entity: Entity, at: u64) -
 }
 
 /// The task after its `dl_task_timer` fires at this moment.
-pub(crate) fn fired_by(change: RuleChange, law: ChargeLaw, task: DeadlineTask, at: u64) -> DeadlineTask {
+pub(crate) fn fired_by(
+    change: RuleChange,
+    law: ChargeLaw,
+    task: DeadlineTask,
+    at: u64,
+) -> DeadlineTask {
     if task.entity.budget.is_throttled {
         DeadlineTask {
             entity: replenished_by(change, law, task.entity, at),

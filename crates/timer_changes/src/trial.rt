@@ -1,7 +1,7 @@
 //! What the plays of a record come to, each with another rule changed.
 
 use crate::play::Play;
-use deadline_timers::{TimedMachine, RecordSetup, RecordStart};
+use deadline_timers::{RecordSetup, RecordStart, TimedMachine};
 use probe_verdict::Trial;
 use rule_changes::RuleChange;
 use std::alloc::{AllocError, Global};

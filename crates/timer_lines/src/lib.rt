@@ -13,6 +13,8 @@ mod record;
 mod vote;
 
 pub use event::{KeptEvent, KeptLine};
-pub use lines::{FirstLine, GivenReservation, KeptLines, TaskLines, TimerLines, TaskNote, Unlisted};
+pub use lines::{
+    FirstLine, GivenReservation, KeptLines, TaskLines, TaskNote, TimerLines, Unlisted,
+};
 pub use record::OpenRecord;
 pub use vote::Vote;

@@ -9,7 +9,12 @@ use std::alloc::AllocError;
 use trace_words::{Fixed, TimerFunction};
 
 impl OpenRecord {
-    pub(crate) fn pass(&mut self, place: KeptPlace, pid: u64, fixed: Fixed) -> Result<(), AllocError> {
+    pub(crate) fn pass(
+        &mut self,
+        place: KeptPlace,
+        pid: u64,
+        fixed: Fixed,
+    ) -> Result<(), AllocError> {
         match fixed {
             Fixed::Woken {
                 pid: woken,

@@ -4,7 +4,9 @@ ghost use Rattle.std.specs.Prelude.{◌≡◌};
 
 use crate::before::Before;
 use crate::event::{KeptEvent, KeptLine};
-use crate::lines::{GivenReservation, KeptLines, TaskLines, TimerLines, TaskNote, Unlisted, policy_above};
+use crate::lines::{
+    GivenReservation, KeptLines, TaskLines, TaskNote, TimerLines, Unlisted, policy_above,
+};
 use crate::moment::{Passing, ROUNDING};
 use std::alloc::{AllocError, Global};
 use std::collections::HashMap;

@@ -19,16 +19,16 @@ pub use activity::{Activity, Knowledge, is_awake};
 pub use effect::{BandwidthShare, server_effect, task_effect, task_share};
 pub use note::{NoteStep, admitted, changed, left, sighted, step_of, was_there};
 pub use observation::{
-    ObservedAnswer, TimerKind, Moments, Observation, answer_of, block_answer, block_moments, next_period,
-    replenish_moments, zero_lag_moment,
+    Moments, Observation, ObservedAnswer, TimerKind, answer_of, block_answer, block_moments,
+    next_period, replenish_moments, zero_lag_moment,
 };
 pub use runqueue::{Runqueue, served, with, without};
 pub use server::{
     ServerState, after_cancel, after_fire, after_idle, after_lag, after_wake, is_stopped,
 };
 pub use task::{
-    StartedTimer, DeadlineTask, blocked, charged_at, ends, lag_fired, lag_started, moved, ran, refilled, refills,
-    replenished, seen_running, stays_ready, switched, throttled, unseen, woken,
+    DeadlineTask, StartedTimer, blocked, charged_at, ends, lag_fired, lag_started, moved, ran,
+    refilled, refills, replenished, seen_running, stays_ready, switched, throttled, unseen, woken,
 };
 pub use throttle::{Throttling, throttling_of};
 pub use wake::{Waking, is_edge, is_tested, waking_of};

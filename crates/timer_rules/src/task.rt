@@ -6,7 +6,7 @@ ghost use Rattle.timer_rules.specs.Tasks.{blocked_of, charged_at_of, ends_of, kn
 use crate::activity::{Activity, Knowledge, is_awake, is_unseen};
 use crate::throttle::{Throttling, has_budget, held, held_back};
 use crate::wake::{Waking, awakened, known_after};
-use deadline_rules::{Entity, ChargeLaw, ChargedRunqueue, charged, cost, fresh};
+use deadline_rules::{ChargeLaw, ChargedRunqueue, Entity, charged, cost, fresh};
 use trace_words::Stop;
 
 /// A timer that the kernel started.
@@ -68,7 +68,13 @@ pub fn unseen() -> DeadlineTask
 }
 
 /// The task after it wakes on this CPU (`enqueue_task_dl` with ENQUEUE_WAKEUP): it contends.
-pub fn woken(task: DeadlineTask, cpu: u32, clock: u64, waking: Waking, is_edge: bool) -> DeadlineTask
+pub fn woken(
+    task: DeadlineTask,
+    cpu: u32,
+    clock: u64,
+    waking: Waking,
+    is_edge: bool,
+) -> DeadlineTask
     ensures { result ≡ woken_by task cpu clock waking is_edge }
 {
     DeadlineTask {
@@ -134,7 +140,13 @@ pub fn refilled(task: DeadlineTask) -> DeadlineTask
 }
 
 /// The task after a charge at this moment (`update_curr_dl_se`): at 0 or below its budget is used up, and it is throttled.
-pub fn ran(law: ChargeLaw, task: DeadlineTask, at: u64, nanos: u64, runqueue: ChargedRunqueue) -> DeadlineTask
+pub fn ran(
+    law: ChargeLaw,
+    task: DeadlineTask,
+    at: u64,
+    nanos: u64,
+    runqueue: ChargedRunqueue,
+) -> DeadlineTask
     ensures { result ≡ ran_of law task at nanos runqueue }
 {
     let entity = charged(task.entity, cost(law, task.entity, runqueue, nanos));

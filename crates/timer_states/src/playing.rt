@@ -4,7 +4,7 @@ ghost use Rattle.std.specs.Prelude.{◌≡◌, OnOk};
 ghost use Rattle.timer_states.specs.Seen.{begin_in, is_running, states_seen};
 
 use deadline_states::{History, Slice, Span, TaskState, is_on_cpu, state_of};
-use deadline_timers::{TimedMachine, RecordSetup, RecordStart, tell_until};
+use deadline_timers::{RecordSetup, RecordStart, TimedMachine, tell_until};
 use std::alloc::{AllocError, Global};
 use timer_lines::{KeptEvent, KeptLine, KeptLines};
 use timer_rules::DeadlineTask;

@@ -14,7 +14,7 @@ use deadline_machine::ProbedMachine;
 use deadline_timers::setup_of;
 use deadline_verdict::{TimerHeading, judge, put_table, put_verdict as put_timers};
 use probe_verdict::{
-    ProbeHeading, TABLE_HEAD, NamedTask, put_answer, put_explanation, put_heading,
+    NamedTask, ProbeHeading, TABLE_HEAD, put_answer, put_explanation, put_heading,
 };
 use std::alloc::{AllocError, Global};
 use std::io;
@@ -188,7 +188,11 @@ fn probe_text(
     Ok(text)
 }
 
-fn probe_table(alloc: Global, wanted: CheckRequest<'_>, rows: &Vec<u8>) -> Result<Vec<u8>, AllocError> {
+fn probe_table(
+    alloc: Global,
+    wanted: CheckRequest<'_>,
+    rows: &Vec<u8>,
+) -> Result<Vec<u8>, AllocError> {
     let mut table = Vec::new(alloc);
     if wanted.table.is_some() {
         table.extend_from_slice(TABLE_HEAD.as_bytes())?;

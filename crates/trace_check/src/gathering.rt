@@ -11,7 +11,7 @@ use record_line::{Lost as LostLines, ToldLine};
 use std::alloc::{AllocError, Global};
 use timer_lines::{GivenReservation, OpenRecord, Unlisted};
 use trace_reader::Lines;
-use trace_words::{Fixed, Flaw, Limit, RecordLine, TraceNote, Parameters, Policy, Said};
+use trace_words::{Fixed, Flaw, Limit, Parameters, Policy, RecordLine, Said, TraceNote};
 
 /// A moment that is greater than each number of nanoseconds is read as this one.
 const TOO_LATE: u64 = u64::MAX;

@@ -1,8 +1,8 @@
 //! What options and notes say of the kernel that was recorded.
 
-use check_settings::{Arithmetic, FairServerOption, CheckOptions, Range, domain_of};
+use check_settings::{Arithmetic, CheckOptions, FairServerOption, Range, domain_of};
 use deadline_rules::ChargeLaw;
-use deadline_timers::{FairServer, KernelSettings, RunqueueSums, RecordStart};
+use deadline_timers::{FairServer, KernelSettings, RecordStart, RunqueueSums};
 use std::alloc::{AllocError, Global};
 use trace_words::{Kernel, Limit};
 
@@ -118,7 +118,11 @@ impl RecordHead {
     }
 
     /// What the model of timers begins with.
-    pub fn start(&self, alloc: Global, options: &CheckOptions<'_>) -> Result<RecordStart, AllocError> {
+    pub fn start(
+        &self,
+        alloc: Global,
+        options: &CheckOptions<'_>,
+    ) -> Result<RecordStart, AllocError> {
         let domain = self.cpus(alloc, options)?;
         let mut sums = Vec::new(alloc);
         sums.extend_from_slice(self.sums.as_slice())?;

@@ -13,7 +13,7 @@ mod why;
 
 pub use check::{CheckRequest, serve_check};
 pub use check_settings::{
-    Arithmetic, CPU_MAX, FairServerOption, TaskOption, CheckOptions, Range, Window, CheckWords, WrongOption, options_of,
-    window_of,
+    Arithmetic, CPU_MAX, CheckOptions, CheckWords, FairServerOption, Range, TaskOption, Window,
+    WrongOption, options_of, window_of,
 };
 pub use fault::{Fault, STATUS_DIFFERS, STATUS_FILE, STATUS_SYSTEM, STATUS_USAGE};

@@ -128,7 +128,11 @@ impl Probes {
     }
 
     /// Plays the lines that were kept.
-    fn play_kept(&mut self, head: &RecordHead, options: &CheckOptions<'_>) -> Result<(), AllocError> {
+    fn play_kept(
+        &mut self,
+        head: &RecordHead,
+        options: &CheckOptions<'_>,
+    ) -> Result<(), AllocError> {
         self.make_machine(head, options)?;
         for place in 0..self.kept.len() {
             if let Some(kept) = self.kept.get(place) {
@@ -141,7 +145,11 @@ impl Probes {
     }
 
     /// Makes the machine for the lines that were kept, if there are any.
-    fn make_machine(&mut self, head: &RecordHead, options: &CheckOptions<'_>) -> Result<(), AllocError> {
+    fn make_machine(
+        &mut self,
+        head: &RecordHead,
+        options: &CheckOptions<'_>,
+    ) -> Result<(), AllocError> {
         let Some(first) = self.kept.first() else {
             return Ok(());
         };

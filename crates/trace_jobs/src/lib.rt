@@ -7,7 +7,7 @@ mod task;
 mod tasks;
 mod watch;
 
-pub use reader::{JobRecord, JobReader};
+pub use reader::{JobReader, JobRecord};
 pub use said::Class;
 pub use task::JobTask;
 pub use tasks::JobTasks;

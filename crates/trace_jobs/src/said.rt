@@ -3,13 +3,12 @@
 ghost use Rattle.std.specs.Prelude.{◌≡◌};
 ghost use Rattle.trace_jobs.specs.inside.Watch.{stop_told};
 
-use crate::watch::Stop;
 use grub_text::first_word;
 use trace_line::{
     Shown, after, before_end, cpu_field, is_comment, is_lost, number, number_field, opening_of,
     shown_by, value_of, without_spaces,
 };
-use trace_words::Flaw;
+use trace_words::{Flaw, Stop};
 
 /// The class of a task, by the priority that a trace tells.
 #[derive(Clone, Copy, Debug, PartialEq, Eq)]
@@ -66,7 +65,11 @@ pub enum JobLine<T> {
     Nothing,
 
     /// An event at a moment, in nanoseconds, on a CPU.
-    Says { at: u64, cpu: u32, event: JobEvent<T> },
+    Says {
+        at: u64,
+        cpu: u32,
+        event: JobEvent<T>,
+    },
     Wrong(Flaw),
 }
 

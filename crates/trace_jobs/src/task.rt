@@ -5,8 +5,9 @@ ghost use Rattle.trace_jobs.specs.declared.watch.Phase.TheVariants as phases;
 ghost use Rattle.trace_jobs.specs.Taking.{jobs_in, jobs_told, phase_told};
 
 use crate::said::Class;
-use crate::watch::{Ended, LeftOut, Phase, Seen, Stop, ran, stopped, woken};
+use crate::watch::{Ended, LeftOut, Phase, Seen, ran, stopped, woken};
 use std::alloc::{AllocError, Global};
+use trace_words::Stop;
 
 /// What a line tells of one task; moments are nanoseconds.
 #[derive(Clone, Copy, Debug, PartialEq, Eq)]

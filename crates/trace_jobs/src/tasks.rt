@@ -5,7 +5,7 @@ ghost use Rattle.std.specs.HashMap.{get};
 ghost use Rattle.trace_jobs.specs.Taking.{Takes, Keeps};
 
 use crate::said::Class;
-use crate::task::{JobTask, JobStep};
+use crate::task::{JobStep, JobTask};
 use std::alloc::{AllocError, Global};
 use std::collections::HashMap;
 use trace_line::Shown;

@@ -3,6 +3,8 @@
 ghost use Rattle.std.specs.Prelude.{◌≡◌};
 ghost use Rattle.trace_jobs.specs.inside.Watch.{ran_of, seen_of, stopped_of, woken_of};
 
+use trace_words::Stop;
+
 /// A job: from a wake of the task to the block after it.
 #[derive(Clone, Copy, Debug, PartialEq, Eq)]
 pub struct Seen {
@@ -45,19 +47,6 @@ pub enum Phase {
 
     /// Blocked.
     Asleep,
-}
-
-/// How a task stops to run.
-#[derive(Clone, Copy, Debug, PartialEq, Eq)]
-pub enum Stop {
-    /// It is ready, and another one runs in its place.
-    Ready,
-
-    /// It blocks.
-    Blocks,
-
-    /// It ends.
-    Ends,
 }
 
 /// Why a job is left out.

@@ -1,7 +1,7 @@
 //! Lines of the events that each kernel has: sched and timer.
 
 /// The state in which a task stops to run, by the first letter of the trace's `prev_state`.
-#[derive(Clone, Copy)]
+#[derive(Clone, Copy, Debug, PartialEq, Eq)]
 pub enum Stop {
     /// R or P: it is ready, and another task runs in its place.
     Ready,

@@ -9,7 +9,7 @@ mod quantities;
 
 pub use fixed::{Fixed, Stop, TimerFunction};
 pub use line::{Flaw, RecordLine, Said};
-pub use note::{Kernel, Limit, TraceNote, Policy};
+pub use note::{Kernel, Limit, Policy, TraceNote};
 pub use probe::{
     Admitted, Armed, Dequeued, Enqueued, Expiry, LeftClass, Migrating, Picked, Probe, Ran,
     ServerStarted, Updated,

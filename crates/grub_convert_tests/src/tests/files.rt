@@ -1,7 +1,7 @@
 //! Traces and the event files that they tell.
 
 use crate::tests::fixtures::{options, read_text};
-use grub_convert::{Input, ConvertOptions, event_files, read_facts};
+use grub_convert::{ConvertOptions, Input, event_files, read_facts};
 use grub_facts::Facts;
 use std::alloc::Global;
 

@@ -3,9 +3,10 @@
 use crate::tests::fixtures::{
     ARM, CANCEL, FIRE, SWITCH, WAKE, are_told, joined, numbers_of, read, tells,
 };
-use grub_facts::{Fact, Stop, What};
+use grub_facts::{Fact, What};
 use std::alloc::{AllocError, Global};
 use std::test::Fail;
+use trace_words::Stop;
 
 /// Lines, and of the fact that each tells the moment, the task and what happened.
 static EVENTS: [(&[u8], u64, usize, What); 5] = [

@@ -1,9 +1,10 @@
 //! What stands in front of an event, comms, and the ends of lines.
 
 use crate::tests::fixtures::{joined, numbers_of, read, tells};
-use grub_facts::{Facts, Stop, What};
+use grub_facts::{Facts, What};
 use std::alloc::{AllocError, Global};
 use std::test::Fail;
+use trace_words::Stop;
 
 /// Wakes of the second task, whose comm looks like something else.
 static COMMS: [&[u8]; 3] = [

@@ -4,8 +4,8 @@ use Rattle.std.specs.Int.{div_ceil}
 use Rattle.trace_jobs.specs.declared.watch.Seen.{Seen}
 use Rattle.trace_jobs.specs.declared.watch.Phase.{Phase}
 use Rattle.trace_jobs.specs.declared.watch.Phase.TheVariants.{Unseen, UnderWay, Busy, Asleep}
-use Rattle.trace_jobs.specs.declared.watch.Stop.{Stop}
-use Rattle.trace_jobs.specs.declared.watch.Stop.TheVariants.{Ready, Blocks, Ends}
+use Rattle.trace_words.specs.declared.fixed.Stop.{Stop}
+use Rattle.trace_words.specs.declared.fixed.Stop.TheVariants.{Ready, Blocks, Ends}
 use Rattle.trace_jobs.specs.declared.watch.LeftOut.TheVariants.{New, Last, NoWake}
 use Rattle.trace_jobs.specs.declared.watch.Ended.{Ended}
 use Rattle.trace_jobs.specs.declared.watch.Ended.TheVariants as ended

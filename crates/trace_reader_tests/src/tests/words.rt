@@ -3,7 +3,7 @@
 use crate::tests::fixtures::read;
 use record_line::told_by;
 use std::test::Fail;
-use trace_words::{RecordLine, Probe, Said};
+use trace_words::{Probe, RecordLine, Said};
 
 static RECORD: &[u8] =
     b"# grub: notes 1 kernel=6.12.111+deb12-cloud-amd64 domain=0-3,5 max-bw=996147 total-bw=209712\n# grub: cpu 0 this=52428 running=52428 extra=943719\n# grub: task pid=831 at=start cpu=2 runtime=5000000 deadline=50000000 period=50000000 flags=0x2 comm=gr 0\n# tracer: nop\n            gr_2-205     [000] ...1.    28.670144: sys_sched_setattr(pid: 0, uattr: 7fff3a1091b0, flags: 0)\n            gr_2-205     [000] ...1.    28.670153: sys_sched_setattr -> 0x0\n            init-1       [000] d..2.    28.670154: sched_stat_runtime: comm=init pid=1 runtime=5140 [ns] vruntime=4476780373 [ns]\n            init-1       [000] d..2.    28.670155: sched_wakeup: comm=a b pid=7 prio=-1 target_cpu=001\n           dlgen-597     [002] d.h1.    28.670156789: hst: (hrtimer_start_range_ns+0x4/0x440) timer=1 tim=82754158097 mode=8 fn=dl_task_timer+0x0/0x9e0\n";
