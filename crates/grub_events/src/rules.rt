@@ -113,22 +113,12 @@ fn put_told(
 {
     match (fact.what, standing) {
         (What::Wakes { cpu }, Standing::Unseen) => {
-            put_one(
-                events,
-                fact,
-                sent.unwrap_or(cpu),
-                TaskAct::Join,
-                EventSource::Told,
-            )
+            let runqueue = sent.unwrap_or(cpu);
+            put_one(events, fact, runqueue, TaskAct::Join, EventSource::Told)
         }
         (What::Wakes { cpu }, Standing::Asleep) => {
-            put_one(
-                events,
-                fact,
-                sent.unwrap_or(cpu),
-                TaskAct::Wake,
-                EventSource::Told,
-            )
+            let runqueue = sent.unwrap_or(cpu);
+            put_one(events, fact, runqueue, TaskAct::Wake, EventSource::Told)
         }
         (
             What::Sent { cpu },
