@@ -8,5 +8,5 @@ ghost use Rattle.deadline_laws.specs.Admitting.{TakenStays};
 /// What is taken from `extra_bw` of each CPU is the sum of the admitted bandwidths by the number of CPUs, and stays so as a line makes a
 /// task another.
 pub fn extra_stays()
-    ensures { (n : ℕ) → (before : DeadlineTask) → (t : DeadlineTask) → (m : State) → TakenStays n before t m }
+    ensures { (n : ℕ) → (before t : DeadlineTask) → (m : State) → TakenStays n before t m }
 {}
