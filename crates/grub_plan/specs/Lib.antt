@@ -4,4 +4,3 @@ pub mod Messages
 pub mod Names
 pub mod Plans
 pub mod Texts
-pub mod Writing

@@ -15,7 +15,8 @@ ghost use Rattle.grub_run.specs.declared.fault.GrubFault.TheVariants as faults;
 
 use crate::fault::GrubFault;
 use grub_book::Reading;
-use grub_plan::{Plan, Report, TextFault, report_of, write_buffer};
+use grub_plan::{Plan, Report, TextFault, report_of};
+use grub_text::write_buffer;
 use grub_trace::read_files;
 use grub_workers::{NoGate, run};
 use std::alloc::Global;

@@ -9,9 +9,9 @@ use Rattle.std.specs.Borrow.{Bor}
 use Rattle.std.specs.Global.{Vec}
 use Rattle.std.specs.List.{AllZip, slice_get}
 use Rattle.grub_plan.specs.Contents.{contents}
-use Rattle.grub_files.specs.declared.input.Source.{Source}
-use Rattle.grub_files.specs.declared.input.TheConstants.{FILE_BYTES_MAX}
-use Rattle.grub_files.specs.Source.{Holds, IsLonger, IsOpened, IsUnreadable, Opener, Reader}
+use Rattle.grub_text.specs.declared.files.Source.{Source}
+use Rattle.grub_text.specs.declared.files.TheConstants.{FILE_BYTES_MAX}
+use Rattle.grub_text.specs.Source.{Holds, IsLonger, IsOpened, IsUnreadable, Opener, Reader}
 use Rattle.grub_book.specs.declared.setup.TheConstants.{QUEUES_MAX}
 use Rattle.grub_trace.specs.FirstFault.{no_file, too_many}
 use Rattle.grub_trace.specs.declared.fault.Kind.TheVariants.{MissingQueue, OutOfRange}

@@ -10,8 +10,8 @@ use Rattle.grub_run.specs.declared.fault.GrubFault.{GrubFault}
 use Rattle.grub_run.specs.declared.fault.GrubFault.TheVariants as run
 use Rattle.grub_serve.specs.ViewFaults.{HasEmptySpan}
 use Rattle.grub_serve.specs.declared.view.View.{View}
-use Rattle.grub_files.specs.declared.input.Source.{Source}
-use Rattle.grub_files.specs.Source.{Holds, IsLonger, IsOpened, IsUnreadable, Opener, Reader}
+use Rattle.grub_text.specs.declared.files.Source.{Source}
+use Rattle.grub_text.specs.Source.{Holds, IsLonger, IsOpened, IsUnreadable, Opener, Reader}
 use Rattle.grub_serve.specs.declared.fault.ProgramFault.{ProgramFault}
 use Rattle.grub_serve.specs.declared.fault.ProgramFault.TheVariants as faults
 

@@ -1,10 +1,10 @@
 //! What the views that are written while they are played take memory for.
 
 ghost use Rattle.std.specs.Prelude.{◌≡◌, ◌+◌, ◌≤◌, [], IfSome, length, vec_capacity};
-ghost use Rattle.grub_plan.specs.declared.pieces.TheConstants.{LINE_MAX};
+ghost use Rattle.grub_text.specs.declared.pieces.TheConstants.{LINE_MAX};
 
-use grub_lines::Blocks;
-use grub_plan::{Plan, report_buffer};
+use grub_plan::Plan;
+use grub_text::{Blocks, line_buffer};
 use grub_timeline::{Playing, Told};
 use std::alloc::Global;
 
@@ -30,7 +30,7 @@ impl<'a> Ready<'a> {
     pub(crate) fn new(alloc: Global, plan: &'a Plan) -> Option<Ready<'a>>
         ensures plan { IfSome result (λ x. x.playing.plan ≡ plan.now) }
     {
-        let Ok(buffer) = report_buffer(alloc) else {
+        let Ok(buffer) = line_buffer(alloc) else {
             return None;
         };
         let Ok(blocks) = Blocks::new(alloc) else {

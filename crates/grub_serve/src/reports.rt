@@ -5,14 +5,14 @@ ghost use Rattle.grub_book.specs.declared.setup.TheConstants.{QUEUES_MAX};
 ghost use Rattle.grub_plan.specs.Contents.{contents};
 ghost use Rattle.grub_run.specs.Written.{Begins, IsOutput, Writes};
 ghost use Rattle.grub_run.specs.declared.fault.GrubFault.TheVariants as run_faults;
-ghost use Rattle.grub_files.specs.Source.{Holds, IsOpened};
+ghost use Rattle.grub_text.specs.Source.{Holds, IsOpened};
 ghost use Rattle.grub_serve.specs.declared.fault.ProgramFault.TheVariants as faults;
 ghost use Rattle.grub_serve.specs.Faults.{HoldAll, Tells, Whole, names_of};
 ghost use Rattle.grub_serve.specs.inside.Telling.{IsOfReading, IsPlaced, TellsOf};
 
 use crate::fault::ProgramFault;
-use grub_files::{FileFault, Source, read_file};
 use grub_run::{GrubFault, run_texts_by_threads};
+use grub_text::{FileFault, Source, read_file};
 use grub_trace::{TraceFault, check_count};
 use std::alloc::Global;
 use std::io;

@@ -9,7 +9,7 @@ use crate::fault::{ProgramFault, STATUS_FILE, STATUS_SYSTEM, STATUS_USAGE};
 use crate::printing::print_view;
 use crate::reports::print_reports;
 use crate::view::View;
-use grub_files::Source;
+use grub_text::Source;
 use std::alloc::Global;
 use std::io;
 use std::io::Write;

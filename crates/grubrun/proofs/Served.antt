@@ -4,8 +4,8 @@ use Rattle.clap.specs.Kinds.{IsAmong}
 use Rattle.clap.specs.Words.{Row, Text, fault_of, matches_of}
 use Rattle.clap.specs.declared.error.kind.ErrorKind.{ErrorKind}
 use Rattle.clap.specs.declared.error.kind.ErrorKind.TheVariants as kinds
-use Rattle.grub_files.specs.declared.input.Source.{Source}
-use Rattle.grub_files.specs.Source.{Opener, Reader}
+use Rattle.grub_text.specs.declared.files.Source.{Source}
+use Rattle.grub_text.specs.Source.{Opener, Reader}
 use Rattle.grub_run.specs.Written.{Begins, IsOutput, Writes}
 use Rattle.grub_serve.specs.Shown.{IsShown}
 use Rattle.grub_serve.specs.declared.view.View.{View as Shown}

@@ -1,8 +1,8 @@
 -- What the program's status tells of its words and of what was printed.
 use Rattle.std.specs.Prelude.{◌⊎◌, ℕ, List, Option}
 use Rattle.std.specs.Io.KnownBytes.{Appends}
-use Rattle.grub_files.specs.declared.input.Source.{Source}
-use Rattle.grub_files.specs.Source.{Opener, Reader}
+use Rattle.grub_text.specs.declared.files.Source.{Source}
+use Rattle.grub_text.specs.Source.{Opener, Reader}
 use Rattle.grub_run.specs.Written.{IsOutput}
 use Rattle.grub_serve.specs.Shown.{IsShown}
 use Rattle.grub_serve.specs.Faults as faults

@@ -15,8 +15,8 @@ use crate::task_text::{
     put_chance, put_choices, put_command, put_figures, put_head, put_no_runs, put_none,
     put_not_regular, put_others, put_question,
 };
-use grub_files::read_once;
 use grub_sizing::{Job, first_late};
+use grub_text::read_once;
 use size_admission::{Machine, Proposal, put_proposals};
 use std::alloc::{AllocError, Global};
 use std::io;

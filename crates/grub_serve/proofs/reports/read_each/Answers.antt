@@ -1,4 +1,4 @@
-use Rattle.grub_files.specs.Source.{Holds}
+use Rattle.grub_text.specs.Source.{Holds}
 use Rattle.grub_serve.proofs.FilesLemmas.{first_told, held_more, of_reading}
 use Rattle.grub_serve.proofs.reports.read_each.Goals as goal
 

@@ -1,5 +1,5 @@
 use Rattle.std.proofs.Common.{rules}
-use Rattle.grub_files.specs.Source.{Holds, IsOpened}
+use Rattle.grub_text.specs.Source.{Holds, IsOpened}
 use Rattle.grub_serve.proofs.FilesLemmas.{first_at, first_told, held_next, of_reading}
 use Rattle.grub_serve.proofs.reports.read_files.Goals as goal
 

@@ -1,6 +1,6 @@
 use Rattle.std.proofs.Common.{refl}
 use Rattle.std.proofs.lemmas.Result.{on_ok_weaker, on_err_weaker}
-use Rattle.grub_plan.proofs.Handing.{on_err}
+use Rattle.grub_text.proofs.Handing.{on_err}
 use Rattle.grub_views.specs.Rows.{rows_of}
 use Rattle.grub_serve.specs.declared.view.View.TheVariants.{Steps}
 use Rattle.grub_serve.proofs.Handed.{line_begun, line_drained, line_drained_part}
