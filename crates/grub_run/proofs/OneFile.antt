@@ -11,7 +11,7 @@ use Rattle.grub_plan.specs.Limits.{PlanFits}
 use Rattle.grub_plan.specs.Plans.{PlanView, script_at}
 use Rattle.grub_plan.specs.declared.entry.Entry.{Entry}
 use Rattle.grub_plan.specs.declared.entry.Report.{Report}
-use Rattle.grub_asks.specs.Answers.{IsAnswered, events_told}
+use Rattle.grub_plan.specs.Answers.{IsAnswered, events_told}
 use Rattle.grub_timeline.specs.TimeLines.{AreWithin, IsTimeLine, entries_of as entries_played}
 use Rattle.grub_timeline.specs.declared.told.Told.{Told}
 use Rattle.grub_timeline.proofs.OneFile.{one_run}

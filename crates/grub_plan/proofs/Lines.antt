@@ -6,7 +6,7 @@ use Rattle.grub_plan.specs.declared.line.Act.TheVariants as acts
 use Rattle.grub_plan.specs.declared.entry.Ask.TheVariants.{Read}
 use Rattle.grub_plan.specs.declared.entry.Answer.{Answer}
 use Rattle.grub_plan.specs.declared.entry.Entry.{Entry}
-use Rattle.grub_asks.specs.Asked.{AsksDue, AsksLine, Follows, AsksOne, ask_of, entry}
+use Rattle.grub_plan.specs.Asked.{AsksDue, AsksLine, Follows, AsksOne, ask_of, entry}
 
 -- a reading asks nothing more
 pub read_follows : (r m : ℕ) (act : Act ℕ ℕ) (answer : Answer) (es : List Entry) → ask_of r m act ≡ Read → Follows r m act answer es es

@@ -1,7 +1,7 @@
 use Rattle.std.proofs.Common.{ap}
 use Rattle.grub_wheel.specs.TimerBag.{WheelState}
-use Rattle.grub_asks.proofs.Alarms.{cancelled, places_disarmed, touched_removed, removed_none}
-use Rattle.grub_asks.proofs.keeping.disarm.Goals as goal
+use Rattle.grub_plan.proofs.Alarms.{cancelled, places_disarmed, touched_removed, removed_none}
+use Rattle.grub_plan.proofs.keeping.disarm.Goals as goal
 
 pub returns-in-Some-clause-touched : goal.returns-in-Some-clause-touched
 returns-in-Some-clause-touched c =

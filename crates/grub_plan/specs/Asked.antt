@@ -12,7 +12,7 @@ use Rattle.grub_plan.specs.declared.entry.Answer.{Answer}
 use Rattle.grub_plan.specs.declared.entry.Answer.TheVariants.{Replied}
 use Rattle.grub_plan.specs.declared.entry.Entry.{Entry}
 use Rattle.grub_wheel.specs.declared.timer.Timer.{Timer}
-use Rattle.grub_asks.specs.Timers.{armed, IsNextDue, NoneDue}
+use Rattle.grub_plan.specs.Timers.{armed, IsNextDue, NoneDue}
 
 abbrev pub entry : ℕ → Ask → Answer → Entry
 entry m ask answer = record { m = m; ask = ask; answer = answer }

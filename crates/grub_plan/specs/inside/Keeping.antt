@@ -5,7 +5,7 @@ use Rattle.grub_book.specs.declared.op.Op.{Op}
 use Rattle.grub_book.specs.declared.op.Op.TheVariants as ops
 use Rattle.grub_plan.specs.declared.entry.Entry.{Entry}
 use Rattle.grub_wheel.specs.TimerBag.{TimerBag}
-use Rattle.grub_asks.specs.Timers.{Alarm, armed}
+use Rattle.grub_plan.specs.Timers.{Alarm, armed}
 use Rattle.std.specs.FinMap as map
 
 -- the wheel has the timers that the entries leave, all of tasks that are there

@@ -11,9 +11,9 @@ use Rattle.grub_plan.specs.declared.line.Act.TheVariants as acts
 use Rattle.grub_plan.specs.declared.entry.Answer.{Answer}
 use Rattle.grub_plan.specs.declared.entry.Answer.TheVariants.{Replied}
 use Rattle.grub_plan.specs.declared.entry.Entry.{Entry}
-use Rattle.grub_asks.specs.Answers.{event_told, events_told}
+use Rattle.grub_plan.specs.Answers.{event_told, events_told}
 use Rattle.grub_wheel.specs.declared.timer.Timer.{Timer}
-use Rattle.grub_asks.specs.Asked.{AsksLine, AsksTimer, Follows, JoinsAfter}
+use Rattle.grub_plan.specs.Asked.{AsksLine, AsksTimer, Follows, JoinsAfter}
 
 pub events_more : (i : ℕ) (es : List Entry) (e : Entry) → events_told i (es ++ e ∷ []) ≡ events_told i es ++ event_told i e.ask e.answer
 events_more i es e = grind (arith, common_steps)

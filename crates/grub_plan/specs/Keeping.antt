@@ -7,7 +7,7 @@ use Rattle.grub_book.specs.declared.reply.Reply.TheVariants as replies
 use Rattle.grub_plan.specs.declared.entry.Answer.{Answer}
 use Rattle.grub_plan.specs.declared.entry.Answer.TheVariants as answers
 use Rattle.grub_wheel.specs.TimerBag.{TimerBag, WheelState}
-use Rattle.grub_asks.specs.Timers.{Touch}
+use Rattle.grub_plan.specs.Timers.{Touch}
 
 -- what an answer did to the timers: that of task t was touched so, and the others stay
 abbrev pub IsTouched : TimerBag → TimerBag → ℕ → Touch → Type 0

@@ -15,9 +15,9 @@ use Rattle.grub_book.specs.declared.op.Op.TheVariants as ops
 use Rattle.grub_book.specs.declared.reply.Reply.TheVariants as replies
 use Rattle.grub_plan.specs.declared.entry.Answer.TheVariants as answers
 use Rattle.grub_plan.specs.declared.entry.Entry.{Entry}
-use Rattle.grub_asks.specs.Timers.{Alarm, armed, touch_of_call, IsNextDue, NoneDue}
-use Rattle.grub_asks.specs.inside.Touches.{leaves, disarms, arms, alarm_after}
-use Rattle.grub_asks.specs.Keeping.{IsBlock, IsBlockBefore, IsTouched, places_of}
+use Rattle.grub_plan.specs.Timers.{Alarm, armed, touch_of_call, IsNextDue, NoneDue}
+use Rattle.grub_plan.specs.inside.Touches.{leaves, disarms, arms, alarm_after}
+use Rattle.grub_plan.specs.Keeping.{IsBlock, IsBlockBefore, IsTouched, places_of}
 
 key_eq : (u t : ℕ) → eq_by_cmp nat_cmp u t ≡ nat_eq u t
 key_eq u t = grind (arith, nat_tests)

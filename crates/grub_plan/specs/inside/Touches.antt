@@ -1,6 +1,6 @@
 -- What an entry makes of a timer, for the proofs.
 use Rattle.std.specs.Prelude.{Option, Some, None, unwrap_or}
-use Rattle.grub_asks.specs.Timers.{Alarm, Touch}
+use Rattle.grub_plan.specs.Timers.{Alarm, Touch}
 
 abbrev pub leaves : Touch
 leaves = None

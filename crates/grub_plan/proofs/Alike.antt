@@ -12,11 +12,11 @@ use Rattle.grub_plan.specs.declared.entry.Ask.TheVariants.{Call}
 use Rattle.grub_plan.specs.declared.entry.Answer.{Answer}
 use Rattle.grub_plan.specs.declared.entry.Answer.TheVariants.{Replied}
 use Rattle.grub_plan.specs.declared.entry.Entry.{Entry}
-use Rattle.grub_asks.specs.Asked.{AsksLine, AsksTimer, Follows, JoinsAfter, ask_of, entry}
+use Rattle.grub_plan.specs.Asked.{AsksLine, AsksTimer, Follows, JoinsAfter, ask_of, entry}
 use Rattle.grub_wheel.specs.declared.timer.Timer.{Timer}
 use Rattle.grub_wheel.specs.TimerBag.{IsNotAfter}
-use Rattle.grub_asks.specs.Timers.{NoneDue, armed}
-use Rattle.grub_asks.proofs.Starts.{follows_start, joins_start, next_start, script_start, timers_start}
+use Rattle.grub_plan.specs.Timers.{NoneDue, armed}
+use Rattle.grub_plan.proofs.Starts.{follows_start, joins_start, next_start, script_start, timers_start}
 
 -- ---- lines of runqueue own; P holds of what is answered by a book, and of each beginning of it
 module _

@@ -1,12 +1,12 @@
 //! What an answer does to the timers.
 ghost use Rattle.std.specs.Prelude.{◌≡◌, ◌<◌, ◌≤◌, ℕ, Some, None, OnOk};
 ghost use Rattle.std.specs.FinMap as map;
-ghost use Rattle.grub_asks.specs.Timers.{touch_of_call};
-ghost use Rattle.grub_asks.specs.inside.Touches.{disarms};
-ghost use Rattle.grub_asks.specs.Keeping.{IsBlock, IsBlockBefore, IsNoTimer, IsTouched, WaitsRightly, places_of};
+ghost use Rattle.grub_plan.specs.Timers.{touch_of_call};
+ghost use Rattle.grub_plan.specs.inside.Touches.{disarms};
+ghost use Rattle.grub_plan.specs.Keeping.{IsBlock, IsBlockBefore, IsNoTimer, IsTouched, WaitsRightly, places_of};
 
+use crate::entry::Answer;
 use grub_book::{Op, Reply};
-use grub_plan::Answer;
 use grub_wheel::Wheel;
 use std::alloc::AllocError;
 

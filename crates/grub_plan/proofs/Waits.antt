@@ -18,7 +18,7 @@ use Rattle.grub_book.specs.declared.reply.Reply.{Reply}
 use Rattle.grub_book.specs.declared.reply.Reply.TheVariants.{Joined, Waiting, Asleep, Retired, Retuned, Full}
 use Rattle.grub_book.proofs.Cases.{of_timer}
 use Rattle.grub_book.proofs.Claims.{refused_outside}
-use Rattle.grub_asks.specs.Keeping.{IsBlockBefore}
+use Rattle.grub_plan.specs.Keeping.{IsBlockBefore}
 
 -- of two replies at most the first waits
 first_only : {P : Type 0} (b : Bool) (x y : Record × Reply) (ticket z : ℕ) → (b ≡ true → x.1 ≡ Waiting ticket z → P) → (y.1 ≡ Waiting ticket z → P) → (cond b x y).1 ≡ Waiting ticket z → P

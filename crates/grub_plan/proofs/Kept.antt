@@ -12,11 +12,11 @@ use Rattle.grub_plan.specs.declared.entry.Ask.TheVariants.{Call, Read}
 use Rattle.grub_plan.specs.declared.entry.Answer.{Answer}
 use Rattle.grub_plan.specs.declared.entry.Answer.TheVariants.{Seen}
 use Rattle.grub_plan.specs.declared.entry.Entry.{Entry}
-use Rattle.grub_asks.specs.Asked.{entry}
-use Rattle.grub_asks.specs.Timers.{Alarm, armed, touch, touch_of_call}
-use Rattle.grub_asks.specs.inside.Touches.{alarm_after, leaves}
-use Rattle.grub_asks.specs.Keeping.{IsTouched}
-use Rattle.grub_asks.specs.inside.Keeping.{IsKept}
+use Rattle.grub_plan.specs.Asked.{entry}
+use Rattle.grub_plan.specs.Timers.{Alarm, armed, touch, touch_of_call}
+use Rattle.grub_plan.specs.inside.Touches.{alarm_after, leaves}
+use Rattle.grub_plan.specs.Keeping.{IsTouched}
+use Rattle.grub_plan.specs.inside.Keeping.{IsKept}
 
 pub armed-more : (t : ℕ) (es : List Entry) (e : Entry) → armed (es ++ e ∷ []) t ≡ alarm_after (touch t e.ask e.answer) (armed es t)
 armed-more t es e = fold_push (λ alarm e. alarm_after (touch t e.ask e.answer) alarm) None es e

@@ -1,10 +1,10 @@
 //! What a line asks.
 ghost use Rattle.std.specs.Prelude.{◌≡◌, MatchOption};
 ghost use Rattle.grub_plan.specs.declared.entry.Ask.TheVariants as asks;
-ghost use Rattle.grub_asks.specs.Asked.{ask_of};
+ghost use Rattle.grub_plan.specs.Asked.{ask_of};
 
+use crate::line::Act;
 use grub_book::Op;
-use grub_plan::Act;
 
 /// The task and the op that a line of runqueue `r` asks for at moment `m`, where it is no reading.
 pub fn call_of(r: u32, m: u32, act: Act) -> Option<(u32, Op)>

@@ -2,10 +2,10 @@ use Rattle.std.proofs.Common.{◌≡◌, arith, rules, sym, ap, ◌∙◌, subst
 use Rattle.grub_wheel.specs.TimerBag.{WheelState}
 use Rattle.grub_book.specs.declared.reply.Reply.TheVariants.{Waiting}
 use Rattle.grub_plan.specs.declared.entry.Answer.TheVariants.{Replied}
-use Rattle.grub_asks.specs.Timers.{touch_of_call}
-use Rattle.grub_asks.specs.Keeping.{IsTouched}
-use Rattle.grub_asks.proofs.Alarms.{is_block, later_than, places_armed, touch_waits, touched_armed}
-use Rattle.grub_asks.proofs.keeping.keep.Goals as goal
+use Rattle.grub_plan.specs.Timers.{touch_of_call}
+use Rattle.grub_plan.specs.Keeping.{IsTouched}
+use Rattle.grub_plan.proofs.Alarms.{is_block, later_than, places_armed, touch_waits, touched_armed}
+use Rattle.grub_plan.proofs.keeping.keep.Goals as goal
 
 pub arm-requires-clause-later : goal.arm-requires-clause-later
 arm-requires-clause-later c =
