@@ -2,7 +2,7 @@
 use Rattle.std.proofs.Common.{◌≡◌, ◌⊎◌, inl, inr, ℕ, List, [], ◌∷◌, ◌++◌, Option, refl, subst, append-nil, append_assoc}
 use Rattle.std.proofs.lemmas.Fn.{FoldsTo-push}
 use Rattle.std.specs.List.{FoldsTo, concat}
-use Rattle.grub_files.specs.Source.{Gives, Opener, Reader}
+use Rattle.grub_text.specs.Source.{Gives, Opener, Reader}
 use Rattle.grub_facts.specs.Census.{CountsOn, HasCounted, NeedsNoMore as CountsEnough}
 use Rattle.grub_facts.specs.Told.{HasRead, NeedsNoMore, ReadsOn}
 use Rattle.grub_facts.specs.declared.reader.FactReader.{FactReader}

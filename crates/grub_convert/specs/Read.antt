@@ -1,7 +1,7 @@
 -- What a trace that is read in pieces tells, by what the calls that open and read it may answer.
 use Rattle.std.specs.Prelude.{◌≡◌, ◌⊎◌, ℕ, List, ◌++◌, Ok, Option, Some, map}
 use Rattle.std.specs.Fn.{FnReturnsAt}
-use Rattle.grub_files.specs.Source.{Opener, Reader, Reads, ReadsWhole}
+use Rattle.grub_text.specs.Source.{Opener, Reader, Reads, ReadsWhole}
 use Rattle.std.specs.Io.KnownBytes.{Appends}
 use Rattle.grub_facts.specs.Census.{AreShown, fault_counted}
 use Rattle.grub_facts.specs.Faults.{fault_text}

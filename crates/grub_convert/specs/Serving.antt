@@ -4,7 +4,7 @@ use Rattle.std.specs.Fn.{Shared, FnReturnsAt, FnReturnsAtPair}
 use Rattle.std.specs.List.{AllZip, slice_get}
 use Rattle.std.specs.declared.result.Result.{Result}
 use Rattle.std.specs.declared.io.Error.{Error}
-use Rattle.grub_files.specs.Source.{Opener, Reader}
+use Rattle.grub_text.specs.Source.{Opener, Reader}
 use Rattle.grub_facts.specs.declared.fact.Facts.{Facts}
 use Rattle.grub_convert.specs.Faults.{explained}
 use Rattle.grub_convert.specs.Files.{AreFiles, IsFault}

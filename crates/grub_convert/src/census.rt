@@ -6,7 +6,7 @@ ghost use Rattle.grub_facts.specs.Census.{tally_text};
 ghost use Rattle.grub_convert.specs.Census.{cpus_behind, cpus_text, deadline_text, fraction_text, micros_text, parameters_text, reservation_of, reserves_text, task_line, tasks_text};
 
 use grub_facts::{Counted, Reserved, ShownTasks};
-use grub_plan::put_number;
+use grub_text::put_number;
 use std::alloc::{AllocError, Global};
 use trace_words::Parameters;
 

@@ -1,7 +1,7 @@
 //! A trace, read in pieces.
 
 ghost use Rattle.std.specs.Prelude.{◌≡◌, ◌<◌, ◌⊎◌, ℕ, List, [], false, IfErr, IfOk, IsTrue, OnOk, length, map};
-ghost use Rattle.grub_files.specs.Source.{Gives};
+ghost use Rattle.grub_text.specs.Source.{Gives};
 ghost use Rattle.grub_facts.specs.Census.{CountsOn, NeedsNoMore as CountsEnough};
 ghost use Rattle.grub_facts.specs.Told.{HasRead, NeedsNoMore, ReadsOn};
 ghost use Rattle.grub_convert.specs.Faults.{IsOfReading};
@@ -11,8 +11,8 @@ ghost use Rattle.grub_convert.specs.inside.Taking.{TookAll, TookEnough, TookFrom
 
 use crate::fault::ConvertFault;
 use crate::options::ConvertOptions;
-use grub_facts::{FactReader, Facts, ShownTasks, TaskReader};
-use grub_files::read_once;
+use grub_facts::{FactReader, Facts, TaskReader, ShownTasks};
+use grub_text::read_once;
 use std::alloc::{AllocError, Global};
 use std::io;
 

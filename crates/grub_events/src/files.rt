@@ -8,7 +8,7 @@ use crate::event::{EventSource, TaskAct, TimedEvent};
 use crate::names::fair_name;
 use crate::setting::{Declared, Setting};
 use grub_bw::{Params, Queue};
-use grub_plan::put_number;
+use grub_text::put_number;
 use std::alloc::{AllocError, Global};
 
 /// Whether an event is one of a task that is first seen as it blocks, in the file of this runqueue.

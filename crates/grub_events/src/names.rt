@@ -5,7 +5,8 @@ ghost use Rattle.grub_plan.specs.Contents.{contents};
 ghost use Rattle.grub_events.specs.Names.{fair_name, is_fair, has_comm, is_fit, name_of, names_of};
 
 use grub_facts::Found;
-use grub_plan::{is_name, put_number};
+use grub_plan::is_name;
+use grub_text::put_number;
 use std::alloc::{AllocError, Global};
 
 /// The name of the deadline server of fair tasks on a runqueue.

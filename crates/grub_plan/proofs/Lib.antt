@@ -1,3 +1,9 @@
-pub mod Handing
+pub mod Alarms
+pub mod Alike
 pub mod Joins
+pub mod Kept
+pub mod Lines
+pub mod Parts
 pub mod PlanLimits
+pub mod Starts
+pub mod Waits

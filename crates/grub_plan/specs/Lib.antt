@@ -1,7 +1,11 @@
+pub mod Answers
+pub mod Asked
 pub mod Contents
+pub mod Keeping
 pub mod Limits
 pub mod Messages
 pub mod Names
 pub mod Plans
 pub mod Texts
-pub mod Writing
+pub mod Timers
+pub mod inside

@@ -8,10 +8,7 @@ ghost use Rattle.grub_plan.specs.Texts.{reading_text, op_text, reply_text, serve
 use crate::entry::{Answer, Ask, Entry};
 use crate::plan::Plan;
 use grub_book::{Op, Reading, Reply};
-use itoa::Buffer;
-
-/// No number has more digits.
-pub const DIGITS_MAX: usize = 20;
+use grub_text::{LINE_MAX, append, append_number};
 
 /// The text of no reading is longer.
 pub const READING_MAX: usize = 54;
@@ -21,33 +18,6 @@ pub const ANSWER_MAX: usize = 100;
 
 /// The text of no ask is longer.
 pub const ASK_MAX: usize = 65;
-
-/// No line of a report, of a time line or of its steps is longer.
-pub const LINE_MAX: usize = 320;
-
-/// Appends a piece as it is.
-pub fn append(out: &mut Vec<u8>, piece: &[u8])
-    requires { vec_len out.old + length piece.now ≤ vec_capacity out.old }
-    ensures text { out.new.items ≡ out.old.items ++ piece.now }
-    ensures len { vec_len out.new ≡ vec_len out.old + length piece.now }
-    ensures room { vec_capacity out.old ≤ vec_capacity out.new }
-{
-    let Ok(()) = out.extend_from_slice(piece) else {
-        unreachable!();
-    };
-}
-
-/// Appends a piece and then a number, in plain decimal.
-pub fn append_number(out: &mut Vec<u8>, piece: &[u8], n: u64)
-    requires { vec_len out.old + length piece.now + DIGITS_MAX ≤ vec_capacity out.old }
-    ensures text { out.new.items ≡ out.old.items ++ (piece.now ++ decimal n) }
-    ensures len { vec_len out.new ≤ vec_len out.old + length piece.now + DIGITS_MAX }
-    ensures room { vec_capacity out.old ≤ vec_capacity out.new }
-{
-    let mut buffer = Buffer::new();
-    append(out, piece);
-    append(out, buffer.format(n).as_bytes());
-}
 
 fn append_pair(out: &mut Vec<u8>, first: &[u8], x: u32, second: &[u8], y: u32)
     requires { vec_len out.old + length first.now + length second.now + 40 ≤ vec_capacity out.old }

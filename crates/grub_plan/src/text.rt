@@ -1,16 +1,14 @@
 //! The texts of entries and reports.
 
-ghost use Rattle.std.specs.Prelude.{◌≡◌, ◌++◌, All, length, decimal, OnOk, IfOk};
+ghost use Rattle.std.specs.Prelude.{◌≡◌, ◌++◌, All, length, OnOk, IfOk};
 ghost use Rattle.grub_plan.specs.Plans.{IsAskOf};
 ghost use Rattle.grub_plan.specs.Texts.{reading_text, entry_line, report_text};
 
 use crate::entry::{Entry, Report};
-use crate::pieces::{
-    DIGITS_MAX, LINE_MAX, READING_MAX, append_close, append_entry, append_head, append_number,
-    append_reading,
-};
+use crate::pieces::{READING_MAX, append_close, append_entry, append_head, append_reading};
 use crate::plan::Plan;
 use grub_book::Reading;
+use grub_text::LINE_MAX;
 use std::alloc::{AllocError, Global};
 use std::error::Error;
 use std::fmt;
@@ -41,15 +39,6 @@ impl From<AllocError> for TextFault {
     fn from(_e: AllocError) -> TextFault {
         TextFault::NoMemory
     }
-}
-
-/// Appends a text and then a number, in plain decimal. It is refused where the allocator refused.
-pub fn put_number(out: &mut Vec<u8>, text: &[u8], n: u64) -> Result<(), AllocError>
-    ensures { OnOk result (out.new.items ≡ out.old.items ++ (text.now ++ decimal n)) }
-{
-    out.reserve(text.len() + DIGITS_MAX)?;
-    append_number(out, text, n);
-    Ok(())
 }
 
 /// Appends the text of a reading. It is refused where the allocator refused.

@@ -12,8 +12,8 @@ use Rattle.grub_workers.specs.Apart.{AllApart, AreOwn}
 use Rattle.grub_workers.specs.Runs.{IsOnlyRun, IsRun, entries_of}
 use Rattle.grub_run.specs.Written.{IsFaultOf, IsNoFileFault, IsOnlyText, IsOutput, texts_from}
 use Rattle.grub_run.specs.inside.Ran.{IsFaultOfRun, IsRunText}
-use Rattle.grub_run.specs.declared.fault.GrubFault.{GrubFault}
-use Rattle.grub_run.specs.declared.fault.GrubFault.TheVariants as faults
+use Rattle.grub_run.specs.declared.grub_fault.GrubFault.{GrubFault}
+use Rattle.grub_run.specs.declared.grub_fault.GrubFault.TheVariants as faults
 
 pub texts_push : (names : List (List ℕ)) (r : ℕ) (xs : List Report) (cs : List Reading) (x : Report) (c : Reading) → length xs ≡ length cs
     → texts_from names r (xs ++ x ∷ []) (cs ++ c ∷ []) ≡ texts_from names r xs cs ++ report_text names (r + length xs) x.entries.items c

@@ -1,2 +1,5 @@
+pub mod Faults
+pub mod Shown
+pub mod ViewFaults
 pub mod Written
 pub mod inside

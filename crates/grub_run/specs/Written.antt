@@ -12,8 +12,8 @@ use Rattle.grub_trace.specs.declared.fault.Kind.{Kind}
 use Rattle.grub_trace.specs.declared.fault.TraceFault.TheVariants as trace
 use Rattle.grub_workers.specs.Apart.{AllApart}
 use Rattle.grub_workers.specs.Runs.{IsRun}
-use Rattle.grub_run.specs.declared.fault.GrubFault.{GrubFault}
-use Rattle.grub_run.specs.declared.fault.GrubFault.TheVariants as faults
+use Rattle.grub_run.specs.declared.grub_fault.GrubFault.{GrubFault}
+use Rattle.grub_run.specs.declared.grub_fault.GrubFault.TheVariants as faults
 
 -- the texts of these reports, the first of which is of runqueue r and the next of r + 1
 abbrev pub texts_from : List (List ℕ) → ℕ → List Report → List Reading → List ℕ

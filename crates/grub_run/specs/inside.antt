@@ -1,2 +1,4 @@
 pub mod Messages
 pub mod Ran
+pub mod Showing
+pub mod Telling

@@ -11,13 +11,13 @@ ghost use Rattle.grub_trace.specs.declared.fault.Kind.{Kind};
 ghost use Rattle.grub_workers.specs.Runs.{AllAsksOf};
 ghost use Rattle.grub_run.specs.Written.{AppendsPrefix, Begins, IsFaultOf, IsNoFileFault, IsOnlyFault, IsOutput, Writes, texts_from};
 ghost use Rattle.grub_run.specs.inside.Ran.{BeginsRun, IsFaultOfRun, WritesRun};
-ghost use Rattle.grub_run.specs.declared.fault.GrubFault.TheVariants as faults;
+ghost use Rattle.grub_run.specs.declared.grub_fault.GrubFault.TheVariants as faults;
 
-use crate::fault::GrubFault;
+use crate::grub_fault::GrubFault;
 use crate::report::write_report;
 use grub_book::Reading;
-use grub_lines::Blocks;
-use grub_plan::{LINE_MAX, Plan, Report, TextFault, report_buffer, write_buffer};
+use grub_plan::{Plan, Report, TextFault};
+use grub_text::{Blocks, LINE_MAX, line_buffer, write_buffer};
 use grub_trace::read_files_by_threads;
 use grub_workers::{NoGate, run};
 use std::alloc::Global;
@@ -83,9 +83,8 @@ fn write_run<R: Threads + Wait + Sync, W: Write>(
         Ok(outcome) => outcome,
         Err(fault) => return Err(GrubFault::Run(fault)),
     };
-    let buffer = match report_buffer(alloc) {
-        Ok(buffer) => buffer,
-        Err(fault) => return Err(GrubFault::Text(fault)),
+    let Ok(buffer) = line_buffer(alloc) else {
+        return Err(GrubFault::Text(TextFault::NoMemory));
     };
     let Ok(blocks) = Blocks::new(alloc) else {
         return Err(GrubFault::Text(TextFault::NoMemory));

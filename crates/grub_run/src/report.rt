@@ -3,11 +3,11 @@
 ghost use Rattle.std.specs.Prelude.{◌≤◌, All, length, OnOk, OnErr, vec_capacity};
 ghost use Rattle.grub_plan.specs.Plans.{IsAskOf};
 ghost use Rattle.grub_plan.specs.Texts.{head_line, close_line, report_text};
-ghost use Rattle.grub_plan.specs.Writing.{HandsOn, HandsPart};
+ghost use Rattle.grub_text.specs.Writing.{HandsOn, HandsPart};
 
 use grub_book::Reading;
-use grub_lines::{Blocks, write_lines};
-use grub_plan::{LINE_MAX, Plan, Report, append_close, append_head, make_room};
+use grub_plan::{Plan, Report, append_close, append_head};
+use grub_text::{Blocks, LINE_MAX, make_room, write_lines};
 use std::io;
 use std::io::Write;
 use std::thread::Threads;

@@ -11,11 +11,12 @@ ghost use Rattle.grub_trace.specs.declared.fault.Kind.{Kind};
 ghost use Rattle.grub_workers.specs.Runs.{AllAsksOf};
 ghost use Rattle.grub_run.specs.Written.{AppendsPrefix, Begins, IsFaultOf, IsNoFileFault, IsOnlyFault, IsOutput, Writes, texts_from};
 ghost use Rattle.grub_run.specs.inside.Ran.{BeginsRun, IsFaultOfRun, WritesRun};
-ghost use Rattle.grub_run.specs.declared.fault.GrubFault.TheVariants as faults;
+ghost use Rattle.grub_run.specs.declared.grub_fault.GrubFault.TheVariants as faults;
 
-use crate::fault::GrubFault;
+use crate::grub_fault::GrubFault;
 use grub_book::Reading;
-use grub_plan::{Plan, Report, TextFault, report_of, write_buffer};
+use grub_plan::{Plan, Report, TextFault, report_of};
+use grub_text::write_buffer;
 use grub_trace::read_files;
 use grub_workers::{NoGate, run};
 use std::alloc::Global;

@@ -12,7 +12,7 @@ use Rattle.grub_plan.specs.declared.entry.Ask.TheVariants.{Call, Read}
 use Rattle.grub_plan.specs.declared.entry.Answer.{Answer}
 use Rattle.grub_plan.specs.declared.entry.Answer.TheVariants.{Replied, Seen}
 use Rattle.grub_plan.specs.Plans.{PlanView, IsAskOf}
-use Rattle.grub_asks.specs.Answers.{IsAnswered, event_told}
+use Rattle.grub_plan.specs.Answers.{IsAnswered, event_told}
 use Rattle.grub_timeline.specs.TimeLines.{AreAnswered, AreWithin, IsTimeLine, history_of}
 use Rattle.grub_timeline.specs.declared.told.ToldEntry.{ToldEntry}
 use Rattle.grub_steps.specs.Fitting.{AreToldIn, IsAskIn, IsToldIn}

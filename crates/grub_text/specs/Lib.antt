@@ -1,2 +1,4 @@
-pub mod Lines
 pub mod Digits
+pub mod Lines
+pub mod Source
+pub mod Writing

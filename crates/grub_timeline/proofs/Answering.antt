@@ -13,8 +13,8 @@ use Rattle.grub_plan.specs.declared.entry.Ask.TheVariants.{Call, Read}
 use Rattle.grub_plan.specs.declared.entry.Answer.{Answer}
 use Rattle.grub_plan.specs.declared.entry.Answer.TheVariants.{Replied, Seen}
 use Rattle.grub_plan.specs.declared.entry.Entry.{Entry}
-use Rattle.grub_asks.specs.Answers.{IsAnswered, event_told}
-use Rattle.grub_asks.specs.Asked.{entry}
+use Rattle.grub_plan.specs.Answers.{IsAnswered, event_told}
+use Rattle.grub_plan.specs.Asked.{entry}
 use Rattle.grub_timeline.specs.declared.told.ToldEntry.{ToldEntry}
 use Rattle.grub_timeline.specs.TimeLines.{AreAnswered, AreOf, asker, entries_of, history_of}
 

@@ -11,8 +11,8 @@ use Rattle.grub_plan.specs.declared.entry.Ask.TheVariants.{Call, Read}
 use Rattle.grub_plan.specs.declared.entry.Answer.{Answer}
 use Rattle.grub_plan.specs.declared.entry.Answer.TheVariants.{Replied}
 use Rattle.grub_plan.specs.declared.entry.Entry.{Entry}
-use Rattle.grub_asks.specs.Asked.{entry}
-use Rattle.grub_asks.specs.Keeping.{WaitsRightly}
+use Rattle.grub_plan.specs.Asked.{entry}
+use Rattle.grub_plan.specs.Keeping.{WaitsRightly}
 use Rattle.grub_timeline.specs.TimeLines.{armer, armer_after, armer_from}
 use Rattle.grub_timeline.specs.inside.Playing.{AreArmers, IsOfBlock, waits_of}
 

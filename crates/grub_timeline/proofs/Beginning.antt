@@ -8,9 +8,9 @@ use Rattle.grub_book.specs.Machine.{Machine}
 use Rattle.grub_book.specs.Sums.{opening_book}
 use Rattle.grub_book.specs.Sound.{Standing}
 use Rattle.grub_plan.specs.Plans.{IsAskOf}
-use Rattle.grub_asks.specs.Answers.{IsAnswered}
-use Rattle.grub_asks.specs.Keeping.{places_of}
-use Rattle.grub_asks.proofs.Kept.{kept_nothing}
+use Rattle.grub_plan.specs.Answers.{IsAnswered}
+use Rattle.grub_plan.specs.Keeping.{places_of}
+use Rattle.grub_plan.proofs.Kept.{kept_nothing}
 use Rattle.grub_timeline.specs.declared.told.ToldEntry.{ToldEntry}
 use Rattle.grub_timeline.specs.declared.player.Player.{Player}
 use Rattle.grub_timeline.specs.TimeLines.{armer, entries_of}

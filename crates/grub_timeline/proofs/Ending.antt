@@ -7,7 +7,7 @@ use Rattle.grub_book.specs.History.{IsLegal, book_of}
 use Rattle.grub_book.specs.declared.event.Event.{Event}
 use Rattle.grub_book.specs.declared.event.Reading.{Reading}
 use Rattle.grub_plan.specs.Plans.{PlanView, IsAskOf}
-use Rattle.grub_asks.proofs.Parts.{all_right}
+use Rattle.grub_plan.proofs.Parts.{all_right}
 use Rattle.grub_timeline.specs.declared.told.ToldEntry.{ToldEntry}
 use Rattle.grub_timeline.specs.declared.player.Player.{Player}
 use Rattle.grub_timeline.specs.TimeLines.{AreClosing, AreWithin, IsTimeLine, history_of}

@@ -17,12 +17,12 @@ use Rattle.grub_book.proofs.Histories.{book_push, legal_push}
 use Rattle.grub_plan.specs.declared.entry.Ask.TheVariants.{Call, Read}
 use Rattle.grub_plan.specs.declared.entry.Answer.TheVariants.{Replied, Seen}
 use Rattle.grub_plan.specs.Plans.{IsAskOf}
-use Rattle.grub_asks.specs.Answers.{IsAnswered, event_told}
+use Rattle.grub_plan.specs.Answers.{IsAnswered, event_told}
 use Rattle.grub_plan.specs.declared.entry.Entry.{Entry}
 use Rattle.grub_wheel.specs.TimerBag.{TimerBag, WheelState}
-use Rattle.grub_asks.specs.Keeping.{places_of}
-use Rattle.grub_asks.specs.inside.Keeping.{IsKept}
-use Rattle.grub_asks.proofs.Alarms.{few_timers}
+use Rattle.grub_plan.specs.Keeping.{places_of}
+use Rattle.grub_plan.specs.inside.Keeping.{IsKept}
+use Rattle.grub_plan.proofs.Alarms.{few_timers}
 use Rattle.grub_timeline.specs.declared.told.ToldEntry.{ToldEntry}
 use Rattle.grub_timeline.specs.TimeLines.{AreAnswered, AreWithin, entries_of, history_of}
 use Rattle.grub_timeline.specs.inside.TimeLines.{told_of}

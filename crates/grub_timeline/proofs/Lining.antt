@@ -8,8 +8,8 @@ use Rattle.grub_plan.specs.declared.entry.Ask.TheVariants.{Call, Read}
 use Rattle.grub_plan.specs.declared.entry.Answer.{Answer}
 use Rattle.grub_plan.specs.declared.entry.Answer.TheVariants.{Seen}
 use Rattle.grub_plan.specs.declared.entry.Entry.{Entry}
-use Rattle.grub_asks.specs.Asked.{AsksDue, Follows, ask_of, entry}
-use Rattle.grub_asks.proofs.Lines.{read_follows}
+use Rattle.grub_plan.specs.Asked.{AsksDue, Follows, ask_of, entry}
+use Rattle.grub_plan.proofs.Lines.{read_follows}
 use Rattle.grub_timeline.specs.declared.order.PlacedLine.{PlacedLine}
 use Rattle.grub_timeline.specs.declared.told.ToldEntry.{ToldEntry}
 use Rattle.grub_timeline.specs.TimeLines.{AsksPlaced, asker, entries_of}

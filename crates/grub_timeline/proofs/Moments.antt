@@ -12,8 +12,8 @@ use Rattle.grub_plan.specs.declared.entry.Answer.{Answer}
 use Rattle.grub_plan.specs.declared.entry.Answer.TheVariants.{Replied, Seen, Busy, Lost}
 use Rattle.grub_plan.specs.declared.entry.Entry.{Entry}
 use Rattle.grub_plan.specs.Plans.{PlanView}
-use Rattle.grub_asks.specs.Asked.{entry}
-use Rattle.grub_asks.proofs.Waits.{waits_step}
+use Rattle.grub_plan.specs.Asked.{entry}
+use Rattle.grub_plan.proofs.Waits.{waits_step}
 use Rattle.grub_timeline.specs.declared.order.PlacedLine.{PlacedLine}
 use Rattle.grub_timeline.specs.declared.told.ToldEntry.{ToldEntry}
 use Rattle.grub_book.specs.declared.event.Reading.{Reading}

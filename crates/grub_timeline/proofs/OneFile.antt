@@ -10,9 +10,9 @@ use Rattle.grub_book.specs.History.{IsLegal}
 use Rattle.grub_book.specs.declared.event.Reading.{Reading}
 use Rattle.grub_plan.specs.declared.entry.Entry.{Entry}
 use Rattle.grub_plan.specs.Plans.{PlanView, script_at, IsAskOf}
-use Rattle.grub_asks.specs.Answers.{IsAnswered, event_told, events_told}
-use Rattle.grub_asks.specs.Asked.{Asked, AsksLine}
-use Rattle.grub_asks.proofs.Alike.{script_alike}
+use Rattle.grub_plan.specs.Answers.{IsAnswered, event_told, events_told}
+use Rattle.grub_plan.specs.Asked.{Asked, AsksLine}
+use Rattle.grub_plan.proofs.Alike.{script_alike}
 use Rattle.grub_timeline.specs.declared.order.PlacedLine.{PlacedLine}
 use Rattle.grub_timeline.specs.declared.told.ToldEntry.{ToldEntry}
 use Rattle.grub_timeline.specs.Order.{lines_of}

@@ -13,9 +13,9 @@ use Rattle.grub_book.specs.declared.event.Reading.{Reading}
 use Rattle.grub_book.proofs.Histories.{legal_prefix, starts_after}
 use Rattle.grub_plan.specs.declared.entry.Entry.{Entry}
 use Rattle.grub_plan.specs.Plans.{PlanView}
-use Rattle.grub_asks.specs.Answers.{IsAnswered}
-use Rattle.grub_asks.proofs.Alike.{line_alike}
-use Rattle.grub_asks.proofs.Parts.{all_left}
+use Rattle.grub_plan.specs.Answers.{IsAnswered}
+use Rattle.grub_plan.proofs.Alike.{line_alike}
+use Rattle.grub_plan.proofs.Parts.{all_left}
 use Rattle.grub_timeline.specs.declared.order.PlacedLine.{PlacedLine}
 use Rattle.grub_timeline.specs.declared.told.ToldEntry.{ToldEntry}
 use Rattle.grub_timeline.specs.TimeLines.{AreAnswered, AreClosing, AreOf, AsksPlaced, IsOnlyTimeLine, IsTimeLine, asker, entries_of, history_of}

@@ -17,15 +17,15 @@ use Rattle.grub_plan.specs.declared.entry.Ask.TheVariants.{Call, Read}
 use Rattle.grub_plan.specs.declared.entry.Answer.{Answer}
 use Rattle.grub_plan.specs.declared.entry.Answer.TheVariants.{Replied}
 use Rattle.grub_plan.specs.declared.entry.Entry.{Entry}
-use Rattle.grub_asks.specs.Asked.{AsksLine, AsksTimer, Follows, JoinsAfter, ask_of, entry}
-use Rattle.grub_asks.specs.Keeping.{WaitsRightly}
-use Rattle.grub_asks.specs.inside.Keeping.{IsLineOp}
+use Rattle.grub_plan.specs.Asked.{AsksLine, AsksTimer, Follows, JoinsAfter, ask_of, entry}
+use Rattle.grub_plan.specs.Keeping.{WaitsRightly}
+use Rattle.grub_plan.specs.inside.Keeping.{IsLineOp}
 use Rattle.grub_wheel.specs.declared.timer.Timer.{Timer}
 use Rattle.grub_wheel.specs.TimerBag.{IsNotAfter}
-use Rattle.grub_asks.specs.Timers.{Alarm, NoneDue, Touch, armed, touch, touch_of_call}
-use Rattle.grub_asks.specs.inside.Touches.{alarm_after, disarms, leaves}
-use Rattle.grub_asks.proofs.Kept.{armed-more}
-use Rattle.grub_asks.proofs.Starts.{follows_start, joins_start}
+use Rattle.grub_plan.specs.Timers.{Alarm, NoneDue, Touch, armed, touch, touch_of_call}
+use Rattle.grub_plan.specs.inside.Touches.{alarm_after, disarms, leaves}
+use Rattle.grub_plan.proofs.Kept.{armed-more}
+use Rattle.grub_plan.proofs.Starts.{follows_start, joins_start}
 
 -- the moments rise up to m, and no armed timer is before it
 pub record Rises (m : ℕ) (es : List Entry) : Type 0 where

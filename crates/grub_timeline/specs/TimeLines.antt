@@ -15,8 +15,8 @@ use Rattle.grub_plan.specs.declared.entry.Answer.{Answer}
 use Rattle.grub_plan.specs.declared.entry.Answer.TheVariants.{Replied}
 use Rattle.grub_plan.specs.declared.entry.Entry.{Entry}
 use Rattle.grub_plan.specs.Plans.{Line, PlanView, IsAskOf}
-use Rattle.grub_asks.specs.Answers.{IsAnswered, event_told, events_told}
-use Rattle.grub_asks.specs.Asked.{Asked, AsksLine}
+use Rattle.grub_plan.specs.Answers.{IsAnswered, event_told, events_told}
+use Rattle.grub_plan.specs.Asked.{Asked, AsksLine}
 use Rattle.grub_timeline.specs.declared.order.PlacedLine.{PlacedLine}
 use Rattle.grub_timeline.specs.declared.told.ToldEntry.{ToldEntry}
 use Rattle.grub_timeline.specs.Order.{IsOrder}

@@ -2,7 +2,7 @@
 ghost use Rattle.std.specs.Prelude.{◌≡◌, ◌<◌, ◌≤◌, ◌+◌, Some, vec_len, vec_capacity};
 ghost use Rattle.std.specs.FinMap as map;
 ghost use Rattle.grub_bw.specs.declared.server.TheConstants.{MOMENT_MAX};
-ghost use Rattle.grub_asks.specs.Asked.{AsksDue};
+ghost use Rattle.grub_plan.specs.Asked.{AsksDue};
 ghost use Rattle.grub_timeline.specs.TimeLines.{entries_of};
 ghost use Rattle.grub_timeline.specs.inside.Playing.{GoesOnAt, IsNotPast, IsPlaying};
 

@@ -2,16 +2,15 @@
 ghost use Rattle.std.specs.Prelude.{◌≡◌, ◌<◌, ◌≤◌, ◌+◌, Some, length, vec_len, vec_capacity};
 ghost use Rattle.grub_bw.specs.declared.server.TheConstants.{MOMENT_MAX};
 ghost use Rattle.grub_plan.specs.Limits.{ActFits};
-ghost use Rattle.grub_asks.specs.Asked.{Follows, JoinsAfter};
+ghost use Rattle.grub_plan.specs.Asked.{Follows, JoinsAfter};
 ghost use Rattle.grub_timeline.specs.TimeLines.{AsksPlaced, entries_of};
 ghost use Rattle.grub_timeline.specs.inside.Playing.{GoesOnOf, IsLineAsked, IsNotPast, IsPlaying};
 
 use crate::due::ask_due;
 use crate::order::PlacedLine;
 use crate::player::{Player, call, look};
-use grub_asks::call_of;
 use grub_book::{Op, Reply};
-use grub_plan::{Act, Answer, Line};
+use grub_plan::{Act, Answer, Line, call_of};
 
 /// Where a task has left, it joins here.
 fn join_here(player: &mut Player<'_>, r: u32, m: u32, t: u32, answer: Answer)

@@ -2,17 +2,16 @@
 ghost use Rattle.std.specs.Prelude.{◌≡◌, ◌<◌, ◌≤◌, ◌+◌, ◌++◌, ◌∷◌, [], Some, length, vec_len, vec_capacity};
 ghost use Rattle.grub_book.specs.Op.{IsOp};
 ghost use Rattle.grub_plan.specs.declared.entry.Ask.TheVariants.{Call, Read};
-ghost use Rattle.grub_asks.specs.Keeping.{WaitsRightly};
-ghost use Rattle.grub_asks.specs.inside.Keeping.{IsLineOp};
+ghost use Rattle.grub_plan.specs.Keeping.{WaitsRightly};
+ghost use Rattle.grub_plan.specs.inside.Keeping.{IsLineOp};
 ghost use Rattle.grub_timeline.specs.inside.TimeLines.{told_of};
 ghost use Rattle.grub_timeline.specs.inside.Playing.{IsLookedAt, IsOfBlock, IsPlaying, IsToldBy};
 
 use crate::armers::note;
 use crate::log::Log;
 use crate::told::ToldEntry;
-use grub_asks::keep;
 use grub_book::{Book, Op};
-use grub_plan::{Answer, Ask, Entry};
+use grub_plan::{Answer, Ask, Entry, keep};
 use grub_wheel::Wheel;
 use std::snapshot::Snapshot;
 

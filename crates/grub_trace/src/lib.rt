@@ -18,10 +18,9 @@ mod words;
 
 pub use fault::{Kind, TraceFault};
 pub use grub_plan::{
-    ANSWER_MAX, ASK_MAX, Act, Answer, Ask, DIGITS_MAX, Entry, LINE_MAX, Line, Plan, READING_MAX,
-    Report, TextFault, append, append_answer, append_ask, append_close, append_entry, append_head,
-    append_number, append_reading, is_name, line_of, make_room, put_number, put_reading,
-    report_buffer, report_of, write_buffer, write_bytes,
+    ANSWER_MAX, ASK_MAX, Act, Answer, Ask, Entry, Line, Plan, READING_MAX, Report, TextFault,
+    append_answer, append_ask, append_close, append_entry, append_head, append_reading, is_name,
+    line_of, put_reading, report_of,
 };
 pub use heads::check_count;
 pub use read::{read_files, read_files_by_threads};

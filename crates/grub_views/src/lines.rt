@@ -3,16 +3,14 @@
 ghost use Rattle.std.specs.Prelude.{◌≡◌, ◌+◌, ◌≤◌, ◌++◌, [], All, OnOk, OnErr, length, vec_len, vec_capacity};
 ghost use Rattle.std.specs.List.{flat_map};
 ghost use Rattle.grub_plan.specs.Plans.{IsAskOf};
-ghost use Rattle.grub_plan.specs.Writing.{HandsOn, HandsPart};
+ghost use Rattle.grub_text.specs.Writing.{HandsOn, HandsPart};
 ghost use Rattle.grub_views.specs.Lines.{HandsOnTimeline, HandsPartOfTimeline, close_line, close_lines, told_line};
 
 use crate::beside::play_beside;
 use crate::rest::play_out;
 use grub_book::Reading;
-use grub_lines::{Blocks, Line, write_lines};
-use grub_plan::{
-    LINE_MAX, Plan, append, append_answer, append_ask, append_number, append_reading, make_room,
-};
+use grub_plan::{Plan, append_answer, append_ask, append_reading};
+use grub_text::{Blocks, LINE_MAX, Line, append, append_number, make_room, write_lines};
 use grub_timeline::{Playing, ToldEntry};
 use std::io;
 use std::io::Write;

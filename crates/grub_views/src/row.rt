@@ -8,8 +8,9 @@ ghost use Rattle.grub_steps.specs.Fitting.{IsToldIn};
 ghost use Rattle.grub_views.specs.Rows.{answer_numbers, answer_word, arg_field, ask_word, asked_fields, number_field, number_fields, reply_numbers, reply_word, step_row, task_field};
 
 use grub_book::{Op, Reply};
-use grub_plan::{Answer, Ask, LINE_MAX, Plan, append, append_number};
+use grub_plan::{Answer, Ask, Plan};
 use grub_steps::Step;
+use grub_text::{LINE_MAX, append, append_number};
 
 /// The numbers of an answer, where it has them.
 #[derive(Clone, Copy)]

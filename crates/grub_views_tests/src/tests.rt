@@ -4,11 +4,11 @@ ghost use Rattle.std.specs.Prelude.{◌≡◌, ◌≤◌, IfSome, vec_capacity};
 ghost use Rattle.grub_book.specs.Sums.{opening_book};
 
 use grub_book::Book;
-use grub_lines::Blocks;
 use grub_picture::*;
-use grub_plan::{LINE_MAX, Plan, report_buffer, write_buffer};
+use grub_plan::Plan;
 use grub_steps::*;
 use grub_summary::*;
+use grub_text::{Blocks, LINE_MAX, line_buffer, write_buffer};
 use grub_timeline::{Playing, ToldEntry, play};
 use grub_trace::read_files;
 use grub_views::*;
@@ -88,7 +88,7 @@ fn written<R: Threads + Sync>(
     plan: &Plan,
     view: View,
 ) -> Result<Vec<u8>, ViewFault> {
-    let Ok(mut buffer) = report_buffer(alloc) else {
+    let Ok(mut buffer) = line_buffer(alloc) else {
         return Err(ViewFault::NoMemory);
     };
     let mut text = Vec::new(alloc);

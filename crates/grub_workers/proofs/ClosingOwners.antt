@@ -28,7 +28,7 @@ use Rattle.grub_plan.specs.declared.entry.Answer.TheVariants.{Replied, Seen, Bus
 use Rattle.grub_plan.specs.declared.entry.Entry.{Entry}
 use Rattle.grub_plan.specs.declared.entry.Report.{Report}
 use Rattle.grub_plan.specs.Plans.{Line, PlanView, script_at}
-use Rattle.grub_asks.specs.Answers.{event_told, events_told}
+use Rattle.grub_plan.specs.Answers.{event_told, events_told}
 use Rattle.grub_workers.specs.Entries.{HeldTask}
 use Rattle.grub_workers.specs.inside.Entries.{mark_told, marks_of, marks_told}
 use Rattle.grub_workers.specs.inside.Evidence.{AreBacked, CallsElse, IsBacked, ShowsHolder, TakesElse}

@@ -16,11 +16,11 @@ use Rattle.grub_plan.specs.declared.entry.Ask.TheVariants.{Call, Read}
 use Rattle.grub_plan.specs.declared.entry.Answer.{Answer}
 use Rattle.grub_plan.specs.declared.entry.Answer.TheVariants.{Replied, Seen}
 use Rattle.grub_plan.specs.declared.entry.Entry.{Entry}
-use Rattle.grub_asks.specs.Asked.{AsksLine, entry}
-use Rattle.grub_asks.specs.Answers.{IsAnswered, event_told, events_told}
-use Rattle.grub_asks.proofs.Parts.{all_left, all_right}
-use Rattle.grub_asks.proofs.Starts.{events_more, events_told-append}
-use Rattle.grub_asks.proofs.Alike.{script_alike as alike}
+use Rattle.grub_plan.specs.Asked.{AsksLine, entry}
+use Rattle.grub_plan.specs.Answers.{IsAnswered, event_told, events_told}
+use Rattle.grub_plan.proofs.Parts.{all_left, all_right}
+use Rattle.grub_plan.proofs.Starts.{events_more, events_told-append}
+use Rattle.grub_plan.proofs.Alike.{script_alike as alike}
 
 -- ---- the worker of runqueue own
 module _ (own : ℕ) where

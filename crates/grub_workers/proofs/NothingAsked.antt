@@ -11,7 +11,7 @@ use Rattle.grub_plan.specs.Plans.{IsAskOf}
 use Rattle.grub_workers.specs.declared.worker.Progress.{Progress}
 use Rattle.grub_workers.specs.inside.Entries.{marks_of}
 use Rattle.grub_workers.specs.inside.Evidence.{IsBacked}
-use Rattle.grub_asks.proofs.Kept.{kept_nothing}
+use Rattle.grub_plan.proofs.Kept.{kept_nothing}
 use Rattle.grub_workers.specs.inside.Working.{IsAtWork, IsToldBy, machine}
 
 told_nothing : (s : Shared) (tries i : ℕ) (p : Pass) → IsNew s i p → IsToldBy s tries i p []

@@ -15,7 +15,7 @@ use Rattle.grub_plan.specs.declared.entry.Answer.TheVariants.{Lost}
 use Rattle.grub_plan.specs.declared.entry.Entry.{Entry}
 use Rattle.grub_plan.specs.declared.entry.Report.{Report}
 use Rattle.grub_plan.specs.Plans.{PlanView, script_at}
-use Rattle.grub_asks.specs.Answers.{IsAnswered}
+use Rattle.grub_plan.specs.Answers.{IsAnswered}
 use Rattle.grub_workers.specs.Runs.{AllAsksOf, EachEntry, IsNoLostCharge, IsNotVain, IsOnlyRun, IsRun, entries_of}
 use Rattle.grub_workers.specs.Apart.{AllApart, IsApart, Names}
 use Rattle.grub_workers.proofs.OwnReports.{answered_own, whole_own}

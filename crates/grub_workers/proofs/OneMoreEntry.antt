@@ -15,13 +15,13 @@ use Rattle.grub_plan.specs.declared.entry.Ask.TheVariants.{Read}
 use Rattle.grub_plan.specs.declared.entry.Answer.{Answer}
 use Rattle.grub_plan.specs.declared.entry.Answer.TheVariants.{Seen}
 use Rattle.grub_plan.specs.declared.entry.Entry.{Entry}
-use Rattle.grub_asks.specs.Asked.{entry}
+use Rattle.grub_plan.specs.Asked.{entry}
 use Rattle.grub_plan.specs.Plans.{IsAskOf}
-use Rattle.grub_asks.specs.Answers.{AreAsksOf, event_told, events_told}
+use Rattle.grub_plan.specs.Answers.{AreAsksOf, event_told, events_told}
 use Rattle.grub_workers.specs.inside.Entries.{mark_told, marks_told}
 use Rattle.grub_workers.specs.inside.Evidence.{AreBacked, IsBacked}
 use Rattle.grub_workers.specs.inside.Working.{IsAsked, IsToldBy, machine}
-use Rattle.grub_asks.proofs.Starts.{events_more}
+use Rattle.grub_plan.proofs.Starts.{events_more}
 use Rattle.grub_workers.proofs.KnowingMore.{all_backed_later}
 
 marks_more : (i : ℕ) (es : List Entry) (e : Entry) → marks_told i (es ++ e ∷ []) ≡ marks_told i es ++ mark_told i e.ask e.answer

@@ -15,10 +15,10 @@ use Rattle.grub_plan.specs.declared.entry.Ask.TheVariants.{Call, Read}
 use Rattle.grub_plan.specs.declared.entry.Answer.{Answer}
 use Rattle.grub_plan.specs.declared.entry.Answer.TheVariants.{Replied}
 use Rattle.grub_plan.specs.declared.entry.Entry.{Entry}
-use Rattle.grub_asks.specs.Asked.{Asked, AsksLine, AsksTimer, Follows, JoinsAfter, ask_of, entry}
+use Rattle.grub_plan.specs.Asked.{Asked, AsksLine, AsksTimer, Follows, JoinsAfter, ask_of, entry}
 use Rattle.grub_wheel.specs.declared.timer.Timer.{Timer}
-use Rattle.grub_asks.specs.Timers.{Alarm, touch, touch_of_call}
-use Rattle.grub_asks.specs.inside.Touches.{alarm_after, leaves}
+use Rattle.grub_plan.specs.Timers.{Alarm, touch, touch_of_call}
+use Rattle.grub_plan.specs.inside.Touches.{alarm_after, leaves}
 use Rattle.grub_workers.specs.Apart.{Names}
 
 -- the op names no runqueue, or one for which Q holds

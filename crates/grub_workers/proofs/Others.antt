@@ -23,7 +23,7 @@ use Rattle.grub_table.specs.declared.view.Mark.TheVariants.{Taken, Given}
 use Rattle.grub_table.specs.Marks.{holder_after, holder_of}
 use Rattle.grub_table.proofs.Marks.{given_else, given_here, taken_else, taken_here}
 use Rattle.grub_workers.specs.inside.Evidence.{TakesElse, CallsElse}
-use Rattle.grub_asks.proofs.Parts.{all_left, all_right}
+use Rattle.grub_plan.proofs.Parts.{all_left, all_right}
 use Rattle.grub_workers.proofs.Elements.{Somewhere, any_of, filter_none, somewhere_left, somewhere_right}
 
 not_own : (i : ℕ) (e : Event) → (pass_of e == i) ≡ false → pass_of e ≢ i

@@ -28,16 +28,16 @@ use Rattle.grub_plan.specs.declared.entry.Answer.{Answer}
 use Rattle.grub_plan.specs.declared.entry.Answer.TheVariants.{Replied, Seen, Busy, Lost}
 use Rattle.grub_plan.specs.declared.entry.Entry.{Entry}
 use Rattle.grub_plan.specs.declared.entry.Report.{Report}
-use Rattle.grub_asks.specs.Asked.{Asked}
+use Rattle.grub_plan.specs.Asked.{Asked}
 use Rattle.grub_plan.specs.Plans.{Line, PlanView, script_at}
-use Rattle.grub_asks.specs.Answers.{IsAnswered, event_told, events_told}
+use Rattle.grub_plan.specs.Answers.{IsAnswered, event_told, events_told}
 use Rattle.grub_workers.specs.Entries.{HeldTask}
 use Rattle.grub_workers.specs.Evidence.{IsOvertaken}
 use Rattle.grub_workers.specs.Runs.{HeldElsewhere, IsNotVain, IsOnlyRun, IsReportOf, IsRun, entries_of}
 use Rattle.grub_workers.specs.Apart.{AllApart, IsAnsweredAt, IsApart, IsOnlyReport, Names}
 use Rattle.grub_workers.proofs.Apart.{Agrees, IsAt, IsOneSided, IsSameAt, Splits, reading_after, retune_at, same_get, splits, timer_at}
 use Rattle.grub_workers.proofs.Determined.{IsPlain, script_alike}
-use Rattle.grub_asks.proofs.Parts.{all_left, all_right}
+use Rattle.grub_plan.proofs.Parts.{all_left, all_right}
 use Rattle.grub_workers.proofs.OnlyNamed.{IsOwnAsk, NamesAt, script_own}
 use Rattle.grub_workers.proofs.Others.{ChangesElse, changed_else, changes_later}
 use Rattle.grub_workers.proofs.ListsGoneThrough.{some_of}

@@ -29,11 +29,11 @@ use Rattle.grub_plan.specs.declared.entry.Answer.TheVariants.{Replied, Lost}
 use Rattle.grub_workers.specs.declared.asking.AskTurn.{AskTurn}
 use Rattle.grub_workers.specs.declared.asking.AskTurn.TheVariants as turns
 use Rattle.grub_workers.specs.inside.Evidence.{ShowsHolder}
-use Rattle.grub_asks.specs.Keeping.{IsBlockBefore, WaitsRightly}
+use Rattle.grub_plan.specs.Keeping.{IsBlockBefore, WaitsRightly}
 use Rattle.grub_workers.specs.inside.Working.{IsAsked, machine}
 use Rattle.grub_workers.proofs.Others.{calls_between, held_else}
 use Rattle.grub_workers.proofs.BetweenRounds.{HasLost, IsFree, IsTurn}
-use Rattle.grub_asks.proofs.Waits.{waits_step}
+use Rattle.grub_plan.proofs.Waits.{waits_step}
 
 -- ---- what a busy call saw
 claimed_shows : (T : Terms) (i t : ℕ) (after : List Event) (known : List Mark) (word : ℕ) → IsClaimedSighting T i t after known word → ShowsHolder i t after known

@@ -5,7 +5,7 @@ use Rattle.grub_book.specs.declared.event.Reading.{Reading}
 use Rattle.grub_plan.specs.declared.entry.Entry.{Entry}
 use Rattle.grub_plan.specs.declared.entry.Report.{Report}
 use Rattle.grub_plan.specs.Plans.{Line, PlanView, named, script_at}
-use Rattle.grub_asks.specs.Answers.{IsAnswered}
+use Rattle.grub_plan.specs.Answers.{IsAnswered}
 use Rattle.grub_workers.specs.Runs.{IsOnlyRun, IsRun, entries_of}
 
 -- a line of the script names task t

@@ -13,9 +13,9 @@ use Rattle.grub_plan.specs.declared.entry.Answer.{Answer}
 use Rattle.grub_plan.specs.declared.entry.Answer.TheVariants.{Busy, Lost}
 use Rattle.grub_plan.specs.declared.entry.Entry.{Entry}
 use Rattle.grub_plan.specs.declared.entry.Report.{Report}
-use Rattle.grub_asks.specs.Asked.{Asked}
+use Rattle.grub_plan.specs.Asked.{Asked}
 use Rattle.grub_plan.specs.Plans.{Line, PlanView}
-use Rattle.grub_asks.specs.Answers.{AreAsksOf, IsAnswered, events_told}
+use Rattle.grub_plan.specs.Answers.{AreAsksOf, IsAnswered, events_told}
 use Rattle.grub_workers.specs.Entries.{HeldTask}
 use Rattle.grub_workers.specs.Evidence.{IsOvertaken}
 

@@ -3,7 +3,7 @@ ghost use Rattle.std.specs.Prelude.{◌<◌, ◌≤◌, length};
 ghost use Rattle.grub_book.specs.Op.{IsOp};
 ghost use Rattle.grub_table.specs.Calls.{terms, IsPassOf};
 ghost use Rattle.grub_plan.specs.declared.entry.Ask.TheVariants.{Call};
-ghost use Rattle.grub_asks.specs.Keeping.{WaitsRightly};
+ghost use Rattle.grub_plan.specs.Keeping.{WaitsRightly};
 ghost use Rattle.grub_workers.specs.inside.Working.{IsAsked};
 
 use crate::desk::Desk;

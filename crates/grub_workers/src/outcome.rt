@@ -1,7 +1,7 @@
 //! A run: a table, a worker for each file, and the closing readings.
 ghost use Rattle.std.specs.Prelude.{◌≡◌, ◌≤◌, IfOk, length};
 ghost use Rattle.grub_workers.specs.Apart.{AreOwn};
-ghost use Rattle.grub_asks.specs.Answers.{IsAnswered};
+ghost use Rattle.grub_plan.specs.Answers.{IsAnswered};
 ghost use Rattle.grub_workers.specs.Runs.{AllAsksOf, EachEntry, IsNoLostCharge, IsOnlyRun, IsRun};
 
 use crate::gate::Gate;

@@ -1,7 +1,7 @@
 //! A script, line by line.
 ghost use Rattle.std.specs.Prelude.{◌≡◌, ◌<◌, ◌≤◌, [], Some, None, IfOk, length};
 ghost use Rattle.grub_bw.specs.declared.server.TheConstants.{MOMENT_MAX};
-ghost use Rattle.grub_asks.specs.Asked.{Asked, AsksLine, Follows, JoinsAfter};
+ghost use Rattle.grub_plan.specs.Asked.{Asked, AsksLine, Follows, JoinsAfter};
 ghost use Rattle.grub_plan.specs.Limits.{ActFits, ScriptFits};
 ghost use Rattle.grub_table.specs.Calls.{terms};
 ghost use Rattle.grub_workers.specs.inside.Working.{IsAtWork, IsNotPast};
@@ -10,9 +10,8 @@ use crate::desk::Desk;
 use crate::due::ask_due;
 use crate::gate::Gate;
 use crate::worker::{Progress, call, look};
-use grub_asks::call_of;
 use grub_book::{Op, Reply};
-use grub_plan::{Act, Answer, Line};
+use grub_plan::{Act, Answer, Line, call_of};
 use grub_table::Pass;
 use std::alloc::AllocError;
 

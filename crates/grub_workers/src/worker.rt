@@ -2,18 +2,17 @@
 ghost use Rattle.std.specs.Prelude.{◌≡◌, ◌<◌, ◌≤◌, ◌++◌, ◌∷◌, [], Some, IfOk, length};
 ghost use Rattle.grub_book.specs.Op.{IsOp};
 ghost use Rattle.grub_plan.specs.declared.entry.Ask.TheVariants.{Call, Read};
-ghost use Rattle.grub_asks.specs.Asked.{AsksOne, entry};
-ghost use Rattle.grub_asks.specs.Keeping.{WaitsRightly};
-ghost use Rattle.grub_asks.specs.inside.Keeping.{IsLineOp};
+ghost use Rattle.grub_plan.specs.Asked.{AsksOne, entry};
+ghost use Rattle.grub_plan.specs.Keeping.{WaitsRightly};
+ghost use Rattle.grub_plan.specs.inside.Keeping.{IsLineOp};
 ghost use Rattle.grub_table.specs.Calls.{terms};
 ghost use Rattle.grub_workers.specs.inside.Working.{IsAtWork, IsToldBy};
 
 use crate::asking::ask;
 use crate::desk::Desk;
 use crate::gate::Gate;
-use grub_asks::{keep, make_room};
 use grub_book::Op;
-use grub_plan::{Answer, Ask, Entry};
+use grub_plan::{Answer, Ask, Entry, keep, make_room};
 use grub_table::Pass;
 use grub_wheel::Wheel;
 use std::alloc::AllocError;

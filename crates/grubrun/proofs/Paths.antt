@@ -4,7 +4,7 @@ use Rattle.clap.proofs.WalkLemmas.{raw_values-rows}
 use Rattle.clap.specs.Words.{matched_of, raw_values, rows_of}
 use Rattle.clap.specs.declared.parser.matches.Found.{Found}
 use Rattle.grub_command.specs.inside.Files.{names_among}
-use Rattle.grub_serve.specs.Faults.{names_of}
+use Rattle.grub_run.specs.Faults.{names_of}
 
 -- the values that were found, or none
 pub names_found : (o : Option (Bor (List (Bor (List ℕ))))) (d r : Bor (List (Bor (List ℕ)))) (named : Option (List (List ℕ))) → r ≡ unwrap_or o d → d.now ≡ []

@@ -4,13 +4,13 @@ use Rattle.clap.specs.Kinds.{IsAmong}
 use Rattle.clap.specs.Words.{Row, Text, fault_of, matches_of}
 use Rattle.clap.specs.declared.error.kind.ErrorKind.{ErrorKind}
 use Rattle.clap.specs.declared.error.kind.ErrorKind.TheVariants as kinds
-use Rattle.grub_files.specs.declared.input.Source.{Source}
-use Rattle.grub_files.specs.Source.{Opener, Reader}
+use Rattle.grub_text.specs.declared.files.Source.{Source}
+use Rattle.grub_text.specs.Source.{Opener, Reader}
 use Rattle.grub_run.specs.Written.{Begins, IsOutput, Writes}
-use Rattle.grub_serve.specs.Shown.{IsShown}
-use Rattle.grub_serve.specs.declared.view.View.{View as Shown}
-use Rattle.grub_serve.specs.Faults as faults
-use Rattle.grub_serve.specs.Faults.{HasFileFault, Whole}
+use Rattle.grub_run.specs.Shown.{IsShown}
+use Rattle.grub_run.specs.declared.view.View.{View as Shown}
+use Rattle.grub_run.specs.Faults as faults
+use Rattle.grub_run.specs.Faults.{HasFileFault, Whole}
 use Rattle.grub_command.specs.CommandLine.{ReadsNumber, TriesNamed, command_line, files_named, view_named}
 use Rattle.grub_command.specs.inside.Files.{names_among}
 use Rattle.grubrun.specs.Statuses.{AsksFor, HasNoSpan, IsWanted, PrintsAsked}

@@ -5,7 +5,7 @@ mod serve;
 mod view;
 
 use crate::serve::{serve, serve_no_words};
-use grub_files::Source;
+use grub_text::Source;
 use std::io::Read;
 use std::process::ExitCode;
 use std::{env, fs};

@@ -7,7 +7,7 @@ ghost use Rattle.clap.specs.Values.{kind_of};
 ghost use Rattle.clap.specs.Words.{FailsBy, fault_of, found_of, matches_of, rows_of};
 ghost use Rattle.clap.specs.declared.error.kind.ErrorKind.TheVariants as kinds;
 ghost use Rattle.std.specs.declared.io.ErrorKind.TheVariants as io_kinds;
-ghost use Rattle.grub_serve.specs.Faults.{HasFileFault};
+ghost use Rattle.grub_run.specs.Faults.{HasFileFault};
 ghost use Rattle.grub_command.specs.CommandLine.{TriesNamed, command_line, files_named};
 ghost use Rattle.grub_command.specs.inside.Files.{names_among};
 ghost use Rattle.grub_run.specs.Written.{Begins, Writes};
@@ -19,9 +19,10 @@ use crate::view::{Wanted, wanted_by};
 use clap::Error;
 use clap::error::ErrorKind;
 use grub_command::{HELP, Options, VERSION, options_of};
-use grub_files::Source;
-use grub_run::GrubFault;
-use grub_serve::{ProgramFault, STATUS_FILE, STATUS_SYSTEM, STATUS_USAGE, serve_files, serve_view};
+use grub_run::{
+    GrubFault, ProgramFault, STATUS_FILE, STATUS_SYSTEM, STATUS_USAGE, serve_files, serve_view,
+};
+use grub_text::Source;
 use std::alloc::Global;
 use std::fmt::Display;
 use std::io;

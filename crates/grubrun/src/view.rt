@@ -4,7 +4,7 @@ ghost use Rattle.std.specs.Prelude.{◌≡◌, None};
 ghost use Rattle.grubrun.specs.Views.{wanted_of, wanted_picture};
 
 use grub_command::ViewWord;
-use grub_serve::View;
+use grub_run::View;
 
 /// What the words ask to be printed.
 #[derive(Clone, Copy)]

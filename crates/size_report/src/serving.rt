@@ -15,9 +15,9 @@ use crate::task_text::{
     put_chance, put_choices, put_command, put_figures, put_head, put_no_runs, put_none,
     put_not_regular, put_others, put_question,
 };
-use grub_files::read_once;
 use grub_sizing::{Job, first_late};
-use size_admission::{Proposal, RootDomain, put_proposals};
+use grub_text::read_once;
+use size_admission::{RootDomain, Proposal, put_proposals};
 use std::alloc::{AllocError, Global};
 use std::io;
 use std::io::Write;

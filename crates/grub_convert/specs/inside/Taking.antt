@@ -2,7 +2,7 @@
 use Rattle.std.specs.Prelude.{◌⊎◌, ℕ, List, [], Ok}
 use Rattle.std.specs.Fn.{FnReturnsAt}
 use Rattle.std.specs.List.{FoldsTo}
-use Rattle.grub_files.specs.Source.{Gives, Opener, Reader}
+use Rattle.grub_text.specs.Source.{Gives, Opener, Reader}
 use Rattle.grub_convert.specs.declared.pieces.Input.{Input}
 
 module _ {N D T : Type 0} (g : Reader N D) (read : N) (takes : T → List ℕ → T → Type 0) where

@@ -7,8 +7,8 @@ use Rattle.grub_plan.specs.declared.entry.Report.{Report}
 use Rattle.grub_workers.specs.Apart.{AreOwn}
 use Rattle.grub_workers.specs.Runs.{IsOnlyRun, IsRun}
 use Rattle.grub_run.specs.Written.{AppendsPrefix, texts_from}
-use Rattle.grub_run.specs.declared.fault.GrubFault.{GrubFault}
-use Rattle.grub_run.specs.declared.fault.GrubFault.TheVariants as faults
+use Rattle.grub_run.specs.declared.grub_fault.GrubFault.{GrubFault}
+use Rattle.grub_run.specs.declared.grub_fault.GrubFault.TheVariants as faults
 
 -- what a run of the plan reported, and where it is the only outcome
 pub record IsRunText (plan : PlanView) (tries : ℕ) (text : List ℕ) : Type 0 where

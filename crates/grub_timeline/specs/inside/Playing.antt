@@ -12,9 +12,9 @@ use Rattle.grub_plan.specs.declared.entry.Answer.{Answer}
 use Rattle.grub_plan.specs.declared.entry.Answer.TheVariants.{Replied, Seen}
 use Rattle.grub_plan.specs.declared.entry.Entry.{Entry}
 use Rattle.grub_plan.specs.Plans.{Line, PlanView}
-use Rattle.grub_asks.specs.Asked.{Follows, ask_of, entry}
-use Rattle.grub_asks.specs.Keeping.{places_of}
-use Rattle.grub_asks.specs.inside.Keeping.{IsKept}
+use Rattle.grub_plan.specs.Asked.{Follows, ask_of, entry}
+use Rattle.grub_plan.specs.Keeping.{places_of}
+use Rattle.grub_plan.specs.inside.Keeping.{IsKept}
 use Rattle.grub_timeline.specs.declared.order.PlacedLine.{PlacedLine}
 use Rattle.grub_timeline.specs.declared.told.ToldEntry.{ToldEntry}
 use Rattle.grub_timeline.specs.declared.player.Player.{Player}

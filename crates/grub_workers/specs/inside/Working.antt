@@ -10,10 +10,10 @@ use Rattle.grub_plan.specs.Plans.{Line}
 use Rattle.grub_plan.specs.declared.entry.Ask.{Ask}
 use Rattle.grub_plan.specs.declared.entry.Answer.{Answer}
 use Rattle.grub_plan.specs.declared.entry.Entry.{Entry}
-use Rattle.grub_asks.specs.Asked.{Asked}
-use Rattle.grub_asks.specs.inside.Keeping.{IsKept}
+use Rattle.grub_plan.specs.Asked.{Asked}
+use Rattle.grub_plan.specs.inside.Keeping.{IsKept}
 use Rattle.grub_workers.specs.declared.worker.Progress.{Progress}
-use Rattle.grub_asks.specs.Answers.{AreAsksOf, event_told, events_told}
+use Rattle.grub_plan.specs.Answers.{AreAsksOf, event_told, events_told}
 use Rattle.grub_workers.specs.inside.Entries.{mark_told, marks_of, marks_told}
 use Rattle.grub_workers.specs.inside.Evidence.{IsBacked, AreBacked}
 

@@ -1,7 +1,7 @@
 //! The program on words, and what it came to.
 
 use crate::serve::serve;
-use grub_files::Source;
+use grub_text::Source;
 use std::alloc::{AllocError, Global};
 use std::fs;
 use std::io::{Read, Write};

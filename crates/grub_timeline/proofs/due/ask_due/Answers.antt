@@ -4,11 +4,11 @@ use Rattle.grub_book.specs.Machine.{Machine}
 use Rattle.grub_book.specs.declared.op.Op.TheVariants as ops
 use Rattle.grub_wheel.specs.TimerBag.{WheelState}
 use Rattle.grub_plan.specs.declared.entry.Ask.TheVariants.{Call}
-use Rattle.grub_asks.specs.Asked.{AsksTimer}
-use Rattle.grub_asks.specs.Keeping.{places_of}
-use Rattle.grub_asks.specs.inside.Keeping.{IsKept}
-use Rattle.grub_asks.proofs.Alarms.{len_some, len_taken, next_due, none_due, places_due, touched_removed}
-use Rattle.grub_asks.proofs.Kept.{kept_call}
+use Rattle.grub_plan.specs.Asked.{AsksTimer}
+use Rattle.grub_plan.specs.Keeping.{places_of}
+use Rattle.grub_plan.specs.inside.Keeping.{IsKept}
+use Rattle.grub_plan.proofs.Alarms.{len_some, len_taken, next_due, none_due, places_due, touched_removed}
+use Rattle.grub_plan.proofs.Kept.{kept_call}
 use Rattle.grub_timeline.specs.TimeLines.{armer, entries_of}
 use Rattle.grub_timeline.specs.inside.TimeLines.{told_of}
 use Rattle.grub_timeline.specs.inside.Playing.{AreArmers}

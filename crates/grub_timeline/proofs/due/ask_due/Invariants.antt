@@ -3,7 +3,7 @@ use Rattle.std.specs.Prelude.{vec_len, vec_capacity}
 use Rattle.std.specs.List.{FoldsTo}
 use Rattle.std.specs.FinMap as map
 use Rattle.grub_wheel.specs.declared.timer.Timer.{Timer}
-use Rattle.grub_asks.specs.Asked.{AsksTimer}
+use Rattle.grub_plan.specs.Asked.{AsksTimer}
 use Rattle.grub_timeline.specs.TimeLines.{entries_of}
 use Rattle.grub_timeline.specs.inside.Playing.{GoesOnAt, IsNotPast, IsPlaying}
 use Rattle.grub_timeline.proofs.due.ask_due.Given as goal

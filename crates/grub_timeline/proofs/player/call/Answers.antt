@@ -2,10 +2,10 @@ use Rattle.std.proofs.Common.{List, ℕ, length, arith, ap, sym, ◌∙◌, subs
 use Rattle.grub_book.specs.Machine.{Machine}
 use Rattle.grub_wheel.specs.TimerBag.{TimerBag, WheelState}
 use Rattle.grub_plan.specs.declared.entry.Ask.TheVariants.{Call}
-use Rattle.grub_asks.specs.Timers.{touch_of_call}
-use Rattle.grub_asks.specs.Keeping.{IsTouched, places_of}
-use Rattle.grub_asks.specs.inside.Keeping.{IsKept}
-use Rattle.grub_asks.proofs.Kept.{kept_call}
+use Rattle.grub_plan.specs.Timers.{touch_of_call}
+use Rattle.grub_plan.specs.Keeping.{IsTouched, places_of}
+use Rattle.grub_plan.specs.inside.Keeping.{IsKept}
+use Rattle.grub_plan.proofs.Kept.{kept_call}
 use Rattle.grub_timeline.specs.TimeLines.{entries_of}
 use Rattle.grub_timeline.specs.inside.TimeLines.{told_of}
 use Rattle.grub_timeline.specs.inside.Playing.{AreArmers, waits_of}

@@ -1,7 +1,7 @@
 use Rattle.std.proofs.Common.{◌≡◌, ◌++◌, ◌∷◌, [], rules, ap, refl, ◌∙◌}
 use Rattle.grub_plan.specs.declared.entry.Ask.TheVariants.{Read}
 use Rattle.grub_plan.specs.declared.entry.Answer.TheVariants.{Seen}
-use Rattle.grub_asks.proofs.Kept.{kept_look}
+use Rattle.grub_plan.proofs.Kept.{kept_look}
 use Rattle.grub_timeline.specs.TimeLines.{entries_of}
 use Rattle.grub_timeline.specs.inside.TimeLines.{told_of}
 use Rattle.grub_timeline.proofs.Arming.{armers_look}

@@ -2,10 +2,10 @@ use Rattle.std.proofs.Common.{◌≡◌, ◌++◌, ◌∷◌, [], Some, rules, s
 use Rattle.std.proofs.lemmas.Fn.{FoldsTo-push}
 use Rattle.grub_book.specs.declared.op.Op.TheVariants as ops
 use Rattle.grub_wheel.specs.TimerBag.{WheelState}
-use Rattle.grub_asks.specs.Asked.{AsksTimer}
+use Rattle.grub_plan.specs.Asked.{AsksTimer}
 use Rattle.grub_workers.specs.inside.Working.{machine}
-use Rattle.grub_asks.proofs.Alarms.{len_taken, next_due, none_due, touched_removed}
-use Rattle.grub_asks.proofs.Kept.{kept_call}
+use Rattle.grub_plan.proofs.Alarms.{len_taken, next_due, none_due, touched_removed}
+use Rattle.grub_plan.proofs.Kept.{kept_call}
 use Rattle.grub_workers.proofs.due.ask_due.Goals as goal
 
 pub loop-timer-smaller : goal.loop-timer-smaller

@@ -2,7 +2,7 @@ use Rattle.std.proofs.Common.{List}
 use Rattle.std.specs.List.{FoldsTo}
 use Rattle.std.specs.FinMap as map
 use Rattle.grub_wheel.specs.declared.timer.Timer.{Timer}
-use Rattle.grub_asks.specs.Asked.{AsksTimer}
+use Rattle.grub_plan.specs.Asked.{AsksTimer}
 use Rattle.grub_workers.specs.inside.Working.{IsAtWork, IsNotPast}
 use Rattle.grub_workers.proofs.due.ask_due.Given as goal
 

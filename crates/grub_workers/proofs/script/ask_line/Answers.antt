@@ -1,8 +1,8 @@
 use Rattle.std.proofs.lemmas.Result.{IfOk-weaker}
 use Rattle.grub_table.specs.declared.pass.Pass.{Pass}
 use Rattle.grub_plan.specs.declared.entry.Ask.TheVariants.{Read}
-use Rattle.grub_asks.specs.Asked.{AsksLine, AsksOne}
-use Rattle.grub_asks.proofs.Lines.{line_read}
+use Rattle.grub_plan.specs.Asked.{AsksLine, AsksOne}
+use Rattle.grub_plan.proofs.Lines.{line_read}
 use Rattle.grub_workers.proofs.script.ask_line.Goals as goal
 
 pub returns-in-None-clause-asked : goal.returns-in-None-clause-asked

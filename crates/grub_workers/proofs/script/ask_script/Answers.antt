@@ -3,7 +3,7 @@ use Rattle.std.proofs.lemmas.Fn.{FoldsTo-push}
 use Rattle.std.proofs.lemmas.List.{take_more}
 use Rattle.grub_plan.specs.Plans.{Line}
 use Rattle.grub_plan.specs.declared.line.Act.TheVariants as acts
-use Rattle.grub_asks.specs.Asked.{AsksLine}
+use Rattle.grub_plan.specs.Asked.{AsksLine}
 use Rattle.grub_plan.specs.Limits.{ScriptFits}
 use Rattle.grub_workers.proofs.script.ask_script.Goals as goal
 

@@ -1,6 +1,6 @@
 use Rattle.std.proofs.Common.{ℕ, [], length, take, drop}
 use Rattle.std.specs.List.{FoldsTo}
-use Rattle.grub_asks.specs.Asked.{AsksLine}
+use Rattle.grub_plan.specs.Asked.{AsksLine}
 use Rattle.grub_plan.specs.Limits.{ScriptFits}
 use Rattle.grub_workers.specs.inside.Working.{IsAtWork, IsNotPast}
 use Rattle.grub_workers.proofs.script.ask_script.Given as goal

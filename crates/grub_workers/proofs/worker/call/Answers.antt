@@ -1,9 +1,9 @@
 use Rattle.std.proofs.Common.{ap, ◌∙◌, subst}
 use Rattle.grub_wheel.specs.TimerBag.{TimerBag, WheelState}
-use Rattle.grub_asks.specs.Timers.{touch_of_call}
-use Rattle.grub_asks.specs.Keeping.{IsTouched}
+use Rattle.grub_plan.specs.Timers.{touch_of_call}
+use Rattle.grub_plan.specs.Keeping.{IsTouched}
 use Rattle.grub_workers.specs.inside.Working.{machine}
-use Rattle.grub_asks.proofs.Kept.{kept_call}
+use Rattle.grub_plan.proofs.Kept.{kept_call}
 use Rattle.grub_workers.proofs.worker.call.Goals as goal
 
 -- A place was made and an entry put, which leave the timers, and then the answer touched them.

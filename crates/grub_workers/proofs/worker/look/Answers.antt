@@ -2,7 +2,7 @@ use Rattle.std.proofs.Common.{rules}
 use Rattle.grub_plan.specs.declared.entry.Ask.TheVariants.{Read}
 use Rattle.grub_plan.specs.declared.entry.Answer.TheVariants.{Seen}
 use Rattle.grub_workers.specs.inside.Working.{machine}
-use Rattle.grub_asks.proofs.Kept.{kept_look}
+use Rattle.grub_plan.proofs.Kept.{kept_look}
 use Rattle.grub_workers.proofs.OneMoreEntry.{entered, looked}
 use Rattle.grub_workers.proofs.worker.look.Goals as goal
 

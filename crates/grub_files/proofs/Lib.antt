@@ -1,2 +1,0 @@
-pub mod RoomLemmas
-pub mod SourceLemmas

@@ -1,4 +1,0 @@
-pub mod FilesLemmas
-pub mod Handed
-pub mod PlacedLemmas
-pub mod OneFile

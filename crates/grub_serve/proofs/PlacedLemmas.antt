@@ -1,9 +1,0 @@
--- A fault of a run is none of reading.
-use Rattle.std.proofs.Common.{◌≡◌}
-use Rattle.grub_run.specs.declared.fault.GrubFault.{GrubFault}
-use Rattle.grub_serve.specs.declared.fault.ProgramFault.{ProgramFault}
-use Rattle.grub_serve.specs.declared.fault.ProgramFault.TheVariants as faults
-use Rattle.grub_serve.specs.inside.Telling.{IsOfReading}
-
-pub not_of_reading : (r : ProgramFault) (fault : GrubFault) → IsOfReading r → r ≡ faults.Run fault → ⊥
-not_of_reading r fault reading is = rw is at reading

@@ -1,4 +1,0 @@
-pub mod Faults
-pub mod Shown
-pub mod ViewFaults
-pub mod inside

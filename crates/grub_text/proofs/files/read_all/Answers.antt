@@ -1,0 +1,22 @@
+use Rattle.std.proofs.Common.{◌≡◌, ◌∙◌, rules, take, arith, length, ◌+◌, ◌≤◌, vec_len}
+use Rattle.std.proofs.lemmas.List.{length-take-le}
+use Rattle.grub_text.proofs.SourceLemmas.{one_more}
+use Rattle.grub_text.proofs.files.read_all.Goals as goal
+
+pub returns-then-filled-gt-FILE_BYTES_MAX-clause-too_long : goal.returns-then-filled-gt-FILE_BYTES_MAX-clause-too_long
+returns-then-filled-gt-FILE_BYTES_MAX-clause-too_long g c _ =
+    let given = c.in-Ok.ensures.gives in
+    let filled = c.pieces.filled + c.in-Ok.count in
+    let within : filled ≤ vec_len c.read_more.new.bytes = c.in-Ok.ensures.fits in
+    let most : vec_len c.read_more.new.bytes ≤ 16777217 = c.in-Ok.ensures.within in
+    let here : filled ≤ length c.read_more.new.bytes.items = search rules in
+    let count : filled ≡ 16777217 = omega arith in
+    (take filled c.read_more.new.bytes.items, one_more _ _ _ _ _ given.0 _ _ c.pieces.invariant.reads given.1 given.3, length-take-le filled c.read_more.new.bytes.items here ∙ count)
+
+pub pieces-preserved : goal.pieces-preserved
+pieces-preserved g c = record {
+  filled_within = c.in-Ok.ensures.fits;
+  few = omega arith;
+  room_within = c.in-Ok.ensures.within;
+  reads = let given = c.in-Ok.ensures.gives in one_more _ _ _ _ _ given.0 _ _ c.pieces.invariant.reads given.1 given.3;
+}
