@@ -11,7 +11,7 @@ ghost use Rattle.grub_convert.specs.inside.Taking.{TookAll, TookEnough, TookFrom
 
 use crate::fault::ConvertFault;
 use crate::options::ConvertOptions;
-use grub_facts::{FactReader, Facts, TaskReader, ShownTasks};
+use grub_facts::{FactReader, Facts, ShownTasks, TaskReader};
 use grub_text::read_once;
 use std::alloc::{AllocError, Global};
 use std::io;

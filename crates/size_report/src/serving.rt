@@ -17,7 +17,7 @@ use crate::task_text::{
 };
 use grub_sizing::{Job, first_late};
 use grub_text::read_once;
-use size_admission::{RootDomain, Proposal, put_proposals};
+use size_admission::{Proposal, RootDomain, put_proposals};
 use std::alloc::{AllocError, Global};
 use std::io;
 use std::io::Write;
