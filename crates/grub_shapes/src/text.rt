@@ -1,9 +1,16 @@
 //! Pieces of a picture's text.
 
-ghost use Rattle.std.specs.Prelude.{◌≡◌, ◌++◌, OnOk};
+ghost use Rattle.std.specs.Prelude.{◌≡◌, ◌++◌, OnOk, decimal};
 
-pub use grub_text::put_number;
 use std::alloc::AllocError;
+
+/// Appends a piece and then a number, in plain decimal. It is refused where the allocator refused.
+pub fn put_number(out: &mut Vec<u8>, piece: &[u8], n: u64) -> Result<(), AllocError>
+    ensures { OnOk result (out.new.items ≡ out.old.items ++ piece.now ++ decimal n) }
+{
+    grub_text::put_number(out, piece, n)?;
+    Ok(())
+}
 
 /// Appends a text as it is. It is refused where the allocator refused.
 pub fn put_text(out: &mut Vec<u8>, text: &str) -> Result<(), AllocError>
