@@ -1,5 +1,5 @@
 -- What a call by start, finish and cancel does with the pass that a handle keeps.
-use Rattle.std.specs.Prelude.{◌≡◌, ◌≢◌, ◌<◌, ◌≤◌, ◌⊎◌, ℕ, ¬◌, length, Some, IsSome, IfSome}
+use Rattle.std.specs.Prelude.{◌≡◌, ◌<◌, ◌≤◌, ◌⊎◌, ℕ, ¬◌, length, Some, IsSome, IfSome}
 use Rattle.std.specs.Arc.{arc_value}
 use Rattle.std.specs.List.{All}
 use Rattle.core.specs.Mem.{manually_drop_value}
@@ -79,12 +79,21 @@ IsUnmade tries x y = IsFinished (claimed_table x) (claim_of x) tries (finished.H
 abbrev pub IsGivenBack : Taken → Kept → Type 0
 IsGivenBack x l = IsCancelled (claimed_table x) (claim_of x) l.pass
 
--- ---- handles, before and after a call: all is of the same table, with the same passes gathered, and this holds of the two
+-- ---- what stays: the table, and the passes gathered
+abbrev pub GoWith : Kept → Taken → Type 0
+GoWith k x = (claimed_table x ≡ table_of k) × (x.gathered.items ≡ k.gathered.items)
+
+abbrev pub GoOn : Taken → Taken → Type 0
+GoOn x y = (claimed_table y ≡ claimed_table x) × (y.gathered.items ≡ x.gathered.items)
+
+-- a handle kept a pass, and has a claim
 abbrev pub Took : Held → Held → (Kept → Taken → Type 0) → Type 0
-Took before after R = (k : Kept) (x : Taken) → Keeps before k → Claims after x → (claimed_table x ≡ table_of k) × (x.gathered.items ≡ k.gathered.items) × R k x
+Took before after R = (k : Kept) (x : Taken) → Keeps before k → Claims after x → GoWith k x × R k x
 
+-- a handle had a claim, and has it
 abbrev pub StillTook : Held → Held → (Taken → Taken → Type 0) → Type 0
-StillTook before after R = (x y : Taken) → Claims before x → Claims after y → (claimed_table y ≡ claimed_table x) × (y.gathered.items ≡ x.gathered.items) × R x y
+StillTook before after R = (x y : Taken) → Claims before x → Claims after y → GoOn x y × R x y
 
+-- a handle had a claim, and keeps a pass
 abbrev pub CameBack : Held → Held → (Taken → Kept → Type 0) → Type 0
-CameBack before after R = (x : Taken) (l : Kept) → Claims before x → Keeps after l → (table_of l ≡ claimed_table x) × (l.gathered.items ≡ x.gathered.items) × R x l
+CameBack before after R = (x : Taken) (l : Kept) → Claims before x → Keeps after l → GoWith l x × R x l

@@ -1,8 +1,8 @@
 //! A call in two steps: a pass takes a task, and its claim is finished or given up.
 
-ghost use Rattle.std.specs.Prelude.{◌≡◌, ◌≢◌, IsNone, IsSome, IfSome};
-ghost use Rattle.neddwyrol_table.specs.Called.{IsWell, Stands, IsBeside, Went, table_of};
-ghost use Rattle.neddwyrol_table.specs.Claims.{IsWellTaken, HasTask, IsTold, IsTakenBy, IsMade, IsUnmade, IsGivenBack, Took, StillTook, CameBack, claimed_table};
+ghost use Rattle.std.specs.Prelude.{◌≡◌, ◌≢◌, IsSome, IfSome};
+ghost use Rattle.neddwyrol_table.specs.Called.{IsWell, Stands, IsBeside, Went};
+ghost use Rattle.neddwyrol_table.specs.Claims.{IsWellTaken, HasTask, IsTold, IsTakenBy, IsMade, IsUnmade, IsGivenBack, GoWith, GoOn, Took, StillTook, CameBack};
 
 use crate::calls::{BUSY, HELD, LOST, op_for};
 use crate::held::{Held, Kept, Taken};
@@ -15,8 +15,7 @@ fn started(kept: Kept, t: u32, op: NdOp) -> (Held, NdReply)
     requires { IsWell kept }
     ensures well { IfSome result.0.kept IsWell × IfSome result.0.taken IsWellTaken }
     ensures told { IfSome result.0.kept (λ l. IsBeside kept l × IsTold t op result.1 kept l) }
-    ensures taken { IfSome result.0.taken (λ x. (claimed_table x ≡ table_of kept)
-        × (x.gathered.items ≡ kept.gathered.items) × IsTakenBy t op kept x) }
+    ensures taken { IfSome result.0.taken (λ x. GoWith kept x × IsTakenBy t op kept x) }
     ensures held { result.1.kind ≡ HELD → IsSome result.0.taken }
     ensures back { result.1.kind ≢ HELD → IsSome result.0.kept }
 {
@@ -61,10 +60,8 @@ fn started(kept: Kept, t: u32, op: NdOp) -> (Held, NdReply)
 fn finished(taken: Taken, tries: u8) -> (Held, NdReply)
     requires { IsWellTaken taken }
     ensures well { IfSome result.0.kept IsWell × IfSome result.0.taken IsWellTaken }
-    ensures made { IfSome result.0.kept (λ l. (table_of l ≡ claimed_table taken)
-        × (l.gathered.items ≡ taken.gathered.items) × IsMade tries result.1 taken l) }
-    ensures lost { IfSome result.0.taken (λ x. (claimed_table x ≡ claimed_table taken)
-        × (x.gathered.items ≡ taken.gathered.items) × IsUnmade tries taken x) }
+    ensures made { IfSome result.0.kept (λ l. GoWith l taken × IsMade tries result.1 taken l) }
+    ensures lost { IfSome result.0.taken (λ x. GoOn taken x × IsUnmade tries taken x) }
     ensures held { result.1.kind ≡ LOST → IsSome result.0.taken }
     ensures back { result.1.kind ≢ LOST → IsSome result.0.kept }
 {
@@ -74,13 +71,13 @@ fn finished(taken: Taken, tries: u8) -> (Held, NdReply)
         gathered,
     } = taken;
     match shared.finish(ManuallyDrop::into_inner(claim), tries) {
-        Finished::Done(pass, reply) => {
+        Finished::Done(pass, made) => {
             let kept = Kept {
                 shared,
                 pass,
                 gathered,
             };
-            (Held::of_pass(kept), reply_of(reply))
+            (Held::of_pass(kept), reply_of(made))
         }
         Finished::Held(claim) => {
             let taken = Taken {
@@ -97,9 +94,7 @@ fn finished(taken: Taken, tries: u8) -> (Held, NdReply)
 fn cancelled(taken: Taken) -> Kept
     requires { IsWellTaken taken }
     ensures well { IsWell result }
-    ensures beside { (table_of result ≡ claimed_table taken)
-        × (result.gathered.items ≡ taken.gathered.items) }
-    ensures given { IsGivenBack taken result }
+    ensures given { GoWith result taken × IsGivenBack taken result }
 {
     let Taken {
         shared,
