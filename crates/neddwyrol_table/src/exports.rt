@@ -84,12 +84,14 @@ pub extern "C" fn nd_pass_start(
 ) -> NdReply
     requires there { InBlock pass.at }
     requires stands { Stands pass.held }
-    ensures holds { result.kind ≡ HELD → InBlock claim.new.pass.at × HasTask claim.new.pass.held }
-    ensures taken { result.kind ≡ HELD → Took pass.held claim.new.pass.held (IsTakenBy task op)
-        × (back.new ≡ back.old) }
+    ensures holds { result.kind ≡ HELD
+        → InBlock claim.new.pass.at × HasTask claim.new.pass.held }
+    ensures taken { result.kind ≡ HELD
+        → Took pass.held claim.new.pass.held (IsTakenBy task op) }
+    ensures spent { result.kind ≡ HELD → back.new ≡ back.old }
     ensures stands { result.kind ≢ HELD → InBlock back.new.at × Stands back.new.held }
-    ensures told { result.kind ≢ HELD → Went pass.held back.new.held (IsTold task op result)
-        × (claim.new ≡ claim.old) }
+    ensures told { result.kind ≢ HELD → Went pass.held back.new.held (IsTold task op result) }
+    ensures kept { result.kind ≢ HELD → claim.new ≡ claim.old }
 {
     let mut held = pass.into_parts().into_box();
     let reply = start(held.as_mut(), task, op);
@@ -114,14 +116,15 @@ pub extern "C" fn nd_claim_finish(
 ) -> NdReply
     requires there { InBlock claim.pass.at }
     requires holds { HasTask claim.pass.held }
+    ensures stands { result.kind ≢ LOST → InBlock back.new.at × Stands back.new.held }
+    ensures made { result.kind ≢ LOST
+        → CameBack claim.pass.held back.new.held (IsMade tries result) }
+    ensures spent { result.kind ≢ LOST → claim_back.new ≡ claim_back.old }
     ensures holds { result.kind ≡ LOST
         → InBlock claim_back.new.pass.at × HasTask claim_back.new.pass.held }
     ensures lost { result.kind ≡ LOST
-        → StillTook claim.pass.held claim_back.new.pass.held (IsUnmade tries)
-        × (back.new ≡ back.old) }
-    ensures stands { result.kind ≢ LOST → InBlock back.new.at × Stands back.new.held }
-    ensures made { result.kind ≢ LOST → CameBack claim.pass.held back.new.held (IsMade tries result)
-        × (claim_back.new ≡ claim_back.old) }
+        → StillTook claim.pass.held claim_back.new.pass.held (IsUnmade tries) }
+    ensures kept { result.kind ≡ LOST → back.new ≡ back.old }
 {
     let mut held = claim.pass.into_parts().into_box();
     let reply = finish(held.as_mut(), tries);
