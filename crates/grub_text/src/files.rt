@@ -151,14 +151,12 @@ pub fn read_all<D, N: Fn(&mut D, &mut [u8]) -> io::Result<usize>>(
     let mut bytes = Vec::new(alloc);
     let mut filled = 0;
     'pieces: loop {
-        match read_more(read, file, &mut bytes, filled) {
-            Ok(0) => {
-                bytes.truncate(filled);
-                return Ok(bytes);
-            }
-            Ok(count) => filled += count,
-            Err(fault) => return Err(fault),
+        let count = read_more(read, file, &mut bytes, filled)?;
+        if count == 0 {
+            bytes.truncate(filled);
+            return Ok(bytes);
         }
+        filled += count;
         if filled > FILE_BYTES_MAX {
             return Err(FileFault::TooLong);
         }
