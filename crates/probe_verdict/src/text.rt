@@ -4,6 +4,7 @@ use crate::heading::{DroppedLines, ProbeHeading};
 use crate::names::{ALL, KINDS, kind_plural, rule_name};
 use crate::writing::{put, put_bytes, put_comma, put_count};
 use exact_words::{ExactRule, KindCounts, QuantityKind, RuleCounts};
+use grub_text::put_number;
 use std::alloc::{AllocError, Global};
 use trace_words::Kernel;
 
