@@ -81,8 +81,8 @@ pub enum WrongOption<'a> {
     To(&'a str),
 }
 
-/// The number that digits spell; none where there are others, or where it is above 2^64 - 1.
-fn number_of(text: &str) -> Option<u64> {
+/// The number that digits spell; none where there are others or none, or where it is above 2^64 - 1.
+pub(crate) fn number_of(text: &str) -> Option<u64> {
     if !text.as_bytes().iter().all(|b| b.is_ascii_digit()) {
         return None;
     }

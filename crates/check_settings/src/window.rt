@@ -1,6 +1,6 @@
 //! Which part of a record is shown.
 
-use crate::options::WrongOption;
+use crate::options::{WrongOption, number_of};
 
 /// Nanoseconds of a second.
 const SECOND: u64 = 1_000_000_000;
@@ -18,16 +18,8 @@ fn moment_of(text: &str) -> Option<u64> {
         Some((whole, part)) => (whole, nanos_of(part)?),
         None => (text, 0),
     };
-    let seconds = digits_of(whole)?;
+    let seconds = number_of(whole)?;
     seconds.checked_mul(SECOND)?.checked_add(part)
-}
-
-/// The number that one digit or more spell.
-fn digits_of(text: &str) -> Option<u64> {
-    if text.is_empty() || !text.as_bytes().iter().all(|b| b.is_ascii_digit()) {
-        return None;
-    }
-    text.parse::<u64>().ok()
 }
 
 /// The digits behind a second's point, as nanoseconds.
@@ -35,7 +27,7 @@ fn nanos_of(text: &str) -> Option<u64> {
     if text.len() > 9 {
         return None;
     }
-    let mut nanos = digits_of(text)?;
+    let mut nanos = number_of(text)?;
     for _ in text.len()..9 {
         nanos = nanos.saturating_mul(10);
     }

@@ -1,9 +1,10 @@
 //! The charges before the first deviation, and what the kernel's moment means, in words.
 
 use crate::numbers::is_of;
-use crate::writing::{put, put_number, put_rate, put_signed};
+use crate::writing::{put, put_rate, put_signed};
 use deadline_rules::{Charge, RECLAIM, has};
 use deadline_timers::Charged;
+use grub_text::put_number;
 use std::alloc::{AllocError, Global};
 use timer_rules::{Observation, TimerKind};
 use trace_words::Parameters;
@@ -21,15 +22,12 @@ pub(crate) fn put_charges(
 }
 
 fn put_charge(alloc: Global, out: &mut Vec<u8>, charged: &Charged) -> Result<(), AllocError> {
-    put(out, b"  charged at line ")?;
-    put_number(alloc, out, charged.line)?;
-    put(out, b": ")?;
-    put_number(alloc, out, charged.cost)?;
-    put(out, b" of ")?;
-    put_number(alloc, out, charged.nanos)?;
+    put_number(out, b"  charged at line ", charged.line)?;
+    put_number(out, b": ", charged.cost)?;
+    put_number(out, b" of ", charged.nanos)?;
     put(out, b" ns (")?;
     put_rate(alloc, out, charged.cost.cast_signed(), charged.nanos)?;
-    put(out, charge_phrase(charged.charge))?;
+    put_number(out, charge_phrase(charged.charge), u64::from(charged.cpu))?;
     put_charge_sums(alloc, out, charged)
 }
 
@@ -42,11 +40,8 @@ fn charge_phrase(charge: Charge) -> &'static [u8] {
 }
 
 fn put_charge_sums(alloc: Global, out: &mut Vec<u8>, charged: &Charged) -> Result<(), AllocError> {
-    put_number(alloc, out, u64::from(charged.cpu))?;
-    put(out, b": this ")?;
-    put_number(alloc, out, charged.sums.this_bw)?;
-    put(out, b", running ")?;
-    put_number(alloc, out, charged.sums.running_bw)?;
+    put_number(out, b": this ", charged.sums.this_bw)?;
+    put_number(out, b", running ", charged.sums.running_bw)?;
     put(out, b", extra ")?;
     put_signed(alloc, out, charged.sums.extra_bw.cast_signed())?;
     put(out, b"\n")
@@ -99,8 +94,7 @@ pub(crate) fn put_implied(
     let by_kernel = charged_sum(charges)
         .cast_signed()
         .saturating_sub(less_charged(first, parameters));
-    put(out, b"  since its wake it ran ")?;
-    put_number(alloc, out, executed)?;
+    put_number(out, b"  since its wake it ran ", executed)?;
     put(out, b" ns; the kernel's moment means a charge of ")?;
     put_signed(alloc, out, by_kernel)?;
     put(out, b" ns (")?;

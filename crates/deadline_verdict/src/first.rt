@@ -1,7 +1,8 @@
 //! The first deviation, in words.
 
 use crate::table::name_of;
-use crate::writing::{put, put_micros, put_number, put_seconds, put_signed, put_signed_seconds};
+use crate::writing::{put, put_micros, put_seconds, put_signed, put_signed_seconds};
+use grub_text::put_number;
 use std::alloc::{AllocError, Global};
 use timer_lines::KeptLines;
 use timer_rules::{Observation, TimerKind};
@@ -14,15 +15,13 @@ pub(crate) fn put_first(
     lines: &KeptLines,
     names: &[Vec<u8>],
 ) -> Result<(), AllocError> {
-    put(out, b"  first at line ")?;
-    put_number(alloc, out, first.line)?;
+    put_number(out, b"  first at line ", first.line)?;
     put(out, b", ")?;
     put_seconds(alloc, out, first.at)?;
     put(out, kind_phrase(first.kind))?;
     put(out, name_of(names, first.task))?;
-    put_pid(alloc, out, lines, first.task)?;
-    put(out, b" on CPU ")?;
-    put_number(alloc, out, u64::from(first.cpu))?;
+    put_pid(out, lines, first.task)?;
+    put_number(out, b" on CPU ", u64::from(first.cpu))?;
     put(out, b"\n")?;
     put_both_moments(alloc, out, first)?;
     put_budget(alloc, out, first)
@@ -35,15 +34,9 @@ fn kind_phrase(kind: TimerKind) -> &'static [u8] {
     }
 }
 
-fn put_pid(
-    alloc: Global,
-    out: &mut Vec<u8>,
-    lines: &KeptLines,
-    task: u32,
-) -> Result<(), AllocError> {
+fn put_pid(out: &mut Vec<u8>, lines: &KeptLines, task: u32) -> Result<(), AllocError> {
     if let Some(of_task) = lines.tasks.get(task as usize) {
-        put(out, b" (pid ")?;
-        put_number(alloc, out, of_task.pid)?;
+        put_number(out, b" (pid ", of_task.pid)?;
         put(out, b")")?;
     }
     Ok(())
@@ -73,10 +66,8 @@ fn put_budget(alloc: Global, out: &mut Vec<u8>, first: &Observation) -> Result<(
     put_signed(alloc, out, first.runtime)?;
     put(out, b" ns, deadline ")?;
     put_seconds(alloc, out, first.deadline)?;
-    put(out, b", this ")?;
-    put_number(alloc, out, first.sums.this_bw)?;
-    put(out, b", running ")?;
-    put_number(alloc, out, first.sums.running_bw)?;
+    put_number(out, b", this ", first.sums.this_bw)?;
+    put_number(out, b", running ", first.sums.running_bw)?;
     put(out, b", extra ")?;
     put_signed(alloc, out, first.sums.extra_bw.cast_signed())?;
     put(out, b"\n")

@@ -1,7 +1,8 @@
 //! The observations as a table: a line each, with tabs between the columns.
 
 use crate::numbers::is_compared;
-use crate::writing::{put, put_number, put_signed};
+use crate::writing::{put, put_signed};
+use grub_text::put_number;
 use std::alloc::{AllocError, Global};
 use timer_rules::{Observation, ObservedAnswer, TimerKind};
 
@@ -29,17 +30,10 @@ fn kind_word(kind: TimerKind) -> &'static [u8] {
     }
 }
 
-fn put_place(
-    alloc: Global,
-    out: &mut Vec<u8>,
-    observation: &Observation,
-    name: &[u8],
-) -> Result<(), AllocError> {
-    put_number(alloc, out, observation.line)?;
-    out.push(b'\t')?;
-    put_number(alloc, out, observation.at)?;
-    out.push(b'\t')?;
-    put_number(alloc, out, u64::from(observation.cpu))?;
+fn put_place(out: &mut Vec<u8>, observation: &Observation, name: &[u8]) -> Result<(), AllocError> {
+    put_number(out, b"", observation.line)?;
+    put_number(out, b"\t", observation.at)?;
+    put_number(out, b"\t", u64::from(observation.cpu))?;
     out.push(b'\t')?;
     put(out, name)?;
     out.push(b'\t')?;
@@ -56,7 +50,7 @@ fn put_moments(
     put_signed(alloc, out, observation.predicted.cast_signed())?;
     out.push(b'\t')?;
     if let Some(kernel) = observation.kernel {
-        put_number(alloc, out, kernel)?;
+        put_number(out, b"", kernel)?;
     }
     out.push(b'\t')?;
     if is_compared(observation.answer) {
@@ -72,14 +66,10 @@ fn put_state(
     observation: &Observation,
 ) -> Result<(), AllocError> {
     put_signed(alloc, out, observation.runtime)?;
-    out.push(b'\t')?;
-    put_number(alloc, out, observation.deadline)?;
-    out.push(b'\t')?;
-    put_number(alloc, out, observation.sums.running_bw)?;
-    out.push(b'\t')?;
-    put_number(alloc, out, observation.sums.this_bw)?;
-    out.push(b'\t')?;
-    put_number(alloc, out, observation.sums.extra_bw)?;
+    put_number(out, b"\t", observation.deadline)?;
+    put_number(out, b"\t", observation.sums.running_bw)?;
+    put_number(out, b"\t", observation.sums.this_bw)?;
+    put_number(out, b"\t", observation.sums.extra_bw)?;
     out.push(b'\t')?;
     Ok(())
 }
@@ -91,7 +81,7 @@ pub fn put_row(
     observation: &Observation,
     name: &[u8],
 ) -> Result<(), AllocError> {
-    put_place(alloc, out, observation, name)?;
+    put_place(out, observation, name)?;
     put_moments(alloc, out, observation)?;
     put_state(alloc, out, observation)?;
     put(out, answer_word(observation.answer))?;

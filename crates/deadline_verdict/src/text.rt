@@ -9,9 +9,10 @@ use crate::judging::Judged;
 use crate::numbers::{KindNumbers, numbers_of};
 use crate::table::name_of;
 use crate::tested::put_tested;
-use crate::writing::{put, put_count, put_cpus, put_millis, put_number, put_seconds};
+use crate::writing::{put, put_count, put_cpus, put_millis, put_seconds};
 use deadline_rules::{RECLAIM, has, ratio};
 use deadline_timers::RecordSetup;
+use grub_text::put_number;
 use std::alloc::{AllocError, Global};
 use timer_lines::KeptLines;
 use timer_rules::{Observation, TimerKind};
@@ -50,7 +51,7 @@ pub fn put_verdict(
         heading.within,
         starts,
     )?;
-    put_total(alloc, out, heading, setup, lines)?;
+    put_total(out, heading, setup, lines)?;
     let Some(place) = judged.first else {
         return put_agreement(out, blocks, starts);
     };
@@ -92,21 +93,19 @@ fn put_record(
     put(out, b" to ")?;
     put_seconds(alloc, out, lines.ends)?;
     put(out, b" s, kernel ")?;
-    put_kernel(alloc, out, heading.kernel)?;
+    put_kernel(out, heading.kernel)?;
     put(out, b", processors ")?;
-    put_cpus(alloc, out, heading.domain)?;
+    put_cpus(out, heading.domain)?;
     put(out, b"\n")
 }
 
-fn put_kernel(alloc: Global, out: &mut Vec<u8>, kernel: Option<Kernel>) -> Result<(), AllocError> {
+fn put_kernel(out: &mut Vec<u8>, kernel: Option<Kernel>) -> Result<(), AllocError> {
     let Some(kernel) = kernel else {
         return put(out, b"not told, taken for a current one");
     };
-    put_number(alloc, out, u64::from(kernel.major))?;
-    put(out, b".")?;
-    put_number(alloc, out, u64::from(kernel.minor))?;
-    put(out, b".")?;
-    put_number(alloc, out, u64::from(kernel.patch))
+    put_number(out, b"", u64::from(kernel.major))?;
+    put_number(out, b".", u64::from(kernel.minor))?;
+    put_number(out, b".", u64::from(kernel.patch))
 }
 
 /// The reservation of a task: an option's, or that of its first note.
@@ -136,8 +135,7 @@ fn put_tasks(
         let number = i.min(u32::MAX as usize) as u32;
         put(out, b"task ")?;
         put(out, name_of(names, number))?;
-        put(out, b" (pid ")?;
-        put_number(alloc, out, task.pid)?;
+        put_number(out, b" (pid ", task.pid)?;
         put(out, b"): ")?;
         put_parameters(alloc, out, parameters_of(lines, number))?;
     }
@@ -180,7 +178,6 @@ fn put_boosted(alloc: Global, out: &mut Vec<u8>, boosted: u64) -> Result<(), All
 
 /// Appends a warning where `total_bw` at the beginning has more than the fair servers and the tasks of which notes tell.
 fn put_total(
-    alloc: Global,
     out: &mut Vec<u8>,
     heading: TimerHeading<'_>,
     setup: &RecordSetup,
@@ -196,10 +193,8 @@ fn put_total(
     if total_bw <= known {
         return Ok(());
     }
-    put(out, b"note: total-bw at the beginning is ")?;
-    put_number(alloc, out, total_bw)?;
-    put(out, b", ")?;
-    put_number(alloc, out, total_bw - known)?;
+    put_number(out, b"note: total-bw at the beginning is ", total_bw)?;
+    put_number(out, b", ", total_bw - known)?;
     put(
         out,
         b" more than the fair servers and the tasks of the notes: a task is not told of\n",

@@ -1,17 +1,12 @@
 //! How numbers are written.
 
+use grub_text::put_number;
 use std::alloc::{AllocError, Global};
 
 /// Appends a text.
 pub(crate) fn put(out: &mut Vec<u8>, text: &[u8]) -> Result<(), AllocError> {
     out.extend_from_slice(text)?;
     Ok(())
-}
-
-/// Appends a number.
-pub(crate) fn put_number(alloc: Global, out: &mut Vec<u8>, n: u64) -> Result<(), AllocError> {
-    let text = format!(in alloc; "{n}")?;
-    put(out, text.as_bytes())
 }
 
 /// Appends a number with commas, as 3,989.
@@ -69,7 +64,7 @@ pub(crate) fn put_signed_seconds(
 pub(crate) fn put_millis(alloc: Global, out: &mut Vec<u8>, nanos: u64) -> Result<(), AllocError> {
     let whole = nanos / 1_000_000;
     let part = nanos % 1_000_000;
-    put_number(alloc, out, whole)?;
+    put_number(out, b"", whole)?;
     if part > 0 {
         let text = format!(in alloc; ".{part:06}")?;
         put(out, without_zeros(text.as_bytes()))?;
@@ -110,7 +105,7 @@ pub(crate) fn put_rate(
 }
 
 /// Appends CPUs, as 0-3,6.
-pub(crate) fn put_cpus(alloc: Global, out: &mut Vec<u8>, cpus: &[u32]) -> Result<(), AllocError> {
+pub(crate) fn put_cpus(out: &mut Vec<u8>, cpus: &[u32]) -> Result<(), AllocError> {
     let mut from: Option<u32> = None;
     for (i, cpu) in cpus.iter().enumerate() {
         let follows = follows(cpus, i, *cpu);
@@ -119,14 +114,13 @@ pub(crate) fn put_cpus(alloc: Global, out: &mut Vec<u8>, cpus: &[u32]) -> Result
                 if i > 0 {
                     out.push(b',')?;
                 }
-                put_number(alloc, out, u64::from(*cpu))?;
+                put_number(out, b"", u64::from(*cpu))?;
                 from = Some(*cpu);
             }
             Some(first) => {
                 if !follows {
                     if first < *cpu {
-                        out.push(b'-')?;
-                        put_number(alloc, out, u64::from(*cpu))?;
+                        put_number(out, b"-", u64::from(*cpu))?;
                     }
                 }
             }

@@ -1,5 +1,6 @@
 -- The command line: `grubrun [--tries N] [--rounds N] [--view V] [--from M] [--to M] FILE...`, or `--help` or `--version`.
-use Rattle.std.specs.Prelude.{◌≡◌, ◌<◌, ◌^◌, ℕ, codes, pos, List, [], ◌∷◌, Option, None, Some, true, option_map, unwrap_or}
+use Rattle.std.specs.Prelude.{◌≡◌, ◌<◌, ◌^◌, ℕ, codes, pos, List, [], ◌∷◌, Option, None, Some, String, true, map, option_map, string_bytes, unwrap_or}
+use Rattle.std.specs.Global.{Global}
 use Rattle.std.specs.Str.Parse.{IsNumeral, digits_value, without_leading_plus}
 use Rattle.clap.specs.Simple.{on_top}
 use Rattle.clap.specs.Words.{App, Row, Rule, Text, all_of, one_of, fault_of, matches_of, new_app, new_rule, with_rule}
@@ -10,6 +11,10 @@ use Rattle.clap.specs.declared.builder.action.ArgAction.TheVariants.{Append}
 use Rattle.clap.specs.declared.builder.value_parser.ValueParser.TheVariants as parsers
 use Rattle.grub_command.specs.declared.view_word.ViewWord.{ViewWord}
 use Rattle.grub_command.specs.Views.{view_word}
+
+-- the texts of words
+abbrev pub texts_of : List (String Global) → List Text
+texts_of words = map string_bytes words
 
 -- a number from 0 to 255, 8 where it is not given
 abbrev pub tries_rule : Rule

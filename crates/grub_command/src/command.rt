@@ -1,9 +1,9 @@
 //! The command line.
 
-ghost use Rattle.std.specs.Prelude.{◌≡◌, ◌≤◌, IfOk, IfSome, codes, pos, Some, map, string_bytes};
+ghost use Rattle.std.specs.Prelude.{◌≡◌, ◌≤◌, IfOk, IfSome, codes, pos, Some};
 ghost use Rattle.clap.specs.declared.builder.value_parser.ValueParser.TheVariants as parsers;
 ghost use Rattle.clap.specs.Words.{one_of, rule_of, rows_of, found_of, matches_of, fault_of, FailsBy};
-ghost use Rattle.grub_command.specs.CommandLine.{MomentNamed, ReadsNumber, RoundsNamed, TriesNamed, tries_rule, rounds_rule, view_rule, moment_rule, files_rule, command_line, view_named};
+ghost use Rattle.grub_command.specs.CommandLine.{MomentNamed, ReadsNumber, RoundsNamed, TriesNamed, tries_rule, rounds_rule, view_rule, moment_rule, files_rule, command_line, texts_of, view_named};
 ghost use Rattle.grub_command.specs.inside.Rounds.{IsCommand, IsOf, rounds_id, run_line, view_line};
 
 use crate::texts::VERSION;
@@ -124,8 +124,8 @@ fn parse<'a>(alloc: Global, words: &'a [String]) -> Result<(ArgMatches<'a>, Opti
     ensures number { IfOk result
         (λ r. ReadsNumber 16 (one_of rounds_id (rows_of (found_of r.0))) r.1) }
     ensures matches { IfOk result
-        (λ r. rows_of (found_of r.0) ≡ matches_of command_line (map string_bytes words.now)) }
-    ensures faults { FailsBy (fault_of command_line (map string_bytes words.now)) result }
+        (λ r. rows_of (found_of r.0) ≡ matches_of command_line (texts_of words.now)) }
+    ensures faults { FailsBy (fault_of command_line (texts_of words.now)) result }
 {
     let matches = command(alloc)?.try_get_matches_from(words)?;
     let rounds = matches.get_one::<u16>("rounds");
@@ -134,15 +134,15 @@ fn parse<'a>(alloc: Global, words: &'a [String]) -> Result<(ArgMatches<'a>, Opti
 
 /// What the words say, the first of which is the program's name.
 pub fn options_of<'a>(alloc: Global, words: &'a [String]) -> Result<Options<'a>, Error>
-    ensures tries { IfOk result (λ o. TriesNamed (map string_bytes words.now) o.tries) }
-    ensures rounds { IfOk result (λ o. RoundsNamed (map string_bytes words.now) o.rounds) }
-    ensures view { IfOk result (λ o. o.view ≡ view_named (map string_bytes words.now)) }
+    ensures tries { IfOk result (λ o. TriesNamed (texts_of words.now) o.tries) }
+    ensures rounds { IfOk result (λ o. RoundsNamed (texts_of words.now) o.rounds) }
+    ensures view { IfOk result (λ o. o.view ≡ view_named (texts_of words.now)) }
     ensures from { IfOk result
-        (λ o. MomentNamed (codes "from") (map string_bytes words.now) o.from) }
-    ensures to { IfOk result (λ o. MomentNamed (codes "to") (map string_bytes words.now) o.to) }
+        (λ o. MomentNamed (codes "from") (texts_of words.now) o.from) }
+    ensures to { IfOk result (λ o. MomentNamed (codes "to") (texts_of words.now) o.to) }
     ensures matches { IfOk result
-        (λ o. rows_of (found_of o.matches) ≡ matches_of command_line (map string_bytes words.now)) }
-    ensures faults { FailsBy (fault_of command_line (map string_bytes words.now)) result }
+        (λ o. rows_of (found_of o.matches) ≡ matches_of command_line (texts_of words.now)) }
+    ensures faults { FailsBy (fault_of command_line (texts_of words.now)) result }
 {
     let (matches, rounds) = parse(alloc, words)?;
     let tries = matches.get_one::<u8>("tries").unwrap_or(TRIES_DEFAULT);

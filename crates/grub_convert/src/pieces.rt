@@ -1,13 +1,12 @@
 //! A trace, read in pieces.
 
 ghost use Rattle.std.specs.Prelude.{◌≡◌, ◌<◌, ◌⊎◌, ℕ, List, [], false, IfErr, IfOk, IsTrue, OnOk, length, map};
-ghost use Rattle.grub_text.specs.Source.{Gives};
 ghost use Rattle.grub_facts.specs.Census.{CountsOn, NeedsNoMore as CountsEnough};
 ghost use Rattle.grub_facts.specs.Told.{HasRead, NeedsNoMore, ReadsOn};
 ghost use Rattle.grub_convert.specs.Faults.{IsOfReading};
 ghost use Rattle.trace_line.specs.Words.{text_of};
 ghost use Rattle.grub_convert.specs.Read.{IsFaultIn, IsShownOf, IsToldOf, names_in};
-ghost use Rattle.grub_convert.specs.inside.Taking.{TookAll, TookEnough, TookFrom};
+ghost use Rattle.grub_convert.specs.inside.Taking.{TookAll, TookEnough, TookFrom, TookLast, TookPiece};
 
 use crate::fault::ConvertFault;
 use crate::options::ConvertOptions;
@@ -84,9 +83,10 @@ fn read_piece<'a, D, N: Fn(&mut D, &mut [u8]) -> io::Result<usize>, T: Takes>(
     requires callable { N.IsAlwaysCallable read.now }
     requires has_room { 0 < length room.old }
     ensures room { length room.new ≡ length room.old }
-    ensures piece { IfOk result
-        (λ more. (piece : List ℕ) × Gives N.Fn read.now file.old piece file.new
-        × T.takes taker.old piece taker.new × (more ≡ false → (piece ≡ []) ⊎ T.is_done taker.new)) }
+    ensures piece { OnOk result
+        (TookPiece N.Fn read.now T.takes file.old taker.old file.new taker.new) }
+    ensures last { IfOk result (λ more. more ≡ false
+        → TookLast N.Fn read.now T.takes T.is_done file.old taker.old file.new taker.new) }
     ensures fault { IfErr result IsOfReading }
 {
     let Ok(count) = read_once(read, file, room) else {

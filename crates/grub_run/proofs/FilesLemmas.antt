@@ -1,5 +1,5 @@
 -- Files of a list of names, read one after another.
-use Rattle.std.proofs.Common.{◌⊎◌, ⊎_elim, refl, ◌≤◌, ◌≡◌, ◌∙◌, ap, subst, sym, ℕ, ◌+◌, ◌<◌, List, [], ◌∷◌, ◌++◌, get_or, length, take, Some, option_map}
+use Rattle.std.proofs.Common.{◌⊎◌, ⊎_elim, refl, ◌≤◌, ◌≡◌, ◌∙◌, ap, subst, sym, ℕ, ◌+◌, ◌<◌, List, [], ◌∷◌, ◌++◌, get_or, length, take, Some, option_map, Result, Ok, Err}
 use Rattle.std.proofs.lemmas.List.{length-map, map-append, take-map}
 use Rattle.std.proofs.lemmas.List.Elements.{AllZip-push, length_all_zip}
 use Rattle.std.proofs.lemmas.Option.{slice_get-map, slice_get-get_or}
@@ -8,6 +8,7 @@ use Rattle.std.proofs.Math.Seq.{take-suc}
 use Rattle.std.specs.Borrow.{Bor}
 use Rattle.std.specs.Global.{Vec}
 use Rattle.std.specs.List.{AllZip, slice_get}
+use Rattle.std.specs.Result.{IfErr, IsErrAnd}
 use Rattle.grub_plan.specs.Contents.{contents}
 use Rattle.grub_text.specs.declared.files.Source.{Source}
 use Rattle.grub_text.specs.declared.files.TheConstants.{FILE_BYTES_MAX}
@@ -22,6 +23,11 @@ use Rattle.grub_run.specs.declared.program_fault.ProgramFault.{ProgramFault}
 use Rattle.grub_run.specs.declared.program_fault.ProgramFault.TheVariants as faults
 use Rattle.grub_run.specs.Faults.{First, HoldAll, Tells, names_of}
 use Rattle.grub_run.specs.inside.Telling.{IsOfReading, IsPlaced, TellsOf}
+
+-- what is so of a fault is so of what hands it on
+pub handed_on : {T E : Type 0} {fault : E} (P : E → Type 0) (r : Result T E) → IsErrAnd r (λ y. y ≡ fault) → P fault → IfErr r P
+handed_on P (Ok x) is so = absurd is
+handed_on P (Err y) is so = subst P (sym is) so
 
 -- the name at this place
 pub name_at : (paths : List (Bor (List ℕ))) (i : ℕ) (d : Bor (List ℕ)) → i < length paths → slice_get (names_of paths) i ≡ Some (get_or paths i d).now

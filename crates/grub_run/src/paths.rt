@@ -50,10 +50,7 @@ fn read_each<
     ensures reading { IfErr result IsOfReading }
 {
     for path in paths {
-        match read_one(alloc, source, path) {
-            Ok(_) => {}
-            Err(fault) => return Err(fault),
-        }
+        read_one(alloc, source, path)?;
     }
     Ok(())
 }
@@ -74,10 +71,7 @@ pub(crate) fn read_files<
 {
     let mut files = Vec::new(alloc);
     for path in paths {
-        let bytes = match read_one(alloc, source, path) {
-            Ok(bytes) => bytes,
-            Err(fault) => return Err(fault),
-        };
+        let bytes = read_one(alloc, source, path)?;
         if files.push(bytes).is_err() {
             return Err(ProgramFault::NoMemory);
         }
@@ -115,8 +109,6 @@ pub(crate) fn check_paths<
     let Err(fault) = check_count(paths.len()) else {
         return Ok(());
     };
-    match read_each(alloc, source, paths) {
-        Ok(()) => Err(placed(paths, GrubFault::Trace(fault))),
-        Err(unread) => Err(unread),
-    }
+    read_each(alloc, source, paths)?;
+    Err(placed(paths, GrubFault::Trace(fault)))
 }

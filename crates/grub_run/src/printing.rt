@@ -52,13 +52,8 @@ pub fn print_reports<
         (λ e. e ≡ faults.Run run_faults.WriteFault → Whole O.Fn N.Fn source.now
         (Begins (IsOutput tries) (W.contents out.old) (W.contents out.new)) (names_of paths.now)) }
 {
-    if let Err(fault) = check_paths(alloc, source, paths) {
-        return Err(fault);
-    }
-    let files = match read_files(alloc, source, paths) {
-        Ok(files) => files,
-        Err(fault) => return Err(fault),
-    };
+    check_paths(alloc, source, paths)?;
+    let files = read_files(alloc, source, paths)?;
     match run_texts_by_threads(rt, alloc, files, tries, rounds, out) {
         Ok(()) => Ok(()),
         Err(fault) => Err(placed(paths, fault)),
@@ -95,13 +90,8 @@ pub fn print_view<
         (λ e. e ≡ faults.Run run_faults.WriteFault → Whole O.Fn N.Fn source.now
         (Begins (IsShown view) (W.contents out.old) (W.contents out.new)) (names_of paths.now)) }
 {
-    if let Err(fault) = check_paths(alloc, source, paths) {
-        return Err(fault);
-    }
-    let files = match read_files(alloc, source, paths) {
-        Ok(files) => files,
-        Err(fault) => return Err(fault),
-    };
+    check_paths(alloc, source, paths)?;
+    let files = read_files(alloc, source, paths)?;
     match write_view(rt, alloc, files, view, out) {
         Ok(()) => Ok(()),
         Err(ShowFault::Trace(fault)) => Err(placed(paths, GrubFault::Trace(fault))),

@@ -27,11 +27,11 @@ pub fn write_bytes<W: Write>(bytes: &[u8], out: &mut W) -> io::Result<()>
 {
     let mut at = 0;
     while at < bytes.len() {
-        match out.write(&bytes[at..]) {
-            Ok(0) => return Err(io::Error::from(ErrorKind::WriteZero)),
-            Ok(count) => at += count,
-            Err(error) => return Err(error),
+        let count = out.write(&bytes[at..])?;
+        if count == 0 {
+            return Err(io::Error::from(ErrorKind::WriteZero));
         }
+        at += count;
     }
     Ok(())
 }

@@ -1,7 +1,8 @@
 //! The bytes of files, which have a bound.
 
-ghost use Rattle.std.specs.Prelude.{◌≡◌, ◌<◌, ◌≤◌, ◌+◌, ◌⊎◌, ℕ, IfErr, IfOk, OnOk, List, ◌++◌, length, take, vec_len};
+ghost use Rattle.std.specs.Prelude.{◌≡◌, ◌<◌, ◌≤◌, ◌+◌, ◌⊎◌, IfErr, IfOk, OnOk, length, take, vec_len};
 ghost use Rattle.grub_text.specs.declared.files.FileFault.TheVariants as faults;
+ghost use Rattle.grub_text.specs.inside.Behind.{GivesBehind};
 ghost use Rattle.grub_text.specs.Source.{BreaksOff, Exceeds, Fails, Gives, Holds, IsLonger, IsOpened, IsUnreadable, ReadsWhole, StopsWithin};
 
 use std::alloc::{AllocError, Global};
@@ -83,8 +84,8 @@ fn read_behind<D, N: Fn(&mut D, &mut [u8]) -> io::Result<usize>>(
     requires callable { N.IsAlwaysCallable read.now }
     requires has_room { filled < length room.old }
     ensures fits { IfOk result (λ n. filled + n ≤ length room.new) }
-    ensures gives { IfOk result (λ n. (piece : List ℕ) × Gives N.Fn read.now file.old piece file.new
-        × (length piece ≡ n) × (take (filled + n) room.new ≡ take filled room.old ++ piece)) }
+    ensures gives { IfOk result (λ n. GivesBehind N.Fn read.now
+        file.old (take filled room.old) n (take (filled + n) room.new) file.new) }
     ensures fails { IfErr result (λ e. (e ≡ faults.Read) × Fails N.Fn read.now file.old file.new) }
 {
     read_once(read, file, &mut room[filled..])
@@ -118,9 +119,8 @@ fn read_more<D, N: Fn(&mut D, &mut [u8]) -> io::Result<usize>>(
     requires within { vec_len bytes.old ≤ FILE_BYTES_MAX + 1 }
     ensures fits { IfOk result (λ n. filled + n ≤ vec_len bytes.new) }
     ensures within { IfOk result (λ n. vec_len bytes.new ≤ FILE_BYTES_MAX + 1) }
-    ensures gives { IfOk result
-        (λ n. (piece : List ℕ) × Gives N.Fn read.now file.old piece file.new × (length piece ≡ n)
-        × (take (filled + n) bytes.new.items ≡ take filled bytes.old.items ++ piece)) }
+    ensures gives { IfOk result (λ n. GivesBehind N.Fn read.now
+        file.old (take filled bytes.old.items) n (take (filled + n) bytes.new.items) file.new) }
     ensures fails { IfErr result (λ e. e ≡ faults.Read → Fails N.Fn read.now file.old file.new) }
     ensures memory { IfErr result (λ e. e ≡ faults.NoMemory → file.new ≡ file.old) }
     ensures kinds { IfErr result (λ e. (e ≡ faults.Read) ⊎ (e ≡ faults.NoMemory)) }
@@ -151,14 +151,12 @@ pub fn read_all<D, N: Fn(&mut D, &mut [u8]) -> io::Result<usize>>(
     let mut bytes = Vec::new(alloc);
     let mut filled = 0;
     'pieces: loop {
-        match read_more(read, file, &mut bytes, filled) {
-            Ok(0) => {
-                bytes.truncate(filled);
-                return Ok(bytes);
-            }
-            Ok(count) => filled += count,
-            Err(fault) => return Err(fault),
+        let count = read_more(read, file, &mut bytes, filled)?;
+        if count == 0 {
+            bytes.truncate(filled);
+            return Ok(bytes);
         }
+        filled += count;
         if filled > FILE_BYTES_MAX {
             return Err(FileFault::TooLong);
         }

@@ -17,7 +17,7 @@ pub use files::{FILE_BYTES_MAX, FileFault, Source, read_all, read_file, read_onc
 pub use item_line::Line;
 pub use lines::{first_line, first_word, space_in};
 pub use pieces::{DIGITS_MAX, LINE_MAX, append, append_number, put_number};
-pub use writing::write_lines;
+pub use writing::{MANY_LINES, write_lines};
 
 #[cfg(test)]
 mod tests;

@@ -12,8 +12,8 @@ use std::io;
 use std::io::Write;
 use std::thread::Threads;
 
-/// From so many lines on they are made by several threads. Fewer are made before a thread has started.
-const MANY: usize = 1024;
+/// Fewer lines are made before a thread has started. So many or more are worth several threads.
+pub const MANY_LINES: usize = 1024;
 
 /// Writes the lines of the items in their order. Many are made by several threads, and all of them are written then; few
 /// are put into the buffer, which is written as often as it is full. It takes no memory.
@@ -34,7 +34,7 @@ pub fn write_lines<R: Threads + Sync, W: Write, X: Sync, L: Line<X> + Sync>(
         (W.contents out.new) buffer.old.items (flat_map (L.line lines.now) items.now)) }
     ensures room { LINE_MAX ≤ vec_capacity buffer.new }
 {
-    if items.len() < MANY {
+    if items.len() < MANY_LINES {
         write_few(buffer, out, items, lines)
     } else {
         write_buffer(buffer, out)?;

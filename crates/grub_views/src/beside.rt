@@ -5,11 +5,9 @@ ghost use Rattle.std.specs.Bool.{OnFalse, OnTrue};
 ghost use Rattle.grub_book.specs.History.{IsLegal};
 ghost use Rattle.grub_timeline.specs.TimeLines.{AreAnswered, AreWithin, history_of};
 
+use grub_text::MANY_LINES;
 use grub_timeline::Playing;
 use std::thread::{Threads, join_mut};
-
-/// From so many entries on their work takes longer than the start of a thread.
-const MANY: usize = 1024;
 
 /// Asks for the lines that come next while work on so many entries is done, and tells whether there was a line, and what came
 /// of the work. Many entries are worth a thread, which asks; after work on few it is asked here.
@@ -32,7 +30,7 @@ pub(crate) fn play_beside<R: Threads, F: FnMut() -> T, T>(
     ensures most { playing.new.most ≡ playing.old.most }
     ensures few { length playing.new.chunk ≤ playing.new.most }
 {
-    if entries < MANY {
+    if entries < MANY_LINES {
         let done = work();
         return (playing.play_on(), done);
     }

@@ -1,6 +1,6 @@
 //! The program over its words and two writers.
 
-ghost use Rattle.std.specs.Prelude.{◌≡◌, ◌≢◌, ◌≤◌, ◌⊎◌, IfOk, map, string_bytes};
+ghost use Rattle.std.specs.Prelude.{◌≡◌, ◌≢◌, ◌≤◌, ◌⊎◌, IfOk};
 ghost use Rattle.std.specs.IoError.{error_kind};
 ghost use Rattle.std.specs.Io.KnownBytes.{Appends};
 ghost use Rattle.clap.specs.Values.{kind_of};
@@ -8,7 +8,7 @@ ghost use Rattle.clap.specs.Words.{FailsBy, fault_of, found_of, matches_of, rows
 ghost use Rattle.clap.specs.declared.error.kind.ErrorKind.TheVariants as kinds;
 ghost use Rattle.std.specs.declared.io.ErrorKind.TheVariants as io_kinds;
 ghost use Rattle.grub_run.specs.Faults.{HasFileFault};
-ghost use Rattle.grub_command.specs.CommandLine.{TriesNamed, command_line, files_named};
+ghost use Rattle.grub_command.specs.CommandLine.{TriesNamed, command_line, files_named, texts_of};
 ghost use Rattle.grub_command.specs.inside.Files.{names_among};
 ghost use Rattle.grub_run.specs.Written.{Begins, Writes};
 ghost use Rattle.grubrun.specs.Statuses.{AsksFor, HasNoSpan, IsWanted, PrintsAsked};
@@ -47,22 +47,22 @@ pub(crate) fn serve<
     ensures nothing { (result ≡ STATUS_FILE) ⊎ (result ≡ STATUS_USAGE) → out.new ≡ out.old }
     // The status of a file's fault comes only where, by what the calls of `source` may answer, a file that the words name is at fault.
     ensures file { result ≡ STATUS_FILE
-        → HasFileFault O.Fn N.Fn source.now (files_named (map string_bytes words.now)) }
+        → HasFileFault O.Fn N.Fn source.now (files_named (texts_of words.now)) }
     // Right words are not answered as wrong, and are done once what they ask for is printed of the files that they name.
-    ensures usage { result ≡ STATUS_USAGE → IsRefused (map string_bytes words.now)
-        ⊎ AsksFor O.Fn N.Fn source.now HasNoSpan (map string_bytes words.now) }
+    ensures usage { result ≡ STATUS_USAGE → IsRefused (texts_of words.now)
+        ⊎ AsksFor O.Fn N.Fn source.now HasNoSpan (texts_of words.now) }
     ensures done { result ≡ 0
-        → IsRefused (map string_bytes words.now) ⊎ AsksFor O.Fn N.Fn source.now (λ wanted tries.
+        → IsRefused (texts_of words.now) ⊎ AsksFor O.Fn N.Fn source.now (λ wanted tries.
         Writes (IsWanted wanted tries) (W.contents out.old) (W.contents out.new))
-        (map string_bytes words.now) }
+        (texts_of words.now) }
     // Where the system failed on right words, nothing or a beginning of this was printed.
-    ensures failed { result ≡ STATUS_SYSTEM → IsRefused (map string_bytes words.now)
+    ensures failed { result ≡ STATUS_SYSTEM → IsRefused (texts_of words.now)
         ⊎ (out.new ≡ out.old) ⊎ AsksFor O.Fn N.Fn source.now (λ wanted tries.
         Begins (IsWanted wanted tries) (W.contents out.old) (W.contents out.new))
-        (map string_bytes words.now) }
+        (texts_of words.now) }
     // Of the words that are refused, only those that ask for the help or the version are done, and it was printed.
-    ensures help { IsRefused (map string_bytes words.now) → result ≡ 0
-        → PrintsAsked (map string_bytes words.now) (W.contents out.old) (W.contents out.new) }
+    ensures help { IsRefused (texts_of words.now) → result ≡ 0
+        → PrintsAsked (texts_of words.now) (W.contents out.old) (W.contents out.new) }
 {
     match read_words(alloc, words) {
         Ok((options, wanted)) => serve_options(rt, alloc, &options, wanted, source, out, faults),
@@ -72,11 +72,11 @@ pub(crate) fn serve<
 
 /// What the words say, and what they ask to be printed.
 fn read_words<'a>(alloc: Global, words: &'a [String]) -> Result<(Options<'a>, Wanted), Error>
-    ensures tries { IfOk result (λ r. TriesNamed (map string_bytes words.now) r.0.tries) }
-    ensures wanted { IfOk result (λ r. Wants (map string_bytes words.now) r.1) }
+    ensures tries { IfOk result (λ r. TriesNamed (texts_of words.now) r.0.tries) }
+    ensures wanted { IfOk result (λ r. Wants (texts_of words.now) r.1) }
     ensures matches { IfOk result (λ r. rows_of (found_of r.0.matches)
-        ≡ matches_of command_line (map string_bytes words.now)) }
-    ensures faults { FailsBy (fault_of command_line (map string_bytes words.now)) result }
+        ≡ matches_of command_line (texts_of words.now)) }
+    ensures faults { FailsBy (fault_of command_line (texts_of words.now)) result }
 {
     let options = options_of(alloc, words)?;
     let wanted = wanted_by(options.view, options.from, options.to);

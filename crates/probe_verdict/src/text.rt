@@ -2,8 +2,9 @@
 
 use crate::heading::{DroppedLines, ProbeHeading};
 use crate::names::{ALL, KINDS, kind_plural, rule_name};
-use crate::writing::{put, put_bytes, put_comma, put_count, put_number};
+use crate::writing::{put, put_bytes, put_comma, put_count};
 use exact_words::{ExactRule, KindCounts, QuantityKind, RuleCounts};
+use grub_text::put_number;
 use std::alloc::{AllocError, Global};
 use trace_words::Kernel;
 
@@ -55,7 +56,7 @@ fn put_record(
     put_kernel(alloc, out, heading.kernel)?;
     put_cpus(alloc, out, heading.domain)?;
     put_size(alloc, out, heading)?;
-    put_lost(alloc, out, heading.lost)?;
+    put_lost(out, heading.lost)?;
     put_sums(out, heading.takes_sums)
 }
 
@@ -86,16 +87,16 @@ fn put_range(
 ) -> Result<(), AllocError> {
     let span = u64::from(last).saturating_sub(u64::from(first));
     if span == 0 || span != (cpus.len() as u64).saturating_sub(1) {
-        return put_list(alloc, out, cpus);
+        return put_list(out, cpus);
     }
     let text = format!(in alloc; "{first}-{last}")?;
     put(out, text.as_str())
 }
 
-fn put_list(alloc: Global, out: &mut Vec<u8>, cpus: &[u32]) -> Result<(), AllocError> {
+fn put_list(out: &mut Vec<u8>, cpus: &[u32]) -> Result<(), AllocError> {
     for cpu in cpus {
         put_comma(out)?;
-        put_number(alloc, out, u64::from(*cpu))?;
+        put_number(out, b"", u64::from(*cpu))?;
     }
     Ok(())
 }
@@ -111,23 +112,19 @@ fn put_size(alloc: Global, out: &mut Vec<u8>, heading: ProbeHeading<'_>) -> Resu
     put(out, " lines of probes")
 }
 
-fn put_lost(
-    alloc: Global,
-    out: &mut Vec<u8>,
-    lost: Option<DroppedLines>,
-) -> Result<(), AllocError> {
+fn put_lost(out: &mut Vec<u8>, lost: Option<DroppedLines>) -> Result<(), AllocError> {
     match lost {
         None => put(out, "\n"),
-        Some(lost) => put_number_lost(alloc, out, lost.lines.saturating_add(lost.hits)),
+        Some(lost) => put_number_lost(out, lost.lines.saturating_add(lost.hits)),
     }
 }
 
-fn put_number_lost(alloc: Global, out: &mut Vec<u8>, lost: u64) -> Result<(), AllocError> {
+fn put_number_lost(out: &mut Vec<u8>, lost: u64) -> Result<(), AllocError> {
     if lost == 0 {
         return put(out, "; none lost\n");
     }
-    let text = format!(in alloc; "; {lost} lost: what differs behind them may be theirs\n")?;
-    put(out, text.as_str())
+    put_number(out, b"; ", lost)?;
+    put(out, " lost: what differs behind them may be theirs\n")
 }
 
 fn put_sums(out: &mut Vec<u8>, takes_sums: bool) -> Result<(), AllocError> {

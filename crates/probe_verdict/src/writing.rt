@@ -2,6 +2,7 @@
 
 use crate::heading::NamedTask;
 use exact_words::{ExactValue, Subject, Whose};
+use grub_text::put_number;
 use std::alloc::{AllocError, Global};
 use trace_words::TimerFunction;
 
@@ -15,12 +16,6 @@ pub(crate) fn put(out: &mut Vec<u8>, text: &str) -> Result<(), AllocError> {
 pub(crate) fn put_bytes(out: &mut Vec<u8>, bytes: &[u8]) -> Result<(), AllocError> {
     out.extend_from_slice(bytes)?;
     Ok(())
-}
-
-/// Appends a number.
-pub(crate) fn put_number(alloc: Global, out: &mut Vec<u8>, n: u64) -> Result<(), AllocError> {
-    let text = format!(in alloc; "{n}")?;
-    put(out, text.as_str())
 }
 
 /// Appends a comma, but behind a space.
@@ -148,21 +143,15 @@ pub(crate) fn put_value(
     names: &[NamedTask],
 ) -> Result<(), AllocError> {
     match value {
-        ExactValue::Unsigned(n) => put_number(alloc, out, n),
+        ExactValue::Unsigned(n) => put_number(out, b"", n),
         ExactValue::Signed(n) => put_signed(alloc, out, n),
-        ExactValue::AtMost(n) => put_at_most(alloc, out, n),
+        ExactValue::AtMost(n) => put_number(out, b"at most ", n),
         ExactValue::Flag(true) => put(out, "1"),
         ExactValue::Flag(false) => put(out, "0"),
         ExactValue::Armed(function) => put(out, timer_name(function)),
         ExactValue::NotArmed(function) => put_no(out, timer_name(function)),
         ExactValue::Owner(whose) => put_whose(alloc, out, whose, names),
     }
-}
-
-/// Appends a number that is not to be exceeded.
-fn put_at_most(alloc: Global, out: &mut Vec<u8>, n: u64) -> Result<(), AllocError> {
-    put(out, "at most ")?;
-    put_number(alloc, out, n)
 }
 
 fn put_no(out: &mut Vec<u8>, name: &str) -> Result<(), AllocError> {

@@ -5,9 +5,9 @@ use crate::admission::{
     placed_of, total,
 };
 use crate::table::{
-    TableRow, heading, hundredths_cell, number_cell, put_hundredths, put_number, put_table,
-    put_text,
+    TableRow, heading, hundredths_cell, number_cell, put_hundredths, put_table, put_text,
 };
+use grub_text::put_number;
 use std::alloc::AllocError;
 
 fn put_rows(out: &mut Vec<u8>, proposals: &[Proposal]) -> Result<(), AllocError> {
@@ -33,8 +33,7 @@ fn put_admission(out: &mut Vec<u8>, sum: u64, machine: RootDomain) -> Result<(),
     let processors = u64::from(machine.processors);
     put_text(out, "  ")?;
     put_percent(out, sum)?;
-    put_text(out, " % of a processor; ")?;
-    put_number(out, processors)?;
+    put_number(out, b" % of a processor; ", processors)?;
     put_text(out, " processors admit ")?;
     put_percent(out, u64::from(machine.most).saturating_mul(processors))?;
     put_text(out, " %")?;
@@ -69,15 +68,14 @@ fn put_in_time(
             "  late by a bounded time, maybe, on "
         },
     )?;
-    put_number(out, processors)?;
+    put_number(out, b"", processors)?;
     put_text(out, " processors together: ")?;
     put_percent(out, sum)?;
     put_text(out, " + ")?;
     put_percent(out, u64::from(machine.fair).saturating_mul(processors))?;
     put_text(out, if holds { " <= " } else { " > " })?;
-    put_number(out, processors * 100)?;
-    put_text(out, " - ")?;
-    put_number(out, processors.saturating_sub(1))?;
+    put_number(out, b"", processors * 100)?;
+    put_number(out, b" - ", processors.saturating_sub(1))?;
     put_text(out, " * ")?;
     put_percent(out, greatest)?;
     put_text(out, "\n")

@@ -1,5 +1,6 @@
 //! Tables of text.
 
+use grub_text::put_number;
 use std::alloc::{AllocError, Global};
 
 /// The cells of a line.
@@ -7,12 +8,6 @@ pub type TableRow = Vec<Vec<u8>>;
 
 /// Writes a text.
 pub fn put_text(out: &mut Vec<u8>, text: &str) -> Result<(), AllocError> {
-    out.extend_from_slice(text.as_bytes())
-}
-
-/// Writes a number.
-pub fn put_number(out: &mut Vec<u8>, n: u64) -> Result<(), AllocError> {
-    let text = format!(in *out.allocator(); "{n}")?;
     out.extend_from_slice(text.as_bytes())
 }
 
@@ -32,7 +27,7 @@ pub fn text_cell(alloc: Global, text: &str) -> Result<Vec<u8>, AllocError> {
 /// A number as a cell.
 pub fn number_cell(alloc: Global, n: u64) -> Result<Vec<u8>, AllocError> {
     let mut cell = Vec::new(alloc);
-    put_number(&mut cell, n)?;
+    put_number(&mut cell, b"", n)?;
     Ok(cell)
 }
 

@@ -3,9 +3,9 @@
 use crate::figures::{Figures, at, share};
 use crate::sizing::{Needed, SizeRequest};
 use grub_sizing::{Job, Late};
+use grub_text::put_number;
 use size_admission::table::{
-    TableRow, heading, hundredths_cell, number_cell, put_hundredths, put_number, put_table,
-    put_text, text_cell,
+    TableRow, heading, hundredths_cell, number_cell, put_hundredths, put_table, put_text, text_cell,
 };
 use size_admission::{bandwidth, hundredths};
 use std::alloc::{AllocError, Global};
@@ -21,7 +21,7 @@ fn put_left_out(
         return Ok(());
     }
     put_text(out, if *has_some { ", " } else { "; left out " })?;
-    put_number(out, count)?;
+    put_number(out, b"", count)?;
     put_text(out, what)?;
     *has_some = true;
     Ok(())
@@ -31,10 +31,8 @@ fn put_left_out(
 pub(crate) fn put_head(out: &mut Vec<u8>, task: &JobTask, micros: u64) -> Result<(), AllocError> {
     put_text(out, "task ")?;
     out.extend_from_slice(&task.comm)?;
-    put_text(out, " pid=")?;
-    put_number(out, task.pid)?;
-    put_text(out, ": ")?;
-    put_number(out, task.jobs.len() as u64)?;
+    put_number(out, b" pid=", task.pid)?;
+    put_number(out, b": ", task.jobs.len() as u64)?;
     put_text(
         out,
         if task.jobs.len() == 1 {
@@ -44,9 +42,8 @@ pub(crate) fn put_head(out: &mut Vec<u8>, task: &JobTask, micros: u64) -> Result
         },
     )?;
     let tenths = micros.saturating_add(50000) / 100000;
-    put_number(out, tenths / 10)?;
-    put_text(out, ".")?;
-    put_number(out, tenths % 10)?;
+    put_number(out, b"", tenths / 10)?;
+    put_number(out, b".", tenths % 10)?;
     put_text(out, " s")?;
     let open = if matches!(task.phase, Phase::Busy { .. }) {
         1
@@ -95,10 +92,12 @@ pub(crate) fn put_question(
     within: u32,
     period: u32,
 ) -> Result<(), AllocError> {
-    put_text(out, "  each job is to be done within ")?;
-    put_number(out, u64::from(within))?;
-    put_text(out, " us of its wake, with a period of ")?;
-    put_number(out, u64::from(period))?;
+    put_number(out, b"  each job is to be done within ", u64::from(within))?;
+    put_number(
+        out,
+        b" us of its wake, with a period of ",
+        u64::from(period),
+    )?;
     put_text(out, "\n")?;
     let over = figures
         .done
@@ -106,8 +105,7 @@ pub(crate) fn put_question(
         .filter(|n| **n > u64::from(within))
         .count();
     if over > 0 {
-        put_text(out, "  in the record ")?;
-        put_number(out, over as u64)?;
+        put_number(out, b"  in the record ", over as u64)?;
         put_text(
             out,
             " took longer: wakes that came meanwhile are hidden, so what such a job ran may be that of several;\n  record again with real-time priority, as by chrt -f 50 PROGRAM\n",
@@ -125,12 +123,9 @@ pub(crate) fn put_none(
     put_text(out, "  no runtime is enough")?;
     if let Some(late) = late {
         if let Some(job) = seen.get(late.job) {
-            put_text(out, ": job ")?;
-            put_number(out, (late.job as u64).saturating_add(1))?;
-            put_text(out, ", line ")?;
-            put_number(out, job.line)?;
-            put_text(out, ", ran ")?;
-            put_number(out, job.work)?;
+            put_number(out, b": job ", (late.job as u64).saturating_add(1))?;
+            put_number(out, b", line ", job.line)?;
+            put_number(out, b", ran ", job.work)?;
         }
     }
     put_text(out, "\n")
@@ -146,18 +141,17 @@ fn put_witness(
     let (Some(one), Some(job)) = (seen.get(late.job), jobs.get(late.job)) else {
         return Ok(());
     };
-    put_text(out, ": with ")?;
-    put_number(out, u64::from(least.saturating_sub(1)))?;
-    put_text(out, " job ")?;
-    put_number(out, (late.job as u64).saturating_add(1))?;
-    put_text(out, ", line ")?;
-    put_number(out, one.line)?;
-    put_text(out, ", may be ")?;
-    put_number(out, late.finish.saturating_sub(job.due))?;
+    put_number(out, b": with ", u64::from(least.saturating_sub(1)))?;
+    put_number(out, b" job ", (late.job as u64).saturating_add(1))?;
+    put_number(out, b", line ", one.line)?;
+    put_number(out, b", may be ", late.finish.saturating_sub(job.due))?;
     put_text(out, " us late")?;
     if late.from != late.job {
-        put_text(out, ", by the work from job ")?;
-        put_number(out, (late.from as u64).saturating_add(1))?;
+        put_number(
+            out,
+            b", by the work from job ",
+            (late.from as u64).saturating_add(1),
+        )?;
         put_text(out, " on")?;
     }
     Ok(())
@@ -182,8 +176,7 @@ fn put_proposed(
     }
     put_reason(out, "proposed")?;
     if wanted.margin > 0 {
-        put_text(out, ": ")?;
-        put_number(out, u64::from(wanted.margin))?;
+        put_number(out, b": ", u64::from(wanted.margin))?;
         put_text(out, " % more")?;
     }
     Ok(())
@@ -197,7 +190,7 @@ fn put_percents(
     for (percent, least) in percents {
         if *least == runtime {
             put_reason(out, "at most ")?;
-            put_number(out, u64::from(*percent))?;
+            put_number(out, b"", u64::from(*percent))?;
             put_text(out, " %")?;
         }
     }
@@ -275,7 +268,7 @@ pub(crate) fn put_others(
     let mut is_first = true;
     for (period, least) in others {
         put_text(out, if is_first { "  other periods: " } else { ", " })?;
-        put_number(out, u64::from(*period))?;
+        put_number(out, b"", u64::from(*period))?;
         match least {
             Some(runtime) => {
                 put_text(out, " ")?;
@@ -294,13 +287,12 @@ pub(crate) fn put_others(
 
 /// What the record cannot know, and the command that makes the reservation.
 pub(crate) fn put_chance(out: &mut Vec<u8>, count: usize) -> Result<(), AllocError> {
-    put_text(out, "  ")?;
-    put_number(out, count as u64)?;
+    put_number(out, b"  ", count as u64)?;
     put_text(
         out,
         " jobs were seen; if they are alike, the next one runs longer than all of them with a chance of 1 in ",
     )?;
-    put_number(out, (count as u64).saturating_add(1))?;
+    put_number(out, b"", (count as u64).saturating_add(1))?;
     put_text(out, "\n")
 }
 
@@ -310,14 +302,10 @@ pub(crate) fn put_command(
     period: u32,
     pid: u64,
 ) -> Result<(), AllocError> {
-    put_text(out, "  chrt -d -T ")?;
-    put_number(out, u64::from(runtime) * 1000)?;
-    put_text(out, " -D ")?;
-    put_number(out, u64::from(period) * 1000)?;
-    put_text(out, " -P ")?;
-    put_number(out, u64::from(period) * 1000)?;
-    put_text(out, " -p 0 ")?;
-    put_number(out, pid)?;
+    put_number(out, b"  chrt -d -T ", u64::from(runtime) * 1000)?;
+    put_number(out, b" -D ", u64::from(period) * 1000)?;
+    put_number(out, b" -P ", u64::from(period) * 1000)?;
+    put_number(out, b" -p 0 ", pid)?;
     put_text(out, "\n")
 }
 

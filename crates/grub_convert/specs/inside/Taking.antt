@@ -1,11 +1,19 @@
 -- Pieces of an opened file that are taken one after another.
-use Rattle.std.specs.Prelude.{◌⊎◌, ℕ, List, [], Ok}
+use Rattle.std.specs.Prelude.{◌≡◌, ◌⊎◌, ℕ, List, [], Ok}
 use Rattle.std.specs.Fn.{FnReturnsAt}
 use Rattle.std.specs.List.{FoldsTo}
 use Rattle.grub_text.specs.Source.{Gives, Opener, Reader}
 use Rattle.grub_convert.specs.declared.pieces.Input.{Input}
 
 module _ {N D T : Type 0} (g : Reader N D) (read : N) (takes : T → List ℕ → T → Type 0) where
+  -- a read may give a piece, which was taken
+  abbrev pub TookPiece : D → T → D → T → Type 0
+  TookPiece file old after new = (piece : List ℕ) × Gives g read file piece after × takes old piece new
+
+  -- it was the last one: there is no more, or no more is needed
+  abbrev pub TookLast : (T → Type 0) → D → T → D → T → Type 0
+  TookLast is_done file old after new = (piece : List ℕ) × Gives g read file piece after × takes old piece new × ((piece ≡ []) ⊎ is_done new)
+
   -- reads may give these pieces, which were taken
   pub record Took (file : D) (old : T) (after : D) (new : T) : Type 0 where
     pub pieces : List (List ℕ)

@@ -1,5 +1,9 @@
+use Rattle.grub_run.proofs.FilesLemmas.{handed_on}
 use Rattle.grub_run.proofs.PlacedLemmas.{not_of_reading}
 use Rattle.grub_run.proofs.printing.print_view.Goals as goal
 
-pub returns-in-Err-clause-beginning : goal.returns-in-Err-clause-beginning
-returns-in-Err-clause-beginning g c wrote = absurd (not_of_reading _ _ c.in-Err.ensures.reading wrote)
+pub returns-in_err-files-clause-beginning : goal.returns-in_err-files-clause-beginning
+returns-in_err-files-clause-beginning g c = handed_on _ _ c.from_residual-in_err-files.ensures.1 (λ wrote. absurd (not_of_reading _ _ c.in_err-files.ensures.reading wrote))
+
+pub returns-in_err-check_paths-clause-beginning : goal.returns-in_err-check_paths-clause-beginning
+returns-in_err-check_paths-clause-beginning g c = handed_on _ _ c.from_residual.ensures.1 (λ wrote. absurd (not_of_reading _ _ c.in_err-check_paths.ensures.reading wrote))

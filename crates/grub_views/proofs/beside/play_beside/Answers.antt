@@ -3,8 +3,8 @@ use Rattle.std.proofs.Common.{rules}
 use Rattle.grub_timeline.proofs.Sending.{Playing-send}
 use Rattle.grub_views.proofs.beside.play_beside.Goals as goal
 
-pub returns-then-entries-lt-MANY : goal.returns-then-entries-lt-MANY
-returns-then-entries-lt-MANY g c = let e = c.play_on.ensures in record {
+pub returns-then-entries-lt-MANY_LINES : goal.returns-then-entries-lt-MANY_LINES
+returns-then-entries-lt-MANY_LINES g c = let e = c.play_on.ensures in record {
   work = c.work-done.ensures;
   plan = e.plan;
   told = e.told;
