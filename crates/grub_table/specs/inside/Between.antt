@@ -50,6 +50,13 @@ pub record HoldsFor (s : Shared) (x : Seated) (t : ℕ) (asked : Op) (rec : Reco
   pub kept : IsKept s.terms.setup rec
   pub unrefused : refused rec.place rec.count asked ≡ None
 
+-- the seat holds this task, or some task, so, and this is true of the op and the record
+abbrev pub HoldsTask : Shared → Seated → ℕ → (Op → Record → Type 0) → Type 0
+HoldsTask s x t about = (asked : Op) × (rec : Record) × HoldsFor s x t asked rec × about asked rec
+
+abbrev pub HoldsSome : Shared → Seated → (Op → Record → Type 0) → Type 0
+HoldsSome s x about = (t : ℕ) × (asked : Op) × (rec : Record) × HoldsFor s x t asked rec × about asked rec
+
 -- ---- what steps tell together
 -- the word of a task that another pass has, or what the word of a free task says
 abbrev pub SawTask : ℕ → Op → Result TaskWord ℕ → Terms → Share → Share → Type 0
