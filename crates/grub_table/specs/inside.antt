@@ -1,5 +1,6 @@
 pub mod Between
 pub mod Brief
+pub mod Counted
 pub mod FirstWords
 pub mod Layout
 pub mod Rule

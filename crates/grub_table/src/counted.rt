@@ -2,8 +2,9 @@
 ghost use Rattle.std.specs.Prelude.{◌≡◌, ◌<◌, [], IfOk, length, ◌==◌};
 ghost use mathlib.Core.Option.{none, some};
 ghost use prog.Atomic.{either};
-ghost use Rattle.atomic_table.specs.Table.{step, opening, Allows, Splits, Joins, Final, Seen};
+ghost use Rattle.atomic_table.specs.Table.{opening, Splits, Joins, Final, Seen};
 ghost use Rattle.std.specs.Mem.Slots.{slots_items, slots_len, IsFull};
+ghost use Rattle.grub_table.specs.inside.Counted.{id_of, step_at, terms_of, MayStep};
 ghost use Rattle.grub_table.specs.inside.Rule.{Kept};
 ghost use Rattle.grub_table.specs.inside.Trails.{known, first_trail, left_trail, right_trail, joined, each_after};
 ghost use Rattle.grub_table.specs.inside.Views.{first_view, without_first, only_first, both_of, nothing};
@@ -29,10 +30,10 @@ impl CountedTable {
         terms: &Terms,
     ) -> Result<(CountedTable, Seat<Note, Trail>), AllocError>
         requires { Kept terms.now {S = Note} (opening words.now [] (first_view terms.now)) }
-        ensures words { IfOk result (λ t. t.0.inner.shared.table_id.words ≡ length words.now) }
-        ensures slots { IfOk result (λ t. t.0.inner.shared.table_id.slots ≡ 0) }
-        ensures key { IfOk result (λ t. t.0.inner.shared.key ≡ terms.now) }
-        ensures home { IfOk result (λ t. t.1.table_id ≡ t.0.inner.shared.table_id) }
+        ensures words { IfOk result (λ t. (id_of t.0).words ≡ length words.now) }
+        ensures slots { IfOk result (λ t. (id_of t.0).slots ≡ 0) }
+        ensures key { IfOk result (λ t. terms_of t.0 ≡ terms.now) }
+        ensures home { IfOk result (λ t. t.1.table_id ≡ id_of t.0) }
         ensures whole { IfOk result (λ t. t.1.me ≡ (first_trail terms.now, [])) }
     {
         let (inner, seat) = Table::of_words(alloc, words, terms)?;
@@ -41,13 +42,11 @@ impl CountedTable {
 
     /// Loads the word, and counts it.
     pub(crate) fn load<P: Play<Note, View>>(&self, seat: &mut Seat<Note, Trail>, word: usize) -> u64
-        requires { (seat.old.table_id ≡ self.now.inner.shared.table_id) × (word
-            < self.now.inner.shared.table_id.words) × Allows (Kept self.now.inner.shared.key)
-            self.now.inner.shared.table_id.slots seat.old.id (known seat.old.me) word (λ n. n)
-            (P.then (step self.now.inner.shared.table_id.slots word 0 0 none) (known seat.old.me)) }
+        requires { MayStep self.now seat.old word (λ n. n)
+            (P.then (step_at self.now word 0 0 none) (known seat.old.me)) }
         ensures home { seat.new.table_id ≡ seat.old.table_id }
-        ensures told { P.then (step self.now.inner.shared.table_id.slots word 0 0 none)
-            (known seat.old.me) result (known seat.new.me) }
+        ensures told { P.then (step_at self.now word 0 0 none) (known seat.old.me) result
+            (known seat.new.me) }
         ensures made { seat.new.me.0.made ≡ each_after seat.old.me.0.made (Load word) }
     {
         self.inner.shared.load::<Loads<P>>(seat, word)
@@ -60,14 +59,11 @@ impl CountedTable {
         word: usize,
         new: u64,
     )
-        requires { (seat.old.table_id ≡ self.now.inner.shared.table_id) × (word
-            < self.now.inner.shared.table_id.words) × Allows (Kept self.now.inner.shared.key)
-            self.now.inner.shared.table_id.slots seat.old.id (known seat.old.me) word (λ _. new)
-            (λ _. P.then (step self.now.inner.shared.table_id.slots word new 0 none)
-            (known seat.old.me) new) }
+        requires { MayStep self.now seat.old word (λ _. new)
+            (λ _. P.then (step_at self.now word new 0 none) (known seat.old.me) new) }
         ensures home { seat.new.table_id ≡ seat.old.table_id }
-        ensures told { P.then (step self.now.inner.shared.table_id.slots word new 0 none)
-            (known seat.old.me) new (known seat.new.me) }
+        ensures told { P.then (step_at self.now word new 0 none) (known seat.old.me) new
+            (known seat.new.me) }
         ensures made { seat.new.me.0.made ≡ each_after seat.old.me.0.made (Store word) }
     {
         self.inner.shared.store::<Stores<P>>(seat, word, new)
@@ -81,14 +77,11 @@ impl CountedTable {
         old: u64,
         new: u64,
     ) -> u64
-        requires { (seat.old.table_id ≡ self.now.inner.shared.table_id)
-            × (word < self.now.inner.shared.table_id.words)
-            × Allows (Kept self.now.inner.shared.key) self.now.inner.shared.table_id.slots
-            seat.old.id (known seat.old.me) word (λ n. either (n == old) new n) (P.then
-            (step self.now.inner.shared.table_id.slots word old new none) (known seat.old.me)) }
+        requires { MayStep self.now seat.old word (λ n. either (n == old) new n)
+            (P.then (step_at self.now word old new none) (known seat.old.me)) }
         ensures home { seat.new.table_id ≡ seat.old.table_id }
-        ensures told { P.then (step self.now.inner.shared.table_id.slots word old new none)
-            (known seat.old.me) result (known seat.new.me) }
+        ensures told { P.then (step_at self.now word old new none) (known seat.old.me) result
+            (known seat.new.me) }
         ensures made { seat.new.me.0.made
             ≡ each_after seat.old.me.0.made (Exchange word (result == old)) }
     {
@@ -106,15 +99,11 @@ impl CountedTable {
         new: u64,
         said: &Note,
     ) -> u64
-        requires { (seat.old.table_id ≡ self.now.inner.shared.table_id)
-            × (word < self.now.inner.shared.table_id.words)
-            × Allows (Kept self.now.inner.shared.key) self.now.inner.shared.table_id.slots
-            seat.old.id (known seat.old.me) word (λ n. either (n == old) new n)
-            (P.then (step self.now.inner.shared.table_id.slots word old new (some said.now))
-            (known seat.old.me)) }
+        requires { MayStep self.now seat.old word (λ n. either (n == old) new n)
+            (P.then (step_at self.now word old new (some said.now)) (known seat.old.me)) }
         ensures home { seat.new.table_id ≡ seat.old.table_id }
-        ensures told { P.then (step self.now.inner.shared.table_id.slots word old new
-            (some said.now)) (known seat.old.me) result (known seat.new.me) }
+        ensures told { P.then (step_at self.now word old new (some said.now))
+            (known seat.old.me) result (known seat.new.me) }
         ensures made { seat.new.me.0.made
             ≡ each_after seat.old.me.0.made (Exchange word (result == old)) }
     {
@@ -125,9 +114,8 @@ impl CountedTable {
 
     /// The first pass of the seat gets a seat of its own. One load of word 0.
     pub(crate) fn split_seat(&self, seat: &mut Seat<Note, Trail>) -> Seat<Note, Trail>
-        requires { (seat.old.table_id ≡ self.now.inner.shared.table_id)
-            × (0 < self.now.inner.shared.table_id.words)
-            × Splits (Kept self.now.inner.shared.key {S = Note}) seat.old.id seat.old.me.0.view
+        requires { (seat.old.table_id ≡ id_of self.now) × (0 < (id_of self.now).words)
+            × Splits (Kept (terms_of self.now) {S = Note}) seat.old.id seat.old.me.0.view
             (without_first seat.old.me.0.view) (only_first seat.old.me.0.view) }
         ensures home { seat.new.table_id ≡ seat.old.table_id }
         ensures left { seat.new.me ≡ (left_trail seat.old.me.0, seat.old.me.1) }
@@ -139,10 +127,9 @@ impl CountedTable {
 
     /// The seat takes in the passes of another. One load of word 0.
     pub(crate) fn join_seat(&self, seat: &mut Seat<Note, Trail>, other: Seat<Note, Trail>)
-        requires { (seat.old.table_id ≡ self.now.inner.shared.table_id)
-            × (other.table_id ≡ self.now.inner.shared.table_id) × (other.me.1 ≡ [])
-            × (0 < self.now.inner.shared.table_id.words)
-            × Joins (Kept self.now.inner.shared.key {S = Note}) seat.old.id seat.old.me.0.view
+        requires { (seat.old.table_id ≡ id_of self.now) × (other.table_id ≡ id_of self.now)
+            × (other.me.1 ≡ []) × (0 < (id_of self.now).words)
+            × Joins (Kept (terms_of self.now) {S = Note}) seat.old.id seat.old.me.0.view
             other.id other.me.0.view (both_of seat.old.me.0.view other.me.0.view) nothing }
         ensures home { seat.new.table_id ≡ seat.old.table_id }
         ensures both { seat.new.me ≡ (joined seat.old.me.0 other.me.0, seat.old.me.1) }
@@ -152,11 +139,11 @@ impl CountedTable {
 
     /// The words at the end, with what the seat knows.
     pub(crate) fn close_with(self, seat: Seat<Note, Trail>) -> Closed<Note, Global>
-        requires { seat.table_id ≡ self.inner.shared.table_id }
-        ensures counts { (slots_len result.words ≡ self.inner.shared.table_id.words)
-            × (slots_len result.slots ≡ self.inner.shared.table_id.slots) }
+        requires { seat.table_id ≡ id_of self }
+        ensures counts { (slots_len result.words ≡ (id_of self).words)
+            × (slots_len result.slots ≡ (id_of self).slots) }
         ensures values { IsFull result.words × IsFull result.slots
-            × Final (Seen (Kept self.inner.shared.key {S = Note}) seat.id seat.me.0.view)
+            × Final (Seen (Kept (terms_of self) {S = Note}) seat.id seat.me.0.view)
             (slots_items result.words) (slots_items result.slots) }
     {
         let CountedTable { inner } = self;

@@ -8,7 +8,7 @@ ghost use Rattle.grub_book.specs.declared.place.Record.{Record};
 ghost use Rattle.grub_words.specs.Words.{queue_word, server_word, params_word, QueueFits, ServerFits};
 ghost use Rattle.grub_table.specs.declared.view.Access.TheVariants.{Store, Load, Exchange};
 ghost use Rattle.grub_table.specs.declared.view.Stored.{Stored};
-ghost use Rattle.grub_table.specs.inside.Between.{HoldsFor, HoldsMade, Tells};
+ghost use Rattle.grub_table.specs.inside.Between.{HoldsFor, HoldsMade, HoldsSome, HoldsTask, Tells};
 ghost use Rattle.grub_table.specs.Calls.{terms, claim_task, claim_op, accesses, claim_accesses, claim_changes_sum, made_on, seen, share_on, IsCancelled, IsClaimOf, IsFinished, IsWithin};
 ghost use Rattle.grub_table.specs.Layout.{queue_word_at, task_word_at};
 ghost use Rattle.grub_table.specs.inside.Layout.{stored_of, server_word_at, params_word_at};
@@ -257,8 +257,7 @@ impl Shared {
 
     /// Loads the reading of the runqueue that the call is about.
     fn load_queue(&self, seated: &mut Seated, r: u32) -> Reading
-        requires { (t : ℕ) × (op : Op) × (rec : Record) × HoldsFor self.now seated.old t op rec
-            × (r ≡ runqueue_of rec.place op) }
+        requires { HoldsSome self.now seated.old (λ op rec. r ≡ runqueue_of rec.place op) }
         ensures told { Tells self.now (SawQueue r result) seated.old seated.new }
         ensures made { made_on seated.new ≡ made_on seated.old ++ Load (queue_word_at r) ∷ [] }
     {
@@ -268,9 +267,8 @@ impl Shared {
 
     /// Makes the reading `new` where it is still `old`, and says whether it was.
     fn change_queue(&self, seated: &mut Seated, r: u32, old: Reading, new: Reading) -> bool
-        requires held { (t : ℕ) × (op : Op) × (rec : Record) × HoldsFor self.now seated.old t op rec
-            × (r ≡ runqueue_of rec.place op)
-            × (new ≡ shifted_of old r rec (outcome (terms self.now) r old rec op).0) }
+        requires held { HoldsSome self.now seated.old (λ op rec. (r ≡ runqueue_of rec.place op)
+            × (new ≡ shifted_of old r rec (outcome (terms self.now) r old rec op).0)) }
         requires old { QueueFits old }
         requires new { QueueFits new }
         ensures told { Tells self.now (ChangedQueue r old result) seated.old seated.new }
@@ -284,8 +282,8 @@ impl Shared {
 
     /// The server of an op that changes no sum: its transition.
     fn settle_server(&self, seated: &mut Seated, t: u32, server: Server)
-        requires held { (op : Op) × (rec : Record) × HoldsFor self.now seated.old t op rec
-            × (changes_sum rec op ≡ false) × ¬ LooksAtQueue rec.place op }
+        requires held { HoldsTask self.now seated.old t
+            (λ op rec. (changes_sum rec op ≡ false) × ¬ LooksAtQueue rec.place op) }
         requires fits { ServerFits server }
         ensures told { Tells self.now (SettledServer (server_word server)) seated.old seated.new }
         ensures made { made_on seated.new

@@ -1,14 +1,15 @@
 //! Laws of a table, over all tables and all passes.
 
 ghost use Rattle.std.specs.Prelude.{◌≡◌, ◌<◌, ◌≤◌, ◌++◌, ◌∷◌, ℕ, List, [], length, slice_index_or};
+ghost use Rattle.std.specs.List.{All};
 ghost use Rattle.grub_book.specs.Machine.{Machine, queue_at};
 ghost use Rattle.grub_book.specs.History.{calls_of, pass_of};
 ghost use Rattle.grub_book.specs.declared.event.Event.{Event};
 ghost use Rattle.grub_book.specs.declared.event.Reading.{Reading};
-ghost use Rattle.grub_table.specs.Histories.{IsHistory, reading_in};
+ghost use Rattle.grub_table.specs.Histories.{IsHistory};
 ghost use Rattle.grub_table.specs.Knowing.{GoesOn, Knows, Learns};
 ghost use Rattle.grub_table.specs.Marks.{marker_of};
-ghost use Rattle.grub_table.specs.Calls.{seen, terms, IsClosed};
+ghost use Rattle.grub_table.specs.Calls.{seen, terms, AreReadings, IsClosed};
 ghost use Rattle.grub_table.specs.declared.pass.Pass.{Pass};
 ghost use Rattle.grub_table.specs.declared.shared.Shared.{Shared};
 ghost use Rattle.grub_table.specs.declared.view.Mark.{Mark};
@@ -18,9 +19,8 @@ ghost use Rattle.grub_table.specs.declared.view.Terms.{Terms};
 /// The readings of a closed table are sound: on each runqueue running_bw is at most this_bw, and this_bw at most what the
 /// runqueue admits.
 pub fn closing_readings_are_sound()
-    ensures running { (s : Shared) (ps : List Pass) (last : List Reading) (r : ℕ) (d : Reading)
-        → IsClosed s ps last → r < length last
-        → let x = slice_index_or last r d in x.running ≤ x.this }
+    ensures running { (s : Shared) (ps : List Pass) (last : List Reading) → IsClosed s ps last
+        → All (λ x. x.running ≤ x.this) last }
     ensures admitted { (s : Shared) (ps : List Pass) (last : List Reading) (m : Machine) (r : ℕ)
         (d : Reading) → IsClosed s ps last → (terms s).setup ≡ m → r < length last
         → let x = slice_index_or last r d in x.this ≤ (queue_at m r).most }
@@ -45,7 +45,6 @@ pub fn one_pass_makes_all()
         → calls_of 0 h ≡ h }
     ensures more { (T : Terms) (i : ℕ) (before h more : List Event) → T.passes ≡ 1 → i ≡ 0
         → IsHistory T h → GoesOn pass_of i before h more → h ≡ before ++ more }
-    ensures readings { (s : Shared) (p : Pass) (last : List Reading) (r : ℕ) (d : Reading)
-        → (terms s).passes ≡ 1 → IsClosed s (p ∷ []) last → r < length last
-        → slice_index_or last r d ≡ reading_in (terms s) (seen p) r }
+    ensures readings { (s : Shared) (p : Pass) (last : List Reading) → (terms s).passes ≡ 1
+        → IsClosed s (p ∷ []) last → AreReadings (terms s) (seen p) last }
 {}

@@ -7,7 +7,7 @@ ghost use Rattle.grub_book.specs.declared.place.Record.{Record};
 ghost use Rattle.grub_words.specs.Words.{TaskFits, server_word, params_word, task_word, ServerFits};
 ghost use Rattle.grub_table.specs.declared.view.Access.TheVariants.{Load, Exchange};
 ghost use Rattle.grub_table.specs.declared.view.Hold.TheVariants.{Free};
-ghost use Rattle.grub_table.specs.inside.Between.{hold_of, HoldsFor, Tells, SawTask, SawRecord};
+ghost use Rattle.grub_table.specs.inside.Between.{hold_of, HoldsFor, HoldsTask, Tells, SawTask, SawRecord};
 ghost use Rattle.grub_table.specs.Calls.{terms, accesses, made_on, started_accesses, IsPassOf, IsStarted, IsSeatOf};
 ghost use Rattle.grub_table.specs.Layout.{task_word_at};
 ghost use Rattle.grub_table.specs.inside.Layout.{server_word_at, params_word_at};
@@ -154,8 +154,8 @@ impl Shared {
 
     /// The record of a task that was taken, whose word said this.
     fn load_record(&self, seated: &mut Seated, t: u32, shown: TaskWord) -> Record
-        requires { (op : Op) × (rec : Record) × HoldsFor self.now seated.old t op rec
-            × (shown.place ≡ rec.place) × (shown.count ≡ rec.count) }
+        requires { HoldsTask self.now seated.old t
+            (λ _ rec. (shown.place ≡ rec.place) × (shown.count ≡ rec.count)) }
         ensures told { Tells self.now (SawRecord result) seated.old seated.new }
         ensures made { made_on seated.new
             ≡ made_on seated.old ++ Load (params_word_at (terms self.now).setup t)

@@ -1,7 +1,7 @@
 -- What stands between the steps of a call: the seat of a pass, and what it was told.
 use Rattle.std.specs.Prelude.{◌≡◌, ℕ, ◌<◌, [], length, None, Result, Ok, Err}
 use mathlib.Core.Option.{Option}
-use Rattle.atomic_table.specs.Table.{Allows, Step, step}
+use Rattle.atomic_table.specs.Table.{Allows, Step}
 use Rattle.grub_book.specs.Op.{IsOp}
 use Rattle.grub_book.specs.Sound.{IsKept}
 use Rattle.grub_book.specs.Step.{early, refused}
@@ -18,6 +18,7 @@ use Rattle.grub_table.specs.declared.view.Terms.{Terms}
 use Rattle.grub_words.specs.declared.task.TaskWord.{TaskWord}
 use Rattle.grub_table.specs.Histories.{record_in}
 use Rattle.grub_table.specs.inside.Tellings.{Adds, CallsIf, DecidesIf, IsOthers, Sees, Turns}
+use Rattle.grub_table.specs.inside.Counted.{id_of, step_at, terms_of}
 use Rattle.grub_table.specs.inside.Rule.{Kept}
 use Rattle.grub_table.specs.inside.Trails.{known}
 use Rattle.grub_table.specs.Calls.{share_on, IsSeatOf}
@@ -27,12 +28,12 @@ hold_of x = (share_on x).hold
 
 -- a step at a word of the table
 abbrev pub made_step : Shared → ℕ → ℕ → ℕ → Option Note → Step Note
-made_step s word first second said = step s.table.inner.shared.table_id.slots word first second said
+made_step s word first second said = step_at s.table word first second said
 
 -- the word is there, and whatever it is, the rule lets it become f of what it was, and this is told
 abbrev pub IsAllowed : Shared → Seated → ℕ → (ℕ → ℕ) → (ℕ → Terms → Share → Share → Type 0) → Type 0
-IsAllowed s x word f tells = (word < s.table.inner.shared.table_id.words)
-    × Allows (Kept s.table.inner.shared.key) s.table.inner.shared.table_id.slots x.seat.id (known x.seat.me) word f (λ n m'. Turns (tells n) (known x.seat.me) m')
+IsAllowed s x word f tells = (word < (id_of s.table).words)
+    × Allows (Kept (terms_of s.table)) (id_of s.table).slots x.seat.id (known x.seat.me) word f (λ n m'. Turns (tells n) (known x.seat.me) m')
 
 -- the seat is still at the table and of the same pass, and this is told of its shares
 pub record Tells (s : Shared) (told : Terms → Share → Share → Type 0) (old new : Seated) : Type 0 where
@@ -48,6 +49,13 @@ pub record HoldsFor (s : Shared) (x : Seated) (t : ℕ) (asked : Op) (rec : Reco
   pub op : IsOp s.terms.setup asked
   pub kept : IsKept s.terms.setup rec
   pub unrefused : refused rec.place rec.count asked ≡ None
+
+-- the seat holds this task, or some task, so, and this is true of the op and the record
+abbrev pub HoldsTask : Shared → Seated → ℕ → (Op → Record → Type 0) → Type 0
+HoldsTask s x t about = (asked : Op) × (rec : Record) × HoldsFor s x t asked rec × about asked rec
+
+abbrev pub HoldsSome : Shared → Seated → (Op → Record → Type 0) → Type 0
+HoldsSome s x about = (t : ℕ) × (asked : Op) × (rec : Record) × HoldsFor s x t asked rec × about asked rec
 
 -- ---- what steps tell together
 -- the word of a task that another pass has, or what the word of a free task says

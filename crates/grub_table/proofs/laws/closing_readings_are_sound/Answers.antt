@@ -1,4 +1,5 @@
 use Rattle.std.proofs.Common.{◌<◌, ◌≤◌, length, slice_index_or, sym, subst, arith}
+use Rattle.std.proofs.lemmas.List.Elements.{All-from_get_or}
 use Rattle.grub_book.specs.History.{book_of}
 use Rattle.grub_book.specs.Machine.{Machine, queue_at}
 use Rattle.grub_book.specs.declared.event.Reading.{Reading}
@@ -7,9 +8,11 @@ use Rattle.grub_table.proofs.Moves.{sound}
 use Rattle.grub_table.proofs.laws.closing_readings_are_sound.Goals as goal
 
 pub returns-clause-running : goal.returns-clause-running
-returns-clause-running c = λ s ps last r d closed low.
-    let there : r < length s.terms.setup.queues = omega (arith, low, closed.readings.one_each) in
-    subst (λ (x : Reading). x.running ≤ x.this) (sym (closed.readings.value r d there)) (running_le_this (book_of s.terms.setup closed.history) r)
+returns-clause-running c = λ s ps last closed.
+    let none : Reading = record { running = 0; this = 0 } in
+    All-from_get_or (λ (x : Reading). x.running ≤ x.this) last none
+    (λ r low. let there : r < length s.terms.setup.queues = omega (arith, low, closed.readings.one_each) in
+    subst (λ (x : Reading). x.running ≤ x.this) (sym (closed.readings.value r none there)) (running_le_this (book_of s.terms.setup closed.history) r))
 
 pub returns-clause-admitted : goal.returns-clause-admitted
 returns-clause-admitted c = λ s ps last m r d closed is low.

@@ -3,9 +3,9 @@ use Rattle.std.specs.List.{All, Any}
 use Rattle.std.proofs.lemmas.List.Elements.{All-head, All-tail}
 use Rattle.grub_book.specs.History.{calls_of, pass_of}
 use Rattle.grub_book.specs.declared.event.Event.{Event}
-use Rattle.grub_table.specs.Histories.{IsHistory, reading_in}
+use Rattle.grub_table.specs.Histories.{IsHistory}
 use Rattle.grub_table.specs.Knowing.{GoesOn}
-use Rattle.grub_table.specs.Calls.{number_of, seen}
+use Rattle.grub_table.specs.Calls.{AreReadings, number_of, seen}
 use Rattle.grub_table.specs.declared.pass.Pass.{Pass}
 use Rattle.grub_table.specs.declared.view.Terms.{Terms}
 use Rattle.grub_table.proofs.laws.one_pass_makes_all.Goals as goal
@@ -40,7 +40,7 @@ pub returns-clause-more : goal.returns-clause-more
 returns-clause-more c = goes
 
 pub returns-clause-readings : goal.returns-clause-readings
-returns-clause-readings c = λ s p last r d one closed low.
+returns-clause-readings c = λ s p last one closed.
     let zeroth : number_of p ≡ 0 = only p 0 (closed.whole 0 (rw one (omega arith))) in
     let same : closed.history ≡ seen p ++ [] = goes s.terms (number_of p) (seen p) closed.history [] one zeroth closed.is_history (closed.knows 0 p (omega arith)).seen in
-    closed.readings.value r d (omega (arith, low, closed.readings.one_each)) ∙ ap (λ h. reading_in s.terms h r) (same ∙ append-nil (seen p))
+    subst (λ h. AreReadings s.terms h last) (same ∙ append-nil (seen p)) closed.readings

@@ -196,7 +196,7 @@ shifted-new-requires-clause-running c = (reading_is _ c.requires.held.0 _ _ _ _ 
 pub change_queue-requires-clause-held : goal.change_queue-requires-clause-held
 change_queue-requires-clause-held c =
     let still = holds_still _ c.requires.held.0 _ _ _ _ _ _ c.requires.held.1 c.runqueue-r.ensures c.load_queue-now.ensures.told _ c.queue.ensures.value _ c.settle-next.ensures _ c.is_decided_at_load.ensures c.if-is_decided_at_load.false in
-    (c.requires.held.0, c.args.op, c.args.held.now, still, c.runqueue-r.ensures, moves _ c.requires.held.0 _ _ _ _ _ _ c.requires.held.1 c.runqueue-r.ensures c.load_queue-now.ensures.told _ c.queue.ensures.value _ c.settle-next.ensures _ c.is_decided_at_load.ensures _ c.shifted-new.ensures)
+    (c.requires.held.0, c.args.op, c.args.held.now, still, (c.runqueue-r.ensures, moves _ c.requires.held.0 _ _ _ _ _ _ c.requires.held.1 c.runqueue-r.ensures c.load_queue-now.ensures.told _ c.queue.ensures.value _ c.settle-next.ensures _ c.is_decided_at_load.ensures _ c.shifted-new.ensures))
 
 pub change_queue-requires-clause-old : goal.change_queue-requires-clause-old
 change_queue-requires-clause-old c = reading_fits _ c.requires.held.0 _ _ _ _ _ _ c.requires.held.1 c.runqueue-r.ensures c.load_queue-now.ensures.told

@@ -67,7 +67,7 @@ settle-reply-requires-clause-fits_a_setup c = (c.args.self.now.terms.setup, c.re
 pub settle_server-requires-clause-held : goal.settle_server-requires-clause-held
 settle_server-requires-clause-held c =
     let claim = c.args.claim in
-    (claim.op, claim.held, claim_holds c.args.self.now claim c.requires.of, c.requires.sum, quiet_blind claim.held claim.op c.requires.sum c.requires.charge)
+    (claim.op, claim.held, claim_holds c.args.self.now claim c.requires.of, (c.requires.sum, quiet_blind claim.held claim.op c.requires.sum c.requires.charge))
 
 pub settle_server-requires-clause-fits : goal.settle_server-requires-clause-fits
 settle_server-requires-clause-fits c = (ServerFits-kept _ _ (next_kept c.args.self.now c.args.claim c.requires.of c.queue.result unseen c.settle-reply.result c.settle-reply.ensures)).0

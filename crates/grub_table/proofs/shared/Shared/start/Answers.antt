@@ -130,8 +130,8 @@ module _ (s : Shared) (p : Pass) (t : ℕ) (op : Op) where
       holds : HoldsFor s two t op taken
       holds = let h = took.of.1 (hit ∙ was) in record { seat_of = took.seat; hold = h.1; task = lt; op = is_op; kept = h.3; unrefused = unrefused }
 
-      to_load : (asked : Op) × (rec : Record) × HoldsFor s two t asked rec × (w.place ≡ rec.place) × (w.count ≡ rec.count)
-      to_load = (op, taken, holds, says.0, says.1)
+      to_load : (asked : Op) × (rec : Record) × HoldsFor s two t asked rec × ((w.place ≡ rec.place) × (w.count ≡ rec.count))
+      to_load = (op, taken, holds, (says.0, says.1))
 
       marked2 : MarksGo T.passes i x.marks x2.marks (Taken i t ∷ [])
       marked2 = let h = took.of.1 (hit ∙ was) in marks_both T.passes i x.marks x1.marks x2.marks [] (Taken i t ∷ []) marked1 (subst (λ n. MarksGo T.passes n x1.marks x2.marks (Taken n t ∷ [])) number1 h.5)
