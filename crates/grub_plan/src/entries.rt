@@ -7,10 +7,10 @@ ghost use Rattle.grub_plan.specs.Texts.{entry_line};
 use crate::entry::Entry;
 use crate::pieces::append_entry;
 use crate::plan::Plan;
-use grub_text::Line;
+use grub_text::LineOf;
 
 /// An entry is told with the plan's names. Its task is to be one of the plan's.
-impl Line<Entry> for Plan {
+impl LineOf<Entry> for Plan {
     ghost fits = { λ plan entry. IsAskOf (length plan.setup.tasks) entry.ask };
 
     ghost line = { λ plan entry. entry_line plan.names entry };

@@ -12,8 +12,8 @@ use Rattle.grub_picture.specs.Picture.{last_moment, picture_of}
 use Rattle.grub_steps.specs.Replay.{steps_of}
 use Rattle.grub_views.specs.Rows.{step_rows}
 use Rattle.grub_summary.specs.Summary.{summary_text}
-use Rattle.grub_run.specs.declared.view.View.{View}
-use Rattle.grub_run.specs.declared.view.View.TheVariants.{Timeline, Steps, Summary, Picture}
+use Rattle.grub_run.specs.declared.view.TimeLineView.{TimeLineView}
+use Rattle.grub_run.specs.declared.view.TimeLineView.TheVariants.{Timeline, Steps, Summary, Picture}
 
 -- the moment at which a picture begins: 0 where it is not given
 abbrev pub first_of : Option ℕ → ℕ
@@ -24,7 +24,7 @@ abbrev pub end_of : Option ℕ → List ToldEntry → ℕ
 end_of to told = unwrap_or to (max 1 (last_moment told))
 
 -- The text is a view of these entries and closing readings. A picture begins before it ends, and is shorter than 4 MiB.
-abbrev pub IsViewOf : View → PlanView → List ToldEntry → List Reading → List ℕ → Type 0
+abbrev pub IsViewOf : TimeLineView → PlanView → List ToldEntry → List Reading → List ℕ → Type 0
 IsViewOf Timeline plan told closing text = text ≡ timeline_lines plan.names told closing
 IsViewOf Steps plan told closing text = text ≡ step_rows plan.names (steps_of plan.setup told)
 IsViewOf Summary plan told closing text = text ≡ summary_text plan.setup plan.names (steps_of plan.setup told)
@@ -32,7 +32,7 @@ IsViewOf (Picture from to) plan told closing text =
     (first_of from < end_of to told) × (length text < 2 ^ 22) × (text ≡ picture_of plan.setup plan.names (steps_of plan.setup told) [] (first_of from) (end_of to told))
 
 -- the text is that of a view of the time line of these files
-pub record IsShown (view : View) (files : List (List ℕ)) (text : List ℕ) : Type 0 where
+pub record IsShown (view : TimeLineView) (files : List (List ℕ)) (text : List ℕ) : Type 0 where
   pub trees : List Tree
   pub read : Reads files trees
   pub told : List ToldEntry

@@ -4,12 +4,12 @@ ghost use Rattle.std.specs.Prelude.{◌≡◌, ◌+◌, ◌*◌, ◌<◌, ◌≤
 ghost use Rattle.std.specs.Fork.{slice_chunk};
 ghost use Rattle.std.specs.List.{flat_map};
 
-use crate::item_line::Line;
+use crate::item_line::LineOf;
 use crate::pieces::LINE_MAX;
 use std::mem;
 
 /// Appends the lines of the items to a vector that has room for them.
-fn append_lines<X, L: Line<X>>(block: &mut Vec<u8>, items: &[X], lines: &L)
+fn append_lines<X, L: LineOf<X>>(block: &mut Vec<u8>, items: &[X], lines: &L)
     requires fits { All (λ x. L.fits lines.now x) items.now }
     requires room { vec_len block.old + length items.now * LINE_MAX ≤ vec_capacity block.old }
     ensures text { block.new.items ≡ block.old.items ++ flat_map (L.line lines.now) items.now }
@@ -32,7 +32,7 @@ fn part_at<X>(items: &[X], size: usize, number: usize) -> &[X]
 }
 
 /// Makes a block of the lines of one part.
-pub(crate) fn make_block<X, L: Line<X>>(
+pub(crate) fn make_block<X, L: LineOf<X>>(
     block: &mut Vec<u8>,
     items: &[X],
     size: usize,

@@ -8,7 +8,7 @@ ghost use Rattle.grub_text.specs.declared.blocks.TheConstants.{COUNT, BLOCK_ROOM
 
 use crate::block::make_block;
 use crate::buffer::write_bytes;
-use crate::item_line::Line;
+use crate::item_line::LineOf;
 use crate::pieces::LINE_MAX;
 use std::alloc::{AllocError, Global};
 use std::io::Write;
@@ -47,7 +47,7 @@ impl Blocks {
 
     /// Makes the lines of a round, each block in a thread of its own where one can be started, and writes them in order.
     /// After a failing write, or one that took nothing, a beginning of them was written.
-    pub fn write_round<R: Threads + Sync, W: Write, X: Sync, L: Line<X> + Sync>(
+    pub fn write_round<R: Threads + Sync, W: Write, X: Sync, L: LineOf<X> + Sync>(
         &mut self,
         rt: &R,
         out: &mut W,
@@ -73,7 +73,7 @@ impl Blocks {
 }
 
 /// Makes each block of the lines of its part of the items, which are as many parts of this size as there are blocks.
-fn make_blocks<R: Threads + Sync, X: Sync, L: Line<X> + Sync>(
+fn make_blocks<R: Threads + Sync, X: Sync, L: LineOf<X> + Sync>(
     rt: &R,
     blocks: &mut [Vec<u8>],
     size: usize,

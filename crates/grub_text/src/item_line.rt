@@ -5,7 +5,7 @@ ghost use Rattle.std.specs.Prelude.{◌≡◌, ◌+◌, ◌≤◌, ◌++◌, ℕ
 use crate::pieces::LINE_MAX;
 
 /// How the line of an item is made. It is a function of the item.
-pub trait Line<X> {
+pub trait LineOf<X> {
     /// The items that have a line.
     ghost fits: { Self → X → Type 0 };
 

@@ -6,7 +6,7 @@ ghost use Rattle.grub_text.specs.Writing.{HandsOn, HandsPart};
 
 use crate::blocks::{Blocks, ROUND_MAX};
 use crate::buffer::{make_room, write_buffer};
-use crate::item_line::Line;
+use crate::item_line::LineOf;
 use crate::pieces::LINE_MAX;
 use std::io;
 use std::io::Write;
@@ -18,7 +18,7 @@ pub const MANY_LINES: usize = 1024;
 /// Writes the lines of the items in their order. Many are made by several threads, and all of them are written then; few
 /// are put into the buffer, which is written as often as it is full. It takes no memory.
 /// After a failing write, or one that took nothing, a beginning of the buffer's bytes and the lines was written.
-pub fn write_lines<R: Threads + Sync, W: Write, X: Sync, L: Line<X> + Sync>(
+pub fn write_lines<R: Threads + Sync, W: Write, X: Sync, L: LineOf<X> + Sync>(
     rt: &R,
     blocks: &mut Blocks,
     buffer: &mut Vec<u8>,
@@ -42,7 +42,7 @@ pub fn write_lines<R: Threads + Sync, W: Write, X: Sync, L: Line<X> + Sync>(
     }
 }
 
-fn write_few<W: Write, X, L: Line<X>>(
+fn write_few<W: Write, X, L: LineOf<X>>(
     buffer: &mut Vec<u8>,
     out: &mut W,
     items: &[X],
@@ -63,7 +63,7 @@ fn write_few<W: Write, X, L: Line<X>>(
     Ok(())
 }
 
-fn write_many<R: Threads + Sync, W: Write, X: Sync, L: Line<X> + Sync>(
+fn write_many<R: Threads + Sync, W: Write, X: Sync, L: LineOf<X> + Sync>(
     rt: &R,
     blocks: &mut Blocks,
     out: &mut W,

@@ -10,7 +10,7 @@ use crate::beside::play_beside;
 use crate::rest::play_out;
 use grub_book::Reading;
 use grub_plan::{Plan, append_answer, append_ask, append_reading};
-use grub_text::{Blocks, LINE_MAX, Line, append, append_number, make_room, write_lines};
+use grub_text::{Blocks, LINE_MAX, LineOf, append, append_number, make_room, write_lines};
 use grub_timeline::{Playing, ToldEntry};
 use std::io;
 use std::io::Write;
@@ -100,7 +100,7 @@ struct PlanLines<'a> {
     plan: &'a Plan,
 }
 
-impl<'a> Line<ToldEntry> for PlanLines<'a> {
+impl<'a> LineOf<ToldEntry> for PlanLines<'a> {
     ghost fits = { λ lines x. IsAskOf (length lines.plan.now.setup.tasks) x.entry.ask };
 
     ghost line = { λ lines x. told_line lines.plan.now.names x };

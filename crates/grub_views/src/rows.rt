@@ -15,7 +15,7 @@ use crate::row::append_step;
 use grub_book::Book;
 use grub_plan::Plan;
 use grub_steps::{Step, fill_steps};
-use grub_text::{Blocks, LINE_MAX, Line, append, make_room, write_lines};
+use grub_text::{Blocks, LINE_MAX, LineOf, append, make_room, write_lines};
 use grub_timeline::{Playing, ToldEntry};
 use std::io;
 use std::io::Write;
@@ -160,7 +160,7 @@ struct PlanRows<'a> {
     plan: &'a Plan,
 }
 
-impl<'a> Line<Step> for PlanRows<'a> {
+impl<'a> LineOf<Step> for PlanRows<'a> {
     ghost fits = { λ rows x. IsToldIn rows.plan.now.setup x.told };
 
     ghost line = { λ rows x. step_row rows.plan.now.names x };

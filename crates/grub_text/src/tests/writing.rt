@@ -2,7 +2,7 @@
 
 ghost use Rattle.std.specs.Prelude.{◌++◌, codes, decimal, ⊤};
 
-use crate::{Blocks, Line, append, append_number, line_buffer, write_buffer, write_lines};
+use crate::{Blocks, LineOf, append, append_number, line_buffer, write_buffer, write_lines};
 use std::alloc::{AllocError, Global};
 use std::io;
 use std::io::{ErrorKind, Write};
@@ -12,7 +12,7 @@ use std::thread::Threads;
 /// The line of a number is the number.
 struct Numbers;
 
-impl Line<u32> for Numbers {
+impl LineOf<u32> for Numbers {
     ghost fits = { λ _ _. ⊤ };
 
     ghost line = { λ _ n. decimal n ++ codes "\n" };
