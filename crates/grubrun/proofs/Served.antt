@@ -36,7 +36,7 @@ wants_one words a b p q =
 -- of what there is nothing of, nothing is written
 writes_none : (old new : Option (List ℕ)) (wanted : Wanted) (tries : ℕ) (files : List (List ℕ)) → IsMistake wanted → Writes (IsWanted wanted tries) old new files → ⊥
 writes_none old new Reports tries files mistake writes = mistake
-writes_none old new (TimeLineView view) tries files mistake writes = mistake
+writes_none old new (View view) tries files mistake writes = mistake
 writes_none old new NoView tries files mistake writes = writes.1
 writes_none old new NoPicture tries files mistake writes = writes.1
 writes_none old new (EmptySpan from to) tries files mistake writes = writes.1
@@ -61,10 +61,10 @@ module _ {O N D X : Type 0} (o : Opener O D) (g : Reader N D) (source : Source O
         failed = failed;
       }))
 
-  pub view_served : (wanted : Wanted) (view : Shown) (tries : ℕ) (paths names : List (List ℕ)) (n : ℕ) → wanted ≡ TimeLineView view → paths ≡ names → (n ≡ 0) ⊎ (n ≡ 1) ⊎ (n ≡ 2) ⊎ (n ≡ 3) → (n ≡ 0 → Whole o g source (Writes (IsShown view) (contents old) (contents new)) paths)
+  pub view_served : (wanted : Wanted) (view : Shown) (tries : ℕ) (paths names : List (List ℕ)) (n : ℕ) → wanted ≡ View view → paths ≡ names → (n ≡ 0) ⊎ (n ≡ 1) ⊎ (n ≡ 2) ⊎ (n ≡ 3) → (n ≡ 0 → Whole o g source (Writes (IsShown view) (contents old) (contents new)) paths)
       → (n ≡ 1 → HasFileFault o g source paths) → (n ≡ 2 → Whole o g source (faults.HasNoSpan view) paths) → ((n ≡ 1) ⊎ (n ≡ 2) → new ≡ old) → (n ≡ 3 → (new ≡ old) ⊎ Whole o g source (Begins (IsShown view) (contents old) (contents new)) paths) → Served wanted tries names n
   view_served wanted view tries paths names n is same status done file usage nothing failed =
-      subst (λ w. Served w tries names n) (sym is) (subst (λ l. Served (TimeLineView view) tries l n) same (record {
+      subst (λ w. Served w tries names n) (sym is) (subst (λ l. Served (View view) tries l n) same (record {
         most = omega arith;
         done = done;
         file = file;
