@@ -5,7 +5,7 @@ use Rattle.grub_text.proofs.writing.write_few.Goals as goal
 
 pub returns-in_err-make_room-clause-part : goal.returns-in_err-make_room-clause-part
 returns-in_err-make_room-clause-part g c =
-    let line = g.L.Line.line c.args.lines.now in
+    let line = g.L.LineOf.line c.args.lines.now in
     let x = c.item-item.result in
     let i = c.loop-item.item-index in
     let a = g.W.Write.contents c.args.out.now in
@@ -17,7 +17,7 @@ returns-in_err-make_room-clause-part g c =
 
 pub loop-item-preserved : goal.loop-item-preserved
 loop-item-preserved g c =
-    let line = g.L.Line.line c.args.lines.now in
+    let line = g.L.LineOf.line c.args.lines.now in
     let x = c.item-item.result in
     let i = c.loop-item.item-index in
     let there : get_or c.args.items.now i x ≡ x = search rules in

@@ -7,5 +7,5 @@ use Rattle.grub_text.proofs.writing.write_few.Given as goal
 abbrev pub invariant-loop-item : goal.invariant-loop-item
 invariant-loop-item g l = record {
   room : LINE_MAX ≤ vec_capacity l.buffer;
-  so_far : HandsOn (g.W.Write.contents l.initial.out) (g.W.Write.contents l.out) l.initial.buffer.items (flat_map (g.L.Line.line l.lines) (take l.item-index l.items)) l.buffer.items;
+  so_far : HandsOn (g.W.Write.contents l.initial.out) (g.W.Write.contents l.out) l.initial.buffer.items (flat_map (g.L.LineOf.line l.lines) (take l.item-index l.items)) l.buffer.items;
 }

@@ -7,11 +7,11 @@ use Rattle.grub_text.proofs.writing.write_lines.Goals as goal
 pub returns-in_err-write_buffer-clause-part : goal.returns-in_err-write_buffer-clause-part
 returns-in_err-write_buffer-clause-part g c =
     on_err c.from_residual.result
-    (hands_soon (g.W.Write.contents c.args.out.now) (g.W.Write.contents c.write_buffer.new.out) c.args.buffer.now.items (flat_map (g.L.Line.line c.args.lines.now) c.args.items.now) c.in_err-write_buffer.ensures.part)
+    (hands_soon (g.W.Write.contents c.args.out.now) (g.W.Write.contents c.write_buffer.new.out) c.args.buffer.now.items (flat_map (g.L.LineOf.line c.args.lines.now) c.args.items.now) c.in_err-write_buffer.ensures.part)
 
 pub returns-in_ok-write_buffer-clause-part : goal.returns-in_ok-write_buffer-clause-part
 returns-in_ok-write_buffer-clause-part g c =
-    let text = flat_map (g.L.Line.line c.args.lines.now) c.args.items.now in
+    let text = flat_map (g.L.LineOf.line c.args.lines.now) c.args.items.now in
     let a = g.W.Write.contents c.args.out.now in
     let b = g.W.Write.contents c.write_buffer.new.out in
     let d = g.W.Write.contents c.write_many.new.out in

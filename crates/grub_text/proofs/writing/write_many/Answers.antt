@@ -6,7 +6,7 @@ use Rattle.grub_text.proofs.writing.write_many.Goals as goal
 
 pub returns-in_err-write_round-clause-part : goal.returns-in_err-write_round-clause-part
 returns-in_err-write_round-clause-part g c =
-    let line = g.L.Line.line c.args.lines.now in
+    let line = g.L.LineOf.line c.args.lines.now in
     let a = g.W.Write.contents c.args.out.now in
     let b = g.W.Write.contents c.loop-at.out in
     let d = g.W.Write.contents c.write_round.new.out in
@@ -16,7 +16,7 @@ returns-in_err-write_round-clause-part g c =
 
 pub loop-at-preserved : goal.loop-at-preserved
 loop-at-preserved g c =
-    let line = g.L.Line.line c.args.lines.now in
+    let line = g.L.LineOf.line c.args.lines.now in
     let a = g.W.Write.contents c.args.out.now in
     let b = g.W.Write.contents c.loop-at.out in
     let d = g.W.Write.contents c.write_round.new.out in

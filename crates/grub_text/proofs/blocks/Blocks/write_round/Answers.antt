@@ -7,7 +7,7 @@ use Rattle.grub_text.proofs.blocks.Blocks.write_round.Goals as goal
 use Rattle.grub_text.proofs.blocks.Blocks.write_round.Goals.{After-write_blocks}
 
 -- what the blocks are, put together
-put_together : (g : _) (c : After-write_blocks g) → flat_map (λ b. b.items) c.deref.result.now ≡ flat_map (g.L.Line.line c.args.lines.now) c.args.items.now
+put_together : (g : _) (c : After-write_blocks g) → flat_map (λ b. b.items) c.deref.result.now ≡ flat_map (g.L.LineOf.line c.args.lines.now) c.args.items.now
 put_together g c =
     let done = c.make_blocks.new.blocks in
     let size = c.div_ceil.result in
@@ -15,7 +15,7 @@ put_together g c =
     let same : c.deref.result.now ≡ done = grind (arith, common_steps) in
     let few : length c.args.items.now ≤ length done * size = grind (arith, common_steps) in
     ap (flat_map (λ b. b.items)) same
-    ∙ parts_text (g.L.Line.line c.args.lines.now) (λ b. b.items) size done c.args.items.now (λ i d below. c.make_blocks.ensures.text i d (search rules)) few
+    ∙ parts_text (g.L.LineOf.line c.args.lines.now) (λ b. b.items) size done c.args.items.now (λ i d below. c.make_blocks.ensures.text i d (search rules)) few
 
 pub returns-clause-whole : goal.returns-clause-whole
 returns-clause-whole g c =
