@@ -97,7 +97,7 @@ fn ask(player: &mut Player<'_>, r: u32, line: Line)
 pub(crate) fn ask_line(player: &mut Player<'_>, placed: PlacedLine)
     requires playing { IsPlaying player.old }
     requires act { ActFits (length player.old.book.setup.tasks) placed.line.act }
-    requires queue { placed.r < length player.old.book.setup.queues }
+    requires queue { placed.runqueue < length player.old.book.setup.queues }
     requires moment { placed.line.m ≤ MOMENT_MAX }
     requires not_past { IsNotPast placed.line.m player.old }
     requires room { vec_len player.old.chunk + (length player.old.book.setup.tasks + 3)
@@ -110,5 +110,5 @@ pub(crate) fn ask_line(player: &mut Player<'_>, placed: PlacedLine)
     ensures room { vec_capacity player.new.chunk ≡ vec_capacity player.old.chunk }
 {
     ask_due(player, placed.line.m);
-    ask(player, placed.r, placed.line);
+    ask(player, placed.runqueue, placed.line);
 }

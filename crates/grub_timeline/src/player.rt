@@ -56,7 +56,7 @@ pub(crate) fn put(player: &mut Player<'_>, r: u32, m: u32, t: u32, op: Op) -> An
     let reply = player.book.apply(t, op);
     let answer = Answer::Replied(reply);
     let told = ToldEntry {
-        r,
+        runqueue: r,
         entry: Entry {
             m,
             ask: Ask::Call { t, op },
@@ -108,7 +108,7 @@ pub(crate) fn look(player: &mut Player<'_>, r: u32, m: u32)
 {
     let reading = player.book.read(r);
     let told = ToldEntry {
-        r,
+        runqueue: r,
         entry: Entry {
             m,
             ask: Ask::Read,

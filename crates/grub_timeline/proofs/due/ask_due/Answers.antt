@@ -39,7 +39,7 @@ loop-timer-preserved c =
     let last : next.wheel.last ≡ Some c.args.m = ap (λ (w : WheelState). w.last) (c.put.ensures.wheel ∙ some.taken) in
     let due = next_due before.wheel.timers old c.args.m x kept.armed_are some.armed some.due some.least in
     let low = kept.tasks x.t _ due.armed in
-    let armed_by : told.r ≡ armer old x.t = c.index-r.ensures ∙ inv.0.armers.each x.t c.index-r.result.now low in (
+    let armed_by : told.runqueue ≡ armer old x.t = c.index-r.ensures ∙ inv.0.armers.each x.t c.index-r.result.now low in (
       record {
         chunk = chunk_more before.start.value.items _ before.chunk.items before.told.items next.chunk.items next.told.items _ put.start inv.0.chunk put.chunk put.list;
         places = let places = inv.0.places in let setup = ap (λ (s : Machine). length s.tasks) put.setup in let same = ap places_of c.put.ensures.wheel in let kept = places_due before.wheel _ _ x some.armed some.taken in omega (arith, places, setup, same, kept);
