@@ -19,8 +19,8 @@ use Rattle.grub_steps.specs.declared.book_steps.Step.{Step}
 -- a call, by what was kept of its task before and after
 pub call_step : (s : Machine) (book then : Records) (x : ToldEntry) (t : ℕ) (op : Op) (before now : Record) (inner queue : ℕ) (reading : Reading)
     → x.entry.ask ≡ Call t op → then ≡ (step s book t op).0 → before ≡ record_at book t → now ≡ record_at then t
-    → inner ≡ queue_or before.place x.r → queue ≡ queue_or now.place inner → reading ≡ reading_of then queue
-    → record { told = x; change = Some (record { t = t; server = before.server; place = now.place }); queue = queue; reading = reading } ≡ step_of s book x
+    → inner ≡ queue_or before.place x.runqueue → queue ≡ queue_or now.place inner → reading ≡ reading_of then queue
+    → record { told = x; change = Some (record { task = t; server = before.server; place = now.place }); queue = queue; reading = reading } ≡ step_of s book x
 call_step s book then x t op before now inner queue reading ask then_is before_is now_is inner_is queue_is reading_is =
     rw (ask, reading_is, queue_is, inner_is, now_is, before_is, then_is) refl
 

@@ -32,8 +32,8 @@ pub legal_within : (s : Machine) (book : Records) (told : List ToldEntry) → Is
 legal_within s book [] legal answered within = All-from_recursion (IsToldIn s) [] tt
 legal_within s book (x ∷ told) legal answered within =
     let AnsweredAt = λ (y : ToldEntry). IsAnswered y.entry.ask y.entry.answer in
-    let WithinAt = λ (y : ToldEntry). (y.r < length s.queues) × IsAskOf (length s.tasks) y.entry.ask in
-    let here = goes s book x.r x.entry.ask x.entry.answer (history_of told) legal (All-head AnsweredAt x told answered) in
+    let WithinAt = λ (y : ToldEntry). (y.runqueue < length s.queues) × IsAskOf (length s.tasks) y.entry.ask in
+    let here = goes s book x.runqueue x.entry.ask x.entry.answer (history_of told) legal (All-head AnsweredAt x told answered) in
     let there = All-head WithinAt x told within in
     All-cons (IsToldIn s) x told (record { queue = there.0; ask = here.within })
     (legal_within s here.book told here.legal (All-tail AnsweredAt x told answered) (All-tail WithinAt x told within))

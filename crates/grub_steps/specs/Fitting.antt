@@ -14,7 +14,7 @@ IsAskIn s Read = Unit {0}
 
 -- and so is the runqueue that it is asked on
 pub record IsToldIn (s : Machine) (x : ToldEntry) : Type 0 where
-  pub queue : x.r < length s.queues
+  pub queue : x.runqueue < length s.queues
   pub ask : IsAskIn s x.entry.ask
 
 -- the entries are of the runqueues and tasks of a setup

@@ -28,14 +28,14 @@ queue_seen before then r (Call t op) = queue_or (record_at then t).place (queue_
 queue_seen before then r Read = r
 
 abbrev pub change_of : Records → Records → Ask → Option Change
-change_of before then (Call t op) = Some (record { t = t; server = (record_at before t).server; place = (record_at then t).place })
+change_of before then (Call t op) = Some (record { task = t; server = (record_at before t).server; place = (record_at then t).place })
 change_of before then Read = None
 
 -- an entry, and what it made of a book
 abbrev pub step_of : Machine → Records → ToldEntry → Step
 step_of s book x =
     let then = book_after s book x.entry.ask in
-    let queue = queue_seen book then x.r x.entry.ask in
+    let queue = queue_seen book then x.runqueue x.entry.ask in
     record { told = x; change = change_of book then x.entry.ask; queue = queue; reading = reading_of then queue }
 
 -- the steps of these entries, from this book on

@@ -12,7 +12,7 @@ use Rattle.grub_steps.specs.declared.book_steps.Change.{Change}
 use Rattle.grub_steps.specs.declared.book_steps.Step.{Step}
 
 abbrev pub is_change_of : ℕ → Option Change → Bool
-is_change_of t (Some change) = change.t == t
+is_change_of t (Some change) = change.task == t
 is_change_of t None = false
 
 -- the steps of one task, in order

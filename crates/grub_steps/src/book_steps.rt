@@ -15,8 +15,8 @@ use std::alloc::{AllocError, Global};
 /// What an entry changed of its task.
 #[derive(Clone, Copy, Debug, PartialEq, Eq)]
 pub struct Change {
-    /// The task.
-    pub t: u32,
+    /// The number of the task.
+    pub task: u32,
 
     /// Its budget and deadline before the entry.
     pub server: Server,
@@ -84,20 +84,20 @@ pub fn step_after(book: &mut Book, x: &ToldEntry) -> Step
         return Step {
             told: *x,
             change: None,
-            queue: x.r,
-            reading: book.read(x.r),
+            queue: x.runqueue,
+            reading: book.read(x.runqueue),
         };
     };
     let before = book.record(t);
     book.apply(t, op);
     let place = book.record(t).place;
-    let stood = queue_or(before.place, x.r);
+    let stood = queue_or(before.place, x.runqueue);
     let queue = queue_or(place, stood);
     let reading = book.read(queue);
     Step {
         told: *x,
         change: Some(Change {
-            t,
+            task: t,
             server: before.server,
             place,
         }),

@@ -21,7 +21,7 @@ fn is_change_of(t: u32, change: Option<Change>) -> bool
     ensures { result ≡ is_change_of t change }
 {
     match change {
-        Some(change) => change.t == t,
+        Some(change) => change.task == t,
         None => false,
     }
 }

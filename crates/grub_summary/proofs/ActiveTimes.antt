@@ -153,12 +153,12 @@ area s r book now from [] at len within = sym (sum_zero (range_with_len 0 (lengt
 area s r book now from (x ∷ told) at len within =
     let then = book_after s book x.entry.ask in
     let gap = x.entry.m - from in
-    let In = λ (y : ToldEntry). (y.r < length s.queues) × IsAskOf (length s.tasks) y.entry.ask in
+    let In = λ (y : ToldEntry). (y.runqueue < length s.queues) × IsAskOf (length s.tasks) y.entry.ask in
     let of : IsAskOf (length book) x.entry.ask = subst (λ n. IsAskOf n x.entry.ask) (sym len) (All-head In x told within).1 in
     let same : length then ≡ length book = length_after s book x.entry.ask in
-    let queue = queue_seen book then x.r x.entry.ask in
+    let queue = queue_seen book then x.runqueue x.entry.ask in
     let next : reading_after r now (step_of s book x) ≡ reading_of then r =
-    after_test (queue == r) r queue now book then refl at (seen_alone s book x.r x.entry.ask r of) in
+    after_test (queue == r) r queue now book then refl at (seen_alone s book x.runqueue x.entry.ask r of) in
     let rest = area s r then (reading_after r now (step_of s book x)) x.entry.m told next (same ∙ len) (All-tail In x told within) in
     let tasks : sum_by (λ t. share_of (is_active_on r) (record_at book t)) (range_with_len 0 (length book)) ≡ running_of book r = sum_by_number (share_of (is_active_on r)) _ book in
     let here : now.running ≡ sum_by (λ t. share_of (is_active_on r) (record_at book t)) (range_with_len 0 (length book)) = ap (λ (y : Reading). y.running) at ∙ sym tasks in

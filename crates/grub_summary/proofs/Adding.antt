@@ -96,11 +96,11 @@ same_number : (t : ℕ) → (t == t) ≡ true
 same_number t = grind arith
 
 -- a step of one task
-pub tallies_more : (s : Machine) (steps : List Step) (x : Step) (change : Change) (ys : List Tally) (y d : Tally) → x.change ≡ Some change → change.t < length ys
-    → y ≡ tally_after (get_or ys change.t d) x → ys ≡ tallies_of s steps → set ys change.t y ≡ tallies_of s (steps ++ x ∷ [])
+pub tallies_more : (s : Machine) (steps : List Step) (x : Step) (change : Change) (ys : List Tally) (y d : Tally) → x.change ≡ Some change → change.task < length ys
+    → y ≡ tally_after (get_or ys change.task d) x → ys ≡ tallies_of s steps → set ys change.task y ≡ tallies_of s (steps ++ x ∷ [])
 unfolding tallies_of
 tallies_more s steps x change ys y d is there y_is ys_is =
-    let t = change.t in
+    let t = change.task in
     let f = λ (k : ℕ). tally_of (task_at s k).runtime (own_steps k steps) in
     let g = λ (k : ℕ). tally_of (task_at s k).runtime (own_steps k (steps ++ x ∷ [])) in
     let below : t < length s.tasks = subst (λ n. t < n) (ap length ys_is ∙ length-map-range_with_len f 0 (length s.tasks)) there in
@@ -262,11 +262,11 @@ meters_fit s ys is = subst (λ zs. All (IsMeterWithin 0) zs) (sym is)
     (All-map (IsMeterWithin 0) (λ r. meter_of r []) (range_with_len 0 (length s.queues)) (λ k d below. meter_fits (get_or (range_with_len 0 (length s.queues)) k d)))
 
 -- a step's task is there
-change_there : (s : Machine) (book then : Records) (n : ℕ) (ask : Ask) → n ≡ length s.tasks → IsAskIn s ask → IfSome (change_of book then ask) (λ change. change.t < n)
+change_there : (s : Machine) (book then : Records) (n : ℕ) (ask : Ask) → n ≡ length s.tasks → IsAskIn s ask → IfSome (change_of book then ask) (λ change. change.task < n)
 change_there s book then n (Call t op) is within = subst (λ m. t < m) (sym is) within.0
 change_there s book then n Read is within = tt
 
-pub task_there : (s : Machine) (book : Records) (x : ToldEntry) (made : Step) (steps : List Step) (ys : List Tally) → IsToldIn s x → made ≡ step_of s book x → ys ≡ tallies_of s steps → IfSome made.change (λ change. change.t < length ys)
+pub task_there : (s : Machine) (book : Records) (x : ToldEntry) (made : Step) (steps : List Step) (ys : List Tally) → IsToldIn s x → made ≡ step_of s book x → ys ≡ tallies_of s steps → IfSome made.change (λ change. change.task < length ys)
 task_there s book x made steps ys within is ys_is =
     let long : length ys ≡ length s.tasks = ap length ys_is ∙ tallies_length s steps in
     rw is (change_there s book (book_after s book x.entry.ask) (length ys) x.entry.ask long within.ask)

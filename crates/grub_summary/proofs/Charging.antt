@@ -105,7 +105,7 @@ each_within : (s : Machine) (book : Records) (told : List ToldEntry) → IsSound
 each_within s book [] sound legal answered = All-from_recursion ChargesWithin [] tt
 each_within s book (x ∷ told) sound legal answered =
     let AnsweredAt = λ (y : ToldEntry). IsAnswered y.entry.ask y.entry.answer in
-    let here = within s book x.r x.entry.ask x.entry.answer (history_of told) sound legal (All-head AnsweredAt x told answered) in
+    let here = within s book x.runqueue x.entry.ask x.entry.answer (history_of told) sound legal (All-head AnsweredAt x told answered) in
     All-cons ChargesWithin (step_of s book x) (steps_from s (book_after s book x.entry.ask) told) here.charge
     (each_within s (book_after s book x.entry.ask) told here.sound here.legal (All-tail AnsweredAt x told answered))
 

@@ -91,7 +91,7 @@ fn count_all(book: &mut Book, told: &[ToldEntry], tallies: &mut [Tally], meters:
 
 /// Adds a step to what is counted of its task, where it has one.
 fn count_task(tallies: &mut [Tally], x: &Step)
-    requires there { IfSome x.now.change (λ change. change.t < length tallies.old) }
+    requires there { IfSome x.now.change (λ change. change.task < length tallies.old) }
     requires room { (n : ℕ) × (n + 1 < 2 ^ 64) × All (IsWithin n) tallies.old }
     ensures value { (s : Machine) (steps : List Step) → tallies.old ≡ tallies_of s steps
         → tallies.new ≡ tallies_of s (steps ++ x.now ∷ []) }
@@ -99,7 +99,7 @@ fn count_task(tallies: &mut [Tally], x: &Step)
 {
     match x.change {
         Some(change) => {
-            let t = change.t as usize;
+            let t = change.task as usize;
             tallies[t] = tallies[t].and(x);
         }
         None => {}

@@ -53,12 +53,12 @@ told_by s p q book ask answer rest a is legal = absurd a
 -- each reading is of one of these runqueues
 abbrev pub AreReadFor : ℕ → List ℕ → List ToldEntry → Type 0
 AreReadFor r rs [] = Unit {0}
-AreReadFor r rs (x ∷ xs) = (x.entry.ask ≡ Read → x.r ≡ get_or rs 0 r) × AreReadFor r (drop 1 rs) xs
+AreReadFor r rs (x ∷ xs) = (x.entry.ask ≡ Read → x.runqueue ≡ get_or rs 0 r) × AreReadFor r (drop 1 rs) xs
 
 pub by_told : (s : Machine) (r : ℕ) (rs : List ℕ) (book : Records) (xs : List ToldEntry) → AreAnswered xs → IsLegalFrom s book (history_of xs) → AreReadFor r rs xs → IsBy s r rs book (entries_of xs)
 by_told s r rs book [] a legal read = tt
 by_told s r rs book (x ∷ xs) a legal read =
-    let here = told_by s x.r (get_or rs 0 r) book x.entry.ask x.entry.answer (history_of xs) (All-head (λ (k : ToldEntry). IsAnswered k.entry.ask k.entry.answer) x xs a) read.0 legal in
+    let here = told_by s x.runqueue (get_or rs 0 r) book x.entry.ask x.entry.answer (history_of xs) (All-head (λ (k : ToldEntry). IsAnswered k.entry.ask k.entry.answer) x xs a) read.0 legal in
     (here.0, by_told s r (drop 1 rs) (book_next s book x.entry.ask) xs (All-tail (λ (k : ToldEntry). IsAnswered k.entry.ask k.entry.answer) x xs a) here.1 read.1)
 
 -- readings of a line of runqueue r
@@ -67,7 +67,7 @@ read_of r before [] of = tt
 read_of r before (x ∷ more) of = (λ is. of.0 ∙ ap (λ ask. asker r (entries_of before) ask) is, read_of r (before ++ x ∷ []) more of.1)
 
 abbrev pub runqueues_of : List ToldEntry → List ℕ
-runqueues_of xs = map (λ (x : ToldEntry). x.r) xs
+runqueues_of xs = map (λ (x : ToldEntry). x.runqueue) xs
 
 pub read_line : (r : ℕ) (xs before more : List ToldEntry) → AreOf r before more → AreReadFor r (runqueues_of xs) (xs ++ more)
 read_line r [] before more of = read_of r before more of

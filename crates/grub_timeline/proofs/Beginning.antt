@@ -32,7 +32,7 @@ known_nothing s = record {
   legal = tt;
   book = refl;
   answered = All-nil (λ (k : ToldEntry). IsAnswered k.entry.ask k.entry.answer);
-  within = All-nil (λ (k : ToldEntry). (k.r < length s.queues) × IsAskOf (length s.tasks) k.entry.ask);
+  within = All-nil (λ (k : ToldEntry). (k.runqueue < length s.queues) × IsAskOf (length s.tasks) k.entry.ask);
 }
 
 pub playing_first : (p : Player) (s : Machine) → IsChunk p → length s.tasks + 1 ≤ places_of p.wheel → p.book ≡ record { setup = s; records = opening_book s } → p.told.items ≡ [] → p.wheel.timers ≡ map.empty → 1 ≤ length s.queues → length p.armers.items ≡ length s.tasks

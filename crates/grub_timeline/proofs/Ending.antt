@@ -35,5 +35,5 @@ time_line_of plan p closing played all = record {
 -- the latest entries are of runqueues and tasks that are there
 pub within_chunk : (plan : PlanView) (p : Player) (done : List ℕ) → IsMidway plan p done → AreWithin plan.setup p.chunk.items
 within_chunk plan p done mid =
-    all_right (λ (x : ToldEntry). (x.r < length plan.setup.queues) × IsAskOf (length plan.setup.tasks) x.entry.ask) p.start.value.items p.chunk.items
+    all_right (λ (x : ToldEntry). (x.runqueue < length plan.setup.queues) × IsAskOf (length plan.setup.tasks) x.entry.ask) p.start.value.items p.chunk.items
     (subst (λ (told : List ToldEntry). AreWithin plan.setup told) mid.playing.chunk (subst (λ (s : Machine). AreWithin s p.told.items) mid.setup mid.playing.told.within))

@@ -31,18 +31,18 @@ use Rattle.grub_timeline.specs.inside.Playing.{IsKnown}
 pub entries_more : (xs : List ToldEntry) (x : ToldEntry) → entries_of (xs ++ x ∷ []) ≡ entries_of xs ++ x.entry ∷ []
 entries_more xs x = grind (arith, common_steps)
 
-pub history_more : (xs : List ToldEntry) (x : ToldEntry) → history_of (xs ++ x ∷ []) ≡ history_of xs ++ event_told x.r x.entry.ask x.entry.answer
+pub history_more : (xs : List ToldEntry) (x : ToldEntry) → history_of (xs ++ x ∷ []) ≡ history_of xs ++ event_told x.runqueue x.entry.ask x.entry.answer
 history_more xs x = grind (arith, common_steps)
 
-known_event : (s : Machine) (was now : Records) (old new : List ToldEntry) (x : ToldEntry) (e : Event) → IsKnown s was old → new ≡ old ++ x ∷ [] → event_told x.r x.entry.ask x.entry.answer ≡ e ∷ []
-    → IsAnswered x.entry.ask x.entry.answer → x.r < length s.queues → IsAskOf (length s.tasks) x.entry.ask
+known_event : (s : Machine) (was now : Records) (old new : List ToldEntry) (x : ToldEntry) (e : Event) → IsKnown s was old → new ≡ old ++ x ∷ [] → event_told x.runqueue x.entry.ask x.entry.answer ≡ e ∷ []
+    → IsAnswered x.entry.ask x.entry.answer → x.runqueue < length s.queues → IsAskOf (length s.tasks) x.entry.ask
     → (IsLegal s (history_of old) → IsLegal s (history_of old ++ e ∷ [])) → now ≡ book_of s (history_of old ++ e ∷ []) → IsKnown s now new
 known_event s was now old new x e known list is answered queue task goes then =
     let more : history_of new ≡ history_of old ++ e ∷ [] = ap history_of list ∙ history_more old x ∙ ap (λ es. history_of old ++ es) is in record {
       legal = subst (IsLegal s) (sym more) (goes known.legal);
       book = then ∙ ap (book_of s) (sym more);
       answered = subst AreAnswered (sym list) (All-push (λ (k : ToldEntry). IsAnswered k.entry.ask k.entry.answer) old x known.answered answered);
-      within = subst (AreWithin s) (sym list) (All-push (λ (k : ToldEntry). (k.r < length s.queues) × IsAskOf (length s.tasks) k.entry.ask) old x known.within (queue, task));
+      within = subst (AreWithin s) (sym list) (All-push (λ (k : ToldEntry). (k.runqueue < length s.queues) × IsAskOf (length s.tasks) k.entry.ask) old x known.within (queue, task));
     }
 
 -- a call that the book answered

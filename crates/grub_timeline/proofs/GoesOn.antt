@@ -7,7 +7,7 @@ use Rattle.grub_timeline.specs.inside.Playing.{GoesOnOf}
 pub goes_nowhere : (r : ℕ) (before after : List ToldEntry) → after ≡ before → GoesOnOf r before after
 goes_nowhere r before after same = record { more = []; list = same ∙ sym (append-nil before); runqueues = tt }
 
-pub goes_on : (r : ℕ) (before after : List ToldEntry) (x : ToldEntry) → x.r ≡ asker r (entries_of before) x.entry.ask → after ≡ before ++ x ∷ [] → GoesOnOf r before after
+pub goes_on : (r : ℕ) (before after : List ToldEntry) (x : ToldEntry) → x.runqueue ≡ asker r (entries_of before) x.entry.ask → after ≡ before ++ x ∷ [] → GoesOnOf r before after
 goes_on r before after x is list = record { more = x ∷ []; list = list; runqueues = (is, tt) }
 
 of_append : (r : ℕ) (before more rest : List ToldEntry) → AreOf r before more → AreOf r (before ++ more) rest → AreOf r before (more ++ rest)

@@ -56,9 +56,9 @@ called_of r line t op answer old asked is list =
     goes_on r old asked (told_of r line.m (Call t op) answer) (sym (own_asker r line.m line.act (entries_of old)) ∙ ap (asker r (entries_of old)) is) list
 
 -- timers, and then the line
-pub placed_asked : (p : PlacedLine) (old due new : List ToldEntry) → AsksDue p.line.m (entries_of old) (entries_of due) → GoesOnAt old due → IsLineAsked p.r p.line (entries_of due) (entries_of new) → GoesOnOf p.r due new → AsksPlaced old p new
+pub placed_asked : (p : PlacedLine) (old due new : List ToldEntry) → AsksDue p.line.m (entries_of old) (entries_of due) → GoesOnAt old due → IsLineAsked p.runqueue p.line (entries_of due) (entries_of new) → GoesOnOf p.runqueue due new → AsksPlaced old p new
 placed_asked p old due new timers first line then =
-    let goes = goes_twice p.r old due new (first p.r) then in record {
+    let goes = goes_twice p.runqueue old due new (first p.runqueue) then in record {
       asked = record {
         due = entries_of due;
         answer = line.answer;

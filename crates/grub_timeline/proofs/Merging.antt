@@ -25,17 +25,17 @@ sorted_push : (order : List PlacedLine) (x : PlacedLine) → IsSorted order → 
 sorted_push [] x s a = (tt, tt)
 sorted_push (p ∷ ps) x s a = (recursion_from_All (IsNotLater p) (ps ++ x ∷ []) (All-push (IsNotLater p) ps x (All-from_recursion (IsNotLater p) ps s.0) a.0), sorted_push ps x s.1 a.1)
 
-lines_more : (r : ℕ) (order : List PlacedLine) (x : PlacedLine) → lines_of r (order ++ x ∷ []) ≡ lines_of r order ++ cond (x.r == r) (x.line ∷ []) []
-lines_more r [] x = go (x.r == r)
+lines_more : (r : ℕ) (order : List PlacedLine) (x : PlacedLine) → lines_of r (order ++ x ∷ []) ≡ lines_of r order ++ cond (x.runqueue == r) (x.line ∷ []) []
+lines_more r [] x = go (x.runqueue == r)
   where
     go : (b : Bool) → map (λ (p : PlacedLine). p.line) (cond b (x ∷ []) []) ≡ cond b (x.line ∷ []) []
     go true = refl
     go false = refl
-lines_more r (p ∷ ps) x = go (p.r == r) (lines_more r ps x)
+lines_more r (p ∷ ps) x = go (p.runqueue == r) (lines_more r ps x)
   where
-    go : (b : Bool) → lines_of r (ps ++ x ∷ []) ≡ lines_of r ps ++ cond (x.r == r) (x.line ∷ []) []
-        → map (λ (p : PlacedLine). p.line) (cond b (p ∷ filter (λ (q : PlacedLine). q.r == r) (ps ++ x ∷ [])) (filter (λ (q : PlacedLine). q.r == r) (ps ++ x ∷ [])))
-        ≡ map (λ (p : PlacedLine). p.line) (cond b (p ∷ filter (λ (q : PlacedLine). q.r == r) ps) (filter (λ (q : PlacedLine). q.r == r) ps)) ++ cond (x.r == r) (x.line ∷ []) []
+    go : (b : Bool) → lines_of r (ps ++ x ∷ []) ≡ lines_of r ps ++ cond (x.runqueue == r) (x.line ∷ []) []
+        → map (λ (p : PlacedLine). p.line) (cond b (p ∷ filter (λ (q : PlacedLine). q.runqueue == r) (ps ++ x ∷ [])) (filter (λ (q : PlacedLine). q.runqueue == r) (ps ++ x ∷ [])))
+        ≡ map (λ (p : PlacedLine). p.line) (cond b (p ∷ filter (λ (q : PlacedLine). q.runqueue == r) ps) (filter (λ (q : PlacedLine). q.runqueue == r) ps)) ++ cond (x.runqueue == r) (x.line ∷ []) []
     go true is = ap (λ l. p.line ∷ l) is
     go false is = is
 
@@ -90,54 +90,54 @@ played_of plan p done mid none = record {
 
 -- ---- one more line
 module _ (plan : PlanView) (p : Player) (done : List ℕ) (x : PlacedLine) (fits : PlanFits plan) (mid : IsMidway plan p done) (first : IsFirst plan.scripts done x) where
-  pub there : x.r < length plan.scripts
-  there = head_within plan.scripts done x.r x.line first.head
+  pub there : x.runqueue < length plan.scripts
+  there = head_within plan.scripts done x.runqueue x.line first.head
 
-  script_fits : ScriptFits (length plan.setup.tasks) 0 (script_at plan.scripts x.r)
-  script_fits = All-get_or (ScriptFits (length plan.setup.tasks) 0) plan.scripts x.r [] there (All-from_recursion (ScriptFits (length plan.setup.tasks) 0) plan.scripts fits.scripts)
+  script_fits : ScriptFits (length plan.setup.tasks) 0 (script_at plan.scripts x.runqueue)
+  script_fits = All-get_or (ScriptFits (length plan.setup.tasks) 0) plan.scripts x.runqueue [] there (All-from_recursion (ScriptFits (length plan.setup.tasks) 0) plan.scripts fits.scripts)
 
   pub fits_here : LineFits (length plan.setup.tasks) x.line
-  fits_here = line_fits (length plan.setup.tasks) 0 (script_at plan.scripts x.r) (get_or done x.r 0) x.line script_fits first.head
+  fits_here = line_fits (length plan.setup.tasks) 0 (script_at plan.scripts x.runqueue) (get_or done x.runqueue 0) x.line script_fits first.head
 
-  pub less : left plan.scripts (set done x.r (get_or done x.r 0 + 1)) < left plan.scripts done
-  less = left_less plan.scripts done x.r there mid.one_each (slice_get_within (script_at plan.scripts x.r) (get_or done x.r 0) x.line first.head)
+  pub less : left plan.scripts (set done x.runqueue (get_or done x.runqueue 0 + 1)) < left plan.scripts done
+  less = left_less plan.scripts done x.runqueue there mid.one_each (slice_get_within (script_at plan.scripts x.runqueue) (get_or done x.runqueue 0) x.line first.head)
 
-  now_at : get_or (set done x.r (get_or done x.r 0 + 1)) x.r 0 ≡ get_or done x.r 0 + 1
-  now_at = let many = mid.one_each in let low = there in get_or-set_same done x.r (get_or done x.r 0 + 1) 0 (omega (arith, many, low))
+  now_at : get_or (set done x.runqueue (get_or done x.runqueue 0 + 1)) x.runqueue 0 ≡ get_or done x.runqueue 0 + 1
+  now_at = let many = mid.one_each in let low = there in get_or-set_same done x.runqueue (get_or done x.runqueue 0 + 1) 0 (omega (arith, many, low))
 
-  lines_now : (r : ℕ) → lines_of r (mid.order ++ x ∷ []) ≡ take (get_or (set done x.r (get_or done x.r 0 + 1)) r 0) (script_at plan.scripts r)
-  lines_now r = dite (ℕ_discrete r x.r)
-      (λ same. subst (λ k. lines_of k (mid.order ++ x ∷ []) ≡ take (get_or (set done x.r (get_or done x.r 0 + 1)) k 0) (script_at plan.scripts k)) (sym same) own)
-      (λ other. lines_more r mid.order x ∙ ap (λ b. lines_of r mid.order ++ cond b (x.line ∷ []) []) (ne_eqb x.r r (λ is. other (sym is))) ∙ append-nil (lines_of r mid.order) ∙ mid.lines r
-      ∙ ap (λ n. take n (script_at plan.scripts r)) (sym (get_or-set_other done x.r r (get_or done x.r 0 + 1) 0 other)))
+  lines_now : (r : ℕ) → lines_of r (mid.order ++ x ∷ []) ≡ take (get_or (set done x.runqueue (get_or done x.runqueue 0 + 1)) r 0) (script_at plan.scripts r)
+  lines_now r = dite (ℕ_discrete r x.runqueue)
+      (λ same. subst (λ k. lines_of k (mid.order ++ x ∷ []) ≡ take (get_or (set done x.runqueue (get_or done x.runqueue 0 + 1)) k 0) (script_at plan.scripts k)) (sym same) own)
+      (λ other. lines_more r mid.order x ∙ ap (λ b. lines_of r mid.order ++ cond b (x.line ∷ []) []) (ne_eqb x.runqueue r (λ is. other (sym is))) ∙ append-nil (lines_of r mid.order) ∙ mid.lines r
+      ∙ ap (λ n. take n (script_at plan.scripts r)) (sym (get_or-set_other done x.runqueue r (get_or done x.runqueue 0 + 1) 0 other)))
     where
-      own : lines_of x.r (mid.order ++ x ∷ []) ≡ take (get_or (set done x.r (get_or done x.r 0 + 1)) x.r 0) (script_at plan.scripts x.r)
+      own : lines_of x.runqueue (mid.order ++ x ∷ []) ≡ take (get_or (set done x.runqueue (get_or done x.runqueue 0 + 1)) x.runqueue 0) (script_at plan.scripts x.runqueue)
       own =
-          let s = script_at plan.scripts x.r in let k = get_or done x.r 0 in
-          lines_more x.r mid.order x ∙ ap (λ b. lines_of x.r mid.order ++ cond b (x.line ∷ []) []) (eq-eqb x.r x.r refl) ∙ ap (λ l. l ++ x.line ∷ []) (mid.lines x.r)
+          let s = script_at plan.scripts x.runqueue in let k = get_or done x.runqueue 0 in
+          lines_more x.runqueue mid.order x ∙ ap (λ b. lines_of x.runqueue mid.order ++ cond b (x.line ∷ []) []) (eq-eqb x.runqueue x.runqueue refl) ∙ ap (λ l. l ++ x.line ∷ []) (mid.lines x.runqueue)
           ∙ ap (λ l. take k s ++ l ∷ []) (sym (get_or_from_slice_get s k x.line x.line first.head)) ∙ sym (take_more s k x.line (slice_get_within s k x.line first.head))
           ∙ ap (λ n. take n s) (sym now_at)
 
   -- the next line of this file comes after it, and those of the others do
-  comes_after : (r : ℕ) (line : Line) → head_at plan.scripts (set done x.r (get_or done x.r 0 + 1)) r ≡ Some line → IsNotLater x (placed r line)
-  comes_after r line head = dite (ℕ_discrete r x.r)
-      (λ same. own r line same (subst (λ k. head_at plan.scripts (set done x.r (get_or done x.r 0 + 1)) k ≡ Some line) same head))
-      (λ other. first.least r line (ap (λ n. slice_get (script_at plan.scripts r) n) (sym (get_or-set_other done x.r r (get_or done x.r 0 + 1) 0 other)) ∙ head))
+  comes_after : (r : ℕ) (line : Line) → head_at plan.scripts (set done x.runqueue (get_or done x.runqueue 0 + 1)) r ≡ Some line → IsNotLater x (placed r line)
+  comes_after r line head = dite (ℕ_discrete r x.runqueue)
+      (λ same. own r line same (subst (λ k. head_at plan.scripts (set done x.runqueue (get_or done x.runqueue 0 + 1)) k ≡ Some line) same head))
+      (λ other. first.least r line (ap (λ n. slice_get (script_at plan.scripts r) n) (sym (get_or-set_other done x.runqueue r (get_or done x.runqueue 0 + 1) 0 other)) ∙ head))
     where
       later : (m : ℕ) → x.line.m ≤ m → (x.line.m < m) ⊎ (x.line.m ≡ m)
       later m le = dite (ℕ_discrete x.line.m m) (λ same. inr same) (λ other. inl (omega (arith, le, other)))
 
-      own : (r : ℕ) (line : Line) → r ≡ x.r → head_at plan.scripts (set done x.r (get_or done x.r 0 + 1)) x.r ≡ Some line → IsNotLater x (placed r line)
+      own : (r : ℕ) (line : Line) → r ≡ x.runqueue → head_at plan.scripts (set done x.runqueue (get_or done x.runqueue 0 + 1)) x.runqueue ≡ Some line → IsNotLater x (placed r line)
       own r line same head =
-          let s = script_at plan.scripts x.r in let k = get_or done x.r 0 in let n = length plan.setup.tasks in
+          let s = script_at plan.scripts x.runqueue in let k = get_or done x.runqueue 0 in let n = length plan.setup.tasks in
           let up = next_after n 0 s k x.line line script_fits first.head (ap (λ i. slice_get s i) (sym now_at) ∙ head) in
           ⊎_elim (λ lt. inl lt) (λ eq. inr (eq, omega (arith, same))) (later line.m up)
 
-  pub midway_next : (q : Player) (now : List ℕ) → now ≡ set done x.r (get_or done x.r 0 + 1) → IsPlaying q → q.book.setup ≡ p.book.setup → q.wheel.last ≡ Some x.line.m → AsksPlaced p.told.items x q.told.items → IsMidway plan q now
+  pub midway_next : (q : Player) (now : List ℕ) → now ≡ set done x.runqueue (get_or done x.runqueue 0 + 1) → IsPlaying q → q.book.setup ≡ p.book.setup → q.wheel.last ≡ Some x.line.m → AsksPlaced p.told.items x q.told.items → IsMidway plan q now
   midway_next q now is playing setup last asked = record {
     playing = playing;
     setup = setup ∙ mid.setup;
-    one_each = ap length is ∙ length-set done x.r (get_or done x.r 0 + 1) ∙ mid.one_each;
+    one_each = ap length is ∙ length-set done x.runqueue (get_or done x.runqueue 0 + 1) ∙ mid.one_each;
     order = mid.order ++ x ∷ [];
     sorted = sorted_push mid.order x mid.sorted before;
     lines = λ r. lines_now r ∙ ap (λ (l : List ℕ). take (get_or l r 0) (script_at plan.scripts r)) (sym is);
@@ -151,9 +151,9 @@ module _ (plan : PlanView) (p : Player) (done : List ℕ) (x : PlacedLine) (fits
   }
     where
       before : AllByRecursion (λ y. IsNotLater y x) mid.order
-      before = (mid.after x.r x.line first.head).0
+      before = (mid.after x.runqueue x.line first.head).0
 
       not_past : (r : ℕ) (line : Line) → IsNotLater x (placed r line) → IsNotPast line.m q
       not_past r line then k at =
           let same : x.line.m ≡ k = ap (λ o. unwrap_or o k) (sym last ∙ at) in
-          ⊎_elim (λ (lt : x.line.m < line.m). omega (arith, same, lt)) (λ (h : (x.line.m ≡ line.m) × (x.r ≤ r)). let eq = h.0 in omega (arith, same, eq)) then
+          ⊎_elim (λ (lt : x.line.m < line.m). omega (arith, same, lt)) (λ (h : (x.line.m ≡ line.m) × (x.runqueue ≤ r)). let eq = h.0 in omega (arith, same, eq)) then

@@ -43,12 +43,12 @@ module _ (s : Machine) where
   order_rises m [] before after sorted low was f given = (m, subst (λ told. Rises m (entries_of told)) f was)
   order_rises m (p ∷ ps) before after sorted low was f given =
       let here = given_first s after f.0 (lines_start ps f.0 after f.2) given in
-      let P = IsBy s p.r (runqueues_of before) (opening_book s) in
-      let next = line_rises P (by_prefix s p.r (runqueues_of before) (opening_book s)) (right_last p.r (runqueues_of before)) m p.r p.line (entries_of before) (entries_of f.0) low.0 was (by_line s p before f.0 f.1 here) f.1.asked in
+      let P = IsBy s p.runqueue (runqueues_of before) (opening_book s) in
+      let next = line_rises P (by_prefix s p.runqueue (runqueues_of before) (opening_book s)) (right_last p.runqueue (runqueues_of before)) m p.runqueue p.line (entries_of before) (entries_of f.0) low.0 was (by_line s p before f.0 f.1 here) f.1.asked in
       order_rises p.line.m ps f.0 after sorted.1 (recursion_from_All (λ (q : PlacedLine). p.line.m ≤ q.line.m) ps (All-weaker (IsNotLater p) (λ (q : PlacedLine). p.line.m ≤ q.line.m) (λ q h. no_earlier p q h) ps (All-from_recursion (IsNotLater p) ps sorted.0))) next f.2 given
     where
       no_earlier : (p q : PlacedLine) → IsNotLater p q → p.line.m ≤ q.line.m
-      no_earlier p q a = ⊎_elim (λ (h : p.line.m < q.line.m). omega arith) (λ (h : (p.line.m ≡ q.line.m) × (p.r ≤ q.r)). let same = h.0 in omega (arith, same)) a
+      no_earlier p q a = ⊎_elim (λ (h : p.line.m < q.line.m). omega arith) (λ (h : (p.line.m ≡ q.line.m) × (p.runqueue ≤ q.runqueue)). let same = h.0 in omega (arith, same)) a
 
 from_start : (order : List PlacedLine) → AllByRecursion (λ (q : PlacedLine). 0 ≤ q.line.m) order
 from_start [] = tt

@@ -22,7 +22,7 @@ use Rattle.grub_timeline.proofs.OneOrder.{lines_cons, lines_with, own_first}
 
 -- where runqueue 0 alone has lines, its lines are those of all
 abbrev AreFirst : List PlacedLine → Type 0
-AreFirst order = AllByRecursion (λ (p : PlacedLine). p.r ≡ 0) order
+AreFirst order = AllByRecursion (λ (p : PlacedLine). p.runqueue ≡ 0) order
 
 all_lines : (order : List PlacedLine) → AreFirst order → lines_of 0 order ≡ map (λ (p : PlacedLine). p.line) order
 all_lines [] all = refl
@@ -32,15 +32,15 @@ script_asked : (order : List PlacedLine) (before after : List ToldEntry) → Are
 script_asked [] before after all f = ap entries_of f
 script_asked (p ∷ ps) before after all f = (entries_of f.0, subst (λ r. AsksLine r (entries_of before) p.line (entries_of f.0)) all.0 f.1.asked, script_asked ps f.0 after all.1 f.2)
 
-history_first : (told : List ToldEntry) → All (λ (x : ToldEntry). x.r ≡ 0) told → history_of told ≡ events_told 0 (entries_of told)
+history_first : (told : List ToldEntry) → All (λ (x : ToldEntry). x.runqueue ≡ 0) told → history_of told ≡ events_told 0 (entries_of told)
 history_first [] all = refl
 history_first (x ∷ xs) all =
-    let here : x.r ≡ 0 = All-head (λ (k : ToldEntry). k.r ≡ 0) x xs all in
-    ap (λ r. event_told r x.entry.ask x.entry.answer ++ history_of xs) here ∙ ap (λ h. event_told 0 x.entry.ask x.entry.answer ++ h) (history_first xs (All-tail (λ (k : ToldEntry). k.r ≡ 0) x xs all))
+    let here : x.runqueue ≡ 0 = All-head (λ (k : ToldEntry). k.runqueue ≡ 0) x xs all in
+    ap (λ r. event_told r x.entry.ask x.entry.answer ++ history_of xs) here ∙ ap (λ h. event_told 0 x.entry.ask x.entry.answer ++ h) (history_first xs (All-tail (λ (k : ToldEntry). k.runqueue ≡ 0) x xs all))
 
 -- entries of runqueue 0
 abbrev at_first : List Entry → List ToldEntry
-at_first es = map (λ (e : Entry). record { r = 0; entry = e }) es
+at_first es = map (λ (e : Entry). record { runqueue = 0; entry = e }) es
 
 entries_at : (es : List Entry) → entries_of (at_first es) ≡ es
 entries_at [] = refl
@@ -53,7 +53,7 @@ history_at (e ∷ es) = ap (λ h. event_told 0 e.ask e.answer ++ h) (history_at 
 answered_at : (es : List Entry) → All (λ (e : Entry). IsAnswered e.ask e.answer) es → AreAnswered (at_first es)
 answered_at [] all = All-nil (λ (x : ToldEntry). IsAnswered x.entry.ask x.entry.answer)
 answered_at (e ∷ es) all =
-    All-cons (λ (x : ToldEntry). IsAnswered x.entry.ask x.entry.answer) (record { r = 0; entry = e }) (at_first es) (All-head (λ (k : Entry). IsAnswered k.ask k.answer) e es all)
+    All-cons (λ (x : ToldEntry). IsAnswered x.entry.ask x.entry.answer) (record { runqueue = 0; entry = e }) (at_first es) (All-head (λ (k : Entry). IsAnswered k.ask k.answer) e es all)
     (answered_at es (All-tail (λ (k : Entry). IsAnswered k.ask k.answer) e es all))
 
 answered_of : (told : List ToldEntry) → AreAnswered told → All (λ (e : Entry). IsAnswered e.ask e.answer) (entries_of told)
@@ -74,9 +74,9 @@ by_entries s es answered legal =
 first_alone : (order : List PlacedLine) → ((r : ℕ) → 1 ≤ r → lines_of r order ≡ []) → AreFirst order
 first_alone [] none = tt
 first_alone (p ∷ ps) none =
-    let some : 1 ≤ p.r → ⊥ = λ some. let bad : p.line ∷ lines_of p.r ps ≡ [] = sym (own_first p ps) ∙ none p.r some in absurd (cc) in
-    let here : p.r ≡ 0 = omega (arith, some) in
-    (here, first_alone ps (λ r some. rest r (p.r == r) (sym (lines_cons r p ps) ∙ none r some)))
+    let some : 1 ≤ p.runqueue → ⊥ = λ some. let bad : p.line ∷ lines_of p.runqueue ps ≡ [] = sym (own_first p ps) ∙ none p.runqueue some in absurd (cc) in
+    let here : p.runqueue ≡ 0 = omega (arith, some) in
+    (here, first_alone ps (λ r some. rest r (p.runqueue == r) (sym (lines_cons r p ps) ∙ none r some)))
   where
     rest : (r : ℕ) (b : Bool) → lines_with b p (lines_of r ps) ≡ [] → lines_of r ps ≡ []
     rest r true is = absurd (cc)
@@ -87,7 +87,7 @@ one_run plan told closing queue file f within =
     let first : AreFirst f.order = first_alone f.order (λ r some. f.sorted.lines r ∙ get_or_past plan.scripts r [] (omega (arith, file, some))) in
     let script : map (λ (p : PlacedLine). p.line) f.order ≡ script_at plan.scripts 0 = sym (all_lines f.order first) ∙ f.sorted.lines 0 in
     let asked : Asked 0 (script_at plan.scripts 0) (entries_of told) = subst (λ lines. Asked 0 lines (entries_of told)) script (script_asked f.order [] told first f.asked) in
-    let history : history_of told ≡ events_told 0 (entries_of told) = history_first told (All-weaker (λ (x : ToldEntry). (x.r < length plan.setup.queues) × IsAskOf (length plan.setup.tasks) x.entry.ask) (λ (x : ToldEntry). x.r ≡ 0) (λ x h. let low = h.0 in omega (arith, low, queue)) told within) in
+    let history : history_of told ≡ events_told 0 (entries_of told) = history_first told (All-weaker (λ (x : ToldEntry). (x.runqueue < length plan.setup.queues) × IsAskOf (length plan.setup.tasks) x.entry.ask) (λ (x : ToldEntry). x.runqueue ≡ 0) (λ x h. let low = h.0 in omega (arith, low, queue)) told within) in
     record {
       asked = asked;
       history = history;

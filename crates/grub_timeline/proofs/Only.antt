@@ -50,26 +50,26 @@ same_runqueues r before [] (y ∷ ys) is f g = absurd (cc)
 same_runqueues r before (x ∷ xs) [] is f g = absurd (cc)
 same_runqueues r before (x ∷ xs) (y ∷ ys) is f g =
     let entry : x.entry ≡ y.entry = ap (λ (es : List Entry). get_or es 0 x.entry) is in
-    let run : x.r ≡ y.r = f.0 ∙ ap (λ (e : Entry). asker r (entries_of before) e.ask) entry ∙ sym g.0 in
-    let same : x ≡ y = λ i. record { r = run i; entry = entry i } in
+    let run : x.runqueue ≡ y.runqueue = f.0 ∙ ap (λ (e : Entry). asker r (entries_of before) e.ask) entry ∙ sym g.0 in
+    let same : x ≡ y = λ i. record { runqueue = run i; entry = entry i } in
     let rest : xs ≡ ys = same_runqueues r (before ++ x ∷ []) xs ys (ap (drop 1) is) f.1 (subst (λ k. AreOf r (before ++ k ∷ []) ys) (sym same) g.1) in
     λ i. same i ∷ rest i
 
 -- ---- one line
 module _ (s : Machine) where
-  pub by_line : (p : PlacedLine) (before after : List ToldEntry) → AsksPlaced before p after → IsGiven s after → IsBy s p.r (runqueues_of before) (opening_book s) (entries_of after)
+  pub by_line : (p : PlacedLine) (before after : List ToldEntry) → AsksPlaced before p after → IsGiven s after → IsBy s p.runqueue (runqueues_of before) (opening_book s) (entries_of after)
   by_line p before after f g =
-      subst (λ xs. IsBy s p.r (runqueues_of before) (opening_book s) (entries_of xs)) (sym f.list)
-      (by_told s p.r (runqueues_of before) (opening_book s) (before ++ f.more) (subst AreAnswered f.list g.answered) (subst (λ xs. IsLegal s (history_of xs)) f.list g.legal) (read_line p.r before before f.more f.runqueues))
+      subst (λ xs. IsBy s p.runqueue (runqueues_of before) (opening_book s) (entries_of xs)) (sym f.list)
+      (by_told s p.runqueue (runqueues_of before) (opening_book s) (before ++ f.more) (subst AreAnswered f.list g.answered) (subst (λ xs. IsLegal s (history_of xs)) f.list g.legal) (read_line p.runqueue before before f.more f.runqueues))
 
   placed_alike : (p : PlacedLine) (before j k : List ToldEntry) → AsksPlaced before p j → AsksPlaced before p k → IsGiven s j → IsGiven s k → j ≡ k
   placed_alike p before j k f g a b =
-      let P = IsBy s p.r (runqueues_of before) (opening_book s) in
-      let same : entries_of j ≡ entries_of k = line_alike p.r P (by_prefix s p.r (runqueues_of before) (opening_book s)) (by_one s p.r (runqueues_of before) (opening_book s)) p.line (entries_of before) (entries_of j) (entries_of k) f.asked g.asked
+      let P = IsBy s p.runqueue (runqueues_of before) (opening_book s) in
+      let same : entries_of j ≡ entries_of k = line_alike p.runqueue P (by_prefix s p.runqueue (runqueues_of before) (opening_book s)) (by_one s p.runqueue (runqueues_of before) (opening_book s)) p.line (entries_of before) (entries_of j) (entries_of k) f.asked g.asked
       (by_line p before j f a) (by_line p before k g b) in
       let both : entries_of before ++ entries_of f.more ≡ entries_of before ++ entries_of g.more
       = sym (ap entries_of f.list ∙ entries_append before f.more) ∙ same ∙ (ap entries_of g.list ∙ entries_append before g.more) in
-      f.list ∙ ap (λ l. before ++ l) (same_runqueues p.r before f.more g.more (append_cancel_left (entries_of before) (entries_of f.more) (entries_of g.more) both) f.runqueues g.runqueues) ∙ sym g.list
+      f.list ∙ ap (λ l. before ++ l) (same_runqueues p.runqueue before f.more g.more (append_cancel_left (entries_of before) (entries_of f.more) (entries_of g.more) both) f.runqueues g.runqueues) ∙ sym g.list
 
   order_alike : (order : List PlacedLine) (before j k : List ToldEntry) → FoldsTo AsksPlaced before order j → FoldsTo AsksPlaced before order k → IsGiven s j → IsGiven s k → j ≡ k
   order_alike [] before j k f g a b = sym f ∙ g

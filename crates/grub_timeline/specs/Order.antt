@@ -6,11 +6,11 @@ use Rattle.grub_timeline.specs.declared.order.PlacedLine.{PlacedLine}
 
 -- the lines of one runqueue
 abbrev pub lines_of : ℕ → List PlacedLine → List Line
-lines_of r order = map (λ (p : PlacedLine). p.line) (filter (λ (p : PlacedLine). p.r == r) order)
+lines_of r order = map (λ (p : PlacedLine). p.line) (filter (λ (p : PlacedLine). p.runqueue == r) order)
 
 -- q does not come before p: by moment, and at one moment by file
 abbrev pub IsNotLater : PlacedLine → PlacedLine → Type 0
-IsNotLater p q = (p.line.m < q.line.m) ⊎ ((p.line.m ≡ q.line.m) × (p.r ≤ q.r))
+IsNotLater p q = (p.line.m < q.line.m) ⊎ ((p.line.m ≡ q.line.m) × (p.runqueue ≤ q.runqueue))
 
 -- no line comes before one in front of it
 abbrev pub IsSorted : List PlacedLine → Type 0

@@ -26,7 +26,7 @@ entries_of told = map (λ (x : ToldEntry). x.entry) told
 
 -- the history that the entries tell: each call and reading under the number of its runqueue
 abbrev pub history_of : List ToldEntry → List Event
-history_of told = flat_map (λ (x : ToldEntry). event_told x.r x.entry.ask x.entry.answer) told
+history_of told = flat_map (λ (x : ToldEntry). event_told x.runqueue x.entry.ask x.entry.answer) told
 
 -- ---- whose timer it is
 -- the runqueue that armed the timer of task t last, after an entry
@@ -50,15 +50,15 @@ asker r before ask = r
 -- each of these entries, which follow those before, is of the runqueue that it should be of
 abbrev pub AreOf : ℕ → List ToldEntry → List ToldEntry → Type 0
 AreOf r before [] = Unit {0}
-AreOf r before (x ∷ more) = (x.r ≡ asker r (entries_of before) x.entry.ask) × AreOf r (before ++ x ∷ []) more
+AreOf r before (x ∷ more) = (x.runqueue ≡ asker r (entries_of before) x.entry.ask) × AreOf r (before ++ x ∷ []) more
 
 -- ---- what is asked
 -- A line asks what it asks in a script of its own runqueue, with the timers of all runqueues.
 pub record AsksPlaced (before : List ToldEntry) (p : PlacedLine) (after : List ToldEntry) : Type 0 where
-  pub asked : AsksLine p.r (entries_of before) p.line (entries_of after)
+  pub asked : AsksLine p.runqueue (entries_of before) p.line (entries_of after)
   pub more : List ToldEntry
   pub list : after ≡ before ++ more
-  pub runqueues : AreOf p.r before more
+  pub runqueues : AreOf p.runqueue before more
 
 -- the entries are those of the lines, in this order, and nothing else
 abbrev pub AskedInOrder : List PlacedLine → List ToldEntry → Type 0
@@ -88,7 +88,7 @@ DoNotGoBack told = IsNonDecreasingBy (λ (e : Entry). e.m) (entries_of told)
 
 -- each entry is of a runqueue that is there, and on a task that is
 abbrev pub AreWithin : Machine → List ToldEntry → Type 0
-AreWithin s told = All (λ (x : ToldEntry). (x.r < length s.queues) × IsAskOf (length s.tasks) x.entry.ask) told
+AreWithin s told = All (λ (x : ToldEntry). (x.runqueue < length s.queues) × IsAskOf (length s.tasks) x.entry.ask) told
 
 -- what playing is to its callers: the plan, the entries so far, the latest of them and how many those are at most, and how many lines are left
 pub record PlayState : Type 0 where

@@ -79,6 +79,12 @@ fn ask_next(player: &mut Player<'_>, plan: &Plan, done: &mut [usize], lead: Lead
     ensures room { vec_capacity player.new.chunk ≡ vec_capacity player.old.chunk }
     ensures fewer { left plan.now.scripts done.new < left plan.now.scripts done.old }
 {
-    let line = take(plan, done, lead.r);
-    ask_line(player, PlacedLine { r: lead.r, line });
+    let line = take(plan, done, lead.runqueue);
+    ask_line(
+        player,
+        PlacedLine {
+            runqueue: lead.runqueue,
+            line,
+        },
+    );
 }

@@ -7,17 +7,17 @@ use grub_plan::{Line, Plan};
 /// A line of the script of runqueue `r`.
 #[derive(Clone, Copy, Debug, PartialEq, Eq)]
 pub struct PlacedLine {
-    pub r: u32,
+    pub runqueue: u32,
     pub line: Line,
 }
 
 /// A file whose lines come next while they are before `until`: then they come before those that are left of all others.
 #[derive(Clone, Copy)]
 pub struct Lead {
-    pub r: u32,
+    pub runqueue: u32,
 
     /// The moment of its first line that is not done.
-    pub m: u64,
+    pub moment: u64,
     pub until: u64,
 }
 
@@ -38,10 +38,10 @@ pub(crate) fn first(plan: &Plan, done: &[usize]) -> Option<Lead>
 /// Whether the next line of the file that led comes before those of the others still.
 pub(crate) fn leads(plan: &Plan, done: &[usize], lead: Lead) -> bool
     requires len { length done.now ≡ length plan.now.scripts }
-    requires file { lead.r < length plan.now.scripts }
+    requires file { lead.runqueue < length plan.now.scripts }
     ensures { IsTrue result ↔ IsNext plan.now.scripts done.now lead }
 {
-    match head(plan, done, lead.r) {
+    match head(plan, done, lead.runqueue) {
         Some(line) => u64::from(line.m) < lead.until,
         None => false,
     }
@@ -80,18 +80,18 @@ fn leader(lead: Option<Lead>, r: u32, head: Option<Line>) -> Option<Lead>
     };
     let m = u64::from(line.m);
     match lead {
-        Some(ahead) if ahead.m <= m => Some(Lead {
+        Some(ahead) if ahead.moment <= m => Some(Lead {
             until: ahead.until.min(m + 1),
             ..ahead
         }),
         Some(ahead) => Some(Lead {
-            r,
-            m,
-            until: ahead.m,
+            runqueue: r,
+            moment: m,
+            until: ahead.moment,
         }),
         None => Some(Lead {
-            r,
-            m,
+            runqueue: r,
+            moment: m,
             until: u64::MAX,
         }),
     }

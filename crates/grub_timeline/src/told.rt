@@ -7,7 +7,7 @@ use grub_plan::Entry;
 /// block that armed it.
 #[derive(Clone, Copy, Debug, PartialEq, Eq)]
 pub struct ToldEntry {
-    pub r: u32,
+    pub runqueue: u32,
     pub entry: Entry,
 }
 

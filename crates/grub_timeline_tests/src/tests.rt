@@ -47,7 +47,7 @@ fn entries_text(alloc: Global, plan: &Plan, line: &TimeLine) -> Result<Vec<u8>, 
     let mut text = Vec::new(alloc);
     for told in &line.told {
         let entry = line_of(alloc, plan, &told.entry).map_err(Refusal::Text)?;
-        push_entry(alloc, &mut text, told.r, &entry).map_err(Refusal::Memory)?;
+        push_entry(alloc, &mut text, told.runqueue, &entry).map_err(Refusal::Memory)?;
     }
     Ok(text)
 }

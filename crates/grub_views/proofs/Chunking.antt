@@ -41,7 +41,7 @@ behind P (x ∷ xs) ys all = behind P xs ys (All-tail P x (xs ++ ys) all)
 
 -- what is within, and what is within behind it
 pub within_more : (s : Machine) (was chunk : List ToldEntry) → AreWithin s was → AreWithin s chunk → AreWithin s (was ++ chunk)
-within_more s was chunk before after = All-append (λ (x : ToldEntry). (x.r < length s.queues) × IsAskOf (length s.tasks) x.entry.ask) was chunk before after
+within_more s was chunk before after = All-append (λ (x : ToldEntry). (x.runqueue < length s.queues) × IsAskOf (length s.tasks) x.entry.ask) was chunk before after
 
 -- the latest entries may be viewed
 pub chunk_viewable : (plan then : PlanView) (was chunk told : List ToldEntry) → then ≡ plan → told ≡ was ++ chunk → IsLegal then.setup (history_of told) → AreAnswered told

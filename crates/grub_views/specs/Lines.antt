@@ -10,7 +10,7 @@ use Rattle.grub_timeline.specs.declared.told.ToldEntry.{ToldEntry}
 -- the line of an entry, where the tasks have these names
 unfoldable pub told_line : List (List ℕ) → ToldEntry → List ℕ
 told_line names x =
-    codes "at " ++ decimal x.entry.m ++ codes " on " ++ decimal x.r ++ codes " " ++ ask_text names x.entry.ask ++ codes ": " ++ answer_text x.entry.answer ++ codes "\n"
+    codes "at " ++ decimal x.entry.m ++ codes " on " ++ decimal x.runqueue ++ codes " " ++ ask_text names x.entry.ask ++ codes ": " ++ answer_text x.entry.answer ++ codes "\n"
 
 -- the line of a closing reading
 abbrev pub close_line : ℕ → Reading → List ℕ

@@ -119,7 +119,7 @@ fn append_told(out: &mut Vec<u8>, plan: &Plan, x: &ToldEntry)
     ensures room { vec_capacity out.old ≤ vec_capacity out.new }
 {
     append_number(out, b"at ", u64::from(x.entry.m));
-    append_number(out, b" on ", u64::from(x.r));
+    append_number(out, b" on ", u64::from(x.runqueue));
     append(out, b" ");
     append_ask(out, plan, x.entry.ask);
     append(out, b": ");

@@ -14,7 +14,7 @@ use Rattle.grub_timeline.specs.TimeLines.{AskedInOrder}
 use Rattle.grub_timeline.specs.inside.Playing.{IsNotPast, IsPlaying}
 
 abbrev pub placed : ℕ → Line → PlacedLine
-placed r line = record { r = r; line = line }
+placed r line = record { runqueue = r; line = line }
 
 -- the first line of a file that is not done
 abbrev pub head_at : List (List Line) → List ℕ → ℕ → Option Line
@@ -26,28 +26,28 @@ NoHead scripts done = (r : ℕ) → head_at scripts done r ≡ None
 
 -- of the lines that come first, none is sooner
 pub record IsFirst (scripts : List (List Line)) (done : List ℕ) (p : PlacedLine) : Type 0 where
-  pub head : head_at scripts done p.r ≡ Some p.line
+  pub head : head_at scripts done p.runqueue ≡ Some p.line
   pub least : (r : ℕ) (line : Line) → head_at scripts done r ≡ Some line → IsNotLater p (placed r line)
 
 -- a line of file r at moment m comes behind all lines before `until` of the file that leads
 abbrev pub IsBehind : Lead → ℕ → ℕ → Type 0
-IsBehind lead r m = (lead.until ≤ m) ⊎ ((lead.until ≤ m + 1) × (lead.r < r))
+IsBehind lead r m = (lead.until ≤ m) ⊎ ((lead.until ≤ m + 1) × (lead.runqueue < r))
 
 -- so do the lines that are left of all other files
 abbrev pub IsAhead : List (List Line) → List ℕ → Lead → Type 0
-IsAhead scripts done lead = (r : ℕ) (line : Line) → r ≢ lead.r → head_at scripts done r ≡ Some line → IsBehind lead r line.m
+IsAhead scripts done lead = (r : ℕ) (line : Line) → r ≢ lead.runqueue → head_at scripts done r ≡ Some line → IsBehind lead r line.m
 
 -- and the file that leads has such a line left
 abbrev pub IsNext : List (List Line) → List ℕ → Lead → Type 0
-IsNext scripts done lead = IsSomeAnd (head_at scripts done lead.r) (λ line. line.m < lead.until)
+IsNext scripts done lead = IsSomeAnd (head_at scripts done lead.runqueue) (λ line. line.m < lead.until)
 
 -- the file leads those below n
 pub record IsLeading (scripts : List (List Line)) (done : List ℕ) (n : ℕ) (lead : Lead) : Type 0 where
-  pub within : lead.r < n
+  pub within : lead.runqueue < n
   pub line : Line
-  pub head : head_at scripts done lead.r ≡ Some line
-  pub moment : line.m ≡ lead.m
-  pub others : (r : ℕ) → r < n → (line : Line) → r ≢ lead.r → head_at scripts done r ≡ Some line → IsBehind lead r line.m
+  pub head : head_at scripts done lead.runqueue ≡ Some line
+  pub moment : line.m ≡ lead.moment
+  pub others : (r : ℕ) → r < n → (line : Line) → r ≢ lead.runqueue → head_at scripts done r ≡ Some line → IsBehind lead r line.m
 
 -- the file that leads those below n, where one of them has a line left
 abbrev pub IsLeader : List (List Line) → List ℕ → ℕ → Option Lead → Type 0
@@ -56,15 +56,15 @@ IsLeader scripts done n (Some lead) = IsLeading scripts done n lead
 
 -- its first line is one of those that come next
 abbrev pub IsBefore : Lead → Type 0
-IsBefore lead = lead.m < lead.until
+IsBefore lead = lead.moment < lead.until
 
 -- the file that led those before r, or r, by its first line that is not done
 abbrev pub leader_of : Option Lead → ℕ → Option Line → Option Lead
 leader_of lead r None = lead
-leader_of None r (Some line) = Some (record { r = r; m = line.m; until = 18446744073709551615 })
+leader_of None r (Some line) = Some (record { runqueue = r; moment = line.m; until = 18446744073709551615 })
 leader_of (Some lead) r (Some line) =
-    if nat_lt line.m lead.m
-    then Some (record { r = r; m = line.m; until = lead.m })
+    if nat_lt line.m lead.moment
+    then Some (record { runqueue = r; moment = line.m; until = lead.moment })
     else Some (record lead { until = min lead.until (line.m + 1) })
 
 -- nothing is done of any file

@@ -6,4 +6,4 @@ use Rattle.grub_plan.specs.Asked.{entry}
 use Rattle.grub_timeline.specs.declared.told.ToldEntry.{ToldEntry}
 
 abbrev pub told_of : ℕ → ℕ → Ask → Answer → ToldEntry
-told_of r m ask answer = record { r = r; entry = entry m ask answer }
+told_of r m ask answer = record { runqueue = r; entry = entry m ask answer }

@@ -7,7 +7,7 @@ returns-in-Some-clause-value c = λ s steps is.
 
 pub returns-in-Some-clause-within : goal.returns-in-Some-clause-within
 returns-in-Some-clause-within c = λ n all.
-    tallies_within n c.in-Some.change.t c.args.tallies.now c.and.result _ (rw c.in-Some.is at c.requires.there) (c.and.ensures.within n) all
+    tallies_within n c.in-Some.change.task c.args.tallies.now c.and.result _ (rw c.in-Some.is at c.requires.there) (c.and.ensures.within n) all
 
 pub returns-in-None-clause-value : goal.returns-in-None-clause-value
 returns-in-None-clause-value c = λ s steps is. tallies_same s steps c.args.x.now c.args.tallies.now c.in-None.is is

@@ -1,4 +1,4 @@
-use Rattle.std.proofs.Common.{◌≡◌, ◌++◌, ◌∷◌, [], Some, ℕ, List, length, arith, refl, rules, sym, ap, ◌∙◌, subst}
+use Rattle.std.proofs.Common.{◌≡◌, ◌≤◌, ◌+◌, ◌++◌, ◌∷◌, [], Some, ℕ, List, length, arith, refl, rules, sym, ap, ◌∙◌, subst}
 use Rattle.std.proofs.lemmas.Fn.{FoldsTo-push}
 use Rattle.grub_book.specs.Machine.{Machine}
 use Rattle.grub_book.specs.declared.op.Op.TheVariants as ops
@@ -39,7 +39,7 @@ loop-timer-preserved c =
     let last : next.wheel.last ≡ Some c.args.m = ap (λ (w : WheelState). w.last) (c.put.ensures.wheel ∙ some.taken) in
     let due = next_due before.wheel.timers old c.args.m x kept.armed_are some.armed some.due some.least in
     let low = kept.tasks x.t _ due.armed in
-    let armed_by : told.r ≡ armer old x.t = c.index-r.ensures ∙ inv.0.armers.each x.t c.index-r.result.now low in (
+    let armed_by : told.runqueue ≡ armer old x.t = c.index-r.ensures ∙ inv.0.armers.each x.t c.index-r.result.now low in (
       record {
         chunk = chunk_more before.start.value.items _ before.chunk.items before.told.items next.chunk.items next.told.items _ put.start inv.0.chunk put.chunk put.list;
         places = let places = inv.0.places in let setup = ap (λ (s : Machine). length s.tasks) put.setup in let same = ap places_of c.put.ensures.wheel in let kept = places_due before.wheel _ _ x some.armed some.taken in omega (arith, places, setup, same, kept);
@@ -60,6 +60,24 @@ loop-timer-preserved c =
       let most = inv.6 in let fewer = len_taken before.wheel.timers next.wheel.timers x some.armed is in let one = put.one in omega (arith, most, fewer, one),
       put.room ∙ inv.7,
     )
+
+-- A wheel with no timer that is due by a moment has no timer taken.
+pub returns-clause-plays : goal.returns-clause-plays
+returns-clause-plays c =
+    let inv = c.loop-timer.invariant in let before = c.loop-timer.player in let is = c.in_default.ensures.kept in
+    record {
+      playing = record {
+        chunk = inv.0.chunk;
+        places = subst (λ (w : WheelState). length before.book.setup.tasks + 1 ≤ places_of w) (sym is) inv.0.places;
+        told = inv.0.told;
+        kept = subst (λ (w : WheelState). IsKept before.book.setup (entries_of before.told.items) w.timers) (sym is) inv.0.kept;
+        armers = inv.0.armers;
+      };
+      setup = inv.2;
+      last = ap (λ (w : WheelState). w.last) is;
+      start = inv.5;
+      room = inv.7;
+    }
 
 pub returns-clause-asked : goal.returns-clause-asked
 returns-clause-asked c =

@@ -20,7 +20,7 @@ loop-more-init g c =
     let e = c.play_on-more.ensures in let s = c.args.plan.now.setup in let chunk = c.play_on-more.new.self.chunk in
     let is = e.plan ∙ c.requires.plan in
     let told : c.play_on-more.new.self.told ≡ chunk = e.told ∙ ap (λ (xs : List ToldEntry). xs ++ chunk) c.requires.nothing in
-    let none : AreWithin s [] = All-nil (λ (x : ToldEntry). (x.r < length s.queues) × IsAskOf (length s.tasks) x.entry.ask) in
+    let none : AreWithin s [] = All-nil (λ (x : ToldEntry). (x.runqueue < length s.queues) × IsAskOf (length s.tasks) x.entry.ask) in
     record {
       plan = is;
       latest = c.requires.latest;
