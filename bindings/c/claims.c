@@ -23,7 +23,8 @@ int main(void) {
     if (nd_table_open(tasks, 2, queues, 1, 2, &first) != ND_DONE || nd_part(&first, &second) != ND_DONE)
         return 1;
 
-    printf("no such task and op: %" PRIu32 " %" PRIu32 "\n", nd_start(&first, 2, join, &claim).kind, nd_start(&first, 0, nowhere, &claim).kind);
+    printf("no such task and op: %" PRIu32, nd_start(&first, 2, join, &claim).kind);
+    printf(" %" PRIu32 "\n", nd_start(&first, 0, nowhere, &claim).kind);
     printf("answered at once: %" PRIu32 "\n", noted(0, block, nd_start(&first, 0, block, &claim)));
     printf("held: %" PRIu32, nd_start(&first, 0, join, &claim).kind);
     printf(", %s", first.at ? "a pass" : "no pass");
@@ -39,8 +40,9 @@ int main(void) {
     printf("a charge needs no try: %" PRIu32, nd_start(&first, 1, charge, &claim).kind);
     printf(" %" PRIu32 "\n", noted(1, charge, nd_finish(&claim, 0, &first)));
 
-    if (nd_gather(&first, &second) != ND_DONE || nd_close(&first, &last, 1) != ND_DONE || nd_open(tasks, 2, queues, 1) != ND_DONE)
+    if (nd_gather(&first, &second) != ND_DONE || nd_close(&first, &last, 1) != ND_DONE)
         return 1;
+    nd_open(tasks, 2, queues, 1);
     printf("nd_check: %zu of %zu\n", nd_check(tasks, 2, queues, 1, events, count), count);
     printf("the last sums are its: %d\n", last.running_bw == queues[0].running_bw && last.this_bw == queues[0].this_bw);
     return 0;

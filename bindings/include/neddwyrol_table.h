@@ -6,8 +6,8 @@
  *
  * What the caller owes, beside what neddwyrol.h says:
  *   - a pass is one that nd_table_open wrote, or that a call gave back, and it is in one call at a time;
- *   - a claim is one that nd_pass_start or nd_claim_finish wrote, and it goes to nd_claim_finish or nd_claim_cancel, in one call
- *     at a time: one that is never spent keeps its task;
+ *   - a claim is one that nd_pass_start or nd_claim_finish wrote, and it is in one call at a time;
+ *   - each claim goes to nd_claim_finish or nd_claim_cancel: one that is never spent keeps its task;
  *   - two passes of one call are of one table;
  *   - between two threads that use one pass or claim lies a thread's start or end, a lock or an atomic.
  *
@@ -63,12 +63,13 @@ uint32_t nd_pass_part(nd_pass pass, nd_pass *back, nd_pass *part);
 nd_reply nd_pass_apply(nd_pass pass, uint32_t task, nd_op op, uint8_t tries, nd_pass *back);
 
 /* The same in two steps. Where it answers 100 the pass has the task: its claim is written, and the pass is spent. Else the pass
- * is given back and no claim is written. Either the place, the count, the ticket or an early timer decided the reply, and the
- * call with it is all that is new of the pass in the history; or no call is made, and it answers 50, 70 or 71 as above. */
+ * is given back and no claim is written. No call is made where it answers 50, 70 or 71 as above. Any other reply is one that
+ * the place, the count, the ticket or an early timer decided. The call with it is all that is new of the pass in the
+ * history. */
 nd_reply nd_pass_start(nd_pass pass, uint32_t task, nd_op op, nd_pass *back, nd_claim *claim);
 
 /* Makes the call of a claim. The call with its reply is all that is new of the pass in the history; the task and the pass are
- * given back. Or it answers 52, so many tries were lost, each to a change of the runqueue's sums: then no call is made, and
+ * given back. Or it answers 52: so many tries were lost, each to a change of the runqueue's sums. Then no call is made, and
  * the claim is given back. An op that changes no sum needs no try. */
 nd_reply nd_claim_finish(nd_claim claim, uint8_t tries, nd_pass *back, nd_claim *claim_back);
 

@@ -53,7 +53,7 @@ impl Drop for Claim {
 
 /// What came of [`Pass::start`].
 pub enum Started {
-    /// The reply was decided without the runqueue, or there is no such task or op (70, 71).
+    /// The place, the count, the ticket or an early timer decided the reply. No call was made where it is 70 or 71.
     Answered(Pass, Reply),
     /// Another pass has the task, or changed it meanwhile: no call was made.
     Busy(Pass),
@@ -134,8 +134,8 @@ impl Pass {
         unsafe { raw::nd_pass_apply(pass, task, op, tries, &mut self.held) }
     }
 
-    /// The same in two steps: begins a call, and takes the task where the place, the count, the ticket or an early timer does not
-    /// decide the reply.
+    /// The same in two steps: begins a call. It takes the task, unless the place, the count, the ticket or an early timer decides
+    /// the reply.
     pub fn start(mut self, task: u32, op: Op) -> Started {
         let (pass, table, mut claim) = (self.taken(), self.table, no_claim());
         // SAFETY: as above.
@@ -198,8 +198,8 @@ impl Claim {
         core::mem::replace(&mut self.held, no_claim())
     }
 
-    /// Makes the call, within so many tries, each of which a change of the runqueue's sums may take. An op that changes no sum
-    /// needs no try.
+    /// Makes the call, unless so many tries are lost, each to a change of the runqueue's sums. An op that changes no sum needs
+    /// no try.
     pub fn finish(mut self, tries: u8) -> Finished {
         let (claim, mut held) = (self.taken(), nothing());
         // SAFETY: the claim is the library's and in no other call; what is written owns nothing before.

@@ -70,10 +70,10 @@ pub extern "C" fn nd_pass_apply(
     reply
 }
 
-/// Begins a call by `start` of `grub_table`, for `nd_claim_finish` or `nd_claim_cancel`. Where it answers 100, the pass has the
-/// task: its claim is written, and the pass is spent. Else the pass is given back and no claim is written: with a reply that
-/// needs no runqueue, and then the call with its reply is all that is new of the pass in the history; or no call is made, and
-/// it answers 50, another pass has the task, or 70 and 71 as of `nd_apply`.
+/// Begins a call by `start` of `grub_table`. Where it answers 100 the pass has the task: its claim is written, and the pass is
+/// spent. Else the pass is given back and no claim is written. No call is made where it answers 50, another pass has the task;
+/// 70 and 71 as of `nd_apply`. Any other reply is one that the place, the count, the ticket or an early timer decided: the call
+/// with it is all that is new of the pass in the history.
 #[unsafe(no_mangle)]
 pub extern "C" fn nd_pass_start(
     pass: NdPass,
@@ -104,9 +104,9 @@ pub extern "C" fn nd_pass_start(
     reply
 }
 
-/// Makes the call of a claim by `finish` of `grub_table`, within so many tries: the call with its reply is all that is new of
-/// the pass in the history, and the pass is given back. Or it answers 52, so many tries were lost, each to a change of the
-/// runqueue's sums: then no call is made, and the claim is given back. An op that changes no sum needs no try.
+/// Makes the call of a claim by `finish` of `grub_table`. The call with its reply is all that is new of the pass in the
+/// history; the task and the pass are given back. Or it answers 52: so many tries were lost, each to a change of the runqueue's
+/// sums. Then no call is made, and the claim is given back. An op that changes no sum needs no try.
 #[unsafe(no_mangle)]
 pub extern "C" fn nd_claim_finish(
     claim: NdClaim,
@@ -137,7 +137,8 @@ pub extern "C" fn nd_claim_finish(
     reply
 }
 
-/// Gives the task of a claim back by `cancel` of `grub_table`. No call is made, and nothing is new of the pass in the history.
+/// Gives the task and the pass of a claim back by `cancel` of `grub_table`: no call is made, and nothing is new of the pass in
+/// the history.
 #[unsafe(no_mangle)]
 pub extern "C" fn nd_claim_cancel(claim: NdClaim, back: &mut NdPass)
     requires there { InBlock claim.pass.at }

@@ -23,7 +23,7 @@ pub struct Taken {
     pub(crate) gathered: Vec<Pass>,
 }
 
-/// What is kept between two calls: a pass, or a claim in the room that its pass had, so that none of its calls takes memory.
+/// What is kept between two calls: a pass, or a claim. A claim has the room of its pass, so that no call of it takes memory.
 #[derive(Drop)]
 pub struct Held {
     pub(crate) kept: Option<Kept>,
