@@ -1,6 +1,7 @@
 pub mod Entries
 pub mod Arming
 pub mod GoesOn
+pub mod Plays
 pub mod Beginning
 pub mod Lining
 pub mod Sooner

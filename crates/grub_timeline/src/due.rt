@@ -1,10 +1,10 @@
 //! Timers that are due.
-ghost use Rattle.std.specs.Prelude.{◌≡◌, ◌<◌, ◌≤◌, ◌+◌, Some, vec_len, vec_capacity};
+ghost use Rattle.std.specs.Prelude.{◌≤◌, ◌+◌, vec_len, vec_capacity};
 ghost use Rattle.std.specs.FinMap as map;
 ghost use Rattle.grub_bw.specs.declared.server.TheConstants.{MOMENT_MAX};
 ghost use Rattle.grub_plan.specs.Asked.{AsksDue};
 ghost use Rattle.grub_timeline.specs.TimeLines.{entries_of};
-ghost use Rattle.grub_timeline.specs.inside.Playing.{GoesOnAt, IsNotPast, IsPlaying};
+ghost use Rattle.grub_timeline.specs.inside.Playing.{GoesOnAt, IsNotPast, IsPlaying, Plays};
 
 use crate::player::{Player, put};
 use grub_book::Op;
@@ -16,16 +16,12 @@ pub(crate) fn ask_due(player: &mut Player<'_>, m: u32)
     requires not_past { IsNotPast m player.old }
     requires room { vec_len player.old.chunk + map.len player.old.wheel.timers
         ≤ vec_capacity player.old.chunk }
-    ensures playing { IsPlaying player.new }
-    ensures setup { player.new.book.setup ≡ player.old.book.setup }
-    ensures last { player.new.wheel.last ≡ Some m }
+    ensures plays { Plays m player.old player.new }
     ensures asked { AsksDue m (entries_of player.old.told.items)
         (entries_of player.new.told.items) }
     ensures goes_on { GoesOnAt player.old.told.items player.new.told.items }
-    ensures start { player.new.start.value.items ≡ player.old.start.value.items }
     ensures most { vec_len player.new.chunk
         ≤ vec_len player.old.chunk + map.len player.old.wheel.timers }
-    ensures room { vec_capacity player.new.chunk ≡ vec_capacity player.old.chunk }
 {
     while let Some(timer) = player.wheel.due(m) {
         let op = Op::Timer {

@@ -4,7 +4,7 @@ ghost use Rattle.grub_bw.specs.declared.server.TheConstants.{MOMENT_MAX};
 ghost use Rattle.grub_plan.specs.Limits.{ActFits};
 ghost use Rattle.grub_plan.specs.Asked.{Follows, JoinsAfter};
 ghost use Rattle.grub_timeline.specs.TimeLines.{AsksPlaced, entries_of};
-ghost use Rattle.grub_timeline.specs.inside.Playing.{GoesOnOf, IsLineAsked, IsNotPast, IsPlaying};
+ghost use Rattle.grub_timeline.specs.inside.Playing.{GoesOnOf, IsLineAsked, IsNotPast, IsPlaying, Plays};
 
 use crate::due::ask_due;
 use crate::order::PlacedLine;
@@ -20,15 +20,11 @@ fn join_here(player: &mut Player<'_>, r: u32, m: u32, t: u32, answer: Answer)
     requires moment { m ≤ MOMENT_MAX }
     requires last { player.old.wheel.last ≡ Some m }
     requires room { vec_len player.old.chunk + 1 ≤ vec_capacity player.old.chunk }
-    ensures playing { IsPlaying player.new }
-    ensures setup { player.new.book.setup ≡ player.old.book.setup }
-    ensures last { player.new.wheel.last ≡ Some m }
+    ensures plays { Plays m player.old player.new }
     ensures joins { JoinsAfter r m t answer (entries_of player.old.told.items)
         (entries_of player.new.told.items) }
     ensures goes_on { GoesOnOf r player.old.told.items player.new.told.items }
-    ensures start { player.new.start.value.items ≡ player.old.start.value.items }
     ensures most { vec_len player.new.chunk ≤ vec_len player.old.chunk + 1 }
-    ensures room { vec_capacity player.new.chunk ≡ vec_capacity player.old.chunk }
 {
     match answer {
         Answer::Replied(Reply::Left { .. }) => {
@@ -46,15 +42,11 @@ fn follow(player: &mut Player<'_>, r: u32, m: u32, act: Act, answer: Answer)
     requires moment { m ≤ MOMENT_MAX }
     requires last { player.old.wheel.last ≡ Some m }
     requires room { vec_len player.old.chunk + 2 ≤ vec_capacity player.old.chunk }
-    ensures playing { IsPlaying player.new }
-    ensures setup { player.new.book.setup ≡ player.old.book.setup }
-    ensures last { player.new.wheel.last ≡ Some m }
+    ensures plays { Plays m player.old player.new }
     ensures follows { Follows r m act answer (entries_of player.old.told.items)
         (entries_of player.new.told.items) }
     ensures goes_on { GoesOnOf r player.old.told.items player.new.told.items }
-    ensures start { player.new.start.value.items ≡ player.old.start.value.items }
     ensures most { vec_len player.new.chunk ≤ vec_len player.old.chunk + 2 }
-    ensures room { vec_capacity player.new.chunk ≡ vec_capacity player.old.chunk }
 {
     match (act, answer) {
         (Act::Wake(t), Answer::Replied(Reply::Elsewhere(_))) => {
@@ -73,15 +65,11 @@ fn ask(player: &mut Player<'_>, r: u32, line: Line)
     requires moment { line.m ≤ MOMENT_MAX }
     requires last { player.old.wheel.last ≡ Some line.m }
     requires room { vec_len player.old.chunk + 3 ≤ vec_capacity player.old.chunk }
-    ensures playing { IsPlaying player.new }
-    ensures setup { player.new.book.setup ≡ player.old.book.setup }
-    ensures last { player.new.wheel.last ≡ Some line.m }
+    ensures plays { Plays line.m player.old player.new }
     ensures line { IsLineAsked r line (entries_of player.old.told.items)
         (entries_of player.new.told.items) }
     ensures goes_on { GoesOnOf r player.old.told.items player.new.told.items }
-    ensures start { player.new.start.value.items ≡ player.old.start.value.items }
     ensures most { vec_len player.new.chunk ≤ vec_len player.old.chunk + 3 }
-    ensures room { vec_capacity player.new.chunk ≡ vec_capacity player.old.chunk }
 {
     let Line { m, act } = line;
     match call_of(r, m, act) {
@@ -102,12 +90,8 @@ pub(crate) fn ask_line(player: &mut Player<'_>, placed: PlacedLine)
     requires not_past { IsNotPast placed.line.m player.old }
     requires room { vec_len player.old.chunk + (length player.old.book.setup.tasks + 3)
         ≤ vec_capacity player.old.chunk }
-    ensures playing { IsPlaying player.new }
-    ensures setup { player.new.book.setup ≡ player.old.book.setup }
-    ensures last { player.new.wheel.last ≡ Some placed.line.m }
+    ensures plays { Plays placed.line.m player.old player.new }
     ensures asked { AsksPlaced player.old.told.items placed player.new.told.items }
-    ensures start { player.new.start.value.items ≡ player.old.start.value.items }
-    ensures room { vec_capacity player.new.chunk ≡ vec_capacity player.old.chunk }
 {
     ask_due(player, placed.line.m);
     ask(player, placed.runqueue, placed.line);

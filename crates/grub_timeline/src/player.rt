@@ -5,7 +5,7 @@ ghost use Rattle.grub_plan.specs.declared.entry.Ask.TheVariants.{Call, Read};
 ghost use Rattle.grub_plan.specs.Keeping.{WaitsRightly};
 ghost use Rattle.grub_plan.specs.inside.Keeping.{IsLineOp};
 ghost use Rattle.grub_timeline.specs.inside.TimeLines.{told_of};
-ghost use Rattle.grub_timeline.specs.inside.Playing.{IsLookedAt, IsOfBlock, IsPlaying, IsToldBy};
+ghost use Rattle.grub_timeline.specs.inside.Playing.{IsLookedAt, IsOfBlock, IsPlaying, IsToldBy, Plays};
 
 use crate::armers::note;
 use crate::log::Log;
@@ -78,14 +78,10 @@ pub(crate) fn call(player: &mut Player<'_>, r: u32, m: u32, t: u32, op: Op) -> A
     requires block { IsOfBlock r op }
     requires last { player.old.wheel.last ≡ Some m }
     requires room { vec_len player.old.chunk + 1 ≤ vec_capacity player.old.chunk }
-    ensures playing { IsPlaying player.new }
-    ensures setup { player.new.book.setup ≡ player.old.book.setup }
-    ensures last { player.new.wheel.last ≡ Some m }
+    ensures plays { Plays m player.old player.new }
     ensures list { player.new.told.items
         ≡ player.old.told.items ++ told_of r m (Call t op) result ∷ [] }
-    ensures start { player.new.start.value.items ≡ player.old.start.value.items }
     ensures one { vec_len player.new.chunk ≡ vec_len player.old.chunk + 1 }
-    ensures room { vec_capacity player.new.chunk ≡ vec_capacity player.old.chunk }
 {
     let answer = put(player, r, m, t, op);
     keep(&mut player.wheel, t, op, answer);
@@ -97,14 +93,11 @@ pub(crate) fn call(player: &mut Player<'_>, r: u32, m: u32, t: u32, op: Op) -> A
 pub(crate) fn look(player: &mut Player<'_>, r: u32, m: u32)
     requires playing { IsPlaying player.old }
     requires queue { r < length player.old.book.setup.queues }
+    requires last { player.old.wheel.last ≡ Some m }
     requires room { vec_len player.old.chunk + 1 ≤ vec_capacity player.old.chunk }
-    ensures playing { IsPlaying player.new }
-    ensures setup { player.new.book.setup ≡ player.old.book.setup }
-    ensures last { player.new.wheel.last ≡ player.old.wheel.last }
+    ensures plays { Plays m player.old player.new }
     ensures looked { IsLookedAt r m player.old.told.items player.new.told.items }
-    ensures start { player.new.start.value.items ≡ player.old.start.value.items }
     ensures one { vec_len player.new.chunk ≡ vec_len player.old.chunk + 1 }
-    ensures room { vec_capacity player.new.chunk ≡ vec_capacity player.old.chunk }
 {
     let reading = player.book.read(r);
     let told = ToldEntry {

@@ -1,5 +1,5 @@
 -- What a player keeps between two asks.
-use Rattle.std.specs.Prelude.{◌≡◌, ℕ, ◌<◌, ◌≤◌, ◌+◌, Some, List, [], ◌∷◌, ◌++◌, length, slice_set, slice_index_or}
+use Rattle.std.specs.Prelude.{◌≡◌, ℕ, ◌<◌, ◌≤◌, ◌+◌, Some, List, [], ◌∷◌, ◌++◌, length, slice_set, slice_index_or, vec_capacity}
 use Rattle.grub_book.specs.Machine.{Machine}
 use Rattle.grub_book.specs.Sums.{Records, reading_of}
 use Rattle.grub_book.specs.History.{IsLegal, book_of}
@@ -53,6 +53,14 @@ pub record IsPlaying (p : Player) : Type 0 where
 -- no `due` of the wheel was later
 abbrev pub IsNotPast : ℕ → Player → Type 0
 IsNotPast m p = (k : ℕ) → p.wheel.last ≡ Some k → k ≤ m
+
+-- what was asked for is at moment m, and the setup, the entries before the latest ones and the room for these stay
+pub record Plays (m : ℕ) (old new : Player) : Type 0 where
+  pub playing : IsPlaying new
+  pub setup : new.book.setup ≡ old.book.setup
+  pub last : new.wheel.last ≡ Some m
+  pub start : new.start.value.items ≡ old.start.value.items
+  pub room : vec_capacity new.chunk ≡ vec_capacity old.chunk
 
 -- a block that waits is remembered
 abbrev pub waits_of : List ℕ → ℕ → ℕ → Answer → List ℕ

@@ -1,4 +1,4 @@
-use Rattle.std.proofs.Common.{◌≡◌, ◌++◌, ◌∷◌, [], Some, ℕ, List, length, arith, refl, rules, sym, ap, ◌∙◌, subst}
+use Rattle.std.proofs.Common.{◌≡◌, ◌≤◌, ◌+◌, ◌++◌, ◌∷◌, [], Some, ℕ, List, length, arith, refl, rules, sym, ap, ◌∙◌, subst}
 use Rattle.std.proofs.lemmas.Fn.{FoldsTo-push}
 use Rattle.grub_book.specs.Machine.{Machine}
 use Rattle.grub_book.specs.declared.op.Op.TheVariants as ops
@@ -60,6 +60,24 @@ loop-timer-preserved c =
       let most = inv.6 in let fewer = len_taken before.wheel.timers next.wheel.timers x some.armed is in let one = put.one in omega (arith, most, fewer, one),
       put.room ∙ inv.7,
     )
+
+-- A wheel with no timer that is due by a moment has no timer taken.
+pub returns-clause-plays : goal.returns-clause-plays
+returns-clause-plays c =
+    let inv = c.loop-timer.invariant in let before = c.loop-timer.player in let is = c.in_default.ensures.kept in
+    record {
+      playing = record {
+        chunk = inv.0.chunk;
+        places = subst (λ (w : WheelState). length before.book.setup.tasks + 1 ≤ places_of w) (sym is) inv.0.places;
+        told = inv.0.told;
+        kept = subst (λ (w : WheelState). IsKept before.book.setup (entries_of before.told.items) w.timers) (sym is) inv.0.kept;
+        armers = inv.0.armers;
+      };
+      setup = inv.2;
+      last = ap (λ (w : WheelState). w.last) is;
+      start = inv.5;
+      room = inv.7;
+    }
 
 pub returns-clause-asked : goal.returns-clause-asked
 returns-clause-asked c =

@@ -1,6 +1,7 @@
 use Rattle.grub_timeline.specs.TimeLines.{entries_of}
 use Rattle.grub_timeline.proofs.Lining.{called, called_of, looked, looked_of}
 use Rattle.grub_timeline.proofs.GoesOn.{goes_twice}
+use Rattle.grub_timeline.proofs.Plays.{plays_twice}
 use Rattle.grub_timeline.proofs.line.ask.Goals as goal
 
 pub returns-in-None-clause-line : goal.returns-in-None-clause-line
@@ -9,6 +10,9 @@ returns-in-None-clause-line c =
 
 pub returns-in-None-clause-goes_on : goal.returns-in-None-clause-goes_on
 returns-in-None-clause-goes_on c = let a = c.args in looked_of a.r a.line.m a.player.now.told.items c.look.new.player.told.items c.look.ensures.looked
+
+pub returns-in-Some-clause-plays : goal.returns-in-Some-clause-plays
+returns-in-Some-clause-plays c = plays_twice _ _ _ _ _ c.call-answer.ensures.plays c.follow.ensures.plays
 
 pub returns-in-Some-clause-line : goal.returns-in-Some-clause-line
 returns-in-Some-clause-line c =

@@ -23,7 +23,7 @@ pub returns-clause-midway : goal.returns-clause-midway
 returns-clause-midway c =
     let r = c.requires in let plan = c.args.plan.now in let lead = c.args.lead in let done = c.args.done.now in let line = c.take-line.result in let e = c.ask_line.ensures in
     let first = first_of plan.scripts done lead line r.ahead c.take-line.ensures.line r.next in
-    midway_next plan c.args.player.now done (placed lead.runqueue line) r.fits r.midway first c.ask_line.new.player c.take-line.new.done c.take-line.ensures.done e.playing e.setup e.last e.asked
+    midway_next plan c.args.player.now done (placed lead.runqueue line) r.fits r.midway first c.ask_line.new.player c.take-line.new.done c.take-line.ensures.done e.plays.playing e.plays.setup e.plays.last e.asked
 
 pub returns-clause-ahead : goal.returns-clause-ahead
 returns-clause-ahead c =
