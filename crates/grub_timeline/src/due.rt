@@ -1,5 +1,5 @@
 //! Timers that are due.
-ghost use Rattle.std.specs.Prelude.{◌≡◌, ◌<◌, ◌≤◌, ◌+◌, Some, vec_len, vec_capacity};
+ghost use Rattle.std.specs.Prelude.{◌≤◌, ◌+◌, vec_len, vec_capacity};
 ghost use Rattle.std.specs.FinMap as map;
 ghost use Rattle.grub_bw.specs.declared.server.TheConstants.{MOMENT_MAX};
 ghost use Rattle.grub_plan.specs.Asked.{AsksDue};
