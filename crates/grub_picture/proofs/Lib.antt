@@ -1,4 +1,2 @@
-pub mod Showing
 pub mod Barring
-pub mod Laning
-pub mod Sizes
+pub mod Lanes

@@ -1,31 +1,34 @@
--- The lane of a task on a runqueue: its name, its bars, its ticks and its marks.
-use Rattle.std.specs.Prelude.{ℕ, ◌&&◌, Bool, List, ◌++◌, codes, decimal, is_some, unwrap_or, filter}
-use Rattle.std.specs.List.{flat_map, list_any}
+-- Which tasks have a lane on a runqueue, and the ticks in it.
+use Rattle.std.specs.Prelude.{ℕ, ◌&&◌, nat_lt, Bool, List, [], ◌∷◌, is_some, unwrap_or, filter, slice_index_or, if◌then◌else◌}
+use Rattle.std.specs.List.{list_any, range_with_len}
 use Rattle.grub_steps.specs.declared.book_steps.Step.{Step}
 use Rattle.grub_shapes.specs.declared.frame.Frame.{Frame}
-use Rattle.grub_shapes.specs.declared.mark.Mark.{Mark}
+use Rattle.grub_shapes.specs.Frames.{is_in, x_of}
 use Rattle.grub_picture.specs.Bars.{bars_of, is_seen, postponed}
-use Rattle.grub_shapes.specs.Shapes.{bars_text}
-use Rattle.grub_shapes.specs.Frames.{firsts, is_in, x_of}
-use Rattle.grub_shapes.specs.Marks.{marks_text}
+use Rattle.grub_picture.specs.declared.tick.Tick.{Tick}
 
-unfoldable pub tick_text : Frame → ℕ → List ℕ → ℕ → Step → List ℕ
-tick_text f r name y x =
-    codes "<path class=\"k\" d=\"M" ++ decimal (x_of f x.told.entry.m) ++ codes " " ++ decimal y ++ codes "v16\"><title>" ++ name
-    ++ codes ": at " ++ decimal x.told.entry.m ++ codes " its deadline was postponed to " ++ decimal (unwrap_or (postponed r x) 0) ++ codes "</title></path>\n"
+-- the task of these steps is on the runqueue at some time of the span
+abbrev pub is_shown : Frame → ℕ → List Step → Bool
+is_shown f r own = list_any (is_seen f) (bars_of r f.to own)
 
+abbrev pub has_lane : Frame → ℕ → List (List Step) → ℕ → Bool
+has_lane f r owns t = is_shown f r (slice_index_or owns t [])
+
+-- the tasks that have a lane on runqueue r, of the first so many, by the own steps of each
+unfoldable pub lanes_of : Frame → ℕ → List (List Step) → ℕ → List ℕ
+lanes_of f r owns tasks = filter (has_lane f r owns) (range_with_len 0 tasks)
+
+-- a step of runqueue r postponed a deadline in the span
 abbrev pub is_tick : Frame → ℕ → Step → Bool
 is_tick f r x = is_some (postponed r x) && is_in f x.told.entry.m
 
--- a tick where a deadline was postponed, one a column at most
-unfoldable pub ticks_text : Frame → ℕ → List ℕ → ℕ → List Step → List ℕ
-ticks_text f r name y own = flat_map (tick_text f r name y) (firsts (λ (x : Step). x_of f x.told.entry.m) 0 (filter (is_tick f r) own))
+abbrev pub tick_of : Frame → ℕ → Step → Tick
+tick_of f r x = record { x = x_of f x.told.entry.m; m = x.told.entry.m; deadline = unwrap_or (postponed r x) 0 }
 
--- the lane of a task of this number and name, by its own steps
-unfoldable pub lane_text : Frame → List Mark → ℕ → ℕ → List ℕ → List Step → ℕ → List ℕ
-lane_text f marks r t name own y =
-    bars_text f r name y (bars_of r f.to own) ++ ticks_text f r name y own ++ marks_text f marks r t name y
-
--- the task is on the runqueue at some time of the span
-abbrev pub is_shown : Frame → ℕ → List Step → Bool
-is_shown f r own = list_any (is_seen f) (bars_of r f.to own)
+-- a tick for each, one a column at most, where the last one stood in this column
+abbrev pub ticks_of : Frame → ℕ → ℕ → List Step → List Tick
+ticks_of f r last [] = []
+ticks_of f r last (x ∷ own) =
+    if is_tick f r x && nat_lt last (x_of f x.told.entry.m)
+    then tick_of f r x ∷ ticks_of f r (x_of f x.told.entry.m) own
+    else ticks_of f r last own

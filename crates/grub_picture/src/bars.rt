@@ -20,12 +20,7 @@ struct Begun {
 
 /// The bars of a task on runqueue `r` up to the end of a picture, by the task's own steps. Neighbours of one state are
 /// one bar. It is refused where the allocator refused.
-pub(crate) fn bars_of(
-    alloc: Global,
-    r: u32,
-    own: &[Step],
-    frame: Frame,
-) -> Result<Vec<Bar>, AllocError>
+pub fn bars_of(alloc: Global, r: u32, own: &[Step], frame: Frame) -> Result<Vec<Bar>, AllocError>
     ensures { IfOk result (λ v. v.items ≡ bars_of r frame.to own.now) }
 {
     let mut bars = Vec::new(alloc);

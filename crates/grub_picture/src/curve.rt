@@ -1,51 +1,34 @@
 //! The curves of a runqueue: its bandwidths over time.
 
-ghost use Rattle.std.specs.Prelude.{◌≡◌, ◌++◌, OnOk};
-ghost use Rattle.grub_picture.specs.Curves.{bandwidth_in, class_of, curve_text, is_read, lasts, point_text, points_of, points_text, word_of};
+ghost use Rattle.std.specs.Prelude.{◌≡◌, ◌++◌, IfOk, OnOk};
+ghost use Rattle.grub_picture.specs.Curves.{bandwidth_in, changes_at, is_read, points_of};
 
 use grub_book::Reading;
-use grub_shapes::{Frame, LEFT, height_of, put_number};
+use grub_shapes::{Frame, LEFT, height_of, put_number, put_text};
 use grub_steps::Step;
-use std::alloc::AllocError;
+use std::alloc::{AllocError, Global};
 
-/// The step curve of a bandwidth of runqueue `r` on the base at `base`: running_bw, or this_bw.
-#[tactic(auto, unfolding(crate::specs::Curves::curve_text))]
-pub(crate) fn put_curve(
-    out: &mut Vec<u8>,
-    frame: Frame,
-    r: u32,
-    steps: &[Step],
-    base: u32,
-    running: bool,
-) -> Result<(), AllocError>
-    ensures { OnOk result
-        (out.new.items ≡ out.old.items ++ curve_text frame r steps.now base running) }
-{
-    out.extend_from_slice(b"<path class=\"")?;
-    out.extend_from_slice(class_of(running))?;
-    put_number(out, b"\" d=\"M130 ", u64::from(base))?;
-    put_points(out, frame, r, steps, base, running)?;
-    put_number(out, b"H", frame.right())?;
-    put_number(out, b"V", u64::from(base))?;
-    put_number(out, b"Z\"><title>runqueue ", u64::from(r))?;
-    out.extend_from_slice(b": ")?;
-    out.extend_from_slice(word_of(running))?;
-    out.extend_from_slice(b"</title></path>\n")?;
-    Ok(())
+/// A bandwidth, and how far right a curve comes to it, in pixels.
+#[derive(Clone, Copy)]
+pub struct Point {
+    pub x: u64,
+    pub bandwidth: u32,
 }
 
-/// The points of a curve: for each column the last reading of it, where it is another than that before.
-fn put_points(
-    out: &mut Vec<u8>,
+/// The points of the step curve of a bandwidth of runqueue `r`: running_bw, or this_bw. It begins at the span's left end
+/// with 0, and has for each column the last reading of it, where it is another than that before. It is refused where the
+/// allocator refused.
+#[tactic(auto, unfolding(crate::specs::Curves::points_of))]
+pub fn points_of(
+    alloc: Global,
     frame: Frame,
     r: u32,
     steps: &[Step],
-    base: u32,
     running: bool,
-) -> Result<(), AllocError>
-    ensures { OnOk result (out.new.items
-        ≡ out.old.items ++ points_text base 0 (lasts 130 0 (points_of frame running r steps.now))) }
+) -> Result<Vec<Point>, AllocError>
+    ensures { IfOk result (λ v. v.items ≡ points_of frame running r steps.now) }
 {
+    let mut points = Vec::new(alloc);
     let mut column = LEFT;
     let mut now = 0;
     let mut shown = 0;
@@ -53,14 +36,27 @@ fn put_points(
         if is_read(frame, r, x) {
             let next = frame.x(u64::from(x.told.entry.m));
             if next > column {
-                put_point(out, column, base, shown, now)?;
+                push_point(&mut points, column, shown, now)?;
                 shown = now;
                 column = next;
             }
             now = bandwidth_in(running, x.reading);
         }
     }
-    put_point(out, column, base, shown, now)?;
+    push_point(&mut points, column, shown, now)?;
+    Ok(points)
+}
+
+/// Appends a point, where another bandwidth was shown before.
+#[tactic(auto, unfolding(crate::specs::Curves::changes_at))]
+fn push_point(points: &mut Vec<Point>, x: u64, shown: u32, now: u32) -> Result<(), AllocError>
+    ensures { OnOk result (points.new.items
+        ≡ points.old.items ++ changes_at shown (record { x = x; bandwidth = now })) }
+{
+    if shown == now {
+        return Ok(());
+    }
+    points.push(Point { x, bandwidth: now })?;
     Ok(())
 }
 
@@ -80,28 +76,33 @@ fn bandwidth_in(running: bool, reading: Reading) -> u32
     }
 }
 
-/// A step of a curve, where it changes.
-#[tactic(auto, unfolding(crate::specs::Curves::point_text))]
-fn put_point(out: &mut Vec<u8>, x: u64, base: u32, shown: u32, now: u32) -> Result<(), AllocError>
-    ensures { OnOk result (out.new.items
-        ≡ out.old.items ++ point_text base shown (record { x = x; bandwidth = now })) }
-{
-    if shown == now {
-        return Ok(());
+/// Appends the curve of these points on the base at `base`.
+pub(crate) fn put_curve(
+    out: &mut Vec<u8>,
+    frame: Frame,
+    r: u32,
+    points: &[Point],
+    base: u32,
+    running: bool,
+) -> Result<(), AllocError> {
+    let (class, word) = if running {
+        ("r", "running_bw")
+    } else {
+        ("t", "this_bw")
+    };
+    out.extend_from_slice(b"<path class=\"")?;
+    put_text(out, class)?;
+    put_number(out, b"\" d=\"M130 ", u64::from(base))?;
+    for point in points {
+        put_number(out, b"H", point.x)?;
+        let height = height_of(point.bandwidth);
+        put_number(out, b"V", u64::from(base).saturating_sub(height))?;
     }
-    put_number(out, b"H", x)?;
-    put_number(out, b"V", u64::from(base).saturating_sub(height_of(now)))?;
+    put_number(out, b"H", frame.right())?;
+    put_number(out, b"V", u64::from(base))?;
+    put_number(out, b"Z\"><title>runqueue ", u64::from(r))?;
+    out.extend_from_slice(b": ")?;
+    put_text(out, word)?;
+    out.extend_from_slice(b"</title></path>\n")?;
     Ok(())
-}
-
-fn class_of(running: bool) -> &'static [u8]
-    ensures { result.now ≡ class_of running }
-{
-    if running { b"r" } else { b"t" }
-}
-
-fn word_of(running: bool) -> &'static [u8]
-    ensures { result.now ≡ word_of running }
-{
-    if running { b"running_bw" } else { b"this_bw" }
 }

@@ -4,6 +4,12 @@
 mod bars;
 mod curve;
 mod drawing;
+mod lane;
 mod picture;
+mod tick;
 
-pub use picture::{end_of, marked_picture_text, picture_text};
+pub use bars::bars_of;
+pub use curve::{Point, points_of};
+pub use lane::lanes_of;
+pub use picture::{end_of, picture_text};
+pub use tick::{Tick, ticks_of};

@@ -2,7 +2,7 @@
 use Rattle.std.proofs.Common.{◌≡◌, ℕ, ◌++◌, List, [], take, drop, ap, ◌∙◌, sym, append_assoc, Option, Some, None, append-nil}
 use Rattle.std.specs.Io.KnownBytes.{Appends}
 use Rattle.std.proofs.lemmas.List.{take-append-drop}
-use Rattle.grub_run.specs.declared.view.TimeLineView.{TimeLineView}
+use Rattle.grub_run.specs.declared.view.FileView.{FileView}
 use Rattle.grub_run.specs.inside.Showing.{BeginsLine, WritesLine}
 use Rattle.grub_run.specs.Shown.{IsViewOf}
 use Rattle.grub_views.specs.Views.{HandsOnView, HandsPartOfView}
@@ -37,7 +37,7 @@ drained_part (Some xs) (Some ys) (Some zs) text left h k =
     prefix_of (Some xs) (Some zs) told (drop k.0 left) text ([], (told, more, sym (append-nil told))) whole
 
 -- ---- a view that tells a time line by this text
-module _ (view : TimeLineView) (plan : PlanView) (text_of : List ToldEntry → List Reading → List ℕ) (tells : (told : List ToldEntry) (closing : List Reading) → IsViewOf view plan told closing (text_of told closing)) where
+module _ (view : FileView) (plan : PlanView) (text_of : List ToldEntry → List Reading → List ℕ) (tells : (told : List ToldEntry) (closing : List Reading) → IsViewOf view plan told closing (text_of told closing)) where
   pub line_begun : (a b : Option (List ℕ)) → HandsPartOfView text_of plan a b [] → BeginsLine view plan a b
   line_begun a b x =
       let text = text_of x.told x.closing in record { told = x.told; closing = x.closing; line = x.line; begun = (text, tells x.told x.closing, begun a b text x.handed) }

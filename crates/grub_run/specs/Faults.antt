@@ -9,7 +9,7 @@ use Rattle.grub_run.specs.Written.{IsNoFileFault}
 use Rattle.grub_run.specs.declared.grub_fault.GrubFault.{GrubFault}
 use Rattle.grub_run.specs.declared.grub_fault.GrubFault.TheVariants as run
 use Rattle.grub_run.specs.ViewFaults.{HasEmptySpan}
-use Rattle.grub_run.specs.declared.view.TimeLineView.{TimeLineView}
+use Rattle.grub_run.specs.declared.view.FileView.{FileView}
 use Rattle.grub_text.specs.declared.files.Source.{Source}
 use Rattle.grub_text.specs.Source.{Holds, IsLonger, IsOpened, IsUnreadable, Opener, Reader}
 use Rattle.grub_run.specs.declared.program_fault.ProgramFault.{ProgramFault}
@@ -38,7 +38,7 @@ pub record IsFaultInLine (names : List (List ℕ)) (name : List ℕ) (line : ℕ
   pub named : name ≡ slice_index_or names file []
 
 -- a picture of the time line of these files would not begin before it ends
-abbrev pub HasNoSpan : TimeLineView → List (List ℕ) → Type 0
+abbrev pub HasNoSpan : FileView → List (List ℕ) → Type 0
 HasNoSpan view files = (first end : ℕ) × HasEmptySpan view files first end
 
 module _ {O N D : Type 0} (o : Opener O D) (g : Reader N D) (source : Source O N) where
@@ -71,7 +71,7 @@ module _ {O N D : Type 0} (o : Opener O D) (g : Reader N D) (source : Source O N
   Tells names faults.NoMemory = (name : List ℕ) × First (IsOpened o g source) names name
 
   -- and what one of a view of their time line tells
-  abbrev pub TellsOfView : TimeLineView → List (List ℕ) → ProgramFault → Type 0
+  abbrev pub TellsOfView : FileView → List (List ℕ) → ProgramFault → Type 0
   TellsOfView view names (faults.EmptySpan first end) = Whole (λ files. HasEmptySpan view files first end) names
   TellsOfView view names faults.View = ⊤
   TellsOfView view names fault = Tells names fault

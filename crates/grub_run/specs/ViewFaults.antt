@@ -12,16 +12,16 @@ use Rattle.grub_trace.specs.declared.fault.TraceFault.TheVariants as trace
 use Rattle.grub_run.specs.Shown.{end_of, first_of}
 use Rattle.grub_run.specs.declared.show_fault.ShowFault.{ShowFault}
 use Rattle.grub_run.specs.declared.show_fault.ShowFault.TheVariants as faults
-use Rattle.grub_run.specs.declared.view.TimeLineView.{TimeLineView}
-use Rattle.grub_run.specs.declared.view.TimeLineView.TheVariants.{Picture}
+use Rattle.grub_run.specs.declared.view.FileView.{FileView}
+use Rattle.grub_run.specs.declared.view.FileView.TheVariants.{Picture}
 
 -- a picture of these entries would go from this moment to this one, which is not after it
-abbrev pub IsEmptySpan : TimeLineView → List ToldEntry → ℕ → ℕ → Type 0
+abbrev pub IsEmptySpan : FileView → List ToldEntry → ℕ → ℕ → Type 0
 IsEmptySpan (Picture from to) told first end = (first ≡ first_of from) × (end ≡ end_of to told) × (end ≤ first)
 IsEmptySpan view told first end = ⊥
 
 -- and that is so of the time line of these files
-pub record HasEmptySpan (view : TimeLineView) (files : List (List ℕ)) (first end : ℕ) : Type 0 where
+pub record HasEmptySpan (view : FileView) (files : List (List ℕ)) (first end : ℕ) : Type 0 where
   pub trees : List Tree
   pub read : Reads files trees
   pub told : List ToldEntry
@@ -30,7 +30,7 @@ pub record HasEmptySpan (view : TimeLineView) (files : List (List ℕ)) (first e
   pub empty : IsEmptySpan view told first end
 
 -- a fault of the files is the one that their reader answers, and an empty span is that of a picture of their time line
-abbrev pub IsFaultOfView : TimeLineView → List (List ℕ) → ShowFault → Type 0
+abbrev pub IsFaultOfView : FileView → List (List ℕ) → ShowFault → Type 0
 IsFaultOfView view files (faults.Trace fault) = IsTraceFault files fault
 IsFaultOfView view files (faults.EmptySpan first end) = HasEmptySpan view files first end
 IsFaultOfView view files fault = ⊤

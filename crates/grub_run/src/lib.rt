@@ -22,4 +22,4 @@ pub use program_fault::{ProgramFault, STATUS_FILE, STATUS_SYSTEM, STATUS_USAGE};
 pub use serving::{serve_files, serve_view};
 pub use show_fault::ShowFault;
 pub use texts::{run_texts, write_text};
-pub use view::{TimeLineView, write_view};
+pub use view::{FileView, write_view};

@@ -12,7 +12,7 @@ use crate::grub_fault::GrubFault;
 use crate::paths::{check_paths, placed, read_files};
 use crate::program_fault::ProgramFault;
 use crate::show_fault::ShowFault;
-use crate::view::{TimeLineView, write_view};
+use crate::view::{FileView, write_view};
 use grub_text::Source;
 use std::alloc::Global;
 use std::io;
@@ -73,7 +73,7 @@ pub fn print_view<
 >(
     rt: &R,
     alloc: Global,
-    view: TimeLineView,
+    view: FileView,
     source: &Source<O, N>,
     paths: &[&'a str],
     out: &mut W,

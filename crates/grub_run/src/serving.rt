@@ -7,7 +7,7 @@ ghost use Rattle.grub_run.specs.Shown.{IsShown};
 
 use crate::printing::{print_reports, print_view};
 use crate::program_fault::{ProgramFault, STATUS_FILE, STATUS_SYSTEM, STATUS_USAGE};
-use crate::view::TimeLineView;
+use crate::view::FileView;
 use grub_text::Source;
 use std::alloc::Global;
 use std::io;
@@ -64,7 +64,7 @@ pub fn serve_view<
 >(
     rt: &R,
     alloc: Global,
-    view: TimeLineView,
+    view: FileView,
     source: &Source<O, N>,
     paths: &[&str],
     out: &mut W,

@@ -31,7 +31,7 @@ use std::thread::Threads;
 
 /// A view of the time line of files.
 #[derive(Clone, Copy, Debug, PartialEq, Eq)]
-pub enum TimeLineView {
+pub enum FileView {
     /// A line for each entry, and the closing readings.
     Timeline,
 
@@ -57,7 +57,7 @@ pub fn write_view<R: Threads + Sync, W: Write>(
     rt: &R,
     alloc: Global,
     files: Vec<Vec<u8>>,
-    view: TimeLineView,
+    view: FileView,
     out: &mut W,
 ) -> Result<(), ShowFault>
     ensures text { OnOk result
@@ -87,7 +87,7 @@ fn write_played<R: Threads + Sync, W: Write>(
     rt: &R,
     alloc: Global,
     plan: &Plan,
-    view: TimeLineView,
+    view: FileView,
     out: &mut W,
 ) -> Result<(), ShowFault>
     ensures text { OnOk result
@@ -98,10 +98,10 @@ fn write_played<R: Threads + Sync, W: Write>(
     ensures fault { IfErr result (IsFaultOfLine view plan.now) }
 {
     match view {
-        TimeLineView::Timeline => write_lines(rt, alloc, plan, out),
-        TimeLineView::Steps => write_rows(rt, alloc, plan, out),
-        TimeLineView::Summary => write_summary(alloc, plan, out),
-        TimeLineView::Picture { from, to } => write_picture(alloc, plan, from, to, out),
+        FileView::Timeline => write_lines(rt, alloc, plan, out),
+        FileView::Steps => write_rows(rt, alloc, plan, out),
+        FileView::Summary => write_summary(alloc, plan, out),
+        FileView::Picture { from, to } => write_picture(alloc, plan, from, to, out),
     }
 }
 
@@ -113,11 +113,11 @@ fn write_lines<R: Threads + Sync, W: Write>(
     out: &mut W,
 ) -> Result<(), ShowFault>
     ensures text { OnOk result
-        (WritesLine TimeLineView.Timeline plan.now (W.contents out.old) (W.contents out.new)) }
+        (WritesLine FileView.Timeline plan.now (W.contents out.old) (W.contents out.new)) }
     ensures prefix { IfErr result (λ e. e ≡ faults.WriteFault
-        → BeginsLine TimeLineView.Timeline plan.now (W.contents out.old) (W.contents out.new)) }
+        → BeginsLine FileView.Timeline plan.now (W.contents out.old) (W.contents out.new)) }
     ensures nothing { IfErr result (λ e. (e ≡ faults.WriteFault → ⊥) → out.new ≡ out.old) }
-    ensures fault { IfErr result (IsFaultOfLine TimeLineView.Timeline plan.now) }
+    ensures fault { IfErr result (IsFaultOfLine FileView.Timeline plan.now) }
 {
     let Some(ready) = Ready::new(alloc, plan) else {
         return Err(ShowFault::NoMemory);
@@ -137,9 +137,9 @@ fn lines_through<R: Threads + Sync, W: Write>(
 ) -> io::Result<()>
     requires plan { ready.playing.plan ≡ plan.now }
     ensures whole { OnOk result
-        (WritesLine TimeLineView.Timeline plan.now (W.contents out.old) (W.contents out.new)) }
+        (WritesLine FileView.Timeline plan.now (W.contents out.old) (W.contents out.new)) }
     ensures part { OnErr result
-        (BeginsLine TimeLineView.Timeline plan.now (W.contents out.old) (W.contents out.new)) }
+        (BeginsLine FileView.Timeline plan.now (W.contents out.old) (W.contents out.new)) }
 {
     let Ready {
         playing,
@@ -167,11 +167,11 @@ fn write_rows<R: Threads + Sync, W: Write>(
     out: &mut W,
 ) -> Result<(), ShowFault>
     ensures text { OnOk result
-        (WritesLine TimeLineView.Steps plan.now (W.contents out.old) (W.contents out.new)) }
+        (WritesLine FileView.Steps plan.now (W.contents out.old) (W.contents out.new)) }
     ensures prefix { IfErr result (λ e. e ≡ faults.WriteFault
-        → BeginsLine TimeLineView.Steps plan.now (W.contents out.old) (W.contents out.new)) }
+        → BeginsLine FileView.Steps plan.now (W.contents out.old) (W.contents out.new)) }
     ensures nothing { IfErr result (λ e. (e ≡ faults.WriteFault → ⊥) → out.new ≡ out.old) }
-    ensures fault { IfErr result (IsFaultOfLine TimeLineView.Steps plan.now) }
+    ensures fault { IfErr result (IsFaultOfLine FileView.Steps plan.now) }
 {
     let Ok(book) = Book::new(alloc, plan.setup()) else {
         return Err(ShowFault::NoMemory);
@@ -203,9 +203,9 @@ fn rows_through<R: Threads + Sync, W: Write>(
     requires steps { ready.playing.most ≤ vec_capacity steps }
     requires waiting { vec_capacity ready.latest ≤ vec_capacity steps }
     ensures whole { OnOk result
-        (WritesLine TimeLineView.Steps plan.now (W.contents out.old) (W.contents out.new)) }
+        (WritesLine FileView.Steps plan.now (W.contents out.old) (W.contents out.new)) }
     ensures part { OnErr result
-        (BeginsLine TimeLineView.Steps plan.now (W.contents out.old) (W.contents out.new)) }
+        (BeginsLine FileView.Steps plan.now (W.contents out.old) (W.contents out.new)) }
 {
     let Ready {
         playing,
@@ -230,11 +230,11 @@ fn rows_through<R: Threads + Sync, W: Write>(
 /// Plays the plan, and writes the summary of its time line.
 fn write_summary<W: Write>(alloc: Global, plan: &Plan, out: &mut W) -> Result<(), ShowFault>
     ensures text { OnOk result
-        (WritesLine TimeLineView.Summary plan.now (W.contents out.old) (W.contents out.new)) }
+        (WritesLine FileView.Summary plan.now (W.contents out.old) (W.contents out.new)) }
     ensures prefix { IfErr result (λ e. e ≡ faults.WriteFault
-        → BeginsLine TimeLineView.Summary plan.now (W.contents out.old) (W.contents out.new)) }
+        → BeginsLine FileView.Summary plan.now (W.contents out.old) (W.contents out.new)) }
     ensures nothing { IfErr result (λ e. (e ≡ faults.WriteFault → ⊥) → out.new ≡ out.old) }
-    ensures fault { IfErr result (IsFaultOfLine TimeLineView.Summary plan.now) }
+    ensures fault { IfErr result (IsFaultOfLine FileView.Summary plan.now) }
 {
     let Ok(line) = play(alloc, plan) else {
         return Err(ShowFault::NoMemory);
@@ -257,11 +257,11 @@ fn write_picture<W: Write>(
     out: &mut W,
 ) -> Result<(), ShowFault>
     ensures text { OnOk result
-        (WritesLine (TimeLineView.Picture from to) plan.now (W.contents out.old) (W.contents out.new)) }
+        (WritesLine (FileView.Picture from to) plan.now (W.contents out.old) (W.contents out.new)) }
     ensures prefix { IfErr result (λ e. e ≡ faults.WriteFault
-        → BeginsLine (TimeLineView.Picture from to) plan.now (W.contents out.old) (W.contents out.new)) }
+        → BeginsLine (FileView.Picture from to) plan.now (W.contents out.old) (W.contents out.new)) }
     ensures nothing { IfErr result (λ e. (e ≡ faults.WriteFault → ⊥) → out.new ≡ out.old) }
-    ensures fault { IfErr result (IsFaultOfLine (TimeLineView.Picture from to) plan.now) }
+    ensures fault { IfErr result (IsFaultOfLine (FileView.Picture from to) plan.now) }
 {
     let Ok(line) = play(alloc, plan) else {
         return Err(ShowFault::NoMemory);

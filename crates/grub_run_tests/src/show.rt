@@ -3,7 +3,7 @@
 use crate::expects::expect_at;
 use crate::files::{files_after_all, files_of};
 use crate::writer::Expecting;
-use grub_run::{ShowFault, TimeLineView, write_view};
+use grub_run::{FileView, ShowFault, write_view};
 use grub_trace::TraceFault;
 use grub_worked_examples::moving;
 use std::alloc::{AllocError, Global};
@@ -24,7 +24,7 @@ fn room_after_all(rt: &impl Abort, alloc: Global) -> Vec<u8> {
 
 /// What a view of the two files wrote, or the refusal that stopped it, which wrote nothing. The test's own input is made
 /// a second time where a growth of it was refused.
-fn shown<R: Abort + Threads + Sync>(rt: &R, alloc: Global, view: TimeLineView) -> Option<Vec<u8>> {
+fn shown<R: Abort + Threads + Sync>(rt: &R, alloc: Global, view: FileView) -> Option<Vec<u8>> {
     let files = files_after_all(rt, alloc, &[moving::FROM, moving::TO]);
     let mut out = room_after_all(rt, alloc);
     match write_view(rt, alloc, files, view, &mut out) {
@@ -41,7 +41,7 @@ fn shown<R: Abort + Threads + Sync>(rt: &R, alloc: Global, view: TimeLineView) -
 fn shows_or_refuses<R: Abort + Threads + Sync>(
     rt: &R,
     alloc: Global,
-    view: TimeLineView,
+    view: FileView,
     text: &str,
 ) -> bool {
     match shown(rt, alloc, view) {
@@ -64,22 +64,22 @@ fn is_refusal(fault: ShowFault) -> bool {
 
 #[test]
 fn refused_growths_of_the_lines(rt: HostRuntime) {
-    assert!(rt; shows_or_refuses(&rt, rt.alloc(), TimeLineView::Timeline, moving::LINES));
+    assert!(rt; shows_or_refuses(&rt, rt.alloc(), FileView::Timeline, moving::LINES));
 }
 
 #[test]
 fn refused_growths_of_the_steps(rt: HostRuntime) {
-    assert!(rt; shows_or_refuses(&rt, rt.alloc(), TimeLineView::Steps, moving::STEPS));
+    assert!(rt; shows_or_refuses(&rt, rt.alloc(), FileView::Steps, moving::STEPS));
 }
 
 #[test]
 fn refused_growths_of_the_summary(rt: HostRuntime) {
-    assert!(rt; shows_or_refuses(&rt, rt.alloc(), TimeLineView::Summary, moving::SUMMARY));
+    assert!(rt; shows_or_refuses(&rt, rt.alloc(), FileView::Summary, moving::SUMMARY));
 }
 
 #[test]
 fn refused_growths_of_the_picture(rt: HostRuntime) {
-    let view = TimeLineView::Picture {
+    let view = FileView::Picture {
         from: None,
         to: Some(20),
     };
@@ -95,7 +95,7 @@ fn gets<R: Threads + Sync>(
     rt: &R,
     alloc: Global,
     texts: &[&str],
-    view: TimeLineView,
+    view: FileView,
     room: usize,
     text: &str,
 ) -> bool {
@@ -114,24 +114,20 @@ fn gets<R: Threads + Sync>(
 }
 
 /// Views of the two files, their texts, and the room of a writer that fails.
-static CUT_VIEWS: [(TimeLineView, &str, usize); 12] = [
-    (TimeLineView::Timeline, moving::LINES, 0),
-    (TimeLineView::Timeline, moving::LINES, 1),
-    (TimeLineView::Timeline, moving::LINES, 100),
+static CUT_VIEWS: [(FileView, &str, usize); 12] = [
+    (FileView::Timeline, moving::LINES, 0),
+    (FileView::Timeline, moving::LINES, 1),
+    (FileView::Timeline, moving::LINES, 100),
+    (FileView::Timeline, moving::LINES, moving::LINES.len() - 1),
+    (FileView::Steps, moving::STEPS, 0),
+    (FileView::Steps, moving::STEPS, 1),
+    (FileView::Steps, moving::STEPS, 100),
+    (FileView::Steps, moving::STEPS, moving::STEPS.len() - 1),
+    (FileView::Summary, moving::SUMMARY, 0),
+    (FileView::Summary, moving::SUMMARY, 1),
+    (FileView::Summary, moving::SUMMARY, 100),
     (
-        TimeLineView::Timeline,
-        moving::LINES,
-        moving::LINES.len() - 1,
-    ),
-    (TimeLineView::Steps, moving::STEPS, 0),
-    (TimeLineView::Steps, moving::STEPS, 1),
-    (TimeLineView::Steps, moving::STEPS, 100),
-    (TimeLineView::Steps, moving::STEPS, moving::STEPS.len() - 1),
-    (TimeLineView::Summary, moving::SUMMARY, 0),
-    (TimeLineView::Summary, moving::SUMMARY, 1),
-    (TimeLineView::Summary, moving::SUMMARY, 100),
-    (
-        TimeLineView::Summary,
+        FileView::Summary,
         moving::SUMMARY,
         moving::SUMMARY.len() - 1,
     ),
@@ -198,7 +194,7 @@ fn readings(rt: &impl Abort, alloc: Global, form: &Form, count: u32) -> String {
 }
 
 /// Expects of a view of many readings what `a_view_of_many_entries` tells.
-fn expect_many<R: Abort + Threads + Sync>(rt: &R, alloc: Global, view: TimeLineView, form: &Form) {
+fn expect_many<R: Abort + Threads + Sync>(rt: &R, alloc: Global, view: FileView, form: &Form) {
     let file = readings(rt, alloc, &FILE, 70_000);
     let text = readings(rt, alloc, form, 70_000);
     let almost_all = text.len().saturating_sub(1);
@@ -211,8 +207,8 @@ fn expect_many<R: Abort + Threads + Sync>(rt: &R, alloc: Global, view: TimeLineV
 /// between the first and the next, and after those.
 #[test]
 fn a_view_of_many_entries(rt: HostRuntime) {
-    expect_many(&rt, rt.alloc(), TimeLineView::Timeline, &READ_LINES);
-    expect_many(&rt, rt.alloc(), TimeLineView::Steps, &READ_STEPS);
+    expect_many(&rt, rt.alloc(), FileView::Timeline, &READ_LINES);
+    expect_many(&rt, rt.alloc(), FileView::Steps, &READ_STEPS);
 }
 
 /// Whether both views of so many readings are their texts.
@@ -220,14 +216,8 @@ fn shows_readings<R: Abort + Threads + Sync>(rt: &R, alloc: Global, count: u32) 
     let file = readings(rt, alloc, &FILE, count);
     let lines = readings(rt, alloc, &READ_LINES, count);
     let steps = readings(rt, alloc, &READ_STEPS, count);
-    gets(
-        rt,
-        alloc,
-        &[&file],
-        TimeLineView::Timeline,
-        usize::MAX,
-        &lines,
-    ) && gets(rt, alloc, &[&file], TimeLineView::Steps, usize::MAX, &steps)
+    gets(rt, alloc, &[&file], FileView::Timeline, usize::MAX, &lines)
+        && gets(rt, alloc, &[&file], FileView::Steps, usize::MAX, &steps)
 }
 
 /// As many entries as are worth a thread, as many as are played at a time, and one fewer and one more.

@@ -1,5 +1,5 @@
 -- Where moments and bandwidths lie in a picture.
-use Rattle.std.specs.Prelude.{ℕ, ◌+◌, ◌-◌, ◌*◌, ◌/◌, ◌&&◌, nat_le, nat_lt, min, max, Bool, List, [], ◌∷◌, if◌then◌else◌}
+use Rattle.std.specs.Prelude.{ℕ, ◌+◌, ◌-◌, ◌*◌, ◌/◌, ◌&&◌, nat_le, min, max, Bool}
 use Rattle.grub_shapes.specs.declared.frame.Frame.{Frame}
 
 -- how far right a moment lies, in whole units: what is outside of the span lies at its ends
@@ -12,8 +12,3 @@ height_of bandwidth = bandwidth * 64 / 1048576
 
 abbrev pub is_in : Frame → ℕ → Bool
 is_in f m = nat_le f.from m && nat_le m f.to
-
--- of those that stand in one column the first, where the last one stood in this column
-abbrev pub firsts : {X : Type 0} → (X → ℕ) → ℕ → List X → List X
-firsts column last [] = []
-firsts column last (x ∷ xs) = if nat_lt last (column x) then x ∷ firsts column (column x) xs else firsts column last xs

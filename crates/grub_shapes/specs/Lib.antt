@@ -1,4 +1,3 @@
-pub mod Elements
 pub mod Frames
-pub mod Marks
 pub mod Shapes
+pub mod inside

@@ -1,8 +1,8 @@
 //! Where moments and bandwidths lie in a picture.
 
-ghost use Rattle.std.specs.Prelude.{◌≡◌, ◌<◌, ◌^◌, ◌&&◌, nat_lt};
-ghost use Rattle.grub_shapes.specs.Elements.{first_multiple, mark_step, multiples};
+ghost use Rattle.std.specs.Prelude.{◌≡◌, ◌<◌, ◌^◌};
 ghost use Rattle.grub_shapes.specs.Frames.{height_of, is_in, x_of};
+ghost use Rattle.grub_shapes.specs.inside.Axis.{first_multiple, multiples};
 
 use grub_bw::BW_UNIT;
 
@@ -59,9 +59,7 @@ impl Frame {
     }
 
     /// How far apart the marks of the time axis are: 1, 2 or 5 times a power of ten, such that there are at most 12.
-    pub(crate) fn mark_step(self) -> u32
-        ensures { result ≡ mark_step self }
-    {
+    pub(crate) fn mark_step(self) -> u32 {
         for step in MARK_STEPS {
             if self.multiples(step) <= 12 {
                 return step;
@@ -99,11 +97,4 @@ pub fn height_of(bandwidth: u32) -> u64
     ensures { result ≡ height_of bandwidth }
 {
     u64::from(bandwidth) * CURVE / u64::from(BW_UNIT)
-}
-
-/// Whether something stands to the right of the last column, and is to be drawn at all.
-pub fn is_next(is_drawn: bool, last: u64, x: u64) -> bool
-    ensures { result ≡ (is_drawn && nat_lt last x) }
-{
-    is_drawn && last < x
 }

@@ -1,22 +1,15 @@
 //! The head of a picture and its legend, its time axis, and the scale of a runqueue.
 
-ghost use Rattle.std.specs.Prelude.{◌≡◌, ◌++◌, OnOk};
-ghost use Rattle.std.specs.List.{flat_map};
-ghost use Rattle.grub_shapes.specs.Elements.{axis_mark_text, axis_moments, axis_text, head_text, legend, scale_mark_text, scale_text, span_text, style, umax_text};
-
 use crate::frame::{Frame, height_of};
 use crate::text::put_number;
 use std::alloc::AllocError;
 
-/// The beginning of a document whose runqueues end at `y`, and its legend.
-#[tactic(auto, unfolding(crate::specs::Elements::head_text))]
-pub fn put_head(out: &mut Vec<u8>, frame: Frame, y: u32) -> Result<(), AllocError>
-    ensures { OnOk result (out.new.items ≡ out.old.items ++ head_text frame y) }
-{
+/// Appends the beginning of a document whose runqueues end at `y`, after its `<svg `, and its legend.
+pub fn put_head(out: &mut Vec<u8>, frame: Frame, y: u32) -> Result<(), AllocError> {
     let height = u64::from(y) + 40;
     put_number(
         out,
-        b"<svg xmlns=\"http://www.w3.org/2000/svg\" width=\"1190\" height=\"",
+        b"xmlns=\"http://www.w3.org/2000/svg\" width=\"1190\" height=\"",
         height,
     )?;
     put_number(out, b"\" viewBox=\"0 0 1190 ", height)?;
@@ -32,18 +25,13 @@ pub fn put_head(out: &mut Vec<u8>, frame: Frame, y: u32) -> Result<(), AllocErro
     Ok(())
 }
 
-fn put_span(out: &mut Vec<u8>, frame: Frame) -> Result<(), AllocError>
-    ensures { OnOk result (out.new.items ≡ out.old.items ++ span_text frame) }
-{
+fn put_span(out: &mut Vec<u8>, frame: Frame) -> Result<(), AllocError> {
     put_number(out, b"Time line from ", u64::from(frame.from))?;
     put_number(out, b" to ", u64::from(frame.to))?;
     Ok(())
 }
 
-#[tactic(auto, unfolding(crate::specs::Elements::style))]
-fn put_style(out: &mut Vec<u8>) -> Result<(), AllocError>
-    ensures { OnOk result (out.new.items ≡ out.old.items ++ style) }
-{
+fn put_style(out: &mut Vec<u8>) -> Result<(), AllocError> {
     out.extend_from_slice(
         b"<style>text{font:11px sans-serif;fill:#222}.n{font-family:monospace;text-anchor:end}",
     )?;
@@ -57,10 +45,7 @@ fn put_style(out: &mut Vec<u8>) -> Result<(), AllocError>
 }
 
 /// What the curves mean, and what bars and ticks do.
-#[tactic(auto, unfolding(crate::specs::Elements::legend))]
-fn put_key(out: &mut Vec<u8>) -> Result<(), AllocError>
-    ensures { OnOk result (out.new.items ≡ out.old.items ++ legend) }
-{
+fn put_key(out: &mut Vec<u8>) -> Result<(), AllocError> {
     out.extend_from_slice(
         b"<rect class=\"t\" x=\"130\" y=\"30\" width=\"18\" height=\"12\"/><text x=\"154\" y=\"40\">this_bw: bandwidth of all tasks on the runqueue</text>\n",
     )?;
@@ -87,10 +72,7 @@ fn put_key(out: &mut Vec<u8>) -> Result<(), AllocError>
 }
 
 /// The marks of the time axis, which stands at `y`, with a pale line up from each, and what stands below it.
-#[tactic(auto, unfolding(crate::specs::Elements::axis_text))]
-pub fn put_axis(out: &mut Vec<u8>, frame: Frame, y: u32) -> Result<(), AllocError>
-    ensures { OnOk result (out.new.items ≡ out.old.items ++ axis_text frame y) }
-{
+pub fn put_axis(out: &mut Vec<u8>, frame: Frame, y: u32) -> Result<(), AllocError> {
     put_axis_marks(out, frame, y, frame.mark_step())?;
     put_number(out, b"<path class=\"a\" d=\"M130 ", u64::from(y))?;
     put_number(out, b"H", frame.right())?;
@@ -104,10 +86,7 @@ pub fn put_axis(out: &mut Vec<u8>, frame: Frame, y: u32) -> Result<(), AllocErro
     Ok(())
 }
 
-fn put_axis_marks(out: &mut Vec<u8>, frame: Frame, y: u32, step: u32) -> Result<(), AllocError>
-    ensures { OnOk result (out.new.items
-        ≡ out.old.items ++ flat_map (axis_mark_text frame y) (axis_moments frame step)) }
-{
+fn put_axis_marks(out: &mut Vec<u8>, frame: Frame, y: u32, step: u32) -> Result<(), AllocError> {
     let first = frame.first_multiple(step);
     for k in 0..frame.multiples(step) {
         put_axis_mark(out, frame, y, (first + k) * u64::from(step))?;
@@ -115,10 +94,7 @@ fn put_axis_marks(out: &mut Vec<u8>, frame: Frame, y: u32, step: u32) -> Result<
     Ok(())
 }
 
-#[tactic(auto, unfolding(crate::specs::Elements::axis_mark_text))]
-fn put_axis_mark(out: &mut Vec<u8>, frame: Frame, y: u32, m: u64) -> Result<(), AllocError>
-    ensures { OnOk result (out.new.items ≡ out.old.items ++ axis_mark_text frame y m) }
-{
+fn put_axis_mark(out: &mut Vec<u8>, frame: Frame, y: u32, m: u64) -> Result<(), AllocError> {
     let x = frame.x(m);
     put_number(out, b"<path class=\"g\" d=\"M", x)?;
     put_number(out, b" 70V", u64::from(y))?;
@@ -132,27 +108,20 @@ fn put_axis_mark(out: &mut Vec<u8>, frame: Frame, y: u32, m: u64) -> Result<(), 
 }
 
 /// The marks of the scale of a runqueue.
-#[tactic(auto, unfolding(crate::specs::Elements::scale_text))]
-pub fn put_scale(out: &mut Vec<u8>, frame: Frame, base: u32) -> Result<(), AllocError>
-    ensures { OnOk result (out.new.items ≡ out.old.items ++ scale_text frame base) }
-{
+pub fn put_scale(out: &mut Vec<u8>, frame: Frame, base: u32) -> Result<(), AllocError> {
     put_scale_mark(out, frame, base, 0, b"0 %")?;
     put_scale_mark(out, frame, base, 32, b"50 %")?;
     put_scale_mark(out, frame, base, 64, b"100 %")?;
     Ok(())
 }
 
-#[tactic(auto, unfolding(crate::specs::Elements::scale_mark_text))]
 fn put_scale_mark(
     out: &mut Vec<u8>,
     frame: Frame,
     base: u32,
     height: u32,
     percent: &[u8],
-) -> Result<(), AllocError>
-    ensures { OnOk result
-        (out.new.items ≡ out.old.items ++ scale_mark_text frame base height percent.now) }
-{
+) -> Result<(), AllocError> {
     let y = u64::from(base.saturating_sub(height));
     put_number(out, b"<path class=\"g\" d=\"M130 ", y)?;
     put_number(out, b"H", frame.right())?;
@@ -164,16 +133,13 @@ fn put_scale_mark(
 }
 
 /// A line at the most bandwidth that is admitted.
-#[tactic(auto, unfolding(crate::specs::Elements::umax_text))]
 pub fn put_umax(
     out: &mut Vec<u8>,
     frame: Frame,
     base: u32,
     umax: u32,
     r: u32,
-) -> Result<(), AllocError>
-    ensures { OnOk result (out.new.items ≡ out.old.items ++ umax_text frame base umax r) }
-{
+) -> Result<(), AllocError> {
     let y = u64::from(base).saturating_sub(height_of(umax));
     put_number(out, b"<path class=\"u\" d=\"M130 ", y)?;
     put_number(out, b"H", frame.right())?;

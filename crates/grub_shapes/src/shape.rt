@@ -1,8 +1,7 @@
-//! The bars of a lane: their rectangles, and what they tell.
+//! The bars of a lane: where their rectangles stand, and what they tell.
 
-ghost use Rattle.std.specs.Prelude.{◌≡◌, ◌++◌, OnOk};
-ghost use Rattle.std.specs.List.{flat_map};
-ghost use Rattle.grub_shapes.specs.Shapes.{bar_text, bars_text, look_of, rect_text, shape_text, title_text, width_of};
+ghost use Rattle.std.specs.Prelude.{◌≡◌};
+ghost use Rattle.grub_shapes.specs.Shapes.{rect_of};
 
 use crate::frame::Frame;
 use crate::text::{put_number, put_text};
@@ -22,8 +21,31 @@ pub struct Bar {
     pub to: u32,
 }
 
-/// The name of a task, and its bars.
-#[tactic(auto, unfolding(crate::specs::Shapes::bars_text))]
+/// The rectangle of a bar, in pixels.
+#[derive(Clone, Copy)]
+pub struct Rect {
+    /// How far right it begins.
+    pub x: u64,
+
+    pub width: u64,
+
+    pub bar: Bar,
+}
+
+/// The rectangle of a bar, from where its first moment lies to its last; none where it is less than a unit wide.
+pub fn rect_of(frame: Frame, bar: Bar) -> Option<Rect>
+    ensures { result ≡ rect_of frame bar }
+{
+    let x = frame.x(u64::from(bar.from));
+    let width = frame.x(u64::from(bar.to)).saturating_sub(x);
+    if width == 0 {
+        None
+    } else {
+        Some(Rect { x, width, bar })
+    }
+}
+
+/// Appends the name of a task on runqueue `r`, and its bars, in the lane at `y`.
 pub fn put_bars(
     out: &mut Vec<u8>,
     frame: Frame,
@@ -31,93 +53,34 @@ pub fn put_bars(
     name: &str,
     bars: &[Bar],
     y: u32,
-) -> Result<(), AllocError>
-    ensures { OnOk result (out.new.items ≡ out.old.items ++ bars_text frame r name.now y bars.now) }
-{
+) -> Result<(), AllocError> {
     put_number(out, b"<text class=\"n\" x=\"126\" y=\"", u64::from(y) + 12)?;
     out.extend_from_slice(b"\">")?;
     put_text(out, name)?;
     out.extend_from_slice(b"</text>\n")?;
-    put_each_bar(out, frame, r, name, bars, y)?;
-    Ok(())
-}
-
-fn put_each_bar(
-    out: &mut Vec<u8>,
-    frame: Frame,
-    r: u32,
-    name: &str,
-    bars: &[Bar],
-    y: u32,
-) -> Result<(), AllocError>
-    ensures { OnOk result
-        (out.new.items ≡ out.old.items ++ flat_map (bar_text frame r name.now y) bars.now) }
-{
     for bar in bars {
-        put_bar(out, frame, r, name, *bar, y)?;
+        if let Some(rect) = rect_of(frame, *bar) {
+            put_rect(out, rect, y)?;
+            put_title(out, r, name, rect.bar)?;
+        }
     }
     Ok(())
 }
 
-/// A bar, where it is a unit wide or more.
-#[tactic(auto, unfolding(crate::specs::Shapes::bar_text))]
-fn put_bar(
-    out: &mut Vec<u8>,
-    frame: Frame,
-    r: u32,
-    name: &str,
-    bar: Bar,
-    y: u32,
-) -> Result<(), AllocError>
-    ensures { OnOk result (out.new.items ≡ out.old.items ++ bar_text frame r name.now y bar) }
-{
-    if width_of(frame, bar) == 0 {
-        Ok(())
-    } else {
-        put_rect(out, frame, r, name, bar, y)
-    }
-}
-
-fn width_of(frame: Frame, bar: Bar) -> u64
-    ensures { result ≡ width_of frame bar }
-{
-    let left = frame.x(u64::from(bar.from));
-    frame.x(u64::from(bar.to)).saturating_sub(left)
-}
-
-fn put_rect(
-    out: &mut Vec<u8>,
-    frame: Frame,
-    r: u32,
-    name: &str,
-    bar: Bar,
-    y: u32,
-) -> Result<(), AllocError>
-    ensures { OnOk result (out.new.items ≡ out.old.items ++ rect_text frame r name.now y bar) }
-{
-    put_shape(out, frame, bar, y)?;
-    put_title(out, r, name, bar)?;
-    Ok(())
-}
-
-fn put_shape(out: &mut Vec<u8>, frame: Frame, bar: Bar, y: u32) -> Result<(), AllocError>
-    ensures { OnOk result (out.new.items ≡ out.old.items ++ shape_text frame y bar) }
-{
-    let look = look_of(bar.state);
+fn put_rect(out: &mut Vec<u8>, rect: Rect, y: u32) -> Result<(), AllocError> {
+    let look = look_of(rect.bar.state);
     out.extend_from_slice(b"<rect class=\"")?;
     out.extend_from_slice(look.class)?;
-    put_number(out, b"\" x=\"", frame.x(u64::from(bar.from)))?;
+    put_number(out, b"\" x=\"", rect.x)?;
     put_number(out, b"\" y=\"", u64::from(y) + u64::from(look.top))?;
-    put_number(out, b"\" width=\"", width_of(frame, bar))?;
+    put_number(out, b"\" width=\"", rect.width)?;
     put_number(out, b"\" height=\"", u64::from(look.height))?;
     out.extend_from_slice(b"\">")?;
     Ok(())
 }
 
 /// What a bar is, from when to when.
-fn put_title(out: &mut Vec<u8>, r: u32, name: &str, bar: Bar) -> Result<(), AllocError>
-    ensures { OnOk result (out.new.items ≡ out.old.items ++ title_text r name.now bar) }
-{
+fn put_title(out: &mut Vec<u8>, r: u32, name: &str, bar: Bar) -> Result<(), AllocError> {
     out.extend_from_slice(b"<title>")?;
     put_text(out, name)?;
     out.extend_from_slice(b" ")?;
@@ -142,12 +105,7 @@ struct Look {
     word: &'static [u8],
 }
 
-fn look_of(state: State) -> Look
-    ensures class { result.class.now ≡ (look_of state).class }
-    ensures top { result.top ≡ (look_of state).top }
-    ensures height { result.height ≡ (look_of state).height }
-    ensures word { result.word.now ≡ (look_of state).word }
-{
+fn look_of(state: State) -> Look {
     match state {
         State::Contending => Look {
             class: b"c",

@@ -2,3 +2,4 @@ pub mod Counting
 pub mod ActiveTimes
 pub mod Adding
 pub mod Charging
+pub mod Placing

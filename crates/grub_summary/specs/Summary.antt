@@ -1,9 +1,9 @@
 -- The summary: a table of the tasks, and one of the runqueues.
-use Rattle.std.specs.Prelude.{ℕ, ◌-◌, ◌*◌, ◌/◌, ◌^◌, ◌==◌, true, false, List, [], ◌∷◌, ◌++◌, length, map, codes, if◌then◌else◌}
+use Rattle.std.specs.Prelude.{◌≡◌, ℕ, ◌-◌, ◌*◌, ◌/◌, ◌^◌, ◌==◌, List, [], ◌∷◌, ◌++◌, length, map, codes, if◌then◌else◌}
 use Rattle.std.specs.List.{flat_map, fold, range_with_len}
 use Rattle.grub_bw.specs.Bandwidth.{Reservation, Capacity, bandwidth_of}
 use Rattle.grub_book.specs.Machine.{Machine, queue_at, task_at}
-use Rattle.grub_summary.specs.Tables.{table_text}
+use Rattle.grub_summary.specs.Tables.{IsTable}
 use Rattle.grub_steps.specs.Said.{own_steps}
 use Rattle.grub_summary.specs.Tallies.{tally_of}
 use Rattle.grub_summary.specs.Usage.{usage_of}
@@ -48,5 +48,6 @@ abbrev pub queue_cells : Machine → List Step → List Cell
 queue_cells s steps = map Head (range_with_len 19 9) ++ flat_map (row_of_queue s steps) (range_with_len 0 (length s.queues))
 
 -- the two tables, with an empty line between them
-unfoldable pub summary_text : Machine → List (List ℕ) → List Step → List ℕ
-summary_text s names steps = table_text names true 19 (task_cells s steps) ++ codes "\n" ++ table_text names false 9 (queue_cells s steps)
+abbrev pub IsSummary : Machine → List (List ℕ) → List Step → List ℕ → Type 0
+IsSummary s names steps text =
+    (tasks : List ℕ) × (queues : List ℕ) × IsTable names 19 0 (task_cells s steps) tasks × IsTable names 9 0 (queue_cells s steps) queues × (text ≡ tasks ++ codes "\n" ++ queues)

@@ -7,11 +7,11 @@ ghost use Rattle.grub_steps.specs.declared.book_steps.Step.{Step};
 ghost use Rattle.grub_summary.specs.inside.Adding.{meters_of, tallies_of};
 ghost use Rattle.grub_steps.specs.Fitting.{AreToldIn};
 ghost use Rattle.grub_steps.specs.Replay.{steps_of};
-ghost use Rattle.grub_summary.specs.Summary.{mean_of, percent_of, queue_cells, queue_row, summary_text, task_cells, task_row};
+ghost use Rattle.grub_summary.specs.Summary.{IsSummary, mean_of, percent_of, queue_cells, queue_row, task_cells, task_row};
 ghost use Rattle.grub_summary.specs.declared.table.Cell.TheVariants.{Head};
 
 use crate::sums::sums_of;
-use crate::table::{Cell, put_table};
+use crate::table::{Cell, table_of};
 use crate::tally::Tally;
 use crate::usage::{Meter, Usage};
 use grub_bw::{BW_UNIT, Params, Queue};
@@ -30,24 +30,24 @@ const QUEUE_COLUMNS: usize = 9;
 pub fn summary_text(alloc: Global, plan: &Plan, line: &TimeLine) -> Result<Vec<u8>, ViewFault>
     requires line { IsTimeLine plan.now line.now.told.items line.now.closing.items }
     requires within { AreWithin plan.now.setup line.now.told.items }
-    ensures { IfOk result (λ v. v.items ≡ summary_text plan.now.setup plan.now.names
-        (steps_of plan.now.setup line.now.told.items)) }
+    ensures { IfOk result (λ v. IsSummary plan.now.setup plan.now.names
+        (steps_of plan.now.setup line.now.told.items) v.items) }
 {
     text_of(alloc, plan, line).map_err(|_| ViewFault::NoMemory)
 }
 
 fn text_of(alloc: Global, plan: &Plan, line: &TimeLine) -> Result<Vec<u8>, AllocError>
     requires { AreToldIn plan.now.setup line.now.told.items }
-    ensures { IfOk result (λ v. v.items ≡ summary_text plan.now.setup plan.now.names
-        (steps_of plan.now.setup line.now.told.items)) }
+    ensures { IfOk result (λ v. IsSummary plan.now.setup plan.now.names
+        (steps_of plan.now.setup line.now.told.items) v.items) }
 {
     let sums = sums_of(alloc, plan.setup(), &line.told)?;
     let tasks = task_cells(alloc, plan, &sums.tallies)?;
     let queues = queue_cells(alloc, plan, &sums.meters)?;
-    let mut out = Vec::new(alloc);
-    put_table(alloc, &mut out, plan, true, TASK_COLUMNS, &tasks)?;
+    let mut out = table_of(alloc, plan, true, TASK_COLUMNS, &tasks)?;
+    let below = table_of(alloc, plan, false, QUEUE_COLUMNS, &queues)?;
     out.extend_from_slice(b"\n")?;
-    put_table(alloc, &mut out, plan, false, QUEUE_COLUMNS, &queues)?;
+    out.extend_from_slice(&below)?;
     Ok(out)
 }
 

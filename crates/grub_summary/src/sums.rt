@@ -17,14 +17,18 @@ use std::alloc::{AllocError, Global};
 
 /// What is counted of each task, and of each runqueue.
 #[derive(Drop)]
-pub struct Sums {
+pub struct Totals {
     pub tallies: Vec<Tally>,
     pub meters: Vec<Meter>,
 }
 
 /// What is counted over these entries, by a book that begins with every task away. No step is kept. It is refused where
 /// the allocator refused.
-pub(crate) fn sums_of(alloc: Global, setup: &Setup, told: &[ToldEntry]) -> Result<Sums, AllocError>
+pub(crate) fn sums_of(
+    alloc: Global,
+    setup: &Setup,
+    told: &[ToldEntry],
+) -> Result<Totals, AllocError>
     requires { AreToldIn setup.now told.now }
     ensures tallies { IfOk result
         (λ v. v.tallies.items ≡ tallies_of setup.now (steps_of setup.now told.now)) }
@@ -40,7 +44,7 @@ pub(crate) fn sums_of(alloc: Global, setup: &Setup, told: &[ToldEntry]) -> Resul
 }
 
 /// What is counted over no step.
-fn sums_of_none(alloc: Global, setup: &Setup) -> Result<Sums, AllocError>
+fn sums_of_none(alloc: Global, setup: &Setup) -> Result<Totals, AllocError>
     ensures tallies { IfOk result (λ v. v.tallies.items ≡ tallies_of setup.now []) }
     ensures meters { IfOk result (λ v. v.meters.items ≡ meters_of setup.now []) }
 {
@@ -48,7 +52,7 @@ fn sums_of_none(alloc: Global, setup: &Setup) -> Result<Sums, AllocError>
     let mut meters = Vec::with_capacity(alloc, setup.queue_count() as usize)?;
     fill_tallies(setup, &mut tallies);
     fill_meters(setup, &mut meters);
-    Ok(Sums { tallies, meters })
+    Ok(Totals { tallies, meters })
 }
 
 /// The numbers of each task over no step, in a vector with room for them.

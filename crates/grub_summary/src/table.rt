@@ -1,8 +1,8 @@
 //! Tables with aligned columns.
 
-ghost use Rattle.std.specs.Prelude.{◌≡◌, ◌++◌, ◌-◌, ◌+◌, ◌%◌, ◌<◌, ◌≤◌, OnOk, IfOk, length, max, decimal, slice_index_or, if◌then◌else◌, ◌==◌, ◌&&◌, [], codes};
+ghost use Rattle.std.specs.Prelude.{◌≡◌, ◌++◌, ◌+◌, ◌%◌, ◌==◌, ◌≤◌, IfOk, OnOk, codes, decimal, if◌then◌else◌};
 ghost use Rattle.grub_plan.specs.Plans.{name_at};
-ghost use Rattle.grub_summary.specs.Tables.{aligned, cell_text, heads, lengths_of, percent_text, placed_text, spaces, table_text, width_from};
+ghost use Rattle.grub_summary.specs.Tables.{IsTable, IsTextOf, percent_text, spaces};
 
 use grub_plan::Plan;
 use itoa::Buffer;
@@ -23,127 +23,81 @@ pub enum Cell {
     Percent(u128),
 }
 
-/// Appends a table with so many columns, the first of which is aligned to the left where `left` says so.
-pub(crate) fn put_table(
+/// A table with so many columns, the first of which is aligned to the left where `left` says so. It is refused where the
+/// allocator refused.
+pub(crate) fn table_of(
     alloc: Global,
-    out: &mut Vec<u8>,
     plan: &Plan,
     left: bool,
     columns: usize,
     cells: &[Cell],
-) -> Result<(), AllocError>
+) -> Result<Vec<u8>, AllocError>
     requires { 1 ≤ columns }
-    ensures { OnOk result
-        (out.new.items ≡ out.old.items ++ table_text plan.now.names left columns cells.now) }
+    ensures { IfOk result (λ v. IsTable plan.now.names columns 0 cells.now v.items) }
 {
     let lengths = lengths_of(alloc, plan, cells)?;
+    let mut out = Vec::new(alloc);
     for (k, cell) in cells.iter().enumerate() {
-        put_placed(out, plan, left, columns, &lengths, k, *cell)?;
+        let text = text_of(alloc, plan, *cell)?;
+        let gap = width(columns, k % columns, &lengths).saturating_sub(text.len());
+        let (before, after) = gaps(left && k % columns == 0, gap);
+        put_padded(&mut out, before, &text, after, (k + 1) % columns == 0)?;
     }
-    Ok(())
+    Ok(out)
 }
 
 /// How long the texts of the cells are.
-fn lengths_of(alloc: Global, plan: &Plan, cells: &[Cell]) -> Result<Vec<usize>, AllocError>
-    ensures { IfOk result (λ v. v.items ≡ lengths_of plan.now.names cells.now) }
-{
+fn lengths_of(alloc: Global, plan: &Plan, cells: &[Cell]) -> Result<Vec<usize>, AllocError> {
     let mut lengths = Vec::new(alloc);
     for cell in cells {
-        let mut text = Vec::new(alloc);
-        put_cell(&mut text, plan, *cell)?;
-        lengths.push(text.len())?;
+        lengths.push(text_of(alloc, plan, *cell)?.len())?;
     }
     Ok(lengths)
-}
-
-/// One cell, with the spaces that align it.
-fn put_placed(
-    out: &mut Vec<u8>,
-    plan: &Plan,
-    left: bool,
-    columns: usize,
-    lengths: &[usize],
-    k: usize,
-    cell: Cell,
-) -> Result<(), AllocError>
-    requires some { 1 ≤ columns }
-    requires there { k < length lengths.now }
-    requires length { slice_index_or lengths.now k 0 ≡ length (cell_text plan.now.names cell) }
-    ensures { OnOk result (out.new.items
-        ≡ out.old.items ++ placed_text left columns lengths.now k (cell_text plan.now.names cell)) }
-{
-    let column = k % columns;
-    let gap = width(columns, column, lengths).saturating_sub(lengths[k]);
-    put_separator(out, column)?;
-    put_aligned(out, plan, stands_left(left, column), gap, cell)?;
-    put_end(out, column, columns)?;
-    Ok(())
-}
-
-fn stands_left(left: bool, column: usize) -> bool
-    ensures { result ≡ (left && column == 0) }
-{
-    left && column == 0
-}
-
-fn put_separator(out: &mut Vec<u8>, column: usize) -> Result<(), AllocError>
-    ensures { OnOk result
-        (out.new.items ≡ out.old.items ++ (if column == 0 then [] else codes " ")) }
-{
-    if column == 0 {
-        Ok(())
-    } else {
-        out.extend_from_slice(b" ")
-    }
-}
-
-fn put_end(out: &mut Vec<u8>, column: usize, columns: usize) -> Result<(), AllocError>
-    requires { column < columns }
-    ensures { OnOk result
-        (out.new.items ≡ out.old.items ++ (if column + 1 == columns then codes "\n" else [])) }
-{
-    if column + 1 == columns {
-        out.extend_from_slice(b"\n")
-    } else {
-        Ok(())
-    }
 }
 
 /// The greatest of the lengths in a column.
 fn width(columns: usize, column: usize, lengths: &[usize]) -> usize
     requires { 1 ≤ columns }
-    ensures { result ≡ width_from columns column 0 lengths.now }
 {
     let mut width = 0;
     for (k, length) in lengths.iter().enumerate() {
-        width = wider(width, k % columns == column, *length);
+        if k % columns == column {
+            width = width.max(*length);
+        }
     }
     width
 }
 
-/// The width with a length that counts where it is of the column.
-fn wider(width: usize, counts: bool, length: usize) -> usize
-    ensures { result ≡ max width (if counts then length else 0) }
-{
-    if counts { width.max(length) } else { width }
+/// How many spaces stand before and after a text that is aligned to the left, or to the right.
+fn gaps(left: bool, gap: usize) -> (usize, usize) {
+    if left { (0, gap) } else { (gap, 0) }
 }
 
-fn put_aligned(
+/// Appends a text with so many spaces about it, and then one that ends its column, or the byte that ends its row.
+fn put_padded(
     out: &mut Vec<u8>,
-    plan: &Plan,
-    left: bool,
-    gap: usize,
-    cell: Cell,
+    before: usize,
+    text: &[u8],
+    after: usize,
+    is_last: bool,
 ) -> Result<(), AllocError>
-    ensures { OnOk result
-        (out.new.items ≡ out.old.items ++ aligned left gap (cell_text plan.now.names cell)) }
+    ensures { OnOk result (out.new.items ≡ out.old.items ++ (spaces before ++ text.now
+        ++ spaces after ++ (if is_last then codes "\n" else codes " "))) }
 {
-    if left {
-        put_cell(out, plan, cell)?;
-        put_spaces(out, gap)
+    put_spaces(out, before)?;
+    out.extend_from_slice(text)?;
+    put_spaces(out, after)?;
+    put_end(out, is_last)
+}
+
+fn put_end(out: &mut Vec<u8>, is_last: bool) -> Result<(), AllocError>
+    ensures { OnOk result
+        (out.new.items ≡ out.old.items ++ (if is_last then codes "\n" else codes " ")) }
+{
+    if is_last {
+        out.extend_from_slice(b"\n")
     } else {
-        put_spaces(out, gap)?;
-        put_cell(out, plan, cell)
+        out.extend_from_slice(b" ")
     }
 }
 
@@ -156,15 +110,15 @@ fn put_spaces(out: &mut Vec<u8>, count: usize) -> Result<(), AllocError>
     Ok(())
 }
 
-#[tactic(auto, unfolding(crate::specs::Tables::cell_text))]
-fn put_cell(out: &mut Vec<u8>, plan: &Plan, cell: Cell) -> Result<(), AllocError>
-    ensures { OnOk result (out.new.items ≡ out.old.items ++ cell_text plan.now.names cell) }
+/// The text of a cell.
+fn text_of(alloc: Global, plan: &Plan, cell: Cell) -> Result<Vec<u8>, AllocError>
+    ensures { IfOk result (λ v. IsTextOf plan.now.names cell v.items) }
 {
     match cell {
-        Cell::Head(k) => out.extend_from_slice(head(k).as_bytes()),
-        Cell::Name(t) => out.extend_from_slice(name_of(plan, t).as_bytes()),
-        Cell::Number(n) => put_wide(out, n),
-        Cell::Percent(n) => put_percent(out, n),
+        Cell::Head(k) => Vec::from_slice(alloc, head(k).as_bytes()),
+        Cell::Name(t) => Vec::from_slice(alloc, name_of(plan, t).as_bytes()),
+        Cell::Number(n) => number_text(alloc, n),
+        Cell::Percent(n) => percent_text(alloc, n),
     }
 }
 
@@ -179,26 +133,32 @@ fn name_of(plan: &Plan, t: u32) -> &str
     }
 }
 
-fn put_wide(out: &mut Vec<u8>, n: u128) -> Result<(), AllocError>
+fn number_text(alloc: Global, n: u128) -> Result<Vec<u8>, AllocError>
+    ensures { IfOk result (λ v. v.items ≡ decimal n) }
+{
+    let mut buffer = Buffer::new();
+    Vec::from_slice(alloc, buffer.format(n).as_bytes())
+}
+
+fn percent_text(alloc: Global, n: u128) -> Result<Vec<u8>, AllocError>
+    ensures { IfOk result (λ v. v.items ≡ percent_text n) }
+{
+    let mut text = number_text(alloc, n / 100)?;
+    text.extend_from_slice(b".")?;
+    put_digit(&mut text, n % 100 / 10)?;
+    put_digit(&mut text, n % 10)?;
+    Ok(text)
+}
+
+fn put_digit(out: &mut Vec<u8>, n: u128) -> Result<(), AllocError>
     ensures { OnOk result (out.new.items ≡ out.old.items ++ decimal n) }
 {
     let mut buffer = Buffer::new();
     out.extend_from_slice(buffer.format(n).as_bytes())
 }
 
-fn put_percent(out: &mut Vec<u8>, n: u128) -> Result<(), AllocError>
-    ensures { OnOk result (out.new.items ≡ out.old.items ++ percent_text n) }
-{
-    put_wide(out, n / 100)?;
-    out.extend_from_slice(b".")?;
-    put_wide(out, n % 100 / 10)?;
-    put_wide(out, n % 10)
-}
-
 /// The name of a column.
-fn head(k: u32) -> &'static str
-    ensures { result.now ≡ slice_index_or heads k [] }
-{
+fn head(k: u32) -> &'static str {
     match k {
         0 => "task",
         1 => "runtime",

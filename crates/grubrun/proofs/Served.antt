@@ -8,7 +8,7 @@ use Rattle.grub_text.specs.declared.files.Source.{Source}
 use Rattle.grub_text.specs.Source.{Opener, Reader}
 use Rattle.grub_run.specs.Written.{Begins, IsOutput, Writes}
 use Rattle.grub_run.specs.Shown.{IsShown}
-use Rattle.grub_run.specs.declared.view.TimeLineView.{TimeLineView as Shown}
+use Rattle.grub_run.specs.declared.view.FileView.{FileView as Shown}
 use Rattle.grub_run.specs.Faults as faults
 use Rattle.grub_run.specs.Faults.{HasFileFault, Whole}
 use Rattle.grub_command.specs.CommandLine.{ReadsNumber, TriesNamed, command_line, files_named, view_named}

@@ -4,7 +4,7 @@ ghost use Rattle.std.specs.Prelude.{◌≡◌, None};
 ghost use Rattle.grubrun.specs.Views.{wanted_of, wanted_picture};
 
 use grub_command::ViewWord;
-use grub_run::TimeLineView;
+use grub_run::FileView;
 
 /// What the words ask to be printed.
 #[derive(Clone, Copy)]
@@ -13,7 +13,7 @@ pub enum Wanted {
     Reports,
 
     /// A view of the time line.
-    View(TimeLineView),
+    View(FileView),
 
     /// A view that there is none of.
     NoView,
@@ -52,7 +52,7 @@ fn picture_by(from: Option<u32>, to: Option<u32>) -> Wanted
             from: first,
             to: end,
         },
-        _ => Wanted::View(TimeLineView::Picture { from, to }),
+        _ => Wanted::View(FileView::Picture { from, to }),
     }
 }
 
@@ -62,9 +62,9 @@ fn view_by(view: Option<ViewWord>) -> Wanted
 {
     match view {
         None => Wanted::Reports,
-        Some(ViewWord::Timeline) => Wanted::View(TimeLineView::Timeline),
-        Some(ViewWord::Steps) => Wanted::View(TimeLineView::Steps),
-        Some(ViewWord::Summary) => Wanted::View(TimeLineView::Summary),
+        Some(ViewWord::Timeline) => Wanted::View(FileView::Timeline),
+        Some(ViewWord::Steps) => Wanted::View(FileView::Steps),
+        Some(ViewWord::Summary) => Wanted::View(FileView::Summary),
         Some(ViewWord::Picture) => picture_by(None, None),
         Some(ViewWord::Unknown) => Wanted::NoView,
     }

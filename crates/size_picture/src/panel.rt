@@ -1,7 +1,7 @@
 //! The two panels of a task.
 
-ghost use Rattle.std.specs.Prelude.{◌≡◌, ◌++◌, IfOk, OnOk};
-ghost use Rattle.size_picture.specs.Strokes.{DrawsNeeds, bar_of, bars_of, height_of, line_of, lines_text, look_of};
+ghost use Rattle.std.specs.Prelude.{◌≡◌, IfOk};
+ghost use Rattle.size_picture.specs.Strokes.{bar_of, bars_of, height_of, line_of, lines_of, look_of};
 
 use crate::column::{Column, Need, PANEL, WIDTH, columns_of};
 use crate::scale::{place_of, put_counts, put_runtimes, put_time};
@@ -121,15 +121,14 @@ fn line_of(base: u64, top: u32, look: StrokeLook, runtime: u32) -> Stroke
 }
 
 /// The lines at what is proposed, at the least, and at 15 percent less.
-fn put_lines(out: &mut Vec<u8>, panel: &Panel<'_>, base: u64) -> Result<(), AllocError>
-    ensures { OnOk result (out.new.items ≡ out.old.items ++ lines_text base panel.now) }
+fn lines_of(base: u64, panel: &Panel<'_>) -> [Stroke; 3]
+    ensures { result ≡ lines_of base panel.now }
 {
-    let lines = [
+    [
         line_of(base, panel.top, StrokeLook::Proposed, panel.proposed),
         line_of(base, panel.top, StrokeLook::Least, panel.least),
         line_of(base, panel.top, StrokeLook::Less, panel.less),
-    ];
-    put_strokes(out, &lines)
+    ]
 }
 
 /// Puts a name of any bytes: what could not stand in a document is told otherwise.
@@ -195,14 +194,12 @@ fn put_needs(
     out: &mut Vec<u8>,
     panel: &Panel<'_>,
     base: u64,
-) -> Result<(), AllocError>
-    ensures { OnOk result (DrawsNeeds panel.now base out.old.items out.new.items) }
-{
+) -> Result<(), AllocError> {
     let columns = columns_of(alloc, panel.needs, panel.span)?;
     let bars = bars_of(alloc, base, &columns)?;
     let scales = needs_scales(alloc, panel, base)?;
     put_strokes(out, &bars)?;
-    put_lines(out, panel, base)?;
+    put_strokes(out, &lines_of(base, panel))?;
     out.extend_from_slice(&scales)?;
     Ok(())
 }
@@ -233,7 +230,7 @@ fn put_curve(
     let curve = curve_of(alloc, base, end, &columns)?;
     let scales = curve_scales(alloc, panel, base)?;
     put_strokes(out, &curve)?;
-    put_lines(out, panel, base)?;
+    put_strokes(out, &lines_of(base, panel))?;
     out.extend_from_slice(&scales)?;
     Ok(())
 }

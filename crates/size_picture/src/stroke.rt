@@ -1,9 +1,5 @@
 //! Strokes and labels, of which a picture is made.
 
-ghost use Rattle.std.specs.Prelude.{◌≡◌, ◌++◌, OnOk};
-ghost use Rattle.std.specs.List.{flat_map};
-ghost use Rattle.size_picture.specs.Strokes.{class_of, stroke_text};
-
 use grub_shapes::put_number;
 use std::alloc::AllocError;
 
@@ -41,9 +37,7 @@ pub struct Stroke {
     pub to_y: u64,
 }
 
-fn class_of(look: StrokeLook) -> &'static [u8]
-    ensures { result.now ≡ class_of look }
-{
+fn class_of(look: StrokeLook) -> &'static [u8] {
     match look {
         StrokeLook::Pale => b"b",
         StrokeLook::Late => b"l",
@@ -56,9 +50,7 @@ fn class_of(look: StrokeLook) -> &'static [u8]
     }
 }
 
-pub(crate) fn put_stroke(out: &mut Vec<u8>, stroke: Stroke) -> Result<(), AllocError>
-    ensures { OnOk result (out.new.items ≡ out.old.items ++ stroke_text stroke) }
-{
+pub(crate) fn put_stroke(out: &mut Vec<u8>, stroke: Stroke) -> Result<(), AllocError> {
     out.extend_from_slice(b"<path class=\"")?;
     out.extend_from_slice(class_of(stroke.look))?;
     put_number(out, b"\" d=\"M", stroke.x)?;
@@ -69,9 +61,7 @@ pub(crate) fn put_stroke(out: &mut Vec<u8>, stroke: Stroke) -> Result<(), AllocE
     Ok(())
 }
 
-pub(crate) fn put_strokes(out: &mut Vec<u8>, strokes: &[Stroke]) -> Result<(), AllocError>
-    ensures { OnOk result (out.new.items ≡ out.old.items ++ flat_map stroke_text strokes.now) }
-{
+pub(crate) fn put_strokes(out: &mut Vec<u8>, strokes: &[Stroke]) -> Result<(), AllocError> {
     for stroke in strokes {
         put_stroke(out, *stroke)?;
     }

@@ -1,6 +1,5 @@
-use Rattle.std.proofs.Common.{◌≡◌, map}
-use Rattle.grub_picture.specs.inside.Scenes.{owns_of}
+use Rattle.std.proofs.Common.{◌≡◌, vec_len}
 use Rattle.grub_picture.proofs.picture.own_steps.Given as goal
 
 abbrev pub invariant-loop-t : goal.invariant-loop-t
-invariant-loop-t l = map (λ own. own.items) l.owns.items ≡ owns_of l.t l.steps
+invariant-loop-t l = vec_len l.owns ≡ l.t

@@ -9,11 +9,11 @@ use Rattle.grub_plan.specs.Plans.{PlanView}
 use Rattle.grub_plan.specs.Contents.{contents}
 use Rattle.grub_trace.specs.Tree.{Tree}
 use Rattle.grub_run.specs.Shown.{IsShown, IsViewOf}
-use Rattle.grub_run.specs.declared.view.TimeLineView.{TimeLineView}
+use Rattle.grub_run.specs.declared.view.FileView.{FileView}
 use Rattle.grub_run.proofs.view.write_view.Goals as goal
 
 -- a view of the time line of the plan of these files
-shown : (view : TimeLineView) (files : List (List ℕ)) (plan : PlanView) (told : List ToldEntry) (closing : List Reading) (text : List ℕ) (trees : List Tree)
+shown : (view : FileView) (files : List (List ℕ)) (plan : PlanView) (told : List ToldEntry) (closing : List Reading) (text : List ℕ) (trees : List Tree)
     → Reads files trees → plan ≡ plan_of trees → IsTimeLine plan told closing → IsViewOf view plan told closing text → IsShown view files text
 shown view files plan told closing text trees read is line whole = record {
   trees = trees;

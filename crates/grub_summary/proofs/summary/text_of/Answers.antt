@@ -1,6 +1,6 @@
 use Rattle.std.proofs.Common.{◌≡◌, ◌∙◌, ap, length, refl}
 use Rattle.grub_steps.specs.Replay.{steps_of}
-use Rattle.grub_summary.specs.Summary.{queue_cells, summary_text, task_cells}
+use Rattle.grub_summary.specs.Summary.{queue_cells, task_cells}
 use Rattle.grub_summary.specs.inside.Adding.{meters_of, tallies_of}
 use Rattle.grub_summary.proofs.Adding.{meters_length, tallies_length}
 use Rattle.grub_summary.proofs.summary.text_of.Goals as goal
@@ -20,7 +20,6 @@ queue_cells-requires c =
     ap length is ∙ meters_length s steps
 
 pub returns : goal.returns
-unfolding summary_text
 returns c =
     let s = c.args.plan.now.setup in
     let steps = steps_of s c.args.line.now.told.items in
@@ -28,5 +27,6 @@ returns c =
     let meters : c.deref-3.result.now ≡ meters_of s steps = c.deref-3.ensures.value ∙ (rw (c.setup.ensures.setup, c.deref.ensures.value) at c.in_ok-sums.ensures.meters) in
     let tasks : c.in_ok-tasks.tasks.items ≡ task_cells s steps = c.in_ok-tasks.ensures steps tallies in
     let queues : c.in_ok-queues.queues.items ≡ queue_cells s steps = c.in_ok-queues.ensures steps meters in
-    rw (c.in_ok-put_table-2.ensures, c.in_ok-extend_from_slice.ensures.items, c.in_ok-put_table.ensures, c.new-out.ensures.items)
-    (rw (c.deref-4.ensures.value, tasks, c.deref-5.ensures.value, queues) refl)
+    let above = rw (c.deref-4.ensures.value, tasks) at c.in_ok-out.ensures in
+    let below = rw (c.deref-5.ensures.value, queues) at c.in_ok-below.ensures in
+    (c.in_ok-out.out.items, c.in_ok-below.below.items, above, below, rw (c.in_ok-extend_from_slice-2.ensures.items, c.in_ok-extend_from_slice.ensures.items, c.deref-6.ensures.value) refl)

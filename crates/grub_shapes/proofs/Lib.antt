@@ -1,4 +1,0 @@
-pub mod Pieces
-pub mod Finding
-pub mod Axis
-pub mod Columns
