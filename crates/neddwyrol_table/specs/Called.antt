@@ -19,7 +19,6 @@ use Rattle.grub_table.specs.declared.answer.Started.{Started}
 use Rattle.grub_table.specs.declared.answer.Started.TheVariants as started
 use Rattle.grub_table.specs.declared.answer.Finished.{Finished}
 use Rattle.grub_table.specs.declared.answer.Finished.TheVariants as finished
-use Rattle.grub_table.specs.declared.claim.Claim.{Claim}
 use Rattle.grub_table.specs.declared.pass.Pass.{Pass}
 use Rattle.grub_table.specs.declared.shared.Shared.{Shared}
 use Rattle.grub_flat.specs.Asked.{op_of, plain_reply, reply_of}

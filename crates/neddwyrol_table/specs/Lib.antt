@@ -1,4 +1,5 @@
 pub mod Called
+pub mod Claims
 pub mod Ended
 pub mod Opened
 pub mod Owned

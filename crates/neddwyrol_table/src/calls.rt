@@ -1,18 +1,24 @@
 //! A call of one pass, from its start to its end.
 
-ghost use Rattle.std.specs.Prelude.{◌≡◌, ◌<◌, ◌⊎◌, [], ◌∷◌, length, IfOk, IfErr};
+ghost use Rattle.std.specs.Prelude.{◌≡◌, ◌<◌, ◌≤◌, ◌⊎◌, [], ◌∷◌, length, Some, IfOk, IfErr};
 ghost use Rattle.grub_book.specs.History.{pass_of};
 ghost use Rattle.grub_book.specs.Op.{IsOp};
+ghost use Rattle.grub_book.specs.declared.op.Op.{Op};
 ghost use Rattle.grub_book.specs.declared.event.Event.TheVariants.{Call};
+ghost use Rattle.grub_flat.specs.Asked.{op_of};
 ghost use Rattle.grub_table.specs.Calls.{terms, seen, number_of, IsPassOf};
 ghost use Rattle.grub_table.specs.Knowing.{GoesOn};
 ghost use Rattle.neddwyrol_table.specs.Called.{WasCalled, code_reply};
 
 use grub_book::{Op, Reply};
+use grub_flat::{NO_OP, NO_TASK, NdOp, op_of};
 use grub_table::{Finished, Pass, Shared, Started};
 
 /// Another pass has the task, or changed it meanwhile.
 pub const BUSY: u32 = 50;
+
+/// The pass has the task, and the call is to be finished or cancelled.
+pub const HELD: u32 = 100;
 
 /// All tries were lost, each to a change of the runqueue's sums; the task was given back.
 pub const LOST: u32 = 52;
@@ -42,5 +48,24 @@ pub(crate) fn ask(
             Finished::Done(pass, reply) => (pass, Ok(reply)),
             Finished::Held(claim) => (shared.cancel(claim), Err(LOST)),
         },
+    }
+}
+
+/// What may be asked for a task, or the number of why it may not.
+pub(crate) fn op_for(shared: &Shared, t: u32, op: NdOp) -> Result<Op, u32>
+    ensures found { IfOk result (λ it. (t < length (terms shared.now).setup.tasks)
+        × (op_of op ≡ Some it) × IsOp (terms shared.now).setup it) }
+    ensures none { IfErr result (λ code.
+        ((length (terms shared.now).setup.tasks ≤ t) × (code ≡ NO_TASK))
+        ⊎ ((t < length (terms shared.now).setup.tasks)
+        × ((it : Op) → op_of op ≡ Some it → ¬ IsOp (terms shared.now).setup it)
+        × (code ≡ NO_OP))) }
+{
+    if !shared.has_task(t) {
+        return Err(NO_TASK);
+    }
+    match op_of(op) {
+        Some(it) if shared.fits(&it) => Ok(it),
+        _ => Err(NO_OP),
     }
 }

@@ -4,16 +4,19 @@ ghost use Rattle.std.specs.Prelude.{◌≡◌, ◌≢◌, ◌⊎◌};
 ghost use denote.RawPtr.{InBlock};
 ghost use Rattle.grub_flat.specs.Memory.{machine_of};
 ghost use Rattle.neddwyrol_table.specs.Called.{Keeps, Stands, Went, IsSame, WasAsked, WasCalledBy, WasRead};
+ghost use Rattle.neddwyrol_table.specs.Claims.{HasTask, IsTold, IsTakenBy, IsMade, IsUnmade, IsGivenBack, Took, StillTook, CameBack};
 ghost use Rattle.neddwyrol_table.specs.Ended.{AreOfOne, IsPartedInto, TookIn, HaveMetBy, IsAgain, IsClosedBy};
 ghost use Rattle.neddwyrol_table.specs.Opened.{IsOpenedFor, open_fault};
 ghost use Rattle.neddwyrol_table.specs.declared.held.Kept.{Kept};
 
+use crate::calls::{HELD, LOST};
+use crate::claims::{cancel, finish, start};
 use crate::closing::NO_PART;
 use crate::handled::{call, close, gather, look, meet, part as take_part};
 use crate::held::Held;
 use crate::opening::opened;
 use crate::parts::Parts;
-use crate::pass::NdPass;
+use crate::pass::{NdClaim, NdPass};
 use grub_flat::{DONE, NdOp, NdReading, NdReply, NdRunqueue, NdTask};
 use std::alloc::Global;
 
@@ -67,6 +70,88 @@ pub extern "C" fn nd_pass_apply(
     reply
 }
 
+/// Begins a call by `start` of `grub_table`. Where it answers 100 the pass has the task: its claim is written, and the pass is
+/// spent. Else the pass is given back and no claim is written. No call is made where it answers 50, another pass has the task;
+/// 70 and 71 as of `nd_apply`. Any other reply is one that the place, the count, the ticket or an early timer decided: the call
+/// with it is all that is new of the pass in the history.
+#[unsafe(no_mangle)]
+pub extern "C" fn nd_pass_start(
+    pass: NdPass,
+    task: u32,
+    op: NdOp,
+    back: &mut NdPass,
+    claim: &mut NdClaim,
+) -> NdReply
+    requires there { InBlock pass.at }
+    requires stands { Stands pass.held }
+    ensures holds { result.kind ≡ HELD
+        → InBlock claim.new.pass.at × HasTask claim.new.pass.held }
+    ensures taken { result.kind ≡ HELD
+        → Took pass.held claim.new.pass.held (IsTakenBy task op) }
+    ensures spent { result.kind ≡ HELD → back.new ≡ back.old }
+    ensures stands { result.kind ≢ HELD → InBlock back.new.at × Stands back.new.held }
+    ensures told { result.kind ≢ HELD → Went pass.held back.new.held (IsTold task op result) }
+    ensures kept { result.kind ≢ HELD → claim.new ≡ claim.old }
+{
+    let mut held = pass.into_parts().into_box();
+    let reply = start(held.as_mut(), task, op);
+    let now = NdPass::of_parts(Parts::of(held));
+    if reply.kind == HELD {
+        *claim = NdClaim { pass: now };
+    } else {
+        *back = now;
+    }
+    reply
+}
+
+/// Makes the call of a claim by `finish` of `grub_table`. The call with its reply is all that is new of the pass in the
+/// history; the task and the pass are given back. Or it answers 52: so many tries were lost, each to a change of the runqueue's
+/// sums. Then no call is made, and the claim is given back. An op that changes no sum needs no try.
+#[unsafe(no_mangle)]
+pub extern "C" fn nd_claim_finish(
+    claim: NdClaim,
+    tries: u8,
+    back: &mut NdPass,
+    claim_back: &mut NdClaim,
+) -> NdReply
+    requires there { InBlock claim.pass.at }
+    requires holds { HasTask claim.pass.held }
+    ensures stands { result.kind ≢ LOST → InBlock back.new.at × Stands back.new.held }
+    ensures made { result.kind ≢ LOST
+        → CameBack claim.pass.held back.new.held (IsMade tries result) }
+    ensures spent { result.kind ≢ LOST → claim_back.new ≡ claim_back.old }
+    ensures holds { result.kind ≡ LOST
+        → InBlock claim_back.new.pass.at × HasTask claim_back.new.pass.held }
+    ensures lost { result.kind ≡ LOST
+        → StillTook claim.pass.held claim_back.new.pass.held (IsUnmade tries) }
+    ensures kept { result.kind ≡ LOST → back.new ≡ back.old }
+{
+    let mut held = claim.pass.into_parts().into_box();
+    let reply = finish(held.as_mut(), tries);
+    let now = NdPass::of_parts(Parts::of(held));
+    if reply.kind == LOST {
+        *claim_back = NdClaim { pass: now };
+    } else {
+        *back = now;
+    }
+    reply
+}
+
+/// Gives the task and the pass of a claim back by `cancel` of `grub_table`: no call is made, and nothing is new of the pass in
+/// the history.
+#[unsafe(no_mangle)]
+pub extern "C" fn nd_claim_cancel(claim: NdClaim, back: &mut NdPass)
+    requires there { InBlock claim.pass.at }
+    requires holds { HasTask claim.pass.held }
+    ensures there { InBlock back.new.at }
+    ensures stands { Stands back.new.held }
+    ensures given { CameBack claim.pass.held back.new.held IsGivenBack }
+{
+    let mut held = claim.pass.into_parts().into_box();
+    cancel(held.as_mut());
+    *back = NdPass::of_parts(Parts::of(held));
+}
+
 /// Reads the sums of a runqueue by one load, as `read` of `grub_table` does. It answers 0, or 64 where there is no such
 /// runqueue and nothing is written.
 #[unsafe(no_mangle)]
@@ -107,7 +192,13 @@ pub extern "C" fn nd_pass_part(
         → Went pass.held back.new.held IsSame × (part.new ≡ part.old) }
 {
     let mut held = pass.into_parts().into_box();
-    let Ok(mut other) = Box::new(alloc, Held { kept: None }) else {
+    let Ok(mut other) = Box::new(
+        alloc,
+        Held {
+            kept: None,
+            taken: None,
+        },
+    ) else {
         *back = NdPass::of_parts(Parts::of(held));
         return NO_PART;
     };

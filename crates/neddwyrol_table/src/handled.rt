@@ -5,13 +5,10 @@ ghost use Rattle.neddwyrol_table.specs.Called.{IsWell, Stands, IsBeside, IsSame,
 ghost use Rattle.neddwyrol_table.specs.Ended.{AreOfOne, IsPartedInto, TookIn, HaveMetBy, IsAgain, IsClosedBy};
 ghost use Rattle.neddwyrol_table.specs.declared.held.Kept.{Kept};
 
-use crate::calls::ask;
+use crate::calls::{ask, op_for};
 use crate::closing::{NO_MEMORY, NO_PART, closed, gathered, met, parted};
 use crate::held::{Held, Kept};
-use grub_flat::{
-    DONE, NO_OP, NO_TASK, NdOp, NdReading, NdReply, QUEUE_OUT_OF_RANGE, op_of, plain_reply,
-    reply_of,
-};
+use grub_flat::{DONE, NdOp, NdReading, NdReply, QUEUE_OUT_OF_RANGE, plain_reply, reply_of};
 use std::alloc::Global;
 
 /// Makes a call, where there is such a task and op.
@@ -22,15 +19,10 @@ fn asked(kept: Kept, t: u32, op: NdOp, tries: u8) -> (Kept, NdReply)
     ensures asked { WasAsked t op result.1 kept result.0 }
     ensures called { WasCalledBy t op tries result.1 kept result.0 }
 {
-    if !kept.shared.has_task(t) {
-        return (kept, plain_reply(NO_TASK));
-    }
-    let Some(it) = op_of(op) else {
-        return (kept, plain_reply(NO_OP));
+    let it = match op_for(&kept.shared, t, op) {
+        Ok(it) => it,
+        Err(code) => return (kept, plain_reply(code)),
     };
-    if !kept.shared.fits(&it) {
-        return (kept, plain_reply(NO_OP));
-    }
     let Kept {
         shared,
         pass,

@@ -2,6 +2,7 @@
 #![tactic(auto)]
 
 mod calls;
+mod claims;
 mod closing;
 mod exports;
 mod handled;
@@ -11,12 +12,12 @@ mod parting;
 mod parts;
 mod pass;
 
-pub use calls::{BUSY, LOST};
+pub use calls::{BUSY, HELD, LOST};
 pub use closing::{MISSING, NO_MEMORY, NO_PART};
 pub use exports::{
-    nd_pass_apply, nd_pass_free, nd_pass_gather, nd_pass_meet, nd_pass_part, nd_pass_read,
-    nd_table_close, nd_table_open,
+    nd_claim_cancel, nd_claim_finish, nd_pass_apply, nd_pass_free, nd_pass_gather, nd_pass_meet,
+    nd_pass_part, nd_pass_read, nd_pass_start, nd_table_close, nd_table_open,
 };
-pub use held::{Held, Kept};
+pub use held::{Held, Kept, Taken};
 pub use opening::{NO_PASS, NO_TABLE_MEMORY, PASSES_MAX, TOO_MANY_PASSES};
-pub use pass::NdPass;
+pub use pass::{NdClaim, NdPass};

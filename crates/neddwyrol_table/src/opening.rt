@@ -145,8 +145,7 @@ fn boxed(alloc: Global, table: Shared, passes: Vec<Pass>) -> Result<Box<Held>, A
     let Ok(shared) = Arc::new(alloc, table) else {
         return Err(AllocError);
     };
-    let kept = Some(unpushed(shared, passes));
-    match Box::new(alloc, Held { kept }) {
+    match Box::new(alloc, Held::of_pass(unpushed(shared, passes))) {
         Ok(held) => Ok(held),
         Err(_) => Err(AllocError),
     }

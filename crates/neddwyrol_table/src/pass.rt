@@ -1,4 +1,4 @@
-//! The handle, which C holds as a pointer.
+//! The handles, which C holds as pointers.
 ghost use Rattle.std.specs.Prelude.{◌≡◌};
 ghost use denote.RawPtr.{InBlock};
 ghost use Rattle.neddwyrol_table.specs.declared.held.Held.{Held};
@@ -43,6 +43,13 @@ impl NdPass {
             alloc,
         }
     }
+}
+
+/// The handle of a pass that holds a task.
+#[repr(C)]
+#[derive(Drop)]
+pub struct NdClaim {
+    pub pass: NdPass,
 }
 
 // What it leads to may go to another thread.
