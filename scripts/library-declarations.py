@@ -31,9 +31,10 @@ def numbers_of(pattern, text):
 
 
 def structs_of(text):
-    """Of Rust or Rattle, without what takes no bytes: {name: [(field, type)]}."""
+    """Of Rust or Rattle, without what takes no bytes, and a struct round another one as that: {name: [(field, type)]}."""
     structs = all_of(r"#\[repr\(C\)\]\n(?:#[^\n]*\n)*pub struct (?:Nd)?(\w+) \{\n(.*?)\n\}", text)
-    return {name: [(it, kind.removeprefix("Nd")) for it, kind in all_of(r"^ +(?:pub )?(\w+): ((?!Global)[^{},]+),", body)] for name, body in structs}
+    found = {name: [(it, kind.removeprefix("Nd")) for it, kind in all_of(r"^ +(?:pub )?(\w+): ((?!Global)[^{},]+),", body)] for name, body in structs}
+    return {name: found.get(fields[0][1], fields) if len(fields) == 1 else fields for name, fields in found.items()}
 
 
 def calls_of(pattern, text):
@@ -97,7 +98,7 @@ def main(words):
     sys.dont_write_bytecode = True
     structs, calls, numbers = library = source()
     told = [len(it) for it in library + table()]
-    faults = [] if told == [10, 14, 61, 1, 8, 11] else [f"the source was not read: {told} structs, calls and numbers"]
+    faults = [] if told == [10, 14, 61, 2, 11, 12] else [f"the source was not read: {told} structs, calls and numbers"]
     plain = {name: ([it.replace("*const", "*mut").replace("usize", "u64") for it in given], result.replace("usize", "u64")) for name, (given, result) in calls.items()}
     for where, want, got in (
         ("neddwyrol.h", library, header("neddwyrol.h")),

@@ -63,7 +63,9 @@ for it in llvm rattle; do
                 ran "$example by $compiler over $it" "$example" "$compiler" -std=c++17 "${checked[@]}" -x c++ "bindings/c/$example.c" -x none "${both[1]}"
         done
     done
-    ran "four threads over $it" threads cc -std=c11 -pedantic "${checked[@]}" bindings/c/threads.c "${both[@]}" -pthread
+    for example in claims threads; do
+        ran "the shared table's $example over $it" "$example" cc -std=c11 -pedantic "${checked[@]}" "bindings/c/$example.c" "${both[@]}" -pthread
+    done
     if command -v cargo > /dev/null; then
         tried "the Rust crate over $it" - cargo test -q --manifest-path bindings/rust/Cargo.toml
         tried "the shared table's Rust crate over $it" - cargo test -q --manifest-path bindings/rust_table/Cargo.toml
@@ -76,8 +78,10 @@ done
 
 # Damaged memories and threads under valgrind, which finds nothing.
 if command -v valgrind > /dev/null && cc -g -I bindings/include bindings/c/damage.c "$made/libneddwyrol.a" -o "$work/damage" &&
+    cc -g -I bindings/include bindings/c/claims.c "${both[@]}" -o "$work/claims" &&
     cc -g -I bindings/include bindings/c/threads.c "${both[@]}" -pthread -o "$work/threads"; then
     tried 'damaged memories under valgrind' - valgrind -q --error-exitcode=1 "$work/damage" 3000
+    tried 'claims under valgrind' claims valgrind -q --error-exitcode=1 --leak-check=full "$work/claims"
     for tool in --tool=helgrind --leak-check=full; do
         search="valgrind -q --error-exitcode=1 $tool --suppressions=$PWD/bindings/rust_table/helgrind.supp"
         tried "four threads under $tool" - $search "$work/threads" 3

@@ -34,10 +34,27 @@ static void note(worker *w, nd_event event) {
     w->events[w->count++] = event;
 }
 
+/* One try. The first thread takes each task, and gives it back once before it makes the call. */
+static nd_reply asked(worker *w, uint32_t task, nd_op op) {
+    nd_claim claim = {NULL};
+    if (w->number != 0)
+        return nd_call(&w->pass, task, op, 1);
+    nd_reply reply = nd_start(&w->pass, task, op, &claim);
+    if (reply.kind == ND_HELD) {
+        nd_cancel(&claim, &w->pass);
+        reply = nd_start(&w->pass, task, op, &claim);
+    }
+    if (reply.kind == ND_HELD)
+        reply = nd_finish(&claim, 1, &w->pass);
+    if (reply.kind == ND_LOST)
+        nd_cancel(&claim, &w->pass);
+    return reply;
+}
+
 static nd_reply call(worker *w, uint32_t task, uint32_t kind, uint32_t a, uint32_t b) {
     nd_op op = {kind, a, b};
     for (;;) {
-        nd_reply reply = nd_call(&w->pass, task, op, 1);
+        nd_reply reply = asked(w, task, op);
         if (reply.kind != ND_BUSY && reply.kind != ND_LOST) {
             nd_event event = {ND_CALL, w->number, task, op, 0, 0, reply};
             note(w, event);

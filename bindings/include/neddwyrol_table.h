@@ -6,8 +6,10 @@
  *
  * What the caller owes, beside what neddwyrol.h says:
  *   - a pass is one that nd_table_open wrote, or that a call gave back, and it is in one call at a time;
+ *   - a claim is one that nd_pass_start or nd_claim_finish wrote, and it is in one call at a time;
+ *   - each claim goes to nd_claim_finish or nd_claim_cancel: one that is never spent keeps its task;
  *   - two passes of one call are of one table;
- *   - between two threads that use one pass lies a thread's start or end, a lock or an atomic.
+ *   - between two threads that use one pass or claim lies a thread's start or end, a lock or an atomic.
  *
  * A call takes a pass and gives it back by its argument `back`. The calls at the end, as nd_call, do so by themselves. */
 #ifndef NEDDWYROL_TABLE_H
@@ -28,6 +30,11 @@ typedef struct {
     void *at;
 } nd_pass;
 
+/* A pass that has a task, with those that it gathered; nothing where it is null. */
+typedef struct {
+    void *at;
+} nd_claim;
+
 enum {
     ND_NO_PASS = 23,         /* a table of no pass */
     ND_TOO_MANY_PASSES = 24, /* more than 64 */
@@ -36,7 +43,8 @@ enum {
     ND_NO_PART = 27,         /* no pass is gathered, or memory was refused */
     ND_NO_MEMORY = 42,       /* memory was refused */
     ND_BUSY = 50, /* another pass has the task, or changed it meanwhile: no call was made */
-    ND_LOST = 52  /* every try was lost to a change of the runqueue's sums: no call was made */
+    ND_LOST = 52, /* every try was lost to a change of the runqueue's sums: no call was made */
+    ND_HELD = 100 /* the pass has the task: a claim was written, and no call is made yet */
 };
 
 /* Opens a table of the reservations and constants that stand in the memory, at most 256 tasks and 64 runqueues, with 1 to 64
@@ -53,6 +61,20 @@ uint32_t nd_pass_part(nd_pass pass, nd_pass *back, nd_pass *part);
  * table. No call is made where it answers 50, another pass has the task; 52, so many tries were lost, each to a change of the
  * runqueue's sums; 70 and 71 as of nd_apply. An op that changes no sum needs no try. */
 nd_reply nd_pass_apply(nd_pass pass, uint32_t task, nd_op op, uint8_t tries, nd_pass *back);
+
+/* The same in two steps. Where it answers 100 the pass has the task: its claim is written, and the pass is spent. Else the pass
+ * is given back and no claim is written. No call is made where it answers 50, 70 or 71 as above. Any other reply is one that
+ * the place, the count, the ticket or an early timer decided. The call with it is all that is new of the pass in the
+ * history. */
+nd_reply nd_pass_start(nd_pass pass, uint32_t task, nd_op op, nd_pass *back, nd_claim *claim);
+
+/* Makes the call of a claim. The call with its reply is all that is new of the pass in the history; the task and the pass are
+ * given back. Or it answers 52: so many tries were lost, each to a change of the runqueue's sums. Then no call is made, and
+ * the claim is given back. An op that changes no sum needs no try. */
+nd_reply nd_claim_finish(nd_claim claim, uint8_t tries, nd_pass *back, nd_claim *claim_back);
+
+/* Gives the task and the pass back: no call is made, and nothing is new of the pass in the history. */
+void nd_claim_cancel(nd_claim claim, nd_pass *back);
 
 /* Reads the sums of a runqueue, at one moment. It answers 0, or 64 where there is no such runqueue and nothing is written. */
 uint32_t nd_pass_read(nd_pass pass, uint32_t queue, nd_reading *reading, nd_pass *back);
@@ -85,6 +107,22 @@ static inline uint32_t nd_part(nd_pass *pass, nd_pass *part) { return nd_pass_pa
 static inline nd_reply nd_call(nd_pass *pass, uint32_t task, nd_op op, uint8_t tries) {
     return nd_pass_apply(nd_taken(pass), task, op, tries, pass);
 }
+
+static inline nd_claim nd_claimed(nd_claim *claim) {
+    nd_claim it = *claim;
+    claim->at = NULL;
+    return it;
+}
+
+static inline nd_reply nd_start(nd_pass *pass, uint32_t task, nd_op op, nd_claim *claim) {
+    return nd_pass_start(nd_taken(pass), task, op, pass, claim);
+}
+
+static inline nd_reply nd_finish(nd_claim *claim, uint8_t tries, nd_pass *pass) {
+    return nd_claim_finish(nd_claimed(claim), tries, pass, claim);
+}
+
+static inline void nd_cancel(nd_claim *claim, nd_pass *pass) { nd_claim_cancel(nd_claimed(claim), pass); }
 
 static inline uint32_t nd_read(nd_pass *pass, uint32_t queue, nd_reading *reading) {
     return nd_pass_read(nd_taken(pass), queue, reading, pass);

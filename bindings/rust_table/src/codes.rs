@@ -13,3 +13,4 @@ pub const NO_PART: u32 = 27;
 pub const NO_MEMORY: u32 = 42;
 pub const BUSY: u32 = 50;
 pub const LOST: u32 = 52;
+pub const HELD: u32 = 100;

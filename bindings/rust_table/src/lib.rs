@@ -7,6 +7,7 @@
 pub mod codes;
 mod raw;
 
+use codes::{BUSY, HELD, LOST};
 use core::sync::atomic::{AtomicU64, Ordering};
 use neddwyrol::{codes::DONE, Fault, Op, Reading, Reply, Runqueue, Task};
 
@@ -32,6 +33,42 @@ impl Drop for Pass {
     }
 }
 
+/// A pass that has a task, with those that it gathered. It may go to another thread. One that is dropped cancels itself: the
+/// task is given back, and its pass is dropped.
+pub struct Claim {
+    held: raw::Claim,
+    table: u64,
+}
+
+// SAFETY: the library proves that what a claim leads to may go to another thread.
+unsafe impl Send for Claim {}
+
+impl Drop for Claim {
+    fn drop(&mut self) {
+        if !self.held.at.is_null() {
+            self.given_back();
+        }
+    }
+}
+
+/// What came of [`Pass::start`].
+pub enum Started {
+    /// The place, the count, the ticket or an early timer decided the reply. No call was made where it is 70 or 71.
+    Answered(Pass, Reply),
+    /// Another pass has the task, or changed it meanwhile: no call was made.
+    Busy(Pass),
+    /// The pass has the task.
+    Held(Claim),
+}
+
+/// What came of [`Claim::finish`].
+pub enum Finished {
+    /// The call was made, and the task given back.
+    Done(Pass, Reply),
+    /// Every try was lost to a change of the runqueue's sums: no call was made, and the pass still has the task.
+    Held(Claim),
+}
+
 /// Why a pass was not gathered or a table not closed, with the pass, where there was memory to give it back.
 pub struct Refused {
     pub fault: Fault,
@@ -46,6 +83,10 @@ impl core::fmt::Debug for Refused {
 
 fn nothing() -> raw::Pass {
     raw::Pass { at: core::ptr::null_mut() }
+}
+
+fn no_claim() -> raw::Claim {
+    raw::Claim { at: core::ptr::null_mut() }
 }
 
 impl Pass {
@@ -93,6 +134,19 @@ impl Pass {
         unsafe { raw::nd_pass_apply(pass, task, op, tries, &mut self.held) }
     }
 
+    /// The same in two steps: begins a call. It takes the task, unless the place, the count, the ticket or an early timer decides
+    /// the reply.
+    pub fn start(mut self, task: u32, op: Op) -> Started {
+        let (pass, table, mut claim) = (self.taken(), self.table, no_claim());
+        // SAFETY: as above.
+        let reply = unsafe { raw::nd_pass_start(pass, task, op, &mut self.held, &mut claim) };
+        match reply.kind {
+            HELD => Started::Held(Claim { held: claim, table }),
+            BUSY => Started::Busy(self),
+            _ => Started::Answered(self, reply),
+        }
+    }
+
     /// The sums of a runqueue at one moment, where it is there.
     pub fn read(&mut self, queue: u32) -> Option<Reading> {
         let (pass, mut reading) = (self.taken(), Reading::default());
@@ -135,5 +189,36 @@ impl Pass {
             DONE => Ok(()),
             fault => Err(Refused { fault: Fault(fault), pass: Pass::found(back, self.table) }),
         }
+    }
+}
+
+impl Claim {
+    /// The claim as a call takes it: until it is given back there is nothing here.
+    fn taken(&mut self) -> raw::Claim {
+        core::mem::replace(&mut self.held, no_claim())
+    }
+
+    /// Makes the call, unless so many tries are lost, each to a change of the runqueue's sums. An op that changes no sum needs
+    /// no try.
+    pub fn finish(mut self, tries: u8) -> Finished {
+        let (claim, mut held) = (self.taken(), nothing());
+        // SAFETY: the claim is the library's and in no other call; what is written owns nothing before.
+        let reply = unsafe { raw::nd_claim_finish(claim, tries, &mut held, &mut self.held) };
+        match reply.kind {
+            LOST => Finished::Held(self),
+            _ => Finished::Done(Pass { held, table: self.table }, reply),
+        }
+    }
+
+    /// Gives the task back: no call was made.
+    pub fn cancel(mut self) -> Pass {
+        self.given_back()
+    }
+
+    fn given_back(&mut self) -> Pass {
+        let (claim, mut held) = (self.taken(), nothing());
+        // SAFETY: as above.
+        unsafe { raw::nd_claim_cancel(claim, &mut held) };
+        Pass { held, table: self.table }
     }
 }
