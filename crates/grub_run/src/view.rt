@@ -259,7 +259,8 @@ fn write_picture<W: Write>(
     ensures text { OnOk result
         (WritesLine (FileView.Picture from to) plan.now (W.contents out.old) (W.contents out.new)) }
     ensures prefix { IfErr result (λ e. e ≡ faults.WriteFault
-        → BeginsLine (FileView.Picture from to) plan.now (W.contents out.old) (W.contents out.new)) }
+        → BeginsLine (FileView.Picture from to) plan.now
+        (W.contents out.old) (W.contents out.new)) }
     ensures nothing { IfErr result (λ e. (e ≡ faults.WriteFault → ⊥) → out.new ≡ out.old) }
     ensures fault { IfErr result (IsFaultOfLine (FileView.Picture from to) plan.now) }
 {
