@@ -2,7 +2,7 @@
 use Rattle.std.proofs.Common.{◌≡◌, ℕ, zero, suc, ◌+◌, ◌<◌, ◌==◌, Bool, true, false, not, cond, if◌then◌else◌, nat_le, List, [], ◌∷◌, ◌++◌, length, get_or, refl, sym, ap, ◌∙◌, arith, subst}
 use Rattle.std.proofs.lemmas.Bool.{eq-eqb, eqb-true, false_from_ne_true}
 use Rattle.std.specs.List.{insert, position_or_len}
-use Rattle.grub_facts.specs.Census.{TaskSighting, Tally, tallied, tally_first, tally_with, with_number}
+use Rattle.grub_facts.specs.Census.{Sighting, Tally, tallied, tally_first, tally_with, with_number}
 use Rattle.grub_facts.specs.Given.{changed_at}
 
 -- a place behind the first element
@@ -53,7 +53,7 @@ number_there n (x ∷ xs) (suc i) below at v here same = go (nat_le n x) refl (�
         rw is (ap (λ ys. x ∷ ys) (again (omega arith))))
 
 -- a task that is not counted yet is the last
-pub tallied_last : (line : ℕ) (s : TaskSighting) (xs : List Tally) → length xs ≡ position_or_len (λ t. t.pid == s.task.pid) xs → xs ++ tally_with s (tally_first line s.task) ∷ [] ≡ tallied line s xs
+pub tallied_last : (line : ℕ) (s : Sighting) (xs : List Tally) → length xs ≡ position_or_len (λ t. t.pid == s.task.pid) xs → xs ++ tally_with s (tally_first line s.task) ∷ [] ≡ tallied line s xs
 tallied_last line s [] e = refl
 tallied_last line s (x ∷ xs) e = go (x.pid == s.task.pid) refl (λ rest. tallied_last line s xs rest)
   where
@@ -63,7 +63,7 @@ tallied_last line s (x ∷ xs) e = go (x.pid == s.task.pid) refl (λ rest. talli
         rw is (ap (λ ys. x ∷ ys) (again (omega arith))))
 
 -- a task that is counted already
-pub tallied_at : (line : ℕ) (s : TaskSighting) (xs : List Tally) (i : ℕ) → i < length xs → i ≡ position_or_len (λ t. t.pid == s.task.pid) xs → changed_at i (tally_with s) xs ≡ tallied line s xs
+pub tallied_at : (line : ℕ) (s : Sighting) (xs : List Tally) (i : ℕ) → i < length xs → i ≡ position_or_len (λ t. t.pid == s.task.pid) xs → changed_at i (tally_with s) xs ≡ tallied line s xs
 tallied_at line s [] i below at = absurd (omega arith)
 tallied_at line s (x ∷ xs) zero below at = go (x.pid == s.task.pid) refl
   where
