@@ -16,8 +16,9 @@ A program is the one that the gate or `make build` left, where no path is named.
     in FILE                   standard input
     into PATH                 where standard output goes: a device, 'closed', or 'gone', a pipe that nobody reads
     room KB, most BYTES       the memory that the program may have, and the longest file that it may write
-    makes FILE [some] [as PATH] [rows PATH] [has TEXT] [| LINES], leaves FILE
-                              a file is there afterwards, or none is; rows: of the kinds of that table's rows, in its columns
+    makes FILE [some] [as PATH] [rows PATH] [counts PATH] [sum SHA256] [has TEXT] [| LINES], leaves FILE
+                              a file is there afterwards, or none is; rows: of the kinds of that table's rows, in its columns; counts:
+                              with so many equal and different rows of each kind
     slower CASE               it takes five times the processor time of that case, and 20 ms at least
     values PROGRAM WORD..     words with {} for the values of the next lines:
     taken VALUE..             runs with each of them, which the program takes: its status is 0 or 4
@@ -25,6 +26,7 @@ A program is the one that the gate or `make build` left, where no path is named.
     judged VALUE..            runs with each of them, which end with a verdict, or with one line that names a fault
     page PATH                 a case for each block of a page that begins with '$ PROGRAM': this is printed, where '..' is any lines
 """
+import hashlib
 import os
 import re
 import resource
@@ -33,6 +35,7 @@ import signal
 import subprocess
 import sys
 import tempfile
+from collections import Counter
 from contextlib import nullcontext
 from glob import glob
 
@@ -59,6 +62,13 @@ def has_rows(text, path):
     return wanted == [{name: row[name] for name in wanted[0]} for row in rows_of(text.decode()) if row["kind"] in kinds]
 
 
+def has_counts(text, path):
+    """Whether a table's rows have these numbers of each answer, kind by kind."""
+    found = Counter((it["kind"], it["answer"]) for it in rows_of(text.decode()))
+    wanted = rows_of(text_of(f"{ROOT}/{path}"))
+    return all(found[row["kind"], it] == int(row[it]) for row in wanted for it in ("equal", "differs"))
+
+
 def is_shown(text, shown):
     """Whether a page shows a text so: a line '..' stands for any lines."""
     parts = [re.escape(it) for it in re.split(r"^ *\.\.\n", shown, flags=re.M)]
@@ -73,6 +83,8 @@ HOLDS = {
     "some": lambda text, _: text,
     "as": lambda text, path: text == unpacked(f"{ROOT}/{path}"),
     "rows": has_rows,
+    "counts": has_counts,
+    "sum": lambda text, wanted: hashlib.sha256(text).hexdigest() == wanted,
     "has": lambda text, part: part.encode() in text,
     "lines": lambda text, count: text.count(b"\n") == int(count),
     "below": lambda text, size: len(text) < int(size),
@@ -216,7 +228,7 @@ def tables_of(words):
 
 def try_tables(tried, tables, named=()):
     """Tries the cases of tables, each in a folder of its own, which has the repository's examples, with these programs or the built ones."""
-    programs = {"grubrun": built("grubrun"), "grubtrace": built("grubtrace"), **named}
+    programs = {"grubrun": built("grubrun"), "grubtrace": built("grubtrace"), **dict(named)}
     for table in tables:
         with tempfile.TemporaryDirectory() as folder:
             os.chdir(folder)

@@ -4,7 +4,7 @@ import random
 import re
 import subprocess
 
-from shared import RECORDS, ROOT, files_below, unpacked
+from shared import RECORDS, ROOT, each, files_below, unpacked
 
 PROCESSOR = 1048576
 # What a line of another task has in a trace, which tells nothing of a SCHED_DEADLINE task.
@@ -107,11 +107,15 @@ def noted(path, count):
     write(path, *head, *(text.format(f"{at // 10**9}.{at % 10**9:09}") for at, text in lines))
 
 
-def record(path, name, *edits):
-    """A record of examples/records, changed by these commands of sed."""
-    script = [it for edit in ("", *edits) for it in ("-e", edit)]
+def edited(path, name, *edits):
+    """A file of the repository, changed by these commands of sed."""
     with open(path, "wb") as it:
-        subprocess.run(["sed", "-E", *script], input=unpacked(f"{RECORDS}/{name}.txt.xz"), stdout=it, check=True)
+        subprocess.run(["sed", "-E", *each("-e", ["", *edits])], input=unpacked(f"{ROOT}/{name}"), stdout=it, check=True)
+
+
+def record(path, name, *edits):
+    """A record of examples/records, so changed."""
+    edited(path, f"examples/records/{name}.txt.xz", *edits)
 
 
 def changed(dice, line):
@@ -143,5 +147,5 @@ def damaged(folder, kind, count):
 
 
 def make(path, kind, words):
-    kinds = (zeros, readings, queues, crowded, trace, processors, noted, record, damaged)
+    kinds = (zeros, readings, queues, crowded, trace, processors, noted, edited, record, damaged)
     {it.__name__: it for it in kinds}[kind](path, *(int(it) if it.isdecimal() else it for it in words))
