@@ -44,13 +44,13 @@ edits: build
 
 # Each growth of memory refused in turn, in the tests that are made for it and in the program.
 growths: runner
-	bash scripts/refused-growths.sh --build
+	@python3 scripts/refused-growths.py --build
 
 # All tests, and the programs that have a stored output, with nothing proved.
 quick:
 	@python3 scripts/quick.py
 
-# The built programs on the cases of tests/: statuses, outputs, lines of faults, each option, limits.
+# The built programs on the cases of tests/ and examples/: statuses, outputs, lines of faults, each option, limits, records of kernels.
 cases: build
 	@python3 scripts/cases.py
 

@@ -1,26 +1,32 @@
 #!/usr/bin/env python3
-"""cases.py [PROGRAM=PATH].. [TABLE]..: runs the built programs on the cases of these tables, or of all in tests/. The last line is
-'N passed, M failed'. A program is the one that the gate or `make build` left, where no path is named. A table is read line by line,
-where '{WORD N times}' stands for a word so many times, and '{all of FOLDER}' for the files of a folder:
+"""cases.py [PROGRAM=PATH].. [TABLE | FOLDER]..: runs the built programs on the cases of these tables, or of all in tests/ and examples/.
+A program is the one that the gate or `make build` left, where no path is named. The last line is 'N passed, M failed'. In a table
+'{WORD N times}' stands for a word so many times, '{all of FOLDER}' for the files of a folder, and '{root}' for the repository. Its lines:
 
     file NAME [of PATH] [made KIND WORD..]
-                              makes a file of the lines '| ..' below, or copies one of the repository (PATH.xz is unpacked), or makes one by inputs.py
+                              makes a file of the lines '| ..' below, or copies one of the repository (PATH.xz is unpacked), or makes one
+                              by inputs.py
     case NAME                 begins a case; its first line below is
     run PROGRAM WORD..        and its status is 0, and both outputs are empty, where it does not say otherwise:
     status N
     out, err [| LINES] [some] [as PATH] [last | LINES] [has TEXT] [lines N] [below BYTES]
                               exactly these lines, any text, those of a file, at the end, somewhere, so many, or shorter than so much
     verdict WORD              a line of standard output begins with this word, whatever else it says
-    in FILE                   standard input; 'nothing' is none at all
+    shows | LINES             each of these lines is one of standard output, with any spaces between words; each counts as a case
+    in FILE                   standard input
     into PATH                 where standard output goes: a device, 'closed', or 'gone', a pipe that nobody reads
     room KB, most BYTES       the memory that the program may have, and the longest file that it may write
-    makes FILE [some] [as PATH] [has TEXT] [| LINES], leaves FILE
-                              a file is there afterwards, or none is
+    makes FILE [some] [as PATH] [rows PATH] [counts PATH] [sum SHA256] [has TEXT] [| LINES], leaves FILE
+                              a file is there afterwards, or none is; rows: of the kinds of that table's rows, in its columns; counts:
+                              with so many equal and different rows of each kind
     slower CASE               it takes five times the processor time of that case, and 20 ms at least
     values PROGRAM WORD..     words with {} for the values of the next lines:
     taken VALUE..             runs with each of them, which the program takes: its status is 0 or 4
     refused VALUE..           runs with each of them, of which it says that the words are wrong
+    judged VALUE..            runs with each of them, which end with a verdict, or with one line that names a fault
+    page PATH                 a case for each block of a page that begins with '$ PROGRAM': this is printed, where '..' is any lines
 """
+import hashlib
 import os
 import re
 import resource
@@ -29,183 +35,216 @@ import signal
 import subprocess
 import sys
 import tempfile
-from contextlib import ExitStack
+from collections import Counter
+from contextlib import nullcontext
+from glob import glob
 
-from shared import ROOT, Tried, built, unpacked
+from shared import ROOT, Tried, built, files_below, rows_of, text_of, unpacked
 
 sys.path.append(f"{ROOT}/tests")
 from inputs import make  # pylint: disable=wrong-import-position
 
 SECONDS = 180
+# Status, standard output and standard error of a run that ends with a verdict, or with one line that names a fault.
+JUDGED = re.compile(rb"(0\n(.*\n)*agrees.*|4\n(.*\n)*differs.*)\n(.*\n)*\0|1\n\0grubtrace: .*: \d\d [A-Z]\w+.*\n")
+# The statuses of runs with values, and what is wanted of them.
+VALUES = {
+    "taken": ((0, 4), [("out", "any", "")]),
+    "refused": ((2,), [("err", "some", "")]),
+    "judged": ((0, 1, 4), [("out", "any", ""), ("err", "any", ""), ("run", "judged", "")]),
+}
+
+
+def has_rows(text, path):
+    """Whether the rows of a table are those of another one, in the columns and of the kinds that this has."""
+    wanted = rows_of(unpacked(f"{ROOT}/{path}").decode())
+    kinds = {it["kind"] for it in wanted}
+    return wanted == [{name: row[name] for name in wanted[0]} for row in rows_of(text.decode()) if row["kind"] in kinds]
+
+
+def has_counts(text, path):
+    """Whether a table's rows have these numbers of each answer, kind by kind."""
+    found = Counter((it["kind"], it["answer"]) for it in rows_of(text.decode()))
+    wanted = rows_of(text_of(f"{ROOT}/{path}"))
+    return all(found[row["kind"], it] == int(row[it]) for row in wanted for it in ("equal", "differs"))
+
+
+def is_shown(text, shown):
+    """Whether a page shows a text so: a line '..' stands for any lines."""
+    parts = [re.escape(it) for it in re.split(r"^ *\.\.\n", shown, flags=re.M)]
+    return re.fullmatch(r"(?:.*\n)*".join(parts), text.decode())
+
+
+# What may be wanted of a text, by the words of a table.
+HOLDS = {
+    "": lambda text, block: text == block,
+    "last": lambda text, block: text.endswith(block),
+    "any": lambda text, _: True,
+    "some": lambda text, _: text,
+    "as": lambda text, path: text == unpacked(f"{ROOT}/{path}"),
+    "rows": has_rows,
+    "counts": has_counts,
+    "sum": lambda text, wanted: hashlib.sha256(text).hexdigest() == wanted,
+    "has": lambda text, part: part.encode() in text,
+    "lines": lambda text, count: text.count(b"\n") == int(count),
+    "below": lambda text, size: len(text) < int(size),
+    "verdict": lambda text, word: re.search(rf"^{word}\b".encode(), text, re.M),
+    "shows": lambda text, line: line.split() in [it.split() for it in text.split(b"\n")],
+    "page": is_shown,
+    "judged": lambda text, _: JUDGED.fullmatch(text),
+    "leaves": lambda text, _: False,
+}
+
+
+def expanded(text):
+    """A line with the words that stand for many."""
+    text = re.sub(r"\{(\S+) (\d+) times\}", lambda it: " ".join([it[1]] * int(it[2])), text)
+    return re.sub(r"\{all of (\S+)\}", lambda it: " ".join(sorted(glob(f"{it[1]}/*"))), text)
 
 
 def words_of(text):
-    """The words of a line, one of them perhaps many times."""
-    text = re.sub(r"\{(\S+) (\d+) times\}", lambda it: " ".join([it[1]] * int(it[2])), text)
-    text = re.sub(r"\{all of (\S+)\}", lambda it: " ".join(f"{it[1]}/{name}" for name in sorted(os.listdir(it[1]))), text)
-    return [it.encode().decode("unicode_escape").encode("latin-1") if "\\x" in it else it.replace("{root}", ROOT) for it in shlex.split(text)]
+    return [it.encode().decode("unicode_escape").encode("latin-1") if "\\x" in it else it.replace("{root}", ROOT)
+            for it in shlex.split(expanded(text))]
 
 
-def block(text):
-    """The bytes of lines '| ..'."""
-    return "".join(f"{it}\n" for it in text).encode()
+def opened(into):
+    """Where standard output goes."""
+    if into in (None, "closed"):
+        return nullcontext(subprocess.PIPE)
+    if into != "gone":
+        return open(into, "wb")
+    reading, writing = os.pipe()
+    os.close(reading)
+    return os.fdopen(writing, "wb")
 
 
 class Case:
-    def __init__(self, table, name):
-        self.name, self.words, self.status, self.wants = f"{table}: {name}", None, 0, []
-        self.input = self.into = self.room = self.most = None
+    """A run of a program: what it is given by the keys of a table, and what is wanted of it, each as (of what, how, what)."""
 
-    def limits(self):
+    def __init__(self, name, words=(), statuses=(0,), wants=()):
+        self.name, self.words, self.statuses, self.wants, self.given = name, words, statuses, list(wants), {}
+
+    def limit(self):
         signal.signal(signal.SIGXFSZ, signal.SIG_IGN)
-        if self.room:
-            resource.setrlimit(resource.RLIMIT_AS, (self.room * 1024, self.room * 1024))
-        if self.most is not None:
-            resource.setrlimit(resource.RLIMIT_FSIZE, (self.most, self.most))
-        for number, closed in ((1, self.into == "closed"), (0, self.input == "nothing")):
-            if closed:
-                os.close(number)
+        for key, limit, unit in (("room", resource.RLIMIT_AS, 1024), ("most", resource.RLIMIT_FSIZE, 1)):
+            if key in self.given:
+                resource.setrlimit(limit, (int(self.given[key]) * unit,) * 2)
+        if self.given.get("into") == "closed":
+            os.close(1)
 
-    def ran(self, programs, words):
+    def run(self, program):
         """The status, both outputs, and the seconds of a processor that a run took."""
-        with ExitStack() as opened:
-            given, out = subprocess.DEVNULL, subprocess.PIPE
-            if self.input not in (None, "nothing"):
-                given = opened.enter_context(open(self.input, "rb"))
-            if self.into == "gone":
-                gone, end = os.pipe()
-                os.close(gone)
-                out = opened.enter_context(os.fdopen(end, "wb"))
-            elif self.into not in (None, "closed"):
-                out = opened.enter_context(open(self.into, "wb"))
-            before = resource.getrusage(resource.RUSAGE_CHILDREN).ru_utime
-            try:
-                done = subprocess.run([programs[words[0]], *words[1:]], stdin=given, stdout=out, stderr=subprocess.PIPE, preexec_fn=self.limits,
-                                      timeout=SECONDS, check=False)
-            except subprocess.TimeoutExpired:
-                return None, b"", b"no end", SECONDS
-            return done.returncode, done.stdout or b"", done.stderr, resource.getrusage(resource.RUSAGE_CHILDREN).ru_utime - before
+        before = resource.getrusage(resource.RUSAGE_CHILDREN).ru_utime
+        with open(self.given.get("in", os.devnull), "rb") as given, opened(self.given.get("into")) as out:
+            done = subprocess.run([program, *self.words[1:]], stdin=given, stdout=out, stderr=subprocess.PIPE,
+                                  preexec_fn=self.limit, timeout=SECONDS, check=False)
+        seconds = resource.getrusage(resource.RUSAGE_CHILDREN).ru_utime - before
+        return done.returncode, done.stdout or b"", done.stderr, seconds
 
-    def judged(self, programs, spent):
+    def faults(self, program, spent):
         """What is wrong with a run, in words."""
-        status, out, err, seconds = self.ran(programs, self.words)
-        spent[self.name] = seconds
-        well = status == self.status if self.status is not None else status in (0, 4)
-        wrong = [] if well else [f"status {status}, wanted {self.status}: {err[:300].decode(errors='replace')}"]
-        texts = {"out": out, "err": err}
-        for name in texts.keys() - {it[0] for it in self.wants}:
-            if texts[name] and not (name == "out" and any(it[0] == "verdict" for it in self.wants)):
-                wrong.append(f"std{name} is not empty: {texts[name][:300].decode(errors='replace')}")
-        for name, how, what in self.wants:
-            if name == "slower":
-                well = seconds > 0.02 and seconds > 5 * spent[f"{self.name.partition(':')[0]}: {what}"]
-            elif name == "leaves":
-                well = not os.path.lexists(what)
-            elif name == "verdict":
-                well = any(re.match(rf"{what}\b", it) for it in out.decode(errors="replace").split("\n"))
-            else:
-                text = texts[name] if name in texts else unpacked(name) if os.path.isfile(name) else None
-                well = text is not None and says(text, how, what)
-            if not well:
-                shown = texts.get(name, out)[-600:].decode(errors="replace")
-                wrong.append(f"{name} {how} {what if isinstance(what, str) else what[:300].decode()} does not hold: {shown}")
+        try:
+            status, out, err, seconds = self.run(program)
+        except subprocess.TimeoutExpired:
+            return [f"no end after {SECONDS} s"]
+        spent[self.name], texts = seconds, {"out": out, "err": err, "run": b"%d\n%b\0%b" % (status, out, err)}
+        wrong = [] if status in self.statuses else [f"status {status}, wanted {self.statuses}: {err[:300].decode(errors='replace')}"]
+        if "slower" in self.given and seconds < max(0.02, 5 * spent[self.given["slower"]]):
+            wrong.append(f"{seconds} s, which is not slower than {self.given['slower']}")
+        silent = {"out", "err"} - {it[0] for it in self.wants}
+        for of, how, what in [*self.wants, *((it, "", b"") for it in silent)]:
+            text = texts[of] if of in texts else unpacked(of) if os.path.isfile(of) else None
+            if not (how == "leaves" if text is None else HOLDS[how](text, what)):
+                wrong.append(f"{of} {how} {str(what)[:300]} does not hold: {(text or err)[-600:].decode(errors='replace')}")
         return wrong
-
-
-def says(text, how, what):
-    """Whether a text is so."""
-    if how in ("some", "any"):
-        return bool(text) or how == "any"
-    if how == "as":
-        return text == unpacked(f"{ROOT}/{what}")
-    if how == "has":
-        return what.encode() in text
-    if how in ("lines", "below"):
-        return text.count(b"\n") == int(what) if how == "lines" else len(text) < int(what)
-    return text.endswith(what) if how == "last" else text == what
 
 
 class Table:
     """The cases of a table, and the files that it makes in the folder where they run."""
 
     def __init__(self, path):
-        self.name = os.path.splitext(os.path.basename(path))[0]
-        with open(path, encoding="utf-8") as it:
-            self.lines = it.read().split("\n")
-        self.at, self.cases, self.pattern = 0, [], None
+        self.name, self.cases, self.pattern = os.path.basename(path).removesuffix(".cases"), [], None
+        for entry in re.split(r"\n(?!\|)", text_of(path)):
+            line, *lines = entry.split("\n")
+            key, _, rest = line.strip().partition(" ")
+            if key and not key.startswith("#"):
+                self.read(key, rest, "".join(f"{it[2:]}\n" for it in lines).encode())
 
-    def read_block(self):
-        begin = self.at
-        while self.at < len(self.lines) and self.lines[self.at].startswith("|"):
-            self.at += 1
-        return block(it[2:] for it in self.lines[begin:self.at])
-
-    def add_value(self, value, is_taken):
-        case = Case(self.name, self.pattern.replace("{}", value))
-        case.words, case.status = words_of(self.pattern.replace("{}", value)), None if is_taken else 2
-        case.wants = [("out", "any", "")] if is_taken else [("err", "some", "")]
-        self.cases.append(case)
-
-    def read_line(self, key, rest):
+    def read(self, key, rest, block):
         if key == "file":
-            name, how, *path = shlex.split(rest) if " " in rest else (rest, "")
-            if how == "of":
-                with open(name, "wb") as it:
-                    it.write(unpacked(f"{ROOT}/{path[0]}"))
-            elif how == "made":
-                make(name, path[0], path[1:])
-            else:
-                with open(name, "wb") as it:
-                    it.write(self.read_block())
+            self.make(block, *shlex.split(rest))
+        elif key == "page":
+            self.read_page(rest)
         elif key == "case":
-            self.cases.append(Case(self.name, rest))
+            self.cases.append(Case(f"{self.name}: {rest}"))
         elif key == "values":
             self.pattern = rest
-        elif key in ("taken", "refused"):
-            for value in rest.split(" "):
-                self.add_value(value, key == "taken")
+        elif key in VALUES:
+            for it in (self.pattern.replace("{}", value) for value in expanded(rest).split(" ")):
+                self.cases.append(Case(f"{self.name}: {it}", words_of(it), *VALUES[key]))
         else:
-            self.read_want(self.cases[-1], key, rest)
+            self.read_want(self.cases[-1], key, rest, block)
 
-    def read_want(self, case, key, rest):
+    def read_want(self, case, key, rest, block):
+        of, rest = (key, rest) if key != "makes" else (rest + " ").split(" ", 1)
         if key == "run":
             case.words = words_of(rest)
-        elif key in ("status", "room", "most"):
-            setattr(case, key, int(rest))
-        elif key in ("in", "into"):
-            setattr(case, "input" if key == "in" else "into", rest)
-        elif key in ("slower", "leaves", "verdict"):
-            case.wants.append((key, "", rest))
+        elif key == "status":
+            case.statuses = (int(rest),)
+        elif key in ("in", "into", "room", "most"):
+            case.given[key] = rest
+        elif key == "slower":
+            case.given[key] = f"{self.name}: {rest}"
+        elif key == "shows":
+            case.wants += [("out", "shows", it) for it in block.splitlines()]
+        elif key in ("verdict", "leaves"):
+            case.wants.append(("out" if key == "verdict" else rest, key, rest))
         elif key in ("out", "err", "makes"):
-            name, rest = (key, rest) if key != "makes" else (rest.split(" ")[0], " ".join(rest.split(" ")[1:]))
-            how, _, what = rest.partition(" ")
-            case.wants.append((name, how, what if how in ("some", "as", "has", "lines", "below") else self.read_block()))
+            how, _, what = rest.strip().partition(" ")
+            case.wants.append((of, how, what or block))
         else:
-            sys.exit(f"cases: {self.name}: line {self.at}: there is no {key}")
+            sys.exit(f"cases: {self.name}: there is no {key}")
 
-    def read(self):
-        while self.at < len(self.lines):
-            key, _, rest = self.lines[self.at].strip().partition(" ")
-            self.at += 1
-            if key and not key.startswith("#"):
-                self.read_line(key, rest)
+    def make(self, block, name, how="", *words):
+        """Makes a file."""
+        if how == "made":
+            make(name, words[0], words[1:])
+            return
+        with open(name, "wb") as it:
+            it.write(unpacked(f"{ROOT}/{words[0]}") if how else block)
+
+    def read_page(self, path):
+        """The blocks of a page: indented lines, the first a command."""
+        for command, shown in re.findall(r"^    \$ (.*)\n((?:    .*\n|\n(?=    ))*)", text_of(f"{ROOT}/{path}"), re.M):
+            shown = re.sub(r"^    ", "", shown, flags=re.M)
+            self.cases.append(Case(f"{path}: {command}", words_of(command), wants=[("out", "page", shown)]))
+
+
+def tables_of(words):
+    """The tables that are named, or that stand in the folders that are, or all."""
+    paths = [os.path.abspath(it) for it in words] or [f"{ROOT}/tests", f"{ROOT}/examples"]
+    return [at for path in paths for at in files_below(path) if at == path or at.endswith(".cases")]
+
+
+def try_tables(tried, tables, named=()):
+    """Tries the cases of tables, each in a folder of its own, which has the repository's examples, with these programs or the built ones."""
+    programs = {"grubrun": built("grubrun"), "grubtrace": built("grubtrace"), **dict(named)}
+    for table in tables:
+        with tempfile.TemporaryDirectory() as folder:
+            os.chdir(folder)
+            os.mkdir("folder")
+            os.symlink(f"{ROOT}/examples", "examples")
+            spent = {}
+            for case in Table(table).cases:
+                shown = sum(how == "shows" for _, how, _ in case.wants)
+                tried.add(case.name, case.faults(programs[case.words[0]], spent), max(1, shown))
+            os.chdir(ROOT)
 
 
 def main(words):
     named = dict(it.split("=", 1) for it in words if "=" in it)
-    programs = {it: os.path.abspath(named[it]) if it in named else built(it) for it in ("grubrun", "grubtrace")}
-    tables = [os.path.abspath(it) for it in words if "=" not in it]
-    tables = tables or sorted(f"{ROOT}/tests/{it}" for it in os.listdir(f"{ROOT}/tests") if it.endswith(".cases"))
     tried = Tried("cases")
-    for path in tables:
-        with tempfile.TemporaryDirectory() as folder:
-            os.chdir(folder)
-            os.mkdir("folder")
-            table, spent = Table(path), {}
-            table.read()
-            for case in table.cases:
-                tried.add(case.name, case.judged(programs, spent))
-            os.chdir(ROOT)
+    try_tables(tried, tables_of(it for it in words if "=" not in it), {it: os.path.abspath(path) for it, path in named.items()})
     tried.end()
 
 

@@ -1,14 +1,15 @@
 """The crates that crates.txt lists, and the words by which the kit's `rattle` reads one."""
 import hashlib
 import os
-import subprocess
+from graphlib import TopologicalSorter
 
-from shared import ROOT, files_below, text_of
+from shared import ROOT, each, files_below, ran, text_of
 
 CACHE = os.environ.get("XDG_CACHE_HOME") or os.path.expanduser("~/.cache")
 # The libraries that scripts/build.py makes of this checkout. They hold .rt files, at which `rt ci` would stop, so they lie outside of it.
 LIBRARIES = f"{CACHE}/grub-build/{hashlib.sha256(ROOT.encode()).hexdigest()[:16]}"
-PARTS = ("src", "specs", "proofs")
+# A check or a build of a crate takes up to so many kB of memory.
+ROOM = 2_500_000
 
 
 def sum_of(*folders, start=ROOT):
@@ -23,47 +24,36 @@ def sum_of(*folders, start=ROOT):
 class Crate:
     """A crate, its folder, what it uses, and all crates of the repository below it, each after those that it uses."""
 
-    def __init__(self, name, uses, crates):
+    def __init__(self, name, uses, known):
         self.name, self.folder, self.uses = name, f"{ROOT}/crates/{name}", uses
-        self.below = list(dict.fromkeys(low for use in uses if use in crates for low in [*crates[use].below, use]))
-        self.of_kit = ["std", *[it for it in uses if it not in crates]]
+        self.below = list(dict.fromkeys(low for use in uses if use in known for low in [*known[use].below, use]))
         self.is_program = os.path.isfile(f"{self.folder}/src/main.rt")
-        self.parts = [f"{self.folder}/{it}" for it in PARTS]
+        self.parts = [f"{self.folder}/{it}" for it in ("src", "specs", "proofs")]
         # About how much there is to prove.
         self.weight = sum(os.path.getsize(it) for part in self.parts for it in files_below(part))
 
     def words(self, kit, libraries):
         """The words for a check or a build, where the libraries below, by their names, lie in these folders."""
-        words = ["--crate-name", self.name, f"src/{'main' if self.is_program else 'lib'}.rt", "-L", f"dependency={kit}/rlibs"]
-        for name in self.of_kit:
-            words += ["--extern", f"{name}={kit}/rlibs/{name}.rlib"]
-        for folder in dict.fromkeys(libraries[name] for name in self.below):
-            words += ["-L", f"dependency={folder}"]
-        for name in self.below:
-            words += ["--extern", f"{name}={libraries[name]}/{name}.rlib"] if name in self.uses else []
-        return [*words, "--antt-project", f"{kit}/rattle/logic/antt-project.json", "--logic-built", f"{kit}/logic_built"]
+        low = {it: libraries[it] for it in self.below}
+        return ["--crate-name", self.name, f"src/{'main' if self.is_program else 'lib'}.rt",
+                *each("-L", (f"dependency={it}" for it in dict.fromkeys([f"{kit}/rlibs", *low.values()]))),
+                *each("--extern", (f"{it}={low.get(it, f'{kit}/rlibs')}/{it}.rlib" for it in ["std", *self.uses])),
+                "--antt-project", f"{kit}/rattle/logic/antt-project.json", "--logic-built", f"{kit}/logic_built"]
 
 
 def crates():
     """All crates, by their names, each after those that it uses."""
-    found = {}
-    uses = {it[0].split()[0]: it[1].split() for it in (line.split("#")[0].split(":") for line in text_of(f"{ROOT}/crates.txt").split("\n")) if len(it) == 2}
-
-    def add(name):
-        if name in uses and name not in found:
-            for it in uses[name]:
-                add(it)
+    lines = [it.split("#")[0].partition(":") for it in text_of(f"{ROOT}/crates.txt").split("\n")]
+    uses, found = {name.split()[0]: low.split() for name, mark, low in lines if mark}, {}
+    for name in TopologicalSorter(uses).static_order():
+        if name in uses:
             found[name] = Crate(name, uses[name], found)
-
-    for name in uses:
-        add(name)
     return found
 
 
 def kit_folder():
     """The folder of the kit, whose first page `rt doc` names."""
-    page = subprocess.run(["rt", "doc"], stdout=subprocess.PIPE, text=True, check=True).stdout
-    return os.path.dirname(os.path.realpath(page.strip()))
+    return os.path.dirname(os.path.realpath(ran("rt", "doc").stdout.strip()))
 
 
 def lanes(room, spare=0):

@@ -3,9 +3,8 @@
 of the built programs tell: none is forgotten, none is there no more. README's lines of the library are held to the examples in bindings/.
 The last line is 'N passed, M failed'."""
 import re
-import subprocess
 
-from shared import ROOT, Tried, built, text_of
+from shared import ROOT, Tried, built, ran, text_of
 
 OFFERED = 'source "$1"; COMP_WORDS=("${@:2}"); COMP_CWORD=$(($# - 2)); "_$2"; echo "${COMPREPLY[@]}"'
 TRIED = Tried("options")
@@ -18,8 +17,7 @@ def same(what, wanted, got):
 
 
 def said(program, *words):
-    """What a built program or another command writes."""
-    return subprocess.run([built(program) if program.startswith("grub") else program, *words], stdout=subprocess.PIPE, text=True, check=True).stdout
+    return ran(built(program), *words).stdout
 
 
 def between(text, begin, end):
@@ -38,7 +36,7 @@ def of_page(text):
 
 def of_bash(program, *words):
     """What bash offers for the last of these words."""
-    return said("bash", "-c", OFFERED, "bash", f"{ROOT}/completions/{program}.bash", program, *words).split()
+    return ran("bash", "-c", OFFERED, "bash", f"{ROOT}/completions/{program}.bash", program, *words).stdout.split()
 
 
 def of_zsh(text, command=""):

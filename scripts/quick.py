@@ -3,38 +3,33 @@
 index out of bounds, a number that overflows and the like, and tries no contract. The last line is 'N passed, M failed'.
 quick.py --try PROGRAM WORD..: so runs grubrun or grubtrace on these words, and ends with its status. A run has a minute, and may print 1 MiB."""
 import os
-import subprocess
 import sys
 import time
 from concurrent.futures import ThreadPoolExecutor
 
 from crates import crates, lanes
-from shared import ROOT, Tried, files_below, text_of
+from shared import ROOT, Tried, each, files_below, ran, text_of
 
 # One try takes up to so many kB of memory. Tests with checks are slow, so they have longer than the kit's minute.
 ROOM, SECONDS = 2_000_000, "240"
 
 
-def tried(folder, *words):
-    return subprocess.run(["rt", "try", *words], cwd=folder, stdin=subprocess.DEVNULL, capture_output=True, check=False)
-
-
-def data_of(files):
-    """The words that hand these files over, by the names that the program knows them by."""
-    return [word for name, path in files.items() for word in ("--data", f"{name}={path}")]
-
-
 def test(crate):
-    done = tried(crate.folder, "--test", "--seconds", SECONDS)
+    done = ran("rt", "try", "--test", "--seconds", SECONDS, cwd=crate.folder)
     return done.returncode == 0, done.stderr
+
+
+def run(folder, files, words):
+    """A run of a program, which knows these files by these names."""
+    return ran("rt", "try", *each("--data", (f"{name}={path}" for name, path in files.items())), "--", *words, cwd=folder)
 
 
 def play(crate):
     """Whether a program's output is the stored one."""
     words = text_of(f"{crate.folder}/args").split("\n") if os.path.isfile(f"{crate.folder}/args") else []
     files = {os.path.relpath(it, f"{crate.folder}/data"): it for it in files_below(f"{crate.folder}/data")}
-    done = tried(crate.folder, *data_of(files), "--", *[it for it in words if it])
-    return done.stdout.decode(errors="replace") == text_of(f"{crate.folder}/stdout"), done.stderr
+    done = run(crate.folder, files, [it for it in words if it])
+    return done.stdout == text_of(f"{crate.folder}/stdout"), done.stderr
 
 
 def judge(job):
@@ -42,29 +37,25 @@ def judge(job):
     began = time.time()
     well, said = work(crate)
     print(f"quick: {name} {crate.name}: {'passed' if well else 'FAILED'}, {time.time() - began:.0f} s", flush=True)
-    return [] if well else [said.decode(errors="replace")[-2000:]]
+    return [] if well else [said[-2000:]]
 
 
-def run(program, words):
+def try_program(program, words):
     """One run of a program. It runs in a folder of its own, so each file is handed over under the name that the words give it."""
-    files, given = {}, []
-    for word in words:
-        path = os.path.realpath(word)
-        is_below = os.path.isfile(word) and not word.startswith("/") and ".." not in word.split("/")
-        files.update({word: path} if is_below else {})
-        given.append(path if os.path.isfile(word) and not is_below else word)
+    below = [it for it in words if os.path.isfile(it) and not it.startswith("/") and ".." not in it.split("/")]
+    given = [os.path.realpath(it) if os.path.isfile(it) and it not in below else it for it in words]
     print(f"try: {program} as it stands, with nothing proved; this takes about a minute", file=sys.stderr, flush=True)
-    done = tried(f"{ROOT}/crates/{program}", *data_of(files), "--", *given)
-    sys.stdout.buffer.write(done.stdout)
+    done = run(f"{ROOT}/crates/{program}", {it: os.path.realpath(it) for it in below}, given)
+    sys.stdout.write(done.stdout)
     said = done.stderr.splitlines(True)
-    has_ended = any(it.startswith(b"run=ended status=") for it in said)
-    sys.stderr.buffer.writelines(it for it in said if not (has_ended and it.startswith((b"checked:", b"races:", b"run="))))
+    has_ended = any(it.startswith("run=ended status=") for it in said)
+    sys.stderr.writelines(it for it in said if not (has_ended and it.startswith(("checked:", "races:", "run="))))
     return done.returncode
 
 
 def main(words):
     if words[:1] == ["--try"]:
-        sys.exit(run(words[1], words[2:]))
+        sys.exit(try_program(words[1], words[2:]))
     known, counts = crates(), Tried("quick")
     chosen = [known[it] for it in words] if words else list(known.values())
     has_tests = [it for it in chosen if any("#[test]" in text_of(at) for at in files_below(it.parts[0]))]

@@ -11,7 +11,7 @@ from concurrent.futures import ThreadPoolExecutor
 from itertools import count
 
 from crates import crates
-from shared import ROOT, Tried, built, files_below, text_of
+from shared import ROOT, Tried, built, files_below, ran, text_of
 
 SCRIPT = "grub 1\nqueue 1048576 0\ntask A 4 8\nat 0 join A\nat 0 block A\nat 3 wake A\n"
 MADE = re.compile(r"#\[test\]\n *fn \w*refused")
@@ -19,67 +19,61 @@ MADE = re.compile(r"#\[test\]\n *fn \w*refused")
 PLACES = {"47 NoMemory": 1, "37 NoMemory": 2, "38 NoMemory": 3, "39 Spawn": 3, "48 NoMemory": 3, "43 NoMemory": 4}
 
 
-def refused(work, growth, words):
-    """How these words end where that growth is refused, and whether there was one."""
-    with tempfile.TemporaryDirectory(dir=work) as folder, tempfile.TemporaryFile() as told:
-        with open(f"{folder}/first", "w", encoding="ascii") as it:
-            it.write(SCRIPT)
-        of = {"REFUSED_GROWTH": str(growth), "REFUSED_TOLD": str(told.fileno()), "LD_PRELOAD": f"{work}/refuse.so"}
-        done = subprocess.run(words, cwd=folder, env={**os.environ, **of}, pass_fds=(told.fileno(),), stdin=subprocess.DEVNULL, capture_output=True,
-                              timeout=60, check=False)
-        return done, os.fstat(told.fileno()).st_size > 0
+def refused(work, words):
+    """How these words end with nothing refused, and then with each growth that they make."""
+    for growth in count():
+        with tempfile.TemporaryDirectory(dir=work) as folder, tempfile.TemporaryFile() as told:
+            with open(f"{folder}/first", "w", encoding="ascii") as it:
+                it.write(SCRIPT)
+            more = {"REFUSED_GROWTH": str(growth), "REFUSED_TOLD": str(told.fileno()), "LD_PRELOAD": f"{work}/refuse.so"}
+            done = ran(*words, cwd=folder, env={**os.environ, **more}, pass_fds=(told.fileno(),), timeout=60)
+            if growth and not os.fstat(told.fileno()).st_size:
+                return
+            yield growth, done
 
 
 def test_faults(work, words):
     """What is wrong with a test."""
-    for growth in count(1):
-        done, was = refused(work, growth, words)
+    last = None
+    for last, done in refused(work, words):
         if done.returncode:
-            return [f"fails where growth {growth} is refused: {(done.stdout + done.stderr)[-300:]}"]
-        if not was:
-            return [] if growth > 1 else ["has no growth that could be refused"]
+            return [f"fails where growth {last} is refused: {(done.stdout + done.stderr)[-300:]}"]
+    return [] if last else ["has no growth that could be refused"]
 
 
 def program_faults(work, words):
     """What is wrong with the program: refusals come in the order of its work, each of them once at least."""
-    report, last, seen = refused(work, 0, words)[0].stdout, 1, set()
-    for growth in count(1):
-        done, was = refused(work, growth, words)
-        if not was:
-            lacking = {1, 2, 3, 4 if len(words) == 2 else 3} - seen
-            return [f"is never refused at {lacking} of its work"] if lacking else []
-        line = done.stderr.decode()
-        place = PLACES.get(line.removeprefix("grubrun: ").removesuffix("\n"), 0)
-        if (done.returncode, line, done.stdout) == (0, "", report):
-            place = last
-        elif (done.returncode, done.stdout) != (3, b""):
-            place = 0
-        if place < last:
-            return [f"gives status {done.returncode} and '{line}' where growth {growth} is refused"]
-        last = place
-        seen.add(place)
+    (_, whole), *runs = refused(work, words)
+    seen = []
+    for growth, done in runs:
+        place = PLACES.get(done.stderr.removeprefix("grubrun: ").removesuffix("\n"), 0)
+        if (done.returncode, done.stdout) == (3, "") and place >= max(seen, default=1):
+            seen.append(place)
+        elif (done.returncode, done.stderr, done.stdout) != (0, "", whole.stdout):
+            return [f"gives status {done.returncode} and '{done.stderr}' where growth {growth} is refused"]
+    lacking = {1, 2, 3, 4 if len(words) == 2 else 3} - set(seen)
+    return [f"is never refused at {lacking} of its work"] if lacking else []
 
 
 def tests_of(name, is_wanted):
     """The tests of a crate that are made for it, after they were built where that is wanted."""
-    if is_wanted:
-        subprocess.run(["rt", "test", "--", "refused"], cwd=f"{ROOT}/crates/{name}", stdout=subprocess.DEVNULL, check=True)
     program = f"{ROOT}/crates/{name}/out/{name}_tests"
-    listed = subprocess.run([program, "--list"], stdout=subprocess.PIPE, text=True, check=True).stdout
-    return [[program, it.removesuffix(": test")] for it in listed.split("\n") if "refused" in it and it.endswith(": test")]
+    if is_wanted:
+        ran("rt", "test", "--", "refused", cwd=f"{ROOT}/crates/{name}").check_returncode()
+    return [[program, it] for it in re.findall(r"^(.*refused.*): test$", ran(program, "--list").stdout, re.M)]
 
 
 def main(words):
     names = [it for it in words if it != "--build"]
-    names = names or [it.name for it in crates().values() if any(MADE.search(text_of(at)) for at in files_below(f"{it.folder}/src"))]
-    tried, views = Tried("refused-growths"), [[], *[["--view", it] for it in ("timeline", "steps", "summary", "picture")]]
+    names = names or [it.name for it in crates().values() if any(MADE.search(text_of(at)) for at in files_below(it.parts[0]))]
+    views, tried = [[], *(["--view", it] for it in ("timeline", "steps", "summary", "picture"))], Tried("refused-growths")
     jobs = [(program_faults, [built("grubrun"), *view, "first"]) for view in views]
     try:
         jobs += [(test_faults, it) for name in names for it in tests_of(name, "--build" in words)]
     except (OSError, subprocess.CalledProcessError) as error:
         sys.exit(f"refused-growths: {error}; the gate makes the tests, or --build\n0 passed, 1 failed")
     with tempfile.TemporaryDirectory() as work, ThreadPoolExecutor(len(os.sched_getaffinity(0))) as pool:
-        subprocess.run(["cc", "-O1", "-shared", "-fPIC", "-o", f"{work}/refuse.so", f"{ROOT}/tests/refuse.c"], check=True)
+        ran("cc", "-O1", "-shared", "-fPIC", "-o", f"{work}/refuse.so", f"{ROOT}/tests/refuse.c").check_returncode()
         for (_, of), wrong in zip(jobs, pool.map(lambda it: it[0](work, it[1]), jobs)):
             tried.add(" ".join([os.path.basename(of[0]), *of[1:]]), wrong)
     tried.end()

@@ -1,4 +1,4 @@
-"""What the scripts share: the repository's folder, its files, the built programs, records, and the counts that end a step of the gate."""
+"""What the scripts share: the repository's folder, its files, the built programs, and the counts that end a step of the gate."""
 import lzma
 import os
 import subprocess
@@ -20,6 +20,18 @@ def files_below(folder):
     return sorted(f"{at}/{name}" for at, _, names in os.walk(folder) for name in names)
 
 
+def unpacked(path):
+    """The bytes of a file, unpacked where its name ends with `.xz`."""
+    with (lzma.open if path.endswith(".xz") else open)(path, "rb") as it:
+        return it.read()
+
+
+def rows_of(text):
+    """The rows of a table with a head, as dicts."""
+    head, *rows = [it.split("\t") for it in text.split("\n") if it]
+    return [dict(zip(head, it)) for it in rows]
+
+
 def built(program):
     """The program that the gate or `make build` left. Where there is none, the step fails."""
     path = f"{ROOT}/crates/{program}/out/{program}"
@@ -28,20 +40,14 @@ def built(program):
     return path
 
 
-def ran(*words, seconds=60, **how):
+def ran(*words, **how):
     """A run of a command: its status, and its two outputs as text."""
-    return subprocess.run(words, stdin=subprocess.DEVNULL, capture_output=True, text=True, timeout=seconds, check=False, **how)
+    return subprocess.run(words, stdin=subprocess.DEVNULL, capture_output=True, text=True, errors="replace", check=False, **how)
 
 
-def records(kind):
-    """The paths of the recorded traces of this kind, without `.txt.xz`."""
-    return [it.removesuffix(".txt.xz") for it in files_below(f"{RECORDS}/{kind}") if it.endswith(".txt.xz")]
-
-
-def unpacked(path):
-    """The bytes of a file, unpacked where its name ends with `.xz`."""
-    with (lzma.open if path.endswith(".xz") else open)(path, "rb") as it:
-        return it.read()
+def each(flag, values):
+    """The words that give a command a flag with each of these values."""
+    return [word for it in values for word in (flag, it)]
 
 
 class Tried:
@@ -50,9 +56,10 @@ class Tried:
     def __init__(self, step):
         self.step, self.passed, self.failed = step, 0, 0
 
-    def add(self, name, wrong):
-        """One more: `wrong` is a list of what is wrong with it."""
-        self.passed, self.failed = self.passed + (not wrong), self.failed + bool(wrong)
+    def add(self, name, wrong, count=1):
+        """One more, or so many: `wrong` is a list of what is wrong with it."""
+        failed = min(count, len(wrong))
+        self.passed, self.failed = self.passed + count - failed, self.failed + failed
         if wrong:
             print(f"{self.step}: {name}: {len(wrong)} wrong: " + "; ".join(wrong[:4]), flush=True)
 

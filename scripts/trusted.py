@@ -1,7 +1,7 @@
 #!/usr/bin/env python3
 """trusted.py: counts the definitions that public contracts reach, which a reader must trust, crate by crate; with --of CRATE.. for these alone.
-It fails where, in a crate that HELD names, one stands in specs/inside/, another one outside of it, or a line of a contract has more than 100
-columns, and where docs/READING.md names a file of trusted ones not. The last line is 'N passed, M failed': definitions."""
+It fails where, in a crate that HELD names, one stands in specs/inside/, or another one outside of it, where a contract's line has more than
+100 columns, and where docs/READING.md names a file of trusted ones not. The last line is 'N passed, M failed': definitions."""
 import os
 import re
 import sys
@@ -9,45 +9,35 @@ import sys
 from crates import crates
 from shared import ROOT, files_below, text_of
 
-WORD = re.compile(r"[^\W\d][\w'?]*")
-HEAD = re.compile(r"^(?:(?:abbrev|unfoldable|opaque|instance|pub)\s+)+(?:(?:record|data)\s+)?([^\s:{(]+)|^(?:record|data|module)\s+([^\s:{(]+)")
-INNER = {"data": re.compile(r"\s+(?:pub\s+)?([\w']+)\s*:"), "module": re.compile(r"  (?:abbrev |unfoldable )?pub (?:record |data )?([\w']+)")}
-IMPORT = re.compile(r"\buse\s+Rattle\.(\w+)\.specs\.([\w.]+?)(?:\.\{([^}]*)\}|\s+as\s+(\w+))?\s*;?\s*$", re.M)
-PUBLIC_USE = re.compile(r"\bpub use ([\w:]+)(?:::\{([^}]*)\})?;", re.S)
-FUNCTION = re.compile(r"^( *)(pub(?:\(\w+\))? )?(?:const )?fn (\w+)", re.M)
-CLAUSE = re.compile(r"\b(?:requires|ensures)\b[^{;\n]*\{")
-ITEM = re.compile(r"^(?:pub )?(impl|trait|struct|enum)\b([^{;]*)", re.M)
-GHOST = re.compile(r"\bghost (?:Value|coded|output)\s*=\s*\{")
-WIDEST = 100
-HELD = ("grub", "record_line", "trace_probes", "trace_reader", "trace_words", "timer_lines", "timer_rules", "deadline_events", "deadline_laws", "deadline_timers", "deadline_verdict")
 CRATES = crates()
+HELD = ("grub", "record_line", "trace_probes", "trace_reader", "trace_words", "timer_lines", "timer_rules",
+        "deadline_events", "deadline_laws", "deadline_timers", "deadline_verdict")
+WIDEST = 100
+WORD = re.compile(r"[^\W\d][\w'?]*")
+# In a specification: where a definition begins, its kind and name, the names of its parts, comments, and imports.
+BEGIN = re.compile(r"^(?=(?:abbrev|unfoldable|opaque|instance|pub(?! mod)|record|data|module) )", re.M)
+HEAD = re.compile(r"(?:(?:abbrev|unfoldable|opaque|instance|pub)\s+)*(?:(record|data|module)\s+)?([^\s:{(]+)")
+INNER = {"data": r"^[ \t]+(?:pub\s+)?([\w']+)\s*:", "module": r"^  (?:abbrev |unfoldable )?pub (?:record |data )?([\w']+)"}
+NOTE = re.compile(r"^ *--.*| -- .*", re.M)
+IMPORT = re.compile(r"\buse\s+Rattle\.(\w+)\.specs\.([\w.]+?)(?:\.\{([^}]*)\}|\s+as\s+(\w+))?\s*;?\s*$", re.M)
+# In a source: an item or a method, how it is seen and its head, or what stands before the braces of a contract, and a private field.
+PLACE = re.compile(r"^( *)(pub\S* )?(?:const )?(impl|trait|struct|enum|fn)\b([^{;\n]*)|"
+                   r"\b(requires|ensures)\b[^{;\n]*\{|\bghost (?:(?:Value|coded|output)\s*=\s*|\w+: )\{", re.M)
+PRIVATE = re.compile(r"^ +(?:pub\(\w+\) )?\w+: ", re.M)
 
 
 class Definition:
-    """One definition of a specification: its lines, the words in it, and the names that it has besides its own."""
+    """One definition of a specification: its lines, the words in it, and the names by which it is cited."""
 
-    def __init__(self, crate, module, name):
+    def __init__(self, crate, module, text):
+        kind, name = HEAD.match(text).groups()
+        text = NOTE.sub("", text)
         self.crate, self.module, self.name = crate, module, name
-        self.lines, self.words, self.inner = 0, set(), set()
+        self.lines, self.words = len(re.findall(r"^.*\S", text, re.M)), set(WORD.findall(text))
+        self.names = {name, *(re.findall(INNER[kind], text, re.M) if kind in INNER else ())} - {"_"}
 
     def is_inside(self):
         return self.module.split(".")[0] == "inside"
-
-
-def definitions_in(crate, module, text):
-    """The definitions of a module, in order."""
-    found = []
-    for line in text.split("\n"):
-        head = None if line.startswith(("use ", "pub mod")) else HEAD.match(line)
-        if head:
-            found.append(Definition(crate, module, head[1] or head[2]))
-            kind = INNER.get(next((it for it in ("data", "module") if it in line.split()[:3]), None))
-        if found and line.strip() and not line.lstrip().startswith("--"):
-            found[-1].lines += 1
-            found[-1].words |= set(WORD.findall(line.split(" -- ")[0]))
-            inner = kind and kind.match(line)
-            found[-1].inner |= {inner[1]} if inner else set()
-    return found
 
 
 def imports_of(text, modules):
@@ -55,116 +45,81 @@ def imports_of(text, modules):
     found = {}
     for crate, path, names, short in IMPORT.findall(text):
         parts = path.split(".")
-        module = next((".".join(parts[:n]) for n in range(len(parts), 0, -1) if (crate, ".".join(parts[:n])) in modules), None)
-        if module is None:
-            continue
-        rest = parts[len(module.split(".")):]
-        if short:
-            found[short] = (crate, module, rest[-1] if rest else None)
-        for name in (it.strip() for it in names.split(",") if it.strip()):
-            of, _, known = name.partition(" as ")
-            found[(known or of).strip()] = (crate, module, of.strip())
-        if rest and not names:
-            found[rest[-1]] = (crate, module, rest[-1])
+        length = next((it for it in range(len(parts), 0, -1) if (crate, ".".join(parts[:it])) in modules), 0)
+        place, name = (crate, ".".join(parts[:length])), parts[-1] if parts[length:] else None
+        if length and names:
+            pairs = [it.partition(" as ") for it in names.split(",")]
+            found.update({(known or of).strip(): (*place, of.strip()) for of, _, known in pairs})
+        elif length and (short or name):
+            found[short or name] = (*place, name)
     return found
 
 
 def read_specs():
-    """All definitions by (crate, module, name), the imports of each module, and the modules."""
-    found, texts = {}, {}
-    for crate, it in CRATES.items():
-        for path in (at for at in files_below(f"{it.folder}/specs") if at.endswith(".antt")):
-            texts[crate, os.path.relpath(path, f"{it.folder}/specs")[:-5].replace("/", ".")] = text_of(path)
-    for (crate, module), text in texts.items():
-        for it in definitions_in(crate, module, text):
-            for name in it.inner | {it.name} - {"_"}:
-                found.setdefault((crate, module, name), it)
-    return found, {it: imports_of(text, texts) for it, text in texts.items()}, texts
+    """All definitions by (crate, module, name), and the imports of each module."""
+    texts, found = {}, {}
+    for crate in CRATES.values():
+        for path in (it for it in files_below(f"{crate.folder}/specs") if it.endswith(".antt")):
+            texts[crate.name, os.path.relpath(path, f"{crate.folder}/specs")[:-5].replace("/", ".")] = text_of(path)
+    for place, text in texts.items():
+        for it in (Definition(*place, part) for part in BEGIN.split(text)[1:]):
+            for name in it.names:
+                found.setdefault((*place, name), it)
+    return found, {place: imports_of(text, texts) for place, text in texts.items()}
 
 
-def sources(crate):
-    """The sources of a crate, without its tests."""
-    return [it for it in files_below(f"{crate.folder}/src") if it.endswith(".rt")]
+def uncommented(path):
+    return re.sub(r"//[^\n]*", "", text_of(path))
 
 
-def braces(text, at):
-    """The text between the brace at this place and its partner."""
-    depth = 0
-    for end in range(at, len(text)):
-        depth += {"{": 1, "}": -1}.get(text[end], 0)
-        if depth == 0:
-            return text[at + 1:end]
-    return ""
+def braced(text, at):
+    """The text from the line's begin to the partner of the brace that ends at this place."""
+    depth, end = 1, at
+    while depth:
+        depth, end = depth + {"{": 1, "}": -1}.get(text[end], 0), end + 1
+    return text[text.rfind("\n", 0, at) + 1:end]
 
 
-def blanked(text):
-    """Rust text without its comments."""
-    return re.sub(r"//[^\n]*", "", text)
+def contracts_in(text, public, is_program):
+    """The contracts in a source of functions and types with these names."""
+    is_named = is_shared = is_seen = False
+    for place in PLACE.finditer(text):
+        indent, shown, kind, head, clause = place.groups()
+        if kind == "fn":
+            is_public = shown == "pub " or shown and is_program or indent and is_shared
+            is_seen = is_public and (is_named if indent else WORD.search(head)[0] in public)
+        elif kind:
+            has_private = kind == "struct" and PRIVATE.search(text, place.end(), text.find("\n}", place.end()))
+            is_named, is_shared = not has_private and public.intersection(WORD.findall(head)), kind == "trait" or " for " in head
+        elif is_seen if clause else is_named:
+            yield braced(text, place.end())
 
 
-def public_names(crate):
-    """The names that a library hands out and the modules that it opens, or, of a program, all that its main names."""
-    if crate.is_program:
-        return set(WORD.findall(blanked(text_of(f"{crate.folder}/src/main.rt")))), set()
-    names, text = set(), blanked(text_of(f"{crate.folder}/src/lib.rt"))
-    for path, group in PUBLIC_USE.findall(text):
-        names |= {it.strip().split(" as ")[-1] for it in group.split(",")} if group else {path.split("::")[-1]}
-    return names, set(re.findall(r"\bpub mod (\w+)", text))
-
-
-def contract_words(text, public, is_open, is_program):
-    """The words of all public contracts in a file of Rust."""
-    text, words = blanked(text), set()
-    items = [(it.start(), it[1], it[2]) for it in ITEM.finditer(text)]
-
-    def item_before(at):
-        return next(((kind, head) for start, kind, head in reversed(items) if start < at), ("", ""))
-
-    starts = [it.start() for it in FUNCTION.finditer(text)] + [len(text)]
-    for match, end in zip(FUNCTION.finditer(text), starts[1:]):
-        indent, shown, name = match.groups()
-        is_public = shown == "pub " or shown and is_program
-        kind, head = item_before(match.start()) if indent else ("", "")
-        if indent:
-            seen = set(WORD.findall(head)) & public and (is_public or kind == "trait" or re.search(r"\bfor\b", head))
-        else:
-            seen = is_public and (is_open or name in public)
-        part = text[match.start():end] if seen else ""
-        for clause in CLAUSE.finditer(part):
-            words |= set(WORD.findall(braces(part, clause.end() - 1)))
-    for match in GHOST.finditer(text):
-        if set(WORD.findall(item_before(match.start())[1])) & public:
-            words |= set(WORD.findall(braces(text, match.end() - 1)))
-    for at, kind, head in items:
-        if kind == "struct" and set(WORD.findall(head)) & public and "{" in text[at:]:
-            body = braces(text, text.index("{", at))
-            fields = re.findall(r"^\s*(pub )?(?:\w+): ", re.sub(r"ghost .*", "", body), re.M)
-            if fields and all(fields):
-                for clause in re.finditer(r"ghost \w+: \{", body):
-                    words |= set(WORD.findall(braces(body, clause.end() - 1)))
-    return words
+def contracts(crate):
+    """The sources of a crate, but for its tests, each with the contracts of what a library hands out, or of what a program's main names."""
+    root = uncommented(f"{crate.folder}/src/{'main' if crate.is_program else 'lib'}.rt")
+    public = set(WORD.findall(root if crate.is_program else " ".join(re.findall(r"\bpub use [^;]*", root))))
+    for path in files_below(f"{crate.folder}/src"):
+        if path.endswith(".rt") and "tests" not in os.path.relpath(path, crate.folder):
+            yield path, list(contracts_in(uncommented(path), public, crate.is_program))
 
 
 def meant(words, own, imports, found):
     """The definitions that these words name, in a file with these imports (and of this module, where it is one)."""
     for word in words:
-        if own and (*own, word) in found:
+        if (*own, word) in found:
             yield found[(*own, word)]
         elif word in imports:
-            crate, module, name = imports[word]
-            for other in words if name is None else [name]:
-                if (crate, module, other) in found:
-                    yield found[crate, module, other]
+            *place, name = imports[word]
+            yield from (found[(*place, it)] for it in (words if name is None else [name]) if (*place, it) in found)
 
 
-def trusted(found, imports, modules, names):
+def trusted(found, imports, names):
     """The definitions that the public contracts of these crates reach."""
     left, reached = [], set()
-    for crate in (CRATES[it] for it in names):
-        public, opened = public_names(crate)
-        for path in (it for it in sources(crate) if "tests" not in os.path.relpath(it, crate.folder)):
-            words = contract_words(text_of(path), public, os.path.basename(path)[:-3] in opened, crate.is_program)
-            left += meant(words, None, imports_of(text_of(path), modules), found)
+    for name in names:
+        for path, texts in contracts(CRATES[name]):
+            left += meant(set(WORD.findall(" ".join(texts))), (), imports_of(text_of(path), imports), found)
     while left:
         it = left.pop()
         if it not in reached:
@@ -179,40 +134,26 @@ def unread(reached):
     for path, short in re.findall(r"`(?:(\w+)/specs/)?([A-Z]\w*)`", text_of(f"{ROOT}/docs/READING.md")):
         crate = path or crate
         named.add((crate, short))
-    return sorted({(it.crate, it.module.split(".")[-1]) for it in reached} - named - {(it, "Messages") for it in CRATES})
+    return {(it.crate, it.module.split(".")[-1]) for it in reached} - named - {(it, "Messages") for it in CRATES}
 
 
-def too_wide(crate):
-    """The places of contracts with a line that is too long to be read at a glance, which nothing else wraps."""
-    for path in sources(crate):
-        text = text_of(path)
-        for clause in CLAUSE.finditer(text):
-            first, end = text.rindex("\n", 0, clause.start()) + 1, clause.end() + len(braces(text, clause.end() - 1))
-            if any(len(it) > WIDEST for it in text[first:text.index("\n", end)].split("\n")):
-                yield f"{os.path.relpath(path, ROOT)}:{text.count(chr(10), 0, first) + 1}"
-
-
-def count(reached):
-    """Tells how many lines these definitions have, crate by crate."""
+def main(words):
+    found, imports = read_specs()
+    reached = trusted(found, imports, words[1:] if words[:1] == ["--of"] else CRATES)
     for crate in CRATES:
         mine = [it.lines for it in reached if it.crate == crate]
         if mine:
             print(f"trusted: {crate}: {len(mine)} definitions, {sum(mine)} lines")
     print(f"trusted: in all {len(reached)} definitions, {sum(it.lines for it in reached)} lines")
-
-
-def main(words):
-    found, imports, modules = read_specs()
-    reached = trusted(found, imports, modules, words[1:] if words[:1] == ["--of"] else CRATES)
-    count(reached)
     if words:
         return 0
-    definitions, held = list(dict.fromkeys(found.values())), [it for it in CRATES.values() if it.name.startswith(HELD)]
+    definitions = set(found.values())
     wrong = [it for it in definitions if (it in reached) == it.is_inside() and it.crate.startswith(HELD)]
     told = [f"{it.crate}/{it.module}: {it.name} {'is reached by a public contract' if it.is_inside() else 'belongs in specs/inside'}" for it in wrong]
     told += [f"docs/READING.md does not name {crate}/specs/{module}" for crate, module in unread(reached)]
-    told += [f"{at} has more than {WIDEST} columns" for crate in held for at in too_wide(crate)]
-    for it in told:
+    for path, texts in (it for crate in CRATES.values() if crate.name.startswith(HELD) for it in contracts(crate)):
+        told += [f"{path} has a contract with more than {WIDEST} columns: {line}" for line in "\n".join(texts).split("\n") if len(line) > WIDEST]
+    for it in sorted(told):
         print(f"trusted: {it}")
     print(f"{len(definitions) - len(wrong)} passed, {len(told)} failed")
     return 1 if told else 0

@@ -1,8 +1,10 @@
 """Inputs that a table of cases names: file NAME made KIND WORD.. (scripts/cases.py reads the tables)."""
 import os
+import random
+import re
 import subprocess
 
-from shared import RECORDS, ROOT, unpacked
+from shared import RECORDS, ROOT, each, files_below, unpacked
 
 PROCESSOR = 1048576
 # What a line of another task has in a trace, which tells nothing of a SCHED_DEADLINE task.
@@ -105,13 +107,45 @@ def noted(path, count):
     write(path, *head, *(text.format(f"{at // 10**9}.{at % 10**9:09}") for at, text in lines))
 
 
-def record(path, name, *edits):
-    """A record of examples/records, changed by these commands of sed."""
-    script = [it for edit in ("", *edits) for it in ("-e", edit)]
+def edited(path, name, *edits):
+    """A file of the repository, changed by these commands of sed."""
     with open(path, "wb") as it:
-        subprocess.run(["sed", "-E", *script], input=unpacked(f"{RECORDS}/{name}.txt.xz"), stdout=it, check=True)
+        subprocess.run(["sed", "-E", *each("-e", ["", *edits])], input=unpacked(f"{ROOT}/{name}"), stdout=it, check=True)
+
+
+def record(path, name, *edits):
+    """A record of examples/records, so changed."""
+    edited(path, f"examples/records/{name}.txt.xz", *edits)
+
+
+def changed(dice, line):
+    """The line with one of its numbers changed."""
+    spot = dice.choice(list(re.finditer(r"-?\d+", line)) or [re.search("$", line)])
+    number = int(spot[0] or 0)
+    other = dice.choice([number + 1, number - 1, number * 2, number + 100_000, 0, 10**19])
+    return f"{line[:spot.start()]}{other}{line[spot.end():]}"
+
+
+def damaged(folder, kind, count):
+    """So many files, each the first 600 lines of a record of this kind, of which one is dropped, doubled, moved or changed."""
+    os.mkdir(folder)
+    dice, records = random.Random(kind), [it for it in files_below(f"{RECORDS}/{kind}") if it.endswith(".txt.xz")]
+    begun = [(os.path.basename(it).removesuffix(".txt.xz"), unpacked(it).decode().splitlines(True)[:600]) for it in records]
+    for number in range(count):
+        name, lines = dice.choice(begun)
+        lines, at, what = list(lines), dice.randrange(len(lines)), dice.choice(["dropped", "doubled", "moved", "changed"])
+        if what == "changed":
+            lines[at] = changed(dice, lines[at])
+        elif what == "doubled":
+            lines.insert(at, lines[at])
+        elif what == "dropped":
+            del lines[at]
+        else:
+            line = lines.pop(at)
+            lines.insert(max(0, at + dice.randrange(-20, 20)), line)
+        write(f"{folder}/{number:03}-{name}-line-{at + 1}-{what}", *lines)
 
 
 def make(path, kind, words):
-    kinds = (zeros, readings, queues, crowded, trace, processors, noted, record)
+    kinds = (zeros, readings, queues, crowded, trace, processors, noted, edited, record, damaged)
     {it.__name__: it for it in kinds}[kind](path, *(int(it) if it.isdecimal() else it for it in words))
