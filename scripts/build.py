@@ -1,8 +1,8 @@
 #!/usr/bin/env python3
 """build.py [PROGRAM]..: proves grubrun and grubtrace, or those named, with the crates that they stand on, and builds them into
-crates/PROGRAM/out. What reads the same as before is not proved again. It tells what it proved; all else is in out/build/CRATE.log. It calls
-the kit's `rattle`, since `rt` lets no second run into a crate or one below it. The libraries hold statements alone, in the user's cache,
-until `build.py --clean`."""
+crates/PROGRAM/out. What reads the same as before is not proved again. It tells what it proved; all else is in
+out/build/CRATE.log. It calls the kit's `rattle`, since `rt` lets no second run into a crate or one below it. The libraries
+hold statements alone, in the user's cache, until `build.py --clean`."""
 import fcntl
 import hashlib
 import os
@@ -56,7 +56,7 @@ def make(crate, kit, jobs):
     told, took = text_of(path), f"{time.time() - began:.0f} s"
     if not well or "\nlogic=proved " not in f"\n{told}":
         last = "\n".join(told.split("\n")[-13:])
-        return say(f"build: {crate.name} was not proved, after {took}; the last lines of {os.path.relpath(path, ROOT)}:\n{last}")
+        return say(f"build: {crate.name} was not proved, after {took}; the last lines of {path}:\n{last}")
     if read != reads(crate, kit):
         return say(f"build: a file of {crate.name} was changed meanwhile: start it again")
     with open(note, "w", encoding="utf-8") as it:
@@ -66,7 +66,7 @@ def make(crate, kit, jobs):
 
 
 def build(chosen, kit):
-    """Proves all, or up to the first that fails: first those that most has to be proved after, by the heaviest way to a program."""
+    """Proves all, or up to the first that fails: first those that most has to be proved after, on the way to a program."""
     behind, made, running, well = {}, set(), {}, True
     for crate in reversed(chosen):
         behind[crate] = crate.weight + max((behind[it] for it in behind if crate.name in it.uses), default=0)

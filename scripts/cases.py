@@ -1,31 +1,29 @@
 #!/usr/bin/env python3
-"""cases.py [PROGRAM=PATH].. [TABLE | FOLDER]..: runs the built programs on the cases of these tables, or of all in tests/ and examples/.
-A program is the one that the gate or `make build` left, where no path is named. The last line is 'N passed, M failed'. In a table
-'{WORD N times}' stands for a word so many times, '{all of FOLDER}' for the files of a folder, and '{root}' for the repository. Its lines:
+"""cases.py [PROGRAM=PATH].. [TABLE | FOLDER]..: runs the built programs on the cases of these tables, or of all in tests/ and
+examples/. A program is the one that the gate or `make build` left, where no path is named. The last line: 'N passed, M failed'.
+In a table '{WORD N times}' is a word so many times, '{all of FOLDER}' its files, '{root}' the repository. Its lines:
 
     file NAME [of PATH] [made KIND WORD..]
-                              makes a file of the lines '| ..' below, or copies one of the repository (PATH.xz is unpacked), or makes one
-                              by inputs.py
-    case NAME                 begins a case; its first line below is
-    run PROGRAM WORD..        and its status is 0, and both outputs are empty, where it does not say otherwise:
+                         makes a file of the lines '| ..' below, of one of the repository (PATH.xz is unpacked), or by inputs.py
+    case NAME            begins a case; its first line below is
+    run PROGRAM WORD..   and its status is 0, and both outputs are empty, where it does not say otherwise:
     status N
     out, err [| LINES] [some] [as PATH] [last | LINES] [has TEXT] [lines N] [below BYTES]
-                              exactly these lines, any text, those of a file, at the end, somewhere, so many, or shorter than so much
-    verdict WORD              a line of standard output begins with this word, whatever else it says
-    shows | LINES             each of these lines is one of standard output, with any spaces between words; each counts as a case
-    in FILE                   standard input
-    into PATH                 where standard output goes: a device, 'closed', or 'gone', a pipe that nobody reads
-    room KB, most BYTES       the memory that the program may have, and the longest file that it may write
+                         exactly these lines, any text, a file's, at the end, somewhere, so many, or shorter than so much
+    verdict WORD         a line of standard output begins with this word, whatever else it says
+    shows | LINES        each of these lines is one of standard output, whatever the spaces, and counts as a case
+    in FILE              standard input
+    into PATH            where standard output goes: a device, 'closed', or 'gone', a pipe that nobody reads
+    room KB, most BYTES  the memory that the program may have, and the longest file that it may write
     makes FILE [some] [as PATH] [rows PATH] [counts PATH] [sum SHA256] [has TEXT] [| LINES], leaves FILE
-                              a file is there afterwards, or none is; rows: of the kinds of that table's rows, in its columns; counts:
-                              with so many equal and different rows of each kind
-    slower CASE               it takes five times the processor time of that case, and 20 ms at least
-    values PROGRAM WORD..     words with {} for the values of the next lines:
-    taken VALUE..             runs with each of them, which the program takes: its status is 0 or 4
-    refused VALUE..           runs with each of them, of which it says that the words are wrong
-    judged VALUE..            runs with each of them, which end with a verdict, or with one line that names a fault
-    page PATH                 a case for each block of a page that begins with '$ PROGRAM': this is printed, where '..' is any lines
-"""
+                         a file is there afterwards, or none is; rows: of the kinds of that table's rows, in its columns;
+                         counts: with so many equal and different rows of each kind
+    slower CASE          it takes five times the processor time of that case, and 20 ms at least
+    values PROGRAM WORD..    words with {} for the values of the next lines:
+    taken VALUE..        runs with each of them, which the program takes: its status is 0 or 4
+    refused VALUE..      runs with each of them, of which it says that the words are wrong
+    judged VALUE..       runs with each of them, which end with a verdict, or with one line that names a fault
+    page PATH            a case for each block of a page that begins with '$ PROGRAM': it prints this; '..' is any lines"""
 import hashlib
 import os
 import re
@@ -148,7 +146,8 @@ class Case:
         except subprocess.TimeoutExpired:
             return [f"no end after {SECONDS} s"]
         spent[self.name], texts = seconds, {"out": out, "err": err, "run": b"%d\n%b\0%b" % (status, out, err)}
-        wrong = [] if status in self.statuses else [f"status {status}, wanted {self.statuses}: {err[:300].decode(errors='replace')}"]
+        said = err[:300].decode(errors="replace")
+        wrong = [] if status in self.statuses else [f"status {status}, wanted {self.statuses}: {said}"]
         if "slower" in self.given and seconds < max(0.02, 5 * spent[self.given["slower"]]):
             wrong.append(f"{seconds} s, which is not slower than {self.given['slower']}")
         silent = {"out", "err"} - {it[0] for it in self.wants}
@@ -227,7 +226,7 @@ def tables_of(words):
 
 
 def try_tables(tried, tables, named=()):
-    """Tries the cases of tables, each in a folder of its own, which has the repository's examples, with these programs or the built ones."""
+    """Tries the cases of tables, each in a folder that has the repository's examples, with these programs or the built ones."""
     programs = {"grubrun": built("grubrun"), "grubtrace": built("grubtrace"), **dict(named)}
     for table in tables:
         with tempfile.TemporaryDirectory() as folder:

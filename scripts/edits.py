@@ -1,9 +1,9 @@
 #!/usr/bin/env python3
-"""edits.py [--minutes N] [NAME | NAME/EDIT]..: tries the must-fail edits in crates/NAME/edits. The prover has to refuse each, or, where the
-edit has a line 'error: NAME', the language by this error. Only the functions that an edit turns are checked, over the libraries that `rt ci`
-or scripts/build.py left: a function is proved from the contracts of those that it calls. What that does not refuse is tried in a check of
-the whole crate. What was refused is kept on this machine, by a sum of all that its check read. What is not tried in N minutes has failed.
-The last line is 'N passed, M failed'."""
+"""edits.py [--minutes N] [NAME | NAME/EDIT]..: tries the must-fail edits of crates/NAME/edits. The prover must refuse each, or
+the language, by the error that a line 'error: NAME' of the edit names. Only the functions that an edit turns are checked,
+over the libraries that `rt ci` or scripts/build.py left: a function is proved from the contracts of those that it calls. What
+that does not refuse is tried in a check of the whole crate. What was refused is kept on this machine, by a sum of all that
+its check read. What is not tried in N minutes has failed. The last line is 'N passed, M failed'."""
 import argparse
 import hashlib
 import os
@@ -40,7 +40,7 @@ def libraries_for(names):
 
 
 def function_at(path, before):
-    """By which name `--only` knows the function that a text ends in: the end of its path with its type or module. None is outside of all."""
+    """By which name, with its type or module, `--only` knows the function that a text ends in. None is outside of all."""
     *_, (start, indent, name) = [(None, "", ""), *((it.end(), *it.groups()) for it in FUNCTION.finditer(before))]
     if start is None or f"\n{indent}}}\n" in before[start:]:
         return None
@@ -51,7 +51,7 @@ def function_at(path, before):
 
 
 class Edit:
-    """What an edit makes of a crate's files, the functions that it turns, the error that it names, and what is wrong with it."""
+    """What an edit makes of a crate's files, the functions that it turns, the error that it names, and its own faults."""
 
     def __init__(self, crate, path):
         self.crate, self.label = crate, f"{crate.name}/{os.path.basename(path).removesuffix('.edit')}"
@@ -66,10 +66,11 @@ class Edit:
                 self.error = value
             else:
                 before, *after = self.files[file].split(old)
-                self.bad += [] if len(after) == 1 and old != value else [f"BAD: {len(after)} places of {file} are turned: {old}"]
+                if len(after) != 1 or old == value:
+                    self.bad.append(f"BAD: {len(after)} places of {file} are turned: {old}")
                 self.files[file] = self.files[file].replace(old, value)
                 self.functions.add(function_at(file, before + old))
-        self.bad += [] if self.functions else ["BAD: it changes nothing"]
+        self.bad = self.bad if self.functions else ["BAD: it changes nothing"]
 
 
 class Trial:
@@ -86,7 +87,7 @@ class Trial:
         return " ".join([text_of(f"{self.kit}/KIT-ID"), crate.name, *crate.uses, own, *low])
 
     def check(self, edit, functions):
-        """Checks these functions, or all if there are none, in a copy of the crate with an edit: the status, and what was said."""
+        """Checks these functions, or all if there are none, in a copy of the crate with an edit: status, and what was said."""
         with tempfile.TemporaryDirectory(dir=self.room) as tree:
             for folder in filter(os.path.isdir, edit.crate.parts):
                 shutil.copytree(folder, f"{tree}/{os.path.basename(folder)}")
@@ -95,7 +96,8 @@ class Trial:
                     it.write(text)
             words = [*edit.crate.words(self.kit, self.libraries), "--jobs", "1", *each("--only", sorted(functions))]
             try:
-                done = ran(f"{self.kit}/bin/rattle", "check", *words, cwd=tree, timeout=max(1, min(LONGEST, self.end - time.time())))
+                most = max(1, min(LONGEST, self.end - time.time()))
+                done = ran(f"{self.kit}/bin/rattle", "check", *words, cwd=tree, timeout=most)
             except subprocess.TimeoutExpired:
                 return 3, "no end"
             return done.returncode, done.stdout + done.stderr
@@ -141,7 +143,7 @@ def main():
     edits = [it for it in edits if not given.names or {it.crate.name, it.label} & set(given.names)]
     libraries = libraries_for({low for it in edits for low in it.crate.below})
     if lacking or libraries is None:
-        said = f"there is no {' and no '.join(sorted(lacking))}" if lacking else "rt ci or scripts/build.py must make the libraries first"
+        said = f"there is no {' and no '.join(lacking)}" if lacking else "rt ci or scripts/build.py must make the libraries"
         sys.exit(f"edits: {said}\n0 passed, 1 failed")
     os.makedirs(f"{ROOT}/out", exist_ok=True)
     os.makedirs(KEPT, exist_ok=True)

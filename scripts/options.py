@@ -1,7 +1,7 @@
 #!/usr/bin/env python3
-"""options.py: holds man pages and completions of bash, zsh and fish to the options, commands, views and version that --help and --version
-of the built programs tell: none is forgotten, none is there no more. README's lines of the library are held to the examples in bindings/.
-The last line is 'N passed, M failed'."""
+"""options.py: holds man pages and completions of bash, zsh and fish to the options, commands, views and version that --help and
+--version of the built programs tell: none is forgotten, none is there no more. README's lines of the library are held to the
+examples in bindings/. The last line is 'N passed, M failed'."""
 import re
 
 from shared import ROOT, Tried, built, ran, text_of
@@ -51,12 +51,14 @@ def of_fish(text, command=""):
     for line in re.findall(r"^complete .*", text, re.M):
         seen = re.search(r"__fish_seen_subcommand_from ([a-z$ ]+)", line)
         if not seen or (command in seen[1].split() if command else '-n "not ' in line):
-            found += [f"-{it}" for it in re.findall(r" -s ([A-Za-z])", line)] + [f"--{it}" for it in re.findall(r" -l ([a-z-]+)", line)]
+            found += [f"-{it}" for it in re.findall(r" -s ([A-Za-z])", line)]
+            found += [f"--{it}" for it in re.findall(r" -l ([a-z-]+)", line)]
     return found
 
 
 def hold(program):
-    page, zsh, fish = (text_of(f"{ROOT}/{it}") for it in (f"docs/{program}.1", f"completions/_{program}", f"completions/{program}.fish"))
+    paths = (f"docs/{program}.1", f"completions/_{program}", f"completions/{program}.fish")
+    page, zsh, fish = (text_of(f"{ROOT}/{it}") for it in paths)
     synopsis = re.split(r"^\.Nm", between(page, ".Sh SYNOPSIS", "\n.Sh"), flags=re.M)
     commands = re.findall(r"^  ([a-z]+) ", between(said(program, "--help"), "\nCommands:", "\n\n"), re.M)
     everything = []
@@ -68,9 +70,11 @@ def hold(program):
         same(f"zsh for {name}", own, of_zsh(zsh, command))
         same(f"fish for {name}", own, of_fish(fish, command))
         if command:
-            same(f"the synopsis of {name}", own, ["-h", "--help", *of_page("".join(it for it in synopsis if f"\n.Cm {command}\n" in it))])
+            forms = "".join(it for it in synopsis if f"\n.Cm {command}\n" in it)
+            same(f"the synopsis of {name}", own, ["-h", "--help", *of_page(forms)])
     same(f"the list of docs/{program}.1", everything, of_page("".join(re.findall(r"^\.It Fl .*", page, re.M))))
-    same(f"the version in docs/{program}.1", said(program, "--version").split()[1:], re.findall(r"^\.Os Neddwyrol (.*)", page, re.M))
+    version = re.findall(r"^\.Os Neddwyrol (.*)", page, re.M)
+    same(f"the version in docs/{program}.1", said(program, "--version").split()[1:], version)
     if commands:
         same("bash for commands", [*commands, "-h", "--help", "-V", "--version"], of_bash(program, ""))
         same("zsh for commands", commands, re.findall(r"([a-z]+)\\:\"", zsh))
@@ -80,14 +84,16 @@ def hold(program):
         views = re.search(r"--view.*\((.*)\)", zsh)[1].split()
         same("bash for views", views, of_bash(program, "--view", ""))
         same("fish for views", views, re.search(r" -l view .* -a '([a-z ]+)'", fish)[1].split())
-        same("the help's views", views, [it for it in views if it in said(program, "--help") and said(program, "--view", it, f"{ROOT}/examples/first.grub")])
+        shown = [it for it in views if said(program, "--view", it, f"{ROOT}/examples/first.grub")]
+        same("the help's views", views, [it for it in shown if it in said(program, "--help")])
 
 
 def example(path, begin, drop, indent):
     """How an example begins, up to the first line that it prints."""
     text = text_of(f"{ROOT}/bindings/{path}")
     lines = text[re.search(begin, text, re.M).start():].split("\n")
-    return [it.removeprefix(" " * indent) for it in lines[drop:next(at for at, it in enumerate(lines) if "waiting ticket" in it) + 1]]
+    end = next(at for at, it in enumerate(lines) if "waiting ticket" in it) + 1
+    return [it.removeprefix(" " * indent) for it in lines[drop:end]]
 
 
 if __name__ == "__main__":

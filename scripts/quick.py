@@ -1,7 +1,9 @@
 #!/usr/bin/env python3
-"""quick.py [CRATE]..: runs all tests, and the programs that have a stored output, with nothing proved, by the kit's `rt try`. That stops at an
-index out of bounds, a number that overflows and the like, and tries no contract. The last line is 'N passed, M failed'.
-quick.py --try PROGRAM WORD..: so runs grubrun or grubtrace on these words, and ends with its status. A run has a minute, and may print 1 MiB."""
+"""quick.py [CRATE]..: runs all tests, and the programs that have a stored output, with nothing proved, by the kit's `rt try`.
+That stops at an index out of bounds, a number that overflows and the like, and tries no contract. The last line is 'N passed,
+M failed'.
+quick.py --try PROGRAM WORD..: so runs grubrun or grubtrace, and ends with its status. A run has a minute, and may print 1
+MiB."""
 import os
 import sys
 import time
@@ -41,7 +43,7 @@ def judge(job):
 
 
 def try_program(program, words):
-    """One run of a program. It runs in a folder of its own, so each file is handed over under the name that the words give it."""
+    """One run of a program, in a folder of its own, so each file is handed over under the name that the words give it."""
     below = [it for it in words if os.path.isfile(it) and not it.startswith("/") and ".." not in it.split("/")]
     given = [os.path.realpath(it) if os.path.isfile(it) and it not in below else it for it in words]
     print(f"try: {program} as it stands, with nothing proved; this takes about a minute", file=sys.stderr, flush=True)
@@ -59,7 +61,8 @@ def main(words):
     known, counts = crates(), Tried("quick")
     chosen = [known[it] for it in words] if words else list(known.values())
     has_tests = [it for it in chosen if any("#[test]" in text_of(at) for at in files_below(it.parts[0]))]
-    jobs = [("tests of", test, it) for it in has_tests] + [("program", play, it) for it in chosen if os.path.isfile(f"{it.folder}/stdout")]
+    jobs = [("tests of", test, it) for it in has_tests]
+    jobs += [("program", play, it) for it in chosen if os.path.isfile(f"{it.folder}/stdout")]
     with ThreadPoolExecutor(lanes(ROOM)) as pool:
         for (name, _, crate), wrong in zip(jobs, pool.map(judge, jobs)):
             counts.add(f"{name} {crate.name}", wrong)

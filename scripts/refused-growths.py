@@ -1,7 +1,7 @@
 #!/usr/bin/env python3
-"""refused-growths.py [--build] [CRATE]..: runs each test named `refused` once for each growth of memory that it makes, with that one refused.
-The test has to pass. So runs grubrun, which has to tell the refusal and print nothing. Tests and program are those that the gate left; --build
-makes the tests. It wants a C compiler as cc. The last line is 'N passed, M failed'."""
+"""refused-growths.py [--build] [CRATE]..: runs each test named `refused` once for each growth of memory it makes, with that
+one refused. The test has to pass. So runs grubrun, which has to tell the refusal and print nothing. Tests and program are
+those that the gate left; --build makes the tests. It wants a C compiler as cc. The last line is 'N passed, M failed'."""
 import os
 import re
 import subprocess

@@ -1,4 +1,4 @@
-"""What the scripts share: the repository's folder, its files, the built programs, and the counts that end a step of the gate."""
+"""What the scripts share: the repository's files, the built programs, and the counts that end a step of the gate."""
 import lzma
 import os
 import subprocess

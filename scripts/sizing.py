@@ -1,7 +1,7 @@
 #!/usr/bin/env python3
-"""sizing.py [COUNT [SEED]]: holds `grubtrace size` to its definition by brute force, over 300 small random records or so many, and to the table
-of examples/sizing. A job is late with a runtime Q in each period P where, from some job up to it on, release + ceil(work / Q) * (P - Q) + work
-is after its due moment. The last line is 'N passed, M failed'."""
+"""sizing.py [COUNT [SEED]]: holds `grubtrace size` to its definition by brute force, over 300 small random records or so many,
+and to the table of examples/sizing. A job is late with a runtime Q in each period P where, from some job up to it on, release
++ ceil(work / Q) * (P - Q) + work is after its due moment. The last line is 'N passed, M failed'."""
 import random
 import re
 import sys
@@ -16,7 +16,7 @@ ENDS = "prev_prio=120 prev_state=S ==> next_comm=swapper/1 next_pid=0 next_prio=
 
 
 class Task:
-    """A task of a random record: a few jobs, each a release and its work, or more of them with little time between, in microseconds."""
+    """A task of a random record: a few jobs, each a release and its work, or more with little time between, in microseconds."""
 
     def __init__(self, pid, dice):
         self.pid, self.period, self.jobs, at = pid, dice.randint(100, 160), [], 1000 + dice.randint(0, 50)

@@ -1,7 +1,8 @@
 #!/usr/bin/env python3
-"""trusted.py: counts the definitions that public contracts reach, which a reader must trust, crate by crate; with --of CRATE.. for these alone.
-It fails where, in a crate that HELD names, one stands in specs/inside/, or another one outside of it, where a contract's line has more than
-100 columns, and where docs/READING.md names a file of trusted ones not. The last line is 'N passed, M failed': definitions."""
+"""trusted.py: counts the definitions that public contracts reach, which a reader must trust, crate by crate; with --of CRATE..
+for these alone. It fails where, in a crate that HELD names, one stands in specs/inside/, another one outside of it, or a line
+of a public contract has more than 100 columns, and where docs/READING.md names a file of trusted ones not. The last line is
+'N passed, M failed': definitions."""
 import os
 import re
 import sys
@@ -20,7 +21,7 @@ HEAD = re.compile(r"(?:(?:abbrev|unfoldable|opaque|instance|pub)\s+)*(?:(record|
 INNER = {"data": r"^[ \t]+(?:pub\s+)?([\w']+)\s*:", "module": r"^  (?:abbrev |unfoldable )?pub (?:record |data )?([\w']+)"}
 NOTE = re.compile(r"^ *--.*| -- .*", re.M)
 IMPORT = re.compile(r"\buse\s+Rattle\.(\w+)\.specs\.([\w.]+?)(?:\.\{([^}]*)\}|\s+as\s+(\w+))?\s*;?\s*$", re.M)
-# In a source: an item or a method, how it is seen and its head, or what stands before the braces of a contract, and a private field.
+# In a source: an item or a method, how it is seen and its head, or what stands before a contract's braces; and a private field.
 PLACE = re.compile(r"^( *)(pub\S* )?(?:const )?(impl|trait|struct|enum|fn)\b([^{;\n]*)|"
                    r"\b(requires|ensures)\b[^{;\n]*\{|\bghost (?:(?:Value|coded|output)\s*=\s*|\w+: )\{", re.M)
 PRIVATE = re.compile(r"^ +(?:pub\(\w+\) )?\w+: ", re.M)
@@ -90,13 +91,14 @@ def contracts_in(text, public, is_program):
             is_seen = is_public and (is_named if indent else WORD.search(head)[0] in public)
         elif kind:
             has_private = kind == "struct" and PRIVATE.search(text, place.end(), text.find("\n}", place.end()))
-            is_named, is_shared = not has_private and public.intersection(WORD.findall(head)), kind == "trait" or " for " in head
+            is_named = not has_private and public.intersection(WORD.findall(head))
+            is_shared = kind == "trait" or " for " in head
         elif is_seen if clause else is_named:
             yield braced(text, place.end())
 
 
 def contracts(crate):
-    """The sources of a crate, but for its tests, each with the contracts of what a library hands out, or of what a program's main names."""
+    """The sources of a crate without its tests, with the contracts of what a library hands out, or a program's main names."""
     root = uncommented(f"{crate.folder}/src/{'main' if crate.is_program else 'lib'}.rt")
     public = set(WORD.findall(root if crate.is_program else " ".join(re.findall(r"\bpub use [^;]*", root))))
     for path in files_below(f"{crate.folder}/src"):
@@ -149,10 +151,12 @@ def main(words):
         return 0
     definitions = set(found.values())
     wrong = [it for it in definitions if (it in reached) == it.is_inside() and it.crate.startswith(HELD)]
-    told = [f"{it.crate}/{it.module}: {it.name} {'is reached by a public contract' if it.is_inside() else 'belongs in specs/inside'}" for it in wrong]
+    why = {True: "is reached by a public contract", False: "belongs in specs/inside"}
+    told = [f"{it.crate}/{it.module}: {it.name} {why[it.is_inside()]}" for it in wrong]
     told += [f"docs/READING.md does not name {crate}/specs/{module}" for crate, module in unread(reached)]
     for path, texts in (it for crate in CRATES.values() if crate.name.startswith(HELD) for it in contracts(crate)):
-        told += [f"{path} has a contract with more than {WIDEST} columns: {line}" for line in "\n".join(texts).split("\n") if len(line) > WIDEST]
+        lines = "\n".join(texts).split("\n")
+        told += [f"{path} has a contract with more than {WIDEST} columns: {it}" for it in lines if len(it) > WIDEST]
     for it in sorted(told):
         print(f"trusted: {it}")
     print(f"{len(definitions) - len(wrong)} passed, {len(told)} failed")
