@@ -99,11 +99,11 @@ clean:
 .PHONY: library library-test library-bench install-library uninstall-library
 
 library:
-	@bash scripts/library.sh --build
+	@bash bindings/test.sh --build
 
 # The gate's step for it: linked and run from C, C++, Rust and Python.
 library-test:
-	@bash scripts/library.sh
+	@bash bindings/test.sh
 
 # Nanoseconds a transition, beside plain Rust (bindings/plain, which wants cargo) and from Python.
 library-bench: library

@@ -1,6 +1,6 @@
 #!/usr/bin/env bash
 # The library for C: built by both of the kit's compilers, linked and run from C, C++, Rust and Python. The last line is 'N passed, M failed'.
-# `library.sh --build` builds it alone, into out/library; `library.sh --built` tries what that left, and wants no kit.
+# `test.sh --build` builds it alone, into out/library; `test.sh --built` tries what that left, and wants no kit.
 # out/library/rattle and out/library/llvm hold what each compiler makes; the first is the faster, and stands in out/library. What is wanted
 # of a program and of random ops is one text for both, so both answer alike.
 set -u -o pipefail
@@ -47,7 +47,7 @@ fi
 
 # The declarations are the source's. Over each build: C and C++ by each compiler that is there, the shared table from four threads,
 # and from Rust the crates' tests and random ops beside plain Rust.
-tried 'the declarations' - python3 scripts/library-declarations.py "$made/libneddwyrol.so"
+tried 'the declarations' - python3 bindings/declarations.py "$made/libneddwyrol.so"
 checked=(-O2 -Wall -Wextra -Werror -I bindings/include)
 export CARGO_TARGET_DIR=$made/cargo CARGO_NET_OFFLINE=true
 for it in llvm rattle; do

@@ -1,7 +1,7 @@
 #!/usr/bin/env python3
 """Holds the declarations of the library for C to its source: the headers, the Rust crates and the Python module.
 
-library-declarations.py LIBRARY: the structs with their fields, the calls with the types of their arguments, and every number have
+declarations.py LIBRARY: the structs with their fields, the calls with the types of their arguments, and every number have
 to be those of crates/grub_flat and neddwyrol, and of neddwyrol_table for the shared table. The Python module is looked at as it is
 loaded, with the shared library LIBRARY. It prints what differs, and ends with 0 where nothing does.
 """
@@ -109,7 +109,7 @@ def main(words):
     ):
         for wanted, found in zip(want, got):
             faults += [f"{where}: the source has {it} as {wanted.get(it)}, and here it is {found.get(it)}" for it in {**wanted, **found} if wanted.get(it) != found.get(it)]
-    print("".join(f"library-declarations: {it}\n" for it in faults), end="")
+    print("".join(f"declarations: {it}\n" for it in faults), end="")
     return 1 if faults else 0
 
 
