@@ -63,6 +63,8 @@ def main(words):
     has_tests = [it for it in chosen if any("#[test]" in text_of(at) for at in files_below(it.parts[0]))]
     jobs = [("tests of", test, it) for it in has_tests]
     jobs += [("program", play, it) for it in chosen if os.path.isfile(f"{it.folder}/stdout")]
+    # (first those that take longest, since a try compiles all that its crate stands on)
+    jobs.sort(key=lambda it: -sum(known[low].weight for low in [*it[2].below, it[2].name]))
     with ThreadPoolExecutor(lanes(ROOM)) as pool:
         for (name, _, crate), wrong in zip(jobs, pool.map(judge, jobs)):
             counts.add(f"{name} {crate.name}", wrong)
