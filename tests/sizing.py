@@ -2,11 +2,14 @@
 """sizing.py [COUNT [SEED]]: holds `grubtrace size` to its definition by brute force, over 300 small random records or so many,
 and to the table of examples/sizing. A job is late with a runtime Q in each period P where, from some job up to it on, release
 + ceil(work / Q) * (P - Q) + work is after its due moment. The last line is 'N passed, M failed'."""
+import os
 import random
 import re
 import sys
 import tempfile
 
+sys.path.append(f"{os.path.dirname(os.path.abspath(__file__))}/../scripts")
+# pylint: disable=wrong-import-position
 from cases import try_tables
 from shared import ROOT, Tried, built, ran
 
