@@ -1,9 +1,10 @@
 #!/usr/bin/env python3
 """edits.py [--minutes N] [NAME | NAME/EDIT]..: tries the must-fail edits of crates/NAME/edits. The prover must refuse each, or
-the language, by the error that a line 'error: NAME' of the edit names. Only the functions that an edit turns are checked,
-over the libraries that `rt ci` or scripts/build.py left: a function is proved from the contracts of those that it calls. What
-that does not refuse is tried in a check of the whole crate. What was refused is kept on this machine, by a sum of all that
-its check read. What is not tried in N minutes has failed. The last line is 'N passed, M failed'."""
+the language, by the error that a line 'error: NAME' of the edit names. Only the functions that edits turn are checked, over
+the libraries that `rt ci` or scripts/build.py left: a function is proved from the contracts of those that it calls. Edits of a
+crate that turn different functions are tried in one check; what that does not refuse is tried alone, and then in a check of the
+whole crate. What was refused is kept on this machine, by a sum of all that its check read. What is not tried in N minutes has
+failed. The last line is 'N passed, M failed'."""
 import argparse
 import hashlib
 import os
@@ -27,7 +28,11 @@ TYPE = re.compile(r"^(?:impl|trait)(?:<.*?>)? (?:(?:\w+::)*(\w+)(?:<.*>)? for )?
 # A text that cannot be read: then no contract was tried. And what the prover says of a function that it does not admit.
 MISREAD = r"is not in scope|has no field|is no name|operand is missing|expected the end|cannot continue"
 UNREAD = re.compile(rf"^(?:\./)?src/\S+?:\d+:\d+: error(?:\[|: (?!`)|: .*(?:{MISREAD})).*$", re.M)
-UNPROVED = re.compile(r"logic=not-proved|^fn \S+: (?:not proved|no proof|could not tell)", re.M)
+VERDICT = re.compile(r"^fn (\S+): (?:not proved|no proof|could not tell)(.*)$", re.M)
+# What of that it says of the functions that are called; and a proof that names what an edit took away.
+CALLEES = re.compile(r"[:;] (?:it (?:calls .*, which (?:is|are) not proved|waits for the proof of .*)|"
+                     r"the borrow checker's part in its proof is not made yet: a call of .*, which has no proof: .*)$")
+LACKS = re.compile(r"has no field|is not in scope|has no `|was not admitted")
 
 
 def libraries_for(names):
@@ -55,7 +60,7 @@ class Edit:
 
     def __init__(self, crate, path):
         self.crate, self.label = crate, f"{crate.name}/{os.path.basename(path).removesuffix('.edit')}"
-        self.files, self.functions, self.error, self.bad = {}, set(), None, []
+        self.files, self.turns, self.functions, self.error, self.bad = {}, [], set(), None, []
         for key, value in re.findall(r"^(file|old|new|error): (.*)$", text_of(path), re.M):
             if key == "file":
                 file = value.strip()
@@ -69,8 +74,27 @@ class Edit:
                 if len(after) != 1 or old == value:
                     self.bad.append(f"BAD: {len(after)} places of {file} are turned: {old}")
                 self.files[file] = self.files[file].replace(old, value)
+                self.turns.append((file, old, value))
                 self.functions.add(function_at(file, before + old))
         self.bad = self.bad if self.functions else ["BAD: it changes nothing"]
+
+    def is_refused(self, said):
+        """Whether one of its functions is refused for itself, not for one that it calls or for what another edit took away."""
+        for name, why in VERDICT.findall(said):
+            if any(name.endswith(f"::{it}") for it in self.functions) and (CALLEES.sub("", why) or not why):
+                path = name.partition("::")[2].replace("::", "/")
+                told = re.findall(rf"^\./proofs/{path}/\w+\.antt:\d+:\d+: error: (.*)$", said, re.M)
+                if not told or any(not LACKS.search(it) for it in told):
+                    return True
+        return False
+
+
+def together(edits):
+    """The texts of a crate's files with all of these edits."""
+    files = {}
+    for file, old, new in (turn for it in edits for turn in it.turns):
+        files[file] = files.get(file, text_of(f"{edits[0].crate.folder}/{file}")).replace(old, new)
+    return files
 
 
 class Trial:
@@ -86,15 +110,15 @@ class Trial:
         own = sum_of(f"{ROOT}/scripts/crates.py", f"{ROOT}/scripts/edits.py", *crate.parts)
         return " ".join([text_of(f"{self.kit}/KIT-ID"), crate.name, *crate.uses, own, *low])
 
-    def check(self, edit, functions):
-        """Checks these functions, or all if there are none, in a copy of the crate with an edit: status, and what was said."""
+    def check(self, crate, files, functions):
+        """Checks these functions, or all if there are none, in a copy of a crate with these files: status, and text."""
         with tempfile.TemporaryDirectory(dir=self.room) as tree:
-            for folder in filter(os.path.isdir, edit.crate.parts):
+            for folder in filter(os.path.isdir, crate.parts):
                 shutil.copytree(folder, f"{tree}/{os.path.basename(folder)}")
-            for path, text in edit.files.items():
+            for path, text in files.items():
                 with open(f"{tree}/{path}", "w", encoding="utf-8") as it:
                     it.write(text)
-            words = [*edit.crate.words(self.kit, self.libraries), "--jobs", "1", *each("--only", sorted(functions))]
+            words = [*crate.words(self.kit, self.libraries), "--jobs", "1", *each("--only", sorted(functions))]
             try:
                 most = max(1, min(LONGEST, self.end - time.time()))
                 done = ran(f"{self.kit}/bin/rattle", "check", *words, cwd=tree, timeout=most)
@@ -104,32 +128,47 @@ class Trial:
 
     def faults(self, edit):
         """What is wrong with an edit, or nothing where it is refused."""
-        status, said = self.check(edit, edit.functions) if None not in edit.functions else (0, "")
+        status, said = self.check(edit.crate, edit.files, edit.functions) if None not in edit.functions else (0, "")
         if status in (0, 2):
             # (what stands on it may not be proved, or `--only` does not know it)
-            status, said = self.check(edit, ())
+            status, said = self.check(edit.crate, edit.files, ())
         misread, errors = UNREAD.search(said), re.findall(r"\berror\[([\w-]+)\]", said)
         if status == 0:
             return ["NOT REFUSED: the crate is still proved"]
         if edit.error:
             return [] if errors == [edit.error] else [f"BAD: refused by {errors}, wanted {edit.error}"]
-        if status != 1 or misread or not UNPROVED.search(said):
+        if status != 1 or misread or not ("logic=not-proved" in said or VERDICT.search(said)):
             return [f"BAD: {misread[0][:200] if misread else f'the check ended with status {status}: {said[-300:]}'}"]
         return []
 
-    def run(self, edit):
-        """What is wrong with an edit, tried now or kept."""
+    def refused_at_once(self, edits):
+        """Which of these edits of a crate are refused in one check of all that turn different functions."""
+        batch, functions = [], set()
+        for edit in edits:
+            if not edit.error and None not in edit.functions and not edit.functions & functions:
+                batch.append(edit)
+                functions |= edit.functions
+        status, said = self.check(batch[0].crate, together(batch), functions) if len(batch) > 1 else (0, "")
+        return [it for it in batch if status == 1 and not UNREAD.search(said) and it.is_refused(said)]
+
+    def kept(self, edit):
+        """Where it is kept that an edit was refused."""
         made = f"{self.read(edit.crate)} {sorted(edit.files.items())} {edit.error}"
-        kept = f"{KEPT}/{hashlib.sha256(made.encode()).hexdigest()}"
-        if edit.bad or os.path.isfile(kept):
-            return edit.bad
-        if time.time() > self.end:
-            return ["NOT TRIED: the time was over"]
-        wrong = self.faults(edit)
-        if not wrong:
-            with open(kept, "w", encoding="utf-8") as it:
-                it.write(edit.label)
-        return wrong
+        return f"{KEPT}/{hashlib.sha256(made.encode()).hexdigest()}"
+
+    def run(self, edits):
+        """What is wrong with each of these edits of a crate, tried now or kept."""
+        wrong = {it: it.bad for it in edits}
+        left = [it for it in edits if not it.bad and not os.path.isfile(self.kept(it))]
+        while left and time.time() < self.end:
+            done = self.refused_at_once(left)
+            if not done:
+                done, wrong[left[0]] = left[:1], self.faults(left[0])
+            for edit in (it for it in done if not wrong[it]):
+                with open(self.kept(edit), "w", encoding="utf-8") as it:
+                    it.write(edit.label)
+            left = [it for it in left if it not in done]
+        return {**wrong, **{it: ["NOT TRIED: the time was over"] for it in left}}
 
 
 def main():
@@ -148,11 +187,11 @@ def main():
     os.makedirs(f"{ROOT}/out", exist_ok=True)
     os.makedirs(KEPT, exist_ok=True)
     tried = Tried("edits")
-    edits.sort(key=lambda it: -it.crate.weight)
+    own = [[it for it in edits if it.crate is crate] for crate in sorted({it.crate for it in edits}, key=lambda it: -it.weight)]
     with tempfile.TemporaryDirectory(prefix="edits-", dir=f"{ROOT}/out") as room, ThreadPoolExecutor(lanes(ROOM)) as pool:
-        trial = Trial(libraries, room, time.time() + 60 * given.minutes)
-        for edit, wrong in zip(edits, pool.map(trial.run, edits)):
-            tried.add(edit.label, wrong)
+        for told in pool.map(Trial(libraries, room, time.time() + 60 * given.minutes).run, own):
+            for edit, wrong in told.items():
+                tried.add(edit.label, wrong)
     tried.end()
 
 

@@ -1,9 +1,7 @@
 #!/usr/bin/env python3
 """quick.py [CRATE]..: runs all tests, and the programs that have a stored output, with nothing proved, by the kit's `rt try`.
-That stops at an index out of bounds, a number that overflows and the like, and tries no contract. The last line is 'N passed,
-M failed'.
-quick.py --try PROGRAM WORD..: so runs grubrun or grubtrace, and ends with its status. A run has a minute, and may print 1
-MiB."""
+It stops at an index out of bounds or a number that overflows, and tries no contract. The last line is 'N passed, M failed'.
+quick.py --try PROGRAM WORD..: so runs grubrun or grubtrace, and ends with its status. A run has a minute."""
 import os
 import sys
 import time

@@ -1,8 +1,7 @@
 #!/usr/bin/env python3
 """trusted.py: counts the definitions that public contracts reach, which a reader must trust, crate by crate; with --of CRATE..
 for these alone. It fails where, in a crate that HELD names, one stands in specs/inside/, another one outside of it, or a line
-of a public contract has more than 100 columns, and where docs/READING.md names a file of trusted ones not. The last line is
-'N passed, M failed': definitions."""
+of a public contract has more than 100 columns, and where docs/READING.md lacks a file of theirs. It ends with the counts."""
 import os
 import re
 import sys
