@@ -1,7 +1,7 @@
 #!/usr/bin/env python3
 """build.py [PROGRAM]..: proves grubrun and grubtrace, or those named, with what they stand on, and builds them into
 crates/PROGRAM/out. What reads the same as before is not proved again; out/build/CRATE.log has what was said. It calls the kit's
-`rattle`, since `rt` lets no second run into a crate or one below it. `build.py --clean` takes its libraries out of the cache."""
+`rattle`, since `rt` lets no second run into a crate or one below it. `build.py --clean` empties its cache."""
 import fcntl
 import hashlib
 import os

@@ -33,8 +33,7 @@ def play(crate):
 
 
 def judge(job):
-    name, work, crate = job
-    began = time.time()
+    (name, work, crate), began = job, time.time()
     well, said = work(crate)
     print(f"quick: {name} {crate.name}: {'passed' if well else 'FAILED'}, {time.time() - began:.0f} s", flush=True)
     return [] if well else [said[-2000:]]
