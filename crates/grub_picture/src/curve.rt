@@ -10,7 +10,7 @@ use std::alloc::{AllocError, Global};
 
 /// A bandwidth, and how far right a curve comes to it, in pixels.
 #[derive(Clone, Copy)]
-pub struct Point {
+pub struct CurvePoint {
     pub x: u64,
     pub bandwidth: u32,
 }
@@ -25,7 +25,7 @@ pub fn points_of(
     r: u32,
     steps: &[Step],
     running: bool,
-) -> Result<Vec<Point>, AllocError>
+) -> Result<Vec<CurvePoint>, AllocError>
     ensures { IfOk result (λ v. v.items ≡ points_of frame running r steps.now) }
 {
     let mut points = Vec::new(alloc);
@@ -49,14 +49,14 @@ pub fn points_of(
 
 /// Appends a point, where another bandwidth was shown before.
 #[tactic(auto, unfolding(crate::specs::Curves::changes_at))]
-fn push_point(points: &mut Vec<Point>, x: u64, shown: u32, now: u32) -> Result<(), AllocError>
+fn push_point(points: &mut Vec<CurvePoint>, x: u64, shown: u32, now: u32) -> Result<(), AllocError>
     ensures { OnOk result (points.new.items
         ≡ points.old.items ++ changes_at shown (record { x = x; bandwidth = now })) }
 {
     if shown == now {
         return Ok(());
     }
-    points.push(Point { x, bandwidth: now })?;
+    points.push(CurvePoint { x, bandwidth: now })?;
     Ok(())
 }
 
@@ -81,7 +81,7 @@ pub(crate) fn put_curve(
     out: &mut Vec<u8>,
     frame: Frame,
     r: u32,
-    points: &[Point],
+    points: &[CurvePoint],
     base: u32,
     running: bool,
 ) -> Result<(), AllocError> {

@@ -9,7 +9,7 @@ mod picture;
 mod tick;
 
 pub use bars::bars_of;
-pub use curve::{Point, points_of};
+pub use curve::{CurvePoint, points_of};
 pub use lane::lanes_of;
 pub use picture::{end_of, picture_text};
 pub use tick::{Tick, ticks_of};
