@@ -1,6 +1,7 @@
 #!/usr/bin/env bash
 # The library for C: built by both of the kit's compilers, linked and run from C, C++, Rust and Python. The last line is 'N passed, M failed'.
-# `test.sh --build` builds it alone, into out/library; `test.sh --built` tries what that left, and wants no kit.
+# `test.sh --build` builds it alone, into out/library; `test.sh --built` tries what that left, and wants no kit. `test.sh --over-ci` builds
+# it over what `rt ci` just left.
 # out/library/rattle and out/library/llvm hold what each compiler makes; the first is the faster, and stands in out/library. What is wanted
 # of a program and of random ops is one text for both, so both answer alike.
 set -u -o pipefail
@@ -27,21 +28,21 @@ ran() {
     tried "$1" "$2" "$work/program"
 }
 
-# built FOLDER FLAG..: by one of the compilers; the shared table has the kit's few lines over malloc in it.
-built() {
+# gathered: what scripts/build.py made, in out/library; the shared table has the kit's few lines over malloc in it.
+gathered() {
     local it
-    mkdir -p "$made/$1"
-    for it in neddwyrol neddwyrol_table; do
-        rm -f "crates/$it/out/lib$it.a"
-        (cd "crates/$it" && rt lib "${@:2}") > "$made/$1.log" 2>&1 && cp "crates/$it/out/lib$it.a" "$made/$1" || { tail -n 20 "$made/$1.log"; return 1; }
+    for it in llvm rattle; do
+        mkdir -p "$made/$it" && cp crates/neddwyrol{,_table}/out/"$it"/lib*.a "$made/$it" &&
+            printf '%s\n' "create $made/$it/whole.a" "addlib $made/$it/libneddwyrol_table.a" "addlib ${KIT:-/opt/rattle}/c/liblibc_c.a" save end | ar -M &&
+            mv "$made/$it/whole.a" "$made/$it/libneddwyrol_table.a" || return 1
     done
-    printf '%s\n' "create $made/$1/whole.a" "addlib $made/$1/libneddwyrol_table.a" "addlib ${KIT:-/opt/rattle}/c/liblibc_c.a" save end | ar -M &&
-        mv "$made/$1/whole.a" "$made/$1/libneddwyrol_table.a"
+    cp "$made"/rattle/lib*.a "$made" && bash bindings/shared.sh "$made/libneddwyrol.a" "$made"
 }
 
 if [[ ${1-} != --built ]]; then
-    built llvm && built rattle --backend rattle && cp "$made"/rattle/lib*.a "$made" && bash bindings/shared.sh "$made/libneddwyrol.a" "$made" ||
-        { echo '0 passed, 1 failed'; exit 1; }
+    over=()
+    [[ ${1-} != --over-ci ]] || over=(--over-ci)
+    python3 scripts/build.py "${over[@]}" neddwyrol neddwyrol_table && gathered || { echo '0 passed, 1 failed'; exit 1; }
     [[ ${1-} != --build ]] || exit 0
 fi
 

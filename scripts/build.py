@@ -1,7 +1,8 @@
 #!/usr/bin/env python3
-"""build.py [PROGRAM]..: proves grubrun and grubtrace, or those named, with what they stand on, and builds them into
-crates/PROGRAM/out. What reads the same as before is not proved again; out/build/CRATE.log has what was said. It calls the kit's
-`rattle`, since `rt` lets no second run into a crate or one below it. `build.py --clean` empties its cache."""
+"""build.py [NAME]..: proves grubrun and grubtrace, or the programs and static libraries that are named, with what they stand on,
+and builds them into crates/NAME/out. What reads the same as before is not proved again; out/build/CRATE.log has what was said.
+It calls the kit's `rattle`, since `rt` lets no second run into a crate or one below it. `build.py --over-ci NAME..` takes what is
+below from what `rt ci` just left. `build.py --clean` empties its cache."""
 import fcntl
 import hashlib
 import os
@@ -11,20 +12,25 @@ import sys
 import time
 from concurrent.futures import FIRST_COMPLETED, ThreadPoolExecutor, wait
 
-from crates import LIBRARIES, ROOM, crates, kit_folder, lanes, sum_of
+from crates import LIBRARIES, ROOM, crates, kit_folder, lanes, left_by_ci, sum_of
 from shared import ROOT, text_of
 
 BUILD = f"{ROOT}/out/build"
 PROGRAMS = ["grubrun", "grubtrace"]
+# The compilers of a static library. What each makes lies in a folder of its name.
+COMPILERS = ["llvm", "rattle"]
 
 
-def say(text):
+def say(text, well=False):
     print(text, file=sys.stderr, flush=True)
-    return False
+    return well
 
 
 def made_of(crate):
-    return f"{crate.folder}/out/{crate.name}" if crate.is_program else f"{LIBRARIES}/{crate.name}.rlib"
+    """The files, or the folder, that building a crate makes."""
+    if crate.is_static:
+        return [f"{crate.folder}/out/{it}/lib{crate.name}.a" for it in COMPILERS]
+    return [f"{crate.folder}/out/{crate.name}" if crate.is_program else f"{LIBRARIES}/{crate.name}.rlib"]
 
 
 def reads(crate, kit):
@@ -33,34 +39,49 @@ def reads(crate, kit):
     return hashlib.sha256("\n".join([sum_of(*crate.parts), *crate.uses, *low, text_of(f"{kit}/KIT-ID")]).encode()).hexdigest()
 
 
-def commands(crate, kit, jobs):
-    """What proves a crate, and links a program."""
-    words = ["rattle", "build", *crate.words(kit, dict.fromkeys(crate.below, LIBRARIES)), "--jobs", str(jobs)]
-    if not crate.is_program:
-        return [[*words, "--statements", "-o", made_of(crate)]]
+def commands(crate, kit, jobs, libraries):
+    """What proves a crate, and links a program or compiles a static library."""
+    words, count = crate.words(kit, libraries), ["--jobs", str(jobs)]
     toolchain, compiled = ["--toolchain", f"{kit}/toolchain"], f"{BUILD}/{crate.name}.o"
-    linked = ["rattle-link", "--target", "x86_64-unknown-linux-gnu", *toolchain, "-o", made_of(crate), compiled]
-    return [[*words, *toolchain, "--backend", "llvm", "-o", compiled], [*linked, f"{kit}/c/libos_c.a", f"{kit}/c/liblibc_c.a"]]
+    if crate.is_static:
+        kind, checked = ["--crate-type", "staticlib"], f"{BUILD}/{crate.name}.checked"
+        # (what was checked is compiled without the built logic)
+        again = ["rattle", "build", *words[:-2], *kind, "--crate-checked", checked, *toolchain]
+        return [["rattle", "check", *words, *kind, *count, "-o", checked],
+                *([*again, "--backend", it, "-o", to] for it, to in zip(COMPILERS, made_of(crate)))]
+    if not crate.is_program:
+        return [["rattle", "build", *words, *count, "--statements", "-o", *made_of(crate)]]
+    linked = ["rattle-link", "--target", "x86_64-unknown-linux-gnu", *toolchain, "-o", *made_of(crate), compiled]
+    return [["rattle", "build", *words, *count, *toolchain, "--backend", "llvm", "-o", compiled],
+            [*linked, f"{kit}/c/libos_c.a", f"{kit}/c/liblibc_c.a"]]
+
+
+def prove(crate, kit, jobs, libraries):
+    """Proves a crate over these libraries, and makes what is made of it: whether it is well."""
+    path, began = f"{BUILD}/{crate.name}.log", time.time()
+    for it in made_of(crate):
+        os.makedirs(os.path.dirname(it), exist_ok=True)
+    with open(path, "w", encoding="utf-8") as log:
+        how = {"cwd": crate.folder, "stdin": subprocess.DEVNULL, "stdout": log, "stderr": subprocess.STDOUT}
+        well = all(subprocess.call([f"{kit}/bin/{it[0]}", *it[1:]], **how) == 0 for it in commands(crate, kit, jobs, libraries))
+    told, took = text_of(path), f"{time.time() - began:.0f} s"
+    if well and "\nlogic=proved " in f"\n{told}":
+        return say(f"proved {crate.name} in {took}", True)
+    last = "\n".join(told.split("\n")[-13:])
+    return say(f"build: {crate.name} was not proved, after {took}; the last lines of {path}:\n{last}")
 
 
 def make(crate, kit, jobs):
-    """Proves a crate, of a program also links it, unless that was done: whether it is well."""
-    note, path, read, began = f"{BUILD}/{crate.name}.made", f"{BUILD}/{crate.name}.log", reads(crate, kit), time.time()
-    if os.path.isfile(note) and os.path.exists(made_of(crate)) and text_of(note) == f"{read} {sum_of(made_of(crate))}":
+    """Proves a crate, and makes what is made of it, unless that was done: whether it is well."""
+    note, made, read = f"{BUILD}/{crate.name}.made", made_of(crate), reads(crate, kit)
+    if os.path.isfile(note) and all(map(os.path.exists, made)) and text_of(note) == f"{read} {sum_of(*made)}":
         return True
-    os.makedirs(f"{crate.folder}/out", exist_ok=True)
-    with open(path, "w", encoding="utf-8") as log:
-        how = {"cwd": crate.folder, "stdin": subprocess.DEVNULL, "stdout": log, "stderr": subprocess.STDOUT}
-        well = all(subprocess.call([f"{kit}/bin/{it[0]}", *it[1:]], **how) == 0 for it in commands(crate, kit, jobs))
-    told, took = text_of(path), f"{time.time() - began:.0f} s"
-    if not well or "\nlogic=proved " not in f"\n{told}":
-        last = "\n".join(told.split("\n")[-13:])
-        return say(f"build: {crate.name} was not proved, after {took}; the last lines of {path}:\n{last}")
+    if not prove(crate, kit, jobs, dict.fromkeys(crate.below, LIBRARIES)):
+        return False
     if read != reads(crate, kit):
         return say(f"build: a file of {crate.name} was changed meanwhile: start it again")
     with open(note, "w", encoding="utf-8") as it:
-        it.write(f"{read} {sum_of(made_of(crate))}")
-    say(f"proved {crate.name} in {took}")
+        it.write(f"{read} {sum_of(*made)}")
     return True
 
 
@@ -81,8 +102,8 @@ def build(chosen, kit):
     return well
 
 
-def main(programs):
-    if programs == ["--clean"]:
+def main(names):
+    if names == ["--clean"]:
         for it in (BUILD, LIBRARIES):
             shutil.rmtree(it, ignore_errors=True)
         return 0
@@ -97,7 +118,12 @@ def main(programs):
         if os.path.isfile(f"{it.path}/of") and not os.path.isdir(text_of(f"{it.path}/of")):
             shutil.rmtree(it.path, ignore_errors=True)
     known = crates()
-    wanted = {low for it in programs or PROGRAMS for low in [*known[it].below, it]}
+    if names[:1] == ["--over-ci"]:
+        chosen = [known[it] for it in names[1:]]
+        libraries = left_by_ci({low for it in chosen for low in it.below}) or sys.exit("build: rt ci has left no libraries")
+        with ThreadPoolExecutor() as pool:
+            return 0 if all(pool.map(lambda it: prove(it, kit_folder(), 1, libraries), chosen)) else 1
+    wanted = {low for it in names or PROGRAMS for low in [*known[it].below, it]}
     with open(f"{BUILD}/lock", "w", encoding="utf-8") as lock:
         fcntl.flock(lock, fcntl.LOCK_EX)
         return 0 if build([it for it in known.values() if it.name in wanted], kit_folder()) else 1

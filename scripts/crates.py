@@ -24,10 +24,10 @@ def sum_of(*folders, start=ROOT):
 class Crate:
     """A crate, its folder, what it uses, and all crates of the repository below it, each after those that it uses."""
 
-    def __init__(self, name, uses, known):
+    def __init__(self, name, uses, known, is_static):
         self.name, self.folder, self.uses = name, f"{ROOT}/crates/{name}", uses
         self.below = list(dict.fromkeys(low for use in uses if use in known for low in [*known[use].below, use]))
-        self.is_program = os.path.isfile(f"{self.folder}/src/main.rt")
+        self.is_program, self.is_static = os.path.isfile(f"{self.folder}/src/main.rt"), is_static
         self.parts = [f"{self.folder}/{it}" for it in ("src", "specs", "proofs")]
         # About how much there is to prove.
         self.weight = sum(os.path.getsize(it) for part in self.parts for it in files_below(part))
@@ -45,10 +45,17 @@ def crates():
     """All crates, by their names, each after those that it uses."""
     lines = [it.split("#")[0].partition(":") for it in text_of(f"{ROOT}/crates.txt").split("\n")]
     uses, found = {name.split()[0]: low.split() for name, mark, low in lines if mark}, {}
+    static = {name.split()[0] for name, mark, _ in lines if mark and "staticlib" in name.split()}
     for name in TopologicalSorter(uses).static_order():
         if name in uses:
-            found[name] = Crate(name, uses[name], found)
+            found[name] = Crate(name, uses[name], found, name in static)
     return found
+
+
+def left_by_ci(names):
+    """Where the libraries of these crates lie as `rt ci` left them, by their names, or None where it did not."""
+    found = {it: f"{ROOT}/crates/{it}/out/rlib" for it in names}
+    return found if all(os.path.isdir(f"{at}/{it}.rlib") for it, at in found.items()) else None
 
 
 def kit_folder():

@@ -17,7 +17,7 @@ import time
 from concurrent.futures import ThreadPoolExecutor
 from functools import cache
 
-from crates import CACHE, LIBRARIES, ROOM, crates, kit_folder, lanes, sum_of
+from crates import CACHE, LIBRARIES, ROOM, crates, kit_folder, lanes, left_by_ci, sum_of
 from shared import ROOT, Tried, each, files_below, ran, text_of
 
 # No check that goes well takes so many seconds.
@@ -33,15 +33,6 @@ VERDICT = re.compile(r"^fn (\S+): (?:not proved|no proof|could not tell)(.*)$", 
 CALLEES = re.compile(r"[:;] (?:it (?:calls .*, which (?:is|are) not proved|waits for the proof of .*)|"
                      r"the borrow checker's part in its proof is not made yet: a call of .*, which has no proof: .*)$")
 LACKS = re.compile(r"has no field|is not in scope|has no `|was not admitted")
-
-
-def libraries_for(names):
-    """Where the libraries of these crates lie, all as `rt ci` left them or all as scripts/build.py did, or None."""
-    for folder in (f"{ROOT}/crates/%s/out/rlib", LIBRARIES):
-        found = {it: folder.replace("%s", it) for it in names}
-        if all(os.path.isdir(f"{at}/{it}.rlib") for it, at in found.items()):
-            return found
-    return None
 
 
 def function_at(path, before):
@@ -118,7 +109,9 @@ class Trial:
             for path, text in files.items():
                 with open(f"{tree}/{path}", "w", encoding="utf-8") as it:
                     it.write(text)
-            words = [*crate.words(self.kit, self.libraries), "--jobs", "1", *each("--only", sorted(functions))]
+            # (what a check of the crate proved, the next one of it takes from there)
+            kept = ["--incremental", f"{self.room}/{crate.name}"]
+            words = [*crate.words(self.kit, self.libraries), "--jobs", "1", *kept, *each("--only", sorted(functions))]
             try:
                 most = max(1, min(LONGEST, self.end - time.time()))
                 done = ran(f"{self.kit}/bin/rattle", "check", *words, cwd=tree, timeout=most)
@@ -180,8 +173,9 @@ def main():
     edits = [Edit(crate, it) for crate in known.values() for it in files_below(f"{crate.folder}/edits")]
     lacking = set(given.names) - known.keys() - {it.label for it in edits}
     edits = [it for it in edits if not given.names or {it.crate.name, it.label} & set(given.names)]
-    libraries = libraries_for({low for it in edits for low in it.crate.below})
-    if lacking or libraries is None:
+    below = {low for it in edits for low in it.crate.below}
+    libraries = left_by_ci(below) or dict.fromkeys(below, LIBRARIES)
+    if lacking or not all(os.path.isdir(f"{at}/{it}.rlib") for it, at in libraries.items()):
         said = f"there is no {' and no '.join(lacking)}" if lacking else "rt ci or scripts/build.py must make the libraries"
         sys.exit(f"edits: {said}\n0 passed, 1 failed")
     os.makedirs(f"{ROOT}/out", exist_ok=True)

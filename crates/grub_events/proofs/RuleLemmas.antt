@@ -1,8 +1,7 @@
 -- One fact more, from the front.
-use Rattle.std.proofs.Common.{◌≡◌, ◌<◌, ◌+◌, ◌++◌, ℕ, zero, suc, List, [], ◌∷◌, Option, None, length, drop, get_or, set, refl, arith, append_assoc, add_assoc, add-one, if◌then◌else◌}
+use Rattle.std.proofs.Common.{◌≡◌, ◌<◌, ◌+◌, ◌++◌, ℕ, zero, suc, List, [], ◌∷◌, Option, None, length, drop, get_or, set, refl, arith, append_assoc, add-one, if◌then◌else◌}
 use Rattle.std.proofs.Math.Seq.{drop-cons}
 use Rattle.grub_facts.specs.declared.fact.Fact.{Fact}
-use Rattle.grub_events.specs.Moved.{wakes_moved, is_moved_wake}
 use Rattle.grub_events.specs.Rules.{sent_to, told, told_all, standing_after}
 use Rattle.grub_events.specs.inside.Rules.{destinations_of}
 use Rattle.grub_events.specs.declared.event.TaskEvent.{TaskEvent}
@@ -24,13 +23,3 @@ pub told_step : (all : List TaskEvent) (standings standings' : List Standing) (e
 told_step all standings standings' events events' facts i d sent below is put stands so =
     let e = told_more standings facts i d below in
     rw (add-one, put, stands, is, append_assoc, ← e) so
-
--- how often wakes are moved from a fact on, by that fact
-pub moved_more : (standings : List Standing) (facts : List Fact) (i : ℕ) (d : Fact) → i < length facts → wakes_moved standings (drop i facts) ≡ (if is_moved_wake (get_or facts i d).what (get_or standings (get_or facts i d).task Unseen) then 1 else 0) + wakes_moved (set standings (get_or facts i d).task (standing_after (get_or facts i d).what (get_or standings (get_or facts i d).task Unseen))) (drop (suc i) facts)
-moved_more standings facts i d below = rw (drop-cons facts i d below) refl
-
--- one fact more: the wakes that were moved so far, and those of the facts that are left, stay those of all facts
-pub moved_step : (all : ℕ) (standings standings' : List Standing) (count count' : ℕ) (facts : List Fact) (i : ℕ) (d : Fact) → i < length facts → count' ≡ count + (if is_moved_wake (get_or facts i d).what (get_or standings (get_or facts i d).task Unseen) then 1 else 0) → standings' ≡ set standings (get_or facts i d).task (standing_after (get_or facts i d).what (get_or standings (get_or facts i d).task Unseen)) → count + wakes_moved standings (drop i facts) ≡ all → count' + wakes_moved standings' (drop (i + 1) facts) ≡ all
-moved_step all standings standings' count count' facts i d below more stands so =
-    let e = moved_more standings facts i d below in
-    rw (add-one, more, stands, add_assoc, ← e) so

@@ -1,6 +1,5 @@
 pub mod Convert
 pub mod Files
-pub mod Moved
 pub mod Names
 pub mod Order
 pub mod Rules

@@ -9,7 +9,7 @@ use Rattle.grub_bw.proofs.Laws.{IsServer-fresh}
 use Rattle.grub_book.proofs.Soundness.{opening_this}
 use Rattle.grub_book.proofs.Totals.{opening_totals}
 use Rattle.grub_flat.specs.Memory.{record_of, records_of, params_of, constants_of, reading_in, machine_of, IsFlatMachine, IsBook}
-use Rattle.grub_flat.specs.inside.Limits.{AreConstants, AreReservations}
+use Rattle.grub_flat.specs.Limits.{AreConstants, AreReservations}
 use Rattle.grub_flat.specs.declared.memory.TheConstants.{FLAT_QUEUES_MAX, FLAT_TASKS_MAX}
 use Rattle.grub_flat.specs.declared.memory.NdTask.{NdTask}
 use Rattle.grub_flat.specs.declared.memory.NdRunqueue.{NdRunqueue}

@@ -2,6 +2,7 @@ pub mod inside
 pub mod Numbers
 pub mod Memory
 pub mod Asked
+pub mod Limits
 pub mod Opening
 pub mod Kernel
 pub mod Batch

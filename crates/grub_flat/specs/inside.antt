@@ -1,4 +1,3 @@
 -- What the code of the flat book stands on, and no public contract cites.
 pub mod Ready
-pub mod Limits
 pub mod Sums

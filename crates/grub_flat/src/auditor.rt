@@ -7,7 +7,7 @@ ghost use Rattle.grub_book.specs.Sums.{share_of, is_on, is_active_on, running_of
 ghost use Rattle.grub_book.specs.Sound.{IsKept};
 ghost use Rattle.grub_flat.specs.Memory.{params_of, record_of, records_of, machine_of, IsBook};
 ghost use Rattle.grub_flat.specs.Opening.{first_fault};
-ghost use Rattle.grub_flat.specs.inside.Limits.{AreReservations};
+ghost use Rattle.grub_flat.specs.Limits.{AreReservations};
 ghost use Rattle.grub_flat.specs.Audit.{audit_fault, kept_fault, place_fault, sum_fault, sums_fault};
 ghost use Rattle.grub_flat.specs.inside.Sums.{AreKept, IsSum, AreSums};
 ghost use Rattle.grub_flat.specs.declared.codes.TheConstants.{DONE};

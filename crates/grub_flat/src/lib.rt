@@ -38,5 +38,5 @@ pub use codes::{
 pub use kernel::kernel_charge;
 pub use memory::{FLAT_QUEUES_MAX, FLAT_TASKS_MAX, NdRunqueue, NdTask};
 pub use numbers::{NdCapacity, NdParams, NdReading, NdServer, capacity_fault, params_fault};
-pub use opening::open_book;
+pub use opening::{fault_of_queues, fault_of_tasks, open_book};
 pub use steps::apply;

@@ -4,15 +4,15 @@ ghost use Rattle.std.specs.Prelude.{◌≡◌, ◌≢◌, ◌<◌, ◌↔◌, �
 ghost use Rattle.grub_book.specs.Sums.{opening_record, opening_book};
 ghost use Rattle.grub_flat.specs.Memory.{record_of, records_of, params_of, constants_of, reading_in, machine_of, IsFlatMachine, IsBook};
 ghost use Rattle.grub_flat.specs.Opening.{first_fault, task_fault, queue_fault, opening_fault};
-ghost use Rattle.grub_flat.specs.inside.Limits.{AreConstants, AreReservations};
+ghost use Rattle.grub_flat.specs.Limits.{AreConstants, AreReservations};
 ghost use Rattle.grub_flat.specs.declared.memory.NdRunqueue.{NdRunqueue};
 
 use crate::codes::{DONE, NO_QUEUE, TOO_MANY_QUEUES, TOO_MANY_TASKS};
 use crate::memory::{FLAT_QUEUES_MAX, FLAT_TASKS_MAX, NdRunqueue, NdTask};
 use crate::numbers::{NdCapacity, NdParams, capacity_fault, params_fault};
 
-/// The fault of the first runqueue that has one, and 0 where none has.
-fn fault_of_queues(queues: &[NdRunqueue]) -> u32
+/// The fault of the first runqueue that has one (4 or 5), and 0 where none has.
+pub fn fault_of_queues(queues: &[NdRunqueue]) -> u32
     ensures value { result ≡ first_fault queue_fault queues.now }
     ensures none { (result ≡ DONE) ↔ AreConstants queues.now }
 {
@@ -26,8 +26,8 @@ fn fault_of_queues(queues: &[NdRunqueue]) -> u32
     DONE
 }
 
-/// The fault of the first task that has one, and 0 where none has.
-fn fault_of_tasks(tasks: &[NdTask]) -> u32
+/// The fault of the first task that has one (1, 2 or 3), and 0 where none has.
+pub fn fault_of_tasks(tasks: &[NdTask]) -> u32
     ensures value { result ≡ first_fault task_fault tasks.now }
     ensures none { (result ≡ DONE) ↔ AreReservations tasks.now }
 {

@@ -1,10 +1,7 @@
 //! The program `grubtrace`: which SCHED_DEADLINE tasks a kernel trace shows, and the event files that it tells.
 #![tactic(auto)]
 
-mod check_command;
-mod command;
 mod serve;
-mod texts;
 
 use crate::serve::{serve, serve_no_words};
 use grub_convert::{Input, Target};

@@ -3,7 +3,6 @@
 ghost use Rattle.std.specs.Prelude.{◌≡◌, ◌≤◌, ◌⊎◌};
 ghost use Rattle.grub_convert.specs.declared.fault.TheConstants.{STATUS_SYSTEM, STATUS_USAGE};
 
-use crate::command::command;
 use clap::error::ErrorKind;
 use clap::{ArgMatches, Error};
 use grub_convert::{
@@ -18,6 +17,7 @@ use trace_check::{
     CheckRequest, CheckWords, Window, WrongOption, options_of as check_options, serve_check,
     window_of,
 };
+use trace_command::command_line;
 
 /// How many percent more than the least runtime are proposed, where the words do not say it.
 const MARGIN: u32 = 10;
@@ -27,7 +27,7 @@ const WITHIN: u32 = 20;
 
 /// What the words ask for.
 fn matches_of<'a>(alloc: Global, words: &'a [String]) -> Result<ArgMatches<'a>, Error> {
-    command(alloc)?.try_get_matches_from(words)
+    command_line(alloc)?.try_get_matches_from(words)
 }
 
 /// Runs the program on its words, the first of which is its name, and gives its status.

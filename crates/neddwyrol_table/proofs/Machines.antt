@@ -4,7 +4,7 @@ use Rattle.std.proofs.lemmas.List.{get_or-map, length-map}
 use Rattle.grub_book.specs.Machine.{IsMachine}
 use Rattle.grub_book.specs.declared.setup.TheConstants.{QUEUES_MAX, TASKS_MAX}
 use Rattle.grub_flat.specs.Memory.{params_of, constants_of, machine_of}
-use Rattle.grub_flat.specs.inside.Limits.{AreConstants, AreReservations}
+use Rattle.grub_flat.specs.Limits.{AreConstants, AreReservations}
 use Rattle.grub_flat.specs.declared.memory.NdTask.{NdTask}
 use Rattle.grub_flat.specs.declared.memory.NdRunqueue.{NdRunqueue}
 

@@ -1,14 +1,13 @@
 //! A table is opened.
 
-ghost use Rattle.std.specs.Prelude.{◌≡◌, ◌↔◌, ◌<◌, map, length, IfOk, IfErr};
+ghost use Rattle.std.specs.Prelude.{◌≡◌, ◌<◌, map, length, IfOk, IfErr};
 ghost use Rattle.std.specs.List.{All};
 ghost use Rattle.grub_book.specs.Machine.{IsMachine};
 ghost use Rattle.grub_table.specs.Calls.{IsPassOf};
 ghost use Rattle.neddwyrol_table.specs.Called.{Keeps, Stands, table_of, passes_of};
 ghost use Rattle.neddwyrol_table.specs.declared.held.Kept.{Kept};
 ghost use Rattle.grub_flat.specs.Memory.{params_of, constants_of, machine_of};
-ghost use Rattle.grub_flat.specs.Opening.{first_fault, task_fault, queue_fault};
-ghost use Rattle.grub_flat.specs.inside.Limits.{AreConstants, AreReservations};
+ghost use Rattle.grub_flat.specs.Limits.{AreConstants, AreReservations};
 ghost use Rattle.neddwyrol_table.specs.Opened.{setup_fault, passes_fault, open_fault, IsOpenedFor};
 
 use crate::held::Held;
@@ -16,8 +15,8 @@ use crate::parting::unpushed;
 use grub_book::{QUEUES_MAX, Setup, TASKS_MAX};
 use grub_bw::{Params, Queue};
 use grub_flat::{
-    DONE, NO_QUEUE, NdCapacity, NdParams, NdRunqueue, NdTask, TOO_MANY_QUEUES, TOO_MANY_TASKS,
-    capacity_fault, params_fault,
+    DONE, NO_QUEUE, NdRunqueue, NdTask, TOO_MANY_QUEUES, TOO_MANY_TASKS, fault_of_queues,
+    fault_of_tasks,
 };
 use grub_table::{OpenFault, Pass, Shared};
 use std::alloc::{AllocError, Global};
@@ -34,40 +33,6 @@ pub const TOO_MANY_PASSES: u32 = 24;
 
 /// Memory for the table was refused.
 pub const NO_TABLE_MEMORY: u32 = 25;
-
-/// The fault of the first runqueue that has one, and 0 where none has.
-fn fault_of_queues(queues: &[NdRunqueue]) -> u32
-    ensures value { result ≡ first_fault queue_fault queues.now }
-    ensures none { (result ≡ DONE) ↔ AreConstants queues.now }
-{
-    for cell in queues {
-        let NdRunqueue { umax, uextra, .. } = *cell;
-        let fault = capacity_fault(NdCapacity { umax, uextra });
-        if fault != DONE {
-            return fault;
-        }
-    }
-    DONE
-}
-
-/// The fault of the first task that has one, and 0 where none has.
-fn fault_of_tasks(tasks: &[NdTask]) -> u32
-    ensures value { result ≡ first_fault task_fault tasks.now }
-    ensures none { (result ≡ DONE) ↔ AreReservations tasks.now }
-{
-    for task in tasks {
-        let NdTask {
-            runtime,
-            period,
-            ..
-        } = *task;
-        let fault = params_fault(NdParams { runtime, period });
-        if fault != DONE {
-            return fault;
-        }
-    }
-    DONE
-}
 
 /// 0 where a table may be opened for these runqueues and tasks, else the number of the first fault, 1 to 8.
 fn setup_fault(tasks: &[NdTask], queues: &[NdRunqueue]) -> u32

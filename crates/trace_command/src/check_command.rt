@@ -1,9 +1,9 @@
 //! The command line of `grubtrace check`.
 
 use crate::texts::AFTER_CHECK;
+use check_settings::CPU_MAX;
 use clap::{Arg, ArgAction, Command, value_parser};
 use std::alloc::{AllocError, Global};
-use trace_check::CPU_MAX;
 
 /// Whose arithmetic a record may be played by.
 const LAWS: &[&str] = &["kernel", "documentation"];
@@ -129,6 +129,7 @@ fn to_arg<'a>(alloc: Global) -> Arg<'a> {
         .action(ArgAction::Set)
 }
 
+/// `grubtrace check`, with what it takes for a trace.
 pub(crate) fn check_command<'a>(alloc: Global, trace: Arg<'a>) -> Result<Command<'a>, AllocError> {
     Command::new(alloc, "check")
         .about("Says whether the kernel accounted as its rules say")

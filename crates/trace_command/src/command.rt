@@ -1,10 +1,10 @@
-//! The command line.
+//! The commands, and the options of all but `check`.
 
 use crate::check_command::check_command;
 use crate::texts::{AFTER_EVENTS, AFTER_HELP, AFTER_SIZE, AFTER_TASKS, VERSION};
 use clap::{Arg, ArgAction, Command, value_parser};
-use grub_facts::CPUS_MAX;
 use std::alloc::{AllocError, Global};
+use trace_line::CPUS_MAX;
 
 fn trace_arg<'a>(alloc: Global) -> Arg<'a> {
     Arg::new(alloc, "TRACE")
@@ -142,8 +142,8 @@ fn size_command<'a>(alloc: Global) -> Result<Command<'a>, AllocError> {
         .arg(trace_arg(alloc))
 }
 
-/// `grubtrace tasks TRACE`, `grubtrace events OPTIONS --out PREFIX TRACE` and `grubtrace check OPTIONS TRACE`.
-pub(crate) fn command<'a>(alloc: Global) -> Result<Command<'a>, AllocError> {
+/// The command line of `grubtrace`, with its commands `tasks`, `events`, `check` and `size`. `AllocError` is want of memory.
+pub fn command_line<'a>(alloc: Global) -> Result<Command<'a>, AllocError> {
     Command::new(alloc, "grubtrace")
         .version(VERSION)
         .about(

@@ -1,0 +1,8 @@
+//! The command line of `grubtrace`: its commands, their options, and the texts of their help.
+#![tactic(auto)]
+
+mod check_command;
+mod command;
+mod texts;
+
+pub use command::command_line;
