@@ -72,10 +72,10 @@ class Edit:
     def is_refused(self, said):
         """Whether one of its functions is refused for itself, not for one that it calls or for what another edit took away."""
         for name, why in VERDICT.findall(said):
-            if any(name.endswith(f"::{it}") for it in self.functions) and (CALLEES.sub("", why) or not why):
+            if any(name.endswith(f"::{it}") for it in self.functions):
                 path = name.partition("::")[2].replace("::", "/")
                 told = re.findall(rf"^\./proofs/{path}/\w+\.antt:\d+:\d+: error: (.*)$", said, re.M)
-                if not told or any(not LACKS.search(it) for it in told):
+                if any(not LACKS.search(it) for it in told) or not told and (CALLEES.sub("", why) or not why):
                     return True
         return False
 
