@@ -57,9 +57,10 @@ runqueue_of s f steps owns tasks y r =
 abbrev pub runqueues_from : Machine → Frame → List Step → List (List Step) → ℕ → ℕ → List ℕ → List RunqueueView
 runqueues_from s f steps owns tasks y [] = []
 runqueues_from s f steps owns tasks y (r ∷ rs) =
-    runqueue_of s f steps owns tasks y r ∷ runqueues_from s f steps owns tasks (runqueue_of s f steps owns tasks y r).bottom rs
+    let q = runqueue_of s f steps owns tasks y r in
+    q ∷ runqueues_from s f steps owns tasks q.bottom rs
 
--- the steps of each of so many tasks
+-- the own steps of each of so many tasks
 abbrev pub owns_of : ℕ → List Step → List (List Step)
 owns_of n steps = map (λ t. own_steps t steps) (range_with_len 0 n)
 
