@@ -1,2 +1,3 @@
 pub mod Barring
 pub mod Lanes
+pub mod Layouts

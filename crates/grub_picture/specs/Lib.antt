@@ -1,5 +1,6 @@
 pub mod Bars
 pub mod Curves
 pub mod Lanes
+pub mod Layouts
 pub mod Picture
 pub mod inside

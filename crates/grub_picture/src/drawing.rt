@@ -1,106 +1,80 @@
-//! The runqueues of a picture, one below the other.
+//! What a layout looks like, as SVG.
 
-ghost use Rattle.std.specs.Prelude.{◌+◌, ◌<◌, ◌≤◌, ◌^◌, IfOk, length};
+ghost use Rattle.std.specs.Prelude.{◌<◌, All, length};
 
-use crate::bars::bars_of;
-use crate::curve::{points_of, put_curve};
-use crate::lane::{lanes_of, own_of};
-use crate::tick::{put_ticks, ticks_of};
+use crate::curve::put_curve;
+use crate::layout::{LaneLayout, RunqueueLayout, TOP};
+use crate::tick::put_ticks;
 use grub_plan::Plan;
 use grub_shapes::{Frame, put_bars, put_number, put_scale, put_umax};
-use grub_steps::Step;
-use std::alloc::{AllocError, Global};
+use std::alloc::AllocError;
 
-/// What is drawn.
-#[derive(Clone, Copy)]
-pub(crate) struct Scene<'a> {
-    pub plan: &'a Plan,
-    pub steps: &'a [Step],
+/// How far below the top of a runqueue the base of its curves is.
+const BASE: u32 = 84;
 
-    /// The steps of each task.
-    pub owns: &'a [Vec<Step>],
-
-    pub frame: Frame,
-
-    /// So many of the tasks have lanes, and so many of the runqueues are there, from the first on.
-    pub tasks: u32,
-    pub queues: u32,
+/// Where the last runqueue ends.
+pub(crate) fn bottom_of(layout: &[RunqueueLayout]) -> u32 {
+    match layout.last() {
+        Some(queue) => queue.bottom,
+        None => TOP,
+    }
 }
 
-/// How high a lane is.
-const LANE: u32 = 16;
-
-/// The runqueue `r` from `y` down: its name, its scale, its curves, its Umax and the lanes of its tasks. The answer is
-/// where it ends.
-pub(crate) fn put_queue(
-    alloc: Global,
+/// Appends the runqueues.
+pub(crate) fn put_queues(
     out: &mut Vec<u8>,
-    scene: &Scene,
-    r: u32,
-    y: u32,
-) -> Result<u32, AllocError>
-    requires there { r < length scene.now.plan.now.setup.queues }
-    requires room { y + 4194 < 2 ^ 32 }
-    requires tasks { scene.now.tasks ≤ length scene.now.plan.now.setup.tasks }
-    requires owns { scene.now.tasks ≤ length scene.now.owns.now }
-    ensures { IfOk result (λ e. e ≤ y + 4194) }
+    plan: &Plan,
+    frame: Frame,
+    layout: &[RunqueueLayout],
+) -> Result<(), AllocError>
+    requires { All (λ q. All (λ l. l.task < length plan.now.setup.tasks) q.lanes) layout.now }
 {
-    let frame = scene.frame;
-    let base = y + 84;
-    put_number(out, b"<text class=\"q\" x=\"8\" y=\"", u64::from(y) + 9)?;
+    for queue in layout {
+        put_queue(out, plan, frame, queue)?;
+    }
+    Ok(())
+}
+
+/// A runqueue: its name, its scale, its curves, its Umax and its lanes.
+fn put_queue(
+    out: &mut Vec<u8>,
+    plan: &Plan,
+    frame: Frame,
+    queue: &RunqueueLayout,
+) -> Result<(), AllocError>
+    requires { All (λ l. l.task < length plan.now.setup.tasks) queue.now.lanes }
+{
+    let r = queue.runqueue;
+    let base = queue.y.saturating_add(BASE);
+    put_number(
+        out,
+        b"<text class=\"q\" x=\"8\" y=\"",
+        u64::from(queue.y) + 9,
+    )?;
     put_number(out, b"\">runqueue ", u64::from(r))?;
     out.extend_from_slice(b"</text>\n")?;
     put_scale(out, frame, base)?;
-    let this = points_of(alloc, frame, r, scene.steps, false)?;
-    put_curve(out, frame, r, &this, base, false)?;
-    let running = points_of(alloc, frame, r, scene.steps, true)?;
-    put_curve(out, frame, r, &running, base, true)?;
-    put_umax(out, frame, base, scene.plan.setup().queue(r).umax(), r)?;
-    let end = put_lanes(alloc, out, scene, r, y + 88)?;
-    Ok(end + 10)
+    put_curve(out, frame, r, &queue.this, base, false)?;
+    put_curve(out, frame, r, &queue.running, base, true)?;
+    put_umax(out, frame, base, queue.umax, r)?;
+    put_lanes(out, plan, r, &queue.lanes)
 }
 
-/// The lanes of runqueue `r` from `y` down. The answer is where they end.
-fn put_lanes(
-    alloc: Global,
-    out: &mut Vec<u8>,
-    scene: &Scene,
-    r: u32,
-    y: u32,
-) -> Result<u32, AllocError>
-    requires room { y + 4096 < 2 ^ 32 }
-    requires tasks { scene.now.tasks ≤ length scene.now.plan.now.setup.tasks }
-    requires owns { scene.now.tasks ≤ length scene.now.owns.now }
-    ensures { IfOk result (λ e. e ≤ y + 4096) }
+/// The lanes of runqueue `r`.
+fn put_lanes(out: &mut Vec<u8>, plan: &Plan, r: u32, lanes: &[LaneLayout]) -> Result<(), AllocError>
+    requires { All (λ l. l.task < length plan.now.setup.tasks) lanes.now }
 {
-    // A reader tells that a setup has no more tasks than there is room for.
-    let _ = scene.plan.setup();
-    let lanes = lanes_of(alloc, scene.frame, r, scene.owns, scene.tasks)?;
-    let mut at = y;
-    for t in &lanes {
-        put_lane(alloc, out, scene, r, *t, at)?;
-        at += LANE;
+    for lane in lanes {
+        put_lane(out, plan, r, lane)?;
     }
-    Ok(at)
+    Ok(())
 }
 
-/// The lane of task `t` on runqueue `r`, at `y`.
-fn put_lane(
-    alloc: Global,
-    out: &mut Vec<u8>,
-    scene: &Scene,
-    r: u32,
-    t: u32,
-    y: u32,
-) -> Result<(), AllocError>
-    requires there { t < length scene.now.plan.now.setup.tasks }
-    requires owns { t < length scene.now.owns.now }
+/// A lane: the name of its task, its bars and its ticks.
+fn put_lane(out: &mut Vec<u8>, plan: &Plan, r: u32, lane: &LaneLayout) -> Result<(), AllocError>
+    requires { lane.now.task < length plan.now.setup.tasks }
 {
-    let name = scene.plan.name(t);
-    let own = own_of(scene.owns, t);
-    let bars = bars_of(alloc, r, own, scene.frame)?;
-    put_bars(out, scene.frame, r, name, &bars, y)?;
-    let ticks = ticks_of(alloc, scene.frame, r, own)?;
-    put_ticks(out, name, &ticks, y)?;
-    Ok(())
+    let name = plan.name(lane.task);
+    put_bars(out, r, name, &lane.rects, lane.y)?;
+    put_ticks(out, name, &lane.ticks, lane.y)
 }

@@ -1,14 +1,16 @@
 //! A picture of a time line, as an SVG document.
 
-ghost use Rattle.std.specs.Prelude.{◌≡◌, ◌+◌, ◌<◌, ◌≤◌, ◌^◌, max, length, IfOk, vec_len};
+ghost use Rattle.std.specs.Prelude.{◌≡◌, ◌+◌, ◌<◌, ◌≤◌, ◌^◌, max, length, map, IfOk, vec_len};
 ghost use Rattle.grub_timeline.specs.TimeLines.{AreWithin, IsTimeLine};
 ghost use Rattle.grub_steps.specs.Fitting.{AreToldIn};
+ghost use Rattle.grub_picture.specs.Layouts.{owns_of};
 ghost use Rattle.grub_picture.specs.Picture.{IsDocument, last_moment};
 
-use crate::drawing::{Scene, put_queue};
+use crate::drawing::{bottom_of, put_queues};
+use crate::layout::{Scene, layout_of, owns_of};
 use grub_plan::Plan;
 use grub_shapes::{Frame, put_axis, put_head, put_number, put_text};
-use grub_steps::{Step, ViewFault, replay, steps_of_task};
+use grub_steps::{ViewFault, replay};
 use grub_timeline::{TimeLine, ToldEntry};
 use std::alloc::{AllocError, Global};
 
@@ -100,7 +102,7 @@ fn text_of(
     ensures document { IfOk result (λ v. IsDocument v.items) }
 {
     let steps = replay(alloc, plan.setup(), &line.told)?;
-    let owns = own_steps(alloc, plan, &steps)?;
+    let owns = owns_of(alloc, plan, &steps)?;
     for (unit, tasks, queues) in CUTS {
         let scene = Scene {
             plan,
@@ -129,31 +131,21 @@ fn document_of(alloc: Global, inner: &[u8]) -> Result<Vec<u8>, AllocError>
     Ok(text)
 }
 
-/// The steps of each task.
-fn own_steps(alloc: Global, plan: &Plan, steps: &[Step]) -> Result<Vec<Vec<Step>>, AllocError>
-    ensures { IfOk result (λ v. vec_len v ≡ length plan.now.setup.tasks) }
-{
-    let mut owns = Vec::new(alloc);
-    for t in 0..plan.setup().task_count() {
-        owns.push(steps_of_task(alloc, t, steps)?)?;
-    }
-    Ok(owns)
-}
-
 /// What stands in the document.
 fn drawn(alloc: Global, scene: &Scene) -> Result<Vec<u8>, AllocError>
     requires tasks { scene.now.tasks ≤ length scene.now.plan.now.setup.tasks }
-    requires owns { scene.now.tasks ≤ length scene.now.owns.now }
     requires queues { scene.now.queues ≤ length scene.now.plan.now.setup.queues }
+    requires owns { map (λ own. own.items) scene.now.owns.now
+        ≡ owns_of (length scene.now.plan.now.setup.tasks) scene.now.steps.now }
 {
-    let mut queues = Vec::new(alloc);
-    let y = put_queues(alloc, &mut queues, scene)?;
+    let layout = layout_of(alloc, scene)?;
+    let y = bottom_of(&layout);
     let mut text = Vec::new(alloc);
     put_head(&mut text, scene.frame, y)?;
     put_lanes_left_out(&mut text, scene)?;
     put_queues_left_out(&mut text, scene)?;
     put_axis(&mut text, scene.frame, y)?;
-    text.extend_from_slice(&queues)?;
+    put_queues(&mut text, scene.plan, scene.frame, &layout)?;
     Ok(text)
 }
 
@@ -180,19 +172,4 @@ fn put_queues_left_out(out: &mut Vec<u8>, scene: &Scene) -> Result<(), AllocErro
         out.extend_from_slice(b" and all after it</text>\n")?;
     }
     Ok(())
-}
-
-/// The runqueues, one below the other. The answer is where the last of them ends.
-fn put_queues(alloc: Global, out: &mut Vec<u8>, scene: &Scene) -> Result<u32, AllocError>
-    requires tasks { scene.now.tasks ≤ length scene.now.plan.now.setup.tasks }
-    requires owns { scene.now.tasks ≤ length scene.now.owns.now }
-    requires queues { scene.now.queues ≤ length scene.now.plan.now.setup.queues }
-{
-    // A reader tells that a setup has no more runqueues than there is room for.
-    let _ = scene.plan.setup();
-    let mut y = 76;
-    for r in 0..scene.queues {
-        y = put_queue(alloc, out, scene, r, y)?;
-    }
-    Ok(y)
 }

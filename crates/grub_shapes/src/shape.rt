@@ -45,24 +45,21 @@ pub fn rect_of(frame: Frame, bar: Bar) -> Option<Rect>
     }
 }
 
-/// Appends the name of a task on runqueue `r`, and its bars, in the lane at `y`.
+/// Appends the name of a task on runqueue `r`, and the rectangles of its bars, in the lane at `y`.
 pub fn put_bars(
     out: &mut Vec<u8>,
-    frame: Frame,
     r: u32,
     name: &str,
-    bars: &[Bar],
+    rects: &[Rect],
     y: u32,
 ) -> Result<(), AllocError> {
     put_number(out, b"<text class=\"n\" x=\"126\" y=\"", u64::from(y) + 12)?;
     out.extend_from_slice(b"\">")?;
     put_text(out, name)?;
     out.extend_from_slice(b"</text>\n")?;
-    for bar in bars {
-        if let Some(rect) = rect_of(frame, *bar) {
-            put_rect(out, rect, y)?;
-            put_title(out, r, name, rect.bar)?;
-        }
+    for rect in rects {
+        put_rect(out, *rect, y)?;
+        put_title(out, r, name, rect.bar)?;
     }
     Ok(())
 }
