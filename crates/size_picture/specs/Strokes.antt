@@ -1,10 +1,11 @@
--- The strokes of a panel: bars, and lines at runtimes.
-use Rattle.std.specs.Prelude.{ℕ, ◌-◌, ◌*◌, ◌/◌, ◌==◌, min, max, List, [], ◌∷◌, map, if◌then◌else◌}
+-- The strokes of a task's two panels: bars, a curve, and lines at runtimes.
+use Rattle.std.specs.Prelude.{ℕ, ◌+◌, ◌-◌, ◌*◌, ◌/◌, ◌==◌, min, max, List, [], ◌∷◌, ◌++◌, length, map, if◌then◌else◌}
 use Rattle.size_picture.specs.declared.column.Column.{Column}
 use Rattle.size_picture.specs.declared.panel.Panel.{Panel}
 use Rattle.size_picture.specs.declared.stroke.StrokeLook.{StrokeLook}
-use Rattle.size_picture.specs.declared.stroke.StrokeLook.TheVariants.{Pale, Late, Dark, Proposed, Least, Less}
+use Rattle.size_picture.specs.declared.stroke.StrokeLook.TheVariants.{Pale, Late, Dark, Curve, Proposed, Least, Less}
 use Rattle.size_picture.specs.declared.stroke.Stroke.{Stroke}
+use Rattle.size_picture.specs.Columns.{columns_of, place_of}
 
 -- how high a runtime is on a scale that ends at `top`
 abbrev pub height_of : ℕ → ℕ → ℕ
@@ -30,3 +31,36 @@ line_of base top look runtime =
 abbrev pub lines_of : ℕ → Panel → List Stroke
 lines_of base panel =
     line_of base panel.top Proposed panel.proposed ∷ line_of base panel.top Least panel.least ∷ line_of base panel.top Less panel.less ∷ []
+
+-- the curve along a column to the next one, and up or down to its height
+abbrev pub step_of : ℕ → Column → ℕ → ℕ → Stroke
+step_of base c to_x height = record { look = Curve; x = c.x; y = base - c.height; to_x = to_x; to_y = base - height }
+
+-- from this column on; behind the last it goes down to 0
+abbrev pub curve_from : ℕ → ℕ → Column → List Column → List Stroke
+curve_from base end c [] = step_of base c end 0 ∷ []
+curve_from base end c (d ∷ columns) = step_of base c d.x d.height ∷ curve_from base end d columns
+
+abbrev pub curve_of : ℕ → ℕ → List Column → List Stroke
+curve_of base end [] = []
+curve_of base end (c ∷ columns) = curve_from base end c columns
+
+-- the upper panel: a bar for each column of the record's time, and the lines
+abbrev pub needs_strokes : ℕ → Panel → List Stroke
+needs_strokes base panel = bars_of base (columns_of panel.span panel.needs.now) ++ lines_of base panel
+
+-- where the curve ends: behind as many jobs as it shows
+abbrev pub end_of : Panel → ℕ
+end_of panel = 130 + place_of (length panel.sorted.now) panel.most 1024
+
+-- the lower panel: the curve over the number of late jobs, and the lines
+abbrev pub curve_strokes : ℕ → Panel → List Stroke
+curve_strokes base panel = curve_of base (end_of panel) (columns_of panel.most panel.sorted.now) ++ lines_of base panel
+
+pub record StrokesShown : Type 0 where
+  pub needs : List Stroke
+  pub curve : List Stroke
+
+-- both, whose bottoms are there
+abbrev pub strokes_of : ℕ → ℕ → Panel → StrokesShown
+strokes_of upper lower panel = record { needs = needs_strokes upper panel; curve = curve_strokes lower panel }

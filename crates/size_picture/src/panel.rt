@@ -1,13 +1,14 @@
 //! The two panels of a task.
 
 ghost use Rattle.std.specs.Prelude.{◌≡◌, IfOk};
-ghost use Rattle.size_picture.specs.Strokes.{bar_of, bars_of, height_of, line_of, lines_of, look_of};
+ghost use Rattle.size_picture.specs.Strokes.{bar_of, bars_of, curve_of, curve_strokes, height_of, line_of, lines_of, look_of, needs_strokes, step_of, strokes_of};
 
 use crate::column::{Column, Need, PANEL, WIDTH, columns_of};
 use crate::scale::{place_of, put_counts, put_runtimes, put_time};
 use crate::stroke::{Stroke, StrokeLook, put_strokes};
 use grub_shapes::{LEFT, put_number};
 use std::alloc::{AllocError, Global};
+use std::marker::Model;
 
 /// What is drawn of a task. Runtimes and durations are in microseconds.
 #[derive(Clone, Copy)]
@@ -37,6 +38,24 @@ pub struct Panel<'a> {
 
     /// How many late jobs the scale of the curve has.
     pub most: u64,
+}
+
+/// What the two panels of a task show, beside their scales, in the order in which it is drawn.
+#[derive(Drop)]
+pub struct PanelStrokes {
+    /// The upper panel: bars, and lines above them.
+    pub needs: Vec<Stroke>,
+
+    /// The lower panel: the curve, and the same lines.
+    pub curve: Vec<Stroke>,
+}
+
+impl Model for PanelStrokes {
+    ghost use Rattle.size_picture.specs.Strokes.{StrokesShown};
+
+    ghost Value = { StrokesShown };
+
+    ghost view = { λ p. record { needs = p.needs.items; curve = p.curve.items } };
 }
 
 /// How high the two panels of a task are, with their title and their scales, in pixels.
@@ -83,27 +102,38 @@ fn bars_of(alloc: Global, base: u64, columns: &[Column]) -> Result<Vec<Stroke>, 
     Ok(bars)
 }
 
+/// The curve from a column on to where the next one begins, so many pixels high.
+fn step_of(base: u64, column: Column, to_x: u64, height: u32) -> Stroke
+    ensures { result ≡ step_of base column to_x height }
+{
+    Stroke {
+        look: StrokeLook::Curve,
+        x: column.x,
+        y: base.saturating_sub(u64::from(column.height)),
+        to_x,
+        to_y: base.saturating_sub(u64::from(height)),
+    }
+}
+
 /// The curve: from each column to the next, and from the last down to where it ends.
 fn curve_of(
     alloc: Global,
     base: u64,
     end: u64,
     columns: &[Column],
-) -> Result<Vec<Stroke>, AllocError> {
+) -> Result<Vec<Stroke>, AllocError>
+    ensures { IfOk result (λ v. v.items ≡ curve_of base end columns.now) }
+{
     let mut curve = Vec::new(alloc);
-    for (i, column) in columns.iter().enumerate() {
-        let (to_x, height) = match columns.get(i + 1) {
-            Some(next) => (next.x, next.height),
-            None => (end, 0),
-        };
-        curve.push(Stroke {
-            look: StrokeLook::Curve,
-            x: column.x,
-            y: base.saturating_sub(u64::from(column.height)),
-            to_x,
-            to_y: base.saturating_sub(u64::from(height)),
-        })?;
+    let Some((first, rest)) = columns.split_first() else {
+        return Ok(curve);
+    };
+    let mut now = *first;
+    for column in rest {
+        curve.push(step_of(base, now, column.x, column.height))?;
+        now = *column;
     }
+    curve.push(step_of(base, now, end, 0))?;
     Ok(curve)
 }
 
@@ -129,6 +159,41 @@ fn lines_of(base: u64, panel: &Panel<'_>) -> [Stroke; 3]
         line_of(base, panel.top, StrokeLook::Least, panel.least),
         line_of(base, panel.top, StrokeLook::Less, panel.less),
     ]
+}
+
+/// The strokes of the upper panel, whose bottom is at `base`: what each job needs, over the time of the record.
+fn needs_strokes(alloc: Global, base: u64, panel: &Panel<'_>) -> Result<Vec<Stroke>, AllocError>
+    ensures { IfOk result (λ v. v.items ≡ needs_strokes base panel.now) }
+{
+    let columns = columns_of(alloc, panel.needs, panel.span)?;
+    let mut strokes = bars_of(alloc, base, &columns)?;
+    strokes.extend_from_slice(&lines_of(base, panel))?;
+    Ok(strokes)
+}
+
+/// The strokes of the lower panel, whose bottom is at `base`: the runtime for 0, 1, 2 and more late jobs.
+fn curve_strokes(alloc: Global, base: u64, panel: &Panel<'_>) -> Result<Vec<Stroke>, AllocError>
+    ensures { IfOk result (λ v. v.items ≡ curve_strokes base panel.now) }
+{
+    let columns = columns_of(alloc, panel.sorted, panel.most)?;
+    let end = LEFT + place_of(panel.sorted.len() as u64, panel.most, WIDTH);
+    let mut strokes = curve_of(alloc, base, end, &columns)?;
+    strokes.extend_from_slice(&lines_of(base, panel))?;
+    Ok(strokes)
+}
+
+/// What the two panels of a task show, beside their scales: the upper panel's bottom is at `upper`, the lower one's at `lower`.
+pub fn strokes_of(
+    alloc: Global,
+    upper: u64,
+    lower: u64,
+    panel: &Panel<'_>,
+) -> Result<PanelStrokes, AllocError>
+    ensures { IfOk result (λ s. s ≡ strokes_of upper lower panel.now) }
+{
+    let needs = needs_strokes(alloc, upper, panel)?;
+    let curve = curve_strokes(alloc, lower, panel)?;
+    Ok(PanelStrokes { needs, curve })
 }
 
 /// Puts a name of any bytes: what could not stand in a document is told otherwise.
@@ -188,22 +253,6 @@ fn needs_scales(alloc: Global, panel: &Panel<'_>, base: u64) -> Result<Vec<u8>, 
     Ok(out)
 }
 
-/// The upper panel: what each job needs, over the time of the record.
-fn put_needs(
-    alloc: Global,
-    out: &mut Vec<u8>,
-    panel: &Panel<'_>,
-    base: u64,
-) -> Result<(), AllocError> {
-    let columns = columns_of(alloc, panel.needs, panel.span)?;
-    let bars = bars_of(alloc, base, &columns)?;
-    let scales = needs_scales(alloc, panel, base)?;
-    put_strokes(out, &bars)?;
-    put_strokes(out, &lines_of(base, panel))?;
-    out.extend_from_slice(&scales)?;
-    Ok(())
-}
-
 /// The scales of the lower panel.
 fn curve_scales(alloc: Global, panel: &Panel<'_>, base: u64) -> Result<Vec<u8>, AllocError> {
     let mut out = Vec::new(alloc);
@@ -218,20 +267,10 @@ fn curve_scales(alloc: Global, panel: &Panel<'_>, base: u64) -> Result<Vec<u8>, 
     Ok(out)
 }
 
-/// The lower panel: the runtime for 0, 1, 2 and more late jobs.
-fn put_curve(
-    alloc: Global,
-    out: &mut Vec<u8>,
-    panel: &Panel<'_>,
-    base: u64,
-) -> Result<(), AllocError> {
-    let columns = columns_of(alloc, panel.sorted, panel.most)?;
-    let end = LEFT + place_of(panel.sorted.len() as u64, panel.most, WIDTH);
-    let curve = curve_of(alloc, base, end, &columns)?;
-    let scales = curve_scales(alloc, panel, base)?;
-    put_strokes(out, &curve)?;
-    put_strokes(out, &lines_of(base, panel))?;
-    out.extend_from_slice(&scales)?;
+/// A panel: its strokes, and its scales above them.
+fn put_part(out: &mut Vec<u8>, strokes: &[Stroke], scales: &[u8]) -> Result<(), AllocError> {
+    put_strokes(out, strokes)?;
+    out.extend_from_slice(scales)?;
     Ok(())
 }
 
@@ -242,7 +281,9 @@ pub(crate) fn put_panel(
     panel: &Panel<'_>,
     y: u64,
 ) -> Result<(), AllocError> {
+    let (upper, lower) = (y.saturating_add(180), y.saturating_add(376));
+    let strokes = strokes_of(alloc, upper, lower, panel)?;
     put_title(out, panel, y.saturating_add(14))?;
-    put_needs(alloc, out, panel, y.saturating_add(180))?;
-    put_curve(alloc, out, panel, y.saturating_add(376))
+    put_part(out, &strokes.needs, &needs_scales(alloc, panel, upper)?)?;
+    put_part(out, &strokes.curve, &curve_scales(alloc, panel, lower)?)
 }

@@ -1,5 +1,5 @@
 -- The bars of a lane.
-use Rattle.std.specs.Prelude.{ℕ, ◌+◌, max, min, nat_lt, ◌&&◌, Bool, true, false, List, [], ◌∷◌, if◌then◌else◌}
+use Rattle.std.specs.Prelude.{ℕ, ◌+◌, max, min, nat_lt, ◌&&◌, List, [], ◌∷◌, if◌then◌else◌}
 use Rattle.deadline_states.specs.declared.history.Slice.{Slice}
 use Rattle.deadline_states.specs.declared.span.Span.{Span}
 use Rattle.state_picture.specs.declared.bar.StateBar.{StateBar}

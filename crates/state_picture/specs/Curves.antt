@@ -1,5 +1,5 @@
 -- The step curve of a sum of a runqueue.
-use Rattle.std.specs.Prelude.{ℕ, ◌-◌, ◌^◌, ◌==◌, nat_lt, Bool, List, [], ◌∷◌, ◌++◌, Option, Some, None, option_to_list, if◌then◌else◌}
+use Rattle.std.specs.Prelude.{ℕ, ◌^◌, ◌==◌, nat_lt, Bool, List, [], ◌∷◌, ◌++◌, Option, Some, None, option_to_list, slice_index_or, if◌then◌else◌}
 use Rattle.trace_words.specs.declared.quantities.Sums.{Sums}
 use Rattle.deadline_rules.specs.Clock.{less}
 use Rattle.deadline_states.specs.declared.history.SumsSlice.{SumsSlice}
@@ -39,3 +39,16 @@ points_after f sum cpu last (s ∷ readings) =
 
 abbrev pub points_in : PictureFrame → Sum → ℕ → List SumsSlice → List Point
 points_in f sum cpu readings = points_after f sum cpu None readings
+
+pub record CurvesShown : Type 0 where
+  pub this_bw : List Point
+  pub running_bw : List Point
+  pub admitted : List Point
+
+-- the curves of a runqueue; what is admitted is 0 where it has no max_bw
+abbrev pub curves_by : PictureFrame → List SumsSlice → List ℕ → ℕ → CurvesShown
+curves_by f readings limits cpu = record {
+  this_bw = points_in f This cpu readings;
+  running_bw = points_in f Running cpu readings;
+  admitted = points_in f (Admitted (slice_index_or limits cpu 0)) cpu readings;
+}

@@ -1,5 +1,5 @@
 -- Lanes: one for each task on each runqueue on which it is, one below the other.
-use Rattle.std.specs.Prelude.{ℕ, ◌+◌, ◌-◌, ◌^◌, min, ◌==◌, ◌&&◌, Bool, true, false, not, List, [], ◌∷◌, Option, Some, None, filter, map, if◌then◌else◌}
+use Rattle.std.specs.Prelude.{ℕ, ◌+◌, ◌-◌, ◌^◌, min, ◌==◌, ◌&&◌, Bool, true, not, List, [], ◌∷◌, Option, Some, None, filter, map, if◌then◌else◌}
 use Rattle.std.specs.List.{flat_map, list_any, range_with_len}
 use Rattle.deadline_states.specs.declared.history.Slice.{Slice}
 use Rattle.state_picture.specs.declared.lane.Lane.{Lane}

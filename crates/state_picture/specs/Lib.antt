@@ -3,3 +3,4 @@ pub mod Lanes
 pub mod Bars
 pub mod Curves
 pub mod Marks
+pub mod Layouts

@@ -1,5 +1,5 @@
 -- The kernel's timers as marks.
-use Rattle.std.specs.Prelude.{ℕ, ◌==◌, nat_lt, ◌&&◌, ◌||◌, Bool, true, false, List, [], ◌∷◌, unwrap_or, is_some, if◌then◌else◌}
+use Rattle.std.specs.Prelude.{ℕ, ◌==◌, nat_lt, ◌&&◌, ◌||◌, Bool, true, false, List, [], ◌∷◌, ◌++◌, unwrap_or, is_some, if◌then◌else◌}
 use Rattle.deadline_states.specs.Spans.{is_within}
 use Rattle.timer_rules.specs.declared.observation.ObservedAnswer.{ObservedAnswer}
 use Rattle.timer_rules.specs.declared.observation.ObservedAnswer.TheVariants.{Differs}
@@ -49,3 +49,7 @@ marks_in f l kind last (o ∷ os) =
     if is_marked_by f l kind o && nat_lt last (x_of f (moment_of o))
     then mark_by f kind o ∷ marks_in f l kind (x_of f (moment_of o)) os
     else marks_in f l kind last os
+
+-- the marks of a lane, those that differ last
+abbrev pub all_marks_in : PictureFrame → Lane → List Observation → List TimerMark
+all_marks_in f l os = marks_in f l ZeroLag 0 os ++ marks_in f l Replenishment 0 os ++ marks_in f l Deviation 0 os

@@ -1,11 +1,12 @@
-//! The step curve of a sum of a runqueue.
+//! The step curves of a runqueue.
 
-ghost use Rattle.std.specs.Prelude.{◌≡◌, ◌++◌, IfOk, OnOk, option_to_list};
-ghost use Rattle.state_picture.specs.Curves.{admitted_by, bandwidth_in, before_next, point_of, points_in};
+ghost use Rattle.std.specs.Prelude.{◌≡◌, ◌++◌, IfOk, OnOk, option_to_list, slice_index_or};
+ghost use Rattle.state_picture.specs.Curves.{admitted_by, bandwidth_in, before_next, curves_by, point_of, points_in};
 
 use crate::frame::PictureFrame;
 use deadline_states::SumsSlice;
 use std::alloc::{AllocError, Global};
+use std::marker::Model;
 use trace_words::Sums;
 
 /// Which sum of a runqueue a curve shows.
@@ -98,4 +99,54 @@ pub fn points_of(
     }
     push_last(&mut points, last)?;
     Ok(points)
+}
+
+/// The curves of a runqueue.
+#[derive(Drop)]
+pub struct RunqueueCurves {
+    pub this_bw: Vec<Point>,
+    pub running_bw: Vec<Point>,
+
+    /// `max_bw` less `extra_bw`.
+    pub admitted: Vec<Point>,
+}
+
+impl Model for RunqueueCurves {
+    ghost use Rattle.state_picture.specs.Curves.{CurvesShown};
+
+    ghost Value = { CurvesShown };
+
+    ghost view = { λ c. record {
+      this_bw = c.this_bw.items;
+      running_bw = c.running_bw.items;
+      admitted = c.admitted.items;
+    } };
+}
+
+/// `max_bw` of a runqueue, by the CPU; 0 where there is none.
+fn max_bw_of(limits: &[u64], cpu: u32) -> u64
+    ensures { result ≡ slice_index_or limits.now cpu 0 }
+{
+    limits.get(cpu as usize).copied().unwrap_or(0)
+}
+
+/// The curves of a runqueue, by the readings of all and `max_bw` of each.
+pub fn curves_of(
+    alloc: Global,
+    frame: PictureFrame,
+    readings: &[SumsSlice],
+    limits: &[u64],
+    cpu: u32,
+) -> Result<RunqueueCurves, AllocError>
+    ensures { IfOk result (λ c. c ≡ curves_by frame readings.now limits.now cpu) }
+{
+    let max_bw = max_bw_of(limits, cpu);
+    let this_bw = points_of(alloc, frame, readings, cpu, Sum::This)?;
+    let running_bw = points_of(alloc, frame, readings, cpu, Sum::Running)?;
+    let admitted = points_of(alloc, frame, readings, cpu, Sum::Admitted { max_bw })?;
+    Ok(RunqueueCurves {
+        this_bw,
+        running_bw,
+        admitted,
+    })
 }

@@ -1,24 +1,18 @@
-//! The shapes of a picture, as SVG.
+//! The layout of a picture, as SVG.
 
 use crate::axis::put_axis;
-use crate::bar::{StateBar, bars_of};
-use crate::curve::{Point, Sum, points_of};
+use crate::bar::StateBar;
+use crate::curve::{Point, RunqueueCurves};
 use crate::frame::{CURVE, LEFT, PictureFrame, height_of};
 use crate::key::put_head;
-use crate::lane::{LANE, Lane, LaneRow, TOP, rows_of};
-use crate::mark::{MarkKind, TimerMark, marks_of};
+use crate::lane::{LANE, Lane, LaneRow, TOP};
+use crate::layout::{Grain, LaneLayout, frame_of, layouts_of};
+use crate::mark::{MarkKind, TimerMark};
 use crate::picture::MOST;
 use crate::text::{put, put_length, put_percent, put_seconds, put_seen};
-use deadline_states::{RecordScene, TaskState};
+use deadline_states::{RecordScene, TaskName, TaskState};
 use std::alloc::{AllocError, Global};
 use timer_rules::Observation;
-
-/// How much of a record is drawn: in columns so many pixels wide, and so many lanes.
-#[derive(Clone, Copy)]
-pub(crate) struct Grain {
-    pub unit: u16,
-    pub lanes: usize,
-}
 
 /// What a state looks like: the name of its colour, how far below the lane's top its bar begins, and how high it is.
 fn looks_of(state: TaskState) -> (&'static str, u64, u64) {
@@ -34,12 +28,12 @@ fn looks_of(state: TaskState) -> (&'static str, u64, u64) {
 fn put_title(
     alloc: Global,
     out: &mut Vec<u8>,
-    scene: RecordScene<'_>,
+    tasks: &[TaskName],
     lane: Lane,
     bar: StateBar,
 ) -> Result<(), AllocError> {
     put(out, "<title>")?;
-    put_name(out, scene, lane)?;
+    put_name(out, tasks, lane)?;
     put(
         out,
         format!(in alloc; " {} on CPU {}, ", looks_of(bar.state).0, lane.cpu)?.as_str(),
@@ -52,8 +46,8 @@ fn put_title(
     put(out, "</title>")
 }
 
-fn put_name(out: &mut Vec<u8>, scene: RecordScene<'_>, lane: Lane) -> Result<(), AllocError> {
-    match scene.tasks.get(lane.task as usize) {
+fn put_name(out: &mut Vec<u8>, tasks: &[TaskName], lane: Lane) -> Result<(), AllocError> {
+    match tasks.get(lane.task as usize) {
         Some(task) => put_seen(out, task.comm.as_str()),
         None => Ok(()),
     }
@@ -62,7 +56,7 @@ fn put_name(out: &mut Vec<u8>, scene: RecordScene<'_>, lane: Lane) -> Result<(),
 fn put_bar(
     alloc: Global,
     out: &mut Vec<u8>,
-    scene: RecordScene<'_>,
+    tasks: &[TaskName],
     row: LaneRow,
     bar: StateBar,
 ) -> Result<(), AllocError> {
@@ -75,7 +69,7 @@ fn put_bar(
             "<rect class=\"{class}\" x=\"{x}\" y=\"{y}\" width=\"{width}\" height=\"{height}\">"
         )?.as_str(),
     )?;
-    put_title(alloc, out, scene, row.lane, bar)?;
+    put_title(alloc, out, tasks, row.lane, bar)?;
     put(out, "</rect>\n")
 }
 
@@ -83,7 +77,7 @@ fn put_bar(
 fn put_label(
     alloc: Global,
     out: &mut Vec<u8>,
-    scene: RecordScene<'_>,
+    tasks: &[TaskName],
     row: LaneRow,
 ) -> Result<(), AllocError> {
     let (x, y) = (LEFT.saturating_sub(6), row.y.saturating_add(13));
@@ -91,8 +85,8 @@ fn put_label(
         out,
         format!(in alloc; "<text class=\"n\" x=\"{x}\" y=\"{y}\">")?.as_str(),
     )?;
-    put_name(out, scene, row.lane)?;
-    if let Some(task) = scene.tasks.get(row.lane.task as usize) {
+    put_name(out, tasks, row.lane)?;
+    if let Some(task) = tasks.get(row.lane.task as usize) {
         put(out, format!(in alloc; " {}", task.pid)?.as_str())?;
     }
     put(out, "</text>\n")
@@ -148,24 +142,15 @@ fn put_mark_title(
 fn put_lane(
     alloc: Global,
     out: &mut Vec<u8>,
-    scene: RecordScene<'_>,
-    frame: PictureFrame,
-    row: LaneRow,
+    tasks: &[TaskName],
+    layout: &LaneLayout,
 ) -> Result<(), AllocError> {
-    put_label(alloc, out, scene, row)?;
-    let bars = bars_of(alloc, frame, &scene.history.states, row.lane)?;
-    for bar in &bars {
-        put_bar(alloc, out, scene, row, *bar)?;
+    put_label(alloc, out, tasks, layout.row)?;
+    for bar in &layout.bars {
+        put_bar(alloc, out, tasks, layout.row, *bar)?;
     }
-    for kind in [
-        MarkKind::ZeroLag,
-        MarkKind::Replenishment,
-        MarkKind::Deviation,
-    ] {
-        let marks = marks_of(alloc, frame, scene.observations, row.lane, kind)?;
-        for mark in &marks {
-            put_mark(alloc, out, row, *mark)?;
-        }
+    for mark in &layout.marks {
+        put_mark(alloc, out, layout.row, *mark)?;
     }
     Ok(())
 }
@@ -247,17 +232,16 @@ fn put_admitted(
     put(out, "</text>\n")
 }
 
-/// The name and the curves of a runqueue, whose first lane is at `y`.
+/// The name and the curves of a runqueue, above its first lane.
 fn put_runqueue(
     alloc: Global,
     out: &mut Vec<u8>,
-    scene: RecordScene<'_>,
     frame: PictureFrame,
-    cpu: u32,
-    y: u64,
+    row: LaneRow,
+    curves: &RunqueueCurves,
 ) -> Result<(), AllocError> {
-    let base = y.saturating_sub(6);
-    let title = base.saturating_sub(CURVE + 12);
+    let base = row.y.saturating_sub(6);
+    let (cpu, title) = (row.lane.cpu, base.saturating_sub(CURVE + 12));
     put(
         out,
         format!(in alloc;
@@ -265,49 +249,38 @@ fn put_runqueue(
         )?.as_str(),
     )?;
     put_scale(alloc, out, frame, base)?;
-    let readings = scene.history.sums.as_slice();
-    put_curve(
-        alloc,
-        out,
-        frame,
-        base,
-        "t",
-        &points_of(alloc, frame, readings, cpu, Sum::This)?,
-    )?;
-    put_curve(
-        alloc,
-        out,
-        frame,
-        base,
-        "w",
-        &points_of(alloc, frame, readings, cpu, Sum::Running)?,
-    )?;
-    let admitted = Sum::Admitted {
-        max_bw: scene.limits.get(cpu as usize).copied().unwrap_or(0),
-    };
-    let points = points_of(alloc, frame, readings, cpu, admitted)?;
-    put_curve(alloc, out, frame, base, "d", &points)?;
-    put_admitted(alloc, out, frame, base, &points)
+    put_curve(alloc, out, frame, base, "t", &curves.this_bw)?;
+    put_curve(alloc, out, frame, base, "w", &curves.running_bw)?;
+    put_curve(alloc, out, frame, base, "d", &curves.admitted)?;
+    put_admitted(alloc, out, frame, base, &curves.admitted)
 }
 
 /// Draws lanes, until the document is too large.
-fn put_rows(
+fn put_lanes(
     alloc: Global,
     out: &mut Vec<u8>,
-    scene: RecordScene<'_>,
+    tasks: &[TaskName],
     frame: PictureFrame,
-    rows: &[LaneRow],
+    layouts: &[LaneLayout],
 ) -> Result<(), AllocError> {
-    for row in rows {
+    for layout in layouts {
         if out.len() >= MOST {
             break;
         }
-        if row.is_first {
-            put_runqueue(alloc, out, scene, frame, row.lane.cpu, row.y)?;
+        if let Some(curves) = &layout.curves {
+            put_runqueue(alloc, out, frame, layout.row, curves)?;
         }
-        put_lane(alloc, out, scene, frame, *row)?;
+        put_lane(alloc, out, tasks, layout)?;
     }
     Ok(())
+}
+
+/// Where the last lane ends.
+fn foot_of(layouts: &[LaneLayout]) -> u64 {
+    match layouts.last() {
+        Some(layout) => layout.row.y.saturating_add(LANE + 8),
+        None => TOP + 20,
+    }
 }
 
 /// A line through all lanes at the first deviation.
@@ -371,21 +344,12 @@ pub(crate) fn put_drawing(
     lanes: &[Lane],
     grain: Grain,
 ) -> Result<(), AllocError> {
-    let frame = PictureFrame {
-        span: scene.span,
-        unit: grain.unit,
-    };
-    let rows = rows_of(
-        alloc,
-        lanes.get(..grain.lanes.min(lanes.len())).unwrap_or(&[]),
-    )?;
-    let y = match rows.last() {
-        Some(row) => row.y.saturating_add(LANE + 8),
-        None => TOP + 20,
-    };
+    let frame = frame_of(scene, grain);
+    let layouts = layouts_of(alloc, scene, grain, lanes)?;
+    let y = foot_of(&layouts);
     put_head(alloc, out, trace, scene.span, y.saturating_add(60))?;
     put_axis(alloc, out, frame, TOP, y)?;
-    put_rows(alloc, out, scene, frame, &rows)?;
+    put_lanes(alloc, out, scene.tasks, frame, &layouts)?;
     put_deviation(alloc, out, scene, frame, y)?;
     put_notes(alloc, out, grain, lanes.len(), y.saturating_add(52))?;
     put(out, "</svg>\n")

@@ -1,7 +1,7 @@
 //! Marks: the kernel's timers.
 
 ghost use Rattle.std.specs.Prelude.{◌≡◌, IfOk};
-ghost use Rattle.state_picture.specs.Marks.{is_marked_by, kind_by, marks_in};
+ghost use Rattle.state_picture.specs.Marks.{all_marks_in, is_marked_by, kind_by, marks_in};
 
 use crate::frame::PictureFrame;
 use crate::lane::Lane;
@@ -74,5 +74,22 @@ pub fn marks_of(
             last = x;
         }
     }
+    Ok(marks)
+}
+
+/// The marks of a lane, of all kinds: those that differ come last, above the others.
+pub fn all_marks_of(
+    alloc: Global,
+    frame: PictureFrame,
+    observations: &[Observation],
+    lane: Lane,
+) -> Result<Vec<TimerMark>, AllocError>
+    ensures { IfOk result (λ v. v.items ≡ all_marks_in frame lane observations.now) }
+{
+    let mut marks = marks_of(alloc, frame, observations, lane, MarkKind::ZeroLag)?;
+    let replenishments = marks_of(alloc, frame, observations, lane, MarkKind::Replenishment)?;
+    let deviations = marks_of(alloc, frame, observations, lane, MarkKind::Deviation)?;
+    marks.extend_from_slice(&replenishments)?;
+    marks.extend_from_slice(&deviations)?;
     Ok(marks)
 }

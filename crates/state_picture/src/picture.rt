@@ -2,8 +2,9 @@
 
 ghost use Rattle.std.specs.Prelude.{◌≡◌, ◌<◌, ◌^◌, IfOk, vec_len};
 
-use crate::drawing::{Grain, put_drawing};
+use crate::drawing::put_drawing;
 use crate::lane::lanes_of;
+use crate::layout::Grain;
 use deadline_states::RecordScene;
 use std::alloc::{AllocError, Global};
 
