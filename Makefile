@@ -8,11 +8,15 @@ FLAGS ?=
 TRACE ?= examples/kernel/trace.txt
 WORDS ?= tasks
 
-.PHONY: build runner tracer run try try-trace test quick edits growths cases options bench record-check dist install uninstall clean
+.PHONY: build everything runner tracer run try try-trace test quick edits growths cases options bench record-check dist install uninstall clean
 
 # Proves both programs with all that they stand on, and builds them. What is proved is told crate by crate.
 build:
 	@python3 scripts/build.py
+
+# Programs and library, side by side.
+everything:
+	@python3 scripts/build.py grubrun grubtrace neddwyrol neddwyrol_table
 
 # grubrun alone, and grubtrace alone.
 runner:
@@ -44,7 +48,7 @@ edits: build
 
 # Each growth of memory refused in turn, in the tests that are made for it and in the program.
 growths: runner
-	@python3 scripts/refused-growths.py --build
+	@python3 tests/refused-growths.py --build
 
 # All tests, and the programs that have a stored output, with nothing proved.
 quick:
@@ -68,13 +72,13 @@ record-check: tracer
 	scripts/kernel/record-check.sh
 
 # A release that needs no kit, out/neddwyrol-VERSION-x86_64-linux.tar.gz, which is unpacked and tried.
-dist: build library
+dist: everything library
 	@bash scripts/dist.sh
 
 # The programs, their man pages, and the completions of bash, zsh and fish, below PREFIX; DESTDIR goes in front of it.
 SHARE := $(DESTDIR)$(PREFIX)/share
 
-install: build
+install: everything
 	@install -D -m 755 $(PROGRAM) $(DESTDIR)$(PREFIX)/bin/grubrun
 	@install -D -m 755 $(TRACER) $(DESTDIR)$(PREFIX)/bin/grubtrace
 	@for it in grubrun grubtrace; do \

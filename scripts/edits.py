@@ -23,8 +23,8 @@ from shared import ROOT, Tried, each, files_below, ran, text_of
 # No check that goes well takes so many seconds.
 LONGEST = 1800
 KEPT = f"{CACHE}/grub-edits"
-FUNCTION = re.compile(r"^( *)(?:pub(?:\(\w+\))? )?(?:const )?fn (\w+)", re.M)
-TYPE = re.compile(r"^(?:impl|trait)(?:<.*?>)? (?:(?:\w+::)*(\w+)(?:<.*>)? for )?&?(?:\w+::)*(\w+)", re.M)
+FUNCTION = re.compile(r"^( *)(?:pub(?:\(\w+\))? )?(?:const )?(?:unsafe )?(?:extern \"C\" )?fn (\w+)", re.M)
+TYPE = re.compile(r"^(?:impl|trait)(?:<.*?>)? (?:(?:\w+::)*(\w+(?:<.*>)?) for )?&?(?:\w+::)*(\w+)", re.M)
 # A text that cannot be read: then no contract was tried. And what the prover says of a function that it does not admit.
 MISREAD = r"is not in scope|has no field|is no name|operand is missing|expected the end|cannot continue"
 UNREAD = re.compile(rf"^(?:\./)?src/\S+?:\d+:\d+: error(?:\[|: (?!`)|: .*(?:{MISREAD})).*$", re.M)
@@ -42,7 +42,7 @@ def function_at(path, before):
         return None
     types = TYPE.findall(before) if indent else []
     if types:
-        return f"{types[-1][1]}{types[-1][0]}::{name}"
+        return types[-1][1] + re.sub(r"\W", "", types[-1][0]) + f"::{name}"
     return "::".join([it for it in path[len("src/"):-len(".rt")].split("/") if it not in ("lib", "main")] + [name])
 
 

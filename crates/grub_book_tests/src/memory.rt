@@ -123,7 +123,7 @@ fn call(task: u32, op: Op, reply: Reply) -> Event {
     }
 }
 
-/// Passes too where any one growth is refused (`scripts/refused-growths.sh`).
+/// Passes too where any one growth is refused (`tests/refused-growths.py`).
 #[test]
 fn refused_growths(rt: HostRuntime) {
     let setup = setup_after_all(&rt, rt.alloc());

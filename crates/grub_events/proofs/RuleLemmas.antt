@@ -1,5 +1,5 @@
 -- One fact more, from the front.
-use Rattle.std.proofs.Common.{◌≡◌, ◌<◌, ◌+◌, ◌++◌, ℕ, zero, suc, List, [], ◌∷◌, Option, None, length, drop, get_or, set, refl, arith, append_assoc, add-one, if◌then◌else◌}
+use Rattle.std.proofs.Common.{◌≡◌, ◌<◌, ◌+◌, ◌++◌, ℕ, zero, suc, List, [], ◌∷◌, Option, None, length, drop, get_or, set, refl, arith, append_assoc, add-one}
 use Rattle.std.proofs.Math.Seq.{drop-cons}
 use Rattle.grub_facts.specs.declared.fact.Fact.{Fact}
 use Rattle.grub_events.specs.Rules.{sent_to, told, told_all, standing_after}

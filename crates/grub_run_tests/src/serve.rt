@@ -289,7 +289,7 @@ fn reports_or_refuses<R: Files + Threads + Wait + Sync>(rt: &R, alloc: Global, p
     }
 }
 
-/// Passes with ample memory, and with any one of its growths refused: `scripts/refused-growths.sh` runs it so once for
+/// Passes with ample memory, and with any one of its growths refused: `tests/refused-growths.py` runs it so once for
 /// each.
 #[test]
 fn refused_growths(rt: HostRuntime) {

@@ -59,7 +59,7 @@ fn is_refusal(fault: ShowFault) -> bool {
     }
 }
 
-// The next four pass with ample memory, and with any one of their growths refused: `scripts/refused-growths.sh` runs them
+// The next four pass with ample memory, and with any one of their growths refused: `tests/refused-growths.py` runs them
 // so once for each.
 
 #[test]

@@ -215,7 +215,7 @@ fn expect_views<R: Abort + Threads + Sync>(
     assert!(rt; is_right(two, moving));
 }
 
-// The next four pass with ample memory, and with any one of their growths refused: `scripts/refused-growths.sh` runs them
+// The next four pass with ample memory, and with any one of their growths refused: `tests/refused-growths.py` runs them
 // so once for each.
 
 #[test]

@@ -254,7 +254,7 @@ fn expect_armed_below(rt: &impl Abort, pair: &Pair, t: u32) {
     }
 }
 
-/// Passes too where any one growth is refused (`scripts/refused-growths.sh`).
+/// Passes too where any one growth is refused (`tests/refused-growths.py`).
 #[test]
 fn a_refused_growth_changes_nothing(rt: HostRuntime) {
     let mut pair = Pair::new(&rt, rt.alloc());

@@ -56,7 +56,7 @@ fn is_refusal(fault: GrubFault) -> bool {
     }
 }
 
-// The next three pass with ample memory, and with any one of their growths refused: `scripts/refused-growths.sh` runs them
+// The next three pass with ample memory, and with any one of their growths refused: `tests/refused-growths.py` runs them
 // so once for each.
 
 #[test]

@@ -1,5 +1,5 @@
 //! What is answered where a growth is refused. Each test passes with ample memory, and with any one of its growths
-//! refused: `scripts/refused-growths.sh` runs it so once for each. What was refused once is asked for a second time.
+//! refused: `tests/refused-growths.py` runs it so once for each. What was refused once is asked for a second time.
 
 use super::texts::{EXAMPLE_LINES, are_of, example_entries, is_of, is_text};
 use super::*;

@@ -107,7 +107,7 @@ fn serves_or_refuses<R: Files + Threads + Wait + Sync>(
     }
 }
 
-/// Passes with ample memory, and with any one of its growths refused: `scripts/refused-growths.sh` runs it so once for
+/// Passes with ample memory, and with any one of its growths refused: `tests/refused-growths.py` runs it so once for
 /// each.
 #[test]
 fn refused_growths(rt: HostRuntime) {

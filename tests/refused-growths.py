@@ -10,6 +10,8 @@ import tempfile
 from concurrent.futures import ThreadPoolExecutor
 from itertools import count
 
+sys.path.append(f"{os.path.dirname(os.path.abspath(__file__))}/../scripts")
+# pylint: disable=wrong-import-position
 from crates import crates
 from shared import ROOT, Tried, built, files_below, ran, text_of
 
