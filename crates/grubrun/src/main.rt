@@ -1,4 +1,4 @@
-//! The program `grubrun`: plays event files against the reference book-keeper, and prints their reports.
+//! The program `grubrun`: plays event files by the book, and prints their reports or a view.
 #![tactic(auto)]
 
 mod serve;
@@ -24,6 +24,3 @@ fn main(rt: HostRuntime) -> ExitCode {
     };
     ExitCode::from(status)
 }
-
-#[cfg(test)]
-mod tests;
