@@ -181,7 +181,9 @@ def main():
     os.makedirs(f"{ROOT}/out", exist_ok=True)
     os.makedirs(KEPT, exist_ok=True)
     tried = Tried("edits")
-    own = [[it for it in edits if it.crate is crate] for crate in sorted({it.crate for it in edits}, key=lambda it: -it.weight)]
+    # (first those that read most, since a check reads all that its crate stands on)
+    most = {it: sum(known[low].weight for low in [*it.below, it.name]) for it in known.values()}
+    own = [[it for it in edits if it.crate is crate] for crate in sorted({it.crate for it in edits}, key=most.get, reverse=True)]
     with tempfile.TemporaryDirectory(prefix="edits-", dir=f"{ROOT}/out") as room, ThreadPoolExecutor(lanes(ROOM)) as pool:
         for told in pool.map(Trial(libraries, room, time.time() + 60 * given.minutes).run, own):
             for edit, wrong in told.items():
