@@ -43,7 +43,7 @@ def try_program(program, words):
     """One run of a program, in a folder of its own, so each file is handed over under the name that the words give it."""
     below = [it for it in words if os.path.isfile(it) and not it.startswith("/") and ".." not in it.split("/")]
     given = [os.path.realpath(it) if os.path.isfile(it) and it not in below else it for it in words]
-    print(f"try: {program} as it stands, with nothing proved; this takes about a minute", file=sys.stderr, flush=True)
+    print(f"try: {program} as it stands, with nothing proved; this takes a minute or two", file=sys.stderr, flush=True)
     done = run(f"{ROOT}/crates/{program}", {it: os.path.realpath(it) for it in below}, given)
     sys.stdout.write(done.stdout)
     said = done.stderr.splitlines(True)
