@@ -1,10 +1,10 @@
 #!/usr/bin/env python3
 """edits.py [--minutes N] [NAME | NAME/EDIT]..: tries the must-fail edits of crates/NAME/edits. The prover must refuse each, or
 the language, by the error that a line 'error: NAME' of the edit names. Only the functions that edits turn are checked, over
-the libraries that `rt ci` or scripts/build.py left: a function is proved from the contracts of those that it calls. Edits of a
-crate that turn different functions are tried in one check; what that does not refuse is tried alone, and then in a check of the
-whole crate. What was refused is kept on this machine, by a sum of all that its check read. What is not tried in N minutes has
-failed. The last line is 'N passed, M failed'."""
+the libraries that `rt ci` or scripts/build.py left: a function is proved from the contracts of those that it calls. All edits of
+a crate are tried in one check, each in a copy of its function. What that does not refuse is tried alone, in its place, and then in
+a check of the whole crate. What was refused is kept on this machine, by a sum of all that its
+check read. What is not tried in N minutes has failed. The last line is 'N passed, M failed'."""
 import argparse
 import hashlib
 import os
@@ -23,7 +23,7 @@ from shared import ROOT, Tried, each, files_below, ran, text_of
 # No check that goes well takes so many seconds.
 LONGEST = 1800
 KEPT = f"{CACHE}/grub-edits"
-FUNCTION = re.compile(r"^( *)(?:pub(?:\(\w+\))? )?(?:const )?(?:unsafe )?(?:extern \"C\" )?fn (\w+)", re.M)
+FUNCTION = re.compile(r"^( *)(?:#\[.*\]\n *)*(?:pub(?:\(\w+\))? )?(?:const )?(?:unsafe )?(?:extern \"C\" )?fn (\w+)", re.M)
 TYPE = re.compile(r"^(?:impl|trait)(?:<.*?>)? (?:(?:\w+::)*(\w+(?:<.*>)?) for )?&?(?:\w+::)*(\w+)", re.M)
 # A text that cannot be read: then no contract was tried. And what the prover says of a function that it does not admit.
 MISREAD = r"is not in scope|has no field|is no name|operand is missing|expected the end|cannot continue"
@@ -35,15 +35,24 @@ CALLEES = re.compile(r"[:;] (?:it (?:calls .*, which (?:is|are) not proved|waits
 LACKS = re.compile(r"has no field|is not in scope|has no `|was not admitted")
 
 
-def function_at(path, before):
-    """By which name, with its type or module, `--only` knows the function that a text ends in. None is outside of all."""
-    *_, (start, indent, name) = [(None, "", ""), *((it.end(), *it.groups()) for it in FUNCTION.finditer(before))]
-    if start is None or f"\n{indent}}}\n" in before[start:]:
-        return None
-    types = TYPE.findall(before) if indent else []
-    if types:
-        return types[-1][1] + re.sub(r"\W", "", types[-1][0]) + f"::{name}"
-    return "::".join([it for it in path[len("src/"):-len(".rt")].split("/") if it not in ("lib", "main")] + [name])
+class Function:
+    """The function of a file that stands around a place: its name as `--only` knows it, with its type or module, and its text."""
+
+    def __init__(self, file, text, found, end):
+        *_, kind = [None, *TYPE.finditer(text[:found.start()] if found[1] else "")]
+        module = [it for it in file[len("src/"):-len(".rt")].split("/") if it not in ("lib", "main")]
+        owner = [kind[2] + re.sub(r"\W", "", kind[1] or "")] if kind else []
+        self.file, self.end, self.text, self.last = file, end, text[found.start():end], found[2]
+        self.name, self.proofs = "::".join([*(owner or module), found[2]]), "/".join(["proofs", *module, *owner, found[2]])
+        # (neither a trait nor an impl of one has room for a copy)
+        self.is_free = not kind or not kind[1] and kind[0].startswith("impl")
+
+
+def function_at(file, text, at):
+    """The function around a place of a file's text. None is outside of all."""
+    found = ([None, *FUNCTION.finditer(text[:at])])[-1]
+    end = text.find(f"\n{found[1]}}}\n", found.end()) if found else -1
+    return Function(file, text, found, end + len(f"\n{found[1]}}}\n")) if end >= at - 1 else None
 
 
 class Edit:
@@ -51,7 +60,7 @@ class Edit:
 
     def __init__(self, crate, path):
         self.crate, self.label = crate, f"{crate.name}/{os.path.basename(path).removesuffix('.edit')}"
-        self.files, self.turns, self.functions, self.error, self.bad = {}, [], set(), None, []
+        self.files, self.turns, self.functions, self.error, self.bad, around = {}, [], set(), None, [], []
         for key, value in re.findall(r"^(file|old|new|error): (.*)$", text_of(path), re.M):
             if key == "file":
                 file = value.strip()
@@ -64,15 +73,18 @@ class Edit:
                 before, *after = self.files[file].split(old)
                 if len(after) != 1 or old == value:
                     self.bad.append(f"BAD: {len(after)} places of {file} are turned: {old}")
+                around.append(function_at(file, self.files[file], len(before + old)))
                 self.files[file] = self.files[file].replace(old, value)
                 self.turns.append((file, old, value))
-                self.functions.add(function_at(file, before + old))
+        self.functions = {it and it.name for it in around}
         self.bad = self.bad if self.functions else ["BAD: it changes nothing"]
+        # The function as it was, where the edit turns that alone, and a copy of it can stand beside it.
+        self.copied = around[0] if len(self.functions) == 1 and around[0] and around[0].is_free and not self.error else None
 
-    def is_refused(self, said):
-        """Whether one of its functions is refused for itself, not for one that it calls or for what another edit took away."""
+    def is_refused(self, said, functions):
+        """Whether one of these functions is refused for itself, not for one that it calls or for what another edit took away."""
         for name, why in VERDICT.findall(said):
-            if any(name.endswith(f"::{it}") for it in self.functions):
+            if any(name.endswith(f"::{it}") for it in functions):
                 path = name.partition("::")[2].replace("::", "/")
                 told = re.findall(rf"^\./proofs/{path}/\w+\.antt:\d+:\d+: error: (.*)$", said, re.M)
                 if any(not LACKS.search(it) for it in told) or not told and (CALLEES.sub("", why) or not why):
@@ -80,12 +92,22 @@ class Edit:
         return False
 
 
-def together(edits):
-    """The texts of a crate's files with all of these edits."""
-    files = {}
-    for file, old, new in (turn for it in edits for turn in it.turns):
-        files[file] = files.get(file, text_of(f"{edits[0].crate.folder}/{file}")).replace(old, new)
-    return files
+def beside(edits):
+    """The texts of a crate's files where copies of functions have these edits, and the names of the copies, by edits."""
+    files, names = {}, {}
+    for number, edit in enumerate(sorted(edits, key=lambda it: it.copied.end, reverse=True)):
+        it, text = edit.copied, edit.copied.text
+        for _, old, new in edit.turns:
+            text = text.replace(old, new)
+        last = f"{it.last}_{number}"
+        text = re.sub(rf"\bfn {it.last}\b", f"fn {last}", text.replace("#[unsafe(no_mangle)]\n", ""), count=1)
+        whole = files.get(it.file) or text_of(f"{edit.crate.folder}/{it.file}")
+        files[it.file] = f"{whole[:it.end]}\n{text}{whole[it.end:]}"
+        names[edit] = it.name.removesuffix(it.last) + last
+        for path in files_below(f"{edit.crate.folder}/{it.proofs}"):
+            moved = os.path.relpath(path, edit.crate.folder).replace(it.proofs, it.proofs.removesuffix(it.last) + last, 1)
+            files[moved] = re.sub(rf"((?:proofs|contracts)\.(?:\w+\.)*){it.last}\.", rf"\1{last}.", text_of(path))
+    return files, names
 
 
 class Trial:
@@ -107,6 +129,7 @@ class Trial:
             for folder in filter(os.path.isdir, crate.parts):
                 shutil.copytree(folder, f"{tree}/{os.path.basename(folder)}")
             for path, text in files.items():
+                os.makedirs(os.path.dirname(f"{tree}/{path}"), exist_ok=True)
                 with open(f"{tree}/{path}", "w", encoding="utf-8") as it:
                     it.write(text)
             # (what a check of the crate proved, the next one of it takes from there)
@@ -134,15 +157,11 @@ class Trial:
             return [f"BAD: {misread[0][:200] if misread else f'the check ended with status {status}: {said[-300:]}'}"]
         return []
 
-    def refused_at_once(self, edits):
-        """Which of these edits of a crate are refused in one check of all that turn different functions."""
-        batch, functions = [], set()
-        for edit in edits:
-            if not edit.error and None not in edit.functions and not edit.functions & functions:
-                batch.append(edit)
-                functions |= edit.functions
-        status, said = self.check(batch[0].crate, together(batch), functions) if len(batch) > 1 else (0, "")
-        return [it for it in batch if status == 1 and not UNREAD.search(said) and it.is_refused(said)]
+    def refused_in_copies(self, edits):
+        """Which of these edits of a crate are refused in one check, each in a copy of its function."""
+        files, names = beside([it for it in edits if it.copied])
+        status, said = self.check(edits[0].crate, files, set(names.values())) if names else (0, "")
+        return [it for it, name in names.items() if status == 1 and not UNREAD.search(said) and it.is_refused(said, [name])]
 
     def kept(self, edit):
         """Where it is kept that an edit was refused."""
@@ -153,14 +172,14 @@ class Trial:
         """What is wrong with each of these edits of a crate, tried now or kept."""
         wrong = {it: it.bad for it in edits}
         left = [it for it in edits if not it.bad and not os.path.isfile(self.kept(it))]
+        done = self.refused_in_copies(left) if left else []
         while left and time.time() < self.end:
-            done = self.refused_at_once(left)
             if not done:
                 done, wrong[left[0]] = left[:1], self.faults(left[0])
             for edit in (it for it in done if not wrong[it]):
                 with open(self.kept(edit), "w", encoding="utf-8") as it:
                     it.write(edit.label)
-            left = [it for it in left if it not in done]
+            left, done = [it for it in left if it not in done], []
         return {**wrong, **{it: ["NOT TRIED: the time was over"] for it in left}}
 
 

@@ -6,7 +6,7 @@ use crate::reply::Reply;
 use crate::reservation::Reservation;
 use crate::state::State;
 
-/// How often a task may wait for its 0-lag moment.
+/// How often a task may wait for its 0-lag time.
 const COUNT_MAX: u32 = 16777215;
 
 #[derive(Clone, Copy)]

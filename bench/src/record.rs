@@ -11,7 +11,7 @@ use crate::server::Server;
 use crate::state::State;
 use crate::sums::Sums;
 
-/// Where it is, how often it waited for its 0-lag moment, and its server.
+/// Where it is, how often it waited for its 0-lag time, and its server.
 #[derive(Clone, Copy)]
 pub struct Record {
     pub place: Place,

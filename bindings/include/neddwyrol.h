@@ -61,7 +61,7 @@ typedef struct {
     uint32_t number;   /* the ticket of ND_WAITING, the runqueue of ND_LEFT, ND_ALREADY_ON and ND_ELSEWHERE, how often
                           ND_CHARGED recharged */
     uint32_t budget;   /* of ND_JOINED, ND_WOKEN and ND_CHARGED: what is left of the runtime */
-    uint32_t deadline; /* of the same: the deadline; of ND_WAITING and ND_EARLY: the 0-lag moment */
+    uint32_t deadline; /* of the same: the deadline; of ND_WAITING and ND_EARLY: the 0-lag time */
     uint64_t charged;  /* of ND_CHARGED: what was taken from the budget */
 } nd_reply;
 
@@ -107,8 +107,8 @@ typedef struct {
 enum {
     ND_AWAY = 0,           /* on no runqueue */
     ND_CONTENDING = 1,     /* ready or executing */
-    ND_NON_CONTENDING = 2, /* blocked, and its 0-lag moment is to come */
-    ND_INACTIVE = 3,       /* blocked, and its 0-lag moment has passed */
+    ND_NON_CONTENDING = 2, /* blocked, and its 0-lag time is to come */
+    ND_INACTIVE = 3,       /* blocked, and its 0-lag time has passed */
     ND_GONE_FOR_GOOD = 4
 };
 
@@ -150,7 +150,7 @@ enum {
     ND_STILL_ACTIVE = 16,       /* an exit or retune of an active task */
     ND_WORN = 17,               /* a block of a task whose count is 16777215, the highest */
     ND_STALE = 18,              /* a timer that is not that of the task's latest block, or whose task does not wait */
-    ND_EARLY = 19,              /* a timer before the 0-lag moment */
+    ND_EARLY = 19,              /* a timer before the 0-lag time */
     ND_FULL = 20,               /* the runqueue would have more than its umax */
     ND_DEADLINE_OVERFLOW = 21,  /* the deadline would be after 4294967295 */
     /* more faults of numbers */
@@ -218,7 +218,7 @@ uint32_t nd_bw(nd_params params);
 /* The calls below write what they are to find, and answer 0. Else they answer the first fault in the order that is given,
  * and write nothing.
  *
- * The 0-lag moment of a server, deadline - budget * period / runtime, where the quotient is rounded down. It may be below
+ * The 0-lag time of a server, deadline - budget * period / runtime, where the quotient is rounded down. It may be below
  * 0. Faults: 1, 2, 3, 60. */
 uint32_t nd_zero_lag(nd_server server, nd_params params, int64_t *z);
 

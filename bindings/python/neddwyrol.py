@@ -290,7 +290,7 @@ def bw(runtime, period):
 
 
 def zero_lag(server, params):
-    """The 0-lag moment of a server (budget, deadline) of a reservation (runtime, period); it may be below 0."""
+    """The 0-lag time of a server (budget, deadline) of a reservation (runtime, period); it may be below 0."""
     z = c_int64()
     _unless("nd_zero_lag", _lib.nd_zero_lag(Server(*map(_u32, server)), Params(*map(_u32, params)), byref(z)))
     return z.value

@@ -324,7 +324,7 @@ impl Capacity {
 }
 
 impl Server {
-    /// The 0-lag moment, which may be below 0.
+    /// The 0-lag time, which may be below 0.
     pub fn zero_lag(self, params: Params) -> Result<i64, Fault> {
         let mut z = 0;
         // SAFETY: it points to a number of its own. So in the calls below.

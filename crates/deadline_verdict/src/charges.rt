@@ -76,7 +76,7 @@ fn less_charged(first: &Observation, parameters: Parameters) -> i64 {
     budget.clamp(i128::from(i64::MIN), i128::from(i64::MAX)) as i64
 }
 
-/// Appends what the kernel's 0-lag moment means: how much it charged.
+/// Appends what the kernel's 0-lag time means: how much it charged.
 pub(crate) fn put_implied(
     alloc: Global,
     out: &mut Vec<u8>,

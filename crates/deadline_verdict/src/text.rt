@@ -249,7 +249,7 @@ fn put_cause(out: &mut Vec<u8>, cause: Cause) -> Result<(), AllocError> {
             Cause::Budget =>
                 b"  looks like a budget: this task alone deviates, again and again. See its reservation and flags\n".as_slice(),
             Cause::Moment =>
-                b"  looks like a moment: the task's next block agrees. A busy or emulated machine lags by up to 100 us (--within 100); by more it is a line of the run that is missing\n".as_slice(),
+                b"  looks like a moment: the task's next block agrees. A busy or emulated machine lags by up to 100 us (--within 100); by more, a line is lost or the host paused within a wake\n".as_slice(),
             Cause::Mixed =>
                 b"  looks like none of a sum, a budget and a moment alone. See the reservation of the task that is farthest off\n".as_slice(),
         },

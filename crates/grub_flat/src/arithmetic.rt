@@ -46,7 +46,7 @@ pub fn bandwidth(params: NdParams) -> u32
     }
 }
 
-/// The 0-lag moment of a server, which may be before 0. Faults: 1, 2, 3, 60.
+/// The 0-lag time of a server, which may be before 0. Faults: 1, 2, 3, 60.
 pub fn zero_lag_of(server: NdServer, params: NdParams, z: &mut i64) -> u32
     ensures fault { result ≡ server_fault (server_of server) (reservation_of params) }
     ensures value { result ≡ DONE → z.new

@@ -28,7 +28,7 @@ pub struct NdReply {
     /// What is left of the budget, after a join, a wake and a charge.
     pub budget: u32,
 
-    /// The deadline after a join, a wake and a charge; the 0-lag moment of a block that waits and of an early timer.
+    /// The deadline after a join, a wake and a charge; the 0-lag time of a block that waits and of an early timer.
     pub deadline: u32,
 
     /// What a charge took from the budget.

@@ -75,7 +75,7 @@ pub(crate) fn task_of(held: &Record) -> NdTask
     }
 }
 
-/// The 0-lag moment of a task that contends on runqueue `r`, where its block at `m` waits for it.
+/// The 0-lag time of a task that contends on runqueue `r`, where its block at `m` waits for it.
 #[inline(always)]
 pub(crate) fn waits_until(task: &NdTask, r: u32, m: u32) -> Option<u32>
     ensures on { IfSome result (λ z. (task.now.state ≡ 1) × (task.now.queue ≡ r)) }

@@ -60,7 +60,7 @@ fn put_key(out: &mut Vec<u8>) -> Result<(), AllocError> {
         b"<rect class=\"c\" x=\"130\" y=\"49\" width=\"18\" height=\"12\"/><text x=\"154\" y=\"60\">contending: ready or running</text>\n",
     )?;
     out.extend_from_slice(
-        b"<rect class=\"w\" x=\"450\" y=\"52\" width=\"18\" height=\"7\"/><text x=\"474\" y=\"60\">blocked, active until its 0-lag moment</text>\n",
+        b"<rect class=\"w\" x=\"450\" y=\"52\" width=\"18\" height=\"7\"/><text x=\"474\" y=\"60\">blocked, active until its 0-lag time</text>\n",
     )?;
     out.extend_from_slice(
         b"<rect class=\"i\" x=\"714\" y=\"55\" width=\"18\" height=\"2\"/><text x=\"738\" y=\"60\">inactive on this runqueue</text>\n",

@@ -114,7 +114,7 @@ fn look_of(state: State) -> Look {
             class: b"w",
             top: 5,
             height: 7,
-            word: b"waiting for its 0-lag moment",
+            word: b"waiting for its 0-lag time",
         },
         State::Inactive => Look {
             class: b"i",

@@ -72,21 +72,21 @@ pub fn is_left(answer: Answer) -> bool
     matches!(answer, Answer::Replied(Reply::Left { .. }))
 }
 
-/// The answer tells of a block before the 0-lag moment.
+/// The answer tells of a block before the 0-lag time.
 pub fn is_waiting(answer: Answer) -> bool
     ensures { result ≡ is_waiting answer }
 {
     matches!(answer, Answer::Replied(Reply::Waiting { .. }))
 }
 
-/// The answer tells of a block at the 0-lag moment or after it.
+/// The answer tells of a block at the 0-lag time or after it.
 pub fn is_asleep(answer: Answer) -> bool
     ensures { result ≡ is_asleep answer }
 {
     matches!(answer, Answer::Replied(Reply::Asleep))
 }
 
-/// The answer tells that the 0-lag moment came while the task waited.
+/// The answer tells that the 0-lag time came while the task waited.
 pub fn is_retired(answer: Answer) -> bool
     ensures { result ≡ is_retired answer }
 {

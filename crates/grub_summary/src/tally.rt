@@ -30,13 +30,13 @@ pub struct Tally {
     /// How often it left a runqueue.
     pub moves: usize,
 
-    /// Blocks before the 0-lag moment.
+    /// Blocks before the 0-lag time.
     pub waits: usize,
 
-    /// Blocks at the 0-lag moment or after it.
+    /// Blocks at the 0-lag time or after it.
     pub sleeps: usize,
 
-    /// How often its 0-lag moment came while it waited.
+    /// How often its 0-lag time came while it waited.
     pub retired: usize,
 
     /// The least budget that was told, or the runtime that was declared, where that is less.

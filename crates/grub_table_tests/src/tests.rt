@@ -1,6 +1,7 @@
-//! The worked examples of the table, and what no clause says: memory that is refused, and threads.
+//! The worked examples of the table and of its words, and what no clause says: memory that is refused, and threads.
 
 mod examples;
 mod fixtures;
 mod growths;
 mod threads;
+mod words;

@@ -18,6 +18,3 @@ pub use item_line::LineOf;
 pub use lines::{first_line, first_word, space_in};
 pub use pieces::{DIGITS_MAX, LINE_MAX, append, append_number, put_number};
 pub use writing::{MANY_LINES, write_lines};
-
-#[cfg(test)]
-mod tests;

@@ -27,7 +27,7 @@ struct AnswerNumbers {
     /// The deadline.
     d: Option<u32>,
 
-    /// The 0-lag moment.
+    /// The 0-lag time.
     z: Option<u32>,
 }
 

@@ -6,7 +6,7 @@ ghost use Rattle.grub_wheel.specs.inside.Order.{is_before};
 /// The timer of a blocked task.
 #[derive(Clone, Copy, Debug, PartialEq, Eq)]
 pub struct Timer {
-    /// The task's 0-lag moment, from which on the timer is due.
+    /// The task's 0-lag time, from which on the timer is due.
     pub z: u32,
 
     /// The number of the task.

@@ -16,6 +16,3 @@ pub use params::{pack_params, unpack_params};
 pub use queue::{pack_queue, queue_fits, unpack_queue};
 pub use server::{pack_server, server_fits, unpack_server};
 pub use task::{TaskWord, pack_task, task_fits, unpack_task};
-
-#[cfg(test)]
-mod tests;

@@ -1,4 +1,4 @@
-//! A task that moves from one runqueue to another while it waits for its 0-lag moment.
+//! A task that moves from one runqueue to another while it waits for its 0-lag time.
 
 /// The event file of the runqueue that it leaves.
 pub const FROM: &str = "\

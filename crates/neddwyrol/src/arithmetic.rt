@@ -40,7 +40,7 @@ pub extern "C" fn nd_bw(params: NdParams) -> u32
     bandwidth(params)
 }
 
-/// The 0-lag moment of a server, which may be before 0. Faults: 1, 2, 3, 60.
+/// The 0-lag time of a server, which may be before 0. Faults: 1, 2, 3, 60.
 #[unsafe(no_mangle)]
 pub extern "C" fn nd_zero_lag(server: NdServer, params: NdParams, z: &mut i64) -> u32
     ensures fault { result ≡ server_fault (server_of server) (reservation_of params) }

@@ -179,7 +179,7 @@ fn with_wait(task: DeadlineTask, at: u64, hundredths: i64) -> DeadlineTask {
     }
 }
 
-/// The task by which the 0-lag moment of a block at this moment is reckoned; none where the rule of blocks is not changed.
+/// The task by which the 0-lag time of a block at this moment is reckoned; none where the rule of blocks is not changed.
 pub(crate) fn blocks_as(change: RuleChange, task: DeadlineTask, at: u64) -> Option<DeadlineTask> {
     match change {
         RuleChange::ZeroLagByDeadline => {

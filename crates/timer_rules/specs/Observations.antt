@@ -18,7 +18,7 @@ use Rattle.timer_rules.specs.Tasks.{ends_of}
 abbrev pub distance_of : ℕ → ℕ → ℤ
 distance_of a b = signed (less a b)
 
--- the 0-lag moment: the deadline less the time in which the reservation gives the budget
+-- the 0-lag time: the deadline less the time in which the reservation gives the budget
 abbrev pub zero_lag_moment_of : DeadlineTask → ℕ
 zero_lag_moment_of t = cast_unsigned w64 (zero_lag_of t.entity 0)
 

@@ -79,7 +79,7 @@ fn distance(a: u64, b: u64) -> i64
     a.wrapping_sub(b).cast_signed()
 }
 
-/// The 0-lag moment of a task (`task_non_contending`): its deadline less the time in which the reservation gives the budget.
+/// The 0-lag time of a task (`task_non_contending`): its deadline less the time in which the reservation gives the budget.
 pub fn zero_lag_moment(task: DeadlineTask) -> u64
     ensures { result ≡ zero_lag_moment_of task }
 {
@@ -116,7 +116,7 @@ pub fn answer_of(knowledge: Knowledge, difference: i64, within: u64) -> Observed
     }
 }
 
-/// The 0-lag moments at a block of this moment. The kernel's timer is relative, and its base is read later than the charge: by as much as
+/// The 0-lag times at a block of this moment. The kernel's timer is relative, and its base is read later than the charge: by as much as
 /// the line that starts it is behind the charge's.
 pub fn block_moments(task: DeadlineTask, at: u64) -> Moments
     ensures { result ≡ block_moments_of task at }

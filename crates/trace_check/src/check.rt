@@ -314,6 +314,85 @@ fn with_states<'o>(
     Ok(verdict)
 }
 
+/// Reads the trace of a path, to its end or to its first line with a fault.
+fn read_trace<
+    'o,
+    D: Drop,
+    O: Fn(&str) -> io::Result<D>,
+    N: Fn(&mut D, &mut [u8]) -> io::Result<usize>,
+>(
+    alloc: Global,
+    opens: &O,
+    read: &N,
+    path: &str,
+    gathering: &mut Gathering<'o>,
+) -> Result<(), Fault<'o>>
+    requires opens { O.IsAlwaysCallable opens.now }
+    requires read { N.IsAlwaysCallable read.now }
+{
+    match opens(path) {
+        Ok(mut file) => read_lines(alloc, read, &mut file, gathering),
+        Err(_) => Err(Fault::Unreadable),
+    }
+}
+
+/// A fault of the reading, or a task that the trace does not know or does not show.
+fn faultless<'o>(
+    gathering: &Gathering<'o>,
+    read_on: Result<(), Fault<'o>>,
+) -> Result<(), Fault<'o>> {
+    match gathering.unknown() {
+        Ok(unknown) => first_fault(read_on, unknown)?,
+        Err(AllocError) => return Err(Fault::NoMemory),
+    }
+    match gathering.not_found() {
+        Some(name) => Err(Fault::NoSuchTask { name }),
+        None => Ok(()),
+    }
+}
+
+/// The verdict by lines of probes, unless timers are to be compared; none where the trace has none.
+fn verdict_by_probes<'o>(
+    alloc: Global,
+    wanted: CheckRequest<'_>,
+    options: &CheckOptions<'o>,
+    gathering: &mut Gathering<'o>,
+) -> Result<Option<Verdict>, Fault<'o>> {
+    if options.by_timers {
+        return Ok(None);
+    }
+    if gathering.end_probes().is_err() {
+        return Err(Fault::NoMemory);
+    }
+    match probe_verdict(alloc, wanted, options, gathering) {
+        Ok(Some(verdict)) => match with_states(alloc, wanted, options, gathering, verdict) {
+            Ok(verdict) => Ok(Some(verdict)),
+            Err(fault) => Err(fault),
+        },
+        Ok(None) => Ok(None),
+        Err(AllocError) => Err(Fault::NoMemory),
+    }
+}
+
+/// The verdict on what was gathered.
+fn gathered_verdict<'o>(
+    alloc: Global,
+    wanted: CheckRequest<'_>,
+    options: &CheckOptions<'o>,
+    gathering: &mut Gathering<'o>,
+) -> Result<Verdict, Fault<'o>> {
+    if let Some(verdict) = verdict_by_probes(alloc, wanted, options, gathering)? {
+        return Ok(verdict);
+    }
+    match gathering.losing_line() {
+        Some(line) => Err(Fault::Line {
+            line,
+            flaw: Flaw::LostEvents,
+        }),
+        None => timer_verdict(alloc, wanted, options, gathering),
+    }
+}
+
 /// The verdict on the trace of a path.
 fn verdict_of<
     'o,
@@ -334,41 +413,9 @@ fn verdict_of<
     let Ok(mut gathering) = Gathering::new(alloc, options, wanted.table.is_some(), shows) else {
         return Err(Fault::NoMemory);
     };
-    let mut file = match opens(wanted.path) {
-        Ok(file) => file,
-        Err(_) => return Err(Fault::Unreadable),
-    };
-    let read_on = read_lines(alloc, read, &mut file, &mut gathering);
-    match gathering.unknown() {
-        Ok(unknown) => first_fault(read_on, unknown)?,
-        Err(AllocError) => return Err(Fault::NoMemory),
-    }
-    if let Some(name) = gathering.not_found() {
-        return Err(Fault::NoSuchTask { name });
-    }
-    if !options.by_timers {
-        if gathering.end_probes().is_err() {
-            return Err(Fault::NoMemory);
-        }
-        match probe_verdict(alloc, wanted, options, &gathering) {
-            Ok(Some(verdict)) => return with_states(
-                alloc,
-                wanted,
-                options,
-                &mut gathering,
-                verdict,
-            ),
-            Ok(None) => {}
-            Err(AllocError) => return Err(Fault::NoMemory),
-        }
-    }
-    if let Some(line) = gathering.losing_line() {
-        return Err(Fault::Line {
-            line,
-            flaw: Flaw::LostEvents,
-        });
-    }
-    timer_verdict(alloc, wanted, options, &mut gathering)
+    let read_on = read_trace(alloc, opens, read, wanted.path, &mut gathering);
+    faultless(&gathering, read_on)?;
+    gathered_verdict(alloc, wanted, options, &mut gathering)
 }
 
 /// The files of a verdict: none is written where one of them cannot be.
@@ -390,6 +437,32 @@ fn write_files<'o, M: Fn(&str, &[u8]) -> io::Result<()>, R: Fn(&str)>(
         (wanted.picture, shown.picture.as_slice()),
     ];
     make_all(make, remove, &files)
+}
+
+/// Makes the files of a verdict, then prints it, and gives the status.
+fn publish<M: Fn(&str, &[u8]) -> io::Result<()>, R: Fn(&str), W: Write, E: Write>(
+    make: &M,
+    remove: &R,
+    wanted: CheckRequest<'_>,
+    verdict: &Verdict,
+    out: &mut W,
+    faults: &mut E,
+) -> u8
+    requires make { M.IsAlwaysCallable make.now }
+    requires remove { R.IsAlwaysCallable remove.now }
+    ensures status { (result ≡ 0) ⊎ (result ≡ STATUS_DIFFERS) ⊎ (result ≡ STATUS_FILE)
+        ⊎ (result ≡ STATUS_USAGE) ⊎ (result ≡ STATUS_SYSTEM) }
+    ensures nothing { (result ≡ STATUS_FILE) ⊎ (result ≡ STATUS_USAGE) → out.new ≡ out.old }
+{
+    if let Err(fault) = write_files(make, remove, wanted, verdict) {
+        let _ = fault.tell(wanted.path, faults);
+        return fault.status();
+    }
+    if out.write_all(&verdict.text).is_err() || out.flush().is_err() {
+        let _ = Fault::Write.tell(wanted.path, faults);
+        return STATUS_SYSTEM;
+    }
+    if verdict.agrees { 0 } else { STATUS_DIFFERS }
 }
 
 /// Prints the verdict on the trace of a path, or the line of its fault, and gives the status: 0 where the kernel agrees, 4 where
@@ -437,13 +510,5 @@ pub fn serve_check<
             return fault.status();
         }
     };
-    if let Err(fault) = write_files(make, remove, wanted, &verdict) {
-        let _ = fault.tell(wanted.path, faults);
-        return fault.status();
-    }
-    if out.write_all(&verdict.text).is_err() || out.flush().is_err() {
-        let _ = Fault::Write.tell(wanted.path, faults);
-        return STATUS_SYSTEM;
-    }
-    if verdict.agrees { 0 } else { STATUS_DIFFERS }
+    publish(make, remove, wanted, &verdict, out, faults)
 }

@@ -1,5 +1,6 @@
 //! The command line of `grubtrace check`.
 
+use crate::plain::{PlainOption, option, with_options};
 use crate::texts::AFTER_CHECK;
 use check_settings::CPU_MAX;
 use clap::{Arg, ArgAction, Command, value_parser};
@@ -8,71 +9,103 @@ use std::alloc::{AllocError, Global};
 /// Whose arithmetic a record may be played by.
 const LAWS: &[&str] = &["kernel", "documentation"];
 
+/// What is written beside the verdict.
+const WRITTEN: &[PlainOption] = &[
+    PlainOption {
+        name: "table",
+        value: "FILE",
+        help: "Writes a row for each comparison, separated by tabs",
+    },
+    PlainOption {
+        name: "json",
+        value: "FILE",
+        help: "Writes the states of tasks and runqueues, for ui.perfetto.dev and chrome://tracing",
+    },
+    PlainOption {
+        name: "picture",
+        value: "FILE",
+        help: "Draws the states of tasks and runqueues, as SVG",
+    },
+    PlainOption {
+        name: "from",
+        value: "S",
+        help: "With --json or --picture: from when on, in seconds of the trace",
+    },
+    PlainOption {
+        name: "to",
+        value: "S",
+        help: "With --json or --picture: until when, in seconds of the trace",
+    },
+];
+
 fn task_arg<'a>(alloc: Global) -> Arg<'a> {
-    Arg::new(alloc, "task")
-        .long("task")
-        .value_name("NAME=RUNTIME:PERIOD[:DEADLINE][,norec]")
-        .help("A task's comm or pid, and what it reserves, in microseconds; once for each task")
-        .action(ArgAction::Append)
+    option(
+        alloc,
+        "task",
+        "NAME=RUNTIME:PERIOD[:DEADLINE][,norec]",
+        "A task's comm or pid, and what it reserves, in microseconds; once for each task",
+    )
+    .action(ArgAction::Append)
 }
 
 fn cpus_arg<'a>(alloc: Global) -> Arg<'a> {
-    Arg::new(alloc, "cpus")
-        .long("cpus")
-        .value_name("N")
-        .help("The root domain has the CPUs 0 to N-1; N is 1 to 8192")
-        .value_parser(value_parser!(u32).range(1..i64::from(CPU_MAX) + 2))
+    option(
+        alloc,
+        "cpus",
+        "N",
+        "The root domain has the CPUs 0 to N-1; N is 1 to 8192",
+    )
+    .value_parser(value_parser!(u32).range(1..i64::from(CPU_MAX) + 2))
 }
 
 fn domain_arg<'a>(alloc: Global) -> Arg<'a> {
-    Arg::new(alloc, "domain")
-        .long("domain")
-        .value_name("LIST")
-        .help("The CPUs of the root domain, as 2-3,6")
-        .action(ArgAction::Set)
+    option(
+        alloc,
+        "domain",
+        "LIST",
+        "The CPUs of the root domain, as 2-3,6",
+    )
 }
 
 fn rt_arg<'a>(alloc: Global) -> Arg<'a> {
-    Arg::new(alloc, "rt")
-        .long("rt")
-        .value_name("RUNTIME:PERIOD")
-        .help("The kernel's sched_rt_runtime_us and sched_rt_period_us; -1 is no limit")
-        .allow_hyphen_values(true)
-        .action(ArgAction::Set)
-}
-
-fn fair_arg<'a>(alloc: Global) -> Arg<'a> {
-    Arg::new(alloc, "fair-server")
-        .long("fair-server")
-        .value_name("RUNTIME:PERIOD")
-        .help("What each runqueue reserves for fair tasks, in microseconds, or none")
-        .action(ArgAction::Set)
+    option(
+        alloc,
+        "rt",
+        "RUNTIME:PERIOD",
+        "The kernel's sched_rt_runtime_us and sched_rt_period_us; -1 is no limit",
+    )
+    .allow_hyphen_values(true)
 }
 
 fn kernel_arg<'a>(alloc: Global) -> Arg<'a> {
-    Arg::new(alloc, "kernel")
-        .long("kernel")
-        .value_name("VERSION")
-        .help("The kernel that was recorded, as 6.12.111")
-        .action(ArgAction::Set)
+    option(
+        alloc,
+        "kernel",
+        "VERSION",
+        "The kernel that was recorded, as 6.12.111",
+    )
 }
 
 fn within_arg<'a>(alloc: Global) -> Arg<'a> {
-    Arg::new(alloc, "within")
-        .long("within")
-        .value_name("US")
-        .help("How far a timer's moment may lie from the kernel's, in microseconds")
-        .value_parser(value_parser!(u32).range(0..2147483648))
-        .default_value("20")
+    option(
+        alloc,
+        "within",
+        "US",
+        "How far a timer's moment may lie from the kernel's, in microseconds",
+    )
+    .value_parser(value_parser!(u32).range(0..2147483648))
+    .default_value("20")
 }
 
 fn by_arg<'a>(alloc: Global) -> Arg<'a> {
-    Arg::new(alloc, "by")
-        .long("by")
-        .value_name("LAW")
-        .help("Whose arithmetic the record is played by")
-        .value_parser(LAWS)
-        .default_value("kernel")
+    option(
+        alloc,
+        "by",
+        "LAW",
+        "Whose arithmetic the record is played by",
+    )
+    .value_parser(LAWS)
+    .default_value("kernel")
 }
 
 fn timers_arg<'a>(alloc: Global) -> Arg<'a> {
@@ -89,65 +122,46 @@ fn why_arg<'a>(alloc: Global) -> Arg<'a> {
         .action(ArgAction::SetTrue)
 }
 
-fn table_arg<'a>(alloc: Global) -> Arg<'a> {
-    Arg::new(alloc, "table")
-        .long("table")
-        .value_name("FILE")
-        .help("Writes a row for each comparison, separated by tabs")
-        .action(ArgAction::Set)
-}
-
-fn json_arg<'a>(alloc: Global) -> Arg<'a> {
-    Arg::new(alloc, "json")
-        .long("json")
-        .value_name("FILE")
-        .help("Writes the states of tasks and runqueues, for ui.perfetto.dev and chrome://tracing")
-        .action(ArgAction::Set)
-}
-
-fn picture_arg<'a>(alloc: Global) -> Arg<'a> {
-    Arg::new(alloc, "picture")
-        .long("picture")
-        .value_name("FILE")
-        .help("Draws the states of tasks and runqueues, as SVG")
-        .action(ArgAction::Set)
-}
-
-fn from_arg<'a>(alloc: Global) -> Arg<'a> {
-    Arg::new(alloc, "from")
-        .long("from")
-        .value_name("S")
-        .help("With --json or --picture: from when on, in seconds of the trace")
-        .action(ArgAction::Set)
-}
-
-fn to_arg<'a>(alloc: Global) -> Arg<'a> {
-    Arg::new(alloc, "to")
-        .long("to")
-        .value_name("S")
-        .help("With --json or --picture: until when, in seconds of the trace")
-        .action(ArgAction::Set)
-}
-
-/// `grubtrace check`, with what it takes for a trace.
-pub(crate) fn check_command<'a>(alloc: Global, trace: Arg<'a>) -> Result<Command<'a>, AllocError> {
-    Command::new(alloc, "check")
-        .about("Says whether the kernel accounted as its rules say")
-        .after_help(AFTER_CHECK)
+/// The options that say which runqueues and tasks were recorded.
+fn with_tasks<'a>(alloc: Global, command: Command<'a>) -> Result<Command<'a>, AllocError> {
+    command
         .arg(task_arg(alloc))?
         .arg(cpus_arg(alloc))?
-        .arg(domain_arg(alloc))?
+        .arg(domain_arg(alloc))
+}
+
+/// Those that say what the kernel reserves, and which it is.
+fn with_kernel<'a>(
+    alloc: Global,
+    command: Command<'a>,
+    fair_server: Arg<'a>,
+) -> Result<Command<'a>, AllocError> {
+    command
         .arg(rt_arg(alloc))?
-        .arg(fair_arg(alloc))?
-        .arg(kernel_arg(alloc))?
+        .arg(fair_server)?
+        .arg(kernel_arg(alloc))
+}
+
+/// Those that say what is compared with what.
+fn with_comparison<'a>(alloc: Global, command: Command<'a>) -> Result<Command<'a>, AllocError> {
+    command
         .arg(within_arg(alloc))?
         .arg(by_arg(alloc))?
         .arg(timers_arg(alloc))?
-        .arg(why_arg(alloc))?
-        .arg(table_arg(alloc))?
-        .arg(json_arg(alloc))?
-        .arg(picture_arg(alloc))?
-        .arg(from_arg(alloc))?
-        .arg(to_arg(alloc))?
-        .arg(trace)
+        .arg(why_arg(alloc))
+}
+
+/// `grubtrace check`, with what it takes for fair tasks' reservation and for a trace.
+pub(crate) fn check_command<'a>(
+    alloc: Global,
+    fair_server: Arg<'a>,
+    trace: Arg<'a>,
+) -> Result<Command<'a>, AllocError> {
+    let command = Command::new(alloc, "check")
+        .about("Says whether the kernel accounted as its rules say")
+        .after_help(AFTER_CHECK);
+    let command = with_tasks(alloc, command)?;
+    let command = with_kernel(alloc, command, fair_server)?;
+    let command = with_comparison(alloc, command)?;
+    with_options(alloc, command, WRITTEN)?.arg(trace)
 }

@@ -3,6 +3,7 @@
 
 mod check_command;
 mod command;
+mod plain;
 mod texts;
 
 pub use command::command_line;

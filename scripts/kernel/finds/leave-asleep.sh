@@ -1,5 +1,5 @@
 #!/bin/sh
-# A task that is put out of SCHED_DEADLINE while it sleeps past its 0-lag moment never gives its bandwidth back.
+# A task that is put out of SCHED_DEADLINE while it sleeps past its 0-lag time never gives its bandwidth back.
 . /scripts/kernel/finds/sums.sh
 sums 'after boot'
 for time in 1 2 3; do

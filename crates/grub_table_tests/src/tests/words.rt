@@ -1,8 +1,8 @@
 //! Worked examples of words, both ways.
 
-use super::*;
 use grub_book::{Place, Reading, State};
 use grub_bw::{Params, Server};
+use grub_words::*;
 use std::process::Abort;
 use std::test::Fail;
 

@@ -2,7 +2,7 @@
 
 ghost use Rattle.std.specs.Prelude.{◌++◌, codes, decimal, ⊤};
 
-use crate::{Blocks, LineOf, append, append_number, line_buffer, write_buffer, write_lines};
+use grub_text::{Blocks, LineOf, append, append_number, line_buffer, write_buffer, write_lines};
 use std::alloc::{AllocError, Global};
 use std::io;
 use std::io::{ErrorKind, Write};

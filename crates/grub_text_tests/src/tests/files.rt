@@ -1,6 +1,6 @@
 //! Files of fake calls: short reads, broken reads, and the bound.
 
-use crate::{FileFault, Source, read_all, read_file};
+use grub_text::{FileFault, Source, read_all, read_file};
 use std::alloc::Global;
 use std::io;
 use std::io::ErrorKind;

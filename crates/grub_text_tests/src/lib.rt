@@ -1,0 +1,5 @@
+//! Tests of grub_text.
+#![tactic(auto)]
+
+#[cfg(test)]
+mod tests;
