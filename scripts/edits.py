@@ -100,7 +100,7 @@ def beside(edits):
         for _, old, new in edit.turns:
             text = text.replace(old, new)
         last = f"{it.last}_{number}"
-        text = re.sub(rf"\bfn {it.last}\b", f"fn {last}", text.replace("#[unsafe(no_mangle)]\n", ""), count=1)
+        text = re.sub(rf"\bfn {it.last}\b", f"fn {last}", text, count=1)
         whole = files.get(it.file) or text_of(f"{edit.crate.folder}/{it.file}")
         files[it.file] = f"{whole[:it.end]}\n{text}{whole[it.end:]}"
         names[edit] = it.name.removesuffix(it.last) + last
