@@ -3,8 +3,8 @@
 the language, by the error that a line 'error: NAME' of the edit names. Only the functions that edits turn are checked, over
 the libraries that `rt ci` or scripts/build.py left: a function is proved from the contracts of those that it calls. All edits of
 a crate are tried in one check, each in a copy of its function. What that does not refuse is tried alone, in its place, and then in
-a check of the whole crate. What was refused is kept on this machine, by a sum of all that its
-check read. What is not tried in N minutes has failed. The last line is 'N passed, M failed'."""
+a check of the whole crate. What was refused is kept on this machine, by a sum of all that its check read. What is not tried in N
+minutes has failed. The last line is 'N passed, M failed'."""
 import argparse
 import hashlib
 import os
@@ -43,7 +43,7 @@ class Function:
         module = [it for it in file[len("src/"):-len(".rt")].split("/") if it not in ("lib", "main")]
         owner = [kind[2] + re.sub(r"\W", "", kind[1] or "")] if kind else []
         self.file, self.end, self.text, self.last = file, end, text[found.start():end], found[2]
-        self.name, self.proofs = "::".join([*(owner or module), found[2]]), "/".join(["proofs", *module, *owner, found[2]])
+        self.name, self.module, self.owner = "::".join([*(owner or module), found[2]]), module, owner
         # (neither a trait nor an impl of one has room for a copy)
         self.is_free = not kind or not kind[1] and kind[0].startswith("impl")
 
@@ -104,9 +104,12 @@ def beside(edits):
         whole = files.get(it.file) or text_of(f"{edit.crate.folder}/{it.file}")
         files[it.file] = f"{whole[:it.end]}\n{text}{whole[it.end:]}"
         names[edit] = it.name.removesuffix(it.last) + last
-        for path in files_below(f"{edit.crate.folder}/{it.proofs}"):
-            moved = os.path.relpath(path, edit.crate.folder).replace(it.proofs, it.proofs.removesuffix(it.last) + last, 1)
-            files[moved] = re.sub(rf"((?:proofs|contracts)\.(?:\w+\.)*){it.last}\.", rf"\1{last}.", text_of(path))
+        for path in files_below(f"{edit.crate.folder}/proofs"):
+            # (a method's proof lies with its type, in whichever module its text is)
+            folder, _, file = os.path.relpath(path, edit.crate.folder).rpartition("/")
+            if folder.endswith("/".join(["", *it.owner, it.last]) if it.owner else "/".join(["proofs", *it.module, it.last])):
+                moved = f"{folder.removesuffix(it.last)}{last}/{file}"
+                files[moved] = re.sub(rf"((?:proofs|contracts)\.(?:\w+\.)*){it.last}\.", rf"\1{last}.", text_of(path))
     return files, names
 
 
