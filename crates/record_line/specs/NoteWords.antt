@@ -1,5 +1,5 @@
 -- Words of notes.
-use Rattle.std.specs.Prelude.{ℕ, ℤ, Bool, false, not, ◌&&◌, ◌==◌, nat_lt, nat_le, ◌+◌, ◌^◌, List, length, take, drop, codes, position, slice_range, Option, Some, None, if◌then◌else◌, option_map, option_and_then, unwrap_or}
+use Rattle.std.specs.Prelude.{ℕ, ℤ, Bool, false, not, ◌&&◌, ◌==◌, nat_lt, nat_le, ◌+◌, ◌^◌, List, length, take, drop, codes, position, slice_range, Option, Some, None, if◌then◌else◌, option_map, option_and_then, is_some, unwrap_or}
 use Rattle.std.specs.Option.{option_map_or}
 use Rattle.std.specs.List.{before_first, list_all, position_or_len, slice_split}
 use Rattle.std.specs.Char.{is_ascii_digit}
@@ -10,6 +10,7 @@ use Rattle.trace_probes.specs.Numerals.{numeral, signed, unsigned}
 use Rattle.trace_words.specs.declared.note.Kernel.{Kernel}
 use Rattle.trace_words.specs.declared.note.Limit.{Limit}
 use Rattle.trace_words.specs.declared.note.Limit.TheVariants.{Runtime}
+use Rattle.record_line.specs.declared.word.CpuRange.{CpuRange}
 use Rattle.record_line.specs.declared.word.TheConstants.{CPUS}
 
 -- the word behind a key
@@ -58,14 +59,20 @@ abbrev pub rt_limit : List ℕ → Option Limit
 rt_limit word =
     option_and_then (λ colon. option_and_then (λ r. option_and_then (λ p. runtime_limit r p) (unsigned (slice_range word (colon + 1) (length word)))) (signed (take colon word))) (position (λ b. b == 58) word)
 
--- two CPUs in their order
-abbrev pub is_ordered : Option ℕ → Option ℕ → Bool
-is_ordered from to = option_map_or (λ f. option_map_or (λ t. nat_le f t && nat_lt t CPUS) to false) from false
+-- CPUs in their order
+abbrev pub ordered : ℕ → ℕ → Option CpuRange
+ordered from to = if nat_le from to && nat_lt to CPUS then Some (record { first = from; last = to }) else None
+
+abbrev pub range_from : Option ℕ → Option ℕ → Option CpuRange
+range_from from to = option_and_then (λ f. option_and_then (ordered f) to) from
 
 -- a CPU, as 5, or CPUs from one to another, as 0-3
+abbrev pub range_in : List ℕ → Option CpuRange
+range_in part =
+    option_map_or (λ dash. range_from (numeral 10 (take dash part)) (numeral 10 (slice_range part (dash + 1) (length part)))) (position (λ b. b == 45) part) (range_from (numeral 10 part) (numeral 10 part))
+
 abbrev pub is_cpu_range : List ℕ → Bool
-is_cpu_range part =
-    option_map_or (λ dash. is_ordered (numeral 10 (take dash part)) (numeral 10 (slice_range part (dash + 1) (length part)))) (position (λ b. b == 45) part) (is_ordered (numeral 10 part) (numeral 10 part))
+is_cpu_range part = is_some (range_in part)
 
 abbrev pub is_comma : ℕ → Bool
 is_comma b = b == 44

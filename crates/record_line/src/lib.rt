@@ -9,4 +9,4 @@ mod word;
 
 pub use line::{CLOCK_MAX, ToldLine, told_by};
 pub use note::Lost;
-pub use word::CPUS;
+pub use word::{CPUS, CpuRange, first_part, kernel_of, range_in};

@@ -4,7 +4,7 @@ ghost use Rattle.std.specs.Prelude.{◌≡◌, ◌==◌, ◌+◌, ◌∷◌, [],
 ghost use Rattle.std.specs.Char.{is_ascii_digit};
 ghost use Rattle.std.specs.List.{slice_split};
 ghost use Rattle.trace_line.specs.Words.{text_of};
-ghost use Rattle.record_line.specs.NoteWords.{behind_digits, front_number, is_comma, is_cpu_range, is_domain, is_ordered, kernel_of, kernel_with, number_in, optional, patch_of, rt_limit, runtime_limit, small, word_in};
+ghost use Rattle.record_line.specs.NoteWords.{behind_digits, front_number, is_comma, is_domain, kernel_of, kernel_with, number_in, optional, patch_of, range_from, range_in, rt_limit, runtime_limit, small, word_in};
 
 use grub_text::first_word;
 use trace_line::{after, behind};
@@ -13,6 +13,13 @@ use trace_words::{Kernel, Limit};
 
 /// How many CPUs a record may name, from 0 on.
 pub const CPUS: u32 = 8192;
+
+/// CPUs of a list, from `first` to `last`.
+#[derive(Clone, Copy)]
+pub struct CpuRange {
+    pub first: u32,
+    pub last: u32,
+}
 
 /// The word behind a key.
 pub(crate) fn word_in<'a>(key: &[u8], text: &'a [u8]) -> Option<&'a [u8]>
@@ -101,7 +108,7 @@ fn kernel_with(major: u32, text: &[u8]) -> Option<Kernel>
 }
 
 /// The version of a word such as `6.12.111+deb12-cloud-amd64`.
-pub(crate) fn kernel_of(word: &[u8]) -> Option<Kernel>
+pub fn kernel_of(word: &[u8]) -> Option<Kernel>
     ensures { result ≡ kernel_of word.now }
 {
     kernel_with(front_number(word)?, behind_digits(word))
@@ -139,22 +146,28 @@ fn dash_in(part: &[u8]) -> Option<usize>
     part.iter().position(|b| *b == b'-')
 }
 
-fn is_ordered(first: Option<u64>, last: Option<u64>) -> bool
-    ensures { result ≡ is_ordered first last }
+/// These CPUs, where they are in order.
+fn range_from(first: Option<u64>, last: Option<u64>) -> Option<CpuRange>
+    ensures { result ≡ range_from first last }
 {
-    match (first, last) {
-        (Some(first), Some(last)) => first <= last && last < u64::from(CPUS),
-        _ => false,
+    let (first, last) = (first?, last?);
+    if first <= last && last < u64::from(CPUS) {
+        Some(CpuRange {
+            first: first as u32,
+            last: last as u32,
+        })
+    } else {
+        None
     }
 }
 
-/// Whether a part of a list is a CPU, as 5, or CPUs from one to another, as 0-3.
-fn is_cpu_range(part: &[u8]) -> bool
-    ensures { result ≡ is_cpu_range part.now }
+/// The CPUs of a part of a list: one, as `5`, or those from one to another, as `0-3`.
+pub fn range_in(part: &[u8]) -> Option<CpuRange>
+    ensures { result ≡ range_in part.now }
 {
     match dash_in(part) {
-        None => is_ordered(numeral(10, part), numeral(10, part)),
-        Some(dash) => is_ordered(numeral(10, &part[..dash]), numeral(10, &part[dash + 1..])),
+        None => range_from(numeral(10, part), numeral(10, part)),
+        Some(dash) => range_from(numeral(10, &part[..dash]), numeral(10, &part[dash + 1..])),
     }
 }
 
@@ -165,7 +178,7 @@ fn comma_in(word: &[u8]) -> Option<usize>
 }
 
 /// The first part of a list, and what follows its comma.
-fn first_part(text: &[u8]) -> (&[u8], Option<&[u8]>)
+pub fn first_part(text: &[u8]) -> (&[u8], Option<&[u8]>)
     ensures parts { MatchOption result.1 (slice_split is_comma text.now ≡ result.0.now ∷ [])
         (λ rest. slice_split is_comma text.now ≡ result.0.now ∷ slice_split is_comma rest.now) }
     ensures len { MatchOption result.1 (length result.0.now ≡ length text.now)
@@ -184,7 +197,7 @@ pub(crate) fn is_domain(word: &[u8]) -> bool
     let mut left = Some(word);
     while let Some(text) = left {
         let (part, rest) = first_part(text);
-        if !is_cpu_range(part) {
+        if range_in(part).is_none() {
             return false;
         }
         left = rest;
