@@ -1,11 +1,13 @@
-//! What the options of `grubtrace check` say.
+//! Words of options, and what those of `grubtrace check` say.
 #![tactic(auto)]
 
 mod options;
 mod window;
+mod words;
 
 pub use options::{
-    Arithmetic, CPU_MAX, CheckOptions, CheckWords, FairServerOption, Range, TaskOption,
-    WrongOption, domain_of, options_of,
+    Arithmetic, CheckOption, CheckOptions, CheckWords, TaskOption, WrongOption, options_of,
 };
+pub use record_line::{CPUS, CpuRange};
 pub use window::{Window, window_of};
+pub use words::{FairServerOption, domain_of, last_parts};

@@ -1,16 +1,21 @@
-//! The options, but for those of what is shown.
+//! The options of `grubtrace check`, but for those of what is shown.
 
+ghost use Rattle.std.specs.Prelude.{◌≡◌, [], None, Ok, IfOk, map, option_map};
+ghost use Rattle.std.specs.List.{list_any};
+ghost use Rattle.std.specs.Result.{result_map_both};
+ghost use Rattle.trace_line.specs.Words.{text_of};
+ghost use Rattle.record_line.specs.NoteWords.{kernel_of};
+ghost use Rattle.check_settings.specs.Settings.{arithmetic_of, asked, cpus_by, given_task, said_by, said_in, server_by, tasks_on, value_of, wrong_by};
+ghost use Rattle.check_settings.specs.declared.options.CheckOption.TheVariants as option;
+ghost use Rattle.check_settings.specs.Words.{limit_in, server_in, task_in};
+ghost use Rattle.check_settings.specs.inside.Texts.{is_named};
+
+use crate::words::{
+    FairServerOption, MICRO, domain_of, last_parts, limit_of, reservation_of, server_of,
+};
+use record_line::{CpuRange, kernel_of};
 use std::alloc::{AllocError, Global};
 use trace_words::{Kernel, Limit, Parameters};
-
-/// Nanoseconds of a microsecond.
-const MICRO: u64 = 1000;
-
-/// The greatest CPU that a trace may name.
-pub const CPU_MAX: u32 = 8191;
-
-/// SCHED_FLAG_RECLAIM of sched_setattr(2).
-const RECLAIM: u64 = 2;
 
 /// A task that is given: its comm or its pid, and its reservation.
 #[derive(Clone, Copy)]
@@ -29,31 +34,13 @@ pub enum Arithmetic {
     Documentation,
 }
 
-/// The server of fair tasks that each runqueue has.
-#[derive(Clone, Copy)]
-pub enum FairServerOption {
-    /// That of the recorded kernel.
-    Usual,
-    Absent,
-
-    /// Its runtime and period, in nanoseconds.
-    Reserves { dl_runtime: u64, dl_period: u64 },
-}
-
-/// The CPUs of the root domain, from `first` to `last`.
-#[derive(Clone, Copy)]
-pub struct Range {
-    pub first: u32,
-    pub last: u32,
-}
-
 /// What is known beside the trace; it stands above the trace's own notes.
 #[derive(Drop)]
 pub struct CheckOptions<'a> {
     pub tasks: Vec<TaskOption<'a>>,
 
     /// The CPUs of the root domain, increasing.
-    pub domain: Vec<Range>,
+    pub domain: Vec<CpuRange>,
     pub limit: Option<Limit>,
     pub fair: FairServerOption,
     pub kernel: Option<Kernel>,
@@ -69,197 +56,26 @@ pub struct CheckOptions<'a> {
     pub explains: bool,
 }
 
-/// Which option says nothing that it may say.
+/// An option whose value can be wrong.
 #[derive(Clone, Copy)]
-pub enum WrongOption<'a> {
-    Task(&'a str),
-    Domain(&'a str),
-    Rt(&'a str),
-    FairServer(&'a str),
-    Kernel(&'a str),
-    From(&'a str),
-    To(&'a str),
+pub enum CheckOption {
+    Task,
+    Domain,
+    Rt,
+    FairServer,
+    Kernel,
+    From,
+    To,
 }
 
-/// The number that digits spell; none where there are others or none, or where it is above 2^64 - 1.
-pub(crate) fn number_of(text: &str) -> Option<u64> {
-    if !text.as_bytes().iter().all(|b| b.is_ascii_digit()) {
-        return None;
-    }
-    text.parse::<u64>().ok()
+/// An option, and its value, which says nothing that it may say.
+#[derive(Clone, Copy)]
+pub struct WrongOption<'a> {
+    pub option: CheckOption,
+    pub value: &'a str,
 }
 
-/// A span of so many microseconds, in nanoseconds: from 1 microsecond to 2^44, which is half a year.
-fn span_of(text: &str) -> Option<u64> {
-    let micros = number_of(text)?;
-    if micros == 0 || micros >= 1 << 44 {
-        return None;
-    }
-    Some(micros * MICRO)
-}
-
-/// The reservation of `RUNTIME:PERIOD` or `RUNTIME:PERIOD:DEADLINE`, in microseconds: runtime <= deadline <= period.
-fn parameters_of(text: &str, flags: u64) -> Option<Parameters> {
-    let (runtime, rest) = text.split_once(':')?;
-    let (period, deadline) = match rest.split_once(':') {
-        Some((period, deadline)) => (span_of(period)?, span_of(deadline)?),
-        None => {
-            let period = span_of(rest)?;
-            (period, period)
-        }
-    };
-    let dl_runtime = span_of(runtime)?;
-    if dl_runtime > deadline || deadline > period {
-        return None;
-    }
-    Some(Parameters {
-        dl_runtime,
-        dl_deadline: deadline,
-        dl_period: period,
-        flags,
-    })
-}
-
-/// The task of `NAME=RUNTIME:PERIOD[:DEADLINE][,norec]`, whose name ends at the last `=`.
-fn given_of(text: &str) -> Option<TaskOption<'_>> {
-    let (name, reservation) = text.rsplit_once('=')?;
-    if name.is_empty() {
-        return None;
-    }
-    let parameters = match reservation.strip_suffix(",norec") {
-        Some(reservation) => parameters_of(reservation, 0)?,
-        None => parameters_of(reservation, RECLAIM)?,
-    };
-    Some(TaskOption { name, parameters })
-}
-
-/// Whether a name is among these tasks.
-fn has_name(tasks: &[TaskOption<'_>], name: &str) -> bool {
-    tasks.iter().any(|task| task.name == name)
-}
-
-/// The tasks of these words, or the first word that says none or names a task once more.
-fn tasks_of<'a>(
-    alloc: Global,
-    words: &[&'a str],
-) -> Result<Result<Vec<TaskOption<'a>>, WrongOption<'a>>, AllocError> {
-    let mut tasks = Vec::new(alloc);
-    for word in words {
-        let Some(task) = given_of(word) else {
-            return Ok(Err(WrongOption::Task(word)));
-        };
-        if has_name(&tasks, task.name) {
-            return Ok(Err(WrongOption::Task(word)));
-        }
-        if tasks.push(task).is_err() {
-            return Err(AllocError);
-        }
-    }
-    Ok(Ok(tasks))
-}
-
-/// How much of a processor SCHED_DEADLINE may have, of `RUNTIME:PERIOD` in microseconds; a runtime of -1 is no limit.
-fn limit_of(text: &str) -> Option<Limit> {
-    let (runtime, period) = text.split_once(':')?;
-    let period = number_of(period)?;
-    if period == 0 || period >= 1 << 32 {
-        return None;
-    }
-    if runtime == "-1" {
-        return Some(Limit::Runtime {
-            runtime: -1,
-            period,
-        });
-    }
-    let runtime = number_of(runtime)?;
-    if runtime == 0 || runtime > period {
-        return None;
-    }
-    Some(Limit::Runtime {
-        runtime: runtime as i64,
-        period,
-    })
-}
-
-fn fair_of(text: &str) -> Option<FairServerOption> {
-    if text == "none" {
-        return Some(FairServerOption::Absent);
-    }
-    let parameters = parameters_of(text, 0)?;
-    Some(FairServerOption::Reserves {
-        dl_runtime: parameters.dl_runtime,
-        dl_period: parameters.dl_period,
-    })
-}
-
-/// The digits at the head of a text as a number, and what stands behind them.
-fn leading_number(text: &str) -> Option<(u32, &str)> {
-    let end = text
-        .as_bytes()
-        .iter()
-        .position(|b| !b.is_ascii_digit())
-        .unwrap_or(text.len());
-    let (digits, rest) = text.split_at_checked(end)?;
-    let number = number_of(digits)?;
-    Some((u32::try_from(number).ok()?, rest))
-}
-
-/// The kernel of `MAJOR.MINOR` or `MAJOR.MINOR.PATCH`; what stands behind that, as a distribution's name, is passed over.
-fn kernel_of(text: &str) -> Option<Kernel> {
-    let (major, rest) = leading_number(text)?;
-    let (minor, rest) = leading_number(rest.strip_prefix('.')?)?;
-    let patch = match rest.strip_prefix('.') {
-        Some(rest) => match leading_number(rest) {
-            Some((patch, _)) => patch,
-            None => 0,
-        },
-        None => 0,
-    };
-    Some(Kernel {
-        major,
-        minor,
-        patch,
-    })
-}
-
-/// The CPUs of `FIRST-LAST`, or of one number.
-fn range_of(text: &str) -> Option<Range> {
-    let (first, last) = match text.split_once('-') {
-        Some((first, last)) => (number_of(first)?, number_of(last)?),
-        None => {
-            let cpu = number_of(text)?;
-            (cpu, cpu)
-        }
-    };
-    if first > last || last > u64::from(CPU_MAX) {
-        return None;
-    }
-    Some(Range {
-        first: first as u32,
-        last: last as u32,
-    })
-}
-
-/// The CPUs of a list as `0-3,8`, which increase; none where it is no such list.
-pub fn domain_of(alloc: Global, text: &str) -> Result<Option<Vec<Range>>, AllocError> {
-    let mut ranges: Vec<Range> = Vec::new(alloc);
-    let mut least = 0u32;
-    for word in text.split(',') {
-        let Some(range) = range_of(word) else {
-            return Ok(None);
-        };
-        if range.first < least {
-            return Ok(None);
-        }
-        least = range.last.saturating_add(1);
-        if ranges.push(range).is_err() {
-            return Err(AllocError);
-        }
-    }
-    Ok(Some(ranges))
-}
-
-/// The words of the options of `grubtrace check`.
+/// The words of the options.
 #[derive(Clone, Copy)]
 pub struct CheckWords<'a> {
     pub tasks: &'a [&'a str],
@@ -276,77 +92,158 @@ pub struct CheckWords<'a> {
     pub explains: bool,
 }
 
-/// The CPUs of the root domain by `--domain`, else by `--cpus`; none are said where neither is given.
-fn cpus_of<'a>(
-    alloc: Global,
-    words: CheckWords<'a>,
-) -> Result<Result<Vec<Range>, WrongOption<'a>>, AllocError> {
-    if let Some(text) = words.domain {
-        return match domain_of(alloc, text)? {
-            Some(ranges) => Ok(Ok(ranges)),
-            None => Ok(Err(WrongOption::Domain(text))),
-        };
+/// The task of `NAME=RUNTIME:PERIOD[:DEADLINE][,norec]`, whose name ends at the last `=`.
+fn task_of(text: &str) -> Option<TaskOption<'_>>
+    ensures { option_map given_task result ≡ task_in text.now }
+{
+    let (name, reservation) = last_parts(text, '=')?;
+    if name.is_empty() {
+        return None;
     }
-    let mut ranges = Vec::new(alloc);
-    if let Some(count) = words.cpus {
-        let range = Range {
-            first: 0,
-            last: count.saturating_sub(1),
+    let parameters = reservation_of(reservation.as_bytes())?;
+    Some(TaskOption { name, parameters })
+}
+
+/// Whether a name is among these tasks.
+fn has_name(tasks: &[TaskOption<'_>], name: &str) -> bool
+    ensures { result ≡ list_any (is_named name.now) tasks.now }
+{
+    tasks.iter().any(|task| task.name == name)
+}
+
+/// The tasks of these words, or the first word that says none or names a task once more.
+fn tasks_of<'a>(
+    alloc: Global,
+    words: &[&'a str],
+) -> Result<Result<Vec<TaskOption<'a>>, WrongOption<'a>>, AllocError>
+    ensures { IfOk result (λ made. result_map_both (λ v. map given_task v.items) wrong_by made
+        ≡ tasks_on [] (map text_of words.now)) }
+{
+    let mut tasks = Vec::new(alloc);
+    for word in words {
+        let Some(task) = task_of(word) else {
+            return Ok(Err(wrong(CheckOption::Task, word)));
         };
-        if ranges.push(range).is_err() {
+        if has_name(&tasks, task.name) {
+            return Ok(Err(wrong(CheckOption::Task, word)));
+        }
+        if tasks.push(task).is_err() {
             return Err(AllocError);
         }
     }
-    Ok(Ok(ranges))
+    Ok(Ok(tasks))
+}
+
+fn wrong<'a>(option: CheckOption, value: &'a str) -> WrongOption<'a>
+    ensures { result ≡ record { option = option; value = value.entry } }
+{
+    WrongOption { option, value }
+}
+
+/// The CPUs from 0 on, where it is said how many.
+fn counted(alloc: Global, cpus: Option<u32>) -> Result<Vec<CpuRange>, AllocError>
+    ensures { IfOk result (λ v. Ok v.items ≡ cpus_by cpus None) }
+{
+    let mut ranges = Vec::new(alloc);
+    if let Some(count) = cpus {
+        ranges.push(CpuRange {
+            first: 0,
+            last: count.saturating_sub(1),
+        })?;
+    }
+    Ok(ranges)
+}
+
+/// The CPUs of the root domain by `--domain`, else by `--cpus`; none are said where neither is given.
+fn cpus_of<'a>(
+    alloc: Global,
+    cpus: Option<u32>,
+    domain: Option<&'a str>,
+) -> Result<Result<Vec<CpuRange>, WrongOption<'a>>, AllocError>
+    ensures { IfOk result (λ made. result_map_both (λ v. v.items) wrong_by made
+        ≡ cpus_by cpus (value_of domain.entry)) }
+{
+    match domain {
+        None => Ok(Ok(counted(alloc, cpus)?)),
+        Some(text) => match domain_of(alloc, text.as_bytes())? {
+            Some(ranges) => Ok(Ok(ranges)),
+            None => Ok(Err(wrong(CheckOption::Domain, text))),
+        },
+    }
 }
 
 /// The limit of `--rt`, where it is given.
-fn rt_of<'a>(words: CheckWords<'a>) -> Result<Option<Limit>, WrongOption<'a>> {
-    match words.rt {
+fn rt_of(text: Option<&str>) -> Result<Option<Limit>, WrongOption<'_>>
+    ensures { result_map_both (λ limit. limit) wrong_by result
+        ≡ asked limit_in option.Rt (value_of text.entry) }
+{
+    match text {
         None => Ok(None),
-        Some(text) => match limit_of(text) {
+        Some(text) => match limit_of(text.as_bytes()) {
             Some(limit) => Ok(Some(limit)),
-            None => Err(WrongOption::Rt(text)),
+            None => Err(wrong(CheckOption::Rt, text)),
         },
     }
 }
 
 /// The kernel of `--kernel`, where it is given.
-fn version_of<'a>(words: CheckWords<'a>) -> Result<Option<Kernel>, WrongOption<'a>> {
-    match words.kernel {
+fn version_of(text: Option<&str>) -> Result<Option<Kernel>, WrongOption<'_>>
+    ensures { result_map_both (λ kernel. kernel) wrong_by result
+        ≡ asked kernel_of option.Kernel (value_of text.entry) }
+{
+    match text {
         None => Ok(None),
-        Some(text) => match kernel_of(text) {
+        Some(text) => match kernel_of(text.as_bytes()) {
             Some(kernel) => Ok(Some(kernel)),
-            None => Err(WrongOption::Kernel(text)),
+            None => Err(wrong(CheckOption::Kernel, text)),
         },
     }
 }
 
 /// The fair server of `--fair-server`, or the kernel's own.
-fn server_of<'a>(words: CheckWords<'a>) -> Result<FairServerOption, WrongOption<'a>> {
-    match words.fair {
+fn fair_of(text: Option<&str>) -> Result<FairServerOption, WrongOption<'_>>
+    ensures { result_map_both (λ server. server) wrong_by result
+        ≡ result_map_both server_by (λ wrong. wrong) (asked server_in option.FairServer (value_of text.entry)) }
+{
+    match text {
         None => Ok(FairServerOption::Usual),
-        Some(text) => match fair_of(text) {
+        Some(text) => match server_of(text.as_bytes()) {
             Some(server) => Ok(server),
-            None => Err(WrongOption::FairServer(text)),
+            None => Err(wrong(CheckOption::FairServer, text)),
         },
     }
 }
 
-/// What the words say, or the first of them that says nothing.
+fn arithmetic_of(is_documentation: bool) -> Arithmetic
+    ensures { result ≡ arithmetic_of is_documentation }
+{
+    if is_documentation {
+        Arithmetic::Documentation
+    } else {
+        Arithmetic::Kernel
+    }
+}
+
+/// What the words say, or the first of them that says nothing that it may say. `AllocError` is want of memory.
 pub fn options_of<'a>(
     alloc: Global,
     words: CheckWords<'a>,
-) -> Result<Result<CheckOptions<'a>, WrongOption<'a>>, AllocError> {
+) -> Result<Result<CheckOptions<'a>, WrongOption<'a>>, AllocError>
+    ensures { IfOk result (λ made. result_map_both said_by wrong_by made ≡ said_in words.entry) }
+{
     let tasks = match tasks_of(alloc, words.tasks)? {
         Ok(tasks) => tasks,
         Err(wrong) => return Ok(Err(wrong)),
     };
-    let domain = match cpus_of(alloc, words)? {
+    let domain = match cpus_of(alloc, words.cpus, words.domain)? {
         Ok(domain) => domain,
         Err(wrong) => return Ok(Err(wrong)),
     };
-    match (rt_of(words), server_of(words), version_of(words)) {
+    match (
+        rt_of(words.rt),
+        fair_of(words.fair),
+        version_of(words.kernel),
+    ) {
         (Ok(limit), Ok(fair), Ok(kernel)) => Ok(Ok(CheckOptions {
             tasks,
             domain,
@@ -354,11 +251,7 @@ pub fn options_of<'a>(
             fair,
             kernel,
             within: u64::from(words.within) * MICRO,
-            arithmetic: if words.by_documentation {
-                Arithmetic::Documentation
-            } else {
-                Arithmetic::Kernel
-            },
+            arithmetic: arithmetic_of(words.by_documentation),
             by_timers: words.by_timers,
             explains: words.explains,
         })),

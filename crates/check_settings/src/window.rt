@@ -1,9 +1,13 @@
 //! Which part of a record is shown.
 
-use crate::options::{WrongOption, number_of};
+ghost use Rattle.std.specs.Prelude.{◌≡◌, ◌==◌, Result, option_map};
+ghost use Rattle.std.specs.Result.{result_map_both};
+ghost use Rattle.trace_line.specs.Words.{text_of};
+ghost use Rattle.check_settings.specs.Settings.{asked, window_in, wrong_by};
+ghost use Rattle.check_settings.specs.Words.{moment_in};
 
-/// Nanoseconds of a second.
-const SECOND: u64 = 1_000_000_000;
+use crate::options::{CheckOption, WrongOption};
+use crate::words::moment_of;
 
 /// The part of a record that is shown, in nanoseconds of its clock: from its begin and to its end where they are not said.
 #[derive(Clone, Copy)]
@@ -12,50 +16,32 @@ pub struct Window {
     pub to: Option<u64>,
 }
 
-/// The moment of seconds as `1835.045053`, with at most nine digits behind the point.
-fn moment_of(text: &str) -> Option<u64> {
-    let (whole, part) = match text.split_once('.') {
-        Some((whole, part)) => (whole, nanos_of(part)?),
-        None => (text, 0),
-    };
-    let seconds = number_of(whole)?;
-    seconds.checked_mul(SECOND)?.checked_add(part)
-}
-
-/// The digits behind a second's point, as nanoseconds.
-fn nanos_of(text: &str) -> Option<u64> {
-    if text.len() > 9 {
-        return None;
-    }
-    let mut nanos = number_of(text)?;
-    for _ in text.len()..9 {
-        nanos = nanos.saturating_mul(10);
-    }
-    Some(nanos)
-}
-
-fn moment<'a>(
-    text: Option<&'a str>,
-    wrong: WrongOption<'a>,
-) -> Result<Option<u64>, WrongOption<'a>> {
+/// The moment of an option, where it is given.
+fn moment<'a>(option: CheckOption, text: Option<&'a str>) -> Result<Option<u64>, WrongOption<'a>>
+    ensures { result_map_both (λ moment. moment) wrong_by result
+        ≡ asked moment_in option (option_map text_of text.entry) }
+{
     match text {
         None => Ok(None),
-        Some(text) => match moment_of(text) {
+        Some(value) => match moment_of(value.as_bytes()) {
             Some(moment) => Ok(Some(moment)),
-            None => Err(wrong),
+            None => Err(WrongOption { option, value }),
         },
     }
 }
 
-/// The window of `--from` and `--to`, in seconds; it does not end before it begins.
-pub fn window_of<'a>(
-    from: Option<&'a str>,
-    to: Option<&'a str>,
-) -> Result<Window, WrongOption<'a>> {
-    let begin = moment(from, WrongOption::From(from.unwrap_or("")))?;
-    let end = moment(to, WrongOption::To(to.unwrap_or("")))?;
+/// The window of `--from` and `--to`, in seconds; it ends after it begins. An error is the first of them that is wrong.
+pub fn window_of<'a>(from: Option<&'a str>, to: Option<&'a str>) -> Result<Window, WrongOption<'a>>
+    ensures { result_map_both (λ window. window) wrong_by result
+        ≡ window_in (option_map text_of from.entry) (option_map text_of to.entry) }
+{
+    let begin = moment(CheckOption::From, from)?;
+    let end = moment(CheckOption::To, to)?;
     match (begin, end) {
-        (Some(begin), Some(end)) if begin >= end => Err(WrongOption::To(to.unwrap_or(""))),
+        (Some(begin), Some(end)) if begin >= end => Err(WrongOption {
+            option: CheckOption::To,
+            value: to.unwrap_or(""),
+        }),
         _ => Ok(Window {
             from: begin,
             to: end,

@@ -14,7 +14,7 @@ use std::alloc::{AllocError, Global};
 use std::io;
 use std::io::Write;
 use trace_check::{
-    CheckRequest, CheckWords, Window, WrongOption, options_of as check_options, serve_check,
+    CheckOption, CheckRequest, CheckWords, Window, WrongOption, options_of as check_options, serve_check,
     window_of,
 };
 use trace_command::command_line;
@@ -179,8 +179,14 @@ fn window_in<'a>(matches: &ArgMatches<'a>, shows_states: bool) -> Result<Window,
     let from = matches.get_str("from");
     let to = matches.get_str("to");
     match (from, to) {
-        (Some(from), _) if !shows_states => Err(WrongOption::From(from)),
-        (_, Some(to)) if !shows_states => Err(WrongOption::To(to)),
+        (Some(value), _) if !shows_states => Err(WrongOption {
+            option: CheckOption::From,
+            value,
+        }),
+        (_, Some(value)) if !shows_states => Err(WrongOption {
+            option: CheckOption::To,
+            value,
+        }),
         _ => window_of(from, to),
     }
 }
@@ -189,15 +195,16 @@ fn window_in<'a>(matches: &ArgMatches<'a>, shows_states: bool) -> Result<Window,
 fn wrong_option<E: Write>(wrong: WrongOption<'_>, faults: &mut E) -> u8
     ensures { result ≡ STATUS_USAGE }
 {
-    let (name, value) = match wrong {
-        WrongOption::Task(value) => ("--task", value),
-        WrongOption::Domain(value) => ("--domain", value),
-        WrongOption::Rt(value) => ("--rt", value),
-        WrongOption::FairServer(value) => ("--fair-server", value),
-        WrongOption::Kernel(value) => ("--kernel", value),
-        WrongOption::From(value) => ("--from", value),
-        WrongOption::To(value) => ("--to", value),
+    let name = match wrong.option {
+        CheckOption::Task => "--task",
+        CheckOption::Domain => "--domain",
+        CheckOption::Rt => "--rt",
+        CheckOption::FairServer => "--fair-server",
+        CheckOption::Kernel => "--kernel",
+        CheckOption::From => "--from",
+        CheckOption::To => "--to",
     };
+    let value = wrong.value;
     let _ = writeln!(faults, "error: invalid value '{value}' for '{name}'");
     STATUS_USAGE
 }

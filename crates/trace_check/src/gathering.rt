@@ -4,7 +4,7 @@ use crate::fault::Fault;
 use crate::head::{RecordHead, cpus_of};
 use crate::names::Names;
 use crate::probes::{KeptProbe, Probes};
-use check_settings::{CPU_MAX, CheckOptions};
+use check_settings::{CPUS, CheckOptions};
 use deadline_timers::{RunqueueSums, setup_of};
 use probe_verdict::DroppedLines;
 use record_line::{Lost as LostLines, ToldLine};
@@ -140,7 +140,7 @@ impl<'o> Gathering<'o> {
         }
         self.head.processors = processors;
         if let Some(count) = processors
-            && (count == 0 || count > CPU_MAX.saturating_add(1))
+            && (count == 0 || count > CPUS)
         {
             self.fault = Some(Fault::OutsideDomain { line: number });
         }

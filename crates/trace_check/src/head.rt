@@ -1,6 +1,6 @@
 //! What options and notes say of the kernel that was recorded.
 
-use check_settings::{Arithmetic, CheckOptions, FairServerOption, Range, domain_of};
+use check_settings::{Arithmetic, CheckOptions, CpuRange, FairServerOption, domain_of};
 use deadline_rules::ChargeLaw;
 use deadline_timers::{FairServer, KernelSettings, RecordStart, RunqueueSums};
 use std::alloc::{AllocError, Global};
@@ -140,9 +140,6 @@ pub(crate) fn push_range(cpus: &mut Vec<u32>, first: u32, last: u32) -> Result<(
 
 /// The CPUs of a list as `0-3,8`; none where it is no such list.
 pub(crate) fn cpus_of(alloc: Global, text: &[u8]) -> Result<Option<Vec<u32>>, AllocError> {
-    let Ok(text) = str::from_utf8(text) else {
-        return Ok(None);
-    };
     match domain_of(alloc, text)? {
         Some(ranges) => Ok(Some(listed(alloc, &ranges)?)),
         None => Ok(None),
@@ -150,7 +147,7 @@ pub(crate) fn cpus_of(alloc: Global, text: &[u8]) -> Result<Option<Vec<u32>>, Al
 }
 
 /// The CPUs of ranges, one by one.
-fn listed(alloc: Global, ranges: &[Range]) -> Result<Vec<u32>, AllocError> {
+fn listed(alloc: Global, ranges: &[CpuRange]) -> Result<Vec<u32>, AllocError> {
     let mut cpus = Vec::new(alloc);
     for range in ranges {
         push_range(&mut cpus, range.first, range.last)?;
@@ -158,7 +155,7 @@ fn listed(alloc: Global, ranges: &[Range]) -> Result<Vec<u32>, AllocError> {
     Ok(cpus)
 }
 
-fn is_listed(ranges: &[Range], cpu: u32) -> bool {
+fn is_listed(ranges: &[CpuRange], cpu: u32) -> bool {
     for range in ranges {
         if range.first <= cpu && cpu <= range.last {
             return true;

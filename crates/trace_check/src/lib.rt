@@ -13,7 +13,7 @@ mod why;
 
 pub use check::{CheckRequest, serve_check};
 pub use check_settings::{
-    Arithmetic, CPU_MAX, CheckOptions, CheckWords, FairServerOption, Range, TaskOption, Window,
+    Arithmetic, CheckOption, CheckOptions, CheckWords, FairServerOption, TaskOption, Window,
     WrongOption, options_of, window_of,
 };
 pub use fault::{Fault, STATUS_DIFFERS, STATUS_FILE, STATUS_SYSTEM, STATUS_USAGE};

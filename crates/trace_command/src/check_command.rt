@@ -2,7 +2,7 @@
 
 use crate::plain::{PlainOption, option, with_options};
 use crate::texts::AFTER_CHECK;
-use check_settings::CPU_MAX;
+use check_settings::CPUS;
 use clap::{Arg, ArgAction, Command, value_parser};
 use std::alloc::{AllocError, Global};
 
@@ -55,7 +55,7 @@ fn cpus_arg<'a>(alloc: Global) -> Arg<'a> {
         "N",
         "The root domain has the CPUs 0 to N-1; N is 1 to 8192",
     )
-    .value_parser(value_parser!(u32).range(1..i64::from(CPU_MAX) + 2))
+    .value_parser(value_parser!(u32).range(1..i64::from(CPUS) + 1))
 }
 
 fn domain_arg<'a>(alloc: Global) -> Arg<'a> {

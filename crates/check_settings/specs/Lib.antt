@@ -1,0 +1,3 @@
+pub mod Words
+pub mod Settings
+pub mod inside
