@@ -5,23 +5,18 @@ use Rattle.std.specs.List.{list_all, list_any}
 use Rattle.std.specs.Path.{rsplit_once}
 use Rattle.std.specs.Str.{bytes_eq}
 use Rattle.grub_bw.specs.Bandwidth.{Reservation, reservation_fits}
-use Rattle.grub_text.specs.Digits.{value}
+use Rattle.trace_probes.specs.Numerals.{numeral}
 use Rattle.grub_convert.specs.declared.options.FairReservation.{FairReservation}
 use Rattle.grub_convert.specs.declared.options.FairReservation.TheVariants.{Usual, Absent, Reserves}
 use Rattle.grub_convert.specs.declared.options.TaskReservation.{TaskReservation}
 use Rattle.grub_convert.specs.declared.options.ConvertOptions.{ConvertOptions}
-
--- the number of a word of digits, where it has no more than 64 bits
-abbrev pub number_in : List ℕ → Option ℕ
-number_in word =
-    if not (length word == 0) && list_all is_ascii_digit word && nat_lt (value word) (2 ^ 64) then Some (value word) else None
 
 abbrev pub both : Option ℕ → Option ℕ → Option (ℕ × ℕ)
 both runtime period = option_and_then (λ r. option_map (λ p. (r, p)) period) runtime
 
 -- the numbers of a text RUNTIME:PERIOD; 58 is the colon
 abbrev pub pair_in : List ℕ → Option (ℕ × ℕ)
-pair_in text = option_and_then (λ parts. both (number_in parts.0) (number_in parts.1)) (rsplit_once 58 text)
+pair_in text = option_and_then (λ parts. both (numeral 10 parts.0) (numeral 10 parts.1)) (rsplit_once 58 text)
 
 abbrev pub reservation_from : ℕ × ℕ → Reservation
 reservation_from pair = record { runtime = pair.0; period = pair.1 }

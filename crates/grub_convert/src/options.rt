@@ -1,16 +1,16 @@
 //! What the words of options say.
 
-ghost use Rattle.std.specs.Prelude.{◌≡◌, ◌<◌, ◌==◌, Some, IfOk, map, option_map};
-ghost use Rattle.std.specs.Char.{is_ascii_digit};
-ghost use Rattle.std.specs.List.{list_all, list_any};
-ghost use Rattle.std.specs.Path.{rsplit_once};
+ghost use Rattle.std.specs.Prelude.{◌≡◌, Some, IfOk, map, option_map};
+ghost use Rattle.std.specs.List.{list_any};
 ghost use Rattle.trace_line.specs.Words.{text_of};
-ghost use Rattle.grub_convert.specs.Options.{admitted, fair_in, given_task, maybe_fair_in, maybe_most_in, most_in, number_in, pair_in, reservation_from, reservation_in, said_by, said_in, task_in, tasks_in};
-ghost use Rattle.grub_convert.specs.inside.Words.{is_named, texts_of};
+ghost use Rattle.grub_convert.specs.Options.{admitted, fair_in, given_task, maybe_fair_in, maybe_most_in, most_in, pair_in, reservation_from, reservation_in, said_by, said_in, task_in, tasks_in};
+ghost use Rattle.grub_convert.specs.inside.Words.{is_named};
 
+use check_settings::last_parts;
 use grub_bw::Params;
 use grub_events::umax_of;
 use std::alloc::{AllocError, Global};
+use trace_probes::numeral;
 
 /// A task that is given: its comm or its pid, and its reservation.
 #[derive(Clone, Copy, Debug)]
@@ -41,36 +41,15 @@ pub struct ConvertOptions<'a> {
     pub fair: FairReservation,
 }
 
-fn are_digits(text: &str) -> bool
-    ensures { result ≡ list_all is_ascii_digit text.now }
-{
-    text.as_bytes().iter().all(|b| b.is_ascii_digit())
-}
-
-/// The number that digits spell; none where there are others, or where it is above 2^64 - 1.
-fn number_of(text: &str) -> Option<u64>
-    ensures { result ≡ number_in text.now }
-{
-    if !are_digits(text) {
-        return None;
-    }
-    text.parse::<u64>().ok()
-}
-
-/// What stands before the last one of an ASCII character, and behind it.
-fn parts_of(text: &str, at: char) -> Option<(&str, &str)>
-    requires { at < 128 }
-    ensures { option_map texts_of result ≡ rsplit_once at text.now }
-{
-    text.rsplit_once(at)
-}
-
 /// The numbers of `RUNTIME:PERIOD`.
 fn pair_of(text: &str) -> Option<(u64, u64)>
     ensures { result ≡ pair_in text.now }
 {
-    let (runtime, period) = parts_of(text, ':')?;
-    match (number_of(runtime), number_of(period)) {
+    let (runtime, period) = last_parts(text, ':')?;
+    match (
+        numeral(10, runtime.as_bytes()),
+        numeral(10, period.as_bytes()),
+    ) {
         (Some(runtime), Some(period)) => Some((runtime, period)),
         _ => None,
     }
@@ -98,7 +77,7 @@ fn params_of(text: &str) -> Option<Params>
 fn task_of(text: &str) -> Option<TaskReservation<'_>>
     ensures { option_map given_task result ≡ task_in text.now }
 {
-    let (name, reservation) = parts_of(text, '=')?;
+    let (name, reservation) = last_parts(text, '=')?;
     let params = params_of(reservation)?;
     Some(TaskReservation { name, params })
 }
