@@ -30,8 +30,8 @@ pub record Wrong : Type 0 where
 abbrev pub wrong : CheckOption → List ℕ → Wrong
 wrong which text = record { option = which; value = text }
 
--- what follows from an answer, where it is no wrong option
-abbrev pub and_then : {A B : Type 0} → (A → Result B Wrong) → Result A Wrong → Result B Wrong
+-- what follows from an answer, where it is no error
+abbrev pub and_then : {A B E : Type 0} → (A → Result B E) → Result A E → Result B E
 and_then f (Ok a) = f a
 and_then f (Err e) = Err e
 

@@ -1,2 +1,4 @@
 pub mod Faults
 pub mod Needs
+pub mod Options
+pub mod inside

@@ -12,5 +12,5 @@ mod sizing;
 mod task_text;
 
 pub use fault::SizeFault;
-pub use options::{AskedTask, OptionFault, SizeOptions, SizeWords, size_options_of};
+pub use options::{AskedTask, FaultKind, OptionFault, SizeOptions, SizeWords, size_options_of};
 pub use serving::serve_size;
