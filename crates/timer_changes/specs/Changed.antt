@@ -1,0 +1,65 @@
+-- What a line of a record does to a task, with one rule changed.
+use Rattle.std.specs.Prelude.{ℕ, ℤ, pos, Bool, true, false, not, ◌&&◌, if◌then◌else◌, Option, Some, None, unwrap_or}
+use Rattle.std.specs.Int.{w64, cast_unsigned, int_div_euclid, int_wrapping_mul, int_wrapping_sub}
+use Rattle.deadline_rules.specs.Activity.{zero_lag_of}
+use Rattle.deadline_rules.specs.Budget.{charged_of, waking_of, woken_of}
+use Rattle.deadline_rules.specs.Clock.{less}
+use Rattle.deadline_rules.specs.declared.charge.ChargeLaw.{ChargeLaw}
+use Rattle.rule_changes.specs.declared.change.RuleChange.{RuleChange}
+use Rattle.rule_changes.specs.declared.change.RuleChange.TheVariants.{ZeroLagByDeadline, ZeroLagShorter, ZeroLagLonger, UntilDeadline, BudgetSet, OnePeriod, YieldKeeps}
+use Rattle.timer_rules.specs.declared.task.DeadlineTask.{DeadlineTask}
+use Rattle.timer_rules.specs.Activity.{is_awake_of}
+use Rattle.timer_rules.specs.Throttle.{has_budget_of, held_of}
+
+-- the changes of the rule of replenishments
+abbrev pub is_of_replenishments : RuleChange → Bool
+is_of_replenishments BudgetSet = true
+is_of_replenishments OnePeriod = true
+is_of_replenishments YieldKeeps = true
+is_of_replenishments _ = false
+
+-- a move is a wake, of a task that is awake and not throttled
+abbrev pub moved_as_wake : ChargeLaw → DeadlineTask → ℕ → DeadlineTask
+moved_as_wake law t at =
+    if t.entity.is_in_class && is_awake_of t.activity && not t.entity.budget.is_throttled
+    then record t { entity = woken_of t.entity at (waking_of law t.entity at) } else t
+
+-- a charge takes this from the budget: at 0 or below it is used up, and the task is throttled
+abbrev pub charged_with : DeadlineTask → ℕ → ℕ → DeadlineTask
+charged_with t at cost =
+    let e = charged_of t.entity cost in
+    if has_budget_of e then record t { entity = e } else record t { entity = held_of e; exceeded = Some at }
+
+-- another period
+abbrev pub with_period_of : DeadlineTask → ℕ → DeadlineTask
+with_period_of t period = record t { entity = record t.entity { parameters = record t.entity.parameters { dl_period = period } } }
+
+-- the 0-lag time, from the last charge on
+abbrev pub wait_of : DeadlineTask → ℕ → ℤ
+wait_of t at = zero_lag_of t.entity (unwrap_or t.charged at)
+
+-- how much less so many hundredths of it are
+abbrev pub cut_of : ℤ → ℤ → ℤ
+cut_of wait hundredths = int_wrapping_sub w64 wait (int_div_euclid (int_wrapping_mul w64 wait hundredths) (pos 100))
+
+-- the 0-lag time comes earlier with the deadline
+abbrev pub with_wait_of : DeadlineTask → ℕ → ℤ → DeadlineTask
+with_wait_of t at hundredths = record t {
+  entity = record t.entity {
+    budget = record t.entity.budget {
+      deadline = less t.entity.budget.deadline (cast_unsigned w64 (cut_of (wait_of t at) hundredths));
+    };
+  };
+}
+
+-- by which task the 0-lag time of a block is reckoned, where that rule is changed
+abbrev pub blocks_by : RuleChange → DeadlineTask → ℕ → Option DeadlineTask
+blocks_by ZeroLagByDeadline t at = Some (with_period_of t t.entity.parameters.dl_deadline)
+blocks_by ZeroLagShorter t at = Some (with_wait_of t at (pos 95))
+blocks_by ZeroLagLonger t at = Some (with_wait_of t at (pos 101))
+blocks_by _ t at = None
+
+-- by which task the moment of a replenishment timer is reckoned, where that rule is changed
+abbrev pub waits_by : RuleChange → DeadlineTask → Option DeadlineTask
+waits_by UntilDeadline t = Some (with_period_of t t.entity.parameters.dl_deadline)
+waits_by _ t = None
