@@ -1,14 +1,15 @@
 -- What a line of a record does to a task, with one rule changed.
-use Rattle.std.specs.Prelude.{ℕ, ℤ, pos, Bool, true, false, not, ◌&&◌, if◌then◌else◌, Option, Some, None, unwrap_or}
+use Rattle.std.specs.Prelude.{ℕ, ◌-◌, ◌^◌, ℤ, pos, Bool, true, false, not, ◌&&◌, if◌then◌else◌, Option, Some, None, is_some, option_map, unwrap_or}
 use Rattle.std.specs.Int.{w64, cast_unsigned, int_div_euclid, int_wrapping_mul, int_wrapping_sub}
 use Rattle.deadline_rules.specs.Activity.{zero_lag_of}
 use Rattle.deadline_rules.specs.Budget.{charged_of, waking_of, woken_of}
 use Rattle.deadline_rules.specs.Clock.{less}
 use Rattle.deadline_rules.specs.declared.charge.ChargeLaw.{ChargeLaw}
 use Rattle.rule_changes.specs.declared.change.RuleChange.{RuleChange}
-use Rattle.rule_changes.specs.declared.change.RuleChange.TheVariants.{ZeroLagByDeadline, ZeroLagShorter, ZeroLagLonger, UntilDeadline, BudgetSet, OnePeriod, YieldKeeps}
+use Rattle.rule_changes.specs.declared.change.RuleChange.TheVariants.{ZeroLagNever, ZeroLagByDeadline, ZeroLagShorter, ZeroLagLonger, UntilDeadline, BudgetSet, OnePeriod, YieldKeeps}
 use Rattle.timer_rules.specs.declared.task.DeadlineTask.{DeadlineTask}
 use Rattle.timer_rules.specs.Activity.{is_awake_of}
+use Rattle.timer_rules.specs.Observations.{block_moments_of}
 use Rattle.timer_rules.specs.Throttle.{has_budget_of, held_of}
 
 -- the changes of the rule of replenishments
@@ -58,6 +59,11 @@ blocks_by ZeroLagByDeadline t at = Some (with_period_of t t.entity.parameters.dl
 blocks_by ZeroLagShorter t at = Some (with_wait_of t at (pos 95))
 blocks_by ZeroLagLonger t at = Some (with_wait_of t at (pos 101))
 blocks_by _ t at = None
+
+-- how far the 0-lag time of a block is from the kernel's, where the changed rule gives it; a timer that is never waited for is as far as can be
+abbrev pub block_difference_by : RuleChange → DeadlineTask → ℕ → Option ℤ
+block_difference_by ZeroLagNever t at = Some (if is_some t.armed then pos (2 ^ 63 - 1) else pos 0)
+block_difference_by c t at = option_map (λ o. (block_moments_of o at).difference) (blocks_by c t at)
 
 -- by which task the moment of a replenishment timer is reckoned, where that rule is changed
 abbrev pub waits_by : RuleChange → DeadlineTask → Option DeadlineTask

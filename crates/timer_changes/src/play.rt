@@ -1,6 +1,15 @@
 //! A record, played with one rule changed.
 
-use crate::rules::{blocks_as, fired_by, moved_by, ran_by, refilled_by, waits_as, woken_by};
+ghost use Rattle.std.specs.Prelude.{◌≡◌, ◌≢◌, ℤ, not, nat_eq, IsTrue, Some, None, OnOk, slice_get};
+ghost use Rattle.std.specs.HashMap.{get};
+ghost use Rattle.deadline_timers.specs.Events.{step_in};
+ghost use Rattle.deadline_timers.specs.States.{state_of};
+ghost use Rattle.deadline_timers.specs.Turns.{runs_of};
+ghost use Rattle.timer_changes.specs.Changed.{block_difference_by, is_of_replenishments};
+ghost use Rattle.timer_changes.specs.Played.{quieted, refilled_at_once, running_on, served_on, taking_by};
+ghost use Rattle.timer_rules.specs.Observations.{block_answer_of};
+
+use crate::rules::{block_difference, fired_by, moved_by, ran_by, refilled_by, waits_as, woken_by};
 use deadline_rules::{ChargeLaw, has_timer_ahead, share};
 use deadline_timers::{Owner, RecordSetup, TimedMachine};
 use rule_changes::RuleChange;
@@ -8,8 +17,8 @@ use std::alloc::AllocError;
 use std::collections::HashMap;
 use timer_lines::{KeptEvent, KeptLine, KeptLines, TaskNote};
 use timer_rules::{
-    Activity, DeadlineTask, ObservedAnswer, answer_of, block_answer, block_moments, charged_at,
-    is_awake, replenish_moments, seen_running, waking_of,
+    Activity, DeadlineTask, ObservedAnswer, answer_of, block_answer, charged_at, is_awake,
+    replenish_moments, seen_running, waking_of,
 };
 use trace_words::Stop;
 
@@ -28,12 +37,16 @@ pub(crate) struct Play {
     pub answers: HashMap<u64, ObservedAnswer>,
 }
 
-fn runs(task: DeadlineTask) -> bool {
+fn runs(task: DeadlineTask) -> bool
+    ensures { result ≡ runs_of task }
+{
     task.entity.is_in_class && is_awake(task.activity)
 }
 
 /// A line that says nothing of a task or a timer.
-fn quiet(kept: KeptLine) -> KeptLine {
+fn quiet(kept: KeptLine) -> KeptLine
+    ensures { result ≡ quieted kept }
+{
     KeptLine {
         event: KeptEvent::Idles,
         ..kept
@@ -41,7 +54,9 @@ fn quiet(kept: KeptLine) -> KeptLine {
 }
 
 impl Play {
-    fn law(&self) -> ChargeLaw {
+    fn law(&self) -> ChargeLaw
+        ensures { result ≡ self.now.setup.law }
+    {
         self.setup.law
     }
 
@@ -123,7 +138,11 @@ impl Play {
     }
 
     /// A line as it is for fair servers that never leave `running_bw`, where that is the change.
-    fn served(&self, kept: KeptLine) -> KeptLine {
+    fn served(&self, kept: KeptLine) -> KeptLine
+        ensures other { self.now.change ≢ RuleChange.ServerRunsOn → result ≡ kept }
+        ensures changed { self.now.change ≡ RuleChange.ServerRunsOn → result
+            ≡ served_on (state_of self.now.machine) kept }
+    {
         if self.change != RuleChange::ServerRunsOn {
             return kept;
         }
@@ -170,7 +189,12 @@ impl Play {
     }
 
     /// What a task takes from `extra_bw`, by the changed rule: it took so much before a line or a note.
-    fn keep_taken(&mut self, number: u32, before: Option<DeadlineTask>, taken: u64) {
+    fn keep_taken(&mut self, number: u32, before: Option<DeadlineTask>, taken: u64)
+        ensures taken { state_of self.new.machine ≡ taking_by self.old.change before
+            (slice_get (state_of self.old.machine).tasks number) self.old.setup.cpus taken
+            (state_of self.old.machine) }
+        ensures rest { self.new ≡ record self.old { machine = self.new.machine } }
+    {
         let (Some(before), Some(after)) = (before, self.machine.task(number)) else {
             return;
         };
@@ -214,7 +238,10 @@ impl Play {
     }
 
     /// A task that runs on, after a budget that was used up is filled at once.
-    fn refilled(&self, task: DeadlineTask) -> DeadlineTask {
+    fn refilled(&self, task: DeadlineTask) -> DeadlineTask
+        ensures { IsTrue (not (is_of_replenishments self.now.change)) → result
+            ≡ refilled_at_once task }
+    {
         if has_timer_ahead(task.entity, task.exceeded.unwrap_or(0)) {
             task
         } else {
@@ -289,14 +316,14 @@ impl Play {
         kept: KeptLine,
         task: DeadlineTask,
         stop: Stop,
-    ) -> Result<(), AllocError> {
-        let difference = if self.change == RuleChange::ZeroLagNever {
-            if task.armed.is_some() { i64::MAX } else { 0 }
-        } else {
-            match blocks_as(self.change, task, kept.at) {
-                Some(other) => block_moments(other, kept.at).difference,
-                None => return Ok(()),
-            }
+    ) -> Result<(), AllocError>
+        ensures other { block_difference_by self.old.change task kept.at ≡ None → self.new ≡ self.old }
+        ensures answer { OnOk result ((d : ℤ) → block_difference_by self.old.change task kept.at ≡ Some d
+            → get nat_eq self.new.answers kept.line ≡ Some (block_answer_of task stop d self.old.within)) }
+        ensures rest { self.new ≡ record self.old { answers = self.new.answers } }
+    {
+        let Some(difference) = block_difference(self.change, task, kept.at) else {
+            return Ok(());
         };
         let answer = block_answer(task, stop, difference, self.within);
         self.answers.insert(kept.line, answer)?;
@@ -304,7 +331,11 @@ impl Play {
     }
 
     /// A task that blocks after its 0-lag time leaves `running_bw` as it is, where that is the change.
-    fn run_on(&mut self, number: u32, before: DeadlineTask, after: DeadlineTask, stop: Stop) {
+    fn run_on(&mut self, number: u32, before: DeadlineTask, after: DeadlineTask, stop: Stop)
+        ensures machine { state_of self.new.machine
+            ≡ running_on self.old.change number before after stop (state_of self.old.machine) }
+        ensures rest { self.new ≡ record self.old { machine = self.new.machine } }
+    {
         if self.change == RuleChange::PastRunsOn
             && runs(before)
             && matches!(stop, Stop::Blocks)

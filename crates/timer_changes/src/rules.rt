@@ -2,7 +2,7 @@
 
 ghost use Rattle.std.specs.Prelude.{◌≡◌, ℕ, not, IsTrue};
 ghost use Rattle.deadline_rules.specs.Budget.{replenished_of};
-ghost use Rattle.timer_changes.specs.Changed.{blocks_by, charged_with, is_of_replenishments, moved_as_wake, waits_by, with_period_of, with_wait_of};
+ghost use Rattle.timer_changes.specs.Changed.{block_difference_by, blocks_by, charged_with, is_of_replenishments, moved_as_wake, waits_by, with_period_of, with_wait_of};
 ghost use Rattle.timer_rules.specs.Tasks.{refilled_of, refills_of, replenished_by};
 ghost use Rattle.timer_rules.specs.Wakes.{is_tested_of};
 
@@ -11,7 +11,9 @@ use deadline_rules::{
     woken, zero_lag,
 };
 use rule_changes::{RuleChange, cost_by, enqueue_by};
-use timer_rules::{DeadlineTask, Throttling, Waking, is_awake, is_tested, refills, throttled};
+use timer_rules::{
+    DeadlineTask, Throttling, Waking, block_moments, is_awake, is_tested, refills, throttled,
+};
 use trace_words::{Budget, Donor, Enqueued, Parameters, Sums};
 
 /// A number that stands for an entity's address.
@@ -235,7 +237,7 @@ fn with_wait(task: DeadlineTask, at: u64, hundredths: i64) -> DeadlineTask
 }
 
 /// The task by which the 0-lag time of a block at this moment is reckoned; none where the rule of blocks is not changed.
-pub(crate) fn blocks_as(change: RuleChange, task: DeadlineTask, at: u64) -> Option<DeadlineTask>
+fn blocks_as(change: RuleChange, task: DeadlineTask, at: u64) -> Option<DeadlineTask>
     ensures { result ≡ blocks_by change task at }
 {
     match change {
@@ -246,6 +248,17 @@ pub(crate) fn blocks_as(change: RuleChange, task: DeadlineTask, at: u64) -> Opti
         RuleChange::ZeroLagLonger => Some(with_wait(task, at, 101)),
         _ => None,
     }
+}
+
+/// How far the 0-lag time of a block at this moment is from the kernel's, where the changed rule gives it.
+pub(crate) fn block_difference(change: RuleChange, task: DeadlineTask, at: u64) -> Option<i64>
+    ensures { result ≡ block_difference_by change task at }
+{
+    if change == RuleChange::ZeroLagNever {
+        return Some(if task.armed.is_some() { i64::MAX } else { 0 });
+    }
+    let other = blocks_as(change, task, at)?;
+    Some(block_moments(other, at).difference)
 }
 
 /// The task by which the moment of a replenishment timer is reckoned; none where that rule is not changed.

@@ -1,0 +1,67 @@
+-- A record, played with one rule changed.
+use Rattle.std.specs.Prelude.{ℕ, Bool, true, false, not, ◌&&◌, ◌==◌, if◌then◌else◌, Option, Some, unwrap_or}
+use Rattle.trace_words.specs.declared.fixed.Stop.{Stop}
+use Rattle.trace_words.specs.declared.fixed.Stop.TheVariants.{Blocks}
+use Rattle.deadline_rules.specs.Budget.{timer_is_ahead}
+use Rattle.deadline_rules.specs.Clock.{plus}
+use Rattle.deadline_rules.specs.Sums.{share_of}
+use Rattle.deadline_rules.specs.declared.entity.Entity.{Entity}
+use Rattle.deadline_timers.specs.declared.machine.Owner.{Owner}
+use Rattle.deadline_timers.specs.declared.machine.Owner.TheVariants.{Server}
+use Rattle.deadline_timers.specs.States.{State, owner_at, replaced}
+use Rattle.deadline_timers.specs.Turns.{runs_of}
+use Rattle.rule_changes.specs.declared.change.RuleChange.{RuleChange}
+use Rattle.rule_changes.specs.declared.change.RuleChange.TheVariants.{PastRunsOn, AdmissionTakesNothing, ChangeFreesNothing, EndFreesNothing, LeavingFreesNothing}
+use Rattle.timer_lines.specs.declared.event.KeptEvent.{KeptEvent}
+use Rattle.timer_lines.specs.declared.event.KeptEvent.TheVariants.{Idles, Switched, Cancelled, ZeroLagFired}
+use Rattle.timer_lines.specs.declared.event.KeptLine.{KeptLine}
+use Rattle.timer_rules.specs.declared.activity.Activity.{Activity}
+use Rattle.timer_rules.specs.declared.activity.Activity.TheVariants.{NonContending, Inactive}
+use Rattle.timer_rules.specs.declared.task.DeadlineTask.{DeadlineTask}
+use Rattle.timer_rules.specs.Tasks.{refilled_of}
+
+abbrev pub quieted : KeptLine → KeptLine
+quieted k = record k { event = Idles }
+
+abbrev pub is_server : Owner → Bool
+is_server (Server cpu) = true
+is_server _ = false
+
+-- nothing stops a fair server: no timer of its own, and no pick on an idle CPU
+abbrev pub served_event : State → KeptEvent → KeptEvent
+served_event m (Cancelled timer) = Idles
+served_event m (ZeroLagFired timer) = if is_server (owner_at timer m) then Idles else ZeroLagFired timer
+served_event m (Switched n deadline stop idle) = Switched n deadline stop false
+served_event m e = e
+
+abbrev pub served_on : State → KeptLine → KeptLine
+served_on m k = record k { event = served_event m k.event; is_idle = false }
+
+-- what is taken from each extra_bw now, by the changed rule: it was so much before the task came from the one entity to the other
+abbrev pub taken_by : RuleChange → Entity → Entity → ℕ → ℕ → ℕ → ℕ
+taken_by AdmissionTakesNothing was e cpus before now = if not was.is_in_class && e.is_in_class then before else now
+taken_by LeavingFreesNothing was e cpus before now = if e.is_in_class then now else before
+taken_by EndFreesNothing was e cpus before now = if e.is_in_class && e.is_dead then before else now
+taken_by ChangeFreesNothing was e cpus before now =
+    if was.is_in_class && e.is_in_class && not (was.dl_bw == e.dl_bw) then plus before (share_of e.dl_bw cpus) else now
+taken_by _ was e cpus before now = now
+
+abbrev pub taking_by : RuleChange → Option DeadlineTask → Option DeadlineTask → ℕ → ℕ → State → State
+taking_by c (Some was) (Some t) cpus before m = record m { taken = taken_by c was.entity t.entity cpus before m.taken }
+taking_by c _ _ cpus before m = m
+
+-- a budget that was used up is filled at once, where no timer can be started
+abbrev pub refilled_at_once : DeadlineTask → DeadlineTask
+refilled_at_once t = if timer_is_ahead t.entity (unwrap_or t.exceeded 0) then t else refilled_of t
+
+abbrev pub is_inactive : Activity → Bool
+is_inactive Inactive = true
+is_inactive _ = false
+
+-- a task that ran, blocks after its 0-lag time, and leaves running_bw as it is
+abbrev pub leaves_running : RuleChange → DeadlineTask → DeadlineTask → Stop → Bool
+leaves_running PastRunsOn before t Blocks = runs_of before && is_inactive t.activity
+leaves_running _ before t _ = false
+
+abbrev pub running_on : RuleChange → ℕ → DeadlineTask → DeadlineTask → Stop → State → State
+running_on c n before t stop m = if leaves_running c before t stop then replaced n (record t { activity = NonContending }) m else m
