@@ -7,9 +7,10 @@ use Rattle.deadline_rules.specs.Clock.{less}
 use Rattle.deadline_rules.specs.declared.charge.ChargeLaw.{ChargeLaw}
 use Rattle.rule_changes.specs.declared.change.RuleChange.{RuleChange}
 use Rattle.rule_changes.specs.declared.change.RuleChange.TheVariants.{ZeroLagNever, ZeroLagByDeadline, ZeroLagShorter, ZeroLagLonger, UntilDeadline, BudgetSet, OnePeriod, YieldKeeps}
+use Rattle.timer_rules.specs.declared.observation.ObservedAnswer.{ObservedAnswer}
 use Rattle.timer_rules.specs.declared.task.DeadlineTask.{DeadlineTask}
 use Rattle.timer_rules.specs.Activity.{is_awake_of}
-use Rattle.timer_rules.specs.Observations.{block_moments_of}
+use Rattle.timer_rules.specs.Observations.{answer_by, block_moments_of, replenish_moments_of}
 use Rattle.timer_rules.specs.Throttle.{has_budget_of, held_of}
 
 -- the changes of the rule of replenishments
@@ -69,3 +70,7 @@ block_difference_by c t at = option_map (λ o. (block_moments_of o at).differenc
 abbrev pub waits_by : RuleChange → DeadlineTask → Option DeadlineTask
 waits_by UntilDeadline t = Some (with_period_of t t.entity.parameters.dl_deadline)
 waits_by _ t = None
+
+-- what a replenishment timer comes to that is started, where the changed rule gives its moment
+abbrev pub start_answer_by : RuleChange → DeadlineTask → ℕ → ℕ → ℕ → Option ObservedAnswer
+start_answer_by c t at expires within = option_map (λ o. answer_by t.knowledge (replenish_moments_of o at expires).difference within) (waits_by c t)

@@ -1,24 +1,36 @@
 -- A record, played with one rule changed.
-use Rattle.std.specs.Prelude.{ℕ, Bool, true, false, not, ◌&&◌, ◌==◌, if◌then◌else◌, Option, Some, unwrap_or}
+use Rattle.std.specs.Prelude.{ℕ, Bool, true, false, not, ◌&&◌, ◌==◌, nat_eq, nat_lt, if◌then◌else◌, Option, Some, None, option_and_then, unwrap_or, List, [], ◌∷◌, slice_get}
+use Rattle.std.specs.HashMap.{HashMap, get}
+use Rattle.std.specs.declared.hash.BuildHasherDefault.{BuildHasherDefault}
+use Rattle.std.specs.declared.hash.FoldHasher.{FoldHasher}
 use Rattle.trace_words.specs.declared.fixed.Stop.{Stop}
 use Rattle.trace_words.specs.declared.fixed.Stop.TheVariants.{Blocks}
 use Rattle.deadline_rules.specs.Budget.{timer_is_ahead}
 use Rattle.deadline_rules.specs.Clock.{plus}
 use Rattle.deadline_rules.specs.Sums.{share_of}
+use Rattle.deadline_rules.specs.declared.charge.ChargeLaw.{ChargeLaw}
 use Rattle.deadline_rules.specs.declared.entity.Entity.{Entity}
 use Rattle.deadline_timers.specs.declared.machine.Owner.{Owner}
-use Rattle.deadline_timers.specs.declared.machine.Owner.TheVariants.{Server}
+use Rattle.deadline_timers.specs.declared.machine.Owner.TheVariants.{Server, Task}
+use Rattle.deadline_timers.specs.Events.{edited, step_in}
+use Rattle.deadline_timers.specs.Notes.{told_in}
 use Rattle.deadline_timers.specs.States.{State, owner_at, replaced}
 use Rattle.deadline_timers.specs.Turns.{runs_of}
 use Rattle.rule_changes.specs.declared.change.RuleChange.{RuleChange}
 use Rattle.rule_changes.specs.declared.change.RuleChange.TheVariants.{PastRunsOn, AdmissionTakesNothing, ChangeFreesNothing, EndFreesNothing, LeavingFreesNothing}
+use Rattle.timer_changes.specs.Changed.{moved_as_wake, start_answer_by}
 use Rattle.timer_lines.specs.declared.event.KeptEvent.{KeptEvent}
 use Rattle.timer_lines.specs.declared.event.KeptEvent.TheVariants.{Idles, Switched, Cancelled, ZeroLagFired}
 use Rattle.timer_lines.specs.declared.event.KeptLine.{KeptLine}
+use Rattle.timer_lines.specs.declared.lines.TaskLines.{TaskLines}
+use Rattle.timer_lines.specs.declared.lines.TaskNote.{TaskNote}
 use Rattle.timer_rules.specs.declared.activity.Activity.{Activity}
 use Rattle.timer_rules.specs.declared.activity.Activity.TheVariants.{NonContending, Inactive}
+use Rattle.timer_rules.specs.declared.observation.Observation.{Observation}
+use Rattle.timer_rules.specs.declared.observation.ObservedAnswer.{ObservedAnswer}
+use Rattle.timer_rules.specs.declared.observation.ObservedAnswer.TheVariants.{Differs}
 use Rattle.timer_rules.specs.declared.task.DeadlineTask.{DeadlineTask}
-use Rattle.timer_rules.specs.Tasks.{refilled_of}
+use Rattle.timer_rules.specs.Tasks.{refilled_of, replenished_by}
 
 abbrev pub quieted : KeptLine → KeptLine
 quieted k = record k { event = Idles }
@@ -49,6 +61,38 @@ taken_by _ was e cpus before now = now
 abbrev pub taking_by : RuleChange → Option DeadlineTask → Option DeadlineTask → ℕ → ℕ → State → State
 taking_by c (Some was) (Some t) cpus before m = record m { taken = taken_by c was.entity t.entity cpus before m.taken }
 taking_by c _ _ cpus before m = m
+
+-- the same after a line or a note about the task
+abbrev pub taking_after : RuleChange → ℕ → ℕ → State → State → State
+taking_after c n cpus before m = taking_by c (slice_get before.tasks n) (slice_get m.tasks n) cpus before.taken m
+
+-- the notes whose moments have come
+abbrev pub told_until_by : RuleChange → ℕ → ℕ → List TaskNote → State → State
+told_until_by c cpus at [] m = m
+told_until_by c cpus at (x ∷ xs) m = if nat_lt at x.moment then m else told_until_by c cpus at xs (taking_after c x.task cpus m (told_in x m))
+
+-- a task that moved to another CPU wakes there
+abbrev pub moving_by : ChargeLaw → Option DeadlineTask → Option DeadlineTask → ℕ → ℕ → State → State
+moving_by law (Some was) (Some t) n at m = if was.cpu == t.cpu then m else replaced n (moved_as_wake law t at) m
+moving_by law _ _ n at m = m
+
+-- what a timer comes to that is started, where the changed rule gives its moment
+abbrev pub starting_by : RuleChange → Owner → State → ℕ → ℕ → ℕ → Option ObservedAnswer
+starting_by c (Task n) m at expires within = option_and_then (λ t. start_answer_by c t at expires within) (slice_get m.tasks n)
+starting_by c _ m at expires within = None
+
+-- a timer of the replenishment fires
+abbrev pub firing_by : Owner → List TaskLines → KeptLine → State → State
+firing_by (Task n) xs k m = edited (λ t. replenished_by t k.at) n (step_in xs (quieted k) m)
+firing_by _ xs k m = step_in xs k m
+
+abbrev pub is_different : ObservedAnswer → Bool
+is_different Differs = true
+is_different _ = false
+
+-- a timer differs: by the answer of the changed rule, where that gives one
+abbrev pub differs_by : HashMap ℕ ObservedAnswer (BuildHasherDefault FoldHasher) → Observation → Bool
+differs_by answers o = is_different (unwrap_or (get nat_eq answers o.line) o.answer)
 
 -- a budget that was used up is filled at once, where no timer can be started
 abbrev pub refilled_at_once : DeadlineTask → DeadlineTask

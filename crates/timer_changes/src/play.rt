@@ -1,15 +1,19 @@
 //! A record, played with one rule changed.
 
-ghost use Rattle.std.specs.Prelude.{◌≡◌, ◌≢◌, ℤ, not, nat_eq, IsTrue, Some, None, OnOk, slice_get};
+ghost use Rattle.std.specs.Prelude.{◌≡◌, ◌≢◌, ℤ, not, nat_eq, IsTrue, Some, None, OnOk, count_by, drop, slice_get};
 ghost use Rattle.std.specs.HashMap.{get};
 ghost use Rattle.deadline_timers.specs.Events.{step_in};
-ghost use Rattle.deadline_timers.specs.States.{state_of};
+ghost use Rattle.deadline_timers.specs.Playing.{left_after};
+ghost use Rattle.deadline_timers.specs.States.{owner_at, state_of};
 ghost use Rattle.deadline_timers.specs.Turns.{runs_of};
 ghost use Rattle.timer_changes.specs.Changed.{block_difference_by, is_of_replenishments};
-ghost use Rattle.timer_changes.specs.Played.{quieted, refilled_at_once, running_on, served_on, taking_by};
+ghost use Rattle.timer_changes.specs.Played.{differs_by, firing_by, moving_by, quieted, refilled_at_once, running_on, served_on, starting_by, taking_after, taking_by, told_until_by};
+ghost use Rattle.timer_rules.specs.declared.observation.ObservedAnswer.{ObservedAnswer};
 ghost use Rattle.timer_rules.specs.Observations.{block_answer_of};
 
-use crate::rules::{block_difference, fired_by, moved_by, ran_by, refilled_by, waits_as, woken_by};
+use crate::rules::{
+    block_difference, fired_by, moved_by, ran_by, refilled_by, start_answer, woken_by,
+};
 use deadline_rules::{ChargeLaw, has_timer_ahead, share};
 use deadline_timers::{Owner, RecordSetup, TimedMachine};
 use rule_changes::RuleChange;
@@ -17,8 +21,8 @@ use std::alloc::AllocError;
 use std::collections::HashMap;
 use timer_lines::{KeptEvent, KeptLine, KeptLines, TaskNote};
 use timer_rules::{
-    Activity, DeadlineTask, ObservedAnswer, answer_of, block_answer, charged_at, is_awake,
-    replenish_moments, seen_running, waking_of,
+    Activity, DeadlineTask, Observation, ObservedAnswer, block_answer, charged_at, is_awake,
+    seen_running, waking_of,
 };
 use trace_words::Stop;
 
@@ -53,6 +57,17 @@ fn quiet(kept: KeptLine) -> KeptLine
     }
 }
 
+/// Whether a timer differs, by the answer of the changed rule where that gives one.
+fn differs(answers: &HashMap<u64, ObservedAnswer>, observation: &Observation) -> bool
+    ensures { result ≡ differs_by answers.now observation.now }
+{
+    let answer = match answers.get(&observation.line) {
+        Some(answer) => *answer,
+        None => observation.answer,
+    };
+    matches!(answer, ObservedAnswer::Differs)
+}
+
 impl Play {
     fn law(&self) -> ChargeLaw
         ensures { result ≡ self.now.setup.law }
@@ -61,7 +76,12 @@ impl Play {
     }
 
     /// Tells the notes from a place on whose moments have come; the place after them.
-    fn tell_until(&mut self, told: &[TaskNote], come: usize, at: u64) -> usize {
+    fn tell_until(&mut self, told: &[TaskNote], come: usize, at: u64) -> usize
+        ensures state { state_of self.new.machine ≡ told_until_by self.old.change
+            self.old.setup.cpus at (drop come told.now) (state_of self.old.machine) }
+        ensures rest { drop result told.now ≡ left_after at (drop come told.now) }
+        ensures kept { self.new ≡ record self.old { machine = self.new.machine } }
+    {
         for i in come..told.len() {
             let note = told[i];
             if note.moment > at {
@@ -86,7 +106,9 @@ impl Play {
     }
 
     /// How many timers differ.
-    pub fn differ(self) -> u64 {
+    pub fn differ(self) -> u64
+        ensures { result ≡ count_by (differs_by self.answers) (state_of self.machine).seen }
+    {
         let Play {
             change: _,
             setup: _,
@@ -96,17 +118,11 @@ impl Play {
             answers,
         } = self;
         let outcome = machine.finish();
-        let mut differ = 0u64;
-        for observation in &outcome.observations {
-            let answer = match answers.get(&observation.line) {
-                Some(answer) => *answer,
-                None => observation.answer,
-            };
-            if let ObservedAnswer::Differs = answer {
-                differ = differ.saturating_add(1);
-            }
-        }
-        differ
+        outcome
+            .observations
+            .iter()
+            .filter(|observation| differs(&answers, observation))
+            .count() as u64
     }
 
     fn step(&mut self, lines: &KeptLines, kept: KeptLine) -> Result<(), AllocError> {
@@ -175,12 +191,11 @@ impl Play {
     }
 
     /// A line about a task that may give its bandwidth back.
-    fn step_of(
-        &mut self,
-        lines: &KeptLines,
-        kept: KeptLine,
-        number: u32,
-    ) -> Result<(), AllocError> {
+    fn step_of(&mut self, lines: &KeptLines, kept: KeptLine, number: u32) -> Result<(), AllocError>
+        ensures { OnOk result (state_of self.new.machine ≡ taking_after self.old.change number
+            self.old.setup.cpus (state_of self.old.machine)
+            (step_in lines.now.tasks.items kept (state_of self.old.machine))) }
+    {
         let before = self.machine.task(number);
         let taken = self.machine.taken();
         self.machine.step(lines, kept)?;
@@ -271,12 +286,16 @@ impl Play {
     }
 
     /// A task moves to another CPU.
-    fn migrate(
-        &mut self,
-        lines: &KeptLines,
-        kept: KeptLine,
-        number: u32,
-    ) -> Result<(), AllocError> {
+    fn migrate(&mut self, lines: &KeptLines, kept: KeptLine, number: u32) -> Result<(), AllocError>
+        ensures other { self.old.change ≢ RuleChange.MoveWakes → OnOk result
+            (state_of self.new.machine
+            ≡ step_in lines.now.tasks.items kept (state_of self.old.machine)) }
+        ensures changed { self.old.change ≡ RuleChange.MoveWakes → OnOk result
+            (let m = step_in lines.now.tasks.items kept (state_of self.old.machine) in
+            state_of self.new.machine ≡ moving_by self.old.setup.law
+            (slice_get (state_of self.old.machine).tasks number) (slice_get m.tasks number)
+            number kept.at m) }
+    {
         let before = self.machine.task(number);
         self.machine.step(lines, kept)?;
         let (Some(before), Some(after)) = (before, self.machine.task(number)) else {
@@ -358,7 +377,16 @@ impl Play {
         kept: KeptLine,
         timer: u32,
         expires: u64,
-    ) -> Result<(), AllocError> {
+    ) -> Result<(), AllocError>
+        ensures machine { OnOk result (state_of self.new.machine
+            ≡ step_in lines.now.tasks.items kept (state_of self.old.machine)) }
+        ensures other { self.old.change ≢ RuleChange.UntilDeadline → self.new.answers
+            ≡ self.old.answers }
+        ensures answer { OnOk result ((a : ObservedAnswer)
+            → starting_by self.old.change (owner_at timer (state_of self.new.machine))
+            (state_of self.new.machine) kept.at expires self.old.within ≡ Some a
+            → get nat_eq self.new.answers kept.line ≡ Some a) }
+    {
         self.machine.step(lines, kept)?;
         let Owner::Task(number) = self.machine.owner(timer) else {
             return Ok(());
@@ -366,16 +394,19 @@ impl Play {
         let Some(task) = self.machine.task(number) else {
             return Ok(());
         };
-        if let Some(other) = waits_as(self.change, task) {
-            let moments = replenish_moments(other, kept.at, expires);
-            let answer = answer_of(task.knowledge, moments.difference, self.within);
+        if let Some(answer) = start_answer(self.change, task, kept.at, expires, self.within) {
             self.answers.insert(kept.line, answer)?;
         }
         Ok(())
     }
 
     /// `dl_task_timer` fires.
-    fn fire(&mut self, lines: &KeptLines, kept: KeptLine, timer: u32) -> Result<(), AllocError> {
+    #[tactic(auto, unfolding(deadline_timers::specs::Events::edited))]
+    fn fire(&mut self, lines: &KeptLines, kept: KeptLine, timer: u32) -> Result<(), AllocError>
+        ensures { IsTrue (not (is_of_replenishments self.old.change)) → OnOk result
+            (state_of self.new.machine ≡ firing_by (owner_at timer (state_of self.old.machine))
+            lines.now.tasks.items kept (state_of self.old.machine)) }
+    {
         let Owner::Task(number) = self.machine.owner(timer) else {
             return self.machine.step(lines, kept);
         };

@@ -2,7 +2,7 @@
 
 ghost use Rattle.std.specs.Prelude.{◌≡◌, ℕ, not, IsTrue};
 ghost use Rattle.deadline_rules.specs.Budget.{replenished_of};
-ghost use Rattle.timer_changes.specs.Changed.{block_difference_by, blocks_by, charged_with, is_of_replenishments, moved_as_wake, waits_by, with_period_of, with_wait_of};
+ghost use Rattle.timer_changes.specs.Changed.{block_difference_by, blocks_by, charged_with, is_of_replenishments, moved_as_wake, start_answer_by, waits_by, with_period_of, with_wait_of};
 ghost use Rattle.timer_rules.specs.Tasks.{refilled_of, refills_of, replenished_by};
 ghost use Rattle.timer_rules.specs.Wakes.{is_tested_of};
 
@@ -12,7 +12,8 @@ use deadline_rules::{
 };
 use rule_changes::{RuleChange, cost_by, enqueue_by};
 use timer_rules::{
-    DeadlineTask, Throttling, Waking, block_moments, is_awake, is_tested, refills, throttled,
+    DeadlineTask, ObservedAnswer, Throttling, Waking, answer_of, block_moments, is_awake,
+    is_tested, refills, replenish_moments, throttled,
 };
 use trace_words::{Budget, Donor, Enqueued, Parameters, Sums};
 
@@ -262,11 +263,26 @@ pub(crate) fn block_difference(change: RuleChange, task: DeadlineTask, at: u64) 
 }
 
 /// The task by which the moment of a replenishment timer is reckoned; none where that rule is not changed.
-pub(crate) fn waits_as(change: RuleChange, task: DeadlineTask) -> Option<DeadlineTask>
+fn waits_as(change: RuleChange, task: DeadlineTask) -> Option<DeadlineTask>
     ensures { result ≡ waits_by change task }
 {
     match change {
         RuleChange::UntilDeadline => Some(with_period(task, task.entity.parameters.dl_deadline)),
         _ => None,
     }
+}
+
+/// What a replenishment timer comes to that is started at this moment, where the changed rule gives its own.
+pub(crate) fn start_answer(
+    change: RuleChange,
+    task: DeadlineTask,
+    at: u64,
+    expires: u64,
+    within: u64,
+) -> Option<ObservedAnswer>
+    ensures { result ≡ start_answer_by change task at expires within }
+{
+    let other = waits_as(change, task)?;
+    let moments = replenish_moments(other, at, expires);
+    Some(answer_of(task.knowledge, moments.difference, within))
 }
