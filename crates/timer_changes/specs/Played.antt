@@ -15,10 +15,10 @@ use Rattle.deadline_timers.specs.declared.machine.Owner.TheVariants.{Server, Tas
 use Rattle.deadline_timers.specs.Events.{edited, step_in}
 use Rattle.deadline_timers.specs.Notes.{told_in}
 use Rattle.deadline_timers.specs.States.{State, owner_at, replaced}
-use Rattle.deadline_timers.specs.Turns.{runs_of}
+use Rattle.deadline_timers.specs.Turns.{at_run_of, runs_of, wakes_of}
 use Rattle.rule_changes.specs.declared.change.RuleChange.{RuleChange}
 use Rattle.rule_changes.specs.declared.change.RuleChange.TheVariants.{PastRunsOn, AdmissionTakesNothing, ChangeFreesNothing, EndFreesNothing, LeavingFreesNothing}
-use Rattle.timer_changes.specs.Changed.{moved_as_wake, start_answer_by}
+use Rattle.timer_changes.specs.Changed.{charged_with, moved_as_wake, start_answer_by}
 use Rattle.timer_lines.specs.declared.event.KeptEvent.{KeptEvent}
 use Rattle.timer_lines.specs.declared.event.KeptEvent.TheVariants.{Idles, Switched, Cancelled, ZeroLagFired}
 use Rattle.timer_lines.specs.declared.event.KeptLine.{KeptLine}
@@ -109,3 +109,28 @@ leaves_running _ before t _ = false
 
 abbrev pub running_on : RuleChange → ℕ → DeadlineTask → DeadlineTask → Stop → State → State
 running_on c n before t stop m = if leaves_running c before t stop then replaced n (record t { activity = NonContending }) m else m
+
+-- a task that runs is charged, after a budget that was used up is filled at once
+abbrev pub running_with : Option DeadlineTask → KeptLine → ℕ → ℕ → State → State
+running_with (Some t) k n cost m =
+    let shown = at_run_of t k in
+    if runs_of shown then replaced n (charged_with (refilled_at_once shown) k.at cost) (replaced n shown m) else replaced n shown m
+running_with None k n cost m = m
+
+-- a task is switched out, after a budget that was used up is filled
+abbrev pub switched_on : RuleChange → ℕ → DeadlineTask → Option DeadlineTask → Stop → State → State
+switched_on c n before (Some t) stop m = running_on c n before t stop m
+switched_on c n before None stop m = m
+
+abbrev pub switching_from : RuleChange → ℕ → List TaskLines → KeptLine → ℕ → DeadlineTask → Stop → State → State
+switching_from c cpus xs k n before stop m =
+    let after = taking_after c n cpus m (step_in xs k m) in
+    switched_on c n before (slice_get after.tasks n) stop after
+
+abbrev pub switching_by : Option DeadlineTask → RuleChange → ℕ → List TaskLines → KeptLine → ℕ → Stop → State → State
+switching_by (Some t) c cpus xs k n stop m = switching_from c cpus xs k n (refilled_of t) stop (replaced n (refilled_of t) m)
+switching_by None c cpus xs k n stop m = step_in xs k m
+
+abbrev pub wakes_by : Option DeadlineTask → Bool
+wakes_by (Some t) = wakes_of t
+wakes_by None = false

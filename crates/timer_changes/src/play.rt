@@ -1,13 +1,13 @@
 //! A record, played with one rule changed.
 
-ghost use Rattle.std.specs.Prelude.{◌≡◌, ◌≢◌, ℤ, not, nat_eq, IsTrue, Some, None, OnOk, count_by, drop, slice_get};
+ghost use Rattle.std.specs.Prelude.{◌≡◌, ◌≢◌, ℕ, ℤ, not, nat_eq, IsTrue, Some, None, OnOk, count_by, drop, slice_get};
 ghost use Rattle.std.specs.HashMap.{get};
 ghost use Rattle.deadline_timers.specs.Events.{step_in};
 ghost use Rattle.deadline_timers.specs.Playing.{left_after};
 ghost use Rattle.deadline_timers.specs.States.{owner_at, state_of};
 ghost use Rattle.deadline_timers.specs.Turns.{runs_of};
 ghost use Rattle.timer_changes.specs.Changed.{block_difference_by, is_of_replenishments};
-ghost use Rattle.timer_changes.specs.Played.{differs_by, firing_by, moving_by, quieted, refilled_at_once, running_on, served_on, starting_by, taking_after, taking_by, told_until_by};
+ghost use Rattle.timer_changes.specs.Played.{differs_by, firing_by, moving_by, quieted, refilled_at_once, running_on, running_with, served_on, starting_by, switching_by, taking_after, taking_by, told_until_by, wakes_by};
 ghost use Rattle.timer_rules.specs.declared.observation.ObservedAnswer.{ObservedAnswer};
 ghost use Rattle.timer_rules.specs.Observations.{block_answer_of};
 
@@ -192,9 +192,10 @@ impl Play {
 
     /// A line about a task that may give its bandwidth back.
     fn step_of(&mut self, lines: &KeptLines, kept: KeptLine, number: u32) -> Result<(), AllocError>
-        ensures { OnOk result (state_of self.new.machine ≡ taking_after self.old.change number
+        ensures machine { OnOk result (state_of self.new.machine ≡ taking_after self.old.change number
             self.old.setup.cpus (state_of self.old.machine)
             (step_in lines.now.tasks.items kept (state_of self.old.machine))) }
+        ensures rest { self.new ≡ record self.old { machine = self.new.machine } }
     {
         let before = self.machine.task(number);
         let taken = self.machine.taken();
@@ -230,13 +231,19 @@ impl Play {
     }
 
     /// A task is charged.
+    #[tactic(auto, unfolding(deadline_timers::specs::Turns::at_run_of))]
     fn run(
         &mut self,
         lines: &KeptLines,
         kept: KeptLine,
         number: u32,
         nanos: u64,
-    ) -> Result<(), AllocError> {
+    ) -> Result<(), AllocError>
+        ensures { IsTrue (not (is_of_replenishments self.old.change)) → OnOk result
+            ((cost : ℕ) × (let m = step_in lines.now.tasks.items (quieted kept)
+            (state_of self.old.machine) in state_of self.new.machine
+            ≡ running_with (slice_get m.tasks number) kept number cost m)) }
+    {
         self.machine.step(lines, quiet(kept))?;
         let Some(task) = self.machine.task(number) else {
             return Ok(());
@@ -271,7 +278,11 @@ impl Play {
         kept: KeptLine,
         number: u32,
         clock: u64,
-    ) -> Result<(), AllocError> {
+    ) -> Result<(), AllocError>
+        ensures { IsTrue (not (wakes_by (slice_get (state_of self.old.machine).tasks number)))
+            → OnOk result (state_of self.new.machine
+            ≡ step_in lines.now.tasks.items kept (state_of self.old.machine)) }
+    {
         let before = self.machine.task(number);
         self.machine.step(lines, kept)?;
         let (Some(before), Some(after)) = (before, self.machine.task(number)) else {
@@ -315,7 +326,13 @@ impl Play {
         kept: KeptLine,
         number: u32,
         stop: Stop,
-    ) -> Result<(), AllocError> {
+    ) -> Result<(), AllocError>
+        ensures { IsTrue (not (is_of_replenishments self.old.change)) → OnOk result
+            (state_of self.new.machine ≡ switching_by
+            (slice_get (state_of self.old.machine).tasks number) self.old.change
+            self.old.setup.cpus lines.now.tasks.items kept number stop
+            (state_of self.old.machine)) }
+    {
         let Some(task) = self.machine.task(number) else {
             return self.machine.step(lines, kept);
         };
