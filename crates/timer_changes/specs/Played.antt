@@ -1,5 +1,5 @@
 -- A record, played with one rule changed.
-use Rattle.std.specs.Prelude.{ℕ, Bool, true, false, not, ◌&&◌, ◌==◌, nat_eq, nat_lt, if◌then◌else◌, Option, Some, None, option_and_then, unwrap_or, List, [], ◌∷◌, slice_get}
+use Rattle.std.specs.Prelude.{◌≡◌, ℕ, Bool, true, false, not, ◌&&◌, ◌==◌, nat_eq, nat_lt, if◌then◌else◌, Option, Some, None, option_and_then, unwrap_or, List, [], ◌∷◌, slice_get}
 use Rattle.std.specs.HashMap.{HashMap, get}
 use Rattle.std.specs.declared.hash.BuildHasherDefault.{BuildHasherDefault}
 use Rattle.std.specs.declared.hash.FoldHasher.{FoldHasher}
@@ -19,6 +19,7 @@ use Rattle.deadline_timers.specs.Turns.{at_run_of, runs_of, wakes_of}
 use Rattle.rule_changes.specs.declared.change.RuleChange.{RuleChange}
 use Rattle.rule_changes.specs.declared.change.RuleChange.TheVariants.{PastRunsOn, AdmissionTakesNothing, ChangeFreesNothing, EndFreesNothing, LeavingFreesNothing}
 use Rattle.timer_changes.specs.Changed.{charged_with, moved_as_wake, start_answer_by}
+use Rattle.timer_changes.specs.declared.play.Play.{Play}
 use Rattle.timer_lines.specs.declared.event.KeptEvent.{KeptEvent}
 use Rattle.timer_lines.specs.declared.event.KeptEvent.TheVariants.{Idles, Switched, Cancelled, ZeroLagFired}
 use Rattle.timer_lines.specs.declared.event.KeptLine.{KeptLine}
@@ -31,6 +32,10 @@ use Rattle.timer_rules.specs.declared.observation.ObservedAnswer.{ObservedAnswer
 use Rattle.timer_rules.specs.declared.observation.ObservedAnswer.TheVariants.{Differs}
 use Rattle.timer_rules.specs.declared.task.DeadlineTask.{DeadlineTask}
 use Rattle.timer_rules.specs.Tasks.{refilled_of, replenished_by}
+
+-- by the same rule, and of the same record
+abbrev pub GoesOn : Play → Play → Type 0
+GoesOn old new = new ≡ record old { machine = new.machine; answers = new.answers }
 
 abbrev pub quieted : KeptLine → KeptLine
 quieted k = record k { event = Idles }

@@ -7,7 +7,7 @@ ghost use Rattle.deadline_timers.specs.Playing.{left_after};
 ghost use Rattle.deadline_timers.specs.States.{owner_at, state_of};
 ghost use Rattle.deadline_timers.specs.Turns.{runs_of};
 ghost use Rattle.timer_changes.specs.Changed.{block_difference_by, is_of_replenishments};
-ghost use Rattle.timer_changes.specs.Played.{differs_by, firing_by, moving_by, quieted, refilled_at_once, running_on, running_with, served_on, starting_by, switching_by, taking_after, taking_by, told_until_by, wakes_by};
+ghost use Rattle.timer_changes.specs.Played.{GoesOn, differs_by, firing_by, moving_by, quieted, refilled_at_once, running_on, running_with, served_on, starting_by, switching_by, taking_after, taking_by, told_until_by, wakes_by};
 ghost use Rattle.timer_rules.specs.declared.observation.ObservedAnswer.{ObservedAnswer};
 ghost use Rattle.timer_rules.specs.Observations.{block_answer_of};
 
@@ -96,7 +96,9 @@ impl Play {
     }
 
     /// Plays each line, after the notes whose moments have come.
-    pub fn play_lines(&mut self, lines: &KeptLines) -> Result<(), AllocError> {
+    pub fn play_lines(&mut self, lines: &KeptLines) -> Result<(), AllocError>
+        ensures { GoesOn self.old self.new }
+    {
         let mut come = 0usize;
         for kept in &lines.kept {
             come = self.tell_until(&lines.told, come, kept.at);
@@ -125,7 +127,9 @@ impl Play {
             .count() as u64
     }
 
-    fn step(&mut self, lines: &KeptLines, kept: KeptLine) -> Result<(), AllocError> {
+    fn step(&mut self, lines: &KeptLines, kept: KeptLine) -> Result<(), AllocError>
+        ensures { GoesOn self.old self.new }
+    {
         let kept = self.served(kept);
         match kept.event {
             KeptEvent::Ran { task, nanos } => self.run(lines, kept, task, nanos),
@@ -239,10 +243,11 @@ impl Play {
         number: u32,
         nanos: u64,
     ) -> Result<(), AllocError>
-        ensures { IsTrue (not (is_of_replenishments self.old.change)) → OnOk result
+        ensures charge { IsTrue (not (is_of_replenishments self.old.change)) → OnOk result
             ((cost : ℕ) × (let m = step_in lines.now.tasks.items (quieted kept)
             (state_of self.old.machine) in state_of self.new.machine
             ≡ running_with (slice_get m.tasks number) kept number cost m)) }
+        ensures rest { GoesOn self.old self.new }
     {
         self.machine.step(lines, quiet(kept))?;
         let Some(task) = self.machine.task(number) else {
@@ -279,9 +284,10 @@ impl Play {
         number: u32,
         clock: u64,
     ) -> Result<(), AllocError>
-        ensures { IsTrue (not (wakes_by (slice_get (state_of self.old.machine).tasks number)))
+        ensures awake { IsTrue (not (wakes_by (slice_get (state_of self.old.machine).tasks number)))
             → OnOk result (state_of self.new.machine
             ≡ step_in lines.now.tasks.items kept (state_of self.old.machine)) }
+        ensures rest { GoesOn self.old self.new }
     {
         let before = self.machine.task(number);
         self.machine.step(lines, kept)?;
@@ -306,6 +312,7 @@ impl Play {
             state_of self.new.machine ≡ moving_by self.old.setup.law
             (slice_get (state_of self.old.machine).tasks number) (slice_get m.tasks number)
             number kept.at m) }
+        ensures rest { GoesOn self.old self.new }
     {
         let before = self.machine.task(number);
         self.machine.step(lines, kept)?;
@@ -327,11 +334,12 @@ impl Play {
         number: u32,
         stop: Stop,
     ) -> Result<(), AllocError>
-        ensures { IsTrue (not (is_of_replenishments self.old.change)) → OnOk result
+        ensures machine { IsTrue (not (is_of_replenishments self.old.change)) → OnOk result
             (state_of self.new.machine ≡ switching_by
             (slice_get (state_of self.old.machine).tasks number) self.old.change
             self.old.setup.cpus lines.now.tasks.items kept number stop
             (state_of self.old.machine)) }
+        ensures rest { GoesOn self.old self.new }
     {
         let Some(task) = self.machine.task(number) else {
             return self.machine.step(lines, kept);
@@ -403,6 +411,7 @@ impl Play {
             → starting_by self.old.change (owner_at timer (state_of self.new.machine))
             (state_of self.new.machine) kept.at expires self.old.within ≡ Some a
             → get nat_eq self.new.answers kept.line ≡ Some a) }
+        ensures rest { GoesOn self.old self.new }
     {
         self.machine.step(lines, kept)?;
         let Owner::Task(number) = self.machine.owner(timer) else {
@@ -420,9 +429,10 @@ impl Play {
     /// `dl_task_timer` fires.
     #[tactic(auto, unfolding(deadline_timers::specs::Events::edited))]
     fn fire(&mut self, lines: &KeptLines, kept: KeptLine, timer: u32) -> Result<(), AllocError>
-        ensures { IsTrue (not (is_of_replenishments self.old.change)) → OnOk result
+        ensures machine { IsTrue (not (is_of_replenishments self.old.change)) → OnOk result
             (state_of self.new.machine ≡ firing_by (owner_at timer (state_of self.old.machine))
             lines.now.tasks.items kept (state_of self.old.machine)) }
+        ensures rest { GoesOn self.old self.new }
     {
         let Owner::Task(number) = self.machine.owner(timer) else {
             return self.machine.step(lines, kept);
