@@ -1,6 +1,7 @@
 -- What a line of a record does to a task, with one rule changed.
 use Rattle.std.specs.Prelude.{ℕ, ◌-◌, ◌^◌, ℤ, pos, Bool, true, false, not, ◌&&◌, if◌then◌else◌, Option, Some, None, is_some, option_map, unwrap_or}
 use Rattle.std.specs.Int.{w64, cast_unsigned, int_div_euclid, int_wrapping_mul, int_wrapping_sub}
+use Rattle.trace_words.specs.declared.quantities.Budget.{Budget}
 use Rattle.deadline_rules.specs.Activity.{zero_lag_of}
 use Rattle.deadline_rules.specs.Budget.{charged_of, waking_of, woken_of}
 use Rattle.deadline_rules.specs.Clock.{less}
@@ -11,7 +12,9 @@ use Rattle.timer_rules.specs.declared.observation.ObservedAnswer.{ObservedAnswer
 use Rattle.timer_rules.specs.declared.task.DeadlineTask.{DeadlineTask}
 use Rattle.timer_rules.specs.Activity.{is_awake_of}
 use Rattle.timer_rules.specs.Observations.{answer_by, block_moments_of, replenish_moments_of}
+use Rattle.timer_rules.specs.declared.wake.Waking.{Waking}
 use Rattle.timer_rules.specs.Throttle.{has_budget_of, held_of}
+use Rattle.timer_rules.specs.Wakes.{is_tested_of}
 
 -- the changes of the rule of replenishments
 abbrev pub is_of_replenishments : RuleChange → Bool
@@ -19,6 +22,10 @@ is_of_replenishments BudgetSet = true
 is_of_replenishments OnePeriod = true
 is_of_replenishments YieldKeeps = true
 is_of_replenishments _ = false
+
+-- a task that wakes has another budget at most, and that only where the kernel's test is made
+abbrev pub waking_with : DeadlineTask → DeadlineTask → Waking → Budget → DeadlineTask
+waking_with was t did b = if is_tested_of did then record t { entity = record was.entity { budget = b } } else t
 
 -- a move is a wake, of a task that is awake and not throttled
 abbrev pub moved_as_wake : ChargeLaw → DeadlineTask → ℕ → DeadlineTask

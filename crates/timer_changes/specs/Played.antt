@@ -1,9 +1,10 @@
 -- A record, played with one rule changed.
-use Rattle.std.specs.Prelude.{◌≡◌, ℕ, Bool, true, false, not, ◌&&◌, ◌==◌, nat_eq, nat_lt, if◌then◌else◌, Option, Some, None, option_and_then, unwrap_or, List, [], ◌∷◌, slice_get}
+use Rattle.std.specs.Prelude.{◌≡◌, ℕ, MatchBool, Bool, true, false, not, ◌&&◌, ◌==◌, nat_eq, nat_lt, if◌then◌else◌, Option, Some, None, option_and_then, unwrap_or, List, [], ◌∷◌, slice_get}
 use Rattle.std.specs.HashMap.{HashMap, get}
 use Rattle.std.specs.declared.hash.BuildHasherDefault.{BuildHasherDefault}
 use Rattle.std.specs.declared.hash.FoldHasher.{FoldHasher}
 use Rattle.trace_words.specs.declared.fixed.Stop.{Stop}
+use Rattle.trace_words.specs.declared.quantities.Budget.{Budget}
 use Rattle.trace_words.specs.declared.fixed.Stop.TheVariants.{Blocks}
 use Rattle.deadline_rules.specs.Budget.{timer_is_ahead}
 use Rattle.deadline_rules.specs.Clock.{plus}
@@ -18,7 +19,7 @@ use Rattle.deadline_timers.specs.States.{State, owner_at, replaced}
 use Rattle.deadline_timers.specs.Turns.{at_run_of, runs_of, wakes_of}
 use Rattle.rule_changes.specs.declared.change.RuleChange.{RuleChange}
 use Rattle.rule_changes.specs.declared.change.RuleChange.TheVariants.{PastRunsOn, AdmissionTakesNothing, ChangeFreesNothing, EndFreesNothing, LeavingFreesNothing}
-use Rattle.timer_changes.specs.Changed.{charged_with, moved_as_wake, start_answer_by}
+use Rattle.timer_changes.specs.Changed.{charged_with, moved_as_wake, start_answer_by, waking_with}
 use Rattle.timer_changes.specs.declared.play.Play.{Play}
 use Rattle.timer_lines.specs.declared.event.KeptEvent.{KeptEvent}
 use Rattle.timer_lines.specs.declared.event.KeptEvent.TheVariants.{Idles, Switched, Cancelled, ZeroLagFired}
@@ -32,6 +33,7 @@ use Rattle.timer_rules.specs.declared.observation.ObservedAnswer.{ObservedAnswer
 use Rattle.timer_rules.specs.declared.observation.ObservedAnswer.TheVariants.{Differs}
 use Rattle.timer_rules.specs.declared.task.DeadlineTask.{DeadlineTask}
 use Rattle.timer_rules.specs.Tasks.{refilled_of, replenished_by}
+use Rattle.timer_rules.specs.Wakes.{waking_by}
 
 -- by the same rule, and of the same record
 abbrev pub GoesOn : Play → Play → Type 0
@@ -136,6 +138,7 @@ abbrev pub switching_by : Option DeadlineTask → RuleChange → ℕ → List Ta
 switching_by (Some t) c cpus xs k n stop m = switching_from c cpus xs k n (refilled_of t) stop (replaced n (refilled_of t) m)
 switching_by None c cpus xs k n stop m = step_in xs k m
 
-abbrev pub wakes_by : Option DeadlineTask → Bool
-wakes_by (Some t) = wakes_of t
-wakes_by None = false
+abbrev pub Wakes : Option DeadlineTask → Option DeadlineTask → ChargeLaw → ℕ → ℕ → ℕ → State → State → Type 0
+Wakes (Some was) (Some t) law begins clock n m new =
+    MatchBool (wakes_of was) ((b : Budget) × (new ≡ replaced n (waking_with was t (waking_by law was begins clock) b) m)) (new ≡ m)
+Wakes _ _ law begins clock n m new = new ≡ m

@@ -7,7 +7,7 @@ ghost use Rattle.deadline_timers.specs.Playing.{left_after};
 ghost use Rattle.deadline_timers.specs.States.{owner_at, state_of};
 ghost use Rattle.deadline_timers.specs.Turns.{runs_of};
 ghost use Rattle.timer_changes.specs.Changed.{block_difference_by, is_of_replenishments};
-ghost use Rattle.timer_changes.specs.Played.{GoesOn, differs_by, firing_by, moving_by, quieted, refilled_at_once, running_on, running_with, served_on, starting_by, switching_by, taking_after, taking_by, told_until_by, wakes_by};
+ghost use Rattle.timer_changes.specs.Played.{GoesOn, Wakes, differs_by, firing_by, moving_by, quieted, refilled_at_once, running_on, running_with, served_on, starting_by, switching_by, taking_after, taking_by, told_until_by};
 ghost use Rattle.timer_rules.specs.declared.observation.ObservedAnswer.{ObservedAnswer};
 ghost use Rattle.timer_rules.specs.Observations.{block_answer_of};
 
@@ -284,9 +284,10 @@ impl Play {
         number: u32,
         clock: u64,
     ) -> Result<(), AllocError>
-        ensures awake { IsTrue (not (wakes_by (slice_get (state_of self.old.machine).tasks number)))
-            → OnOk result (state_of self.new.machine
-            ≡ step_in lines.now.tasks.items kept (state_of self.old.machine)) }
+        ensures woken { OnOk result (let m = step_in lines.now.tasks.items kept
+            (state_of self.old.machine) in Wakes
+            (slice_get (state_of self.old.machine).tasks number) (slice_get m.tasks number)
+            self.old.setup.law self.old.begins clock number m (state_of self.new.machine)) }
         ensures rest { GoesOn self.old self.new }
     {
         let before = self.machine.task(number);

@@ -2,9 +2,8 @@
 
 ghost use Rattle.std.specs.Prelude.{◌≡◌, ℕ, not, IsTrue};
 ghost use Rattle.deadline_rules.specs.Budget.{replenished_of};
-ghost use Rattle.timer_changes.specs.Changed.{block_difference_by, blocks_by, charged_with, is_of_replenishments, moved_as_wake, start_answer_by, waits_by, with_period_of, with_wait_of};
+ghost use Rattle.timer_changes.specs.Changed.{block_difference_by, blocks_by, charged_with, is_of_replenishments, moved_as_wake, start_answer_by, waits_by, waking_with, with_period_of, with_wait_of};
 ghost use Rattle.timer_rules.specs.Tasks.{refilled_of, refills_of, replenished_by};
-ghost use Rattle.timer_rules.specs.Wakes.{is_tested_of};
 
 use deadline_rules::{
     ChargeLaw, ChargedRunqueue, Entity, QUEUED, REPLENISH, WAKEUP, charged, replenished, waking,
@@ -73,10 +72,7 @@ pub(crate) fn woken_by(
     did: Waking,
     clock: u64,
 ) -> DeadlineTask
-    ensures untested { IsTrue (not (is_tested_of did)) → result ≡ after }
-    ensures tested { IsTrue (is_tested_of did) → result ≡ record after {
-      entity = record before.entity { budget = result.entity.budget };
-    } }
+    ensures { result ≡ waking_with before after did result.entity.budget }
 {
     if is_tested(did) {
         DeadlineTask {
