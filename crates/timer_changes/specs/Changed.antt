@@ -51,7 +51,7 @@ wait_of t at = zero_lag_of t.entity (unwrap_or t.charged at)
 abbrev pub cut_of : ℤ → ℤ → ℤ
 cut_of wait hundredths = int_wrapping_sub w64 wait (int_div_euclid (int_wrapping_mul w64 wait hundredths) (pos 100))
 
--- the 0-lag time comes earlier with the deadline
+-- with an earlier deadline, by as much, and so with an earlier 0-lag time
 abbrev pub with_wait_of : DeadlineTask → ℕ → ℤ → DeadlineTask
 with_wait_of t at hundredths = record t {
   entity = record t.entity {

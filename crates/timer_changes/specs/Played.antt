@@ -138,6 +138,7 @@ abbrev pub switching_by : Option DeadlineTask → RuleChange → ℕ → List Ta
 switching_by (Some t) c cpus xs k n stop m = switching_from c cpus xs k n (refilled_of t) stop (replaced n (refilled_of t) m)
 switching_by None c cpus xs k n stop m = step_in xs k m
 
+-- a line of a wake: nothing but its own effect, where the task was not asleep
 abbrev pub Wakes : Option DeadlineTask → Option DeadlineTask → ChargeLaw → ℕ → ℕ → ℕ → State → State → Type 0
 Wakes (Some was) (Some t) law begins clock n m new =
     MatchBool (wakes_of was) ((b : Budget) × (new ≡ replaced n (waking_with was t (waking_by law was begins clock) b) m)) (new ≡ m)

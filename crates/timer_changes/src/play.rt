@@ -362,9 +362,12 @@ impl Play {
         task: DeadlineTask,
         stop: Stop,
     ) -> Result<(), AllocError>
-        ensures other { block_difference_by self.old.change task kept.at ≡ None → self.new ≡ self.old }
-        ensures answer { OnOk result ((d : ℤ) → block_difference_by self.old.change task kept.at ≡ Some d
-            → get nat_eq self.new.answers kept.line ≡ Some (block_answer_of task stop d self.old.within)) }
+        ensures other { block_difference_by self.old.change task kept.at ≡ None
+            → self.new ≡ self.old }
+        ensures answer { OnOk result ((d : ℤ)
+            → block_difference_by self.old.change task kept.at ≡ Some d
+            → get nat_eq self.new.answers kept.line
+            ≡ Some (block_answer_of task stop d self.old.within)) }
         ensures rest { self.new ≡ record self.old { answers = self.new.answers } }
     {
         let Some(difference) = block_difference(self.change, task, kept.at) else {
