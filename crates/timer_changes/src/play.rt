@@ -1,6 +1,19 @@
 //! A record, played with one rule changed.
 
-use crate::rules::{blocks_as, fired_by, moved_by, ran_by, refilled_by, waits_as, woken_by};
+ghost use Rattle.std.specs.Prelude.{◌≡◌, ◌≢◌, ℕ, ℤ, not, nat_eq, IsTrue, Some, None, OnOk, count_by, drop, slice_get};
+ghost use Rattle.std.specs.HashMap.{get};
+ghost use Rattle.deadline_timers.specs.Events.{step_in};
+ghost use Rattle.deadline_timers.specs.Playing.{left_after};
+ghost use Rattle.deadline_timers.specs.States.{owner_at, state_of};
+ghost use Rattle.deadline_timers.specs.Turns.{runs_of};
+ghost use Rattle.timer_changes.specs.Changed.{block_difference_by, is_of_replenishments};
+ghost use Rattle.timer_changes.specs.Played.{GoesOn, Wakes, differs_by, firing_by, moving_by, quieted, refilled_at_once, running_on, running_with, served_on, starting_by, switching_by, taking_after, taking_by, told_until_by};
+ghost use Rattle.timer_rules.specs.declared.observation.ObservedAnswer.{ObservedAnswer};
+ghost use Rattle.timer_rules.specs.Observations.{block_answer_of};
+
+use crate::rules::{
+    block_difference, fired_by, moved_by, ran_by, refilled_by, start_answer, woken_by,
+};
 use deadline_rules::{ChargeLaw, has_timer_ahead, share};
 use deadline_timers::{Owner, RecordSetup, TimedMachine};
 use rule_changes::RuleChange;
@@ -8,8 +21,8 @@ use std::alloc::AllocError;
 use std::collections::HashMap;
 use timer_lines::{KeptEvent, KeptLine, KeptLines, TaskNote};
 use timer_rules::{
-    Activity, DeadlineTask, ObservedAnswer, answer_of, block_answer, block_moments, charged_at,
-    is_awake, replenish_moments, seen_running, waking_of,
+    Activity, DeadlineTask, Observation, ObservedAnswer, block_answer, charged_at, is_awake,
+    seen_running, waking_of,
 };
 use trace_words::Stop;
 
@@ -28,25 +41,47 @@ pub(crate) struct Play {
     pub answers: HashMap<u64, ObservedAnswer>,
 }
 
-fn runs(task: DeadlineTask) -> bool {
+fn runs(task: DeadlineTask) -> bool
+    ensures { result ≡ runs_of task }
+{
     task.entity.is_in_class && is_awake(task.activity)
 }
 
 /// A line that says nothing of a task or a timer.
-fn quiet(kept: KeptLine) -> KeptLine {
+fn quiet(kept: KeptLine) -> KeptLine
+    ensures { result ≡ quieted kept }
+{
     KeptLine {
         event: KeptEvent::Idles,
         ..kept
     }
 }
 
+/// Whether a timer differs, by the answer of the changed rule where that gives one.
+fn differs(answers: &HashMap<u64, ObservedAnswer>, observation: &Observation) -> bool
+    ensures { result ≡ differs_by answers.now observation.now }
+{
+    let answer = match answers.get(&observation.line) {
+        Some(answer) => *answer,
+        None => observation.answer,
+    };
+    matches!(answer, ObservedAnswer::Differs)
+}
+
 impl Play {
-    fn law(&self) -> ChargeLaw {
+    fn law(&self) -> ChargeLaw
+        ensures { result ≡ self.now.setup.law }
+    {
         self.setup.law
     }
 
     /// Tells the notes from a place on whose moments have come; the place after them.
-    fn tell_until(&mut self, told: &[TaskNote], come: usize, at: u64) -> usize {
+    fn tell_until(&mut self, told: &[TaskNote], come: usize, at: u64) -> usize
+        ensures state { state_of self.new.machine ≡ told_until_by self.old.change
+            self.old.setup.cpus at (drop come told.now) (state_of self.old.machine) }
+        ensures rest { drop result told.now ≡ left_after at (drop come told.now) }
+        ensures kept { self.new ≡ record self.old { machine = self.new.machine } }
+    {
         for i in come..told.len() {
             let note = told[i];
             if note.moment > at {
@@ -61,7 +96,9 @@ impl Play {
     }
 
     /// Plays each line, after the notes whose moments have come.
-    pub fn play_lines(&mut self, lines: &KeptLines) -> Result<(), AllocError> {
+    pub fn play_lines(&mut self, lines: &KeptLines) -> Result<(), AllocError>
+        ensures { GoesOn self.old self.new }
+    {
         let mut come = 0usize;
         for kept in &lines.kept {
             come = self.tell_until(&lines.told, come, kept.at);
@@ -71,7 +108,9 @@ impl Play {
     }
 
     /// How many timers differ.
-    pub fn differ(self) -> u64 {
+    pub fn differ(self) -> u64
+        ensures { result ≡ count_by (differs_by self.answers) (state_of self.machine).seen }
+    {
         let Play {
             change: _,
             setup: _,
@@ -81,20 +120,16 @@ impl Play {
             answers,
         } = self;
         let outcome = machine.finish();
-        let mut differ = 0u64;
-        for observation in &outcome.observations {
-            let answer = match answers.get(&observation.line) {
-                Some(answer) => *answer,
-                None => observation.answer,
-            };
-            if let ObservedAnswer::Differs = answer {
-                differ = differ.saturating_add(1);
-            }
-        }
-        differ
+        outcome
+            .observations
+            .iter()
+            .filter(|observation| differs(&answers, observation))
+            .count() as u64
     }
 
-    fn step(&mut self, lines: &KeptLines, kept: KeptLine) -> Result<(), AllocError> {
+    fn step(&mut self, lines: &KeptLines, kept: KeptLine) -> Result<(), AllocError>
+        ensures { GoesOn self.old self.new }
+    {
         let kept = self.served(kept);
         match kept.event {
             KeptEvent::Ran { task, nanos } => self.run(lines, kept, task, nanos),
@@ -123,7 +158,11 @@ impl Play {
     }
 
     /// A line as it is for fair servers that never leave `running_bw`, where that is the change.
-    fn served(&self, kept: KeptLine) -> KeptLine {
+    fn served(&self, kept: KeptLine) -> KeptLine
+        ensures other { self.now.change ≢ RuleChange.ServerRunsOn → result ≡ kept }
+        ensures changed { self.now.change ≡ RuleChange.ServerRunsOn → result
+            ≡ served_on (state_of self.now.machine) kept }
+    {
         if self.change != RuleChange::ServerRunsOn {
             return kept;
         }
@@ -156,12 +195,12 @@ impl Play {
     }
 
     /// A line about a task that may give its bandwidth back.
-    fn step_of(
-        &mut self,
-        lines: &KeptLines,
-        kept: KeptLine,
-        number: u32,
-    ) -> Result<(), AllocError> {
+    fn step_of(&mut self, lines: &KeptLines, kept: KeptLine, number: u32) -> Result<(), AllocError>
+        ensures machine { OnOk result (state_of self.new.machine ≡ taking_after self.old.change number
+            self.old.setup.cpus (state_of self.old.machine)
+            (step_in lines.now.tasks.items kept (state_of self.old.machine))) }
+        ensures rest { self.new ≡ record self.old { machine = self.new.machine } }
+    {
         let before = self.machine.task(number);
         let taken = self.machine.taken();
         self.machine.step(lines, kept)?;
@@ -170,7 +209,12 @@ impl Play {
     }
 
     /// What a task takes from `extra_bw`, by the changed rule: it took so much before a line or a note.
-    fn keep_taken(&mut self, number: u32, before: Option<DeadlineTask>, taken: u64) {
+    fn keep_taken(&mut self, number: u32, before: Option<DeadlineTask>, taken: u64)
+        ensures taken { state_of self.new.machine ≡ taking_by self.old.change before
+            (slice_get (state_of self.old.machine).tasks number) self.old.setup.cpus taken
+            (state_of self.old.machine) }
+        ensures rest { self.new ≡ record self.old { machine = self.new.machine } }
+    {
         let (Some(before), Some(after)) = (before, self.machine.task(number)) else {
             return;
         };
@@ -191,13 +235,20 @@ impl Play {
     }
 
     /// A task is charged.
+    #[tactic(auto, unfolding(deadline_timers::specs::Turns::at_run_of))]
     fn run(
         &mut self,
         lines: &KeptLines,
         kept: KeptLine,
         number: u32,
         nanos: u64,
-    ) -> Result<(), AllocError> {
+    ) -> Result<(), AllocError>
+        ensures charge { IsTrue (not (is_of_replenishments self.old.change)) → OnOk result
+            ((cost : ℕ) × (let m = step_in lines.now.tasks.items (quieted kept)
+            (state_of self.old.machine) in state_of self.new.machine
+            ≡ running_with (slice_get m.tasks number) kept number cost m)) }
+        ensures rest { GoesOn self.old self.new }
+    {
         self.machine.step(lines, quiet(kept))?;
         let Some(task) = self.machine.task(number) else {
             return Ok(());
@@ -214,7 +265,10 @@ impl Play {
     }
 
     /// A task that runs on, after a budget that was used up is filled at once.
-    fn refilled(&self, task: DeadlineTask) -> DeadlineTask {
+    fn refilled(&self, task: DeadlineTask) -> DeadlineTask
+        ensures { IsTrue (not (is_of_replenishments self.now.change)) → result
+            ≡ refilled_at_once task }
+    {
         if has_timer_ahead(task.entity, task.exceeded.unwrap_or(0)) {
             task
         } else {
@@ -229,7 +283,13 @@ impl Play {
         kept: KeptLine,
         number: u32,
         clock: u64,
-    ) -> Result<(), AllocError> {
+    ) -> Result<(), AllocError>
+        ensures woken { OnOk result (let m = step_in lines.now.tasks.items kept
+            (state_of self.old.machine) in Wakes
+            (slice_get (state_of self.old.machine).tasks number) (slice_get m.tasks number)
+            self.old.setup.law self.old.begins clock number m (state_of self.new.machine)) }
+        ensures rest { GoesOn self.old self.new }
+    {
         let before = self.machine.task(number);
         self.machine.step(lines, kept)?;
         let (Some(before), Some(after)) = (before, self.machine.task(number)) else {
@@ -244,12 +304,17 @@ impl Play {
     }
 
     /// A task moves to another CPU.
-    fn migrate(
-        &mut self,
-        lines: &KeptLines,
-        kept: KeptLine,
-        number: u32,
-    ) -> Result<(), AllocError> {
+    fn migrate(&mut self, lines: &KeptLines, kept: KeptLine, number: u32) -> Result<(), AllocError>
+        ensures other { self.old.change ≢ RuleChange.MoveWakes → OnOk result
+            (state_of self.new.machine
+            ≡ step_in lines.now.tasks.items kept (state_of self.old.machine)) }
+        ensures changed { self.old.change ≡ RuleChange.MoveWakes → OnOk result
+            (let m = step_in lines.now.tasks.items kept (state_of self.old.machine) in
+            state_of self.new.machine ≡ moving_by self.old.setup.law
+            (slice_get (state_of self.old.machine).tasks number) (slice_get m.tasks number)
+            number kept.at m) }
+        ensures rest { GoesOn self.old self.new }
+    {
         let before = self.machine.task(number);
         self.machine.step(lines, kept)?;
         let (Some(before), Some(after)) = (before, self.machine.task(number)) else {
@@ -269,7 +334,14 @@ impl Play {
         kept: KeptLine,
         number: u32,
         stop: Stop,
-    ) -> Result<(), AllocError> {
+    ) -> Result<(), AllocError>
+        ensures machine { IsTrue (not (is_of_replenishments self.old.change)) → OnOk result
+            (state_of self.new.machine ≡ switching_by
+            (slice_get (state_of self.old.machine).tasks number) self.old.change
+            self.old.setup.cpus lines.now.tasks.items kept number stop
+            (state_of self.old.machine)) }
+        ensures rest { GoesOn self.old self.new }
+    {
         let Some(task) = self.machine.task(number) else {
             return self.machine.step(lines, kept);
         };
@@ -289,14 +361,17 @@ impl Play {
         kept: KeptLine,
         task: DeadlineTask,
         stop: Stop,
-    ) -> Result<(), AllocError> {
-        let difference = if self.change == RuleChange::ZeroLagNever {
-            if task.armed.is_some() { i64::MAX } else { 0 }
-        } else {
-            match blocks_as(self.change, task, kept.at) {
-                Some(other) => block_moments(other, kept.at).difference,
-                None => return Ok(()),
-            }
+    ) -> Result<(), AllocError>
+        ensures other { block_difference_by self.old.change task kept.at ≡ None
+            → self.new ≡ self.old }
+        ensures answer { OnOk result ((d : ℤ)
+            → block_difference_by self.old.change task kept.at ≡ Some d
+            → get nat_eq self.new.answers kept.line
+            ≡ Some (block_answer_of task stop d self.old.within)) }
+        ensures rest { self.new ≡ record self.old { answers = self.new.answers } }
+    {
+        let Some(difference) = block_difference(self.change, task, kept.at) else {
+            return Ok(());
         };
         let answer = block_answer(task, stop, difference, self.within);
         self.answers.insert(kept.line, answer)?;
@@ -304,7 +379,11 @@ impl Play {
     }
 
     /// A task that blocks after its 0-lag time leaves `running_bw` as it is, where that is the change.
-    fn run_on(&mut self, number: u32, before: DeadlineTask, after: DeadlineTask, stop: Stop) {
+    fn run_on(&mut self, number: u32, before: DeadlineTask, after: DeadlineTask, stop: Stop)
+        ensures machine { state_of self.new.machine
+            ≡ running_on self.old.change number before after stop (state_of self.old.machine) }
+        ensures rest { self.new ≡ record self.old { machine = self.new.machine } }
+    {
         if self.change == RuleChange::PastRunsOn
             && runs(before)
             && matches!(stop, Stop::Blocks)
@@ -327,7 +406,17 @@ impl Play {
         kept: KeptLine,
         timer: u32,
         expires: u64,
-    ) -> Result<(), AllocError> {
+    ) -> Result<(), AllocError>
+        ensures machine { OnOk result (state_of self.new.machine
+            ≡ step_in lines.now.tasks.items kept (state_of self.old.machine)) }
+        ensures other { self.old.change ≢ RuleChange.UntilDeadline → self.new.answers
+            ≡ self.old.answers }
+        ensures answer { OnOk result ((a : ObservedAnswer)
+            → starting_by self.old.change (owner_at timer (state_of self.new.machine))
+            (state_of self.new.machine) kept.at expires self.old.within ≡ Some a
+            → get nat_eq self.new.answers kept.line ≡ Some a) }
+        ensures rest { GoesOn self.old self.new }
+    {
         self.machine.step(lines, kept)?;
         let Owner::Task(number) = self.machine.owner(timer) else {
             return Ok(());
@@ -335,16 +424,20 @@ impl Play {
         let Some(task) = self.machine.task(number) else {
             return Ok(());
         };
-        if let Some(other) = waits_as(self.change, task) {
-            let moments = replenish_moments(other, kept.at, expires);
-            let answer = answer_of(task.knowledge, moments.difference, self.within);
+        if let Some(answer) = start_answer(self.change, task, kept.at, expires, self.within) {
             self.answers.insert(kept.line, answer)?;
         }
         Ok(())
     }
 
     /// `dl_task_timer` fires.
-    fn fire(&mut self, lines: &KeptLines, kept: KeptLine, timer: u32) -> Result<(), AllocError> {
+    #[tactic(auto, unfolding(deadline_timers::specs::Events::edited))]
+    fn fire(&mut self, lines: &KeptLines, kept: KeptLine, timer: u32) -> Result<(), AllocError>
+        ensures machine { IsTrue (not (is_of_replenishments self.old.change)) → OnOk result
+            (state_of self.new.machine ≡ firing_by (owner_at timer (state_of self.old.machine))
+            lines.now.tasks.items kept (state_of self.old.machine)) }
+        ensures rest { GoesOn self.old self.new }
+    {
         let Owner::Task(number) = self.machine.owner(timer) else {
             return self.machine.step(lines, kept);
         };

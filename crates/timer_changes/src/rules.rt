@@ -1,18 +1,32 @@
 //! What a line of a record does to a task, with one rule changed.
 
+ghost use Rattle.std.specs.Prelude.{◌≡◌, ℕ, not, IsTrue};
+ghost use Rattle.deadline_rules.specs.Budget.{replenished_of};
+ghost use Rattle.timer_changes.specs.Changed.{block_difference_by, blocks_by, charged_with, is_of_replenishments, moved_as_wake, start_answer_by, waits_by, waking_with, with_period_of, with_wait_of};
+ghost use Rattle.timer_rules.specs.Tasks.{refilled_of, refills_of, replenished_by};
+
 use deadline_rules::{
     ChargeLaw, ChargedRunqueue, Entity, QUEUED, REPLENISH, WAKEUP, charged, replenished, waking,
     woken, zero_lag,
 };
 use rule_changes::{RuleChange, cost_by, enqueue_by};
-use timer_rules::{DeadlineTask, Throttling, Waking, is_awake, is_tested, refills, throttled};
+use timer_rules::{
+    DeadlineTask, ObservedAnswer, Throttling, Waking, answer_of, block_moments, is_awake,
+    is_tested, refills, replenish_moments, throttled,
+};
 use trace_words::{Budget, Donor, Enqueued, Parameters, Sums};
 
 /// A number that stands for an entity's address.
 const OWN: u64 = 1;
 
 /// The entity is enqueued by itself with these ENQUEUE_ flags.
-fn line_of(entity: Entity, flags: u64, clock: u64) -> Enqueued {
+fn line_of(entity: Entity, flags: u64, clock: u64) -> Enqueued
+    ensures asked { result.flags ≡ flags }
+    ensures moment { result.clock ≡ clock }
+    ensures budget { result.budget ≡ entity.budget }
+    ensures reservation { result.parameters ≡ entity.parameters }
+    ensures itself { result.served_by ≡ result.entity }
+{
     Enqueued {
         pid: 0,
         cpu: 0,
@@ -39,7 +53,9 @@ fn line_of(entity: Entity, flags: u64, clock: u64) -> Enqueued {
 }
 
 /// The entity with another budget, after an enqueue with these flags.
-fn enqueued(change: RuleChange, law: ChargeLaw, entity: Entity, flags: u64, clock: u64) -> Entity {
+fn enqueued(change: RuleChange, law: ChargeLaw, entity: Entity, flags: u64, clock: u64) -> Entity
+    ensures { result ≡ record entity { budget = result.budget } }
+{
     let done = enqueue_by(Some(change), law, entity, line_of(entity, flags, clock));
     Entity {
         budget: done.entity.budget,
@@ -55,7 +71,9 @@ pub(crate) fn woken_by(
     after: DeadlineTask,
     did: Waking,
     clock: u64,
-) -> DeadlineTask {
+) -> DeadlineTask
+    ensures { result ≡ waking_with before after did result.entity.budget }
+{
     if is_tested(did) {
         DeadlineTask {
             entity: enqueued(change, law, before.entity, WAKEUP, clock),
@@ -67,7 +85,9 @@ pub(crate) fn woken_by(
 }
 
 /// The task after a move to another CPU, which is a wake.
-pub(crate) fn moved_by(law: ChargeLaw, task: DeadlineTask, at: u64) -> DeadlineTask {
+pub(crate) fn moved_by(law: ChargeLaw, task: DeadlineTask, at: u64) -> DeadlineTask
+    ensures { result ≡ moved_as_wake law task at }
+{
     if task.entity.is_in_class && is_awake(task.activity) && !task.entity.budget.is_throttled {
         let wake = waking(law, task.entity, at);
         DeadlineTask {
@@ -80,7 +100,12 @@ pub(crate) fn moved_by(law: ChargeLaw, task: DeadlineTask, at: u64) -> DeadlineT
 }
 
 /// The entity after a replenishment at this moment.
-fn replenished_by(change: RuleChange, law: ChargeLaw, entity: Entity, at: u64) -> Entity {
+fn replenished_by(change: RuleChange, law: ChargeLaw, entity: Entity, at: u64) -> Entity
+    ensures other { IsTrue (not (is_of_replenishments change)) → result
+        ≡ replenished_of entity at }
+    ensures changed { IsTrue (is_of_replenishments change) → result
+        ≡ record entity { budget = result.budget } }
+{
     match change {
         RuleChange::BudgetSet | RuleChange::OnePeriod | RuleChange::YieldKeeps => {
             enqueued(change, law, entity, REPLENISH, at)
@@ -95,7 +120,13 @@ pub(crate) fn fired_by(
     law: ChargeLaw,
     task: DeadlineTask,
     at: u64,
-) -> DeadlineTask {
+) -> DeadlineTask
+    ensures ready { IsTrue (not task.entity.budget.is_throttled) → result ≡ task }
+    ensures other { IsTrue (not (is_of_replenishments change)) → result ≡ replenished_by task at }
+    ensures changed { IsTrue (is_of_replenishments change) → result ≡ record task {
+      entity = record task.entity { budget = result.entity.budget };
+    } }
+{
     if task.entity.budget.is_throttled {
         DeadlineTask {
             entity: replenished_by(change, law, task.entity, at),
@@ -107,7 +138,14 @@ pub(crate) fn fired_by(
 }
 
 /// The task after a budget that was used up is filled at once, since no timer was started for it.
-pub(crate) fn refilled_by(change: RuleChange, law: ChargeLaw, task: DeadlineTask) -> DeadlineTask {
+pub(crate) fn refilled_by(change: RuleChange, law: ChargeLaw, task: DeadlineTask) -> DeadlineTask
+    ensures stays { IsTrue (not (refills_of task)) → result ≡ record task { exceeded = None } }
+    ensures other { IsTrue (not (is_of_replenishments change)) → result ≡ refilled_of task }
+    ensures changed { IsTrue (is_of_replenishments change) → result ≡ record task {
+      entity = record task.entity { budget = result.entity.budget };
+      exceeded = None;
+    } }
+{
     match task.exceeded {
         Some(exceeded) if refills(task) => DeadlineTask {
             entity: replenished_by(change, law, task.entity, exceeded),
@@ -121,16 +159,10 @@ pub(crate) fn refilled_by(change: RuleChange, law: ChargeLaw, task: DeadlineTask
     }
 }
 
-/// The task after a charge at this moment.
-pub(crate) fn ran_by(
-    change: RuleChange,
-    law: ChargeLaw,
-    task: DeadlineTask,
-    at: u64,
-    nanos: u64,
-    runqueue: ChargedRunqueue,
-) -> DeadlineTask {
-    let cost = cost_by(Some(change), law, task.entity, runqueue, nanos);
+/// The task after a charge at this moment that takes this from its budget.
+fn spent(task: DeadlineTask, at: u64, cost: u64) -> DeadlineTask
+    ensures { result ≡ charged_with task at cost }
+{
     let after = DeadlineTask {
         entity: charged(task.entity, cost),
         ..task
@@ -145,7 +177,27 @@ pub(crate) fn ran_by(
     }
 }
 
-fn with_period(task: DeadlineTask, dl_period: u64) -> DeadlineTask {
+/// The task after a charge at this moment, by the changed rule.
+pub(crate) fn ran_by(
+    change: RuleChange,
+    law: ChargeLaw,
+    task: DeadlineTask,
+    at: u64,
+    nanos: u64,
+    runqueue: ChargedRunqueue,
+) -> DeadlineTask
+    ensures { (cost : ℕ) × (result ≡ charged_with task at cost) }
+{
+    spent(
+        task,
+        at,
+        cost_by(Some(change), law, task.entity, runqueue, nanos),
+    )
+}
+
+fn with_period(task: DeadlineTask, dl_period: u64) -> DeadlineTask
+    ensures { result ≡ with_period_of task dl_period }
+{
     DeadlineTask {
         entity: Entity {
             parameters: Parameters {
@@ -159,7 +211,9 @@ fn with_period(task: DeadlineTask, dl_period: u64) -> DeadlineTask {
 }
 
 /// The task whose 0-lag time, from its last charge on, is so many hundredths of what it is; at a block of this moment.
-fn with_wait(task: DeadlineTask, at: u64, hundredths: i64) -> DeadlineTask {
+fn with_wait(task: DeadlineTask, at: u64, hundredths: i64) -> DeadlineTask
+    ensures { result ≡ with_wait_of task at hundredths }
+{
     let wait = zero_lag(task.entity, task.charged.unwrap_or(at));
     let other = wait.wrapping_mul(hundredths).div_euclid(100);
     let deadline = task
@@ -180,7 +234,9 @@ fn with_wait(task: DeadlineTask, at: u64, hundredths: i64) -> DeadlineTask {
 }
 
 /// The task by which the 0-lag time of a block at this moment is reckoned; none where the rule of blocks is not changed.
-pub(crate) fn blocks_as(change: RuleChange, task: DeadlineTask, at: u64) -> Option<DeadlineTask> {
+fn blocks_as(change: RuleChange, task: DeadlineTask, at: u64) -> Option<DeadlineTask>
+    ensures { result ≡ blocks_by change task at }
+{
     match change {
         RuleChange::ZeroLagByDeadline => {
             Some(with_period(task, task.entity.parameters.dl_deadline))
@@ -191,10 +247,38 @@ pub(crate) fn blocks_as(change: RuleChange, task: DeadlineTask, at: u64) -> Opti
     }
 }
 
+/// How far the 0-lag time of a block at this moment is from the kernel's, where the changed rule gives it.
+pub(crate) fn block_difference(change: RuleChange, task: DeadlineTask, at: u64) -> Option<i64>
+    ensures { result ≡ block_difference_by change task at }
+{
+    if change == RuleChange::ZeroLagNever {
+        return Some(if task.armed.is_some() { i64::MAX } else { 0 });
+    }
+    let other = blocks_as(change, task, at)?;
+    Some(block_moments(other, at).difference)
+}
+
 /// The task by which the moment of a replenishment timer is reckoned; none where that rule is not changed.
-pub(crate) fn waits_as(change: RuleChange, task: DeadlineTask) -> Option<DeadlineTask> {
+fn waits_as(change: RuleChange, task: DeadlineTask) -> Option<DeadlineTask>
+    ensures { result ≡ waits_by change task }
+{
     match change {
         RuleChange::UntilDeadline => Some(with_period(task, task.entity.parameters.dl_deadline)),
         _ => None,
     }
+}
+
+/// What a replenishment timer comes to that is started at this moment, where the changed rule gives its own.
+pub(crate) fn start_answer(
+    change: RuleChange,
+    task: DeadlineTask,
+    at: u64,
+    expires: u64,
+    within: u64,
+) -> Option<ObservedAnswer>
+    ensures { result ≡ start_answer_by change task at expires within }
+{
+    let other = waits_as(change, task)?;
+    let moments = replenish_moments(other, at, expires);
+    Some(answer_of(task.knowledge, moments.difference, within))
 }

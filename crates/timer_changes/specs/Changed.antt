@@ -1,0 +1,83 @@
+-- What a line of a record does to a task, with one rule changed.
+use Rattle.std.specs.Prelude.{ℕ, ◌-◌, ◌^◌, ℤ, pos, Bool, true, false, not, ◌&&◌, if◌then◌else◌, Option, Some, None, is_some, option_map, unwrap_or}
+use Rattle.std.specs.Int.{w64, cast_unsigned, int_div_euclid, int_wrapping_mul, int_wrapping_sub}
+use Rattle.trace_words.specs.declared.quantities.Budget.{Budget}
+use Rattle.deadline_rules.specs.Activity.{zero_lag_of}
+use Rattle.deadline_rules.specs.Budget.{charged_of, waking_of, woken_of}
+use Rattle.deadline_rules.specs.Clock.{less}
+use Rattle.deadline_rules.specs.declared.charge.ChargeLaw.{ChargeLaw}
+use Rattle.rule_changes.specs.declared.change.RuleChange.{RuleChange}
+use Rattle.rule_changes.specs.declared.change.RuleChange.TheVariants.{ZeroLagNever, ZeroLagByDeadline, ZeroLagShorter, ZeroLagLonger, UntilDeadline, BudgetSet, OnePeriod, YieldKeeps}
+use Rattle.timer_rules.specs.declared.observation.ObservedAnswer.{ObservedAnswer}
+use Rattle.timer_rules.specs.declared.task.DeadlineTask.{DeadlineTask}
+use Rattle.timer_rules.specs.Activity.{is_awake_of}
+use Rattle.timer_rules.specs.Observations.{answer_by, block_moments_of, replenish_moments_of}
+use Rattle.timer_rules.specs.declared.wake.Waking.{Waking}
+use Rattle.timer_rules.specs.Throttle.{has_budget_of, held_of}
+use Rattle.timer_rules.specs.Wakes.{is_tested_of}
+
+-- the changes of the rule of replenishments
+abbrev pub is_of_replenishments : RuleChange → Bool
+is_of_replenishments BudgetSet = true
+is_of_replenishments OnePeriod = true
+is_of_replenishments YieldKeeps = true
+is_of_replenishments _ = false
+
+-- a task that wakes has another budget at most, and that only where the kernel's test is made
+abbrev pub waking_with : DeadlineTask → DeadlineTask → Waking → Budget → DeadlineTask
+waking_with was t did b = if is_tested_of did then record t { entity = record was.entity { budget = b } } else t
+
+-- a move is a wake, of a task that is awake and not throttled
+abbrev pub moved_as_wake : ChargeLaw → DeadlineTask → ℕ → DeadlineTask
+moved_as_wake law t at =
+    if t.entity.is_in_class && is_awake_of t.activity && not t.entity.budget.is_throttled
+    then record t { entity = woken_of t.entity at (waking_of law t.entity at) } else t
+
+-- a charge takes this from the budget: at 0 or below it is used up, and the task is throttled
+abbrev pub charged_with : DeadlineTask → ℕ → ℕ → DeadlineTask
+charged_with t at cost =
+    let e = charged_of t.entity cost in
+    if has_budget_of e then record t { entity = e } else record t { entity = held_of e; exceeded = Some at }
+
+-- another period
+abbrev pub with_period_of : DeadlineTask → ℕ → DeadlineTask
+with_period_of t period = record t { entity = record t.entity { parameters = record t.entity.parameters { dl_period = period } } }
+
+-- the 0-lag time, from the last charge on
+abbrev pub wait_of : DeadlineTask → ℕ → ℤ
+wait_of t at = zero_lag_of t.entity (unwrap_or t.charged at)
+
+-- how much less so many hundredths of it are
+abbrev pub cut_of : ℤ → ℤ → ℤ
+cut_of wait hundredths = int_wrapping_sub w64 wait (int_div_euclid (int_wrapping_mul w64 wait hundredths) (pos 100))
+
+-- with an earlier deadline, by as much, and so with an earlier 0-lag time
+abbrev pub with_wait_of : DeadlineTask → ℕ → ℤ → DeadlineTask
+with_wait_of t at hundredths = record t {
+  entity = record t.entity {
+    budget = record t.entity.budget {
+      deadline = less t.entity.budget.deadline (cast_unsigned w64 (cut_of (wait_of t at) hundredths));
+    };
+  };
+}
+
+-- by which task the 0-lag time of a block is reckoned, where that rule is changed
+abbrev pub blocks_by : RuleChange → DeadlineTask → ℕ → Option DeadlineTask
+blocks_by ZeroLagByDeadline t at = Some (with_period_of t t.entity.parameters.dl_deadline)
+blocks_by ZeroLagShorter t at = Some (with_wait_of t at (pos 95))
+blocks_by ZeroLagLonger t at = Some (with_wait_of t at (pos 101))
+blocks_by _ t at = None
+
+-- how far the 0-lag time of a block is from the kernel's, where the changed rule gives it; a timer that is never waited for is as far as can be
+abbrev pub block_difference_by : RuleChange → DeadlineTask → ℕ → Option ℤ
+block_difference_by ZeroLagNever t at = Some (if is_some t.armed then pos (2 ^ 63 - 1) else pos 0)
+block_difference_by c t at = option_map (λ o. (block_moments_of o at).difference) (blocks_by c t at)
+
+-- by which task the moment of a replenishment timer is reckoned, where that rule is changed
+abbrev pub waits_by : RuleChange → DeadlineTask → Option DeadlineTask
+waits_by UntilDeadline t = Some (with_period_of t t.entity.parameters.dl_deadline)
+waits_by _ t = None
+
+-- what a replenishment timer comes to that is started, where the changed rule gives its moment
+abbrev pub start_answer_by : RuleChange → DeadlineTask → ℕ → ℕ → ℕ → Option ObservedAnswer
+start_answer_by c t at expires within = option_map (λ o. answer_by t.knowledge (replenish_moments_of o at expires).difference within) (waits_by c t)

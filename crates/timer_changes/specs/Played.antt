@@ -1,0 +1,145 @@
+-- A record, played with one rule changed.
+use Rattle.std.specs.Prelude.{◌≡◌, ℕ, MatchBool, Bool, true, false, not, ◌&&◌, ◌==◌, nat_eq, nat_lt, if◌then◌else◌, Option, Some, None, option_and_then, unwrap_or, List, [], ◌∷◌, slice_get}
+use Rattle.std.specs.HashMap.{HashMap, get}
+use Rattle.std.specs.declared.hash.BuildHasherDefault.{BuildHasherDefault}
+use Rattle.std.specs.declared.hash.FoldHasher.{FoldHasher}
+use Rattle.trace_words.specs.declared.fixed.Stop.{Stop}
+use Rattle.trace_words.specs.declared.quantities.Budget.{Budget}
+use Rattle.trace_words.specs.declared.fixed.Stop.TheVariants.{Blocks}
+use Rattle.deadline_rules.specs.Budget.{timer_is_ahead}
+use Rattle.deadline_rules.specs.Clock.{plus}
+use Rattle.deadline_rules.specs.Sums.{share_of}
+use Rattle.deadline_rules.specs.declared.charge.ChargeLaw.{ChargeLaw}
+use Rattle.deadline_rules.specs.declared.entity.Entity.{Entity}
+use Rattle.deadline_timers.specs.declared.machine.Owner.{Owner}
+use Rattle.deadline_timers.specs.declared.machine.Owner.TheVariants.{Server, Task}
+use Rattle.deadline_timers.specs.Events.{edited, step_in}
+use Rattle.deadline_timers.specs.Notes.{told_in}
+use Rattle.deadline_timers.specs.States.{State, owner_at, replaced}
+use Rattle.deadline_timers.specs.Turns.{at_run_of, runs_of, wakes_of}
+use Rattle.rule_changes.specs.declared.change.RuleChange.{RuleChange}
+use Rattle.rule_changes.specs.declared.change.RuleChange.TheVariants.{PastRunsOn, AdmissionTakesNothing, ChangeFreesNothing, EndFreesNothing, LeavingFreesNothing}
+use Rattle.timer_changes.specs.Changed.{charged_with, moved_as_wake, start_answer_by, waking_with}
+use Rattle.timer_changes.specs.declared.play.Play.{Play}
+use Rattle.timer_lines.specs.declared.event.KeptEvent.{KeptEvent}
+use Rattle.timer_lines.specs.declared.event.KeptEvent.TheVariants.{Idles, Switched, Cancelled, ZeroLagFired}
+use Rattle.timer_lines.specs.declared.event.KeptLine.{KeptLine}
+use Rattle.timer_lines.specs.declared.lines.TaskLines.{TaskLines}
+use Rattle.timer_lines.specs.declared.lines.TaskNote.{TaskNote}
+use Rattle.timer_rules.specs.declared.activity.Activity.{Activity}
+use Rattle.timer_rules.specs.declared.activity.Activity.TheVariants.{NonContending, Inactive}
+use Rattle.timer_rules.specs.declared.observation.Observation.{Observation}
+use Rattle.timer_rules.specs.declared.observation.ObservedAnswer.{ObservedAnswer}
+use Rattle.timer_rules.specs.declared.observation.ObservedAnswer.TheVariants.{Differs}
+use Rattle.timer_rules.specs.declared.task.DeadlineTask.{DeadlineTask}
+use Rattle.timer_rules.specs.Tasks.{refilled_of, replenished_by}
+use Rattle.timer_rules.specs.Wakes.{waking_by}
+
+-- by the same rule, and of the same record
+abbrev pub GoesOn : Play → Play → Type 0
+GoesOn old new = new ≡ record old { machine = new.machine; answers = new.answers }
+
+abbrev pub quieted : KeptLine → KeptLine
+quieted k = record k { event = Idles }
+
+abbrev pub is_server : Owner → Bool
+is_server (Server cpu) = true
+is_server _ = false
+
+-- nothing stops a fair server: no timer of its own, and no pick on an idle CPU
+abbrev pub served_event : State → KeptEvent → KeptEvent
+served_event m (Cancelled timer) = Idles
+served_event m (ZeroLagFired timer) = if is_server (owner_at timer m) then Idles else ZeroLagFired timer
+served_event m (Switched n deadline stop idle) = Switched n deadline stop false
+served_event m e = e
+
+abbrev pub served_on : State → KeptLine → KeptLine
+served_on m k = record k { event = served_event m k.event; is_idle = false }
+
+-- what is taken from each extra_bw now, by the changed rule: it was so much before the task came from the one entity to the other
+abbrev pub taken_by : RuleChange → Entity → Entity → ℕ → ℕ → ℕ → ℕ
+taken_by AdmissionTakesNothing was e cpus before now = if not was.is_in_class && e.is_in_class then before else now
+taken_by LeavingFreesNothing was e cpus before now = if e.is_in_class then now else before
+taken_by EndFreesNothing was e cpus before now = if e.is_in_class && e.is_dead then before else now
+taken_by ChangeFreesNothing was e cpus before now =
+    if was.is_in_class && e.is_in_class && not (was.dl_bw == e.dl_bw) then plus before (share_of e.dl_bw cpus) else now
+taken_by _ was e cpus before now = now
+
+abbrev pub taking_by : RuleChange → Option DeadlineTask → Option DeadlineTask → ℕ → ℕ → State → State
+taking_by c (Some was) (Some t) cpus before m = record m { taken = taken_by c was.entity t.entity cpus before m.taken }
+taking_by c _ _ cpus before m = m
+
+-- the same after a line or a note about the task
+abbrev pub taking_after : RuleChange → ℕ → ℕ → State → State → State
+taking_after c n cpus before m = taking_by c (slice_get before.tasks n) (slice_get m.tasks n) cpus before.taken m
+
+-- the notes whose moments have come
+abbrev pub told_until_by : RuleChange → ℕ → ℕ → List TaskNote → State → State
+told_until_by c cpus at [] m = m
+told_until_by c cpus at (x ∷ xs) m = if nat_lt at x.moment then m else told_until_by c cpus at xs (taking_after c x.task cpus m (told_in x m))
+
+-- a task that moved to another CPU wakes there
+abbrev pub moving_by : ChargeLaw → Option DeadlineTask → Option DeadlineTask → ℕ → ℕ → State → State
+moving_by law (Some was) (Some t) n at m = if was.cpu == t.cpu then m else replaced n (moved_as_wake law t at) m
+moving_by law _ _ n at m = m
+
+-- what a timer comes to that is started, where the changed rule gives its moment
+abbrev pub starting_by : RuleChange → Owner → State → ℕ → ℕ → ℕ → Option ObservedAnswer
+starting_by c (Task n) m at expires within = option_and_then (λ t. start_answer_by c t at expires within) (slice_get m.tasks n)
+starting_by c _ m at expires within = None
+
+-- a timer of the replenishment fires
+abbrev pub firing_by : Owner → List TaskLines → KeptLine → State → State
+firing_by (Task n) xs k m = edited (λ t. replenished_by t k.at) n (step_in xs (quieted k) m)
+firing_by _ xs k m = step_in xs k m
+
+abbrev pub is_different : ObservedAnswer → Bool
+is_different Differs = true
+is_different _ = false
+
+-- a timer differs: by the answer of the changed rule, where that gives one
+abbrev pub differs_by : HashMap ℕ ObservedAnswer (BuildHasherDefault FoldHasher) → Observation → Bool
+differs_by answers o = is_different (unwrap_or (get nat_eq answers o.line) o.answer)
+
+-- a budget that was used up is filled at once, where no timer can be started
+abbrev pub refilled_at_once : DeadlineTask → DeadlineTask
+refilled_at_once t = if timer_is_ahead t.entity (unwrap_or t.exceeded 0) then t else refilled_of t
+
+abbrev pub is_inactive : Activity → Bool
+is_inactive Inactive = true
+is_inactive _ = false
+
+-- a task that ran, blocks after its 0-lag time, and leaves running_bw as it is
+abbrev pub leaves_running : RuleChange → DeadlineTask → DeadlineTask → Stop → Bool
+leaves_running PastRunsOn before t Blocks = runs_of before && is_inactive t.activity
+leaves_running _ before t _ = false
+
+abbrev pub running_on : RuleChange → ℕ → DeadlineTask → DeadlineTask → Stop → State → State
+running_on c n before t stop m = if leaves_running c before t stop then replaced n (record t { activity = NonContending }) m else m
+
+-- a task that runs is charged, after a budget that was used up is filled at once
+abbrev pub running_with : Option DeadlineTask → KeptLine → ℕ → ℕ → State → State
+running_with (Some t) k n cost m =
+    let shown = at_run_of t k in
+    if runs_of shown then replaced n (charged_with (refilled_at_once shown) k.at cost) (replaced n shown m) else replaced n shown m
+running_with None k n cost m = m
+
+-- a task is switched out, after a budget that was used up is filled
+abbrev pub switched_on : RuleChange → ℕ → DeadlineTask → Option DeadlineTask → Stop → State → State
+switched_on c n before (Some t) stop m = running_on c n before t stop m
+switched_on c n before None stop m = m
+
+abbrev pub switching_from : RuleChange → ℕ → List TaskLines → KeptLine → ℕ → DeadlineTask → Stop → State → State
+switching_from c cpus xs k n before stop m =
+    let after = taking_after c n cpus m (step_in xs k m) in
+    switched_on c n before (slice_get after.tasks n) stop after
+
+abbrev pub switching_by : Option DeadlineTask → RuleChange → ℕ → List TaskLines → KeptLine → ℕ → Stop → State → State
+switching_by (Some t) c cpus xs k n stop m = switching_from c cpus xs k n (refilled_of t) stop (replaced n (refilled_of t) m)
+switching_by None c cpus xs k n stop m = step_in xs k m
+
+-- a line of a wake: nothing but its own effect, where the task was not asleep
+abbrev pub Wakes : Option DeadlineTask → Option DeadlineTask → ChargeLaw → ℕ → ℕ → ℕ → State → State → Type 0
+Wakes (Some was) (Some t) law begins clock n m new =
+    MatchBool (wakes_of was) ((b : Budget) × (new ≡ replaced n (waking_with was t (waking_by law was begins clock) b) m)) (new ≡ m)
+Wakes _ _ law begins clock n m new = new ≡ m
