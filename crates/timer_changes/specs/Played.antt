@@ -88,9 +88,9 @@ abbrev pub starting_by : RuleChange → Owner → State → ℕ → ℕ → ℕ 
 starting_by c (Task n) m at expires within = option_and_then (λ t. start_answer_by c t at expires within) (slice_get m.tasks n)
 starting_by c _ m at expires within = None
 
--- a timer of the replenishment fires
+-- a timer of the replenishment fires; that of a task does nothing else
 abbrev pub firing_by : Owner → List TaskLines → KeptLine → State → State
-firing_by (Task n) xs k m = edited (λ t. replenished_by t k.at) n (step_in xs (quieted k) m)
+firing_by (Task n) xs k m = edited (λ t. replenished_by t k.at) n m
 firing_by _ xs k m = step_in xs k m
 
 abbrev pub is_different : ObservedAnswer → Bool

@@ -441,7 +441,6 @@ impl Play {
         let Owner::Task(number) = self.machine.owner(timer) else {
             return self.machine.step(lines, kept);
         };
-        self.machine.step(lines, quiet(kept))?;
         if let Some(task) = self.machine.task(number) {
             let fired = fired_by(self.change, self.law(), task, kept.at);
             self.machine.replace(number, fired);
