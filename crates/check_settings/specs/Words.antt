@@ -1,6 +1,7 @@
 -- Words of options.
 use Rattle.std.specs.Prelude.{ℕ, ◌+◌, ◌-◌, ◌*◌, ◌^◌, ◌&&◌, ◌==◌, nat_le, nat_lt, Bool, true, List, [], ◌∷◌, ◌++◌, length, take, drop, codes, position, pos, neg_ℤ, Option, Some, None, option_map, option_and_then, if◌then◌else◌}
 use Rattle.std.specs.Option.{option_map_or}
+use Rattle.std.specs.Borrow.{Bor}
 use Rattle.std.specs.List.{slice_split}
 use Rattle.std.specs.Path.{rsplit_once}
 use Rattle.std.specs.Str.{bytes_eq}
@@ -13,6 +14,10 @@ use Rattle.record_line.specs.NoteWords.{is_comma, range_in}
 use Rattle.record_line.specs.declared.word.CpuRange.{CpuRange}
 use Rattle.check_settings.specs.declared.words.FairServerOption.{FairServerOption}
 use Rattle.check_settings.specs.declared.words.FairServerOption.TheVariants.{Absent, Reserves}
+
+-- two texts that are pointed to
+abbrev pub texts_of : Bor (List ℕ) × Bor (List ℕ) → List ℕ × List ℕ
+texts_of parts = (parts.0.now, parts.1.now)
 
 -- a span in nanoseconds, of so many microseconds: at least 1, and below 2^44, which is half a year
 abbrev pub span_from : ℕ → Option ℕ

@@ -3,8 +3,7 @@
 ghost use Rattle.std.specs.Prelude.{◌≡◌, ◌<◌, ◌==◌, ◌^◌, IfOk, option_map, position};
 ghost use Rattle.std.specs.Path.{rsplit_once};
 ghost use Rattle.trace_line.specs.Words.{text_of};
-ghost use Rattle.check_settings.specs.Words.{colon_parts, domain_in, is_behind, limit_from, limit_in, limit_with, moment_in, moment_from, moment_with, ordered, parameters_in, reservation_in, reserved, server_in, span_in};
-ghost use Rattle.check_settings.specs.inside.Texts.{texts_of};
+ghost use Rattle.check_settings.specs.Words.{colon_parts, domain_in, is_behind, limit_from, limit_in, limit_with, moment_in, moment_from, moment_with, ordered, parameters_in, reservation_in, reserved, server_in, span_in, texts_of};
 
 use record_line::{CpuRange, first_part, range_in};
 use std::alloc::{AllocError, Global};

@@ -9,13 +9,13 @@ use grub_convert::{
     ConvertOptions, Input, STATUS_SYSTEM, STATUS_USAGE, Target, options_of, serve_events,
     serve_tasks,
 };
-use size_report::{OptionFault, SizeWords, serve_size, size_options_of};
+use size_report::{FaultKind, OptionFault, SizeWords, serve_size, size_options_of};
 use std::alloc::{AllocError, Global};
 use std::io;
 use std::io::Write;
 use trace_check::{
-    CheckOption, CheckRequest, CheckWords, Window, WrongOption, options_of as check_options, serve_check,
-    window_of,
+    CheckOption, CheckRequest, CheckWords, Window, WrongOption, options_of as check_options,
+    serve_check, window_of,
 };
 use trace_command::command_line;
 
@@ -271,7 +271,7 @@ fn size<
         picture: matches.get_str("picture"),
     };
     match size_options_of(alloc, words) {
-        Ok(options) => serve_size(
+        Ok(Ok(options)) => serve_size(
             alloc,
             &input.open,
             &input.read,
@@ -282,34 +282,35 @@ fn size<
             out,
             faults,
         ),
-        Err(fault) => no_sizing(fault, faults),
+        Ok(Err(fault)) => no_sizing(fault, faults),
+        Err(_) => no_memory(faults),
     }
 }
 
 /// Tells which option of `size` says nothing.
 fn no_sizing<E: Write>(fault: OptionFault<'_>, faults: &mut E) -> u8
-    ensures { (result ≡ STATUS_USAGE) ⊎ (result ≡ STATUS_SYSTEM) }
+    ensures { result ≡ STATUS_USAGE }
 {
-    let _ = match fault {
-        OptionFault::Task(word) => writeln!(
+    let value = fault.value;
+    let _ = match fault.kind {
+        FaultKind::Task => writeln!(
             faults,
-            "error: --task {word} is no NAME, NAME=PERIOD or NAME=RUNTIME:PERIOD with a period of 100 to 4194304 and a runtime of 2 to the period"
+            "error: --task {value} is no NAME, NAME=PERIOD or NAME=RUNTIME:PERIOD with a period of 100 to 4194304 and a runtime of 2 to the period"
         ),
-        OptionFault::Twice(name) => writeln!(faults, "error: the task {name} is given twice"),
-        OptionFault::Within(word) => writeln!(
+        FaultKind::Twice => writeln!(faults, "error: the task {value} is given twice"),
+        FaultKind::Within => writeln!(
             faults,
-            "error: --within {word} is no NAME=US of a task that is given"
+            "error: --within {value} is no NAME=US of a task that is given"
         ),
-        OptionFault::Rt(word) => writeln!(faults, "error: --rt {word} is no RUNTIME:PERIOD"),
-        OptionFault::Fair(word) => writeln!(
+        FaultKind::Rt => writeln!(faults, "error: --rt {value} is no RUNTIME:PERIOD"),
+        FaultKind::Fair => writeln!(
             faults,
-            "error: --fair-server {word} is no RUNTIME:PERIOD, nor none"
+            "error: --fair-server {value} is no RUNTIME:PERIOD, nor none"
         ),
-        OptionFault::Picture(path) => writeln!(
+        FaultKind::Picture => writeln!(
             faults,
-            "error: --picture {path} wants a --task, of which it is drawn"
+            "error: --picture {value} wants a --task, of which it is drawn"
         ),
-        OptionFault::NoMemory => return no_memory(faults),
     };
     STATUS_USAGE
 }

@@ -8,10 +8,6 @@ use Rattle.record_line.specs.declared.word.CpuRange.{CpuRange}
 use Rattle.check_settings.specs.Words.{ranges_on}
 use Rattle.check_settings.specs.declared.options.TaskOption.{TaskOption}
 
--- two texts that are pointed to
-abbrev pub texts_of : Bor (List ℕ) × Bor (List ℕ) → List ℕ × List ℕ
-texts_of parts = (parts.0.now, parts.1.now)
-
 abbrev pub is_named : List ℕ → TaskOption → Bool
 is_named name task = bytes_eq task.name.now name
 
