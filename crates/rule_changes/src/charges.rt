@@ -1,7 +1,9 @@
 //! What a run takes from a budget, with one rule changed.
 
-ghost use Rattle.std.specs.Prelude.{◌≡◌, None};
-ghost use Rattle.deadline_rules.specs.Charge.{charging_of, cost_of};
+ghost use Rattle.std.specs.Prelude.{◌≡◌, ◌-◌, None};
+ghost use Rattle.deadline_rules.specs.Charge.{charging_of, cost_of, inactive_of, top_of};
+ghost use Rattle.rule_changes.specs.Charges.{charging_with, cost_with, entity_by, law_by, left_of, runqueue_by, with_flags, with_sums};
+ghost use Rattle.rule_changes.specs.declared.change.RuleChange.TheVariants.{WhatIsLeft};
 
 use crate::change::RuleChange;
 use deadline_rules::{
@@ -20,7 +22,9 @@ struct Reckoned {
     runqueue: ChargedRunqueue,
 }
 
-fn with_sums(runqueue: ChargedRunqueue, this_bw: u64, extra_bw: u64) -> ChargedRunqueue {
+fn with_sums(runqueue: ChargedRunqueue, this_bw: u64, extra_bw: u64) -> ChargedRunqueue
+    ensures { result ≡ with_sums this_bw extra_bw runqueue }
+{
     ChargedRunqueue {
         sums: Sums {
             this_bw,
@@ -31,7 +35,9 @@ fn with_sums(runqueue: ChargedRunqueue, this_bw: u64, extra_bw: u64) -> ChargedR
     }
 }
 
-fn with_flags(entity: Entity, flags: u64) -> Entity {
+fn with_flags(entity: Entity, flags: u64) -> Entity
+    ensures { result ≡ with_flags flags entity }
+{
     Entity {
         parameters: Parameters {
             flags,
@@ -41,7 +47,9 @@ fn with_flags(entity: Entity, flags: u64) -> Entity {
     }
 }
 
-fn top(law: ChargeLaw, runqueue: ChargedRunqueue) -> u64 {
+fn top(law: ChargeLaw, runqueue: ChargedRunqueue) -> u64
+    ensures { result ≡ top_of law runqueue }
+{
     match law {
         ChargeLaw::LinuxBefore65 => BW_UNIT,
         ChargeLaw::LinuxFrom65 | ChargeLaw::Documentation => runqueue.max_bw,
@@ -49,7 +57,9 @@ fn top(law: ChargeLaw, runqueue: ChargedRunqueue) -> u64 {
 }
 
 /// The runqueue with no more inactive bandwidth than what `extra_bw` leaves.
-fn left_alone(law: ChargeLaw, runqueue: ChargedRunqueue) -> ChargedRunqueue {
+fn left_alone(law: ChargeLaw, entity: Entity, runqueue: ChargedRunqueue) -> ChargedRunqueue
+    ensures { result ≡ runqueue_by WhatIsLeft law entity runqueue }
+{
     let sums = runqueue.sums;
     let inactive = sums.this_bw.wrapping_sub(sums.running_bw);
     let most = top(law, runqueue).saturating_sub(sums.extra_bw);
@@ -65,7 +75,9 @@ fn changed_runqueue(
     law: ChargeLaw,
     entity: Entity,
     runqueue: ChargedRunqueue,
-) -> ChargedRunqueue {
+) -> ChargedRunqueue
+    ensures { result ≡ runqueue_by change law entity runqueue }
+{
     let sums = runqueue.sums;
     let running = sums.running_bw;
     match change {
@@ -80,7 +92,7 @@ fn changed_runqueue(
             sums.extra_bw,
         ),
         RuleChange::OwnBandwidth => with_sums(runqueue, running.wrapping_sub(1), 0),
-        RuleChange::WhatIsLeft => left_alone(law, runqueue),
+        RuleChange::WhatIsLeft => left_alone(law, entity, runqueue),
         RuleChange::RatioPlusOne => ChargedRunqueue {
             bw_ratio: runqueue.bw_ratio.wrapping_add(1),
             ..runqueue
@@ -97,7 +109,9 @@ fn changed_runqueue(
     }
 }
 
-fn changed_entity(change: RuleChange, entity: Entity) -> Entity {
+fn changed_entity(change: RuleChange, entity: Entity) -> Entity
+    ensures { result ≡ entity_by change entity }
+{
     let flags = entity.parameters.flags;
     match change {
         RuleChange::InFull => with_flags(entity, flags & !RECLAIM),
@@ -107,7 +121,9 @@ fn changed_entity(change: RuleChange, entity: Entity) -> Entity {
     }
 }
 
-fn changed_law(change: RuleChange, law: ChargeLaw) -> ChargeLaw {
+fn changed_law(change: RuleChange, law: ChargeLaw) -> ChargeLaw
+    ensures { result ≡ law_by change law }
+{
     match change {
         RuleChange::EquationBefore65 => ChargeLaw::LinuxBefore65,
         RuleChange::EquationFrom65 => ChargeLaw::LinuxFrom65,
@@ -115,12 +131,11 @@ fn changed_law(change: RuleChange, law: ChargeLaw) -> ChargeLaw {
     }
 }
 
-fn reckon(
-    change: RuleChange,
-    law: ChargeLaw,
-    entity: Entity,
-    runqueue: ChargedRunqueue,
-) -> Reckoned {
+fn reckon(change: RuleChange, law: ChargeLaw, entity: Entity, runqueue: ChargedRunqueue) -> Reckoned
+    ensures law { result.law ≡ law_by change law }
+    ensures entity { result.entity ≡ entity_by change entity }
+    ensures runqueue { result.runqueue ≡ runqueue_by change law entity runqueue }
+{
     Reckoned {
         law: changed_law(change, law),
         entity: changed_entity(change, entity),
@@ -135,7 +150,8 @@ pub fn charging_by(
     entity: Entity,
     runqueue: ChargedRunqueue,
 ) -> Charge
-    ensures { change ≡ None → result ≡ charging_of law entity runqueue }
+    ensures value { result ≡ charging_with change law entity runqueue }
+    ensures unchanged { change ≡ None → result ≡ charging_of law entity runqueue }
 {
     match change {
         None => charging(law, entity, runqueue),
@@ -154,7 +170,8 @@ pub fn cost_by(
     runqueue: ChargedRunqueue,
     nanos: u64,
 ) -> u64
-    ensures { change ≡ None → result ≡ cost_of law entity runqueue nanos }
+    ensures value { result ≡ cost_with change law entity runqueue nanos }
+    ensures unchanged { change ≡ None → result ≡ cost_of law entity runqueue nanos }
 {
     match change {
         None => cost(law, entity, runqueue, nanos),

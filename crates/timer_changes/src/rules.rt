@@ -186,7 +186,7 @@ pub(crate) fn ran_by(
     nanos: u64,
     runqueue: ChargedRunqueue,
 ) -> DeadlineTask
-    ensures { (cost : ℕ) × (result ≡ charged_with task at cost) }
+    ensures { result ≡ charged_with task at (cost_with (Some change) law task.entity runqueue nanos) }
 {
     spent(
         task,
