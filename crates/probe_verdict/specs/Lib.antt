@@ -1,2 +1,7 @@
+pub mod Answers
 pub mod Explained
+pub mod Names
+pub mod Rows
+pub mod Texts
+pub mod Totals
 pub mod inside

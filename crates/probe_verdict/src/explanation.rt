@@ -1,7 +1,9 @@
 //! Which one changed rule explains a record.
 
-ghost use Rattle.std.specs.Prelude.{◌≡◌};
-ghost use Rattle.probe_verdict.specs.Explained.{is_explained, is_guess_of};
+ghost use Rattle.std.specs.Prelude.{◌≡◌, [], ◌++◌, IfOk, OnOk, codes};
+ghost use Rattle.std.specs.List.{FoldsTo};
+ghost use Rattle.probe_verdict.specs.Explained.{AreTold, NamesChange, SaysAgrees, SaysGuess, explaining, guesses, is_explained, is_guess_of, is_some};
+ghost use Rattle.probe_verdict.specs.Totals.{total_differ};
 
 use crate::changes::change_name;
 use crate::text::total_of;
@@ -44,7 +46,13 @@ pub fn put_explanation(
     agrees: bool,
     counts: &KindCounts,
     trials: &[Trial],
-) -> Result<(), AllocError> {
+) -> Result<(), AllocError>
+    ensures told { OnOk result (AreTold out.old.items out.new.items
+        (explaining agrees trials.now) (guesses (total_differ counts.now) trials.now)) }
+    ensures none { OnOk result (explaining agrees trials.now ≡ []
+        → guesses (total_differ counts.now) trials.now ≡ []
+        → out.new.items ≡ out.old.items ++ codes "  no one changed rule explains it\n") }
+{
     let is_explained = put_explaining(out, agrees, trials)?;
     let is_guessed = put_guesses(alloc, out, total_of(counts).differ, trials)?;
     if is_explained || is_guessed {
@@ -53,14 +61,20 @@ pub fn put_explanation(
     put(out, "  no one changed rule explains it\n")
 }
 
-fn put_change(out: &mut Vec<u8>, change: RuleChange) -> Result<(), AllocError> {
+fn put_change(out: &mut Vec<u8>, change: RuleChange) -> Result<(), AllocError>
+    ensures { OnOk result (NamesChange out.old.items out.new.items) }
+{
     put(out, "  with one rule changed, \"")?;
     put(out, change_name(change))?;
     put(out, "\": ")
 }
 
 /// Appends the changes with which the record agrees. True where there is one.
-fn put_explaining(out: &mut Vec<u8>, agrees: bool, trials: &[Trial]) -> Result<bool, AllocError> {
+fn put_explaining(out: &mut Vec<u8>, agrees: bool, trials: &[Trial]) -> Result<bool, AllocError>
+    ensures is_named { IfOk result (λ is_named. is_named ≡ is_some (explaining agrees trials.now)) }
+    ensures lines { OnOk result
+        (FoldsTo SaysAgrees out.old.items (explaining agrees trials.now) out.new.items) }
+{
     let mut is_named = false;
     for trial in trials {
         if explains(agrees, trial.agrees) {
@@ -78,7 +92,11 @@ fn put_guesses(
     out: &mut Vec<u8>,
     differ: u64,
     trials: &[Trial],
-) -> Result<bool, AllocError> {
+) -> Result<bool, AllocError>
+    ensures is_named { IfOk result (λ is_named. is_named ≡ is_some (guesses differ trials.now)) }
+    ensures lines { OnOk result
+        (FoldsTo SaysGuess out.old.items (guesses differ trials.now) out.new.items) }
+{
     let mut is_named = false;
     for trial in trials {
         if is_guess(differ, trial.differ) {
@@ -89,7 +107,9 @@ fn put_guesses(
     Ok(is_named)
 }
 
-fn put_guess(alloc: Global, out: &mut Vec<u8>, trial: Trial) -> Result<(), AllocError> {
+fn put_guess(alloc: Global, out: &mut Vec<u8>, trial: Trial) -> Result<(), AllocError>
+    ensures { OnOk result (SaysGuess out.old.items trial out.new.items) }
+{
     put_change(out, trial.change)?;
     put(out, "a guess, since ")?;
     put_count(alloc, out, trial.differ)?;

@@ -1,9 +1,14 @@
 //! Words for what is compared, and the kernel's functions behind them.
 
+ghost use Rattle.std.specs.Prelude.{◌≡◌};
+ghost use Rattle.probe_verdict.specs.Names.{event_word, function_word, kind_word};
+
 use exact_words::{ExactRule, ProbedFunction, Quantity, QuantityKind};
 
 /// The name of a line's event.
-pub fn event_name(event: ProbedFunction) -> &'static str {
+pub fn event_name(event: ProbedFunction) -> &'static str
+    ensures { result.now ≡ event_word event }
+{
     match event {
         ProbedFunction::Enqueue => "enq",
         ProbedFunction::Update => "upd",
@@ -20,7 +25,9 @@ pub fn event_name(event: ProbedFunction) -> &'static str {
 }
 
 /// The function whose entry a line of this event shows.
-pub fn function_of(event: ProbedFunction) -> &'static str {
+pub fn function_of(event: ProbedFunction) -> &'static str
+    ensures { result.now ≡ function_word event }
+{
     match event {
         ProbedFunction::Enqueue => "enqueue_task_dl",
         ProbedFunction::Update => "update_curr_dl_se",
@@ -37,7 +44,9 @@ pub fn function_of(event: ProbedFunction) -> &'static str {
 }
 
 /// The word of a kind in a table.
-pub fn kind_name(kind: QuantityKind) -> &'static str {
+pub fn kind_name(kind: QuantityKind) -> &'static str
+    ensures { result.now ≡ kind_word kind }
+{
     match kind {
         QuantityKind::Budget => "budget",
         QuantityKind::Deadline => "deadline",
