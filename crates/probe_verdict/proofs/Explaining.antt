@@ -1,38 +1,23 @@
 -- A line more for a change.
-use Rattle.std.proofs.Common.{◌≡◌, ℕ, ◌+◌, ◌<◌, Bool, true, false, cond, List, [], ◌∷◌, ◌++◌, length, get_or, take, codes, refl, ap, sym, subst, ◌∙◌, append-nil}
-use Rattle.std.specs.List.{FoldsTo, filter}
-use Rattle.std.proofs.lemmas.Fn.{FoldsTo-push}
+use Rattle.std.proofs.Common.{◌≡◌, ℕ, ◌+◌, ◌<◌, Bool, true, false, ◌||◌, cond, List, [], ◌∷◌, ◌++◌, length, get_or, take, refl, ap, sym, ◌∙◌, append-nil}
+use Rattle.std.specs.List.{filter, flat_map}
+use Rattle.std.proofs.lemmas.List.{flat_map_more}
 use Rattle.std.proofs.lemmas.List.Elements.{filter_more}
+use Rattle.probe_verdict.proofs.Extending.{appended}
 use Rattle.probe_verdict.specs.declared.explanation.Trial.{Trial}
-use Rattle.probe_verdict.specs.Explained.{NamesChange, SaysGuess, is_some}
-use Rattle.probe_verdict.specs.Texts.{Extends}
+use Rattle.probe_verdict.specs.Explained.{agrees_line, guess_line, is_some, told_text}
 
-pub names_change : (old name front named new : List ℕ) → front ≡ old ++ codes "  with one rule changed, \"" → named ≡ front ++ name → new ≡ named ++ codes "\": "
-    → NamesChange old new
-names_change old name front named new front_is named_is new_is = record {
-  name = name;
-  is = new_is ∙ ap (λ t. t ++ codes "\": ") (named_is ∙ ap (λ t. t ++ name) front_is);
-}
+is_some-push : (xs : List Trial) (x : Trial) → is_some (xs ++ x ∷ []) ≡ true
+is_some-push [] x = refl
+is_some-push (y ∷ ys) x = refl
 
-pub says_guess : (old named front counted new : List ℕ) (t : Trial) → NamesChange old named → front ≡ named ++ codes "a guess, since " → Extends front counted
-    → new ≡ counted ++ codes " still differ\n" → SaysGuess old t new
-says_guess old named front counted new t names front_is extends new_is = record {
-  named = named;
-  names = names;
-  count = extends.rest;
-  is = new_is ∙ ap (λ t. t ++ codes " still differ\n") (extends.is ∙ ap (λ t. t ++ extends.rest) front_is);
-}
-
-module _ (p : Trial → Bool) (ts : List Trial) (i : ℕ) (d : Trial) (below : i < length ts) where
+module _ (p : Trial → Bool) (line : Trial → List ℕ) (ts : List Trial) (i : ℕ) (d : Trial) (below : i < length ts) (old mid : List ℕ)
+    (lines : mid ≡ old ++ flat_map line (filter p (take i ts))) where
   passes : p (get_or ts i d) ≡ true → filter p (take (i + 1) ts) ≡ filter p (take i ts) ++ get_or ts i d ∷ []
   passes passed = filter_more p ts i d below ∙ ap (λ b. filter p (take i ts) ++ cond b (get_or ts i d ∷ []) []) passed
 
   fails : p (get_or ts i d) ≡ false → filter p (take (i + 1) ts) ≡ filter p (take i ts)
   fails failed = filter_more p ts i d below ∙ ap (λ b. filter p (take i ts) ++ cond b (get_or ts i d ∷ []) []) failed ∙ append-nil (filter p (take i ts))
-
-  is_some-push : (xs : List Trial) (x : Trial) → is_some (xs ++ x ∷ []) ≡ true
-  is_some-push [] x = refl
-  is_some-push (y ∷ ys) x = refl
 
   pub some_more : p (get_or ts i d) ≡ true → is_some (filter p (take (i + 1) ts)) ≡ true
   some_more passed = ap is_some (passes passed) ∙ is_some-push (filter p (take i ts)) (get_or ts i d)
@@ -40,10 +25,38 @@ module _ (p : Trial → Bool) (ts : List Trial) (i : ℕ) (d : Trial) (below : i
   pub some_same : p (get_or ts i d) ≡ false → is_some (filter p (take (i + 1) ts)) ≡ is_some (filter p (take i ts))
   some_same failed = ap is_some (fails failed)
 
-  pub lines_more : (R : List ℕ → Trial → List ℕ → Type 0) (old mid new : List ℕ) → p (get_or ts i d) ≡ true → FoldsTo R old (filter p (take i ts)) mid → R mid (get_or ts i d) new
-      → FoldsTo R old (filter p (take (i + 1) ts)) new
-  lines_more R old mid new passed lines line = subst (λ xs. FoldsTo R old xs new) (sym (passes passed)) (FoldsTo-push R old (filter p (take i ts)) mid (get_or ts i d) new lines line)
+  pub lines_more : (new : List ℕ) → p (get_or ts i d) ≡ true → new ≡ mid ++ line (get_or ts i d) → new ≡ old ++ flat_map line (filter p (take (i + 1) ts))
+  lines_more new passed is =
+      is ∙ ap (λ t. t ++ line (get_or ts i d)) lines ∙ flat_map_more line old (filter p (take i ts)) (get_or ts i d) ∙ ap (λ xs. old ++ flat_map line xs) (sym (passes passed))
 
-  pub lines_same : (R : List ℕ → Trial → List ℕ → Type 0) (old new : List ℕ) → p (get_or ts i d) ≡ false → FoldsTo R old (filter p (take i ts)) new
-      → FoldsTo R old (filter p (take (i + 1) ts)) new
-  lines_same R old new failed lines = subst (λ xs. FoldsTo R old xs new) (sym (fails failed)) lines
+  pub lines_same : p (get_or ts i d) ≡ false → mid ≡ old ++ flat_map line (filter p (take (i + 1) ts))
+  lines_same failed = lines ∙ ap (λ xs. old ++ flat_map line xs) (sym (fails failed))
+
+first_of : (a b : Bool) → a ≡ true → (a || b) ≡ true
+first_of a b h = ap (λ x. x || b) h
+
+second_of : (a b : Bool) → b ≡ true → (a || b) ≡ true
+second_of true b h = refl
+second_of false b h = h
+
+some_told : (explain guess : List Trial) → (is_some explain || is_some guess) ≡ true → flat_map agrees_line explain ++ flat_map guess_line guess ≡ told_text explain guess
+some_told [] [] some = cc
+some_told [] (g ∷ gs) some = refl
+some_told (e ∷ es) guess some = refl
+
+-- what was put of each
+module _ (explain guess : List Trial) (old mid last : List ℕ) (explained : mid ≡ old ++ flat_map agrees_line explain) (guessed : last ≡ mid ++ flat_map guess_line guess) where
+  is_told : (is_some explain || is_some guess) ≡ true → last ≡ old ++ told_text explain guess
+  is_told some = appended old (flat_map agrees_line explain) (flat_map guess_line guess) mid last explained guessed ∙ ap (λ t. old ++ t) (some_told explain guess some)
+
+  pub explained_told : is_some explain ≡ true → last ≡ old ++ told_text explain guess
+  explained_told some = is_told (first_of (is_some explain) (is_some guess) some)
+
+  pub guessed_told : is_some guess ≡ true → last ≡ old ++ told_text explain guess
+  guessed_told some = is_told (second_of (is_some explain) (is_some guess) some)
+
+pub none_told : (explain guess : List Trial) (old mid last new : List ℕ) → mid ≡ old ++ flat_map agrees_line explain → last ≡ mid ++ flat_map guess_line guess
+    → is_some explain ≡ false → is_some guess ≡ false → new ≡ last ++ told_text [] [] → new ≡ old ++ told_text explain guess
+none_told [] [] old mid last new mid_is last_is e g new_is = new_is ∙ ap (λ t. t ++ told_text [] []) (last_is ∙ append-nil mid ∙ mid_is ∙ append-nil old)
+none_told [] (_ ∷ _) old mid last new mid_is last_is e g new_is = cc
+none_told (_ ∷ _) guess old mid last new mid_is last_is e g new_is = cc

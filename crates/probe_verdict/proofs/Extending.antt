@@ -1,6 +1,5 @@
 -- Texts that gain more.
-use Rattle.std.proofs.Common.{◌≡◌, ℕ, List, ◌++◌, codes, ap, ◌∙◌, append_assoc}
-use Rattle.probe_verdict.specs.Answers.{TellsFirst, place_told}
+use Rattle.std.proofs.Common.{◌≡◌, ℕ, List, ◌++◌, ap, ◌∙◌, append_assoc}
 use Rattle.probe_verdict.specs.Texts.{Extends}
 
 pub through : {old mid new : List ℕ} → Extends old mid → Extends mid new → Extends old new
@@ -11,9 +10,11 @@ through {old} first second =
 pub begun : (old words mid new : List ℕ) → mid ≡ old ++ words → Extends mid new → Extends (old ++ words) new
 begun old words mid new is more = record { rest = more.rest; is = more.is ∙ ap (λ t. t ++ more.rest) is }
 
-pub tells_first : (old front mid new : List ℕ) (line : ℕ) → front ≡ old ++ codes "differs: " → Extends front mid → Extends (mid ++ place_told line) new
-    → TellsFirst old new line
-tells_first old front mid new line is counted more = record {
-  count = counted.rest;
-  tells = record { rest = more.rest; is = more.is ∙ ap (λ t. t ++ place_told line ++ more.rest) (counted.is ∙ ap (λ t. t ++ counted.rest) is) };
+pub appended : (old a b mid new : List ℕ) → mid ≡ old ++ a → new ≡ mid ++ b → new ≡ old ++ (a ++ b)
+appended old a b mid new mid_is new_is = new_is ∙ ap (λ t. t ++ b) mid_is ∙ append_assoc old a b
+
+pub begun_behind : (old front words mid new : List ℕ) → mid ≡ old ++ front → Extends (mid ++ words) new → Extends (old ++ (front ++ words)) new
+begun_behind old front words mid new mid_is more = record {
+  rest = more.rest;
+  is = more.is ∙ ap (λ t. t ++ more.rest) (ap (λ t. t ++ words) mid_is ∙ append_assoc old front words);
 }

@@ -3,7 +3,7 @@ use Rattle.std.specs.Prelude.{ℕ, ◌==◌, if◌then◌else◌, List, ◌++◌
 use Rattle.exact_words.specs.Kinds.{kind_by}
 use Rattle.exact_words.specs.declared.words.Deviation.{Deviation}
 use Rattle.exact_laws.specs.declared.laws.Broken.{Broken}
-use Rattle.probe_verdict.specs.Texts.{Extends}
+use Rattle.probe_verdict.specs.Texts.{count_text}
 use Rattle.probe_verdict.specs.inside.Told.{is_law}
 
 -- that so many values agree
@@ -14,14 +14,13 @@ agreement_text equal = if equal == 0 then codes "agrees, but no value was compar
 abbrev pub law_text : ℕ → List ℕ
 law_text line = codes "differs: a law is broken, first at line " ++ decimal line ++ codes "\n  "
 
--- behind the number of values that differ, the line of the first
+-- behind the number of values that differ
 abbrev pub place_told : ℕ → List ℕ
 place_told line = codes " of these values, first at line " ++ decimal line ++ codes ", "
 
 -- that so many values differ, the first of them at this line
-pub record TellsFirst (old new : List ℕ) (line : ℕ) : Type 0 where
-  pub count : List ℕ
-  pub tells : Extends (old ++ codes "differs: " ++ count ++ place_told line) new
+abbrev pub differs_text : ℕ → ℕ → List ℕ
+differs_text differ line = codes "differs: " ++ count_text differ ++ place_told line
 
 -- the law to tell of, where no value of a line differs first
 abbrev pub law_told : Deviation → Option Broken → Option Broken

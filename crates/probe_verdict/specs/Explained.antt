@@ -1,6 +1,9 @@
 -- Which one changed rule explains a record, and what is told of it.
-use Rattle.std.specs.Prelude.{◌≡◌, ℕ, ◌/◌, Bool, true, false, not, ◌&&◌, ◌==◌, nat_lt, List, [], ◌∷◌, ◌++◌, codes}
-use Rattle.std.specs.List.{FoldsTo, filter}
+use Rattle.std.specs.Prelude.{ℕ, ◌/◌, Bool, true, false, not, ◌&&◌, ◌==◌, nat_lt, List, [], ◌∷◌, ◌++◌, codes}
+use Rattle.std.specs.List.{filter, flat_map}
+use Rattle.rule_changes.specs.declared.change.RuleChange.{RuleChange}
+use Rattle.probe_verdict.specs.Changes.{change_words}
+use Rattle.probe_verdict.specs.Texts.{count_text}
 use Rattle.probe_verdict.specs.declared.explanation.Trial.{Trial}
 
 -- by the answers of the play as it stands, and of the play with the rule changed
@@ -23,33 +26,16 @@ abbrev pub is_some : List Trial → Bool
 is_some [] = false
 is_some (t ∷ ts) = true
 
--- a text has gained the name of a change
-pub record NamesChange (old new : List ℕ) : Type 0 where
-  pub name : List ℕ
-  pub is : new ≡ old ++ codes "  with one rule changed, \"" ++ name ++ codes "\": "
+abbrev pub with_change : RuleChange → List ℕ
+with_change change = codes "  with one rule changed, \"" ++ change_words change ++ codes "\": "
 
--- and that the record agrees with it
-pub record SaysAgrees (old : List ℕ) (t : Trial) (new : List ℕ) : Type 0 where
-  pub named : List ℕ
-  pub names : NamesChange old named
-  pub is : new ≡ named ++ codes "the kernel agrees, bit for bit\n"
+abbrev pub agrees_line : Trial → List ℕ
+agrees_line t = with_change t.change ++ codes "the kernel agrees, bit for bit\n"
 
--- and that so many still differ
-pub record SaysGuess (old : List ℕ) (t : Trial) (new : List ℕ) : Type 0 where
-  pub named : List ℕ
-  pub names : NamesChange old named
-  pub count : List ℕ
-  pub is : new ≡ named ++ codes "a guess, since " ++ count ++ codes " still differ\n"
+abbrev pub guess_line : Trial → List ℕ
+guess_line t = with_change t.change ++ codes "a guess, since " ++ count_text t.differ ++ codes " still differ\n"
 
--- what a text ends with, behind these changes that explain the record and these guesses
-abbrev pub explanation_end : List Trial → List Trial → List ℕ
-explanation_end [] [] = codes "  no one changed rule explains it\n"
-explanation_end _ _ = []
-
--- a text has gained a line for each change that explains the record, and then one for each guess
-pub record AreTold (old new : List ℕ) (explain guess : List Trial) : Type 0 where
-  pub explained : List ℕ
-  pub guessed : List ℕ
-  pub explain_each : FoldsTo SaysAgrees old explain explained
-  pub guess_each : FoldsTo SaysGuess explained guess guessed
-  pub end : new ≡ guessed ++ explanation_end explain guess
+-- a line for each change that explains the record, and then for each guess; or that there is none
+abbrev pub told_text : List Trial → List Trial → List ℕ
+told_text [] [] = codes "  no one changed rule explains it\n"
+told_text explain guess = flat_map agrees_line explain ++ flat_map guess_line guess

@@ -1,4 +1,5 @@
 pub mod Answers
+pub mod Changes
 pub mod Explained
 pub mod Names
 pub mod Rows

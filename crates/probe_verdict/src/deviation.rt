@@ -2,9 +2,9 @@
 
 ghost use Rattle.std.specs.Prelude.{◌≡◌, ◌++◌, IfNone, IfSome, OnOk};
 ghost use Rattle.exact_words.specs.Kinds.{kind_by};
-ghost use Rattle.probe_verdict.specs.Answers.{TellsFirst, agreement_text, law_text, law_told, place_told};
+ghost use Rattle.probe_verdict.specs.Answers.{agreement_text, differs_text, law_text, law_told, place_told};
 ghost use Rattle.probe_verdict.specs.Texts.{Extends};
-ghost use Rattle.probe_verdict.specs.Totals.{total_equal};
+ghost use Rattle.probe_verdict.specs.Totals.{total_differ, total_equal};
 ghost use Rattle.probe_verdict.specs.inside.Told.{difference_of, is_law};
 
 use crate::heading::NamedTask;
@@ -32,7 +32,7 @@ pub fn put_answer(
     ensures law { OnOk result (IfSome first (λ d. IfSome (law_told d broken)
         (λ b. Extends (out.old.items ++ law_text b.line) out.new.items))) }
     ensures value { OnOk result (IfSome first (λ d. IfNone (law_told d broken)
-        (TellsFirst out.old.items out.new.items d.comparison.place.line))) }
+        (Extends (out.old.items ++ differs_text (total_differ counts.now) d.comparison.place.line) out.new.items))) }
 {
     match first {
         None => put_agreement(out, total_of(counts).equal),
@@ -104,7 +104,8 @@ fn put_differs(
     differ: u64,
     first: Deviation,
 ) -> Result<(), AllocError>
-    ensures { OnOk result (TellsFirst out.old.items out.new.items first.comparison.place.line) }
+    ensures { OnOk result (Extends (out.old.items ++ differs_text differ first.comparison.place.line)
+        out.new.items) }
 {
     put(out, "differs: ")?;
     put_count(alloc, out, differ)?;

@@ -1,8 +1,8 @@
 //! Which one changed rule explains a record.
 
-ghost use Rattle.std.specs.Prelude.{◌≡◌, [], ◌++◌, IfOk, OnOk, codes};
-ghost use Rattle.std.specs.List.{FoldsTo};
-ghost use Rattle.probe_verdict.specs.Explained.{AreTold, NamesChange, SaysAgrees, SaysGuess, explaining, guesses, is_explained, is_guess_of, is_some};
+ghost use Rattle.std.specs.Prelude.{◌≡◌, ◌++◌, IfOk, OnOk};
+ghost use Rattle.std.specs.List.{flat_map};
+ghost use Rattle.probe_verdict.specs.Explained.{agrees_line, explaining, guess_line, guesses, is_explained, is_guess_of, is_some, told_text, with_change};
 ghost use Rattle.probe_verdict.specs.Totals.{total_differ};
 
 use crate::changes::change_name;
@@ -47,11 +47,8 @@ pub fn put_explanation(
     counts: &KindCounts,
     trials: &[Trial],
 ) -> Result<(), AllocError>
-    ensures told { OnOk result (AreTold out.old.items out.new.items
+    ensures { OnOk result (out.new.items ≡ out.old.items ++ told_text
         (explaining agrees trials.now) (guesses (total_differ counts.now) trials.now)) }
-    ensures none { OnOk result (explaining agrees trials.now ≡ []
-        → guesses (total_differ counts.now) trials.now ≡ []
-        → out.new.items ≡ out.old.items ++ codes "  no one changed rule explains it\n") }
 {
     let is_explained = put_explaining(out, agrees, trials)?;
     let is_guessed = put_guesses(alloc, out, total_of(counts).differ, trials)?;
@@ -62,7 +59,7 @@ pub fn put_explanation(
 }
 
 fn put_change(out: &mut Vec<u8>, change: RuleChange) -> Result<(), AllocError>
-    ensures { OnOk result (NamesChange out.old.items out.new.items) }
+    ensures { OnOk result (out.new.items ≡ out.old.items ++ with_change change) }
 {
     put(out, "  with one rule changed, \"")?;
     put(out, change_name(change))?;
@@ -72,8 +69,8 @@ fn put_change(out: &mut Vec<u8>, change: RuleChange) -> Result<(), AllocError>
 /// Appends the changes with which the record agrees. True where there is one.
 fn put_explaining(out: &mut Vec<u8>, agrees: bool, trials: &[Trial]) -> Result<bool, AllocError>
     ensures is_named { IfOk result (λ is_named. is_named ≡ is_some (explaining agrees trials.now)) }
-    ensures lines { OnOk result
-        (FoldsTo SaysAgrees out.old.items (explaining agrees trials.now) out.new.items) }
+    ensures lines { OnOk result (out.new.items
+        ≡ out.old.items ++ flat_map agrees_line (explaining agrees trials.now)) }
 {
     let mut is_named = false;
     for trial in trials {
@@ -94,8 +91,8 @@ fn put_guesses(
     trials: &[Trial],
 ) -> Result<bool, AllocError>
     ensures is_named { IfOk result (λ is_named. is_named ≡ is_some (guesses differ trials.now)) }
-    ensures lines { OnOk result
-        (FoldsTo SaysGuess out.old.items (guesses differ trials.now) out.new.items) }
+    ensures lines { OnOk result (out.new.items
+        ≡ out.old.items ++ flat_map guess_line (guesses differ trials.now)) }
 {
     let mut is_named = false;
     for trial in trials {
@@ -108,7 +105,7 @@ fn put_guesses(
 }
 
 fn put_guess(alloc: Global, out: &mut Vec<u8>, trial: Trial) -> Result<(), AllocError>
-    ensures { OnOk result (SaysGuess out.old.items trial out.new.items) }
+    ensures { OnOk result (out.new.items ≡ out.old.items ++ guess_line trial) }
 {
     put_change(out, trial.change)?;
     put(out, "a guess, since ")?;

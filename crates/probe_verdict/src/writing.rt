@@ -1,7 +1,7 @@
 //! How values are written.
 
-ghost use Rattle.std.specs.Prelude.{◌≡◌, ◌++◌, OnOk};
-ghost use Rattle.probe_verdict.specs.Texts.{Extends};
+ghost use Rattle.std.specs.Prelude.{◌≡◌, ◌++◌, [], ◌∷◌, OnOk, codes, if◌then◌else◌};
+ghost use Rattle.probe_verdict.specs.Texts.{Extends, count_text, ends_group};
 
 use crate::heading::NamedTask;
 use exact_words::{ExactValue, Subject, Whose};
@@ -37,13 +37,15 @@ pub(crate) fn put_comma(out: &mut Vec<u8>) -> Result<(), AllocError>
 }
 
 /// Whether a comma stands before the last so many digits of a number.
-fn ends_group(left: usize) -> bool {
+fn ends_group(left: usize) -> bool
+    ensures { result ≡ ends_group left }
+{
     left == 3 || left == 6 || left == 9 || left == 12 || left == 15 || left == 18
 }
 
 /// Appends a number with commas, as 17,275.
 pub(crate) fn put_count(alloc: Global, out: &mut Vec<u8>, n: u64) -> Result<(), AllocError>
-    ensures { OnOk result (Extends out.old.items out.new.items) }
+    ensures { OnOk result (out.new.items ≡ out.old.items ++ count_text n) }
 {
     let text = format!(in alloc; "{n}")?;
     let digits = text.as_bytes();
@@ -54,7 +56,8 @@ pub(crate) fn put_count(alloc: Global, out: &mut Vec<u8>, n: u64) -> Result<(), 
 }
 
 fn put_digit(out: &mut Vec<u8>, digit: u8, follows_comma: bool) -> Result<(), AllocError>
-    ensures { OnOk result (Extends out.old.items out.new.items) }
+    ensures { OnOk result (out.new.items
+        ≡ out.old.items ++ (if follows_comma then codes "," else []) ++ digit ∷ []) }
 {
     if follows_comma {
         out.push(b',')?;
