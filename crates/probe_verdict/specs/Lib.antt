@@ -2,7 +2,8 @@ pub mod Answers
 pub mod Changes
 pub mod Explained
 pub mod Names
+pub mod Quantities
 pub mod Rows
 pub mod Texts
 pub mod Totals
-pub mod inside
+pub mod Values

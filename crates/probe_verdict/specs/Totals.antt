@@ -1,7 +1,8 @@
 -- How many values of all kinds are equal, and how many differ.
-use Rattle.std.specs.Prelude.{ℕ, ◌+◌, ◌-◌, ◌^◌, min}
+use Rattle.std.specs.Prelude.{ℕ, ◌+◌, ◌-◌, ◌^◌, ◌==◌, min, if◌then◌else◌, List, ◌++◌, codes}
 use Rattle.exact_words.specs.Tallies.{differing}
 use Rattle.exact_words.specs.declared.counts.KindCounts.{KindCounts}
+use Rattle.probe_verdict.specs.Texts.{Extends, count_text}
 
 abbrev pub equal_in : KindCounts → ℕ
 equal_in c =
@@ -14,3 +15,15 @@ total_equal c = min (equal_in c) (2 ^ 64 - 1)
 
 abbrev pub total_differ : KindCounts → ℕ
 total_differ c = min (differing c) (2 ^ 64 - 1)
+
+abbrev pub unequal_text : ℕ → List ℕ
+unequal_text differ = if differ == 0 then codes " equal\n" else codes " equal, " ++ count_text differ ++ codes " differ\n"
+
+-- how many values were compared, and how many of them are equal, and differ
+abbrev pub compared_text : ℕ → ℕ → List ℕ
+compared_text equal differ = count_text (min (equal + differ) (2 ^ 64 - 1)) ++ codes " values compared: " ++ count_text equal ++ unequal_text differ
+
+-- a text has gained the name of a record, what was read of it in some words, the totals, and more
+pub record TellsTotals (old new trace : List ℕ) (c : KindCounts) : Type 0 where
+  pub read : List ℕ
+  pub tells : Extends (old ++ trace ++ codes ": " ++ read ++ compared_text (total_equal c) (total_differ c)) new

@@ -2,10 +2,9 @@
 
 ghost use Rattle.std.specs.Prelude.{◌≡◌, ◌++◌, IfNone, IfSome, OnOk};
 ghost use Rattle.exact_words.specs.Kinds.{kind_by};
-ghost use Rattle.probe_verdict.specs.Answers.{agreement_text, differs_text, law_text, law_told, place_told};
+ghost use Rattle.probe_verdict.specs.Answers.{TellsFirst, agreement_text, both_text, comparison_text, difference_of, difference_text, is_law, law_text, law_told, place_told};
 ghost use Rattle.probe_verdict.specs.Texts.{Extends};
 ghost use Rattle.probe_verdict.specs.Totals.{total_differ, total_equal};
-ghost use Rattle.probe_verdict.specs.inside.Told.{difference_of, is_law};
 
 use crate::heading::NamedTask;
 use crate::names::{event_name, function_of, quantity_name, rule_function, rule_name};
@@ -32,7 +31,7 @@ pub fn put_answer(
     ensures law { OnOk result (IfSome first (λ d. IfSome (law_told d broken)
         (λ b. Extends (out.old.items ++ law_text b.line) out.new.items))) }
     ensures value { OnOk result (IfSome first (λ d. IfNone (law_told d broken)
-        (Extends (out.old.items ++ differs_text (total_differ counts.now) d.comparison.place.line) out.new.items))) }
+        (TellsFirst out.old.items out.new.items (total_differ counts.now) names.now d.comparison))) }
 {
     match first {
         None => put_agreement(out, total_of(counts).equal),
@@ -104,8 +103,8 @@ fn put_differs(
     differ: u64,
     first: Deviation,
 ) -> Result<(), AllocError>
-    ensures { OnOk result (Extends (out.old.items ++ differs_text differ first.comparison.place.line)
-        out.new.items) }
+    ensures { OnOk result
+        (TellsFirst out.old.items out.new.items differ names.now first.comparison) }
 {
     put(out, "differs: ")?;
     put_count(alloc, out, differ)?;
@@ -143,7 +142,7 @@ fn put_comparison(
     row: &Comparison,
     names: &[NamedTask],
 ) -> Result<(), AllocError>
-    ensures { OnOk result (Extends out.old.items out.new.items) }
+    ensures { OnOk result (out.new.items ≡ out.old.items ++ comparison_text names.now row.now) }
 {
     put(out, quantity_name(row.quantity))?;
     put(out, " of ")?;
@@ -157,7 +156,7 @@ fn put_values(
     row: &Comparison,
     names: &[NamedTask],
 ) -> Result<(), AllocError>
-    ensures { OnOk result (Extends out.old.items out.new.items) }
+    ensures { OnOk result (out.new.items ≡ out.old.items ++ both_text names.now row.now) }
 {
     put(out, ": ")?;
     put_value(alloc, out, row.rules, names)?;
@@ -186,7 +185,7 @@ fn put_difference(
     out: &mut Vec<u8>,
     difference: Option<i128>,
 ) -> Result<(), AllocError>
-    ensures { OnOk result (Extends out.old.items out.new.items) }
+    ensures { OnOk result (out.new.items ≡ out.old.items ++ difference_text difference) }
 {
     let Some(difference) = difference else {
         return put(out, " in the kernel\n");

@@ -1,8 +1,7 @@
 //! A row for each comparison, for pandas and gnuplot.
 
 ghost use Rattle.std.specs.Prelude.{◌≡◌, ◌++◌, OnOk};
-ghost use Rattle.probe_verdict.specs.Rows.{AreValues, IsRow, answer_text, kind_text, place_text};
-ghost use Rattle.probe_verdict.specs.Texts.{Extends};
+ghost use Rattle.probe_verdict.specs.Rows.{answer_text, kind_text, place_text, row_text, values_text};
 
 use crate::heading::NamedTask;
 use crate::names::{event_name, kind_name};
@@ -20,7 +19,7 @@ pub fn put_row(
     row: &Comparison,
     names: &[NamedTask],
 ) -> Result<(), AllocError>
-    ensures { OnOk result (IsRow out.old.items out.new.items row.now) }
+    ensures { OnOk result (out.new.items ≡ out.old.items ++ row_text names.now row.now) }
 {
     put_place(alloc, out, row.place)?;
     put_subject(alloc, out, row.subject, names)?;
@@ -52,7 +51,7 @@ fn put_values(
     row: &Comparison,
     names: &[NamedTask],
 ) -> Result<(), AllocError>
-    ensures { OnOk result (AreValues out.old.items out.new.items row.now.is_equal) }
+    ensures { OnOk result (out.new.items ≡ out.old.items ++ values_text names.now row.now) }
 {
     put_value(alloc, out, row.rules, names)?;
     put(out, "\t")?;

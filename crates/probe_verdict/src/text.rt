@@ -2,7 +2,7 @@
 
 ghost use Rattle.std.specs.Prelude.{◌≡◌, ◌++◌, OnOk, codes};
 ghost use Rattle.probe_verdict.specs.Texts.{Extends};
-ghost use Rattle.probe_verdict.specs.Totals.{total_differ, total_equal};
+ghost use Rattle.probe_verdict.specs.Totals.{TellsTotals, compared_text, total_differ, total_equal, unequal_text};
 
 use crate::heading::{DroppedLines, ProbeHeading};
 use crate::names::{ALL, KINDS, kind_plural, rule_name};
@@ -46,7 +46,8 @@ pub fn put_heading(
     counts: &KindCounts,
     rules: &RuleCounts,
 ) -> Result<(), AllocError>
-    ensures { OnOk result (Extends (out.old.items ++ heading.entry.trace.now ++ codes ": ") out.new.items) }
+    ensures { OnOk result
+        (TellsTotals out.old.items out.new.items heading.entry.trace.now counts.now) }
 {
     put_record(alloc, out, heading)?;
     put_total(alloc, out, total_of(counts))?;
@@ -162,7 +163,8 @@ fn put_sums(out: &mut Vec<u8>, takes_sums: bool) -> Result<(), AllocError>
 }
 
 fn put_total(alloc: Global, out: &mut Vec<u8>, total: Total) -> Result<(), AllocError>
-    ensures { OnOk result (Extends out.old.items out.new.items) }
+    ensures { OnOk result
+        (out.new.items ≡ out.old.items ++ compared_text total.equal total.differ) }
 {
     put_count(alloc, out, total.equal.saturating_add(total.differ))?;
     put(out, " values compared: ")?;
@@ -171,7 +173,7 @@ fn put_total(alloc: Global, out: &mut Vec<u8>, total: Total) -> Result<(), Alloc
 }
 
 fn put_unequal(alloc: Global, out: &mut Vec<u8>, differ: u64) -> Result<(), AllocError>
-    ensures { OnOk result (Extends out.old.items out.new.items) }
+    ensures { OnOk result (out.new.items ≡ out.old.items ++ unequal_text differ) }
 {
     if differ == 0 {
         return put(out, " equal\n");

@@ -1,7 +1,10 @@
 //! How values are written.
 
 ghost use Rattle.std.specs.Prelude.{◌≡◌, ◌++◌, [], ◌∷◌, OnOk, codes, if◌then◌else◌};
+ghost use Rattle.std.specs.Fmt.{signed_decimal};
+ghost use Rattle.std.specs.Option.{option_copied};
 ghost use Rattle.probe_verdict.specs.Texts.{Extends, count_text, ends_group};
+ghost use Rattle.probe_verdict.specs.Values.{comm_of, subject_text, task_text, timer_word, value_text, whose_text};
 
 use crate::heading::NamedTask;
 use exact_words::{ExactValue, Subject, Whose};
@@ -77,7 +80,9 @@ pub(crate) fn put_seconds(alloc: Global, out: &mut Vec<u8>, nanos: u64) -> Resul
 }
 
 /// The comm of a task, if a record shows it.
-fn comm_of(names: &[NamedTask], pid: u64) -> Option<&[u8]> {
+fn comm_of(names: &[NamedTask], pid: u64) -> Option<&[u8]>
+    ensures { option_copied result ≡ comm_of names.now pid }
+{
     for name in names {
         if name.pid == pid {
             return Some(name.comm.as_slice());
@@ -93,7 +98,7 @@ fn put_task(
     pid: u64,
     names: &[NamedTask],
 ) -> Result<(), AllocError>
-    ensures { OnOk result (Extends out.old.items out.new.items) }
+    ensures { OnOk result (out.new.items ≡ out.old.items ++ task_text (comm_of names.now pid) pid) }
 {
     match comm_of(names, pid) {
         Some(comm) => {
@@ -115,7 +120,7 @@ pub(crate) fn put_whose(
     whose: Whose,
     names: &[NamedTask],
 ) -> Result<(), AllocError>
-    ensures { OnOk result (Extends out.old.items out.new.items) }
+    ensures { OnOk result (out.new.items ≡ out.old.items ++ whose_text names.now whose) }
 {
     match whose {
         Whose::Server { cpu } => {
@@ -133,7 +138,7 @@ pub(crate) fn put_subject(
     subject: Subject,
     names: &[NamedTask],
 ) -> Result<(), AllocError>
-    ensures { OnOk result (Extends out.old.items out.new.items) }
+    ensures { OnOk result (out.new.items ≡ out.old.items ++ subject_text names.now subject) }
 {
     match subject {
         Subject::Entity(whose) => put_whose(alloc, out, whose, names),
@@ -145,7 +150,9 @@ pub(crate) fn put_subject(
     }
 }
 
-fn timer_name(function: TimerFunction) -> &'static str {
+fn timer_name(function: TimerFunction) -> &'static str
+    ensures { result.now ≡ timer_word function }
+{
     match function {
         TimerFunction::ZeroLag => "inactive_task_timer",
         TimerFunction::Replenish => "dl_task_timer",
@@ -155,7 +162,7 @@ fn timer_name(function: TimerFunction) -> &'static str {
 
 /// Appends a number below 0 or not.
 fn put_signed(alloc: Global, out: &mut Vec<u8>, n: i64) -> Result<(), AllocError>
-    ensures { OnOk result (Extends out.old.items out.new.items) }
+    ensures { OnOk result (out.new.items ≡ out.old.items ++ signed_decimal n) }
 {
     let text = format!(in alloc; "{n}")?;
     put(out, text.as_str())
@@ -168,7 +175,7 @@ pub(crate) fn put_value(
     value: ExactValue,
     names: &[NamedTask],
 ) -> Result<(), AllocError>
-    ensures { OnOk result (Extends out.old.items out.new.items) }
+    ensures { OnOk result (out.new.items ≡ out.old.items ++ value_text names.now value) }
 {
     match value {
         ExactValue::Unsigned(n) => put_number(out, b"", n),
@@ -183,7 +190,7 @@ pub(crate) fn put_value(
 }
 
 fn put_no(out: &mut Vec<u8>, name: &str) -> Result<(), AllocError>
-    ensures { OnOk result (Extends out.old.items out.new.items) }
+    ensures { OnOk result (out.new.items ≡ out.old.items ++ (codes "no " ++ name.now)) }
 {
     put(out, "no ")?;
     put(out, name)
