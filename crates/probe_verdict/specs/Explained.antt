@@ -22,10 +22,12 @@ explaining agrees trials = filter (λ t. is_explained agrees t.agrees) trials
 abbrev pub guesses : ℕ → List Trial → List Trial
 guesses differ trials = filter (λ t. is_guess_of differ t.differ) trials
 
-abbrev pub is_some : List Trial → Bool
-is_some [] = false
-is_some (t ∷ ts) = true
+-- there is a change to tell of
+abbrev pub has_any : List Trial → Bool
+has_any [] = false
+has_any (t ∷ ts) = true
 
+-- so begins the line of a change
 abbrev pub with_change : RuleChange → List ℕ
 with_change change = codes "  with one rule changed, \"" ++ change_words change ++ codes "\": "
 

@@ -30,8 +30,8 @@ pub fn put_answer(
         (out.new.items ≡ out.old.items ++ agreement_text (total_equal counts.now))) }
     ensures law { OnOk result (IfSome first (λ d. IfSome (law_told d broken)
         (λ b. Extends (out.old.items ++ law_text b.line) out.new.items))) }
-    ensures value { OnOk result (IfSome first (λ d. IfNone (law_told d broken)
-        (TellsFirst out.old.items out.new.items (total_differ counts.now) names.now d.comparison))) }
+    ensures value { OnOk result (IfSome first (λ d. IfNone (law_told d broken) (TellsFirst
+        out.old.items out.new.items (total_differ counts.now) names.now d.comparison))) }
 {
     match first {
         None => put_agreement(out, total_of(counts).equal),

@@ -2,7 +2,7 @@
 
 ghost use Rattle.std.specs.Prelude.{◌≡◌, ◌++◌, IfOk, OnOk};
 ghost use Rattle.std.specs.List.{flat_map};
-ghost use Rattle.probe_verdict.specs.Explained.{agrees_line, explaining, guess_line, guesses, is_explained, is_guess_of, is_some, told_text, with_change};
+ghost use Rattle.probe_verdict.specs.Explained.{agrees_line, explaining, guess_line, guesses, is_explained, is_guess_of, has_any, told_text, with_change};
 ghost use Rattle.probe_verdict.specs.Totals.{total_differ};
 
 use crate::changes::change_name;
@@ -68,7 +68,7 @@ fn put_change(out: &mut Vec<u8>, change: RuleChange) -> Result<(), AllocError>
 
 /// Appends the changes with which the record agrees. True where there is one.
 fn put_explaining(out: &mut Vec<u8>, agrees: bool, trials: &[Trial]) -> Result<bool, AllocError>
-    ensures is_named { IfOk result (λ is_named. is_named ≡ is_some (explaining agrees trials.now)) }
+    ensures is_named { IfOk result (λ is_named. is_named ≡ has_any (explaining agrees trials.now)) }
     ensures lines { OnOk result (out.new.items
         ≡ out.old.items ++ flat_map agrees_line (explaining agrees trials.now)) }
 {
@@ -90,7 +90,7 @@ fn put_guesses(
     differ: u64,
     trials: &[Trial],
 ) -> Result<bool, AllocError>
-    ensures is_named { IfOk result (λ is_named. is_named ≡ is_some (guesses differ trials.now)) }
+    ensures is_named { IfOk result (λ is_named. is_named ≡ has_any (guesses differ trials.now)) }
     ensures lines { OnOk result (out.new.items
         ≡ out.old.items ++ flat_map guess_line (guesses differ trials.now)) }
 {
