@@ -2,7 +2,7 @@
 
 ghost use Rattle.std.specs.Prelude.{◌≡◌, ◌++◌, IfOk, OnOk};
 ghost use Rattle.std.specs.List.{flat_map};
-ghost use Rattle.probe_verdict.specs.Explained.{agrees_line, explaining, guess_line, guesses, is_explained, is_guess_of, has_any, told_text, with_change};
+ghost use Rattle.probe_verdict.specs.Explained.{agrees_line, explaining, guess_line, guesses, has_any, is_explained, is_guess_of, told_text, with_change};
 ghost use Rattle.probe_verdict.specs.Totals.{total_differ};
 
 use crate::changes::change_name;
