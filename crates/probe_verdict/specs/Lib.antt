@@ -1,2 +1,9 @@
+pub mod Answers
+pub mod Changes
 pub mod Explained
-pub mod inside
+pub mod Names
+pub mod Quantities
+pub mod Rows
+pub mod Texts
+pub mod Totals
+pub mod Values

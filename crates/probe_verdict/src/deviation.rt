@@ -1,8 +1,10 @@
 //! The last lines of a verdict: that each value is the kernel's, or the first that is not.
 
-ghost use Rattle.std.specs.Prelude.{◌≡◌};
+ghost use Rattle.std.specs.Prelude.{◌≡◌, ◌++◌, IfNone, IfSome, OnOk};
 ghost use Rattle.exact_words.specs.Kinds.{kind_by};
-ghost use Rattle.probe_verdict.specs.inside.Told.{difference_of, is_law};
+ghost use Rattle.probe_verdict.specs.Answers.{TellsFirst, agreement_text, both_text, comparison_text, difference_of, difference_text, is_law, law_text, law_told, place_told};
+ghost use Rattle.probe_verdict.specs.Texts.{Extends};
+ghost use Rattle.probe_verdict.specs.Totals.{total_differ, total_equal};
 
 use crate::heading::NamedTask;
 use crate::names::{event_name, function_of, quantity_name, rule_function, rule_name};
@@ -23,7 +25,14 @@ pub fn put_answer(
     counts: &KindCounts,
     first: Option<Deviation>,
     broken: Option<Broken>,
-) -> Result<(), AllocError> {
+) -> Result<(), AllocError>
+    ensures agrees { OnOk result (IfNone first
+        (out.new.items ≡ out.old.items ++ agreement_text (total_equal counts.now))) }
+    ensures law { OnOk result (IfSome first (λ d. IfSome (law_told d broken)
+        (λ b. Extends (out.old.items ++ law_text b.line) out.new.items))) }
+    ensures value { OnOk result (IfSome first (λ d. IfNone (law_told d broken) (TellsFirst
+        out.old.items out.new.items (total_differ counts.now) names.now d.comparison))) }
+{
     match first {
         None => put_agreement(out, total_of(counts).equal),
         Some(first) => match broken {
@@ -44,7 +53,9 @@ fn is_of_law(first: Deviation) -> bool
 }
 
 /// Appends the law that a record breaks though each of its values agrees.
-fn put_broken(alloc: Global, out: &mut Vec<u8>, broken: Broken) -> Result<(), AllocError> {
+fn put_broken(alloc: Global, out: &mut Vec<u8>, broken: Broken) -> Result<(), AllocError>
+    ensures { OnOk result (Extends (out.old.items ++ law_text broken.line) out.new.items) }
+{
     let line = broken.line;
     let text = format!(in alloc; "differs: a law is broken, first at line {line}\n  ")?;
     put(out, text.as_str())?;
@@ -54,7 +65,9 @@ fn put_broken(alloc: Global, out: &mut Vec<u8>, broken: Broken) -> Result<(), Al
     }
 }
 
-fn put_ratio(alloc: Global, out: &mut Vec<u8>, broken: Broken) -> Result<(), AllocError> {
+fn put_ratio(alloc: Global, out: &mut Vec<u8>, broken: Broken) -> Result<(), AllocError>
+    ensures { OnOk result (Extends out.old.items out.new.items) }
+{
     let (cpu, max_bw, bw_ratio) = (broken.cpu, broken.max_bw, broken.bw_ratio);
     let text = format!(in alloc;
         "max_bw {max_bw} and bw_ratio {bw_ratio} of CPU {cpu} are not those of the limit of the admission test\n  functions of kernel/sched/deadline.c to look at: init_dl_rq_bw_ratio\n"
@@ -62,7 +75,9 @@ fn put_ratio(alloc: Global, out: &mut Vec<u8>, broken: Broken) -> Result<(), All
     put(out, text.as_str())
 }
 
-fn put_clock(alloc: Global, out: &mut Vec<u8>, broken: Broken) -> Result<(), AllocError> {
+fn put_clock(alloc: Global, out: &mut Vec<u8>, broken: Broken) -> Result<(), AllocError>
+    ensures { OnOk result (Extends out.old.items out.new.items) }
+{
     let (late, wakes, micros) = (broken.late, broken.wakes, broken.behind / 1000);
     let text = format!(in alloc;
         "{late} of {wakes} wakes by a runqueue's clock that is more than 100 us behind, the first by {micros} us\n  functions to look at: update_rq_clock, ttwu_queue\n"
@@ -71,7 +86,9 @@ fn put_clock(alloc: Global, out: &mut Vec<u8>, broken: Broken) -> Result<(), All
 }
 
 /// Appends that all agrees; a record without a value that was compared shows nothing.
-fn put_agreement(out: &mut Vec<u8>, equal: u64) -> Result<(), AllocError> {
+fn put_agreement(out: &mut Vec<u8>, equal: u64) -> Result<(), AllocError>
+    ensures { OnOk result (out.new.items ≡ out.old.items ++ agreement_text equal) }
+{
     if equal == 0 {
         put(out, "agrees, but no value was compared\n")
     } else {
@@ -85,7 +102,10 @@ fn put_differs(
     names: &[NamedTask],
     differ: u64,
     first: Deviation,
-) -> Result<(), AllocError> {
+) -> Result<(), AllocError>
+    ensures { OnOk result
+        (TellsFirst out.old.items out.new.items differ names.now first.comparison) }
+{
     put(out, "differs: ")?;
     put_count(alloc, out, differ)?;
     put_place(alloc, out, first.comparison.place)?;
@@ -93,7 +113,9 @@ fn put_differs(
     put_since(alloc, out, first.since, first.comparison.place.event)
 }
 
-fn put_place(alloc: Global, out: &mut Vec<u8>, place: ProbedLine) -> Result<(), AllocError> {
+fn put_place(alloc: Global, out: &mut Vec<u8>, place: ProbedLine) -> Result<(), AllocError>
+    ensures { OnOk result (Extends (out.old.items ++ place_told place.line) out.new.items) }
+{
     let line = place.line;
     let text = format!(in alloc; " of these values, first at line {line}, ")?;
     put(out, text.as_str())?;
@@ -106,7 +128,9 @@ fn put_event(
     out: &mut Vec<u8>,
     event: ProbedFunction,
     cpu: u32,
-) -> Result<(), AllocError> {
+) -> Result<(), AllocError>
+    ensures { OnOk result (Extends out.old.items out.new.items) }
+{
     let (name, function) = (event_name(event), function_of(event));
     let text = format!(in alloc; ", {name} ({function}) on CPU {cpu}\n  ")?;
     put(out, text.as_str())
@@ -117,7 +141,9 @@ fn put_comparison(
     out: &mut Vec<u8>,
     row: &Comparison,
     names: &[NamedTask],
-) -> Result<(), AllocError> {
+) -> Result<(), AllocError>
+    ensures { OnOk result (out.new.items ≡ out.old.items ++ comparison_text names.now row.now) }
+{
     put(out, quantity_name(row.quantity))?;
     put(out, " of ")?;
     put_subject(alloc, out, row.subject, names)?;
@@ -129,7 +155,9 @@ fn put_values(
     out: &mut Vec<u8>,
     row: &Comparison,
     names: &[NamedTask],
-) -> Result<(), AllocError> {
+) -> Result<(), AllocError>
+    ensures { OnOk result (out.new.items ≡ out.old.items ++ both_text names.now row.now) }
+{
     put(out, ": ")?;
     put_value(alloc, out, row.rules, names)?;
     put(out, " by the rules, ")?;
@@ -156,7 +184,9 @@ fn put_difference(
     alloc: Global,
     out: &mut Vec<u8>,
     difference: Option<i128>,
-) -> Result<(), AllocError> {
+) -> Result<(), AllocError>
+    ensures { OnOk result (out.new.items ≡ out.old.items ++ difference_text difference) }
+{
     let Some(difference) = difference else {
         return put(out, " in the kernel\n");
     };
@@ -172,7 +202,9 @@ fn put_since(
     out: &mut Vec<u8>,
     since: Why,
     event: ProbedFunction,
-) -> Result<(), AllocError> {
+) -> Result<(), AllocError>
+    ensures { OnOk result (Extends out.old.items out.new.items) }
+{
     match since.rule {
         None => put(out, "  no rule has changed it since it was first seen\n"),
         Some(rule) => put_rule(alloc, out, since, rule, event),
@@ -185,7 +217,9 @@ fn put_rule(
     since: Why,
     rule: ExactRule,
     event: ProbedFunction,
-) -> Result<(), AllocError> {
+) -> Result<(), AllocError>
+    ensures { OnOk result (Extends out.old.items out.new.items) }
+{
     let line = since.line;
     let (at, name) = (event_name(since.event), rule_name(rule));
     let text = format!(in alloc; "  last changed at line {line}, {at}, by the rule \"{name}\"\n")?;

@@ -1,9 +1,16 @@
 //! Words for what is compared, and the kernel's functions behind them.
 
+ghost use Rattle.std.specs.Prelude.{◌≡◌};
+ghost use Rattle.probe_verdict.specs.Names.{event_word, function_word, kind_word};
+ghost use Rattle.probe_verdict.specs.Quantities.{quantity_word};
+
 use exact_words::{ExactRule, ProbedFunction, Quantity, QuantityKind};
 
 /// The name of a line's event.
-pub fn event_name(event: ProbedFunction) -> &'static str {
+pub fn event_name(event: ProbedFunction) -> &'static str
+    ensures name { result.now ≡ event_word event }
+    ensures own { (other : ProbedFunction) → event_word other ≡ result.now → other ≡ event }
+{
     match event {
         ProbedFunction::Enqueue => "enq",
         ProbedFunction::Update => "upd",
@@ -20,7 +27,9 @@ pub fn event_name(event: ProbedFunction) -> &'static str {
 }
 
 /// The function whose entry a line of this event shows.
-pub fn function_of(event: ProbedFunction) -> &'static str {
+pub fn function_of(event: ProbedFunction) -> &'static str
+    ensures { result.now ≡ function_word event }
+{
     match event {
         ProbedFunction::Enqueue => "enqueue_task_dl",
         ProbedFunction::Update => "update_curr_dl_se",
@@ -37,7 +46,10 @@ pub fn function_of(event: ProbedFunction) -> &'static str {
 }
 
 /// The word of a kind in a table.
-pub fn kind_name(kind: QuantityKind) -> &'static str {
+pub fn kind_name(kind: QuantityKind) -> &'static str
+    ensures name { result.now ≡ kind_word kind }
+    ensures own { (other : QuantityKind) → kind_word other ≡ result.now → other ≡ kind }
+{
     match kind {
         QuantityKind::Budget => "budget",
         QuantityKind::Deadline => "deadline",
@@ -71,7 +83,9 @@ pub(crate) fn kind_plural(kind: QuantityKind) -> &'static str {
 }
 
 /// A value by its name in the kernel.
-pub fn quantity_name(quantity: Quantity) -> &'static str {
+pub fn quantity_name(quantity: Quantity) -> &'static str
+    ensures { result.now ≡ quantity_word quantity }
+{
     match quantity {
         Quantity::Runtime => "runtime",
         Quantity::Deadline => "deadline",

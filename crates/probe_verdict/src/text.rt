@@ -1,5 +1,9 @@
 //! The words of a verdict.
 
+ghost use Rattle.std.specs.Prelude.{◌≡◌, ◌++◌, OnOk, codes};
+ghost use Rattle.probe_verdict.specs.Texts.{Extends};
+ghost use Rattle.probe_verdict.specs.Totals.{TellsTotals, compared_text, total_differ, total_equal, unequal_text};
+
 use crate::heading::{DroppedLines, ProbeHeading};
 use crate::names::{ALL, KINDS, kind_plural, rule_name};
 use crate::writing::{put, put_bytes, put_comma, put_count};
@@ -16,7 +20,10 @@ pub struct Total {
 }
 
 /// The counts of all kinds together.
-pub fn total_of(counts: &KindCounts) -> Total {
+pub fn total_of(counts: &KindCounts) -> Total
+    ensures equal { result.equal ≡ total_equal counts.now }
+    ensures differ { result.differ ≡ total_differ counts.now }
+{
     let mut total = Total {
         equal: 0,
         differ: 0,
@@ -38,7 +45,10 @@ pub fn put_heading(
     heading: ProbeHeading<'_>,
     counts: &KindCounts,
     rules: &RuleCounts,
-) -> Result<(), AllocError> {
+) -> Result<(), AllocError>
+    ensures { OnOk result
+        (TellsTotals out.old.items out.new.items heading.entry.trace.now counts.now) }
+{
     put_record(alloc, out, heading)?;
     put_total(alloc, out, total_of(counts))?;
     put_counts(alloc, out, counts)?;
@@ -46,11 +56,9 @@ pub fn put_heading(
     put_untested(out, rules)
 }
 
-fn put_record(
-    alloc: Global,
-    out: &mut Vec<u8>,
-    heading: ProbeHeading<'_>,
-) -> Result<(), AllocError> {
+fn put_record(alloc: Global, out: &mut Vec<u8>, heading: ProbeHeading<'_>) -> Result<(), AllocError>
+    ensures { OnOk result (Extends (out.old.items ++ heading.entry.trace.now ++ codes ": ") out.new.items) }
+{
     put_bytes(out, heading.trace)?;
     put(out, ": ")?;
     put_kernel(alloc, out, heading.kernel)?;
@@ -60,7 +68,9 @@ fn put_record(
     put_sums(out, heading.takes_sums)
 }
 
-fn put_kernel(alloc: Global, out: &mut Vec<u8>, kernel: Option<Kernel>) -> Result<(), AllocError> {
+fn put_kernel(alloc: Global, out: &mut Vec<u8>, kernel: Option<Kernel>) -> Result<(), AllocError>
+    ensures { OnOk result (Extends out.old.items out.new.items) }
+{
     let Some(kernel) = kernel else {
         return Ok(());
     };
@@ -70,7 +80,9 @@ fn put_kernel(alloc: Global, out: &mut Vec<u8>, kernel: Option<Kernel>) -> Resul
 }
 
 /// Appends the CPUs of a root domain, as 0-3 where they follow one another.
-fn put_cpus(alloc: Global, out: &mut Vec<u8>, cpus: &[u32]) -> Result<(), AllocError> {
+fn put_cpus(alloc: Global, out: &mut Vec<u8>, cpus: &[u32]) -> Result<(), AllocError>
+    ensures { OnOk result (Extends out.old.items out.new.items) }
+{
     put(out, "processors ")?;
     match (cpus.first(), cpus.last()) {
         (Some(first), Some(last)) => put_range(alloc, out, cpus, *first, *last),
@@ -84,7 +96,9 @@ fn put_range(
     cpus: &[u32],
     first: u32,
     last: u32,
-) -> Result<(), AllocError> {
+) -> Result<(), AllocError>
+    ensures { OnOk result (Extends out.old.items out.new.items) }
+{
     let span = u64::from(last).saturating_sub(u64::from(first));
     if span == 0 || span != (cpus.len() as u64).saturating_sub(1) {
         return put_list(out, cpus);
@@ -93,7 +107,9 @@ fn put_range(
     put(out, text.as_str())
 }
 
-fn put_list(out: &mut Vec<u8>, cpus: &[u32]) -> Result<(), AllocError> {
+fn put_list(out: &mut Vec<u8>, cpus: &[u32]) -> Result<(), AllocError>
+    ensures { OnOk result (Extends out.old.items out.new.items) }
+{
     for cpu in cpus {
         put_comma(out)?;
         put_number(out, b"", u64::from(*cpu))?;
@@ -102,7 +118,9 @@ fn put_list(out: &mut Vec<u8>, cpus: &[u32]) -> Result<(), AllocError> {
 }
 
 /// Appends how many tasks and lines there are, and from when to when.
-fn put_size(alloc: Global, out: &mut Vec<u8>, heading: ProbeHeading<'_>) -> Result<(), AllocError> {
+fn put_size(alloc: Global, out: &mut Vec<u8>, heading: ProbeHeading<'_>) -> Result<(), AllocError>
+    ensures { OnOk result (Extends out.old.items out.new.items) }
+{
     let tasks = heading.tasks.len();
     let span = heading.to.saturating_sub(heading.from);
     let (whole, tenth) = (span / 1_000_000_000, span % 1_000_000_000 / 100_000_000);
@@ -112,14 +130,18 @@ fn put_size(alloc: Global, out: &mut Vec<u8>, heading: ProbeHeading<'_>) -> Resu
     put(out, " lines of probes")
 }
 
-fn put_lost(out: &mut Vec<u8>, lost: Option<DroppedLines>) -> Result<(), AllocError> {
+fn put_lost(out: &mut Vec<u8>, lost: Option<DroppedLines>) -> Result<(), AllocError>
+    ensures { OnOk result (Extends out.old.items out.new.items) }
+{
     match lost {
         None => put(out, "\n"),
         Some(lost) => put_number_lost(out, lost.lines.saturating_add(lost.hits)),
     }
 }
 
-fn put_number_lost(out: &mut Vec<u8>, lost: u64) -> Result<(), AllocError> {
+fn put_number_lost(out: &mut Vec<u8>, lost: u64) -> Result<(), AllocError>
+    ensures { OnOk result (Extends out.old.items out.new.items) }
+{
     if lost == 0 {
         return put(out, "; none lost\n");
     }
@@ -127,7 +149,9 @@ fn put_number_lost(out: &mut Vec<u8>, lost: u64) -> Result<(), AllocError> {
     put(out, " lost: what differs behind them may be theirs\n")
 }
 
-fn put_sums(out: &mut Vec<u8>, takes_sums: bool) -> Result<(), AllocError> {
+fn put_sums(out: &mut Vec<u8>, takes_sums: bool) -> Result<(), AllocError>
+    ensures { OnOk result (Extends out.old.items out.new.items) }
+{
     if takes_sums {
         put(
             out,
@@ -138,14 +162,19 @@ fn put_sums(out: &mut Vec<u8>, takes_sums: bool) -> Result<(), AllocError> {
     }
 }
 
-fn put_total(alloc: Global, out: &mut Vec<u8>, total: Total) -> Result<(), AllocError> {
+fn put_total(alloc: Global, out: &mut Vec<u8>, total: Total) -> Result<(), AllocError>
+    ensures { OnOk result
+        (out.new.items ≡ out.old.items ++ compared_text total.equal total.differ) }
+{
     put_count(alloc, out, total.equal.saturating_add(total.differ))?;
     put(out, " values compared: ")?;
     put_count(alloc, out, total.equal)?;
     put_unequal(alloc, out, total.differ)
 }
 
-fn put_unequal(alloc: Global, out: &mut Vec<u8>, differ: u64) -> Result<(), AllocError> {
+fn put_unequal(alloc: Global, out: &mut Vec<u8>, differ: u64) -> Result<(), AllocError>
+    ensures { OnOk result (out.new.items ≡ out.old.items ++ unequal_text differ) }
+{
     if differ == 0 {
         return put(out, " equal\n");
     }
@@ -154,7 +183,9 @@ fn put_unequal(alloc: Global, out: &mut Vec<u8>, differ: u64) -> Result<(), Allo
     put(out, " differ\n")
 }
 
-fn put_counts(alloc: Global, out: &mut Vec<u8>, counts: &KindCounts) -> Result<(), AllocError> {
+fn put_counts(alloc: Global, out: &mut Vec<u8>, counts: &KindCounts) -> Result<(), AllocError>
+    ensures { OnOk result (Extends out.old.items out.new.items) }
+{
     put(out, "  ")?;
     for kind in KINDS {
         put_kind(alloc, out, kind, counts)?;
@@ -167,7 +198,9 @@ fn put_kind(
     out: &mut Vec<u8>,
     kind: QuantityKind,
     counts: &KindCounts,
-) -> Result<(), AllocError> {
+) -> Result<(), AllocError>
+    ensures { OnOk result (Extends out.old.items out.new.items) }
+{
     let tally = counts.of(kind);
     put_item(
         alloc,
@@ -178,7 +211,9 @@ fn put_kind(
 }
 
 /// Appends an item of a list and its count, where that is not 0.
-fn put_item(alloc: Global, out: &mut Vec<u8>, name: &str, count: u64) -> Result<(), AllocError> {
+fn put_item(alloc: Global, out: &mut Vec<u8>, name: &str, count: u64) -> Result<(), AllocError>
+    ensures { OnOk result (Extends out.old.items out.new.items) }
+{
     if count == 0 {
         return Ok(());
     }
@@ -188,7 +223,9 @@ fn put_item(alloc: Global, out: &mut Vec<u8>, name: &str, count: u64) -> Result<
     put_count(alloc, out, count)
 }
 
-fn put_tested(alloc: Global, out: &mut Vec<u8>, rules: &RuleCounts) -> Result<(), AllocError> {
+fn put_tested(alloc: Global, out: &mut Vec<u8>, rules: &RuleCounts) -> Result<(), AllocError>
+    ensures { OnOk result (Extends out.old.items out.new.items) }
+{
     put(out, "put to the test: ")?;
     for rule in ALL {
         put_item(alloc, out, rule_name(rule), rules.of(rule))?;
@@ -196,7 +233,9 @@ fn put_tested(alloc: Global, out: &mut Vec<u8>, rules: &RuleCounts) -> Result<()
     put(out, "\n")
 }
 
-fn put_untested(out: &mut Vec<u8>, rules: &RuleCounts) -> Result<(), AllocError> {
+fn put_untested(out: &mut Vec<u8>, rules: &RuleCounts) -> Result<(), AllocError>
+    ensures { OnOk result (Extends out.old.items out.new.items) }
+{
     put(out, "not put to the test: ")?;
     for rule in ALL {
         put_missing(out, rule, rules)?;
@@ -204,7 +243,9 @@ fn put_untested(out: &mut Vec<u8>, rules: &RuleCounts) -> Result<(), AllocError>
     put(out, "\n")
 }
 
-fn put_missing(out: &mut Vec<u8>, rule: ExactRule, rules: &RuleCounts) -> Result<(), AllocError> {
+fn put_missing(out: &mut Vec<u8>, rule: ExactRule, rules: &RuleCounts) -> Result<(), AllocError>
+    ensures { OnOk result (Extends out.old.items out.new.items) }
+{
     if rules.of(rule) > 0 {
         return Ok(());
     }

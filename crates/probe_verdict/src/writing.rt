@@ -1,5 +1,11 @@
 //! How values are written.
 
+ghost use Rattle.std.specs.Prelude.{◌≡◌, ◌++◌, [], ◌∷◌, OnOk, codes, if◌then◌else◌};
+ghost use Rattle.std.specs.Fmt.{signed_decimal};
+ghost use Rattle.std.specs.Option.{option_copied};
+ghost use Rattle.probe_verdict.specs.Texts.{Extends, count_text, ends_group};
+ghost use Rattle.probe_verdict.specs.Values.{comm_of, subject_text, task_text, timer_word, value_text, whose_text};
+
 use crate::heading::NamedTask;
 use exact_words::{ExactValue, Subject, Whose};
 use grub_text::put_number;
@@ -7,19 +13,25 @@ use std::alloc::{AllocError, Global};
 use trace_words::TimerFunction;
 
 /// Appends a text.
-pub(crate) fn put(out: &mut Vec<u8>, text: &str) -> Result<(), AllocError> {
+pub(crate) fn put(out: &mut Vec<u8>, text: &str) -> Result<(), AllocError>
+    ensures { OnOk result (out.new.items ≡ out.old.items ++ text.now) }
+{
     out.extend_from_slice(text.as_bytes())?;
     Ok(())
 }
 
 /// Appends bytes as they are.
-pub(crate) fn put_bytes(out: &mut Vec<u8>, bytes: &[u8]) -> Result<(), AllocError> {
+pub(crate) fn put_bytes(out: &mut Vec<u8>, bytes: &[u8]) -> Result<(), AllocError>
+    ensures { OnOk result (out.new.items ≡ out.old.items ++ bytes.now) }
+{
     out.extend_from_slice(bytes)?;
     Ok(())
 }
 
 /// Appends a comma, but behind a space.
-pub(crate) fn put_comma(out: &mut Vec<u8>) -> Result<(), AllocError> {
+pub(crate) fn put_comma(out: &mut Vec<u8>) -> Result<(), AllocError>
+    ensures { OnOk result (Extends out.old.items out.new.items) }
+{
     if out.last() == Some(&b' ') {
         Ok(())
     } else {
@@ -28,12 +40,16 @@ pub(crate) fn put_comma(out: &mut Vec<u8>) -> Result<(), AllocError> {
 }
 
 /// Whether a comma stands before the last so many digits of a number.
-fn ends_group(left: usize) -> bool {
+fn ends_group(left: usize) -> bool
+    ensures { result ≡ ends_group left }
+{
     left == 3 || left == 6 || left == 9 || left == 12 || left == 15 || left == 18
 }
 
 /// Appends a number with commas, as 17,275.
-pub(crate) fn put_count(alloc: Global, out: &mut Vec<u8>, n: u64) -> Result<(), AllocError> {
+pub(crate) fn put_count(alloc: Global, out: &mut Vec<u8>, n: u64) -> Result<(), AllocError>
+    ensures { OnOk result (out.new.items ≡ out.old.items ++ count_text n) }
+{
     let text = format!(in alloc; "{n}")?;
     let digits = text.as_bytes();
     for (i, digit) in digits.iter().enumerate() {
@@ -42,7 +58,10 @@ pub(crate) fn put_count(alloc: Global, out: &mut Vec<u8>, n: u64) -> Result<(), 
     Ok(())
 }
 
-fn put_digit(out: &mut Vec<u8>, digit: u8, follows_comma: bool) -> Result<(), AllocError> {
+fn put_digit(out: &mut Vec<u8>, digit: u8, follows_comma: bool) -> Result<(), AllocError>
+    ensures { OnOk result (out.new.items
+        ≡ out.old.items ++ (if follows_comma then codes "," else []) ++ digit ∷ []) }
+{
     if follows_comma {
         out.push(b',')?;
     }
@@ -51,7 +70,9 @@ fn put_digit(out: &mut Vec<u8>, digit: u8, follows_comma: bool) -> Result<(), Al
 }
 
 /// A moment in seconds, as 9.376552000.
-pub(crate) fn put_seconds(alloc: Global, out: &mut Vec<u8>, nanos: u64) -> Result<(), AllocError> {
+pub(crate) fn put_seconds(alloc: Global, out: &mut Vec<u8>, nanos: u64) -> Result<(), AllocError>
+    ensures { OnOk result (Extends out.old.items out.new.items) }
+{
     let whole = nanos / 1_000_000_000;
     let part = nanos % 1_000_000_000;
     let text = format!(in alloc; "{whole}.{part:09}")?;
@@ -59,7 +80,9 @@ pub(crate) fn put_seconds(alloc: Global, out: &mut Vec<u8>, nanos: u64) -> Resul
 }
 
 /// The comm of a task, if a record shows it.
-fn comm_of(names: &[NamedTask], pid: u64) -> Option<&[u8]> {
+fn comm_of(names: &[NamedTask], pid: u64) -> Option<&[u8]>
+    ensures { option_copied result ≡ comm_of names.now pid }
+{
     for name in names {
         if name.pid == pid {
             return Some(name.comm.as_slice());
@@ -74,7 +97,9 @@ fn put_task(
     out: &mut Vec<u8>,
     pid: u64,
     names: &[NamedTask],
-) -> Result<(), AllocError> {
+) -> Result<(), AllocError>
+    ensures { OnOk result (out.new.items ≡ out.old.items ++ task_text (comm_of names.now pid) pid) }
+{
     match comm_of(names, pid) {
         Some(comm) => {
             put_bytes(out, comm)?;
@@ -94,7 +119,9 @@ pub(crate) fn put_whose(
     out: &mut Vec<u8>,
     whose: Whose,
     names: &[NamedTask],
-) -> Result<(), AllocError> {
+) -> Result<(), AllocError>
+    ensures { OnOk result (out.new.items ≡ out.old.items ++ whose_text names.now whose) }
+{
     match whose {
         Whose::Server { cpu } => {
             let text = format!(in alloc; "the fair server of CPU {cpu}")?;
@@ -110,7 +137,9 @@ pub(crate) fn put_subject(
     out: &mut Vec<u8>,
     subject: Subject,
     names: &[NamedTask],
-) -> Result<(), AllocError> {
+) -> Result<(), AllocError>
+    ensures { OnOk result (out.new.items ≡ out.old.items ++ subject_text names.now subject) }
+{
     match subject {
         Subject::Entity(whose) => put_whose(alloc, out, whose, names),
         Subject::Runqueue(cpu) => {
@@ -121,7 +150,9 @@ pub(crate) fn put_subject(
     }
 }
 
-fn timer_name(function: TimerFunction) -> &'static str {
+fn timer_name(function: TimerFunction) -> &'static str
+    ensures { result.now ≡ timer_word function }
+{
     match function {
         TimerFunction::ZeroLag => "inactive_task_timer",
         TimerFunction::Replenish => "dl_task_timer",
@@ -130,7 +161,9 @@ fn timer_name(function: TimerFunction) -> &'static str {
 }
 
 /// Appends a number below 0 or not.
-fn put_signed(alloc: Global, out: &mut Vec<u8>, n: i64) -> Result<(), AllocError> {
+fn put_signed(alloc: Global, out: &mut Vec<u8>, n: i64) -> Result<(), AllocError>
+    ensures { OnOk result (out.new.items ≡ out.old.items ++ signed_decimal n) }
+{
     let text = format!(in alloc; "{n}")?;
     put(out, text.as_str())
 }
@@ -141,7 +174,9 @@ pub(crate) fn put_value(
     out: &mut Vec<u8>,
     value: ExactValue,
     names: &[NamedTask],
-) -> Result<(), AllocError> {
+) -> Result<(), AllocError>
+    ensures { OnOk result (out.new.items ≡ out.old.items ++ value_text names.now value) }
+{
     match value {
         ExactValue::Unsigned(n) => put_number(out, b"", n),
         ExactValue::Signed(n) => put_signed(alloc, out, n),
@@ -154,7 +189,9 @@ pub(crate) fn put_value(
     }
 }
 
-fn put_no(out: &mut Vec<u8>, name: &str) -> Result<(), AllocError> {
+fn put_no(out: &mut Vec<u8>, name: &str) -> Result<(), AllocError>
+    ensures { OnOk result (out.new.items ≡ out.old.items ++ (codes "no " ++ name.now)) }
+{
     put(out, "no ")?;
     put(out, name)
 }

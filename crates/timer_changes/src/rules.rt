@@ -1,7 +1,8 @@
 //! What a line of a record does to a task, with one rule changed.
 
-ghost use Rattle.std.specs.Prelude.{◌≡◌, ℕ, not, IsTrue};
+ghost use Rattle.std.specs.Prelude.{◌≡◌, Some, not, IsTrue};
 ghost use Rattle.deadline_rules.specs.Budget.{replenished_of};
+ghost use Rattle.rule_changes.specs.Charges.{cost_with};
 ghost use Rattle.timer_changes.specs.Changed.{block_difference_by, blocks_by, charged_with, is_of_replenishments, moved_as_wake, start_answer_by, waits_by, waking_with, with_period_of, with_wait_of};
 ghost use Rattle.timer_rules.specs.Tasks.{refilled_of, refills_of, replenished_by};
 
