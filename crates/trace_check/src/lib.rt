@@ -1,6 +1,8 @@
 //! The program's part of `grubtrace check`: a record is read, played and judged; its faults, and its answers.
 #![tactic(auto)]
 
+mod by_probes;
+mod by_timers;
 mod check;
 mod fault;
 mod files;
@@ -8,6 +10,7 @@ mod gathering;
 mod head;
 mod names;
 mod probes;
+mod reading;
 mod showing;
 mod why;
 

@@ -1,6 +1,10 @@
 //! The command line of `grubtrace check`.
 
-use crate::plain::{PlainOption, option, with_options};
+ghost use Rattle.std.specs.Prelude.{IfOk, codes};
+ghost use Rattle.trace_command.specs.CommandLine.{check_arguments, comparison_options, flag, kernel_options, option, option_or, repeated, recorded_options, trace_argument};
+ghost use Rattle.trace_command.specs.inside.Arguments.{Adds, Is, IsCommand};
+
+use crate::plain::{PlainOption, command_of, option, with_options};
 use crate::texts::AFTER_CHECK;
 use check_settings::CPUS;
 use clap::{Arg, ArgAction, Command, value_parser};
@@ -38,7 +42,9 @@ const WRITTEN: &[PlainOption] = &[
     },
 ];
 
-fn task_arg<'a>(alloc: Global) -> Arg<'a> {
+fn task_arg<'a>(alloc: Global) -> Arg<'a>
+    ensures { Is (repeated (codes "task")) result }
+{
     option(
         alloc,
         "task",
@@ -48,7 +54,9 @@ fn task_arg<'a>(alloc: Global) -> Arg<'a> {
     .action(ArgAction::Append)
 }
 
-fn cpus_arg<'a>(alloc: Global) -> Arg<'a> {
+fn cpus_arg<'a>(alloc: Global) -> Arg<'a>
+    ensures { Is (option (codes "cpus")) result }
+{
     option(
         alloc,
         "cpus",
@@ -58,7 +66,9 @@ fn cpus_arg<'a>(alloc: Global) -> Arg<'a> {
     .value_parser(value_parser!(u32).range(1..i64::from(CPUS) + 1))
 }
 
-fn domain_arg<'a>(alloc: Global) -> Arg<'a> {
+fn domain_arg<'a>(alloc: Global) -> Arg<'a>
+    ensures { Is (option (codes "domain")) result }
+{
     option(
         alloc,
         "domain",
@@ -67,7 +77,9 @@ fn domain_arg<'a>(alloc: Global) -> Arg<'a> {
     )
 }
 
-fn rt_arg<'a>(alloc: Global) -> Arg<'a> {
+fn rt_arg<'a>(alloc: Global) -> Arg<'a>
+    ensures { Is (option (codes "rt")) result }
+{
     option(
         alloc,
         "rt",
@@ -77,7 +89,9 @@ fn rt_arg<'a>(alloc: Global) -> Arg<'a> {
     .allow_hyphen_values(true)
 }
 
-fn kernel_arg<'a>(alloc: Global) -> Arg<'a> {
+fn kernel_arg<'a>(alloc: Global) -> Arg<'a>
+    ensures { Is (option (codes "kernel")) result }
+{
     option(
         alloc,
         "kernel",
@@ -86,7 +100,9 @@ fn kernel_arg<'a>(alloc: Global) -> Arg<'a> {
     )
 }
 
-fn within_arg<'a>(alloc: Global) -> Arg<'a> {
+fn within_arg<'a>(alloc: Global) -> Arg<'a>
+    ensures { Is (option_or (codes "within") (codes "20")) result }
+{
     option(
         alloc,
         "within",
@@ -97,7 +113,9 @@ fn within_arg<'a>(alloc: Global) -> Arg<'a> {
     .default_value("20")
 }
 
-fn by_arg<'a>(alloc: Global) -> Arg<'a> {
+fn by_arg<'a>(alloc: Global) -> Arg<'a>
+    ensures { Is (option_or (codes "by") (codes "kernel")) result }
+{
     option(
         alloc,
         "by",
@@ -108,14 +126,18 @@ fn by_arg<'a>(alloc: Global) -> Arg<'a> {
     .default_value("kernel")
 }
 
-fn timers_arg<'a>(alloc: Global) -> Arg<'a> {
+fn timers_arg<'a>(alloc: Global) -> Arg<'a>
+    ensures { Is (flag (codes "timers")) result }
+{
     Arg::new(alloc, "timers")
         .long("timers")
         .help("Compares timers, also where the record has lines of probes")
         .action(ArgAction::SetTrue)
 }
 
-fn why_arg<'a>(alloc: Global) -> Arg<'a> {
+fn why_arg<'a>(alloc: Global) -> Arg<'a>
+    ensures { Is (flag (codes "why")) result }
+{
     Arg::new(alloc, "why")
         .long("why")
         .help("Names the one changed rule that explains a record of probes that differs")
@@ -123,7 +145,9 @@ fn why_arg<'a>(alloc: Global) -> Arg<'a> {
 }
 
 /// The options that say which runqueues and tasks were recorded.
-fn with_tasks<'a>(alloc: Global, command: Command<'a>) -> Result<Command<'a>, AllocError> {
+fn with_tasks<'a>(alloc: Global, command: Command<'a>) -> Result<Command<'a>, AllocError>
+    ensures { IfOk result (Adds recorded_options command.entry) }
+{
     command
         .arg(task_arg(alloc))?
         .arg(cpus_arg(alloc))?
@@ -135,7 +159,10 @@ fn with_kernel<'a>(
     alloc: Global,
     command: Command<'a>,
     fair_server: Arg<'a>,
-) -> Result<Command<'a>, AllocError> {
+) -> Result<Command<'a>, AllocError>
+    requires { Is (option (codes "fair-server")) fair_server }
+    ensures { IfOk result (Adds kernel_options command.entry) }
+{
     command
         .arg(rt_arg(alloc))?
         .arg(fair_server)?
@@ -143,7 +170,9 @@ fn with_kernel<'a>(
 }
 
 /// Those that say what is compared with what.
-fn with_comparison<'a>(alloc: Global, command: Command<'a>) -> Result<Command<'a>, AllocError> {
+fn with_comparison<'a>(alloc: Global, command: Command<'a>) -> Result<Command<'a>, AllocError>
+    ensures { IfOk result (Adds comparison_options command.entry) }
+{
     command
         .arg(within_arg(alloc))?
         .arg(by_arg(alloc))?
@@ -156,10 +185,17 @@ pub(crate) fn check_command<'a>(
     alloc: Global,
     fair_server: Arg<'a>,
     trace: Arg<'a>,
-) -> Result<Command<'a>, AllocError> {
-    let command = Command::new(alloc, "check")
-        .about("Says whether the kernel accounted as its rules say")
-        .after_help(AFTER_CHECK);
+) -> Result<Command<'a>, AllocError>
+    requires fair_server { Is (option (codes "fair-server")) fair_server }
+    requires trace { Is trace_argument trace }
+    ensures { IfOk result (IsCommand (codes "check") check_arguments) }
+{
+    let command = command_of(
+        alloc,
+        "check",
+        "Says whether the kernel accounted as its rules say",
+        AFTER_CHECK,
+    );
     let command = with_tasks(alloc, command)?;
     let command = with_kernel(alloc, command, fair_server)?;
     let command = with_comparison(alloc, command)?;

@@ -1,19 +1,27 @@
 //! The commands, and the options of all but `check`.
 
+ghost use Rattle.std.specs.Prelude.{◌≡◌, IfOk, [], ◌∷◌, codes, false};
+ghost use Rattle.trace_command.specs.CommandLine.{IsProgram, commands, events_arguments, needed, option, option_or, repeated, size_arguments, sizing_options, tasks_arguments, trace_argument};
+ghost use Rattle.trace_command.specs.inside.Arguments.{Adds, Is, IsCommand, given};
+
 use crate::check_command::check_command;
-use crate::plain::option;
+use crate::plain::{command_of, option};
 use crate::texts::{AFTER_EVENTS, AFTER_HELP, AFTER_SIZE, AFTER_TASKS, VERSION};
 use clap::{Arg, ArgAction, Command, value_parser};
 use std::alloc::{AllocError, Global};
 use trace_line::CPUS_MAX;
 
-fn trace_arg<'a>(alloc: Global) -> Arg<'a> {
+fn trace_arg<'a>(alloc: Global) -> Arg<'a>
+    ensures { Is trace_argument result }
+{
     Arg::new(alloc, "TRACE")
         .help("Text of a kernel's trace, of tracefs or perf script; - is standard input")
         .required(true)
 }
 
-fn task_arg<'a>(alloc: Global) -> Arg<'a> {
+fn task_arg<'a>(alloc: Global) -> Arg<'a>
+    ensures { Is (repeated (codes "task")) result }
+{
     option(
         alloc,
         "task",
@@ -23,7 +31,9 @@ fn task_arg<'a>(alloc: Global) -> Arg<'a> {
     .action(ArgAction::Append)
 }
 
-fn cpus_arg<'a>(alloc: Global) -> Arg<'a> {
+fn cpus_arg<'a>(alloc: Global) -> Arg<'a>
+    ensures { Is (option (codes "cpus")) result }
+{
     option(
         alloc,
         "cpus",
@@ -33,7 +43,9 @@ fn cpus_arg<'a>(alloc: Global) -> Arg<'a> {
     .value_parser(value_parser!(u32).range(1..i64::from(CPUS_MAX) + 1))
 }
 
-fn rt_arg<'a>(alloc: Global) -> Arg<'a> {
+fn rt_arg<'a>(alloc: Global) -> Arg<'a>
+    ensures { Is (option (codes "rt")) result }
+{
     option(
         alloc,
         "rt",
@@ -42,7 +54,9 @@ fn rt_arg<'a>(alloc: Global) -> Arg<'a> {
     )
 }
 
-fn fair_arg<'a>(alloc: Global) -> Arg<'a> {
+fn fair_arg<'a>(alloc: Global) -> Arg<'a>
+    ensures { Is (option (codes "fair-server")) result }
+{
     option(
         alloc,
         "fair-server",
@@ -51,7 +65,9 @@ fn fair_arg<'a>(alloc: Global) -> Arg<'a> {
     )
 }
 
-fn out_arg<'a>(alloc: Global) -> Arg<'a> {
+fn out_arg<'a>(alloc: Global) -> Arg<'a>
+    ensures { Is (needed (codes "out")) result }
+{
     option(
         alloc,
         "out",
@@ -61,7 +77,9 @@ fn out_arg<'a>(alloc: Global) -> Arg<'a> {
     .required(true)
 }
 
-fn sized_task_arg<'a>(alloc: Global) -> Arg<'a> {
+fn sized_task_arg<'a>(alloc: Global) -> Arg<'a>
+    ensures { Is (repeated (codes "task")) result }
+{
     option(
         alloc,
         "task",
@@ -71,7 +89,9 @@ fn sized_task_arg<'a>(alloc: Global) -> Arg<'a> {
     .action(ArgAction::Append)
 }
 
-fn task_within_arg<'a>(alloc: Global) -> Arg<'a> {
+fn task_within_arg<'a>(alloc: Global) -> Arg<'a>
+    ensures { Is (repeated (codes "within")) result }
+{
     option(
         alloc,
         "within",
@@ -81,13 +101,17 @@ fn task_within_arg<'a>(alloc: Global) -> Arg<'a> {
     .action(ArgAction::Append)
 }
 
-fn late_arg<'a>(alloc: Global) -> Arg<'a> {
+fn late_arg<'a>(alloc: Global) -> Arg<'a>
+    ensures { Is (option_or (codes "late") (codes "0")) result }
+{
     option(alloc, "late", "N", "How many jobs of each task may be late")
         .value_parser(value_parser!(u32).range(0..4294967296))
         .default_value("0")
 }
 
-fn margin_arg<'a>(alloc: Global) -> Arg<'a> {
+fn margin_arg<'a>(alloc: Global) -> Arg<'a>
+    ensures { Is (option_or (codes "margin") (codes "10")) result }
+{
     option(
         alloc,
         "margin",
@@ -98,7 +122,21 @@ fn margin_arg<'a>(alloc: Global) -> Arg<'a> {
     .default_value("10")
 }
 
-fn picture_arg<'a>(alloc: Global) -> Arg<'a> {
+fn sized_rt_arg<'a>(alloc: Global) -> Arg<'a>
+    ensures { Is (option_or (codes "rt") (codes "950000:1000000")) result }
+{
+    rt_arg(alloc).default_value("950000:1000000")
+}
+
+fn sized_fair_arg<'a>(alloc: Global) -> Arg<'a>
+    ensures { Is (option_or (codes "fair-server") (codes "50000:1000000")) result }
+{
+    fair_arg(alloc).default_value("50000:1000000")
+}
+
+fn picture_arg<'a>(alloc: Global) -> Arg<'a>
+    ensures { Is (option (codes "picture")) result }
+{
     option(
         alloc,
         "picture",
@@ -107,11 +145,16 @@ fn picture_arg<'a>(alloc: Global) -> Arg<'a> {
     )
 }
 
-fn tasks_command<'a>(alloc: Global) -> Result<Command<'a>, AllocError> {
-    Command::new(alloc, "tasks")
-        .about("Prints the SCHED_DEADLINE tasks that a trace shows, and what they reserve")
-        .after_help(AFTER_TASKS)
-        .arg(trace_arg(alloc))
+fn tasks_command<'a>(alloc: Global) -> Result<Command<'a>, AllocError>
+    ensures { IfOk result (IsCommand (codes "tasks") tasks_arguments) }
+{
+    command_of(
+        alloc,
+        "tasks",
+        "Prints the SCHED_DEADLINE tasks that a trace shows, and what they reserve",
+        AFTER_TASKS,
+    )
+    .arg(trace_arg(alloc))
 }
 
 /// The options that say how many runqueues there are, and what the kernel reserves there. Each stands above the trace's notes.
@@ -120,22 +163,34 @@ fn with_runqueues<'a>(
     command: Command<'a>,
     rt: Arg<'a>,
     fair_server: Arg<'a>,
-) -> Result<Command<'a>, AllocError> {
+) -> Result<Command<'a>, AllocError>
+    requires rt { rt.global ≡ false }
+    requires fair_server { fair_server.global ≡ false }
+    ensures { IfOk result (Adds
+        (option (codes "cpus") ∷ given rt.entry ∷ given fair_server.entry ∷ []) command.entry) }
+{
     command.arg(cpus_arg(alloc))?.arg(rt)?.arg(fair_server)
 }
 
-fn events_command<'a>(alloc: Global) -> Result<Command<'a>, AllocError> {
-    let command = Command::new(alloc, "events")
-        .about("Writes the event files that a trace tells")
-        .after_help(AFTER_EVENTS)
-        .arg(task_arg(alloc))?;
+fn events_command<'a>(alloc: Global) -> Result<Command<'a>, AllocError>
+    ensures { IfOk result (IsCommand (codes "events") events_arguments) }
+{
+    let command = command_of(
+        alloc,
+        "events",
+        "Writes the event files that a trace tells",
+        AFTER_EVENTS,
+    )
+    .arg(task_arg(alloc))?;
     with_runqueues(alloc, command, rt_arg(alloc), fair_arg(alloc))?
         .arg(out_arg(alloc))?
         .arg(trace_arg(alloc))
 }
 
 /// The options that say how a task is sized.
-fn with_sizing<'a>(alloc: Global, command: Command<'a>) -> Result<Command<'a>, AllocError> {
+fn with_sizing<'a>(alloc: Global, command: Command<'a>) -> Result<Command<'a>, AllocError>
+    ensures { IfOk result (Adds sizing_options command.entry) }
+{
     command
         .arg(sized_task_arg(alloc))?
         .arg(task_within_arg(alloc))?
@@ -143,28 +198,39 @@ fn with_sizing<'a>(alloc: Global, command: Command<'a>) -> Result<Command<'a>, A
         .arg(margin_arg(alloc))
 }
 
-fn size_command<'a>(alloc: Global) -> Result<Command<'a>, AllocError> {
-    let command = Command::new(alloc, "size")
-        .about("Lists the tasks of a trace, of any class, or says which reservations they need")
-        .after_help(AFTER_SIZE);
+fn size_command<'a>(alloc: Global) -> Result<Command<'a>, AllocError>
+    ensures { IfOk result (IsCommand (codes "size") size_arguments) }
+{
+    let command = command_of(
+        alloc,
+        "size",
+        "Lists the tasks of a trace, of any class, or says which reservations they need",
+        AFTER_SIZE,
+    );
     let command = with_sizing(alloc, command)?;
-    let rt = rt_arg(alloc).default_value("950000:1000000");
-    let fair_server = fair_arg(alloc).default_value("50000:1000000");
-    with_runqueues(alloc, command, rt, fair_server)?
+    with_runqueues(alloc, command, sized_rt_arg(alloc), sized_fair_arg(alloc))?
         .arg(picture_arg(alloc))?
         .arg(trace_arg(alloc))
 }
 
-/// The command line of `grubtrace`, with its commands `tasks`, `events`, `check` and `size`. `AllocError` is want of memory.
-pub fn command_line<'a>(alloc: Global) -> Result<Command<'a>, AllocError> {
-    let command = Command::new(alloc, "grubtrace")
+/// The program, with no command yet.
+fn program<'a>(alloc: Global) -> Command<'a>
+    ensures { IsProgram [] result }
+{
+    Command::new(alloc, "grubtrace")
         .version(VERSION)
         .about(
             "Reads kernel traces of SCHED_DEADLINE tasks, up to a verdict on the kernel's accounting",
         )
         .after_help(AFTER_HELP)
-        .subcommand_required(true);
-    command
+        .subcommand_required(true)
+}
+
+/// The command line of `grubtrace`, with its commands `tasks`, `events`, `check` and `size`. `AllocError` is want of memory.
+pub fn command_line<'a>(alloc: Global) -> Result<Command<'a>, AllocError>
+    ensures { IfOk result (IsProgram commands) }
+{
+    program(alloc)
         .subcommand(tasks_command(alloc)?)?
         .subcommand(events_command(alloc)?)?
         .subcommand(check_command(alloc, fair_arg(alloc), trace_arg(alloc))?)?

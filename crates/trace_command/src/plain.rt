@@ -1,4 +1,8 @@
-//! Options that take a value, and nothing more is asked of it here.
+//! Commands as they begin, and options that take a value, and nothing more is asked of it here.
+
+ghost use Rattle.std.specs.Prelude.{IfOk, [], map};
+ghost use Rattle.trace_command.specs.CommandLine.{option};
+ghost use Rattle.trace_command.specs.inside.Arguments.{Adds, Is, IsCommand};
 
 use clap::{Arg, Command};
 use std::alloc::{AllocError, Global};
@@ -16,11 +20,27 @@ pub(crate) fn option<'a>(
     name: &'static str,
     value: &'static str,
     help: &'static str,
-) -> Arg<'a> {
+) -> Arg<'a>
+    ensures { Is (option name.now) result }
+{
     Arg::new(alloc, name)
         .long(name)
         .value_name(value)
         .help(help)
+}
+
+/// A command with its texts, and no argument yet.
+pub(crate) fn command_of<'a>(
+    alloc: Global,
+    name: &'static str,
+    about: &'static str,
+    after_help: &'static str,
+) -> Command<'a>
+    ensures { IsCommand name.now [] result }
+{
+    Command::new(alloc, name)
+        .about(about)
+        .after_help(after_help)
 }
 
 /// Adds options, in this order.
@@ -28,7 +48,9 @@ pub(crate) fn with_options<'a>(
     alloc: Global,
     mut command: Command<'a>,
     options: &[PlainOption],
-) -> Result<Command<'a>, AllocError> {
+) -> Result<Command<'a>, AllocError>
+    ensures { IfOk result (Adds (map (λ o. option o.name.now) options.now) command.entry) }
+{
     for it in options {
         command = command.arg(option(alloc, it.name, it.value, it.help))?;
     }
