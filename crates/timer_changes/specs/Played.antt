@@ -15,8 +15,9 @@ use Rattle.deadline_timers.specs.declared.machine.Owner.{Owner}
 use Rattle.deadline_timers.specs.declared.machine.Owner.TheVariants.{Server, Task}
 use Rattle.deadline_timers.specs.Events.{edited, step_in}
 use Rattle.deadline_timers.specs.Notes.{told_in}
-use Rattle.deadline_timers.specs.States.{State, owner_at, replaced}
+use Rattle.deadline_timers.specs.States.{State, owner_at, replaced, runqueue_for}
 use Rattle.deadline_timers.specs.Turns.{at_run_of, runs_of, wakes_of}
+use Rattle.rule_changes.specs.Charges.{cost_with}
 use Rattle.rule_changes.specs.declared.change.RuleChange.{RuleChange}
 use Rattle.rule_changes.specs.declared.change.RuleChange.TheVariants.{PastRunsOn, AdmissionTakesNothing, ChangeFreesNothing, EndFreesNothing, LeavingFreesNothing}
 use Rattle.timer_changes.specs.Changed.{charged_with, moved_as_wake, start_answer_by, waking_with}
@@ -117,12 +118,17 @@ leaves_running _ before t _ = false
 abbrev pub running_on : RuleChange → ℕ → DeadlineTask → DeadlineTask → Stop → State → State
 running_on c n before t stop m = if leaves_running c before t stop then replaced n (record t { activity = NonContending }) m else m
 
+-- a task is charged by the changed rule
+abbrev pub charged_on : RuleChange → ChargeLaw → DeadlineTask → ℕ → ℕ → State → DeadlineTask
+charged_on c law t at nanos m = charged_with t at (cost_with (Some c) law t.entity (runqueue_for t.cpu m) nanos)
+
 -- a task that runs is charged, after a budget that was used up is filled at once
-abbrev pub running_with : Option DeadlineTask → KeptLine → ℕ → ℕ → State → State
-running_with (Some t) k n cost m =
+abbrev pub running_by : RuleChange → ChargeLaw → Option DeadlineTask → KeptLine → ℕ → ℕ → State → State
+running_by c law (Some t) k n nanos m =
     let shown = at_run_of t k in
-    if runs_of shown then replaced n (charged_with (refilled_at_once shown) k.at cost) (replaced n shown m) else replaced n shown m
-running_with None k n cost m = m
+    let next = replaced n shown m in
+    if runs_of shown then replaced n (charged_on c law (refilled_at_once shown) k.at nanos next) next else next
+running_by c law None k n nanos m = m
 
 -- a task is switched out, after a budget that was used up is filled
 abbrev pub switched_on : RuleChange → ℕ → DeadlineTask → Option DeadlineTask → Stop → State → State

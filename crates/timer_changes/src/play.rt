@@ -7,7 +7,7 @@ ghost use Rattle.deadline_timers.specs.Playing.{left_after};
 ghost use Rattle.deadline_timers.specs.States.{owner_at, state_of};
 ghost use Rattle.deadline_timers.specs.Turns.{runs_of};
 ghost use Rattle.timer_changes.specs.Changed.{block_difference_by, is_of_replenishments};
-ghost use Rattle.timer_changes.specs.Played.{GoesOn, Wakes, differs_by, firing_by, moving_by, quieted, refilled_at_once, running_on, running_with, served_on, starting_by, switching_by, taking_after, taking_by, told_until_by};
+ghost use Rattle.timer_changes.specs.Played.{GoesOn, Wakes, differs_by, firing_by, moving_by, quieted, refilled_at_once, running_by, running_on, served_on, starting_by, switching_by, taking_after, taking_by, told_until_by};
 ghost use Rattle.timer_rules.specs.declared.observation.ObservedAnswer.{ObservedAnswer};
 ghost use Rattle.timer_rules.specs.Observations.{block_answer_of};
 
@@ -244,9 +244,9 @@ impl Play {
         nanos: u64,
     ) -> Result<(), AllocError>
         ensures charge { IsTrue (not (is_of_replenishments self.old.change)) → OnOk result
-            ((cost : ℕ) × (let m = step_in lines.now.tasks.items (quieted kept)
-            (state_of self.old.machine) in state_of self.new.machine
-            ≡ running_with (slice_get m.tasks number) kept number cost m)) }
+            (let m = step_in lines.now.tasks.items (quieted kept) (state_of self.old.machine) in
+            state_of self.new.machine ≡ running_by self.old.change self.old.setup.law
+            (slice_get m.tasks number) kept number nanos m) }
         ensures rest { GoesOn self.old self.new }
     {
         self.machine.step(lines, quiet(kept))?;
