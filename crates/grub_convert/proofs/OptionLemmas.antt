@@ -1,25 +1,14 @@
 -- What the words of options say.
-use Rattle.std.proofs.Common.{◌≡◌, ℕ, zero, suc, ◌+◌, ◌-◌, ◌^◌, ◌<◌, ◌≤◌, true, ◌||◌, List, [], ◌∷◌, map, length, take, drop, get_or, if◌then◌else◌, ◌++◌, false, Option, Some, None, MatchOption, Result, Ok, Err, Bor, refl, sym, ap, ◌∙◌, ⊎_elim, arith, eq-eqb, ne_eqb, get_or-drop, length-drop, option_map}
+use Rattle.std.proofs.Common.{◌≡◌, ℕ, ◌+◌, ◌<◌, true, ◌||◌, List, [], ◌∷◌, map, length, drop, get_or, if◌then◌else◌, ◌++◌, false, Some, None, Bor, refl, sym, ap, ◌∙◌}
 use Rattle.std.specs.Option.{option_and_then}
 use Rattle.std.proofs.lemmas.List.{at_drop_more, map-append}
-use Rattle.std.specs.Char.{is_ascii_digit}
-use Rattle.std.specs.List.{list_all, list_any}
+use Rattle.std.specs.List.{list_any}
 use Rattle.std.specs.Str.{bytes_eq}
-use Rattle.std.specs.Result.{OkIff, result_ok}
-use Rattle.std.proofs.lemmas.Bool.Decides.{nat_tests}
-use Rattle.std.specs.Path.{rfind_below, rsplit_once}
-use Rattle.std.specs.Str.Parse.{ParsesUnsigned}
-use Rattle.std.specs.Str.Pattern.{RFindsChar}
-use Rattle.std.proofs.lemmas.Bool.{cases_eq, cond-true, cond-false}
-use Rattle.std.proofs.lemmas.Str.{len_utf8_ascii}
-use Rattle.std.proofs.lemmas.Str.Pattern.{NoCharPasses-char}
-use Rattle.std.proofs.lemmas.Str.Parse.{parse_digits}
-use Rattle.grub_text.proofs.Digits.{numerals}
-use Rattle.grub_text.specs.Digits.{value}
+use Rattle.std.proofs.lemmas.Bool.{cond-true, cond-false}
 use Rattle.trace_line.specs.Words.{text_of}
-use Rattle.grub_convert.specs.Options.{Task, given_task, has_name, number_in, task_in, tasks_on}
+use Rattle.grub_convert.specs.Options.{Task, given_task, has_name, task_in, tasks_on}
 use Rattle.grub_convert.specs.declared.options.TaskReservation.{TaskReservation}
-use Rattle.grub_convert.specs.inside.Words.{is_named, texts_of}
+use Rattle.grub_convert.specs.inside.Words.{is_named}
 
 -- a name among tasks, as the code looks for it
 pub same_names : (name : List ℕ) (tasks : List TaskReservation) → list_any (is_named name) tasks ≡ has_name name (map given_task tasks)
