@@ -63,6 +63,8 @@ class Task:
             found = next((int(it[0]) for it in rows if "the least" in it[2]), None)
             if found != least or (found is None) != ("no runtime is enough" in report):
                 yield f"{self.jobs}: the least with {allowed} late is {found}, wanted {least}: {report[:300]}"
+            if found is None and f"  with the whole period {late[-1]} of {len(self.jobs)} jobs may be late" not in report:
+                yield f"{self.jobs}: with the whole period {late[-1]} may be late: {report[:300]}"
             yield from (f"{self.jobs}: row {it}" for it in rows if int(it[1]) != late[int(it[0]) - 1])
             if rows and not any(int(it[0]) == self.given and "given" in it[2] for it in rows):
                 yield f"{self.jobs}: no row of the given runtime {self.given}"

@@ -1,7 +1,8 @@
 -- The strokes of a task's two panels: bars, a curve, and lines at runtimes.
-use Rattle.std.specs.Prelude.{ℕ, ◌+◌, ◌-◌, ◌*◌, ◌/◌, ◌==◌, min, max, List, [], ◌∷◌, ◌++◌, length, map, if◌then◌else◌}
+use Rattle.std.specs.Prelude.{ℕ, ◌+◌, ◌-◌, ◌*◌, ◌/◌, ◌==◌, min, max, List, [], ◌∷◌, ◌++◌, Option, None, Some, length, map, if◌then◌else◌}
 use Rattle.size_picture.specs.declared.column.Column.{Column}
 use Rattle.size_picture.specs.declared.panel.Panel.{Panel}
+use Rattle.size_picture.specs.declared.panel.PanelRuntimes.{PanelRuntimes}
 use Rattle.size_picture.specs.declared.stroke.StrokeLook.{StrokeLook}
 use Rattle.size_picture.specs.declared.stroke.StrokeLook.TheVariants.{Pale, Late, Dark, Curve, Proposed, Least, Less}
 use Rattle.size_picture.specs.declared.stroke.Stroke.{Stroke}
@@ -27,10 +28,11 @@ abbrev pub line_of : ℕ → ℕ → StrokeLook → ℕ → Stroke
 line_of base top look runtime =
     record { look = look; x = 130; y = base - height_of top runtime; to_x = 1154; to_y = base - height_of top runtime }
 
--- at what is proposed, at the least, and at 15 percent less
-abbrev pub lines_of : ℕ → Panel → List Stroke
-lines_of base panel =
-    line_of base panel.top Proposed panel.proposed ∷ line_of base panel.top Least panel.least ∷ line_of base panel.top Less panel.less ∷ []
+-- at what is proposed, at the least, and at 15 percent less; none where no runtime is enough
+abbrev pub lines_of : ℕ → ℕ → Option PanelRuntimes → List Stroke
+lines_of base top None = []
+lines_of base top (Some runtimes) =
+    line_of base top Proposed runtimes.proposed ∷ line_of base top Least runtimes.least ∷ line_of base top Less runtimes.less ∷ []
 
 -- the curve along a column to the next one, and up or down to its height
 abbrev pub step_of : ℕ → Column → ℕ → ℕ → Stroke
@@ -47,7 +49,7 @@ curve_of base end (c ∷ columns) = curve_from base end c columns
 
 -- the upper panel: a bar for each column of the record's time, and the lines
 abbrev pub needs_strokes : ℕ → Panel → List Stroke
-needs_strokes base panel = bars_of base (columns_of panel.span panel.needs.now) ++ lines_of base panel
+needs_strokes base panel = bars_of base (columns_of panel.span panel.needs.now) ++ lines_of base panel.top panel.runtimes
 
 -- where the curve ends: behind as many jobs as it shows
 abbrev pub end_of : Panel → ℕ
@@ -55,7 +57,7 @@ end_of panel = 130 + place_of (length panel.sorted.now) panel.most 1024
 
 -- the lower panel: the curve over the number of late jobs, and the lines
 abbrev pub curve_strokes : ℕ → Panel → List Stroke
-curve_strokes base panel = curve_of base (end_of panel) (columns_of panel.most panel.sorted.now) ++ lines_of base panel
+curve_strokes base panel = curve_of base (end_of panel) (columns_of panel.most panel.sorted.now) ++ lines_of base panel.top panel.runtimes
 
 pub record StrokesShown : Type 0 where
   pub needs : List Stroke

@@ -9,5 +9,5 @@ mod stroke;
 
 pub use column::{Column, Need, PANEL};
 pub use document::sizing_picture;
-pub use panel::{Panel, PanelStrokes, strokes_of};
+pub use panel::{Panel, PanelRuntimes, PanelStrokes, strokes_of};
 pub use stroke::{Stroke, StrokeLook};

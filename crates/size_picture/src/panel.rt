@@ -1,6 +1,6 @@
 //! The two panels of a task.
 
-ghost use Rattle.std.specs.Prelude.{◌≡◌, IfOk};
+ghost use Rattle.std.specs.Prelude.{◌≡◌, ◌++◌, IfOk, OnOk};
 ghost use Rattle.size_picture.specs.Strokes.{bar_of, bars_of, curve_of, curve_strokes, height_of, line_of, lines_of, look_of, needs_strokes, step_of, strokes_of};
 
 use crate::column::{Column, Need, PANEL, WIDTH, columns_of};
@@ -9,6 +9,16 @@ use crate::stroke::{Stroke, StrokeLook, put_strokes};
 use grub_shapes::{LEFT, put_number};
 use std::alloc::{AllocError, Global};
 use std::marker::Model;
+
+/// The runtimes at which lines are drawn, in microseconds.
+#[derive(Clone, Copy, Debug, PartialEq, Eq)]
+pub struct PanelRuntimes {
+    pub proposed: u32,
+    pub least: u32,
+
+    /// Fifteen percent less than the least.
+    pub less: u32,
+}
 
 /// What is drawn of a task. Runtimes and durations are in microseconds.
 #[derive(Clone, Copy)]
@@ -21,11 +31,9 @@ pub struct Panel<'a> {
 
     /// The runtime at the top of the scale.
     pub top: u32,
-    pub proposed: u32,
-    pub least: u32,
 
-    /// Fifteen percent less than the least.
-    pub less: u32,
+    /// None where no runtime is enough.
+    pub runtimes: Option<PanelRuntimes>,
 
     /// How long the record is.
     pub span: u64,
@@ -150,15 +158,24 @@ fn line_of(base: u64, top: u32, look: StrokeLook, runtime: u32) -> Stroke
     }
 }
 
-/// The lines at what is proposed, at the least, and at 15 percent less.
-fn lines_of(base: u64, panel: &Panel<'_>) -> [Stroke; 3]
-    ensures { result ≡ lines_of base panel.now }
+/// Adds the lines at what is proposed, at the least, and at 15 percent less.
+fn add_lines(
+    strokes: &mut Vec<Stroke>,
+    base: u64,
+    top: u32,
+    runtimes: Option<PanelRuntimes>,
+) -> Result<(), AllocError>
+    ensures { OnOk result (strokes.new.items ≡ strokes.old.items ++ lines_of base top runtimes) }
 {
-    [
-        line_of(base, panel.top, StrokeLook::Proposed, panel.proposed),
-        line_of(base, panel.top, StrokeLook::Least, panel.least),
-        line_of(base, panel.top, StrokeLook::Less, panel.less),
-    ]
+    let Some(runtimes) = runtimes else {
+        return Ok(());
+    };
+    strokes.extend_from_slice(&[
+        line_of(base, top, StrokeLook::Proposed, runtimes.proposed),
+        line_of(base, top, StrokeLook::Least, runtimes.least),
+        line_of(base, top, StrokeLook::Less, runtimes.less),
+    ])?;
+    Ok(())
 }
 
 /// The strokes of the upper panel, whose bottom is at `base`: what each job needs, over the time of the record.
@@ -167,7 +184,7 @@ fn needs_strokes(alloc: Global, base: u64, panel: &Panel<'_>) -> Result<Vec<Stro
 {
     let columns = columns_of(alloc, panel.needs, panel.span)?;
     let mut strokes = bars_of(alloc, base, &columns)?;
-    strokes.extend_from_slice(&lines_of(base, panel))?;
+    add_lines(&mut strokes, base, panel.top, panel.runtimes)?;
     Ok(strokes)
 }
 
@@ -178,7 +195,7 @@ fn curve_strokes(alloc: Global, base: u64, panel: &Panel<'_>) -> Result<Vec<Stro
     let columns = columns_of(alloc, panel.sorted, panel.most)?;
     let end = LEFT + place_of(panel.sorted.len() as u64, panel.most, WIDTH);
     let mut strokes = curve_of(alloc, base, end, &columns)?;
-    strokes.extend_from_slice(&lines_of(base, panel))?;
+    add_lines(&mut strokes, base, panel.top, panel.runtimes)?;
     Ok(strokes)
 }
 
@@ -209,14 +226,29 @@ fn put_name(out: &mut Vec<u8>, name: &[u8]) -> Result<(), AllocError> {
     Ok(())
 }
 
+/// What runtime is proposed, or that none is enough.
+fn put_runtimes_found(
+    out: &mut Vec<u8>,
+    runtimes: Option<PanelRuntimes>,
+) -> Result<(), AllocError> {
+    let Some(runtimes) = runtimes else {
+        let none = b": no runtime is enough: the darkest jobs may be late with the whole";
+        out.extend_from_slice(none)?;
+        return Ok(());
+    };
+    put_number(out, b": runtime ", u64::from(runtimes.proposed))?;
+    put_number(out, b" (the least ", u64::from(runtimes.least))?;
+    out.extend_from_slice(b") in each")?;
+    Ok(())
+}
+
 /// What the panels are of.
 fn put_title(out: &mut Vec<u8>, panel: &Panel<'_>, y: u64) -> Result<(), AllocError> {
     put_number(out, b"<text class=\"q\" x=\"130\" y=\"", y)?;
     out.extend_from_slice(b"\">")?;
     put_name(out, panel.comm)?;
-    put_number(out, b": runtime ", u64::from(panel.proposed))?;
-    put_number(out, b" (the least ", u64::from(panel.least))?;
-    put_number(out, b") in each period of ", u64::from(panel.period))?;
+    put_runtimes_found(out, panel.runtimes)?;
+    put_number(out, b" period of ", u64::from(panel.period))?;
     put_number(out, b" us; ", panel.needs.len() as u64)?;
     put_number(
         out,
@@ -227,15 +259,20 @@ fn put_title(out: &mut Vec<u8>, panel: &Panel<'_>, y: u64) -> Result<(), AllocEr
     Ok(())
 }
 
-/// What a panel shows, at its left.
-fn put_side(out: &mut Vec<u8>, y: u64, first: &[u8], second: &[u8]) -> Result<(), AllocError> {
+/// A line of text at a panel's left.
+fn put_side_line(out: &mut Vec<u8>, y: u64, text: &[u8]) -> Result<(), AllocError> {
     put_number(out, b"<text x=\"8\" y=\"", y)?;
     out.extend_from_slice(b"\">")?;
-    out.extend_from_slice(first)?;
-    put_number(out, b"</text><text x=\"8\" y=\"", y.saturating_add(14))?;
-    out.extend_from_slice(b"\">")?;
-    out.extend_from_slice(second)?;
-    out.extend_from_slice(b"</text>\n")?;
+    out.extend_from_slice(text)?;
+    out.extend_from_slice(b"</text>")?;
+    Ok(())
+}
+
+/// What a panel shows, at its left.
+fn put_side(out: &mut Vec<u8>, y: u64, first: &[u8], second: &[u8]) -> Result<(), AllocError> {
+    put_side_line(out, y, first)?;
+    put_side_line(out, y.saturating_add(14), second)?;
+    out.push(b'\n')?;
     Ok(())
 }
 

@@ -1,10 +1,10 @@
 //! The picture of what the jobs of tasks need.
 
-ghost use Rattle.std.specs.Prelude.{◌≤◌};
+ghost use Rattle.std.specs.Prelude.{◌≤◌, ◌+◌};
 
 use crate::sizing::{Needed, SizeRequest};
 use grub_sizing::{Job, lates_of, least_runtime};
-use size_picture::{Need, Panel, sizing_picture};
+use size_picture::{Need, Panel, PanelRuntimes, sizing_picture};
 use sizing_needs::heights_of;
 use std::alloc::{AllocError, Global};
 use trace_jobs::JobTask;
@@ -16,9 +16,9 @@ pub(crate) struct Drawn {
     period: u32,
     within: u32,
     top: u32,
-    proposed: u32,
-    least: u32,
-    less: u32,
+
+    /// None where no runtime is enough.
+    runtimes: Option<PanelRuntimes>,
 
     /// What each job needs, in the order of the record.
     needs: Vec<Need>,
@@ -88,25 +88,73 @@ fn sorted_of(alloc: Global, needs: &[Need], most: u64) -> Result<Vec<Need>, Allo
     Ok(sorted)
 }
 
-/// What is drawn of a task whose jobs are to be done within a time.
+/// The runtimes at which lines are drawn.
+fn runtimes_of(needed: &Needed) -> PanelRuntimes {
+    PanelRuntimes {
+        proposed: needed.proposed,
+        least: needed.least,
+        less: needed.less,
+    }
+}
+
+/// The runtime at the top of the scale.
+fn top_of(greatest: u32, runtimes: Option<PanelRuntimes>, period: u32) -> u32
+    ensures some { 1 ≤ result }
+    ensures most { result ≤ period + 1 }
+{
+    let proposed = match runtimes {
+        Some(runtimes) => runtimes.proposed,
+        None => 0,
+    };
+    greatest.max(proposed).min(period.saturating_add(1)).max(1)
+}
+
+/// With which two runtimes a job that may be late is shaded: the least, and 15 percent less; the whole period where none is enough.
+fn shading_of(runtimes: Option<PanelRuntimes>, period: u32) -> (u32, u32) {
+    match runtimes {
+        Some(runtimes) => (runtimes.least, runtimes.less),
+        None => (period, period),
+    }
+}
+
+/// What each job needs, on a scale that ends at `top`, and its shade.
+fn shaded_needs(
+    alloc: Global,
+    task: &JobTask,
+    first: u64,
+    jobs: &[Job],
+    period: u32,
+    top: u32,
+    shading: (u32, u32),
+) -> Result<Vec<Need>, AllocError>
+    requires some { 1 ≤ top }
+    requires most { top ≤ period + 1 }
+{
+    let heights = heights_of(alloc, jobs, period, top)?;
+    let dark = late_with(alloc, jobs, shading.0, period)?;
+    let late = late_with(alloc, jobs, shading.1, period)?;
+    needs_of(alloc, task, first, &heights, &dark, &late)
+}
+
+/// What is drawn of a task whose jobs are to be done within a time; nothing is needed where no runtime is enough.
 pub(crate) fn drawn_of(
     alloc: Global,
     task: &JobTask,
     first: u64,
     jobs: &[Job],
-    wanted: SizeRequest,
+    period: u32,
     within: u32,
-    needed: &Needed,
+    needed: &Option<Needed>,
 ) -> Result<Drawn, AllocError>
-    requires { 1 ≤ wanted.period }
+    requires { 1 ≤ period }
 {
-    let period = wanted.period;
-    let most_needed = greatest_need(alloc, jobs, period)?.max(needed.proposed);
-    let top = most_needed.min(period.saturating_add(1)).max(1);
-    let heights = heights_of(alloc, jobs, period, top)?;
-    let least = late_with(alloc, jobs, needed.least, period)?;
-    let less = late_with(alloc, jobs, needed.less, period)?;
-    let needs = needs_of(alloc, task, first, &heights, &least, &less)?;
+    let runtimes = match needed {
+        Some(needed) => Some(runtimes_of(needed)),
+        None => None,
+    };
+    let top = top_of(greatest_need(alloc, jobs, period)?, runtimes, period);
+    let shading = shading_of(runtimes, period);
+    let needs = shaded_needs(alloc, task, first, jobs, period, top, shading)?;
     let most = (needs.len() as u64 / 10).max(10);
     let sorted = sorted_of(alloc, &needs, most)?;
     Ok(Drawn {
@@ -114,9 +162,7 @@ pub(crate) fn drawn_of(
         period,
         within,
         top,
-        proposed: needed.proposed,
-        least: needed.least,
-        less: needed.less,
+        runtimes,
         needs,
         sorted,
         most,
@@ -132,9 +178,7 @@ pub(crate) fn picture_of(alloc: Global, all: &[Drawn], span: u64) -> Result<Vec<
             period: one.period,
             within: one.within,
             top: one.top,
-            proposed: one.proposed,
-            least: one.least,
-            less: one.less,
+            runtimes: one.runtimes,
             span,
             needs: one.needs.as_slice(),
             sorted: one.sorted.as_slice(),

@@ -1,6 +1,6 @@
 //! What the program does with a record: it lists its tasks, or sizes some of them.
 
-ghost use Rattle.std.specs.Prelude.{◌≡◌, ◌<◌, ◌⊎◌, IfErr, IfOk, OnOk, length, vec_len};
+ghost use Rattle.std.specs.Prelude.{◌≡◌, ◌≤◌, ◌<◌, ◌⊎◌, IfErr, IfOk, OnOk, length, vec_len};
 ghost use Rattle.std.specs.Io.KnownBytes.{Appends};
 ghost use Rattle.size_report.specs.Faults.{IsOfTask, PrintsWhole, status_of};
 
@@ -12,10 +12,10 @@ use crate::picture::{Drawn, drawn_of, picture_of};
 use crate::price::put_prices;
 use crate::sizing::{PERIOD_LEAST, PERIOD_MOST, SizeRequest, jobs_of, needed_of};
 use crate::task_text::{
-    put_chance, put_choices, put_command, put_figures, put_head, put_no_runs, put_none,
-    put_not_regular, put_others, put_question,
+    put_chance, put_choices, put_command, put_figures, put_head, put_late_count, put_no_runs,
+    put_none, put_not_regular, put_others, put_question,
 };
-use grub_sizing::{Job, first_late};
+use grub_sizing::{Job, first_late, late_count};
 use grub_text::read_once;
 use size_admission::{Proposal, RootDomain, put_proposals};
 use std::alloc::{AllocError, Global};
@@ -128,6 +128,21 @@ struct JobSpan {
     is_drawn: bool,
 }
 
+/// Writes that no runtime is enough, by the first job that is late with the whole period and how many may be.
+fn put_none_enough(
+    out: &mut Vec<u8>,
+    task: &JobTask,
+    jobs: &[Job],
+    period: u32,
+) -> Result<(), AllocError>
+    requires { 1 ≤ period }
+{
+    let alloc = *out.allocator();
+    let late = first_late(alloc, jobs, period, period)?;
+    put_none(out, &task.jobs, late)?;
+    put_late_count(out, late_count(alloc, jobs, period, period)?, jobs.len())
+}
+
 /// Writes what a task needs in a period.
 fn put_needed(
     sheet: &mut SizeSheet,
@@ -141,18 +156,18 @@ fn put_needed(
     if period == 0 {
         return Ok(());
     }
-    let Some(needed) = needed_of(alloc, jobs, wanted)? else {
-        let late = first_late(alloc, jobs, period, period)?;
-        return put_none(&mut sheet.text, &task.jobs, late);
+    let needed = needed_of(alloc, jobs, wanted)?;
+    if span.is_drawn {
+        let drawn = drawn_of(alloc, task, span.first, jobs, period, span.within, &needed)?;
+        sheet.drawn.push(drawn)?;
+    }
+    let Some(needed) = needed else {
+        return put_none_enough(&mut sheet.text, task, jobs, period);
     };
     put_choices(&mut sheet.text, &needed, &task.jobs, jobs, wanted)?;
     put_others(&mut sheet.text, &needed.others)?;
     put_chance(&mut sheet.text, task.jobs.len())?;
     put_command(&mut sheet.text, needed.proposed, period, task.pid)?;
-    if span.is_drawn {
-        let drawn = drawn_of(alloc, task, span.first, jobs, wanted, span.within, &needed)?;
-        sheet.drawn.push(drawn)?;
-    }
     sheet.proposals.push(Proposal {
         comm: Vec::from_slice(alloc, &task.comm)?,
         runtime: needed.proposed,

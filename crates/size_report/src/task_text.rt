@@ -131,6 +131,18 @@ pub(crate) fn put_none(
     put_text(out, "\n")
 }
 
+/// How many jobs may be late with the whole period, and what helps.
+pub(crate) fn put_late_count(
+    out: &mut Vec<u8>,
+    late: usize,
+    count: usize,
+) -> Result<(), AllocError> {
+    put_number(out, b"  with the whole period ", late as u64)?;
+    put_number(out, b" of ", count as u64)?;
+    put_number(out, b" jobs may be late: --late ", late as u64)?;
+    put_text(out, " allows that, --within gives more time\n")
+}
+
 fn put_witness(
     out: &mut Vec<u8>,
     least: u32,
