@@ -59,17 +59,47 @@ pub(crate) fn serve<
     ensures nothing { (result ≡ 1) ⊎ (result ≡ 2) → out.new ≡ out.old }
 {
     match matches_of(alloc, words) {
-        Ok(matches) => match matches.subcommand() {
-            Some(("events", matches)) => events(alloc, matches, input, target, faults),
-            Some(("check", matches)) => check(alloc, matches, input, target, remove, out, faults),
-            Some(("size", matches)) => size(alloc, matches, input, target, out, faults),
-            Some((_, matches)) => {
-                let path = matches.get_str("TRACE").unwrap_or("");
-                serve_tasks(alloc, input, path, out, faults)
-            }
-            None => STATUS_USAGE,
-        },
+        Ok(matches) => serve_command(alloc, &matches, input, target, remove, out, faults),
         Err(error) => serve_error(&error, out, faults),
+    }
+}
+
+/// Runs the command that the words name.
+fn serve_command<
+    D: Drop,
+    O: Fn(&str) -> io::Result<D>,
+    N: Fn(&mut D, &mut [u8]) -> io::Result<usize>,
+    X: Fn(&str) -> bool,
+    M: Fn(&str, &[u8]) -> io::Result<()>,
+    R: Fn(&str),
+    W: Write,
+    E: Write,
+>(
+    alloc: Global,
+    matches: &ArgMatches<'_>,
+    input: &Input<O, N>,
+    target: &Target<X, M>,
+    remove: &R,
+    out: &mut W,
+    faults: &mut E,
+) -> u8
+    requires open { O.IsAlwaysCallable input.now.open }
+    requires read { N.IsAlwaysCallable input.now.read }
+    requires exists { X.IsAlwaysCallable target.now.exists }
+    requires make { M.IsAlwaysCallable target.now.make }
+    requires remove { R.IsAlwaysCallable remove.now }
+    ensures status { result ≤ 4 }
+    ensures nothing { (result ≡ 1) ⊎ (result ≡ 2) → out.new ≡ out.old }
+{
+    match matches.subcommand() {
+        Some(("events", matches)) => events(alloc, matches, input, target, faults),
+        Some(("check", matches)) => check(alloc, matches, input, target, remove, out, faults),
+        Some(("size", matches)) => size(alloc, matches, input, target, out, faults),
+        Some((_, matches)) => {
+            let path = matches.get_str("TRACE").unwrap_or("");
+            serve_tasks(alloc, input, path, out, faults)
+        }
+        None => STATUS_USAGE,
     }
 }
 

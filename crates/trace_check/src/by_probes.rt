@@ -90,19 +90,32 @@ fn verdict_by(
         takes_sums: !gathering.probes.shape.has_dequeues,
     };
     let mut text = probe_text(alloc, heading, &played.machine)?;
-    let agrees = played.machine.agrees();
-    if options.explains && !agrees {
-        let trials = tried(alloc, options, gathering)?;
-        let counts = played.machine.counts();
-        put_explanation(alloc, &mut text, agrees, &counts, &trials)?;
+    if options.explains {
+        put_probe_explanation(alloc, &mut text, options, gathering, &played.machine)?;
     }
     let table = probe_table(alloc, wanted, &gathering.probes.rows)?;
     Ok(Verdict {
-        agrees,
+        agrees: played.machine.agrees(),
         text,
         table,
         shown: Some(nothing_shown(alloc)),
     })
+}
+
+/// Appends which changed rule explains what probes show, where they differ.
+fn put_probe_explanation(
+    alloc: Global,
+    out: &mut Vec<u8>,
+    options: &CheckOptions<'_>,
+    gathering: &Gathering<'_>,
+    machine: &ProbedMachine,
+) -> Result<(), AllocError> {
+    if machine.agrees() {
+        return Ok(());
+    }
+    let trials = tried(alloc, options, gathering)?;
+    let counts = machine.counts();
+    put_explanation(alloc, out, false, &counts, &trials)
 }
 
 /// The names of the tasks that probes show in the class.

@@ -66,39 +66,56 @@ fn limits_of(alloc: Global, setup: &RecordSetup, cpus: u32) -> Result<Vec<u64>, 
     Ok(limits)
 }
 
-/// The documents of a record that was played.
+/// A record that was played by its timers.
+#[derive(Clone, Copy)]
+pub(crate) struct TimerPlay<'a> {
+    pub setup: RecordSetup,
+    pub start: &'a RecordStart,
+    pub lines: &'a KeptLines,
+
+    /// The name of each task of the lines.
+    pub names: &'a [Vec<u8>],
+    pub judged: &'a Judged,
+}
+
+/// The documents of a record that was played; none where the span is no part of it.
 pub(crate) fn shown_of(
     alloc: Global,
     wanted: CheckRequest<'_>,
-    setup: RecordSetup,
-    start: &RecordStart,
-    lines: &KeptLines,
-    names: &[Vec<u8>],
-    judged: &Judged,
+    play: TimerPlay<'_>,
 ) -> Result<Option<Documents>, AllocError> {
-    let mut shown = nothing_shown(alloc);
     if wanted.json.is_none() && wanted.picture.is_none() {
-        return Ok(Some(shown));
+        return Ok(Some(nothing_shown(alloc)));
     }
-    let Some(span) = span_of(wanted.window, lines) else {
+    let Some(span) = span_of(wanted.window, play.lines) else {
         return Ok(None);
     };
-    let history = states_of(alloc, setup, start, lines, span)?;
-    let limits = limits_of(alloc, &setup, history.cpus())?;
-    let tasks = task_names(alloc, lines, names)?;
+    let history = states_of(alloc, play.setup, play.start, play.lines, span)?;
+    let limits = limits_of(alloc, &play.setup, history.cpus())?;
+    let tasks = task_names(alloc, play.lines, play.names)?;
     let scene = RecordScene {
         history: &history,
         tasks: &tasks,
-        observations: &judged.outcome.observations,
-        first: judged.first,
+        observations: &play.judged.outcome.observations,
+        first: play.judged.first,
         span,
         limits: &limits,
     };
+    Ok(Some(documents_of(alloc, wanted, scene)?))
+}
+
+/// The documents that are asked for of a scene.
+fn documents_of(
+    alloc: Global,
+    wanted: CheckRequest<'_>,
+    scene: RecordScene<'_>,
+) -> Result<Documents, AllocError> {
+    let mut shown = nothing_shown(alloc);
     if wanted.json.is_some() {
         put_document(alloc, &mut shown.json, scene)?;
     }
     if wanted.picture.is_some() {
         shown.picture = picture_of(alloc, scene, wanted.path)?;
     }
-    Ok(Some(shown))
+    Ok(shown)
 }

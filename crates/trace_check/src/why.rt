@@ -2,15 +2,14 @@
 
 use crate::gathering::Gathering;
 use crate::probes::KeptProbe;
+use crate::showing::TimerPlay;
 use check_settings::CheckOptions;
 use deadline_machine::ProbedMachine;
-use deadline_timers::{RecordSetup, RecordStart};
 use deadline_verdict::Judged;
 use probe_verdict::{Trial, total_of};
 use rule_changes::{ALL, RuleChange};
 use std::alloc::{AllocError, Global};
 use timer_changes::put_explanation;
-use timer_lines::KeptLines;
 use timer_rules::ObservedAnswer;
 
 /// What the plays of a record come to, each with another rule changed.
@@ -38,15 +37,20 @@ fn trial_of(
     let law = gathering.head.law(options);
     let shape = gathering.probes.shape;
     let mut machine = ProbedMachine::new(alloc, law, shape, domain, false, Some(change));
-    for kept in gathering.probes.again.as_slice() {
-        play(&mut machine, kept)?;
-    }
+    play_all(&mut machine, &gathering.probes.again)?;
     machine.finish(gathering.head.has_servers(options))?;
     Ok(Trial {
         change,
         agrees: machine.agrees(),
         differ: total_of(&machine.counts()).differ,
     })
+}
+
+fn play_all(machine: &mut ProbedMachine, again: &[KeptProbe]) -> Result<(), AllocError> {
+    for kept in again {
+        play(machine, kept)?;
+    }
+    Ok(())
 }
 
 fn play(machine: &mut ProbedMachine, kept: &KeptProbe) -> Result<(), AllocError> {
@@ -58,16 +62,13 @@ pub(crate) fn put_timer_explanation(
     alloc: Global,
     out: &mut Vec<u8>,
     options: &CheckOptions<'_>,
-    setup: RecordSetup,
-    start: &RecordStart,
-    lines: &KeptLines,
-    judged: &Judged,
+    play: TimerPlay<'_>,
 ) -> Result<(), AllocError> {
-    if judged.first.is_none() {
+    if play.judged.first.is_none() {
         return Ok(());
     }
-    let trials = timer_changes::tried(alloc, setup, start, lines, options.within)?;
-    put_explanation(alloc, out, differ(judged), &trials)
+    let trials = timer_changes::tried(alloc, play.setup, play.start, play.lines, options.within)?;
+    put_explanation(alloc, out, differ(play.judged), &trials)
 }
 
 /// How many timers differ.
