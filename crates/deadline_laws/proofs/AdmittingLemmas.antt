@@ -1,12 +1,11 @@
 -- What is taken stays the sum as a task becomes another.
-use Rattle.std.proofs.Common.{◌≡◌, ℕ, ◌+◌, ◌^◌, ◌<◌, zero, suc, List, [], ◌∷◌, Some, None, slice_get, slice_set, ap, sym, ◌∙◌, refl, arith}
+use Rattle.std.proofs.Common.{◌≡◌, ℕ, ◌^◌, ◌<◌, zero, suc, List, [], ◌∷◌, Some, slice_get, slice_set, sym, arith}
 use Rattle.std.proofs.lemmas.Option.{none-some, same_Some}
 use Rattle.deadline_rules.specs.Clock.{plus, less}
 use Rattle.timer_rules.specs.declared.task.DeadlineTask.{DeadlineTask}
 use Rattle.timer_rules.specs.Effects.{task_share_of}
-use Rattle.deadline_timers.specs.Places.{taken_after}
 use Rattle.deadline_timers.specs.States.{State, replaced}
-use Rattle.deadline_laws.specs.Admitting.{total_share, Fits, IsTaken, TakenStays}
+use Rattle.deadline_laws.specs.Admitting.{total_share, Fits, TakenStays}
 
 here : (x y rest : ℕ) → x < 2 ^ 64 → y < 2 ^ 64 → rest < 2 ^ 64 → plus y rest ≡ plus (less (plus x rest) x) y
 here x y rest hx hy hr = omega arith

@@ -1,6 +1,5 @@
 -- What a history becomes as states, sums and budgets are shown to it.
-use Rattle.std.specs.Prelude.{ℕ, ℤ, max, ◌==◌, ◌&&◌, Bool, true, false, List, [], ◌∷◌, ◌++◌, Option, Some, None, option_to_list, option_map, option_and_then, slice_get, slice_set, if◌then◌else◌}
-use Rattle.std.specs.List.{flat_map}
+use Rattle.std.specs.Prelude.{ℕ, ℤ, max, ◌==◌, ◌&&◌, Bool, true, false, List, [], ◌++◌, Option, Some, None, option_to_list, option_map, option_and_then, slice_get, slice_set, if◌then◌else◌}
 use Rattle.std.specs.Ordering.{int_eq}
 use Rattle.trace_words.specs.declared.quantities.Sums.{Sums}
 use Rattle.deadline_states.specs.declared.history.BudgetSlice.{BudgetSlice}

@@ -1,5 +1,5 @@
 -- What a history becomes as a record is shown to it.
-use Rattle.std.specs.Prelude.{ℕ, ℤ, ◌≡◌, ◌++◌, List, Option, Some, if◌then◌else◌, slice_get, slice_set, option_and_then}
+use Rattle.std.specs.Prelude.{ℕ, ℤ, ◌≡◌, ◌++◌, Option, Some, if◌then◌else◌, slice_get, slice_set, option_and_then}
 use Rattle.std.specs.List.{flat_map}
 use Rattle.trace_words.specs.declared.quantities.Sums.{Sums}
 use Rattle.deadline_states.specs.declared.history.BudgetSlice.{BudgetSlice}

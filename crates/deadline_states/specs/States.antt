@@ -1,7 +1,7 @@
 -- In which state a task is.
 use Rattle.std.specs.Prelude.{ℕ, ◌==◌, ◌&&◌, ◌||◌, not, Bool, true, false, Option, Some, None, if◌then◌else◌}
 use Rattle.timer_lines.specs.declared.event.KeptEvent.{KeptEvent}
-use Rattle.timer_lines.specs.declared.event.KeptEvent.TheVariants.{Idles, Woken, OtherWoken, Migrated, Ran, Switched, ZeroLagStarted, ReplenishStarted, Cancelled, ZeroLagFired, ReplenishFired}
+use Rattle.timer_lines.specs.declared.event.KeptEvent.TheVariants.{Woken, Migrated, Ran, Switched}
 use Rattle.timer_rules.specs.declared.activity.Activity.{Activity}
 use Rattle.timer_rules.specs.declared.activity.Activity.TheVariants as activity
 use Rattle.timer_rules.specs.declared.task.DeadlineTask.{DeadlineTask}

@@ -1,5 +1,5 @@
 -- What each line of a record makes of its tasks and runqueues.
-use Rattle.std.specs.Prelude.{ℕ, Bool, true, false, not, ◌&&◌, ◌==◌, nat_lt, if◌then◌else◌, List, [], ◌∷◌, Option, Some, None, slice_get}
+use Rattle.std.specs.Prelude.{ℕ, Bool, true, false, not, ◌&&◌, nat_lt, if◌then◌else◌, List, Option, Some, None, slice_get}
 use Rattle.trace_words.specs.declared.fixed.Stop.{Stop}
 use Rattle.trace_words.specs.declared.quantities.Parameters.{Parameters}
 use Rattle.timer_lines.specs.declared.event.KeptEvent.{KeptEvent}

@@ -1,5 +1,5 @@
 -- The tasks and runqueues of a record, and what each line makes of them.
-use Rattle.std.specs.Prelude.{ℕ, ◌+◌, ◌^◌, Bool, false, ◌&&◌, ◌||◌, ◌==◌, if◌then◌else◌, List, [], ◌∷◌, ◌++◌, Option, Some, None, slice_get, slice_set}
+use Rattle.std.specs.Prelude.{ℕ, Bool, false, ◌==◌, if◌then◌else◌, List, [], ◌∷◌, ◌++◌, Option, Some, None, slice_get, slice_set}
 use Rattle.deadline_rules.specs.declared.charge.ChargedRunqueue.{ChargedRunqueue}
 use Rattle.timer_rules.specs.declared.observation.Observation.{Observation}
 use Rattle.timer_rules.specs.declared.runqueue.Runqueue.{Runqueue}

@@ -1,8 +1,8 @@
 -- What is found first in a list of comparisons.
-use Rattle.std.proofs.Common.{◌≡◌, Bool, true, false, Option, Some, None, List, [], ◌∷◌, ◌++◌, refl, if◌then◌else◌, ◌&&◌}
+use Rattle.std.proofs.Common.{◌≡◌, Bool, true, false, Some, None, List, [], ◌∷◌, ◌++◌, refl, if◌then◌else◌, ◌&&◌}
 use Rattle.std.specs.Prelude.{is_none}
 use Rattle.exact_words.specs.declared.words.Deviation.{Deviation}
-use Rattle.exact_words.specs.Firsts.{first_with, first_from, all_equal, NoneWhereAllAreEqual, FoundIsFirst}
+use Rattle.exact_words.specs.Firsts.{first_from, all_equal}
 
 first_stays : (d : Deviation) (ds : List Deviation) → first_from (Some d) ds ≡ Some d
 first_stays d [] = refl

@@ -1,5 +1,5 @@
 -- How many values of each kind were compared.
-use Rattle.std.specs.Prelude.{◌≡◌, ℕ, ◌+◌, ◌-◌, ◌%◌, ◌^◌, ◌==◌, min, Bool, true, false, ◌&&◌}
+use Rattle.std.specs.Prelude.{ℕ, ◌+◌, ◌-◌, ◌%◌, ◌^◌, ◌==◌, min, Bool, true, false}
 use Rattle.exact_words.specs.declared.counts.Comparisons.{Comparisons}
 use Rattle.exact_words.specs.declared.counts.KindCounts.{KindCounts}
 use Rattle.exact_words.specs.declared.words.QuantityKind.{QuantityKind}

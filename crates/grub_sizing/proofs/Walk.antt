@@ -1,7 +1,6 @@
 -- The renewals that a walk keeps answer as all jobs so far do.
 use Rattle.std.proofs.Common.{length, get_or, drop, ◌^◌, ◌≡◌, ℕ, ◌+◌, ◌-◌, ◌*◌, ◌/◌, ◌%◌, ◌<◌, ◌≤◌, min, Bool, true, false, ◌&&◌, ◌==◌, cond, nat_le, nat_lt, List, [], ◌∷◌, ◌++◌, map, inl, inr, refl, sym, ap, ◌∙◌, append_assoc, arith}
-use Rattle.std.specs.List.{list_all}
-use Rattle.std.proofs.lemmas.Bool.{le-leb, lt-leb, lt-ltb, le-ltb, leb-true, cases_lt, cases_Bool, or_cases, and_parts, and_right, eqb-true}
+use Rattle.std.proofs.lemmas.Bool.{le-leb, lt-leb, le-ltb, leb-true, cases_lt, cases_Bool, or_cases, and_parts, and_right, eqb-true}
 use Rattle.std.proofs.lemmas.Nat.{mul-le, div-add-mod'}
 use Rattle.std.proofs.lemmas.List.Folds.{list_all-append}
 use Rattle.grub_sizing.specs.Span.{budgets_of, span}

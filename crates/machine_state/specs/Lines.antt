@@ -1,5 +1,5 @@
 -- Which values of an entity each line asks to be compared, kind by kind.
-use Rattle.std.specs.Prelude.{Bool, true, false, if◌then◌else◌, Option, List, [], ◌∷◌}
+use Rattle.std.specs.Prelude.{Bool, if◌then◌else◌, Option, List, [], ◌∷◌}
 use Rattle.trace_words.specs.declared.quantities.Budget.{Budget}
 use Rattle.trace_words.specs.declared.probe.Enqueued.{Enqueued}
 use Rattle.trace_words.specs.declared.probe.Dequeued.{Dequeued}

@@ -1,5 +1,5 @@
 -- What the events say that each kernel has, by the fields of their lines.
-use Rattle.std.specs.Prelude.{ℕ, Bool, ◌||◌, ◌&&◌, ◌==◌, List, [], ◌∷◌, codes, Option, Some, None, if◌then◌else◌, option_map, option_and_then}
+use Rattle.std.specs.Prelude.{ℕ, Bool, ◌||◌, ◌==◌, List, [], ◌∷◌, codes, Option, Some, None, if◌then◌else◌, option_map, option_and_then}
 use Rattle.std.specs.Char.{is_ascii_digit}
 use Rattle.trace_line.specs.Numbers.{after}
 use Rattle.trace_line.specs.Words.{cpu_field, deadline_field, number_field, value_of}

@@ -1,11 +1,10 @@
 -- What a line of a record tells.
-use Rattle.std.specs.Prelude.{ℕ, Bool, ◌==◌, nat_lt, nat_le, ◌+◌, ◌-◌, max, List, length, take, reverse, position, slice_range, Option, Some, None, if◌then◌else◌, option_map, option_and_then}
+use Rattle.std.specs.Prelude.{ℕ, ◌==◌, nat_lt, nat_le, ◌+◌, ◌-◌, max, List, length, take, reverse, position, slice_range, Option, Some, None, if◌then◌else◌, option_map, option_and_then}
 use Rattle.std.specs.Option.{option_map_or}
 use Rattle.grub_text.specs.Lines.{word_of, words_of}
 use Rattle.trace_line.specs.Words.{without_spaces}
 use Rattle.trace_line.specs.Opening.{opening_of, running, running_comm}
 use Rattle.trace_line.specs.Head.{is_comment, is_lost, processors}
-use Rattle.trace_line.specs.declared.shown.Shown.{Shown}
 use Rattle.trace_line.specs.declared.opening.CpuWord.{CpuWord}
 use Rattle.trace_line.specs.declared.opening.Opening.{Opening}
 use Rattle.trace_probes.specs.Shown.{probe_of}

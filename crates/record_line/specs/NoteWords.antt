@@ -1,5 +1,5 @@
 -- Words of notes.
-use Rattle.std.specs.Prelude.{ℕ, ℤ, Bool, false, not, ◌&&◌, ◌==◌, nat_lt, nat_le, ◌+◌, ◌^◌, List, length, take, drop, codes, position, slice_range, Option, Some, None, if◌then◌else◌, option_map, option_and_then, is_some, unwrap_or}
+use Rattle.std.specs.Prelude.{ℕ, ℤ, Bool, not, ◌&&◌, ◌==◌, nat_lt, nat_le, ◌+◌, ◌^◌, List, length, take, drop, codes, position, slice_range, Option, Some, None, if◌then◌else◌, option_map, option_and_then, is_some, unwrap_or}
 use Rattle.std.specs.Option.{option_map_or}
 use Rattle.std.specs.List.{before_first, list_all, position_or_len, slice_split}
 use Rattle.std.specs.Char.{is_ascii_digit}

@@ -1,5 +1,5 @@
 -- Notes at the head of a record: lines # grub: KIND .., in which words KEY=VALUE stand in any order, a comm last. A note that is wrong is none.
-use Rattle.std.specs.Prelude.{ℕ, Bool, ◌&&◌, ◌==◌, nat_eq, List, length, take, codes, slice_range, Option, Some, None, if◌then◌else◌, option_map, option_and_then}
+use Rattle.std.specs.Prelude.{ℕ, ◌==◌, nat_eq, List, length, take, codes, slice_range, Option, Some, None, if◌then◌else◌, option_map, option_and_then}
 use Rattle.std.specs.List.{starts_with}
 use Rattle.std.specs.Str.{bytes_eq}
 use Rattle.grub_text.specs.Lines.{word_of}
@@ -11,12 +11,9 @@ use Rattle.trace_words.specs.declared.note.Limit.{Limit}
 use Rattle.trace_words.specs.declared.note.Limit.TheVariants.{MaxBw}
 use Rattle.trace_words.specs.declared.note.Policy.{Policy}
 use Rattle.trace_words.specs.declared.note.Policy.TheVariants as policy
-use Rattle.trace_words.specs.declared.note.TraceNote.{TraceNote}
 use Rattle.trace_words.specs.declared.note.TraceNote.TheVariants as note
 use Rattle.trace_words.specs.declared.quantities.Sums.{Sums}
-use Rattle.trace_words.specs.declared.quantities.Parameters.{Parameters}
 use Rattle.record_line.specs.NoteWords.{is_domain, kernel_of, number_in, optional, rt_limit, small, word_in}
-use Rattle.record_line.specs.declared.note.Lost.{Lost}
 use Rattle.record_line.specs.declared.note.Noted.{Noted}
 use Rattle.record_line.specs.declared.note.Noted.TheVariants as noted
 

@@ -1,5 +1,5 @@
 -- Which event a line is of: the names of tracefs, and those of perf with their group.
-use Rattle.std.specs.Prelude.{ℕ, Bool, ◌||◌, List, codes, nat_eq, Option, Some, None, if◌then◌else◌, option_map, option_and_then, unwrap_or}
+use Rattle.std.specs.Prelude.{ℕ, Bool, ◌||◌, List, codes, nat_eq, Option, Some, if◌then◌else◌, option_map, option_and_then, unwrap_or}
 use Rattle.std.specs.Option.{option_or}
 use Rattle.std.specs.List.{starts_with}
 use Rattle.std.specs.Str.{bytes_eq}

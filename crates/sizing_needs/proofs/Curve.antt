@@ -1,13 +1,13 @@
 -- Needs are the curve of late jobs.
-use Rattle.std.proofs.Common.{◌≡◌, ℕ, ◌+◌, ◌-◌, ◌*◌, ◌/◌, ◌%◌, ◌<◌, ◌≤◌, ◌↔◌, min, max, Bool, true, false, cond, ◌&&◌, ◌==◌, nat_le, nat_lt, List, [], ◌∷◌, count_by, ◌⊎◌, inl, inr, refl, sym, ap, subst, ◌∙◌, arith}
-use Rattle.std.proofs.Math.Nat.{div-add-mod, le-div_iff_mul-le, lt-div-mul-add, div-mul-le_self}
+use Rattle.std.proofs.Common.{◌≡◌, ℕ, ◌+◌, ◌-◌, ◌*◌, ◌/◌, ◌<◌, ◌≤◌, ◌↔◌, min, max, cond, ◌&&◌, ◌==◌, nat_le, nat_lt, List, [], ◌∷◌, count_by, ◌⊎◌, inl, inr, refl, sym, ap, subst, ◌∙◌, arith}
+use Rattle.std.proofs.Math.Nat.{le-div_iff_mul-le, lt-div-mul-add, div-mul-le_self}
 use Rattle.std.proofs.lemmas.Nat.{mul-le}
-use Rattle.std.proofs.lemmas.Bool.{leb-true, le-leb, lt-leb, lt-ltb, le-ltb, eq-eqb, ne_eqb, cases_lt, cases_eq}
+use Rattle.std.proofs.lemmas.Bool.{le-leb, lt-leb, lt-ltb, le-ltb, eq-eqb, ne_eqb, cases_lt, cases_eq}
 use Rattle.std.proofs.lemmas.List.Sums.{sum_by-cons}
 use Rattle.grub_sizing.specs.Span.{budgets_of, span}
 use Rattle.grub_sizing.specs.Jobs.{is_done_by, late_after}
 use Rattle.grub_sizing.specs.declared.job.Job.{Job}
-use Rattle.grub_sizing.proofs.Budgets.{budgets-enough, budgets-few, budgets-le}
+use Rattle.grub_sizing.proofs.Budgets.{budgets-enough, budgets-le}
 use Rattle.sizing_needs.specs.Needs.{need_of, need_by, need_after, needs_after, AllWork}
 
 times-split : (k d q p : ℕ) → p ≡ d + q → k * p ≡ k * d + k * q

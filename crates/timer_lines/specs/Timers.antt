@@ -1,6 +1,5 @@
 -- Whose a dl_task_timer is: a task's is started right after that task's charge, or set less than 0.3 s ahead; else it is a fair server's.
-use Rattle.std.specs.Prelude.{ℕ, ◌+◌, ◌-◌, ◌/◌, ◌^◌, Bool, ◌||◌, nat_lt, min, if◌then◌else◌, Option, Some, None, unwrap_or, is_some}
-use Rattle.timer_lines.specs.declared.lines.FirstLine.{FirstLine}
+use Rattle.std.specs.Prelude.{ℕ, ◌+◌, ◌-◌, ◌/◌, ◌^◌, Bool, ◌||◌, nat_lt, min, Option, Some, None, unwrap_or, is_some}
 use Rattle.timer_lines.specs.declared.lines.FirstLine.TheVariants.{Start, Another}
 use Rattle.timer_lines.specs.declared.lines.TheConstants.{SOON}
 use Rattle.timer_lines.specs.declared.lines.TimerLines.{TimerLines}

@@ -1,5 +1,5 @@
 -- What a line of a record does to a task.
-use Rattle.std.specs.Prelude.{ℕ, Bool, true, false, not, ◌&&◌, ◌||◌, if◌then◌else◌, Option, Some, None, is_some, unwrap_or}
+use Rattle.std.specs.Prelude.{ℕ, Bool, true, false, not, ◌&&◌, ◌||◌, if◌then◌else◌, Some, None, is_some, unwrap_or}
 use Rattle.trace_words.specs.declared.fixed.Stop.{Stop}
 use Rattle.trace_words.specs.declared.fixed.Stop.TheVariants.{Ready, Ends}
 use Rattle.deadline_rules.specs.Reservation.{fresh_of}
@@ -7,7 +7,6 @@ use Rattle.deadline_rules.specs.Charge.{cost_of}
 use Rattle.deadline_rules.specs.Budget.{charged_of, replenished_of}
 use Rattle.deadline_rules.specs.declared.charge.ChargeLaw.{ChargeLaw}
 use Rattle.deadline_rules.specs.declared.charge.ChargedRunqueue.{ChargedRunqueue}
-use Rattle.deadline_rules.specs.declared.entity.Entity.{Entity}
 use Rattle.timer_rules.specs.declared.activity.Activity.{Activity}
 use Rattle.timer_rules.specs.declared.activity.Activity.TheVariants.{Contending, NonContending, Inactive, Away}
 use Rattle.timer_rules.specs.declared.activity.Knowledge.{Knowledge}

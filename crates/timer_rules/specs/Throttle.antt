@@ -1,5 +1,5 @@
 -- Why a task waits for its next period: update_curr_dl_se, dl_check_constrained_dl, yield_task_dl.
-use Rattle.std.specs.Prelude.{ℕ, pos, int_lt, Bool, true, false, not, ◌&&◌, ◌==◌, if◌then◌else◌}
+use Rattle.std.specs.Prelude.{ℕ, pos, int_lt, Bool, true, not, ◌&&◌, ◌==◌, if◌then◌else◌}
 use Rattle.std.specs.Int.{int_min}
 use Rattle.deadline_rules.specs.Clock.{comes_before}
 use Rattle.deadline_rules.specs.declared.entity.Entity.{Entity}

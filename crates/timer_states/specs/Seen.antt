@@ -1,12 +1,11 @@
 -- What a line shows of a task.
-use Rattle.std.specs.Prelude.{ℕ, ◌-◌, ◌==◌, Bool, true, false, List, Option, Some, None, if◌then◌else◌}
+use Rattle.std.specs.Prelude.{ℕ, ◌-◌, ◌==◌, Bool, false, List, Option, Some, None, if◌then◌else◌}
 use Rattle.timer_lines.specs.declared.event.KeptEvent.{KeptEvent}
 use Rattle.timer_lines.specs.declared.event.KeptEvent.TheVariants.{Ran}
 use Rattle.timer_lines.specs.declared.event.KeptLine.{KeptLine}
 use Rattle.timer_rules.specs.declared.task.DeadlineTask.{DeadlineTask}
 use Rattle.deadline_states.specs.declared.history.History.{History}
 use Rattle.deadline_states.specs.declared.history.Slice.{Slice}
-use Rattle.deadline_states.specs.declared.state.TaskState.{TaskState}
 use Rattle.deadline_states.specs.declared.state.TaskState.TheVariants.{Running}
 use Rattle.deadline_states.specs.Histories.{last_of, states_after}
 use Rattle.deadline_states.specs.States.{is_on_cpu_after, is_same_state, state_by}

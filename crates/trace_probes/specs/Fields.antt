@@ -1,5 +1,5 @@
 -- The fields of a line of a probe: words KEY=VALUE, in a fixed order; other words may stand between them.
-use Rattle.std.specs.Prelude.{ℕ, ℤ, pos, Bool, true, false, ◌||◌, ◌==◌, List, [], ◌∷◌, length, codes, get_or, Option, Some, None, if◌then◌else◌, option_map, option_and_then, slice_set}
+use Rattle.std.specs.Prelude.{ℕ, Bool, true, false, ◌==◌, List, [], ◌∷◌, codes, Option, Some, None, if◌then◌else◌, option_map, option_and_then, slice_set}
 use Rattle.std.specs.List.{before_first}
 use Rattle.std.specs.Str.{bytes_eq}
 use Rattle.trace_probes.specs.Numerals.{after, signed, unsigned}

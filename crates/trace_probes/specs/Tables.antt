@@ -2,7 +2,7 @@
 use Rattle.std.specs.Prelude.{ℕ, ℤ, pos, Bool, false, ◌-◌, ◌^◌, List, get_or, min, replicate}
 use Rattle.trace_probes.specs.Fields.{place_of}
 use Rattle.trace_probes.specs.declared.field.Field.{Field}
-use Rattle.trace_probes.specs.declared.field.Field.TheVariants.{Active, BwRatio, Clock, ClockTask, Cpu, Current, Deadline, Delayed, DeltaExec, DlDeadline, DlPeriod, DlRuntime, DomainBw, DonorDeadline, DonorPeriod, DonorRuntime, Earliest, Entity, ExecStart, Expires, ExtraBw, FairTasks, Flags, FromNow, Function, MaxBw, NonContending, NormalPrio, OnRq, Pid, PolicyBefore, PolicyWanted, RunningBw, Runtime, SchedFlags, ServedBy, Server, State, ThisBw, Throttled, Timer, TotalBw, Yielded}
+use Rattle.trace_probes.specs.declared.field.Field.TheVariants.{Active, BwRatio, Clock, Cpu, Current, Deadline, Delayed, DlDeadline, DlPeriod, DlRuntime, DomainBw, DonorDeadline, DonorPeriod, DonorRuntime, Earliest, Entity, ExtraBw, FairTasks, Flags, Function, NonContending, NormalPrio, OnRq, Pid, PolicyBefore, PolicyWanted, RunningBw, Runtime, SchedFlags, ServedBy, Server, State, ThisBw, Throttled, Timer, TotalBw, Yielded}
 use Rattle.trace_probes.specs.declared.field.TheConstants.{FIELDS}
 use Rattle.trace_probes.specs.declared.value.FieldValue.{FieldValue}
 use Rattle.trace_probes.specs.declared.value.FieldValue.TheVariants as value

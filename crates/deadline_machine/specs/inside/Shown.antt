@@ -1,5 +1,5 @@
 -- What a line shows of an entity, and for what each CPU waits.
-use Rattle.std.specs.Prelude.{ℕ, ℤ, int_lt, Bool, true, false, not, ◌&&◌, ◌||◌, ◌==◌, if◌then◌else◌}
+use Rattle.std.specs.Prelude.{ℕ, ℤ, int_lt, Bool, true, false, not, ◌&&◌, ◌==◌, if◌then◌else◌}
 use Rattle.std.specs.Int.{w64, cast_unsigned, int_wrapping_sub}
 use Rattle.trace_words.specs.declared.probe.Enqueued.{Enqueued}
 use Rattle.trace_words.specs.declared.probe.Dequeued.{Dequeued}
@@ -10,8 +10,7 @@ use Rattle.trace_words.specs.declared.probe.Ran.TheVariants.{Span, Clocks}
 use Rattle.trace_words.specs.declared.probe.Expiry.{Expiry}
 use Rattle.trace_words.specs.declared.probe.Expiry.TheVariants.{After, At}
 use Rattle.trace_words.specs.declared.probe.Probe.{Probe}
-use Rattle.trace_words.specs.declared.probe.Probe.TheVariants.{Enqueued as EnqueuedLine, Updated as UpdatedLine, Dequeued as DequeuedLine, Migrating, LeftClass as LeftClassLine, Admitted, ZeroLagFired, ReplenishFired, Armed, ServerStarted, Picked}
-use Rattle.deadline_rules.specs.declared.entity.Entity.{Entity}
+use Rattle.trace_words.specs.declared.probe.Probe.TheVariants.{Enqueued as EnqueuedLine, Updated as UpdatedLine}
 use Rattle.deadline_rules.specs.declared.charge.ChargedRunqueue.{ChargedRunqueue}
 use Rattle.deadline_rules.specs.declared.flags.TheConstants.{REPLENISH}
 use Rattle.deadline_rules.specs.Clock.{plus, less, signed, contains_bits}

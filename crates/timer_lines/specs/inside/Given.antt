@@ -1,5 +1,5 @@
 -- What an option gives to a task stands above what a note tells of its reservation.
-use Rattle.std.specs.Prelude.{Option, Some, None}
+use Rattle.std.specs.Prelude.{Option, Some}
 use Rattle.trace_words.specs.declared.note.Policy.{Policy}
 use Rattle.trace_words.specs.declared.note.Policy.TheVariants as policy
 use Rattle.trace_words.specs.declared.quantities.Parameters.{Parameters}

@@ -1,4 +1,4 @@
-use Rattle.std.proofs.Common.{[], ◌∷◌, ◌-◌, ◌≡◌, refl}
+use Rattle.std.proofs.Common.{[], ◌∷◌, ◌-◌, refl}
 use Rattle.grub_sizing.proofs.Walk.{Answers-none, IsKept-none, lates-next}
 use Rattle.grub_sizing.proofs.late.lates_of.Goals as goal
 

@@ -1,4 +1,4 @@
-use Rattle.std.proofs.Common.{◌<◌, refl, sym, ◌∙◌, arith}
+use Rattle.std.proofs.Common.{refl, sym, ◌∙◌, arith}
 use Rattle.std.proofs.lemmas.Nat.{mod_below}
 use Rattle.grub_sizing.proofs.Walk.{AreTurning-none, IsKept-beyond, beyond-answers, turning-answers, turning-can-pass, turning-kept, turning-next, turning-room, turning-shorter}
 use Rattle.grub_sizing.proofs.step.advance.Goals as goal

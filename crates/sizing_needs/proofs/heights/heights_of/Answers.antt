@@ -1,4 +1,4 @@
-use Rattle.std.proofs.Common.{◌≡◌, ◌<◌, ◌∙◌, [], arith}
+use Rattle.std.proofs.Common.{◌<◌, ◌∙◌, [], arith}
 use Rattle.sizing_needs.specs.Needs.{needs_after}
 use Rattle.sizing_needs.proofs.Rise.{none-high, rise}
 use Rattle.sizing_needs.proofs.heights.heights_of.Goals as goal

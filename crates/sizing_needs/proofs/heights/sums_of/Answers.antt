@@ -1,4 +1,4 @@
-use Rattle.std.proofs.Common.{◌≡◌, ◌++◌, [], sym, ◌∙◌, append-nil, arith}
+use Rattle.std.proofs.Common.{sym, ◌∙◌, append-nil, arith}
 use Rattle.sizing_needs.proofs.Rise.{sums-end}
 use Rattle.sizing_needs.proofs.heights.sums_of.Goals as goal
 

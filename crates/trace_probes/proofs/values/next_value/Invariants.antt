@@ -1,4 +1,4 @@
-use Rattle.std.proofs.Common.{◌≡◌, ◌+◌, length, Some, None}
+use Rattle.std.proofs.Common.{◌≡◌}
 use Rattle.trace_probes.specs.Fields.{next_value}
 use Rattle.trace_probes.specs.inside.Texts.{left_length, words_left}
 use Rattle.trace_probes.proofs.values.next_value.Given as goal
