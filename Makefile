@@ -69,7 +69,7 @@ bench: runner tracer
 
 # Records a load of four tasks on this machine and checks the record; elsewhere it says why it cannot.
 record-check: tracer
-	scripts/kernel/record-check.sh
+	kernel/record-check.sh
 
 # A release that needs no kit, out/neddwyrol-VERSION-x86_64-linux.tar.gz, which is unpacked and tried.
 dist: everything library

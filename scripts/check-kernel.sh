@@ -1,6 +1,6 @@
 #!/usr/bin/env bash
 # check-kernel.sh [--cpus N] [--virtual] [--out DIR] [--run FILE] KERNEL [LOAD..]: boots KERNEL in qemu, records loads of SCHED_DEADLINE tasks
-# there (scripts/kernel/loads.tsv), and checks the records with grubtrace. KERNEL is a bzImage, or the name of a Debian package.
+# there (kernel/loads.tsv), and checks the records with grubtrace. KERNEL is a bzImage, or the name of a Debian package.
 #   --cpus N    N processors, in the host's time, so that lines lag where the host is busy. Without: one, in virtual time
 #   --virtual   the N processors in virtual time, one after the other (6.12 boots so; 6.1 does not start its second processor)
 #   --run FILE  runs the shell script FILE in the guest in place of loads, and prints what it says; it finds these scripts in /scripts
@@ -20,7 +20,8 @@ say() { echo "check-kernel: $*" >&2; }
 fail() { say "$*"; exit 3; }
 
 scripts=$(cd "$(dirname "$0")" && pwd)
-names() { awk -F'\t' -v cpus="$1" '$2 == cpus && !/^(#|warm)/ { printf "%s%s", sep, $1; sep = " " }' "$scripts/kernel/loads.tsv"; }
+kernel_scripts=$scripts/../kernel
+names() { awk -F'\t' -v cpus="$1" '$2 == cpus && !/^(#|warm)/ { printf "%s%s", sep, $1; sep = " " }' "$kernel_scripts/loads.tsv"; }
 grubtrace=${GRUBTRACE:-${scripts%/*}/crates/grubtrace/out/grubtrace}
 loads='four come noflag overr constr yield change outer other back pi burst mig6 high all'
 cpus=1 virtual= out=$PWD run=
@@ -37,7 +38,7 @@ done
 [[ $# -ge 1 ]] || usage
 kernel=$1
 shift
-line_of() { awk -F'\t' -v name="$1" '$1 == name' "$scripts/kernel/loads.tsv"; }
+line_of() { awk -F'\t' -v name="$1" '$1 == name' "$kernel_scripts/loads.tsv"; }
 fits() { [[ $(line_of "$1" | cut -f2) -le $cpus ]]; }
 if [[ $# -gt 0 ]]; then
     loads=$*
@@ -66,9 +67,10 @@ fi
 guest=$work/guest
 mkdir -p "$guest"/{bin,proc,sys,dev,tmp,scripts}
 cp "$(command -v busybox)" "$guest/bin/busybox"
-cp -r "$scripts/record.sh" "$scripts/kernel" "$guest/scripts/"
-cp "$scripts/kernel/init.sh" "$guest/init"
-gcc -O2 -static -o "$guest/bin/dlgen" "$scripts/kernel/dlgen.c" -lpthread || fail "the load generator cannot be compiled"
+cp "$scripts/record.sh" "$guest/scripts/"
+cp -r "$kernel_scripts" "$guest/kernel"
+cp "$kernel_scripts/init.sh" "$guest/init"
+gcc -O2 -static -o "$guest/bin/dlgen" "$kernel_scripts/dlgen.c" -lpthread || fail "the load generator cannot be compiled"
 perl=$(perl -Mstrict -Mwarnings -e 'print "$_\n" for $^X, @INC{"strict.pm", "warnings.pm"}')
 mkdir -p "$guest/usr/bin"
 ln -s "${perl%%$'\n'*}" "$guest/usr/bin/perl"

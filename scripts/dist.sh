@@ -18,8 +18,8 @@ pack() {
     done
     # (where README and the scripts look for the library and the program)
     bash bindings/install.sh out/library '${pcfiledir}/../..' "$tree" && mkdir "$tree/scripts" "$tree/out" && ln -s ../lib "$tree/out/library" &&
-        cp -r scripts/{record.sh,check-kernel.sh,kernel} "$tree/scripts/" &&
-        sed -i 's|/crates/grubtrace/out/grubtrace|/bin/grubtrace|' "$tree"/scripts/{check-kernel.sh,kernel/record-check.sh} &&
+        cp scripts/{record.sh,check-kernel.sh} "$tree/scripts/" && cp -r kernel "$tree/" &&
+        sed -i 's|/crates/grubtrace/out/grubtrace|/bin/grubtrace|' "$tree"/{scripts/check-kernel.sh,kernel/record-check.sh} &&
         git archive HEAD bindings | tar -xC "$tree" && cp -r examples docs README.md LICENSE CHANGELOG.md "$tree/" || return 1
     printf 'commit %s\nkit %s\n' "$(git describe --always --dirty --abbrev=40)" "$(rt version)" > "$tree/BUILT"
     mkdir -p out && tar -C "$work" --sort=name --owner=0 --group=0 --numeric-owner -czf "out/$name.tar.gz" "$name"

@@ -28,7 +28,7 @@ done
 [ $# -ge 2 ] || usage
 out=$1
 shift
-kernel_scripts=${0%/*}/kernel
+kernel_scripts=${0%/*}/../kernel
 [ "$(id -u)" = 0 ] || fail "it has to be run as root"
 command -v "$1" > /dev/null || fail "there is no program $1"
 [ ! -e "$out" ] || [ -f "$out" ] || fail "$out is no file"

@@ -136,7 +136,7 @@ fn shaded_needs(
     needs_of(alloc, task, first, &heights, &dark, &late)
 }
 
-/// What is drawn of a task whose jobs are to be done within a time; nothing is needed where no runtime is enough.
+/// What is drawn of a task whose jobs are to be done within a time; `needed` is none where no runtime is enough.
 pub(crate) fn drawn_of(
     alloc: Global,
     task: &JobTask,

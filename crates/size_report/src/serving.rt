@@ -128,7 +128,7 @@ struct JobSpan {
     is_drawn: bool,
 }
 
-/// Writes that no runtime is enough, by the first job that is late with the whole period and how many may be.
+/// Writes that no runtime is enough: the first job that may be late with the whole period, and how many may be.
 fn put_none_enough(
     out: &mut Vec<u8>,
     task: &JobTask,

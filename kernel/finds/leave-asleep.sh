@@ -1,6 +1,6 @@
 #!/bin/sh
 # A task that is put out of SCHED_DEADLINE while it sleeps past its 0-lag time never gives its bandwidth back.
-. /scripts/kernel/finds/sums.sh
+. /kernel/finds/sums.sh
 sums 'after boot'
 for time in 1 2 3; do
     # A task of 5 %, which sleeps 3 to 4 periods after each job; its parent makes it SCHED_OTHER after 300 ms.

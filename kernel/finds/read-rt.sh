@@ -1,6 +1,6 @@
 #!/bin/sh
 # Reading sched_rt_runtime_us changes total_bw and extra_bw (6.12.43 and later 6.12).
-. /scripts/kernel/finds/sums.sh
+. /kernel/finds/sums.sh
 sums 'after boot'
 deadline 8 gr_0,q=20000,p=100000 gr_1,q=30000,p=100000
 sums 'two tasks of 20 and 30 %'

@@ -1,7 +1,7 @@
 #!/bin/sh
 # A write of a stopped fair server's runtime takes its bandwidth off running_bw once more, and the kernel warns. It wants several
 # processors, and some writes until one meets the server stopped.
-. /scripts/kernel/finds/sums.sh
+. /kernel/finds/sums.sh
 dmesg -c > /dev/null
 for time in 1 2 3 4 5 6 7 8 9 10 11 12 13 14 15 16 17 18 19 20; do
     sleep 1.5

@@ -1,6 +1,6 @@
 #!/bin/sh
 # Hotplug and partitions take the fair servers' shares again each time. It wants two processors.
-. /scripts/kernel/finds/sums.sh
+. /kernel/finds/sums.sh
 sums 'after boot'
 for time in 1 2; do
     echo 0 > /sys/devices/system/cpu/cpu1/online
@@ -16,7 +16,7 @@ echo 1 > /cg/a/cpuset.cpus
 for time in 1 2; do
     echo root > /cg/a/cpuset.cpus.partition
     sums "cpu 1 is a partition, $time: seen from outside"
-    sh -c 'echo $$ > /cg/a/cgroup.procs; . /scripts/kernel/finds/sums.sh; sums "from within"'
+    sh -c 'echo $$ > /cg/a/cgroup.procs; . /kernel/finds/sums.sh; sums "from within"'
     echo member > /cg/a/cpuset.cpus.partition
     sums "no partition any more"
 done

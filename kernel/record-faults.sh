@@ -1,9 +1,9 @@
 #!/bin/sh
 # Runs record.sh in each way in which it can end, as root, and sees that it says why, has the right status, and leaves nothing behind:
 # no tracefs instance, no event, no mount, no process, no half-written file. Its last line is 'N passed, M failed'.
-# On a kernel that can be probed: scripts/check-kernel.sh --run scripts/kernel/record-faults.sh KERNEL
+# On a kernel that can be probed: scripts/check-kernel.sh --run kernel/record-faults.sh KERNEL
 set -u
-record=$(cd "$(dirname "$0")/.." && pwd)/record.sh
+record=$(cd "$(dirname "$0")/.." && pwd)/scripts/record.sh
 [ -f "$record" ] || record=/scripts/record.sh
 work=$(mktemp -d)
 tracefs=$work/tracefs
@@ -63,7 +63,7 @@ RECORD_BUFFER_KB=999999999 run 'a buffer that cannot be had' 3 'RECORD_BUFFER_KB
 sleeps='for i in 1 2 3 4 5 6 7 8 9; do sleep 0.01; done'
 RECORD_BUFFER_KB=4 run 'events are lost' 4 '[1-9].* events were lost' "$work/out" sh -c "$sleeps"
 grep -qE '^# grub: lost [1-9]' "$work/out" || { failed=$((failed + 1)); echo "record-faults: the record does not tell of lost events"; }
-probes=${record%/*}/kernel/probes.sh
+probes=${record%/*}/../kernel/probes.sh
 mount -t tracefs tracefs "$tracefs"
 mkdir "$tracefs/instances/others"
 if TRACEFS=$tracefs "$probes" set "$tracefs/instances/others" few > /dev/null 2>&1; then

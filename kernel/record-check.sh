@@ -2,7 +2,7 @@
 # Records a load of four SCHED_DEADLINE tasks on this machine and checks the record with grubtrace, which has to be built (GRUBTRACE may
 # name another one). Where the machine does not let it, it says why, and ends with 0.
 set -u
-root=$(cd "$(dirname "$0")/../.." && pwd)
+root=$(cd "$(dirname "$0")/.." && pwd)
 grubtrace=${GRUBTRACE:-$root/crates/grubtrace/out/grubtrace}
 work=$(mktemp -d)
 trap 'rm -rf "$work"' EXIT
@@ -11,7 +11,7 @@ fail() { echo "record-check: $*"; exit 1; }
 
 [[ $(id -u) == 0 ]] || cannot "it has to be run as root"
 command -v cc > /dev/null || cannot "there is no C compiler"
-cc -O2 -o "$work/dlgen" "$root/scripts/kernel/dlgen.c" -lpthread || fail "the load cannot be compiled"
+cc -O2 -o "$work/dlgen" "$root/kernel/dlgen.c" -lpthread || fail "the load cannot be compiled"
 # The last one is changed by another task.
 tasks='gr_0,q=5000,p=50000 gr_1,q=10000,p=40000,en=900 gr_2,q=3000,p=30000,r=0,st=300 gr_3,q=2000,p=40000,xc=700:3000:60000:60000:1'
 "$root/scripts/record.sh" "$work/trace.txt" "$work/dlgen" 1.5 1 $tasks 2> "$work/said"
