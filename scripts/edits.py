@@ -1,10 +1,10 @@
 #!/usr/bin/env python3
 """edits.py [--minutes N] [NAME | NAME/EDIT]..: tries the must-fail edits of crates/NAME/edits. The prover must refuse each, or
-the language, by the error that a line 'error: NAME' of the edit names. Only the functions that edits turn are checked, over
-the libraries that `rt ci` or scripts/build.py left: a function is proved from the contracts of those that it calls. All edits of
-a crate are tried in one check, each in a copy of its function. What that does not refuse is tried alone, in its place, and then in
-a check of the whole crate. What was refused is kept on this machine, by a sum of all that its check read. What is not tried in N
-minutes has failed. The last line is 'N passed, M failed'."""
+the language, by the error that a line 'error: NAME' of the edit names. Only the functions that edits turn are checked, and those
+of the crate that they call, over the libraries that `rt ci` or scripts/build.py left. All edits of a crate are tried in one
+check, each in a copy of its function. What that does not refuse is tried alone, in its place, and then in a check of the whole
+crate. What was refused is kept on this machine, by a sum of all that its check read. What is not tried in N minutes has failed.
+The last line is 'N passed, M failed'."""
 import argparse
 import hashlib
 import os
