@@ -60,6 +60,7 @@ cases: build
 
 # Man pages and completions beside --help of the programs.
 options: build
+	python3 scripts/releases.py
 	python3 scripts/options.py
 
 # grubrun beside plain Rust without proofs (bench/, which wants cargo), in one run; and how long `grubtrace size` takes as jobs grow.
@@ -72,7 +73,7 @@ record-check: tracer
 	kernel/record-check.sh
 
 # A release that needs no kit, out/neddwyrol-VERSION-x86_64-linux.tar.gz, which is unpacked and tried.
-dist: everything library
+dist: everything library library-arm64
 	@bash scripts/dist.sh
 
 # The programs, their man pages, and the completions of bash, zsh and fish, below PREFIX; DESTDIR goes in front of it.
@@ -100,24 +101,32 @@ clean:
 	rm -rf out crates/*/out bench/target
 
 # The library for C, Rust and Python (docs/LIBRARY.md), built by both of the kit's compilers into out/library.
-.PHONY: library library-test library-bench install-library uninstall-library
+.PHONY: library library-arm64 library-test library-bench install-library uninstall-library
 
 library:
 	@bash bindings/test.sh --build
+
+# The same for arm64, into out/library/aarch64.
+library-arm64: library
+	@bash bindings/test.sh --build-arm64
 
 # The gate's step for it: linked and run from C, C++, Rust and Python.
 library-test:
 	@bash bindings/test.sh
 
-# Nanoseconds a transition, beside plain Rust (bindings/plain, which wants cargo) and from Python.
+# How long a transition takes, of other ways to make it in the same run: the shared table and the book beside locks and plain C, the book
+# beside plain Rust (bindings/plain, which wants cargo), and from Python. docs/PERFORMANCE.md says how to read it.
 library-bench: library
 	@for it in rattle llvm; do \
-	    echo "built by $$it" && NEDDWYROL_LIB=$(CURDIR)/out/library/$$it CARGO_TARGET_DIR=$(CURDIR)/out/library/cargo \
+	    echo "built by $$it" && built=$(CURDIR)/out/library/$$it && \
+	    $(CC) -std=gnu11 -O2 -I bindings/include bindings/speed/*.c $$built/libneddwyrol_table.a $$built/libneddwyrol.a -pthread -o $$built/speed && \
+	    $$built/speed kinds && $$built/speed threads && \
+	    NEDDWYROL_LIB=$$built CARGO_TARGET_DIR=$(CURDIR)/out/library/cargo \
 	        cargo run -q --offline --release --manifest-path bindings/plain/Cargo.toml --bin speed || exit 1; \
 	done
 	@NEDDWYROL_SO=out/library/libneddwyrol.so.1 python3 bindings/python/speed.py
 
-# Library, header and pkg-config file below PREFIX.
+# Libraries, headers, pkg-config files, man page, examples, the Rust crates and the Python module below PREFIX, without the programs.
 install-library: library
 	@bash bindings/install.sh out/library $(PREFIX) $(DESTDIR)$(PREFIX)
 	@echo "installed libneddwyrol below $(DESTDIR)$(PREFIX)"

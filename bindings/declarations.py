@@ -2,7 +2,7 @@
 """Holds the declarations of the library for C to its source: the headers, the Rust crates and the Python module.
 
 declarations.py LIBRARY: the structs with their fields, the calls with the types of their arguments, and every number have
-to be those of crates/grub_flat and neddwyrol, and of neddwyrol_table for the shared table. The Python module is looked at as it is
+to be those of crates/library_book and neddwyrol, and of neddwyrol_table for the shared table. The Python module is looked at as it is
 loaded, with the shared library LIBRARY. It prints what differs, and ends with 0 where nothing does.
 """
 import ctypes
@@ -11,8 +11,9 @@ import re
 import sys
 
 ROOT = os.path.dirname(os.path.dirname(os.path.abspath(__file__)))
+OPS = ("JOIN", "WAKE", "BLOCK", "LEAVE", "TIMER", "EXIT", "CHARGE", "RETUNE", "MOVE")
 NUMBER = r"pub const (?:FLAT_)?(\w+): \w+ = (\d+);"
-EXPORT = r'extern "C" fn (\w+)\((.*?)\)(?: -> (\w+))?\n'
+EXPORT = r'extern "C" fn (\w+)\((.*?)\)(?: -> (\w+))?(?: \{)?\n'
 OF_C = {"uint8_t": "u8", "uint32_t": "u32", "uint64_t": "u64", "int64_t": "i64", "size_t": "usize", "void": "u8"}
 
 
@@ -48,9 +49,9 @@ def calls_of(pattern, text):
 
 
 def source():
-    flat = text_of("crates/grub_flat/src", "memory.rt", "asked.rt", "numbers.rt", "codes.rt", "checker.rt")
-    exports = text_of("crates/neddwyrol/src", "arithmetic.rt", "book.rt", "checks.rt")
-    spoken, placed = text_of("crates/grub_flat/src", "calls.rt"), text_of("crates/grub_flat/src", "records.rt")
+    flat = text_of("crates/library_book/src", "memory.rt", "asked.rt", "moving.rt", "numbers.rt", "codes.rt", "checker.rt")
+    exports = text_of("crates/neddwyrol/src", "arithmetic.rt", "book.rt", "checks.rt", "first.rt")
+    spoken, placed = text_of("crates/library_book/src", "calls.rt"), text_of("crates/library_book/src", "records.rt")
     numbers = {"GONE_FOR_GOOD": numbers_of(r"Place::(Gone) => \((\d+)", placed)["GONE"]}
     numbers |= numbers_of(NUMBER, flat + exports) | numbers_of(r"BW_(UNIT): u32 = (\d+)", text_of("crates/grub_bw/src", "queue.rt"))
     numbers |= numbers_of(r"(\d+) => Some\(Op::(\w+)", spoken) | numbers_of(r"(\d+) => Place::(?:On\(queue, State::)?(\w+)", placed)
@@ -93,12 +94,30 @@ def module(structs, numbers):
     return fields, {name: ([kinds[a] for a in given], kinds[result]) for name, (result, given) in it.CALLS.items()}, {name: getattr(it, name, None) for name in numbers}
 
 
+def named():
+    """The codes that nd_strerror, the Rust crate and the Python module have a name for."""
+    import neddwyrol as it
+
+    spoken = set(all_of(r"ND_NAMED\((?!name)(\w+)\)", text_of("bindings/include", "neddwyrol.h")))
+    rust = {a for a, b in all_of(r"^ +(\w+) => \"(\w+)\",", text_of("bindings/rust/src", "codes.rs")) if a == b}
+    return [("nd_strerror", spoken), ("codes::name", rust), ("name_of", set(it._NAMES.values()))]
+
+
+def named_of_table():
+    """The same of the shared table's codes, which stand there by their numbers: {name: number}."""
+    import neddwyrol as it
+
+    spoken = numbers_of(r"case (\d+): return \"(\w+)\";", text_of("bindings/include", "neddwyrol.h"))
+    rust = numbers_of(r"^ +(\d+) => \"(\w+)\",", text_of("bindings/rust/src", "codes.rs"))
+    return [("nd_strerror", spoken), ("codes::name", rust), ("name_of", {name: number for number, name in it._NAMES_OF_TABLE.items()})]
+
+
 def main(words):
     os.environ["NEDDWYROL_SO"] = os.path.abspath(words[0])
     sys.dont_write_bytecode = True
     structs, calls, numbers = library = source()
     told = [len(it) for it in library + table()]
-    faults = [] if told == [10, 14, 61, 2, 11, 12] else [f"the source was not read: {told} structs, calls and numbers"]
+    faults = [] if told == [10, 20, 66, 3, 13, 14] else [f"the source was not read: {told} structs, calls and numbers"]
     plain = {name: ([it.replace("*const", "*mut").replace("usize", "u64") for it in given], result.replace("usize", "u64")) for name, (given, result) in calls.items()}
     for where, want, got in (
         ("neddwyrol.h", library, header("neddwyrol.h")),
@@ -109,6 +128,12 @@ def main(words):
     ):
         for wanted, found in zip(want, got):
             faults += [f"{where}: the source has {it} as {wanted.get(it)}, and here it is {found.get(it)}" for it in {**wanted, **found} if wanted.get(it) != found.get(it)]
+    # (what is asked or answered: not the limits, the states, and the kinds of ops and events)
+    others = {"ABI", "VERSION", "UNIT", "QUEUES_MAX", "TASKS_MAX", "AWAY", "CONTENDING", "NON_CONTENDING", "INACTIVE", "GONE_FOR_GOOD", "CALL", "READING"}
+    others |= {it for it, number in numbers.items() if 1 <= number <= 9 and it in OPS}
+    faults += [f"{where}: it names {it}, or has no name for it" for where, got in named() for it in got ^ (set(numbers) - others)]
+    codes = {it: number for it, number in table()[2].items() if not it.endswith("_MAX")}
+    faults += [f"{where}: the table's codes are {codes}, and here they are {got}" for where, got in named_of_table() if got != codes]
     print("".join(f"declarations: {it}\n" for it in faults), end="")
     return 1 if faults else 0
 

@@ -22,14 +22,18 @@ _grubtrace() {
             mapfile -t COMPREPLY < <(compgen -W 'kernel documentation' -- "$current")
             return
             ;;
-        --out | --table | --json | --picture) return ;;
+        --laws)
+            mapfile -t COMPREPLY < <(compgen -W 'progress expiry firing 0-lag budget total pick run server none' -- "$current")
+            return
+            ;;
+        --out | --table | --json | --picture | --report) return ;;
     esac
     case ${command-} in
         '') words='tasks events check size help -h --help -V --version' ;;
         help) words='tasks events check size' ;;
         tasks) words='-h --help' ;;
         events) words='--task --cpus --rt --fair-server --out -h --help' ;;
-        check) words='--task --cpus --domain --rt --fair-server --kernel --within --by --timers --why --table --json --picture --from --to -h --help' ;;
+        check) words='--task --cpus --domain --rt --fair-server --kernel --within --by --timers --laws --why --table --json --picture --report --from --to -h --help' ;;
         size) words='--task --within --late --margin --picture --cpus --rt --fair-server -h --help' ;;
     esac
     if [[ $current == -* || -z ${command-} || $command == help ]]; then

@@ -1,12 +1,15 @@
 #!/usr/bin/perl
-# btf.pl BTF < DEFINITIONS: probe definitions as kprobe events, with the offsets that the kernel's type information has.
+# btf.pl BTF GROUP < DEFINITIONS: probe definitions as kprobe events of GROUP, with the offsets that the kernel's type information has.
 # Input: lines NAME FUNCTION FIELD=EXPRESSION.. (probes.txt). Output: a line for each, NAME and its event for dynamic_events, or NAME
 # and "-" where the kernel does not have the function or a member. An EXPRESSION is ARGUMENT(->MEMBER|.MEMBER)*[:TYPE].
+# btf.pl BTF < DEFINITIONS: the same lines, with a number for each FIELD=rq~VARIABLE, which tells a variable that each CPU has of its own:
+# how far it lies from the runqueue, which is the first argument. A field whose variable the kernel does not have is left out. So with
+# FIELD=timer@STRUCT.MEMBER.OTHER: OTHER of the STRUCT whose MEMBER the first argument is.
 # The layout of BTF is that of the kernel's Documentation/bpf/btf.rst.
 use strict;
 use warnings;
 
-my ($INT, $POINTER, $STRUCT, $UNION, $FUNCTION) = (1, 2, 4, 5, 12);
+my ($INT, $POINTER, $STRUCT, $UNION, $FUNCTION, $SECTION) = (1, 2, 4, 5, 12, 15);
 my %passed_over = map { $_ => 1 } 8, 9, 10, 11, 18;    # typedef, volatile, const, restrict, type tag
 # The words that follow a type's three: so many, and so many for each of its members.
 my %after = (1 => 1, 3 => 3, 14 => 1, 17 => 1);
@@ -24,11 +27,14 @@ sub kind { return $word[$_[0] + 1] >> 24 & 31 }
 sub members { return $word[$_[0] + 1] & 0xffff }
 
 my @type_at = (undef);
-my %prototype;
+my (%prototype, %struct, @each_cpu);
 for (my $place = 0; $place < @word;) {
     push @type_at, $place;
     my $kind = kind($place);
     $prototype{name_of($word[$place])} = $word[$place + 2] if $kind == $FUNCTION;
+    $struct{name_of($word[$place])} //= $#type_at if $kind == $STRUCT && $word[$place];
+    @each_cpu = map { [@word[$place + 3 + 3 * $_, $place + 4 + 3 * $_]] } 0 .. members($place) - 1
+        if $kind == $SECTION && name_of($word[$place]) eq '.data..percpu';
     $place += 3 + ($after{$kind} // 0) + ($each{$kind} // 0) * members($place);
 }
 
@@ -89,17 +95,38 @@ sub fetch {
     return '+' . int($offset / $unit) * $unit / 8 . "($base):$type";
 }
 
+if (@ARGV == 1) {
+    my %at = map { name_of($word[$type_at[$_->[0]]]) => $_ } @each_cpu;
+    my $apart = sub {
+        my ($field, $variable) = @_;
+        return '' unless $at{$variable} && $at{runqueues};
+        return sprintf(' %s=%+d($arg1):%s', $field, $at{$variable}[1] - $at{runqueues}[1], type_name($word[$type_at[$at{$variable}[0]] + 2], 0, 0));
+    };
+    my $beside = sub {
+        my ($field, $struct, $own, $other) = @_;
+        my (undef, $from) = member($struct{$struct}, $own) or return '';
+        my ($type, $to) = member($struct{$struct}, $other) or return '';
+        return sprintf(' %s=%+d($arg1):%s', $field, ($to - $from) / 8, type_name($type, 0, 0));
+    };
+    while (my $line = <STDIN>) {
+        $line =~ s/ (\w+)=\w+@(\w+)\.(\w+)\.(\w+)/$beside->($1, $2, $3, $4)/ge;
+        $line =~ s/ (\w+)=rq~(\w+)/$apart->($1, $2)/ge;
+        print $line;
+    }
+    exit;
+}
+
 LINE: while (my $line = <STDIN>) {
     my ($name, $function, @fields) = split ' ', $line;
     if ($function =~ m{/}) {
-        print "$name e:grub/$name $function @fields\n";
+        print "$name e:$ARGV[1]/$name $function @fields\n";
         next;
     }
-    my $event = "p:grub/$name $function";
+    my $event = "p:$ARGV[1]/$name $function";
     my $prototype = $function =~ /^!/ ? undef : $prototype{$function};
     for my $field (@fields) {
         my ($key, $expression) = split /=/, $field, 2;
-        my $value = defined $prototype ? fetch($type_at[$prototype], $expression) : undef;
+        my $value = $expression =~ /^[-+]/ ? $expression : defined $prototype ? fetch($type_at[$prototype], $expression) : undef;
         print("$name -\n"), next LINE unless defined $value;
         $event .= " $key=$value";
     }

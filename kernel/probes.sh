@@ -4,8 +4,8 @@
 #                                 the kind of each. Ends with 0; with 1 where only upd and enq can be had; with 2 where none can
 #   probes.sh check < TRACE       are the first lines of sense? A kernel does not refuse a wrong offset: it reads some number
 #   probes.sh clear               removes the events
-#   probes.sh sums                a note a CPU: the sums of its runqueue, by an event that is there for a moment (an fprobe: the
-#                                 kernels that need this note have them)
+#   probes.sh sums                a note a CPU: the sums of its runqueue and its root domain, by an event that is there for a moment
+#   probes.sh names               the names of all events, with | between them
 #   probes.sh mask [drop] < TRACE puts numbers for the kernel's addresses; drop: leaves the probe lines out
 # TRACEFS is where tracefs is mounted, BTF the kernel's type information.
 export LC_ALL=C
@@ -13,6 +13,8 @@ here=$(cd "$(dirname "$0")" && pwd)
 tracefs=${TRACEFS:-/sys/kernel/tracing}
 btf=${BTF:-/sys/kernel/btf/vmlinux}
 events=$tracefs/events
+# What some kernels do not have: servers, and functions that change sums by no rule of a task.
+optional='ede|pck|dls|idl|pid|att|reb|lim|sap|bwa|bwf|aff|onl|off'
 
 # The definitions of probes.txt (or standard input), one a line: NAME FUNCTION FIELD=EXPRESSION ..
 definitions() {
@@ -43,7 +45,7 @@ make() {
     fi
     for name in $(cut -d' ' -f1 "$work/wanted"); do [ -d "$events/$1/$name" ] || break; name=; done
     [ "$name" ] && [ -e "$tracefs/kprobe_events" ] || return 0
-    "$here/btf.pl" "$btf" < "$work/wanted" | while read -r name event; do
+    "$here/btf.pl" "$btf" "$1" < "$work/wanted" | while read -r name event; do
         [ -d "$events/$1/$name" ] || [ "$event" = - ] && continue
         put "$event" && case $event in e:*) echo "$name eprobe" ;; *) echo "$name kprobe" ;; esac
     done
@@ -59,10 +61,10 @@ set_probes() {
     [ -e "$btf" ] || cannot "this kernel has no type information ($btf)"
     [ -e "$tracefs/dynamic_events" ] || cannot "this kernel has no dynamic events, or is locked down"
     [ -d "$events/grub" ] && cannot "another recording has set them; if none runs: $0 clear"
-    definitions "$here/probes.txt" | { [ "$2" = few ] && grep -E '^(upd|enq) ' || cat; } > "$work/wanted"
+    definitions "$here/probes.txt" | "$here/btf.pl" "$btf" | { [ "$2" = few ] && grep -E '^(upd|enq) ' || cat; } > "$work/wanted"
     make grub > "$work/kinds"
     missing=
-    for name in $(cut -d' ' -f1 "$work/wanted" | sort -u | grep -vE '^(ede|pck)$'); do
+    for name in $(cut -d' ' -f1 "$work/wanted" | sort -u | grep -vE "^($optional)$"); do
         [ -d "$events/grub/$name" ] || missing="$missing $name"
     done
     case $missing in
@@ -75,7 +77,6 @@ set_probes() {
         echo "only the probes upd and enq: the kernel does not take$missing" >&2 ;;
     esac
     filters | while read -r name filter; do
-        # update_curr_dl has no servers to leave out.
         grep -q "${filter%% *};" "$events/grub/$name/format" 2> /dev/null && echo "$filter" > "$instance/events/grub/$name/filter"
     done
     echo "# grub: probes$(sort "$work/kinds" | while read -r name kind; do [ -d "$events/grub/$name" ] && printf ' %s=%s' "$name" "$kind"; done)"
@@ -89,7 +90,7 @@ check() {
         line_cpu = -1; split("", f)
         for (i = 1; i < NF; i++) { if ($i ~ /^\[[0-9]+\]$/) line_cpu = substr($i, 2) + 0; f[$i] = $(i + 1) }
         if (f["cpu"] != line_cpu) elsewhere++
-        sums = f["cpu"] < cpus && f["ru"] + 0 <= f["th"] + 0 && f["th"] + 0 <= 64 * 1048576
+        sums = f["cpu"] < cpus && f["th"] + 0 <= 64 * 1048576
         flags = f["thr"] <= 1 && f["yld"] <= 1
         ratio = !("ra" in f) || f["ra"] >= 256 && f["ra"] <= 65536
         task = !("rt" in f) || f["rt"] + 0 <= f["dl"] + 0 && f["dl"] + 0 <= f["pe"] + 0 && f["oq"] <= 2
@@ -105,14 +106,16 @@ clear_probes() {
 }
 
 sums() {
-    grep -q '<argname>' "$tracefs/README" || return 0
     instance=$tracefs/instances/grubsums.$$
     trap 'end_of_sums; rm -rf "$work"' EXIT
     trap 'exit 1' HUP INT TERM
-    echo 'sum enqueue_task_fair cpu=rq->cpu this=rq->dl.this_bw running=rq->dl.running_bw extra=rq->dl.extra_bw' > "$work/wanted"
+    echo 'sum enqueue_task_fair cpu=rq->cpu this=rq->dl.this_bw running=rq->dl.running_bw extra=rq->dl.extra_bw rd=rq->rd:x64' > "$work/wanted"
     make grubsums > /dev/null
     [ -d "$events/grubsums" ] || return 0
-    mkdir "$instance" && echo 1 > "$instance/events/grubsums/enable" && for cpu in $(sed -n 's/^processor.*: *//p' /proc/cpuinfo); do
+    mkdir "$instance" && echo 1 > "$instance/events/grubsums/enable"
+    # It wakes a thread of the kernel on each processor, also where this script may not run.
+    cat /proc/sys/vm/stat_refresh > /dev/null 2>&1
+    for cpu in $(sed -n 's/^processor.*: *//p' /proc/cpuinfo); do
         taskset -c "$cpu" true 2> /dev/null
         sed -n "s/.* sum: .* cpu=$cpu this=\(.*\)/# grub: cpu $cpu this=\1/p" "$instance/trace" | tail -n 1
     done
@@ -123,11 +126,12 @@ end_of_sums() {
 }
 
 mask() {
-    awk -v drop="$1" '
-    / (enq|upd|deq|mig|sfr|adm|ina|dlt|hst|ede|pck): \(/ {
+    awk -v drop="$1" -v lines=" (enq|upd|deq|mig|sfr|adm|ina|dlt|hst|$optional): [(]" '
+    $0 ~ lines {
         if (drop) next
-        hide("timer="); hide("se="); hide("ps=")
+        hide("timer="); hide("se="); hide("ps="); hide("rd=")
     }
+    /^# grub: cpu / { hide("rd=") }
     / hrtimer=(0x)?ff/ { hide("hrtimer=") }
     { print }
     function hide(field,  address) {
@@ -146,5 +150,6 @@ check) check ;;
 clear) clear_probes ;;
 sums) sums ;;
 mask) mask "${2-}" ;;
-*) sed -n '2,10s/^# *//p' "$0" >&2; exit 2 ;;
+names) echo "enq|upd|deq|mig|sfr|adm|ina|dlt|hst|$optional" ;;
+*) sed -n '2,11s/^# *//p' "$0" >&2; exit 2 ;;
 esac

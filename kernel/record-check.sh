@@ -29,5 +29,6 @@ status=$?
 case $status in
 0) echo "record-check: recorded, and this kernel accounts by the rules" ;;
 4) fail "recorded, and this kernel differs from the rules" ;;
+5) fail "recorded, and this kernel breaks a law" ;;
 *) fail "the check ended with status $status" ;;
 esac

@@ -2,7 +2,7 @@
 """build.py [NAME]..: proves grubrun and grubtrace, or the programs and static libraries that are named, with what they stand on,
 and builds them into crates/NAME/out. What reads the same as before is not proved again; out/build/CRATE.log has what was said.
 It calls the kit's `rattle`, since `rt` lets no second run into a crate or one below it. `build.py --over-ci NAME..` takes what is
-below from what `rt ci` just left. `build.py --clean` empties its cache."""
+below from what `rt ci` just left. `build.py --arm64 ..` proves and builds static libraries for arm64, into out/aarch64. `build.py --clean` removes what the scripts keep on this machine, the refused edits among it."""
 import fcntl
 import hashlib
 import os
@@ -12,13 +12,15 @@ import sys
 import time
 from concurrent.futures import FIRST_COMPLETED, ThreadPoolExecutor, wait
 
-from crates import LIBRARIES, ROOM, crates, kit_folder, lanes, left_by_ci, sum_of
+from crates import CACHE, LIBRARIES, ROOM, crates, kit_folder, lanes, left_by_ci, sum_of
 from shared import ROOT, text_of
 
 BUILD = f"{ROOT}/out/build"
 PROGRAMS = ["grubrun", "grubtrace"]
-# The compilers of a static library. What each makes lies in a folder of its name.
-COMPILERS = ["llvm", "rattle"]
+# What a static library is proved and built for, and by which compilers: what each makes lies in a folder of its name.
+HERE = ([], {"llvm": "llvm", "rattle": "rattle"})
+ARM64 = (["--target", "aarch64-unknown-linux-gnu"], {"aarch64": "llvm"})
+chosen_target = HERE
 
 
 def say(text, well=False):
@@ -29,8 +31,13 @@ def say(text, well=False):
 def made_of(crate):
     """The files, or the folder, that building a crate makes."""
     if crate.is_static:
-        return [f"{crate.folder}/out/{it}/lib{crate.name}.a" for it in COMPILERS]
+        return [f"{crate.folder}/out/{it}/lib{crate.name}.a" for it in chosen_target[1]]
     return [f"{crate.folder}/out/{crate.name}" if crate.is_program else f"{LIBRARIES}/{crate.name}.rlib"]
+
+
+def kept(crate):
+    """Where is kept what was said and made of a crate, without its ending."""
+    return f"{BUILD}/{crate.name}" + "".join(f".{it}" for it in chosen_target[0][1:] if crate.is_static)
 
 
 def reads(crate, kit):
@@ -44,11 +51,12 @@ def commands(crate, kit, jobs, libraries):
     words, count = crate.words(kit, libraries), ["--jobs", str(jobs)]
     toolchain, compiled = ["--toolchain", f"{kit}/toolchain"], f"{BUILD}/{crate.name}.o"
     if crate.is_static:
-        kind, checked = ["--crate-type", "staticlib"], f"{BUILD}/{crate.name}.checked"
+        target, compilers = chosen_target
+        kind, checked = ["--crate-type", "staticlib", *target], f"{kept(crate)}.checked"
         # (what was checked is compiled without the built logic)
         again = ["rattle", "build", *words[:-2], *kind, "--crate-checked", checked, *toolchain]
         return [["rattle", "check", *words, *kind, *count, "-o", checked],
-                *([*again, "--backend", it, "-o", to] for it, to in zip(COMPILERS, made_of(crate)))]
+                *([*again, "--backend", it, "-o", to] for it, to in zip(compilers.values(), made_of(crate)))]
     if not crate.is_program:
         return [["rattle", "build", *words, *count, "--statements", "-o", *made_of(crate)]]
     linked = ["rattle-link", "--target", "x86_64-unknown-linux-gnu", *toolchain, "-o", *made_of(crate), compiled]
@@ -58,7 +66,7 @@ def commands(crate, kit, jobs, libraries):
 
 def prove(crate, kit, jobs, libraries):
     """Proves a crate over these libraries, and makes what is made of it: whether it is well."""
-    path, began = f"{BUILD}/{crate.name}.log", time.time()
+    path, began = f"{kept(crate)}.log", time.time()
     for it in made_of(crate):
         os.makedirs(os.path.dirname(it), exist_ok=True)
     with open(path, "w", encoding="utf-8") as log:
@@ -73,7 +81,7 @@ def prove(crate, kit, jobs, libraries):
 
 def make(crate, kit, jobs):
     """Proves a crate, and makes what is made of it, unless that was done: whether it is well."""
-    note, made, read = f"{BUILD}/{crate.name}.made", made_of(crate), reads(crate, kit)
+    note, made, read = f"{kept(crate)}.made", made_of(crate), reads(crate, kit)
     if os.path.isfile(note) and all(map(os.path.exists, made)) and text_of(note) == f"{read} {sum_of(*made)}":
         return True
     if not prove(crate, kit, jobs, dict.fromkeys(crate.below, LIBRARIES)):
@@ -104,7 +112,7 @@ def build(chosen, kit):
 
 def main(names):
     if names == ["--clean"]:
-        for it in (BUILD, LIBRARIES):
+        for it in (BUILD, CACHE):
             shutil.rmtree(it, ignore_errors=True)
         return 0
     if not shutil.which("rt"):
@@ -118,8 +126,12 @@ def main(names):
         if os.path.isfile(f"{it.path}/of") and not os.path.isdir(text_of(f"{it.path}/of")):
             shutil.rmtree(it.path, ignore_errors=True)
     known = crates()
-    if names[:1] == ["--over-ci"]:
-        chosen = [known[it] for it in names[1:]]
+    if "--arm64" in names:
+        global chosen_target
+        chosen_target = ARM64
+    over, names = "--over-ci" in names, [it for it in names if not it.startswith("--")]
+    if over:
+        chosen = [known[it] for it in names]
         libraries = left_by_ci({low for it in chosen for low in it.below}) or sys.exit("build: rt ci has left no libraries")
         with ThreadPoolExecutor() as pool:
             return 0 if all(pool.map(lambda it: prove(it, kit_folder(), 1, libraries), chosen)) else 1

@@ -13,29 +13,37 @@ In a table '{WORD N times}' is a word so many times, '{all of FOLDER}' its files
     verdict WORD         a line of standard output begins with this word, whatever else it says
     shows | LINES        each of these lines is one of standard output, whatever the spaces, and counts as a case
     in FILE              standard input
+    pieces N FILE        standard input: a pipe with so many lines of a file at a time, the next ones when those were read
     into PATH            where standard output goes: a device, 'closed', or 'gone', a pipe that nobody reads
     room KB, most BYTES  the memory that the program may have, and the longest file that it may write
-    makes FILE [some] [as PATH] [rows PATH] [counts PATH] [sum SHA256] [has TEXT] [| LINES], leaves FILE
+    makes FILE [some] [as PATH] [rows PATH] [counts PATH] [sum SHA256] [has TEXT] [says KEYS VALUE] [| LINES], leaves FILE
                          a file is there afterwards, or none is; rows: of the kinds of that table's rows, in its columns;
-                         counts: with so many equal and different rows of each kind
+                         counts: with so many equal and different rows of each kind; says: JSON that has this value at the
+                         keys and places that points part
     slower CASE          it takes five times the processor time of that case, and 20 ms at least
     values PROGRAM WORD..    words with {} for the values of the next lines:
-    taken VALUE..        runs with each of them, which the program takes: its status is 0 or 4
+    taken VALUE..        runs with each of them, which the program takes: its status is 0, 4 or 5
     refused VALUE..      runs with each of them, of which it says that the words are wrong
     judged VALUE..       runs with each of them, which end with a verdict, or with one line that names a fault
     page PATH            a case for each block of a page that begins with '$ PROGRAM': it prints this; '..' is any lines"""
+import fcntl
 import hashlib
+import json
 import os
 import re
 import resource
 import shlex
 import signal
+import struct
 import subprocess
 import sys
 import tempfile
+import termios
+import time
 from collections import Counter
-from contextlib import nullcontext
+from contextlib import contextmanager, nullcontext
 from glob import glob
+from threading import Event, Thread
 
 from shared import ROOT, Tried, built, files_below, rows_of, text_of, unpacked
 
@@ -44,12 +52,12 @@ from inputs import make  # pylint: disable=wrong-import-position
 
 SECONDS = 180
 # Status, standard output and standard error of a run that ends with a verdict, or with one line that names a fault.
-JUDGED = re.compile(rb"(0\n(.*\n)*agrees.*|4\n(.*\n)*differs.*)\n(.*\n)*\0|1\n\0grubtrace: .*: \d\d [A-Z]\w+.*\n")
+JUDGED = re.compile(rb"([05]\n(.*\n)*agrees.*|5\n(.*\n)*nothing could be compared.*|4\n(.*\n)*differs.*)\n(.*\n)*\0|1\n\0grubtrace: .*: \d\d [A-Z]\w+.*\n")
 # The statuses of runs with values, and what is wanted of them.
 VALUES = {
-    "taken": ((0, 4), [("out", "any", "")]),
+    "taken": ((0, 4, 5), [("out", "any", "")]),
     "refused": ((2,), [("err", "some", "")]),
-    "judged": ((0, 1, 4), [("out", "any", ""), ("err", "any", ""), ("run", "judged", "")]),
+    "judged": ((0, 1, 4, 5), [("out", "any", ""), ("err", "any", ""), ("run", "judged", "")]),
 }
 
 
@@ -65,6 +73,15 @@ def has_counts(text, path):
     found = Counter((it["kind"], it["answer"]) for it in rows_of(text.decode()))
     wanted = rows_of(text_of(f"{ROOT}/{path}"))
     return all(found[row["kind"], it] == int(row[it]) for row in wanted for it in ("equal", "differs"))
+
+
+def says(text, wanted):
+    """Whether a text is JSON that has a value at a place: keys and numbers, parted by points."""
+    keys, _, value = wanted.partition(" ")
+    found = json.loads(text)
+    for key in keys.split("."):
+        found = found[int(key)] if isinstance(found, list) else found[key]
+    return found == json.loads(value)
 
 
 def is_shown(text, shown):
@@ -84,6 +101,7 @@ HOLDS = {
     "counts": has_counts,
     "sum": lambda text, wanted: hashlib.sha256(text).hexdigest() == wanted,
     "has": lambda text, part: part.encode() in text,
+    "says": says,
     "lines": lambda text, count: text.count(b"\n") == int(count),
     "below": lambda text, size: len(text) < int(size),
     "verdict": lambda text, word: re.search(rf"^{word}\b".encode(), text, re.M),
@@ -116,6 +134,31 @@ def opened(into):
     return os.fdopen(writing, "wb")
 
 
+@contextmanager
+def pieces(count, path):
+    """The reading end of a pipe that has so many lines of a file at a time: the next ones when those before were read."""
+    with open(path, "rb") as it:
+        lines = it.readlines()
+    end, start = os.pipe()
+    done = Event()
+
+    def write():
+        for at in range(0, len(lines), int(count)):
+            os.write(start, b"".join(lines[at:at + int(count)]))
+            while not done.is_set() and fcntl.ioctl(start, termios.FIONREAD, b"\0" * 4) != b"\0" * 4:
+                time.sleep(0.0001)
+        os.close(start)
+
+    writer = Thread(target=write)
+    writer.start()
+    try:
+        yield end
+    finally:
+        done.set()
+        writer.join()
+        os.close(end)
+
+
 class Case:
     """A run of a program: what it is given by the keys of a table, and what is wanted of it, each as (of what, how, what)."""
 
@@ -133,7 +176,8 @@ class Case:
     def run(self, program):
         """The status, both outputs, and the seconds of a processor that a run took."""
         before = resource.getrusage(resource.RUSAGE_CHILDREN).ru_utime
-        with open(self.given.get("in", os.devnull), "rb") as given, opened(self.given.get("into")) as out:
+        told = self.given.get("pieces")
+        with pieces(*told.split()) if told else open(self.given.get("in", os.devnull), "rb") as given, opened(self.given.get("into")) as out:
             done = subprocess.run([program, *self.words[1:]], stdin=given, stdout=out, stderr=subprocess.PIPE,
                                   preexec_fn=self.limit, timeout=SECONDS, check=False)
         seconds = resource.getrusage(resource.RUSAGE_CHILDREN).ru_utime - before
@@ -190,7 +234,7 @@ class Table:
             case.words = words_of(rest)
         elif key == "status":
             case.statuses = (int(rest),)
-        elif key in ("in", "into", "room", "most"):
+        elif key in ("in", "pieces", "into", "room", "most"):
             case.given[key] = rest
         elif key == "slower":
             case.given[key] = f"{self.name}: {rest}"
@@ -227,7 +271,8 @@ def tables_of(words):
 
 def try_tables(tried, tables, named=()):
     """Tries the cases of tables, each in a folder that has the repository's examples, with these programs or the built ones."""
-    programs = {"grubrun": built("grubrun"), "grubtrace": built("grubtrace"), **dict(named)}
+    named = dict(named)
+    programs = {it: named[it] if it in named else built(it) for it in ("grubrun", "grubtrace")}
     for table in tables:
         with tempfile.TemporaryDirectory() as folder:
             os.chdir(folder)

@@ -5,9 +5,10 @@ from graphlib import TopologicalSorter
 
 from shared import ROOT, each, files_below, ran, text_of
 
-CACHE = os.environ.get("XDG_CACHE_HOME") or os.path.expanduser("~/.cache")
+# All that the scripts keep outside of the checkout, for all checkouts of the project.
+CACHE = f"{os.environ.get('XDG_CACHE_HOME') or os.path.expanduser('~/.cache')}/neddwyrol"
 # The libraries that scripts/build.py makes. They hold .rt files, at which `rt ci` would stop, so they lie elsewhere.
-LIBRARIES = f"{CACHE}/grub-build/{hashlib.sha256(ROOT.encode()).hexdigest()[:16]}"
+LIBRARIES = f"{CACHE}/build/{hashlib.sha256(ROOT.encode()).hexdigest()[:16]}"
 # A check or a build of a crate takes up to so many kB of memory.
 ROOM = 2_500_000
 

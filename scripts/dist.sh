@@ -17,10 +17,12 @@ pack() {
             install -D -m 644 "completions/$it.fish" "$tree/share/fish/vendor_completions.d/$it.fish" || return 1
     done
     # (where README and the scripts look for the library and the program)
-    bash bindings/install.sh out/library '${pcfiledir}/../..' "$tree" && mkdir "$tree/scripts" "$tree/out" && ln -s ../lib "$tree/out/library" &&
+    bash bindings/install.sh out/library '${pcfiledir}/../..' "$tree" &&
+        install -D -m 644 -t "$tree/lib/aarch64-linux-gnu" out/library/aarch64/*.a &&
+        wheel=$(python3 bindings/wheel.py out/library/libneddwyrol.so.[0-9] "$tree/share/neddwyrol") && cp "$wheel" out/ && mkdir "$tree/scripts" "$tree/out" && ln -s ../lib "$tree/out/library" &&
         cp scripts/{record.sh,check-kernel.sh} "$tree/scripts/" && cp -r kernel "$tree/" &&
         sed -i 's|/crates/grubtrace/out/grubtrace|/bin/grubtrace|' "$tree"/{scripts/check-kernel.sh,kernel/record-check.sh} &&
-        git archive HEAD bindings | tar -xC "$tree" && cp -r examples docs README.md LICENSE CHANGELOG.md "$tree/" || return 1
+        git archive HEAD bindings VERSION | tar -xC "$tree" && cp -r examples docs README.md LICENSE CHANGELOG.md "$tree/" || return 1
     printf 'commit %s\nkit %s\n' "$(git describe --always --dirty --abbrev=40)" "$(rt version)" > "$tree/BUILT"
     mkdir -p out && tar -C "$work" --sort=name --owner=0 --group=0 --numeric-owner -czf "out/$name.tar.gz" "$name"
 }
@@ -47,7 +49,12 @@ says 'chrt -d -T 12269000 -D 30000000' 'grubtrace size --task ld_req=30000 examp
 says 'at 3 wake A: woken q=4 d=11' 'grubrun examples/first.grub'
 says 'waiting ticket=1 z=4' 'cc -I bindings/include bindings/c/documentation.c out/library/libneddwyrol.a -o documentation && ./documentation'
 says 'waiting ticket=1 z=4' 'PYTHONPATH=bindings/python NEDDWYROL_SO=lib/libneddwyrol.so.1 python3 bindings/python/documentation.py'
+[[ ! -x /usr/bin/pkg-config ]] || says 'waiting ticket=1 z=4' 'cc share/neddwyrol/c/documentation.c $(PKG_CONFIG_PATH=lib/pkgconfig pkg-config --cflags --libs neddwyrol) -o documentation && ./documentation'
+wheel='python3 -m pip install -q --no-index --target site share/neddwyrol/neddwyrol-*.whl'
+says 'waiting ticket=1 z=4' "{ $wheel 2> /dev/null || python3 -m zipfile -e share/neddwyrol/neddwyrol-*.whl site; } "'&& cp share/neddwyrol/python/documentation.py . && PYTHONPATH=site python3 documentation.py'
+says 'waiting ticket=1 z=4' 'PYTHONPATH=share/neddwyrol/python python3 share/neddwyrol/python/documentation.py'
 says 'check-kernel.sh' 'scripts/check-kernel.sh 2>&1 || [ $? = 2 ]'
+says 'the seed x is no number' 'scripts/check-kernel.sh --random x KERNEL 2>&1 || [ $? = 2 ]'
 echo "dist: out/$name.tar.gz, $(($(stat -c %s "out/$name.tar.gz") / 1024)) KiB"
 echo "$passed passed, $failed failed"
 [[ $failed == 0 ]]

@@ -22,7 +22,7 @@ from shared import ROOT, Tried, each, files_below, ran, text_of
 
 # No check that goes well takes so many seconds.
 LONGEST = 1800
-KEPT = f"{CACHE}/grub-edits"
+KEPT = f"{CACHE}/edits"
 FUNCTION = re.compile(r"^( *)(?:#\[.*\]\n *)*(?:pub(?:\(\w+\))? )?(?:const )?(?:unsafe )?(?:extern \"C\" )?fn (\w+)", re.M)
 TYPE = re.compile(r"^(?:impl|trait)(?:<.*?>)? (?:(?:\w+::)*(\w+(?:<.*>)?) for )?&?(?:\w+::)*(\w+)", re.M)
 # A text that cannot be read: then no contract was tried. And what the prover says of a function that it does not admit.

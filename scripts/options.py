@@ -1,7 +1,7 @@
 #!/usr/bin/env python3
 """options.py: holds man pages and completions of bash, zsh and fish to the options, commands, views and version that --help and
---version of the built programs tell: none is forgotten, none is there no more. README's lines of the library are held to the
-examples in bindings/. The last line is 'N passed, M failed'."""
+--version of the built programs tell: none is forgotten, none is there no more. Versions are held to the file VERSION, and README's lines
+of the library to the example in bindings/c. The last line is 'N passed, M failed'."""
 import re
 
 from shared import ROOT, Tried, built, ran, text_of
@@ -88,6 +88,23 @@ def hold(program):
         same("the help's views", views, [it for it in shown if it in said(program, "--help")])
 
 
+def versions():
+    """The file VERSION says which version this is; every other place that has it agrees."""
+    version = text_of(f"{ROOT}/VERSION").strip()
+    number = str(sum(int(it) * base for it, base in zip(version.split("."), (1000000, 1000, 1))))
+    places = [("README.md", r"^Version (\S+)"), ("CHANGELOG.md", r"^## (\S+), not released yet"), ("docs/neddwyrol.3", r"^\.Os Neddwyrol (.*)")]
+    places += [(f"bindings/{it}/Cargo.toml", r'^version = "(.*)"') for it in ("rust", "rust_table", "plain")]
+    for path, pattern in places:
+        same(f"the version in {path}", [version], re.findall(pattern, text_of(f"{ROOT}/{path}"), re.M))
+    places = [("bindings/include/neddwyrol.h", r"^#define ND_VERSION (\d+)"), ("crates/neddwyrol/src/checks.rt", r"VERSION: u32 = (\d+)")]
+    places += [("bindings/rust/src/codes.rs", r"VERSION: u32 = (\d+)"), ("bindings/python/neddwyrol.py", r"^VERSION = (\d+)")]
+    for path, pattern in places:
+        same(f"the version in {path}", [number], re.findall(pattern, text_of(f"{ROOT}/{path}"), re.M))
+    same("the version of the Python module", [version], re.findall(r'^__version__ = "(.*)"', text_of(f"{ROOT}/bindings/python/neddwyrol.py"), re.M))
+    for program in ("grubrun", "grubtrace"):
+        same(f"{program} --version", [version], said(program, "--version").split()[1:])
+
+
 def example(path, begin, drop, indent):
     """How an example begins, up to the first line that it prints."""
     text = text_of(f"{ROOT}/bindings/{path}")
@@ -99,9 +116,7 @@ def example(path, begin, drop, indent):
 if __name__ == "__main__":
     hold("grubrun")
     hold("grubtrace")
-    same("grubtrace --version", *(said(it, "--version").split()[1:] for it in ("grubrun", "grubtrace")))
-    shown = re.findall(r"^    (?!cc |\(cd)(.*)", between(text_of(f"{ROOT}/README.md"), "\n## Use the library\n", "\n## "), re.M)
-    wanted = example("c/documentation.c", "^int main", 1, 4) + example("rust/examples/documentation.rs", "^fn main", 1, 4)
-    wanted += example("python/documentation.py", "^from neddwyrol", 2, 0)
-    same("README and the examples", "\n".join(wanted), "\n".join(shown))
+    versions()
+    shown = re.findall(r"^    (.*)", between(text_of(f"{ROOT}/README.md"), "\n## Use the library\n", "\n## "), re.M)
+    same("README and the example in C", "\n".join(example("c/documentation.c", "^int main", 1, 4)), "\n".join(shown))
     TRIED.end()

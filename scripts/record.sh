@@ -46,7 +46,7 @@ finish() {
         rmdir "$instance" 2> /dev/null || { sleep 0.2; rmdir "$instance"; } || say "$instance could not be removed"
     done
     [ ! "$set" ] || "$kernel_scripts/probes.sh" clear || say "the events of group grub could not be removed"
-    rm -f "$part"
+    rm -f "$part" "$part.2"
     [ "$mounts" ] || return
     for place in "$mounts"/*; do [ ! -d "$place" ] || { umount "$place" && rmdir "$place"; }; done
     rmdir "$mounts"
@@ -103,7 +103,28 @@ domain() {
     while [ "$group" != "$top" ] && ! grep -qs '^root' "$group/cpuset.cpus.partition"; do group=${group%/*}; done
     cat "$group/cpuset.cpus.effective" 2> /dev/null || cat /sys/devices/system/cpu/online
 }
+# A list of CPUs without those of another one.
+without() {
+    awk -v all="$1" -v out="$2" '
+    function each(text, into,  i, n, parts, ends) {
+        n = split(text, parts, ",")
+        for (i = 1; i <= n; i++) { split(parts[i] "-" parts[i], ends, "-"); for (c = ends[1]; c <= ends[2] + 0; c++) into[c + 0] = 1 }
+    }
+    BEGIN {
+        each(all, have); each(out, gone)
+        for (c = 0; c < 8192; c++) {
+            if (!(c in have) || c in gone) continue
+            first = c
+            while (c + 1 in have && !(c + 1 in gone)) c++
+            printf "%s%s", sep, first == c ? c : first "-" c; sep = ","
+        }
+    }'
+}
+isolated=$(cat /sys/devices/system/cpu/isolated 2> /dev/null)
 domain=$(domain)
+# CPUs that isolcpus= keeps apart are in the root domain of no other.
+apart=$(without "$domain" "$isolated")
+[ ! "$apart" ] || domain=$apart
 limits() {
     awk -v runqueue="dl_rq[${domain%%[-,]*}]:" '
         $1 == runqueue { here = 1 }
@@ -121,7 +142,38 @@ if [ "$probes" ]; then
     fi
 fi
 echo "# grub: notes 1 kernel=$(uname -r) domain=$domain$(limits)" 2> /dev/null > "$part" || fail "$out cannot be written"
-"$kernel_scripts/probes.sh" sums >> "$part"
+"$kernel_scripts/probes.sh" sums | while read -r line; do
+    cpu=${line#*cpu }
+    cpu=${cpu%% *}
+    server=$debugfs/sched/fair_server/cpu$cpu
+    [ ! -e "$server/runtime" ] || line="$line server=$(cat "$server/runtime")/$(cat "$server/period")"
+    echo "$line"
+done >> "$part"
+# What a reader of the record asks first.
+{
+    echo "# grub: version $(uname -v)"
+    echo "# grub: command $(cat /proc/cmdline)"
+    preemption=$(sed -n 's/.*(\(.*\)).*/\1/p' "$debugfs/sched/preempt" 2> /dev/null)
+    # Jiffies begin five minutes before they wrap at 2^32.
+    hz=$(awk '$1 == "ktime" { at = $3 / 1000 } $1 == "jiffies" { jiffies = $3 } END {
+        if (!jiffies) exit
+        split("100 250 300 1000", rates, " ")
+        for (i in rates) { off = rates[i] * (at - 300) - (jiffies - 4294967296); off = off < 0 ? -off : off; if (!best || off < least) { best = rates[i]; least = off } }
+        print best }' "$debugfs/sched/debug" 2> /dev/null)
+    echo "# grub: config${hz:+ HZ=$hz}${preemption:+ preemption=$preemption}"
+    echo "# grub: isolated $isolated"
+    for file in /sys/devices/system/cpu/cpu[0-9]*/cpufreq/scaling_governor; do
+        [ -e "$file" ] || continue
+        cpu=${file%/cpufreq/*}
+        echo "# grub: governor cpu=${cpu##*/cpu} $(cat "$file")"
+    done
+} >> "$part"
+# Processors of different speed: what each can do, in 1024ths of the fastest.
+for file in /sys/devices/system/cpu/cpu[0-9]*/cpu_capacity; do
+    [ -e "$file" ] || continue
+    cpu=${file%/*}
+    echo "# grub: capacity cpu=${cpu##*/cpu} of=$(cat "$file")" >> "$part"
+done
 
 exits=$tracefs/instances/grub.$$.exits
 enters=$tracefs/instances/grub.$$.enters
@@ -164,7 +216,7 @@ trap 'exit 143' TERM
 wait "$notes" || say "the notes of tasks end early: give --task for what they lack"
 notes=
 lost=$(cat "$record"/per_cpu/cpu*/stats | awk '/^(overrun|commit overrun|dropped events):/ { lost += $NF } END { print lost + 0 }')
-missed=$(awk '$1 ~ /^(upd|enq|deq|mig|sfr|adm|hst|ina|dlt|ede|pck)$/ { missed += $3 } END { print missed + 0 }' "$tracefs/kprobe_profile" 2> /dev/null)
+missed=$(awk -v names="^($("$kernel_scripts/probes.sh" names))$" '$1 ~ names { missed += $3 } END { print missed + 0 }' "$tracefs/kprobe_profile" 2> /dev/null)
 drop=
 if [ "$probes" ]; then
     "$kernel_scripts/probes.sh" check < "$record/trace" || { say "no probe lines: their numbers are not those of this kernel"; drop=drop; }
@@ -173,8 +225,10 @@ fi
     echo "# grub: end$(limits)"
     [ ! "$kinds" ] || [ "$drop" ] || echo "$kinds"
     echo "# grub: lost $lost missed ${missed:-0}"
-    "$kernel_scripts/probes.sh" mask $drop < "$record/trace"
-} | cat 2> /dev/null >> "$part" && mv -f "$part" "$out" || fail "$out cannot be written"
+    # What the kernel itself has warned of since it runs.
+    dmesg 2> /dev/null | grep -E '(WARNING|BUG):.*(sched|deadline)|[]] sched: ' | tail -n 10 | sed 's/^/# grub: log /'
+    cat "$record/trace"
+} | cat 2> /dev/null >> "$part" && "$kernel_scripts/probes.sh" mask $drop < "$part" > "$part.2" && mv -f "$part.2" "$part" && mv -f "$part" "$out" || fail "$out cannot be written"
 say "$((lost + ${missed:-0})) events were lost"
 [ $((lost + ${missed:-0})) = 0 ] || exit 4
 exit "$status"

@@ -1,7 +1,7 @@
 #!/usr/bin/env python3
 """trusted.py: counts the definitions that public contracts reach, which a reader must trust, crate by crate; with --of CRATE..
-for these alone. It fails where, in a crate that HELD names, one stands in specs/inside/, another one outside of it, or a line
-of a public contract has more than 100 columns, and where docs/READING.md lacks a file of theirs. It ends with the counts."""
+for these alone. It fails where, in a crate that UNSORTED does not name, one stands in specs/inside/, another one outside of it, or
+a line of a public contract has more than 100 columns, and where docs/READING.md lacks a file of theirs. It ends with the counts."""
 import os
 import re
 import sys
@@ -10,8 +10,9 @@ from crates import crates
 from shared import ROOT, files_below, text_of
 
 CRATES = crates()
-HELD = ("grub", "record_line", "trace_probes", "trace_reader", "trace_words", "timer_lines", "timer_rules",
-        "deadline_events", "deadline_laws", "deadline_timers", "deadline_verdict")
+# The crates whose definitions are not sorted yet: what stands on most of them is proved again with each change.
+UNSORTED = ("kernel_entity", "law_findings", "neddwyrol_table", "probe_lines", "probe_run", "probe_verdict",
+            "size_admission", "size_jobs", "size_report", "state_json", "timer_changes", "trace_check", "trace_fields", "trace_file")
 WIDEST = 100
 WORD = re.compile(r"[^\W\d][\w'?]*")
 # In a specification: where a definition begins, its kind and name, the names of its parts, comments, and imports.
@@ -21,8 +22,8 @@ INNER = {"data": r"^[ \t]+(?:pub\s+)?([\w']+)\s*:", "module": r"^  (?:abbrev |un
 NOTE = re.compile(r"^ *--.*| -- .*", re.M)
 IMPORT = re.compile(r"\buse\s+Rattle\.(\w+)\.specs\.([\w.]+?)(?:\.\{([^}]*)\}|\s+as\s+(\w+))?\s*;?\s*$", re.M)
 # In a source: an item or a method, how it is seen and its head, or what stands before a contract's braces; and a private field.
-PLACE = re.compile(r"^( *)(pub\S* )?(?:const )?(impl|trait|struct|enum|fn)\b([^{;\n]*)|"
-                   r"\b(requires|ensures)\b[^{;\n]*\{|\bghost (?:(?:Value|coded|output)\s*=\s*|\w+: )\{", re.M)
+PLACE = re.compile(r"^( *)(pub\S* )?(?:const )?(?:unsafe )?(?:extern \"C\" )?(impl|trait|struct|enum|fn)\b([^{;\n]*)|"
+                   r"\b(requires|ensures)\b[^{;\n]*\{|\bghost (?:(?:Value|coded|output|seen|step)\s*=\s*|\w+: )\{", re.M)
 PRIVATE = re.compile(r"^ +(?:pub\(\w+\) )?\w+: ", re.M)
 
 
@@ -149,11 +150,11 @@ def main(words):
     if words:
         return 0
     definitions = set(found.values())
-    wrong = [it for it in definitions if (it in reached) == it.is_inside() and it.crate.startswith(HELD)]
+    wrong = [it for it in definitions if (it in reached) == it.is_inside() and it.crate not in UNSORTED]
     why = {True: "is reached by a public contract", False: "belongs in specs/inside"}
     told = [f"{it.crate}/{it.module}: {it.name} {why[it.is_inside()]}" for it in wrong]
     told += [f"docs/READING.md does not name {crate}/specs/{module}" for crate, module in unread(reached)]
-    for path, texts in (it for crate in CRATES.values() if crate.name.startswith(HELD) for it in contracts(crate)):
+    for path, texts in (it for crate in CRATES.values() if crate.name not in UNSORTED for it in contracts(crate)):
         lines = "\n".join(texts).split("\n")
         told += [f"{path} has a contract with more than {WIDEST} columns: {it}" for it in lines if len(it) > WIDEST]
     for it in sorted(told):

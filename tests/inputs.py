@@ -118,6 +118,23 @@ def record(path, name, *edits):
     edited(path, f"examples/records/{name}.txt.xz", *edits)
 
 
+def steered(path, name, millionths):
+    """A record of examples/records by a clock that is steered by so many millionths, without its lines of timers that fire."""
+    def later(line):
+        told = re.search(r" (\d+)\.(\d+): ", line)
+        if not told:
+            return line
+        nanos = int(told[1]) * 10**9 + int(told[2].ljust(9, "0"))
+        more = nanos * millionths // 10**6
+        seconds, rest = divmod(nanos + more, 10**9)
+        # A timer of the class is started for a moment of this clock (mode 8).
+        line = re.sub(r" tim=(\d+) mode=8 ", lambda it: f" tim={int(it[1]) + more} mode=8 ", line)
+        return line.replace(told[0], f" {seconds}.{rest:09}: ", 1)
+
+    lines = unpacked(f"{ROOT}/examples/records/{name}.txt.xz").decode().splitlines(True)
+    write(path, *(later(it) for it in lines if " hrtimer_expire_entry: " not in it))
+
+
 def changed(dice, line):
     """The line with one of its numbers changed."""
     spot = dice.choice(list(re.finditer(r"-?\d+", line)) or [re.search("$", line)])
@@ -147,5 +164,5 @@ def damaged(folder, kind, count):
 
 
 def make(path, kind, words):
-    kinds = (zeros, readings, queues, crowded, trace, processors, noted, edited, record, damaged)
+    kinds = (zeros, readings, queues, crowded, trace, processors, noted, edited, record, steered, damaged)
     {it.__name__: it for it in kinds}[kind](path, *(int(it) if it.isdecimal() else it for it in words))

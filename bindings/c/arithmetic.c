@@ -12,6 +12,7 @@ int main(void) {
     uint64_t charged = 0;
     uint32_t k = 0, fault;
 
+    printf("version %s\n", nd_version() == ND_VERSION ? "as the header" : "of another library");
     printf("abi %s\n", nd_abi() == ND_ABI ? "as the header" : "of another library");
     printf("bandwidths %" PRIu32 " %" PRIu32 "; faults %" PRIu32 " %" PRIu32 " %" PRIu32 "; none %" PRIu32 "\n", nd_bw(half), nd_bw(third),
            nd_params_fault(over), nd_params_fault(tiny), nd_capacity_fault(wrong), nd_bw(over));
@@ -23,6 +24,14 @@ int main(void) {
     printf("woken at 5 %" PRIu32 ": %" PRIu32 " %" PRIu32 "\n", fault, out.budget, out.deadline);
     fault = nd_charge(1000, 262144, most, alone, &charged);
     printf("charge %" PRIu32 ": %" PRIu64 "\n", fault, charged);
+    uint64_t run = 0;
+    fault = nd_exhaustion(800, 262144, most, alone, &run);
+    printf("exhaustion %" PRIu32 ": %" PRIu64, fault, run);
+    fault = nd_charge((uint32_t)run, 262144, most, alone, &charged);
+    printf(" is charged %" PRIu64, charged);
+    fault = nd_charge((uint32_t)run - 1, 262144, most, alone, &charged);
+    printf(", one less %" PRIu64 "; faults %s", charged, nd_strerror(nd_exhaustion(1, 0, whole, alone, &run)));
+    printf(" %s; of a budget of 0 %" PRIu32 "\n", nd_strerror(nd_exhaustion(1, 1, whole, none, &run)), nd_exhaustion(0, 1, whole, two, &run));
     fault = nd_deplete(late, half, 10, &out, &k);
     printf("deplete %" PRIu32 ": %" PRIu32 " recharges, %" PRIu32 " %" PRIu32 "\n", fault, k, out.budget, out.deadline);
     printf("faults %" PRIu32, nd_zero_lag(server, over, &z));

@@ -1,4 +1,4 @@
-/* A book as memory: two runqueues, a task that moves, admission, a batch, a snapshot, an audit and a recorded history. */
+/* A book as memory: two runqueues, tasks that leave and move, admission, a batch, a snapshot, an audit, a recorded history. */
 #include "neddwyrol.h"
 #include <inttypes.h>
 #include <stdio.h>
@@ -12,8 +12,8 @@ static void show(const char *what, const nd_book *book) {
 }
 
 int main(void) {
-    nd_task tasks[3] = {{4, 8, 0, 0, 0, 0, 0}, {4, 8, 0, 0, 0, 0, 0}, {1, 8, 0, 0, 0, 0, 0}}, saved[3];
-    nd_runqueue queues[2] = {{ND_UNIT, 0, 0, 0}, {ND_UNIT, ND_UNIT / 4, 0, 0}}, sums[2], wrong[2] = {{ND_UNIT, 0, 0, 0}, {5, 6, 0, 0}};
+    nd_task tasks[3] = {ND_TASK(4, 8), ND_TASK(4, 8), ND_TASK(1, 8)}, saved[3];
+    nd_runqueue queues[2] = {ND_RUNQUEUE(ND_UNIT, 0), ND_RUNQUEUE(ND_UNIT, ND_UNIT / 4)}, sums[2], wrong[2] = {ND_RUNQUEUE(ND_UNIT, 0), ND_RUNQUEUE(5, 6)};
     nd_book book = {tasks, 3, queues, 2};
     nd_ask asks[6] = {{0, {ND_JOIN, 0, 0}}, {1, {ND_JOIN, 0, 0}}, {2, {ND_JOIN, 0, 0}}, {7, {ND_LEAVE, 0, 0}}, {0, {ND_JOIN, 9, 0}}, {0, {ND_BLOCK, 0, 0}}};
     nd_reply replies[5];
@@ -35,6 +35,25 @@ int main(void) {
     show("one moved", &book);
     printf("retuned while active: %" PRIu32 "\n", nd_retune(&book, 0, 2, 8).kind);
 
+    /* A ready task moves as it is, unless it is there already, or the runqueue is full. */
+    uint32_t t = 0, moment = 0;
+    printf("earliest %s", nd_strerror(nd_earliest(tasks, 3, 1, &t, &moment)));
+    printf(": task %" PRIu32 ", deadline %" PRIu32, t, moment);
+    printf("; next timer %s\n", nd_strerror(nd_next_timer(tasks, 3, 1, &t, &moment)));
+    nd_reply move = nd_move(&book, 1, 1);
+    printf("moved: %s from runqueue %" PRIu32 " with budget %" PRIu32 " and deadline %" PRIu32 "\n", nd_strerror(move.kind), move.number, tasks[1].budget, tasks[1].deadline);
+    printf("again: %s %" PRIu32, nd_strerror(nd_move(&book, 1, 1).kind), nd_move(&book, 1, 1).number);
+    printf("; to no runqueue: %s", nd_strerror(nd_move(&book, 1, 2).kind));
+    printf("; no such task: %s", nd_strerror(nd_move(&book, 3, 0).kind));
+    nd_join(&book, 2, 0, 3);
+    printf("; full: %s", nd_strerror(nd_move(&book, 2, 1).kind));
+    nd_run(&book, 1, 1, 2);
+    nd_block(&book, 1, 1, 1);
+    printf("; not ready: %s", nd_strerror(nd_move(&book, 1, 0).kind));
+    printf("; next timer %s", nd_strerror(nd_next_timer(tasks, 3, 1, &t, &moment)));
+    printf(" of task %" PRIu32 " at %" PRIu32 ", ticket %" PRIu32 "\n", t, moment, tasks[t].count);
+    show("two are on the second", &book);
+
     /* A snapshot is the memory: it is put back, or a history that was recorded since is held to it. */
     memcpy(tasks, saved, sizeof tasks);
     memcpy(queues, sums, sizeof queues);
@@ -52,6 +71,19 @@ int main(void) {
     history[3].running_bw = ND_UNIT / 2;
     printf("with another reading: %zu of 4\n", nd_check(tasks, 3, queues, 2, history, 4));
 
+    memcpy(tasks, saved, sizeof tasks);
+    memcpy(queues, sums, sizeof queues);
+    history[0].reply.budget = 3;
+    size_t none = nd_check(tasks, 3, queues, 2, history, 4);
+    printf("with another reply: %zu of 4, and the memory is %s\n", none, memcmp(tasks, saved, sizeof tasks) || memcmp(queues, sums, sizeof queues) ? "another" : "as it was");
+
+    tasks[1].state = 5;
+    show("no task has such a state", &book);
+    uint32_t number = 9, fault = nd_audit_fault(tasks, 3, queues, 2, &number);
+    printf("%s: task %" PRIu32, nd_strerror(fault), number);
+    tasks[1].state = saved[1].state;
+    fault = nd_open_fault(tasks, 3, wrong, 2, &number);
+    printf("; %s: runqueue %" PRIu32 "\n", nd_strerror(fault), number);
     queues[0].this_bw--;
     show("a sum was changed", &book);
     queues[0].this_bw++;
@@ -60,5 +92,10 @@ int main(void) {
     printf("a call then: %" PRIu32 "\n", nd_block(&book, 1, 5, 0).kind);
     tasks[1].queue = 0, tasks[1].budget = 9;
     printf("no budget is so large: %" PRIu32 "\n", nd_block(&book, 1, 0, 0).kind);
+
+    /* Where there are none, a pointer may be null. */
+    nd_book empty = {NULL, 0, NULL, 0};
+    printf("nothing: open %" PRIu32 ", audit %" PRIu32 ", a leave %" PRIu32, nd_open(NULL, 0, NULL, 0), nd_audit(NULL, 0, NULL, 0), nd_leave(&empty, 0).kind);
+    printf(", asked %zu, given %zu, earliest %" PRIu32 "\n", nd_apply_all(NULL, 0, NULL, 0, NULL, 0, NULL, 0), nd_check(NULL, 0, NULL, 0, NULL, 0), nd_earliest(NULL, 0, 0, &t, &moment));
     return 0;
 }

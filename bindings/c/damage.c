@@ -62,7 +62,7 @@ int main(int argc, char **argv) {
             tasks[k].queue = below(4);
         for (size_t k = 0; (i & 2) && k < m; k++)
             queues[k].umax = ND_UNIT, queues[k].uextra = below(ND_UNIT), queues[k].running_bw = below(ND_UNIT), queues[k].this_bw = ND_UNIT - below(99);
-        op.kind = below(10), op.a = (i & 4) ? below(QUEUES + 1) : number(), op.b = (i & 32) ? below(1024) : number();
+        op.kind = below(11), op.a = (i & 4) ? below(QUEUES + 1) : number(), op.b = (i & 32) ? below(1024) : number();
         memcpy(was, tasks, sizeof tasks);
         memcpy(were, queues, sizeof queues);
         fault = nd_audit(tasks, n, queues, m);

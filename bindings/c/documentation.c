@@ -5,8 +5,8 @@
 #include <stdio.h>
 
 int main(void) {
-    nd_task tasks[2] = {{4, 8, 0, 0, 0, 0, 0}, {4, 8, 0, 0, 0, 0, 0}};
-    nd_runqueue queues[1] = {{ND_UNIT, 0, 0, 0}};
+    nd_task tasks[2] = {ND_TASK(4, 8), ND_TASK(4, 8)};
+    nd_runqueue queues[1] = {ND_RUNQUEUE(ND_UNIT, 0)};
     nd_book book = {tasks, 2, queues, 1};
     if (nd_open(tasks, 2, queues, 1) != ND_DONE)
         return 1;

@@ -1,21 +1,29 @@
 /* Neddwyrol: the bandwidth accounting of Linux SCHED_DEADLINE (GRUB, greedy reclamation of unused bandwidth), for C.
  *
  * No call asks anything of the numbers that it is given. Whatever they are it returns, writes only what is said below,
- * and answers; that is proved, with every other sentence that stands before a call.
+ * and answers; that is proved, with every other sentence that stands before a call of the library.
  *
  * What the caller owes:
- *   - each pointer points to as many valid structs as the count beside it says (a count of 0 still wants an aligned
- *     pointer that is not null);
+ *   - each pointer is aligned and points to as many valid structs as the count beside it says; where that is 0, any pointer
+ *     serves, also a null one;
  *   - what a call writes overlaps nothing else that it is given;
  *   - nobody else reads or writes it during the call.
  *
- * Moments, runs, runtimes, periods, budgets and deadlines have one unit, which the caller chooses. Bandwidths are in
- * 1/2^20 (ND_UNIT is a whole processor). Tasks and runqueues are numbered from 0. */
+ * Moments, runs, runtimes, periods, budgets and deadlines have one unit, which the caller chooses. Moments end at 2^31 - 1:
+ * that is 2.1 seconds in nanoseconds, and 36 minutes in microseconds. Periods and runs end at 2^24. Bandwidths are in 1/2^20
+ * (ND_UNIT is a whole processor). Tasks and runqueues are numbered from 0.
+ *
+ * Two books need no lock between them, and calls are reentrant. Nothing is throttled: a budget that is used up is recharged
+ * at once, and the deadline postponed by a period. */
 #ifndef NEDDWYROL_H
 #define NEDDWYROL_H
 
+#ifdef __KERNEL__
+#include <linux/types.h>
+#else
 #include <stddef.h>
 #include <stdint.h>
+#endif
 
 #ifdef __cplusplus
 extern "C" {
@@ -25,9 +33,16 @@ extern "C" {
  * linked, and of its soname. */
 #define ND_ABI 1
 
+/* The version of this header, 0.3.0: major * 1000000 + minor * 1000 + patch. nd_version() is that of the library. */
+#define ND_VERSION 3000
+
 #define ND_UNIT 1048576
 #define ND_QUEUES_MAX 65536
 #define ND_TASKS_MAX 1048576
+
+/* A task and a runqueue as they are before nd_open, to begin an array with. */
+#define ND_TASK(runtime, period) {(runtime), (period), 0, 0, 0, 0, 0}
+#define ND_RUNQUEUE(umax, uextra) {(umax), (uextra), 0, 0}
 
 /* A task. Before nd_open its runtime and period alone count. */
 typedef struct {
@@ -50,16 +65,16 @@ typedef struct {
 
 /* What is asked for a task. */
 typedef struct {
-    uint32_t kind; /* ND_JOIN to ND_RETUNE */
-    uint32_t a;    /* join, wake, block, charge: the runqueue; timer: the ticket; retune: the runtime */
+    uint32_t kind; /* ND_JOIN to ND_MOVE */
+    uint32_t a;    /* join, wake, block, charge, move: the runqueue; timer: the ticket; retune: the runtime */
     uint32_t b;    /* join, wake, block, timer: the moment; charge: the run; retune: the period */
 } nd_op;
 
 /* What is answered. A kind below 101 refuses, and from 101 on the op was granted; a later library may have more kinds. */
 typedef struct {
-    uint32_t kind;     /* ND_GONE to ND_DAMAGED, ND_JOINED to ND_RETUNED */
-    uint32_t number;   /* the ticket of ND_WAITING, the runqueue of ND_LEFT, ND_ALREADY_ON and ND_ELSEWHERE, how often
-                          ND_CHARGED recharged */
+    uint32_t kind;     /* ND_GONE to ND_DAMAGED, ND_JOINED to ND_MOVED */
+    uint32_t number;   /* the ticket of ND_WAITING, the runqueue of ND_LEFT, ND_MOVED (the old one), ND_ALREADY_ON and
+                          ND_ELSEWHERE, how often ND_CHARGED recharged */
     uint32_t budget;   /* of ND_JOINED, ND_WOKEN and ND_CHARGED: what is left of the runtime */
     uint32_t deadline; /* of the same: the deadline; of ND_WAITING and ND_EARLY: the 0-lag time */
     uint64_t charged;  /* of ND_CHARGED: what was taken from the budget */
@@ -112,6 +127,33 @@ enum {
     ND_GONE_FOR_GOOD = 4
 };
 
+/* The ops. The task's bandwidth is u, and its runqueue has running_bw R and this_bw T. After 70 and 71 the tests are made in
+ * the order of their line. The first that holds is the answer, and then nothing is written.
+ *
+ *   join    An away task comes to the runqueue and contends, by the wake rule; R + u, T + u: 101.
+ *           9 gone, 11 on a runqueue already, 20 T + u > umax
+ *   wake    A non-contending or inactive task contends, by the wake rule; from inactive R + u: 102.
+ *           9 gone, 10 away, 12 elsewhere, 13 it contends already
+ *   block   A contending task is non-contending before its 0-lag time, and its count goes up: 103;
+ *           else it is inactive, R - u: 104.
+ *           9 gone, 10 away, 12 elsewhere, 14 it does not contend, 17 its count is 16777215
+ *   leave   A non-contending or inactive task is away; T - u, from non-contending R - u: 105.
+ *           9 gone, 10 away, 15 it contends
+ *   timer   A non-contending task is inactive; R - u: 106.
+ *           18 in any other state, or with another ticket than its count, 19 before its 0-lag time
+ *   exit    An away or inactive task is gone for good; from inactive T - u: 107.
+ *           9 gone, 16 it is active
+ *   charge  A contending task has run: nd_charge by the sums of now, then nd_deplete: 108.
+ *           9 gone, 10 away, 12 elsewhere, 14 it does not contend, 21 the deadline is out of range
+ *   retune  An away or inactive task has another reservation, a full budget and the deadline 0; from inactive T changes: 109.
+ *           9 gone, 16 it is active, 20 from inactive, where T would be more than umax
+ *   move    A contending task contends on the other runqueue, with budget, deadline and count as they are; here R - u and
+ *           T - u, there R + u and T + u: 110.
+ *           9 gone, 10 away, 11 on that one already, 14 it does not contend, 20 there T + u > umax
+ *
+ * The wake rule (nd_woken) is asked of budget and deadline as they were left, also at a join. A run is charged by the sums of
+ * the moment at which nd_run is called, so charge it before an op changes them. A contending task whose count is 16777215 is
+ * worn: it can only run and move, and its bandwidth stays taken. */
 enum {
     ND_JOIN = 1,
     ND_WAKE = 2,
@@ -120,7 +162,8 @@ enum {
     ND_TIMER = 5,
     ND_EXIT = 6,
     ND_CHARGE = 7,
-    ND_RETUNE = 8
+    ND_RETUNE = 8,
+    ND_MOVE = 9
 };
 
 enum {
@@ -162,10 +205,12 @@ enum {
     ND_WRONG_RUNNING_BW = 65,     /* running_bw is not that of the active tasks */
     ND_WRONG_THIS_BW = 66,        /* this_bw is not that of all tasks */
     ND_OVERFULL = 67,             /* this_bw is more than umax */
+    ND_STATE_OUT_OF_RANGE = 68,   /* a state of 5 or more */
     /* no book was asked */
     ND_NO_TASK = 70, /* there is no task of this number */
     ND_NO_OP = 71,   /* no such op: its kind, runqueue, moment, run (1 to 16777216) or reservation is out of range */
     ND_DAMAGED = 72, /* the memory is no book */
+    ND_NOBODY = 73,  /* no task of the runqueue contends, or waits for its 0-lag time */
     /* what the book grants */
     ND_JOINED = 101,
     ND_WOKEN = 102,
@@ -175,13 +220,14 @@ enum {
     ND_RETIRED = 106,
     ND_ENDED = 107,
     ND_CHARGED = 108,
-    ND_RETUNED = 109
+    ND_RETUNED = 109,
+    ND_MOVED = 110
 };
 
 /* Makes a book of the reservations and the constants that stand in the memory: every task is away, with the count 0, a
  * full budget and the deadline 0, and every sum is 0. It answers 0 exactly where there are 1 to 65536 runqueues and at
- * most 1048576 tasks, and each number is within its limits. Else it answers the number of the first fault, 1 to 8, and
- * writes nothing. */
+ * most 1048576 tasks, and each number is within its limits. Else it answers the number of the first fault, and writes
+ * nothing: 6, 7 and 8, then 4 and 5 of the runqueues in order, then 1, 2 and 3 of the tasks in order. */
 uint32_t nd_open(nd_task *tasks, size_t task_count, nd_runqueue *queues, size_t queue_count);
 
 /* Asks an op for a task. On memory that is a book the answer is exactly that of the one-thread book, and the memory is
@@ -195,14 +241,21 @@ size_t nd_apply_all(nd_task *tasks, size_t task_count, nd_runqueue *queues, size
                     size_t ask_count, nd_reply *replies, size_t reply_count);
 
 /* Answers 0 exactly where the memory is a book: its numbers are within their limits, and the sums of each runqueue are
- * those of its tasks, added up afresh. Else it answers the number of the first fault: 1 to 8 as of nd_open, then 60, 63
- * and 64 of the tasks in order, then 65, 66 and 67 of the runqueues in order. It takes time by runqueues times tasks. */
+ * those of its tasks, added up afresh. Else it answers the number of the first fault: 1 to 8 as of nd_open, then 60, 63,
+ * 68 and 64 of the tasks in order, then 65, 66 and 67 of the runqueues in order. It takes time by runqueues times tasks. */
 uint32_t nd_audit(const nd_task *tasks, size_t task_count, const nd_runqueue *queues, size_t queue_count);
+
+/* What nd_open would answer, and what nd_audit answers. Where that is a fault, they write which task or runqueue has it. Of
+ * the faults 6, 7 and 8 the number is 0. */
+uint32_t nd_open_fault(const nd_task *tasks, size_t task_count, const nd_runqueue *queues, size_t queue_count,
+                       uint32_t *number);
+uint32_t nd_audit_fault(const nd_task *tasks, size_t task_count, const nd_runqueue *queues, size_t queue_count,
+                        uint32_t *number);
 
 /* Replays a recorded history on a book, as one that nd_open made. It answers the index of the first event that is out of
  * range or is not what the book replies or reads, and the number of events where each is the book's. A history that
- * nd_apply answered is out of range where a reply is 70 or 71. On the way the memory becomes a book that goes on from
- * there. */
+ * nd_apply answered is out of range where a reply is 70 or 71. The memory becomes the book after the events that are
+ * counted: the call that is not the book's is not made. */
 size_t nd_check(nd_task *tasks, size_t task_count, nd_runqueue *queues, size_t queue_count, const nd_event *events,
                 size_t event_count);
 
@@ -230,6 +283,10 @@ uint32_t nd_woken(nd_server server, nd_params params, uint32_t moment, nd_server
  * of bw and umax - (this_bw - running_bw) - uextra. Faults: 4, 5, 62. */
 uint32_t nd_charge(uint32_t run, uint32_t bw, nd_capacity queue, nd_reading now, uint64_t *charged);
 
+/* The least run of a task of bandwidth bw whose charge, by these sums, is at least the budget: when a dispatcher has to look
+ * again. A run of one less is charged less. Faults: 4, 5, 62, and 3 where bw is 0, since then a run may be charged nothing. */
+uint32_t nd_exhaustion(uint32_t budget, uint32_t bw, nd_capacity queue, nd_reading now, uint64_t *run);
+
 /* The server after this was taken from its budget, and how often the budget was recharged meanwhile, each time with the
  * runtime and a deadline a period later: the least count that leaves a budget. Faults: 1, 2, 3, 60, 21. */
 uint32_t nd_deplete(nd_server server, nd_params params, uint64_t charged, nd_server *left, uint32_t *recharges);
@@ -241,8 +298,48 @@ uint32_t nd_deplete(nd_server server, nd_params params, uint64_t charged, nd_ser
 uint64_t nd_kernel_charge(uint32_t kernel, uint64_t dt, uint64_t bw, uint64_t this_bw, uint64_t running_bw,
                           uint64_t extra_bw, uint64_t max_bw, uint64_t bw_ratio);
 
-/* Answers the ND_ABI that the library was made with. */
+/* The contending task of a runqueue with the earliest deadline, and that deadline; of equals the one of the least number.
+ * Faults: 7, and 73 where none contends there. It looks at each task once, on any memory. */
+uint32_t nd_earliest(const nd_task *tasks, size_t task_count, uint32_t queue, uint32_t *task, uint32_t *deadline);
+
+/* The task of a runqueue that waits for the earliest 0-lag time, and that moment, 0 where it is below 0; of equals the one of
+ * the least number. The ticket of its timer is its count. Faults: 7, and 73 where none waits there. */
+uint32_t nd_next_timer(const nd_task *tasks, size_t task_count, uint32_t queue, uint32_t *task, uint32_t *moment);
+
+/* Answers the ND_ABI, and the ND_VERSION, that the library was made with. */
 uint32_t nd_abi(void);
+uint32_t nd_version(void);
+
+/* The name of a fault or of a reply's kind, without ND_, also of those that neddwyrol_table.h adds; "UNKNOWN" where the
+ * number is none of them. The text is static. */
+static inline const char *nd_strerror(uint32_t kind) {
+    switch (kind) {
+#define ND_NAMED(name) case ND_##name: return #name;
+        ND_NAMED(DONE) ND_NAMED(PERIOD_OUT_OF_RANGE) ND_NAMED(RUNTIME_OUT_OF_RANGE) ND_NAMED(TOO_SMALL)
+        ND_NAMED(UMAX_OUT_OF_RANGE) ND_NAMED(UEXTRA_OUT_OF_RANGE) ND_NAMED(TOO_MANY_QUEUES) ND_NAMED(TOO_MANY_TASKS)
+        ND_NAMED(NO_QUEUE) ND_NAMED(GONE) ND_NAMED(NOT_ON) ND_NAMED(ALREADY_ON) ND_NAMED(ELSEWHERE)
+        ND_NAMED(ALREADY_CONTENDING) ND_NAMED(NOT_CONTENDING) ND_NAMED(STILL_CONTENDING) ND_NAMED(STILL_ACTIVE)
+        ND_NAMED(WORN) ND_NAMED(STALE) ND_NAMED(EARLY) ND_NAMED(FULL) ND_NAMED(DEADLINE_OVERFLOW)
+        ND_NAMED(BUDGET_OUT_OF_RANGE) ND_NAMED(MOMENT_OUT_OF_RANGE) ND_NAMED(RUNNING_OUT_OF_RANGE)
+        ND_NAMED(COUNT_OUT_OF_RANGE) ND_NAMED(QUEUE_OUT_OF_RANGE) ND_NAMED(WRONG_RUNNING_BW) ND_NAMED(WRONG_THIS_BW)
+        ND_NAMED(OVERFULL) ND_NAMED(STATE_OUT_OF_RANGE) ND_NAMED(NO_TASK) ND_NAMED(NO_OP) ND_NAMED(DAMAGED)
+        ND_NAMED(NOBODY) ND_NAMED(JOINED) ND_NAMED(WOKEN) ND_NAMED(WAITING) ND_NAMED(ASLEEP) ND_NAMED(LEFT)
+        ND_NAMED(RETIRED) ND_NAMED(ENDED) ND_NAMED(CHARGED) ND_NAMED(RETUNED) ND_NAMED(MOVED)
+#undef ND_NAMED
+        case 23: return "NO_PASS";
+        case 24: return "TOO_MANY_PASSES";
+        case 25: return "NO_TABLE_MEMORY";
+        case 26: return "MISSING";
+        case 27: return "NO_PART";
+        case 42: return "NO_MEMORY";
+        case 50: return "BUSY";
+        case 51: return "EMPTY";
+        case 52: return "LOST";
+        case 53: return "TWO_TABLES";
+        case 100: return "HELD";
+        default: return "UNKNOWN";
+    }
+}
 
 /* The two arrays of a book in one struct, and a call for each op. */
 typedef struct {
@@ -286,6 +383,31 @@ static inline nd_reply nd_run(const nd_book *book, uint32_t task, uint32_t queue
 
 static inline nd_reply nd_retune(const nd_book *book, uint32_t task, uint32_t runtime, uint32_t period) {
     return nd_ask_for(book, task, ND_RETUNE, runtime, period);
+}
+
+static inline nd_reply nd_move(const nd_book *book, uint32_t task, uint32_t queue) {
+    return nd_ask_for(book, task, ND_MOVE, queue, 0);
+}
+
+/* nd_exhaustion of a task of the book by the sums of its runqueue. Faults: 70, 14 where it does not contend, and 72. */
+static inline uint32_t nd_task_exhaustion(const nd_book *book, uint32_t task, uint64_t *run) {
+    nd_params params;
+    nd_capacity capacity;
+    nd_reading now;
+    const nd_task *held;
+    const nd_runqueue *on;
+    if (task >= book->task_count)
+        return ND_NO_TASK;
+    held = &book->tasks[task];
+    if (held->state != ND_CONTENDING)
+        return ND_NOT_CONTENDING;
+    if (held->queue >= book->queue_count)
+        return ND_DAMAGED;
+    on = &book->queues[held->queue];
+    params.runtime = held->runtime, params.period = held->period;
+    capacity.umax = on->umax, capacity.uextra = on->uextra;
+    now.running_bw = on->running_bw, now.this_bw = on->this_bw;
+    return nd_exhaustion(held->budget, nd_bw(params), capacity, now, run) == ND_DONE ? ND_DONE : ND_DAMAGED;
 }
 
 #if defined(__STDC_VERSION__) && __STDC_VERSION__ >= 201112L

@@ -4,14 +4,18 @@ neddwyrol.h says what each call promises. A Book stands over two arrays, one of 
 directly: book.queues[0].running_bw. No call asks anything of the numbers that it is given. Moments, runs, runtimes,
 periods, budgets and deadlines have one unit, which the caller chooses; bandwidths are in 1/2^20.
 
-The library is libneddwyrol.so.1, or the file that NEDDWYROL_SO names.
+The library is the file that NEDDWYROL_SO names, or else libneddwyrol.so.1: beside this module, in the lib of the prefix that
+it was installed below, in out/library of the repository, or where the loader finds it.
 """
 
 import ctypes
 import os
 from ctypes import POINTER, Structure, byref, c_int64, c_size_t, c_uint32, c_uint64
 
+__version__ = "0.3.0"
+
 ABI = 1
+VERSION = 3000
 UNIT = 1048576
 QUEUES_MAX = 65536
 TASKS_MAX = 1048576
@@ -20,10 +24,12 @@ TASKS_MAX = 1048576
 AWAY, CONTENDING, NON_CONTENDING, INACTIVE, GONE_FOR_GOOD = range(5)
 
 # kinds of ops
-JOIN, WAKE, BLOCK, LEAVE, TIMER, EXIT, CHARGE, RETUNE = range(1, 9)
+JOIN, WAKE, BLOCK, LEAVE, TIMER, EXIT, CHARGE, RETUNE, MOVE = range(1, 10)
 
 # kinds of events
 CALL, READING = 1, 2
+
+_OTHERS = set(globals())
 
 # faults and refusals
 DONE = 0
@@ -32,11 +38,16 @@ TOO_MANY_QUEUES, TOO_MANY_TASKS, NO_QUEUE = range(6, 9)
 GONE, NOT_ON, ALREADY_ON, ELSEWHERE, ALREADY_CONTENDING, NOT_CONTENDING, STILL_CONTENDING = range(9, 16)
 STILL_ACTIVE, WORN, STALE, EARLY, FULL, DEADLINE_OVERFLOW = range(16, 22)
 BUDGET_OUT_OF_RANGE, MOMENT_OUT_OF_RANGE, RUNNING_OUT_OF_RANGE, COUNT_OUT_OF_RANGE = range(60, 64)
-QUEUE_OUT_OF_RANGE, WRONG_RUNNING_BW, WRONG_THIS_BW, OVERFULL = range(64, 68)
-NO_TASK, NO_OP, DAMAGED = range(70, 73)
+QUEUE_OUT_OF_RANGE, WRONG_RUNNING_BW, WRONG_THIS_BW, OVERFULL, STATE_OUT_OF_RANGE = range(64, 69)
+NO_TASK, NO_OP, DAMAGED, NOBODY = range(70, 74)
 
 # what is granted
-JOINED, WOKEN, WAITING, ASLEEP, LEFT, RETIRED, ENDED, CHARGED, RETUNED = range(101, 110)
+JOINED, WOKEN, WAITING, ASLEEP, LEFT, RETIRED, ENDED, CHARGED, RETUNED, MOVED = range(101, 111)
+
+# the name of each of these, and of those that the shared table adds, which C and Rust have
+_NAMES = {number: name for name, number in globals().items() if name not in _OTHERS and name[0].isupper()}
+_NAMES_OF_TABLE = {23: "NO_PASS", 24: "TOO_MANY_PASSES", 25: "NO_TABLE_MEMORY", 26: "MISSING", 27: "NO_PART", 42: "NO_MEMORY",
+                   50: "BUSY", 51: "EMPTY", 52: "LOST", 53: "TWO_TABLES", 100: "HELD"}
 
 
 class _Numbers(Structure):
@@ -147,6 +158,8 @@ CALLS = {
     "nd_apply": (Reply, _TASKS + _QUEUES + [c_uint32, Op]),
     "nd_apply_all": (c_size_t, _TASKS + _QUEUES + [POINTER(Ask), c_size_t, POINTER(Reply), c_size_t]),
     "nd_audit": (c_uint32, _TASKS + _QUEUES),
+    "nd_open_fault": (c_uint32, _TASKS + _QUEUES + [POINTER(c_uint32)]),
+    "nd_audit_fault": (c_uint32, _TASKS + _QUEUES + [POINTER(c_uint32)]),
     "nd_check": (c_size_t, _TASKS + _QUEUES + [POINTER(Event), c_size_t]),
     "nd_params_fault": (c_uint32, [Params]),
     "nd_capacity_fault": (c_uint32, [Capacity]),
@@ -154,22 +167,35 @@ CALLS = {
     "nd_zero_lag": (c_uint32, [Server, Params, POINTER(c_int64)]),
     "nd_woken": (c_uint32, [Server, Params, c_uint32, POINTER(Server)]),
     "nd_charge": (c_uint32, [c_uint32, c_uint32, Capacity, Reading, POINTER(c_uint64)]),
+    "nd_exhaustion": (c_uint32, [c_uint32, c_uint32, Capacity, Reading, POINTER(c_uint64)]),
     "nd_deplete": (c_uint32, [Server, Params, c_uint64, POINTER(Server), POINTER(c_uint32)]),
     "nd_kernel_charge": (c_uint64, [c_uint32, c_uint64, c_uint64, c_uint64, c_uint64, c_uint64, c_uint64, c_uint64]),
+    "nd_earliest": (c_uint32, _TASKS + [c_uint32, POINTER(c_uint32), POINTER(c_uint32)]),
+    "nd_next_timer": (c_uint32, _TASKS + [c_uint32, POINTER(c_uint32), POINTER(c_uint32)]),
     "nd_abi": (c_uint32, []),
+    "nd_version": (c_uint32, []),
 }
 
 
 class Fault(ValueError):
-    """A call refused its numbers; `number` says why."""
+    """A call refused its numbers; `number` says why, and `name_of(number)` by name. `at` is the task or runqueue that has the
+    fault, where there is one."""
 
-    def __init__(self, call, number):
-        super().__init__(f"{call}: {number}")
-        self.number = number
+    def __init__(self, call, number, at=None):
+        super().__init__(f"{call}: {number} {name_of(number)}" + ("" if at is None else f" of {at}"))
+        self.number, self.at = number, at
+
+
+def name_of(kind):
+    """The name of a fault or of a reply's kind, as neddwyrol.h has it without ND_; "UNKNOWN" where it is none."""
+    return _NAMES.get(kind) or _NAMES_OF_TABLE.get(kind, "UNKNOWN")
 
 
 def _library():
-    library = ctypes.CDLL(os.environ.get("NEDDWYROL_SO", "libneddwyrol.so.1"))
+    own, name = os.path.dirname(os.path.abspath(__file__)), f"libneddwyrol.so.{ABI}"
+    places = [os.path.join(own, *it, name) for it in ((), ("..", "..", "..", "lib"), ("..", "..", "out", "library"))]
+    found = [it for it in places if os.path.isfile(it)] or [name]
+    library = ctypes.CDLL(os.environ.get("NEDDWYROL_SO", found[0]))
     for name, (result, arguments) in CALLS.items():
         call = getattr(library, name)
         call.restype, call.argtypes = result, arguments
@@ -192,13 +218,35 @@ def _u32(value):
     return value
 
 
+def _u64(value):
+    if not 0 <= value < 1 << 64:
+        raise OverflowError(f"{value} is no number of 64 bits")
+    return value
+
+
+def _apart(written, *others):
+    """The struct or array that a call writes stands where its numbers may stand, and overlaps none of the others."""
+    start = ctypes.addressof(written)
+    if start % ctypes.alignment(written):
+        raise ValueError(f"the memory begins at an address that is no multiple of {ctypes.alignment(written)}")
+    for other in others:
+        begin = ctypes.addressof(other)
+        if start < begin + ctypes.sizeof(other) and begin < start + ctypes.sizeof(written):
+            raise ValueError("what a call writes may overlap nothing else that it is given")
+
+
 class Book:
     """A book of reservations (runtime, period) and runqueues (umax, uextra): book.tasks and book.queues are its memory."""
 
     def __init__(self, tasks, queues):
         self.tasks = (Task * len(tasks))(*(Task(_u32(runtime), _u32(period)) for runtime, period in tasks))
         self.queues = (Runqueue * len(queues))(*(Runqueue(_u32(umax), _u32(uextra)) for umax, uextra in queues))
-        _unless("nd_open", _lib.nd_open(*self._memory()))
+        at = c_uint32()
+        fault = _lib.nd_open_fault(*self._memory(), byref(at))
+        if fault:
+            kind = "runqueue " if fault in (UMAX_OUT_OF_RANGE, UEXTRA_OUT_OF_RANGE) else "task "
+            raise Fault("nd_open", fault, None if TOO_MANY_QUEUES <= fault <= NO_QUEUE else f"{kind}{at.value}")
+        _lib.nd_open(*self._memory())
 
     def _memory(self):
         return self.tasks, len(self.tasks), self.queues, len(self.queues)
@@ -235,17 +283,51 @@ class Book:
     def retune(self, task, runtime, period):
         return self._ask(task, RETUNE, runtime, period)
 
+    def move(self, task, queue):
+        """A contending task goes to another runqueue, with budget, deadline and count as they are."""
+        return self._ask(task, MOVE, queue)
+
+    def _first(self, call, queue):
+        task, moment = c_uint32(), c_uint32()
+        fault = call(self.tasks, len(self.tasks), _u32(queue), byref(task), byref(moment))
+        return None if fault else (task.value, moment.value)
+
+    def earliest(self, queue):
+        """The contending task of a runqueue with the earliest deadline, and that deadline; None where none contends."""
+        return self._first(_lib.nd_earliest, queue)
+
+    def next_timer(self, queue):
+        """The task of a runqueue that waits for the earliest 0-lag time, and that moment; None where none waits. The ticket of
+        its timer is its count."""
+        return self._first(_lib.nd_next_timer, queue)
+
+    def exhaustion(self, task):
+        """After how long a run the budget of a contending task is used up, by the sums of now."""
+        held = self.tasks[task]
+        if held.state != CONTENDING:
+            raise Fault("exhaustion", NOT_CONTENDING)
+        on = self.queues[held.queue]
+        return exhaustion(held.budget, bw(held.runtime, held.period), (on.umax, on.uextra), (on.running_bw, on.this_bw))
+
     def apply_all(self, asks, replies=None):
         """Asks ops one after another, and gives their replies: `asks` is an array of Ask, as `asks_of` makes one. An array
         of Reply may be given to be written; then as many are asked as it has room for."""
         if replies is None:
             replies = (Reply * len(asks))()
+        _apart(replies, asks, self.tasks, self.queues)
+        _apart(self.tasks, asks, self.queues)
+        _apart(self.queues, asks)
         _lib.nd_apply_all(*self._memory(), asks, len(asks), replies, len(replies))
         return replies
 
     def audit(self):
         """0 where the memory is a book, else the number of the first fault."""
         return _lib.nd_audit(*self._memory())
+
+    def audit_fault(self):
+        """What audit() answers, and which task or runqueue has the fault."""
+        at = c_uint32()
+        return _lib.nd_audit_fault(*self._memory(), byref(at)), at.value
 
     def check(self, events):
         """Replays a recorded history, a list of Event: how many events the book gives."""
@@ -271,7 +353,11 @@ def asks_of(numbers):
     if view.nbytes % size:
         raise ValueError("an op to ask has four numbers of 32 bits: task, kind, a, b")
     kind = Ask * (view.nbytes // size)
-    return kind.from_buffer_copy(view) if view.readonly else kind.from_buffer(view)
+    if view.readonly:
+        return kind.from_buffer_copy(view)
+    asks = kind.from_buffer(view)
+    _apart(asks)
+    return asks
 
 
 def params_fault(runtime, period):
@@ -312,14 +398,24 @@ def charge(run, bw, queue, now):
     return charged.value
 
 
+def exhaustion(budget, bw, queue, now):
+    """The least run of a task of this bandwidth whose charge is at least the budget, on a runqueue (umax, uextra) that reads
+    (running_bw, this_bw)."""
+    run = c_uint64()
+    fault = _lib.nd_exhaustion(_u32(budget), _u32(bw), Capacity(*map(_u32, queue)), Reading(*map(_u32, now)), byref(run))
+    _unless("nd_exhaustion", fault)
+    return run.value
+
+
 def deplete(server, params, charged):
     """How often the budget is recharged where so much is taken from it, and the server (budget, deadline) afterwards."""
     left, recharges = Server(), c_uint32()
-    fault = _lib.nd_deplete(Server(*map(_u32, server)), Params(*map(_u32, params)), charged, byref(left), byref(recharges))
+    fault = _lib.nd_deplete(Server(*map(_u32, server)), Params(*map(_u32, params)), _u64(charged), byref(left), byref(recharges))
     _unless("nd_deplete", fault)
     return recharges.value, (left.budget, left.deadline)
 
 
 def kernel_charge(kernel, dt, bw, this_bw, running_bw, extra_bw, max_bw, bw_ratio):
-    """What a kernel of this version (0x060100 for 6.1) charges for a run of dt nanoseconds, in nanoseconds."""
-    return _lib.nd_kernel_charge(kernel, dt, bw, this_bw, running_bw, extra_bw, max_bw, bw_ratio)
+    """What a kernel of this version (0x060100 for 6.1) charges for a run of dt nanoseconds, in nanoseconds. As the kernel's own
+    numbers are, all but its version are taken modulo 2^64."""
+    return _lib.nd_kernel_charge(_u32(kernel), dt, bw, this_bw, running_bw, extra_bw, max_bw, bw_ratio)

@@ -1,20 +1,23 @@
-"""A simulator: EDF on one runqueue of three reservations, whose tasks reclaim what the others leave.
+"""A simulator: global EDF of five reservations over two runqueues.
 
-Every charge is the book's, and what happened is recorded and held to the book. Moments are in microseconds.
+A ready task is pushed to, or pulled by, the processor that should run it; what others leave is reclaimed. Each processor
+looks again when a job comes or ends, a 0-lag time is there, or a budget is used up. Every charge is the book's, and what
+happened is recorded and held to the book. Moments are in microseconds.
 `simulator.py FILE` also draws running_bw over time into FILE, where matplotlib is there.
 """
 
 import sys
 
-from neddwyrol import BLOCK, CHARGE, CONTENDING, JOIN, NON_CONTENDING, TIMER, UNIT, WAKE, Book, Event, Op
+from neddwyrol import BLOCK, CHARGE, CONTENDING, JOIN, MOVE, TIMER, UNIT, WAKE, Book, Event, Op, name_of
 
-RESERVATIONS, RUNQUEUE = [(2000, 8000), (3000, 12000), (4000, 16000)], (996147, 209715)
-DEMAND = [1500, 2500, 9000]  # of each job; a job comes each period
-END, SLICE = 48000, 1000
+RESERVATIONS = [(2000, 8000), (3000, 12000), (4000, 16000), (3000, 10000), (5000, 20000)]
+RUNQUEUES = [(996147, 209715), (996147, 209715)]
+DEMAND = [1500, 2500, 9000, 3500, 6000]  # of each job; a job comes each period
+END = 48000
 
-book = Book(RESERVATIONS, [RUNQUEUE])
-history, readings = [], []
-left, due, zero_lag = list(DEMAND), [period for _, period in RESERVATIONS], [0, 0, 0]
+book = Book(RESERVATIONS, RUNQUEUES)
+history, readings = [], [[], []]
+left, due = list(DEMAND), [period for _, period in RESERVATIONS]
 
 
 def ask(task, kind, a, b):
@@ -24,44 +27,56 @@ def ask(task, kind, a, b):
     return reply
 
 
-def read(now):
-    queue = book.queues[0]
-    history.append(Event.reading(0, queue.running_bw, queue.this_bw))
-    readings.append((now, queue.running_bw))
+def ready(queue):
+    """The ready tasks of a runqueue, by deadline."""
+    return sorted((task.deadline, number) for number, task in enumerate(book.tasks) if task.state == CONTENDING and task.queue == queue)
 
 
-for task in range(3):
-    ask(task, JOIN, 0, 0)
+def push_and_pull(now):
+    """The second ready task of each runqueue goes to the other one, where it comes before what runs there."""
+    for queue in range(2):
+        here, there = ready(queue), ready(1 - queue)
+        if len(here) > 1 and (not there or here[1][0] < there[0][0]):
+            reply = ask(here[1][1], MOVE, 1 - queue, 0)
+            print(f"at {now:5} task {here[1][1]} goes to runqueue {1 - queue}: {name_of(reply.kind)}")
+
+
+for task in range(len(RESERVATIONS)):
+    ask(task, JOIN, task % 2, 0)
 now = 0
 while now < END:
+    for queue in range(2):
+        while (timer := book.next_timer(queue)) and timer[1] <= now:
+            ask(timer[0], TIMER, book.tasks[timer[0]].count, now)
     for number, task in enumerate(book.tasks):
-        if task.state == NON_CONTENDING and zero_lag[number] <= now:
-            ask(number, TIMER, task.count, now)
         if due[number] <= now:
             left[number] += DEMAND[number]
             due[number] += task.period
             if task.state != CONTENDING:
-                ask(number, WAKE, 0, now)
-    waiting = [zero_lag[number] for number, task in enumerate(book.tasks) if task.state == NON_CONTENDING]
-    until = min([now + SLICE] + due + waiting)
-    ready = [(task.deadline, number) for number, task in enumerate(book.tasks) if task.state == CONTENDING]
-    read(now)
-    if not ready:
-        now = until
-        continue
-    _, running = min(ready)
-    length = min(left[running], until - now)
-    ran = ask(running, CHARGE, 0, length)
-    print(
-        f"at {now:5} task {running} ran {length:4} charged {ran.charged:4} budget {ran.budget:4} deadline {ran.deadline:5}"
-        f" running_bw {book.queues[0].running_bw}"
-    )
-    now += length
-    left[running] -= length
-    if left[running] == 0:
-        zero_lag[running] = ask(running, BLOCK, 0, now).deadline
+                ask(number, WAKE, task.queue, now)
+    push_and_pull(now)
+    until, runs = min([END, *due]), []
+    for queue, on in enumerate(book.queues):  # until when nothing changes
+        history.append(Event.reading(queue, on.running_bw, on.this_bw))
+        readings[queue].append((now, on.running_bw))
+        if timer := book.next_timer(queue):
+            until = min(until, timer[1])
+        if first := book.earliest(queue):
+            runs.append((queue, first[0]))
+            until = min(until, now + left[first[0]], now + book.exhaustion(first[0]))
+    for queue, running in runs:  # runs are charged by the sums of now: before a block changes them
+        ran = ask(running, CHARGE, queue, until - now)
+        print(
+            f"at {now:5} on {queue} task {running} ran {until - now:4} charged {ran.charged:4} budget {ran.budget:4}"
+            f" deadline {ran.deadline:5} running_bw {book.queues[queue].running_bw}"
+        )
+        left[running] -= until - now
+    now = until
+    for queue, running in runs:
+        if left[running] == 0:
+            ask(running, BLOCK, queue, now)
 
-again = Book(RESERVATIONS, [RUNQUEUE])
+again = Book(RESERVATIONS, RUNQUEUES)
 given = again.check(history)
 print(f"nd_check: {given} of {len(history)} events are the book's; nd_audit: {again.audit()}")
 
@@ -74,12 +89,13 @@ if len(sys.argv) > 1:
     except ImportError:
         print("matplotlib is not there: nothing is drawn", file=sys.stderr)
         sys.exit(0 if given == len(history) else 1)
-    moments, sums = zip(*readings, (now, book.queues[0].running_bw))
-    plot.figure(figsize=(9, 3))
-    plot.fill_between([it / 1000 for it in moments], [it / UNIT for it in sums], step="post", alpha=0.4)
-    plot.ylim(0, 1)
+    _, rows = plot.subplots(2, sharex=True, figsize=(9, 4))
+    for queue, row in enumerate(rows):
+        moments, sums = zip(*readings[queue], (now, book.queues[queue].running_bw))
+        row.fill_between([it / 1000 for it in moments], [it / UNIT for it in sums], step="post", alpha=0.4)
+        row.set_ylim(0, 1)
+        row.set_ylabel(f"running_bw of {queue}")
     plot.xlabel("milliseconds")
-    plot.ylabel("running_bw of a processor")
     plot.tight_layout()
     plot.savefig(sys.argv[1])
 sys.exit(0 if given == len(history) else 1)

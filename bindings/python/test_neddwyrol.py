@@ -43,6 +43,22 @@ class Books(unittest.TestCase):
         with self.assertRaises(ValueError):
             nd.asks_of([1, 2, 3])
 
+    def test_memory_of_others(self):
+        book = nd.Book([HALF], [(nd.UNIT, 0)])
+        with self.assertRaises(ValueError):
+            nd.asks_of(memoryview(bytearray(33))[1:])
+        numbers = array("I", [0, nd.JOIN, 0, 0, 0, nd.CHARGE, 0, 2, 0, nd.BLOCK, 0, 2, 0, nd.LEAVE, 0, 0])
+        with self.assertRaises(ValueError):
+            book.apply_all(nd.asks_of(numbers), (nd.Reply * 2).from_buffer(numbers))
+        with self.assertRaises(ValueError):
+            book.apply_all(nd.asks_of(numbers), (nd.Reply * 1).from_buffer(bytearray(40), 4))
+        self.assertEqual(book.tasks[0].state, nd.AWAY)
+
+    def test_names(self):
+        self.assertEqual([nd.name_of(it) for it in (0, 2, 20, 51, 103, 99)], ["DONE", "RUNTIME_OUT_OF_RANGE", "FULL", "EMPTY", "WAITING", "UNKNOWN"])
+        with self.assertRaisesRegex(nd.Fault, "^nd_open: 2 RUNTIME_OUT_OF_RANGE of task 1$"):
+            nd.Book([HALF, (9, 8)], [(nd.UNIT, 0)])
+
     def test_snapshots_and_damage(self):
         book = nd.Book([HALF], [(nd.UNIT, 0)])
         book.join(0, 0, 0)
@@ -50,9 +66,26 @@ class Books(unittest.TestCase):
         book.block(0, 0, 0)
         self.assertEqual((saved.tasks[0].state, book.tasks[0].state), (nd.CONTENDING, nd.INACTIVE))
         saved.queues[0].running_bw = 0
-        self.assertEqual(saved.audit(), nd.WRONG_RUNNING_BW)
+        self.assertEqual((saved.audit(), saved.audit_fault()), (nd.WRONG_RUNNING_BW, (nd.WRONG_RUNNING_BW, 0)))
         saved.tasks[0].budget = 9
         self.assertEqual(saved.block(0, 0, 0).kind, nd.DAMAGED)
+
+    def test_moves(self):
+        book = nd.Book([HALF, HALF, (1, 8)], [(nd.UNIT, 0), (nd.UNIT // 2, 0)])
+        self.assertEqual([book.move(0, 0).kind, book.join(0, 0, 0).kind, book.join(2, 0, 0).kind], [nd.NOT_ON, nd.JOINED, nd.JOINED])
+        self.assertEqual((book.earliest(0), book.earliest(1), book.next_timer(0)), ((0, 8), None, None))
+        book.run(0, 0, 1)
+        before = (book.tasks[0].budget, book.tasks[0].deadline)
+        reply = book.move(0, 1)
+        self.assertEqual((reply.kind, reply.number, (book.tasks[0].budget, book.tasks[0].deadline)), (nd.MOVED, 0, before))
+        self.assertEqual([it.running_bw for it in book.queues], [nd.UNIT // 8, nd.UNIT // 2])
+        again = [book.move(0, 1), book.move(2, 1), book.move(0, 2), book.move(3, 0)]
+        self.assertEqual([it.kind for it in again], [nd.ALREADY_ON, nd.FULL, nd.NO_OP, nd.NO_TASK])
+        self.assertEqual((book.exhaustion(0), book.audit()), (3, 0))
+        waits = book.block(0, 1, 1)
+        self.assertEqual((book.next_timer(1), book.move(0, 0).kind), ((0, waits.deadline), nd.NOT_CONTENDING))
+        with self.assertRaises(nd.Fault):
+            book.exhaustion(0)
 
     def test_history(self):
         book, history = nd.Book([HALF], [(nd.UNIT, 0)]), []
@@ -62,6 +95,9 @@ class Books(unittest.TestCase):
         self.assertEqual(nd.Book([HALF], [(nd.UNIT, 0)]).check(history), 4)
         history[3].running_bw = 0
         self.assertEqual(nd.Book([HALF], [(nd.UNIT, 0)]).check(history), 3)
+        history[0].reply.budget = 1
+        again = nd.Book([HALF], [(nd.UNIT, 0)])
+        self.assertEqual((again.check(history), again.tasks[0].state), (0, nd.AWAY))
 
 
 class Arithmetic(unittest.TestCase):
@@ -71,9 +107,12 @@ class Arithmetic(unittest.TestCase):
         self.assertEqual((nd.woken((2, 8), HALF, 4), nd.woken((2, 8), HALF, 5)), ((2, 8), (4, 13)))
         self.assertEqual(nd.charge(1000, 262144, (996147, 200000), (262144, 262144)), 799)
         self.assertEqual(nd.deplete((2, 8), HALF, 10), (3, (4, 32)))
+        self.assertEqual(nd.exhaustion(800, 262144, (996147, 200000), (262144, 262144)), 1001)
         with self.assertRaises(nd.Fault) as fault:
             nd.deplete((1, 4294967290), HALF, 1)
         self.assertEqual(fault.exception.number, nd.DEADLINE_OVERFLOW)
+        with self.assertRaises(OverflowError):
+            nd.deplete((2, 8), HALF, 2**64 + 3)
 
     def test_kernels(self):
         sums = {"this_bw": 104857, "running_bw": 104857, "extra_bw": 0, "max_bw": 996147, "bw_ratio": 269}

@@ -50,6 +50,7 @@ pub enum Op {
     Exit,
     Charge(u32, u32),
     Retune(u32, u32),
+    Move(u32),
 }
 
 #[derive(Clone, Copy)]
@@ -63,6 +64,7 @@ pub enum Reply {
     Ended,
     Charged(u64, u32, Server),
     Retuned,
+    Moved(u32),
     Gone,
     NotOn,
     AlreadyOn(u32),
@@ -124,6 +126,32 @@ fn charge(run: u32, bw: u32, queue: Queue, running: u32, this: u32) -> u64 {
     u64::from(run) * rate as u64 / u64::from(queue.umax)
 }
 
+impl Book {
+    fn on(&self, r: u32, state: State) -> impl Iterator<Item = (u32, &Record)> {
+        (0..).zip(&self.records).filter(move |(_, held)| held.place == Place::On(r, state))
+    }
+
+    /// The ready task of a runqueue with the earliest deadline, and that deadline.
+    pub fn earliest(&self, r: u32) -> Option<(u32, u32)> {
+        self.on(r, State::Contending).map(|(t, held)| (held.server.deadline, t)).min().map(|(d, t)| (t, d))
+    }
+
+    /// The task of a runqueue that waits for the earliest 0-lag time, and that moment.
+    pub fn next_timer(&self, r: u32) -> Option<(u32, u32)> {
+        self.on(r, State::NonContending).map(|(t, held)| (held.params.zero_lag(held.server).max(0) as u32, t)).min().map(|(z, t)| (t, z))
+    }
+
+    /// Whether a ready task's budget is used up by this run, and not by one less.
+    pub fn is_exhausted_by(&self, t: u32, run: u64) -> bool {
+        let held = self.records[t as usize];
+        let Place::On(r, State::Contending) = held.place else { return false };
+        let (queue, (running, this)) = (self.queues[r as usize], self.sums[r as usize]);
+        let rate = i128::from(held.params.bw()).max(i128::from(queue.umax) - i128::from(this) + i128::from(running) - i128::from(queue.uextra));
+        let is_enough = |run: u64| i128::from(run) * rate / i128::from(queue.umax) >= i128::from(held.server.budget);
+        is_enough(run) && (run == 0 || !is_enough(run - 1))
+    }
+}
+
 fn refusal(place: Place, count: u32, op: Op) -> Option<Reply> {
     use State::*;
     match (op, place) {
@@ -131,6 +159,9 @@ fn refusal(place: Place, count: u32, op: Op) -> Option<Reply> {
         (Op::Timer(..), _) => Some(Reply::Stale),
         (_, Place::Gone) => Some(Reply::Gone),
         (Op::Join(..), Place::On(on, _)) => Some(Reply::AlreadyOn(on)),
+        (Op::Move(r), Place::On(on, _)) if on == r => Some(Reply::AlreadyOn(on)),
+        (Op::Move(_), Place::On(_, Contending)) => None,
+        (Op::Move(_), Place::On(..)) => Some(Reply::NotContending),
         (Op::Join(..) | Op::Exit | Op::Retune(..), Place::Away) => None,
         (_, Place::Away) => Some(Reply::NotOn),
         (Op::Wake(r, _) | Op::Block(r, _) | Op::Charge(r, _), Place::On(on, _)) if on != r => Some(Reply::Elsewhere(on)),
@@ -223,6 +254,15 @@ impl Book {
                 next.place = Place::Gone;
                 let on = if held.place == Place::Away { 0 } else { bw };
                 (Reply::Ended, (running, this - on))
+            }
+            Op::Move(to) => {
+                let there = &mut self.sums[to as usize];
+                if there.1 + bw > self.queues[to as usize].umax {
+                    return Reply::Full;
+                }
+                *there = (there.0 + bw, there.1 + bw);
+                next.place = Place::On(to, Contending);
+                (Reply::Moved(r), (running - bw, this - bw))
             }
             Op::Retune(runtime, period) => {
                 let params = Params::new(runtime, period).expect("a reservation");

@@ -107,13 +107,13 @@ pub struct Reading {
     pub this_bw: u32,
 }
 
-/// The number of a fault, as `neddwyrol.h` and [`codes`] have it.
+/// The number of a fault, as `neddwyrol.h` and [`codes`] have it. It prints its number and its name.
 #[derive(Clone, Copy, Debug, PartialEq, Eq)]
 pub struct Fault(pub u32);
 
 impl core::fmt::Display for Fault {
     fn fmt(&self, f: &mut core::fmt::Formatter<'_>) -> core::fmt::Result {
-        write!(f, "neddwyrol: fault {}", self.0)
+        write!(f, "neddwyrol: {} {}", self.0, codes::name(self.0))
     }
 }
 
@@ -172,6 +172,13 @@ impl Op {
 
     pub fn retune(runtime: u32, period: u32) -> Op {
         Op { kind: codes::RETUNE, a: runtime, b: period }
+    }
+}
+
+impl Op {
+    /// A ready task goes to another runqueue as it is.
+    pub fn move_to(queue: u32) -> Op {
+        Op { kind: codes::MOVE, a: queue, b: 0 }
     }
 }
 
@@ -280,6 +287,35 @@ impl<'a> Book<'a> {
         self.apply(task, Op::retune(runtime, period))
     }
 
+    /// A contending task goes to another runqueue, with budget, deadline and count as they are.
+    pub fn move_to(&mut self, task: u32, queue: u32) -> Reply {
+        self.apply(task, Op::move_to(queue))
+    }
+
+    /// The contending task of a runqueue with the earliest deadline, and that deadline.
+    pub fn earliest(&self, queue: u32) -> Option<(u32, u32)> {
+        let (mut task, mut deadline) = (0, 0);
+        // SAFETY: the tasks are only read, and the numbers are its own. So in the next call.
+        let fault = unsafe { raw::nd_earliest(self.tasks.as_ptr(), self.tasks.len(), queue, &mut task, &mut deadline) };
+        (fault == codes::DONE).then_some((task, deadline))
+    }
+
+    /// The task of a runqueue that waits for the earliest 0-lag time, and that moment. The ticket of its timer is its count.
+    pub fn next_timer(&self, queue: u32) -> Option<(u32, u32)> {
+        let (mut task, mut moment) = (0, 0);
+        // SAFETY: as above.
+        let fault = unsafe { raw::nd_next_timer(self.tasks.as_ptr(), self.tasks.len(), queue, &mut task, &mut moment) };
+        (fault == codes::DONE).then_some((task, moment))
+    }
+
+    /// After how long a run the budget of a contending task is used up, by the sums of now. None where it does not contend.
+    pub fn exhaustion(&self, task: u32) -> Option<u64> {
+        let held = self.tasks.get(task as usize).filter(|it| it.state == codes::CONTENDING)?;
+        let Runqueue { umax, uextra, running_bw, this_bw } = *self.queues.get(held.queue as usize)?;
+        let bw = Params { runtime: held.runtime, period: held.period }.bw();
+        exhaustion(held.budget, bw, Capacity { umax, uextra }, Reading { running_bw, this_bw }).ok()
+    }
+
     pub fn tasks(&self) -> &[Task] {
         self.tasks
     }
@@ -299,6 +335,29 @@ impl<'a> Book<'a> {
 pub fn audit(tasks: &[Task], queues: &[Runqueue]) -> Result<(), Fault> {
     // SAFETY: both point to that many structs, which are only read.
     unless(unsafe { raw::nd_audit(tasks.as_ptr(), tasks.len(), queues.as_ptr(), queues.len()) })
+}
+
+/// A fault with the number of the task or runqueue that has it; that of 6, 7 and 8 is 0.
+#[derive(Clone, Copy, Debug, PartialEq, Eq)]
+pub struct FaultAt {
+    pub fault: Fault,
+    pub number: u32,
+}
+
+/// What a `Book::open` of this memory would answer, with the task or runqueue that has the fault.
+pub fn open_fault(tasks: &[Task], queues: &[Runqueue]) -> Result<(), FaultAt> {
+    let mut number = 0;
+    // SAFETY: both point to that many structs, which are only read, and the number is its own. So in the next call.
+    let fault = unsafe { raw::nd_open_fault(tasks.as_ptr(), tasks.len(), queues.as_ptr(), queues.len(), &mut number) };
+    unless(fault).map_err(|fault| FaultAt { fault, number })
+}
+
+/// What `audit` answers, with the task or runqueue that has the fault.
+pub fn audit_fault(tasks: &[Task], queues: &[Runqueue]) -> Result<(), FaultAt> {
+    let mut number = 0;
+    // SAFETY: as above.
+    let fault = unsafe { raw::nd_audit_fault(tasks.as_ptr(), tasks.len(), queues.as_ptr(), queues.len(), &mut number) };
+    unless(fault).map_err(|fault| FaultAt { fault, number })
 }
 
 impl Params {
@@ -357,6 +416,14 @@ pub fn charge(run: u32, bw: u32, queue: Capacity, now: Reading) -> Result<u64, F
     Ok(charged)
 }
 
+/// The least run of a task of this bandwidth whose charge is at least the budget. A fault of 3 where the bandwidth is 0.
+pub fn exhaustion(budget: u32, bw: u32, queue: Capacity, now: Reading) -> Result<u64, Fault> {
+    let mut run = 0;
+    // SAFETY: as above.
+    unless(unsafe { raw::nd_exhaustion(budget, bw, queue, now, &mut run) })?;
+    Ok(run)
+}
+
 /// What a kernel charges by, beside a run and a task's bandwidth.
 #[derive(Clone, Copy, Debug, Default, PartialEq, Eq)]
 pub struct KernelSums {
@@ -378,4 +445,10 @@ pub fn kernel_charge(kernel: u32, dt: u64, bw: u64, sums: KernelSums) -> u64 {
 pub fn abi() -> u32 {
     // SAFETY: the call takes nothing.
     unsafe { raw::nd_abi() }
+}
+
+/// The version of the linked library; [`codes::VERSION`] is that of this crate.
+pub fn version() -> u32 {
+    // SAFETY: the call takes nothing.
+    unsafe { raw::nd_version() }
 }

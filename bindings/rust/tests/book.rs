@@ -1,5 +1,5 @@
 //! The calls of the crate, each once.
-use neddwyrol::{abi, audit, charge, codes, kernel_charge, Ask, Book, Capacity, Event, Fault, KernelSums, Op, Params, Reading, Reply, Runqueue, Server, Task};
+use neddwyrol::{abi, audit, audit_fault, charge, codes, exhaustion, kernel_charge, open_fault, version, Ask, Book, Capacity, Event, Fault, FaultAt, KernelSums, Op, Params, Reading, Reply, Runqueue, Server, Task};
 
 const HALF: Params = Params { runtime: 4, period: 8 };
 
@@ -10,7 +10,7 @@ fn memory() -> ([Task; 2], [Runqueue; 1]) {
 #[test]
 fn openings() {
     let (mut tasks, mut queues) = memory();
-    assert_eq!(abi(), codes::ABI);
+    assert_eq!((abi(), version()), (codes::ABI, codes::VERSION));
     assert!(Book::open(&mut tasks, &mut []).is_err_and(|fault| fault == Fault(codes::NO_QUEUE)));
     queues[0].uextra = codes::UNIT + 1;
     assert!(Book::open(&mut tasks, &mut queues).is_err_and(|fault| fault == Fault(codes::UEXTRA_OUT_OF_RANGE)));
@@ -18,6 +18,9 @@ fn openings() {
     tasks[1].runtime = 9;
     assert!(Book::open(&mut tasks, &mut queues).is_err_and(|fault| fault == Fault(codes::RUNTIME_OUT_OF_RANGE)));
     assert_eq!(tasks[0], Task::new(4, 8));
+    assert_eq!(open_fault(&tasks, &queues), Err(FaultAt { fault: Fault(codes::RUNTIME_OUT_OF_RANGE), number: 1 }));
+    assert_eq!(Fault(codes::RUNTIME_OUT_OF_RANGE).to_string(), "neddwyrol: 2 RUNTIME_OUT_OF_RANGE");
+    assert_eq!((codes::name(103), codes::name(99)), ("WAITING", "UNKNOWN"));
 }
 
 #[test]
@@ -33,6 +36,9 @@ fn a_server_of_many_processors() {
     assert_eq!(audit(&tasks, &queues), Ok(()));
     queues[999].this_bw -= 1;
     assert_eq!(audit(&tasks, &queues), Err(Fault(codes::WRONG_THIS_BW)));
+    assert_eq!(audit_fault(&tasks, &queues), Err(FaultAt { fault: Fault(codes::WRONG_THIS_BW), number: 999 }));
+    tasks[70_000].state = 5;
+    assert_eq!(audit_fault(&tasks, &queues), Err(FaultAt { fault: Fault(codes::STATE_OUT_OF_RANGE), number: 70_000 }));
 }
 
 #[test]
@@ -73,6 +79,24 @@ fn snapshots() {
 }
 
 #[test]
+fn moves() {
+    let mut tasks = [Task::new(4, 8), Task::new(4, 8), Task::new(1, 8)];
+    let mut queues = [Runqueue::new(codes::UNIT, 0), Runqueue::new(codes::UNIT / 2, 0)];
+    let mut book = Book::open(&mut tasks, &mut queues).unwrap();
+    book.join(0, 0, 0);
+    book.join(2, 0, 0);
+    assert_eq!((book.earliest(0), book.earliest(1), book.next_timer(0)), (Some((0, 8)), None, None));
+    book.run(0, 0, 1);
+    let moved = book.move_to(0, 1);
+    assert_eq!((moved.kind, moved.number, book.tasks()[0].budget), (codes::MOVED, 0, 4 - 1));
+    assert_eq!(book.reading(1), Some(Reading { running_bw: codes::UNIT / 2, this_bw: codes::UNIT / 2 }));
+    assert_eq!([book.move_to(0, 1), book.move_to(2, 1), book.move_to(1, 1)].map(|it| it.kind), [codes::ALREADY_ON, codes::FULL, codes::NOT_ON]);
+    assert_eq!((book.exhaustion(0), book.exhaustion(1)), (Some(3), None));
+    let waits = book.block(0, 1, 1);
+    assert_eq!((book.next_timer(1), book.move_to(0, 0).kind), (Some((0, waits.deadline)), codes::NOT_CONTENDING));
+}
+
+#[test]
 fn arithmetic() {
     let server = Server { budget: 2, deadline: 8 };
     assert_eq!((HALF.bw(), HALF.check(), Params { runtime: 9, period: 8 }.check()), (524288, Ok(()), Err(Fault(2))));
@@ -82,6 +106,7 @@ fn arithmetic() {
     assert_eq!(server.depleted(HALF, 10), Ok((3, Server { budget: 4, deadline: 32 })));
     let queue = Capacity { umax: 996147, uextra: 200000 };
     assert_eq!(charge(1000, 262144, queue, Reading { running_bw: 262144, this_bw: 262144 }), Ok(799));
+    assert_eq!(exhaustion(800, 262144, queue, Reading { running_bw: 262144, this_bw: 262144 }), Ok(1001));
     assert_eq!(charge(1, 1, queue, Reading { running_bw: 2, this_bw: 1 }), Err(Fault(codes::RUNNING_OUT_OF_RANGE)));
     let sums = KernelSums { this_bw: 104857, running_bw: 104857, extra_bw: 0, max_bw: 996147, bw_ratio: 269 };
     assert_eq!(kernel_charge(0x061200, 1_000_000, 104857, sums), 998_241);

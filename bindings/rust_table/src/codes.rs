@@ -12,5 +12,7 @@ pub const MISSING: u32 = 26;
 pub const NO_PART: u32 = 27;
 pub const NO_MEMORY: u32 = 42;
 pub const BUSY: u32 = 50;
+pub const EMPTY: u32 = 51;
 pub const LOST: u32 = 52;
+pub const TWO_TABLES: u32 = 53;
 pub const HELD: u32 = 100;

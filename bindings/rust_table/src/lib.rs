@@ -8,17 +8,12 @@ pub mod codes;
 mod raw;
 
 use codes::{BUSY, HELD, LOST};
-use core::sync::atomic::{AtomicU64, Ordering};
 use neddwyrol::{codes::DONE, Fault, Op, Reading, Reply, Runqueue, Task};
-
-/// The number of the next table, by which passes of two tables are told apart.
-static NEXT_TABLE: AtomicU64 = AtomicU64::new(0);
 
 /// The right of one thread to make calls, with the passes that it gathered. It may go to another thread. Its table is freed
 /// with the last pass.
 pub struct Pass {
     held: raw::Pass,
-    table: u64,
 }
 
 // SAFETY: the library proves that what a pass leads to may go to another thread.
@@ -37,7 +32,6 @@ impl Drop for Pass {
 /// task is given back, and its pass is dropped.
 pub struct Claim {
     held: raw::Claim,
-    table: u64,
 }
 
 // SAFETY: the library proves that what a claim leads to may go to another thread.
@@ -96,7 +90,7 @@ impl Pass {
         let mut held = nothing();
         // SAFETY: both point to that many structs, which are only read, and the pass owns nothing yet.
         match unsafe { raw::nd_table_open(tasks.as_ptr(), tasks.len(), queues.as_ptr(), queues.len(), passes, &mut held) } {
-            DONE => Ok(Pass { held, table: NEXT_TABLE.fetch_add(1, Ordering::SeqCst) }),
+            DONE => Ok(Pass { held }),
             fault => Err(Fault(fault)),
         }
     }
@@ -106,22 +100,30 @@ impl Pass {
         core::mem::replace(&mut self.held, nothing())
     }
 
-    /// # Panics
-    /// Where the other pass is of another table.
-    fn hold_to_table(&self, other: &Pass) {
-        assert_eq!(self.table, other.table, "neddwyrol: two passes of two tables");
+    /// Where its table lies.
+    fn place(&mut self) -> *mut u8 {
+        let (pass, mut table) = (self.taken(), raw::Table { at: core::ptr::null_mut() });
+        // SAFETY: the pass is the library's and in no other call; what is written owns nothing before. So in the calls below.
+        unsafe { raw::nd_pass_table(pass, &mut table, &mut self.held) };
+        table.at
     }
 
-    fn found(held: raw::Pass, table: u64) -> Option<Pass> {
-        (!held.at.is_null()).then_some(Pass { held, table })
+    /// # Panics
+    /// Where the other pass is of another table.
+    fn hold_to_table(&mut self, other: &mut Pass) {
+        assert_eq!(self.place(), other.place(), "neddwyrol: two passes of two tables");
+    }
+
+    fn found(held: raw::Pass) -> Option<Pass> {
+        (!held.at.is_null()).then_some(Pass { held })
     }
 
     /// Takes the last pass that was gathered out again. Fault 27: none is gathered, or memory was refused.
     pub fn part(&mut self) -> Result<Pass, Fault> {
         let (pass, mut part) = (self.taken(), nothing());
-        // SAFETY: the pass is the library's and in no other call; what is written owns nothing before. So in the calls below.
+        // SAFETY: as above.
         match unsafe { raw::nd_pass_part(pass, &mut self.held, &mut part) } {
-            DONE => Ok(Pass { held: part, table: self.table }),
+            DONE => Ok(Pass { held: part }),
             fault => Err(Fault(fault)),
         }
     }
@@ -137,11 +139,11 @@ impl Pass {
     /// The same in two steps: begins a call. It takes the task, unless the place, the count, the ticket or an early timer decides
     /// the reply.
     pub fn start(mut self, task: u32, op: Op) -> Started {
-        let (pass, table, mut claim) = (self.taken(), self.table, no_claim());
+        let (pass, mut claim) = (self.taken(), no_claim());
         // SAFETY: as above.
         let reply = unsafe { raw::nd_pass_start(pass, task, op, &mut self.held, &mut claim) };
         match reply.kind {
-            HELD => Started::Held(Claim { held: claim, table }),
+            HELD => Started::Held(Claim { held: claim }),
             BUSY => Started::Busy(self),
             _ => Started::Answered(self, reply),
         }
@@ -171,12 +173,12 @@ impl Pass {
     /// # Panics
     /// Where the other pass is of another table.
     pub fn gather(&mut self, mut other: Pass) -> Result<(), Refused> {
-        self.hold_to_table(&other);
+        self.hold_to_table(&mut other);
         let (first, second, mut back) = (self.taken(), other.taken(), nothing());
         // SAFETY: as above, and both are of one table.
         match unsafe { raw::nd_pass_gather(first, second, &mut self.held, &mut back) } {
             DONE => Ok(()),
-            fault => Err(Refused { fault: Fault(fault), pass: Pass::found(back, self.table) }),
+            fault => Err(Refused { fault: Fault(fault), pass: Pass::found(back) }),
         }
     }
 
@@ -187,7 +189,7 @@ impl Pass {
         // SAFETY: as above, and the readings are so many.
         match unsafe { raw::nd_table_close(pass, readings.as_mut_ptr(), readings.len(), &mut back) } {
             DONE => Ok(()),
-            fault => Err(Refused { fault: Fault(fault), pass: Pass::found(back, self.table) }),
+            fault => Err(Refused { fault: Fault(fault), pass: Pass::found(back) }),
         }
     }
 }
@@ -198,15 +200,23 @@ impl Claim {
         core::mem::replace(&mut self.held, no_claim())
     }
 
+    /// The task as it is in the history that the pass has seen.
+    pub fn task(&mut self) -> Task {
+        let (claim, mut task) = (self.taken(), Task::default());
+        // SAFETY: the claim is the library's and in no other call; what is written owns nothing before. So in the calls below.
+        unsafe { raw::nd_claim_record(claim, &mut task, &mut self.held) };
+        task
+    }
+
     /// Makes the call, unless so many tries are lost, each to a change of the runqueue's sums. An op that changes no sum needs
     /// no try.
     pub fn finish(mut self, tries: u8) -> Finished {
         let (claim, mut held) = (self.taken(), nothing());
-        // SAFETY: the claim is the library's and in no other call; what is written owns nothing before.
+        // SAFETY: as above.
         let reply = unsafe { raw::nd_claim_finish(claim, tries, &mut held, &mut self.held) };
         match reply.kind {
             LOST => Finished::Held(self),
-            _ => Finished::Done(Pass { held, table: self.table }, reply),
+            _ => Finished::Done(Pass { held }, reply),
         }
     }
 
@@ -219,6 +229,6 @@ impl Claim {
         let (claim, mut held) = (self.taken(), nothing());
         // SAFETY: as above.
         unsafe { raw::nd_claim_cancel(claim, &mut held) };
-        Pass { held, table: self.table }
+        Pass { held }
     }
 }

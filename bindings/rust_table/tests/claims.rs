@@ -20,7 +20,9 @@ fn a_claim_keeps_others_out() {
     let second = first.part().unwrap();
     let Started::Answered(first, left) = first.start(0, Op::leave()) else { panic!() };
     assert_eq!(left.kind, codes::NOT_ON);
-    let claim = held(first, 0, Op::join(0, 0));
+    let mut claim = held(first, 0, Op::join(0, 0));
+    let task = claim.task();
+    assert_eq!((task.runtime, task.period, task.budget, task.state), (4, 8, 4, codes::AWAY));
     let Started::Busy(second) = second.start(0, Op::join(0, 0)) else { panic!() };
     let Finished::Held(claim) = claim.finish(0) else { panic!() };
     let first = claim.cancel();

@@ -16,18 +16,33 @@ pub fn shifted(reading: Reading, r: u32, old: &Record, new: &Record) -> Reading
     requires running { reading.running ≤ reading.this }
     ensures { result ≡ shifted_of reading r old.now new.now }
 {
-    let running = reading.running - share(old.place.is_active_on(r), old.params);
-    let this = reading.this - share(old.place.is_on(r), old.params);
+    let bw = old.params.bw();
+    let new_bw = bandwidth_after(old.params, bw, new.params);
+    let running = reading.running - share(old.place.is_active_on(r), bw);
+    let this = reading.this - share(old.place.is_on(r), bw);
     Reading {
-        running: running + share(new.place.is_active_on(r), new.params),
-        this: this + share(new.place.is_on(r), new.params),
+        running: running + share(new.place.is_active_on(r), new_bw),
+        this: this + share(new.place.is_on(r), new_bw),
     }
 }
 
-/// What a task adds to a sum: its bandwidth, where it counts.
-fn share(counts: bool, params: Params) -> u32
-    ensures value { result ≡ (if counts then bandwidth_of params else 0) }
+/// The bandwidth of the new reservation, which mostly is the old one: a division is dear, so none is made twice.
+fn bandwidth_after(old: Params, bw: u32, new: Params) -> u32
+    requires value { bw ≡ bandwidth_of old }
+    requires most { bw ≤ 2 ^ 20 }
+    ensures value { result ≡ bandwidth_of new }
     ensures most { result ≤ 2 ^ 20 }
 {
-    if counts { params.bw() } else { 0 }
+    if new.runtime() == old.runtime() && new.period() == old.period() {
+        bw
+    } else {
+        new.bw()
+    }
+}
+
+/// What a task of this bandwidth adds to a sum, where it counts.
+fn share(counts: bool, bw: u32) -> u32
+    ensures { result ≡ (if counts then bw else 0) }
+{
+    if counts { bw } else { 0 }
 }

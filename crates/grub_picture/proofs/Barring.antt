@@ -3,7 +3,7 @@ use Rattle.std.proofs.Common.{◌≡◌, ℕ, ◌+◌, ◌<◌, Bool, true, fals
 use Rattle.std.proofs.lemmas.List.{drop_more}
 use Rattle.grub_book.specs.declared.place.State.{State}
 use Rattle.grub_book.specs.declared.place.State.TheVariants.{Contending, NonContending, Inactive}
-use Rattle.grub_shapes.specs.declared.shape.Bar.{Bar}
+use Rattle.svg.specs.declared.shape.Bar.{Bar}
 use Rattle.grub_picture.specs.declared.bars.Begun.{Begun}
 use Rattle.grub_steps.specs.declared.book_steps.Step.{Step}
 use Rattle.grub_picture.specs.Bars.{bars_from, is_state, state_on, until}

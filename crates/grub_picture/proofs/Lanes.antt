@@ -7,7 +7,7 @@ use Rattle.std.proofs.lemmas.List.Elements.{All-filter, All-from_get_or}
 use Rattle.std.proofs.lemmas.List.FromFn.{filter_of_map_range_with_len_more, get_or-range_with_len, length-range_with_len}
 use Rattle.std.proofs.lemmas.List.Sums.{count_by-le-length, length-filter}
 use Rattle.std.proofs.lemmas.Option.{get_or_from_slice_get}
-use Rattle.grub_shapes.specs.declared.frame.Frame.{Frame}
+use Rattle.svg.specs.declared.frame.Frame.{Frame}
 use Rattle.grub_steps.specs.declared.book_steps.Step.{Step}
 use Rattle.grub_picture.specs.Bars.{bars_of, is_seen}
 use Rattle.grub_picture.specs.Lanes.{has_lane, lanes_of}

@@ -7,7 +7,7 @@ use Rattle.std.proofs.lemmas.List.Elements.{All-cons, All-head, All-nil, All-tai
 use Rattle.std.proofs.lemmas.List.FromFn.{length-map-range_with_len, map-range_with_len_more}
 use Rattle.std.proofs.lemmas.Option.{get_or_from_slice_get}
 use Rattle.grub_book.specs.Machine.{Machine}
-use Rattle.grub_shapes.specs.declared.frame.Frame.{Frame}
+use Rattle.svg.specs.declared.frame.Frame.{Frame}
 use Rattle.grub_steps.specs.declared.book_steps.Step.{Step}
 use Rattle.grub_steps.specs.Said.{own_steps}
 use Rattle.grub_picture.specs.Layouts.{LaneView, RunqueueView, lane_of, lanes_from, owns_of, runqueue_of, runqueues_from}

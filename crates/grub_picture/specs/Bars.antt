@@ -7,10 +7,10 @@ use Rattle.grub_book.specs.declared.place.State.TheVariants.{Contending, NonCont
 use Rattle.grub_book.specs.declared.reply.Reply.TheVariants.{Charged}
 use Rattle.grub_plan.specs.declared.entry.Answer.{Answer}
 use Rattle.grub_plan.specs.declared.entry.Answer.TheVariants.{Replied}
-use Rattle.grub_shapes.specs.declared.shape.Bar.{Bar}
+use Rattle.svg.specs.declared.shape.Bar.{Bar}
 use Rattle.grub_steps.specs.declared.book_steps.Change.{Change}
 use Rattle.grub_steps.specs.declared.book_steps.Step.{Step}
-use Rattle.grub_shapes.specs.declared.frame.Frame.{Frame}
+use Rattle.svg.specs.declared.frame.Frame.{Frame}
 
 abbrev pub state_at : ℕ → Place → Option State
 state_at r (On s state) = if s == r then Some state else None

@@ -2,8 +2,8 @@
 use Rattle.std.specs.Prelude.{ℕ, ◌==◌, nat_le, nat_lt, ◌&&◌, Bool, true, false, List, [], ◌∷◌, ◌++◌, map, filter, if◌then◌else◌}
 use Rattle.grub_book.specs.declared.event.Reading.{Reading}
 use Rattle.grub_steps.specs.declared.book_steps.Step.{Step}
-use Rattle.grub_shapes.specs.declared.frame.Frame.{Frame}
-use Rattle.grub_shapes.specs.Frames.{x_of}
+use Rattle.svg.specs.declared.frame.Frame.{Frame}
+use Rattle.svg.specs.Frames.{x_of}
 use Rattle.grub_picture.specs.declared.curve.CurvePoint.{CurvePoint}
 
 -- running_bw, or this_bw

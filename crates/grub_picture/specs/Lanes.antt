@@ -2,8 +2,8 @@
 use Rattle.std.specs.Prelude.{ℕ, ◌&&◌, nat_lt, Bool, List, [], ◌∷◌, is_some, unwrap_or, filter, slice_index_or, if◌then◌else◌}
 use Rattle.std.specs.List.{list_any, range_with_len}
 use Rattle.grub_steps.specs.declared.book_steps.Step.{Step}
-use Rattle.grub_shapes.specs.declared.frame.Frame.{Frame}
-use Rattle.grub_shapes.specs.Frames.{is_in, x_of}
+use Rattle.svg.specs.declared.frame.Frame.{Frame}
+use Rattle.svg.specs.Frames.{is_in, x_of}
 use Rattle.grub_picture.specs.Bars.{bars_of, is_seen, postponed}
 use Rattle.grub_picture.specs.declared.tick.Tick.{Tick}
 

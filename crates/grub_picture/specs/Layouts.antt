@@ -4,9 +4,9 @@ use Rattle.std.specs.List.{filter_map, range_with_len}
 use Rattle.grub_book.specs.Machine.{Machine, queue_at}
 use Rattle.grub_steps.specs.declared.book_steps.Step.{Step}
 use Rattle.grub_steps.specs.Said.{own_steps}
-use Rattle.grub_shapes.specs.declared.frame.Frame.{Frame}
-use Rattle.grub_shapes.specs.declared.shape.Rect.{Rect}
-use Rattle.grub_shapes.specs.Shapes.{rect_of}
+use Rattle.svg.specs.declared.frame.Frame.{Frame}
+use Rattle.svg.specs.declared.shape.Rect.{Rect}
+use Rattle.svg.specs.Shapes.{rect_of}
 use Rattle.grub_picture.specs.declared.curve.CurvePoint.{CurvePoint}
 use Rattle.grub_picture.specs.declared.tick.Tick.{Tick}
 use Rattle.grub_picture.specs.Bars.{bars_of}

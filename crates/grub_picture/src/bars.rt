@@ -7,9 +7,9 @@ ghost use Rattle.grub_picture.specs.inside.Begun.{begun_after, ended_bar, last_b
 
 use grub_book::{Place, Reply, State};
 use grub_plan::Answer;
-use grub_shapes::{Bar, Frame};
 use grub_steps::{Change, Step};
 use std::alloc::{AllocError, Global};
+use svg::{Bar, Frame};
 
 /// A bar that has begun and not ended.
 #[derive(Clone, Copy)]

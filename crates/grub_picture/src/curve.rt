@@ -4,9 +4,9 @@ ghost use Rattle.std.specs.Prelude.{◌≡◌, ◌++◌, IfOk, OnOk};
 ghost use Rattle.grub_picture.specs.Curves.{bandwidth_in, changes_at, is_read, points_of};
 
 use grub_book::Reading;
-use grub_shapes::{Frame, LEFT, height_of, put_number, put_text};
 use grub_steps::Step;
 use std::alloc::{AllocError, Global};
+use svg::{Frame, LEFT, height_of, put_number, put_text};
 
 /// A bandwidth, and how far right a curve comes to it, in pixels.
 #[derive(Clone, Copy)]

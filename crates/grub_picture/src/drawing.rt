@@ -6,8 +6,8 @@ use crate::curve::put_curve;
 use crate::layout::{LaneLayout, RunqueueLayout, TOP};
 use crate::tick::put_ticks;
 use grub_plan::Plan;
-use grub_shapes::{Frame, put_bars, put_number, put_scale, put_umax};
 use std::alloc::AllocError;
+use svg::{Frame, put_bars, put_number, put_scale, put_umax};
 
 /// How far below the top of a runqueue the base of its curves is.
 const BASE: u32 = 84;

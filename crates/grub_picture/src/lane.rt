@@ -4,9 +4,9 @@ ghost use Rattle.std.specs.Prelude.{◌≡◌, ◌<◌, ◌≤◌, ◌++◌, ◌
 ghost use Rattle.grub_picture.specs.Lanes.{lanes_of};
 
 use crate::bars::{are_seen, bars_of};
-use grub_shapes::Frame;
 use grub_steps::Step;
 use std::alloc::{AllocError, Global};
+use svg::Frame;
 
 /// The tasks that have a lane on runqueue `r`: of the first so many, by the own steps of each, those that are on it at some
 /// time of the span. It is refused where the allocator refused.

@@ -2,7 +2,7 @@
 
 ghost use Rattle.std.specs.Prelude.{◌≡◌, ◌+◌, ◌*◌, ◌<◌, ◌≤◌, ◌^◌, All, IfOk, length, map};
 ghost use Rattle.std.specs.List.{filter_map};
-ghost use Rattle.grub_shapes.specs.Shapes.{rect_of};
+ghost use Rattle.svg.specs.Shapes.{rect_of};
 ghost use Rattle.grub_picture.specs.Layouts.{lane_of, lanes_from, layout_of, owns_of, runqueue_of};
 
 use crate::bars::bars_of;
@@ -10,10 +10,10 @@ use crate::curve::{CurvePoint, points_of};
 use crate::lane::{lanes_of, own_of};
 use crate::tick::{Tick, ticks_of};
 use grub_plan::Plan;
-use grub_shapes::{Bar, Frame, Rect, rect_of};
 use grub_steps::{Step, steps_of_task};
 use std::alloc::{AllocError, Global};
 use std::marker::Model;
+use svg::{Bar, Frame, Rect, rect_of};
 
 /// What is shown of a time line.
 #[derive(Clone, Copy)]

@@ -9,10 +9,10 @@ ghost use Rattle.grub_picture.specs.Picture.{IsDocument, last_moment};
 use crate::drawing::{bottom_of, put_queues};
 use crate::layout::{Scene, layout_of, owns_of};
 use grub_plan::Plan;
-use grub_shapes::{Frame, put_axis, put_head, put_number, put_text};
 use grub_steps::{ViewFault, replay};
 use grub_timeline::{TimeLine, ToldEntry};
 use std::alloc::{AllocError, Global};
+use svg::{Frame, put_axis, put_head, put_number, put_text};
 
 /// A picture is smaller than 4 MiB: what stands in its one element is smaller than this, in bytes.
 const INNER_LIMIT: usize = 4194292;

@@ -4,9 +4,9 @@ ghost use Rattle.std.specs.Prelude.{◌≡◌, IfOk};
 ghost use Rattle.grub_picture.specs.Lanes.{is_tick, tick_of, ticks_of};
 
 use crate::bars::postponed;
-use grub_shapes::{Frame, put_number, put_text};
 use grub_steps::Step;
 use std::alloc::{AllocError, Global};
+use svg::{Frame, put_number, put_text};
 
 /// A deadline that was postponed.
 #[derive(Clone, Copy)]

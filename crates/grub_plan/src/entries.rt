@@ -7,7 +7,7 @@ ghost use Rattle.grub_plan.specs.Texts.{entry_line};
 use crate::entry::Entry;
 use crate::pieces::append_entry;
 use crate::plan::Plan;
-use grub_text::LineOf;
+use text_bytes::LineOf;
 
 /// An entry is told with the plan's names. Its task is to be one of the plan's.
 impl LineOf<Entry> for Plan {

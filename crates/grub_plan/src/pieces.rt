@@ -8,7 +8,7 @@ ghost use Rattle.grub_plan.specs.Texts.{reading_text, op_text, reply_text, serve
 use crate::entry::{Answer, Ask, Entry};
 use crate::plan::Plan;
 use grub_book::{Op, Reading, Reply};
-use grub_text::{LINE_MAX, append, append_number};
+use text_bytes::{LINE_MAX, append, append_number};
 
 /// The text of no reading is longer.
 pub const READING_MAX: usize = 54;

@@ -8,10 +8,10 @@ use crate::entry::{Entry, Report};
 use crate::pieces::{READING_MAX, append_close, append_entry, append_head, append_reading};
 use crate::plan::Plan;
 use grub_book::Reading;
-use grub_text::LINE_MAX;
 use std::alloc::{AllocError, Global};
 use std::error::Error;
 use std::fmt;
+use text_bytes::LINE_MAX;
 
 /// Why a text was not made.
 #[derive(Clone, Copy, Debug, PartialEq, Eq)]

@@ -10,9 +10,9 @@ use Rattle.std.specs.Global.{Vec}
 use Rattle.std.specs.List.{AllZip, slice_get}
 use Rattle.std.specs.Result.{IfErr, IsErrAnd}
 use Rattle.grub_plan.specs.Contents.{contents}
-use Rattle.grub_text.specs.declared.files.Source.{Source}
-use Rattle.grub_text.specs.declared.files.TheConstants.{FILE_BYTES_MAX}
-use Rattle.grub_text.specs.Source.{Holds, IsLonger, IsOpened, IsUnreadable, Opener, Reader}
+use Rattle.text_bytes.specs.declared.files.Source.{Source}
+use Rattle.text_bytes.specs.declared.files.TheConstants.{FILE_BYTES_MAX}
+use Rattle.text_bytes.specs.Source.{Holds, IsLonger, IsOpened, IsUnreadable, Opener, Reader}
 use Rattle.grub_book.specs.declared.setup.TheConstants.{QUEUES_MAX}
 use Rattle.grub_trace.specs.FirstFault.{no_file, too_many}
 use Rattle.grub_trace.specs.declared.fault.Kind.TheVariants.{MissingQueue, OutOfRange}

@@ -9,7 +9,7 @@ use Rattle.grub_views.specs.Views.{HandsOnView, HandsPartOfView}
 use Rattle.grub_plan.specs.Plans.{PlanView}
 use Rattle.grub_timeline.specs.declared.told.ToldEntry.{ToldEntry}
 use Rattle.grub_book.specs.declared.event.Reading.{Reading}
-use Rattle.grub_text.specs.Writing.{HandsOn, HandsPart}
+use Rattle.text_bytes.specs.Writing.{HandsOn, HandsPart}
 use Rattle.grub_run.specs.Written.{AppendsPrefix}
 use Rattle.grub_run.proofs.Known.{prefix_of}
 

@@ -3,7 +3,7 @@ use Rattle.std.proofs.Common.{◌≡◌, ℕ, ◌++◌, List, [], take, append_a
 use Rattle.std.proofs.Math.Seq.{take-append_seam, take-length}
 use Rattle.std.specs.Prelude.{OnOk}
 use Rattle.std.specs.Io.KnownBytes.{Appends, Keeps}
-use Rattle.grub_text.specs.Writing.{HandsPart}
+use Rattle.text_bytes.specs.Writing.{HandsPart}
 use Rattle.grub_run.specs.Written.{AppendsPrefix}
 
 -- a beginning of a beginning

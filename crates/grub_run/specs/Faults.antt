@@ -10,8 +10,8 @@ use Rattle.grub_run.specs.declared.grub_fault.GrubFault.{GrubFault}
 use Rattle.grub_run.specs.declared.grub_fault.GrubFault.TheVariants as run
 use Rattle.grub_run.specs.ViewFaults.{HasEmptySpan}
 use Rattle.grub_run.specs.declared.view.FileView.{FileView}
-use Rattle.grub_text.specs.declared.files.Source.{Source}
-use Rattle.grub_text.specs.Source.{Holds, IsLonger, IsOpened, IsUnreadable, Opener, Reader}
+use Rattle.text_bytes.specs.declared.files.Source.{Source}
+use Rattle.text_bytes.specs.Source.{Holds, IsLonger, IsOpened, IsUnreadable, Opener, Reader}
 use Rattle.grub_run.specs.declared.program_fault.ProgramFault.{ProgramFault}
 use Rattle.grub_run.specs.declared.program_fault.ProgramFault.TheVariants as faults
 

@@ -17,7 +17,6 @@ use crate::grub_fault::GrubFault;
 use crate::report::write_report;
 use grub_book::Reading;
 use grub_plan::{Plan, Report, TextFault};
-use grub_text::{Blocks, LINE_MAX, line_buffer, write_buffer};
 use grub_trace::read_files_by_threads;
 use grub_workers::{NoGate, run};
 use std::alloc::Global;
@@ -25,6 +24,7 @@ use std::io;
 use std::io::Write;
 use std::sync::Wait;
 use std::thread::Threads;
+use text_bytes::{Blocks, LINE_MAX, line_buffer, write_buffer};
 
 /// `run_texts` for many and long files: several threads read them and make the lines of the reports, and the files' bytes
 /// are dropped before the run, so their memory is free for the entries. The text goes through buffers of fixed size, which

@@ -3,16 +3,16 @@
 ghost use Rattle.std.specs.Prelude.{◌≤◌, ℕ, List, IfErr, IfOk, OnOk, length};
 ghost use Rattle.grub_book.specs.declared.setup.TheConstants.{QUEUES_MAX};
 ghost use Rattle.grub_plan.specs.Contents.{contents};
-ghost use Rattle.grub_text.specs.Source.{Holds, IsOpened};
+ghost use Rattle.text_bytes.specs.Source.{Holds, IsOpened};
 ghost use Rattle.grub_run.specs.Faults.{HoldAll, Tells, names_of};
 ghost use Rattle.grub_run.specs.inside.Telling.{IsOfReading, IsPlaced, TellsOf};
 
 use crate::grub_fault::GrubFault;
 use crate::program_fault::ProgramFault;
-use grub_text::{FileFault, Source, read_file};
 use grub_trace::{TraceFault, check_count};
 use std::alloc::Global;
 use std::io;
+use text_bytes::{FileFault, Source, read_file};
 
 /// The bytes of the file at this path.
 fn read_one<

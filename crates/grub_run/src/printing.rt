@@ -13,12 +13,12 @@ use crate::paths::{check_paths, placed, read_files};
 use crate::program_fault::ProgramFault;
 use crate::show_fault::ShowFault;
 use crate::view::{FileView, write_view};
-use grub_text::Source;
 use std::alloc::Global;
 use std::io;
 use std::io::Write;
 use std::sync::Wait;
 use std::thread::Threads;
+use text_bytes::Source;
 
 /// Reads the files of these names, runs them with so many tries and rounds, and prints the texts of their reports.
 ///

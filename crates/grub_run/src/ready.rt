@@ -1,12 +1,12 @@
 //! What the views that are written while they are played take memory for.
 
 ghost use Rattle.std.specs.Prelude.{◌≡◌, ◌+◌, ◌≤◌, [], IfSome, length, vec_capacity};
-ghost use Rattle.grub_text.specs.declared.pieces.TheConstants.{LINE_MAX};
+ghost use Rattle.text_bytes.specs.declared.pieces.TheConstants.{LINE_MAX};
 
 use grub_plan::Plan;
-use grub_text::{Blocks, line_buffer};
 use grub_timeline::{Playing, ToldEntry};
 use std::alloc::Global;
+use text_bytes::{Blocks, line_buffer};
 
 /// A time line of which nothing was played yet, and room to write it line by line.
 #[derive(Drop)]

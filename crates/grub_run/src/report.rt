@@ -3,14 +3,14 @@
 ghost use Rattle.std.specs.Prelude.{◌≤◌, All, length, OnOk, OnErr, vec_capacity};
 ghost use Rattle.grub_plan.specs.Plans.{IsAskOf};
 ghost use Rattle.grub_plan.specs.Texts.{head_line, close_line, report_text};
-ghost use Rattle.grub_text.specs.Writing.{HandsOn, HandsPart};
+ghost use Rattle.text_bytes.specs.Writing.{HandsOn, HandsPart};
 
 use grub_book::Reading;
 use grub_plan::{Plan, Report, append_close, append_head};
-use grub_text::{Blocks, LINE_MAX, make_room, write_lines};
 use std::io;
 use std::io::Write;
 use std::thread::Threads;
+use text_bytes::{Blocks, LINE_MAX, make_room, write_lines};
 
 /// Writes the report of runqueue `r` after what the buffer keeps, but for what it keeps then: the runqueue's number, a line
 /// for each entry, and the closing reading. The entries' tasks are to be the plan's. It takes no memory.

@@ -8,12 +8,12 @@ ghost use Rattle.grub_run.specs.Shown.{IsShown};
 use crate::printing::{print_reports, print_view};
 use crate::program_fault::{ProgramFault, STATUS_FILE, STATUS_SYSTEM, STATUS_USAGE};
 use crate::view::FileView;
-use grub_text::Source;
 use std::alloc::Global;
 use std::io;
 use std::io::Write;
 use std::sync::Wait;
 use std::thread::Threads;
+use text_bytes::Source;
 
 /// Prints the reports of the files of these names to `out`, or the line of a fault to `faults`, and gives the status:
 /// 0 for reports, `STATUS_FILE` or `STATUS_SYSTEM` for a fault.

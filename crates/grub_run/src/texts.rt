@@ -16,7 +16,6 @@ ghost use Rattle.grub_run.specs.declared.grub_fault.GrubFault.TheVariants as fau
 use crate::grub_fault::GrubFault;
 use grub_book::Reading;
 use grub_plan::{Plan, Report, TextFault, report_of};
-use grub_text::write_buffer;
 use grub_trace::read_files;
 use grub_workers::{NoGate, run};
 use std::alloc::Global;
@@ -24,6 +23,7 @@ use std::io;
 use std::io::Write;
 use std::sync::Wait;
 use std::thread::Threads;
+use text_bytes::write_buffer;
 
 /// Reads event files, runs them with a thread for each, and writes the texts of their reports in file order.
 ///

@@ -6,13 +6,13 @@ use crate::expects::expect_case;
 use crate::files::{FIRST, FIRST_REPORT};
 use crate::writer::Expecting;
 use grub_run::{STATUS_FILE, STATUS_SYSTEM, serve_files};
-use grub_text::Source;
 use std::alloc::Global;
 use std::io::{ErrorKind, Read, Write};
 use std::rt::Files;
 use std::sync::Wait;
 use std::thread::Threads;
 use std::{fs, io};
+use text_bytes::Source;
 
 /// The status on the files of these names in the folder that the test runs in.
 fn served<R: Files + Threads + Wait + Sync, W: Write, E: Write>(

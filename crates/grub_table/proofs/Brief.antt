@@ -1,5 +1,5 @@
 -- How many accesses the steps of a call make together.
-use Rattle.std.proofs.Common.{◌≡◌, ◌≢◌, ℕ, zero, suc, ◌+◌, ◌*◌, ◌<◌, ◌≤◌, Bool, true, false, cond, List, [], ◌∷◌, ◌++◌, length, Some, sym, refl, ap, ◌∙◌, subst, ⊎_elim, arith, append_assoc, length-append, eqb, eq-eqb}
+use Rattle.std.proofs.Common.{◌≡◌, ◌≢◌, ℕ, zero, suc, ◌+◌, ◌-◌, ◌*◌, ◌<◌, ◌≤◌, Bool, true, false, cond, List, [], ◌∷◌, ◌++◌, length, Some, sym, refl, ap, ◌∙◌, subst, ⊎_elim, arith, append_assoc, length-append, eqb, eq-eqb}
 use Rattle.std.proofs.lemmas.List.Sums.{sum_by-append}
 use Rattle.std.proofs.lemmas.Bool.{ne_eqb}
 use Rattle.grub_bw.specs.Bandwidth.{Reservation}
@@ -9,7 +9,7 @@ use Rattle.std.specs.Prelude.{◌&&◌}
 use Rattle.grub_table.specs.declared.view.Access.{Access}
 use Rattle.grub_table.specs.declared.view.Access.TheVariants.{Load, Store, Exchange}
 use Rattle.grub_table.specs.Accesses.{is_exchange_of, exchanges_of, lost_tries, FinishesBriefly, StartsBriefly}
-use Rattle.grub_table.specs.inside.Brief.{changed_store, TriesOnce}
+use Rattle.grub_table.specs.inside.Brief.{changed_server, changed_store, TriesOnce}
 use Rattle.std.proofs.lemmas.Bool.{both_ways}
 
 exchanges_more : (w : ℕ) (xs ys : List Access) → exchanges_of w (xs ++ ys) ≡ exchanges_of w xs + exchanges_of w ys
@@ -54,16 +54,36 @@ module _ (w p t : ℕ) (held next : Reservation) (before mid after : List Access
         few = omega (arith, all, few, most, length-append first last);
       }
 
+-- after the event the server word v is stored, or stays
+abbrev kept_or : ℕ → Bool → List Access
+kept_or v same = cond same [] (Store v ∷ [])
+
+kept_quiet : (w v : ℕ) (same : Bool) → exchanges_of w (kept_or v same) ≡ 0
+kept_quiet w v true = refl
+kept_quiet w v false = refl
+
+kept_few : (v : ℕ) (same : Bool) → length (kept_or v same) ≤ 1
+kept_few v true = omega arith
+kept_few v false = omega arith
+
 -- by a try
-pub made_by_try : (w v p t : ℕ) (held next : Reservation) (sum : Bool) (q : Record × Reply) (before one two after : List Access) → TriesOnce w sum (Some q) before one → two ≡ one ++ Store v ∷ [] → after ≡ two ++ changed_store p held next ++ Store t ∷ [] → FinishesBriefly w 1 sum before after
-made_by_try w v p t held next sum q before one two after try to_two to_after = ⊎_elim
+pub made_by_try : (w v p t : ℕ) (held next : Record) (sum : Bool) (q : Record × Reply) (before one two after : List Access) → TriesOnce w sum (Some q) before one → two ≡ one ++ changed_server v held.server next.server → after ≡ two ++ changed_store p held.params next.params ++ Store t ∷ []
+    → FinishesBriefly w 1 sum before after
+made_by_try w v p t held next sum q before one two after try to_two to_after =
+    let same : Bool = eqb next.server.q held.server.q && eqb next.server.d held.server.d in
+    let rest = kept_or v same in
+    let none = kept_quiet w v same in
+    let most = kept_few v same in
+    ⊎_elim
     (λ (at_load : one ≡ before ++ Load w ∷ []).
-    let here : two ≡ before ++ (Load w ∷ Store v ∷ []) = to_two ∙ ap (λ l. l ++ Store v ∷ []) at_load ∙ append_assoc before (Load w ∷ []) (Store v ∷ []) in
-    made_briefly w p t held next before two after (Load w ∷ Store v ∷ []) here to_after 1 sum (omega arith) (λ _. refl) (omega arith))
+    let here : two ≡ before ++ (Load w ∷ rest) = to_two ∙ ap (λ l. l ++ rest) at_load ∙ append_assoc before (Load w ∷ []) rest in
+    let count : exchanges_of w (Load w ∷ rest) ≡ 0 = omega (arith, none) in
+    made_briefly w p t held.params next.params before two after (Load w ∷ rest) here to_after 1 sum (omega (arith, count)) (λ _. count) (omega (arith, count, most)))
     (λ (won : (one ≡ before ++ Load w ∷ Exchange w true ∷ []) × (sum ≡ true)).
-    let here : two ≡ before ++ (Load w ∷ Exchange w true ∷ Store v ∷ []) = to_two ∙ ap (λ l. l ++ Store v ∷ []) won.0 ∙ append_assoc before (Load w ∷ Exchange w true ∷ []) (Store v ∷ []) in
-    let count : exchanges_of w (Load w ∷ Exchange w true ∷ Store v ∷ []) ≡ 1 = omega (arith, counts_one w) in
-    made_briefly w p t held next before two after (Load w ∷ Exchange w true ∷ Store v ∷ []) here to_after 1 sum (omega (arith, count)) (λ off. absurd (both_ways _ off won.1)) (omega (arith, count)))
+    let here : two ≡ before ++ (Load w ∷ Exchange w true ∷ rest) = to_two ∙ ap (λ l. l ++ rest) won.0 ∙ append_assoc before (Load w ∷ Exchange w true ∷ []) rest in
+    let one_here : exchanges_of w (Load w ∷ Exchange w true ∷ []) ≡ 1 = omega (arith, counts_one w) in
+    let count : exchanges_of w (Load w ∷ Exchange w true ∷ rest) ≡ 1 = exchanges_more w (Load w ∷ Exchange w true ∷ []) rest ∙ omega (arith, one_here, none) in
+    made_briefly w p t held.params next.params before two after (Load w ∷ Exchange w true ∷ rest) here to_after 1 sum (omega (arith, count)) (λ off. absurd (both_ways _ off won.1)) (omega (arith, count, most)))
     try
 
 -- by a store
@@ -99,6 +119,21 @@ lost_then w v n tries sum on before mid after same one lt is f' =
       made = lost_tries w n ++ f.made;
       grown = f.grown ∙ ap (λ l. l ++ f.made) one ∙ append_assoc before (lost_tries w n) f.made;
       tried = omega (arith, all, tried, lt);
+      quiet = λ off. absurd (both_ways _ off is);
+      few = omega (arith, all, few, length-append (lost_tries w n) f.made, lost_length w n);
+    }
+
+-- a call that is made by the tries that are left after lost ones
+pub lost_on : (w v n tries : ℕ) (sum on : Bool) (before mid after : List Access) → v ≡ w → mid ≡ before ++ lost_tries w n → n ≤ tries → sum ≡ true → FinishesBriefly v (tries - n) on mid after → FinishesBriefly w tries sum before after
+lost_on w v n tries sum on before mid after same one le is f' =
+    let f : FinishesBriefly w (tries - n) on mid after = subst (λ u. FinishesBriefly u (tries - n) on mid after) same f' in
+    let tried = f.tried in
+    let few = f.few in
+    let all : exchanges_of w (lost_tries w n ++ f.made) ≡ n + exchanges_of w f.made = omega (arith, exchanges_more w (lost_tries w n) f.made, lost_exchanges w n) in
+    record {
+      made = lost_tries w n ++ f.made;
+      grown = f.grown ∙ ap (λ l. l ++ f.made) one ∙ append_assoc before (lost_tries w n) f.made;
+      tried = omega (arith, all, tried, le);
       quiet = λ off. absurd (both_ways _ off is);
       few = omega (arith, all, few, length-append (lost_tries w n) f.made, lost_length w n);
     }

@@ -17,7 +17,7 @@ pub struct Claim {
 }
 
 impl Claim {
-    ghost use Rattle.grub_table.specs.Calls.{claim_op, claim_task, claim_share};
+    ghost use Rattle.grub_table.specs.Calls.{claim_op, claim_record, claim_task, claim_share};
 
     /// The task that it holds.
     pub fn task(&self) -> u32
@@ -31,6 +31,13 @@ impl Claim {
         ensures { result ≡ claim_op self.now }
     {
         self.op
+    }
+
+    /// What the task is while it is held, as the history that its pass has seen leaves it.
+    pub fn record(&self) -> Record
+        ensures { result ≡ claim_record self.now }
+    {
+        self.held
     }
 
     /// The number of its pass.

@@ -41,6 +41,7 @@ impl CountedTable {
     }
 
     /// Loads the word, and counts it.
+    #[inline(always)]
     pub(crate) fn load<P: Play<Note, View>>(&self, seat: &mut Seat<Note, Trail>, word: usize) -> u64
         requires { MayStep self.now seat.old word (λ n. n)
             (P.then (step_at self.now word 0 0 none) (known seat.old.me)) }
@@ -53,6 +54,7 @@ impl CountedTable {
     }
 
     /// Stores into the word, and counts it.
+    #[inline(always)]
     pub(crate) fn store<P: Play<Note, View>>(
         &self,
         seat: &mut Seat<Note, Trail>,
@@ -70,6 +72,7 @@ impl CountedTable {
     }
 
     /// Exchanges the word where it is `old`, answers what it was, and counts it.
+    #[inline(always)]
     pub(crate) fn compare_exchange<P: Play<Note, View>>(
         &self,
         seat: &mut Seat<Note, Trail>,
@@ -91,6 +94,7 @@ impl CountedTable {
     }
 
     /// The same, with a note of the call that makes it.
+    #[inline(always)]
     pub(crate) fn compare_exchange_with<P: Play<Note, View>>(
         &self,
         seat: &mut Seat<Note, Trail>,

@@ -13,7 +13,7 @@ ghost use Rattle.grub_table.specs.Calls.{terms, claim_task, claim_op, accesses, 
 ghost use Rattle.grub_table.specs.Layout.{queue_word_at, task_word_at};
 ghost use Rattle.grub_table.specs.inside.Layout.{stored_of, server_word_at, params_word_at};
 ghost use Rattle.grub_table.specs.inside.Tellings.{is_decided_at_load, outcome, Of, OfQueue, SawQueue, ChangedQueue, SettledServer, StoredServer, StoredParams, Gives, GaveUp, GaveBack};
-ghost use Rattle.grub_table.specs.inside.Brief.{changed_store, TriesOnce};
+ghost use Rattle.grub_table.specs.inside.Brief.{changed_server, changed_store, TriesOnce};
 ghost use Rattle.grub_table.specs.inside.Tries.{half_stored, is_charge, KnowsNoMore, Tried};
 
 use crate::answer::Finished;
@@ -30,6 +30,7 @@ use grub_bw::{Params, Server};
 use grub_words::{pack_params, pack_queue, pack_server};
 
 /// Whether the reply stands as soon as the runqueue's word is loaded.
+#[inline(always)]
 fn is_decided_at_load(reply: Reply) -> bool
     ensures { result ≡ is_decided_at_load reply }
 {
@@ -40,6 +41,7 @@ fn is_decided_at_load(reply: Reply) -> bool
 }
 
 /// Whether the op is a charge, which changes no sum but looks at them.
+#[inline(always)]
 fn is_charge(op: Op) -> bool
     ensures { result ≡ is_charge op }
 {
@@ -99,6 +101,7 @@ impl Telling for GiveBack {
 impl Shared {
     /// Makes the call. A try is one load and one exchange of the runqueue's word.
     /// The claim is given back where all `tries` were lost, each to a change of that runqueue's reading. An op that changes no sum needs no try.
+    #[inline(always)]
     pub fn finish(&self, claim: Claim, tries: u8) -> Finished
         requires { IsClaimOf self.now claim }
         ensures finished { IsFinished self.now claim tries result }
@@ -115,6 +118,7 @@ impl Shared {
     }
 
     /// Gives the task back. Nothing is added to the history.
+    #[inline(always)]
     pub fn cancel(&self, claim: Claim) -> Pass
         requires { IsClaimOf self.now claim }
         ensures cancelled { IsCancelled self.now claim result }
@@ -130,15 +134,32 @@ impl Shared {
         self.give_up(seated, task, &held)
     }
 
-    /// Makes a call that changes a sum, by so many tries.
-    fn finish_sum(&self, mut claim: Claim, tries: u8) -> Finished
+    /// Makes a call that changes a sum, by so many tries. Mostly the first is won, so the others are no part of its code.
+    #[inline(always)]
+    fn finish_sum(&self, claim: Claim, tries: u8) -> Finished
+        requires of { IsClaimOf self.now claim }
+        requires sum { claim_changes_sum claim ≡ true }
+        ensures finished { IsFinished self.now claim tries result }
+        ensures within { IsWithin claim tries result }
+    {
+        if tries == 0 {
+            return Finished::Held(claim);
+        }
+        match self.attempt(claim) {
+            Finished::Held(back) => self.try_on(back, tries - 1),
+            Finished::Done(pass, reply) => Finished::Done(pass, reply),
+        }
+    }
+
+    /// So many more tries.
+    fn try_on(&self, mut claim: Claim, tries: u8) -> Finished
         requires of { IsClaimOf self.now claim }
         requires sum { claim_changes_sum claim ≡ true }
         ensures finished { IsFinished self.now claim tries result }
         ensures within { IsWithin claim tries result }
     {
         for _ in 0..tries {
-            match self.attempt(claim) {
+            match self.try_again(claim) {
                 Finished::Held(back) => claim = back,
                 Finished::Done(pass, reply) => return Finished::Done(pass, reply),
             }
@@ -146,7 +167,18 @@ impl Shared {
         Finished::Held(claim)
     }
 
+    /// One more try.
+    fn try_again(&self, claim: Claim) -> Finished
+        requires of { IsClaimOf self.now claim }
+        requires about { claim_changes_sum claim ≡ false → is_charge (claim_op claim) ≡ true }
+        ensures finished { IsFinished self.now claim 1 result }
+        ensures within { IsWithin claim 1 result }
+    {
+        self.attempt(claim)
+    }
+
     /// One try.
+    #[inline(always)]
     fn attempt(&self, claim: Claim) -> Finished
         requires of { IsClaimOf self.now claim }
         requires about { claim_changes_sum claim ≡ false → is_charge (claim_op claim) ≡ true }
@@ -167,12 +199,13 @@ impl Shared {
                 held,
             });
         };
-        self.store_server(&mut seated, task, next.server);
+        self.store_changed_server(&mut seated, task, &held, &next);
         let pass = self.hand_back(seated, task, &held, &next);
         Finished::Done(pass, reply)
     }
 
     /// The event of an op that looks at its runqueue or changes a sum of it: at the load of the runqueue's word, or at its exchange where that is won.
+    #[inline(always)]
     fn decide(&self, seated: &mut Seated, op: Op, held: &Record) -> Option<(Record, Reply)>
         requires held { (t : ℕ) × HoldsFor self.now seated.old t op held.now }
         requires about { changes_sum held.now op ≡ false → is_charge op ≡ true }
@@ -196,6 +229,7 @@ impl Shared {
     }
 
     /// An op that neither looks at its runqueue nor changes a sum of it: the store of the server's word is the event.
+    #[inline(always)]
     fn finish_quiet(&self, claim: Claim) -> Finished
         requires of { IsClaimOf self.now claim }
         requires sum { claim_changes_sum claim ≡ false }
@@ -241,6 +275,22 @@ impl Shared {
         self.give_back(seated, task, next)
     }
 
+    /// After the event, stores the server word where it changes.
+    #[inline(always)]
+    fn store_changed_server(&self, seated: &mut Seated, task: u32, held: &Record, next: &Record)
+        requires held { HoldsMade self.now seated.old task next.now (stored_of held.now) }
+        requires fits { ServerFits next.now.server }
+        ensures knows { Tells self.now KnowsNoMore seated.old seated.new }
+        ensures stored { HoldsMade self.now seated.new task next.now
+            (half_stored held.now next.now) }
+        ensures made { made_on seated.new ≡ made_on seated.old ++ changed_server
+            (server_word_at (terms self.now).setup task) held.now.server next.now.server }
+    {
+        if next.server != held.server {
+            self.store_server(seated, task, next.server);
+        }
+    }
+
     /// Stores the parameter word where it changes.
     #[inline(always)]
     fn store_changed(&self, seated: &mut Seated, task: u32, held: &Record, next: &Record)
@@ -256,6 +306,7 @@ impl Shared {
     }
 
     /// Loads the reading of the runqueue that the call is about.
+    #[inline(always)]
     fn load_queue(&self, seated: &mut Seated, r: u32) -> Reading
         requires { HoldsSome self.now seated.old (λ op rec. r ≡ runqueue_of rec.place op) }
         ensures told { Tells self.now (SawQueue r result) seated.old seated.new }
@@ -266,6 +317,7 @@ impl Shared {
     }
 
     /// Makes the reading `new` where it is still `old`, and says whether it was.
+    #[inline(always)]
     fn change_queue(&self, seated: &mut Seated, r: u32, old: Reading, new: Reading) -> bool
         requires held { HoldsSome self.now seated.old (λ op rec. (r ≡ runqueue_of rec.place op)
             × (new ≡ shifted_of old r rec (outcome (terms self.now) r old rec op).0)) }
@@ -281,6 +333,7 @@ impl Shared {
     }
 
     /// The server of an op that changes no sum: its transition.
+    #[inline(always)]
     fn settle_server(&self, seated: &mut Seated, t: u32, server: Server)
         requires held { HoldsTask self.now seated.old t
             (λ op rec. (changes_sum rec op ≡ false) × ¬ LooksAtQueue rec.place op) }
@@ -294,6 +347,7 @@ impl Shared {
     }
 
     /// Stores the server of a task whose call is made.
+    #[inline(always)]
     fn store_server(&self, seated: &mut Seated, t: u32, server: Server)
         requires held { (now : Record) × (stored : Stored)
             × HoldsMade self.now seated.old t now stored }
@@ -307,6 +361,7 @@ impl Shared {
     }
 
     /// Stores the parameters of a task whose call is made.
+    #[inline(always)]
     fn store_params(&self, seated: &mut Seated, t: u32, params: Params)
         requires { (now : Record) × (stored : Stored) × HoldsMade self.now seated.old t now stored }
         ensures told { Tells self.now (StoredParams (params_word params)) seated.old seated.new }
@@ -318,6 +373,7 @@ impl Shared {
     }
 
     /// Gives a task back whose call is made and stored.
+    #[inline(always)]
     fn give_back(&self, mut seated: Seated, t: u32, now: &Record) -> Pass
         requires held { HoldsMade self.now seated t now.now (stored_of now.now) }
         requires kept { IsKept (terms self.now).setup now.now }
@@ -331,6 +387,7 @@ impl Shared {
     }
 
     /// Gives a task back whose call is given up.
+    #[inline(always)]
     pub(crate) fn give_up(&self, mut seated: Seated, t: u32, held: &Record) -> Pass
         requires { (op : Op) × HoldsFor self.now seated t op held.now }
         ensures told { Tells self.now GaveUp seated result.seated }

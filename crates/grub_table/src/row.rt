@@ -17,12 +17,14 @@ use grub_words::{TaskWord, pack_task, unpack_params, unpack_queue, unpack_server
 /// How many words a runqueue or a task has to itself: 128 bytes.
 pub(crate) const SPACING: usize = 16;
 
+#[inline(always)]
 pub(crate) fn queue_word_at(r: u32) -> usize
     ensures { result ≡ queue_word_at r }
 {
     SPACING * r as usize
 }
 
+#[inline(always)]
 pub(crate) fn task_word_at(setup: &Setup, t: u32) -> usize
     ensures value { result ≡ task_word_at setup.now t }
     ensures limits { IsMachine setup.now }
@@ -30,6 +32,7 @@ pub(crate) fn task_word_at(setup: &Setup, t: u32) -> usize
     SPACING * (setup.queue_count() as usize + t as usize)
 }
 
+#[inline(always)]
 pub(crate) fn server_word_at(setup: &Setup, t: u32) -> usize
     ensures value { result ≡ server_word_at setup.now t }
     ensures limits { IsMachine setup.now }
@@ -37,6 +40,7 @@ pub(crate) fn server_word_at(setup: &Setup, t: u32) -> usize
     task_word_at(setup, t) + 1
 }
 
+#[inline(always)]
 pub(crate) fn params_word_at(setup: &Setup, t: u32) -> usize
     ensures value { result ≡ params_word_at setup.now t }
     ensures limits { IsMachine setup.now }
@@ -45,6 +49,7 @@ pub(crate) fn params_word_at(setup: &Setup, t: u32) -> usize
 }
 
 /// The reading in a runqueue's word.
+#[inline(always)]
 pub(crate) fn reading_in(word: u64) -> Reading
     requires { (now : Reading) × QueueFits now × (queue_word now ≡ word) }
     ensures fits { QueueFits result }
@@ -57,6 +62,7 @@ pub(crate) fn reading_in(word: u64) -> Reading
 }
 
 /// The server in a server word.
+#[inline(always)]
 pub(crate) fn server_in(word: u64) -> Server
     requires { (server : Server) × ServerFits server × (server_word server ≡ word) }
     ensures fits { ServerFits result }
@@ -69,6 +75,7 @@ pub(crate) fn server_in(word: u64) -> Server
 }
 
 /// The reservation in a parameter word.
+#[inline(always)]
 pub(crate) fn params_in(word: u64) -> Params
     requires { (p : Reservation) × IsReservation p × (params_word p ≡ word) }
     ensures fits { IsReservation result }
@@ -81,6 +88,7 @@ pub(crate) fn params_in(word: u64) -> Params
 }
 
 /// What the word of a free task says; none where the claim bit is set.
+#[inline(always)]
 pub(crate) fn unclaimed(word: u64) -> Option<TaskWord>
     ensures found { IfSome result
         (λ w. TaskFits w × (w.claimed ≡ false) × (task_word w.place w.count false ≡ word)) }
@@ -94,6 +102,7 @@ pub(crate) fn unclaimed(word: u64) -> Option<TaskWord>
 }
 
 /// The task word of a free task with this record.
+#[inline(always)]
 pub(crate) fn free_word(held: &Record) -> u64
     requires place { PlaceFits held.now.place }
     requires count { held.now.count ≤ COUNT_MAX }

@@ -76,6 +76,7 @@ impl Telling for LoadServer {
 
 impl Shared {
     /// Loads the task's word, where the call may be made at once.
+    #[inline(always)]
     fn load_task<J: Asked>(&self, seated: &mut Seated, t: u32) -> u64
         requires seat { IsSeatOf self.now seated.old }
         requires free { hold_of seated.old ≡ Free }
@@ -91,6 +92,7 @@ impl Shared {
     }
 
     /// Sets the claim bit where the word is still the one that was loaded, and returns the word as it was.
+    #[inline(always)]
     fn take_claim(&self, seated: &mut Seated, t: u32, op: Op, shown: TaskWord, loaded: u64) -> u64
         requires seat { IsSeatOf self.now seated.old }
         requires free { hold_of seated.old ≡ Free }
@@ -110,6 +112,7 @@ impl Shared {
     }
 
     /// Loads the parameters of a task that is held.
+    #[inline(always)]
     pub(crate) fn load_params(&self, seated: &mut Seated, t: u32) -> Params
         requires { (op : Op) × (rec : Record) × HoldsFor self.now seated.old t op rec }
         ensures told { Tells self.now (SawParams result) seated.old seated.new }
@@ -122,6 +125,7 @@ impl Shared {
     }
 
     /// Loads the server of a task that is held.
+    #[inline(always)]
     fn load_server(&self, seated: &mut Seated, t: u32) -> Server
         requires { (op : Op) × (rec : Record) × HoldsFor self.now seated.old t op rec }
         ensures told { Tells self.now (SawServer result) seated.old seated.new }
@@ -134,6 +138,7 @@ impl Shared {
     }
 
     /// What the task's word says, or the word itself where another pass has the task.
+    #[inline(always)]
     fn look_at_task<J: Asked>(&self, seated: &mut Seated, t: u32, op: Op) -> Result<TaskWord, u64>
         requires seat { IsSeatOf self.now seated.old }
         requires free { hold_of seated.old ≡ Free }
@@ -153,6 +158,7 @@ impl Shared {
     }
 
     /// The record of a task that was taken, whose word said this.
+    #[inline(always)]
     fn load_record(&self, seated: &mut Seated, t: u32, shown: TaskWord) -> Record
         requires { HoldsTask self.now seated.old t
             (λ _ rec. (shown.place ≡ rec.place) × (shown.count ≡ rec.count)) }
@@ -173,6 +179,7 @@ impl Shared {
 
     /// Makes the call where the task's place, count or ticket decides it, or where its timer is early; else takes the task for it.
     /// Where another pass has the task, or changed it meanwhile, the answer is `Busy` with what was seen.
+    #[inline(always)]
     pub fn start(&self, pass: Pass, t: u32, op: Op) -> Started
         requires of { IsPassOf self.now pass }
         requires task { t < length (terms self.now).setup.tasks }

@@ -13,6 +13,7 @@ use crate::view::Note;
 
 impl Shared {
     /// One load by the pass whose seat this is.
+    #[inline(always)]
     pub(crate) fn load<T: Telling>(&self, seated: &mut Seated, word: usize) -> u64
         requires of { IsSeatOf self.now seated.old }
         requires allowed { IsAllowed self.now seated.old word
@@ -24,6 +25,7 @@ impl Shared {
         self.table.load::<Turn<T>>(&mut seated.seat, word)
     }
 
+    #[inline(always)]
     pub(crate) fn store<T: Telling>(&self, seated: &mut Seated, word: usize, new: u64)
         requires of { IsSeatOf self.now seated.old }
         requires allowed { IsAllowed self.now seated.old word (λ _. new)
@@ -35,6 +37,7 @@ impl Shared {
         self.table.store::<Turn<T>>(&mut seated.seat, word, new);
     }
 
+    #[inline(always)]
     pub(crate) fn exchange<T: Telling>(
         &self,
         seated: &mut Seated,
@@ -55,6 +58,7 @@ impl Shared {
     }
 
     /// The same, and the rule is told what it is for.
+    #[inline(always)]
     pub(crate) fn exchange_saying<T: Telling>(
         &self,
         seated: &mut Seated,

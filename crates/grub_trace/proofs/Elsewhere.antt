@@ -7,14 +7,14 @@ use Rattle.grub_trace.specs.declared.fault.Kind.TheVariants.{BadLine, CutShort}
 use Rattle.grub_trace.specs.declared.raw.Head.{Head}
 use Rattle.grub_trace.specs.Tree.{Declaration}
 use Rattle.grub_trace.specs.Forms.{Form, at_moment, form_of, queue, task}
-use Rattle.grub_text.specs.Lines.{is_end, parts_of, words_of}
-use Rattle.grub_text.specs.Digits.{value}
+use Rattle.text_bytes.specs.Lines.{is_end, parts_of, words_of}
+use Rattle.text_bytes.specs.Digits.{value}
 use Rattle.grub_trace.specs.Faults.{form_fault}
 use Rattle.grub_trace.specs.inside.Forms.{begins_with_task, is_task}
 use Rattle.grub_trace.specs.inside.Heads.{IsHead, body_from, lines_below, read_body}
 use Rattle.grub_trace.specs.inside.Reading.{Read, act_map, adds, at_line, of_file, opened, read_lines, take_form, take_line, take_option, times_of, ok_unless, ◌>>=◌}
 use Rattle.grub_trace.proofs.LineLemmas.{unless_ok}
-use Rattle.grub_text.proofs.Splits.{has_part}
+use Rattle.text_bytes.proofs.Splits.{has_part}
 
 -- the same where these tasks are declared
 abbrev pub redeclare : List Declaration → Read → Read

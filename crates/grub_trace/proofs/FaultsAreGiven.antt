@@ -16,13 +16,13 @@ use Rattle.grub_trace.specs.Tree.{Declaration, Happening, Tree, text, line, head
 use Rattle.grub_trace.specs.Faults.{line_fault, header_fault, queue_fault}
 use Rattle.grub_trace.specs.inside.Faults.{fault_of_form}
 use Rattle.grub_trace.specs.Forms.{Form, form_of, version_of}
-use Rattle.grub_text.specs.Lines.{is_end, words_of, parts_of}
+use Rattle.text_bytes.specs.Lines.{is_end, words_of, parts_of}
 use Rattle.grub_trace.specs.Meaning.{AreKnown, IsTree, AreTrees}
 use Rattle.grub_trace.specs.FirstFault.{front_fault, LineFault, FileFault, UnknownFault, IsFault, too_many, no_file, first, unknown}
 use Rattle.grub_trace.specs.Naming.{all_tasks, line_in, script_of}
 use Rattle.grub_trace.specs.inside.Reading.{Read, FileRead, AllRead, with_file, of_file, read_file, read_first, read_as, opened, file_from, read_second, read_lines, read_from, queue_of, take_option, ok_unless, adds, at_line, ◌>>=◌, times_of, script_from, scripts_from, option_or_err, unknown_in, plan_from}
 use Rattle.grub_trace.proofs.PlanLaws.{body_of_tree, is_unknown}
-use Rattle.grub_text.proofs.Splits.{has_part}
+use Rattle.text_bytes.proofs.Splits.{has_part}
 use Rattle.grub_trace.proofs.LineLemmas.{first_known, second_then}
 use Rattle.grub_trace.proofs.FormLemmas.{version_again}
 use Rattle.grub_trace.proofs.FileLaws.{small_queue}

@@ -7,9 +7,9 @@ use Rattle.std.proofs.lemmas.List.{append-nil, length-append, length-map, map-ap
 use Rattle.grub_trace.specs.inside.Reading.{times_of}
 use Rattle.grub_trace.specs.Faults.{line_fault, queue_fault, queue_form_fault}
 use Rattle.grub_trace.specs.Forms.{Form, queue, task, at_moment, form_of, version_of, is_number, capacity_value}
-use Rattle.grub_text.specs.Lines.{is_end, words_of, parts_of}
-use Rattle.grub_text.specs.Digits.{value}
-use Rattle.grub_text.proofs.Splits.{has_part}
+use Rattle.text_bytes.specs.Lines.{is_end, words_of, parts_of}
+use Rattle.text_bytes.specs.Digits.{value}
+use Rattle.text_bytes.proofs.Splits.{has_part}
 use Rattle.std.proofs.lemmas.List.Splits.{join_with_byte-slice_split}
 use Rattle.grub_bw.specs.Bandwidth.{Capacity, IsCapacity, capacity_fits}
 use Rattle.grub_trace.proofs.LimitTests.{capacity_is}

@@ -17,10 +17,10 @@ use Rattle.grub_trace.specs.declared.form.Form as coded
 use Rattle.grub_plan.specs.Names.{is_name}
 use Rattle.grub_trace.specs.Tree.{act_words, header}
 use Rattle.grub_trace.specs.Forms.{Form, queue, task, at_moment, form_of, shape_of, is_filled, act_of, version_of, is_number}
-use Rattle.grub_text.specs.Digits.{value}
+use Rattle.text_bytes.specs.Digits.{value}
 use Rattle.grub_trace.specs.inside.Faults.{is_act_named, is_named}
 use Rattle.grub_trace.specs.inside.Reading.{form_view}
-use Rattle.grub_text.proofs.Digits.{numerals}
+use Rattle.text_bytes.proofs.Digits.{numerals}
 
 abbrev pub form_words : Form → List (List ℕ)
 form_words (queue a b) = codes "queue" ∷ a ∷ b ∷ []

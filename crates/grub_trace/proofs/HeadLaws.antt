@@ -16,7 +16,7 @@ use Rattle.grub_plan.specs.Contents.{contents}
 use Rattle.grub_trace.specs.Tree.{Declaration, names_of}
 use Rattle.grub_trace.specs.Faults.{form_fault}
 use Rattle.grub_trace.specs.Forms.{form_of, reservation_value, task, version_of}
-use Rattle.grub_text.specs.Lines.{parts_of, words_of}
+use Rattle.text_bytes.specs.Lines.{parts_of, words_of}
 use Rattle.grub_trace.specs.inside.Bodies.{AreRead, HaveHeads, IsRead, head_above}
 use Rattle.grub_trace.specs.inside.Lines.{AreBodies}
 use Rattle.grub_trace.specs.inside.Heads.{EndsAs, GiveTogether, GivesHead, GivesTasks, IsHead, bodies_from, body_from, lines_below, read_body}

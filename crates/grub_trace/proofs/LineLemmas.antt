@@ -7,8 +7,8 @@ use Rattle.grub_trace.specs.declared.fault.Kind.{Kind}
 use Rattle.grub_trace.specs.declared.fault.Kind.TheVariants.{CutShort, BadHeader, BadLine, BadNumber, OutOfRange, DuplicateTask, MomentGoesBack}
 use Rattle.grub_trace.specs.inside.Reading.{Read, FileRead, act_map, read_queue, read_second, read_first, read_as, read_file, file_from, opened, ok_unless, adds, take_option, times_of, read_lines, take_line, at_line, of_file, ◌>>=◌, Faults, two_fault, IsRunOf, IsRetuneOf, take_form, line_view, says, task_fault}
 use Rattle.grub_trace.specs.Forms.{Form, task, at_moment, form_of, is_number, version_of, reservation_value}
-use Rattle.grub_text.specs.Lines.{is_end, parts_of, words_of}
-use Rattle.grub_text.specs.Digits.{value}
+use Rattle.text_bytes.specs.Lines.{is_end, parts_of, words_of}
+use Rattle.text_bytes.specs.Digits.{value}
 use Rattle.std.proofs.Common.{◌-◌, ◌⊎◌, inl, inr, Option, Some, None}
 use Rattle.std.proofs.lemmas.List.{length-map}
 use Rattle.grub_trace.specs.declared.fault.TraceFault.{TraceFault}
@@ -26,7 +26,7 @@ use Rattle.grub_bw.specs.Bandwidth.{Reservation}
 use Rattle.grub_trace.specs.Naming.{task_of}
 use Rattle.grub_trace.specs.inside.Lines.{GivesLine, TakesAct, plain_fault}
 use Rattle.grub_trace.specs.Faults.{form_fault, is_timely, last_of}
-use Rattle.grub_text.proofs.Splits.{has_part}
+use Rattle.text_bytes.proofs.Splits.{has_part}
 
 -- ---- one step after another
 

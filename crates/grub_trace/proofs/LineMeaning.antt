@@ -15,8 +15,8 @@ use Rattle.grub_plan.specs.declared.line.Act.TheVariants as act
 use Rattle.grub_trace.specs.Tree.{Declaration, Happening, act_words, is_moment, is_span, names_of}
 use Rattle.grub_trace.specs.Faults.{form_fault, last_of, is_allowed, is_in_range, is_fresh, is_timely}
 use Rattle.grub_trace.specs.Forms.{Form, queue, task, at_moment, is_number, numbers_of, reservation_value}
-use Rattle.grub_text.specs.Lines.{words_of}
-use Rattle.grub_text.specs.Digits.{value}
+use Rattle.text_bytes.specs.Lines.{words_of}
+use Rattle.text_bytes.specs.Digits.{value}
 use Rattle.grub_trace.specs.Naming.{task_of}
 use Rattle.grub_trace.specs.inside.Faults.{is_act_named, is_named}
 use Rattle.grub_trace.specs.inside.Reading.{Read, act_map, take_line, declares, says, adds, times_of}

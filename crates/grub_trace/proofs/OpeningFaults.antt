@@ -13,7 +13,7 @@ use Rattle.grub_trace.specs.declared.tasks.Tasks.{Tasks}
 use Rattle.grub_trace.specs.inside.Heads.{IsHead, bodies_from, body_from, lines_below, read_body}
 use Rattle.grub_trace.specs.Tree.{Declaration}
 use Rattle.grub_trace.specs.FirstFault.{HeaderFault, QueueFault, FileFault, OpeningFault}
-use Rattle.grub_text.specs.Lines.{parts_of}
+use Rattle.text_bytes.specs.Lines.{parts_of}
 use Rattle.grub_plan.specs.Contents.{contents}
 use Rattle.grub_trace.specs.inside.Reading.{Body, FileRead, AllRead, declarations, with_file, of_file, file_from, opened, read_queue, read_lines, read_second, read_file, read_from, ◌>>=◌, AnswersOpening}
 use Rattle.grub_trace.proofs.LineLemmas.{bind_err, same_error, second_then}

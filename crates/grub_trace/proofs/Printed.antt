@@ -21,12 +21,12 @@ use Rattle.grub_plan.specs.Names.{is_name, is_name_byte}
 use Rattle.grub_trace.specs.Tree.{Declaration, Happening, act_words, queue_words, is_moment, names_of}
 use Rattle.grub_trace.specs.Faults.{form_fault, last_of, queue_fault, queue_form_fault, is_allowed, is_in_range, is_fresh, is_timely}
 use Rattle.grub_trace.specs.Forms.{Form, queue, task, at_moment, form_of, is_filled, act_of, is_number, numbers_of}
-use Rattle.grub_text.specs.Lines.{words_of}
-use Rattle.grub_text.specs.Digits.{value}
+use Rattle.text_bytes.specs.Lines.{words_of}
+use Rattle.text_bytes.specs.Digits.{value}
 use Rattle.grub_trace.specs.inside.Reading.{Read, act_map, take_line, take_option, ok_unless, adds, declares, says, times_of, read_queue, queue_of}
 use Rattle.grub_trace.specs.Meaning.{IsAct, IsHappeningFrom, IsDeclaration}
 use Rattle.grub_trace.specs.inside.Tree.{declaration_line, happening_line}
-use Rattle.grub_text.proofs.Digits.{numerals}
+use Rattle.text_bytes.proofs.Digits.{numerals}
 use Rattle.grub_trace.proofs.FormLemmas.{form_again}
 use Rattle.grub_trace.proofs.LineMeaning.{small_period, small_moment, small_span}
 

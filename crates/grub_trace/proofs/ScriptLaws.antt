@@ -7,7 +7,7 @@ use Rattle.grub_plan.specs.declared.line.Act.{Act}
 use Rattle.grub_plan.specs.declared.line.Act.TheVariants as act
 use Rattle.grub_trace.specs.declared.version.Version.{Version}
 use Rattle.grub_trace.specs.declared.tasks.Tasks.{Tasks}
-use Rattle.grub_text.specs.Lines.{parts_of}
+use Rattle.text_bytes.specs.Lines.{parts_of}
 use Rattle.grub_trace.specs.Naming.{act_in, line_in}
 use Rattle.grub_plan.specs.Plans.{Line}
 use Rattle.grub_trace.specs.Tree.{Happening, names_of}

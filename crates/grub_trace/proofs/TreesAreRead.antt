@@ -13,7 +13,7 @@ use Rattle.grub_trace.specs.declared.fault.Kind.{Kind}
 use Rattle.grub_plan.specs.Plans.{Line}
 use Rattle.grub_trace.specs.Tree.{Declaration, Happening, Tree, text, line, header, queue_words, declaration_words, happening_words, names_of}
 use Rattle.grub_trace.specs.Faults.{last_of}
-use Rattle.grub_text.specs.Lines.{parts_of}
+use Rattle.text_bytes.specs.Lines.{parts_of}
 use Rattle.grub_trace.specs.Naming.{line_in, script_of, all_tasks, plan_of, plan_with}
 use Rattle.grub_trace.specs.Meaning.{GoOn, AreKnown, Reads, AreDeclared, IsTree, AreTrees}
 use Rattle.grub_trace.specs.inside.Tree.{declaration_line, happening_line}

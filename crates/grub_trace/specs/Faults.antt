@@ -8,8 +8,8 @@ use Rattle.grub_trace.specs.declared.version.Version.{Version}
 use Rattle.grub_trace.specs.declared.fault.Kind.{Kind}
 use Rattle.grub_trace.specs.declared.fault.Kind.TheVariants.{BadHeader, BadLine, BadNumber, OutOfRange, DuplicateTask, MomentGoesBack, MissingQueue}
 use Rattle.grub_trace.specs.Forms.{Form, queue, task, at_moment, form_of, is_number, numbers_of, reservation_value, capacity_value, version_of}
-use Rattle.grub_text.specs.Lines.{words_of}
-use Rattle.grub_text.specs.Digits.{value}
+use Rattle.text_bytes.specs.Lines.{words_of}
+use Rattle.text_bytes.specs.Digits.{value}
 use Rattle.grub_trace.specs.Naming.{task_of}
 use Rattle.grub_trace.specs.Tree.{is_moment, is_span, may_retune}
 use Rattle.grub_plan.specs.declared.line.Act.TheVariants.{Join, Wake, Block, Leave, Exit, Run, Retune, Read}

@@ -8,7 +8,7 @@ use Rattle.grub_trace.specs.declared.fault.Kind.TheVariants.{BadHeader, MissingQ
 use Rattle.grub_trace.specs.declared.fault.TraceFault.{TraceFault}
 use Rattle.grub_trace.specs.declared.fault.TraceFault.TheVariants as trace
 use Rattle.grub_trace.specs.Tree.{header, Tree, text, names_of}
-use Rattle.grub_text.specs.Lines.{parts_of}
+use Rattle.text_bytes.specs.Lines.{parts_of}
 use Rattle.grub_trace.specs.Faults.{line_fault, header_fault, queue_fault}
 use Rattle.grub_trace.specs.Naming.{line_in, all_tasks}
 use Rattle.grub_trace.specs.Meaning.{AreKnown, AreTrees, IsTree}

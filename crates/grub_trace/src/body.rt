@@ -3,7 +3,7 @@
 ghost use Rattle.std.specs.Prelude.{◌≡◌, [], map};
 ghost use Rattle.grub_trace.specs.inside.Reading.{IsIndexed, IsMomentOf, IsRetuneOf, IsRunOf, declarations, line_view, ok_unless};
 ghost use Rattle.grub_trace.specs.Faults.{last_of};
-ghost use Rattle.grub_text.specs.Digits.{value};
+ghost use Rattle.text_bytes.specs.Digits.{value};
 ghost use Rattle.grub_trace.specs.Tree.{names_of};
 ghost use Rattle.grub_trace.specs.inside.Heads.{IsHead, read_body};
 ghost use Rattle.grub_trace.specs.inside.Lines.{GivesBody, GivesScript, IsNotBefore, SaysMore, TakesAct, TakesLine, plain_fault};
@@ -17,8 +17,8 @@ use crate::tasks::{Tasks, reservation};
 use crate::version::Version;
 use grub_book::{MOMENT_MAX, RUN_MAX};
 use grub_plan::{Act, Line};
-use grub_text::first_line;
 use std::alloc::{AllocError, Global};
+use text_bytes::first_line;
 
 /// The fewest bytes of a line that says what happens: `at 0 read`, and the byte that ends it.
 const LINE_MIN: usize = 10;

@@ -4,7 +4,7 @@ ghost use Rattle.std.specs.Prelude.{◌≡◌, Err, IfOk, IfSome, is_some};
 ghost use Rattle.grub_bw.specs.Bandwidth.{capacity_fits};
 ghost use Rattle.grub_trace.specs.declared.fault.TraceFault.TheVariants.{NoMemory};
 ghost use Rattle.grub_trace.specs.Forms.{version_of};
-ghost use Rattle.grub_text.specs.Lines.{parts_of};
+ghost use Rattle.text_bytes.specs.Lines.{parts_of};
 ghost use Rattle.grub_trace.specs.inside.Heads.{GivesHead, GivesTasks, IsHead};
 ghost use Rattle.grub_trace.specs.inside.Reading.{AnswersOpening, GivesQueue, IsIndexed, declarations, of_file, read_file, read_queue, read_second};
 
@@ -15,8 +15,8 @@ use crate::raw::Head;
 use crate::tasks::{Tasks, declare};
 use crate::version::{Version, version_of};
 use grub_bw::Queue;
-use grub_text::{first_line, first_word};
 use std::alloc::Global;
+use text_bytes::{first_line, first_word};
 
 /// Reads the task lines, which stand below the second.
 fn read_tasks<'a>(

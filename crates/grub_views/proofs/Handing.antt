@@ -1,7 +1,7 @@
 -- A text that is handed on piece by piece: what was done of it, and what is left.
 use Rattle.std.proofs.Common.{◌≡◌, ℕ, List, [], ◌++◌, ◌∙◌, ap, sym, subst, append_assoc, append-nil, Option}
-use Rattle.grub_text.specs.Writing.{HandsOn, HandsPart}
-use Rattle.grub_text.proofs.Handing.{part_after, part_longer}
+use Rattle.text_bytes.specs.Writing.{HandsOn, HandsPart}
+use Rattle.text_bytes.proofs.Handing.{part_after, part_longer}
 
 pub piece_left : (done text after rest whole : List ℕ) → done ++ rest ≡ whole → rest ≡ text ++ after → (done ++ text) ++ after ≡ whole
 piece_left done text after rest whole is cut = append_assoc done text after ∙ ap (λ (l : List ℕ). done ++ l) (sym cut) ∙ is

@@ -3,7 +3,7 @@ use Rattle.std.proofs.Common.{◌≡◌, ℕ, List, Option, Result, OnErr, OnOk,
 use Rattle.std.proofs.lemmas.Result.{on_err_weaker, on_ok_weaker}
 use Rattle.grub_book.specs.declared.event.Reading.{Reading}
 use Rattle.grub_plan.specs.Plans.{PlanView}
-use Rattle.grub_text.specs.Writing.{HandsOn, HandsPart}
+use Rattle.text_bytes.specs.Writing.{HandsOn, HandsPart}
 use Rattle.grub_timeline.specs.TimeLines.{IsTimeLine}
 use Rattle.grub_timeline.specs.declared.told.ToldEntry.{ToldEntry}
 use Rattle.grub_views.specs.Views.{HandsOnView, HandsPartOfView}

@@ -2,7 +2,7 @@
 use Rattle.std.specs.Prelude.{ℕ, List, Option}
 use Rattle.grub_book.specs.declared.event.Reading.{Reading}
 use Rattle.grub_plan.specs.Plans.{PlanView}
-use Rattle.grub_text.specs.Writing.{HandsOn, HandsPart}
+use Rattle.text_bytes.specs.Writing.{HandsOn, HandsPart}
 use Rattle.grub_timeline.specs.TimeLines.{IsTimeLine}
 use Rattle.grub_timeline.specs.declared.told.ToldEntry.{ToldEntry}
 

@@ -5,9 +5,9 @@ ghost use Rattle.std.specs.Bool.{OnFalse, OnTrue};
 ghost use Rattle.grub_book.specs.History.{IsLegal};
 ghost use Rattle.grub_timeline.specs.TimeLines.{AreAnswered, AreWithin, history_of};
 
-use grub_text::MANY_LINES;
 use grub_timeline::Playing;
 use std::thread::{Threads, join_mut};
+use text_bytes::MANY_LINES;
 
 /// Asks for the lines that come next while work on so many entries is done, and tells whether there was a line, and what came
 /// of the work. Many entries are worth a thread, which asks; after work on few it is asked here.

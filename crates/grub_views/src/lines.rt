@@ -3,18 +3,18 @@
 ghost use Rattle.std.specs.Prelude.{◌≡◌, ◌+◌, ◌≤◌, ◌++◌, [], All, OnOk, OnErr, length, vec_len, vec_capacity};
 ghost use Rattle.std.specs.List.{flat_map};
 ghost use Rattle.grub_plan.specs.Plans.{IsAskOf};
-ghost use Rattle.grub_text.specs.Writing.{HandsOn, HandsPart};
+ghost use Rattle.text_bytes.specs.Writing.{HandsOn, HandsPart};
 ghost use Rattle.grub_views.specs.Lines.{HandsOnTimeline, HandsPartOfTimeline, close_line, close_lines, told_line};
 
 use crate::beside::play_beside;
 use crate::rest::play_out;
 use grub_book::Reading;
 use grub_plan::{Plan, append_answer, append_ask, append_reading};
-use grub_text::{Blocks, LINE_MAX, LineOf, append, append_number, make_room, write_lines};
 use grub_timeline::{Playing, ToldEntry};
 use std::io;
 use std::io::Write;
 use std::thread::Threads;
+use text_bytes::{Blocks, LINE_MAX, LineOf, append, append_number, make_room, write_lines};
 
 /// Plays what is left of a time line of the plan, of which nothing was played yet, and puts its text into the buffer, which is
 /// written as often as it is full: a line for each entry, and then the closing reading of each runqueue. Entries wait for their

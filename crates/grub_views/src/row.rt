@@ -10,7 +10,7 @@ ghost use Rattle.grub_views.specs.Rows.{answer_numbers, answer_word, arg_field, 
 use grub_book::{Op, Reply};
 use grub_plan::{Answer, Ask, Plan};
 use grub_steps::Step;
-use grub_text::{LINE_MAX, append, append_number};
+use text_bytes::{LINE_MAX, append, append_number};
 
 /// The numbers of an answer, where it has them.
 #[derive(Clone, Copy)]

@@ -3,7 +3,7 @@
 ghost use Rattle.std.specs.Prelude.{◌≡◌, ◌+◌, ◌≤◌, [], OnOk, OnErr, length, vec_capacity};
 ghost use Rattle.std.specs.List.{flat_map};
 ghost use Rattle.grub_book.specs.Sums.{opening_book};
-ghost use Rattle.grub_text.specs.Writing.{HandsOn, HandsPart};
+ghost use Rattle.text_bytes.specs.Writing.{HandsOn, HandsPart};
 ghost use Rattle.grub_steps.specs.Fitting.{AreToldIn, IsToldIn};
 ghost use Rattle.grub_steps.specs.Past.{book_past};
 ghost use Rattle.grub_steps.specs.Replay.{steps_from, steps_of};
@@ -15,11 +15,11 @@ use crate::row::append_step;
 use grub_book::Book;
 use grub_plan::Plan;
 use grub_steps::{Step, fill_steps};
-use grub_text::{Blocks, LINE_MAX, LineOf, append, make_room, write_lines};
 use grub_timeline::{Playing, ToldEntry};
 use std::io;
 use std::io::Write;
 use std::thread::Threads;
+use text_bytes::{Blocks, LINE_MAX, LineOf, append, make_room, write_lines};
 
 /// The names of the columns.
 const HEADER: &[u8] = b"moment\trunqueue\task\ttask\targ\tanswer\tdq\tk\tq\td\tz\trunning\tthis\n";

@@ -8,7 +8,6 @@ use grub_picture::*;
 use grub_plan::Plan;
 use grub_steps::*;
 use grub_summary::*;
-use grub_text::{Blocks, LINE_MAX, line_buffer, write_buffer};
 use grub_timeline::{Playing, ToldEntry, play};
 use grub_trace::read_files;
 use grub_views::*;
@@ -16,6 +15,7 @@ use grub_worked_examples::{documentation, moving};
 use std::alloc::Global;
 use std::process::Abort;
 use std::thread::Threads;
+use text_bytes::{Blocks, LINE_MAX, line_buffer, write_buffer};
 
 #[derive(Clone, Copy)]
 enum View {

@@ -4,15 +4,15 @@ use Rattle.clap.specs.Kinds.{IsAmong}
 use Rattle.clap.specs.Words.{Row, Text, fault_of, matches_of}
 use Rattle.clap.specs.declared.error.kind.ErrorKind.{ErrorKind}
 use Rattle.clap.specs.declared.error.kind.ErrorKind.TheVariants as kinds
-use Rattle.grub_text.specs.declared.files.Source.{Source}
-use Rattle.grub_text.specs.Source.{Opener, Reader}
+use Rattle.text_bytes.specs.declared.files.Source.{Source}
+use Rattle.text_bytes.specs.Source.{Opener, Reader}
 use Rattle.grub_run.specs.Written.{Begins, IsOutput, Writes}
 use Rattle.grub_run.specs.Shown.{IsShown}
 use Rattle.grub_run.specs.declared.view.FileView.{FileView as Shown}
 use Rattle.grub_run.specs.Faults as faults
 use Rattle.grub_run.specs.Faults.{HasFileFault, Whole}
-use Rattle.grub_command.specs.CommandLine.{ReadsNumber, TriesNamed, command_line, files_named, view_named}
-use Rattle.grub_command.specs.inside.Files.{names_among}
+use Rattle.grubrun_command.specs.CommandLine.{ReadsNumber, TriesNamed, command_line, files_named, view_named}
+use Rattle.grubrun_command.specs.inside.Files.{names_among}
 use Rattle.grubrun.specs.Statuses.{AsksFor, HasNoSpan, IsWanted, PrintsAsked}
 use Rattle.grubrun.specs.Views.{IsMistake, IsRefused, Wants, wanted_of}
 use Rattle.grubrun.specs.declared.view.Wanted.{Wanted}

@@ -1,14 +1,14 @@
 -- What the program's status tells of its words and of what was printed.
 use Rattle.std.specs.Prelude.{◌⊎◌, ℕ, List, Option}
 use Rattle.std.specs.Io.KnownBytes.{Appends}
-use Rattle.grub_text.specs.declared.files.Source.{Source}
-use Rattle.grub_text.specs.Source.{Opener, Reader}
+use Rattle.text_bytes.specs.declared.files.Source.{Source}
+use Rattle.text_bytes.specs.Source.{Opener, Reader}
 use Rattle.grub_run.specs.Written.{IsOutput}
 use Rattle.grub_run.specs.Shown.{IsShown}
 use Rattle.grub_run.specs.Faults as faults
 use Rattle.grub_run.specs.Faults.{Whole}
-use Rattle.grub_command.specs.declared.texts.TheConstants.{HELP, VERSION}
-use Rattle.grub_command.specs.CommandLine.{AsksForHelp, AsksForVersion, TriesNamed, files_named}
+use Rattle.grubrun_command.specs.declared.texts.TheConstants.{HELP, VERSION}
+use Rattle.grubrun_command.specs.CommandLine.{AsksForHelp, AsksForVersion, TriesNamed, files_named}
 use Rattle.grubrun.specs.Views.{Wants}
 use Rattle.grubrun.specs.declared.view.Wanted.{Wanted}
 use Rattle.grubrun.specs.declared.view.Wanted.TheVariants as wishes

@@ -1,14 +1,14 @@
-//! The program `grubrun`: plays event files by the book, and prints their reports or a view.
+//! The program `grubrun`: plays event files by the GRUB rule, and prints the answers to their lines, or a view of them on one time line.
 #![tactic(auto)]
 
 mod serve;
 mod view;
 
 use crate::serve::{serve, serve_no_words};
-use grub_text::Source;
 use std::io::Read;
 use std::process::ExitCode;
 use std::{env, fs};
+use text_bytes::Source;
 
 fn main(rt: HostRuntime) -> ExitCode {
     let alloc = rt.alloc();

@@ -8,8 +8,8 @@ ghost use Rattle.clap.specs.Words.{FailsBy, fault_of, found_of, matches_of, rows
 ghost use Rattle.clap.specs.declared.error.kind.ErrorKind.TheVariants as kinds;
 ghost use Rattle.std.specs.declared.io.ErrorKind.TheVariants as io_kinds;
 ghost use Rattle.grub_run.specs.Faults.{HasFileFault};
-ghost use Rattle.grub_command.specs.CommandLine.{TriesNamed, command_line, files_named, texts_of};
-ghost use Rattle.grub_command.specs.inside.Files.{names_among};
+ghost use Rattle.grubrun_command.specs.CommandLine.{TriesNamed, command_line, files_named, texts_of};
+ghost use Rattle.grubrun_command.specs.inside.Files.{names_among};
 ghost use Rattle.grub_run.specs.Written.{Begins, Writes};
 ghost use Rattle.grubrun.specs.Statuses.{AsksFor, HasNoSpan, IsWanted, PrintsAsked};
 ghost use Rattle.grubrun.specs.inside.Statuses.{IsServed, PrintsKind};
@@ -18,17 +18,17 @@ ghost use Rattle.grubrun.specs.Views.{IsRefused, Wants};
 use crate::view::{Wanted, wanted_by};
 use clap::Error;
 use clap::error::ErrorKind;
-use grub_command::{HELP, Options, VERSION, options_of};
 use grub_run::{
     GrubFault, ProgramFault, STATUS_FILE, STATUS_SYSTEM, STATUS_USAGE, serve_files, serve_view,
 };
-use grub_text::Source;
+use grubrun_command::{HELP, Options, VERSION, options_of};
 use std::alloc::Global;
 use std::fmt::Display;
 use std::io;
 use std::io::Write;
 use std::sync::Wait;
 use std::thread::Threads;
+use text_bytes::Source;
 
 /// Runs the program on its words, the first of which is its name, and gives its status. Files are opened and read by
 /// `source`. Reports and the help go to `out`, and the line of a fault to `faults`.

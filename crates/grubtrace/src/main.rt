@@ -1,10 +1,11 @@
-//! The program `grubtrace`: which SCHED_DEADLINE tasks a kernel trace shows, and the event files that it tells.
+//! The program `grubtrace`: from the text of a kernel's trace to its tasks, to a verdict on the kernel's accounting, to the reservations
+//! that tasks need, and to event files.
 #![tactic(auto)]
 
 mod serve;
 
 use crate::serve::{serve, serve_no_words};
-use grub_convert::{Input, Target};
+use convert::{Input, Target};
 use std::alloc::Global;
 use std::io::{Read, Write};
 use std::process::ExitCode;

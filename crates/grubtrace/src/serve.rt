@@ -1,23 +1,24 @@
 //! The program over its words and two writers.
 
 ghost use Rattle.std.specs.Prelude.{◌≡◌, ◌≤◌, ◌⊎◌};
-ghost use Rattle.grub_convert.specs.declared.fault.TheConstants.{STATUS_SYSTEM, STATUS_USAGE};
+ghost use Rattle.convert.specs.declared.fault.TheConstants.{STATUS_SYSTEM, STATUS_USAGE};
 
 use clap::error::ErrorKind;
 use clap::{ArgMatches, Error};
-use grub_convert::{
+use convert::{
     ConvertOptions, Input, STATUS_SYSTEM, STATUS_USAGE, Target, options_of, serve_events,
     serve_tasks,
 };
+use grubtrace_command::command_line;
 use size_report::{FaultKind, OptionFault, SizeWords, serve_size, size_options_of};
 use std::alloc::{AllocError, Global};
 use std::io;
 use std::io::Write;
+use task_figures::{FigureText, print_figures};
 use trace_check::{
-    CheckOption, CheckRequest, CheckWords, Window, WrongOption, options_of as check_options,
-    serve_check, window_of,
+    AskedLaws, CheckOption, CheckRequest, CheckWords, Window, WrongOption, laws_of,
+    options_of as check_options, serve_check, window_of,
 };
-use trace_command::command_line;
 
 /// How many percent more than the least runtime are proposed, where the words do not say it.
 const MARGIN: u32 = 10;
@@ -54,7 +55,7 @@ pub(crate) fn serve<
     requires exists { X.IsAlwaysCallable target.now.exists }
     requires make { M.IsAlwaysCallable target.now.make }
     requires remove { R.IsAlwaysCallable remove.now }
-    ensures status { result ≤ 4 }
+    ensures status { result ≤ 5 }
     // Where the trace is at fault, or the words are, nothing was printed.
     ensures nothing { (result ≡ 1) ⊎ (result ≡ 2) → out.new ≡ out.old }
 {
@@ -88,7 +89,7 @@ fn serve_command<
     requires exists { X.IsAlwaysCallable target.now.exists }
     requires make { M.IsAlwaysCallable target.now.make }
     requires remove { R.IsAlwaysCallable remove.now }
-    ensures status { result ≤ 4 }
+    ensures status { result ≤ 5 }
     ensures nothing { (result ≡ 1) ⊎ (result ≡ 2) → out.new ≡ out.old }
 {
     match matches.subcommand() {
@@ -97,10 +98,41 @@ fn serve_command<
         Some(("size", matches)) => size(alloc, matches, input, target, out, faults),
         Some((_, matches)) => {
             let path = matches.get_str("TRACE").unwrap_or("");
-            serve_tasks(alloc, input, path, out, faults)
+            let status = serve_tasks(alloc, input, path, out, faults);
+            if status == 0 {
+                figures(alloc, input, path, FigureText::Tasks, out, faults)
+            } else {
+                status
+            }
         }
         None => STATUS_USAGE,
     }
+}
+
+/// Prints figures of the tasks of a trace below what was printed.
+fn figures<
+    D: Drop,
+    O: Fn(&str) -> io::Result<D>,
+    N: Fn(&mut D, &mut [u8]) -> io::Result<usize>,
+    W: Write,
+    E: Write,
+>(
+    alloc: Global,
+    input: &Input<O, N>,
+    path: &str,
+    wanted: FigureText,
+    out: &mut W,
+    faults: &mut E,
+) -> u8
+    requires open { O.IsAlwaysCallable input.now.open }
+    requires read { N.IsAlwaysCallable input.now.read }
+    ensures { (result ≡ 0) ⊎ (result ≡ STATUS_SYSTEM) }
+{
+    if print_figures(alloc, &input.open, &input.read, path, wanted, out) {
+        return 0;
+    }
+    let _ = faults.write_all(b"grubtrace: 45 WriteFault\n");
+    STATUS_SYSTEM
 }
 
 /// Writes the event files that the words of `events` ask for.
@@ -122,7 +154,7 @@ fn events<
     requires read { N.IsAlwaysCallable input.now.read }
     requires exists { X.IsAlwaysCallable target.now.exists }
     requires make { M.IsAlwaysCallable target.now.make }
-    ensures { result ≤ 4 }
+    ensures { result ≤ 5 }
 {
     let path = matches.get_str("TRACE").unwrap_or("");
     let prefix = matches.get_str("out").unwrap_or("");
@@ -157,7 +189,7 @@ fn check<
     requires exists { X.IsAlwaysCallable target.now.exists }
     requires make { M.IsAlwaysCallable target.now.make }
     requires remove { R.IsAlwaysCallable remove.now }
-    ensures status { result ≤ 4 }
+    ensures status { result ≤ 5 }
     ensures nothing { (result ≡ 1) ⊎ (result ≡ 2) → out.new ≡ out.old }
 {
     let tasks = matches.get_strs("task").unwrap_or(&[]);
@@ -179,12 +211,17 @@ fn check<
         Ok(window) => window,
         Err(wrong) => return wrong_option(wrong, faults),
     };
+    let Some(laws) = laws_in(matches.get_str("laws")) else {
+        return wrong_laws(matches.get_str("laws").unwrap_or(""), faults);
+    };
     let wanted = CheckRequest {
         path: matches.get_str("TRACE").unwrap_or(""),
         table: matches.get_str("table"),
         json,
         picture,
+        report: matches.get_str("report"),
         window,
+        laws,
     };
     match check_options(alloc, words) {
         Ok(Ok(options)) => serve_check(
@@ -202,6 +239,22 @@ fn check<
         Ok(Err(wrong)) => wrong_option(wrong, faults),
         Err(_) => no_memory(faults),
     }
+}
+
+/// The laws that `--laws` asks: all where it is not given.
+fn laws_in(word: Option<&str>) -> Option<AskedLaws> {
+    match word {
+        Some(word) => laws_of(word),
+        None => Some(AskedLaws::all()),
+    }
+}
+
+/// The line of a word of `--laws` that names no law.
+fn wrong_laws<E: Write>(value: &str, faults: &mut E) -> u8
+    ensures { result ≡ STATUS_USAGE }
+{
+    let _ = writeln!(faults, "error: invalid value '{value}' for '--laws'");
+    STATUS_USAGE
 }
 
 /// The part of the record that `--from` and `--to` name, which only states have.
@@ -284,7 +337,7 @@ fn size<
     requires read { N.IsAlwaysCallable input.now.read }
     requires exists { X.IsAlwaysCallable target.now.exists }
     requires make { M.IsAlwaysCallable target.now.make }
-    ensures status { result ≤ 4 }
+    ensures status { result ≤ 5 }
     ensures nothing { (result ≡ 1) ⊎ (result ≡ 2) → out.new ≡ out.old }
 {
     let path = matches.get_str("TRACE").unwrap_or("");
@@ -301,17 +354,24 @@ fn size<
         picture: matches.get_str("picture"),
     };
     match size_options_of(alloc, words) {
-        Ok(Ok(options)) => serve_size(
-            alloc,
-            &input.open,
-            &input.read,
-            &target.exists,
-            &target.make,
-            path,
-            &options,
-            out,
-            faults,
-        ),
+        Ok(Ok(options)) => {
+            let status = serve_size(
+                alloc,
+                &input.open,
+                &input.read,
+                &target.exists,
+                &target.make,
+                path,
+                &options,
+                out,
+                faults,
+            );
+            if status == 0 {
+                figures(alloc, input, path, FigureText::Supply, out, faults)
+            } else {
+                status
+            }
+        }
         Ok(Err(fault)) => no_sizing(fault, faults),
         Err(_) => no_memory(faults),
     }

@@ -3,13 +3,14 @@
 ghost use Rattle.std.specs.Prelude.{◌≡◌, ◌≢◌, ◌↔◌, ◌-ℤ◌, pos, Some};
 ghost use Rattle.grub_bw.specs.Bandwidth.{IsReservation, IsCapacity, bandwidth_of};
 ghost use Rattle.grub_bw.specs.Server.{woken_of, lag_of, charge_of, depleted_of};
-ghost use Rattle.grub_flat.specs.Numbers.{reservation_of, capacity_of, server_of, reading_of_numbers, reservation_fault, constants_fault, server_fault, wake_fault, charge_fault, deplete_fault};
-ghost use Rattle.grub_flat.specs.Kernel.{kernel_charge_of};
-ghost use Rattle.grub_flat.specs.declared.codes.TheConstants.{DONE};
+ghost use Rattle.library_book.specs.Numbers.{reservation_of, capacity_of, server_of, reading_of_numbers, reservation_fault, constants_fault, server_fault, wake_fault, charge_fault, deplete_fault};
+ghost use Rattle.library_book.specs.Exhaustion.{IsExhaustion, exhaustion_fault};
+ghost use Rattle.library_book.specs.Kernel.{kernel_charge_of};
+ghost use Rattle.library_book.specs.declared.codes.TheConstants.{DONE};
 
-use grub_flat::{
+use library_book::{
     NdCapacity, NdParams, NdReading, NdServer, bandwidth, capacity_fault, charge_for, depleted_by,
-    kernel_charge, params_fault, woken_to, zero_lag_of,
+    exhaustion_of, kernel_charge, params_fault, woken_to, zero_lag_of,
 };
 
 /// 0 exactly where the numbers are a reservation, else 1, 2 or 3, the first that holds.
@@ -77,6 +78,24 @@ pub extern "C" fn nd_charge(
     ensures kept { result ≢ DONE → dq.new ≡ dq.old }
 {
     charge_for(dt, bw, queue, now, dq)
+}
+
+/// The least run of a task of bandwidth `bw` whose charge, by these sums, is at least the budget. Faults: 4, 5, 62, and 3
+/// where the bandwidth is 0.
+#[unsafe(no_mangle)]
+pub extern "C" fn nd_exhaustion(
+    budget: u32,
+    bw: u32,
+    queue: NdCapacity,
+    now: NdReading,
+    run: &mut u64,
+) -> u32
+    ensures fault { result ≡ exhaustion_fault bw (capacity_of queue) (reading_of_numbers now) }
+    ensures value { result ≡ DONE
+        → IsExhaustion budget bw (capacity_of queue) (reading_of_numbers now) run.new }
+    ensures kept { result ≢ DONE → run.new ≡ run.old }
+{
+    exhaustion_of(budget, bw, queue, now, run)
 }
 
 /// The server after `dq` was taken from its budget, and how often it was recharged. Faults: 1, 2, 3, 60, 21.

@@ -3,13 +3,14 @@
 ghost use Rattle.std.specs.Prelude.{◌≡◌, ◌≢◌, ◌<◌, ◌≤◌, ◌↔◌, false, length, take, drop, min};
 ghost use Rattle.grub_book.specs.Machine.{Machine};
 ghost use Rattle.grub_book.specs.Sums.{opening_book};
-ghost use Rattle.grub_flat.specs.Memory.{records_of, machine_of, IsFlatMachine, IsBook};
-ghost use Rattle.grub_flat.specs.Asked.{plain_reply, answer, is_op};
-ghost use Rattle.grub_flat.specs.Batch.{answered_all, replies_to};
-ghost use Rattle.grub_flat.specs.Opening.{opening_fault};
-ghost use Rattle.grub_flat.specs.declared.codes.TheConstants.{DONE, NO_TASK, NO_OP};
+ghost use Rattle.library_book.specs.Memory.{records_of, machine_of, IsFlatMachine, IsBook};
+ghost use Rattle.library_book.specs.Asked.{plain_reply};
+ghost use Rattle.library_book.specs.Answer.{answer, is_op};
+ghost use Rattle.library_book.specs.Batch.{answered_all, replies_to};
+ghost use Rattle.library_book.specs.Opening.{opening_fault};
+ghost use Rattle.library_book.specs.declared.codes.TheConstants.{DONE, NO_TASK, NO_OP};
 
-use grub_flat::{NdAsk, NdOp, NdReply, NdRunqueue, NdTask, apply, apply_all, open_book};
+use library_book::{NdAsk, NdOp, NdReply, NdRunqueue, NdTask, apply, apply_all, open_book};
 
 /// Makes a book of the reservations and the constants that stand in the memory: every task is away, with the block count
 /// 0, a full budget and the deadline 0. It answers 0, or the number of the first fault, 1 to 8; then nothing is written.

@@ -3,9 +3,9 @@ use Rattle.std.proofs.Common.{◌≡◌, ℕ, ◌<◌, length, Some, Result, ref
 use Rattle.grub_book.specs.declared.op.Op.{Op}
 use Rattle.grub_book.specs.declared.reply.Reply.{Reply}
 use Rattle.grub_book.specs.Op.{IsOp}
-use Rattle.grub_flat.specs.Asked.{op_of, plain_reply, reply_of}
-use Rattle.grub_flat.specs.declared.asked.NdOp.{NdOp}
-use Rattle.grub_flat.specs.declared.asked.NdReply.{NdReply}
+use Rattle.library_book.specs.Asked.{op_of, plain_reply, reply_of}
+use Rattle.library_book.specs.declared.asked.NdOp.{NdOp}
+use Rattle.library_book.specs.declared.asked.NdReply.{NdReply}
 use Rattle.grub_table.specs.Accesses.{StartsBriefly}
 use Rattle.grub_table.specs.Calls.{terms, IsStarted, IsFinished, IsWithin, IsCancelled, accesses, started_accesses}
 use Rattle.grub_table.specs.Layout.{task_word_at}
@@ -38,6 +38,10 @@ module _ (s : Shared) (p : Pass) (t : ℕ) (it : Op) (tries : ℕ) (b : Started)
     called_lost d q lost back =
         let ends : EndsBy s f (plain_reply LOST) q = subst (λ (z : Finished). EndsBy s z (plain_reply LOST) q) (sym lost) (refl, back) in
         (b, begun, brief, subst (λ (z : Started). GoesBy s tries z (plain_reply LOST) q) (sym is) (f, ended, within, ends))
+
+-- the call of an op is that of the same op by another name
+pub called_of : (s : Shared) (p : Pass) (t : ℕ) (it other : Op) (tries : ℕ) (reply : NdReply) (q : Pass) → it ≡ other → WasCalled s p t other tries reply q → WasCalled s p t it tries reply q
+called_of s p t it other tries reply q is = subst (λ (o : Op). WasCalled s p t o tries reply q) (sym is)
 
 -- the call of a pass is that of what was asked
 pub called_as : (s : Shared) (k : Kept) (q : Pass) (t : ℕ) (op : NdOp) (tries : ℕ) (found : Op) (answer : Result Reply ℕ) (reply : NdReply) → s ≡ table_of k → op_of op ≡ Some found → reply ≡ code_reply answer

@@ -3,10 +3,10 @@ use Rattle.std.proofs.Common.{◌<◌, ◌≤◌, List, length, arith}
 use Rattle.std.proofs.lemmas.List.{get_or-map, length-map}
 use Rattle.grub_book.specs.Machine.{IsMachine}
 use Rattle.grub_book.specs.declared.setup.TheConstants.{QUEUES_MAX, TASKS_MAX}
-use Rattle.grub_flat.specs.Memory.{params_of, constants_of, machine_of}
-use Rattle.grub_flat.specs.Limits.{AreConstants, AreReservations}
-use Rattle.grub_flat.specs.declared.memory.NdTask.{NdTask}
-use Rattle.grub_flat.specs.declared.memory.NdRunqueue.{NdRunqueue}
+use Rattle.library_book.specs.Memory.{params_of, constants_of, machine_of}
+use Rattle.library_book.specs.Limits.{AreConstants, AreReservations}
+use Rattle.library_book.specs.declared.memory.NdTask.{NdTask}
+use Rattle.library_book.specs.declared.memory.NdRunqueue.{NdRunqueue}
 
 abbrev no_queue : NdRunqueue
 no_queue = record { umax = 0; uextra = 0; running_bw = 0; this_bw = 0 }

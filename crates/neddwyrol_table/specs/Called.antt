@@ -21,10 +21,10 @@ use Rattle.grub_table.specs.declared.answer.Finished.{Finished}
 use Rattle.grub_table.specs.declared.answer.Finished.TheVariants as finished
 use Rattle.grub_table.specs.declared.pass.Pass.{Pass}
 use Rattle.grub_table.specs.declared.shared.Shared.{Shared}
-use Rattle.grub_flat.specs.Asked.{op_of, plain_reply, reply_of}
-use Rattle.grub_flat.specs.declared.asked.NdOp.{NdOp}
-use Rattle.grub_flat.specs.declared.asked.NdReply.{NdReply}
-use Rattle.grub_flat.specs.declared.numbers.NdReading.{NdReading}
+use Rattle.library_book.specs.Asked.{op_of, plain_reply, reply_of}
+use Rattle.library_book.specs.declared.asked.NdOp.{NdOp}
+use Rattle.library_book.specs.declared.asked.NdReply.{NdReply}
+use Rattle.library_book.specs.declared.numbers.NdReading.{NdReading}
 use Rattle.neddwyrol_table.specs.declared.calls.TheConstants.{BUSY, LOST}
 use Rattle.neddwyrol_table.specs.declared.held.Kept.{Kept}
 use Rattle.neddwyrol_table.specs.declared.held.Held.{Held}

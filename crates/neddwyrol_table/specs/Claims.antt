@@ -7,7 +7,8 @@ use Rattle.grub_book.specs.Op.{IsOp}
 use Rattle.grub_book.specs.declared.op.Op.{Op}
 use Rattle.grub_book.specs.declared.reply.Reply.{Reply}
 use Rattle.grub_table.specs.Accesses.{StartsBriefly}
-use Rattle.grub_table.specs.Calls.{IsPassOf, IsClaimOf, IsStarted, IsFinished, IsWithin, IsCancelled, accesses, started_accesses}
+use Rattle.grub_table.specs.Calls.{IsPassOf, IsClaimOf, IsStarted, IsFinished, IsWithin, IsCancelled, accesses, started_accesses, terms, claim_share, claim_task}
+use Rattle.grub_table.specs.Histories.{record_in}
 use Rattle.grub_table.specs.Layout.{task_word_at}
 use Rattle.grub_table.specs.declared.answer.Sighting.{Sighting}
 use Rattle.grub_table.specs.declared.answer.Started.{Started}
@@ -15,9 +16,11 @@ use Rattle.grub_table.specs.declared.answer.Started.TheVariants as started
 use Rattle.grub_table.specs.declared.answer.Finished.TheVariants as finished
 use Rattle.grub_table.specs.declared.claim.Claim.{Claim}
 use Rattle.grub_table.specs.declared.shared.Shared.{Shared}
-use Rattle.grub_flat.specs.Asked.{op_of, plain_reply, reply_of}
-use Rattle.grub_flat.specs.declared.asked.NdOp.{NdOp}
-use Rattle.grub_flat.specs.declared.asked.NdReply.{NdReply}
+use Rattle.library_book.specs.Asked.{op_of, plain_reply, reply_of}
+use Rattle.library_book.specs.Memory.{record_of, state_max}
+use Rattle.library_book.specs.declared.memory.NdTask.{NdTask}
+use Rattle.library_book.specs.declared.asked.NdOp.{NdOp}
+use Rattle.library_book.specs.declared.asked.NdReply.{NdReply}
 use Rattle.neddwyrol_table.specs.declared.calls.TheConstants.{BUSY}
 use Rattle.neddwyrol_table.specs.declared.held.Kept.{Kept}
 use Rattle.neddwyrol_table.specs.declared.held.Taken.{Taken}
@@ -77,6 +80,16 @@ IsUnmade tries x y = IsFinished (claimed_table x) (claim_of x) tries (finished.H
 -- `cancel` of the table gave the task back
 abbrev pub IsGivenBack : Taken → Kept → Type 0
 IsGivenBack x l = IsCancelled (claimed_table x) (claim_of x) l.pass
+
+-- ---- what a claim's task is
+-- the memory has the task's record in the history that the pass has seen, and one of the five states
+pub record IsShown (task : NdTask) (x : Taken) : Type 0 where
+  pub held : record_of task ≡ record_in (terms (claimed_table x)) (claim_share (claim_of x)).seen (claim_task (claim_of x))
+  pub state : task.state ≤ state_max
+
+-- that was written, and the claim stays as it is
+abbrev pub IsTaskOf : NdTask → Taken → Taken → Type 0
+IsTaskOf task x y = IsShown task x × (claim_of y ≡ claim_of x)
 
 -- ---- what stays: the table, and the passes gathered
 abbrev pub GoWith : Kept → Taken → Type 0

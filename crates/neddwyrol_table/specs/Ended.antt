@@ -6,7 +6,7 @@ use Rattle.grub_table.specs.Calls.{IsClosed, IsBehind, number_of, seen, marks}
 use Rattle.grub_table.specs.Marks.{marker_of}
 use Rattle.grub_table.specs.declared.pass.Pass.{Pass}
 use Rattle.grub_table.specs.declared.shared.Shared.{Shared}
-use Rattle.grub_flat.specs.declared.numbers.NdReading.{NdReading}
+use Rattle.library_book.specs.declared.numbers.NdReading.{NdReading}
 use Rattle.neddwyrol_table.specs.declared.held.Kept.{Kept}
 use Rattle.neddwyrol_table.specs.declared.held.Held.{Held}
 use Rattle.neddwyrol_table.specs.Called.{Keeps, table_of, passes_of}

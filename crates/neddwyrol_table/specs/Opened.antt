@@ -3,11 +3,11 @@ use Rattle.std.specs.Prelude.{ℕ, ◌==◌, nat_lt, List, length, if◌then◌e
 use Rattle.grub_book.specs.Machine.{Machine}
 use Rattle.grub_book.specs.declared.setup.TheConstants.{QUEUES_MAX, TASKS_MAX}
 use Rattle.grub_table.specs.Calls.{IsOpened}
-use Rattle.grub_flat.specs.Numbers.{or_else}
-use Rattle.grub_flat.specs.Opening.{first_fault, task_fault, queue_fault}
-use Rattle.grub_flat.specs.declared.codes.TheConstants.{TOO_MANY_QUEUES, TOO_MANY_TASKS, NO_QUEUE}
-use Rattle.grub_flat.specs.declared.memory.NdTask.{NdTask}
-use Rattle.grub_flat.specs.declared.memory.NdRunqueue.{NdRunqueue}
+use Rattle.library_book.specs.Numbers.{or_else}
+use Rattle.library_book.specs.Opening.{first_fault, task_fault, queue_fault}
+use Rattle.library_book.specs.declared.codes.TheConstants.{TOO_MANY_QUEUES, TOO_MANY_TASKS, NO_QUEUE}
+use Rattle.library_book.specs.declared.memory.NdTask.{NdTask}
+use Rattle.library_book.specs.declared.memory.NdRunqueue.{NdRunqueue}
 use Rattle.neddwyrol_table.specs.declared.held.Held.{Held}
 use Rattle.neddwyrol_table.specs.declared.held.Kept.{Kept}
 use Rattle.neddwyrol_table.specs.declared.opening.TheConstants.{PASSES_MAX, NO_PASS, TOO_MANY_PASSES, NO_TABLE_MEMORY}

@@ -2,12 +2,12 @@
 
 ghost use Rattle.std.specs.Prelude.{◌≡◌, ◌≢◌, IsSome, IfSome};
 ghost use Rattle.neddwyrol_table.specs.Called.{IsWell, Stands, IsBeside, Went};
-ghost use Rattle.neddwyrol_table.specs.Claims.{IsWellTaken, HasTask, IsTold, IsTakenBy, IsMade, IsUnmade, IsGivenBack, GoWith, GoOn, Took, StillTook, CameBack};
+ghost use Rattle.neddwyrol_table.specs.Claims.{claim_of, IsShown, IsTaskOf, IsWellTaken, HasTask, IsTold, IsTakenBy, IsMade, IsUnmade, IsGivenBack, GoWith, GoOn, Took, StillTook, CameBack};
 
 use crate::calls::{BUSY, HELD, LOST, op_for};
 use crate::held::{Held, Kept, Taken};
-use grub_flat::{NdOp, NdReply, plain_reply, reply_of};
 use grub_table::{Finished, Started};
+use library_book::{NdOp, NdReply, NdTask, plain_reply, reply_of, task_of};
 use std::mem::ManuallyDrop;
 
 /// Begins a call, where there is such a task and op.
@@ -107,6 +107,41 @@ fn cancelled(taken: Taken) -> Kept
         pass,
         gathered,
     }
+}
+
+/// The record of a claim's task, in the memory of a task.
+fn shown(taken: Taken) -> (Taken, NdTask)
+    requires { IsWellTaken taken }
+    ensures well { IsWellTaken result.0 }
+    ensures same { GoOn taken result.0 × (claim_of result.0 ≡ claim_of taken) }
+    ensures shown { IsShown result.1 taken }
+{
+    let Taken {
+        shared,
+        claim,
+        gathered,
+    } = taken;
+    let claim = ManuallyDrop::into_inner(claim);
+    let task = task_of(&claim.record());
+    let taken = Taken {
+        shared,
+        claim: unsafe { ManuallyDrop::new_unchecked(claim) },
+        gathered,
+    };
+    (taken, task)
+}
+
+pub(crate) fn show(held: &mut Held) -> NdTask
+    requires { HasTask held.old }
+    ensures holds { HasTask held.new }
+    ensures shown { StillTook held.old held.new (IsTaskOf result) }
+{
+    let Some(taken) = held.taken.take() else {
+        unreachable!()
+    };
+    let (taken, task) = shown(taken);
+    held.taken = Some(taken);
+    task
 }
 
 pub(crate) fn start(held: &mut Held, task: u32, op: NdOp) -> NdReply

@@ -9,8 +9,8 @@ ghost use Rattle.neddwyrol_table.specs.Ended.{HasParted, HasGathered, HaveMet, I
 use crate::held::Kept;
 use crate::parting::unpushed;
 use grub_book::Reading;
-use grub_flat::{DONE, NdReading};
 use grub_table::{CloseFault, CloseWhy, Pass};
+use library_book::{DONE, NdReading};
 use std::alloc::Global;
 use std::sync::Arc;
 

@@ -1,6 +1,6 @@
 //! The calls of a handle, which are made with what it leads to.
 
-ghost use Rattle.std.specs.Prelude.{◌≡◌, ◌≢◌, ◌⊎◌, IsNone, IfSome};
+ghost use Rattle.std.specs.Prelude.{◌≡◌, ◌≢◌, ◌⊎◌, IsNone, IfSome, IfOk, IfErr};
 ghost use Rattle.neddwyrol_table.specs.Called.{IsWell, Stands, IsBeside, IsSame, Keeps, WasAsked, WasCalledBy, WasRead, Went};
 ghost use Rattle.neddwyrol_table.specs.Ended.{AreOfOne, IsPartedInto, TookIn, HaveMetBy, IsAgain, IsClosedBy};
 ghost use Rattle.neddwyrol_table.specs.declared.held.Kept.{Kept};
@@ -8,10 +8,13 @@ ghost use Rattle.neddwyrol_table.specs.declared.held.Kept.{Kept};
 use crate::calls::{ask, op_for};
 use crate::closing::{NO_MEMORY, NO_PART, closed, gathered, met, parted};
 use crate::held::{Held, Kept};
-use grub_flat::{DONE, NdOp, NdReading, NdReply, QUEUE_OUT_OF_RANGE, plain_reply, reply_of};
+use crate::pass::NdTable;
+use library_book::{DONE, NdOp, NdReading, NdReply, QUEUE_OUT_OF_RANGE, plain_reply, reply_of};
 use std::alloc::Global;
+use std::ptr::NonNull;
 
 /// Makes a call, where there is such a task and op.
+#[inline(always)]
 fn asked(kept: Kept, t: u32, op: NdOp, tries: u8) -> (Kept, NdReply)
     requires { IsWell kept }
     ensures well { IsWell result.0 }
@@ -68,6 +71,7 @@ fn looked(kept: Kept, r: u32, reading: &mut NdReading) -> (Kept, u32)
     (kept, DONE)
 }
 
+#[inline(always)]
 pub(crate) fn call(held: &mut Held, task: u32, op: NdOp, tries: u8) -> NdReply
     requires { Stands held.old }
     ensures stands { Stands held.new }
@@ -95,8 +99,44 @@ pub(crate) fn look(held: &mut Held, queue: u32, reading: &mut NdReading) -> u32
     code
 }
 
+/// Where the table lies.
+pub(crate) fn place(held: &Held) -> NdTable
+    requires { Stands held.now }
+{
+    let Some(kept) = &held.kept else {
+        unreachable!()
+    };
+    NdTable {
+        at: NonNull::from_ref(&*kept.shared).cast::<u8>().as_ptr(),
+    }
+}
+
+/// The last pass that was gathered, by itself.
+pub(crate) fn part_of(alloc: Global, held: &mut Held) -> Result<Box<Held>, u32>
+    requires { Stands held.old }
+    ensures stands { Stands held.new }
+    ensures part { IfOk result (λ b. Stands b.value) }
+    ensures done { IfOk result (λ b. IsPartedInto held.old held.new b.value) }
+    ensures kept { IfErr result (λ code. (code ≡ NO_PART) × Went held.old held.new IsSame) }
+{
+    let Ok(mut part) = Box::new(
+        alloc,
+        Held {
+            kept: None,
+            taken: None,
+        },
+    ) else {
+        return Err(NO_PART);
+    };
+    if part_into(alloc, held, part.as_mut()) == DONE {
+        Ok(part)
+    } else {
+        Err(NO_PART)
+    }
+}
+
 /// The second leads to the last pass that the first had gathered.
-pub(crate) fn part(alloc: Global, first: &mut Held, second: &mut Held) -> u32
+fn part_into(alloc: Global, first: &mut Held, second: &mut Held) -> u32
     requires { Stands first.old }
     ensures stands { Stands first.new }
     ensures part { result ≡ DONE → Stands second.new }

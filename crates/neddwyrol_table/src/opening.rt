@@ -6,19 +6,19 @@ ghost use Rattle.grub_book.specs.Machine.{IsMachine};
 ghost use Rattle.grub_table.specs.Calls.{IsPassOf};
 ghost use Rattle.neddwyrol_table.specs.Called.{Keeps, Stands, table_of, passes_of};
 ghost use Rattle.neddwyrol_table.specs.declared.held.Kept.{Kept};
-ghost use Rattle.grub_flat.specs.Memory.{params_of, constants_of, machine_of};
-ghost use Rattle.grub_flat.specs.Limits.{AreConstants, AreReservations};
+ghost use Rattle.library_book.specs.Memory.{params_of, constants_of, machine_of};
+ghost use Rattle.library_book.specs.Limits.{AreConstants, AreReservations};
 ghost use Rattle.neddwyrol_table.specs.Opened.{setup_fault, passes_fault, open_fault, IsOpenedFor};
 
 use crate::held::Held;
 use crate::parting::unpushed;
 use grub_book::{QUEUES_MAX, Setup, TASKS_MAX};
 use grub_bw::{Params, Queue};
-use grub_flat::{
+use grub_table::{OpenFault, Pass, Shared};
+use library_book::{
     DONE, NO_QUEUE, NdRunqueue, NdTask, TOO_MANY_QUEUES, TOO_MANY_TASKS, fault_of_queues,
     fault_of_tasks,
 };
-use grub_table::{OpenFault, Pass, Shared};
 use std::alloc::{AllocError, Global};
 use std::sync::Arc;
 

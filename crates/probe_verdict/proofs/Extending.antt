@@ -1,7 +1,7 @@
 -- Texts that gain more.
 use Rattle.std.proofs.Common.{◌≡◌, ℕ, List, ◌++◌, codes, refl, ap, ◌∙◌, append_assoc}
-use Rattle.exact_words.specs.declared.counts.KindCounts.{KindCounts}
-use Rattle.exact_words.specs.declared.words.Comparison.{Comparison}
+use Rattle.probe_findings.specs.declared.counts.KindCounts.{KindCounts}
+use Rattle.probe_findings.specs.declared.words.Comparison.{Comparison}
 use Rattle.probe_verdict.specs.Answers.{TellsFirst, comparison_text, place_told}
 use Rattle.probe_verdict.specs.Texts.{Extends, count_text}
 use Rattle.probe_verdict.specs.Totals.{TellsTotals, compared_text, total_differ, total_equal}

@@ -1,21 +1,21 @@
 -- What a verdict answers.
-use Rattle.std.specs.Prelude.{ℕ, ◌==◌, Bool, true, false, if◌then◌else◌, ℤ, pos, ◌-ℤ◌, int_lt, unsigned_abs, List, ◌++◌, Option, Some, None, codes, decimal}
-use Rattle.exact_words.specs.Kinds.{kind_by}
-use Rattle.exact_words.specs.declared.words.Comparison.{Comparison}
-use Rattle.exact_words.specs.declared.words.Deviation.{Deviation}
-use Rattle.exact_words.specs.declared.words.ExactValue.{ExactValue}
-use Rattle.exact_words.specs.declared.words.ExactValue.TheVariants.{Unsigned, Signed}
-use Rattle.exact_words.specs.declared.words.QuantityKind.{QuantityKind}
-use Rattle.exact_words.specs.declared.words.QuantityKind.TheVariants.{Laws}
-use Rattle.exact_laws.specs.declared.laws.Broken.{Broken}
+use Rattle.std.specs.Prelude.{ℕ, Bool, true, false, if◌then◌else◌, ℤ, pos, ◌-ℤ◌, int_lt, unsigned_abs, List, ◌++◌, Option, Some, None, codes, decimal}
+use Rattle.probe_findings.specs.Kinds.{kind_by}
+use Rattle.probe_findings.specs.declared.words.Comparison.{Comparison}
+use Rattle.probe_findings.specs.declared.words.Deviation.{Deviation}
+use Rattle.probe_findings.specs.declared.words.ExactValue.{ExactValue}
+use Rattle.probe_findings.specs.declared.words.ExactValue.TheVariants.{Unsigned, Signed}
+use Rattle.probe_findings.specs.declared.words.QuantityKind.{QuantityKind}
+use Rattle.probe_findings.specs.declared.words.QuantityKind.TheVariants.{Laws}
+use Rattle.probe_findings.specs.declared.broken.Broken.{Broken}
 use Rattle.probe_verdict.specs.Quantities.{quantity_word}
 use Rattle.probe_verdict.specs.Texts.{Extends, count_text}
 use Rattle.probe_verdict.specs.Values.{subject_text, value_text}
 use Rattle.probe_verdict.specs.declared.heading.NamedTask.{NamedTask}
 
--- that so many values agree
-abbrev pub agreement_text : ℕ → List ℕ
-agreement_text equal = if equal == 0 then codes "agrees, but no value was compared\n" else codes "agrees, bit for bit\n"
+-- that each value agrees
+abbrev pub agreement_text : List ℕ
+agreement_text = codes "agrees, bit for bit\n"
 
 abbrev pub is_law : QuantityKind → Bool
 is_law Laws = true

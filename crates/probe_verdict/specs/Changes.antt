@@ -1,7 +1,7 @@
 -- The names of changed rules.
 use Rattle.std.specs.Prelude.{ℕ, List, codes}
-use Rattle.rule_changes.specs.declared.change.RuleChange.{RuleChange}
-use Rattle.rule_changes.specs.declared.change.RuleChange.TheVariants.{InactiveIsRunning, WithoutExtra, WithoutInactive, ItselfInactive, InFull, FlagIgnored, EquationBefore65, EquationFrom65, RatioPlusOne, OwnBandwidth, WhatIsLeft, ZeroLagByDeadline, ZeroLagShorter, ZeroLagLonger, ZeroLagNever, PastRunsOn, TimerStays, WakeTurned, WakeByPeriod, WakeNotRevised, WakeByBandwidth, WakeRenews, WakeEarly, NotConstrained, UntilDeadline, BudgetSet, OnePeriod, YieldKeeps, BlockedStays, RestoreStays, MoveWakes, AdmissionTakesNothing, ChangeFreesNothing, EndFreesNothing, LeavingFreesNothing, MoveLeavesThis, MoveLeavesRunning, WakeElsewhereAddsNothing, LeavesAtOnce, ServerRunsOn}
+use Rattle.kernel_changes.specs.declared.change.RuleChange.{RuleChange}
+use Rattle.kernel_changes.specs.declared.change.RuleChange.TheVariants.{InactiveIsRunning, WithoutExtra, WithoutInactive, ItselfInactive, InFull, FlagIgnored, EquationBefore65, EquationFrom65, RatioPlusOne, OwnBandwidth, WhatIsLeft, ZeroLagByDeadline, ZeroLagShorter, ZeroLagLonger, ZeroLagNever, PastRunsOn, TimerStays, WakeTurned, WakeByPeriod, WakeNotRevised, WakeByBandwidth, WakeRenews, WakeEarly, NotConstrained, UntilDeadline, BudgetSet, OnePeriod, YieldKeeps, BlockedStays, RestoreStays, MoveWakes, AdmissionTakesNothing, ChangeFreesNothing, EndFreesNothing, LeavingFreesNothing, MoveLeavesThis, MoveLeavesRunning, WakeElsewhereAddsNothing, LeavesAtOnce, ServerRunsOn}
 
 abbrev pub change_words : RuleChange → List ℕ
 change_words InactiveIsRunning = codes "charge: running_bw as the inactive bandwidth"

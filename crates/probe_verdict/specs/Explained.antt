@@ -1,7 +1,7 @@
 -- Which one changed rule explains a record, and what is told of it.
 use Rattle.std.specs.Prelude.{ℕ, ◌/◌, Bool, true, false, not, ◌&&◌, ◌==◌, nat_lt, List, [], ◌∷◌, ◌++◌, codes}
 use Rattle.std.specs.List.{filter, flat_map}
-use Rattle.rule_changes.specs.declared.change.RuleChange.{RuleChange}
+use Rattle.kernel_changes.specs.declared.change.RuleChange.{RuleChange}
 use Rattle.probe_verdict.specs.Changes.{change_words}
 use Rattle.probe_verdict.specs.Texts.{count_text}
 use Rattle.probe_verdict.specs.declared.explanation.Trial.{Trial}

@@ -1,8 +1,8 @@
 -- The row of a comparison.
 use Rattle.std.specs.Prelude.{ℕ, Bool, true, false, List, ◌++◌, codes, decimal}
-use Rattle.exact_words.specs.Kinds.{kind_by}
-use Rattle.exact_words.specs.declared.words.Comparison.{Comparison}
-use Rattle.exact_words.specs.declared.words.ProbedLine.{ProbedLine}
+use Rattle.probe_findings.specs.Kinds.{kind_by}
+use Rattle.probe_findings.specs.declared.words.Comparison.{Comparison}
+use Rattle.probe_findings.specs.declared.words.ProbedLine.{ProbedLine}
 use Rattle.probe_verdict.specs.Names.{event_word, kind_word}
 use Rattle.probe_verdict.specs.Values.{subject_text, value_text}
 use Rattle.probe_verdict.specs.declared.heading.NamedTask.{NamedTask}

@@ -1,14 +1,14 @@
 -- How a value is written, and whose it is.
 use Rattle.std.specs.Prelude.{ℕ, true, false, ◌==◌, if◌then◌else◌, List, [], ◌∷◌, ◌++◌, Option, Some, None, codes, decimal}
 use Rattle.std.specs.Fmt.{signed_decimal}
-use Rattle.trace_words.specs.declared.fixed.TimerFunction.{TimerFunction}
-use Rattle.trace_words.specs.declared.fixed.TimerFunction.TheVariants.{ZeroLag, Replenish, Other}
-use Rattle.exact_words.specs.declared.words.ExactValue.{ExactValue}
-use Rattle.exact_words.specs.declared.words.ExactValue.TheVariants.{Unsigned, Signed, Flag, AtMost, Armed, NotArmed, Owner}
-use Rattle.exact_words.specs.declared.words.Subject.{Subject}
-use Rattle.exact_words.specs.declared.words.Subject.TheVariants.{Entity, Runqueue, Nobody}
-use Rattle.exact_words.specs.declared.words.Whose.{Whose}
-use Rattle.exact_words.specs.declared.words.Whose.TheVariants.{Task, Server}
+use Rattle.trace_data.specs.declared.fixed.TimerFunction.{TimerFunction}
+use Rattle.trace_data.specs.declared.fixed.TimerFunction.TheVariants.{ZeroLag, Replenish, Other}
+use Rattle.probe_findings.specs.declared.words.ExactValue.{ExactValue}
+use Rattle.probe_findings.specs.declared.words.ExactValue.TheVariants.{Unsigned, Signed, Flag, AtMost, Armed, NotArmed, Owner}
+use Rattle.probe_findings.specs.declared.words.Subject.{Subject}
+use Rattle.probe_findings.specs.declared.words.Subject.TheVariants.{Entity, Runqueue, RootDomain, Nobody}
+use Rattle.probe_findings.specs.declared.words.Whose.{Whose}
+use Rattle.probe_findings.specs.declared.words.Whose.TheVariants.{Task, Server}
 use Rattle.probe_verdict.specs.declared.heading.NamedTask.{NamedTask}
 
 -- the comm of a task, where the record shows it
@@ -27,6 +27,7 @@ whose_text names (Task pid life) = task_text (comm_of names pid) pid
 abbrev pub subject_text : List NamedTask → Subject → List ℕ
 subject_text names (Entity whose) = whose_text names whose
 subject_text names (Runqueue cpu) = codes "CPU " ++ decimal cpu
+subject_text names (RootDomain number) = codes "root domain " ++ decimal number
 subject_text names Nobody = codes "nobody"
 
 -- the kernel's function of a timer

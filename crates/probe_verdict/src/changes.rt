@@ -3,7 +3,7 @@
 ghost use Rattle.std.specs.Prelude.{◌≡◌};
 ghost use Rattle.probe_verdict.specs.Changes.{change_words};
 
-use rule_changes::RuleChange;
+use kernel_changes::RuleChange;
 
 /// A rule in place of the kernel's.
 pub fn change_name(change: RuleChange) -> &'static str

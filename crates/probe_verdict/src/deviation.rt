@@ -1,43 +1,45 @@
 //! The last lines of a verdict: that each value is the kernel's, or the first that is not.
 
 ghost use Rattle.std.specs.Prelude.{◌≡◌, ◌++◌, IfNone, IfSome, OnOk};
-ghost use Rattle.exact_words.specs.Kinds.{kind_by};
+ghost use Rattle.probe_findings.specs.Kinds.{kind_by};
 ghost use Rattle.probe_verdict.specs.Answers.{TellsFirst, agreement_text, both_text, comparison_text, difference_of, difference_text, is_law, law_text, law_told, place_told};
 ghost use Rattle.probe_verdict.specs.Texts.{Extends};
-ghost use Rattle.probe_verdict.specs.Totals.{total_differ, total_equal};
+ghost use Rattle.probe_verdict.specs.Totals.{total_differ};
 
 use crate::heading::NamedTask;
 use crate::names::{event_name, function_of, quantity_name, rule_function, rule_name};
 use crate::text::total_of;
 use crate::writing::{put, put_count, put_seconds, put_subject, put_value};
-use exact_laws::{Broken, Law};
-use exact_words::{
-    Comparison, Deviation, ExactRule, ExactValue, KindCounts, ProbedFunction, ProbedLine,
-    QuantityKind, Why, kind_of,
+use probe_findings::{
+    Broken, Comparison, Deviation, ExactRule, ExactValue, KindCounts, Law, ProbedFunction,
+    ProbedLine, QuantityKind, Why, kind_of,
 };
 use std::alloc::{AllocError, Global};
+use trace_data::Kernel;
 
-/// Appends whether each value is the kernel's and each law holds, or the first that is not, and does not.
+/// Appends whether each value is the kernel's and each law holds, or the first that is not, and does not. The functions of the kernel
+/// have the names that they have in this one.
 pub fn put_answer(
     alloc: Global,
     out: &mut Vec<u8>,
     names: &[NamedTask],
+    kernel: Option<Kernel>,
     counts: &KindCounts,
     first: Option<Deviation>,
     broken: Option<Broken>,
 ) -> Result<(), AllocError>
     ensures agrees { OnOk result (IfNone first
-        (out.new.items ≡ out.old.items ++ agreement_text (total_equal counts.now))) }
+        (out.new.items ≡ out.old.items ++ agreement_text)) }
     ensures law { OnOk result (IfSome first (λ d. IfSome (law_told d broken)
         (λ b. Extends (out.old.items ++ law_text b.line) out.new.items))) }
     ensures value { OnOk result (IfSome first (λ d. IfNone (law_told d broken) (TellsFirst
         out.old.items out.new.items (total_differ counts.now) names.now d.comparison))) }
 {
     match first {
-        None => put_agreement(out, total_of(counts).equal),
+        None => put(out, "agrees, bit for bit\n"),
         Some(first) => match broken {
             Some(broken) if is_of_law(first) => put_broken(alloc, out, broken),
-            _ => put_differs(alloc, out, names, total_of(counts).differ, first),
+            _ => put_differs(alloc, out, names, kernel, total_of(counts).differ, first),
         },
     }
 }
@@ -85,21 +87,11 @@ fn put_clock(alloc: Global, out: &mut Vec<u8>, broken: Broken) -> Result<(), All
     put(out, text.as_str())
 }
 
-/// Appends that all agrees; a record without a value that was compared shows nothing.
-fn put_agreement(out: &mut Vec<u8>, equal: u64) -> Result<(), AllocError>
-    ensures { OnOk result (out.new.items ≡ out.old.items ++ agreement_text equal) }
-{
-    if equal == 0 {
-        put(out, "agrees, but no value was compared\n")
-    } else {
-        put(out, "agrees, bit for bit\n")
-    }
-}
-
 fn put_differs(
     alloc: Global,
     out: &mut Vec<u8>,
     names: &[NamedTask],
+    kernel: Option<Kernel>,
     differ: u64,
     first: Deviation,
 ) -> Result<(), AllocError>
@@ -108,19 +100,30 @@ fn put_differs(
 {
     put(out, "differs: ")?;
     put_count(alloc, out, differ)?;
-    put_place(alloc, out, first.comparison.place)?;
+    put_place(alloc, out, first.comparison.place, kernel)?;
     put_comparison(alloc, out, &first.comparison, names)?;
-    put_since(alloc, out, first.since, first.comparison.place.event)
+    put_since(
+        alloc,
+        out,
+        first.since,
+        first.comparison.place.event,
+        kernel,
+    )
 }
 
-fn put_place(alloc: Global, out: &mut Vec<u8>, place: ProbedLine) -> Result<(), AllocError>
+fn put_place(
+    alloc: Global,
+    out: &mut Vec<u8>,
+    place: ProbedLine,
+    kernel: Option<Kernel>,
+) -> Result<(), AllocError>
     ensures { OnOk result (Extends (out.old.items ++ place_told place.line) out.new.items) }
 {
     let line = place.line;
     let text = format!(in alloc; " of these values, first at line {line}, ")?;
     put(out, text.as_str())?;
     put_seconds(alloc, out, place.at)?;
-    put_event(alloc, out, place.event, place.cpu)
+    put_event(alloc, out, place.event, place.cpu, kernel)
 }
 
 fn put_event(
@@ -128,10 +131,11 @@ fn put_event(
     out: &mut Vec<u8>,
     event: ProbedFunction,
     cpu: u32,
+    kernel: Option<Kernel>,
 ) -> Result<(), AllocError>
     ensures { OnOk result (Extends out.old.items out.new.items) }
 {
-    let (name, function) = (event_name(event), function_of(event));
+    let (name, function) = (event_name(event), function_of(event, kernel));
     let text = format!(in alloc; ", {name} ({function}) on CPU {cpu}\n  ")?;
     put(out, text.as_str())
 }
@@ -202,31 +206,55 @@ fn put_since(
     out: &mut Vec<u8>,
     since: Why,
     event: ProbedFunction,
+    kernel: Option<Kernel>,
 ) -> Result<(), AllocError>
     ensures { OnOk result (Extends out.old.items out.new.items) }
 {
     match since.rule {
         None => put(out, "  no rule has changed it since it was first seen\n"),
-        Some(rule) => put_rule(alloc, out, since, rule, event),
+        Some(rule) => {
+            put_rule(alloc, out, since, rule)?;
+            put_functions(
+                alloc,
+                out,
+                rule_function(rule, kernel),
+                function_of(event, kernel),
+            )
+        }
     }
 }
 
-fn put_rule(
-    alloc: Global,
-    out: &mut Vec<u8>,
-    since: Why,
-    rule: ExactRule,
-    event: ProbedFunction,
-) -> Result<(), AllocError>
+fn put_rule(alloc: Global, out: &mut Vec<u8>, since: Why, rule: ExactRule) -> Result<(), AllocError>
     ensures { OnOk result (Extends out.old.items out.new.items) }
 {
     let line = since.line;
     let (at, name) = (event_name(since.event), rule_name(rule));
     let text = format!(in alloc; "  last changed at line {line}, {at}, by the rule \"{name}\"\n")?;
-    put(out, text.as_str())?;
-    let (first, second) = (rule_function(rule), function_of(event));
-    let text = format!(in alloc;
-        "  functions of kernel/sched/deadline.c to look at: {first}, {second}\n"
-    )?;
     put(out, text.as_str())
+}
+
+/// Appends the functions to look at: that of the rule, and that of the line where it is another.
+fn put_functions(
+    alloc: Global,
+    out: &mut Vec<u8>,
+    first: &str,
+    second: &str,
+) -> Result<(), AllocError>
+    ensures { OnOk result (Extends out.old.items out.new.items) }
+{
+    let text = format!(in alloc; "  functions of kernel/sched/deadline.c to look at: {first}")?;
+    put(out, text.as_str())?;
+    put_second(out, first, second)?;
+    put(out, "\n")
+}
+
+/// Appends a name behind a first one, unless it is the same.
+fn put_second(out: &mut Vec<u8>, first: &str, second: &str) -> Result<(), AllocError>
+    ensures { OnOk result (Extends out.old.items out.new.items) }
+{
+    if first == second {
+        return Ok(());
+    }
+    put(out, ", ")?;
+    put(out, second)
 }

@@ -8,8 +8,8 @@ ghost use Rattle.probe_verdict.specs.Totals.{total_differ};
 use crate::changes::change_name;
 use crate::text::total_of;
 use crate::writing::{put, put_count};
-use exact_words::KindCounts;
-use rule_changes::RuleChange;
+use kernel_changes::RuleChange;
+use probe_findings::KindCounts;
 use std::alloc::{AllocError, Global};
 
 /// What a play with one rule changed comes to.

@@ -1,6 +1,6 @@
 //! What a verdict says of a record besides its values.
 
-use trace_words::Kernel;
+use trace_data::Kernel;
 
 /// A task, as a record names it.
 #[derive(Drop)]
@@ -27,6 +27,9 @@ pub struct ProbeHeading<'a> {
     /// The name of the record.
     pub trace: &'a [u8],
     pub kernel: Option<Kernel>,
+
+    /// The kernel's whole release, as the record tells it; none where an option names the kernel.
+    pub release: Option<&'a [u8]>,
 
     /// The CPUs of the root domain.
     pub domain: &'a [u32],

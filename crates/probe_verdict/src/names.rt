@@ -1,10 +1,12 @@
 //! Words for what is compared, and the kernel's functions behind them.
 
 ghost use Rattle.std.specs.Prelude.{◌≡◌};
-ghost use Rattle.probe_verdict.specs.Names.{event_word, function_word, kind_word};
+ghost use Rattle.probe_verdict.specs.Names.{charges_by_class, event_word, function_word, kind_word};
 ghost use Rattle.probe_verdict.specs.Quantities.{quantity_word};
 
-use exact_words::{ExactRule, ProbedFunction, Quantity, QuantityKind};
+use kernel_versions::{UpdateFunction, has_servers, release_of};
+use probe_findings::{ExactRule, ProbedFunction, Quantity, QuantityKind};
+use trace_data::Kernel;
 
 /// The name of a line's event.
 pub fn event_name(event: ProbedFunction) -> &'static str
@@ -23,16 +25,57 @@ pub fn event_name(event: ProbedFunction) -> &'static str
         ProbedFunction::TimerStarts => "hst",
         ProbedFunction::ServerStarts => "ede",
         ProbedFunction::Pick => "pck",
+        ProbedFunction::ServerStops => "dls",
+        ProbedFunction::ServerIdles => "idl",
+        ProbedFunction::IdleEnds => "pid",
+        ProbedFunction::AttachDomain => "att",
+        ProbedFunction::TakeBandwidth => "bwa",
+        ProbedFunction::FreeBandwidth => "bwf",
+        ProbedFunction::HandleLimit => "lim",
+        ProbedFunction::RebuildTask => "reb",
+        ProbedFunction::SetAffinity => "aff",
+        ProbedFunction::ChangeServer => "sap",
+        ProbedFunction::DeactivateCpu => "off",
+        ProbedFunction::ActivateCpu => "onl",
     }
 }
 
-/// The function whose entry a line of this event shows.
-pub fn function_of(event: ProbedFunction) -> &'static str
-    ensures { result.now ≡ function_word event }
+/// Whether a kernel runs fair servers; where none is told it is a current one.
+fn runs_servers(kernel: Option<Kernel>) -> bool {
+    match kernel {
+        Some(kernel) => has_servers(kernel),
+        None => true,
+    }
+}
+
+/// Whether a kernel charges by `update_curr_dl`; where none is told it is a current one.
+fn charges_by_class(kernel: Option<Kernel>) -> bool
+    ensures { result ≡ charges_by_class kernel }
+{
+    match kernel {
+        Some(kernel) => release_of(kernel).update == UpdateFunction::UpdateCurrDl,
+        None => false,
+    }
+}
+
+/// The function that charges a task for its run: before 6.8 no other entity than a task has a budget.
+fn charging_function(kernel: Option<Kernel>) -> &'static str
+    ensures { result.now ≡ function_word ProbedFunction.Update kernel }
+{
+    if charges_by_class(kernel) {
+        "update_curr_dl"
+    } else {
+        "update_curr_dl_se"
+    }
+}
+
+/// The function whose entry a line of this event shows, by its name in this kernel.
+pub fn function_of(event: ProbedFunction, kernel: Option<Kernel>) -> &'static str
+    ensures { result.now ≡ function_word event kernel }
 {
     match event {
         ProbedFunction::Enqueue => "enqueue_task_dl",
-        ProbedFunction::Update => "update_curr_dl_se",
+        ProbedFunction::Update => charging_function(kernel),
         ProbedFunction::Dequeue => "dequeue_task_dl",
         ProbedFunction::Migrate => "migrate_task_rq_dl",
         ProbedFunction::Leave => "switched_from_dl",
@@ -42,6 +85,18 @@ pub fn function_of(event: ProbedFunction) -> &'static str
         ProbedFunction::TimerStarts => "hrtimer_start_range_ns",
         ProbedFunction::ServerStarts => "enqueue_dl_entity",
         ProbedFunction::Pick => "pick_task_dl",
+        ProbedFunction::ServerStops => "dl_server_stop",
+        ProbedFunction::ServerIdles => "dl_server_update_idle_time",
+        ProbedFunction::IdleEnds => "put_prev_task_idle",
+        ProbedFunction::AttachDomain => "rq_attach_root",
+        ProbedFunction::TakeBandwidth => "dl_bw_alloc",
+        ProbedFunction::FreeBandwidth => "dl_bw_free",
+        ProbedFunction::HandleLimit => "sched_rt_handler",
+        ProbedFunction::RebuildTask => "dl_add_task_root_domain",
+        ProbedFunction::SetAffinity => "set_cpus_allowed_dl",
+        ProbedFunction::ChangeServer => "dl_server_apply_params",
+        ProbedFunction::DeactivateCpu => "sched_cpu_deactivate",
+        ProbedFunction::ActivateCpu => "sched_cpu_activate",
     }
 }
 
@@ -61,6 +116,10 @@ pub fn kind_name(kind: QuantityKind) -> &'static str
         QuantityKind::ZeroLag => "0-lag moment",
         QuantityKind::ZeroLagMoment => "0-lag moment, us",
         QuantityKind::Timers => "timers armed",
+        QuantityKind::TotalBw => "total_bw",
+        QuantityKind::Capacities => "capacity",
+        QuantityKind::Addresses => "addresses",
+        QuantityKind::Choices => "choices",
         QuantityKind::Laws => "laws",
     }
 }
@@ -78,6 +137,10 @@ pub(crate) fn kind_plural(kind: QuantityKind) -> &'static str {
         QuantityKind::ZeroLag => "0-lag moments",
         QuantityKind::ZeroLagMoment => "0-lag moments to a microsecond",
         QuantityKind::Timers => "timers",
+        QuantityKind::TotalBw => "total_bw",
+        QuantityKind::Capacities => "capacities",
+        QuantityKind::Addresses => "addresses",
+        QuantityKind::Choices => "choices",
         QuantityKind::Laws => "laws",
     }
 }
@@ -100,7 +163,11 @@ pub fn quantity_name(quantity: Quantity) -> &'static str
         Quantity::RunningBw => "running_bw",
         Quantity::ExtraBw => "extra_bw",
         Quantity::ZeroLag | Quantity::ZeroLagMoment => "the 0-lag time",
+        Quantity::TotalBw => "total_bw",
+        Quantity::Capacity => "cpu_scale",
         Quantity::Timer => "the timer",
+        Quantity::Address => "the address",
+        Quantity::Choice => "the order of effects",
         Quantity::BwRatio => "bw_ratio",
         Quantity::MaxBw => "max_bw",
         Quantity::ClockLag => "the runqueue's clock, in nanoseconds behind,",
@@ -146,30 +213,54 @@ pub fn rule_name(rule: ExactRule) -> &'static str {
         ExactRule::ServerStopped => "server stopped",
         ExactRule::BeforeItsLock => "effect between a line and its lock",
         ExactRule::ExtraReadLater => "extra_bw read after its line",
+        ExactRule::SpeedUnknown => "charge at an unknown speed",
         ExactRule::ChargeReadLater => "charge with an extra_bw read later",
     }
 }
 
-/// The kernel's function that has a rule.
-pub(crate) fn rule_function(rule: ExactRule) -> &'static str {
+/// The function that takes a task's bandwidth in or out as it is queued: before 6.8 that of the class, later that of the entity.
+fn queueing_function(
+    kernel: Option<Kernel>,
+    of_class: &'static str,
+    of_entity: &'static str,
+) -> &'static str {
+    if charges_by_class(kernel) {
+        of_class
+    } else {
+        of_entity
+    }
+}
+
+/// The kernel's function that has a rule, by its name in this kernel.
+pub fn rule_function(rule: ExactRule, kernel: Option<Kernel>) -> &'static str {
     match rule {
-        ExactRule::ChargeInFull => "dl_scaled_delta_exec",
+        ExactRule::ChargeInFull | ExactRule::SpeedUnknown => {
+            if !runs_servers(kernel) {
+                charging_function(kernel)
+            } else {
+                "dl_scaled_delta_exec"
+            }
+        }
         ExactRule::ChargeByItsBandwidth
         | ExactRule::ChargeByWhatIsLeft
         | ExactRule::ChargeReadLater => { "grub_reclaim" }
-        ExactRule::Throttled | ExactRule::Yielded => "update_curr_dl_se",
+        ExactRule::Throttled | ExactRule::Yielded => charging_function(kernel),
         ExactRule::ReplenishedAtOnce
         | ExactRule::Replenished
         | ExactRule::ReplenishedBlocked
         | ExactRule::ReplenishedBlockedLate => "replenish_dl_entity",
         ExactRule::WakeKept | ExactRule::WakeNewPeriod => "update_dl_entity",
         ExactRule::WakeRevised => "update_dl_revised_wakeup",
-        ExactRule::WakeThrottled | ExactRule::RestoredNewPeriod => "enqueue_dl_entity",
+        ExactRule::WakeThrottled | ExactRule::MovedIn | ExactRule::Restored => {
+            queueing_function(kernel, "enqueue_task_dl", "enqueue_dl_entity")
+        }
+        ExactRule::RestoredNewPeriod => "enqueue_dl_entity",
         ExactRule::WakeBeforeZeroLag | ExactRule::WakeAfterZeroLag => "task_contending",
         ExactRule::Constrained => "dl_check_constrained_dl",
-        ExactRule::Boosted | ExactRule::BoostEnds | ExactRule::MovedIn | ExactRule::Restored =>
-            "enqueue_task_dl",
-        ExactRule::MovedOut | ExactRule::Saved => "dequeue_dl_entity",
+        ExactRule::Boosted | ExactRule::BoostEnds => "enqueue_task_dl",
+        ExactRule::MovedOut | ExactRule::Saved => {
+            queueing_function(kernel, "dequeue_task_dl", "dequeue_dl_entity")
+        }
         ExactRule::MovedAtWake => "migrate_task_rq_dl",
         ExactRule::ZeroLagArmed | ExactRule::ZeroLagPast => "task_non_contending",
         ExactRule::ZeroLagFired => "inactive_task_timer",
@@ -227,7 +318,7 @@ pub(crate) const ALL: [ExactRule; 37] = [
 ];
 
 /// Every kind, in the order in which a verdict names them.
-pub(crate) const KINDS: [QuantityKind; 11] = [
+pub const KINDS: [QuantityKind; 15] = [
     QuantityKind::Budget,
     QuantityKind::Deadline,
     QuantityKind::Flags,
@@ -235,8 +326,12 @@ pub(crate) const KINDS: [QuantityKind; 11] = [
     QuantityKind::ThisBw,
     QuantityKind::RunningBw,
     QuantityKind::ExtraBw,
+    QuantityKind::TotalBw,
     QuantityKind::ZeroLag,
     QuantityKind::ZeroLagMoment,
     QuantityKind::Timers,
+    QuantityKind::Capacities,
+    QuantityKind::Addresses,
+    QuantityKind::Choices,
     QuantityKind::Laws,
 ];

@@ -6,7 +6,7 @@ ghost use Rattle.probe_verdict.specs.Rows.{answer_text, kind_text, place_text, r
 use crate::heading::NamedTask;
 use crate::names::{event_name, kind_name};
 use crate::writing::{put, put_subject, put_value};
-use exact_words::{Comparison, ProbedLine, kind_of};
+use probe_findings::{Comparison, ProbedLine, kind_of};
 use std::alloc::{AllocError, Global};
 
 /// The first line of a table.

@@ -2,15 +2,15 @@
 
 ghost use Rattle.std.specs.Prelude.{◌≡◌, ◌++◌, OnOk, codes};
 ghost use Rattle.probe_verdict.specs.Texts.{Extends};
-ghost use Rattle.probe_verdict.specs.Totals.{TellsTotals, compared_text, total_differ, total_equal, unequal_text};
+ghost use Rattle.probe_verdict.specs.Totals.{TellsTotals, compared_text, has_some, has_values, total_differ, total_equal, unequal_text};
 
 use crate::heading::{DroppedLines, ProbeHeading};
 use crate::names::{ALL, KINDS, kind_plural, rule_name};
 use crate::writing::{put, put_bytes, put_comma, put_count};
-use exact_words::{ExactRule, KindCounts, QuantityKind, RuleCounts};
-use grub_text::put_number;
+use probe_findings::{Comparisons, ExactRule, KindCounts, QuantityKind, RuleCounts};
 use std::alloc::{AllocError, Global};
-use trace_words::Kernel;
+use text_bytes::put_number;
+use trace_data::Kernel;
 
 /// How many values of all kinds are equal, and how many differ.
 #[derive(Clone, Copy)]
@@ -38,6 +38,29 @@ pub fn total_of(counts: &KindCounts) -> Total
     total
 }
 
+/// Whether values of a kind were compared.
+fn has_some(tally: Comparisons) -> bool
+    ensures { result ≡ has_some tally }
+{
+    tally.equal > 0 || tally.differ > 0
+}
+
+/// Whether one value was compared at least, those of laws aside.
+pub fn has_values(counts: &KindCounts) -> bool
+    ensures { result ≡ has_values counts.now }
+{
+    has_some(counts.budget)
+        || has_some(counts.deadline)
+        || has_some(counts.flags)
+        || has_some(counts.parameters)
+        || has_some(counts.this_bw)
+        || has_some(counts.running_bw)
+        || has_some(counts.extra_bw)
+        || has_some(counts.zero_lag)
+        || has_some(counts.zero_lag_moment)
+        || has_some(counts.timers)
+}
+
 /// Appends what was read and compared, and which rules were put to the test.
 pub fn put_heading(
     alloc: Global,
@@ -53,7 +76,35 @@ pub fn put_heading(
     put_total(alloc, out, total_of(counts))?;
     put_counts(alloc, out, counts)?;
     put_tested(alloc, out, rules)?;
-    put_untested(out, rules)
+    put_untested(out, rules)?;
+    put_unknown_speeds(alloc, out, rules.of(ExactRule::SpeedUnknown))
+}
+
+/// Appends how many charges were not compared, since no line shows how fast the CPU ran.
+fn put_unknown_speeds(alloc: Global, out: &mut Vec<u8>, charges: u64) -> Result<(), AllocError>
+    ensures { OnOk result (Extends out.old.items out.new.items) }
+{
+    if charges == 0 {
+        return Ok(());
+    }
+    put(out, "speed unknown: ")?;
+    put_count(alloc, out, charges)?;
+    put(
+        out,
+        " charges without SCHED_FLAG_RECLAIM took less than their time, and were not compared; scripts/record.sh records the speed of each CPU (fs, cs)\n",
+    )
+}
+
+/// Appends the CPUs of which no root domain is followed, if there are any.
+pub fn put_unfollowed(alloc: Global, out: &mut Vec<u8>, cpus: &[u32]) -> Result<(), AllocError>
+    ensures { OnOk result (Extends out.old.items out.new.items) }
+{
+    if cpus.is_empty() {
+        return Ok(());
+    }
+    put(out, "not compared: extra_bw and total_bw of ")?;
+    put_cpus(alloc, out, cpus)?;
+    put(out, ", whose root domain no note tells\n")
 }
 
 fn put_record(alloc: Global, out: &mut Vec<u8>, heading: ProbeHeading<'_>) -> Result<(), AllocError>
@@ -61,22 +112,38 @@ fn put_record(alloc: Global, out: &mut Vec<u8>, heading: ProbeHeading<'_>) -> Re
 {
     put_bytes(out, heading.trace)?;
     put(out, ": ")?;
-    put_kernel(alloc, out, heading.kernel)?;
+    put_kernel(alloc, out, heading.kernel, heading.release)?;
     put_cpus(alloc, out, heading.domain)?;
     put_size(alloc, out, heading)?;
     put_lost(out, heading.lost)?;
     put_sums(out, heading.takes_sums)
 }
 
-fn put_kernel(alloc: Global, out: &mut Vec<u8>, kernel: Option<Kernel>) -> Result<(), AllocError>
+fn put_kernel(
+    alloc: Global,
+    out: &mut Vec<u8>,
+    kernel: Option<Kernel>,
+    release: Option<&[u8]>,
+) -> Result<(), AllocError>
     ensures { OnOk result (Extends out.old.items out.new.items) }
 {
     let Some(kernel) = kernel else {
         return Ok(());
     };
+    if let Some(release) = release {
+        return put_release(out, release);
+    }
     let (major, minor, patch) = (kernel.major, kernel.minor, kernel.patch);
     let text = format!(in alloc; "kernel {major}.{minor}.{patch}, ")?;
     put(out, text.as_str())
+}
+
+fn put_release(out: &mut Vec<u8>, release: &[u8]) -> Result<(), AllocError>
+    ensures { OnOk result (Extends out.old.items out.new.items) }
+{
+    put(out, "kernel ")?;
+    put_bytes(out, release)?;
+    put(out, ", ")
 }
 
 /// Appends the CPUs of a root domain, as 0-3 where they follow one another.

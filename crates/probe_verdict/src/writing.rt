@@ -7,10 +7,10 @@ ghost use Rattle.probe_verdict.specs.Texts.{Extends, count_text, ends_group};
 ghost use Rattle.probe_verdict.specs.Values.{comm_of, subject_text, task_text, timer_word, value_text, whose_text};
 
 use crate::heading::NamedTask;
-use exact_words::{ExactValue, Subject, Whose};
-use grub_text::put_number;
+use probe_findings::{ExactValue, Subject, Whose};
 use std::alloc::{AllocError, Global};
-use trace_words::TimerFunction;
+use text_bytes::put_number;
+use trace_data::TimerFunction;
 
 /// Appends a text.
 pub(crate) fn put(out: &mut Vec<u8>, text: &str) -> Result<(), AllocError>
@@ -144,6 +144,10 @@ pub(crate) fn put_subject(
         Subject::Entity(whose) => put_whose(alloc, out, whose, names),
         Subject::Runqueue(cpu) => {
             let text = format!(in alloc; "CPU {cpu}")?;
+            put(out, text.as_str())
+        }
+        Subject::RootDomain(number) => {
+            let text = format!(in alloc; "root domain {number}")?;
             put(out, text.as_str())
         }
         Subject::Nobody => put(out, "nobody"),

@@ -4,6 +4,8 @@
 mod admission;
 mod proposals;
 pub mod table;
+mod together;
 
 pub use admission::{Proposal, RootDomain, bandwidth, hundredths};
 pub use proposals::put_proposals;
+pub use together::{Placed, Together, add_up};

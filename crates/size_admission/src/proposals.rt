@@ -1,14 +1,12 @@
 //! What all proposals together come to, in words.
 
-use crate::admission::{
-    Proposal, RootDomain, bandwidth, bandwidths_of, greatest, hundredths, is_admitted, is_in_time,
-    placed_of, total,
-};
+use crate::admission::{Proposal, RootDomain, bandwidth, hundredths, is_admitted, is_in_time};
 use crate::table::{
     TableRow, heading, hundredths_cell, number_cell, put_hundredths, put_table, put_text,
 };
-use grub_text::put_number;
+use crate::together::{Placed, add_up, load};
 use std::alloc::AllocError;
+use text_bytes::put_number;
 
 fn put_rows(out: &mut Vec<u8>, proposals: &[Proposal]) -> Result<(), AllocError> {
     let alloc = *out.allocator();
@@ -81,31 +79,29 @@ fn put_in_time(
     put_text(out, "\n")
 }
 
+/// Writes which tasks share a processor, and what they come to. A processor that nothing uses is left out.
 fn put_processor(
     out: &mut Vec<u8>,
     proposals: &[Proposal],
-    bandwidths: &[u64],
-    placed: &[usize],
+    placed: &[Placed],
     processor: usize,
     is_first: bool,
 ) -> Result<bool, AllocError> {
-    let mut sum = 0u64;
     let mut is_used = false;
-    for (i, one) in proposals.iter().enumerate() {
-        if placed.get(i).copied() == Some(processor) {
+    for (one, place) in proposals.iter().zip(placed) {
+        if place.processor == processor {
             if is_used {
                 put_text(out, " ")?;
             } else if !is_first {
                 put_text(out, "; ")?;
             }
             out.extend_from_slice(&one.comm)?;
-            sum = sum.saturating_add(bandwidths.get(i).copied().unwrap_or(0));
             is_used = true;
         }
     }
     if is_used {
         put_text(out, " ")?;
-        put_percent(out, sum)?;
+        put_percent(out, load(placed, processor))?;
         put_text(out, " %")?;
     }
     Ok(is_used)
@@ -114,16 +110,16 @@ fn put_processor(
 fn put_placed(
     out: &mut Vec<u8>,
     proposals: &[Proposal],
-    bandwidths: &[u64],
-    machine: RootDomain,
+    placed: &Option<Vec<Placed>>,
+    processors: u32,
 ) -> Result<(), AllocError> {
     put_text(out, "  a processor each: ")?;
-    match placed_of(*out.allocator(), bandwidths, machine)? {
+    match placed {
         None => put_text(out, "they do not fit so")?,
         Some(placed) => {
             let mut is_first = true;
-            for processor in 0..machine.processors as usize {
-                if put_processor(out, proposals, bandwidths, &placed, processor, is_first)? {
+            for processor in 0..processors as usize {
+                if put_processor(out, proposals, placed, processor, is_first)? {
                     is_first = false;
                 }
             }
@@ -138,11 +134,10 @@ pub fn put_proposals(
     proposals: &[Proposal],
     machine: RootDomain,
 ) -> Result<(), AllocError> {
-    let bandwidths = bandwidths_of(*out.allocator(), proposals)?;
-    let sum = total(&bandwidths);
+    let all = add_up(*out.allocator(), proposals, machine)?;
     put_text(out, "\nall proposals\n")?;
     put_rows(out, proposals)?;
-    put_admission(out, sum, machine)?;
-    put_in_time(out, sum, greatest(&bandwidths), machine)?;
-    put_placed(out, proposals, &bandwidths, machine)
+    put_admission(out, all.sum, machine)?;
+    put_in_time(out, all.sum, all.greatest, machine)?;
+    put_placed(out, proposals, &all.placed, machine.processors)
 }

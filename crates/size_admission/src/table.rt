@@ -1,7 +1,7 @@
 //! Tables of text.
 
-use grub_text::put_number;
 use std::alloc::{AllocError, Global};
+use text_bytes::put_number;
 
 /// The cells of a line.
 pub type TableRow = Vec<Vec<u8>>;

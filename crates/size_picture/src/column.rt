@@ -3,8 +3,8 @@
 ghost use Rattle.std.specs.Prelude.{◌≡◌, [], IfOk};
 ghost use Rattle.size_picture.specs.Columns.{column_of, columns_of, joined, merged};
 
-use grub_shapes::LEFT;
 use std::alloc::{AllocError, Global};
+use svg::LEFT;
 
 /// How high a panel is, in pixels: a need as great as the top of its scale is as high.
 pub const PANEL: u32 = 150;

@@ -3,8 +3,8 @@
 ghost use Rattle.std.specs.Prelude.{◌≡◌, ◌<◌, ◌^◌, IfOk, vec_len};
 
 use crate::panel::{HEIGHT, Panel, put_panel};
-use grub_shapes::put_number;
 use std::alloc::{AllocError, Global};
+use svg::put_number;
 
 /// A picture is smaller than this, in bytes.
 const SIZE_LIMIT: usize = 4194304;

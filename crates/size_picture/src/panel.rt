@@ -6,9 +6,9 @@ ghost use Rattle.size_picture.specs.Strokes.{bar_of, bars_of, curve_of, curve_st
 use crate::column::{Column, Need, PANEL, WIDTH, columns_of};
 use crate::scale::{place_of, put_counts, put_runtimes, put_time};
 use crate::stroke::{Stroke, StrokeLook, put_strokes};
-use grub_shapes::{LEFT, put_number};
 use std::alloc::{AllocError, Global};
 use std::marker::Model;
+use svg::{LEFT, put_number};
 
 /// The runtimes at which lines are drawn, in microseconds.
 #[derive(Clone, Copy, Debug, PartialEq, Eq)]

@@ -5,8 +5,8 @@ ghost use Rattle.size_picture.specs.Columns.{place_of};
 
 use crate::column::{PANEL, WIDTH};
 use crate::stroke::{Stroke, StrokeLook, put_stroke};
-use grub_shapes::{LEFT, put_number, put_text};
 use std::alloc::AllocError;
+use svg::{LEFT, put_number, put_text};
 
 /// How far apart the marks of a scale are, which ends at `top`: 1, 2 or 5 times a power of ten, such that there are at most `most` beyond 0.
 fn step_of(top: u64, most: u64) -> u64 {

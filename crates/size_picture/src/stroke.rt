@@ -1,7 +1,7 @@
 //! Strokes and labels, of which a picture is made.
 
-use grub_shapes::put_number;
 use std::alloc::AllocError;
+use svg::put_number;
 
 /// How a stroke looks.
 #[derive(Clone, Copy, Debug, PartialEq, Eq)]

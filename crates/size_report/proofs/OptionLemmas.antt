@@ -5,7 +5,7 @@ use Rattle.std.proofs.lemmas.List.{at_drop_more, map-append}
 use Rattle.std.proofs.lemmas.Bool.{cases_Bool, cond-true, cond-false}
 use Rattle.std.specs.List.{list_any}
 use Rattle.std.specs.Str.{bytes_eq}
-use Rattle.trace_line.specs.Words.{text_of}
+use Rattle.trace_fields.specs.Words.{text_of}
 use Rattle.size_report.specs.Options.{Asked, Fault, asked_in, asked_task, fault, given_by, given_to, has_name, tasks_on, withins_on}
 use Rattle.size_report.specs.declared.options.AskedTask.{AskedTask}
 use Rattle.size_report.specs.declared.options.FaultKind.TheVariants as kind

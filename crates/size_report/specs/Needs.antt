@@ -1,9 +1,9 @@
 -- What is told of a task: each number is that of its jobs.
 use Rattle.std.specs.Prelude.{◌≡◌, ◌↔◌, ◌<◌, ℕ, ◌+◌, ◌*◌, min, max, All, List, Option, IfSome, IsNone}
 use Rattle.std.specs.Int.{div_ceil}
-use Rattle.grub_sizing.specs.Jobs.{late_of}
-use Rattle.grub_sizing.specs.Least.{IsLeast}
-use Rattle.grub_sizing.specs.declared.job.Job.{Job}
+use Rattle.size_least.specs.Jobs.{late_of}
+use Rattle.size_least.specs.Least.{IsLeast}
+use Rattle.size_least.specs.declared.job.Job.{Job}
 use Rattle.size_report.specs.declared.sizing.Choice.{Choice}
 use Rattle.size_report.specs.declared.sizing.Needed.{Needed}
 use Rattle.size_report.specs.declared.sizing.SizeRequest.{SizeRequest}

@@ -5,9 +5,9 @@ use Rattle.std.specs.List.{list_any}
 use Rattle.std.specs.Path.{rsplit_once}
 use Rattle.std.specs.Str.{bytes_eq}
 use Rattle.grub_bw.specs.Bandwidth.{Reservation, bandwidth_of, reservation_fits}
-use Rattle.trace_line.specs.Words.{text_of}
+use Rattle.trace_fields.specs.Words.{text_of}
 use Rattle.trace_probes.specs.Numerals.{numeral}
-use Rattle.check_settings.specs.Settings.{and_then}
+use Rattle.trace_options.specs.Settings.{and_then}
 use Rattle.size_report.specs.declared.options.AskedTask.{AskedTask}
 use Rattle.size_report.specs.declared.options.FaultKind.{FaultKind}
 use Rattle.size_report.specs.declared.options.FaultKind.TheVariants as kind

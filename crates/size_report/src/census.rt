@@ -4,8 +4,9 @@ use crate::figures::{Figures, at, most, regular_period, share, total};
 use size_admission::table::{
     TableRow, heading, hundredths_cell, number_cell, put_table, put_text, text_cell,
 };
+use size_jobs::{JobRecord, JobTask};
 use std::alloc::{AllocError, Global};
-use trace_jobs::{Class, JobRecord, JobTask};
+use trace_lines::Class;
 
 pub(crate) fn class_text(class: Class) -> &'static str {
     match class {

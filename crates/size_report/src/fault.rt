@@ -5,7 +5,7 @@ ghost use Rattle.size_report.specs.Faults.{status_of};
 
 use std::io;
 use std::io::Write;
-use trace_words::Flaw;
+use trace_data::Flaw;
 
 /// Why a record was not sized.
 #[derive(Drop)]

@@ -1,7 +1,7 @@
 //! What the jobs of a task come to.
 
+use size_jobs::Seen;
 use std::alloc::{AllocError, Global};
-use trace_jobs::Seen;
 
 /// The sorted durations of a task's jobs, in microseconds.
 #[derive(Drop)]

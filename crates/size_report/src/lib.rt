@@ -7,6 +7,7 @@ mod figures;
 mod options;
 mod picture;
 mod price;
+mod reading;
 mod serving;
 mod sizing;
 mod task_text;

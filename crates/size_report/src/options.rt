@@ -4,14 +4,14 @@ ghost use Rattle.std.specs.Prelude.{◌≡◌, ◌<◌, [], ℕ, length, Some, N
 ghost use Rattle.std.specs.List.{list_any};
 ghost use Rattle.std.specs.Path.{rsplit_once};
 ghost use Rattle.std.specs.Result.{result_map_both};
-ghost use Rattle.trace_line.specs.Words.{text_of};
+ghost use Rattle.trace_fields.specs.Words.{text_of};
 ghost use Rattle.size_report.specs.Options.{admitted, asked_by, asked_in, asked_task, fair_in, fault_by, given_by, given_to, is_period, most_from, most_in, pair_of, picture_by, reservation_from, reserving, said_by, said_in, said_with, small_in, tasks_on, with_period, with_runtime, within_in, withins_on};
 ghost use Rattle.size_report.specs.inside.Texts.{first_waiting, is_named, named_text};
 
 use crate::sizing::{PERIOD_LEAST, PERIOD_MOST};
-use check_settings::last_parts;
 use grub_bw::Params;
 use std::alloc::{AllocError, Global};
+use trace_options::last_parts;
 use trace_probes::numeral;
 
 /// A task that is asked for, with durations in microseconds.

@@ -3,11 +3,10 @@
 ghost use Rattle.std.specs.Prelude.{◌≤◌, ◌+◌};
 
 use crate::sizing::{Needed, SizeRequest};
-use grub_sizing::{Job, lates_of, least_runtime};
+use size_jobs::JobTask;
+use size_least::{Job, heights_of, lates_of, least_runtime};
 use size_picture::{Need, Panel, PanelRuntimes, sizing_picture};
-use sizing_needs::heights_of;
 use std::alloc::{AllocError, Global};
-use trace_jobs::JobTask;
 
 /// What is drawn of a task.
 #[derive(Drop)]

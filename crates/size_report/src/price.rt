@@ -2,13 +2,13 @@
 
 use crate::figures::{Figures, at, most, rounded};
 use crate::sizing::{PERIOD_LEAST, PERIOD_MOST, jobs_of};
-use grub_sizing::least_runtime;
 use size_admission::table::{
     TableRow, heading, hundredths_cell, number_cell, put_table, text_cell,
 };
 use size_admission::{bandwidth, hundredths};
+use size_jobs::Seen;
+use size_least::least_runtime;
 use std::alloc::{AllocError, Global};
-use trace_jobs::Seen;
 
 /// The periods 1, 2 and 5 times powers of ten from one to another.
 fn periods(alloc: Global, from: u64, to: u64) -> Result<Vec<u32>, AllocError> {
@@ -76,7 +76,8 @@ pub(crate) fn put_prices(
     let from = rounded((longest / 2).max(100));
     let to = at(&figures.between, 50)
         .saturating_mul(10)
-        .max(longest.saturating_mul(4));
+        .max(longest.saturating_mul(4))
+        .max(from.saturating_mul(4));
     let mut rows = Vec::new(alloc);
     rows.push(heading(
         alloc,

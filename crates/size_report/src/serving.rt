@@ -1,6 +1,6 @@
 //! What the program does with a record: it lists its tasks, or sizes some of them.
 
-ghost use Rattle.std.specs.Prelude.{◌≡◌, ◌≤◌, ◌<◌, ◌⊎◌, IfErr, IfOk, OnOk, length, vec_len};
+ghost use Rattle.std.specs.Prelude.{◌≡◌, ◌≤◌, ◌<◌, ◌⊎◌, IfErr, IfOk, OnOk, vec_len};
 ghost use Rattle.std.specs.Io.KnownBytes.{Appends};
 ghost use Rattle.size_report.specs.Faults.{IsOfTask, PrintsWhole, status_of};
 
@@ -10,21 +10,18 @@ use crate::figures::{Figures, regular_period};
 use crate::options::{AskedTask, SizeOptions};
 use crate::picture::{Drawn, drawn_of, picture_of};
 use crate::price::put_prices;
+use crate::reading::read_record;
 use crate::sizing::{PERIOD_LEAST, PERIOD_MOST, SizeRequest, jobs_of, needed_of};
 use crate::task_text::{
     put_chance, put_choices, put_command, put_figures, put_head, put_late_count, put_no_runs,
     put_none, put_not_regular, put_others, put_question,
 };
-use grub_sizing::{Job, first_late, late_count};
-use grub_text::read_once;
 use size_admission::{Proposal, RootDomain, put_proposals};
+use size_jobs::{JobRecord, JobTask};
+use size_least::{Job, first_late, late_count};
 use std::alloc::{AllocError, Global};
 use std::io;
 use std::io::Write;
-use trace_jobs::{JobReader, JobRecord, JobTask};
-
-/// The bytes of a piece.
-const PIECE_BYTES: usize = 65536;
 
 /// What is printed of the tasks so far, and what is proposed for them.
 #[derive(Drop)]
@@ -34,69 +31,6 @@ struct SizeSheet {
 
     /// What is drawn of them, where a picture is asked for.
     drawn: Vec<Drawn>,
-}
-
-/// One piece of an opened trace: whether there may be more.
-fn read_piece<'a, D, N: Fn(&mut D, &mut [u8]) -> io::Result<usize>>(
-    read: &N,
-    path: &'a str,
-    file: &mut D,
-    room: &mut [u8],
-    reader: &mut JobReader,
-) -> Result<bool, SizeFault<'a>>
-    requires callable { N.IsAlwaysCallable read.now }
-    requires has_room { 0 < length room.old }
-{
-    let Ok(count) = read_once(read, file, room) else {
-        return Err(SizeFault::Unreadable { path });
-    };
-    if reader.feed(&room[..count]).is_err() {
-        return Err(SizeFault::NoMemory);
-    }
-    Ok(count > 0 && !reader.is_stopped())
-}
-
-fn read_pieces<'a, D, N: Fn(&mut D, &mut [u8]) -> io::Result<usize>>(
-    read: &N,
-    path: &'a str,
-    file: &mut D,
-    room: &mut [u8],
-    reader: &mut JobReader,
-) -> Result<(), SizeFault<'a>>
-    requires callable { N.IsAlwaysCallable read.now }
-    requires has_room { 0 < length room.old }
-{
-    for _ in 0..u64::MAX {
-        if !read_piece(read, path, file, room, reader)? {
-            return Ok(());
-        }
-    }
-    Err(SizeFault::Unreadable { path })
-}
-
-/// The record of the trace of a name.
-fn read_record<
-    'a,
-    D: Drop,
-    O: Fn(&str) -> io::Result<D>,
-    N: Fn(&mut D, &mut [u8]) -> io::Result<usize>,
->(alloc: Global, opener: &O, read: &N, path: &'a str) -> Result<JobRecord, SizeFault<'a>>
-    requires opens { O.IsAlwaysCallable opener.now }
-    requires read { N.IsAlwaysCallable read.now }
-{
-    let Ok(mut room) = Vec::from_elem(alloc, 0u8, PIECE_BYTES) else {
-        return Err(SizeFault::NoMemory);
-    };
-    let mut file = match opener(path) {
-        Ok(file) => file,
-        Err(_) => return Err(SizeFault::Unreadable { path }),
-    };
-    let mut reader = JobReader::new(alloc);
-    read_pieces(read, path, &mut file, &mut room, &mut reader)?;
-    match reader.end() {
-        Ok(record) => Ok(record),
-        Err((line, flaw)) => Err(SizeFault::Line { path, line, flaw }),
-    }
 }
 
 /// The task of a name: a pid, or the first with this comm.

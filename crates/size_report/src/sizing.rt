@@ -1,12 +1,12 @@
 //! The reservation of a task: the least runtime, and what others cost.
 
 ghost use Rattle.std.specs.Prelude.{◌≡◌, ◌≤◌, ◌<◌, ◌↔◌, All, IfOk, IfSome, IsNone, OnOk};
-ghost use Rattle.grub_sizing.specs.Jobs.{late_of};
+ghost use Rattle.size_least.specs.Jobs.{late_of};
 ghost use Rattle.size_report.specs.Needs.{IsCounted, IsNeeded, IsPriced, less_of, proposed_of};
 
-use grub_sizing::{Job, Late, first_late, late_count, least_runtime};
+use size_jobs::Seen;
+use size_least::{Job, Late, first_late, late_count, least_runtime};
 use std::alloc::{AllocError, Global};
-use trace_jobs::Seen;
 
 /// A runtime, and how many jobs may be late with it.
 #[derive(Clone, Copy)]

@@ -2,14 +2,14 @@
 
 use crate::figures::{Figures, at, share};
 use crate::sizing::{Needed, SizeRequest};
-use grub_sizing::{Job, Late};
-use grub_text::put_number;
 use size_admission::table::{
     TableRow, heading, hundredths_cell, number_cell, put_hundredths, put_table, put_text, text_cell,
 };
 use size_admission::{bandwidth, hundredths};
+use size_jobs::{JobTask, Phase, Seen};
+use size_least::{Job, Late};
 use std::alloc::{AllocError, Global};
-use trace_jobs::{JobTask, Phase, Seen};
+use text_bytes::put_number;
 
 fn put_left_out(
     out: &mut Vec<u8>,

@@ -2,14 +2,14 @@
 use Rattle.std.specs.Prelude.{ℕ, ◌+◌, ℤ, Float, List, codes, option_map, unwrap_or}
 use Rattle.serde_json.specs.Data.{Data, null, number, unsigned, string, object, Members, no_members, put}
 use Rattle.serde_json.specs.Find.{of_float, of_integer}
-use Rattle.deadline_states.specs.declared.history.Slice.{Slice}
-use Rattle.deadline_states.specs.declared.state.TaskState.{TaskState}
-use Rattle.deadline_states.specs.declared.state.TaskState.TheVariants.{Contending, Running, Throttled, NonContending, Inactive}
-use Rattle.timer_rules.specs.declared.observation.ObservedAnswer.{ObservedAnswer}
-use Rattle.timer_rules.specs.declared.observation.ObservedAnswer.TheVariants as answer
-use Rattle.timer_rules.specs.declared.observation.TimerKind.{TimerKind}
-use Rattle.timer_rules.specs.declared.observation.TimerKind.TheVariants.{Block, Replenish}
-use Rattle.timer_rules.specs.declared.observation.Observation.{Observation}
+use Rattle.state_history.specs.declared.history.Slice.{Slice}
+use Rattle.state_history.specs.declared.state.TaskState.{TaskState}
+use Rattle.state_history.specs.declared.state.TaskState.TheVariants.{Contending, Running, Throttled, NonContending, Inactive}
+use Rattle.timer_tasks.specs.declared.observation.ObservedAnswer.{ObservedAnswer}
+use Rattle.timer_tasks.specs.declared.observation.ObservedAnswer.TheVariants as answer
+use Rattle.timer_tasks.specs.declared.observation.TimerKind.{TimerKind}
+use Rattle.timer_tasks.specs.declared.observation.TimerKind.TheVariants.{Block, Replenish}
+use Rattle.timer_tasks.specs.declared.observation.Observation.{Observation}
 
 abbrev pub state_name : TaskState → List ℕ
 state_name Contending = codes "contending"

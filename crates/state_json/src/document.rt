@@ -8,8 +8,8 @@ use crate::event::{
     budget_event, deviation_event, extra_event, micros, running_event, runqueue_event, slice_event,
     task_event, tasks_event, this_event, timer_event,
 };
-use deadline_states::{RecordScene, Slice, SumsSlice, TaskName, is_within, marked_at};
 use serde_json::Value;
+use state_history::{RecordScene, Slice, SumsSlice, TaskName, is_within, marked_at};
 use std::alloc::{AllocError, Global};
 
 /// What is known of a task that no list names.

@@ -6,10 +6,10 @@ ghost use Rattle.serde_json.specs.View.{members_view, view};
 ghost use Rattle.state_json.specs.Events.{answer_name, counter_data, deviation_data, instant_data, moments_of, process_data, process_of, slice_data, state_name, thread_data, timer_args, timer_data, timer_name};
 
 use crate::member::{add, head, one, text, timed};
-use deadline_states::{BudgetSlice, Slice, SumsSlice, TaskState};
 use serde_json::{Map, Value};
+use state_history::{BudgetSlice, Slice, SumsSlice, TaskState};
 use std::alloc::{AllocError, Global};
-use timer_rules::{Observation, ObservedAnswer, TimerKind};
+use timer_tasks::{Observation, ObservedAnswer, TimerKind};
 
 /// The process whose threads are the tasks; those of the runqueues come behind it.
 const TASKS: u64 = 1;

@@ -1,7 +1,7 @@
 -- The bars of a lane.
 use Rattle.std.specs.Prelude.{ℕ, ◌+◌, max, min, nat_lt, ◌&&◌, List, [], ◌∷◌, if◌then◌else◌}
-use Rattle.deadline_states.specs.declared.history.Slice.{Slice}
-use Rattle.deadline_states.specs.declared.span.Span.{Span}
+use Rattle.state_history.specs.declared.history.Slice.{Slice}
+use Rattle.state_history.specs.declared.span.Span.{Span}
 use Rattle.state_picture.specs.declared.bar.StateBar.{StateBar}
 use Rattle.state_picture.specs.declared.frame.PictureFrame.{PictureFrame}
 use Rattle.state_picture.specs.declared.lane.Lane.{Lane}

@@ -1,8 +1,8 @@
 -- The step curve of a sum of a runqueue.
 use Rattle.std.specs.Prelude.{ℕ, ◌^◌, ◌==◌, nat_lt, Bool, List, [], ◌∷◌, ◌++◌, Option, Some, None, option_to_list, slice_index_or, if◌then◌else◌}
-use Rattle.trace_words.specs.declared.quantities.Sums.{Sums}
-use Rattle.deadline_rules.specs.Clock.{less}
-use Rattle.deadline_states.specs.declared.history.SumsSlice.{SumsSlice}
+use Rattle.trace_data.specs.declared.quantities.Sums.{Sums}
+use Rattle.kernel_entity.specs.Clock.{less}
+use Rattle.state_history.specs.declared.history.SumsSlice.{SumsSlice}
 use Rattle.state_picture.specs.declared.curve.Point.{Point}
 use Rattle.state_picture.specs.declared.curve.Sum.{Sum}
 use Rattle.state_picture.specs.declared.curve.Sum.TheVariants.{This, Running, Admitted}

@@ -1,7 +1,7 @@
 -- Lanes: one for each task on each runqueue on which it is, one below the other.
 use Rattle.std.specs.Prelude.{ℕ, ◌+◌, ◌-◌, ◌^◌, min, ◌==◌, ◌&&◌, Bool, true, not, List, [], ◌∷◌, Option, Some, None, filter, map, if◌then◌else◌}
 use Rattle.std.specs.List.{flat_map, list_any, range_with_len}
-use Rattle.deadline_states.specs.declared.history.Slice.{Slice}
+use Rattle.state_history.specs.declared.history.Slice.{Slice}
 use Rattle.state_picture.specs.declared.lane.Lane.{Lane}
 use Rattle.state_picture.specs.declared.lane.LaneRow.{LaneRow}
 use Rattle.state_picture.specs.declared.lane.TheConstants.{TOP, LANE, HEAD}

@@ -1,6 +1,6 @@
 -- What a picture shows: each lane in its row, with its bars and marks, and above the first lane of a runqueue its curves.
 use Rattle.std.specs.Prelude.{List, Option, Some, None, map, take, if◌then◌else◌}
-use Rattle.deadline_states.specs.declared.scene.RecordScene.{RecordScene}
+use Rattle.state_history.specs.declared.scene.RecordScene.{RecordScene}
 use Rattle.state_picture.specs.declared.bar.StateBar.{StateBar}
 use Rattle.state_picture.specs.declared.frame.PictureFrame.{PictureFrame}
 use Rattle.state_picture.specs.declared.frame.TheConstants.{LEFT}

@@ -1,11 +1,11 @@
 -- The kernel's timers as marks.
 use Rattle.std.specs.Prelude.{ℕ, ◌==◌, nat_lt, ◌&&◌, ◌||◌, Bool, true, false, List, [], ◌∷◌, ◌++◌, unwrap_or, is_some, if◌then◌else◌}
-use Rattle.deadline_states.specs.Spans.{is_within}
-use Rattle.timer_rules.specs.declared.observation.ObservedAnswer.{ObservedAnswer}
-use Rattle.timer_rules.specs.declared.observation.ObservedAnswer.TheVariants.{Differs}
-use Rattle.timer_rules.specs.declared.observation.TimerKind.{TimerKind}
-use Rattle.timer_rules.specs.declared.observation.TimerKind.TheVariants.{Block, Replenish}
-use Rattle.timer_rules.specs.declared.observation.Observation.{Observation}
+use Rattle.state_history.specs.Spans.{is_within}
+use Rattle.timer_tasks.specs.declared.observation.ObservedAnswer.{ObservedAnswer}
+use Rattle.timer_tasks.specs.declared.observation.ObservedAnswer.TheVariants.{Differs}
+use Rattle.timer_tasks.specs.declared.observation.TimerKind.{TimerKind}
+use Rattle.timer_tasks.specs.declared.observation.TimerKind.TheVariants.{Block, Replenish}
+use Rattle.timer_tasks.specs.declared.observation.Observation.{Observation}
 use Rattle.state_picture.specs.declared.frame.PictureFrame.{PictureFrame}
 use Rattle.state_picture.specs.declared.lane.Lane.{Lane}
 use Rattle.state_picture.specs.declared.mark.TimerMark.{TimerMark}

@@ -6,7 +6,7 @@ ghost use Rattle.state_picture.specs.Bars.{bar_after, bars_in, end_by};
 
 use crate::frame::{LEFT, PictureFrame};
 use crate::lane::Lane;
-use deadline_states::{Slice, Span, TaskState};
+use state_history::{Slice, Span, TaskState};
 use std::alloc::{AllocError, Global};
 
 /// A state of a task, from one edge of a column to a later one.

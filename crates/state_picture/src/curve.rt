@@ -4,10 +4,10 @@ ghost use Rattle.std.specs.Prelude.{◌≡◌, ◌++◌, IfOk, OnOk, option_to_l
 ghost use Rattle.state_picture.specs.Curves.{admitted_by, bandwidth_in, before_next, curves_by, point_of, points_in};
 
 use crate::frame::PictureFrame;
-use deadline_states::SumsSlice;
+use state_history::SumsSlice;
 use std::alloc::{AllocError, Global};
 use std::marker::Model;
-use trace_words::Sums;
+use trace_data::Sums;
 
 /// Which sum of a runqueue a curve shows.
 #[derive(Clone, Copy)]

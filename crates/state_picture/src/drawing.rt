@@ -10,9 +10,9 @@ use crate::layout::{Grain, LaneLayout, frame_of, layouts_of};
 use crate::mark::{MarkKind, TimerMark};
 use crate::picture::MOST;
 use crate::text::{put, put_length, put_percent, put_seconds, put_seen};
-use deadline_states::{RecordScene, TaskName, TaskState};
+use state_history::{RecordScene, TaskName, TaskState};
 use std::alloc::{AllocError, Global};
-use timer_rules::Observation;
+use timer_tasks::Observation;
 
 /// What a state looks like: the name of its colour, how far below the lane's top its bar begins, and how high it is.
 fn looks_of(state: TaskState) -> (&'static str, u64, u64) {

@@ -3,7 +3,7 @@
 ghost use Rattle.std.specs.Prelude.{◌≡◌, ◌<◌, ◌^◌};
 ghost use Rattle.state_picture.specs.Frames.{height_by, x_of};
 
-use deadline_states::Span;
+use state_history::Span;
 
 /// How many pixels wide the part is that has the time.
 pub const PLOT: u64 = 1024;

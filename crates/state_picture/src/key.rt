@@ -2,7 +2,7 @@
 
 use crate::frame::LEFT;
 use crate::text::{put, put_seconds, put_seen};
-use deadline_states::Span;
+use state_history::Span;
 use std::alloc::{AllocError, Global};
 
 /// How wide a picture is.

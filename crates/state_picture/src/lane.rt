@@ -4,7 +4,7 @@ ghost use Rattle.std.specs.Prelude.{◌≡◌, ◌∷◌, [], ◌++◌, IfOk, On
 ghost use Rattle.state_picture.specs.Lanes.{busy_in, has_lane, is_busy, lanes_at, lanes_in, lanes_on, row_by, rows_in};
 
 use crate::bar::is_in_lane;
-use deadline_states::Slice;
+use state_history::Slice;
 use std::alloc::{AllocError, Global};
 
 /// A task on a runqueue.

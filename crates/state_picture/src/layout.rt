@@ -8,7 +8,7 @@ use crate::curve::{RunqueueCurves, curves_of};
 use crate::frame::PictureFrame;
 use crate::lane::{Lane, LaneRow, rows_of};
 use crate::mark::{TimerMark, all_marks_of};
-use deadline_states::RecordScene;
+use state_history::RecordScene;
 use std::alloc::{AllocError, Global};
 use std::marker::Model;
 

@@ -5,9 +5,9 @@ ghost use Rattle.state_picture.specs.Marks.{all_marks_in, is_marked_by, kind_by,
 
 use crate::frame::PictureFrame;
 use crate::lane::Lane;
-use deadline_states::{is_within, marked_at};
+use state_history::{is_within, marked_at};
 use std::alloc::{AllocError, Global};
-use timer_rules::{Observation, ObservedAnswer, TimerKind};
+use timer_tasks::{Observation, ObservedAnswer, TimerKind};
 
 /// What a mark shows.
 #[derive(Clone, Copy, PartialEq, Eq)]

@@ -5,7 +5,7 @@ ghost use Rattle.std.specs.Prelude.{◌≡◌, ◌<◌, ◌^◌, IfOk, vec_len};
 use crate::drawing::put_drawing;
 use crate::lane::lanes_of;
 use crate::layout::Grain;
-use deadline_states::RecordScene;
+use state_history::RecordScene;
 use std::alloc::{AllocError, Global};
 
 /// A picture is smaller than 4 MiB.

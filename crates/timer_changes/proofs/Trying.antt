@@ -3,7 +3,7 @@ use Rattle.std.proofs.Common.{◌≡◌, ℕ, ◌+◌, ◌<◌, ◌==◌, All, L
 use Rattle.std.proofs.lemmas.List.{map-append, take_more}
 use Rattle.std.proofs.lemmas.List.Elements.{All-append}
 use Rattle.probe_verdict.specs.declared.explanation.Trial.{Trial}
-use Rattle.rule_changes.specs.declared.change.RuleChange.{RuleChange}
+use Rattle.kernel_changes.specs.declared.change.RuleChange.{RuleChange}
 
 abbrev IsAnswer : Trial → Type 0
 IsAnswer t = t.agrees ≡ (t.differ == 0)

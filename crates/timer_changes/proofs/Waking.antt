@@ -1,14 +1,14 @@
 -- A task that wakes.
 use Rattle.std.proofs.Common.{◌≡◌, ℕ, Bool, true, false, not, ◌&&◌, Option, Some, slice_get, refl, sym, ap, ◌∙◌, arith}
-use Rattle.deadline_rules.specs.declared.charge.ChargeLaw.{ChargeLaw}
-use Rattle.deadline_timers.specs.States.{State, replaced}
-use Rattle.deadline_timers.specs.Turns.{runs_of, wakes_of}
+use Rattle.kernel_entity.specs.declared.charge.ChargeLaw.{ChargeLaw}
+use Rattle.timer_play.specs.States.{State, replaced}
+use Rattle.timer_play.specs.Turns.{runs_of, wakes_of}
 use Rattle.timer_changes.specs.Changed.{waking_with}
 use Rattle.timer_changes.specs.Played.{Wakes}
-use Rattle.timer_rules.specs.declared.task.DeadlineTask.{DeadlineTask}
-use Rattle.timer_rules.specs.declared.wake.Waking.{Waking}
-use Rattle.timer_rules.specs.Wakes.{waking_by}
-use Rattle.trace_words.specs.declared.quantities.Budget.{Budget}
+use Rattle.timer_tasks.specs.declared.task.DeadlineTask.{DeadlineTask}
+use Rattle.timer_tasks.specs.declared.wake.Waking.{Waking}
+use Rattle.timer_tasks.specs.Wakes.{waking_by}
+use Rattle.trace_data.specs.declared.quantities.Budget.{Budget}
 
 but_not : (c a : Bool) → c ≡ true → false ≡ (c && a) → (c && not a) ≡ true
 but_not true true h k = grind (arith, k)

@@ -1,20 +1,20 @@
 -- What a line of a record does to a task, with one rule changed.
 use Rattle.std.specs.Prelude.{ℕ, ◌-◌, ◌^◌, ℤ, pos, Bool, true, false, not, ◌&&◌, if◌then◌else◌, Option, Some, None, is_some, option_map, unwrap_or}
 use Rattle.std.specs.Int.{w64, cast_unsigned, int_div_euclid, int_wrapping_mul, int_wrapping_sub}
-use Rattle.trace_words.specs.declared.quantities.Budget.{Budget}
-use Rattle.deadline_rules.specs.Activity.{zero_lag_of}
-use Rattle.deadline_rules.specs.Budget.{charged_of, waking_of, woken_of}
-use Rattle.deadline_rules.specs.Clock.{less}
-use Rattle.deadline_rules.specs.declared.charge.ChargeLaw.{ChargeLaw}
-use Rattle.rule_changes.specs.declared.change.RuleChange.{RuleChange}
-use Rattle.rule_changes.specs.declared.change.RuleChange.TheVariants.{ZeroLagNever, ZeroLagByDeadline, ZeroLagShorter, ZeroLagLonger, UntilDeadline, BudgetSet, OnePeriod, YieldKeeps}
-use Rattle.timer_rules.specs.declared.observation.ObservedAnswer.{ObservedAnswer}
-use Rattle.timer_rules.specs.declared.task.DeadlineTask.{DeadlineTask}
-use Rattle.timer_rules.specs.Activity.{is_awake_of}
-use Rattle.timer_rules.specs.Observations.{answer_by, block_moments_of, replenish_moments_of}
-use Rattle.timer_rules.specs.declared.wake.Waking.{Waking}
-use Rattle.timer_rules.specs.Throttle.{has_budget_of, held_of}
-use Rattle.timer_rules.specs.Wakes.{is_tested_of}
+use Rattle.trace_data.specs.declared.quantities.Budget.{Budget}
+use Rattle.kernel_entity.specs.Activity.{zero_lag_of}
+use Rattle.kernel_entity.specs.Budget.{charged_of, waking_of, woken_of}
+use Rattle.kernel_entity.specs.Clock.{less}
+use Rattle.kernel_entity.specs.declared.charge.ChargeLaw.{ChargeLaw}
+use Rattle.kernel_changes.specs.declared.change.RuleChange.{RuleChange}
+use Rattle.kernel_changes.specs.declared.change.RuleChange.TheVariants.{ZeroLagNever, ZeroLagByDeadline, ZeroLagShorter, ZeroLagLonger, UntilDeadline, BudgetSet, OnePeriod, YieldKeeps}
+use Rattle.timer_tasks.specs.declared.observation.ObservedAnswer.{ObservedAnswer}
+use Rattle.timer_tasks.specs.declared.task.DeadlineTask.{DeadlineTask}
+use Rattle.timer_tasks.specs.Activity.{is_awake_of}
+use Rattle.timer_tasks.specs.Observations.{answer_by, block_moments_of, replenish_moments_of}
+use Rattle.timer_tasks.specs.declared.wake.Waking.{Waking}
+use Rattle.timer_tasks.specs.Throttle.{has_budget_of, held_of}
+use Rattle.timer_tasks.specs.Wakes.{is_tested_of}
 
 -- the changes of the rule of replenishments
 abbrev pub is_of_replenishments : RuleChange → Bool

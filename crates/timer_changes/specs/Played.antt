@@ -3,38 +3,38 @@ use Rattle.std.specs.Prelude.{◌≡◌, ℕ, MatchBool, Bool, true, false, not,
 use Rattle.std.specs.HashMap.{HashMap, get}
 use Rattle.std.specs.declared.hash.BuildHasherDefault.{BuildHasherDefault}
 use Rattle.std.specs.declared.hash.FoldHasher.{FoldHasher}
-use Rattle.trace_words.specs.declared.fixed.Stop.{Stop}
-use Rattle.trace_words.specs.declared.quantities.Budget.{Budget}
-use Rattle.trace_words.specs.declared.fixed.Stop.TheVariants.{Blocks}
-use Rattle.deadline_rules.specs.Budget.{timer_is_ahead}
-use Rattle.deadline_rules.specs.Clock.{plus}
-use Rattle.deadline_rules.specs.Sums.{share_of}
-use Rattle.deadline_rules.specs.declared.charge.ChargeLaw.{ChargeLaw}
-use Rattle.deadline_rules.specs.declared.entity.Entity.{Entity}
-use Rattle.deadline_timers.specs.declared.machine.Owner.{Owner}
-use Rattle.deadline_timers.specs.declared.machine.Owner.TheVariants.{Server, Task}
-use Rattle.deadline_timers.specs.Events.{edited, step_in}
-use Rattle.deadline_timers.specs.Notes.{told_in}
-use Rattle.deadline_timers.specs.States.{State, owner_at, replaced, runqueue_for}
-use Rattle.deadline_timers.specs.Turns.{at_run_of, runs_of, wakes_of}
-use Rattle.rule_changes.specs.Charges.{cost_with}
-use Rattle.rule_changes.specs.declared.change.RuleChange.{RuleChange}
-use Rattle.rule_changes.specs.declared.change.RuleChange.TheVariants.{PastRunsOn, AdmissionTakesNothing, ChangeFreesNothing, EndFreesNothing, LeavingFreesNothing}
+use Rattle.trace_data.specs.declared.fixed.Stop.{Stop}
+use Rattle.trace_data.specs.declared.quantities.Budget.{Budget}
+use Rattle.trace_data.specs.declared.fixed.Stop.TheVariants.{Blocks}
+use Rattle.kernel_entity.specs.Budget.{timer_is_ahead}
+use Rattle.kernel_entity.specs.Clock.{plus}
+use Rattle.kernel_entity.specs.Sums.{share_of}
+use Rattle.kernel_entity.specs.declared.charge.ChargeLaw.{ChargeLaw}
+use Rattle.kernel_entity.specs.declared.entity.Entity.{Entity}
+use Rattle.timer_play.specs.declared.machine.Owner.{Owner}
+use Rattle.timer_play.specs.declared.machine.Owner.TheVariants.{Server, Task}
+use Rattle.timer_play.specs.Events.{edited, step_in}
+use Rattle.timer_play.specs.Notes.{told_in}
+use Rattle.timer_play.specs.States.{State, owner_at, replaced, runqueue_for}
+use Rattle.timer_play.specs.Turns.{at_run_of, runs_of, wakes_of}
+use Rattle.kernel_changes.specs.Charges.{cost_with}
+use Rattle.kernel_changes.specs.declared.change.RuleChange.{RuleChange}
+use Rattle.kernel_changes.specs.declared.change.RuleChange.TheVariants.{PastRunsOn, AdmissionTakesNothing, ChangeFreesNothing, EndFreesNothing, LeavingFreesNothing}
 use Rattle.timer_changes.specs.Changed.{charged_with, moved_as_wake, start_answer_by, waking_with}
 use Rattle.timer_changes.specs.declared.play.Play.{Play}
-use Rattle.timer_lines.specs.declared.event.KeptEvent.{KeptEvent}
-use Rattle.timer_lines.specs.declared.event.KeptEvent.TheVariants.{Idles, Switched, Cancelled, ZeroLagFired}
-use Rattle.timer_lines.specs.declared.event.KeptLine.{KeptLine}
-use Rattle.timer_lines.specs.declared.lines.TaskLines.{TaskLines}
-use Rattle.timer_lines.specs.declared.lines.TaskNote.{TaskNote}
-use Rattle.timer_rules.specs.declared.activity.Activity.{Activity}
-use Rattle.timer_rules.specs.declared.activity.Activity.TheVariants.{NonContending, Inactive}
-use Rattle.timer_rules.specs.declared.observation.Observation.{Observation}
-use Rattle.timer_rules.specs.declared.observation.ObservedAnswer.{ObservedAnswer}
-use Rattle.timer_rules.specs.declared.observation.ObservedAnswer.TheVariants.{Differs}
-use Rattle.timer_rules.specs.declared.task.DeadlineTask.{DeadlineTask}
-use Rattle.timer_rules.specs.Tasks.{refilled_of, replenished_by}
-use Rattle.timer_rules.specs.Wakes.{waking_by}
+use Rattle.timer_record.specs.declared.event.KeptEvent.{KeptEvent}
+use Rattle.timer_record.specs.declared.event.KeptEvent.TheVariants.{Idles, Switched, Cancelled, ZeroLagFired}
+use Rattle.timer_record.specs.declared.event.KeptLine.{KeptLine}
+use Rattle.timer_record.specs.declared.lines.TaskLines.{TaskLines}
+use Rattle.timer_record.specs.declared.lines.TaskNote.{TaskNote}
+use Rattle.timer_tasks.specs.declared.activity.Activity.{Activity}
+use Rattle.timer_tasks.specs.declared.activity.Activity.TheVariants.{NonContending, Inactive}
+use Rattle.timer_tasks.specs.declared.observation.Observation.{Observation}
+use Rattle.timer_tasks.specs.declared.observation.ObservedAnswer.{ObservedAnswer}
+use Rattle.timer_tasks.specs.declared.observation.ObservedAnswer.TheVariants.{Differs}
+use Rattle.timer_tasks.specs.declared.task.DeadlineTask.{DeadlineTask}
+use Rattle.timer_tasks.specs.Tasks.{refilled_of, replenished_by}
+use Rattle.timer_tasks.specs.Wakes.{waking_by}
 
 -- by the same rule, and of the same record
 abbrev pub GoesOn : Play → Play → Type 0

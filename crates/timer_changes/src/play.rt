@@ -2,29 +2,29 @@
 
 ghost use Rattle.std.specs.Prelude.{◌≡◌, ◌≢◌, ℕ, ℤ, not, nat_eq, IsTrue, Some, None, OnOk, count_by, drop, slice_get};
 ghost use Rattle.std.specs.HashMap.{get};
-ghost use Rattle.deadline_timers.specs.Events.{step_in};
-ghost use Rattle.deadline_timers.specs.Playing.{left_after};
-ghost use Rattle.deadline_timers.specs.States.{owner_at, state_of};
-ghost use Rattle.deadline_timers.specs.Turns.{runs_of};
+ghost use Rattle.timer_play.specs.Events.{step_in};
+ghost use Rattle.timer_play.specs.Playing.{left_after};
+ghost use Rattle.timer_play.specs.States.{owner_at, state_of};
+ghost use Rattle.timer_play.specs.Turns.{runs_of};
 ghost use Rattle.timer_changes.specs.Changed.{block_difference_by, is_of_replenishments};
 ghost use Rattle.timer_changes.specs.Played.{GoesOn, Wakes, differs_by, firing_by, moving_by, quieted, refilled_at_once, running_by, running_on, served_on, starting_by, switching_by, taking_after, taking_by, told_until_by};
-ghost use Rattle.timer_rules.specs.declared.observation.ObservedAnswer.{ObservedAnswer};
-ghost use Rattle.timer_rules.specs.Observations.{block_answer_of};
+ghost use Rattle.timer_tasks.specs.declared.observation.ObservedAnswer.{ObservedAnswer};
+ghost use Rattle.timer_tasks.specs.Observations.{block_answer_of};
 
 use crate::rules::{
     block_difference, fired_by, moved_by, ran_by, refilled_by, start_answer, woken_by,
 };
-use deadline_rules::{ChargeLaw, has_timer_ahead, share};
-use deadline_timers::{Owner, RecordSetup, TimedMachine};
-use rule_changes::RuleChange;
+use kernel_changes::RuleChange;
+use kernel_entity::{ChargeLaw, has_timer_ahead, share};
 use std::alloc::AllocError;
 use std::collections::HashMap;
-use timer_lines::{KeptEvent, KeptLine, KeptLines, TaskNote};
-use timer_rules::{
+use timer_play::{Owner, RecordSetup, TimedMachine};
+use timer_record::{KeptEvent, KeptLine, KeptLines, TaskNote};
+use timer_tasks::{
     Activity, DeadlineTask, Observation, ObservedAnswer, block_answer, charged_at, is_awake,
     seen_running, waking_of,
 };
-use trace_words::Stop;
+use trace_data::Stop;
 
 /// A play with one rule changed. It is that of the machine but for the lines that the rule is about.
 #[derive(Drop)]
@@ -235,7 +235,7 @@ impl Play {
     }
 
     /// A task is charged.
-    #[tactic(auto, unfolding(deadline_timers::specs::Turns::at_run_of))]
+    #[tactic(auto, unfolding(timer_play::specs::Turns::at_run_of))]
     fn run(
         &mut self,
         lines: &KeptLines,
@@ -431,7 +431,7 @@ impl Play {
     }
 
     /// `dl_task_timer` fires.
-    #[tactic(auto, unfolding(deadline_timers::specs::Events::edited))]
+    #[tactic(auto, unfolding(timer_play::specs::Events::edited))]
     fn fire(&mut self, lines: &KeptLines, kept: KeptLine, timer: u32) -> Result<(), AllocError>
         ensures machine { IsTrue (not (is_of_replenishments self.old.change)) → OnOk result
             (state_of self.new.machine ≡ firing_by (owner_at timer (state_of self.old.machine))

@@ -1,21 +1,21 @@
 //! What a line of a record does to a task, with one rule changed.
 
 ghost use Rattle.std.specs.Prelude.{◌≡◌, Some, not, IsTrue};
-ghost use Rattle.deadline_rules.specs.Budget.{replenished_of};
-ghost use Rattle.rule_changes.specs.Charges.{cost_with};
+ghost use Rattle.kernel_entity.specs.Budget.{replenished_of};
+ghost use Rattle.kernel_changes.specs.Charges.{cost_with};
 ghost use Rattle.timer_changes.specs.Changed.{block_difference_by, blocks_by, charged_with, is_of_replenishments, moved_as_wake, start_answer_by, waits_by, waking_with, with_period_of, with_wait_of};
-ghost use Rattle.timer_rules.specs.Tasks.{refilled_of, refills_of, replenished_by};
+ghost use Rattle.timer_tasks.specs.Tasks.{refilled_of, refills_of, replenished_by};
 
-use deadline_rules::{
+use kernel_changes::{RuleChange, cost_by, enqueue_by};
+use kernel_entity::{
     ChargeLaw, ChargedRunqueue, Entity, QUEUED, REPLENISH, WAKEUP, charged, replenished, waking,
     woken, zero_lag,
 };
-use rule_changes::{RuleChange, cost_by, enqueue_by};
-use timer_rules::{
+use timer_tasks::{
     DeadlineTask, ObservedAnswer, Throttling, Waking, answer_of, block_moments, is_awake,
     is_tested, refills, replenish_moments, throttled,
 };
-use trace_words::{Budget, Donor, Enqueued, Parameters, Sums};
+use trace_data::{Budget, Donor, Enqueued, Parameters, Sums};
 
 /// A number that stands for an entity's address.
 const OWN: u64 = 1;

@@ -3,12 +3,12 @@
 ghost use Rattle.std.specs.Prelude.{◌≡◌, ◌==◌, map, All, IfOk};
 
 use crate::play::Play;
-use deadline_timers::{RecordSetup, RecordStart, TimedMachine};
+use kernel_changes::RuleChange;
 use probe_verdict::Trial;
-use rule_changes::RuleChange;
 use std::alloc::{AllocError, Global};
 use std::collections::HashMap;
-use timer_lines::KeptLines;
+use timer_play::{RecordSetup, RecordStart, TimedMachine};
+use timer_record::KeptLines;
 
 /// The changes that timers can show.
 pub const CHANGES: [RuleChange; 33] = [

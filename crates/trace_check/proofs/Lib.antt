@@ -1,1 +1,3 @@
+pub mod HeadLemmas
 mod MessageLemmas
+mod ReadLemmas

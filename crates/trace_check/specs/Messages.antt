@@ -1,10 +1,16 @@
 -- The line that the program writes for each fault: the file and the line it is at, its number, its name and what it tells.
 use Rattle.std.specs.Prelude.{ℕ, List, ◌++◌, codes, decimal}
-use Rattle.trace_words.specs.declared.line.Flaw.{Flaw}
-use Rattle.trace_words.specs.declared.line.Flaw.TheVariants.{WrongClock, LostEvents, TooLong, BadTraceLine}
-use Rattle.trace_words.specs.declared.note.Kernel.{Kernel}
+use Rattle.trace_data.specs.declared.line.Flaw.{Flaw}
+use Rattle.trace_data.specs.declared.line.Flaw.TheVariants.{WrongClock, LostEvents, TooLong, BadTraceLine}
+use Rattle.trace_data.specs.declared.note.Kernel.{Kernel}
+use Rattle.kernel_versions.specs.Releases.{tried_by_probes, tried_by_timers}
+use Rattle.trace_check.specs.declared.fault.Check.{Check}
+use Rattle.trace_check.specs.declared.fault.Check.TheVariants.{Probes, Timers}
 use Rattle.trace_check.specs.declared.fault.Fault.{Fault}
 use Rattle.trace_check.specs.declared.fault.Fault.TheVariants as fault
+use Rattle.trace_check.specs.declared.fault.Uncompared.{Uncompared}
+use Rattle.trace_check.specs.declared.fault.Uncompared.TheVariants.{NoTask, NoBlock, Left, NoValue}
+use Rattle.timer_verdict.specs.declared.omitted.LeftOut.{LeftOut}
 
 -- of a file
 abbrev pub file_place : List ℕ → List ℕ
@@ -35,6 +41,28 @@ abbrev pub kernel_line : List ℕ → Kernel → List ℕ
 kernel_line path kernel =
     codes "grubtrace: " ++ (path ++ (codes ": 60 NoSums kernel " ++ (decimal kernel.major ++ (codes "." ++ (decimal kernel.minor ++ (codes "." ++ (decimal kernel.patch ++ codes "\n")))))))
 
+-- each block and timer is left out
+abbrev pub left_out_line : List ℕ → LeftOut → List ℕ
+left_out_line path left =
+    codes "grubtrace: " ++ (path ++ (codes ": 61 NothingCompared ends " ++ (decimal left.ends ++ (codes ", unknown " ++ (decimal left.unknown ++ (codes ", edges " ++ (decimal left.edges ++ (codes ", gaps " ++ (decimal left.gaps ++ codes "\n")))))))))
+
+-- nothing was compared
+abbrev pub uncompared_line : List ℕ → Uncompared → List ℕ
+uncompared_line path NoTask = file_place path ++ codes "61 NothingCompared no task of SCHED_DEADLINE\n"
+uncompared_line path NoBlock = file_place path ++ codes "61 NothingCompared no task blocks\n"
+uncompared_line path NoValue = file_place path ++ codes "61 NothingCompared each value is shown once\n"
+uncompared_line path (Left left) = left_out_line path left
+
+-- the releases that were tried
+abbrev pub tried_by : Check → List ℕ
+tried_by Probes = tried_by_probes
+tried_by Timers = tried_by_timers
+
+-- so much differs, of a kernel whose release was not tried
+abbrev pub untried_place : List ℕ → Kernel → ℕ → List ℕ
+untried_place path kernel differ =
+    codes "grubtrace: " ++ (path ++ (codes ": 62 UntriedKernel kernel " ++ (decimal kernel.major ++ (codes "." ++ (decimal kernel.minor ++ (codes "." ++ (decimal kernel.patch ++ (codes ", " ++ (decimal differ ++ codes " differ; tried: ")))))))))
+
 -- of the trace at a path
 abbrev pub fault_line : List ℕ → Fault → List ℕ
 fault_line path (fault.Line line flaw) = line_place path line ++ flaw_told flaw
@@ -46,6 +74,8 @@ fault_line path (fault.BadNote line) = line_place path line ++ codes "55 BadTrac
 fault_line path (fault.FileExists made) = file_place made.now ++ codes "56 FileExists\n"
 fault_line path (fault.Changed line) = line_place path line ++ codes "59 Changed rt\n"
 fault_line path (fault.NoSums kernel) = kernel_line path kernel
+fault_line path (fault.NothingCompared why) = uncompared_line path why
+fault_line path (fault.UntriedKernel kernel check differ) = untried_place path kernel differ ++ (tried_by check ++ codes "\n")
 fault_line path fault.OutsideRecord = codes "error: --from and --to name no part of the record\n"
 fault_line path fault.Write = codes "grubtrace: 45 WriteFault\n"
 fault_line path fault.Unreadable = file_place path ++ codes "46 ReadFault\n"

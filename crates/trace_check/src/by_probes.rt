@@ -1,18 +1,25 @@
 //! The verdict by lines of probes.
 
-use crate::by_timers::timer_verdict;
+ghost use Rattle.std.specs.Prelude.{◌≡◌, IfOk};
+ghost use Rattle.trace_check.specs.Uncompared.{unvalued_of};
+
+use crate::by_timers::timer_states;
 use crate::check::{CheckRequest, Verdict};
-use crate::fault::Fault;
+use crate::fault::{Check, Fault, Uncompared};
 use crate::gathering::Gathering;
+use crate::probe_states::probe_states;
 use crate::probes::Played;
 use crate::showing::nothing_shown;
+use crate::untried::of_release;
 use crate::why::tried;
-use check_settings::CheckOptions;
-use deadline_machine::ProbedMachine;
+use check_report::{CheckReport, ProbeAnswers, add_probes};
+use probe_findings::KindCounts;
 use probe_verdict::{
-    NamedTask, ProbeHeading, TABLE_HEAD, put_answer, put_explanation, put_heading,
+    NamedTask, ProbeHeading, TABLE_HEAD, has_values, put_answer, put_explanation, put_heading,
+    put_unfollowed,
 };
 use std::alloc::{AllocError, Global};
+use trace_options::CheckOptions;
 
 /// The verdict by lines of probes, unless timers are to be compared; none where the trace has none.
 pub(crate) fn verdict_by_probes<'o>(
@@ -24,48 +31,69 @@ pub(crate) fn verdict_by_probes<'o>(
     if options.by_timers {
         return Ok(None);
     }
-    if gathering.end_probes().is_err() {
-        return Err(Fault::NoMemory);
-    }
-    match probe_verdict(alloc, wanted, options, gathering) {
-        Ok(Some(verdict)) => match with_states(alloc, wanted, options, gathering, verdict) {
-            Ok(verdict) => Ok(Some(verdict)),
-            Err(fault) => Err(fault),
-        },
-        Ok(None) => Ok(None),
-        Err(AllocError) => Err(Fault::NoMemory),
+    match probe_verdict(alloc, wanted, options, gathering)? {
+        Some(verdict) => {
+            let kernel = gathering.head.kernel_by(options);
+            let differ = gathering.probes.differ();
+            let verdict = of_release(alloc, verdict, Check::Probes, kernel, differ)?;
+            Ok(Some(with_states(alloc, wanted, options, gathering, verdict)?))
+        }
+        None => Ok(None),
     }
 }
 
-/// A verdict by probes, with the states that the lines of timers beside them show.
+/// A verdict by probes, with the states that lines of timers beside them show, or else the lines of probes.
 fn with_states<'o>(
     alloc: Global,
     wanted: CheckRequest<'_>,
     options: &CheckOptions<'o>,
     gathering: &mut Gathering<'o>,
     mut verdict: Verdict,
-) -> Result<Verdict, Fault<'o>> {
-    if wanted.json.is_none() && wanted.picture.is_none() {
-        return Ok(verdict);
+) -> Result<Verdict, Fault<'o>>
+    ensures agrees { IfOk result (λ v. v.agrees ≡ verdict.agrees) }
+    ensures text { IfOk result (λ v. v.text ≡ verdict.text) }
+{
+    if wanted.shows() {
+        verdict.shown = match timer_states(alloc, wanted, options, gathering)? {
+            Some(states) => states.documents,
+            None => probe_states(alloc, wanted, options, gathering)?,
+        };
     }
-    let by_timers = timer_verdict(alloc, wanted, options, gathering)?;
-    verdict.shown = by_timers.shown;
     Ok(verdict)
 }
 
-/// The verdict by lines of probes; none where the trace has none.
-fn probe_verdict(
+/// The verdict by lines of probes; none where the trace has none, and a fault where not one value was compared.
+fn probe_verdict<'o>(
     alloc: Global,
     wanted: CheckRequest<'_>,
     options: &CheckOptions<'_>,
-    gathering: &Gathering<'_>,
-) -> Result<Option<Verdict>, AllocError> {
-    match &gathering.probes.played {
-        None => Ok(None),
-        Some(played) => {
-            let verdict = verdict_by(alloc, wanted, options, gathering, played)?;
-            Ok(Some(verdict))
-        }
+    gathering: &Gathering<'o>,
+) -> Result<Option<Verdict>, Fault<'o>> {
+    let Some(played) = &gathering.probes.played else {
+        return Ok(None);
+    };
+    let counts = gathering.probes.counts(played);
+    let shows_task = gathering.probes.shows_task;
+    match uncompared(
+        gathering.probes.agrees(played),
+        has_values(&counts),
+        shows_task,
+    ) {
+        Some(why) => Err(Fault::NothingCompared { why }),
+        None => Ok(Some(verdict_by(alloc, wanted, options, gathering, played)?)),
+    }
+}
+
+/// Why nothing was compared, of a record that breaks no law and has no value that differs, with a task of the class or none.
+fn uncompared(agrees: bool, has_values: bool, shows_task: bool) -> Option<Uncompared>
+    ensures { result ≡ unvalued_of agrees has_values shows_task }
+{
+    if !agrees || has_values {
+        None
+    } else if shows_task {
+        Some(Uncompared::NoValue)
+    } else {
+        Some(Uncompared::NoTask)
     }
 }
 
@@ -81,41 +109,54 @@ fn verdict_by(
     let heading = ProbeHeading {
         trace: wanted.path.as_bytes(),
         kernel: gathering.head.kernel_by(options),
+        release: gathering.head.release_by(options),
         domain: &domain,
         tasks: &tasks,
         lines: played.lines,
         from: played.from,
         to: played.to,
         lost: gathering.lost,
-        takes_sums: !gathering.probes.shape.has_dequeues,
+        takes_sums: !played.rules.has_dequeues,
     };
-    let mut text = probe_text(alloc, heading, &played.machine)?;
-    if options.explains {
-        put_probe_explanation(alloc, &mut text, options, gathering, &played.machine)?;
-    }
+    let counts = gathering.probes.counts(played);
+    let agrees = gathering.probes.agrees(played);
+    let text = probe_text(alloc, heading, gathering, played, &counts)?;
     let table = probe_table(alloc, wanted, &gathering.probes.rows)?;
+    let mut report = CheckReport::new(alloc);
+    let answers = ProbeAnswers {
+        heading,
+        counts: &counts,
+        first: gathering.probes.first(played),
+        broken: gathering.probes.broken(),
+        marks: gathering.probes.marks.counts(),
+    };
+    add_probes(alloc, &mut report, answers)?;
     Ok(Verdict {
-        agrees: played.machine.agrees(),
+        agrees,
+        keeps_laws: true,
         text,
         table,
         shown: Some(nothing_shown(alloc)),
+        report,
+        reported: Vec::new(alloc),
     })
 }
 
-/// Appends which changed rule explains what probes show, where they differ.
-fn put_probe_explanation(
+/// Appends which changed rule explains what probes show, where they differ and that is asked for.
+pub(crate) fn put_probe_explanation(
     alloc: Global,
     out: &mut Vec<u8>,
     options: &CheckOptions<'_>,
     gathering: &Gathering<'_>,
-    machine: &ProbedMachine,
 ) -> Result<(), AllocError> {
-    if machine.agrees() {
+    let Some(played) = &gathering.probes.played else {
+        return Ok(());
+    };
+    if !options.explains {
         return Ok(());
     }
     let trials = tried(alloc, options, gathering)?;
-    let counts = machine.counts();
-    put_explanation(alloc, out, false, &counts, &trials)
+    put_explanation(alloc, out, false, &gathering.probes.counts(played), &trials)
 }
 
 /// The names of the tasks that probes show in the class.
@@ -131,18 +172,32 @@ fn class_names(alloc: Global, gathering: &Gathering<'_>) -> Result<Vec<NamedTask
 fn probe_text(
     alloc: Global,
     heading: ProbeHeading<'_>,
-    machine: &ProbedMachine,
+    gathering: &Gathering<'_>,
+    played: &Played,
+    counts: &KindCounts,
 ) -> Result<Vec<u8>, AllocError> {
     let mut text = Vec::new(alloc);
-    let counts = machine.counts();
-    put_heading(alloc, &mut text, heading, &counts, &machine.rules())?;
+    put_heading(
+        alloc,
+        &mut text,
+        heading,
+        counts,
+        &played.player.run().rules(),
+    )?;
+    let unfollowed = gathering
+        .probes
+        .look
+        .unfollowed(alloc, played.player.run())?;
+    put_unfollowed(alloc, &mut text, &unfollowed)?;
+    gathering.probes.marks.put(alloc, &mut text)?;
     put_answer(
         alloc,
         &mut text,
         heading.tasks,
-        &counts,
-        machine.first(),
-        machine.broken(),
+        heading.kernel,
+        counts,
+        gathering.probes.first(played),
+        gathering.probes.broken(),
     )?;
     Ok(text)
 }

@@ -1,32 +1,60 @@
 //! The verdict by timers.
 
-use crate::check::{CheckRequest, Verdict};
-use crate::fault::Fault;
-use crate::gathering::Gathering;
-use crate::showing::{TimerPlay, shown_of};
-use crate::why::put_timer_explanation;
-use check_settings::CheckOptions;
-use deadline_timers::{RecordSetup, RecordStart, setup_of};
-use deadline_verdict::{TimerHeading, judge, put_table, put_verdict as put_timers};
-use std::alloc::{AllocError, Global};
-use timer_lines::{KeptLines, OpenRecord};
+ghost use Rattle.std.specs.Prelude.{◌≡◌, IfOk, is_none};
+ghost use Rattle.trace_check.specs.Uncompared.{uncompared_of};
 
-/// The verdict by timers.
-pub(crate) fn timer_verdict<'o>(
+use crate::check::{CheckRequest, Verdict};
+use crate::fault::{Check, Fault, Uncompared};
+use crate::gathering::Gathering;
+use crate::showing::{ShownStates, TimerPlay, shown_of};
+use crate::untried::of_release;
+use crate::why::put_timer_explanation;
+use check_report::{CheckReport, TimerAnswers, add_timers};
+use std::alloc::{AllocError, Global};
+use timer_play::{RecordSetup, RecordStart, play, setup_of};
+use timer_record::KeptLines;
+use timer_tasks::ObservedAnswer;
+use timer_verdict::{
+    Judged, LeftOut, TimerHeading, judge, judged_of, left_out, put_table, put_verdict as put_timers,
+};
+use trace_options::CheckOptions;
+
+/// A record of timers, with what its play begins with.
+#[derive(Drop)]
+struct TimedRecord {
+    setup: RecordSetup,
+    start: RecordStart,
+    lines: KeptLines,
+
+    /// The name of each task of the lines.
+    names: Vec<Vec<u8>>,
+}
+
+impl TimedRecord {
+    fn play<'a>(&'a self, judged: &'a Judged) -> TimerPlay<'a> {
+        TimerPlay {
+            setup: self.setup,
+            start: &self.start,
+            lines: &self.lines,
+            names: &self.names,
+            judged,
+        }
+    }
+}
+
+/// The record that was gathered; a fault where no timer was started, or the kernel's sums are not told.
+fn timed_record<'o>(
     alloc: Global,
-    wanted: CheckRequest<'_>,
     options: &CheckOptions<'o>,
     gathering: &mut Gathering<'o>,
-) -> Result<Verdict, Fault<'o>> {
+) -> Result<TimedRecord, Fault<'o>> {
     let Some(record) = gathering.take_record() else {
         return Err(Fault::NoTimers);
     };
     if !gathering.has_timers() {
         return Err(Fault::NoTimers);
     }
-    let Ok(start) = gathering.head.start(alloc, options) else {
-        return Err(Fault::NoMemory);
-    };
+    let start = gathering.head.start(alloc, options)?;
     let setup = match setup_of(gathering.head.kernels(options), &start) {
         Ok(setup) => setup,
         Err(missing) => {
@@ -35,10 +63,90 @@ pub(crate) fn timer_verdict<'o>(
             });
         }
     };
-    match judged_verdict(alloc, wanted, options, gathering, record, &start, setup) {
-        Ok(verdict) => Ok(verdict),
-        Err(AllocError) => Err(Fault::NoMemory),
+    let lines = record.finish()?;
+    let names = names_of(alloc, gathering, &lines)?;
+    Ok(TimedRecord {
+        setup,
+        start,
+        lines,
+        names,
+    })
+}
+
+/// The verdict by timers: a fault where not one block or timer was compared.
+pub(crate) fn timer_verdict<'o>(
+    alloc: Global,
+    wanted: CheckRequest<'_>,
+    options: &CheckOptions<'o>,
+    gathering: &mut Gathering<'o>,
+) -> Result<Verdict, Fault<'o>> {
+    let timed = timed_record(alloc, options, gathering)?;
+    let judged = judge(
+        alloc,
+        timed.setup,
+        &timed.start,
+        &timed.lines,
+        options.within,
+    )?;
+    let left = left_out(&judged.outcome.observations);
+    if let Some(why) = uncompared(left, timed.lines.tasks.len()) {
+        return Err(Fault::NothingCompared { why });
     }
+    let verdict = told_verdict(alloc, wanted, options, gathering, timed.play(&judged))?;
+    let kernel = gathering.head.kernel_by(options);
+    of_release(alloc, verdict, Check::Timers, kernel, differ(&judged))
+}
+
+/// How many blocks and timers differ.
+fn differ(judged: &Judged) -> u64 {
+    let mut differ = 0u64;
+    for seen in judged.outcome.observations.as_slice() {
+        if matches!(seen.answer, ObservedAnswer::Differs) {
+            differ = differ.wrapping_add(1);
+        }
+    }
+    differ
+}
+
+/// The states that lines of timers show, beside a verdict of others; none where they show none.
+pub(crate) fn timer_states<'o>(
+    alloc: Global,
+    wanted: CheckRequest<'_>,
+    options: &CheckOptions<'o>,
+    gathering: &mut Gathering<'o>,
+) -> Result<Option<ShownStates>, AllocError> {
+    match timed_record(alloc, options, gathering) {
+        Ok(timed) => {
+            let outcome = play(
+                alloc,
+                timed.setup,
+                &timed.start,
+                &timed.lines,
+                options.within,
+                None,
+            )?;
+            let judged = judged_of(outcome);
+            Ok(Some(ShownStates {
+                documents: shown_of(alloc, wanted, timed.play(&judged), None)?,
+            }))
+        }
+        Err(Fault::NoMemory) => Err(AllocError),
+        Err(_) => Ok(None),
+    }
+}
+
+/// Why nothing was compared, of a record of so many tasks, where all blocks and timers are left out.
+fn uncompared(left: Option<LeftOut>, tasks: usize) -> Option<Uncompared>
+    ensures { result ≡ uncompared_of left tasks }
+{
+    let left = left?;
+    if tasks == 0 {
+        return Some(Uncompared::NoTask);
+    }
+    if left.ends == 0 && left.unknown == 0 && left.edges == 0 && left.gaps == 0 {
+        return Some(Uncompared::NoBlock);
+    }
+    Some(Uncompared::Left(left))
 }
 
 /// The names of the tasks of a record, as the trace tells them.
@@ -54,28 +162,6 @@ fn names_of(
     Ok(names)
 }
 
-fn judged_verdict(
-    alloc: Global,
-    wanted: CheckRequest<'_>,
-    options: &CheckOptions<'_>,
-    gathering: &Gathering<'_>,
-    record: OpenRecord,
-    start: &RecordStart,
-    setup: RecordSetup,
-) -> Result<Verdict, AllocError> {
-    let lines = record.finish()?;
-    let names = names_of(alloc, gathering, &lines)?;
-    let judged = judge(alloc, setup, start, &lines, options.within)?;
-    let play = TimerPlay {
-        setup,
-        start,
-        lines: &lines,
-        names: &names,
-        judged: &judged,
-    };
-    told_verdict(alloc, wanted, options, gathering, play)
-}
-
 /// What is told of a record that was played.
 fn told_verdict(
     alloc: Global,
@@ -83,32 +169,58 @@ fn told_verdict(
     options: &CheckOptions<'_>,
     gathering: &Gathering<'_>,
     play: TimerPlay<'_>,
-) -> Result<Verdict, AllocError> {
-    let text = timer_text(alloc, wanted, options, gathering, play)?;
-    let table = timer_table(alloc, wanted, play)?;
-    let shown = shown_of(alloc, wanted, play)?;
-    Ok(Verdict {
-        agrees: play.judged.first.is_none(),
-        text,
-        table,
-        shown,
-    })
-}
-
-fn timer_text(
-    alloc: Global,
-    wanted: CheckRequest<'_>,
-    options: &CheckOptions<'_>,
-    gathering: &Gathering<'_>,
-    play: TimerPlay<'_>,
-) -> Result<Vec<u8>, AllocError> {
+) -> Result<Verdict, AllocError>
+    ensures { IfOk result (λ v. v.agrees ≡ is_none play.entry.judged.now.first) }
+{
     let heading = TimerHeading {
         trace: wanted.path.as_bytes(),
         kernel: gathering.head.kernel_by(options),
+        release: gathering.head.release_by(options),
         domain: &play.start.domain,
         total_bw: gathering.head.total_bw,
         within: options.within,
     };
+    let text = timer_text(alloc, heading, options, play)?;
+    let table = timer_table(alloc, wanted, play)?;
+    let first = play
+        .judged
+        .first
+        .and_then(|place| play.judged.outcome.observations.get(place));
+    let shown = shown_of(alloc, wanted, play, first)?;
+    let report = timer_report(alloc, heading, play)?;
+    Ok(Verdict {
+        agrees: play.judged.first.is_none(),
+        keeps_laws: true,
+        text,
+        table,
+        shown,
+        report,
+        reported: Vec::new(alloc),
+    })
+}
+
+fn timer_report(
+    alloc: Global,
+    heading: TimerHeading<'_>,
+    play: TimerPlay<'_>,
+) -> Result<CheckReport, AllocError> {
+    let mut report = CheckReport::new(alloc);
+    let answers = TimerAnswers {
+        heading,
+        lines: play.lines,
+        names: play.names,
+        judged: play.judged,
+    };
+    add_timers(alloc, &mut report, answers)?;
+    Ok(report)
+}
+
+fn timer_text(
+    alloc: Global,
+    heading: TimerHeading<'_>,
+    options: &CheckOptions<'_>,
+    play: TimerPlay<'_>,
+) -> Result<Vec<u8>, AllocError> {
     let mut text = Vec::new(alloc);
     put_timers(
         alloc,

@@ -1,20 +1,27 @@
 //! A record is read, played, and judged.
 
-ghost use Rattle.std.specs.Prelude.{◌≡◌, ◌⊎◌};
-ghost use Rattle.trace_check.specs.declared.fault.TheConstants.{STATUS_DIFFERS, STATUS_FILE, STATUS_SYSTEM, STATUS_USAGE};
+ghost use Rattle.std.specs.Prelude.{◌≡◌, ◌⊎◌, IsOkAnd, IsTrue, false};
+ghost use Rattle.trace_check.specs.declared.fault.TheConstants.{STATUS_DIFFERS, STATUS_FILE, STATUS_LAW, STATUS_SYSTEM, STATUS_USAGE};
 
-use crate::by_probes::verdict_by_probes;
+use crate::by_laws::{laws_alone, with_laws};
+use crate::by_probes::{put_probe_explanation, verdict_by_probes};
 use crate::by_timers::timer_verdict;
-use crate::fault::{Fault, STATUS_DIFFERS, STATUS_SYSTEM};
+use crate::evidence::Sought;
+use crate::fault::{Fault, STATUS_DIFFERS, STATUS_LAW, STATUS_SYSTEM};
 use crate::files::{first_there, make_all};
 use crate::gathering::Gathering;
 use crate::reading::{faultless, read_trace};
+use crate::reports::{put_evidence_of, with_report};
 use crate::showing::Documents;
-use check_settings::{CheckOptions, Window};
+use crate::warnings::with_warnings;
+use check_report::CheckReport;
+use law_findings::AskedLaws;
+use probe_start::RecordLook;
 use std::alloc::Global;
 use std::io;
 use std::io::Write;
-use trace_words::Flaw;
+use trace_data::Flaw;
+use trace_options::{CheckOptions, Window};
 
 /// What is wanted of a check.
 #[derive(Clone, Copy)]
@@ -26,35 +33,66 @@ pub struct CheckRequest<'a> {
     pub json: Option<&'a str>,
     pub picture: Option<&'a str>,
 
+    /// Where the verdict is to be written as JSON.
+    pub report: Option<&'a str>,
+
     /// The part of the record whose states are written.
     pub window: Window,
+
+    /// The laws that the record is held to.
+    pub laws: AskedLaws,
+}
+
+impl CheckRequest<'_> {
+    /// Whether states are wanted.
+    pub fn shows(self) -> bool {
+        self.json.is_some() || self.picture.is_some()
+    }
 }
 
 /// A verdict: its text, whether the kernel agrees, the table that was wanted, and the states; none where the window has none.
 #[derive(Drop)]
 pub(crate) struct Verdict {
     pub agrees: bool,
+
+    /// No law is broken but by known faults.
+    pub keeps_laws: bool,
     pub text: Vec<u8>,
     pub table: Vec<u8>,
     pub shown: Option<Documents>,
+
+    /// What its report has so far, and the report as it is written.
+    pub report: CheckReport,
+    pub reported: Vec<u8>,
 }
 
-/// The verdict on what was gathered.
-fn gathered_verdict<'o>(
+/// The verdict by timers: a fault where the limit was changed meanwhile, or lines were lost.
+fn verdict_without_loss<'o>(
     alloc: Global,
     wanted: CheckRequest<'_>,
     options: &CheckOptions<'o>,
     gathering: &mut Gathering<'o>,
 ) -> Result<Verdict, Fault<'o>> {
-    if let Some(verdict) = verdict_by_probes(alloc, wanted, options, gathering)? {
-        return Ok(verdict);
-    }
-    match gathering.losing_line() {
-        Some(line) => Err(Fault::Line {
+    match (gathering.changed_line(), gathering.losing_line()) {
+        (Some(line), _) => Err(Fault::Changed { line }),
+        (None, Some(line)) => Err(Fault::Line {
             line,
             flaw: Flaw::LostEvents,
         }),
-        None => timer_verdict(alloc, wanted, options, gathering),
+        (None, None) => timer_verdict(alloc, wanted, options, gathering),
+    }
+}
+
+/// The verdict on what was gathered, by the rules.
+fn verdict_by_rules<'o>(
+    alloc: Global,
+    wanted: CheckRequest<'_>,
+    options: &CheckOptions<'o>,
+    gathering: &mut Gathering<'o>,
+) -> Result<Verdict, Fault<'o>> {
+    match verdict_by_probes(alloc, wanted, options, gathering)? {
+        Some(verdict) => Ok(verdict),
+        None => verdict_without_loss(alloc, wanted, options, gathering),
     }
 }
 
@@ -74,13 +112,110 @@ fn verdict_of<
     requires opens { O.IsAlwaysCallable opens.now }
     requires read { N.IsAlwaysCallable read.now }
 {
-    let shows = wanted.json.is_some() || wanted.picture.is_some();
-    let Ok(mut gathering) = Gathering::new(alloc, options, wanted.table.is_some(), shows) else {
-        return Err(Fault::NoMemory);
+    let mut gathering = gathered_whole(alloc, opens, read, wanted, options)?;
+    let verdict = match verdict_by_rules(alloc, wanted, options, &mut gathering) {
+        Ok(mut verdict) => {
+            if !verdict.agrees && !options.by_timers {
+                put_sought(alloc, opens, read, wanted, &gathering, &mut verdict)?;
+                put_probe_explanation(alloc, &mut verdict.text, options, &gathering)?;
+            }
+            with_laws(alloc, &mut gathering, verdict)?
+        }
+        Err(Fault::NothingCompared { why }) => laws_alone(alloc, &mut gathering, why)?,
+        Err(fault) => return Err(fault),
     };
+    let verdict = with_report(alloc, wanted, options, &gathering, verdict)?;
+    with_warnings(verdict, &gathering.warnings)
+}
+
+/// What the trace of a path says: it is read a second time where its end shows what its begin did not.
+fn gathered_whole<
+    'o,
+    D: Drop,
+    O: Fn(&str) -> io::Result<D>,
+    N: Fn(&mut D, &mut [u8]) -> io::Result<usize>,
+>(
+    alloc: Global,
+    opens: &O,
+    read: &N,
+    wanted: CheckRequest<'o>,
+    options: &'o CheckOptions<'o>,
+) -> Result<Gathering<'o>, Fault<'o>>
+    requires opens { O.IsAlwaysCallable opens.now }
+    requires read { N.IsAlwaysCallable read.now }
+{
+    let mut gathering = gathered(alloc, opens, read, wanted, options, None)?;
+    if gathering.end_probes()? {
+        return Ok(gathering);
+    }
+    let look = gathering.into_look();
+    let mut gathering = gathered(alloc, opens, read, wanted, options, Some(look))?;
+    gathering.end_probes()?;
+    Ok(gathering)
+}
+
+/// What the trace of a path says; `look` is what an earlier reading has shown.
+fn gathered<
+    'o,
+    D: Drop,
+    O: Fn(&str) -> io::Result<D>,
+    N: Fn(&mut D, &mut [u8]) -> io::Result<usize>,
+>(
+    alloc: Global,
+    opens: &O,
+    read: &N,
+    wanted: CheckRequest<'o>,
+    options: &'o CheckOptions<'o>,
+    look: Option<RecordLook>,
+) -> Result<Gathering<'o>, Fault<'o>>
+    requires opens { O.IsAlwaysCallable opens.now }
+    requires read { N.IsAlwaysCallable read.now }
+{
+    let mut gathering = Gathering::new(
+        alloc,
+        options,
+        wanted.table.is_some(),
+        wanted.shows(),
+        wanted.path == "-",
+        wanted.laws,
+    )?;
+    if let Some(look) = look {
+        gathering.probes.tell(look);
+    }
     let read_on = read_trace(alloc, opens, read, wanted.path, &mut gathering);
     faultless(&gathering, read_on)?;
-    gathered_verdict(alloc, wanted, options, &mut gathering)
+    Ok(gathering)
+}
+
+/// Appends what speaks for the first deviation, from the lines of a trace that can be read again.
+fn put_sought<
+    'o,
+    D: Drop,
+    O: Fn(&str) -> io::Result<D>,
+    N: Fn(&mut D, &mut [u8]) -> io::Result<usize>,
+>(
+    alloc: Global,
+    opens: &O,
+    read: &N,
+    wanted: CheckRequest<'o>,
+    gathering: &Gathering<'o>,
+    verdict: &mut Verdict,
+) -> Result<(), Fault<'o>>
+    requires opens { O.IsAlwaysCallable opens.now }
+    requires read { N.IsAlwaysCallable read.now }
+{
+    let Some(played) = &gathering.probes.played else {
+        return Ok(());
+    };
+    let Some(mut sought) = Sought::of(alloc, played) else {
+        return Ok(());
+    };
+    if wanted.path != "-"
+        && let Ok(mut file) = opens(wanted.path)
+    {
+        sought.read(alloc, read, &mut file)?;
+    }
+    put_evidence_of(alloc, verdict, sought.evidence())
 }
 
 /// The files of a verdict: none is written where one of them cannot be.
@@ -100,8 +235,26 @@ fn write_files<'o, M: Fn(&str, &[u8]) -> io::Result<()>, R: Fn(&str)>(
         (wanted.table, verdict.table.as_slice()),
         (wanted.json, shown.json.as_slice()),
         (wanted.picture, shown.picture.as_slice()),
+        (wanted.report, verdict.reported.as_slice()),
     ];
     make_all(make, remove, &files)
+}
+
+/// The status of a verdict: a deviation from the rules stands above a law that is broken.
+fn status_of(verdict: &Verdict) -> u8
+    ensures agrees { result ≡ 0 → IsTrue verdict.now.agrees }
+    ensures kept { result ≡ 0 → IsTrue verdict.now.keeps_laws }
+    ensures differs { result ≡ STATUS_DIFFERS → verdict.now.agrees ≡ false }
+    ensures law { result ≡ STATUS_LAW → verdict.now.keeps_laws ≡ false }
+    ensures status { (result ≡ 0) ⊎ (result ≡ STATUS_DIFFERS) ⊎ (result ≡ STATUS_LAW) }
+{
+    if !verdict.agrees {
+        STATUS_DIFFERS
+    } else if verdict.keeps_laws {
+        0
+    } else {
+        STATUS_LAW
+    }
 }
 
 /// Makes the files of a verdict, then prints it, and gives the status.
@@ -115,9 +268,13 @@ fn publish<M: Fn(&str, &[u8]) -> io::Result<()>, R: Fn(&str), W: Write, E: Write
 ) -> u8
     requires make { M.IsAlwaysCallable make.now }
     requires remove { R.IsAlwaysCallable remove.now }
-    ensures status { (result ≡ 0) ⊎ (result ≡ STATUS_DIFFERS) ⊎ (result ≡ STATUS_FILE)
-        ⊎ (result ≡ STATUS_USAGE) ⊎ (result ≡ STATUS_SYSTEM) }
+    ensures status { (result ≡ 0) ⊎ (result ≡ STATUS_DIFFERS) ⊎ (result ≡ STATUS_LAW)
+        ⊎ (result ≡ STATUS_FILE) ⊎ (result ≡ STATUS_USAGE) ⊎ (result ≡ STATUS_SYSTEM) }
     ensures nothing { (result ≡ STATUS_FILE) ⊎ (result ≡ STATUS_USAGE) → out.new ≡ out.old }
+    ensures agrees { result ≡ 0 → IsTrue verdict.now.agrees }
+    ensures kept { result ≡ 0 → IsTrue verdict.now.keeps_laws }
+    ensures differs { result ≡ STATUS_DIFFERS → verdict.now.agrees ≡ false }
+    ensures law { result ≡ STATUS_LAW → verdict.now.keeps_laws ≡ false }
 {
     if let Err(fault) = write_files(make, remove, wanted, verdict) {
         let _ = fault.tell(wanted.path, faults);
@@ -127,11 +284,39 @@ fn publish<M: Fn(&str, &[u8]) -> io::Result<()>, R: Fn(&str), W: Write, E: Write
         let _ = Fault::Write.tell(wanted.path, faults);
         return STATUS_SYSTEM;
     }
-    if verdict.agrees { 0 } else { STATUS_DIFFERS }
+    status_of(verdict)
+}
+
+/// Prints a verdict, or the line of the fault for which there is none, and gives the status.
+fn answer<M: Fn(&str, &[u8]) -> io::Result<()>, R: Fn(&str), W: Write, E: Write>(
+    make: &M,
+    remove: &R,
+    wanted: CheckRequest<'_>,
+    verdict: Result<Verdict, Fault<'_>>,
+    out: &mut W,
+    faults: &mut E,
+) -> u8
+    requires make { M.IsAlwaysCallable make.now }
+    requires remove { R.IsAlwaysCallable remove.now }
+    ensures status { (result ≡ 0) ⊎ (result ≡ STATUS_DIFFERS) ⊎ (result ≡ STATUS_LAW)
+        ⊎ (result ≡ STATUS_FILE) ⊎ (result ≡ STATUS_USAGE) ⊎ (result ≡ STATUS_SYSTEM) }
+    ensures nothing { (result ≡ STATUS_FILE) ⊎ (result ≡ STATUS_USAGE) → out.new ≡ out.old }
+    ensures agrees { result ≡ 0 → IsOkAnd verdict.entry (λ v. IsTrue v.agrees) }
+    ensures kept { result ≡ 0 → IsOkAnd verdict.entry (λ v. IsTrue v.keeps_laws) }
+    ensures differs { result ≡ STATUS_DIFFERS → IsOkAnd verdict.entry (λ v. v.agrees ≡ false) }
+    ensures law { result ≡ STATUS_LAW → IsOkAnd verdict.entry (λ v. v.keeps_laws ≡ false) }
+{
+    match verdict {
+        Ok(verdict) => publish(make, remove, wanted, &verdict, out, faults),
+        Err(fault) => {
+            let _ = fault.tell(wanted.path, faults);
+            fault.status()
+        }
+    }
 }
 
 /// Prints the verdict on the trace of a path, or the line of its fault, and gives the status: 0 where the kernel agrees, 4 where
-/// it differs, 1 where the trace is at fault or a file is there already, 3 where the system is.
+/// it differs, 5 where it agrees and breaks a law, 1 where the trace is at fault or a file is there already, 3 where the system is.
 pub fn serve_check<
     D: Drop,
     O: Fn(&str) -> io::Result<D>,
@@ -158,8 +343,8 @@ pub fn serve_check<
     requires exists { X.IsAlwaysCallable exists.now }
     requires make { M.IsAlwaysCallable make.now }
     requires remove { R.IsAlwaysCallable remove.now }
-    ensures status { (result ≡ 0) ⊎ (result ≡ STATUS_DIFFERS) ⊎ (result ≡ STATUS_FILE)
-        ⊎ (result ≡ STATUS_USAGE) ⊎ (result ≡ STATUS_SYSTEM) }
+    ensures status { (result ≡ 0) ⊎ (result ≡ STATUS_DIFFERS) ⊎ (result ≡ STATUS_LAW)
+        ⊎ (result ≡ STATUS_FILE) ⊎ (result ≡ STATUS_USAGE) ⊎ (result ≡ STATUS_SYSTEM) }
     // Where the trace is at fault, or the words are, nothing was printed.
     ensures nothing { (result ≡ STATUS_FILE) ⊎ (result ≡ STATUS_USAGE) → out.new ≡ out.old }
 {
@@ -168,12 +353,6 @@ pub fn serve_check<
         let _ = fault.tell(wanted.path, faults);
         return fault.status();
     }
-    let verdict = match verdict_of(alloc, opens, read, wanted, options) {
-        Ok(verdict) => verdict,
-        Err(fault) => {
-            let _ = fault.tell(wanted.path, faults);
-            return fault.status();
-        }
-    };
-    publish(make, remove, wanted, &verdict, out, faults)
+    let verdict = verdict_of(alloc, opens, read, wanted, options);
+    answer(make, remove, wanted, verdict, out, faults)
 }

@@ -1,13 +1,16 @@
 //! Why there is no verdict, and the program's status then.
 
-ghost use Rattle.std.specs.Prelude.{◌≡◌, ◌++◌, OnOk};
+ghost use Rattle.std.specs.Prelude.{◌≡◌, ◌++◌, OnOk, codes};
 ghost use Rattle.std.specs.Io.KnownBytes.{Appends};
 ghost use Rattle.trace_check.specs.Faults.{line_of, status_of};
-ghost use Rattle.trace_check.specs.Messages.{fault_line, file_place, flaw_told, kernel_line, line_place, no_task_line, unknown_line};
+ghost use Rattle.trace_check.specs.Messages.{fault_line, file_place, flaw_told, kernel_line, left_out_line, line_place, no_task_line, tried_by, uncompared_line, unknown_line, untried_place};
 
+use kernel_versions::{tried_by_probes, tried_by_timers};
+use std::alloc::AllocError;
 use std::io;
 use std::io::Write;
-use trace_words::{Flaw, Kernel};
+use timer_verdict::LeftOut;
+use trace_data::{Flaw, Kernel};
 
 /// The trace is at fault, or a file is there already.
 pub const STATUS_FILE: u8 = 1;
@@ -21,35 +24,92 @@ pub const STATUS_SYSTEM: u8 = 3;
 /// The kernel's accounting differs from the rules.
 pub const STATUS_DIFFERS: u8 = 4;
 
+/// The kernel agrees with its rules, and breaks a law by none of its known faults.
+pub const STATUS_LAW: u8 = 5;
+
+/// Why nothing of a record could be compared.
+#[derive(Clone, Copy)]
+pub enum Uncompared {
+    /// It shows no task of SCHED_DEADLINE.
+    NoTask,
+
+    /// None of its tasks blocks, and none starts a replenishment timer.
+    NoBlock,
+
+    /// Each block and timer is left out.
+    Left(LeftOut),
+
+    /// No line of a probe shows a value that an earlier one has told.
+    NoValue,
+}
+
+/// What a record is compared by.
+#[derive(Clone, Copy)]
+pub enum Check {
+    Probes,
+    Timers,
+}
+
 /// Why there is no verdict.
 #[derive(Drop)]
 pub enum Fault<'a> {
     /// 51, 52, 54, 55: a line of the trace is wrong.
-    Line { line: u64, flaw: Flaw },
+    Line {
+        line: u64,
+        flaw: Flaw,
+    },
 
     /// 49: a task was given that the trace does not show.
-    NoSuchTask { name: &'a str },
+    NoSuchTask {
+        name: &'a str,
+    },
 
     /// 50: a line shows a SCHED_DEADLINE task that was neither given nor noted.
-    UnknownTask { line: u64, pid: u64, comm: Vec<u8> },
+    UnknownTask {
+        line: u64,
+        pid: u64,
+        comm: Vec<u8>,
+    },
 
     /// 53: no timer of any kind was recorded, so nothing can be compared.
     NoTimers,
 
     /// 54: a CPU that is not of the root domain.
-    OutsideDomain { line: u64 },
+    OutsideDomain {
+        line: u64,
+    },
 
-    /// 55: a note whose list of CPUs is none.
-    BadNote { line: u64 },
+    /// 55: a note whose list of CPUs is none, or that stands behind a line of a later moment.
+    BadNote {
+        line: u64,
+    },
 
     /// 56: a file would be written over.
-    FileExists { path: &'a str },
+    FileExists {
+        path: &'a str,
+    },
 
     /// 59: the kernel's limit changed while the record was made.
-    Changed { line: u64 },
+    Changed {
+        line: u64,
+    },
 
     /// 60: the sums of this kernel depend on its past, and no note tells them.
-    NoSums { kernel: Kernel },
+    NoSums {
+        kernel: Kernel,
+    },
+
+    /// 61: not one value, block or timer was compared.
+    NothingCompared {
+        why: Uncompared,
+    },
+
+    /// 62: so many values differ, of a kernel whose release was not tried.
+    UntriedKernel {
+        kernel: Kernel,
+        check: Check,
+        differ: u64,
+    },
 
     /// The states of a part of the record are wanted that lies outside of it.
     OutsideRecord,
@@ -105,6 +165,12 @@ impl Fault<'_> {
             Fault::FileExists { path } => tell_of(to, path, b"56 FileExists\n"),
             Fault::Changed { line } => tell_at(to, path, *line, b"59 Changed rt\n"),
             Fault::NoSums { kernel } => tell_kernel(to, path, *kernel),
+            Fault::NothingCompared { why } => tell_uncompared(to, path, *why),
+            Fault::UntriedKernel {
+                kernel,
+                check,
+                differ,
+            } => tell_untried(to, path, *kernel, *differ, tried_by(*check)),
             Fault::OutsideRecord => {
                 to.write_all(b"error: --from and --to name no part of the record\n")
             }
@@ -180,4 +246,73 @@ fn tell_kernel<E: Write>(to: &mut E, path: &str, kernel: Kernel) -> io::Result<(
         to,
         "grubtrace: {path}: 60 NoSums kernel {major}.{minor}.{patch}"
     )
+}
+
+/// Writes why nothing was compared.
+fn tell_uncompared<E: Write>(to: &mut E, path: &str, why: Uncompared) -> io::Result<()>
+    ensures { OnOk result
+        (Appends (E.contents to.old) (E.contents to.new) (uncompared_line path.now why)) }
+{
+    match why {
+        Uncompared::NoTask => tell_of(to, path, b"61 NothingCompared no task of SCHED_DEADLINE\n"),
+        Uncompared::NoBlock => tell_of(to, path, b"61 NothingCompared no task blocks\n"),
+        Uncompared::NoValue => tell_of(to, path, b"61 NothingCompared each value is shown once\n"),
+        Uncompared::Left(left) => tell_left_out(to, path, left),
+    }
+}
+
+/// Writes what was left out, where that is all.
+fn tell_left_out<E: Write>(to: &mut E, path: &str, left: LeftOut) -> io::Result<()>
+    ensures { OnOk result
+        (Appends (E.contents to.old) (E.contents to.new) (left_out_line path.now left)) }
+{
+    let (ends, unknown, edges, gaps) = (left.ends, left.unknown, left.edges, left.gaps);
+    writeln!(
+        to,
+        "grubtrace: {path}: 61 NothingCompared ends {ends}, unknown {unknown}, edges {edges}, gaps {gaps}"
+    )
+}
+
+impl From<AllocError> for Fault<'_> {
+    ghost use Rattle.trace_check.specs.declared.fault.Fault.TheVariants.{NoMemory};
+
+    ghost from_gives = { λ _ e. e ≡ NoMemory };
+
+    fn from(_: AllocError) -> Self {
+        Fault::NoMemory
+    }
+}
+
+/// The releases that were tried, in words.
+pub(crate) fn tried_by(check: Check) -> &'static str
+    ensures { result.now ≡ tried_by check }
+{
+    match check {
+        Check::Probes => tried_by_probes(),
+        Check::Timers => tried_by_timers(),
+    }
+}
+
+/// Writes how much differs of a kernel whose release was not tried, and which were.
+fn tell_untried<E: Write>(
+    to: &mut E,
+    path: &str,
+    kernel: Kernel,
+    differ: u64,
+    tried: &str,
+) -> io::Result<()>
+    ensures { OnOk result
+        (Appends (E.contents to.old) (E.contents to.new)
+        (untried_place path.now kernel differ ++ (tried.now ++ codes "\n"))) }
+{
+    let Kernel {
+        major,
+        minor,
+        patch,
+    } = kernel;
+    write!(
+        to,
+        "grubtrace: {path}: 62 UntriedKernel kernel {major}.{minor}.{patch}, {differ} differ; tried: "
+    )?;
+    writeln!(to, "{tried}")
 }

@@ -14,7 +14,7 @@ pub(crate) fn first_there<'o, X: Fn(&str) -> bool>(
 ) -> Option<&'o str>
     requires { X.IsAlwaysCallable exists.now }
 {
-    for path in [wanted.table, wanted.json, wanted.picture] {
+    for path in [wanted.table, wanted.json, wanted.picture, wanted.report] {
         if let Some(path) = path
             && exists(path)
         {

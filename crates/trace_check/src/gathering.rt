@@ -1,17 +1,27 @@
 //! A record, line by line: notes, lines of timers that are kept, and lines of probes that are played at once.
 
+ghost use Rattle.std.specs.Prelude.{◌≡◌, OnOk};
+ghost use Rattle.trace_check.specs.Heads.{noted_with, seen_on, told_of};
+ghost use Rattle.trace_check.specs.Lost.{changed_by, dropped_with, fault_noted, is_behind_by, losing_by, lost_by, lost_line_by};
+
+use crate::by_laws::RecordLaws;
 use crate::fault::Fault;
-use crate::head::{RecordHead, cpus_of};
-use crate::names::Names;
-use crate::probes::{KeptProbe, Probes};
-use check_settings::{CPUS, CheckOptions};
-use deadline_timers::{RunqueueSums, setup_of};
+use crate::head::{RecordHead, cpus_of, is_another, is_older, server_note};
+use crate::names::{Names, is_named};
+use crate::probes::{Probes, ToldSettings};
+use law_findings::AskedLaws;
+use law_play::ReadLine;
+use probe_explain::ProbeLine;
+use probe_findings::ProbedLine;
+use probe_lines::event_of;
+use probe_start::RecordLook;
 use probe_verdict::DroppedLines;
-use record_line::{Lost as LostLines, ToldLine};
 use std::alloc::{AllocError, Global};
-use timer_lines::{GivenReservation, OpenRecord, Unlisted};
-use trace_reader::Lines;
-use trace_words::{Fixed, Flaw, Limit, Parameters, Policy, RecordLine, Said, TraceNote};
+use timer_play::{RunqueueSums, setup_of};
+use timer_record::{GivenReservation, OpenRecord, Unlisted};
+use trace_data::{Fixed, Flaw, Parameters, Policy, RecordLine, Said, TraceNote};
+use trace_lines::{Lines, Lost as LostLines, ToldLine};
+use trace_options::{CPUS, CheckOptions};
 
 /// A moment that is greater than each number of nanoseconds is read as this one.
 const TOO_LATE: u64 = u64::MAX;
@@ -34,20 +44,33 @@ pub(crate) struct Gathering<'o> {
     record: Option<OpenRecord>,
     has_timers: bool,
 
+    /// The latest moment of a line of an event that was kept.
+    latest: u64,
+
     /// Whether a note tells of a task.
     has_notes: bool,
+
+    /// Whether a note tells of a task that was in the class at the start.
+    pub has_older: bool,
+
+    /// What the kernel's log warned of.
+    pub warnings: Vec<Vec<u8>>,
 
     /// Whether lines of timers are kept beside lines of probes, for the states that they show.
     keeps_timers: bool,
     pub probes: Probes,
+    pub laws: RecordLaws,
     pub lost: Option<DroppedLines>,
 
-    /// The line at which a note says what was lost.
+    /// The line at which a note says that lines were lost, or else what was lost.
     lost_line: u64,
+    changed_line: Option<u64>,
     pub fault: Option<Fault<'o>>,
 }
 
-impl Lines for Gathering<'_> {
+impl<'o> Lines for Gathering<'o> {
+    type Fault = Fault<'o>;
+
     ghost use Rattle.std.specs.Prelude.{ℕ, true};
 
     ghost Seen = { ℕ };
@@ -57,11 +80,12 @@ impl Lines for Gathering<'_> {
     ghost step = { λ n told seen. record { more = true; seen = 0 } };
 
     /// Behind a fault nothing is taken.
-    fn take(&mut self, number: u64, told: &ToldLine<&[u8]>) -> Result<bool, AllocError> {
-        if self.fault.is_none() {
-            self.take_told(number, told)?;
+    fn take(&mut self, number: u64, told: &ToldLine<&[u8]>) -> Result<bool, Fault<'o>> {
+        self.take_told(number, told)?;
+        match self.fault.take() {
+            Some(fault) => Err(fault),
+            None => Ok(true),
         }
-        Ok(true)
     }
 }
 
@@ -71,7 +95,10 @@ impl<'o> Gathering<'o> {
         options: &'o CheckOptions<'o>,
         keeps_rows: bool,
         keeps_timers: bool,
+        reads_once: bool,
+        laws: AskedLaws,
     ) -> Result<Gathering<'o>, AllocError> {
+        let keeps_lines = options.explains || keeps_timers || reads_once;
         let mut found = Vec::new(alloc);
         for _ in 0..options.tasks.len() {
             found.push(false)?;
@@ -85,11 +112,16 @@ impl<'o> Gathering<'o> {
             found,
             record: None,
             has_timers: false,
+            latest: 0,
             has_notes: false,
+            has_older: false,
+            warnings: Vec::new(alloc),
             keeps_timers,
-            probes: Probes::new(alloc, keeps_rows),
+            probes: Probes::new(alloc, keeps_rows, keeps_lines),
+            laws: RecordLaws::new(alloc, laws, keeps_rows),
             lost: None,
             lost_line: 0,
+            changed_line: None,
             fault: None,
         })
     }
@@ -107,9 +139,16 @@ impl<'o> Gathering<'o> {
         if let Some(domain) = told.domain {
             self.note_domain(number, domain)?;
         }
+        if let Some(release) = told.release {
+            self.note_release(release)?;
+        }
         self.see_lost(number, told.lost);
+        if let Some(text) = told.warning {
+            self.warnings.push(text.to_vec(self.alloc)?)?;
+        }
         if let Some(shown) = told.shown {
             self.show(shown.pid, shown.comm)?;
+            self.has_older = self.has_older || is_older(&told.line, shown.comm);
         }
         match told.line {
             RecordLine::Quiet | RecordLine::Flawed(_) => Ok(()),
@@ -120,17 +159,37 @@ impl<'o> Gathering<'o> {
                 pid,
                 said,
                 ..
-            } => match said {
-                Said::Fixed(fixed) => self.fixed(number, at, cpu, pid, fixed),
-                Said::Probe(probe) => self.probe(KeptProbe {
-                    line: number,
-                    at,
-                    cpu,
-                    pid,
-                    probe,
-                }),
-            },
+            } => {
+                self.hold_to_laws(
+                    ReadLine {
+                        line: number,
+                        at,
+                        cpu,
+                        pid,
+                    },
+                    &said,
+                )?;
+                match said {
+                    Said::Fixed(fixed) => self.fixed(number, at, cpu, pid, fixed),
+                    Said::Probe(probe) => self.probe(ProbeLine {
+                        place: ProbedLine {
+                            line: number,
+                            at,
+                            cpu,
+                            pid,
+                            event: event_of(&probe),
+                        },
+                        probe,
+                    }),
+                }
+            }
         }
+    }
+
+    /// A line of an event is held to the laws.
+    fn hold_to_laws(&mut self, read: ReadLine, said: &Said) -> Result<(), AllocError> {
+        let kernel = self.head.kernel_by(self.options);
+        self.laws.take(kernel, read, said)
     }
 
     /// The head of a trace may say how many processors there are.
@@ -146,13 +205,14 @@ impl<'o> Gathering<'o> {
         }
     }
 
-    fn see_lost(&mut self, number: u64, lost: Option<LostLines>) {
+    fn see_lost(&mut self, number: u64, lost: Option<LostLines>)
+        ensures lost { self.new.lost ≡ lost_by lost self.old.lost }
+        ensures line { self.new.lost_line
+            ≡ lost_line_by lost self.old.lost number self.old.lost_line }
+    {
         if let Some(lost) = lost {
-            self.lost_line = number;
-            self.lost = Some(DroppedLines {
-                lines: lost.lines,
-                hits: lost.missed,
-            });
+            self.lost_line = self.losing_line().unwrap_or(number);
+            self.lost = Some(dropped_with(self.lost, lost));
         }
     }
 
@@ -162,13 +222,19 @@ impl<'o> Gathering<'o> {
     }
 
     /// Takes a line of a probe.
-    fn probe(&mut self, kept: KeptProbe) -> Result<(), AllocError> {
+    fn probe(&mut self, line: ProbeLine) -> Result<(), AllocError>
+        ensures { told_of self.new.head ≡ seen_on line.place.cpu (told_of self.old.head) }
+    {
         if self.plays_probes() && !self.keeps_timers {
             self.record = None;
         }
-        self.head.greatest_cpu = self.head.greatest_cpu.max(kept.cpu);
-        self.probes
-            .take(kept, &self.head, self.options, &self.names)
+        self.head.greatest_cpu = self.head.greatest_cpu.max(line.place.cpu);
+        let told = ToldSettings {
+            head: &self.head,
+            options: self.options,
+            has_older: self.has_older,
+        };
+        self.probes.take(line, told, &self.names)
     }
 
     /// The CPUs of the root domain, as a note lists them.
@@ -178,6 +244,12 @@ impl<'o> Gathering<'o> {
             None => self.fault = Some(Fault::BadNote { line: number }),
         }
         Ok(())
+    }
+
+    /// The kernel's whole release, as a note has it.
+    fn note_release(&mut self, release: &[u8]) -> Result<(), AllocError> {
+        self.head.release.clear();
+        self.head.release.extend_from_slice(release)
     }
 
     /// A line shows this pid with this comm.
@@ -234,7 +306,11 @@ impl<'o> Gathering<'o> {
     }
 
     /// The lines of timers are kept from here on, by what is known of the kernel.
-    fn begin(&mut self) -> Result<(), AllocError> {
+    fn begin(&mut self) -> Result<(), AllocError>
+        ensures head { self.new.head ≡ self.old.head }
+        ensures fault { self.new.fault ≡ self.old.fault }
+        ensures changed { self.new.changed_line ≡ self.old.changed_line }
+    {
         if self.record.is_some() {
             return Ok(());
         }
@@ -247,7 +323,13 @@ impl<'o> Gathering<'o> {
         Ok(())
     }
 
-    fn note(&mut self, number: u64, note: TraceNote) -> Result<(), AllocError> {
+    fn note(&mut self, number: u64, note: TraceNote) -> Result<(), AllocError>
+        ensures head { OnOk result (told_of self.new.head ≡ noted_with note (told_of self.old.head)) }
+        ensures fault { OnOk result (self.new.fault
+            ≡ fault_noted note number self.old.latest self.old.fault) }
+        ensures changed { OnOk result (self.new.changed_line
+            ≡ changed_by note number self.old.head.limit self.old.changed_line) }
+    {
         match note {
             TraceNote::Head {
                 kernel,
@@ -259,20 +341,34 @@ impl<'o> Gathering<'o> {
                 self.head.total_bw = total_bw;
                 Ok(())
             }
-            TraceNote::Runqueue { cpu, sums } => {
+            TraceNote::Runqueue {
+                cpu,
+                sums,
+                domain,
+                server,
+            } => {
+                self.laws.note_domain(domain);
                 self.head.sums.push(RunqueueSums { cpu, sums })?;
-                Ok(())
+                self.head.servers.push(server_note(cpu, sums, server))?;
+                self.head.see_domain(cpu, domain)
             }
+            TraceNote::Capacity { cpu, capacity } => self.head.see_capacity(cpu, capacity),
             TraceNote::Task {
                 pid,
                 at,
                 by,
                 cpu,
                 policy,
-            } => self.note_task(pid, at, by, cpu, policy),
+            } => {
+                if is_behind(at, self.latest) {
+                    self.fault = Some(Fault::BadNote { line: number });
+                    return Ok(());
+                }
+                self.note_task(pid, at, by, cpu, policy)
+            }
             TraceNote::End { limit, .. } => {
                 if is_another(self.head.limit, limit) {
-                    self.fault = Some(Fault::Changed { line: number });
+                    self.changed_line = Some(number);
                 }
                 Ok(())
             }
@@ -286,7 +382,11 @@ impl<'o> Gathering<'o> {
         by: Option<u64>,
         cpu: u32,
         policy: Policy,
-    ) -> Result<(), AllocError> {
+    ) -> Result<(), AllocError>
+        ensures head { self.new.head ≡ self.old.head }
+        ensures fault { self.new.fault ≡ self.old.fault }
+        ensures changed { self.new.changed_line ≡ self.old.changed_line }
+    {
         self.has_notes = true;
         self.begin()?;
         match &mut self.record {
@@ -308,6 +408,7 @@ impl<'o> Gathering<'o> {
             return Ok(());
         }
         self.see_cpu(number, &fixed);
+        self.latest = self.latest.max(at);
         self.has_timers = self.has_timers || matches!(fixed, Fixed::TimerStarted { .. });
         self.begin()?;
         match &mut self.record {
@@ -330,11 +431,20 @@ impl<'o> Gathering<'o> {
     }
 
     /// The line at which a note says that lines were lost.
-    pub fn losing_line(&self) -> Option<u64> {
+    pub fn losing_line(&self) -> Option<u64>
+        ensures { result ≡ losing_by self.now.lost self.now.lost_line }
+    {
         match self.lost {
             Some(lost) if lost.lines > 0 => Some(self.lost_line),
             _ => None,
         }
+    }
+
+    /// The line of a note by which the limit was changed meanwhile.
+    pub fn changed_line(&self) -> Option<u64>
+        ensures { result ≡ self.now.changed_line }
+    {
+        self.changed_line
     }
 
     /// The first task with a 0-lag timer that neither an option nor a note gives, where timers are compared and no note tells of tasks.
@@ -360,9 +470,23 @@ impl<'o> Gathering<'o> {
         }
     }
 
-    /// Ends the lines of probes.
-    pub fn end_probes(&mut self) -> Result<(), AllocError> {
-        self.probes.end(&self.head, self.options, &self.names)
+    /// Ends the lines of probes. False where the record is to be read again.
+    pub fn end_probes(&mut self) -> Result<bool, AllocError> {
+        if self.options.by_timers {
+            return Ok(true);
+        }
+        let told = ToldSettings {
+            head: &self.head,
+            options: self.options,
+            has_older: self.has_older,
+        };
+        self.probes.end(told, &self.names)
+    }
+
+    /// What the record has shown, for a second reading of it.
+    pub fn into_look(self) -> RecordLook {
+        let probes = self.probes;
+        probes.look
     }
 
     /// Whether a timer of any kind was started.
@@ -376,19 +500,6 @@ impl<'o> Gathering<'o> {
     }
 }
 
-/// Whether a name of an option, a pid or a comm, is this task's.
-fn is_named(name: &str, pid: u64, comm: &[u8]) -> bool {
-    let bytes = name.as_bytes();
-    if bytes.iter().all(|b| b.is_ascii_digit()) {
-        match name.parse::<u64>() {
-            Ok(number) => number == pid,
-            Err(_) => false,
-        }
-    } else {
-        bytes == comm
-    }
-}
-
 /// Whether the moment of a line, or that of its note, is greater than each number of nanoseconds.
 fn is_too_late(line: &RecordLine) -> bool {
     match *line {
@@ -398,21 +509,27 @@ fn is_too_late(line: &RecordLine) -> bool {
     }
 }
 
-/// Whether the limit at the end of a record is another than at its begin.
-fn is_another(begin: Option<Limit>, end: Option<Limit>) -> bool {
-    match (begin, end) {
-        (Some(Limit::MaxBw(begin)), Some(Limit::MaxBw(end))) => begin != end,
-        (
-            Some(Limit::Runtime { runtime, period }),
-            Some(
-                Limit::Runtime {
-                    runtime: runtime_at_end,
-                    period: period_at_end,
-                },
-            ),
-        ) => runtime != runtime_at_end || period != period_at_end,
-        _ => false,
+/// What notes say was lost, with one note more.
+fn dropped_with(before: Option<DroppedLines>, lost: LostLines) -> DroppedLines
+    ensures { result ≡ dropped_with before lost }
+{
+    match before {
+        Some(before) => DroppedLines {
+            lines: before.lines.saturating_add(lost.lines),
+            hits: before.hits.saturating_add(lost.missed),
+        },
+        None => DroppedLines {
+            lines: lost.lines,
+            hits: lost.missed,
+        },
     }
+}
+
+/// Whether a note of this moment, or of the start, stands behind a line of a later one.
+fn is_behind(at: Option<u64>, latest: u64) -> bool
+    ensures { result ≡ is_behind_by at latest }
+{
+    at.unwrap_or(0) < latest
 }
 
 /// The CPU that an event names beside its line's, or 0.

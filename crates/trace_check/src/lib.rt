@@ -1,22 +1,31 @@
 //! The program's part of `grubtrace check`: a record is read, played and judged; its faults, and its answers.
 #![tactic(auto)]
 
+mod by_laws;
 mod by_probes;
 mod by_timers;
 mod check;
+mod evidence;
 mod fault;
 mod files;
 mod gathering;
 mod head;
+mod marks;
 mod names;
+mod probe_states;
 mod probes;
 mod reading;
+mod reports;
 mod showing;
+mod untried;
+mod warnings;
 mod why;
 
 pub use check::{CheckRequest, serve_check};
-pub use check_settings::{
+pub use fault::{Fault, STATUS_DIFFERS, STATUS_FILE, STATUS_LAW, STATUS_SYSTEM, STATUS_USAGE};
+pub use law_findings::AskedLaws;
+pub use law_verdict::asked_of as laws_of;
+pub use trace_options::{
     Arithmetic, CheckOption, CheckOptions, CheckWords, FairServerOption, TaskOption, Window,
     WrongOption, options_of, window_of,
 };
-pub use fault::{Fault, STATUS_DIFFERS, STATUS_FILE, STATUS_SYSTEM, STATUS_USAGE};

@@ -1,13 +1,40 @@
 //! A trace is read, to its end or to its first fault.
 
+ghost use Rattle.std.specs.Prelude.{◌≡◌, OnOk};
+ghost use Rattle.trace_file.specs.Reading.{IsSoOf};
+ghost use Rattle.trace_check.specs.Faults.{first_fault_of, is_before_by};
+ghost use Rattle.trace_check.specs.Reading.{IsWhole, ended_by};
+
 use crate::fault::Fault;
 use crate::gathering::Gathering;
 use std::alloc::{AllocError, Global};
 use std::io;
-use trace_reader::{Halt, RecordReader};
+use trace_file::{ReadFault, read_lines};
+use trace_lines::Halt;
 
-/// The bytes of a piece of a trace.
-const PIECE: usize = 65_536;
+/// Why a trace was not read.
+fn fault_of<'o>(fault: ReadFault<Fault<'o>>) -> Fault<'o> {
+    match fault {
+        ReadFault::Unreadable => Fault::Unreadable,
+        ReadFault::NoMemory => Fault::NoMemory,
+        ReadFault::Lines(fault) => fault,
+    }
+}
+
+/// What is wrong with the line at which a text halts.
+fn end_of<'o>(halt: Option<Halt>) -> Result<(), Fault<'o>>
+    ensures { result ≡ ended_by halt }
+{
+    match halt {
+        Some(
+            Halt {
+                line,
+                flaw: Some(flaw),
+            },
+        ) => Err(Fault::Line { line, flaw }),
+        _ => Ok(()),
+    }
+}
 
 /// Reads the trace of a path, to its end or to its first line with a fault.
 pub(crate) fn read_trace<
@@ -24,69 +51,11 @@ pub(crate) fn read_trace<
 ) -> Result<(), Fault<'o>>
     requires opens { O.IsAlwaysCallable opens.now }
     requires read { N.IsAlwaysCallable read.now }
+    ensures { OnOk result (IsSoOf O.Fn opens.now N.Fn read.now path.now IsWhole) }
 {
-    match opens(path) {
-        Ok(mut file) => read_lines(alloc, read, &mut file, gathering),
-        Err(_) => Err(Fault::Unreadable),
-    }
-}
-
-/// Reads a trace to its end, or to its first line with a fault.
-fn read_lines<'o, D, N: Fn(&mut D, &mut [u8]) -> io::Result<usize>>(
-    alloc: Global,
-    read: &N,
-    file: &mut D,
-    gathering: &mut Gathering<'o>,
-) -> Result<(), Fault<'o>>
-    requires read { N.IsAlwaysCallable read.now }
-{
-    let Ok(mut room) = Vec::from_elem(alloc, 0u8, PIECE) else {
-        return Err(Fault::NoMemory);
-    };
-    let mut reader = RecordReader::new(alloc);
-    for _ in 0..u64::MAX {
-        if !read_piece(read, file, &mut room, &mut reader, gathering)? {
-            return end_of(reader);
-        }
-    }
-    Err(Fault::Unreadable)
-}
-
-/// Reads the next piece, and takes its lines; false at the end of the trace, or behind a line with a flaw.
-fn read_piece<'o, D, N: Fn(&mut D, &mut [u8]) -> io::Result<usize>>(
-    read: &N,
-    file: &mut D,
-    room: &mut Vec<u8>,
-    reader: &mut RecordReader,
-    gathering: &mut Gathering<'o>,
-) -> Result<bool, Fault<'o>>
-    requires read { N.IsAlwaysCallable read.now }
-{
-    let count = match read(file, room) {
-        Ok(count) => count,
-        Err(_) => return Err(Fault::Unreadable),
-    };
-    let piece = room.get(..count).unwrap_or(&[]);
-    match reader.feed(gathering, piece) {
-        Ok(()) => {}
-        Err(AllocError) => return Err(Fault::NoMemory),
-    }
-    match gathering.fault.take() {
-        Some(fault) => Err(fault),
-        None => Ok(count > 0 && reader.halt.is_none()),
-    }
-}
-
-/// What is wrong with the line at which the reading ended.
-fn end_of<'o>(reader: RecordReader) -> Result<(), Fault<'o>> {
-    match reader.end() {
-        Some(
-            Halt {
-                line,
-                flaw: Some(flaw),
-            },
-        ) => Err(Fault::Line { line, flaw }),
-        _ => Ok(()),
+    match read_lines(alloc, opens, read, path, gathering) {
+        Ok(halt) => end_of(halt),
+        Err(fault) => Err(fault_of(fault)),
     }
 }
 
@@ -109,7 +78,9 @@ pub(crate) fn faultless<'o>(
 fn first_fault<'o>(
     read_on: Result<(), Fault<'o>>,
     unknown: Option<Fault<'o>>,
-) -> Result<(), Fault<'o>> {
+) -> Result<(), Fault<'o>>
+    ensures { result ≡ first_fault_of read_on.entry unknown.entry }
+{
     match (read_on, unknown) {
         (Ok(()), None) => Ok(()),
         (Ok(()), Some(unknown)) => Err(unknown),
@@ -125,7 +96,9 @@ fn first_fault<'o>(
 }
 
 /// Whether there are two lines, of which the first one comes before the other.
-fn is_before(line: Option<u64>, other: Option<u64>) -> bool {
+fn is_before(line: Option<u64>, other: Option<u64>) -> bool
+    ensures { result ≡ is_before_by line other }
+{
     match (line, other) {
         (Some(line), Some(other)) => line < other,
         _ => false,

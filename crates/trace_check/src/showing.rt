@@ -2,21 +2,27 @@
 
 use crate::check::CheckRequest;
 use crate::fault::Fault;
-use check_settings::Window;
-use deadline_states::{RecordScene, Span, TaskName};
-use deadline_timers::{RecordSetup, RecordStart};
-use deadline_verdict::Judged;
+use state_history::{RecordScene, Span, TaskName, states_of};
 use state_json::put_document;
 use state_picture::picture_of;
 use std::alloc::{AllocError, Global};
-use timer_lines::KeptLines;
-use timer_states::states_of;
+use timer_play::{RecordSetup, RecordStart};
+use timer_record::KeptLines;
+use timer_tasks::Observation;
+use timer_verdict::Judged;
+use trace_options::Window;
 
 /// The documents that are wanted.
 #[derive(Drop)]
 pub(crate) struct Documents {
     pub json: Vec<u8>,
     pub picture: Vec<u8>,
+}
+
+/// What a record's lines show; no documents where the window is no part of it.
+#[derive(Drop)]
+pub(crate) struct ShownStates {
+    pub documents: Option<Documents>,
 }
 
 /// Nothing is wanted.
@@ -28,10 +34,10 @@ pub(crate) fn nothing_shown(alloc: Global) -> Documents {
 }
 
 /// The window, of a record from its first line to its last; none where it lies outside.
-fn span_of(window: Window, lines: &KeptLines) -> Option<Span> {
-    let from = window.from.unwrap_or(lines.begins.unwrap_or(0));
-    let to = window.to.unwrap_or(lines.ends);
-    if from < to && from < lines.ends {
+pub(crate) fn span_of(window: Window, begins: u64, ends: u64) -> Option<Span> {
+    let from = window.from.unwrap_or(begins);
+    let to = window.to.unwrap_or(ends);
+    if from < to && from < ends {
         Some(Span { from, to })
     } else {
         None
@@ -78,16 +84,18 @@ pub(crate) struct TimerPlay<'a> {
     pub judged: &'a Judged,
 }
 
-/// The documents of a record that was played; none where the span is no part of it.
+/// The documents of a record that was played, with the first timer that differs; none where the span is no part of it.
 pub(crate) fn shown_of(
     alloc: Global,
     wanted: CheckRequest<'_>,
     play: TimerPlay<'_>,
+    first: Option<&Observation>,
 ) -> Result<Option<Documents>, AllocError> {
-    if wanted.json.is_none() && wanted.picture.is_none() {
+    if !wanted.shows() {
         return Ok(Some(nothing_shown(alloc)));
     }
-    let Some(span) = span_of(wanted.window, play.lines) else {
+    let begins = play.lines.begins.unwrap_or(0);
+    let Some(span) = span_of(wanted.window, begins, play.lines.ends) else {
         return Ok(None);
     };
     let history = states_of(alloc, play.setup, play.start, play.lines, span)?;
@@ -97,7 +105,7 @@ pub(crate) fn shown_of(
         history: &history,
         tasks: &tasks,
         observations: &play.judged.outcome.observations,
-        first: play.judged.first,
+        first,
         span,
         limits: &limits,
     };
@@ -105,7 +113,7 @@ pub(crate) fn shown_of(
 }
 
 /// The documents that are asked for of a scene.
-fn documents_of(
+pub(crate) fn documents_of(
     alloc: Global,
     wanted: CheckRequest<'_>,
     scene: RecordScene<'_>,

@@ -1,16 +1,17 @@
 //! A record is played again, with one rule changed at a time.
 
 use crate::gathering::Gathering;
-use crate::probes::KeptProbe;
+use crate::probes::AHEAD;
 use crate::showing::TimerPlay;
-use check_settings::CheckOptions;
-use deadline_machine::ProbedMachine;
-use deadline_verdict::Judged;
+use kernel_changes::{ALL, RuleChange};
+use probe_explain::Player;
+use probe_search::ProbeSearch;
 use probe_verdict::{Trial, total_of};
-use rule_changes::{ALL, RuleChange};
 use std::alloc::{AllocError, Global};
 use timer_changes::put_explanation;
-use timer_rules::ObservedAnswer;
+use timer_tasks::ObservedAnswer;
+use timer_verdict::Judged;
+use trace_options::CheckOptions;
 
 /// What the plays of a record come to, each with another rule changed.
 pub(crate) fn tried(
@@ -33,28 +34,22 @@ fn trial_of(
     gathering: &Gathering<'_>,
     change: RuleChange,
 ) -> Result<Trial, AllocError> {
-    let domain = gathering.head.cpus(alloc, options)?;
-    let law = gathering.head.law(options);
-    let shape = gathering.probes.shape;
-    let mut machine = ProbedMachine::new(alloc, law, shape, domain, false, Some(change));
-    play_all(&mut machine, &gathering.probes.again)?;
-    machine.finish(gathering.head.has_servers(options))?;
+    let head = &gathering.head;
+    let look = &gathering.probes.look;
+    let notes = head.start_notes(alloc, options, gathering.has_older)?;
+    let rules = look.rules(head.law(options), Some(change), &notes);
+    let mut search = ProbeSearch::new(alloc, rules, look.shows_spans());
+    let mut player = Player::new(alloc, rules, look.start(alloc, &notes)?, AHEAD, false)?;
+    for line in &gathering.probes.again {
+        player.take(&mut search, *line)?;
+    }
+    player.finish(&mut search)?;
+    let differ = total_of(&player.run().counts()).differ;
     Ok(Trial {
         change,
-        agrees: machine.agrees(),
-        differ: total_of(&machine.counts()).differ,
+        agrees: player.run().agrees() && gathering.probes.keeps_laws(),
+        differ: differ.saturating_add(gathering.probes.broken_laws()),
     })
-}
-
-fn play_all(machine: &mut ProbedMachine, again: &[KeptProbe]) -> Result<(), AllocError> {
-    for kept in again {
-        play(machine, kept)?;
-    }
-    Ok(())
-}
-
-fn play(machine: &mut ProbedMachine, kept: &KeptProbe) -> Result<(), AllocError> {
-    machine.take(kept.line, kept.at, kept.cpu, kept.pid, &kept.probe)
 }
 
 /// Appends which changed rule explains what timers show, where they differ.

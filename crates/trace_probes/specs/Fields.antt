@@ -1,16 +1,16 @@
 -- The fields of a line of a probe: words KEY=VALUE, in a fixed order; other words may stand between them.
-use Rattle.std.specs.Prelude.{ℕ, Bool, true, false, ◌==◌, List, [], ◌∷◌, codes, Option, Some, None, if◌then◌else◌, option_map, option_and_then, slice_set}
-use Rattle.std.specs.List.{before_first}
+use Rattle.std.specs.Prelude.{ℕ, Bool, true, false, not, ◌&&◌, ◌==◌, is_some, List, [], ◌∷◌, codes, Option, Some, None, if◌then◌else◌, option_map, option_and_then, slice_set}
+use Rattle.std.specs.List.{before_first, list_any}
 use Rattle.std.specs.Str.{bytes_eq}
 use Rattle.trace_probes.specs.Numerals.{after, signed, unsigned}
 use Rattle.trace_probes.specs.declared.field.Field.{Field}
-use Rattle.trace_probes.specs.declared.field.Field.TheVariants.{Pid, Cpu, Flags, Clock, Runtime, Deadline, Throttled, Yielded, NonContending, DlRuntime, DlDeadline, DlPeriod, SchedFlags, OnRq, NormalPrio, Entity, ServedBy, DonorRuntime, DonorDeadline, DonorPeriod, ThisBw, RunningBw, ExtraBw, MaxBw, BwRatio, DeltaExec, ClockTask, ExecStart, State, Current, PolicyBefore, PolicyWanted, Delayed, TotalBw, DomainBw, Timer, FromNow, Expires, Function, Server, FairTasks, Earliest, Active}
+use Rattle.trace_probes.specs.declared.field.Field.TheVariants.{Pid, Cpu, Flags, Clock, Runtime, Deadline, Throttled, Yielded, NonContending, DlRuntime, DlDeadline, DlPeriod, SchedFlags, OnRq, NormalPrio, Entity, ServedBy, DonorRuntime, DonorDeadline, DonorPeriod, ThisBw, RunningBw, ExtraBw, MaxBw, BwRatio, DeltaExec, ClockTask, ExecStart, State, Current, PolicyBefore, PolicyWanted, Delayed, TotalBw, DomainBw, Timer, FromNow, Expires, Function, Server, FairTasks, Earliest, Active, IsServer, MaxBwShown, FrequencyScale, CpuScale, TimerServedBy, RootDomain, Write}
 use Rattle.trace_probes.specs.declared.field.FieldKind.{FieldKind}
 use Rattle.trace_probes.specs.declared.field.FieldKind.TheVariants as kind
 use Rattle.trace_probes.specs.declared.value.FieldValue.{FieldValue}
 use Rattle.trace_probes.specs.declared.value.FieldValue.TheVariants as value
-use Rattle.trace_words.specs.declared.fixed.TimerFunction.{TimerFunction}
-use Rattle.trace_words.specs.declared.fixed.TimerFunction.TheVariants.{ZeroLag, Replenish, Other}
+use Rattle.trace_data.specs.declared.fixed.TimerFunction.{TimerFunction}
+use Rattle.trace_data.specs.declared.fixed.TimerFunction.TheVariants.{ZeroLag, Replenish, Other}
 
 -- what stands before a field's value
 abbrev pub key_of : Field → List ℕ
@@ -57,6 +57,13 @@ key_of Server = codes "srv="
 key_of FairTasks = codes "nr="
 key_of Earliest = codes "ea="
 key_of Active = codes "act="
+key_of IsServer = codes "srv="
+key_of MaxBwShown = codes "mx="
+key_of FrequencyScale = codes "fs="
+key_of CpuScale = codes "cs="
+key_of TimerServedBy = codes "ps="
+key_of RootDomain = codes "rd="
+key_of Write = codes "write="
 
 -- what the value of a field is
 abbrev pub kind_of : Field → FieldKind
@@ -72,6 +79,12 @@ kind_of Expires = kind.Signed
 kind_of Function = kind.Function
 kind_of Server = kind.Flag
 kind_of Active = kind.Flag
+kind_of Write = kind.Flag
+kind_of IsServer = kind.Optional
+kind_of MaxBwShown = kind.Optional
+kind_of FrequencyScale = kind.Optional
+kind_of CpuScale = kind.Optional
+kind_of TimerServedBy = kind.Optional
 kind_of field = kind.Unsigned
 
 -- where the value of a field lies among all
@@ -119,6 +132,13 @@ place_of Server = 39
 place_of FairTasks = 40
 place_of Earliest = 41
 place_of Active = 42
+place_of IsServer = 43
+place_of MaxBwShown = 44
+place_of FrequencyScale = 45
+place_of CpuScale = 46
+place_of TimerServedBy = 47
+place_of RootDomain = 48
+place_of Write = 49
 
 -- the function of a symbol, up to its +
 abbrev pub timer_function : List ℕ → TimerFunction
@@ -135,6 +155,7 @@ value_of kind.Unsigned text = option_map (λ n. value.Unsigned n) (unsigned text
 value_of kind.Signed text = option_map (λ z. value.Signed z) (signed text)
 value_of kind.Flag text = option_map (λ b. value.Flag b) (option_and_then flag_of (unsigned text))
 value_of kind.Function text = Some (value.Function (timer_function text))
+value_of kind.Optional text = option_map (λ n. value.Unsigned n) (unsigned text)
 
 -- the value of a field, where its text was found, and the words behind it; else what is found later
 abbrev pub value_found : FieldKind → Option (List ℕ) → List (List ℕ) → Option (FieldValue × List (List ℕ)) → Option (FieldValue × List (List ℕ))
@@ -146,7 +167,26 @@ abbrev pub next_value : Field → List (List ℕ) → Option (FieldValue × List
 next_value field [] = None
 next_value field (word ∷ words) = value_found (kind_of field) (after (key_of field) word) words (next_value field words)
 
+-- whether a word has the key of a field
+abbrev pub has_field : Field → List (List ℕ) → Bool
+has_field field words = list_any (λ word. is_some (after (key_of field) word)) words
+
+abbrev pub is_optional_kind : FieldKind → Bool
+is_optional_kind kind.Optional = true
+is_optional_kind kind.Unsigned = false
+is_optional_kind kind.Signed = false
+is_optional_kind kind.Flag = false
+is_optional_kind kind.Function = false
+
+-- whether a line may lack a field
+abbrev pub is_optional : Field → Bool
+is_optional field = is_optional_kind (kind_of field)
+
+-- the same; an optional field that no word has is absent, and the words stay
+abbrev pub value_next : Field → List (List ℕ) → Option (FieldValue × List (List ℕ))
+value_next field words = if is_optional field && not (has_field field words) then Some (value.Absent, words) else next_value field words
+
 -- the values of these fields, one behind the other, beside those that are known; none where one is missing or wrong
 abbrev pub values_with : List Field → List FieldValue → List (List ℕ) → Option (List FieldValue)
 values_with [] values words = Some values
-values_with (field ∷ fields) values words = option_and_then (λ v. values_with fields (slice_set values (place_of field) v.0) v.1) (next_value field words)
+values_with (field ∷ fields) values words = option_and_then (λ v. values_with fields (slice_set values (place_of field) v.0) v.1) (value_next field words)

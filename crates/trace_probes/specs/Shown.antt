@@ -1,19 +1,45 @@
 -- Which fields each probe has, in their order, and what its line shows.
-use Rattle.std.specs.Prelude.{ℕ, Bool, List, [], ◌∷◌, codes, Option, Some, None, is_some, if◌then◌else◌, option_map}
-use Rattle.std.specs.List.{list_any}
+use Rattle.std.specs.Prelude.{ℕ, List, [], ◌∷◌, codes, Option, Some, None, if◌then◌else◌, option_map}
 use Rattle.std.specs.Str.{bytes_eq}
-use Rattle.trace_probes.specs.Numerals.{after}
-use Rattle.trace_probes.specs.Fields.{key_of, values_with}
-use Rattle.trace_probes.specs.Tables.{admitted, armed_by, dequeued, enqueued, left_class, migrating, no_values, picked, server_started, signed_at, unsigned_at, updated_by}
+use Rattle.trace_probes.specs.Fields.{has_field, values_with}
+use Rattle.trace_probes.specs.Tables.{admitted, armed_by, dequeued, enqueued, left_class, migrating, no_values, picked, server_idled, server_started, server_stopped, shown_at, signed_at, unsigned_at, flag_at, cpu_at, updated_by}
 use Rattle.trace_probes.specs.declared.field.Field.{Field}
-use Rattle.trace_probes.specs.declared.field.Field.TheVariants.{Active, BwRatio, Clock, ClockTask, Cpu, Current, Deadline, Delayed, DeltaExec, DlDeadline, DlPeriod, DlRuntime, DomainBw, DonorDeadline, DonorPeriod, DonorRuntime, Earliest, Entity, ExecStart, Expires, ExtraBw, FairTasks, Flags, FromNow, Function, MaxBw, NonContending, NormalPrio, OnRq, Pid, PolicyBefore, PolicyWanted, RunningBw, Runtime, SchedFlags, ServedBy, Server, State, ThisBw, Throttled, Timer, TotalBw, Yielded}
+use Rattle.trace_probes.specs.declared.field.Field.TheVariants.{Active, BwRatio, Clock, ClockTask, Cpu, CpuScale, Current, Deadline, Delayed, DeltaExec, DlDeadline, DlPeriod, DlRuntime, DomainBw, DonorDeadline, DonorPeriod, DonorRuntime, Earliest, Entity, ExecStart, Expires, ExtraBw, FairTasks, Flags, FrequencyScale, FromNow, Function, IsServer, MaxBw, MaxBwShown, NonContending, NormalPrio, OnRq, Pid, PolicyBefore, PolicyWanted, RootDomain, RunningBw, Runtime, SchedFlags, ServedBy, Server, State, ThisBw, Throttled, Timer, TimerServedBy, TotalBw, Write, Yielded}
 use Rattle.trace_probes.specs.declared.shown.ProbeEvent.{ProbeEvent}
-use Rattle.trace_probes.specs.declared.shown.ProbeEvent.TheVariants.{Enq, Upd, Deq, Mig, Sfr, Adm, Ina, Dlt, Hst, Ede, Pck}
+use Rattle.trace_probes.specs.declared.shown.ProbeEvent.TheVariants.{Enq, Upd, Deq, Mig, Sfr, Adm, Ina, Dlt, Hst, Ede, Pck, Dls, Idl, Pid as put_prev_idle, Mark as mark_event}
+use Rattle.trace_probes.specs.declared.shown.MarkEvent.{MarkEvent}
+use Rattle.trace_probes.specs.declared.shown.MarkEvent.TheVariants.{Att, Bwa, Bwf, Lim, Reb, Aff, Sap, Off, Onl}
 use Rattle.trace_probes.specs.declared.value.FieldValue.{FieldValue}
-use Rattle.trace_words.specs.declared.probe.Expiry.TheVariants.{After, At}
-use Rattle.trace_words.specs.declared.probe.Ran.TheVariants.{Span, Clocks}
-use Rattle.trace_words.specs.declared.probe.Probe.{Probe}
-use Rattle.trace_words.specs.declared.probe.Probe.TheVariants as probe
+use Rattle.trace_data.specs.declared.probe.Expiry.TheVariants.{After, At}
+use Rattle.trace_data.specs.declared.probe.IdleCharge.{IdleCharge}
+use Rattle.trace_data.specs.declared.probe.IdleCharge.TheVariants.{Update, EndOfIdle}
+use Rattle.trace_data.specs.declared.probe.Mark.{Mark}
+use Rattle.trace_data.specs.declared.probe.Mark.TheVariants as mark
+use Rattle.trace_data.specs.declared.probe.Ran.TheVariants.{Span, Clocks}
+use Rattle.trace_data.specs.declared.probe.Probe.{Probe}
+use Rattle.trace_data.specs.declared.probe.Probe.TheVariants as probe
+
+-- the function of this name that changes sums by no rule of a task
+abbrev pub mark_named : List ℕ → Option MarkEvent
+mark_named name =
+    if bytes_eq name (codes "att") then Some Att else
+    (if bytes_eq name (codes "bwa") then Some Bwa else
+    (if bytes_eq name (codes "bwf") then Some Bwf else
+    (if bytes_eq name (codes "lim") then Some Lim else
+    (if bytes_eq name (codes "reb") then Some Reb else
+    (if bytes_eq name (codes "aff") then Some Aff else
+    (if bytes_eq name (codes "sap") then Some Sap else
+    (if bytes_eq name (codes "off") then Some Off else
+    (if bytes_eq name (codes "onl") then Some Onl else None))))))))
+
+-- the event of this name, of a fair server or a mark
+abbrev pub server_event_named : List ℕ → Option ProbeEvent
+server_event_named name =
+    if bytes_eq name (codes "ede") then Some Ede else
+    (if bytes_eq name (codes "pck") then Some Pck else
+    (if bytes_eq name (codes "dls") then Some Dls else
+    (if bytes_eq name (codes "idl") then Some Idl else
+    (if bytes_eq name (codes "pid") then Some put_prev_idle else option_map (λ e. mark_event e) (mark_named name)))))
 
 -- the event of this name
 abbrev pub event_named : List ℕ → Option ProbeEvent
@@ -27,9 +53,7 @@ event_named name =
     (if bytes_eq name (codes "ina") then Some Ina else
     (if bytes_eq name (codes "dlt") then Some Dlt else
     (if bytes_eq name (codes "hst") then Some Hst else
-    (if bytes_eq name (codes "ede") then Some Ede else
-    (if bytes_eq name (codes "pck") then Some Pck else
-    None))))))))))
+    server_event_named name))))))))
 
 -- enqueue_task_dl
 abbrev pub enq_fields : List Field
@@ -37,11 +61,11 @@ enq_fields = Pid ∷ Cpu ∷ Flags ∷ Clock ∷ Runtime ∷ Deadline ∷ Thrott
 
 -- update_curr_dl_se: kernels that show the span of a run
 abbrev pub upd_span_fields : List Field
-upd_span_fields = Pid ∷ Cpu ∷ Clock ∷ DeltaExec ∷ Runtime ∷ Deadline ∷ Throttled ∷ Yielded ∷ ThisBw ∷ RunningBw ∷ ExtraBw ∷ MaxBw ∷ BwRatio ∷ []
+upd_span_fields = IsServer ∷ Pid ∷ Cpu ∷ Clock ∷ DeltaExec ∷ Runtime ∷ Deadline ∷ Throttled ∷ Yielded ∷ ThisBw ∷ RunningBw ∷ ExtraBw ∷ MaxBw ∷ BwRatio ∷ FrequencyScale ∷ CpuScale ∷ []
 
 -- update_curr_dl: kernels that show the clock and the start of a run
 abbrev pub upd_clocks_fields : List Field
-upd_clocks_fields = Pid ∷ Cpu ∷ Clock ∷ ClockTask ∷ ExecStart ∷ Runtime ∷ Deadline ∷ Throttled ∷ Yielded ∷ Entity ∷ ThisBw ∷ RunningBw ∷ ExtraBw ∷ BwRatio ∷ []
+upd_clocks_fields = Pid ∷ Cpu ∷ Clock ∷ ClockTask ∷ ExecStart ∷ Runtime ∷ Deadline ∷ Throttled ∷ Yielded ∷ Entity ∷ ThisBw ∷ RunningBw ∷ ExtraBw ∷ MaxBwShown ∷ BwRatio ∷ FrequencyScale ∷ CpuScale ∷ []
 
 -- dequeue_task_dl
 abbrev pub deq_fields : List Field
@@ -63,9 +87,13 @@ adm_fields = Pid ∷ Cpu ∷ PolicyBefore ∷ PolicyWanted ∷ DlRuntime ∷ DlD
 abbrev pub adm_delayed_fields : List Field
 adm_delayed_fields = Pid ∷ Cpu ∷ PolicyBefore ∷ PolicyWanted ∷ DlRuntime ∷ DlDeadline ∷ DlPeriod ∷ SchedFlags ∷ OnRq ∷ Delayed ∷ TotalBw ∷ DomainBw ∷ []
 
--- inactive_task_timer and dl_task_timer
-abbrev pub fired_fields : List Field
-fired_fields = Timer ∷ []
+-- inactive_task_timer
+abbrev pub ina_fields : List Field
+ina_fields = Timer ∷ []
+
+-- dl_task_timer
+abbrev pub dlt_fields : List Field
+dlt_fields = Timer ∷ TimerServedBy ∷ []
 
 -- hrtimer_start_range_ns, by its argument
 abbrev pub hst_from_now_fields : List Field
@@ -83,12 +111,16 @@ ede_fields = Server ∷ Cpu ∷ Flags ∷ Clock ∷ DlRuntime ∷ DlPeriod ∷ N
 abbrev pub pck_fields : List Field
 pck_fields = Cpu ∷ Clock ∷ FairTasks ∷ Earliest ∷ Active ∷ Throttled ∷ Runtime ∷ Deadline ∷ DlRuntime ∷ DlPeriod ∷ NonContending ∷ ThisBw ∷ RunningBw ∷ ExtraBw ∷ []
 
--- whether a word has the key of a field
-abbrev pub has_field : Field → List (List ℕ) → Bool
-has_field field words = list_any (λ word. is_some (after (key_of field) word)) words
+-- dl_server_stop
+abbrev pub dls_fields : List Field
+dls_fields = Cpu ∷ Clock ∷ Active ∷ Runtime ∷ Deadline ∷ DlRuntime ∷ DlPeriod ∷ NonContending ∷ ThisBw ∷ RunningBw ∷ ExtraBw ∷ []
+
+-- dl_server_update_idle_time and put_prev_task_idle
+abbrev pub idle_fields : List Field
+idle_fields = Cpu ∷ Clock ∷ ClockTask ∷ ExecStart ∷ Runtime ∷ Deadline ∷ Throttled ∷ Active ∷ []
 
 -- what is shown where the words have these fields
-abbrev pub shows : List Field → (List FieldValue → Probe) → List (List ℕ) → Option Probe
+abbrev pub shows : {A : Type 0} → List Field → (List FieldValue → A) → List (List ℕ) → Option A
 shows fields show words = option_map show (values_with fields no_values words)
 
 abbrev pub show_enqueued : List (List ℕ) → Option Probe
@@ -98,7 +130,7 @@ abbrev pub show_updated_by_span : List (List ℕ) → Option Probe
 show_updated_by_span words = shows upd_span_fields (λ v. probe.Updated (updated_by v (Span (signed_at DeltaExec v) (unsigned_at MaxBw v)))) words
 
 abbrev pub show_updated_by_clocks : List (List ℕ) → Option Probe
-show_updated_by_clocks words = shows upd_clocks_fields (λ v. probe.Updated (updated_by v (Clocks (unsigned_at ClockTask v) (unsigned_at ExecStart v) (unsigned_at Entity v)))) words
+show_updated_by_clocks words = shows upd_clocks_fields (λ v. probe.Updated (updated_by v (Clocks (unsigned_at ClockTask v) (unsigned_at ExecStart v) (unsigned_at Entity v) (shown_at MaxBwShown v)))) words
 
 abbrev pub show_dequeued : List (List ℕ) → Option Probe
 show_dequeued words = shows deq_fields (λ v. probe.Dequeued (dequeued v)) words
@@ -116,10 +148,10 @@ abbrev pub show_admitted_delayed : List (List ℕ) → Option Probe
 show_admitted_delayed words = shows adm_delayed_fields (λ v. probe.Admitted (admitted v)) words
 
 abbrev pub show_zero_lag_fired : List (List ℕ) → Option Probe
-show_zero_lag_fired words = shows fired_fields (λ v. probe.ZeroLagFired (unsigned_at Timer v)) words
+show_zero_lag_fired words = shows ina_fields (λ v. probe.ZeroLagFired (unsigned_at Timer v)) words
 
 abbrev pub show_replenish_fired : List (List ℕ) → Option Probe
-show_replenish_fired words = shows fired_fields (λ v. probe.ReplenishFired (unsigned_at Timer v)) words
+show_replenish_fired words = shows dlt_fields (λ v. probe.ReplenishFired (unsigned_at Timer v) (shown_at TimerServedBy v)) words
 
 abbrev pub show_armed_from_now : List (List ℕ) → Option Probe
 show_armed_from_now words = shows hst_from_now_fields (λ v. probe.Armed (armed_by v (After (signed_at FromNow v)))) words
@@ -142,6 +174,55 @@ show_admission words = if has_field Delayed words then show_admitted_delayed wor
 abbrev pub show_armed : List (List ℕ) → Option Probe
 show_armed words = if has_field FromNow words then show_armed_from_now words else show_armed_until words
 
+abbrev pub show_server_stopped : List (List ℕ) → Option Probe
+show_server_stopped words = shows dls_fields (λ v. probe.ServerStopped (server_stopped v)) words
+
+abbrev pub show_idled : IdleCharge → List (List ℕ) → Option Probe
+show_idled charge words = shows idle_fields (λ v. probe.ServerIdled (server_idled v charge)) words
+
+-- rq_attach_root
+abbrev pub show_attached : List (List ℕ) → Option Mark
+show_attached words = shows (Cpu ∷ RootDomain ∷ []) (λ v. mark.DomainAttached (cpu_at v) (unsigned_at RootDomain v)) words
+
+-- the CPU of a line that shows nothing else
+abbrev pub of_cpu : List (List ℕ) → Option ℕ
+of_cpu words = shows (Cpu ∷ []) cpu_at words
+
+-- sched_rt_handler
+abbrev pub show_limit : List (List ℕ) → Option Mark
+show_limit words = shows (Write ∷ []) (λ v. mark.LimitHandled (flag_at Write v)) words
+
+-- dl_add_task_root_domain
+-- a probe with a filter on the policy, which is 6, shows the pid alone
+abbrev pub show_rebuilt_deadline : List (List ℕ) → Option Mark
+show_rebuilt_deadline words = shows (Pid ∷ []) (λ v. mark.TaskRebuilt (unsigned_at Pid v) 6) words
+
+abbrev pub show_rebuilt_any : List (List ℕ) → Option Mark
+show_rebuilt_any words = shows (Pid ∷ PolicyWanted ∷ []) (λ v. mark.TaskRebuilt (unsigned_at Pid v) (unsigned_at PolicyWanted v)) words
+
+abbrev pub show_rebuilt : List (List ℕ) → Option Mark
+show_rebuilt words = if has_field PolicyWanted words then show_rebuilt_any words else show_rebuilt_deadline words
+
+-- set_cpus_allowed_dl
+abbrev pub show_affinity : List (List ℕ) → Option Mark
+show_affinity words = shows (Pid ∷ Cpu ∷ []) (λ v. mark.AffinitySet (unsigned_at Pid v) (cpu_at v)) words
+
+-- dl_server_apply_params
+abbrev pub show_server_changed : List (List ℕ) → Option Mark
+show_server_changed words = shows (Cpu ∷ DlRuntime ∷ DlPeriod ∷ []) (λ v. mark.ServerChanged (cpu_at v) (unsigned_at DlRuntime v) (unsigned_at DlPeriod v)) words
+
+-- what a line of a function shows that changes sums by no rule of a task
+abbrev pub show_mark : MarkEvent → List (List ℕ) → Option Mark
+show_mark Att words = show_attached words
+show_mark Bwa words = option_map (λ c. mark.BandwidthTaken c) (of_cpu words)
+show_mark Bwf words = option_map (λ c. mark.BandwidthFreed c) (of_cpu words)
+show_mark Lim words = show_limit words
+show_mark Reb words = show_rebuilt words
+show_mark Aff words = show_affinity words
+show_mark Sap words = show_server_changed words
+show_mark Off words = option_map (λ c. mark.CpuDeactivated c) (of_cpu words)
+show_mark Onl words = option_map (λ c. mark.CpuActivated c) (of_cpu words)
+
 -- what a line of a probe shows, by the words behind its event
 abbrev pub probe_of : ProbeEvent → List (List ℕ) → Option Probe
 probe_of Enq words = show_enqueued words
@@ -155,3 +236,7 @@ probe_of Dlt words = show_replenish_fired words
 probe_of Hst words = show_armed words
 probe_of Ede words = show_server_started words
 probe_of Pck words = show_picked words
+probe_of Dls words = show_server_stopped words
+probe_of Idl words = show_idled Update words
+probe_of put_prev_idle words = show_idled EndOfIdle words
+probe_of (mark_event event) words = option_map (λ m. probe.Mark m) (show_mark event words)

@@ -1,36 +1,45 @@
 -- What each probe shows, by the values of its fields.
-use Rattle.std.specs.Prelude.{ℕ, ℤ, pos, Bool, false, ◌-◌, ◌^◌, List, get_or, min, replicate}
+use Rattle.std.specs.Prelude.{ℕ, ℤ, pos, Bool, false, nat_lt, Option, Some, None, ◌-◌, ◌^◌, List, get_or, min, replicate}
 use Rattle.trace_probes.specs.Fields.{place_of}
 use Rattle.trace_probes.specs.declared.field.Field.{Field}
-use Rattle.trace_probes.specs.declared.field.Field.TheVariants.{Active, BwRatio, Clock, Cpu, Current, Deadline, Delayed, DlDeadline, DlPeriod, DlRuntime, DomainBw, DonorDeadline, DonorPeriod, DonorRuntime, Earliest, Entity, ExtraBw, FairTasks, Flags, Function, NonContending, NormalPrio, OnRq, Pid, PolicyBefore, PolicyWanted, RunningBw, Runtime, SchedFlags, ServedBy, Server, State, ThisBw, Throttled, Timer, TotalBw, Yielded}
+use Rattle.trace_probes.specs.declared.field.Field.TheVariants.{Active, BwRatio, Clock, ClockTask, Cpu, CpuScale, Current, Deadline, Delayed, DlDeadline, DlPeriod, DlRuntime, DomainBw, DonorDeadline, DonorPeriod, DonorRuntime, Earliest, Entity, ExecStart, ExtraBw, FairTasks, Flags, FrequencyScale, Function, IsServer, NonContending, NormalPrio, OnRq, Pid, PolicyBefore, PolicyWanted, RunningBw, Runtime, SchedFlags, ServedBy, Server, State, ThisBw, Throttled, Timer, TotalBw, Yielded}
 use Rattle.trace_probes.specs.declared.field.TheConstants.{FIELDS}
 use Rattle.trace_probes.specs.declared.value.FieldValue.{FieldValue}
 use Rattle.trace_probes.specs.declared.value.FieldValue.TheVariants as value
-use Rattle.trace_words.specs.declared.fixed.TimerFunction.{TimerFunction}
-use Rattle.trace_words.specs.declared.fixed.TimerFunction.TheVariants.{Other}
-use Rattle.trace_words.specs.declared.probe.Admitted.{Admitted}
-use Rattle.trace_words.specs.declared.probe.Armed.{Armed}
-use Rattle.trace_words.specs.declared.quantities.Budget.{Budget}
-use Rattle.trace_words.specs.declared.probe.Dequeued.{Dequeued}
-use Rattle.trace_words.specs.declared.quantities.Donor.{Donor}
-use Rattle.trace_words.specs.declared.probe.Enqueued.{Enqueued}
-use Rattle.trace_words.specs.declared.probe.Expiry.{Expiry}
-use Rattle.trace_words.specs.declared.probe.LeftClass.{LeftClass}
-use Rattle.trace_words.specs.declared.probe.Migrating.{Migrating}
-use Rattle.trace_words.specs.declared.quantities.Parameters.{Parameters}
-use Rattle.trace_words.specs.declared.probe.Picked.{Picked}
-use Rattle.trace_words.specs.declared.probe.Ran.{Ran}
-use Rattle.trace_words.specs.declared.probe.ServerStarted.{ServerStarted}
-use Rattle.trace_words.specs.declared.quantities.Sums.{Sums}
-use Rattle.trace_words.specs.declared.probe.Updated.{Updated}
+use Rattle.trace_data.specs.declared.fixed.TimerFunction.{TimerFunction}
+use Rattle.trace_data.specs.declared.fixed.TimerFunction.TheVariants.{Other}
+use Rattle.trace_data.specs.declared.probe.Admitted.{Admitted}
+use Rattle.trace_data.specs.declared.probe.Armed.{Armed}
+use Rattle.trace_data.specs.declared.quantities.Budget.{Budget}
+use Rattle.trace_data.specs.declared.probe.CpuSpeed.{CpuSpeed}
+use Rattle.trace_data.specs.declared.probe.Dequeued.{Dequeued}
+use Rattle.trace_data.specs.declared.quantities.Donor.{Donor}
+use Rattle.trace_data.specs.declared.probe.Enqueued.{Enqueued}
+use Rattle.trace_data.specs.declared.probe.Expiry.{Expiry}
+use Rattle.trace_data.specs.declared.probe.IdleCharge.{IdleCharge}
+use Rattle.trace_data.specs.declared.probe.LeftClass.{LeftClass}
+use Rattle.trace_data.specs.declared.probe.Migrating.{Migrating}
+use Rattle.trace_data.specs.declared.quantities.Parameters.{Parameters}
+use Rattle.trace_data.specs.declared.probe.Picked.{Picked}
+use Rattle.trace_data.specs.declared.probe.Ran.{Ran}
+use Rattle.trace_data.specs.declared.probe.ServerIdled.{ServerIdled}
+use Rattle.trace_data.specs.declared.probe.ServerStarted.{ServerStarted}
+use Rattle.trace_data.specs.declared.probe.ServerStopped.{ServerStopped}
+use Rattle.trace_data.specs.declared.quantities.Sums.{Sums}
+use Rattle.trace_data.specs.declared.probe.Updated.{Updated}
 
 -- no value yet
 abbrev pub no_values : List FieldValue
-no_values = replicate FIELDS (value.Unsigned 0)
+no_values = replicate FIELDS value.Absent
 
 abbrev pub unsigned_in : FieldValue → ℕ
 unsigned_in (value.Unsigned n) = n
 unsigned_in v = 0
+
+-- the number of an optional field
+abbrev pub shown_in : FieldValue → Option ℕ
+shown_in (value.Unsigned n) = Some n
+shown_in v = None
 
 abbrev pub signed_in : FieldValue → ℤ
 signed_in (value.Signed z) = z
@@ -45,10 +54,13 @@ function_in (value.Function f) = f
 function_in v = Other
 
 abbrev pub value_at : Field → List FieldValue → FieldValue
-value_at field values = get_or values (place_of field) (value.Unsigned 0)
+value_at field values = get_or values (place_of field) value.Absent
 
 abbrev pub unsigned_at : Field → List FieldValue → ℕ
 unsigned_at field values = unsigned_in (value_at field values)
+
+abbrev pub shown_at : Field → List FieldValue → Option ℕ
+shown_at field values = shown_in (value_at field values)
 
 abbrev pub signed_at : Field → List FieldValue → ℤ
 signed_at field values = signed_in (value_at field values)
@@ -115,9 +127,17 @@ enqueued v = record {
   sums = sums v;
 }
 
+-- how fast a CPU runs
+abbrev pub speed : List FieldValue → CpuSpeed
+speed v = record {
+  frequency = shown_at FrequencyScale v;
+  capacity = shown_at CpuScale v;
+}
+
 -- update_curr_dl_se, or update_curr_dl
 abbrev pub updated_by : List FieldValue → Ran → Updated
 updated_by v span = record {
+  is_server = nat_lt 0 (unsigned_at IsServer v);
   pid = unsigned_at Pid v;
   cpu = cpu_at v;
   clock = unsigned_at Clock v;
@@ -125,6 +145,7 @@ updated_by v span = record {
   budget = budget v;
   sums = sums v;
   bw_ratio = unsigned_at BwRatio v;
+  speed = speed v;
 }
 
 -- dequeue_task_dl
@@ -212,4 +233,32 @@ picked v = record {
   dl_period = unsigned_at DlPeriod v;
   is_non_contending = flag_at NonContending v;
   sums = sums v;
+}
+
+-- dl_server_stop
+abbrev pub server_stopped : List FieldValue → ServerStopped
+server_stopped v = record {
+  cpu = cpu_at v;
+  clock = unsigned_at Clock v;
+  is_active = flag_at Active v;
+  runtime = signed_at Runtime v;
+  deadline = unsigned_at Deadline v;
+  dl_runtime = unsigned_at DlRuntime v;
+  dl_period = unsigned_at DlPeriod v;
+  is_non_contending = flag_at NonContending v;
+  sums = sums v;
+}
+
+-- dl_server_update_idle_time, or put_prev_task_idle
+abbrev pub server_idled : List FieldValue → IdleCharge → ServerIdled
+server_idled v by = record {
+  charge = by;
+  cpu = cpu_at v;
+  clock = unsigned_at Clock v;
+  now = unsigned_at ClockTask v;
+  start = unsigned_at ExecStart v;
+  runtime = signed_at Runtime v;
+  deadline = unsigned_at Deadline v;
+  is_throttled = flag_at Throttled v;
+  is_active = flag_at Active v;
 }

@@ -4,7 +4,7 @@ ghost use Rattle.std.specs.Prelude.{◌≡◌, ◌<◌};
 ghost use Rattle.trace_probes.specs.Fields.{key_of, kind_of, place_of};
 
 /// How many fields there are.
-pub const FIELDS: usize = 43;
+pub const FIELDS: usize = 50;
 
 /// A field of a line.
 #[derive(Clone, Copy)]
@@ -137,6 +137,27 @@ pub enum Field {
 
     /// `act`: dl_server_active.
     Active,
+
+    /// `srv` of a charge: dl_server; older records do not show it.
+    IsServer,
+
+    /// `mx` where kernels before 6.5 do not have it.
+    MaxBwShown,
+
+    /// `fs`: arch_freq_scale, where the record shows it.
+    FrequencyScale,
+
+    /// `cs`: cpu_scale, where the record shows it.
+    CpuScale,
+
+    /// `ps` of a timer: pi_se of its entity, where the record shows it.
+    TimerServedBy,
+
+    /// `rd`: a root domain.
+    RootDomain,
+
+    /// `write`: whether a sysctl is written.
+    Write,
 }
 
 /// What the value of a field is.
@@ -153,6 +174,9 @@ pub enum FieldKind {
 
     /// A function's name.
     Function,
+
+    /// A number from 0 on, which a line may lack.
+    Optional,
 }
 
 /// What stands before a field's value.
@@ -203,6 +227,13 @@ pub(crate) fn key_of(field: Field) -> &'static [u8]
         Field::FairTasks => b"nr=",
         Field::Earliest => b"ea=",
         Field::Active => b"act=",
+        Field::IsServer => b"srv=",
+        Field::MaxBwShown => b"mx=",
+        Field::FrequencyScale => b"fs=",
+        Field::CpuScale => b"cs=",
+        Field::TimerServedBy => b"ps=",
+        Field::RootDomain => b"rd=",
+        Field::Write => b"write=",
     }
 }
 
@@ -217,8 +248,14 @@ pub(crate) fn kind_of(field: Field) -> FieldKind
         | Field::NonContending
         | Field::Delayed
         | Field::Server
-        | Field::Active => FieldKind::Flag,
+        | Field::Active
+        | Field::Write => FieldKind::Flag,
         Field::Function => FieldKind::Function,
+        Field::IsServer
+        | Field::MaxBwShown
+        | Field::FrequencyScale
+        | Field::CpuScale
+        | Field::TimerServedBy => FieldKind::Optional,
         _ => FieldKind::Unsigned,
     }
 }
@@ -272,5 +309,12 @@ pub(crate) fn place_of(field: Field) -> usize
         Field::FairTasks => 40,
         Field::Earliest => 41,
         Field::Active => 42,
+        Field::IsServer => 43,
+        Field::MaxBwShown => 44,
+        Field::FrequencyScale => 45,
+        Field::CpuScale => 46,
+        Field::TimerServedBy => 47,
+        Field::RootDomain => 48,
+        Field::Write => 49,
     }
 }

@@ -9,5 +9,5 @@ mod value;
 mod values;
 
 pub use numerals::{numeral, signed, unsigned};
-pub use shown::{ProbeEvent, event_named, probe_of};
+pub use shown::{MarkEvent, ProbeEvent, event_named, probe_of};
 pub use value::timer_function;

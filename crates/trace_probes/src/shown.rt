@@ -1,19 +1,51 @@
 //! What a line of a probe shows.
 
 ghost use Rattle.std.specs.Prelude.{◌≡◌};
-ghost use Rattle.grub_text.specs.Lines.{words_of};
-ghost use Rattle.trace_probes.specs.Shown.{event_named, has_field, probe_of, show_admission, show_admitted, show_admitted_delayed, show_armed, show_armed_from_now, show_armed_until, show_dequeued, show_enqueued, show_left_class, show_migrating, show_picked, show_replenish_fired, show_server_started, show_updated, show_updated_by_clocks, show_updated_by_span, show_zero_lag_fired};
-ghost use Rattle.trace_probes.specs.inside.Texts.{words_left};
+ghost use Rattle.text_bytes.specs.Lines.{words_of};
+ghost use Rattle.trace_probes.specs.Fields.{has_field};
+ghost use Rattle.trace_probes.specs.Shown.{event_named, of_cpu, probe_of, show_admission, show_admitted, show_admitted_delayed, show_affinity, show_armed, show_armed_from_now, show_armed_until, show_attached, show_dequeued, show_enqueued, show_idled, show_left_class, show_limit, show_mark, show_migrating, show_picked, show_rebuilt, show_rebuilt_any, show_rebuilt_deadline, show_replenish_fired, show_server_changed, show_server_started, show_server_stopped, show_updated, show_updated_by_clocks, show_updated_by_span, show_zero_lag_fired, server_event_named, mark_named};
 
-use crate::field::{Field, key_of};
+use crate::field::Field;
 use crate::tables::{
-    ADMITTED, ADMITTED_DELAYED, ARMED_FROM_NOW, ARMED_UNTIL, DEQUEUED, ENQUEUED, FIRED, LEFT_CLASS,
-    MIGRATING, PICKED, SERVER_STARTED, UPDATED_BY_CLOCKS, UPDATED_BY_SPAN, admitted, armed_by,
-    dequeued, enqueued, left_class, migrating, picked, server_started, updated_by,
+    ADMITTED, ADMITTED_DELAYED, AFFINITY_SET, ARMED_FROM_NOW, ARMED_UNTIL, DEADLINE_TASK_REBUILT,
+    DEQUEUED, DOMAIN_ATTACHED, ENQUEUED, LEFT_CLASS, LIMIT_HANDLED, MIGRATING, OF_CPU, PICKED,
+    REPLENISH_FIRED, SERVER_CHANGED, SERVER_IDLED, SERVER_STARTED, SERVER_STOPPED, TASK_REBUILT,
+    UPDATED_BY_CLOCKS, UPDATED_BY_SPAN, ZERO_LAG_FIRED, admitted, armed_by, dequeued, enqueued,
+    left_class, migrating, picked, server_idled, server_started, server_stopped, updated_by,
 };
-use crate::values::values_of;
-use grub_text::first_word;
-use trace_words::{Expiry, Probe, Ran};
+use crate::values::{has_field, values_of};
+use trace_data::{Expiry, IdleCharge, Mark, Probe, Ran};
+
+/// A function that changes sums by no rule of a task.
+#[derive(Clone, Copy)]
+pub enum MarkEvent {
+    /// `att`: rq_attach_root.
+    Att,
+
+    /// `bwa`: dl_bw_alloc.
+    Bwa,
+
+    /// `bwf`: dl_bw_free.
+    Bwf,
+
+    /// `lim`: sched_rt_handler.
+    Lim,
+
+    /// `reb`: dl_add_task_root_domain.
+    Reb,
+
+    /// `aff`: set_cpus_allowed_dl.
+    Aff,
+
+    /// `sap`: dl_server_apply_params.
+    Sap,
+
+    /// `off`: sched_cpu_deactivate.
+    Off,
+
+    /// `onl`: sched_cpu_activate.
+    Onl,
+}
 
 /// The event of a probe: which function of the kernel it stands in.
 #[derive(Clone, Copy)]
@@ -50,6 +82,60 @@ pub enum ProbeEvent {
 
     /// `pck`: pick_task_dl.
     Pck,
+
+    /// `dls`: dl_server_stop.
+    Dls,
+
+    /// `idl`: dl_server_update_idle_time.
+    Idl,
+
+    /// `pid`: put_prev_task_idle.
+    Pid,
+    Mark(MarkEvent),
+}
+
+fn mark_named(name: &[u8]) -> Option<MarkEvent>
+    ensures { result ≡ mark_named name.now }
+{
+    if name == b"att".as_slice() {
+        Some(MarkEvent::Att)
+    } else if name == b"bwa".as_slice() {
+        Some(MarkEvent::Bwa)
+    } else if name == b"bwf".as_slice() {
+        Some(MarkEvent::Bwf)
+    } else if name == b"lim".as_slice() {
+        Some(MarkEvent::Lim)
+    } else if name == b"reb".as_slice() {
+        Some(MarkEvent::Reb)
+    } else if name == b"aff".as_slice() {
+        Some(MarkEvent::Aff)
+    } else if name == b"sap".as_slice() {
+        Some(MarkEvent::Sap)
+    } else if name == b"off".as_slice() {
+        Some(MarkEvent::Off)
+    } else if name == b"onl".as_slice() {
+        Some(MarkEvent::Onl)
+    } else {
+        None
+    }
+}
+
+fn server_event_named(name: &[u8]) -> Option<ProbeEvent>
+    ensures { result ≡ server_event_named name.now }
+{
+    if name == b"ede".as_slice() {
+        Some(ProbeEvent::Ede)
+    } else if name == b"pck".as_slice() {
+        Some(ProbeEvent::Pck)
+    } else if name == b"dls".as_slice() {
+        Some(ProbeEvent::Dls)
+    } else if name == b"idl".as_slice() {
+        Some(ProbeEvent::Idl)
+    } else if name == b"pid".as_slice() {
+        Some(ProbeEvent::Pid)
+    } else {
+        Some(ProbeEvent::Mark(mark_named(name)?))
+    }
 }
 
 /// The event of this name.
@@ -74,29 +160,9 @@ pub fn event_named(name: &[u8]) -> Option<ProbeEvent>
         Some(ProbeEvent::Dlt)
     } else if name == b"hst".as_slice() {
         Some(ProbeEvent::Hst)
-    } else if name == b"ede".as_slice() {
-        Some(ProbeEvent::Ede)
-    } else if name == b"pck".as_slice() {
-        Some(ProbeEvent::Pck)
     } else {
-        None
+        server_event_named(name)
     }
-}
-
-/// Whether a word of the text has the key of a field.
-fn has_field(field: Field, text: &[u8]) -> bool
-    ensures { result ≡ has_field field (words_of text.now) }
-{
-    let key = key_of(field);
-    let mut left = Some(text);
-    while let Some(text) = left {
-        let (word, rest) = first_word(text);
-        if word.strip_prefix(key).is_some() {
-            return true;
-        }
-        left = rest;
-    }
-    false
 }
 
 fn show_enqueued(text: &[u8]) -> Option<Probe>
@@ -125,6 +191,7 @@ fn show_updated_by_clocks(text: &[u8]) -> Option<Probe>
         now: values.unsigned(Field::ClockTask),
         start: values.unsigned(Field::ExecStart),
         entity: values.unsigned(Field::Entity),
+        max_bw: values.shown(Field::MaxBwShown),
     };
     Some(Probe::Updated(updated_by(&values, ran)))
 }
@@ -167,7 +234,7 @@ fn show_admitted_delayed(text: &[u8]) -> Option<Probe>
 fn show_zero_lag_fired(text: &[u8]) -> Option<Probe>
     ensures { result ≡ show_zero_lag_fired (words_of text.now) }
 {
-    let values = values_of(&FIRED, text)?;
+    let values = values_of(&ZERO_LAG_FIRED, text)?;
     Some(Probe::ZeroLagFired {
         timer: values.unsigned(Field::Timer),
     })
@@ -176,9 +243,10 @@ fn show_zero_lag_fired(text: &[u8]) -> Option<Probe>
 fn show_replenish_fired(text: &[u8]) -> Option<Probe>
     ensures { result ≡ show_replenish_fired (words_of text.now) }
 {
-    let values = values_of(&FIRED, text)?;
+    let values = values_of(&REPLENISH_FIRED, text)?;
     Some(Probe::ReplenishFired {
         timer: values.unsigned(Field::Timer),
+        served_by: values.shown(Field::TimerServedBy),
     })
 }
 
@@ -215,7 +283,7 @@ fn show_picked(text: &[u8]) -> Option<Probe>
 fn show_updated(text: &[u8]) -> Option<Probe>
     ensures { result ≡ show_updated (words_of text.now) }
 {
-    if has_field(Field::DeltaExec, text) {
+    if has_field(Field::DeltaExec, Some(text)) {
         show_updated_by_span(text)
     } else {
         show_updated_by_clocks(text)
@@ -225,7 +293,7 @@ fn show_updated(text: &[u8]) -> Option<Probe>
 fn show_admission(text: &[u8]) -> Option<Probe>
     ensures { result ≡ show_admission (words_of text.now) }
 {
-    if has_field(Field::Delayed, text) {
+    if has_field(Field::Delayed, Some(text)) {
         show_admitted_delayed(text)
     } else {
         show_admitted(text)
@@ -235,10 +303,119 @@ fn show_admission(text: &[u8]) -> Option<Probe>
 fn show_armed(text: &[u8]) -> Option<Probe>
     ensures { result ≡ show_armed (words_of text.now) }
 {
-    if has_field(Field::FromNow, text) {
+    if has_field(Field::FromNow, Some(text)) {
         show_armed_from_now(text)
     } else {
         show_armed_until(text)
+    }
+}
+
+fn show_server_stopped(text: &[u8]) -> Option<Probe>
+    ensures { result ≡ show_server_stopped (words_of text.now) }
+{
+    let values = values_of(&SERVER_STOPPED, text)?;
+    Some(Probe::ServerStopped(server_stopped(&values)))
+}
+
+fn show_idled(charge: IdleCharge, text: &[u8]) -> Option<Probe>
+    ensures { result ≡ show_idled charge (words_of text.now) }
+{
+    let values = values_of(&SERVER_IDLED, text)?;
+    Some(Probe::ServerIdled(server_idled(&values, charge)))
+}
+
+fn show_attached(text: &[u8]) -> Option<Mark>
+    ensures { result ≡ show_attached (words_of text.now) }
+{
+    let values = values_of(&DOMAIN_ATTACHED, text)?;
+    Some(Mark::DomainAttached {
+        cpu: values.cpu(),
+        domain: values.unsigned(Field::RootDomain),
+    })
+}
+
+/// The CPU of a line that shows nothing else.
+fn of_cpu(text: &[u8]) -> Option<u32>
+    ensures { result ≡ of_cpu (words_of text.now) }
+{
+    let values = values_of(&OF_CPU, text)?;
+    Some(values.cpu())
+}
+
+fn show_limit(text: &[u8]) -> Option<Mark>
+    ensures { result ≡ show_limit (words_of text.now) }
+{
+    let values = values_of(&LIMIT_HANDLED, text)?;
+    Some(Mark::LimitHandled {
+        is_write: values.is_set(Field::Write),
+    })
+}
+
+/// A probe with a filter on the policy shows the pid alone.
+fn show_rebuilt_deadline(text: &[u8]) -> Option<Mark>
+    ensures { result ≡ show_rebuilt_deadline (words_of text.now) }
+{
+    let values = values_of(&DEADLINE_TASK_REBUILT, text)?;
+    Some(Mark::TaskRebuilt {
+        pid: values.unsigned(Field::Pid),
+        policy: 6,
+    })
+}
+
+fn show_rebuilt_any(text: &[u8]) -> Option<Mark>
+    ensures { result ≡ show_rebuilt_any (words_of text.now) }
+{
+    let values = values_of(&TASK_REBUILT, text)?;
+    Some(Mark::TaskRebuilt {
+        pid: values.unsigned(Field::Pid),
+        policy: values.unsigned(Field::PolicyWanted),
+    })
+}
+
+fn show_rebuilt(text: &[u8]) -> Option<Mark>
+    ensures { result ≡ show_rebuilt (words_of text.now) }
+{
+    if has_field(Field::PolicyWanted, Some(text)) {
+        show_rebuilt_any(text)
+    } else {
+        show_rebuilt_deadline(text)
+    }
+}
+
+fn show_affinity(text: &[u8]) -> Option<Mark>
+    ensures { result ≡ show_affinity (words_of text.now) }
+{
+    let values = values_of(&AFFINITY_SET, text)?;
+    Some(Mark::AffinitySet {
+        pid: values.unsigned(Field::Pid),
+        cpu: values.cpu(),
+    })
+}
+
+fn show_server_changed(text: &[u8]) -> Option<Mark>
+    ensures { result ≡ show_server_changed (words_of text.now) }
+{
+    let values = values_of(&SERVER_CHANGED, text)?;
+    Some(Mark::ServerChanged {
+        cpu: values.cpu(),
+        dl_runtime: values.unsigned(Field::DlRuntime),
+        dl_period: values.unsigned(Field::DlPeriod),
+    })
+}
+
+fn show_mark(event: MarkEvent, text: &[u8]) -> Option<Mark>
+    ensures { result ≡ show_mark event (words_of text.now) }
+{
+    match event {
+        MarkEvent::Att => show_attached(text),
+        MarkEvent::Bwa => Some(Mark::BandwidthTaken { cpu: of_cpu(text)? }),
+        MarkEvent::Bwf => Some(Mark::BandwidthFreed { cpu: of_cpu(text)? }),
+        MarkEvent::Lim => show_limit(text),
+        MarkEvent::Reb => show_rebuilt(text),
+        MarkEvent::Aff => show_affinity(text),
+        MarkEvent::Sap => show_server_changed(text),
+        MarkEvent::Off => Some(Mark::CpuDeactivated { cpu: of_cpu(text)? }),
+        MarkEvent::Onl => Some(Mark::CpuActivated { cpu: of_cpu(text)? }),
     }
 }
 
@@ -258,5 +435,9 @@ pub fn probe_of(event: ProbeEvent, text: &[u8]) -> Option<Probe>
         ProbeEvent::Hst => show_armed(text),
         ProbeEvent::Ede => show_server_started(text),
         ProbeEvent::Pck => show_picked(text),
+        ProbeEvent::Dls => show_server_stopped(text),
+        ProbeEvent::Idl => show_idled(IdleCharge::Update, text),
+        ProbeEvent::Pid => show_idled(IdleCharge::EndOfIdle, text),
+        ProbeEvent::Mark(event) => Some(Probe::Mark(show_mark(event, text)?)),
     }
 }

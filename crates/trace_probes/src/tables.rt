@@ -1,13 +1,13 @@
 //! Which fields each probe has, in their order, and what they show.
 
 ghost use Rattle.std.specs.Prelude.{◌≡◌};
-ghost use Rattle.trace_probes.specs.Tables.{admitted, armed_by, budget, dequeued, donor, enqueued, left_class, migrating, parameters, picked, server_started, sums, updated_by};
+ghost use Rattle.trace_probes.specs.Tables.{admitted, armed_by, budget, dequeued, donor, enqueued, left_class, migrating, parameters, picked, server_idled, server_started, server_stopped, speed, sums, updated_by};
 
 use crate::field::Field;
 use crate::values::Values;
-use trace_words::{
-    Admitted, Armed, Budget, Dequeued, Donor, Enqueued, Expiry, LeftClass, Migrating, Parameters,
-    Picked, Ran, ServerStarted, Sums, Updated,
+use trace_data::{
+    Admitted, Armed, Budget, CpuSpeed, Dequeued, Donor, Enqueued, Expiry, IdleCharge, LeftClass,
+    Migrating, Parameters, Picked, Ran, ServerIdled, ServerStarted, ServerStopped, Sums, Updated,
 };
 
 /// enqueue_task_dl.
@@ -38,7 +38,8 @@ pub(crate) const ENQUEUED: [Field; 23] = [
 ];
 
 /// update_curr_dl_se: kernels that show the span of a run.
-pub(crate) const UPDATED_BY_SPAN: [Field; 13] = [
+pub(crate) const UPDATED_BY_SPAN: [Field; 16] = [
+    Field::IsServer,
     Field::Pid,
     Field::Cpu,
     Field::Clock,
@@ -52,10 +53,12 @@ pub(crate) const UPDATED_BY_SPAN: [Field; 13] = [
     Field::ExtraBw,
     Field::MaxBw,
     Field::BwRatio,
+    Field::FrequencyScale,
+    Field::CpuScale,
 ];
 
 /// update_curr_dl: kernels that show the clock and the start of a run.
-pub(crate) const UPDATED_BY_CLOCKS: [Field; 14] = [
+pub(crate) const UPDATED_BY_CLOCKS: [Field; 17] = [
     Field::Pid,
     Field::Cpu,
     Field::Clock,
@@ -69,7 +72,10 @@ pub(crate) const UPDATED_BY_CLOCKS: [Field; 14] = [
     Field::ThisBw,
     Field::RunningBw,
     Field::ExtraBw,
+    Field::MaxBwShown,
     Field::BwRatio,
+    Field::FrequencyScale,
+    Field::CpuScale,
 ];
 
 /// dequeue_task_dl.
@@ -145,8 +151,11 @@ pub(crate) const ARMED_FROM_NOW: [Field; 3] = [Field::Timer, Field::FromNow, Fie
 /// hrtimer_start, by its event.
 pub(crate) const ARMED_UNTIL: [Field; 3] = [Field::Timer, Field::Expires, Field::Function];
 
-/// inactive_task_timer and dl_task_timer.
-pub(crate) const FIRED: [Field; 1] = [Field::Timer];
+/// inactive_task_timer.
+pub(crate) const ZERO_LAG_FIRED: [Field; 1] = [Field::Timer];
+
+/// dl_task_timer.
+pub(crate) const REPLENISH_FIRED: [Field; 2] = [Field::Timer, Field::TimerServedBy];
 
 /// enqueue_dl_entity.
 pub(crate) const SERVER_STARTED: [Field; 10] = [
@@ -179,6 +188,54 @@ pub(crate) const PICKED: [Field; 14] = [
     Field::RunningBw,
     Field::ExtraBw,
 ];
+
+/// dl_server_stop.
+pub(crate) const SERVER_STOPPED: [Field; 11] = [
+    Field::Cpu,
+    Field::Clock,
+    Field::Active,
+    Field::Runtime,
+    Field::Deadline,
+    Field::DlRuntime,
+    Field::DlPeriod,
+    Field::NonContending,
+    Field::ThisBw,
+    Field::RunningBw,
+    Field::ExtraBw,
+];
+
+/// dl_server_update_idle_time and put_prev_task_idle.
+pub(crate) const SERVER_IDLED: [Field; 8] = [
+    Field::Cpu,
+    Field::Clock,
+    Field::ClockTask,
+    Field::ExecStart,
+    Field::Runtime,
+    Field::Deadline,
+    Field::Throttled,
+    Field::Active,
+];
+
+/// rq_attach_root.
+pub(crate) const DOMAIN_ATTACHED: [Field; 2] = [Field::Cpu, Field::RootDomain];
+
+/// dl_bw_alloc, dl_bw_free, sched_cpu_deactivate and sched_cpu_activate.
+pub(crate) const OF_CPU: [Field; 1] = [Field::Cpu];
+
+/// sched_rt_handler.
+pub(crate) const LIMIT_HANDLED: [Field; 1] = [Field::Write];
+
+/// dl_add_task_root_domain.
+pub(crate) const TASK_REBUILT: [Field; 2] = [Field::Pid, Field::PolicyWanted];
+
+/// The same of a probe that writes tasks of SCHED_DEADLINE alone.
+pub(crate) const DEADLINE_TASK_REBUILT: [Field; 1] = [Field::Pid];
+
+/// set_cpus_allowed_dl.
+pub(crate) const AFFINITY_SET: [Field; 2] = [Field::Pid, Field::Cpu];
+
+/// dl_server_apply_params.
+pub(crate) const SERVER_CHANGED: [Field; 3] = [Field::Cpu, Field::DlRuntime, Field::DlPeriod];
 
 pub(crate) fn parameters(values: &Values) -> Parameters
     ensures { result ≡ parameters values.now.items }
@@ -222,6 +279,15 @@ pub(crate) fn sums(values: &Values) -> Sums
     }
 }
 
+pub(crate) fn speed(values: &Values) -> CpuSpeed
+    ensures { result ≡ speed values.now.items }
+{
+    CpuSpeed {
+        frequency: values.shown(Field::FrequencyScale),
+        capacity: values.shown(Field::CpuScale),
+    }
+}
+
 pub(crate) fn enqueued(values: &Values) -> Enqueued
     ensures { result ≡ enqueued values.now.items }
 {
@@ -246,6 +312,7 @@ pub(crate) fn updated_by(values: &Values, ran: Ran) -> Updated
     ensures { result ≡ updated_by values.now.items ran }
 {
     Updated {
+        is_server: values.unsigned(Field::IsServer) > 0,
         pid: values.unsigned(Field::Pid),
         cpu: values.cpu(),
         clock: values.unsigned(Field::Clock),
@@ -253,6 +320,7 @@ pub(crate) fn updated_by(values: &Values, ran: Ran) -> Updated
         budget: budget(values),
         sums: sums(values),
         bw_ratio: values.unsigned(Field::BwRatio),
+        speed: speed(values),
     }
 }
 
@@ -354,5 +422,37 @@ pub(crate) fn picked(values: &Values) -> Picked
         dl_period: values.unsigned(Field::DlPeriod),
         is_non_contending: values.is_set(Field::NonContending),
         sums: sums(values),
+    }
+}
+
+pub(crate) fn server_stopped(values: &Values) -> ServerStopped
+    ensures { result ≡ server_stopped values.now.items }
+{
+    ServerStopped {
+        cpu: values.cpu(),
+        clock: values.unsigned(Field::Clock),
+        is_active: values.is_set(Field::Active),
+        runtime: values.signed(Field::Runtime),
+        deadline: values.unsigned(Field::Deadline),
+        dl_runtime: values.unsigned(Field::DlRuntime),
+        dl_period: values.unsigned(Field::DlPeriod),
+        is_non_contending: values.is_set(Field::NonContending),
+        sums: sums(values),
+    }
+}
+
+pub(crate) fn server_idled(values: &Values, charge: IdleCharge) -> ServerIdled
+    ensures { result ≡ server_idled values.now.items charge }
+{
+    ServerIdled {
+        charge,
+        cpu: values.cpu(),
+        clock: values.unsigned(Field::Clock),
+        now: values.unsigned(Field::ClockTask),
+        start: values.unsigned(Field::ExecStart),
+        runtime: values.signed(Field::Runtime),
+        deadline: values.unsigned(Field::Deadline),
+        is_throttled: values.is_set(Field::Throttled),
+        is_active: values.is_set(Field::Active),
     }
 }

@@ -3,11 +3,11 @@
 ghost use Rattle.std.specs.Prelude.{◌≡◌, ◌==◌, option_map, position};
 ghost use Rattle.std.specs.List.{before_first};
 ghost use Rattle.trace_probes.specs.Fields.{flag_of, timer_function, value_of};
-ghost use Rattle.trace_probes.specs.Tables.{flag_in, function_in, signed_in, unsigned_in};
+ghost use Rattle.trace_probes.specs.Tables.{flag_in, function_in, shown_in, signed_in, unsigned_in};
 
 use crate::field::FieldKind;
 use crate::numerals::{signed, unsigned};
-use trace_words::TimerFunction;
+use trace_data::TimerFunction;
 
 /// The value of a field.
 #[derive(Clone, Copy)]
@@ -16,6 +16,9 @@ pub enum FieldValue {
     Signed(i64),
     Flag(bool),
     Function(TimerFunction),
+
+    /// The line does not show it.
+    Absent,
 }
 
 fn plus_in(symbol: &[u8]) -> Option<usize>
@@ -81,7 +84,7 @@ pub(crate) fn value_of(kind: FieldKind, text: &[u8]) -> Option<FieldValue>
     ensures { result ≡ value_of kind text.now }
 {
     match kind {
-        FieldKind::Unsigned => unsigned_value(text),
+        FieldKind::Unsigned | FieldKind::Optional => unsigned_value(text),
         FieldKind::Signed => signed_value(text),
         FieldKind::Flag => flag_value(text),
         FieldKind::Function => Some(FieldValue::Function(timer_function(text))),
@@ -96,6 +99,16 @@ impl FieldValue {
         match self {
             FieldValue::Unsigned(n) => n,
             _ => 0,
+        }
+    }
+
+    /// The number of a value that a line shows.
+    pub(crate) fn shown(self) -> Option<u64>
+        ensures { result ≡ shown_in self }
+    {
+        match self {
+            FieldValue::Unsigned(n) => Some(n),
+            _ => None,
         }
     }
 

@@ -1,14 +1,14 @@
 //! The values of a line's fields.
 
 ghost use Rattle.std.specs.Prelude.{◌≡◌, ◌==◌, length, option_map, replicate};
-ghost use Rattle.trace_probes.specs.Fields.{next_value, values_with};
-ghost use Rattle.trace_probes.specs.Tables.{cpu_at, flag_at, function_at, no_values, signed_at, unsigned_at};
+ghost use Rattle.trace_probes.specs.Fields.{has_field, is_optional, next_value, value_next, values_with};
+ghost use Rattle.trace_probes.specs.Tables.{cpu_at, flag_at, function_at, no_values, shown_at, signed_at, unsigned_at};
 ghost use Rattle.trace_probes.specs.inside.Texts.{next_text, words_left};
 
-use crate::field::{FIELDS, Field, key_of, kind_of, place_of};
+use crate::field::{FIELDS, Field, FieldKind, key_of, kind_of, place_of};
 use crate::value::{FieldValue, value_of};
-use grub_text::first_word;
-use trace_words::TimerFunction;
+use text_bytes::first_word;
+use trace_data::TimerFunction;
 
 /// The values of fields, each at its place.
 #[derive(Clone, Copy)]
@@ -33,17 +33,51 @@ fn next_value<'a>(field: Field, words: Option<&'a [u8]>) -> Option<(FieldValue, 
     None
 }
 
+/// Whether a word has the key of a field.
+pub(crate) fn has_field(field: Field, words: Option<&[u8]>) -> bool
+    ensures { result ≡ has_field field (words_left words.entry) }
+{
+    let key = key_of(field);
+    let mut left = words;
+    while let Some(text) = left {
+        let (word, rest) = first_word(text);
+        if word.strip_prefix(key).is_some() {
+            return true;
+        }
+        left = rest;
+    }
+    false
+}
+
+/// Whether a line may lack a field.
+fn is_optional(field: Field) -> bool
+    ensures { result ≡ is_optional field }
+{
+    matches!(kind_of(field), FieldKind::Optional)
+}
+
+/// The value of a field, and what stands behind it; none of an optional one that is not there.
+fn value_next<'a>(field: Field, words: Option<&'a [u8]>) -> Option<(FieldValue, Option<&'a [u8]>)>
+    ensures { option_map next_text result ≡ value_next field (words_left words.entry) }
+{
+    if is_optional(field) && !has_field(field, words) {
+        Some((FieldValue::Absent, words))
+    } else {
+        next_value(field, words)
+    }
+}
+
 /// The values of these fields, one behind the other, in a text.
 pub(crate) fn values_of(fields: &[Field], text: &[u8]) -> Option<Values>
     ensures { option_map (λ (v : Values). v.items) result
         ≡ values_with fields.now no_values (words_left (Some text.entry)) }
 {
     let mut values = Values {
-        items: [FieldValue::Unsigned(0); FIELDS],
+        items: [FieldValue::Absent; FIELDS],
     };
     let mut left = Some(text);
     for field in fields {
-        let (value, rest) = next_value(*field, left)?;
+        let (value, rest) = value_next(*field, left)?;
         values.items[place_of(*field)] = value;
         left = rest;
     }
@@ -55,6 +89,13 @@ impl Values {
         ensures { result ≡ unsigned_at field self.now.items }
     {
         self.items[place_of(field)].unsigned()
+    }
+
+    /// The number of an optional field, where the line shows it.
+    pub(crate) fn shown(&self, field: Field) -> Option<u64>
+        ensures { result ≡ shown_at field self.now.items }
+    {
+        self.items[place_of(field)].shown()
     }
 
     pub(crate) fn signed(&self, field: Field) -> i64

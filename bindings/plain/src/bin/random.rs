@@ -45,6 +45,7 @@ fn numbers(reply: Reply) -> (u32, u32, u32, u32, u64) {
         Reply::Ended => (codes::ENDED, 0, 0, 0, 0),
         Reply::Charged(charged, count, s) => (codes::CHARGED, count, s.budget, s.deadline, charged),
         Reply::Retuned => (codes::RETUNED, 0, 0, 0, 0),
+        Reply::Moved(r) => (codes::MOVED, r, 0, 0, 0),
         Reply::Gone => (codes::GONE, 0, 0, 0, 0),
         Reply::NotOn => (codes::NOT_ON, 0, 0, 0, 0),
         Reply::AlreadyOn(r) => (codes::ALREADY_ON, r, 0, 0, 0),
@@ -70,6 +71,7 @@ fn plain_op(op: Op) -> PlainOp {
         codes::TIMER => PlainOp::Timer(op.a, op.b),
         codes::EXIT => PlainOp::Exit,
         codes::CHARGE => PlainOp::Charge(op.a, op.b),
+        codes::MOVE => PlainOp::Move(op.a),
         _ => PlainOp::Retune(op.a, op.b),
     }
 }
@@ -81,6 +83,7 @@ fn is_op(op: Op, queues: u32) -> bool {
         codes::TIMER => op.b <= i32::MAX as u32,
         codes::CHARGE => op.a < queues && (1..=1 << 24).contains(&op.b),
         codes::RETUNE => Params::new(op.a, op.b).is_some(),
+        codes::MOVE => op.a < queues,
         _ => false,
     }
 }
@@ -113,7 +116,8 @@ fn next_op(random: &mut Random, tasks: u32, queues: u32, moment: u32, book: &pla
             let (runtime, period) = random.reservation();
             Op::retune(runtime, if random.below(20) == 0 { 0 } else { period })
         }
-        14 if random.below(20) == 0 => Op { kind: 9 + random.below(90), a: r, b: moment },
+        14 if random.below(20) == 0 => Op { kind: 10 + random.below(90), a: r, b: moment },
+        14 | 15 => Op::move_to(r),
         _ => Op::charge(r, run),
     };
     (task, op)
@@ -156,6 +160,14 @@ fn main() {
             for (r, &(running_bw, this_bw)) in plain.sums.iter().enumerate() {
                 assert_eq!(book.reading(r), Some(Reading { running_bw, this_bw }), "seed {seed} after {op:?}");
             }
+            if random.below(4) == 0 {
+                let on = random.below(m);
+                assert_eq!((book.earliest(on), book.next_timer(on)), (plain.earliest(on), plain.next_timer(on)), "seed {seed}");
+                match book.exhaustion(task) {
+                    Some(run) => assert!(plain.is_exhausted_by(task, run), "seed {seed}: {run} of {task}"),
+                    None => assert!(!plain.records.get(task as usize).is_some_and(|held| matches!(held.place, Place::On(_, State::Contending)))),
+                }
+            }
             if random.below(8) == 0 {
                 history.push(Event::reading(0, book.reading(0).unwrap()));
             }
@@ -176,11 +188,15 @@ fn main() {
             codes::CALL => history[at].reply.budget ^= 1,
             _ => history[at].this_bw ^= 1,
         }
-        let (mut tasks, mut queues): (Vec<_>, Vec<_>) = (
-            reservations.iter().map(|&(runtime, period)| Task::new(runtime, period)).collect(),
-            constants.iter().map(|&(umax, uextra)| Runqueue::new(umax, uextra)).collect(),
-        );
+        let memory = || {
+            let tasks: Vec<_> = reservations.iter().map(|&(runtime, period)| Task::new(runtime, period)).collect();
+            (tasks, constants.iter().map(|&(umax, uextra)| Runqueue::new(umax, uextra)).collect::<Vec<_>>())
+        };
+        let (mut tasks, mut queues) = memory();
         assert_eq!(Book::open(&mut tasks, &mut queues).unwrap().check(&history), at, "seed {seed}");
+        let (mut first_tasks, mut first_queues) = memory();
+        assert_eq!(Book::open(&mut first_tasks, &mut first_queues).unwrap().check(&history[..at]), at, "seed {seed}");
+        assert!(tasks == first_tasks && queues == first_queues, "seed {seed}: the call that is not the book's was made");
     }
     println!("{asked} ops asked, {granted} granted, {outside} out of range: replies, sums and records as plain Rust's");
 }

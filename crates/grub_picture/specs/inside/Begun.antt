@@ -1,7 +1,7 @@
 -- A bar that has begun: when it ends, and which comes after it.
 use Rattle.std.specs.Prelude.{ℕ, List, [], ◌∷◌, Option, Some, None, if◌then◌else◌}
 use Rattle.grub_book.specs.declared.place.State.{State}
-use Rattle.grub_shapes.specs.declared.shape.Bar.{Bar}
+use Rattle.svg.specs.declared.shape.Bar.{Bar}
 use Rattle.grub_picture.specs.declared.bars.Begun.{Begun}
 use Rattle.grub_picture.specs.Bars.{is_still}
 

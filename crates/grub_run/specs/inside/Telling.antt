@@ -4,8 +4,8 @@ use Rattle.std.specs.Borrow.{Bor}
 use Rattle.grub_trace.specs.declared.fault.TraceFault.TheVariants as trace
 use Rattle.grub_run.specs.declared.grub_fault.GrubFault.{GrubFault}
 use Rattle.grub_run.specs.declared.grub_fault.GrubFault.TheVariants as run
-use Rattle.grub_text.specs.declared.files.Source.{Source}
-use Rattle.grub_text.specs.Source.{IsLonger, IsOpened, IsUnreadable, Opener, Reader}
+use Rattle.text_bytes.specs.declared.files.Source.{Source}
+use Rattle.text_bytes.specs.Source.{IsLonger, IsOpened, IsUnreadable, Opener, Reader}
 use Rattle.grub_run.specs.declared.program_fault.ProgramFault.{ProgramFault}
 use Rattle.grub_run.specs.declared.program_fault.ProgramFault.TheVariants as faults
 

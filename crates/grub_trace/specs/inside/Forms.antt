@@ -1,7 +1,7 @@
 -- Which forms declare tasks.
 use Rattle.std.specs.Prelude.{ℕ, Bool, true, false, List, [], ◌∷◌, Option, Some, None}
 use Rattle.grub_trace.specs.Forms.{Form, at_moment, form_of, queue, task}
-use Rattle.grub_text.specs.Lines.{words_of}
+use Rattle.text_bytes.specs.Lines.{words_of}
 
 abbrev pub is_task : Option Form → Bool
 is_task None = false

@@ -6,7 +6,7 @@ use Rattle.grub_trace.specs.declared.fault.Kind.{Kind}
 use Rattle.grub_trace.specs.declared.fault.TraceFault.{TraceFault}
 use Rattle.grub_trace.specs.declared.raw.Head.{Head}
 use Rattle.grub_trace.specs.Tree.{Declaration}
-use Rattle.grub_text.specs.Lines.{parts_of}
+use Rattle.text_bytes.specs.Lines.{parts_of}
 use Rattle.grub_trace.specs.inside.Forms.{begins_with_task}
 use Rattle.grub_trace.specs.inside.Reading.{AllRead, Body, FileRead, Read, Faults, ◌>>=◌, file_from, of_file, opened, read_lines}
 

@@ -14,8 +14,8 @@ use Rattle.grub_trace.specs.declared.tasks.Tasks.{Tasks}
 use Rattle.grub_trace.specs.declared.version.Version.{Version}
 use Rattle.grub_trace.specs.Faults.{last_of}
 use Rattle.grub_trace.specs.Forms.{at_moment, form_of, is_number}
-use Rattle.grub_text.specs.Digits.{value}
-use Rattle.grub_text.specs.Lines.{words_of}
+use Rattle.text_bytes.specs.Digits.{value}
+use Rattle.text_bytes.specs.Lines.{words_of}
 use Rattle.grub_plan.specs.Plans.{Line}
 use Rattle.grub_trace.specs.Tree.{Happening, is_moment, names_of}
 use Rattle.grub_trace.specs.inside.Forms.{is_task}

@@ -21,8 +21,8 @@ use Rattle.grub_trace.specs.declared.fault.Location.{Location}
 use Rattle.grub_trace.specs.declared.tasks.Task.{Task}
 use Rattle.grub_trace.specs.declared.tasks.Tasks.{Tasks}
 use Rattle.grub_trace.specs.Forms.{version_of, Form, queue, task, at_moment, form_of, is_filled, is_number, reservation_value, capacity_value}
-use Rattle.grub_text.specs.Lines.{parts_of, words_of}
-use Rattle.grub_text.specs.Digits.{value}
+use Rattle.text_bytes.specs.Lines.{parts_of, words_of}
+use Rattle.text_bytes.specs.Digits.{value}
 use Rattle.grub_plan.specs.Plans.{Line, PlanView}
 use Rattle.grub_trace.specs.Naming.{line_in, plan_with, task_of}
 use Rattle.grub_trace.specs.Tree.{is_moment, is_span, Declaration, Happening, names_of}

@@ -3,11 +3,11 @@ use Rattle.std.specs.Prelude.{◌≡◌, ◌≤◌, ◌⊎◌, ℕ, List, Option
 use Rattle.std.specs.Io.KnownBytes.{Appends}
 use Rattle.clap.specs.declared.error.kind.ErrorKind.{ErrorKind}
 use Rattle.clap.specs.declared.error.kind.ErrorKind.TheVariants as kinds
-use Rattle.grub_text.specs.declared.files.Source.{Source}
-use Rattle.grub_text.specs.Source.{Opener, Reader}
+use Rattle.text_bytes.specs.declared.files.Source.{Source}
+use Rattle.text_bytes.specs.Source.{Opener, Reader}
 use Rattle.grub_run.specs.Faults.{HasFileFault, Whole}
 use Rattle.grub_run.specs.declared.program_fault.TheConstants.{STATUS_FILE, STATUS_SYSTEM, STATUS_USAGE}
-use Rattle.grub_command.specs.declared.texts.TheConstants.{HELP, VERSION}
+use Rattle.grubrun_command.specs.declared.texts.TheConstants.{HELP, VERSION}
 use Rattle.grub_run.specs.Written.{Begins, Writes}
 use Rattle.grubrun.specs.Statuses.{HasNoSpan, IsWanted}
 use Rattle.grubrun.specs.Views.{IsMistake}

@@ -1,7 +1,7 @@
 -- The texts that the slices of the code point to.
 use Rattle.std.specs.Prelude.{ℕ, ◌+◌, List, [], length, Option, Some, None}
 use Rattle.std.specs.Borrow.{Bor}
-use Rattle.grub_text.specs.Lines.{words_of}
+use Rattle.text_bytes.specs.Lines.{words_of}
 use Rattle.trace_probes.specs.declared.value.FieldValue.{FieldValue}
 
 abbrev pub text_of : Bor (List ℕ) → List ℕ

@@ -1,7 +1,7 @@
 use Rattle.std.proofs.Common.{◌++◌, List, refl, ap, sym, ◌∙◌}
 use Rattle.std.proofs.lemmas.List.{drop_all}
 use Rattle.grub_picture.specs.Bars.{bars_of}
-use Rattle.grub_shapes.specs.declared.shape.Bar.{Bar}
+use Rattle.svg.specs.declared.shape.Bar.{Bar}
 use Rattle.grub_picture.proofs.Barring.{all_bars, one_step}
 use Rattle.grub_picture.proofs.bars.bars_of.Goals as goal
 

@@ -3,8 +3,8 @@ use Rattle.std.proofs.lemmas.List.{get_or_default, take_all}
 use Rattle.std.specs.Io.KnownBytes.{Appends}
 use Rattle.grub_book.specs.declared.event.Reading.{Reading}
 use Rattle.grub_plan.specs.Texts.{report_text}
-use Rattle.grub_text.specs.Writing.{HandsOn}
-use Rattle.grub_text.proofs.Handing.{hands_both, hands_none, hands_through, part_after, on_err}
+use Rattle.text_bytes.specs.Writing.{HandsOn}
+use Rattle.text_bytes.proofs.Handing.{hands_both, hands_none, hands_through, part_after, on_err}
 use Rattle.grub_run.specs.Written.{texts_from}
 use Rattle.grub_run.proofs.Known.{flushed, on_ok, prefix_flushed, prefix_of}
 use Rattle.grub_run.proofs.TextLemmas.{texts_next, texts_front, texts_before}

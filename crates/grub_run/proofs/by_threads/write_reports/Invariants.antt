@@ -1,6 +1,6 @@
 use Rattle.std.proofs.Common.{◌≤◌, take, vec_capacity, []}
-use Rattle.grub_text.specs.declared.pieces.TheConstants.{LINE_MAX}
-use Rattle.grub_text.specs.Writing.{HandsOn}
+use Rattle.text_bytes.specs.declared.pieces.TheConstants.{LINE_MAX}
+use Rattle.text_bytes.specs.Writing.{HandsOn}
 use Rattle.grub_run.specs.Written.{texts_from}
 use Rattle.grub_run.proofs.by_threads.write_reports.Given as goal
 

@@ -1,4 +1,4 @@
-use Rattle.grub_text.specs.Source.{Holds}
+use Rattle.text_bytes.specs.Source.{Holds}
 use Rattle.grub_run.proofs.FilesLemmas.{first_told, handed_on, held_more, of_reading}
 use Rattle.grub_run.proofs.paths.read_each.Goals as goal
 

@@ -1,5 +1,5 @@
 use Rattle.std.proofs.Common.{rules}
-use Rattle.grub_text.specs.Source.{Holds, IsOpened}
+use Rattle.text_bytes.specs.Source.{Holds, IsOpened}
 use Rattle.grub_run.proofs.FilesLemmas.{first_at, first_told, handed_on, held_next, of_reading}
 use Rattle.grub_run.proofs.paths.read_files.Goals as goal
 

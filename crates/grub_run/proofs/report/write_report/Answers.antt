@@ -1,7 +1,7 @@
 use Rattle.std.specs.List.{flat_map}
 use Rattle.std.proofs.Common.{◌++◌}
 use Rattle.grub_plan.specs.Texts.{entry_line, head_line, close_line, report_text}
-use Rattle.grub_text.proofs.Handing.{hands_both, part_after, part_longer, on_err}
+use Rattle.text_bytes.proofs.Handing.{hands_both, part_after, part_longer, on_err}
 use Rattle.grub_run.proofs.report.write_report.Goals as goal
 
 pub returns-in_err-write_head-clause-part : goal.returns-in_err-write_head-clause-part

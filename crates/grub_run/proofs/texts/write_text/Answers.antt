@@ -1,4 +1,4 @@
-use Rattle.grub_text.proofs.Handing.{on_err}
+use Rattle.text_bytes.proofs.Handing.{on_err}
 use Rattle.grub_run.proofs.Known.{handed_part}
 use Rattle.grub_run.proofs.texts.write_text.Goals as goal
 

@@ -1,6 +1,6 @@
 use Rattle.std.proofs.Common.{refl}
 use Rattle.std.proofs.lemmas.Result.{on_ok_weaker, on_err_weaker}
-use Rattle.grub_text.proofs.Handing.{on_err}
+use Rattle.text_bytes.proofs.Handing.{on_err}
 use Rattle.grub_views.specs.Lines.{timeline_lines}
 use Rattle.grub_run.specs.declared.view.FileView.TheVariants.{Timeline}
 use Rattle.grub_run.proofs.Handed.{line_begun, line_drained, line_drained_part}

@@ -1,6 +1,6 @@
 use Rattle.std.proofs.Common.{◌≡◌, option_map, rules}
 use Rattle.grub_trace.specs.Forms.{form_of}
-use Rattle.grub_text.specs.Lines.{words_of}
+use Rattle.text_bytes.specs.Lines.{words_of}
 use Rattle.grub_trace.specs.inside.Reading.{form_view}
 use Rattle.grub_trace.proofs.FormLemmas.{form_named}
 use Rattle.grub_trace.proofs.form.form_of.Goals as goal

@@ -1,7 +1,7 @@
 use Rattle.std.proofs.Common.{◌≡◌, sym, ◌∙◌, true, get_or, arith}
 use Rattle.std.specs.Char.{is_ascii_digit}
 use Rattle.grub_trace.proofs.NumberLemmas.{digits_more}
-use Rattle.grub_text.proofs.Digits.{digit_range, value_more}
+use Rattle.text_bytes.proofs.Digits.{digit_range, value_more}
 use Rattle.grub_trace.proofs.number.digits_value.Goals as goal
 
 pub loop-c-preserved : goal.loop-c-preserved

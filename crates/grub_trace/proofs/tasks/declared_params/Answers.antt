@@ -5,7 +5,7 @@ use Rattle.grub_bw.specs.Bandwidth.{Reservation, reservation_fits}
 use Rattle.grub_trace.specs.declared.fault.Kind.{Kind}
 use Rattle.grub_trace.specs.declared.fault.Kind.TheVariants.{BadNumber, DuplicateTask}
 use Rattle.grub_trace.specs.Forms.{is_number, reservation_value}
-use Rattle.grub_text.specs.Digits.{value}
+use Rattle.text_bytes.specs.Digits.{value}
 use Rattle.grub_trace.specs.Naming.{task_of}
 use Rattle.grub_trace.specs.Tree.{names_of}
 use Rattle.grub_trace.specs.inside.Reading.{IsNumberOf, declarations, ok_unless, task_fault}

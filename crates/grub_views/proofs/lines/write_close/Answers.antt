@@ -1,4 +1,4 @@
-use Rattle.grub_text.proofs.Handing.{hands_soon, on_err}
+use Rattle.text_bytes.proofs.Handing.{hands_soon, on_err}
 use Rattle.grub_views.proofs.lines.write_close.Goals as goal
 
 pub returns-in_err-make_room-clause-part : goal.returns-in_err-make_room-clause-part

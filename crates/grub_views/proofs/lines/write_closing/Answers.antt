@@ -1,6 +1,6 @@
 use Rattle.std.proofs.Common.{[], refl, ap}
 use Rattle.std.proofs.lemmas.List.{drop_all}
-use Rattle.grub_text.proofs.Handing.{hands_none, hands_both, on_err}
+use Rattle.text_bytes.proofs.Handing.{hands_none, hands_both, on_err}
 use Rattle.grub_views.specs.Lines.{close_lines}
 use Rattle.grub_views.proofs.Closing.{close_left}
 use Rattle.grub_views.proofs.Handing.{piece_left, part_piece, hands_end}

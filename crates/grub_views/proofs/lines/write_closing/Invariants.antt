@@ -1,6 +1,6 @@
 use Rattle.std.proofs.Common.{◌≡◌, ◌≤◌, ◌++◌, ℕ, List, drop, vec_capacity}
-use Rattle.grub_text.specs.declared.pieces.TheConstants.{LINE_MAX}
-use Rattle.grub_text.specs.Writing.{HandsOn}
+use Rattle.text_bytes.specs.declared.pieces.TheConstants.{LINE_MAX}
+use Rattle.text_bytes.specs.Writing.{HandsOn}
 use Rattle.grub_views.specs.Lines.{close_lines}
 use Rattle.grub_views.proofs.lines.write_closing.Given as goal
 

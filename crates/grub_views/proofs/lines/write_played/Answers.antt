@@ -2,8 +2,8 @@ use Rattle.std.proofs.Common.{◌≡◌, ◌++◌, ◌∙◌, ap, sym, subst, ru
 use Rattle.std.specs.List.{flat_map}
 use Rattle.std.proofs.lemmas.Grind.{flat_map-append}
 use Rattle.grub_plan.specs.Plans.{PlanView}
-use Rattle.grub_text.specs.Writing.{HandsOn, HandsPart}
-use Rattle.grub_text.proofs.Handing.{hands_both}
+use Rattle.text_bytes.specs.Writing.{HandsOn, HandsPart}
+use Rattle.text_bytes.proofs.Handing.{hands_both}
 use Rattle.grub_timeline.specs.TimeLines.{AreWithin}
 use Rattle.grub_views.specs.Lines.{told_line}
 use Rattle.grub_views.proofs.Chunking.{told_out}

@@ -3,8 +3,8 @@ use Rattle.std.specs.Bool.{OnFalse}
 use Rattle.std.specs.List.{flat_map}
 use Rattle.grub_timeline.specs.TimeLines.{AreWithin}
 use Rattle.grub_timeline.specs.declared.told.ToldEntry.{ToldEntry}
-use Rattle.grub_text.specs.declared.pieces.TheConstants.{LINE_MAX}
-use Rattle.grub_text.specs.Writing.{HandsOn}
+use Rattle.text_bytes.specs.declared.pieces.TheConstants.{LINE_MAX}
+use Rattle.text_bytes.specs.Writing.{HandsOn}
 use Rattle.grub_views.specs.Lines.{told_line}
 use Rattle.grub_views.proofs.lines.write_played.Given as goal
 

@@ -1,6 +1,6 @@
 use Rattle.std.specs.List.{flat_map}
 use Rattle.std.proofs.lemmas.Result.{on_ok_weaker, on_err_weaker}
-use Rattle.grub_text.proofs.Handing.{hands_both, part_after, part_longer, on_err}
+use Rattle.text_bytes.proofs.Handing.{hands_both, part_after, part_longer, on_err}
 use Rattle.grub_views.specs.Lines.{close_lines, timeline_lines, told_line}
 use Rattle.grub_views.proofs.Viewed.{view_part, view_whole}
 use Rattle.grub_views.proofs.lines.write_timeline.Goals as goal

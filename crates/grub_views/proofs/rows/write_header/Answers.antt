@@ -1,4 +1,4 @@
-use Rattle.grub_text.proofs.Handing.{hands_put, hands_soon, on_err}
+use Rattle.text_bytes.proofs.Handing.{hands_put, hands_soon, on_err}
 use Rattle.grub_views.specs.Rows.{header}
 use Rattle.grub_views.proofs.rows.write_header.Goals as goal
 

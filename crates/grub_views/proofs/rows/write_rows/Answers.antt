@@ -3,8 +3,8 @@ use Rattle.std.specs.List.{flat_map}
 use Rattle.std.proofs.lemmas.List.Elements.{All-nil}
 use Rattle.grub_book.specs.Sums.{opening_book}
 use Rattle.grub_plan.specs.Plans.{PlanView, IsAskOf}
-use Rattle.grub_text.specs.Writing.{HandsOn, HandsPart}
-use Rattle.grub_text.proofs.Handing.{hands_both, hands_none}
+use Rattle.text_bytes.specs.Writing.{HandsOn, HandsPart}
+use Rattle.text_bytes.proofs.Handing.{hands_both, hands_none}
 use Rattle.grub_timeline.specs.TimeLines.{AreWithin}
 use Rattle.grub_timeline.specs.declared.told.ToldEntry.{ToldEntry}
 use Rattle.grub_steps.specs.Replay.{steps_from, steps_of}

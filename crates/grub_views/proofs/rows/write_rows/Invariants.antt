@@ -4,8 +4,8 @@ use Rattle.std.specs.List.{flat_map}
 use Rattle.grub_book.specs.Sums.{opening_book}
 use Rattle.grub_timeline.specs.TimeLines.{AreWithin}
 use Rattle.grub_timeline.specs.declared.told.ToldEntry.{ToldEntry}
-use Rattle.grub_text.specs.declared.pieces.TheConstants.{LINE_MAX}
-use Rattle.grub_text.specs.Writing.{HandsOn}
+use Rattle.text_bytes.specs.declared.pieces.TheConstants.{LINE_MAX}
+use Rattle.text_bytes.specs.Writing.{HandsOn}
 use Rattle.grub_steps.specs.Replay.{steps_of}
 use Rattle.grub_views.specs.Rows.{step_row}
 use Rattle.grub_steps.specs.Fitting.{AreToldIn}

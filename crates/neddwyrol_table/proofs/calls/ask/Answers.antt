@@ -1,25 +1,20 @@
-use Rattle.std.proofs.Common.{refl}
-use Rattle.grub_table.specs.declared.answer.Started.TheVariants as started
-use Rattle.grub_table.specs.declared.answer.Finished.TheVariants as finished
-use Rattle.neddwyrol_table.proofs.Calling.{called_answered, called_busy, called_done, called_lost}
+use Rattle.neddwyrol_table.proofs.Calling.{called_of}
 use Rattle.neddwyrol_table.proofs.calls.ask.Goals as goal
 
-pub returns-in-Answered-clause-called : goal.returns-in-Answered-clause-called
-returns-in-Answered-clause-called c =
-    let a = c.args in let i = c.in-Answered in
-    called_answered a.shared.now a.pass a.t a.op a.tries (started.Answered i.pass i.reply) i.ensures.started i.ensures.brief i.pass i.reply refl
+pub returns-in-Charge-clause-called : goal.returns-in-Charge-clause-called
+returns-in-Charge-clause-called c = let a = c.args in called_of a.shared.now a.pass a.t a.op _ a.tries _ _ c.in-Charge.is c.charge.ensures.called
 
-pub returns-in-Busy-clause-called : goal.returns-in-Busy-clause-called
-returns-in-Busy-clause-called c =
-    let a = c.args in let i = c.in-Busy in
-    called_busy a.shared.now a.pass a.t a.op a.tries (started.Busy i.pass i.field-1) i.ensures.started i.ensures.brief i.pass i.field-1 refl
+pub returns-in-Block-clause-called : goal.returns-in-Block-clause-called
+returns-in-Block-clause-called c = let a = c.args in called_of a.shared.now a.pass a.t a.op _ a.tries _ _ c.in-Block.is c.block.ensures.called
 
-pub returns-in-Done-clause-called : goal.returns-in-Done-clause-called
-returns-in-Done-clause-called c =
-    let a = c.args in let h = c.in-Held in let i = c.in-Done in
-    called_done a.shared.now a.pass a.t a.op a.tries (started.Held h.claim) h.ensures.started h.ensures.brief h.claim refl (finished.Done i.pass i.reply) i.ensures.finished i.ensures.within i.pass i.reply refl
+pub returns-in-Timer-clause-called : goal.returns-in-Timer-clause-called
+returns-in-Timer-clause-called c = let a = c.args in called_of a.shared.now a.pass a.t a.op _ a.tries _ _ c.in-Timer.is c.timer.ensures.called
 
-pub returns-in-Held-finish-clause-called : goal.returns-in-Held-finish-clause-called
-returns-in-Held-finish-clause-called c =
-    let a = c.args in let h = c.in-Held in let i = c.in-Held-finish in
-    called_lost a.shared.now a.pass a.t a.op a.tries (started.Held h.claim) h.ensures.started h.ensures.brief h.claim refl (finished.Held i.claim) i.ensures.finished i.ensures.within i.claim c.cancel.result refl c.cancel.ensures.cancelled
+pub returns-in-Wake-clause-called : goal.returns-in-Wake-clause-called
+returns-in-Wake-clause-called c = let a = c.args in called_of a.shared.now a.pass a.t a.op _ a.tries _ _ c.in-Wake.is c.wake.ensures.called
+
+pub returns-in-Join-clause-called : goal.returns-in-Join-clause-called
+returns-in-Join-clause-called c = let a = c.args in called_of a.shared.now a.pass a.t a.op _ a.tries _ _ c.in-Join.is c.join.ensures.called
+
+pub returns-in-Leave-clause-called : goal.returns-in-Leave-clause-called
+returns-in-Leave-clause-called c = let a = c.args in called_of a.shared.now a.pass a.t a.op _ a.tries _ _ c.in-Leave.is c.leave.ensures.called

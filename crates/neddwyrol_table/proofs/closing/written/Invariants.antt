@@ -1,6 +1,6 @@
 use Rattle.std.proofs.Common.{◌≡◌, ◌<◌, ◌≤◌, ℕ, length, get_or}
 use Rattle.grub_book.specs.declared.event.Reading.{Reading}
-use Rattle.grub_flat.specs.declared.numbers.NdReading.{NdReading}
+use Rattle.library_book.specs.declared.numbers.NdReading.{NdReading}
 use Rattle.neddwyrol_table.specs.Ended.{plain_reading}
 use Rattle.neddwyrol_table.proofs.closing.written.Given as goal
 

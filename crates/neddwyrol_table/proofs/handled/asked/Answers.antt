@@ -1,5 +1,5 @@
 use Rattle.std.proofs.Common.{◌≡◌, Some}
-use Rattle.grub_flat.specs.Asked.{op_of}
+use Rattle.library_book.specs.Asked.{op_of}
 use Rattle.neddwyrol_table.specs.Called.{code_reply, table_of}
 use Rattle.neddwyrol_table.proofs.Calling.{called_as}
 use Rattle.neddwyrol_table.proofs.handled.asked.Goals as goal

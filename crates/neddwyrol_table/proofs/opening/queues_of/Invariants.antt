@@ -1,5 +1,5 @@
 use Rattle.std.proofs.Common.{◌≡◌, map, take}
-use Rattle.grub_flat.specs.Memory.{constants_of}
+use Rattle.library_book.specs.Memory.{constants_of}
 use Rattle.neddwyrol_table.proofs.opening.queues_of.Given as goal
 
 abbrev pub invariant-loop-cell : goal.invariant-loop-cell

@@ -1,5 +1,5 @@
 use Rattle.std.proofs.Common.{◌≡◌, map, take}
-use Rattle.grub_flat.specs.Memory.{params_of}
+use Rattle.library_book.specs.Memory.{params_of}
 use Rattle.neddwyrol_table.proofs.opening.tasks_of.Given as goal
 
 abbrev pub invariant-loop-task : goal.invariant-loop-task

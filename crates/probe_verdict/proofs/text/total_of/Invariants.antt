@@ -1,6 +1,6 @@
 use Rattle.std.proofs.Common.{◌≡◌, ◌-◌, ◌^◌, min, take}
 use Rattle.std.specs.List.{sum_by}
-use Rattle.exact_words.specs.Tallies.{tally_of}
+use Rattle.probe_findings.specs.Tallies.{tally_of}
 use Rattle.probe_verdict.specs.declared.names.TheConstants.{KINDS}
 use Rattle.probe_verdict.proofs.text.total_of.Given as goal
 

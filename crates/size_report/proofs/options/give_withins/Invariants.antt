@@ -1,5 +1,5 @@
 use Rattle.std.proofs.Common.{◌≡◌, map, drop, length}
-use Rattle.trace_line.specs.Words.{text_of}
+use Rattle.trace_fields.specs.Words.{text_of}
 use Rattle.size_report.specs.Options.{asked_task, withins_on}
 use Rattle.size_report.proofs.options.give_withins.Given as goal
 

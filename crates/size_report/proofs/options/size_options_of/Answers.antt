@@ -1,7 +1,7 @@
 use Rattle.std.proofs.Common.{rules, ◌≡◌, ◌++◌, [], Ok, length, take, drop, map, sym, ap, ◌∙◌}
 use Rattle.std.proofs.Math.Seq.{take-append_seam}
-use Rattle.trace_line.specs.Words.{text_of}
-use Rattle.check_settings.specs.Settings.{and_then}
+use Rattle.trace_fields.specs.Words.{text_of}
+use Rattle.trace_options.specs.Settings.{and_then}
 use Rattle.size_report.specs.Options.{asked_task, said_with, tasks_on, withins_on}
 use Rattle.size_report.proofs.options.size_options_of.Goals as goal
 

@@ -1,6 +1,6 @@
 use Rattle.std.proofs.Common.{◌≡◌, ◌++◌, ◌∷◌, [], Err, sym, ap, ◌∙◌, map, drop, List, rules, ◌+◌}
 use Rattle.std.specs.List.{list_any}
-use Rattle.trace_line.specs.Words.{text_of}
+use Rattle.trace_fields.specs.Words.{text_of}
 use Rattle.size_report.specs.Options.{asked_task, fault_by, tasks_on}
 use Rattle.size_report.specs.declared.options.AskedTask.{AskedTask}
 use Rattle.size_report.specs.inside.Texts.{is_named}

@@ -1,5 +1,5 @@
 use Rattle.std.proofs.Common.{◌≡◌, [], map, drop}
-use Rattle.trace_line.specs.Words.{text_of}
+use Rattle.trace_fields.specs.Words.{text_of}
 use Rattle.size_report.specs.Options.{asked_task, tasks_on}
 use Rattle.size_report.proofs.options.tasks_of.Given as goal
 

@@ -1,5 +1,5 @@
 use Rattle.std.proofs.Common.{◌≡◌, drop}
-use Rattle.grub_text.specs.Lines.{words_of}
+use Rattle.text_bytes.specs.Lines.{words_of}
 use Rattle.trace_probes.specs.Fields.{values_with}
 use Rattle.trace_probes.specs.Tables.{no_values}
 use Rattle.trace_probes.specs.inside.Texts.{words_left}

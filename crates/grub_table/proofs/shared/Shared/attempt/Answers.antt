@@ -10,26 +10,25 @@ use Rattle.grub_table.specs.declared.seated.Seated.{Seated}
 use Rattle.grub_table.specs.declared.view.Stored.{Stored}
 use Rattle.grub_table.specs.Calls.{claim_share}
 use Rattle.grub_table.specs.Histories.{WasBefore}
-use Rattle.grub_table.specs.inside.Between.{Tells}
-use Rattle.grub_table.specs.inside.Tellings.{Finishes, StoredServer}
+use Rattle.grub_table.specs.inside.Between.{HoldsMade, Tells}
+use Rattle.grub_table.specs.inside.Tellings.{Finishes}
+use Rattle.grub_table.specs.inside.Tries.{KnowsNoMore}
 use Rattle.grub_table.specs.Layout.{task_word_at}
-use Rattle.grub_table.specs.inside.Layout.{params_word_at}
+use Rattle.grub_table.specs.inside.Layout.{server_word_at, params_word_at}
 use Rattle.grub_table.proofs.Brief.{made_by_try}
 use Rattle.grub_table.proofs.Tries.{IsMade, done, lost, tried}
 use Rattle.grub_table.proofs.shared.Shared.attempt.Goals as goal
 
--- the server's word is stored after the event
-stored_server : (s : Shared) (c : Claim) (p : Record × Reply) (stored : Stored) (old new : Seated) (n : ℕ) → IsMade s c p stored old → Tells s (StoredServer n) old new → IsMade s c p (record { server = n; params = stored.params }) new
-stored_server s c p stored old new n made told =
+-- the server's word is stored after the event, where it changes
+stored_server : (s : Shared) (c : Claim) (p : Record × Reply) (stored now : Stored) (old new : Seated) → IsMade s c p stored old → Tells s KnowsNoMore old new → HoldsMade s new c.task p.0 now → IsMade s c p now new
+stored_server s c p stored now old new made told holds =
     let x = claim_share c in
-    let e : Event = Call x.number c.task c.op p.1 in
-    let h = made.holds in
-    let w = told.of c.task h.hold.0 p.0 stored h.hold.1 in record {
-      holds = record { seat_of = told.seat; task = h.task; hold = (h.hold.0, w.2) };
+    let e : Event = Call x.number c.task c.op p.1 in record {
+      holds = holds;
       number = told.number ∙ made.number;
-      marks = w.1 ∙ made.marks;
-      calls = subst (Finishes s.terms x.number x.seen e) (sym w.0) made.calls;
-      was = subst (WasBefore s.terms c.task c.held e) (sym w.0) made.was;
+      marks = told.of.1 ∙ made.marks;
+      calls = subst (Finishes s.terms x.number x.seen e) (sym told.of.0) made.calls;
+      was = subst (WasBefore s.terms c.task c.held e) (sym told.of.0) made.was;
       kept = made.kept;
       claimed = made.claimed;
     }
@@ -44,20 +43,16 @@ invariant_of-result c =
 pub returns-in_default-clause-finished : goal.returns-in_default-clause-finished
 returns-in_default-clause-finished c = lost c.args.self.now c.args.claim c.requires.of c.decide.new.seated _ refl refl refl refl c.in_default.ensures.told
 
-pub store_server-requires-clause-held : goal.store_server-requires-clause-held
-store_server-requires-clause-held c =
-    let made = tried c.args.self.now c.args.claim c.requires.of (c.in-Some.next, c.in-Some.reply) c.decide.new.seated c.in-Some.ensures.told in
-    (c.in-Some.next, _, made.holds)
+pub store_changed_server-requires-clause-held : goal.store_changed_server-requires-clause-held
+store_changed_server-requires-clause-held c = (tried c.args.self.now c.args.claim c.requires.of (c.in-Some.next, c.in-Some.reply) c.decide.new.seated c.in-Some.ensures.told).holds
 
-pub store_server-requires-clause-fits : goal.store_server-requires-clause-fits
-store_server-requires-clause-fits c =
+pub store_changed_server-requires-clause-fits : goal.store_changed_server-requires-clause-fits
+store_changed_server-requires-clause-fits c =
     let made = tried c.args.self.now c.args.claim c.requires.of (c.in-Some.next, c.in-Some.reply) c.decide.new.seated c.in-Some.ensures.told in
     (ServerFits-kept _ _ made.kept).0
 
 pub hand_back-pass-requires-clause-held : goal.hand_back-pass-requires-clause-held
-hand_back-pass-requires-clause-held c =
-    let made = tried c.args.self.now c.args.claim c.requires.of (c.in-Some.next, c.in-Some.reply) c.decide.new.seated c.in-Some.ensures.told in
-    (stored_server c.args.self.now c.args.claim _ _ c.decide.new.seated c.store_server.new.seated _ made c.store_server.ensures.told).holds
+hand_back-pass-requires-clause-held c = c.store_changed_server.ensures.stored
 
 pub hand_back-pass-requires-clause-kept : goal.hand_back-pass-requires-clause-kept
 hand_back-pass-requires-clause-kept c = (tried c.args.self.now c.args.claim c.requires.of (c.in-Some.next, c.in-Some.reply) c.decide.new.seated c.in-Some.ensures.told).kept
@@ -65,8 +60,8 @@ hand_back-pass-requires-clause-kept c = (tried c.args.self.now c.args.claim c.re
 pub returns-clause-finished : goal.returns-clause-finished
 returns-clause-finished c =
     let made = tried c.args.self.now c.args.claim c.requires.of (c.in-Some.next, c.in-Some.reply) c.decide.new.seated c.in-Some.ensures.told in
-    let stored = stored_server c.args.self.now c.args.claim _ _ c.decide.new.seated c.store_server.new.seated _ made c.store_server.ensures.told in
-    done c.args.self.now c.args.claim c.requires.of _ _ c.store_server.new.seated stored 1 _ c.hand_back-pass.ensures.seen c.hand_back-pass.ensures.told (λ _. one)
+    let stored = stored_server c.args.self.now c.args.claim _ _ _ c.decide.new.seated c.store_changed_server.new.seated made c.store_changed_server.ensures.knows c.store_changed_server.ensures.stored in
+    done c.args.self.now c.args.claim c.requires.of _ _ c.store_changed_server.new.seated stored 1 _ c.hand_back-pass.ensures.seen c.hand_back-pass.ensures.told (λ _. one)
   where
     one : 1 ≤ 1
     one = omega arith
@@ -75,4 +70,4 @@ pub returns-clause-within : goal.returns-clause-within
 returns-clause-within c =
     let task = c.args.claim.task in
     let setup = c.args.self.now.terms.setup in
-    made_by_try _ _ (params_word_at setup task) (task_word_at setup task) c.args.claim.held.params c.in-Some.next.params _ (c.in-Some.next, c.in-Some.reply) _ _ _ _ c.in-Some.ensures.made c.store_server.ensures.made c.hand_back-pass.ensures.made
+    made_by_try _ (server_word_at setup task) (params_word_at setup task) (task_word_at setup task) c.args.claim.held c.in-Some.next _ (c.in-Some.next, c.in-Some.reply) _ _ _ _ c.in-Some.ensures.made c.store_changed_server.ensures.made c.hand_back-pass.ensures.made

@@ -1,6 +1,6 @@
 use Rattle.std.proofs.Common.{◌≡◌, drop}
-use Rattle.deadline_timers.specs.Playing.{left_after}
-use Rattle.deadline_timers.specs.States.{state_of}
+use Rattle.timer_play.specs.Playing.{left_after}
+use Rattle.timer_play.specs.States.{state_of}
 use Rattle.timer_changes.specs.Played.{told_until_by}
 use Rattle.timer_changes.proofs.play.Play.tell_until.Given as goal
 

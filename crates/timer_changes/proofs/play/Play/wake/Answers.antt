@@ -1,8 +1,8 @@
 use Rattle.std.proofs.Common.{ap, sym, ◌∙◌}
-use Rattle.deadline_rules.specs.declared.charge.ChargeLaw.{ChargeLaw}
+use Rattle.kernel_entity.specs.declared.charge.ChargeLaw.{ChargeLaw}
 use Rattle.timer_changes.proofs.Waking.{wakes_so}
 use Rattle.timer_changes.proofs.play.Play.wake.Goals as goal
-use Rattle.timer_rules.specs.Wakes.{waking_by}
+use Rattle.timer_tasks.specs.Wakes.{waking_by}
 
 pub returns-then-not-runs-clause-woken : goal.returns-then-not-runs-clause-woken
 returns-then-not-runs-clause-woken c =

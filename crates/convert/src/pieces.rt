@@ -1,0 +1,106 @@
+//! What a trace tells.
+
+ghost use Rattle.std.specs.Prelude.{◌≡◌, IfErr, IfOk, map};
+ghost use Rattle.convert_facts.specs.Keeping.{gathered_text};
+ghost use Rattle.convert_facts.specs.Reading.{gathered_first};
+ghost use Rattle.convert.specs.Faults.{IsOfReading};
+ghost use Rattle.trace_fields.specs.Words.{text_of};
+ghost use Rattle.convert.specs.Read.{IsFaultIn, IsShownOf, IsToldOf, names_in};
+
+use crate::fault::ConvertFault;
+use crate::options::ConvertOptions;
+use convert_facts::{Census, FactLines, Facts, ShownTasks};
+use std::alloc::{AllocError, Global};
+use std::io;
+use trace_file::{ReadFault, read_lines};
+
+/// How traces are opened and read.
+#[derive(Drop)]
+pub struct Input<O, N> {
+    /// Opens the trace of a name.
+    pub open: O,
+
+    /// Reads the next bytes of an opened trace into room, and gives their number: 0 at the end.
+    pub read: N,
+}
+
+/// Why the trace of a path was not read.
+fn fault_of<'a>(path: &'a str, fault: ReadFault<AllocError>) -> ConvertFault<'a>
+    ensures { IsOfReading result }
+{
+    match fault {
+        ReadFault::Unreadable => ConvertFault::Unreadable { path },
+        ReadFault::NoMemory | ReadFault::Lines(AllocError) => ConvertFault::NoMemory,
+    }
+}
+
+/// The names of the given tasks.
+fn names_of<'a>(alloc: Global, options: &ConvertOptions<'a>) -> Result<Vec<&'a [u8]>, AllocError>
+    ensures { IfOk result (λ names. map text_of names.items ≡ names_in options.now) }
+{
+    let mut names = Vec::new(alloc);
+    for task in &options.tasks {
+        names.push(task.name.as_bytes())?;
+    }
+    Ok(names)
+}
+
+fn fact_lines(alloc: Global, options: &ConvertOptions<'_>) -> Result<FactLines, AllocError>
+    ensures { IfOk result (λ lines. gathered_text lines
+        ≡ gathered_first (names_in options.now) options.now.cpus) }
+{
+    let names = names_of(alloc, options)?;
+    let lines = FactLines::new(alloc, &names, options.cpus)?;
+    Ok(lines)
+}
+
+/// What the trace of a name tells of the given tasks, and of those of its notes.
+pub fn read_facts<
+    'a,
+    D: Drop,
+    O: Fn(&str) -> io::Result<D>,
+    N: Fn(&mut D, &mut [u8]) -> io::Result<usize>,
+>(
+    alloc: Global,
+    input: &Input<O, N>,
+    path: &'a str,
+    options: &ConvertOptions<'_>,
+) -> Result<Facts, ConvertFault<'a>>
+    requires open { O.IsAlwaysCallable input.now.open }
+    requires read { N.IsAlwaysCallable input.now.read }
+    ensures told { IfOk result (IsToldOf O.Fn N.Fn input.now path.now options.now) }
+    ensures fault { IfErr result IsOfReading }
+{
+    let Ok(mut lines) = fact_lines(alloc, options) else {
+        return Err(ConvertFault::NoMemory);
+    };
+    match read_lines(alloc, &input.open, &input.read, path, &mut lines) {
+        Ok(halt) => match lines.end(halt) {
+            Ok(facts) => Ok(facts),
+            Err(_) => Err(ConvertFault::NoMemory),
+        },
+        Err(fault) => Err(fault_of(path, fault)),
+    }
+}
+
+/// The tasks that the trace of a name shows, or its first fault.
+pub(crate) fn read_tasks<
+    'a,
+    D: Drop,
+    O: Fn(&str) -> io::Result<D>,
+    N: Fn(&mut D, &mut [u8]) -> io::Result<usize>,
+>(alloc: Global, input: &Input<O, N>, path: &'a str) -> Result<ShownTasks, ConvertFault<'a>>
+    requires open { O.IsAlwaysCallable input.now.open }
+    requires read { N.IsAlwaysCallable input.now.read }
+    ensures shown { IfOk result (IsShownOf O.Fn N.Fn input.now path.now) }
+    ensures fault { IfErr result (IsFaultIn O.Fn N.Fn input.now path.now) }
+{
+    let mut census = Census::new(alloc);
+    match read_lines(alloc, &input.open, &input.read, path, &mut census) {
+        Ok(halt) => match census.end(halt) {
+            Ok(tasks) => Ok(tasks),
+            Err(fault) => Err(ConvertFault::Line { path, fault }),
+        },
+        Err(fault) => Err(fault_of(path, fault)),
+    }
+}

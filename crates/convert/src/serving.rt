@@ -1,0 +1,241 @@
+//! What the program does with a trace: it prints which tasks there are, or writes the event files.
+
+ghost use Rattle.std.specs.Prelude.{◌≡◌, ◌⊎◌, ◌<◌, None, IfErr, IfOk, IfSome, MatchResult, ℕ, List, OnOk, length, map, string_bytes};
+ghost use Rattle.grub_plan.specs.Contents.{contents};
+ghost use Rattle.convert.specs.Faults.{explained, status_of};
+ghost use Rattle.convert.specs.Read.{IsFaultIn, PrintsTasks};
+ghost use Rattle.convert.specs.Serving.{AreFree, AreMade, HasNoEvents, IsFirstThere, MakesEvents, event_path, event_paths};
+ghost use Rattle.convert.specs.declared.fault.ConvertFault.{ConvertFault};
+ghost use Rattle.convert.specs.declared.fault.ConvertFault.TheVariants as faults;
+ghost use Rattle.convert.specs.declared.fault.TheConstants.{STATUS_FILE, STATUS_SYSTEM};
+
+use crate::census::tasks_text;
+use crate::fault::ConvertFault;
+use crate::files::{FilesFault, event_files};
+use crate::options::ConvertOptions;
+use crate::pieces::{Input, read_facts, read_tasks};
+use convert_facts::{LineFault, Wrong};
+use std::alloc::{AllocError, Global};
+use std::io;
+use std::io::Write;
+
+/// How event files are written.
+#[derive(Drop)]
+pub struct Target<X, M> {
+    /// Whether there is something at a path.
+    pub exists: X,
+
+    /// Makes a file at a path with these bytes.
+    pub make: M,
+}
+
+/// The path of the event file of a runqueue.
+fn path_of(alloc: Global, prefix: &str, runqueue: usize) -> Result<String, AllocError>
+    ensures { IfOk result (λ path. string_bytes path ≡ event_path prefix.now runqueue) }
+{
+    format!(in alloc; "{prefix}.cpu{runqueue}.grub")
+}
+
+/// Those of so many runqueues.
+fn paths_of(alloc: Global, prefix: &str, count: usize) -> Result<Vec<String>, AllocError>
+    ensures { IfOk result (λ v. map string_bytes v.items ≡ event_paths prefix.now count) }
+{
+    let mut paths = Vec::new(alloc);
+    for runqueue in 0..count {
+        paths.push(path_of(alloc, prefix, runqueue)?)?;
+    }
+    Ok(paths)
+}
+
+/// The first of these paths at which there is something.
+fn first_taken<X: Fn(&str) -> bool>(exists: &X, paths: &[String]) -> Option<usize>
+    requires { X.IsAlwaysCallable exists.now }
+    ensures free { result ≡ None → AreFree X.Fn exists.now (map string_bytes paths.now) }
+    ensures taken { IfSome result (λ i. (path : List ℕ)
+        × IsFirstThere X.Fn exists.now (map string_bytes paths.now) i path) }
+    ensures below { IfSome result (λ i. i < length paths.now) }
+{
+    for (i, path) in paths.iter().enumerate() {
+        if exists(path.as_str()) {
+            return Some(i);
+        }
+    }
+    None
+}
+
+/// Makes a file at each of these paths.
+fn write_files<'a, M: Fn(&str, &[u8]) -> io::Result<()>>(
+    make: &M,
+    paths: &[String],
+    files: &[Vec<u8>],
+) -> Result<(), ConvertFault<'a>>
+    requires callable { M.IsAlwaysCallable make.now }
+    requires same { length paths.now ≡ length files.now }
+    ensures made { OnOk result
+        (AreMade M.Fn make.now (map string_bytes paths.now) (contents files.now)) }
+    ensures fault { IfErr result (λ e. e ≡ faults.Write) }
+{
+    for i in 0..files.len() {
+        match make(paths[i].as_str(), files[i].as_slice()) {
+            Ok(()) => {}
+            Err(_) => return Err(ConvertFault::Write),
+        }
+    }
+    Ok(())
+}
+
+/// The fault of the trace of a name that tells no event files, whose own lines have this one.
+pub fn explain<'a>(path: &'a str, fault: FilesFault<'a>, own: Option<LineFault>) -> ConvertFault<'a>
+    ensures { result ≡ explained path.entry fault.entry own }
+{
+    match (fault, own) {
+        (FilesFault::TooLong { line }, _) => ConvertFault::Line {
+            path,
+            fault: LineFault {
+                line,
+                wrong: Wrong::TooLong,
+            },
+        },
+        (FilesFault::Line, Some(fault)) => ConvertFault::Line { path, fault },
+        (FilesFault::NoSuchTask { name }, _) => ConvertFault::NoSuchTask { path, name },
+        (FilesFault::NoText, _) => ConvertFault::NoText,
+        (FilesFault::NoMemory, _) | (FilesFault::Line, None) => ConvertFault::NoMemory,
+    }
+}
+
+/// Writes the event files of the trace of a name, none over a file that is there.
+fn write_events<
+    'a,
+    D: Drop,
+    O: Fn(&str) -> io::Result<D>,
+    N: Fn(&mut D, &mut [u8]) -> io::Result<usize>,
+    X: Fn(&str) -> bool,
+    M: Fn(&str, &[u8]) -> io::Result<()>,
+>(
+    alloc: Global,
+    input: &Input<O, N>,
+    target: &Target<X, M>,
+    path: &'a str,
+    prefix: &str,
+    options: &ConvertOptions<'a>,
+) -> Result<(), ConvertFault<'a>>
+    requires open { O.IsAlwaysCallable input.now.open }
+    requires read { N.IsAlwaysCallable input.now.read }
+    requires exists { X.IsAlwaysCallable target.now.exists }
+    requires make { M.IsAlwaysCallable target.now.make }
+    ensures done { OnOk result
+        (MakesEvents O.Fn N.Fn X.Fn M.Fn input.now target.now path.now prefix.now options.now) }
+    ensures nothing { IfErr result (λ e. status_of e ≡ 1
+        → HasNoEvents O.Fn N.Fn X.Fn M.Fn input.now target.now path.entry prefix.now options.now
+        e) }
+{
+    let mut facts = read_facts(alloc, input, path, options)?;
+    let files = match event_files(alloc, options, &facts) {
+        Ok(files) => files,
+        Err(fault) => return Err(explain(path, fault, facts.fault.take())),
+    };
+    let Ok(mut paths) = paths_of(alloc, prefix, files.len()) else {
+        return Err(ConvertFault::NoText);
+    };
+    if let Some(i) = first_taken(&target.exists, &paths) {
+        return Err(ConvertFault::FileExists {
+            path: paths.remove(i),
+        });
+    }
+    write_files(&target.make, &paths, &files)
+}
+
+/// Prints the tasks that the trace of a name shows.
+fn print_tasks<
+    'a,
+    D: Drop,
+    O: Fn(&str) -> io::Result<D>,
+    N: Fn(&mut D, &mut [u8]) -> io::Result<usize>,
+    W: Write,
+>(alloc: Global, input: &Input<O, N>, path: &'a str, out: &mut W) -> Result<(), ConvertFault<'a>>
+    requires open { O.IsAlwaysCallable input.now.open }
+    requires read { N.IsAlwaysCallable input.now.read }
+    ensures done { OnOk result
+        (PrintsTasks O.Fn N.Fn input.now path.now (W.contents out.old) (W.contents out.new)) }
+    ensures nothing { IfErr result (λ e. status_of e ≡ 1 → out.new ≡ out.old) }
+    ensures fault { IfErr result (IsFaultIn O.Fn N.Fn input.now path.now) }
+{
+    let tasks = read_tasks(alloc, input, path)?;
+    let Ok(text) = tasks_text(alloc, &tasks) else {
+        return Err(ConvertFault::NoText);
+    };
+    if out.write_all(&text).is_err() || out.flush().is_err() {
+        return Err(ConvertFault::Write);
+    }
+    Ok(())
+}
+
+/// The status of a result, whose fault is told.
+pub fn told_status<E: Write>(done: Result<(), ConvertFault<'_>>, faults: &mut E) -> u8
+    ensures told { MatchResult done.entry (λ _. result ≡ 0) (λ e. result ≡ status_of e) }
+    ensures status { (result ≡ 0) ⊎ (result ≡ STATUS_FILE) ⊎ (result ≡ STATUS_SYSTEM) }
+{
+    match done {
+        Ok(()) => 0,
+        Err(fault) => {
+            let _ = fault.tell(faults);
+            fault.status()
+        }
+    }
+}
+
+/// Prints the SCHED_DEADLINE tasks that the trace of a name shows, or the line of a fault, and gives the status.
+pub fn serve_tasks<
+    D: Drop,
+    O: Fn(&str) -> io::Result<D>,
+    N: Fn(&mut D, &mut [u8]) -> io::Result<usize>,
+    W: Write,
+    E: Write,
+>(alloc: Global, input: &Input<O, N>, path: &str, out: &mut W, faults: &mut E) -> u8
+    requires open { O.IsAlwaysCallable input.now.open }
+    requires read { N.IsAlwaysCallable input.now.read }
+    ensures status { (result ≡ 0) ⊎ (result ≡ STATUS_FILE) ⊎ (result ≡ STATUS_SYSTEM) }
+    // At 0 the text of the tasks that the trace shows was printed. At 1 nothing was, and its first line with a fault is told.
+    ensures done { result ≡ 0
+        → PrintsTasks O.Fn N.Fn input.now path.now (W.contents out.old) (W.contents out.new) }
+    ensures nothing { result ≡ 1 → out.new ≡ out.old }
+    ensures fault { result ≡ 1
+        → (e : ConvertFault) × (status_of e ≡ 1) × IsFaultIn O.Fn N.Fn input.now path.now e }
+{
+    let done = print_tasks(alloc, input, path, out);
+    told_status(done, faults)
+}
+
+/// Writes the event files of the trace of a name, or the line of a fault, and gives the status.
+pub fn serve_events<
+    D: Drop,
+    O: Fn(&str) -> io::Result<D>,
+    N: Fn(&mut D, &mut [u8]) -> io::Result<usize>,
+    X: Fn(&str) -> bool,
+    M: Fn(&str, &[u8]) -> io::Result<()>,
+    E: Write,
+>(
+    alloc: Global,
+    input: &Input<O, N>,
+    target: &Target<X, M>,
+    path: &str,
+    prefix: &str,
+    options: &ConvertOptions<'_>,
+    faults: &mut E,
+) -> u8
+    requires open { O.IsAlwaysCallable input.now.open }
+    requires read { N.IsAlwaysCallable input.now.read }
+    requires exists { X.IsAlwaysCallable target.now.exists }
+    requires make { M.IsAlwaysCallable target.now.make }
+    // At 0 the event files of what the trace tells were made at paths where nothing was. At 1 the fault is the trace's own, or that of
+    // the first path at which something was.
+    ensures done { result ≡ 0
+        → MakesEvents O.Fn N.Fn X.Fn M.Fn input.now target.now path.now prefix.now options.now }
+    ensures nothing { result ≡ 1 → (e : ConvertFault) × (status_of e ≡ 1)
+        × HasNoEvents O.Fn N.Fn X.Fn M.Fn input.now target.now path.entry prefix.now options.now
+        e }
+    ensures status { (result ≡ 0) ⊎ (result ≡ STATUS_FILE) ⊎ (result ≡ STATUS_SYSTEM) }
+{
+    let done = write_events(alloc, input, target, path, prefix, options);
+    told_status(done, faults)
+}

@@ -1,0 +1,11 @@
+use Rattle.std.proofs.Common.{ap, ◌∙◌, List}
+use Rattle.std.specs.List.{position}
+use Rattle.convert_facts.specs.declared.given.GivenTask.{GivenTask}
+use Rattle.convert_facts.specs.Given.{seeks}
+use Rattle.convert_facts.specs.Keeping.{given_text}
+use Rattle.convert_facts.proofs.GivenLemmas.{position_map}
+use Rattle.convert_facts.proofs.tasks.GivenTasks.index_of_comm.Goals as goal
+
+pub returns-clause-index : goal.returns-clause-index
+returns-clause-index c =
+    c.place_of_comm.ensures ∙ (ap (λ (xs : List GivenTask). position (λ g. seeks c.args.comm.now (given_text g)) xs) c.deref.ensures.value ∙ position_map (seeks c.args.comm.now) given_text c.args.self.now.given.items)

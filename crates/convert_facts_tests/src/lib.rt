@@ -1,0 +1,5 @@
+//! Tests of convert_facts.
+#![tactic(auto)]
+
+#[cfg(test)]
+mod tests;

@@ -1,0 +1,5 @@
+//! Tests of convert.
+#![tactic(auto)]
+
+#[cfg(test)]
+mod tests;

@@ -1,5 +1,0 @@
-use Rattle.deadline_laws.proofs.admitted.extra_stays.Goals as goal
-use Rattle.deadline_laws.proofs.AdmittingLemmas.{taken_stays}
-
-pub returns : goal.returns
-returns c = taken_stays

@@ -1,5 +1,0 @@
-use Rattle.deadline_laws.proofs.law.charges_are_alike.Goals as goal
-use Rattle.deadline_laws.proofs.LawLemmas.{charges_alike}
-
-pub returns : goal.returns
-returns c = charges_alike

@@ -1,5 +1,0 @@
-use Rattle.deadline_laws.proofs.law.wakes_answer_alike.Goals as goal
-use Rattle.deadline_laws.proofs.WakeLemmas.{answers_alike}
-
-pub returns : goal.returns
-returns c = answers_alike

@@ -1,5 +1,0 @@
-use Rattle.deadline_laws.proofs.sums.moves_balance.Goals as goal
-use Rattle.deadline_laws.proofs.SumLemmas.{move_balances}
-
-pub returns : goal.returns
-returns c = move_balances

@@ -1,5 +1,0 @@
-use Rattle.deadline_laws.proofs.sums.sums_stay.Goals as goal
-use Rattle.deadline_laws.proofs.MoreSums.{sums_stay}
-
-pub returns : goal.returns
-returns c = sums_stay

@@ -1,5 +1,0 @@
-use Rattle.deadline_laws.proofs.sums.wakes_balance.Goals as goal
-use Rattle.deadline_laws.proofs.EnqueueLemmas.{wake_balances}
-
-pub returns : goal.returns
-returns c = wake_balances

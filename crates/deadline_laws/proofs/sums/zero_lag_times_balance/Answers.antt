@@ -1,5 +1,0 @@
-use Rattle.deadline_laws.proofs.sums.zero_lag_times_balance.Goals as goal
-use Rattle.deadline_laws.proofs.SumLemmas.{zero_lag_balances}
-
-pub returns : goal.returns
-returns c = zero_lag_balances

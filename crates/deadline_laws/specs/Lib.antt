@@ -1,6 +1,0 @@
-pub mod Rounding
-pub mod Waking
-pub mod Replenishing
-pub mod Summing
-pub mod Admitting
-pub mod inside

@@ -1,5 +1,0 @@
-use Rattle.std.proofs.Common.{length}
-use Rattle.exact_words.proofs.choice.+pick_some.Given as goal
-
-abbrev pub decreases-pick_some : goal.decreases-pick_some
-decreases-pick_some l = length l.amounts.now

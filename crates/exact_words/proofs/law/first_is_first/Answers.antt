@@ -1,8 +1,0 @@
-use Rattle.exact_words.proofs.law.first_is_first.Goals as goal
-use Rattle.exact_words.proofs.First.{none_where_all_equal, found_is_first}
-
-pub returns-clause-none : goal.returns-clause-none
-returns-clause-none c = none_where_all_equal
-
-pub returns-clause-first : goal.returns-clause-first
-returns-clause-first c = found_is_first

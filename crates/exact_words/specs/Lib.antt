@@ -1,4 +1,0 @@
-pub mod Kinds
-pub mod Tallies
-pub mod Firsts
-pub mod Choices

@@ -1,7 +1,0 @@
-use Rattle.std.proofs.Common.{take, map}
-use Rattle.std.specs.Prelude.{string_bytes}
-use Rattle.grub_convert.specs.Serving.{AreFree}
-use Rattle.grub_convert.proofs.serving.first_taken.Given as goal
-
-abbrev pub invariant-loop-i : goal.invariant-loop-i
-invariant-loop-i g l = AreFree g.X.Fn l.exists (map string_bytes (take l.i l.paths))

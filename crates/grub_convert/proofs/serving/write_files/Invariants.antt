@@ -1,8 +1,0 @@
-use Rattle.std.proofs.Common.{take, map}
-use Rattle.std.specs.Prelude.{string_bytes}
-use Rattle.grub_plan.specs.Contents.{contents}
-use Rattle.grub_convert.specs.Serving.{AreMade}
-use Rattle.grub_convert.proofs.serving.write_files.Given as goal
-
-abbrev pub invariant-loop-i : goal.invariant-loop-i
-invariant-loop-i g l = AreMade g.M.Fn l.make (map string_bytes (take l.i l.paths)) (contents (take l.i l.files))

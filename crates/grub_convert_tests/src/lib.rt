@@ -1,5 +1,0 @@
-//! Tests of grub_convert.
-#![tactic(auto)]
-
-#[cfg(test)]
-mod tests;

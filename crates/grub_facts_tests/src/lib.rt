@@ -1,5 +1,0 @@
-//! Tests of grub_facts.
-#![tactic(auto)]
-
-#[cfg(test)]
-mod tests;

@@ -1,6 +1,0 @@
-use Rattle.grub_flat.proofs.Beginning.{IsBook-opened}
-use Rattle.grub_flat.proofs.opening.open_book.Goals as goal
-
-pub returns-then-fault-eq-DONE-clause-book : goal.returns-then-fault-eq-DONE-clause-book
-returns-then-fault-eq-DONE-clause-book c =
-    λ done. IsBook-opened _ _ _ _ (c.setup_fault-fault.ensures.none.0 done) c.open_tasks.ensures c.open_queues.ensures.constants c.open_queues.ensures.zero

@@ -1,3 +1,0 @@
--- What the code of the flat book stands on, and no public contract cites.
-pub mod Ready
-pub mod Sums

@@ -1,5 +1,0 @@
-pub mod Budgets
-pub mod Row
-pub mod Walk
-pub mod Monotone
-pub mod Told

@@ -1,8 +1,0 @@
-use Rattle.std.proofs.Common.{refl}
-use Rattle.grub_sizing.proofs.Row.{told-on}
-use Rattle.grub_sizing.proofs.renewal.Renewals.pass.Goals as goal
-
-pub returns : goal.returns
-returns c =
-    let fields = c.self.inside in
-    told-on fields.later fields.more _ _ c.args.time c.args.used fields.kept.items c.args.self.now c.self.view_is refl refl c.ranges.used.fits c.requires

@@ -1,9 +1,0 @@
-use Rattle.std.proofs.Common.{◌≡◌, length}
-use Rattle.grub_sizing.specs.inside.Walk.{remembered}
-use Rattle.grub_sizing.proofs.step.forget.Given as goal
-
-abbrev pub invariant-loop-renewals : goal.invariant-loop-renewals
-invariant-loop-renewals l = remembered l.release l.renewals ≡ remembered l.release l.fn.renewals
-
-abbrev pub decreases-loop-renewals : goal.decreases-loop-renewals
-decreases-loop-renewals l = length l.renewals

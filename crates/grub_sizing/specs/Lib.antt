@@ -1,4 +1,0 @@
-pub mod Span
-pub mod Jobs
-pub mod Least
-pub mod inside

@@ -1,3 +1,0 @@
-pub mod Queue
-pub mod Walk
-pub mod Counting

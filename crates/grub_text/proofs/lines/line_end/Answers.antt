@@ -1,5 +1,0 @@
-use Rattle.grub_text.proofs.Splits.{first_byte}
-use Rattle.grub_text.proofs.lines.line_end.Goals as goal
-
-pub returns : goal.returns
-returns c = first_byte 10 c.args.text.now _ c.memchr.ensures

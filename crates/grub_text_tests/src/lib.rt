@@ -1,5 +1,0 @@
-//! Tests of grub_text.
-#![tactic(auto)]
-
-#[cfg(test)]
-mod tests;

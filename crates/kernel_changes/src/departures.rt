@@ -1,0 +1,301 @@
+//! A task has run, is dequeued, leaves the class, ends, or asks for another reservation, with one rule changed.
+
+ghost use Rattle.std.specs.Prelude.{◌≡◌, None};
+ghost use Rattle.kernel_functions.specs.Spend.{spending_of};
+ghost use Rattle.kernel_functions.specs.Dequeue.{dequeuing_of};
+ghost use Rattle.kernel_functions.specs.Leave.{leaving_of};
+ghost use Rattle.kernel_functions.specs.Timer.{fired_of};
+ghost use Rattle.kernel_functions.specs.Admit.{admitting_of};
+ghost use Rattle.kernel_functions.specs.Later.{locked_of};
+
+use crate::change::RuleChange;
+use kernel_entity::{Block, Entity, SumsChange, unchanged, zero_lag};
+use kernel_functions::{
+    Admission, Admitting, Arrival, Delayed, Dequeuing, Fired, Leaving, Locked, Spending, admit,
+    dequeue, leave, lock, spend, zero_lag_fired,
+};
+use trace_data::{Admitted, Parameters};
+
+fn with_period(entity: Entity, dl_period: u64) -> Entity {
+    Entity {
+        parameters: Parameters {
+            dl_period,
+            ..entity.parameters
+        },
+        ..entity
+    }
+}
+
+fn changed_spend(change: RuleChange, entity: Entity, clock: u64, has_run: bool) -> Spending {
+    match change {
+        RuleChange::UntilDeadline => {
+            let by = with_period(entity, entity.parameters.dl_deadline);
+            let done = spend(by, clock, has_run);
+            Spending {
+                entity: with_period(done.entity, entity.parameters.dl_period),
+                ..done
+            }
+        }
+        _ => spend(entity, clock, has_run),
+    }
+}
+
+/// What becomes of an entity that was charged at this clock.
+pub fn spend_by(change: Option<RuleChange>, entity: Entity, clock: u64, has_run: bool) -> Spending
+    ensures { change ≡ None → result ≡ spending_of entity clock has_run }
+{
+    match change {
+        None => spend(entity, clock, has_run),
+        Some(change) => changed_spend(change, entity, clock, has_run),
+    }
+}
+
+/// The clock by which the wait for the 0-lag time is so many hundredths of what it is.
+fn clock_for(entity: Entity, clock: u64, hundredths: i64) -> u64 {
+    let wait = zero_lag(entity, clock);
+    let other = wait.wrapping_mul(hundredths).div_euclid(100);
+    clock.wrapping_add(wait.wrapping_sub(other).cast_unsigned())
+}
+
+/// The entity by which a block reckons, and its clock.
+fn blocks_by(change: RuleChange, entity: Entity) -> Entity {
+    match change {
+        RuleChange::ZeroLagByDeadline => with_period(entity, entity.parameters.dl_deadline),
+        RuleChange::ZeroLagNever => Entity {
+            has_inactive_timer: true,
+            ..entity
+        },
+        _ => entity,
+    }
+}
+
+fn blocks_at(change: RuleChange, entity: Entity, clock: u64) -> u64 {
+    match change {
+        RuleChange::ZeroLagShorter => clock_for(entity, clock, 95),
+        RuleChange::ZeroLagLonger => clock_for(entity, clock, 101),
+        _ => clock,
+    }
+}
+
+/// The entity after such a block, with what it had itself.
+fn own_again(change: RuleChange, before: Entity, after: Entity) -> Entity {
+    match change {
+        RuleChange::ZeroLagByDeadline if after.parameters.dl_runtime != 0 => {
+            with_period(after, before.parameters.dl_period)
+        }
+        RuleChange::ZeroLagNever => Entity {
+            has_inactive_timer: before.has_inactive_timer,
+            ..after
+        },
+        _ => after,
+    }
+}
+
+/// What a block past the 0-lag time does, where it leaves `running_bw`.
+fn runs_on(
+    change: RuleChange,
+    entity: Entity,
+    block: Option<Block>,
+    sums: SumsChange,
+) -> SumsChange {
+    match block {
+        Some(Block::Past)
+            if change == RuleChange::PastRunsOn && (entity.is_server || entity.is_in_class) =>
+            SumsChange {
+                running_bw: sums.running_bw.wrapping_add(entity.dl_bw),
+                ..sums
+            },
+        _ => sums,
+    }
+}
+
+/// What a dequeue that moves the task leaves behind.
+fn left_behind(
+    change: RuleChange,
+    entity: Entity,
+    departure: Arrival,
+    sums: SumsChange,
+) -> SumsChange {
+    match (change, departure) {
+        (RuleChange::MoveLeavesThis, Arrival::Moves) => SumsChange {
+            this_bw: sums.this_bw.wrapping_add(entity.dl_bw),
+            ..sums
+        },
+        (RuleChange::MoveLeavesRunning, Arrival::Moves) => SumsChange {
+            running_bw: sums.running_bw.wrapping_add(entity.dl_bw),
+            ..sums
+        },
+        _ => sums,
+    }
+}
+
+fn changed_dequeue(
+    change: RuleChange,
+    entity: Entity,
+    flags: u64,
+    on_rq: u64,
+    clock: u64,
+) -> Dequeuing {
+    let by = blocks_by(change, entity);
+    let done = dequeue(by, flags, on_rq, blocks_at(change, entity, clock));
+    let sums = left_behind(change, entity, done.departure, done.change);
+    Dequeuing {
+        entity: own_again(change, entity, done.entity),
+        change: runs_on(change, entity, done.block, sums),
+        ..done
+    }
+}
+
+/// What a dequeue with these DEQUEUE_ flags does, after the charge in it.
+pub fn dequeue_by(
+    change: Option<RuleChange>,
+    entity: Entity,
+    flags: u64,
+    on_rq: u64,
+    clock: u64,
+) -> Dequeuing
+    ensures { change ≡ None → result ≡ dequeuing_of entity flags on_rq clock }
+{
+    match change {
+        None => dequeue(entity, flags, on_rq, clock),
+        Some(change) => changed_dequeue(change, entity, flags, on_rq, clock),
+    }
+}
+
+/// Leaving the class with no block.
+fn left_at_once(entity: Entity) -> Leaving {
+    Leaving {
+        entity: Entity {
+            is_in_class: false,
+            is_non_contending: false,
+            ..entity
+        },
+        change: unchanged(),
+        block: None,
+    }
+}
+
+fn changed_leave(change: RuleChange, entity: Entity, on_rq: u64, clock: u64) -> Leaving {
+    let by = blocks_by(change, entity);
+    let done = leave(by, on_rq, blocks_at(change, entity, clock));
+    if change == RuleChange::LeavesAtOnce && done.block.is_some() {
+        return left_at_once(entity);
+    }
+    let freed = if change == RuleChange::LeavingFreesNothing && !entity.is_dead {
+        None
+    } else {
+        done.change.freed
+    };
+    Leaving {
+        entity: own_again(change, entity, done.entity),
+        change: SumsChange {
+            freed,
+            ..done.change
+        },
+        ..done
+    }
+}
+
+/// What leaving the class at this clock does.
+pub fn leave_by(change: Option<RuleChange>, entity: Entity, on_rq: u64, clock: u64) -> Leaving
+    ensures { change ≡ None → result ≡ leaving_of entity on_rq clock }
+{
+    match change {
+        None => leave(entity, on_rq, clock),
+        Some(change) => changed_leave(change, entity, on_rq, clock),
+    }
+}
+
+fn changed_fired(change: RuleChange, entity: Entity) -> Fired {
+    let done = zero_lag_fired(entity);
+    match change {
+        RuleChange::EndFreesNothing => Fired {
+            freed: None,
+            ..done
+        },
+        RuleChange::LeavingFreesNothing if !entity.is_dead => Fired {
+            freed: None,
+            ..done
+        },
+        RuleChange::ServerRunsOn if entity.is_server => Fired {
+            stops: false,
+            ..done
+        },
+        _ => done,
+    }
+}
+
+/// What the timer of the 0-lag time does.
+pub fn fired_by(change: Option<RuleChange>, entity: Entity) -> Fired
+    ensures { change ≡ None → result ≡ fired_of entity }
+{
+    match change {
+        None => zero_lag_fired(entity),
+        Some(change) => changed_fired(change, entity),
+    }
+}
+
+fn changed_admit(change: RuleChange, entity: Entity, line: Admitted, room: u64) -> Admitting {
+    let done = admit(entity, line, room);
+    let sums = match (change, done.admission) {
+        (RuleChange::AdmissionTakesNothing, Admission::New | Admission::Back) => SumsChange {
+            taken: None,
+            ..done.change
+        },
+        (RuleChange::ChangeFreesNothing, Admission::Changed | Admission::Back) => SumsChange {
+            freed: None,
+            ..done.change
+        },
+        _ => done.change,
+    };
+    Admitting {
+        change: sums,
+        ..done
+    }
+}
+
+/// What a call does that asks for a reservation in a root domain with room for so much bandwidth.
+pub fn admit_by(change: Option<RuleChange>, entity: Entity, line: Admitted, room: u64) -> Admitting
+    ensures { change ≡ None → result ≡ admitting_of entity line room }
+{
+    match change {
+        None => admit(entity, line, room),
+        Some(change) => changed_admit(change, entity, line, room),
+    }
+}
+
+fn changed_lock(change: RuleChange, entity: Entity, delayed: Delayed) -> Locked {
+    let done = lock(entity, delayed);
+    if delayed == Delayed::Moved {
+        return done;
+    }
+    if change == RuleChange::ServerRunsOn && entity.is_server {
+        return Locked {
+            entity,
+            change: unchanged(),
+        };
+    }
+    let frees_nothing = change == RuleChange::EndFreesNothing
+        || change == RuleChange::LeavingFreesNothing && !entity.is_dead;
+    Locked {
+        change: SumsChange {
+            freed: if frees_nothing {
+                None
+            } else {
+                done.change.freed
+            },
+            ..done.change
+        },
+        ..done
+    }
+}
+
+/// What a function does once it has its lock.
+pub fn lock_by(change: Option<RuleChange>, entity: Entity, delayed: Delayed) -> Locked
+    ensures { change ≡ None → result ≡ locked_of entity delayed }
+{
+    match change {
+        None => lock(entity, delayed),
+        Some(change) => changed_lock(change, entity, delayed),
+    }
+}

@@ -1,0 +1,21 @@
+//! Laws of a kernel's accounting: its charge and its test of a wake beside the documentation's,
+//! its replenishment, and the sums of a runqueue event by event.
+#![tactic(auto)]
+
+mod admitted;
+mod law;
+mod sums;
+mod waiting;
+
+pub use admitted::extra_stays;
+pub use law::{
+    charges_are_alike, charges_are_hardly_less, charges_are_no_more, rates_are_between,
+    recharges_are_least, wakes_answer_alike, zero_lag_times_are_exact,
+};
+pub use sums::{
+    admissions_balance, leavings_balance, moves_balance, replenishments_balance, restores_balance,
+    saves_balance, sleeps_balance, sums_stay, wakes_balance, zero_lag_times_balance,
+};
+pub use waiting::{
+    charges_throttle, charges_wait, dequeues_wait, enqueues_wait, returns_wait, timers_wait,
+};

@@ -1,0 +1,5 @@
+//! Tests of kernel_versions.
+#![tactic(auto)]
+
+#[cfg(test)]
+mod tests;

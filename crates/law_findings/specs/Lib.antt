@@ -1,0 +1,12 @@
+pub mod Asked
+pub mod Known
+pub mod Progress
+pub mod Expiry
+pub mod Firing
+pub mod Tallies
+pub mod Budget
+pub mod ZeroLag
+pub mod Pick
+pub mod Run
+pub mod Total
+pub mod Server

@@ -1,0 +1,271 @@
+//! Runs: which time is charged.
+
+ghost use Rattle.std.specs.Prelude.{◌≡◌, IsTrue, OnOk};
+ghost use Rattle.law_findings.specs.Tallies.{judged_in};
+ghost use Rattle.law_findings.specs.declared.sheet.Judgement.TheVariants.{Holds};
+ghost use Rattle.law_findings.specs.declared.words.Law.TheVariants.{Run as OfRun};
+
+use crate::play::{LawPlay, ReadLine};
+use crate::zero_lag::nanos_of;
+use law_findings::{Breach, Finding, Law, LineKind, Whose, begins_at_switch, is_apart};
+use std::alloc::{AllocError, Global};
+use trace_data::{Ran, Updated};
+
+/// Of so many lines the least lag of the runqueue's clock is taken.
+const LAGS: usize = 64;
+
+/// The last charge on a runqueue: its line, and up to when time is charged.
+#[derive(Clone, Copy)]
+struct LastCharge {
+    line: u64,
+    ends: u64,
+}
+
+/// The last switch of a CPU.
+#[derive(Clone, Copy)]
+pub(crate) struct Switch {
+    line: u64,
+    at: u64,
+    next: u64,
+    is_deadline: bool,
+
+    /// The runqueue's clock at its last line before, if there was one.
+    clock: Option<u64>,
+}
+
+/// What is known of the runs of a CPU.
+#[derive(Clone, Copy)]
+struct CpuRuns {
+    charge: Option<LastCharge>,
+    switch: Option<Switch>,
+    clock: Option<u64>,
+
+    /// By how much the clock was behind its last lines.
+    lags: [i64; LAGS],
+    next: usize,
+    count: usize,
+}
+
+const NEW: CpuRuns = CpuRuns {
+    charge: None,
+    switch: None,
+    clock: None,
+    lags: [0; LAGS],
+    next: 0,
+    count: 0,
+};
+
+impl CpuRuns {
+    /// The least lag of the last lines.
+    fn least_lag(&self) -> i64 {
+        let mut least = i64::MAX;
+        for lag in self.lags.iter().take(self.count) {
+            least = least.min(*lag);
+        }
+        least
+    }
+}
+
+/// Two charges of a run that stand before the first switch.
+#[derive(Clone, Copy)]
+struct Early {
+    read: ReadLine,
+    pid: u64,
+    ends: u64,
+    begins: u64,
+}
+
+/// The runs of all CPUs.
+#[derive(Drop)]
+pub(crate) struct Runs {
+    cpus: Vec<CpuRuns>,
+
+    /// The record has lines of switches.
+    has_switches: bool,
+
+    /// What waits for the first of them.
+    early: Vec<Early>,
+}
+
+impl Runs {
+    pub fn new(alloc: Global) -> Runs {
+        Runs {
+            cpus: Vec::new(alloc),
+            has_switches: false,
+            early: Vec::new(alloc),
+        }
+    }
+
+    fn get_mut(&mut self, cpu: u32) -> Result<Option<&mut CpuRuns>, AllocError> {
+        for _ in self.cpus.len()..cpu as usize + 1 {
+            self.cpus.push(NEW)?;
+        }
+        Ok(self.cpus.get_mut(cpu as usize))
+    }
+
+    /// A line shows the clock of a runqueue.
+    pub fn see_clock(&mut self, cpu: u32, at: u64, clock: u64) -> Result<(), AllocError> {
+        if let Some(runs) = self.get_mut(cpu)? {
+            runs.clock = Some(clock);
+            let place = runs.next % LAGS;
+            if let Some(lag) = runs.lags.get_mut(place) {
+                *lag = at.wrapping_sub(clock).cast_signed();
+            }
+            runs.next = (place + 1) % LAGS;
+            runs.count = runs.count.saturating_add(1).min(LAGS);
+        }
+        Ok(())
+    }
+}
+
+impl LawPlay {
+    /// A CPU puts a task on.
+    pub(crate) fn switch_run(
+        &mut self,
+        read: ReadLine,
+        next: u64,
+        is_deadline: bool,
+    ) -> Result<(), AllocError> {
+        if !self.runs.has_switches {
+            self.runs.has_switches = true;
+            self.judge_early_runs()?;
+        }
+        if let Some(runs) = self.runs.get_mut(read.cpu)? {
+            runs.switch = Some(Switch {
+                line: read.line,
+                at: read.at,
+                next,
+                is_deadline,
+                clock: runs.clock,
+            });
+        }
+        Ok(())
+    }
+
+    fn judge_early_runs(&mut self) -> Result<(), AllocError> {
+        for place in 0..self.runs.early.len() {
+            if let Some(early) = self.runs.early.get(place) {
+                let early = *early;
+                self.judge_gap(early)?;
+            }
+        }
+        self.runs.early.clear();
+        Ok(())
+    }
+
+    /// Two charges of one run.
+    fn judge_gap(&mut self, early: Early) -> Result<(), AllocError> {
+        let Early {
+            read,
+            pid,
+            ends,
+            begins,
+        } = early;
+        self.judge_run(
+            read,
+            pid,
+            ends == begins,
+            Finding::NotCharged { ends, begins },
+        )
+    }
+
+    /// A charge of a task: `before` is the line of that task before.
+    pub(crate) fn charge_run(
+        &mut self,
+        read: ReadLine,
+        line: &Updated,
+        before: Option<u64>,
+    ) -> Result<(), AllocError> {
+        let nanos = nanos_of(line.ran);
+        if nanos <= 0 {
+            return Ok(());
+        }
+        let ends = match line.ran {
+            Ran::Clocks { now, .. } => now,
+            Ran::Span { .. } => line.clock,
+        };
+        let begins = ends.wrapping_sub(nanos.unsigned_abs());
+        let has_switches = self.runs.has_switches;
+        let Some(runs) = self.runs.get_mut(line.cpu)? else {
+            return Ok(());
+        };
+        let (last, switch, lag) = (runs.charge, runs.switch, runs.least_lag());
+        runs.charge = Some(LastCharge {
+            line: read.line,
+            ends,
+        });
+        let Some(last) = last else {
+            return Ok(());
+        };
+        let pid = line.pid;
+        let twice = Finding::ChargedTwice {
+            ends: last.ends,
+            begins,
+        };
+        self.judge_run(read, pid, is_apart(last.ends, begins), twice)?;
+        let switch = switch.filter(|switch| switch.line > last.line);
+        if before == Some(last.line) && switch.is_none() {
+            let early = Early {
+                read,
+                pid,
+                ends: last.ends,
+                begins,
+            };
+            if has_switches {
+                self.judge_gap(early)?;
+            } else {
+                self.runs.early.push(early)?;
+            }
+        }
+        match switch {
+            Some(switch) => self.judge_first(read, pid, before, switch, begins, lag),
+            None => Ok(()),
+        }
+    }
+
+    /// The first charge of a run.
+    fn judge_first(
+        &mut self,
+        read: ReadLine,
+        pid: u64,
+        before: Option<u64>,
+        switch: Switch,
+        begins: u64,
+        lag: i64,
+    ) -> Result<(), AllocError> {
+        let is_first = before.is_none_or(|line| line < switch.line);
+        if switch.next != pid || !switch.is_deadline || !is_first {
+            return Ok(());
+        }
+        let put_on = switch.at.wrapping_sub(lag.cast_unsigned());
+        let from = switch.clock.unwrap_or(begins);
+        let elsewhere = Finding::NotAtSwitch {
+            switch: put_on,
+            begins,
+        };
+        self.judge_run(read, pid, begins_at_switch(from, begins, put_on), elsewhere)
+    }
+
+    fn judge_run(
+        &mut self,
+        read: ReadLine,
+        pid: u64,
+        is_right: bool,
+        finding: Finding,
+    ) -> Result<(), AllocError>
+        ensures { IsTrue is_right → IsTrue self.old.asked.run
+            → OnOk result (self.new.sheet ≡ judged_in self.old.sheet OfRun Holds) }
+    {
+        if is_right {
+            self.holds(Law::Run);
+            return Ok(());
+        }
+        self.breaks(Breach {
+            law: Law::Run,
+            place: read.place(LineKind::Update),
+            whose: Whose::Task { pid },
+            finding,
+            sign: None,
+        })
+    }
+}

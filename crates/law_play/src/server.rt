@@ -1,0 +1,243 @@
+//! Servers: what fair servers are charged, and stop with.
+
+ghost use Rattle.std.specs.Prelude.{◌≡◌, IsTrue, OnOk};
+ghost use Rattle.law_findings.specs.Tallies.{judged_in};
+ghost use Rattle.law_findings.specs.declared.sheet.Judgement.TheVariants.{Holds};
+ghost use Rattle.law_findings.specs.declared.words.Law.TheVariants.{Server as OfServer};
+
+use crate::play::{LawPlay, ReadLine};
+use crate::zero_lag::nanos_of;
+use law_findings::{Breach, Finding, Law, LineKind, Whose, is_near, is_taken_once, is_within};
+use std::alloc::{AllocError, Global};
+use trace_data::{Picked, ServerIdled, Updated};
+
+/// A server's reservation, in nanoseconds.
+#[derive(Clone, Copy)]
+struct ServerReservation {
+    dl_runtime: u64,
+    dl_period: u64,
+}
+
+/// A charge of a server.
+#[derive(Clone, Copy)]
+struct ServerCharge {
+    budget: i64,
+    deadline: u64,
+    nanos: i64,
+
+    /// It is for time in which the CPU was idle.
+    is_idle: bool,
+}
+
+/// A server.
+#[derive(Clone, Copy)]
+struct Server {
+    reservation: Option<ServerReservation>,
+    charge: Option<ServerCharge>,
+}
+
+/// What a line shows of a server.
+#[derive(Clone, Copy)]
+struct ShownServer {
+    cpu: u32,
+    clock: u64,
+    budget: i64,
+    deadline: u64,
+    kind: LineKind,
+}
+
+const NEW: Server = Server {
+    reservation: None,
+    charge: None,
+};
+
+/// The fair servers by their CPUs.
+#[derive(Drop)]
+pub(crate) struct Servers {
+    servers: Vec<Server>,
+}
+
+impl Servers {
+    pub fn new(alloc: Global) -> Servers {
+        Servers {
+            servers: Vec::new(alloc),
+        }
+    }
+
+    fn get_mut(&mut self, cpu: u32) -> Result<Option<&mut Server>, AllocError> {
+        for _ in self.servers.len()..cpu as usize + 1 {
+            self.servers.push(NEW)?;
+        }
+        Ok(self.servers.get_mut(cpu as usize))
+    }
+
+    fn of(&self, cpu: u32) -> Server {
+        self.servers.get(cpu as usize).copied().unwrap_or(NEW)
+    }
+}
+
+impl LawPlay {
+    /// A line shows the reservation of a CPU's server.
+    pub(crate) fn see_server(
+        &mut self,
+        cpu: u32,
+        dl_runtime: u64,
+        dl_period: u64,
+    ) -> Result<(), AllocError> {
+        if dl_runtime > 0
+            && let Some(server) = self.servers.get_mut(cpu)?
+        {
+            server.reservation = Some(ServerReservation {
+                dl_runtime,
+                dl_period,
+            });
+        }
+        Ok(())
+    }
+
+    /// The reservation of a CPU's server is changed.
+    pub(crate) fn forget_server(&mut self, cpu: u32) {
+        if let Some(server) = self.servers.servers.get_mut(cpu as usize) {
+            *server = NEW;
+        }
+    }
+
+    /// A fair server is the first of the tree.
+    pub(crate) fn picked_server(
+        &mut self,
+        read: ReadLine,
+        line: &Picked,
+    ) -> Result<(), AllocError> {
+        let shown = ShownServer {
+            cpu: line.cpu,
+            clock: line.clock,
+            budget: line.runtime,
+            deadline: line.deadline,
+            kind: LineKind::ServerPick,
+        };
+        self.shown_server(read, shown, None)
+    }
+
+    /// A fair server is charged for a run of its tasks.
+    pub(crate) fn charged_server(
+        &mut self,
+        read: ReadLine,
+        line: &Updated,
+    ) -> Result<(), AllocError> {
+        let shown = ShownServer {
+            cpu: line.cpu,
+            clock: line.clock,
+            budget: line.budget.runtime,
+            deadline: line.budget.deadline,
+            kind: LineKind::Update,
+        };
+        self.shown_server(read, shown, Some(nanos_of(line.ran)))
+    }
+
+    /// A fair server is charged for idle time.
+    pub(crate) fn idled_server(
+        &mut self,
+        read: ReadLine,
+        line: &ServerIdled,
+    ) -> Result<(), AllocError> {
+        let shown = ShownServer {
+            cpu: line.cpu,
+            clock: line.clock,
+            budget: line.runtime,
+            deadline: line.deadline,
+            kind: LineKind::ServerIdle,
+        };
+        let nanos = line.now.wrapping_sub(line.start).cast_signed();
+        self.shown_server(read, shown, Some(nanos))
+    }
+
+    fn shown_server(
+        &mut self,
+        read: ReadLine,
+        shown: ShownServer,
+        nanos: Option<i64>,
+    ) -> Result<(), AllocError> {
+        let server = self.servers.of(shown.cpu);
+        if let Some(reservation) = server.reservation {
+            self.judge_reservation(read, shown, reservation)?;
+        }
+        if let Some(charge) = server.charge
+            && charge.deadline == shown.deadline
+        {
+            self.judge_charge(read, shown, charge)?;
+        }
+        if let Some(server) = self.servers.get_mut(shown.cpu)? {
+            server.charge = match nanos {
+                Some(nanos) if nanos != 0 => Some(ServerCharge {
+                    budget: shown.budget,
+                    deadline: shown.deadline,
+                    nanos,
+                    is_idle: shown.kind == LineKind::ServerIdle,
+                }),
+                _ => None,
+            };
+        }
+        Ok(())
+    }
+
+    fn judge_reservation(
+        &mut self,
+        read: ReadLine,
+        shown: ShownServer,
+        reservation: ServerReservation,
+    ) -> Result<(), AllocError> {
+        let ServerReservation {
+            dl_runtime,
+            dl_period,
+        } = reservation;
+        let much = Finding::TooMuchBudget {
+            budget: shown.budget,
+            dl_runtime,
+        };
+        self.judge_server(read, shown, is_within(shown.budget, dl_runtime), much)?;
+        let is_right = is_near(shown.deadline, shown.clock, dl_runtime, dl_period);
+        let far = Finding::FarDeadline {
+            ahead: shown.deadline.saturating_sub(shown.clock),
+        };
+        self.judge_server(read, shown, is_right, far)
+    }
+
+    /// The line behind a charge under the same deadline shows what it left.
+    fn judge_charge(
+        &mut self,
+        read: ReadLine,
+        shown: ShownServer,
+        charge: ServerCharge,
+    ) -> Result<(), AllocError> {
+        let is_right = is_taken_once(charge.budget, charge.nanos, charge.is_idle, shown.budget);
+        let other = Finding::OtherCharge {
+            nanos: charge.nanos,
+            before: charge.budget,
+            after: shown.budget,
+        };
+        self.judge_server(read, shown, is_right, other)
+    }
+
+    fn judge_server(
+        &mut self,
+        read: ReadLine,
+        shown: ShownServer,
+        is_right: bool,
+        finding: Finding,
+    ) -> Result<(), AllocError>
+        ensures { IsTrue is_right → IsTrue self.old.asked.server
+            → OnOk result (self.new.sheet ≡ judged_in self.old.sheet OfServer Holds) }
+    {
+        if is_right {
+            self.holds(Law::Server);
+            return Ok(());
+        }
+        self.breaks(Breach {
+            law: Law::Server,
+            place: read.place(shown.kind),
+            whose: Whose::Server { cpu: shown.cpu },
+            finding,
+            sign: None,
+        })
+    }
+}

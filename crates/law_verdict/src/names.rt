@@ -1,0 +1,107 @@
+//! Names of laws, of lines, and of known faults.
+
+ghost use Rattle.std.specs.Prelude.{◌≡◌, IfSome};
+ghost use Rattle.law_verdict.specs.Names.{law_word, line_word};
+
+use law_findings::{AskedLaws, LAWS, Law, LineKind, Sign, Standing, TimerKind};
+
+/// The name of a law, as options and verdicts have it.
+pub fn law_name(law: Law) -> &'static str
+    ensures name { result.now ≡ law_word law }
+    ensures own { (other : Law) → law_word other ≡ result.now → other ≡ law }
+{
+    match law {
+        Law::Progress => "progress",
+        Law::Expiry => "expiry",
+        Law::Firing => "firing",
+        Law::ZeroLag => "0-lag",
+        Law::Budget => "budget",
+        Law::Total => "total",
+        Law::Pick => "pick",
+        Law::Run => "run",
+        Law::Server => "server",
+    }
+}
+
+/// The laws that a word of names asks, which are parted by commas; `none` asks none. Nothing where a name is no law's.
+pub fn asked_of(word: &str) -> Option<AskedLaws> {
+    let mut asked = AskedLaws::none();
+    if word == "none" {
+        return Some(asked);
+    }
+    let mut rest = word;
+    for _ in 0..=word.len() {
+        match rest.split_once(',') {
+            Some((name, others)) => {
+                asked = asked.with(law_of(name)?);
+                rest = others;
+            }
+            None => return Some(asked.with(law_of(rest)?)),
+        }
+    }
+    Some(asked)
+}
+
+/// The law of this name.
+fn law_of(name: &str) -> Option<Law>
+    ensures { IfSome result (λ law. law_word law ≡ name.now) }
+{
+    LAWS.iter().copied().find(|law| law_name(*law) == name)
+}
+
+/// The event of a line.
+pub fn line_name(kind: LineKind) -> &'static str
+    ensures { result.now ≡ line_word kind }
+{
+    match kind {
+        LineKind::Enqueue => "enq",
+        LineKind::Update => "upd",
+        LineKind::Dequeue => "deq",
+        LineKind::Leave => "sfr",
+        LineKind::Admit => "adm",
+        LineKind::ZeroLagFires => "ina",
+        LineKind::ReplenishFires => "dlt",
+        LineKind::Arm => "hst",
+        LineKind::Switch => "sched_switch",
+        LineKind::ServerStart => "ede",
+        LineKind::ServerPick => "pck",
+        LineKind::ServerStop => "dls",
+        LineKind::ServerIdle => "idl",
+    }
+}
+
+pub(crate) fn timer_name(kind: TimerKind) -> &'static str {
+    match kind {
+        TimerKind::ZeroLag => "0-lag timer",
+        TimerKind::Replenish => "replenishment timer",
+    }
+}
+
+pub(crate) fn standing_name(standing: Standing) -> &'static str {
+    match standing {
+        Standing::Away => "was not in the class",
+        Standing::Blocked => "was blocked",
+        Standing::Queued => "was queued",
+    }
+}
+
+/// A known fault, and its heading in KERNEL.
+pub fn fault_name(sign: Sign) -> &'static str {
+    match sign {
+        Sign::LeftThrottled => {
+            "a throttled task that leaves the class and comes back (KERNEL, \"Throttled for ever\")"
+        }
+        Sign::BoostEnded => {
+            "a throttled task whose boost ends while it is blocked (KERNEL, \"Throttled for ever\")"
+        }
+        Sign::ProductWraps => {
+            "the product of budget and period wraps (KERNEL, \"A 0-lag time that wraps\")"
+        }
+        Sign::LeftAsleep => {
+            "a task that is put out of the class while it sleeps (KERNEL, under that heading)"
+        }
+        Sign::ServersTakenTwice | Sign::SharesTakenAgain => {
+            "shares are taken again (KERNEL, \"Hotplug and partitions\")"
+        }
+    }
+}

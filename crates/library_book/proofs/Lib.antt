@@ -1,0 +1,11 @@
+pub mod Faults
+pub mod Exhausting
+pub mod Firsts
+pub mod Locating
+pub mod Beginning
+pub mod Stepping
+pub mod Moves
+pub mod Asking
+pub mod Replaying
+pub mod Telling
+pub mod Auditing

@@ -1,0 +1,16 @@
+pub mod inside
+pub mod Numbers
+pub mod Memory
+pub mod Asked
+pub mod Move
+pub mod Answer
+pub mod Limits
+pub mod Opening
+pub mod Kernel
+pub mod Batch
+pub mod Recorded
+pub mod Told
+pub mod Audit
+pub mod Located
+pub mod Exhaustion
+pub mod First

@@ -1,0 +1,5 @@
+-- What the code of the flat book stands on, and no public contract cites.
+pub mod Better
+pub mod Moves
+pub mod Ready
+pub mod Sums

@@ -1,4 +1,0 @@
-pub mod Values
-pub mod Lines
-pub mod Runqueues
-pub mod inside

@@ -1,0 +1,453 @@
+//! Timers that are started (`hrtimer_start_range_ns`).
+#![tactic(auto, using(crate::proofs::Steps::both, crate::proofs::Steps::made, crate::proofs::Steps::unchanged))]
+
+ghost use Rattle.std.specs.Prelude.{Some, is_none, slice_get, ◌≡◌, ◌&&◌, ◌<◌, None, OnOk, IfSome, false, length, position};
+ghost use Rattle.probe_run.specs.Runs.{state_of};
+ghost use Rattle.probe_run.specs.State.{found_at};
+ghost use Rattle.probe_run.specs.Counting.{Goes, Holds, where_it_holds};
+ghost use Rattle.probe_run.specs.Sums.{forget};
+ghost use Rattle.probe_lines.specs.Shown.{address_agrees};
+ghost use Rattle.probe_lines.specs.Timers.{same_function, is_zero_lag, is_other, owner_agrees, timer_address, with_timer, fits_by, zero_lag_agrees, is_duty, is_blind_by, armed_next, armed_duty, armed_actor, armed_blindly, armed_blind, armed_zero_lag, armed_unasked, armed_found, armed_at, armed_by};
+
+use crate::comparing::{Compared, compare_address};
+use kernel_entity::Entity;
+use probe_findings::{ExactValue, ProbedLine, Quantity};
+use probe_run::{Actor, Blind, Counted, Duty, PlayRules, Run};
+use std::alloc::AllocError;
+use trace_data::{Armed, Expiry, TimerFunction};
+
+fn is_same_function(one: TimerFunction, other: TimerFunction) -> bool
+    ensures { result ≡ same_function one other }
+{
+    match one {
+        TimerFunction::ZeroLag => match other {
+            TimerFunction::ZeroLag => true,
+            TimerFunction::Replenish | TimerFunction::Other => false,
+        },
+        TimerFunction::Replenish => match other {
+            TimerFunction::Replenish => true,
+            TimerFunction::ZeroLag | TimerFunction::Other => false,
+        },
+        TimerFunction::Other => match other {
+            TimerFunction::Other => true,
+            TimerFunction::ZeroLag | TimerFunction::Replenish => false,
+        },
+    }
+}
+
+fn is_of_zero_lag(function: TimerFunction) -> bool
+    ensures { result ≡ is_zero_lag function }
+{
+    match function {
+        TimerFunction::ZeroLag => true,
+        TimerFunction::Replenish | TimerFunction::Other => false,
+    }
+}
+
+fn is_other(function: TimerFunction) -> bool
+    ensures { result ≡ is_other function }
+{
+    match function {
+        TimerFunction::Other => true,
+        TimerFunction::ZeroLag | TimerFunction::Replenish => false,
+    }
+}
+
+fn address(actor: Actor, function: TimerFunction) -> Option<u64>
+    ensures { result ≡ timer_address actor function }
+{
+    match function {
+        TimerFunction::ZeroLag => actor.inactive_timer,
+        TimerFunction::Replenish => actor.deadline_timer,
+        TimerFunction::Other => None,
+    }
+}
+
+fn with_timer(actor: Actor, function: TimerFunction, address: u64) -> Actor
+    ensures { result ≡ with_timer actor function address }
+{
+    match function {
+        TimerFunction::ZeroLag => Actor {
+            inactive_timer: Some(address),
+            ..actor
+        },
+        TimerFunction::Replenish => Actor {
+            deadline_timer: Some(address),
+            ..actor
+        },
+        TimerFunction::Other => actor,
+    }
+}
+
+fn is_owner(run: &Run, known: Option<usize>, number: usize) -> bool
+    ensures { result ≡ owner_agrees (state_of run.now) known number }
+{
+    match known {
+        None => true,
+        Some(known) => known == number || run.actor(known).entity.is_dead,
+    }
+}
+
+/// Whether this 0-lag time is what a line shows that was written at the moment `at`, of a timer that was due to be armed from the
+/// moment `due` on: a moment is that of a clock between the two, to a microsecond.
+pub fn fits(expiry: Expiry, due: u64, at: u64, zero_lag: i64) -> bool
+    ensures { result ≡ fits_by expiry due at zero_lag }
+{
+    match expiry {
+        Expiry::After(span) => zero_lag.cast_unsigned() == span.cast_unsigned(),
+        Expiry::At(moment) => {
+            let clock = moment.wrapping_sub(zero_lag);
+            due.cast_signed() <= clock && clock < at.wrapping_add(1000).cast_signed()
+        }
+    }
+}
+
+fn duty_place(duties: &[Duty], by: u32, function: TimerFunction) -> Option<usize>
+    ensures place { result ≡ position (is_duty by function) duties.now }
+    ensures bound { IfSome result (λ place. place < length duties.now) }
+{
+    duties.iter().position(|one| one.place.cpu == by && is_same_function(one.function, function))
+}
+
+fn blind_place(blinds: &[Blind], by: u32) -> Option<usize>
+    ensures place { result ≡ position (is_blind_by by) blinds.now }
+    ensures bound { IfSome result (λ place. place < length blinds.now) }
+{
+    blinds.iter().position(|one| one.by == by)
+}
+
+fn blind_by(blinds: &[Blind], by: u32) -> Option<Blind>
+    ensures { result ≡ found_at blinds.now (position (is_blind_by by) blinds.now) }
+{
+    match blind_place(blinds, by) {
+        None => None,
+        Some(place) => blinds.get(place).copied(),
+    }
+}
+
+fn check_owner(run: &mut Run, place: ProbedLine, line: Armed, duty: Duty) -> Result<(), AllocError>
+    ensures { OnOk result (Holds (state_of run.old)
+        (owner_agrees (state_of run.old) ((state_of run.old).timers line.timer) duty.entity)
+        (state_of run.new)) }
+{
+    let known = run.timer_owner(line.timer);
+    let is_equal = is_owner(run, known, duty.entity);
+    let owner = if is_equal {
+        duty.entity
+    } else {
+        known.unwrap_or(duty.entity)
+    };
+    let rules = ExactValue::Owner(run.whose(duty.entity));
+    let kernel = ExactValue::Owner(run.whose(owner));
+    run.count(
+        place,
+        Counted::Entity(duty.entity),
+        Quantity::Timer,
+        rules,
+        kernel,
+        is_equal,
+    )
+}
+
+fn check_zero_lag(
+    run: &mut Run,
+    place: ProbedLine,
+    line: Armed,
+    duty: Duty,
+) -> Result<(), AllocError>
+    ensures { OnOk result (Holds (state_of run.old)
+        (zero_lag_agrees duty.zero_lag line.expiry duty.at place.at) (state_of run.new)) }
+{
+    match duty.zero_lag {
+        None => Ok(()),
+        Some(rules) => {
+            let is_equal = fits(line.expiry, duty.at, place.at, rules);
+            let (quantity, shown) = match line.expiry {
+                Expiry::After(span) => (Quantity::ZeroLag, span),
+                Expiry::At(moment) => (
+                    Quantity::ZeroLagMoment,
+                    moment.wrapping_sub(place.at.cast_signed()),
+                ),
+            };
+            let kernel = if is_equal { rules } else { shown };
+            run.count(
+                place,
+                Counted::Entity(duty.entity),
+                quantity,
+                ExactValue::Signed(rules),
+                ExactValue::Signed(kernel),
+                is_equal,
+            )
+        }
+    }
+}
+
+fn check_arm(
+    run: &mut Run,
+    place: ProbedLine,
+    line: Armed,
+    duty: Duty,
+    actor: Actor,
+) -> Result<(), AllocError>
+    ensures { OnOk result (Holds (state_of run.old)
+        (owner_agrees (state_of run.old) ((state_of run.old).timers line.timer) duty.entity
+        && (address_agrees (timer_address actor line.function) line.timer
+        && zero_lag_agrees duty.zero_lag line.expiry duty.at place.at)) (state_of run.new)) }
+{
+    check_owner(run, place, line, duty)?;
+    let of = Compared {
+        place,
+        number: duty.entity,
+        actor,
+    };
+    check_arms(run, of, line, duty)
+}
+
+fn check_arms(run: &mut Run, of: Compared, line: Armed, duty: Duty) -> Result<(), AllocError>
+    ensures { OnOk result (Holds (state_of run.old)
+        (address_agrees (timer_address of.actor line.function) line.timer
+        && zero_lag_agrees duty.zero_lag line.expiry duty.at of.place.at) (state_of run.new)) }
+{
+    compare_address(run, of, address(of.actor, line.function), line.timer)?;
+    check_zero_lag(run, of.place, line, duty)
+}
+
+fn keep_armed(
+    run: &mut Run,
+    line: Armed,
+    index: usize,
+    duty: Duty,
+    actor: Actor,
+) -> Result<(), AllocError>
+    ensures state { OnOk result (state_of run.new
+        ≡ armed_next (state_of run.old) line index duty actor) }
+    ensures first { OnOk result ((state_of run.new).first ≡ (state_of run.old).first) }
+{
+    run.drop_duty(index);
+    run.keep(duty.entity, with_timer(actor, line.function, line.timer));
+    run.own_timer(line.timer, duty.entity)
+}
+
+fn arm(
+    run: &mut Run,
+    place: ProbedLine,
+    line: Armed,
+    index: usize,
+    duty: Duty,
+) -> Result<(), AllocError>
+    ensures { OnOk result (Goes (state_of run.old)
+        (armed_duty (state_of run.old) place line index duty) (state_of run.new)) }
+{
+    let actor = run.actor(duty.entity);
+    check_arm(run, place, line, duty, actor)?;
+    keep_armed(run, line, index, duty, actor)?;
+    Ok(())
+}
+
+/// Counts a timer that is started and that no line asked for.
+fn refuse_timer(run: &mut Run, place: ProbedLine, line: Armed) -> Result<(), AllocError>
+    ensures { OnOk result (Holds (state_of run.old) false (state_of run.new)) }
+{
+    let of = match run.timer_owner(line.timer) {
+        Some(number) => Counted::Entity(number),
+        None => Counted::Nobody,
+    };
+    run.count(
+        place,
+        of,
+        Quantity::Timer,
+        ExactValue::NotArmed(line.function),
+        ExactValue::Armed(line.function),
+        false,
+    )
+}
+
+fn with_inactive_timer(actor: Actor) -> Actor
+    ensures { result ≡ armed_actor actor }
+{
+    Actor {
+        entity: Entity {
+            has_inactive_timer: true,
+            ..actor.entity
+        },
+        ..actor
+    }
+}
+
+fn own_blind(run: &mut Run, line: Armed, blind: Blind) -> Result<(), AllocError>
+    ensures state { OnOk result (state_of run.new ≡ armed_blindly (state_of run.old) line blind) }
+    ensures first { OnOk result ((state_of run.new).first ≡ (state_of run.old).first) }
+{
+    let actor = with_inactive_timer(run.actor(blind.entity));
+    run.keep(blind.entity, actor);
+    run.own_timer(line.timer, blind.entity)
+}
+
+fn arm_blindly(run: &mut Run, line: Armed, blind: Blind) -> Result<(), AllocError>
+    ensures { OnOk result (Goes (state_of run.old)
+        (Some (armed_blindly (state_of run.old) line blind)) (state_of run.new)) }
+{
+    own_blind(run, line, blind)?;
+    Ok(())
+}
+
+fn blind_of(run: &Run, by: u32) -> Option<Blind>
+    ensures { result ≡ found_at (state_of run.now).blinds
+        (position (is_blind_by by) (state_of run.now).blinds) }
+{
+    blind_by(run.blinds(), by)
+}
+
+fn arm_any_blind(run: &mut Run, place: ProbedLine, line: Armed) -> Result<(), AllocError>
+    ensures { OnOk result (Goes (state_of run.old)
+        (armed_blind (state_of run.old) line
+        (found_at (state_of run.old).blinds (position (is_blind_by place.cpu) (state_of run.old).blinds)))
+        (state_of run.new)) }
+{
+    match blind_of(run, place.cpu) {
+        None => refuse_timer(run, place, line),
+        Some(blind) => arm_blindly(run, line, blind),
+    }
+}
+
+fn forget_first(run: &mut Run, cpu: u32) -> Result<(), AllocError>
+    ensures { OnOk result (Goes (state_of run.old)
+        (Some (forget (state_of run.old) cpu)) (state_of run.new)) }
+{
+    run.forget(cpu)?;
+    Ok(())
+}
+
+fn arm_zero_lag(
+    run: &mut Run,
+    rules: PlayRules,
+    place: ProbedLine,
+    line: Armed,
+    first: bool,
+) -> Result<(), AllocError>
+    ensures { OnOk result (Goes (state_of run.old)
+        (armed_zero_lag rules (state_of run.old) place line first) (state_of run.new)) }
+{
+    let is_unknown = run.timer_owner(line.timer).is_none();
+    if first && is_unknown {
+        forget_first(run, place.cpu)
+    } else {
+        arm_any_blind(run, place, line)
+    }
+}
+
+/// A replenishment timer that no line asked for, of a known entity: it is armed all the same.
+fn arm_known(run: &mut Run, place: ProbedLine, line: Armed, number: usize) -> Result<(), AllocError>
+    ensures { OnOk result (Holds (state_of run.old) false (state_of run.new)) }
+{
+    refuse_timer(run, place, line)?;
+    let actor = run.actor(number);
+    run.keep(
+        number,
+        Actor {
+            entity: Entity {
+                has_deadline_timer: true,
+                ..actor.entity
+            },
+            ..actor
+        },
+    );
+    Ok(())
+}
+
+fn arm_replenish(run: &mut Run, place: ProbedLine, line: Armed) -> Result<(), AllocError>
+    ensures { OnOk result (Goes (state_of run.old)
+        (where_it_holds (is_none ((state_of run.old).timers line.timer)) (state_of run.old))
+        (state_of run.new)) }
+{
+    match run.timer_owner(line.timer) {
+        None => Ok(()),
+        Some(number) => arm_known(run, place, line, number),
+    }
+}
+
+fn arm_unasked(
+    run: &mut Run,
+    rules: PlayRules,
+    place: ProbedLine,
+    line: Armed,
+    first: bool,
+) -> Result<(), AllocError>
+    ensures { OnOk result (Goes (state_of run.old)
+        (armed_unasked rules (state_of run.old) place line first) (state_of run.new)) }
+{
+    if is_of_zero_lag(line.function) {
+        arm_zero_lag(run, rules, place, line, first)
+    } else {
+        arm_replenish(run, place, line)
+    }
+}
+
+fn arm_at(
+    run: &mut Run,
+    rules: PlayRules,
+    place: ProbedLine,
+    line: Armed,
+    first: bool,
+    index: usize,
+) -> Result<(), AllocError>
+    ensures { OnOk result (Goes (state_of run.old)
+        (armed_found rules (state_of run.old) place line first index
+        (slice_get (state_of run.old).duties index)) (state_of run.new)) }
+{
+    match run.duty(index) {
+        None => run.refuse(place),
+        Some(duty) => arm(run, place, line, index, duty),
+    }
+}
+
+fn arm_asked(
+    run: &mut Run,
+    rules: PlayRules,
+    place: ProbedLine,
+    line: Armed,
+    first: bool,
+    index: Option<usize>,
+) -> Result<(), AllocError>
+    ensures { OnOk result (Goes (state_of run.old)
+        (armed_at rules (state_of run.old) place line first index) (state_of run.new)) }
+{
+    match index {
+        None => arm_unasked(run, rules, place, line, first),
+        Some(index) => arm_at(run, rules, place, line, first, index),
+    }
+}
+
+fn arm_owned(
+    run: &mut Run,
+    rules: PlayRules,
+    place: ProbedLine,
+    line: Armed,
+    first: bool,
+) -> Result<(), AllocError>
+    ensures { OnOk result (Goes (state_of run.old)
+        (armed_at rules (state_of run.old) place line first
+        (position (is_duty place.cpu line.function) (state_of run.old).duties)) (state_of run.new)) }
+{
+    let index = duty_place(run.duties(), place.cpu, line.function);
+    arm_asked(run, rules, place, line, first, index)?;
+    Ok(())
+}
+
+/// Plays the line of a timer that is started; `first` where its CPU has written but lines of charges and timers.
+pub(crate) fn armed(
+    run: &mut Run,
+    rules: PlayRules,
+    place: ProbedLine,
+    line: Armed,
+    first: bool,
+) -> Result<(), AllocError>
+    ensures { OnOk result (Goes (state_of run.old)
+        (armed_by rules (state_of run.old) place line first) (state_of run.new)) }
+{
+    if is_other(line.function) {
+        Ok(())
+    } else {
+        arm_owned(run, rules, place, line, first)
+    }
+}

@@ -1,0 +1,365 @@
+//! A line, of whatever kind.
+#![tactic(auto, using(crate::proofs::Steps::both, crate::proofs::Steps::made, crate::proofs::Steps::unchanged, crate::proofs::Steps::never))]
+
+ghost use Rattle.std.specs.Prelude.{◌≡◌, ◌&&◌, None, OnOk, false, true};
+ghost use Rattle.std.specs.List.{list_any, list_all};
+ghost use Rattle.probe_run.specs.Runs.{state_of};
+ghost use Rattle.probe_run.specs.Counting.{Goes, Holds};
+ghost use Rattle.probe_run.specs.Moves.{is_claim_by};
+ghost use Rattle.probe_lines.specs.Lines.{follows_by, waits_for, came_early, is_effect_by, is_duty_by, is_armed, is_mark, is_passed_over, is_charge, calls_are_done, timers_are_armed, is_free_for, is_first_of, before_line, none_chosen, choice_fits, played_by, checked_line_of, line_of};
+
+use crate::admissions::admitted;
+use crate::arming::armed;
+use crate::choice::LineChoice;
+use crate::comparing::check_choice;
+use crate::enqueues::enqueued;
+use crate::exits::left_class;
+use crate::marks::marked;
+use crate::runs::updated;
+use crate::servers::{picked, server_started, server_stopped, stops_nothing};
+use crate::tasks::{dequeued, migrating};
+use crate::timers::{replenish_fired, zero_lag_fired};
+use kernel_entity::{REPLENISH, has};
+use probe_findings::{ExactValue, ProbedFunction, ProbedLine, Quantity};
+use probe_run::{Awaits, Claim, Counted, Duty, PendingEffect, PlayRules, Rest, Run};
+use std::alloc::AllocError;
+use trace_data::{IdleCharge, Mark, Probe};
+
+/// The function whose entry a line shows.
+pub fn event_of(probe: &Probe) -> ProbedFunction {
+    match probe {
+        Probe::Enqueued(_) => ProbedFunction::Enqueue,
+        Probe::Updated(_) => ProbedFunction::Update,
+        Probe::Dequeued(_) => ProbedFunction::Dequeue,
+        Probe::Migrating(_) => ProbedFunction::Migrate,
+        Probe::LeftClass(_) => ProbedFunction::Leave,
+        Probe::Admitted(_) => ProbedFunction::Admit,
+        Probe::ZeroLagFired { .. } => ProbedFunction::ZeroLagFires,
+        Probe::ReplenishFired { .. } => ProbedFunction::ReplenishFires,
+        Probe::Armed(_) => ProbedFunction::TimerStarts,
+        Probe::ServerStarted(_) => ProbedFunction::ServerStarts,
+        Probe::Picked(_) => ProbedFunction::Pick,
+        Probe::ServerStopped(_) => ProbedFunction::ServerStops,
+        Probe::ServerIdled(line) => match line.charge {
+            IdleCharge::Update => ProbedFunction::ServerIdles,
+            IdleCharge::EndOfIdle => ProbedFunction::IdleEnds,
+        },
+        Probe::Mark(mark) => event_of_mark(mark),
+    }
+}
+
+fn event_of_mark(mark: &Mark) -> ProbedFunction {
+    match mark {
+        Mark::DomainAttached { .. } => ProbedFunction::AttachDomain,
+        Mark::BandwidthTaken { .. } => ProbedFunction::TakeBandwidth,
+        Mark::BandwidthFreed { .. } => ProbedFunction::FreeBandwidth,
+        Mark::LimitHandled { .. } => ProbedFunction::HandleLimit,
+        Mark::TaskRebuilt { .. } => ProbedFunction::RebuildTask,
+        Mark::AffinitySet { .. } => ProbedFunction::SetAffinity,
+        Mark::ServerChanged { .. } => ProbedFunction::ChangeServer,
+        Mark::CpuDeactivated { .. } => ProbedFunction::DeactivateCpu,
+        Mark::CpuActivated { .. } => ProbedFunction::ActivateCpu,
+    }
+}
+
+fn follows_charge(rest: Rest, probe: &Probe) -> bool
+    ensures { result ≡ follows_by rest Awaits.Charge probe.now }
+{
+    match probe {
+        Probe::Updated(line) => line.pid == rest.current && line.cpu == rest.cpu,
+        _ => false,
+    }
+}
+
+fn follows_enqueue(rest: Rest, probe: &Probe) -> bool
+    ensures { result ≡ follows_by rest Awaits.Enqueue probe.now }
+{
+    match probe {
+        Probe::Enqueued(line) => line.pid == rest.current && has(line.flags, REPLENISH),
+        _ => false,
+    }
+}
+
+/// Whether a dequeue waits for this line of its CPU.
+pub fn follows(rest: Rest, probe: &Probe) -> bool
+    ensures { result ≡ follows_by rest rest.awaits probe.now }
+{
+    match rest.awaits {
+        Awaits::Charge => follows_charge(rest, probe),
+        Awaits::Enqueue => follows_enqueue(rest, probe),
+        Awaits::Nothing => false,
+    }
+}
+
+fn has_effect(pending: &[PendingEffect], by: u32) -> bool
+    ensures { result ≡ list_any (is_effect_by by) pending.now }
+{
+    pending.iter().any(|one| one.place.cpu == by)
+}
+
+fn has_claim(claims: &[Claim], by: u32) -> bool
+    ensures { result ≡ list_any (is_claim_by by) claims.now }
+{
+    claims.iter().any(|one| one.place.cpu == by)
+}
+
+fn all_wait_for(rests: &[Rest], by: u32, probe: &Probe) -> bool
+    ensures { result ≡ list_all (waits_for by probe.now) rests.now }
+{
+    rests
+        .iter()
+        .all(|one| !(one.place.cpu == by) || follows(*one, probe))
+}
+
+fn has_come_early(early: &[Rest], by: u32, probe: &Probe) -> bool
+    ensures { result ≡ list_any (came_early by probe.now) early.now }
+{
+    early
+        .iter()
+        .any(|one| one.place.cpu == by && follows_charge(*one, probe))
+}
+
+fn duty_place(duties: &[Duty], by: u32) -> Option<usize> {
+    duties.iter().position(|one| one.place.cpu == by)
+}
+
+fn has_duty(duties: &[Duty], by: u32) -> bool
+    ensures { result ≡ list_any (is_duty_by by) duties.now }
+{
+    duties.iter().any(|one| one.place.cpu == by)
+}
+
+fn is_timer(probe: &Probe) -> bool
+    ensures { result ≡ is_armed probe.now }
+{
+    match probe {
+        Probe::Armed(_) => true,
+        _ => false,
+    }
+}
+
+fn is_charge(probe: &Probe) -> bool
+    ensures { result ≡ is_charge probe.now }
+{
+    match probe {
+        Probe::Updated(_) => true,
+        _ => false,
+    }
+}
+
+fn is_mark(run: &Run, probe: &Probe) -> bool
+    ensures { result ≡ is_mark (state_of run.now) probe.now }
+{
+    match probe {
+        Probe::Mark(_) => true,
+        Probe::ServerStopped(line) => stops_nothing(run, *line),
+        _ => false,
+    }
+}
+
+fn is_passed_over(probe: &Probe) -> bool
+    ensures { result ≡ is_passed_over probe.now }
+{
+    match probe {
+        Probe::Updated(line) => line.is_server,
+        Probe::ServerIdled(_) => true,
+        _ => false,
+    }
+}
+
+fn are_calls_done(run: &Run, by: u32, probe: &Probe) -> bool
+    ensures { result ≡ calls_are_done (state_of run.now) by probe.now }
+{
+    !has_effect(run.pending(), by)
+        && !has_claim(run.claims(), by)
+        && all_wait_for(run.rests(), by, probe)
+        && !has_come_early(run.early(), by, probe)
+}
+
+fn are_timers_armed(run: &Run, by: u32, probe: &Probe) -> bool
+    ensures { result ≡ timers_are_armed (state_of run.now) by probe.now }
+{
+    is_timer(probe) || is_mark(run, probe) || !has_duty(run.duties(), by)
+}
+
+fn is_none_chosen(choice: LineChoice) -> bool
+    ensures { result ≡ none_chosen choice }
+{
+    choice.extra_bw.is_none() && choice.late.is_none() && choice.cost.is_none()
+}
+
+fn fits(probe: &Probe, choice: LineChoice) -> bool
+    ensures { result ≡ choice_fits probe.now choice }
+{
+    match probe {
+        Probe::Updated(_) => choice.late.is_none(),
+        Probe::Enqueued(_) => choice.extra_bw.is_none() && choice.cost.is_none(),
+        _ => is_none_chosen(choice),
+    }
+}
+
+/// Counts a timer that was to be armed, and forgets that it was.
+fn miss_timer(run: &mut Run, place: ProbedLine) -> Result<(), AllocError>
+    ensures { OnOk result (Holds (state_of run.old) false (state_of run.new)) }
+{
+    match duty_place(run.duties(), place.cpu) {
+        None => run.refuse(place),
+        Some(index) => match run.duty(index) {
+            None => run.refuse(place),
+            Some(duty) => {
+                run.drop_duty(index);
+                run.count(
+                    place,
+                    Counted::Entity(duty.entity),
+                    Quantity::Timer,
+                    ExactValue::Armed(duty.function),
+                    ExactValue::NotArmed(duty.function),
+                    false,
+                )
+            }
+        },
+    }
+}
+
+fn miss_timers(run: &mut Run, place: ProbedLine) -> Result<(), AllocError>
+    ensures { OnOk result (Holds (state_of run.old) false (state_of run.new)) }
+{
+    let count = run
+        .duties()
+        .iter()
+        .filter(|one| one.place.cpu == place.cpu)
+        .count();
+    for _ in 1..count {
+        miss_timer(run, place)?;
+    }
+    miss_timer(run, place)
+}
+
+fn check_timers(run: &mut Run, place: ProbedLine, probe: &Probe) -> Result<(), AllocError>
+    ensures { OnOk result (Holds (state_of run.old)
+        (timers_are_armed (state_of run.old) place.cpu probe.now) (state_of run.new)) }
+{
+    if are_timers_armed(run, place.cpu, probe) {
+        Ok(())
+    } else {
+        miss_timers(run, place)
+    }
+}
+
+fn check_line(
+    run: &mut Run,
+    place: ProbedLine,
+    probe: &Probe,
+    choice: LineChoice,
+) -> Result<(), AllocError>
+    ensures { OnOk result (Holds (state_of run.old)
+        (is_free_for (state_of run.old) place.cpu probe.now && choice_fits probe.now choice)
+        (state_of run.new)) }
+{
+    let is_done = are_calls_done(run, place.cpu, probe);
+    check_choice(run, place, is_done)?;
+    check_timers(run, place, probe)?;
+    check_choice(run, place, fits(probe, choice))
+}
+
+fn is_first(run: &Run, rules: PlayRules, by: u32) -> bool
+    ensures { result ≡ is_first_of rules (state_of run.now) by }
+{
+    rules.begins_amid && !run.has_written(by)
+}
+
+fn begin(run: &mut Run, place: ProbedLine, probe: &Probe) -> Result<(), AllocError>
+    ensures state { OnOk result (state_of run.new ≡ before_line (state_of run.old) place probe.now) }
+    ensures first { OnOk result ((state_of run.new).first ≡ (state_of run.old).first) }
+{
+    let keeps_blinds = is_timer(probe) || is_mark(run, probe);
+    let is_quiet = is_timer(probe) || is_charge(probe);
+    run.begin(place, !keeps_blinds, !is_quiet)
+}
+
+fn play(
+    run: &mut Run,
+    rules: PlayRules,
+    place: ProbedLine,
+    probe: &Probe,
+    choice: LineChoice,
+    first: bool,
+) -> Result<(), AllocError>
+    ensures { OnOk result (rules.change ≡ None → rules.has_dequeues ≡ true → Goes (state_of run.old)
+        (played_by rules (state_of run.old) place probe.now choice first) (state_of run.new)) }
+{
+    match probe {
+        Probe::Enqueued(line) => enqueued(run, rules, place, *line, choice.late),
+        Probe::Updated(line) => updated(run, rules, place, *line, choice),
+        Probe::Dequeued(line) => dequeued(run, rules, place, *line),
+        Probe::Migrating(line) => migrating(run, place, *line),
+        Probe::LeftClass(line) => left_class(run, rules, place, *line),
+        Probe::Admitted(line) => admitted(run, rules, place, *line),
+        Probe::ZeroLagFired { timer } => zero_lag_fired(run, place, *timer),
+        Probe::ReplenishFired { timer, served_by } => {
+            replenish_fired(run, rules, place, *timer, *served_by)
+        }
+        Probe::Armed(line) => armed(run, rules, place, *line, first),
+        Probe::ServerStarted(line) => server_started(run, rules, place, *line),
+        Probe::Picked(line) => picked(run, rules, place, *line),
+        Probe::ServerStopped(line) => {
+            if stops_nothing(run, *line) {
+                Ok(())
+            } else {
+                server_stopped(run, rules, place, *line)
+            }
+        }
+        Probe::ServerIdled(_) => Ok(()),
+        Probe::Mark(mark) => marked(run, *mark),
+    }
+}
+
+fn play_free(
+    run: &mut Run,
+    rules: PlayRules,
+    place: ProbedLine,
+    probe: &Probe,
+    choice: LineChoice,
+) -> Result<(), AllocError>
+    ensures { OnOk result (rules.change ≡ None → rules.has_dequeues ≡ true → Goes (state_of run.old)
+        (played_by rules (before_line (state_of run.old) place probe.now) place probe.now choice
+        (is_first_of rules (state_of run.old) place.cpu)) (state_of run.new)) }
+{
+    let first = is_first(run, rules, place.cpu);
+    begin(run, place, probe)?;
+    play(run, rules, place, probe, choice, first)?;
+    Ok(())
+}
+
+fn play_checked(
+    run: &mut Run,
+    rules: PlayRules,
+    place: ProbedLine,
+    probe: &Probe,
+    choice: LineChoice,
+) -> Result<(), AllocError>
+    ensures { OnOk result (rules.change ≡ None → rules.has_dequeues ≡ true → Goes (state_of run.old)
+        (checked_line_of rules (state_of run.old) place probe.now choice) (state_of run.new)) }
+{
+    check_line(run, place, probe, choice)?;
+    play_free(run, rules, place, probe, choice)?;
+    Ok(())
+}
+
+/// Plays the next line: what is refused and what differs is counted, and the kernel's values are taken.
+pub fn play_line(
+    run: &mut Run,
+    rules: PlayRules,
+    place: ProbedLine,
+    probe: &Probe,
+    choice: LineChoice,
+) -> Result<(), AllocError>
+    ensures { OnOk result (rules.change ≡ None → rules.has_dequeues ≡ true → Goes (state_of run.old)
+        (line_of rules (state_of run.old) place probe.now choice) (state_of run.new)) }
+{
+    if is_passed_over(probe) {
+        Ok(())
+    } else {
+        play_checked(run, rules, place, probe, choice)
+    }
+}

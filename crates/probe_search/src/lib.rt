@@ -1,0 +1,17 @@
+//! Which moves explain a record: a strategy. It bears on no answer, since a run makes legal moves alone and compares each value.
+//!
+//! Effects settle as late as they may: when a value shows them, or at the end of their window.
+#![tactic(auto)]
+
+mod charges;
+mod dequeues;
+mod effects;
+mod locks;
+mod readings;
+mod shown;
+mod speeds;
+mod strategy;
+mod witness;
+
+pub use strategy::ProbeSearch;
+pub use witness::Witness;

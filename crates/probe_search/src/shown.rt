@@ -1,0 +1,112 @@
+//! What lines show.
+
+use kernel_entity::{WAKEUP, has};
+use probe_run::Run;
+use trace_data::{Picked, Probe, Sums};
+
+/// The sums of a runqueue that a line shows, and of which CPU.
+#[derive(Clone, Copy)]
+pub(crate) struct ShownSums {
+    pub cpu: u32,
+    pub sums: Sums,
+}
+
+/// Whether a line is about a fair server's own budget: no rule is played there, and nothing asked.
+pub(crate) fn is_passed_over(probe: &Probe) -> bool {
+    match probe {
+        Probe::Updated(line) => line.is_server,
+        Probe::ServerIdled(_) => true,
+        _ => false,
+    }
+}
+
+/// Whether `pick_task_dl` stops the server that it shows.
+fn stops(line: &Picked) -> bool {
+    line.is_active && !line.is_throttled && line.fair_tasks == 0 && line.earliest == line.deadline
+}
+
+/// Whether the fair server of a CPU was stopped since it last started.
+fn is_stopped(run: &Run, cpu: u32) -> bool {
+    match run.server_number(cpu) {
+        Some(number) => run.actor(number).is_stopped,
+        None => false,
+    }
+}
+
+/// The sums that are compared with a line's.
+pub(crate) fn shown_sums(run: &Run, probe: &Probe) -> Option<ShownSums> {
+    let (cpu, sums) = match probe {
+        Probe::Enqueued(line) => (line.cpu, line.sums),
+        Probe::Updated(line) => {
+            if line.is_server {
+                return None;
+            }
+            (line.cpu, line.sums)
+        }
+        Probe::Dequeued(line) => (line.cpu, line.sums),
+        Probe::LeftClass(line) => (line.cpu, line.sums),
+        Probe::ServerStarted(line) => {
+            if !line.is_server || !has(line.flags, WAKEUP) {
+                return None;
+            }
+            (line.cpu, line.sums)
+        }
+        Probe::Picked(line) => {
+            if !stops(line) {
+                return None;
+            }
+            (line.cpu, line.sums)
+        }
+        Probe::ServerStopped(line) => {
+            if !line.is_active || is_stopped(run, line.cpu) {
+                return None;
+            }
+            (line.cpu, line.sums)
+        }
+        _ => return None,
+    };
+    Some(ShownSums { cpu, sums })
+}
+
+/// The budget that a line shows of the task of this pid.
+pub(crate) fn shown_runtime(probe: &Probe, pid: u64) -> Option<i64> {
+    match probe {
+        Probe::Enqueued(line) => budget_of(line.pid, line.budget.runtime, pid),
+        Probe::Updated(line) => {
+            if line.is_server {
+                return None;
+            }
+            budget_of(line.pid, line.budget.runtime, pid)
+        }
+        Probe::Dequeued(line) => budget_of(line.pid, line.budget.runtime, pid),
+        Probe::LeftClass(line) => budget_of(line.pid, line.runtime, pid),
+        _ => None,
+    }
+}
+
+fn budget_of(of: u64, runtime: i64, pid: u64) -> Option<i64> {
+    if of == pid { Some(runtime) } else { None }
+}
+
+/// The entity whose own functions a line shows, and whether it is non-contending there.
+#[derive(Clone, Copy)]
+pub(crate) struct ShownEntity {
+    pub number: usize,
+    pub is_non_contending: bool,
+}
+
+pub(crate) fn shown_entity(run: &Run, probe: &Probe) -> Option<ShownEntity> {
+    let (number, is_non_contending) = match probe {
+        Probe::Enqueued(line) => (run.task_number(line.pid), line.is_non_contending),
+        Probe::LeftClass(line) => (run.task_number(line.pid), line.is_non_contending),
+        Probe::ServerStarted(line) => (run.server_number(line.cpu), line.is_non_contending),
+        _ => (None, false),
+    };
+    match number {
+        Some(number) => Some(ShownEntity {
+            number,
+            is_non_contending,
+        }),
+        None => None,
+    }
+}

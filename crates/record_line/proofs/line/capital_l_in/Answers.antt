@@ -1,5 +1,0 @@
-use Rattle.grub_text.proofs.Splits.{first_byte}
-use Rattle.record_line.proofs.line.capital_l_in.Goals as goal
-
-pub returns : goal.returns
-returns c = first_byte 76 c.args.line.now _ c.memchr.ensures

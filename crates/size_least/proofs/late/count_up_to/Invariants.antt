@@ -1,0 +1,12 @@
+use Rattle.std.proofs.Common.{◌≡◌, ◌≤◌, ◌+◌, ◌-◌, List, drop}
+use Rattle.size_least.specs.Jobs.{late_after, late_of}
+use Rattle.size_least.specs.inside.Walk.{Answers, IsKept}
+use Rattle.size_least.specs.declared.job.Job.{Job}
+use Rattle.size_least.proofs.late.count_up_to.Given as goal
+
+abbrev pub invariant-loop-job : goal.invariant-loop-job
+invariant-loop-job l =
+    (past : List Job) × IsKept (l.period - l.runtime) l.runtime l.renewals × Answers l.runtime l.period l.renewals past
+    × (l.count + late_after l.runtime l.period past (drop l.job-index l.jobs) ≡ late_of l.runtime l.period l.jobs)
+    × (l.count ≤ l.most)
+    × (l.count ≤ l.job-index)

@@ -1,0 +1,6 @@
+pub mod Span
+pub mod Jobs
+pub mod Least
+pub mod inside
+pub mod Heights
+pub mod Needs

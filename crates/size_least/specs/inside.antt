@@ -1,0 +1,4 @@
+pub mod Queue
+pub mod Walk
+pub mod Counting
+pub mod Rising

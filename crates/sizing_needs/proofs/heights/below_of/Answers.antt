@@ -1,7 +1,0 @@
-use Rattle.std.proofs.Common.{rules}
-use Rattle.grub_sizing.specs.Span.{budgets_of}
-use Rattle.sizing_needs.proofs.heights.below_of.Goals as goal
-
-pub returns-clause-value : goal.returns-clause-value
-unfolding budgets_of
-returns-clause-value c = search rules

@@ -1,0 +1,120 @@
+//! Figures of the trace of a path.
+
+use crate::lines::FigureLines;
+use crate::text::{put_figures, put_supply};
+use law_verdict::TaskName;
+use std::alloc::{AllocError, Global};
+use std::collections::HashMap;
+use std::io;
+use std::io::Write;
+use trace_data::RecordLine;
+use trace_file::read_lines;
+use trace_lines::{Lines, ToldLine};
+
+/// The lines of a trace, with the comm of each task.
+#[derive(Drop)]
+struct NamedLines {
+    alloc: Global,
+    figures: FigureLines,
+    names: Vec<TaskName>,
+    places: HashMap<u64, usize>,
+}
+
+impl Lines for NamedLines {
+    type Fault = AllocError;
+
+    ghost use Rattle.std.specs.Prelude.{ℕ, true};
+
+    ghost Seen = { ℕ };
+
+    ghost seen = { λ lines. 0 };
+
+    ghost step = { λ n told seen. record { more = true; seen = 0 } };
+
+    fn take(&mut self, number: u64, told: &ToldLine<&[u8]>) -> Result<bool, AllocError> {
+        if let Some(shown) = told.shown {
+            self.show(shown.pid, shown.comm)?;
+        }
+        if let RecordLine::Event { said, .. } = &told.line {
+            self.figures.take(said)?;
+        }
+        Ok(true)
+    }
+}
+
+impl NamedLines {
+    /// A line shows a task with this comm.
+    fn show(&mut self, pid: u64, comm: &[u8]) -> Result<(), AllocError> {
+        if self.places.contains_key(&pid) {
+            return Ok(());
+        }
+        let mut kept = Vec::new(self.alloc);
+        kept.extend_from_slice(comm)?;
+        let place = self.names.len();
+        self.names.push(TaskName { pid, comm: kept })?;
+        self.places.insert(pid, place)?;
+        Ok(())
+    }
+}
+
+/// What is printed of the tasks of a trace.
+#[derive(Clone, Copy)]
+pub enum FigureText {
+    /// A line for each.
+    Tasks,
+
+    /// Whether each budget was had by its deadline.
+    Supply,
+}
+
+/// The text of the figures of a trace; none where it cannot be read.
+fn text_of<D: Drop, O: Fn(&str) -> io::Result<D>, N: Fn(&mut D, &mut [u8]) -> io::Result<usize>>(
+    alloc: Global,
+    opener: &O,
+    read: &N,
+    path: &str,
+    wanted: FigureText,
+) -> Result<Vec<u8>, AllocError>
+    requires opener { O.IsAlwaysCallable opener.now }
+    requires read { N.IsAlwaysCallable read.now }
+{
+    let mut lines = NamedLines {
+        alloc,
+        figures: FigureLines::new(alloc),
+        names: Vec::new(alloc),
+        places: HashMap::new(alloc),
+    };
+    let mut text = Vec::new(alloc);
+    if read_lines(alloc, opener, read, path, &mut lines).is_err() {
+        return Ok(text);
+    }
+    let tasks = lines.figures.figures()?;
+    match wanted {
+        FigureText::Tasks => {
+            let left = lines.figures.left()?;
+            put_figures(alloc, &mut text, &tasks, &left, &lines.names)?;
+        }
+        FigureText::Supply => put_supply(alloc, &mut text, &tasks, &lines.names)?,
+    }
+    Ok(text)
+}
+
+/// Prints figures of the trace of a path, which is read a second time for them; whether they were printed. Of standard input, and of a
+/// trace without lines of probes, there are none.
+pub fn print_figures<
+    D: Drop,
+    O: Fn(&str) -> io::Result<D>,
+    N: Fn(&mut D, &mut [u8]) -> io::Result<usize>,
+    W: Write,
+>(alloc: Global, opener: &O, read: &N, path: &str, wanted: FigureText, out: &mut W) -> bool
+    requires opener { O.IsAlwaysCallable opener.now }
+    requires read { N.IsAlwaysCallable read.now }
+{
+    if path == "-" {
+        return true;
+    }
+    match text_of(alloc, opener, read, path, wanted) {
+        Ok(text) => out.write_all(&text).is_ok() && out.flush().is_ok(),
+        Err(_) => false,
+    }
+}

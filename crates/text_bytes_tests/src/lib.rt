@@ -1,0 +1,5 @@
+//! Tests of text_bytes.
+#![tactic(auto)]
+
+#[cfg(test)]
+mod tests;

@@ -1,3 +1,0 @@
-pub mod Votes
-pub mod Timers
-pub mod inside

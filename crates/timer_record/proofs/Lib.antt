@@ -1,0 +1,3 @@
+pub mod BeforeLemmas
+mod ComingLemmas
+mod GrowthLemmas

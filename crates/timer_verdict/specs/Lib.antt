@@ -1,0 +1,3 @@
+pub mod Verdicts
+pub mod Numbers
+pub mod LeftOut

@@ -1,0 +1,18 @@
+-- Why nothing of a record was compared.
+use Rattle.std.specs.Prelude.{ℕ, ◌==◌, Bool, ◌&&◌, if◌then◌else◌, Option, Some, None}
+use Rattle.timer_verdict.specs.declared.omitted.LeftOut.{LeftOut}
+use Rattle.trace_check.specs.declared.fault.Uncompared.{Uncompared}
+use Rattle.trace_check.specs.declared.fault.Uncompared.TheVariants.{NoTask, NoBlock, Left, NoValue}
+
+abbrev pub is_nothing : LeftOut → Bool
+is_nothing l = (l.ends == 0) && (l.unknown == 0) && (l.edges == 0) && (l.gaps == 0)
+
+-- by timers: a record of so many tasks of which all that there is was left out
+abbrev pub uncompared_of : Option LeftOut → ℕ → Option Uncompared
+uncompared_of None tasks = None
+uncompared_of (Some left) tasks = if tasks == 0 then Some NoTask else if is_nothing left then Some NoBlock else Some (Left left)
+
+-- by probes: each value that was compared is equal, and there is none but of laws
+abbrev pub unvalued_of : Bool → Bool → Bool → Option Uncompared
+unvalued_of agrees has_values shows_task =
+    if agrees then (if has_values then None else if shows_task then Some NoValue else Some NoTask) else None

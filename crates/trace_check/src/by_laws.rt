@@ -1,0 +1,227 @@
+//! The laws of a record, beside its rules.
+
+ghost use Rattle.std.specs.Prelude.{◌≡◌, IfOk, false};
+
+use crate::check::Verdict;
+use crate::fault::{Fault, Uncompared};
+use crate::gathering::Gathering;
+use crate::names::Names;
+use crate::showing::nothing_shown;
+use check_report::{CheckReport, add_laws, add_tasks};
+use law_findings::{AskedLaws, Breach, LAWS, LawSheet, Whose};
+use law_play::{LawPlay, ReadLine};
+use law_verdict::{TaskName, put_law_row, put_laws};
+use probe_verdict::TABLE_HEAD;
+use std::alloc::{AllocError, Global};
+use task_figures::{FigureLines, put_figures};
+use timer_verdict::table_head;
+use trace_data::{Kernel, Said};
+
+/// What the laws need of the lines so far.
+#[derive(Drop)]
+pub(crate) struct RecordLaws {
+    alloc: Global,
+    asked: AskedLaws,
+    keeps_breaches: bool,
+
+    /// The root domain of the last note, and whether notes tell of several.
+    domain: Option<u64>,
+    has_domains: bool,
+    play: Option<LawPlay>,
+
+    /// What each task had.
+    figures: FigureLines,
+}
+
+impl RecordLaws {
+    pub fn new(alloc: Global, asked: AskedLaws, keeps_breaches: bool) -> RecordLaws {
+        RecordLaws {
+            alloc,
+            asked,
+            keeps_breaches,
+            domain: None,
+            has_domains: false,
+            play: None,
+            figures: FigureLines::new(alloc),
+        }
+    }
+
+    /// A note tells the root domain of a CPU.
+    pub fn note_domain(&mut self, domain: Option<u64>) {
+        self.has_domains = self.has_domains || self.domain.is_some() && domain != self.domain;
+        self.domain = domain;
+    }
+
+    /// Takes a line of an event, of a record of this kernel.
+    pub fn take(
+        &mut self,
+        kernel: Option<Kernel>,
+        read: ReadLine,
+        said: &Said,
+    ) -> Result<(), AllocError> {
+        self.figures.take(said)?;
+        match &mut self.play {
+            Some(play) => play.take(read, said),
+            None => {
+                let mut play = LawPlay::new(self.alloc, kernel, self.asked, self.keeps_breaches);
+                if self.has_domains {
+                    play.part_domains();
+                }
+                let taken = play.take(read, said);
+                self.play = Some(play);
+                taken
+            }
+        }
+    }
+}
+
+/// A verdict with what the laws say below what the rules say.
+pub(crate) fn with_laws<'o>(
+    alloc: Global,
+    gathering: &mut Gathering<'o>,
+    verdict: Verdict,
+) -> Result<Verdict, Fault<'o>>
+    ensures { IfOk result (λ v. v.agrees ≡ verdict.agrees) }
+{
+    match laws_told(alloc, gathering, verdict) {
+        Ok(verdict) => Ok(verdict),
+        Err(AllocError) => Err(Fault::NoMemory),
+    }
+}
+
+/// The laws of a record of which nothing was compared with the rules: a fault, unless one of them is broken.
+pub(crate) fn laws_alone<'o>(
+    alloc: Global,
+    gathering: &mut Gathering<'o>,
+    why: Uncompared,
+) -> Result<Verdict, Fault<'o>>
+    ensures broken { IfOk result (λ v. v.keeps_laws ≡ false) }
+{
+    let verdict = with_laws(alloc, gathering, without_rules(alloc, gathering)?)?;
+    if verdict.keeps_laws {
+        Err(Fault::NothingCompared { why })
+    } else {
+        Ok(verdict)
+    }
+}
+
+/// A verdict that says that nothing was compared, with documents that show nothing.
+fn without_rules(alloc: Global, gathering: &Gathering<'_>) -> Result<Verdict, AllocError> {
+    let mut text = Vec::new(alloc);
+    text.extend_from_slice(b"nothing could be compared with the rules\n")?;
+    let mut table = Vec::new(alloc);
+    if gathering.probes.played.is_some() {
+        table.extend_from_slice(TABLE_HEAD.as_bytes())?;
+    } else {
+        table.extend_from_slice(table_head())?;
+    }
+    let mut shown = nothing_shown(alloc);
+    shown.json.extend_from_slice(b"[]\n")?;
+    shown
+        .picture
+        .extend_from_slice(b"<svg xmlns=\"http://www.w3.org/2000/svg\"/>\n")?;
+    Ok(Verdict {
+        agrees: true,
+        keeps_laws: true,
+        text,
+        table,
+        shown: Some(shown),
+        report: CheckReport::new(alloc),
+        reported: Vec::new(alloc),
+    })
+}
+
+fn laws_told(
+    alloc: Global,
+    gathering: &mut Gathering<'_>,
+    mut verdict: Verdict,
+) -> Result<Verdict, AllocError>
+    ensures { IfOk result (λ v. v.agrees ≡ verdict.agrees) }
+{
+    let Some(mut play) = gathering.laws.play.take() else {
+        return Ok(verdict);
+    };
+    let figures = play.finish()?;
+    let names = names_of(alloc, &play.sheet, &gathering.names)?;
+    add_laws(alloc, &mut verdict.report, &play.sheet, figures, &names)?;
+    if was_asked(&play.sheet) {
+        put_laws(alloc, &mut verdict.text, &play.sheet, figures, &names)?;
+        put_rows(alloc, &mut verdict.table, &gathering.names, &play)?;
+        put_tasks(alloc, &mut verdict, gathering)?;
+    }
+    verdict.keeps_laws = play.sheet.is_kept();
+    Ok(verdict)
+}
+
+/// Appends what each task had.
+fn put_tasks(
+    alloc: Global,
+    verdict: &mut Verdict,
+    gathering: &mut Gathering<'_>,
+) -> Result<(), AllocError>
+    ensures { verdict.new.agrees ≡ verdict.old.agrees }
+{
+    let tasks = gathering.laws.figures.figures()?;
+    let left = gathering.laws.figures.left()?;
+    let mut names = Vec::new(alloc);
+    for task in &tasks {
+        let comm = gathering.names.comm(alloc, task.pid)?;
+        names.push(TaskName {
+            pid: task.pid,
+            comm,
+        })?;
+    }
+    put_figures(alloc, &mut verdict.text, &tasks, &left, &names)?;
+    add_tasks(alloc, &mut verdict.report, &tasks, &left, &names)
+}
+
+/// Whether a value was held to a law.
+fn was_asked(sheet: &LawSheet) -> bool {
+    LAWS.iter().any(|law| {
+        let tally = sheet.of(*law);
+        tally.held > 0 || tally.broken > 0 || tally.known > 0
+    })
+}
+
+/// Appends a row for each breach that was kept.
+fn put_rows(
+    alloc: Global,
+    table: &mut Vec<u8>,
+    names: &Names,
+    play: &LawPlay,
+) -> Result<(), AllocError> {
+    for breach in &play.breaches {
+        let mut named = Vec::new(alloc);
+        put_name(alloc, &mut named, breach, names)?;
+        put_law_row(alloc, table, breach, &named)?;
+    }
+    Ok(())
+}
+
+/// The names of the tasks of first breaches.
+fn names_of(alloc: Global, sheet: &LawSheet, names: &Names) -> Result<Vec<TaskName>, AllocError> {
+    let mut named = Vec::new(alloc);
+    for law in LAWS {
+        let tally = sheet.of(law);
+        if let Some(breach) = tally.first {
+            put_name(alloc, &mut named, &breach, names)?;
+        }
+        if let Some(breach) = tally.first_known {
+            put_name(alloc, &mut named, &breach, names)?;
+        }
+    }
+    Ok(named)
+}
+
+fn put_name(
+    alloc: Global,
+    named: &mut Vec<TaskName>,
+    breach: &Breach,
+    names: &Names,
+) -> Result<(), AllocError> {
+    if let Whose::Task { pid } = breach.whose {
+        let comm = names.comm(alloc, pid)?;
+        named.push(TaskName { pid, comm })?;
+    }
+    Ok(())
+}

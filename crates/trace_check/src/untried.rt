@@ -1,0 +1,69 @@
+//! Kernels whose release was not tried.
+
+ghost use Rattle.std.specs.Prelude.{◌≡◌};
+ghost use Rattle.trace_check.specs.Untried.{is_judged, untried_by};
+
+use crate::check::Verdict;
+use crate::fault::{Check, Fault, tried_by};
+use kernel_versions::{is_judged_by_probes, is_judged_by_timers};
+use std::alloc::{AllocError, Global};
+use trace_data::Kernel;
+
+fn is_judged(check: Check, kernel: Option<Kernel>) -> bool
+    ensures { result ≡ is_judged check kernel }
+{
+    match check {
+        Check::Probes => is_judged_by_probes(kernel),
+        Check::Timers => is_judged_by_timers(kernel),
+    }
+}
+
+/// The kernel, where its release was not tried.
+fn untried(check: Check, kernel: Option<Kernel>) -> Option<Kernel>
+    ensures { result ≡ untried_by check kernel }
+{
+    if is_judged(check, kernel) {
+        None
+    } else {
+        kernel
+    }
+}
+
+/// The verdict on a kernel that was tried. That on another one says so where all is equal, and is none where so many values differ.
+pub(crate) fn of_release<'o>(
+    alloc: Global,
+    mut verdict: Verdict,
+    check: Check,
+    kernel: Option<Kernel>,
+    differ: u64,
+) -> Result<Verdict, Fault<'o>> {
+    let Some(kernel) = untried(check, kernel) else {
+        return Ok(verdict);
+    };
+    if !verdict.agrees {
+        return Err(Fault::UntriedKernel {
+            kernel,
+            check,
+            differ,
+        });
+    }
+    match put_untried(alloc, &mut verdict.text, check, kernel) {
+        Ok(()) => Ok(verdict),
+        Err(AllocError) => Err(Fault::NoMemory),
+    }
+}
+
+/// Appends that the release was not tried.
+fn put_untried(
+    alloc: Global,
+    out: &mut Vec<u8>,
+    check: Check,
+    kernel: Kernel,
+) -> Result<(), AllocError> {
+    let (major, minor, patch) = (kernel.major, kernel.minor, kernel.patch);
+    let tried = tried_by(check);
+    let text = format!(in alloc;
+        "note: {major}.{minor}.{patch} is not among the releases that were tried: {tried}\n"
+    )?;
+    out.extend_from_slice(text.as_bytes())
+}

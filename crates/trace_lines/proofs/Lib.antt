@@ -1,0 +1,2 @@
+mod LossLemmas
+mod TextLemmas

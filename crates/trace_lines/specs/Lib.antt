@@ -1,0 +1,12 @@
+pub mod Verbs
+pub mod Scheduled
+pub mod Clock
+pub mod Fixed
+pub mod NoteWords
+pub mod Notes
+pub mod Lines
+pub mod ToldTexts
+pub mod inside
+pub mod Reading
+pub mod Keeping
+pub mod Told

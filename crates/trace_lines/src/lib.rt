@@ -1,0 +1,18 @@
+//! One line of a record: what it says, in the words of `trace_data`.
+#![tactic(auto)]
+
+mod clock;
+mod fixed;
+mod line;
+mod note;
+mod reader;
+mod scheduled;
+mod verb;
+mod word;
+
+pub use clock::{CLOCK_MAX, Clock};
+pub use line::{ToldLine, told_by};
+pub use note::Lost;
+pub use reader::{Halt, Lines, RecordReader};
+pub use scheduled::{Class, Scheduled};
+pub use word::{CPUS, CpuRange, first_part, kernel_of, range_in};

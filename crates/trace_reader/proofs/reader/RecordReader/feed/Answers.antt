@@ -1,8 +1,0 @@
-use Rattle.std.proofs.Common.{sym, ap, ◌∙◌}
-use Rattle.trace_reader.specs.Reading.{Progress, further}
-use Rattle.trace_reader.proofs.TextLemmas.{reading_more}
-use Rattle.trace_reader.proofs.reader.RecordReader.feed.Goals as goal
-
-pub returns : goal.returns
-returns g c =
-    λ start text has. c.in_ok-read_piece.ensures ∙ (ap (λ (p : Progress g.L.Lines.Seen). further g.L.Lines.step p c.args.piece.now) has ∙ sym (reading_more g.L.Lines.step text c.args.piece.now start))
