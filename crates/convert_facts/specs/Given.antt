@@ -159,7 +159,7 @@ index_shown tasks shown = if is_sugov shown.comm then None else shown_index task
 abbrev pub index_timed : ℕ → Fixed → List Task → Option ℕ
 index_timed n (TimerStarted timer function expires) tasks = if is_zero_lag function then index_of (disowned timer tasks) n else None
 index_timed n (TimerCancelled timer) tasks = index_of_timer tasks timer
-index_timed n (TimerFired timer function now) tasks = index_of_timer tasks timer
+index_timed n (TimerFired timer function tick now) tasks = index_of_timer tasks timer
 index_timed n event tasks = None
 
 abbrev pub index_by : ℕ → Fixed → Option (Shown (List ℕ)) → List Task → Option ℕ
@@ -178,7 +178,7 @@ what_told cpu (Ran pid nanos) = Some (what.Ran nanos)
 what_told cpu (Switched pid deadline state next next_deadline) = if deadline then Some (what.Stops cpu state) else None
 what_told cpu (TimerStarted timer function expires) = if is_zero_lag function then Some (what.Armed expires) else None
 what_told cpu (TimerCancelled timer) = Some what.Cancelled
-what_told cpu (TimerFired timer function now) = Some (what.Fired now)
+what_told cpu (TimerFired timer function tick now) = Some (what.Fired now)
 what_told cpu event = None
 
 abbrev pub fact_told : ℕ → ℕ → Option ℕ → Option What → List Fact

@@ -143,6 +143,7 @@ fn updated_choice(
         number,
         dl_runtime: actor.entity.parameters.dl_runtime,
         nanos,
+        by: next.place.cpu,
     };
     LineChoice {
         cost: cost_told(run, line, unknown, ahead),

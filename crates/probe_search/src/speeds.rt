@@ -2,9 +2,10 @@
 
 use crate::shown::shown_runtime;
 use probe_explain::ProbeLine;
+use probe_findings::ExactRule;
 use probe_run::Run;
 use std::collections::VecDeque;
-use trace_data::{Probe, Updated};
+use trace_data::{Armed, Probe, TimerFunction, Updated};
 
 /// SCHED_CAPACITY_SCALE: the fastest CPU at its greatest frequency.
 const WHOLE: u64 = 1024;
@@ -15,10 +16,11 @@ const REPLENISHMENTS: u32 = 3;
 /// A charge whose speed is not known.
 #[derive(Clone, Copy)]
 pub(crate) struct UnknownSpeed {
-    /// The number of the task, its `dl_runtime`, and how long it has run.
+    /// The number of the task, its `dl_runtime`, how long it has run, and the CPU that wrote the line.
     pub number: usize,
     pub dl_runtime: u64,
     pub nanos: u64,
+    pub by: u32,
 }
 
 /// The capacity of a CPU: as the line shows it, or a note.
@@ -75,6 +77,25 @@ fn next_line(run: &Run, number: usize, pid: u64, ahead: &VecDeque<ProbeLine>) ->
     NextLine::None
 }
 
+/// Whether the next line of a CPU arms a replenishment timer: the charge before it throttled the task.
+fn arms_replenishment(by: u32, ahead: &VecDeque<ProbeLine>) -> bool {
+    match ahead.iter().find(|line| line.place.cpu == by) {
+        Some(line) => matches!(
+            line.probe,
+            Probe::Armed(Armed {
+                function: TimerFunction::Replenish,
+                ..
+            })
+        ),
+        None => false,
+    }
+}
+
+/// Whether a charge of this record took less than all.
+fn has_run_slowly(run: &Run) -> bool {
+    run.rules().of(ExactRule::SpeedUnknown) > 0
+}
+
 /// The cost by which a budget came from one to the other, with so many replenishments between.
 fn cost_between(before: i64, after: i64, times: u32, dl_runtime: u64) -> Option<u64> {
     let added = u64::from(times).checked_mul(dl_runtime)?;
@@ -99,8 +120,12 @@ pub(crate) fn cost_told(
     let before = line.budget.runtime;
     let (after, has_fired) = match next_line(run, charge.number, line.pid, ahead) {
         NextLine::Shows { runtime, has_fired } => (runtime, has_fired),
-        // The task's last line does not tell that it was throttled.
-        NextLine::None => return last_cost(before, full),
+        NextLine::None => {
+            if has_run_slowly(run) && !arms_replenishment(charge.by, ahead) {
+                return last_cost(before, full);
+            }
+            return None;
+        }
     };
     let most = if has_fired { REPLENISHMENTS } else { 0 };
     for times in 0..=most {

@@ -208,7 +208,7 @@ passed_one n place pid (said.Switched stopped deadline stop next next_deadline) 
     switched_one n (record place { is_idle = place.is_idle || (stopped == 0) }) stopped deadline stop (next == 0) (before_is place.cpu before.Nothing k) (before_has n place.cpu before.Nothing k has)
 passed_one n place pid (said.TimerStarted timer f expires) k has = started_one n place pid timer f expires k has
 passed_one n place pid (said.TimerCancelled timer) k has = cancelled_one n place timer k has
-passed_one n place pid (said.TimerFired timer f now) k has = fired_one n place timer f (before_is place.cpu before.Nothing k) (before_has n place.cpu before.Nothing k has)
+passed_one n place pid (said.TimerFired timer f tick now) k has = fired_one n place timer f (before_is place.cpu before.Nothing k) (before_has n place.cpu before.Nothing k has)
 passed_one n place pid said.PolicyCalled k has = none_more n (before_is place.cpu before.Nothing (called_in pid k)) (before_has n place.cpu before.Nothing (called_in pid k) (passing_has n (k.numbers pid) calling_of k has))
 passed_one n place pid said.PolicyReturned k has = none_more n (before_is place.cpu before.Nothing (returned_in pid k)) (before_has n place.cpu before.Nothing (returned_in pid k) (passing_has n (k.numbers pid) returned_of k has))
 

@@ -227,6 +227,6 @@ passed_in place pid (said.Ran charged nanos) k = ran_in place charged nanos k
 passed_in place pid (said.Switched stopped deadline stop next next_deadline) k = switched_in place stopped deadline stop next k
 passed_in place pid (said.TimerStarted timer function expires) k = started_in place pid timer function expires k
 passed_in place pid (said.TimerCancelled timer) k = cancelled_in place timer k
-passed_in place pid (said.TimerFired timer function now) k = fired_in place timer function k
+passed_in place pid (said.TimerFired timer function tick now) k = fired_in place timer function k
 passed_in place pid said.PolicyCalled k = before_is place.cpu before.Nothing (called_in pid k)
 passed_in place pid said.PolicyReturned k = before_is place.cpu before.Nothing (returned_in pid k)

@@ -59,6 +59,7 @@ impl OpenRecord {
             Fixed::TimerFired {
                 timer,
                 function,
+                is_tick: _,
                 now: _,
             } => self.fired(place, timer, function),
             Fixed::PolicyCalled => {

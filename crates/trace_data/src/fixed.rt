@@ -68,10 +68,11 @@ pub enum Fixed {
         timer: u64,
     },
 
-    /// hrtimer_expire_entry.
+    /// hrtimer_expire_entry; whether it is the CPU's tick.
     TimerFired {
         timer: u64,
         function: TimerFunction,
+        is_tick: bool,
         now: u64,
     },
 

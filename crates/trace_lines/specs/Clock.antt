@@ -19,7 +19,7 @@ fired_drift at ZeroLag now = Some ((now - at) + (at - now))
 fired_drift at function now = None
 
 abbrev pub fixed_drift : ℕ → Fixed → Option ℕ
-fixed_drift at (fixed.TimerFired timer function now) = fired_drift at function now
+fixed_drift at (fixed.TimerFired timer function tick now) = fired_drift at function now
 fixed_drift at other = None
 
 -- how far the now of a 0-lag timer that fires lies from the moment of its line

@@ -1,6 +1,7 @@
 -- What the events say that each kernel has, by the fields of their lines.
-use Rattle.std.specs.Prelude.{ℕ, Bool, ◌||◌, ◌==◌, List, [], ◌∷◌, codes, Option, Some, None, if◌then◌else◌, option_map, option_and_then}
+use Rattle.std.specs.Prelude.{ℕ, nat_eq, Bool, ◌||◌, ◌==◌, List, [], ◌∷◌, codes, Option, Some, None, if◌then◌else◌, option_map, option_and_then}
 use Rattle.std.specs.Char.{is_ascii_digit}
+use Rattle.std.specs.List.{starts_with}
 use Rattle.trace_fields.specs.Numbers.{after}
 use Rattle.trace_fields.specs.Words.{cpu_field, deadline_field, number_field, value_of}
 use Rattle.trace_fields.specs.Shown.{shown_by, task_of}
@@ -103,7 +104,11 @@ started fields = option_and_then (λ f. started_by (timer_function f) fields) (v
 abbrev pub cancelled : List ℕ → Option (Named (List ℕ))
 cancelled fields = option_map (λ t. alone (TimerCancelled t)) (address_field fields)
 
+-- the function of a CPU's tick (kernel/time/tick-sched.c, tick-common.c)
+abbrev pub is_tick : List ℕ → Bool
+is_tick function = starts_with nat_eq function (codes "tick_")
+
 -- hrtimer_expire_entry
 abbrev pub fired : List ℕ → Option (Named (List ℕ))
 fired fields =
-    option_and_then (λ t. option_and_then (λ f. option_map (λ n. alone (TimerFired t (timer_function f) n)) (number_field (codes "now=") fields)) (value_of (codes "function=") fields)) (address_field fields)
+    option_and_then (λ t. option_and_then (λ f. option_map (λ n. alone (TimerFired t (timer_function f) (is_tick f) n)) (number_field (codes "now=") fields)) (value_of (codes "function=") fields)) (address_field fields)

@@ -1,7 +1,7 @@
 //! What the events say that each kernel has.
 
 ghost use Rattle.std.specs.Prelude.{◌≡◌, option_map};
-ghost use Rattle.trace_lines.specs.Fixed.{address, address_field, alone, cancelled, fired, migrated, migrated_with, naming, ran, started, started_deadline, stop_in, stop_of, switched, switched_from, switched_next, switched_to, woken, woken_with};
+ghost use Rattle.trace_lines.specs.Fixed.{address, address_field, alone, cancelled, fired, is_tick, migrated, migrated_with, naming, ran, started, started_deadline, stop_in, stop_of, switched, switched_from, switched_next, switched_to, woken, woken_with};
 ghost use Rattle.trace_lines.specs.inside.Texts.{named_text};
 ghost use Rattle.trace_fields.specs.Shown.{shown_text};
 ghost use Rattle.trace_fields.specs.Words.{text_of};
@@ -225,15 +225,23 @@ pub(crate) fn cancelled(fields: &[u8]) -> Option<Named<&[u8]>>
     Some(alone(Fixed::TimerCancelled { timer }))
 }
 
+/// Whether a timer's function is that of a CPU's tick (kernel/time/tick-sched.c, tick-common.c).
+fn is_tick(function: &[u8]) -> bool
+    ensures { result ≡ is_tick function.now }
+{
+    function.starts_with(b"tick_")
+}
+
 pub(crate) fn fired(fields: &[u8]) -> Option<Named<&[u8]>>
     ensures { option_map named_text result ≡ fired fields.now }
 {
     let timer = address_field(fields)?;
-    let function = timer_function(value_of(b"function=", fields)?);
+    let function = value_of(b"function=", fields)?;
     let now = number_field(b"now=", fields)?;
     Some(alone(Fixed::TimerFired {
         timer,
-        function,
+        function: timer_function(function),
+        is_tick: is_tick(function),
         now,
     }))
 }
