@@ -74,6 +74,7 @@ fn rules_of(alloc: Global, found: TimerAnswers<'_>) -> Result<Value, AllocError>
         "by": "timers",
         "equal": blocks.agree.saturating_add(starts.agree),
         "differ": blocks.differ.saturating_add(starts.differ),
+        "speed_unknown": found.judged.speed_unknown,
         "zero_lag_timers": zero_lag,
         "replenishment_timers": replenishment,
         "first": first

@@ -17,9 +17,12 @@ pub struct Judged {
 
     /// The first observation that differs, by its place.
     pub first: Option<usize>,
+
+    /// How many are left out, since no line tells the speed of their charges.
+    pub speed_unknown: u64,
 }
 
-fn differs(answer: ObservedAnswer) -> bool
+pub(crate) fn differs(answer: ObservedAnswer) -> bool
     ensures { result ≡ is_deviation answer }
 {
     match answer {
@@ -52,7 +55,11 @@ pub fn judged_of(outcome: RecordOutcome) -> Judged
     ensures same { result.outcome ≡ outcome }
 {
     let first = first_deviation(&outcome.observations);
-    Judged { outcome, first }
+    Judged {
+        outcome,
+        first,
+        speed_unknown: 0,
+    }
 }
 
 /// Plays a record and judges it; where it differs, it is played again, to tell the charges before the first deviation.
@@ -76,7 +83,7 @@ pub fn judge(
 }
 
 /// The task of the first deviation, and its line.
-fn watch_of(judged: &Judged) -> Option<Watch> {
+pub(crate) fn watch_of(judged: &Judged) -> Option<Watch> {
     let first = judged.first?;
     let observation = judged.outcome.observations.get(first)?;
     Some(Watch {

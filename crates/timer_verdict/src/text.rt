@@ -52,6 +52,7 @@ pub fn put_verdict(
         starts,
     )?;
     put_total(out, heading, setup, lines)?;
+    put_speed(alloc, out, judged.speed_unknown)?;
     let Some(place) = judged.first else {
         return put(out, b"agrees\n");
     };
@@ -133,7 +134,7 @@ pub(crate) fn parameters_of(lines: &KeptLines, task: u32) -> Option<Parameters> 
 }
 
 /// The reservation that a task has at a moment: that of its last note before it.
-fn parameters_at(lines: &KeptLines, task: u32, at: u64) -> Option<Parameters> {
+pub(crate) fn parameters_at(lines: &KeptLines, task: u32, at: u64) -> Option<Parameters> {
     let mut parameters = parameters_of(lines, task);
     for told in &lines.told {
         if told.task == task
@@ -194,6 +195,19 @@ fn put_boosted(alloc: Global, out: &mut Vec<u8>, boosted: u64) -> Result<(), All
     put(
         out,
         b" wakes of tasks with priority -1 and no reservation (boosted by a mutex, or not told of)\n",
+    )
+}
+
+/// Appends how much was left out of tasks whose charges depend on a speed that no line tells.
+fn put_speed(alloc: Global, out: &mut Vec<u8>, left_out: u64) -> Result<(), AllocError> {
+    if left_out == 0 {
+        return Ok(());
+    }
+    put(out, b"speed unknown: ")?;
+    put_count(alloc, out, left_out)?;
+    put(
+        out,
+        b" blocks and timers of tasks without SCHED_FLAG_RECLAIM were not compared: the kernel charged less than their time, and no line tells how fast their CPUs ran\n",
     )
 }
 

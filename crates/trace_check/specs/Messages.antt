@@ -9,7 +9,7 @@ use Rattle.trace_check.specs.declared.fault.Check.TheVariants.{Probes, Timers}
 use Rattle.trace_check.specs.declared.fault.Fault.{Fault}
 use Rattle.trace_check.specs.declared.fault.Fault.TheVariants as fault
 use Rattle.trace_check.specs.declared.fault.Uncompared.{Uncompared}
-use Rattle.trace_check.specs.declared.fault.Uncompared.TheVariants.{NoTask, NoBlock, Left, NoValue}
+use Rattle.trace_check.specs.declared.fault.Uncompared.TheVariants.{NoTask, NoBlock, UnknownSpeed, Left, NoValue}
 use Rattle.timer_verdict.specs.declared.omitted.LeftOut.{LeftOut}
 
 -- of a file
@@ -51,6 +51,7 @@ abbrev pub uncompared_line : List ℕ → Uncompared → List ℕ
 uncompared_line path NoTask = file_place path ++ codes "61 NothingCompared no task of SCHED_DEADLINE\n"
 uncompared_line path NoBlock = file_place path ++ codes "61 NothingCompared no task blocks\n"
 uncompared_line path NoValue = file_place path ++ codes "61 NothingCompared each value is shown once\n"
+uncompared_line path UnknownSpeed = file_place path ++ codes "61 NothingCompared no line tells how fast the CPUs ran\n"
 uncompared_line path (Left left) = left_out_line path left
 
 -- the releases that were tried

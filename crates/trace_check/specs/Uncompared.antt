@@ -2,15 +2,16 @@
 use Rattle.std.specs.Prelude.{ℕ, ◌==◌, Bool, ◌&&◌, if◌then◌else◌, Option, Some, None}
 use Rattle.timer_verdict.specs.declared.omitted.LeftOut.{LeftOut}
 use Rattle.trace_check.specs.declared.fault.Uncompared.{Uncompared}
-use Rattle.trace_check.specs.declared.fault.Uncompared.TheVariants.{NoTask, NoBlock, Left, NoValue}
+use Rattle.trace_check.specs.declared.fault.Uncompared.TheVariants.{NoTask, NoBlock, UnknownSpeed, Left, NoValue}
 
 abbrev pub is_nothing : LeftOut → Bool
 is_nothing l = (l.ends == 0) && (l.unknown == 0) && (l.edges == 0) && (l.gaps == 0)
 
--- by timers: a record of so many tasks of which all that there is was left out
-abbrev pub uncompared_of : Option LeftOut → ℕ → Option Uncompared
-uncompared_of None tasks = None
-uncompared_of (Some left) tasks = if tasks == 0 then Some NoTask else if is_nothing left then Some NoBlock else Some (Left left)
+-- by timers: a record of so many tasks of which all that there is was left out, so much of it by its speed
+abbrev pub uncompared_of : Option LeftOut → ℕ → ℕ → Option Uncompared
+uncompared_of None tasks slow = None
+uncompared_of (Some left) tasks slow =
+    if tasks == 0 then Some NoTask else if is_nothing left then Some NoBlock else if slow == 0 then Some (Left left) else Some UnknownSpeed
 
 -- by probes: each value that was compared is equal, and there is none but of laws
 abbrev pub unvalued_of : Bool → Bool → Bool → Option Uncompared

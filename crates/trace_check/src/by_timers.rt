@@ -15,7 +15,8 @@ use timer_play::{RecordSetup, RecordStart, play, setup_of};
 use timer_record::KeptLines;
 use timer_tasks::ObservedAnswer;
 use timer_verdict::{
-    Judged, LeftOut, TimerHeading, judge, judged_of, left_out, put_table, put_verdict as put_timers,
+    Judged, LeftOut, TimerHeading, judge, judge_at_unknown_speed, judged_of, left_out, put_table,
+    put_verdict as put_timers,
 };
 use trace_options::CheckOptions;
 
@@ -31,6 +32,15 @@ struct TimedRecord {
 }
 
 impl TimedRecord {
+    /// Judges it; where a governor sets the frequency of a CPU, no line tells the speed of a charge.
+    fn judge(&self, alloc: Global, within: u64, has_governor: bool) -> Result<Judged, AllocError> {
+        if has_governor {
+            judge_at_unknown_speed(alloc, self.setup, &self.start, &self.lines, within)
+        } else {
+            judge(alloc, self.setup, &self.start, &self.lines, within)
+        }
+    }
+
     fn play<'a>(&'a self, judged: &'a Judged) -> TimerPlay<'a> {
         TimerPlay {
             setup: self.setup,
@@ -81,15 +91,9 @@ pub(crate) fn timer_verdict<'o>(
     gathering: &mut Gathering<'o>,
 ) -> Result<Verdict, Fault<'o>> {
     let timed = timed_record(alloc, options, gathering)?;
-    let judged = judge(
-        alloc,
-        timed.setup,
-        &timed.start,
-        &timed.lines,
-        options.within,
-    )?;
+    let judged = timed.judge(alloc, options.within, gathering.head.has_governor)?;
     let left = left_out(&judged.outcome.observations);
-    if let Some(why) = uncompared(left, timed.lines.tasks.len()) {
+    if let Some(why) = uncompared(left, timed.lines.tasks.len(), judged.speed_unknown) {
         return Err(Fault::NothingCompared { why });
     }
     let verdict = told_verdict(alloc, wanted, options, gathering, timed.play(&judged))?;
@@ -135,9 +139,9 @@ pub(crate) fn timer_states<'o>(
     }
 }
 
-/// Why nothing was compared, of a record of so many tasks, where all blocks and timers are left out.
-fn uncompared(left: Option<LeftOut>, tasks: usize) -> Option<Uncompared>
-    ensures { result ≡ uncompared_of left tasks }
+/// Why nothing was compared, of a record of so many tasks, where all blocks and timers are left out, so many by their speed.
+fn uncompared(left: Option<LeftOut>, tasks: usize, speed_unknown: u64) -> Option<Uncompared>
+    ensures { result ≡ uncompared_of left tasks speed_unknown }
 {
     let left = left?;
     if tasks == 0 {
@@ -145,6 +149,9 @@ fn uncompared(left: Option<LeftOut>, tasks: usize) -> Option<Uncompared>
     }
     if left.ends == 0 && left.unknown == 0 && left.edges == 0 && left.gaps == 0 {
         return Some(Uncompared::NoBlock);
+    }
+    if speed_unknown > 0 {
+        return Some(Uncompared::UnknownSpeed);
     }
     Some(Uncompared::Left(left))
 }

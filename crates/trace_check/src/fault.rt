@@ -36,6 +36,9 @@ pub enum Uncompared {
     /// None of its tasks blocks, and none starts a replenishment timer.
     NoBlock,
 
+    /// Each block and timer is left out, some since no line tells how fast a CPU ran.
+    UnknownSpeed,
+
     /// Each block and timer is left out.
     Left(LeftOut),
 
@@ -257,6 +260,11 @@ fn tell_uncompared<E: Write>(to: &mut E, path: &str, why: Uncompared) -> io::Res
         Uncompared::NoTask => tell_of(to, path, b"61 NothingCompared no task of SCHED_DEADLINE\n"),
         Uncompared::NoBlock => tell_of(to, path, b"61 NothingCompared no task blocks\n"),
         Uncompared::NoValue => tell_of(to, path, b"61 NothingCompared each value is shown once\n"),
+        Uncompared::UnknownSpeed => tell_of(
+            to,
+            path,
+            b"61 NothingCompared no line tells how fast the CPUs ran\n",
+        ),
         Uncompared::Left(left) => tell_left_out(to, path, left),
     }
 }

@@ -143,6 +143,7 @@ impl<'o> Gathering<'o> {
             self.note_release(release)?;
         }
         self.see_lost(number, told.lost);
+        self.head.has_governor = self.head.has_governor || told.governor.is_some();
         if let Some(text) = told.warning {
             self.warnings.push(text.to_vec(self.alloc)?)?;
         }

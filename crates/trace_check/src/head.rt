@@ -39,6 +39,9 @@ pub struct RecordHead {
     /// What notes say of the fair server of each CPU, and of its root domain and its capacity.
     pub servers: Vec<ServerNote>,
     pub cpus: Vec<CpuNote>,
+
+    /// A note tells that something sets the frequency of a CPU.
+    pub has_governor: bool,
 }
 
 impl RecordHead {
@@ -54,6 +57,7 @@ impl RecordHead {
             sums: Vec::new(alloc),
             servers: Vec::new(alloc),
             cpus: Vec::new(alloc),
+            has_governor: false,
         }
     }
 

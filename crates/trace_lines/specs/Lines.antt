@@ -37,7 +37,7 @@ use Rattle.trace_lines.specs.declared.word.TheConstants.{CPUS}
 
 -- a line with nothing beside it
 abbrev pub told_line : RecordLine → ToldLine (List ℕ)
-told_line told = record { line = told; shown = None; domain = None; release = None; lost = None; processors = None; warning = None; scheduled = None }
+told_line told = record { line = told; shown = None; domain = None; release = None; lost = None; processors = None; warning = None; governor = None; scheduled = None }
 
 abbrev pub note_cpu : TraceNote → ℕ
 note_cpu (note.Runqueue cpu sums domain server) = cpu
@@ -50,15 +50,16 @@ note_line told = if nat_le CPUS (note_cpu told) then line.Flawed TooLong else li
 
 -- a line of the head that says how many processors there are
 abbrev pub head_line : Option ℕ → ToldLine (List ℕ)
-head_line count = record { line = line.Quiet; shown = None; domain = None; release = None; lost = None; processors = count; warning = None; scheduled = None }
+head_line count = record { line = line.Quiet; shown = None; domain = None; release = None; lost = None; processors = count; warning = None; governor = None; scheduled = None }
 
 abbrev pub noted_line : List ℕ → Noted (List ℕ) → ToldLine (List ℕ)
 noted_line text noted.Quiet = head_line (processors text)
-noted_line text (noted.Head note domain release) = record { line = note_line note; shown = None; domain = domain; release = release; lost = None; processors = None; warning = None; scheduled = None }
-noted_line text (noted.Task note pid comm) = record { line = note_line note; shown = Some (record { comm = comm; pid = pid }); domain = None; release = None; lost = None; processors = None; warning = None; scheduled = None }
+noted_line text (noted.Head note domain release) = record { line = note_line note; shown = None; domain = domain; release = release; lost = None; processors = None; warning = None; governor = None; scheduled = None }
+noted_line text (noted.Task note pid comm) = record { line = note_line note; shown = Some (record { comm = comm; pid = pid }); domain = None; release = None; lost = None; processors = None; warning = None; governor = None; scheduled = None }
 noted_line text (noted.Other note) = told_line (note_line note)
-noted_line text (noted.Lost lost) = record { line = line.Quiet; shown = None; domain = None; release = None; lost = Some lost; processors = None; warning = None; scheduled = None }
-noted_line text (noted.Warning warned) = record { line = line.Quiet; shown = None; domain = None; release = None; lost = None; processors = None; warning = Some warned; scheduled = None }
+noted_line text (noted.Lost lost) = record { line = line.Quiet; shown = None; domain = None; release = None; lost = Some lost; processors = None; warning = None; governor = None; scheduled = None }
+noted_line text (noted.Governor governed) = record { line = line.Quiet; shown = None; domain = None; release = None; lost = None; processors = None; warning = None; governor = Some governed; scheduled = None }
+noted_line text (noted.Warning warned) = record { line = line.Quiet; shown = None; domain = None; release = None; lost = None; processors = None; warning = Some warned; governor = None; scheduled = None }
 
 abbrev pub comment_by : List ℕ → Option (Noted (List ℕ)) → ToldLine (List ℕ)
 comment_by text None = told_line (line.Flawed BadTraceLine)
@@ -134,7 +135,7 @@ said_by verb.Return fields front pid = Some (alone fixed.PolicyReturned)
 said_by (verb.Probe event) fields front pid = probed event fields front pid
 
 abbrev pub unflawed : Option Flaw → ℕ → ℕ → ℕ → ℕ → Named (List ℕ) → ToldLine (List ℕ)
-unflawed None at grain cpu pid named = record { line = line.Event at grain cpu pid named.said; shown = named.shown; domain = None; release = None; lost = None; processors = None; warning = None; scheduled = named.scheduled }
+unflawed None at grain cpu pid named = record { line = line.Event at grain cpu pid named.said; shown = named.shown; domain = None; release = None; lost = None; processors = None; warning = None; governor = None; scheduled = named.scheduled }
 unflawed (Some flaw) at grain cpu pid named = told_line (line.Flawed flaw)
 
 -- what a line tells whose event says this

@@ -110,9 +110,10 @@ noted_by kind text =
     (if bytes_eq kind (codes "cpu") then runqueue_note text else
     (if bytes_eq kind (codes "capacity") then capacity_note text else
     (if bytes_eq kind (codes "log") then Some (noted.Warning (without_spaces text)) else
+    (if bytes_eq kind (codes "governor") then Some (noted.Governor (without_spaces text)) else
     (if bytes_eq kind (codes "task") then task_note text else
     (if bytes_eq kind (codes "end") then end_note text else
-    (if bytes_eq kind (codes "lost") then lost_note text else Some noted.Quiet))))))
+    (if bytes_eq kind (codes "lost") then lost_note text else Some noted.Quiet)))))))
 
 abbrev pub note_by : Option (List ℕ) → Option (Noted (List ℕ))
 note_by None = Some noted.Quiet

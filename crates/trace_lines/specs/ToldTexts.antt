@@ -18,5 +18,6 @@ told_text told = record {
   lost = told.lost;
   processors = told.processors;
   warning = maybe_text told.warning;
+  governor = maybe_text told.governor;
   scheduled = option_map scheduled_text told.scheduled;
 }

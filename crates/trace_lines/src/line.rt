@@ -49,6 +49,9 @@ pub struct ToldLine<T> {
     /// A line of the kernel's log that warns of the scheduler, where a note repeats one.
     pub warning: Option<T>,
 
+    /// What sets the frequency of a CPU, where a note tells that something does.
+    pub governor: Option<T>,
+
     /// What an event of the scheduler shows of tasks, whatever their class.
     pub scheduled: Option<Scheduled<T>>,
 }
@@ -64,6 +67,7 @@ fn told_line<'a>(line: RecordLine) -> ToldLine<&'a [u8]>
         lost: None,
         processors: None,
         warning: None,
+        governor: None,
         scheduled: None,
     }
 }
@@ -101,6 +105,7 @@ fn head_line<'a>(processors: Option<u32>) -> ToldLine<&'a [u8]>
         lost: None,
         processors,
         warning: None,
+        governor: None,
         scheduled: None,
     }
 }
@@ -122,6 +127,7 @@ fn noted_line<'a>(line: &'a [u8], noted: Noted<&'a [u8]>) -> ToldLine<&'a [u8]>
             lost: None,
             processors: None,
             warning: None,
+            governor: None,
             scheduled: None,
         },
         Noted::Task { note, pid, comm } => ToldLine {
@@ -132,6 +138,7 @@ fn noted_line<'a>(line: &'a [u8], noted: Noted<&'a [u8]>) -> ToldLine<&'a [u8]>
             lost: None,
             processors: None,
             warning: None,
+            governor: None,
             scheduled: None,
         },
         Noted::Other { note } => told_line(note_line(note)),
@@ -143,6 +150,7 @@ fn noted_line<'a>(line: &'a [u8], noted: Noted<&'a [u8]>) -> ToldLine<&'a [u8]>
             lost: Some(lost),
             processors: None,
             warning: None,
+            governor: None,
             scheduled: None,
         },
         Noted::Warning { text } => ToldLine {
@@ -153,6 +161,18 @@ fn noted_line<'a>(line: &'a [u8], noted: Noted<&'a [u8]>) -> ToldLine<&'a [u8]>
             lost: None,
             processors: None,
             warning: Some(text),
+            governor: None,
+            scheduled: None,
+        },
+        Noted::Governor { text } => ToldLine {
+            line: RecordLine::Quiet,
+            shown: None,
+            domain: None,
+            release: None,
+            lost: None,
+            processors: None,
+            warning: None,
+            governor: Some(text),
             scheduled: None,
         },
     }
@@ -324,6 +344,7 @@ fn checked<'a>(
             lost: None,
             processors: None,
             warning: None,
+            governor: None,
             scheduled: named.scheduled,
         },
     }
@@ -365,6 +386,7 @@ fn other_line<'a>(opening: Opening, word: &[u8], fields: &'a [u8]) -> ToldLine<&
         lost: None,
         processors: None,
         warning: None,
+        governor: None,
         scheduled,
     }
 }

@@ -53,6 +53,11 @@ pub enum Noted<T> {
     Warning {
         text: T,
     },
+
+    /// A CPU, and what sets its frequency.
+    Governor {
+        text: T,
+    },
 }
 
 fn kernel_in(text: &[u8]) -> Option<Option<Kernel>>
@@ -268,6 +273,10 @@ fn noted_by<'a>(kind: &[u8], text: &'a [u8]) -> Option<Noted<&'a [u8]>>
         capacity_note(text)
     } else if kind == b"log".as_slice() {
         Some(Noted::Warning {
+            text: without_spaces(text),
+        })
+    } else if kind == b"governor".as_slice() {
+        Some(Noted::Governor {
             text: without_spaces(text),
         })
     } else if kind == b"task".as_slice() {

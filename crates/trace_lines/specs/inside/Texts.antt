@@ -4,7 +4,7 @@ use Rattle.std.specs.Borrow.{Bor}
 use Rattle.trace_fields.specs.Shown.{shown_text}
 use Rattle.trace_lines.specs.declared.fixed.Named.{Named}
 use Rattle.trace_lines.specs.declared.note.Noted.{Noted}
-use Rattle.trace_lines.specs.declared.note.Noted.TheVariants.{Quiet, Head, Task, Other, Lost, Warning}
+use Rattle.trace_lines.specs.declared.note.Noted.TheVariants.{Quiet, Head, Task, Other, Lost, Warning, Governor}
 use Rattle.trace_lines.specs.Scheduled.{scheduled_text}
 use Rattle.trace_lines.specs.ToldTexts.{maybe_text}
 
@@ -18,3 +18,4 @@ noted_text (Task note pid comm) = Task note pid comm.now
 noted_text (Other note) = Other note
 noted_text (Lost lost) = Lost lost
 noted_text (Warning text) = Warning text.now
+noted_text (Governor text) = Governor text.now
