@@ -53,6 +53,9 @@ fn values_of_others(alloc: Global, finding: Finding) -> Result<Value, AllocError
             deadline,
             picked,
         } => json!(in alloc; {"earlier_pid": earlier, "deadline": deadline, "picked": picked}),
+        Finding::LowerRuns { pid, nanos, ticks } => {
+            json!(in alloc; {"lower_pid": pid, "span": nanos, "ticks": ticks})
+        }
         Finding::ChargedTwice { ends, begins } | Finding::NotCharged { ends, begins } => {
             json!(in alloc; {"ends": ends, "begins": begins})
         }

@@ -21,7 +21,7 @@ pub use budget::{has_budget, is_within};
 pub use expiry::{Expiry, is_next_period};
 pub use firing::{is_awake_long, is_due, is_early};
 pub use known::{Sign, is_known};
-pub use pick::{Queued, is_pick_right};
+pub use pick::{LowerRun, Queued, is_pick_right, is_run_short, is_tick_counted};
 pub use progress::{Throttled, is_waited_for};
 pub use run::{begins_at_switch, is_apart};
 pub use server::{is_near, is_taken_once};

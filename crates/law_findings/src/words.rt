@@ -182,6 +182,13 @@ pub enum Finding {
         picked: u64,
     },
 
+    /// That task of a lower class ran for so long while the task could run.
+    LowerRuns {
+        pid: u64,
+        nanos: u64,
+        ticks: u64,
+    },
+
     /// Time was charged before, from the first of these moments on.
     ChargedTwice {
         ends: u64,

@@ -6,6 +6,7 @@ mod budget;
 mod cpu;
 mod expiry;
 mod firing;
+mod lower;
 mod pick;
 mod play;
 mod progress;

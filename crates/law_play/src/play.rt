@@ -6,6 +6,7 @@ ghost use Rattle.law_findings.specs.Tallies.{judged_in};
 ghost use Rattle.law_findings.specs.declared.sheet.Judgement.TheVariants.{Holds};
 
 use crate::cpu::{Blocker, Cpus, Last};
+use crate::lower::ReadyTasks;
 use crate::pick::Picks;
 use crate::run::Runs;
 use crate::server::Servers;
@@ -52,6 +53,7 @@ pub struct LawPlay {
     pub(crate) waiting: Vec<Waiting>,
 
     pub(crate) picks: Picks,
+    pub(crate) ready: ReadyTasks,
     pub(crate) runs: Runs,
     pub(crate) total: Total,
     pub(crate) servers: Servers,
@@ -84,6 +86,7 @@ impl LawPlay {
             timers: Timers::new(alloc),
             waiting: Vec::new(alloc),
             picks: Picks::new(alloc),
+            ready: ReadyTasks::new(alloc, kernel),
             runs: Runs::new(alloc),
             total: Total::new(alloc),
             servers: Servers::new(alloc),
@@ -109,6 +112,7 @@ impl LawPlay {
                 if let Some(cpu) = self.cpus.get_mut(read.cpu) {
                     cpu.count = cpu.count.saturating_add(1);
                 }
+                self.run_in_class(read)?;
                 self.probe(read, probe)?;
                 if let Some(cpu) = self.cpus.get_mut(read.cpu) {
                     cpu.pid = read.pid;
@@ -124,9 +128,14 @@ impl LawPlay {
             ) => {
                 self.end = read.at;
                 self.switch_run(read, *next_pid, *next_is_deadline)?;
+                self.switch_lower(read, *next_pid, *next_is_deadline)?;
                 if *next_is_deadline {
                     self.switch_pick(read, *next_pid)?;
                 }
+                Ok(())
+            }
+            Said::Fixed(Fixed::TimerFired { is_tick: true, .. }) => {
+                self.ready.tick(read.cpu, read.at);
                 Ok(())
             }
             Said::Fixed(_) => Ok(()),

@@ -65,6 +65,16 @@ impl LawPlay {
         if reservation.is_boosted {
             self.excuse_replenish(place);
         }
+        self.shown_ready(
+            place,
+            line.pid,
+            read,
+            LineKind::Enqueue,
+            Some(line.budget.is_throttled),
+        )?;
+        if !is_back && !is_leaving {
+            self.ready.add(place, line.pid, line.cpu, read.at)?;
+        }
         self.throttled_enqueue(place, read, line, is_back)?;
         self.budget_at_wake(place, read, line.budget, line.flags)?;
         self.see_before(place, read.line, LineKind::Enqueue);
@@ -91,6 +101,7 @@ impl LawPlay {
             };
             if is_live {
                 self.charged(place, read, line, is_leaving)?;
+                self.charged_ready(place, read, line, is_leaving)?;
             }
         }
         if let Some(cpu) = self.cpus.get_mut(read.cpu) {
@@ -103,6 +114,22 @@ impl LawPlay {
             cpu.firing = None;
         }
         Ok(())
+    }
+
+    /// A charge shows that its task could run, and it may run on.
+    fn charged_ready(
+        &mut self,
+        place: usize,
+        read: ReadLine,
+        line: &Updated,
+        is_leaving: bool,
+    ) -> Result<(), AllocError> {
+        let is_throttled = Some(line.budget.is_throttled);
+        self.shown_ready(place, line.pid, read, LineKind::Update, is_throttled)?;
+        if is_leaving {
+            return Ok(());
+        }
+        self.ready.add(place, line.pid, line.cpu, read.at)
     }
 
     /// A task in the tree is charged.
@@ -167,6 +194,8 @@ impl LawPlay {
         if let Some(task) = self.tasks.get_mut(place) {
             task.is_queued = false;
         }
+        let is_throttled = Some(line.budget.is_throttled);
+        self.shown_ready(place, line.pid, read, LineKind::Dequeue, is_throttled)?;
         self.excuse_zero_lag(line.pid);
         if line.state & DEAD != 0 {
             self.excuse_replenish(place);
@@ -198,6 +227,7 @@ impl LawPlay {
             task.is_queued = false;
             task.is_away = true;
         }
+        self.shown_ready(place, line.pid, read, LineKind::Leave, None)?;
         self.excuse_all(line.pid);
         if let Some(cpu) = self.cpus.get_mut(read.cpu) {
             cpu.last = Last::Other;

@@ -255,9 +255,13 @@ impl LawPlay {
             self.holds(Law::Total);
             return Ok(());
         }
-        let admitted = base.wrapping_add(self.total.sum);
-        let is_asleep = self.total.asleep > 0
-            && total_bw == admitted.wrapping_add(self.total.asleep);
+        let without = total_bw.wrapping_sub(self.total.asleep);
+        let is_asleep = self.total.asleep > 0 && self.total.is_sum(without, base);
+        let admitted = if is_asleep {
+            without
+        } else {
+            base.wrapping_add(self.total.sum)
+        };
         self.total.base = Some(total_bw.wrapping_sub(self.total.sum));
         self.total.asleep = 0;
         self.breaks(Breach {

@@ -98,6 +98,13 @@ fn put_other_finding(alloc: Global, out: &mut Vec<u8>, breach: &Breach) -> Resul
             )?;
             put(out, text.as_str())
         }
+        Finding::LowerRuns { pid, nanos, ticks } => {
+            put_number(out, b"it can run, and pid ", pid)?;
+            put(out, " of a lower class runs for ")?;
+            put_span(alloc, out, nanos)?;
+            put_number(out, b" and ", ticks)?;
+            put(out, " ticks")
+        }
         Finding::ChargedTwice { ends, begins } => {
             let text = format!(in alloc;
                 "it is charged from {begins} on, and time was charged up to {ends}"

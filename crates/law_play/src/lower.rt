@@ -1,0 +1,276 @@
+//! Tasks of the class that can run while their CPU runs a task of a lower class.
+
+use crate::play::{LawPlay, ReadLine};
+use law_findings::{
+    Breach, Finding, Law, LawLine, LineKind, LowerRun, Whose, is_run_short, is_tick_counted,
+};
+use std::alloc::{AllocError, Global};
+use trace_data::Kernel;
+
+/// A task of a lower class that a CPU runs from this moment on.
+#[derive(Clone, Copy)]
+struct LowerTask {
+    pid: u64,
+    at: u64,
+}
+
+/// A task that can run from its last line on, if its next line shows it in the class and not throttled.
+#[derive(Drop)]
+struct ReadyTask {
+    task: usize,
+    pid: u64,
+    since: u64,
+
+    /// The ticks that count since the lower class runs.
+    ticks: u64,
+
+    /// How often a lower class ran shortly, and what was longer.
+    held: u64,
+    long: Vec<Breach>,
+}
+
+/// What a CPU runs, and which tasks it could run.
+#[derive(Drop)]
+struct CpuTasks {
+    lower: Option<LowerTask>,
+    ready: Vec<ReadyTask>,
+}
+
+/// The tasks of the class that can run.
+#[derive(Drop)]
+pub(crate) struct ReadyTasks {
+    alloc: Global,
+    has_servers: bool,
+    cpus: Vec<CpuTasks>,
+
+    /// On which CPU a task can run, by the tasks' places.
+    places: Vec<Option<u32>>,
+}
+
+/// Whether a kernel of this release has fair servers; one that is not known may have them.
+fn has_servers(kernel: Option<Kernel>) -> bool {
+    match kernel {
+        Some(kernel) => kernel.major > 6 || kernel.major == 6 && kernel.minor >= 12,
+        None => true,
+    }
+}
+
+impl ReadyTask {
+    /// How long the lower class ran up to this moment while the task could run.
+    fn lower_run(&self, lower: LowerTask, at: u64) -> LowerRun {
+        LowerRun {
+            nanos: at.saturating_sub(self.since.max(lower.at)),
+            ticks: self.ticks,
+        }
+    }
+
+    fn judge(&mut self, lower: LowerTask, place: LawLine) -> Result<(), AllocError> {
+        let run = self.lower_run(lower, place.at);
+        if is_run_short(run) {
+            self.held = self.held.saturating_add(1);
+            return Ok(());
+        }
+        self.long.push(Breach {
+            law: Law::Pick,
+            place,
+            whose: Whose::Task { pid: self.pid },
+            finding: Finding::LowerRuns {
+                pid: lower.pid,
+                nanos: run.nanos,
+                ticks: run.ticks,
+            },
+            sign: None,
+        })?;
+        Ok(())
+    }
+}
+
+impl CpuTasks {
+    fn judge(&mut self, lower: LowerTask, place: LawLine) -> Result<(), AllocError> {
+        for task in &mut self.ready {
+            task.judge(lower, place)?;
+        }
+        Ok(())
+    }
+}
+
+impl ReadyTasks {
+    /// None, in a record of this kernel.
+    pub fn new(alloc: Global, kernel: Option<Kernel>) -> ReadyTasks {
+        ReadyTasks {
+            alloc,
+            has_servers: has_servers(kernel),
+            cpus: Vec::new(alloc),
+            places: Vec::new(alloc),
+        }
+    }
+
+    fn see(&mut self, cpu: u32) -> Result<Option<&mut CpuTasks>, AllocError> {
+        for _ in self.cpus.len()..cpu as usize + 1 {
+            self.cpus.push(CpuTasks {
+                lower: None,
+                ready: Vec::new(self.alloc),
+            })?;
+        }
+        Ok(self.cpus.get_mut(cpu as usize))
+    }
+
+    /// The task of a lower class that a CPU runs.
+    fn lower(&self, cpu: u32) -> Option<LowerTask> {
+        self.cpus.get(cpu as usize)?.lower
+    }
+
+    /// A CPU has a tick.
+    pub fn tick(&mut self, cpu: u32, at: u64) {
+        let has_servers = self.has_servers;
+        let Some(cpu) = self.cpus.get_mut(cpu as usize) else {
+            return;
+        };
+        let Some(lower) = cpu.lower else {
+            return;
+        };
+        for task in &mut cpu.ready {
+            if is_tick_counted(has_servers, task.lower_run(lower, at).nanos) {
+                task.ticks = task.ticks.saturating_add(1);
+            }
+        }
+    }
+
+    /// A CPU runs another task from here on.
+    fn put_on(&mut self, cpu: u32, lower: Option<LowerTask>) -> Result<(), AllocError> {
+        if let Some(cpu) = self.see(cpu)? {
+            cpu.lower = lower;
+            for task in &mut cpu.ready {
+                task.ticks = 0;
+            }
+        }
+        Ok(())
+    }
+
+    /// What the tasks of a CPU waited for a lower class is judged.
+    fn judge(&mut self, cpu: u32, lower: LowerTask, place: LawLine) -> Result<(), AllocError> {
+        match self.cpus.get_mut(cpu as usize) {
+            Some(cpu) => cpu.judge(lower, place),
+            None => Ok(()),
+        }
+    }
+
+    /// A task can run on this CPU from here on.
+    pub fn add(&mut self, task: usize, pid: u64, cpu: u32, since: u64) -> Result<(), AllocError> {
+        for _ in self.places.len()..task.saturating_add(1) {
+            self.places.push(None)?;
+        }
+        let alloc = self.alloc;
+        if let Some(tasks) = self.see(cpu)? {
+            tasks.ready.push(ReadyTask {
+                task,
+                pid,
+                since,
+                ticks: 0,
+                held: 0,
+                long: Vec::new(alloc),
+            })?;
+        }
+        if let Some(place) = self.places.get_mut(task) {
+            *place = Some(cpu);
+        }
+        Ok(())
+    }
+
+    /// The CPU on which a task can run.
+    fn cpu_of(&self, task: usize) -> Option<u32> {
+        *self.places.get(task)?
+    }
+
+    /// A task's next line: it is not where it was.
+    fn remove(&mut self, task: usize) -> Option<ReadyTask> {
+        let cpu = self.places.get_mut(task)?.take()?;
+        let ready = &mut self.cpus.get_mut(cpu as usize)?.ready;
+        let place = ready.iter().position(|other| other.task == task)?;
+        if place < ready.len() {
+            Some(ready.swap_remove(place))
+        } else {
+            None
+        }
+    }
+}
+
+impl LawPlay {
+    /// Whether the task of this pid is in the class.
+    fn is_member(&mut self, pid: u64) -> bool {
+        match self.tasks.find(pid) {
+            Some(place) => match self.tasks.get(place) {
+                Some(task) => task.reservation.is_some() && !task.is_away,
+                None => false,
+            },
+            None => false,
+        }
+    }
+
+    fn judge_lower(&mut self, cpu: u32, place: LawLine) -> Result<(), AllocError> {
+        let Some(lower) = self.ready.lower(cpu) else {
+            return Ok(());
+        };
+        if self.is_member(lower.pid) {
+            return Ok(());
+        }
+        self.ready.judge(cpu, lower, place)
+    }
+
+    /// A CPU switches to another task.
+    pub(crate) fn switch_lower(
+        &mut self,
+        read: ReadLine,
+        next_pid: u64,
+        next_is_deadline: bool,
+    ) -> Result<(), AllocError> {
+        self.judge_lower(read.cpu, read.place(LineKind::Switch))?;
+        let lower = if next_is_deadline {
+            None
+        } else {
+            Some(LowerTask {
+                pid: next_pid,
+                at: read.at,
+            })
+        };
+        self.ready.put_on(read.cpu, lower)
+    }
+
+    /// The task that wrote a line may have come into the class as it ran.
+    pub(crate) fn run_in_class(&mut self, read: ReadLine) -> Result<(), AllocError> {
+        if self.ready.lower(read.cpu).is_some() && self.is_member(read.pid) {
+            self.ready.put_on(read.cpu, None)?;
+        }
+        Ok(())
+    }
+
+    /// A task's next line shows whether it could run since its last one; none where it has left the class.
+    pub(crate) fn shown_ready(
+        &mut self,
+        task: usize,
+        pid: u64,
+        read: ReadLine,
+        kind: LineKind,
+        is_throttled: Option<bool>,
+    ) -> Result<(), AllocError> {
+        let Some(cpu) = self.ready.cpu_of(task) else {
+            return Ok(());
+        };
+        if read.pid != pid {
+            self.judge_lower(cpu, read.place(kind))?;
+        }
+        let Some(ready) = self.ready.remove(task) else {
+            return Ok(());
+        };
+        if is_throttled != Some(false) {
+            return Ok(());
+        }
+        for _ in 0..ready.held {
+            self.holds(Law::Pick);
+        }
+        for breach in &ready.long {
+            self.breaks(*breach)?;
+        }
+        Ok(())
+    }
+}
