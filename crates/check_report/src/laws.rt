@@ -3,7 +3,7 @@
 use crate::finding::values_of;
 use crate::report::CheckReport;
 use crate::words::{text_of, word};
-use law_findings::{Breach, LAWS, Law, LawFigures, LawSheet, Spread, Whose};
+use law_findings::{Breach, LAWS, Law, LawFigures, LawTallies, Spread, Whose};
 use law_verdict::{TaskName, fault_name, law_name, line_name, put_finding, put_traces};
 use serde_json::{Value, json};
 use std::alloc::{AllocError, Global};
@@ -12,13 +12,13 @@ use std::alloc::{AllocError, Global};
 pub fn add_laws(
     alloc: Global,
     report: &mut CheckReport,
-    sheet: &LawSheet,
+    tallies: &LawTallies,
     figures: LawFigures,
     names: &[TaskName],
 ) -> Result<(), AllocError> {
     let mut laws = Vec::new(alloc);
     for law in LAWS {
-        laws.push(law_of(alloc, sheet, law, names)?)?;
+        laws.push(law_of(alloc, tallies, law, names)?)?;
     }
     report.add(alloc, "laws", Value::Array(laws))?;
     let late = spread_of(alloc, figures.late)?;
@@ -27,11 +27,11 @@ pub fn add_laws(
 
 fn law_of(
     alloc: Global,
-    sheet: &LawSheet,
+    tallies: &LawTallies,
     law: Law,
     names: &[TaskName],
 ) -> Result<Value, AllocError> {
-    let tally = sheet.of(law);
+    let tally = tallies.of(law);
     let first = breach_or_null(alloc, tally.first, names)?;
     let first_known = breach_or_null(alloc, tally.first_known, names)?;
     json!(in alloc; {

@@ -6,12 +6,12 @@ mod asked;
 mod budget;
 mod expiry;
 mod firing;
+mod judging;
 mod known;
 mod pick;
 mod progress;
 mod run;
 mod server;
-mod sheet;
 mod total;
 mod words;
 mod zero_lag;
@@ -20,12 +20,12 @@ pub use asked::AskedLaws;
 pub use budget::{has_budget, is_within};
 pub use expiry::{Expiry, is_next_period};
 pub use firing::{is_awake_long, is_due, is_early};
+pub use judging::{Judgement, LawTallies, LawTally};
 pub use known::{Sign, is_known};
 pub use pick::{LowerRun, Queued, is_pick_right, is_run_short, is_tick_counted};
 pub use progress::{Throttled, is_waited_for};
 pub use run::{begins_at_switch, is_apart};
 pub use server::{is_near, is_taken_once};
-pub use sheet::{Judgement, LawSheet, LawTally};
 pub use total::{bandwidth, is_not_negative};
 pub use words::{
     Breach, Finding, FiredTimer, LAWS, Law, LawFigures, LawLine, LineKind, Spread, Standing,

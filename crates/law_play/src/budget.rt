@@ -3,7 +3,7 @@
 ghost use Rattle.std.specs.Prelude.{◌≡◌, IsTrue, OnOk};
 ghost use Rattle.law_findings.specs.Budget.{HasBudget};
 ghost use Rattle.law_findings.specs.Tallies.{judged_in};
-ghost use Rattle.law_findings.specs.declared.sheet.Judgement.TheVariants.{Holds};
+ghost use Rattle.law_findings.specs.declared.judging.Judgement.TheVariants.{Holds};
 ghost use Rattle.law_findings.specs.declared.words.Law.TheVariants.{Budget as OfBudget};
 
 use crate::play::{LawPlay, ReadLine};
@@ -148,7 +148,7 @@ impl LawPlay {
         budget: i64,
     ) -> Result<(), AllocError>
         ensures { HasBudget budget → IsTrue self.old.asked.budget
-            → OnOk result (self.new.sheet ≡ judged_in self.old.sheet OfBudget Holds) }
+            → OnOk result (self.new.tallies ≡ judged_in self.old.tallies OfBudget Holds) }
     {
         if has_budget(budget) {
             self.holds(Law::Budget);

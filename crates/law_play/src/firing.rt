@@ -3,7 +3,7 @@
 ghost use Rattle.std.specs.Prelude.{◌≡◌, IfNone, IfSome, IsTrue, OnOk, false};
 ghost use Rattle.law_findings.specs.Firing.{IsEarly};
 ghost use Rattle.law_findings.specs.Tallies.{judged_in};
-ghost use Rattle.law_findings.specs.declared.sheet.Judgement.TheVariants.{Holds};
+ghost use Rattle.law_findings.specs.declared.judging.Judgement.TheVariants.{Holds};
 ghost use Rattle.law_findings.specs.declared.words.Law.TheVariants.{Firing as OfFiring};
 ghost use Rattle.law_findings.specs.declared.words.Standing.TheVariants.{Away, Blocked, Queued};
 ghost use Rattle.law_findings.specs.declared.words.Whose.TheVariants.{Task as OfTask, Timer as OfTimer};
@@ -218,7 +218,7 @@ impl LawPlay {
         address: u64,
     ) -> Result<(), AllocError>
         ensures in_time { (IsEarly armed.expiry line.at → ⊥) → IsTrue self.old.asked.firing
-            → OnOk result (self.new.sheet ≡ judged_in self.old.sheet OfFiring Holds) }
+            → OnOk result (self.new.tallies ≡ judged_in self.old.tallies OfFiring Holds) }
     {
         if is_early(armed.expiry, line.at) {
             return self.breaks(Breach {

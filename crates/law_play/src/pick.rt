@@ -3,7 +3,7 @@
 ghost use Rattle.std.specs.Prelude.{◌≡◌, IsTrue, OnOk, false};
 ghost use Rattle.law_findings.specs.Pick.{IsPickRight};
 ghost use Rattle.law_findings.specs.Tallies.{judged_in};
-ghost use Rattle.law_findings.specs.declared.sheet.Judgement.TheVariants.{Holds};
+ghost use Rattle.law_findings.specs.declared.judging.Judgement.TheVariants.{Holds};
 ghost use Rattle.law_findings.specs.declared.words.Law.TheVariants.{Pick as OfPick};
 
 use crate::play::{LawPlay, ReadLine};
@@ -224,10 +224,10 @@ impl LawPlay {
         other: Beside,
     ) -> Result<(), AllocError>
         ensures throttled { IsTrue other.shown.is_throttled
-            → OnOk result (self.new.sheet ≡ self.old.sheet) }
+            → OnOk result (self.new.tallies ≡ self.old.tallies) }
         ensures right { other.shown.is_throttled ≡ false → IsPickRight picked other.shown
             → IsTrue self.old.asked.pick
-            → OnOk result (self.new.sheet ≡ judged_in self.old.sheet OfPick Holds) }
+            → OnOk result (self.new.tallies ≡ judged_in self.old.tallies OfPick Holds) }
     {
         if other.shown.is_throttled {
             return Ok(());

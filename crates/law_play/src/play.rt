@@ -3,7 +3,7 @@
 ghost use Rattle.std.specs.Prelude.{◌≡◌, OnOk, true, false};
 ghost use Rattle.law_findings.specs.Asked.{is_asked};
 ghost use Rattle.law_findings.specs.Tallies.{judged_in};
-ghost use Rattle.law_findings.specs.declared.sheet.Judgement.TheVariants.{Holds};
+ghost use Rattle.law_findings.specs.declared.judging.Judgement.TheVariants.{Holds};
 
 use crate::cpu::{Blocker, Cpus, Last};
 use crate::lower::ReadyTasks;
@@ -15,7 +15,7 @@ use crate::task::{Tasks, Waiting};
 use crate::timer::Timers;
 use crate::total::Total;
 use law_findings::{
-    AskedLaws, Breach, Judgement, Law, LawFigures, LawLine, LawSheet, LineKind, is_known,
+    AskedLaws, Breach, Judgement, Law, LawFigures, LawLine, LawTallies, LineKind, is_known,
 };
 use std::alloc::{AllocError, Global};
 use trace_data::{Armed, Fixed, Kernel, Mark, Probe, Said, Sums, TimerFunction};
@@ -63,7 +63,7 @@ pub struct LawPlay {
 
     /// By how many nanoseconds timers fired late.
     pub(crate) late: Vec<u64>,
-    pub sheet: LawSheet,
+    pub tallies: LawTallies,
     keeps_breaches: bool,
 
     /// Each breach, where they are kept.
@@ -92,7 +92,7 @@ impl LawPlay {
             servers: Servers::new(alloc),
             end: 0,
             late: Vec::new(alloc),
-            sheet: LawSheet::new(),
+            tallies: LawTallies::new(),
             keeps_breaches,
             breaches: Vec::new(alloc),
         }
@@ -306,18 +306,18 @@ impl LawPlay {
     /// A value keeps this law.
     pub(crate) fn holds(&mut self, law: Law)
         ensures asked { is_asked self.old.asked law ≡ true
-            → self.new.sheet ≡ judged_in self.old.sheet law Holds }
-        ensures unasked { is_asked self.old.asked law ≡ false → self.new.sheet ≡ self.old.sheet }
+            → self.new.tallies ≡ judged_in self.old.tallies law Holds }
+        ensures unasked { is_asked self.old.asked law ≡ false → self.new.tallies ≡ self.old.tallies }
     {
         if self.asked.asks(law) {
-            self.sheet.judge(law, Judgement::Holds);
+            self.tallies.judge(law, Judgement::Holds);
         }
     }
 
     /// A value breaks its law.
     pub(crate) fn breaks(&mut self, breach: Breach) -> Result<(), AllocError>
         ensures unasked { is_asked self.old.asked breach.law ≡ false
-            → OnOk result (self.new.sheet ≡ self.old.sheet) }
+            → OnOk result (self.new.tallies ≡ self.old.tallies) }
     {
         if !self.asked.asks(breach.law) {
             return Ok(());
@@ -335,7 +335,7 @@ impl LawPlay {
         } else {
             Judgement::Breaks(breach)
         };
-        self.sheet.judge(breach.law, judgement);
+        self.tallies.judge(breach.law, judgement);
         Ok(())
     }
 }

@@ -2,7 +2,7 @@
 
 ghost use Rattle.std.specs.Prelude.{◌≡◌, IsTrue, OnOk};
 ghost use Rattle.law_findings.specs.Tallies.{judged_in};
-ghost use Rattle.law_findings.specs.declared.sheet.Judgement.TheVariants.{Holds};
+ghost use Rattle.law_findings.specs.declared.judging.Judgement.TheVariants.{Holds};
 ghost use Rattle.law_findings.specs.declared.words.Law.TheVariants.{Server as OfServer};
 
 use crate::play::{LawPlay, ReadLine};
@@ -226,7 +226,7 @@ impl LawPlay {
         finding: Finding,
     ) -> Result<(), AllocError>
         ensures { IsTrue is_right → IsTrue self.old.asked.server
-            → OnOk result (self.new.sheet ≡ judged_in self.old.sheet OfServer Holds) }
+            → OnOk result (self.new.tallies ≡ judged_in self.old.tallies OfServer Holds) }
     {
         if is_right {
             self.holds(Law::Server);

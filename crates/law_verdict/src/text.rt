@@ -3,39 +3,39 @@
 use crate::breach::{put_breach, put_evidence};
 use crate::names::law_name;
 use crate::writing::{TaskName, put, put_count, put_span};
-use law_findings::{Breach, LAWS, LawFigures, LawSheet, Spread};
+use law_findings::{Breach, LAWS, LawFigures, LawTallies, Spread};
 use std::alloc::{AllocError, Global};
 
 /// Appends how often each law held, what is told beside them, and the first breach of each.
 pub fn put_laws(
     alloc: Global,
     out: &mut Vec<u8>,
-    sheet: &LawSheet,
+    tallies: &LawTallies,
     figures: LawFigures,
     names: &[TaskName],
 ) -> Result<(), AllocError> {
     put(out, "laws: ")?;
-    put_count(alloc, out, held(sheet))?;
+    put_count(alloc, out, held(tallies))?;
     put(out, " values hold")?;
-    put_held(alloc, out, sheet)?;
+    put_held(alloc, out, tallies)?;
     put(out, "\n")?;
     put_figures(alloc, out, figures)?;
-    put_broken(alloc, out, sheet, names)
+    put_broken(alloc, out, tallies, names)
 }
 
 /// How many values of all laws hold.
-fn held(sheet: &LawSheet) -> u64 {
+fn held(tallies: &LawTallies) -> u64 {
     let mut all = 0u64;
     for law in LAWS {
-        all = all.saturating_add(sheet.of(law).held);
+        all = all.saturating_add(tallies.of(law).held);
     }
     all
 }
 
-fn put_held(alloc: Global, out: &mut Vec<u8>, sheet: &LawSheet) -> Result<(), AllocError> {
+fn put_held(alloc: Global, out: &mut Vec<u8>, tallies: &LawTallies) -> Result<(), AllocError> {
     let mut mark = ": ";
     for law in LAWS {
-        let held = sheet.of(law).held;
+        let held = tallies.of(law).held;
         if held > 0 {
             put(out, mark)?;
             put(out, law_name(law))?;
@@ -61,11 +61,11 @@ fn put_figures(alloc: Global, out: &mut Vec<u8>, figures: LawFigures) -> Result<
 fn put_broken(
     alloc: Global,
     out: &mut Vec<u8>,
-    sheet: &LawSheet,
+    tallies: &LawTallies,
     names: &[TaskName],
 ) -> Result<(), AllocError> {
     for law in LAWS {
-        let tally = sheet.of(law);
+        let tally = tallies.of(law);
         if let Some(first) = tally.first {
             put_breaches(alloc, out, tally.broken, &first, names)?;
         }

@@ -300,13 +300,13 @@ impl Laws {
         &mut self,
         settings: LawSettings,
         notes: &[ServerNote],
-        sheet: &mut Findings,
+        findings: &mut Findings,
     ) -> Result<(), AllocError> {
         if !settings.has_older && !self.has_older() {
-            self.end_starts(settings, notes, sheet)?;
+            self.end_starts(settings, notes, findings)?;
         }
-        self.end_ratios(settings, sheet)?;
-        self.end_clock(sheet)
+        self.end_ratios(settings, findings)?;
+        self.end_clock(findings)
     }
 
     /// `this_bw` of a runqueue begins with its server's bandwidth, where no task is older than the record.
@@ -314,13 +314,13 @@ impl Laws {
         &self,
         settings: LawSettings,
         notes: &[ServerNote],
-        sheet: &mut Findings,
+        findings: &mut Findings,
     ) -> Result<(), AllocError> {
         for start in self.starts.as_slice() {
             let server = self.server_at(start.cpu, settings, notes);
             let rules = server.wrapping_add(start.more);
             let compared = compared_start(start.place, start.cpu, rules, start.this_bw);
-            sheet.add_late(compared, FIRST_SEEN)?;
+            findings.add_late(compared, FIRST_SEEN)?;
         }
         Ok(())
     }
@@ -328,12 +328,12 @@ impl Laws {
     fn end_ratios(
         &mut self,
         settings: LawSettings,
-        sheet: &mut Findings,
+        findings: &mut Findings,
     ) -> Result<(), AllocError> {
         for i in 0..self.first_ratios.len() {
             if let Some(one) = self.first_ratios.get(i) {
                 let one = *one;
-                self.end_ratio(one, settings, sheet)?;
+                self.end_ratio(one, settings, findings)?;
             }
         }
         Ok(())
@@ -344,7 +344,7 @@ impl Laws {
         &mut self,
         one: FirstRatio,
         settings: LawSettings,
-        sheet: &mut Findings,
+        findings: &mut Findings,
     ) -> Result<(), AllocError> {
         let mut ratio = one.ratio;
         if !one.shows_max_bw {
@@ -369,7 +369,7 @@ impl Laws {
                 behind: 0,
             });
         }
-        sheet.add(compared, FIRST_SEEN, one.place.line, false)
+        findings.add(compared, FIRST_SEEN, one.place.line, false)
     }
 
     /// Keeps the first law that is broken.
@@ -380,15 +380,15 @@ impl Laws {
     }
 
     /// Each wake counts as one that is equal; where the law is broken, those in time do, and one differs.
-    fn end_clock(&mut self, sheet: &mut Findings) -> Result<(), AllocError> {
+    fn end_clock(&mut self, findings: &mut Findings) -> Result<(), AllocError> {
         let is_broken = is_broken(self.late, self.wakes.len() as u64);
         if is_broken {
-            self.end_late(sheet)?;
+            self.end_late(findings)?;
         }
         for wake in self.wakes.as_slice() {
             if !is_broken || !is_late(wake.behind) {
                 let compared = compared_wake(wake.place, wake.cpu, wake.behind, true);
-                sheet.add(compared, FIRST_SEEN, wake.place.line, false)?;
+                findings.add(compared, FIRST_SEEN, wake.place.line, false)?;
             }
         }
         Ok(())
@@ -404,14 +404,14 @@ impl Laws {
     }
 
     /// The first wake that is late.
-    fn end_late(&mut self, sheet: &mut Findings) -> Result<(), AllocError> {
+    fn end_late(&mut self, findings: &mut Findings) -> Result<(), AllocError> {
         let wakes = self.wakes.len() as u64;
         let late = self.late;
         let Some(wake) = self.first_late() else {
             return Ok(());
         };
         let compared = compared_wake(wake.place, wake.cpu, wake.behind, false);
-        sheet.add(compared, FIRST_SEEN, wake.place.line, false)?;
+        findings.add(compared, FIRST_SEEN, wake.place.line, false)?;
         self.break_law(Broken {
             law: Law::Clock,
             line: wake.place.line,

@@ -107,7 +107,7 @@ abbrev pub arrived_by : State → Actor → Enqueued → State
 arrived_by s a l = back_by (offline_by s a l) a l
 
 abbrev pub is_within : State → ℕ → Bool
-is_within s x = list_any (is_rest_by x) s.rests
+is_within s x = list_any (is_rest_by x) s.open_dequeues
 
 abbrev pub enqueued_by : PlayRules → State → ProbedLine → Enqueued → Option ℕ → Option State
 enqueued_by t s place l late =

@@ -11,8 +11,8 @@ use Rattle.probe_run.specs.declared.waiting.Awaits.{Awaits}
 use Rattle.probe_run.specs.declared.waiting.Awaits.TheVariants.{Charge, Enqueue, Nothing}
 use Rattle.probe_run.specs.declared.waiting.PendingEffect.{PendingEffect}
 use Rattle.probe_run.specs.declared.waiting.Claim.{Claim}
-use Rattle.probe_run.specs.declared.waiting.Duty.{Duty}
-use Rattle.probe_run.specs.declared.waiting.Rest.{Rest}
+use Rattle.probe_run.specs.declared.waiting.TimerToArm.{TimerToArm}
+use Rattle.probe_run.specs.declared.waiting.OpenDequeue.{OpenDequeue}
 use Rattle.probe_run.specs.State.{State}
 use Rattle.probe_run.specs.Counting.{where_it_holds}
 use Rattle.probe_run.specs.Moves.{is_claim_by}
@@ -26,24 +26,24 @@ use Rattle.probe_lines.specs.Servers.{started_by, picked_by, stopped_by, does_no
 use Rattle.probe_lines.specs.Marks.{marked_by}
 
 -- the line within a dequeue before which its rest does not come
-abbrev pub follows_by : Rest → Awaits → Probe → Bool
+abbrev pub follows_by : OpenDequeue → Awaits → Probe → Bool
 follows_by w Charge (UpdatedLine u) = (u.pid == w.current) && (u.cpu == w.cpu)
 follows_by w Charge _ = false
 follows_by w Enqueue (EnqueuedLine e) = (e.pid == w.current) && contains_bits e.flags REPLENISH
 follows_by w Enqueue _ = false
 follows_by w Nothing _ = false
 
-abbrev pub waits_for : ℕ → Probe → Rest → Bool
+abbrev pub waits_for : ℕ → Probe → OpenDequeue → Bool
 waits_for x probe w = not (w.place.cpu == x) || follows_by w w.awaits probe
 
-abbrev pub came_early : ℕ → Probe → Rest → Bool
+abbrev pub came_early : ℕ → Probe → OpenDequeue → Bool
 came_early x probe w = (w.place.cpu == x) && follows_by w Charge probe
 
 abbrev pub is_effect_by : ℕ → PendingEffect → Bool
 is_effect_by x p = p.place.cpu == x
 
-abbrev pub is_duty_by : ℕ → Duty → Bool
-is_duty_by x y = y.place.cpu == x
+abbrev pub is_timer_to_arm_by : ℕ → TimerToArm → Bool
+is_timer_to_arm_by x y = y.place.cpu == x
 
 abbrev pub is_armed : Probe → Bool
 is_armed (ArmedLine m) = true
@@ -70,10 +70,10 @@ is_charge _ = false
 abbrev pub calls_are_done : State → ℕ → Probe → Bool
 calls_are_done s x probe =
     not (list_any (is_effect_by x) s.pending) && not (list_any (is_claim_by x) s.claims)
-    && (list_all (waits_for x probe) s.rests && not (list_any (came_early x probe) s.early))
+    && (list_all (waits_for x probe) s.open_dequeues && not (list_any (came_early x probe) s.early))
 
 abbrev pub timers_are_armed : State → ℕ → Probe → Bool
-timers_are_armed s x probe = is_armed probe || is_mark s probe || not (list_any (is_duty_by x) s.duties)
+timers_are_armed s x probe = is_armed probe || is_mark s probe || not (list_any (is_timer_to_arm_by x) s.timers_to_arm)
 
 abbrev pub is_free_for : State → ℕ → Probe → Bool
 is_free_for s x probe = calls_are_done s x probe && timers_are_armed s x probe

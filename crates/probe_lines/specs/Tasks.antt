@@ -21,13 +21,13 @@ use Rattle.probe_run.specs.State.{State, actor_at, keep_at, task_number, with_ta
 use Rattle.probe_run.specs.Special.{is_special, reservation_of}
 use Rattle.probe_run.specs.Sums.{change, forget, forget_all, forget_unlocked, share_in, block_in, domain_of, domain_capacity, is_member}
 use Rattle.probe_run.specs.Counting.{where_it_holds}
-use Rattle.probe_run.specs.Begin.{claim_in, sums_read, begin_rest, pend_lock}
+use Rattle.probe_run.specs.Begin.{claim_in, sums_read, begin_open_dequeue, pend_lock}
 use Rattle.probe_lines.specs.Shown.{sums_agree, dequeued_agrees, dequeued_shown, left_agrees, left_shown}
 
 -- dequeue_task_dl, up to the charge within it
 abbrev pub dequeued_next : State → ProbedLine → ℕ → Actor → Dequeued → State
 dequeued_next s place n a d =
-    begin_rest (keep_at (sums_read s place d.cpu d.sums) n (dequeued_shown a d))
+    begin_open_dequeue (keep_at (sums_read s place d.cpu d.sums) n (dequeued_shown a d))
     (record { place = place; entity = n; cpu = d.cpu; flags = d.flags; on_rq = d.on_rq; clock = d.clock; current = d.current; awaits = Charge })
 
 abbrev pub dequeued_with : State → ProbedLine → ℕ → Dequeued → Option State
@@ -61,7 +61,7 @@ left_known t s place n l a =
 abbrev pub left_unknown : State → ProbedLine → ℕ → LeftClass → Actor → State
 left_unknown s place n l a =
     let out = forget (keep_at s n (record a { entity = outside_of a.entity })) l.cpu in
-    record out { blinds = out.blinds ++ record { by = place.cpu; entity = n } ∷ [] }
+    record out { older_dequeues = out.older_dequeues ++ record { by = place.cpu; entity = n } ∷ [] }
 
 abbrev pub left_shown_by : PlayRules → State → ProbedLine → ℕ → LeftClass → Bool → Actor → State
 left_shown_by t s place n l known shown = if known then left_known t s place n l shown else left_unknown s place n l shown

@@ -15,12 +15,12 @@ use Rattle.kernel_functions.specs.Timer.{disarmed_of, replenish_fired_of}
 use Rattle.probe_findings.specs.declared.words.ProbedLine.{ProbedLine}
 use Rattle.probe_run.specs.declared.actor.Actor.{Actor}
 use Rattle.probe_run.specs.declared.rules.PlayRules.{PlayRules}
-use Rattle.probe_run.specs.declared.waiting.Duty.{Duty}
-use Rattle.probe_run.specs.declared.waiting.Blind.{Blind}
+use Rattle.probe_run.specs.declared.waiting.TimerToArm.{TimerToArm}
+use Rattle.probe_run.specs.declared.waiting.OlderDequeue.{OlderDequeue}
 use Rattle.probe_run.specs.State.{State, actor_at, keep_at, found_at}
 use Rattle.probe_run.specs.Sums.{forget, forget_all, forget_unlocked}
 use Rattle.probe_run.specs.Counting.{where_it_holds}
-use Rattle.probe_run.specs.Begin.{pend_lock, own_timer, without_duty}
+use Rattle.probe_run.specs.Begin.{pend_lock, own_timer, without_timer_to_arm}
 use Rattle.probe_lines.specs.Shown.{same_signed, address_agrees}
 
 -- inactive_task_timer, before its lock
@@ -109,17 +109,17 @@ abbrev pub zero_lag_agrees : Option ℤ → Expiry → ℕ → ℕ → Bool
 zero_lag_agrees None expiry due at = true
 zero_lag_agrees (Some z) expiry due at = fits_by expiry due at z
 
-abbrev pub is_duty : ℕ → TimerFunction → Duty → Bool
-is_duty x f y = (y.place.cpu == x) && same_function y.function f
+abbrev pub is_timer_to_arm : ℕ → TimerFunction → TimerToArm → Bool
+is_timer_to_arm x f y = (y.place.cpu == x) && same_function y.function f
 
-abbrev pub is_blind_by : ℕ → Blind → Bool
-is_blind_by x b = b.by == x
+abbrev pub is_older_by : ℕ → OlderDequeue → Bool
+is_older_by x b = b.by == x
 
-abbrev pub armed_next : State → Armed → ℕ → Duty → Actor → State
-armed_next s m i y a = own_timer (keep_at (without_duty s i) y.entity (with_timer a m.function m.timer)) m.timer y.entity
+abbrev pub armed_next : State → Armed → ℕ → TimerToArm → Actor → State
+armed_next s m i y a = own_timer (keep_at (without_timer_to_arm s i) y.entity (with_timer a m.function m.timer)) m.timer y.entity
 
-abbrev pub armed_duty : State → ProbedLine → Armed → ℕ → Duty → Option State
-armed_duty s place m i y =
+abbrev pub armed_timer_to_arm : State → ProbedLine → Armed → ℕ → TimerToArm → Option State
+armed_timer_to_arm s place m i y =
     let a = actor_at s y.entity in
     where_it_holds
     (owner_agrees s (s.timers m.timer) y.entity && (address_agrees (timer_address a m.function) m.timer && zero_lag_agrees y.zero_lag m.expiry y.at place.at))
@@ -128,30 +128,30 @@ armed_duty s place m i y =
 abbrev pub armed_actor : Actor → Actor
 armed_actor a = record a { entity = record a.entity { has_inactive_timer = true } }
 
-abbrev pub armed_blindly : State → Armed → Blind → State
-armed_blindly s m b = own_timer (keep_at s b.entity (armed_actor (actor_at s b.entity))) m.timer b.entity
+abbrev pub armed_of_older : State → Armed → OlderDequeue → State
+armed_of_older s m b = own_timer (keep_at s b.entity (armed_actor (actor_at s b.entity))) m.timer b.entity
 
-abbrev pub armed_blind : State → Armed → Option Blind → Option State
-armed_blind s m None = None
-armed_blind s m (Some b) = Some (armed_blindly s m b)
+abbrev pub armed_older : State → Armed → Option OlderDequeue → Option State
+armed_older s m None = None
+armed_older s m (Some b) = Some (armed_of_older s m b)
 
 -- a 0-lag timer that no line asked for: of a task of before the record, or before the first line of this CPU
 abbrev pub armed_zero_lag : PlayRules → State → ProbedLine → Armed → Bool → Option State
 armed_zero_lag t s place m first =
-    if first && is_none (s.timers m.timer) then Some (forget s place.cpu) else armed_blind s m (found_at s.blinds (position (is_blind_by place.cpu) s.blinds))
+    if first && is_none (s.timers m.timer) then Some (forget s place.cpu) else armed_older s m (found_at s.older_dequeues (position (is_older_by place.cpu) s.older_dequeues))
 
 abbrev pub armed_unasked : PlayRules → State → ProbedLine → Armed → Bool → Option State
 armed_unasked t s place m first =
     if is_zero_lag m.function then armed_zero_lag t s place m first else where_it_holds (is_none (s.timers m.timer)) s
 
-abbrev pub armed_found : PlayRules → State → ProbedLine → Armed → Bool → ℕ → Option Duty → Option State
+abbrev pub armed_found : PlayRules → State → ProbedLine → Armed → Bool → ℕ → Option TimerToArm → Option State
 armed_found t s place m first i None = None
-armed_found t s place m first i (Some y) = armed_duty s place m i y
+armed_found t s place m first i (Some y) = armed_timer_to_arm s place m i y
 
 abbrev pub armed_at : PlayRules → State → ProbedLine → Armed → Bool → Option ℕ → Option State
 armed_at t s place m first None = armed_unasked t s place m first
-armed_at t s place m first (Some i) = armed_found t s place m first i (slice_get s.duties i)
+armed_at t s place m first (Some i) = armed_found t s place m first i (slice_get s.timers_to_arm i)
 
 abbrev pub armed_by : PlayRules → State → ProbedLine → Armed → Bool → Option State
 armed_by t s place m first =
-    if is_other m.function then Some s else armed_at t s place m first (position (is_duty place.cpu m.function) s.duties)
+    if is_other m.function then Some s else armed_at t s place m first (position (is_timer_to_arm place.cpu m.function) s.timers_to_arm)

@@ -7,12 +7,12 @@ ghost use Rattle.probe_run.specs.State.{found_at};
 ghost use Rattle.probe_run.specs.Counting.{Goes, Holds, where_it_holds};
 ghost use Rattle.probe_run.specs.Sums.{forget};
 ghost use Rattle.probe_lines.specs.Shown.{address_agrees};
-ghost use Rattle.probe_lines.specs.Timers.{same_function, is_zero_lag, is_other, owner_agrees, timer_address, with_timer, fits_by, zero_lag_agrees, is_duty, is_blind_by, armed_next, armed_duty, armed_actor, armed_blindly, armed_blind, armed_zero_lag, armed_unasked, armed_found, armed_at, armed_by};
+ghost use Rattle.probe_lines.specs.Timers.{same_function, is_zero_lag, is_other, owner_agrees, timer_address, with_timer, fits_by, zero_lag_agrees, is_timer_to_arm, is_older_by, armed_next, armed_timer_to_arm, armed_actor, armed_of_older, armed_older, armed_zero_lag, armed_unasked, armed_found, armed_at, armed_by};
 
 use crate::comparing::{Compared, compare_address};
 use kernel_entity::Entity;
 use probe_findings::{ExactValue, ProbedLine, Quantity};
-use probe_run::{Actor, Blind, Counted, Duty, PlayRules, Run};
+use probe_run::{Actor, Counted, OlderDequeue, PlayRules, Run, TimerToArm};
 use std::alloc::AllocError;
 use trace_data::{Armed, Expiry, TimerFunction};
 
@@ -102,46 +102,56 @@ pub fn fits(expiry: Expiry, due: u64, at: u64, zero_lag: i64) -> bool
     }
 }
 
-fn duty_place(duties: &[Duty], by: u32, function: TimerFunction) -> Option<usize>
-    ensures place { result ≡ position (is_duty by function) duties.now }
-    ensures bound { IfSome result (λ place. place < length duties.now) }
+fn timer_to_arm_place(
+    timers_to_arm: &[TimerToArm],
+    by: u32,
+    function: TimerFunction,
+) -> Option<usize>
+    ensures place { result ≡ position (is_timer_to_arm by function) timers_to_arm.now }
+    ensures bound { IfSome result (λ place. place < length timers_to_arm.now) }
 {
-    duties.iter().position(|one| one.place.cpu == by && is_same_function(one.function, function))
+    timers_to_arm.iter().position(|one| one.place.cpu == by
+        && is_same_function(one.function, function))
 }
 
-fn blind_place(blinds: &[Blind], by: u32) -> Option<usize>
-    ensures place { result ≡ position (is_blind_by by) blinds.now }
-    ensures bound { IfSome result (λ place. place < length blinds.now) }
+fn older_place(older_dequeues: &[OlderDequeue], by: u32) -> Option<usize>
+    ensures place { result ≡ position (is_older_by by) older_dequeues.now }
+    ensures bound { IfSome result (λ place. place < length older_dequeues.now) }
 {
-    blinds.iter().position(|one| one.by == by)
+    older_dequeues.iter().position(|one| one.by == by)
 }
 
-fn blind_by(blinds: &[Blind], by: u32) -> Option<Blind>
-    ensures { result ≡ found_at blinds.now (position (is_blind_by by) blinds.now) }
+fn older_by(older_dequeues: &[OlderDequeue], by: u32) -> Option<OlderDequeue>
+    ensures { result ≡ found_at older_dequeues.now (position (is_older_by by) older_dequeues.now) }
 {
-    match blind_place(blinds, by) {
+    match older_place(older_dequeues, by) {
         None => None,
-        Some(place) => blinds.get(place).copied(),
+        Some(place) => older_dequeues.get(place).copied(),
     }
 }
 
-fn check_owner(run: &mut Run, place: ProbedLine, line: Armed, duty: Duty) -> Result<(), AllocError>
+fn check_owner(
+    run: &mut Run,
+    place: ProbedLine,
+    line: Armed,
+    timer_to_arm: TimerToArm,
+) -> Result<(), AllocError>
     ensures { OnOk result (Holds (state_of run.old)
-        (owner_agrees (state_of run.old) ((state_of run.old).timers line.timer) duty.entity)
+        (owner_agrees (state_of run.old) ((state_of run.old).timers line.timer) timer_to_arm.entity)
         (state_of run.new)) }
 {
     let known = run.timer_owner(line.timer);
-    let is_equal = is_owner(run, known, duty.entity);
+    let is_equal = is_owner(run, known, timer_to_arm.entity);
     let owner = if is_equal {
-        duty.entity
+        timer_to_arm.entity
     } else {
-        known.unwrap_or(duty.entity)
+        known.unwrap_or(timer_to_arm.entity)
     };
-    let rules = ExactValue::Owner(run.whose(duty.entity));
+    let rules = ExactValue::Owner(run.whose(timer_to_arm.entity));
     let kernel = ExactValue::Owner(run.whose(owner));
     run.count(
         place,
-        Counted::Entity(duty.entity),
+        Counted::Entity(timer_to_arm.entity),
         Quantity::Timer,
         rules,
         kernel,
@@ -153,15 +163,15 @@ fn check_zero_lag(
     run: &mut Run,
     place: ProbedLine,
     line: Armed,
-    duty: Duty,
+    timer_to_arm: TimerToArm,
 ) -> Result<(), AllocError>
     ensures { OnOk result (Holds (state_of run.old)
-        (zero_lag_agrees duty.zero_lag line.expiry duty.at place.at) (state_of run.new)) }
+        (zero_lag_agrees timer_to_arm.zero_lag line.expiry timer_to_arm.at place.at) (state_of run.new)) }
 {
-    match duty.zero_lag {
+    match timer_to_arm.zero_lag {
         None => Ok(()),
         Some(rules) => {
-            let is_equal = fits(line.expiry, duty.at, place.at, rules);
+            let is_equal = fits(line.expiry, timer_to_arm.at, place.at, rules);
             let (quantity, shown) = match line.expiry {
                 Expiry::After(span) => (Quantity::ZeroLag, span),
                 Expiry::At(moment) => (
@@ -172,7 +182,7 @@ fn check_zero_lag(
             let kernel = if is_equal { rules } else { shown };
             run.count(
                 place,
-                Counted::Entity(duty.entity),
+                Counted::Entity(timer_to_arm.entity),
                 quantity,
                 ExactValue::Signed(rules),
                 ExactValue::Signed(kernel),
@@ -186,46 +196,54 @@ fn check_arm(
     run: &mut Run,
     place: ProbedLine,
     line: Armed,
-    duty: Duty,
+    timer_to_arm: TimerToArm,
     actor: Actor,
 ) -> Result<(), AllocError>
     ensures { OnOk result (Holds (state_of run.old)
-        (owner_agrees (state_of run.old) ((state_of run.old).timers line.timer) duty.entity
+        (owner_agrees (state_of run.old) ((state_of run.old).timers line.timer) timer_to_arm.entity
         && (address_agrees (timer_address actor line.function) line.timer
-        && zero_lag_agrees duty.zero_lag line.expiry duty.at place.at)) (state_of run.new)) }
+        && zero_lag_agrees timer_to_arm.zero_lag line.expiry timer_to_arm.at place.at)) (state_of run.new)) }
 {
-    check_owner(run, place, line, duty)?;
+    check_owner(run, place, line, timer_to_arm)?;
     let of = Compared {
         place,
-        number: duty.entity,
+        number: timer_to_arm.entity,
         actor,
     };
-    check_arms(run, of, line, duty)
+    check_arms(run, of, line, timer_to_arm)
 }
 
-fn check_arms(run: &mut Run, of: Compared, line: Armed, duty: Duty) -> Result<(), AllocError>
+fn check_arms(
+    run: &mut Run,
+    of: Compared,
+    line: Armed,
+    timer_to_arm: TimerToArm,
+) -> Result<(), AllocError>
     ensures { OnOk result (Holds (state_of run.old)
         (address_agrees (timer_address of.actor line.function) line.timer
-        && zero_lag_agrees duty.zero_lag line.expiry duty.at of.place.at) (state_of run.new)) }
+        && zero_lag_agrees timer_to_arm.zero_lag line.expiry timer_to_arm.at of.place.at) (state_of run.new)) }
 {
     compare_address(run, of, address(of.actor, line.function), line.timer)?;
-    check_zero_lag(run, of.place, line, duty)
+    check_zero_lag(run, of.place, line, timer_to_arm)
 }
 
 fn keep_armed(
     run: &mut Run,
     line: Armed,
     index: usize,
-    duty: Duty,
+    timer_to_arm: TimerToArm,
     actor: Actor,
 ) -> Result<(), AllocError>
     ensures state { OnOk result (state_of run.new
-        ≡ armed_next (state_of run.old) line index duty actor) }
+        ≡ armed_next (state_of run.old) line index timer_to_arm actor) }
     ensures first { OnOk result ((state_of run.new).first ≡ (state_of run.old).first) }
 {
-    run.drop_duty(index);
-    run.keep(duty.entity, with_timer(actor, line.function, line.timer));
-    run.own_timer(line.timer, duty.entity)
+    run.drop_timer_to_arm(index);
+    run.keep(
+        timer_to_arm.entity,
+        with_timer(actor, line.function, line.timer),
+    );
+    run.own_timer(line.timer, timer_to_arm.entity)
 }
 
 fn arm(
@@ -233,14 +251,14 @@ fn arm(
     place: ProbedLine,
     line: Armed,
     index: usize,
-    duty: Duty,
+    timer_to_arm: TimerToArm,
 ) -> Result<(), AllocError>
     ensures { OnOk result (Goes (state_of run.old)
-        (armed_duty (state_of run.old) place line index duty) (state_of run.new)) }
+        (armed_timer_to_arm (state_of run.old) place line index timer_to_arm) (state_of run.new)) }
 {
-    let actor = run.actor(duty.entity);
-    check_arm(run, place, line, duty, actor)?;
-    keep_armed(run, line, index, duty, actor)?;
+    let actor = run.actor(timer_to_arm.entity);
+    check_arm(run, place, line, timer_to_arm, actor)?;
+    keep_armed(run, line, index, timer_to_arm, actor)?;
     Ok(())
 }
 
@@ -274,39 +292,39 @@ fn with_inactive_timer(actor: Actor) -> Actor
     }
 }
 
-fn own_blind(run: &mut Run, line: Armed, blind: Blind) -> Result<(), AllocError>
-    ensures state { OnOk result (state_of run.new ≡ armed_blindly (state_of run.old) line blind) }
+fn own_older(run: &mut Run, line: Armed, older: OlderDequeue) -> Result<(), AllocError>
+    ensures state { OnOk result (state_of run.new ≡ armed_of_older (state_of run.old) line older) }
     ensures first { OnOk result ((state_of run.new).first ≡ (state_of run.old).first) }
 {
-    let actor = with_inactive_timer(run.actor(blind.entity));
-    run.keep(blind.entity, actor);
-    run.own_timer(line.timer, blind.entity)
+    let actor = with_inactive_timer(run.actor(older.entity));
+    run.keep(older.entity, actor);
+    run.own_timer(line.timer, older.entity)
 }
 
-fn arm_blindly(run: &mut Run, line: Armed, blind: Blind) -> Result<(), AllocError>
+fn arm_of_older(run: &mut Run, line: Armed, older: OlderDequeue) -> Result<(), AllocError>
     ensures { OnOk result (Goes (state_of run.old)
-        (Some (armed_blindly (state_of run.old) line blind)) (state_of run.new)) }
+        (Some (armed_of_older (state_of run.old) line older)) (state_of run.new)) }
 {
-    own_blind(run, line, blind)?;
+    own_older(run, line, older)?;
     Ok(())
 }
 
-fn blind_of(run: &Run, by: u32) -> Option<Blind>
-    ensures { result ≡ found_at (state_of run.now).blinds
-        (position (is_blind_by by) (state_of run.now).blinds) }
+fn older_of(run: &Run, by: u32) -> Option<OlderDequeue>
+    ensures { result ≡ found_at (state_of run.now).older_dequeues
+        (position (is_older_by by) (state_of run.now).older_dequeues) }
 {
-    blind_by(run.blinds(), by)
+    older_by(run.older_dequeues(), by)
 }
 
-fn arm_any_blind(run: &mut Run, place: ProbedLine, line: Armed) -> Result<(), AllocError>
+fn arm_any_older(run: &mut Run, place: ProbedLine, line: Armed) -> Result<(), AllocError>
     ensures { OnOk result (Goes (state_of run.old)
-        (armed_blind (state_of run.old) line
-        (found_at (state_of run.old).blinds (position (is_blind_by place.cpu) (state_of run.old).blinds)))
+        (armed_older (state_of run.old) line
+        (found_at (state_of run.old).older_dequeues (position (is_older_by place.cpu) (state_of run.old).older_dequeues)))
         (state_of run.new)) }
 {
-    match blind_of(run, place.cpu) {
+    match older_of(run, place.cpu) {
         None => refuse_timer(run, place, line),
-        Some(blind) => arm_blindly(run, line, blind),
+        Some(older) => arm_of_older(run, line, older),
     }
 }
 
@@ -332,7 +350,7 @@ fn arm_zero_lag(
     if first && is_unknown {
         forget_first(run, place.cpu)
     } else {
-        arm_any_blind(run, place, line)
+        arm_any_older(run, place, line)
     }
 }
 
@@ -393,11 +411,11 @@ fn arm_at(
 ) -> Result<(), AllocError>
     ensures { OnOk result (Goes (state_of run.old)
         (armed_found rules (state_of run.old) place line first index
-        (slice_get (state_of run.old).duties index)) (state_of run.new)) }
+        (slice_get (state_of run.old).timers_to_arm index)) (state_of run.new)) }
 {
-    match run.duty(index) {
+    match run.timer_to_arm(index) {
         None => run.refuse(place),
-        Some(duty) => arm(run, place, line, index, duty),
+        Some(timer_to_arm) => arm(run, place, line, index, timer_to_arm),
     }
 }
 
@@ -427,9 +445,9 @@ fn arm_owned(
 ) -> Result<(), AllocError>
     ensures { OnOk result (Goes (state_of run.old)
         (armed_at rules (state_of run.old) place line first
-        (position (is_duty place.cpu line.function) (state_of run.old).duties)) (state_of run.new)) }
+        (position (is_timer_to_arm place.cpu line.function) (state_of run.old).timers_to_arm)) (state_of run.new)) }
 {
-    let index = duty_place(run.duties(), place.cpu, line.function);
+    let index = timer_to_arm_place(run.timers_to_arm(), place.cpu, line.function);
     arm_asked(run, rules, place, line, first, index)?;
     Ok(())
 }

@@ -18,7 +18,7 @@ use kernel_changes::enqueue_by;
 use kernel_entity::{Contention, Entity, SumsChange, WAKEUP, Wake, has, replenished_blocked};
 use kernel_functions::{Arrival, Boost, Delayed, Enqueuing, Refill};
 use probe_findings::{ExactRule, ProbedLine};
-use probe_run::{Actor, Effect, PendingEffect, PlayRules, Rest, Run};
+use probe_run::{Actor, Effect, OpenDequeue, PendingEffect, PlayRules, Run};
 use std::alloc::AllocError;
 use trace_data::Enqueued;
 
@@ -56,10 +56,10 @@ fn has_move(pending: &[PendingEffect], number: usize) -> bool
     pending.iter().any(|one| moves(number, one.effect))
 }
 
-fn is_within(rests: &[Rest], by: u32) -> bool
-    ensures { result ≡ list_any (is_rest_by by) rests.now }
+fn is_within(open_dequeues: &[OpenDequeue], by: u32) -> bool
+    ensures { result ≡ list_any (is_rest_by by) open_dequeues.now }
 {
-    rests.iter().any(|one| one.place.cpu == by)
+    open_dequeues.iter().any(|one| one.place.cpu == by)
 }
 
 fn whole(bw: u64) -> SumsChange
@@ -300,7 +300,7 @@ pub(crate) fn enqueued(
     ensures { OnOk result (rules.change ≡ None → rules.has_dequeues ≡ true → Goes (state_of run.old)
         (enqueued_by rules (state_of run.old) place line late) (state_of run.new)) }
 {
-    let within = is_within(run.rests(), place.cpu);
+    let within = is_within(run.open_dequeues(), place.cpu);
     let number = run.task(line.pid)?;
     let enqueue = EnqueueLine {
         place,

@@ -83,7 +83,7 @@ fn leave_unknown(
         },
     );
     run.forget(line.cpu)?;
-    run.become_blind(place.cpu, number)
+    run.begin_older_dequeue(place.cpu, number)
 }
 
 fn check_leave(

@@ -6,7 +6,7 @@ ghost use Rattle.std.specs.List.{list_any, list_all};
 ghost use Rattle.probe_run.specs.Runs.{state_of};
 ghost use Rattle.probe_run.specs.Counting.{Goes, Holds};
 ghost use Rattle.probe_run.specs.Moves.{is_claim_by};
-ghost use Rattle.probe_lines.specs.Lines.{follows_by, waits_for, came_early, is_effect_by, is_duty_by, is_armed, is_mark, is_passed_over, is_charge, calls_are_done, timers_are_armed, is_free_for, is_first_of, before_line, none_chosen, choice_fits, played_by, checked_line_of, line_of};
+ghost use Rattle.probe_lines.specs.Lines.{follows_by, waits_for, came_early, is_effect_by, is_timer_to_arm_by, is_armed, is_mark, is_passed_over, is_charge, calls_are_done, timers_are_armed, is_free_for, is_first_of, before_line, none_chosen, choice_fits, played_by, checked_line_of, line_of};
 
 use crate::admissions::admitted;
 use crate::arming::armed;
@@ -21,7 +21,7 @@ use crate::tasks::{dequeued, migrating};
 use crate::timers::{replenish_fired, zero_lag_fired};
 use kernel_entity::{REPLENISH, has};
 use probe_findings::{ExactValue, ProbedFunction, ProbedLine, Quantity};
-use probe_run::{Awaits, Claim, Counted, Duty, PendingEffect, PlayRules, Rest, Run};
+use probe_run::{Awaits, Claim, Counted, OpenDequeue, PendingEffect, PlayRules, Run, TimerToArm};
 use std::alloc::AllocError;
 use trace_data::{IdleCharge, Mark, Probe};
 
@@ -62,7 +62,7 @@ fn event_of_mark(mark: &Mark) -> ProbedFunction {
     }
 }
 
-fn follows_charge(rest: Rest, probe: &Probe) -> bool
+fn follows_charge(rest: OpenDequeue, probe: &Probe) -> bool
     ensures { result ≡ follows_by rest Awaits.Charge probe.now }
 {
     match probe {
@@ -71,7 +71,7 @@ fn follows_charge(rest: Rest, probe: &Probe) -> bool
     }
 }
 
-fn follows_enqueue(rest: Rest, probe: &Probe) -> bool
+fn follows_enqueue(rest: OpenDequeue, probe: &Probe) -> bool
     ensures { result ≡ follows_by rest Awaits.Enqueue probe.now }
 {
     match probe {
@@ -81,7 +81,7 @@ fn follows_enqueue(rest: Rest, probe: &Probe) -> bool
 }
 
 /// Whether a dequeue waits for this line of its CPU.
-pub fn follows(rest: Rest, probe: &Probe) -> bool
+pub fn follows(rest: OpenDequeue, probe: &Probe) -> bool
     ensures { result ≡ follows_by rest rest.awaits probe.now }
 {
     match rest.awaits {
@@ -103,15 +103,15 @@ fn has_claim(claims: &[Claim], by: u32) -> bool
     claims.iter().any(|one| one.place.cpu == by)
 }
 
-fn all_wait_for(rests: &[Rest], by: u32, probe: &Probe) -> bool
-    ensures { result ≡ list_all (waits_for by probe.now) rests.now }
+fn all_wait_for(open_dequeues: &[OpenDequeue], by: u32, probe: &Probe) -> bool
+    ensures { result ≡ list_all (waits_for by probe.now) open_dequeues.now }
 {
-    rests
+    open_dequeues
         .iter()
         .all(|one| !(one.place.cpu == by) || follows(*one, probe))
 }
 
-fn has_come_early(early: &[Rest], by: u32, probe: &Probe) -> bool
+fn has_come_early(early: &[OpenDequeue], by: u32, probe: &Probe) -> bool
     ensures { result ≡ list_any (came_early by probe.now) early.now }
 {
     early
@@ -119,14 +119,14 @@ fn has_come_early(early: &[Rest], by: u32, probe: &Probe) -> bool
         .any(|one| one.place.cpu == by && follows_charge(*one, probe))
 }
 
-fn duty_place(duties: &[Duty], by: u32) -> Option<usize> {
-    duties.iter().position(|one| one.place.cpu == by)
+fn timer_to_arm_place(timers_to_arm: &[TimerToArm], by: u32) -> Option<usize> {
+    timers_to_arm.iter().position(|one| one.place.cpu == by)
 }
 
-fn has_duty(duties: &[Duty], by: u32) -> bool
-    ensures { result ≡ list_any (is_duty_by by) duties.now }
+fn has_timer_to_arm(timers_to_arm: &[TimerToArm], by: u32) -> bool
+    ensures { result ≡ list_any (is_timer_to_arm_by by) timers_to_arm.now }
 {
-    duties.iter().any(|one| one.place.cpu == by)
+    timers_to_arm.iter().any(|one| one.place.cpu == by)
 }
 
 fn is_timer(probe: &Probe) -> bool
@@ -172,14 +172,14 @@ fn are_calls_done(run: &Run, by: u32, probe: &Probe) -> bool
 {
     !has_effect(run.pending(), by)
         && !has_claim(run.claims(), by)
-        && all_wait_for(run.rests(), by, probe)
+        && all_wait_for(run.open_dequeues(), by, probe)
         && !has_come_early(run.early(), by, probe)
 }
 
 fn are_timers_armed(run: &Run, by: u32, probe: &Probe) -> bool
     ensures { result ≡ timers_are_armed (state_of run.now) by probe.now }
 {
-    is_timer(probe) || is_mark(run, probe) || !has_duty(run.duties(), by)
+    is_timer(probe) || is_mark(run, probe) || !has_timer_to_arm(run.timers_to_arm(), by)
 }
 
 fn is_none_chosen(choice: LineChoice) -> bool
@@ -202,18 +202,18 @@ fn fits(probe: &Probe, choice: LineChoice) -> bool
 fn miss_timer(run: &mut Run, place: ProbedLine) -> Result<(), AllocError>
     ensures { OnOk result (Holds (state_of run.old) false (state_of run.new)) }
 {
-    match duty_place(run.duties(), place.cpu) {
+    match timer_to_arm_place(run.timers_to_arm(), place.cpu) {
         None => run.refuse(place),
-        Some(index) => match run.duty(index) {
+        Some(index) => match run.timer_to_arm(index) {
             None => run.refuse(place),
-            Some(duty) => {
-                run.drop_duty(index);
+            Some(timer_to_arm) => {
+                run.drop_timer_to_arm(index);
                 run.count(
                     place,
-                    Counted::Entity(duty.entity),
+                    Counted::Entity(timer_to_arm.entity),
                     Quantity::Timer,
-                    ExactValue::Armed(duty.function),
-                    ExactValue::NotArmed(duty.function),
+                    ExactValue::Armed(timer_to_arm.function),
+                    ExactValue::NotArmed(timer_to_arm.function),
                     false,
                 )
             }
@@ -225,7 +225,7 @@ fn miss_timers(run: &mut Run, place: ProbedLine) -> Result<(), AllocError>
     ensures { OnOk result (Holds (state_of run.old) false (state_of run.new)) }
 {
     let count = run
-        .duties()
+        .timers_to_arm()
         .iter()
         .filter(|one| one.place.cpu == place.cpu)
         .count();
@@ -272,9 +272,9 @@ fn begin(run: &mut Run, place: ProbedLine, probe: &Probe) -> Result<(), AllocErr
     ensures state { OnOk result (state_of run.new ≡ before_line (state_of run.old) place probe.now) }
     ensures first { OnOk result ((state_of run.new).first ≡ (state_of run.old).first) }
 {
-    let keeps_blinds = is_timer(probe) || is_mark(run, probe);
+    let keeps_older_dequeues = is_timer(probe) || is_mark(run, probe);
     let is_quiet = is_timer(probe) || is_charge(probe);
-    run.begin(place, !keeps_blinds, !is_quiet)
+    run.begin(place, !keeps_older_dequeues, !is_quiet)
 }
 
 fn play(

@@ -12,7 +12,7 @@ use crate::keeping::{ShownSums, read_and_keep};
 use crate::shown::shown_dequeued;
 use kernel_functions::Delayed;
 use probe_findings::{ExactRule, ProbedLine};
-use probe_run::{Actor, Awaits, PlayRules, Rest, Run};
+use probe_run::{Actor, Awaits, OpenDequeue, PlayRules, Run};
 use std::alloc::AllocError;
 use trace_data::{Dequeued, Migrating};
 
@@ -49,7 +49,7 @@ fn keep_dequeue(
         sums: line.sums,
     };
     read_and_keep(run, rules, sums, of.number, shown_dequeued(of.actor, line))?;
-    run.begin_rest(Rest {
+    run.begin_open_dequeue(OpenDequeue {
         place: of.place,
         entity: of.number,
         cpu: line.cpu,

@@ -10,8 +10,8 @@ use Rattle.probe_run.specs.declared.waiting.UnlockedSum.{UnlockedSum}
 use Rattle.probe_run.specs.declared.waiting.UnlockedSum.TheVariants.{ExtraBw}
 use Rattle.probe_run.specs.declared.waiting.Effect.TheVariants.{Locks}
 use Rattle.probe_run.specs.declared.waiting.Awaits.TheVariants.{Enqueue, Nothing}
-use Rattle.probe_run.specs.declared.waiting.Rest.{Rest}
-use Rattle.probe_run.specs.declared.waiting.Blind.{Blind}
+use Rattle.probe_run.specs.declared.waiting.OpenDequeue.{OpenDequeue}
+use Rattle.probe_run.specs.declared.waiting.OlderDequeue.{OlderDequeue}
 use Rattle.probe_run.specs.State.{State, found_at, put_at, set_of}
 use Rattle.probe_run.specs.Sums.{runqueue_of, keep_runqueue, is_processor, opened}
 
@@ -19,20 +19,20 @@ abbrev pub is_of_cpu : ℕ → ℕ → Bool
 is_of_cpu cpu one = one == cpu
 
 -- a line begins: its CPU's dequeue, if one waited for it, does so no more
-abbrev pub begun_rest : ℕ → Rest → Rest
-begun_rest x w = if w.place.cpu == x then record w { awaits = Nothing } else w
+abbrev pub begun_dequeue : ℕ → OpenDequeue → OpenDequeue
+begun_dequeue x w = if w.place.cpu == x then record w { awaits = Nothing } else w
 
-abbrev pub is_rest_of_other : ℕ → Rest → Bool
+abbrev pub is_rest_of_other : ℕ → OpenDequeue → Bool
 is_rest_of_other x w = not (w.place.cpu == x)
 
-abbrev pub is_blind_of_other : ℕ → Blind → Bool
-is_blind_of_other x b = not (b.by == x)
+abbrev pub is_older_of_other : ℕ → OlderDequeue → Bool
+is_older_of_other x b = not (b.by == x)
 
 abbrev pub begun : State → ℕ → ℕ → Bool → Bool → State
-begun s x at drops_blinds writes = record s {
-  rests = map (begun_rest x) s.rests;
+begun s x at drops_older_dequeues writes = record s {
+  open_dequeues = map (begun_dequeue x) s.open_dequeues;
   early = filter (is_rest_of_other x) s.early;
-  blinds = if drops_blinds then filter (is_blind_of_other x) s.blinds else s.blinds;
+  older_dequeues = if drops_older_dequeues then filter (is_older_of_other x) s.older_dequeues else s.older_dequeues;
   now = at;
   wrote = if writes && not (list_any (is_of_cpu x) s.wrote) then s.wrote ++ x ∷ [] else s.wrote;
 }
@@ -58,14 +58,14 @@ abbrev pub sums_read : State → ProbedLine → ℕ → Sums → State
 sums_read s place cpu shown = claim_in (queue_read s cpu shown) place (ExtraBw cpu) shown.extra_bw
 
 -- a dequeue begins, and may wait for an enqueue within it
-abbrev pub begin_rest : State → Rest → State
-begin_rest s w = record s { rests = s.rests ++ w ∷ [] }
+abbrev pub begin_open_dequeue : State → OpenDequeue → State
+begin_open_dequeue s w = record s { open_dequeues = s.open_dequeues ++ w ∷ [] }
 
-abbrev pub again_rest : ℕ → Rest → Rest
-again_rest x w = if w.place.cpu == x then record w { awaits = Enqueue } else w
+abbrev pub again_dequeue : ℕ → OpenDequeue → OpenDequeue
+again_dequeue x w = if w.place.cpu == x then record w { awaits = Enqueue } else w
 
 abbrev pub await_enqueue : State → ℕ → Bool → State
-await_enqueue s x again = if again then record s { rests = map (again_rest x) s.rests } else s
+await_enqueue s x again = if again then record s { open_dequeues = map (again_dequeue x) s.open_dequeues } else s
 
 -- a function waits for the lock of a runqueue
 abbrev pub pend_lock : State → ProbedLine → ℕ → ℕ → Delayed → State
@@ -75,12 +75,12 @@ pend_lock s place cpu n delayed = record s { pending = s.pending ++ record { pla
 abbrev pub own_timer : State → ℕ → ℕ → State
 own_timer s address n = record s { timers = set_of s.timers address n }
 
-abbrev pub without_duty : State → ℕ → State
-without_duty s i = record s { duties = if nat_lt i (length s.duties) then remove s.duties i else s.duties }
+abbrev pub without_timer_to_arm : State → ℕ → State
+without_timer_to_arm s i = record s { timers_to_arm = if nat_lt i (length s.timers_to_arm) then remove s.timers_to_arm i else s.timers_to_arm }
 
 -- a CPU that dequeues a task of before the record
-abbrev pub with_blind : State → ℕ → ℕ → State
-with_blind s x n = record s { blinds = s.blinds ++ record { by = x; entity = n } ∷ [] }
+abbrev pub with_older : State → ℕ → ℕ → State
+with_older s x n = record s { older_dequeues = s.older_dequeues ++ record { by = x; entity = n } ∷ [] }
 
 -- dl_server_apply_params
 abbrev pub queue_opened : State → ℕ → State

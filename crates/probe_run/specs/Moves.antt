@@ -17,9 +17,9 @@ use Rattle.probe_run.specs.declared.waiting.PendingEffect.{PendingEffect}
 use Rattle.probe_run.specs.declared.waiting.Claim.{Claim}
 use Rattle.probe_run.specs.declared.waiting.Awaits.{Awaits}
 use Rattle.probe_run.specs.declared.waiting.Awaits.TheVariants.{Charge, Enqueue, Nothing}
-use Rattle.probe_run.specs.declared.waiting.Rest.{Rest}
+use Rattle.probe_run.specs.declared.waiting.OpenDequeue.{OpenDequeue}
 use Rattle.probe_run.specs.declared.moves.RunMove.{RunMove}
-use Rattle.probe_run.specs.declared.moves.RunMove.TheVariants.{Settle, Meet, Rest as MakeRest}
+use Rattle.probe_run.specs.declared.moves.RunMove.TheVariants.{Settle, Meet, OpenDequeue as MakeDequeue}
 use Rattle.probe_run.specs.State.{State, same_sum, actor_at, keep_at}
 use Rattle.probe_run.specs.Special.{is_special}
 use Rattle.probe_run.specs.Sums.{sum_of, put_sum, moved, change, forget, share_in, block_in}
@@ -85,7 +85,7 @@ abbrev pub meet_of : State → ℕ → Option State
 meet_of s x = met_at s (position (is_claim_by x) s.claims)
 
 -- what of dequeue_task_dl comes after the charge within it (dequeue_dl_entity)
-abbrev pub is_rest_by : ℕ → Rest → Bool
+abbrev pub is_rest_by : ℕ → OpenDequeue → Bool
 is_rest_by x w = w.place.cpu == x
 
 abbrev pub awaits_charge : Awaits → Bool
@@ -101,43 +101,43 @@ awaits_enqueue Nothing = false
 abbrev pub unseen_of : Actor → Actor
 unseen_of a = record a { entity = off_of a.entity; knows_budget = false; knows_contending = false }
 
-abbrev pub rested_known : PlayRules → State → Rest → Actor → State
+abbrev pub rested_known : PlayRules → State → OpenDequeue → Actor → State
 rested_known t s w a =
     let done = dequeuing_of a.entity w.flags w.on_rq w.clock in
     block_in t (change (keep_at s w.entity (record a { entity = done.entity })) w.cpu done.change) w.place w.entity a.cpu done.change done.block
 
-abbrev pub rested_unknown : State → Rest → Actor → State
+abbrev pub rested_unknown : State → OpenDequeue → Actor → State
 rested_unknown s w a =
     let unseen = forget (keep_at s w.entity (unseen_of a)) w.cpu in
-    record unseen { blinds = unseen.blinds ++ record { by = w.place.cpu; entity = w.entity } ∷ [] }
+    record unseen { older_dequeues = unseen.older_dequeues ++ record { by = w.place.cpu; entity = w.entity } ∷ [] }
 
-abbrev pub rested_by : PlayRules → State → Rest → Actor → State
+abbrev pub rested_by : PlayRules → State → OpenDequeue → Actor → State
 rested_by t s w a =
     if not a.knows_parameters then rested_unknown s w a
     else (if is_special a.entity then keep_at s w.entity (record a { entity = off_of a.entity }) else rested_known t s w a)
 
-abbrev pub without_rest : State → ℕ → State
-without_rest s i = record s { rests = if nat_lt i (length s.rests) then remove s.rests i else s.rests }
+abbrev pub without_dequeue : State → ℕ → State
+without_dequeue s i = record s { open_dequeues = if nat_lt i (length s.open_dequeues) then remove s.open_dequeues i else s.open_dequeues }
 
-abbrev pub with_early : State → Rest → State
+abbrev pub with_early : State → OpenDequeue → State
 with_early s w = if awaits_charge w.awaits then record s { early = s.early ++ w ∷ [] } else s
 
-abbrev pub rest_with : PlayRules → State → ℕ → Rest → State
-rest_with t s i w = rested_by t (with_early (without_rest s i) w) w (actor_at s w.entity)
+abbrev pub rest_with : PlayRules → State → ℕ → OpenDequeue → State
+rest_with t s i w = rested_by t (with_early (without_dequeue s i) w) w (actor_at s w.entity)
 
-abbrev pub rest_found : PlayRules → State → ℕ → Option Rest → Option State
+abbrev pub rest_found : PlayRules → State → ℕ → Option OpenDequeue → Option State
 rest_found t s i None = None
 rest_found t s i (Some w) = where_it_holds (not (awaits_enqueue w.awaits)) (rest_with t s i w)
 
 abbrev pub rest_at : PlayRules → State → Option ℕ → Option State
 rest_at t s None = None
-rest_at t s (Some i) = rest_found t s i (slice_get s.rests i)
+rest_at t s (Some i) = rest_found t s i (slice_get s.open_dequeues i)
 
 abbrev pub rest_of : PlayRules → State → ℕ → Option State
-rest_of t s x = rest_at t s (position (is_rest_by x) s.rests)
+rest_of t s x = rest_at t s (position (is_rest_by x) s.open_dequeues)
 
 -- what a search may choose before a line
 abbrev pub moved_of : PlayRules → State → RunMove → Option State
 moved_of t s (Settle k) = settle_of s k
 moved_of t s (Meet x) = meet_of s x
-moved_of t s (MakeRest x) = rest_of t s x
+moved_of t s (MakeDequeue x) = rest_of t s x

@@ -13,9 +13,9 @@ use Rattle.probe_run.specs.declared.waiting.UnlockedSum.{UnlockedSum}
 use Rattle.probe_run.specs.declared.waiting.UnlockedSum.TheVariants.{ExtraBw, TotalBw}
 use Rattle.probe_run.specs.declared.waiting.PendingEffect.{PendingEffect}
 use Rattle.probe_run.specs.declared.waiting.Claim.{Claim}
-use Rattle.probe_run.specs.declared.waiting.Rest.{Rest}
-use Rattle.probe_run.specs.declared.waiting.Duty.{Duty}
-use Rattle.probe_run.specs.declared.waiting.Blind.{Blind}
+use Rattle.probe_run.specs.declared.waiting.OpenDequeue.{OpenDequeue}
+use Rattle.probe_run.specs.declared.waiting.TimerToArm.{TimerToArm}
+use Rattle.probe_run.specs.declared.waiting.OlderDequeue.{OlderDequeue}
 
 -- entities, by numbers; whose number a pid, the server of a CPU, the address of a timer has; sums; CPUs; effects that are pending, sums that
 -- were read, dequeues that wait, those whose rest came before a charge, timers to arm, CPUs that may arm an older task's timer; CPUs that
@@ -31,10 +31,10 @@ pub record State : Type 0 where
   pub processors : List Processor
   pub pending : List PendingEffect
   pub claims : List Claim
-  pub rests : List Rest
-  pub early : List Rest
-  pub duties : List Duty
-  pub blinds : List Blind
+  pub open_dequeues : List OpenDequeue
+  pub early : List OpenDequeue
+  pub timers_to_arm : List TimerToArm
+  pub older_dequeues : List OlderDequeue
   pub wrote : List ℕ
   pub now : ℕ
   pub open_until : ℕ

@@ -170,14 +170,14 @@ abbrev pub share_in : State → ProbedLine → ℕ → SumsChange → State
 share_in s place cpu c = if has_shares c then share_by s place (domain_of s.processors cpu) c else s
 
 -- timers that a CPU must arm now
-abbrev pub with_duty : PlayRules → State → ProbedLine → ℕ → State
-with_duty t s place n =
+abbrev pub with_timer_to_arm : PlayRules → State → ProbedLine → ℕ → State
+with_timer_to_arm t s place n =
     if t.has_timers
-    then record s { duties = s.duties ++ record { place = place; entity = n; function = Replenish; zero_lag = None; at = s.now } ∷ [] }
+    then record s { timers_to_arm = s.timers_to_arm ++ record { place = place; entity = n; function = Replenish; zero_lag = None; at = s.now } ∷ [] }
     else s
 
 abbrev pub start_timer_in : PlayRules → State → ProbedLine → ℕ → Bool → State
-start_timer_in t s place n starts = if starts then with_duty t s place n else s
+start_timer_in t s place n starts = if starts then with_timer_to_arm t s place n else s
 
 -- task_non_contending: a timer is to be armed at once, or the bandwidth goes back
 abbrev pub block_in : PlayRules → State → ProbedLine → ℕ → ℕ → SumsChange → Option Block → State
@@ -185,7 +185,7 @@ block_in t s place n cpu c None = s
 block_in t s place n cpu c (Some Unreserved) = s
 block_in t s place n cpu c (Some (WaitsForZeroLag z)) =
     if t.has_timers
-    then record s { duties = s.duties ++ record { place = place; entity = n; function = ZeroLagTimer; zero_lag = Some z; at = s.now } ∷ [] }
+    then record s { timers_to_arm = s.timers_to_arm ++ record { place = place; entity = n; function = ZeroLagTimer; zero_lag = Some z; at = s.now } ∷ [] }
     else s
 block_in t s place n cpu c (Some Past) = share_in s place cpu c
 

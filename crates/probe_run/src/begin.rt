@@ -3,13 +3,15 @@
 ghost use Rattle.std.specs.Prelude.{◌≡◌, ◌<◌, ◌++◌, ◌∷◌, [], OnOk, true, IfSome, filter, map, length, position, slice_get};
 ghost use Rattle.std.specs.List.{list_any};
 ghost use Rattle.probe_run.specs.Runs.{state_of};
-ghost use Rattle.probe_run.specs.Begin.{is_of_cpu, begun_rest, is_rest_of_other, is_blind_of_other, begun, claim_in, begin_rest, await_enqueue, again_rest, pend_lock, own_timer, without_duty, sums_open, shown_queue, queue_read, sums_read, queue_opened, sap_opened, with_blind, processor_of, keep_processor, with_domain, with_active};
+ghost use Rattle.probe_run.specs.Begin.{is_of_cpu, begun_dequeue, is_rest_of_other, is_older_of_other, begun, claim_in, begin_open_dequeue, await_enqueue, again_dequeue, pend_lock, own_timer, without_timer_to_arm, sums_open, shown_queue, queue_read, sums_read, queue_opened, sap_opened, with_older, processor_of, keep_processor, with_domain, with_active};
 
 use crate::rules::{PlayRules, Processor};
 use crate::run::Run;
 use crate::sharing::processor_place;
 use crate::sums::Runqueue;
-use crate::waiting::{Awaits, Blind, Claim, Duty, Effect, PendingEffect, Rest, UnlockedSum};
+use crate::waiting::{
+    Awaits, Claim, Effect, OlderDequeue, OpenDequeue, PendingEffect, TimerToArm, UnlockedSum,
+};
 use kernel_functions::Delayed;
 use probe_findings::ProbedLine;
 use std::alloc::AllocError;
@@ -21,11 +23,11 @@ fn is_among(cpus: &[u32], cpu: u32) -> bool
     cpus.iter().any(|one| *one == cpu)
 }
 
-fn without_wait(rest: Rest, by: u32) -> Rest
-    ensures { result ≡ begun_rest by rest }
+fn without_wait(rest: OpenDequeue, by: u32) -> OpenDequeue
+    ensures { result ≡ begun_dequeue by rest }
 {
     if rest.place.cpu == by {
-        Rest {
+        OpenDequeue {
             awaits: Awaits::Nothing,
             ..rest
         }
@@ -34,43 +36,43 @@ fn without_wait(rest: Rest, by: u32) -> Rest
     }
 }
 
-fn begin_rests(rests: &mut [Rest], by: u32)
-    ensures { rests.new ≡ map (begun_rest by) rests.old }
+fn begin_open_dequeues(open_dequeues: &mut [OpenDequeue], by: u32)
+    ensures { open_dequeues.new ≡ map (begun_dequeue by) open_dequeues.old }
 {
-    for one in rests.iter_mut() {
+    for one in open_dequeues.iter_mut() {
         *one = without_wait(*one, by);
     }
 }
 
-fn is_rest_of_other(rest: Rest, by: u32) -> bool
+fn is_rest_of_other(rest: OpenDequeue, by: u32) -> bool
     ensures { result ≡ is_rest_of_other by rest }
 {
     !(rest.place.cpu == by)
 }
 
-fn is_blind_of_other(blind: Blind, by: u32) -> bool
-    ensures { result ≡ is_blind_of_other by blind }
+fn is_older_of_other(older: OlderDequeue, by: u32) -> bool
+    ensures { result ≡ is_older_of_other by older }
 {
-    !(blind.by == by)
+    !(older.by == by)
 }
 
-fn drop_rests(rests: &mut Vec<Rest>, by: u32)
-    ensures { rests.new.items ≡ filter (is_rest_of_other by) rests.old.items }
+fn drop_open_dequeues(open_dequeues: &mut Vec<OpenDequeue>, by: u32)
+    ensures { open_dequeues.new.items ≡ filter (is_rest_of_other by) open_dequeues.old.items }
 {
-    rests.retain(|one| is_rest_of_other(*one, by));
+    open_dequeues.retain(|one| is_rest_of_other(*one, by));
 }
 
-fn drop_blinds(blinds: &mut Vec<Blind>, by: u32)
-    ensures { blinds.new.items ≡ filter (is_blind_of_other by) blinds.old.items }
+fn drop_older_dequeues(older_dequeues: &mut Vec<OlderDequeue>, by: u32)
+    ensures { older_dequeues.new.items ≡ filter (is_older_of_other by) older_dequeues.old.items }
 {
-    blinds.retain(|one| is_blind_of_other(*one, by));
+    older_dequeues.retain(|one| is_older_of_other(*one, by));
 }
 
-fn with_wait(rest: Rest, by: u32) -> Rest
-    ensures { result ≡ again_rest by rest }
+fn with_wait(rest: OpenDequeue, by: u32) -> OpenDequeue
+    ensures { result ≡ again_dequeue by rest }
 {
     if rest.place.cpu == by {
-        Rest {
+        OpenDequeue {
             awaits: Awaits::Enqueue,
             ..rest
         }
@@ -79,10 +81,10 @@ fn with_wait(rest: Rest, by: u32) -> Rest
     }
 }
 
-fn await_in(rests: &mut [Rest], by: u32)
-    ensures { rests.new ≡ map (again_rest by) rests.old }
+fn await_in(open_dequeues: &mut [OpenDequeue], by: u32)
+    ensures { open_dequeues.new ≡ map (again_dequeue by) open_dequeues.old }
 {
-    for one in rests.iter_mut() {
+    for one in open_dequeues.iter_mut() {
         *one = with_wait(*one, by);
     }
 }
@@ -95,22 +97,22 @@ impl Run {
         is_among(self.wrote.as_slice(), cpu)
     }
 
-    /// A line begins: dequeues of its CPU wait for it no more; `drops_blinds` but for lines of timers and marks, `writes` but for
+    /// A line begins: dequeues of its CPU wait for it no more; `drops_older_dequeues` but for lines of timers and marks, `writes` but for
     /// lines of charges and timers.
     pub fn begin(
         &mut self,
         place: ProbedLine,
-        drops_blinds: bool,
+        drops_older_dequeues: bool,
         writes: bool,
     ) -> Result<(), AllocError>
         ensures state { OnOk result (state_of self.new
-            ≡ begun (state_of self.old) place.cpu place.at drops_blinds writes) }
+            ≡ begun (state_of self.old) place.cpu place.at drops_older_dequeues writes) }
         ensures first { OnOk result ((state_of self.new).first ≡ (state_of self.old).first) }
     {
-        begin_rests(self.rests.as_mut_slice(), place.cpu);
-        drop_rests(&mut self.early, place.cpu);
-        if drops_blinds {
-            drop_blinds(&mut self.blinds, place.cpu);
+        begin_open_dequeues(self.open_dequeues.as_mut_slice(), place.cpu);
+        drop_open_dequeues(&mut self.early, place.cpu);
+        if drops_older_dequeues {
+            drop_older_dequeues(&mut self.older_dequeues, place.cpu);
         }
         self.moment = place.at;
         if writes && !is_among(self.wrote.as_slice(), place.cpu) {
@@ -208,11 +210,11 @@ impl Run {
     }
 
     /// A dequeue begins.
-    pub fn begin_rest(&mut self, rest: Rest) -> Result<(), AllocError>
-        ensures state { OnOk result (state_of self.new ≡ begin_rest (state_of self.old) rest) }
+    pub fn begin_open_dequeue(&mut self, rest: OpenDequeue) -> Result<(), AllocError>
+        ensures state { OnOk result (state_of self.new ≡ begin_open_dequeue (state_of self.old) rest) }
         ensures first { OnOk result ((state_of self.new).first ≡ (state_of self.old).first) }
     {
-        self.rests.push(rest)?;
+        self.open_dequeues.push(rest)?;
         Ok(())
     }
 
@@ -222,7 +224,7 @@ impl Run {
         ensures first { (state_of self.new).first ≡ (state_of self.old).first }
     {
         if again {
-            await_in(self.rests.as_mut_slice(), by);
+            await_in(self.open_dequeues.as_mut_slice(), by);
         }
     }
 
@@ -259,12 +261,12 @@ impl Run {
     }
 
     /// A timer that was to be armed is.
-    pub fn drop_duty(&mut self, index: usize)
-        ensures state { state_of self.new ≡ without_duty (state_of self.old) index }
+    pub fn drop_timer_to_arm(&mut self, index: usize)
+        ensures state { state_of self.new ≡ without_timer_to_arm (state_of self.old) index }
         ensures first { (state_of self.new).first ≡ (state_of self.old).first }
     {
-        if index < self.duties.len() {
-            self.duties.remove(index);
+        if index < self.timers_to_arm.len() {
+            self.timers_to_arm.remove(index);
         }
     }
 
@@ -291,19 +293,19 @@ impl Run {
     }
 
     /// This CPU dequeues a task of before the record, whose timer it may arm.
-    pub fn become_blind(&mut self, by: u32, entity: usize) -> Result<(), AllocError>
-        ensures state { OnOk result (state_of self.new ≡ with_blind (state_of self.old) by entity) }
+    pub fn begin_older_dequeue(&mut self, by: u32, entity: usize) -> Result<(), AllocError>
+        ensures state { OnOk result (state_of self.new ≡ with_older (state_of self.old) by entity) }
         ensures first { OnOk result ((state_of self.new).first ≡ (state_of self.old).first) }
     {
-        self.blinds.push(Blind { by, entity })?;
+        self.older_dequeues.push(OlderDequeue { by, entity })?;
         Ok(())
     }
 
     /// The timer of this place that is to be armed.
-    pub fn duty(&self, index: usize) -> Option<Duty>
-        ensures { result ≡ slice_get (state_of self.now).duties index }
+    pub fn timer_to_arm(&self, index: usize) -> Option<TimerToArm>
+        ensures { result ≡ slice_get (state_of self.now).timers_to_arm index }
     {
-        self.duties.get(index).copied()
+        self.timers_to_arm.get(index).copied()
     }
 
     /// What is known of a CPU.

@@ -24,4 +24,6 @@ pub use resting::why;
 pub use rules::{PlayRules, Processor, RunStart, StartBw};
 pub use run::Run;
 pub use sums::{RootDomain, Runqueue};
-pub use waiting::{Awaits, Blind, Claim, Duty, Effect, PendingEffect, Rest, UnlockedSum};
+pub use waiting::{
+    Awaits, Claim, Effect, OlderDequeue, OpenDequeue, PendingEffect, TimerToArm, UnlockedSum,
+};

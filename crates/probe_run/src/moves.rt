@@ -29,7 +29,7 @@ pub enum RunMove {
     Meet(u32),
 
     /// The rest of the dequeue of this CPU comes here.
-    Rest(u32),
+    OpenDequeue(u32),
 }
 
 fn claim_place(claims: &[Claim], by: u32) -> Option<usize>
@@ -289,7 +289,7 @@ impl Run {
         match chosen {
             RunMove::Settle(k) => self.settle(rules, place, k),
             RunMove::Meet(by) => self.meet(place, by),
-            RunMove::Rest(by) => self.rest(rules, place, by),
+            RunMove::OpenDequeue(by) => self.rest(rules, place, by),
         }
     }
 

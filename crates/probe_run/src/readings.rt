@@ -6,7 +6,7 @@ ghost use Rattle.probe_run.specs.Runs.{state_of};
 
 use crate::rules::Processor;
 use crate::run::Run;
-use crate::waiting::{Blind, Claim, Duty, PendingEffect, Rest};
+use crate::waiting::{Claim, OlderDequeue, OpenDequeue, PendingEffect, TimerToArm};
 use probe_findings::{Comparison, Deviation, KindCounts, RuleCounts};
 
 impl Run {
@@ -25,31 +25,31 @@ impl Run {
     }
 
     /// The dequeues that have begun.
-    pub fn rests(&self) -> &[Rest]
-        ensures { result.now ≡ (state_of self.now).rests }
+    pub fn open_dequeues(&self) -> &[OpenDequeue]
+        ensures { result.now ≡ (state_of self.now).open_dequeues }
     {
-        self.rests.as_slice()
+        self.open_dequeues.as_slice()
     }
 
     /// Dequeues whose rest came before a charge, until the next line of their CPU.
-    pub fn early(&self) -> &[Rest]
+    pub fn early(&self) -> &[OpenDequeue]
         ensures { result.now ≡ (state_of self.now).early }
     {
         self.early.as_slice()
     }
 
     /// The timers that are to be armed.
-    pub fn duties(&self) -> &[Duty]
-        ensures { result.now ≡ (state_of self.now).duties }
+    pub fn timers_to_arm(&self) -> &[TimerToArm]
+        ensures { result.now ≡ (state_of self.now).timers_to_arm }
     {
-        self.duties.as_slice()
+        self.timers_to_arm.as_slice()
     }
 
     /// CPUs that may arm the timer of a task of before the record.
-    pub fn blinds(&self) -> &[Blind]
-        ensures { result.now ≡ (state_of self.now).blinds }
+    pub fn older_dequeues(&self) -> &[OlderDequeue]
+        ensures { result.now ≡ (state_of self.now).older_dequeues }
     {
-        self.blinds.as_slice()
+        self.older_dequeues.as_slice()
     }
 
     /// The CPUs.

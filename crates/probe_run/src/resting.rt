@@ -4,14 +4,14 @@ ghost use Rattle.std.specs.Prelude.{◌≡◌, ◌<◌, None, OnOk, IfSome, leng
 ghost use Rattle.kernel_functions.specs.Dequeue.{off_of};
 ghost use Rattle.probe_run.specs.Runs.{state_of};
 ghost use Rattle.probe_run.specs.Counting.{Goes, where_it_holds};
-ghost use Rattle.probe_run.specs.Sums.{with_duty, start_timer_in, block_in};
-ghost use Rattle.probe_run.specs.Moves.{is_rest_by, awaits_charge, awaits_enqueue, unseen_of, rested_known, rested_unknown, rested_by, without_rest, rest_with, rest_of};
+ghost use Rattle.probe_run.specs.Sums.{with_timer_to_arm, start_timer_in, block_in};
+ghost use Rattle.probe_run.specs.Moves.{is_rest_by, awaits_charge, awaits_enqueue, unseen_of, rested_known, rested_unknown, rested_by, without_dequeue, rest_with, rest_of};
 
 use crate::actor::{Actor, is_special};
 use crate::notes::Counted;
 use crate::rules::PlayRules;
 use crate::run::Run;
-use crate::waiting::{Awaits, Blind, Duty, Rest};
+use crate::waiting::{Awaits, OlderDequeue, OpenDequeue, TimerToArm};
 use kernel_changes::dequeue_by;
 use kernel_entity::{Block, Entity, SumsChange};
 use kernel_functions::Arrival;
@@ -19,11 +19,11 @@ use probe_findings::{ExactRule, ProbedLine, Why};
 use std::alloc::AllocError;
 use trace_data::TimerFunction;
 
-fn rest_place(rests: &[Rest], by: u32) -> Option<usize>
-    ensures place { result ≡ position (is_rest_by by) rests.now }
-    ensures bound { IfSome result (λ place. place < length rests.now) }
+fn rest_place(open_dequeues: &[OpenDequeue], by: u32) -> Option<usize>
+    ensures place { result ≡ position (is_rest_by by) open_dequeues.now }
+    ensures bound { IfSome result (λ place. place < length open_dequeues.now) }
 {
-    rests.iter().position(|one| one.place.cpu == by)
+    open_dequeues.iter().position(|one| one.place.cpu == by)
 }
 
 fn waits_for_charge(awaits: Awaits) -> bool
@@ -131,7 +131,7 @@ impl Run {
         ensures first { OnOk result ((state_of self.new).first ≡ (state_of self.old).first) }
     {
         if starts && rules.has_timers {
-            self.duties.push(Duty {
+            self.timers_to_arm.push(TimerToArm {
                 place,
                 entity: number,
                 function: TimerFunction::Replenish,
@@ -161,7 +161,7 @@ impl Run {
             Some(Block::Unreserved) => Ok(()),
             Some(Block::ZeroLagTimer(zero_lag)) => {
                 if rules.has_timers {
-                    self.duties.push(Duty {
+                    self.timers_to_arm.push(TimerToArm {
                         place,
                         entity: number,
                         function: TimerFunction::ZeroLag,
@@ -193,7 +193,12 @@ impl Run {
         }
     }
 
-    fn rest_known(&mut self, rules: PlayRules, rest: Rest, actor: Actor) -> Result<(), AllocError>
+    fn rest_known(
+        &mut self,
+        rules: PlayRules,
+        rest: OpenDequeue,
+        actor: Actor,
+    ) -> Result<(), AllocError>
         ensures state { OnOk result (rules.change ≡ None → state_of self.new
             ≡ rested_known rules (state_of self.old) rest actor) }
         ensures first { OnOk result ((state_of self.new).first ≡ (state_of self.old).first) }
@@ -224,20 +229,25 @@ impl Run {
         )
     }
 
-    fn rest_unknown(&mut self, rest: Rest, actor: Actor) -> Result<(), AllocError>
+    fn rest_unknown(&mut self, rest: OpenDequeue, actor: Actor) -> Result<(), AllocError>
         ensures state { OnOk result (state_of self.new ≡ rested_unknown (state_of self.old) rest actor) }
         ensures first { OnOk result ((state_of self.new).first ≡ (state_of self.old).first) }
     {
         self.keep(rest.entity, unseen(actor));
         self.forget(rest.cpu)?;
-        self.blinds.push(Blind {
+        self.older_dequeues.push(OlderDequeue {
             by: rest.place.cpu,
             entity: rest.entity,
         })?;
         Ok(())
     }
 
-    fn rest_by(&mut self, rules: PlayRules, rest: Rest, actor: Actor) -> Result<(), AllocError>
+    fn rest_by(
+        &mut self,
+        rules: PlayRules,
+        rest: OpenDequeue,
+        actor: Actor,
+    ) -> Result<(), AllocError>
         ensures state { OnOk result (rules.change ≡ None → state_of self.new
             ≡ rested_by rules (state_of self.old) rest actor) }
         ensures first { OnOk result ((state_of self.new).first ≡ (state_of self.old).first) }
@@ -258,21 +268,26 @@ impl Run {
         self.rest_known(rules, rest, actor)
     }
 
-    fn drop_rest(&mut self, index: usize)
-        ensures state { state_of self.new ≡ without_rest (state_of self.old) index }
+    fn drop_open_dequeue(&mut self, index: usize)
+        ensures state { state_of self.new ≡ without_dequeue (state_of self.old) index }
         ensures first { (state_of self.new).first ≡ (state_of self.old).first }
     {
-        if index < self.rests.len() {
-            self.rests.remove(index);
+        if index < self.open_dequeues.len() {
+            self.open_dequeues.remove(index);
         }
     }
 
-    fn finish_rest(&mut self, rules: PlayRules, index: usize, rest: Rest) -> Result<(), AllocError>
+    fn finish_rest(
+        &mut self,
+        rules: PlayRules,
+        index: usize,
+        rest: OpenDequeue,
+    ) -> Result<(), AllocError>
         ensures state { OnOk result (rules.change ≡ None → state_of self.new
             ≡ rest_with rules (state_of self.old) index rest) }
         ensures first { OnOk result ((state_of self.new).first ≡ (state_of self.old).first) }
     {
-        self.drop_rest(index);
+        self.drop_open_dequeue(index);
         if waits_for_charge(rest.awaits) {
             self.early.push(rest)?;
         }
@@ -285,7 +300,7 @@ impl Run {
         rules: PlayRules,
         place: ProbedLine,
         index: usize,
-        rest: Rest,
+        rest: OpenDequeue,
     ) -> Result<(), AllocError>
         ensures { OnOk result (rules.change ≡ None → Goes (state_of self.old)
             (where_it_holds (not (awaits_enqueue rest.awaits)) (rest_with rules (state_of self.old) index rest))
@@ -306,9 +321,9 @@ impl Run {
         ensures { OnOk result (rules.change ≡ None
             → Goes (state_of self.old) (rest_of rules (state_of self.old) by) (state_of self.new)) }
     {
-        match rest_place(self.rests.as_slice(), by) {
+        match rest_place(self.open_dequeues.as_slice(), by) {
             Some(index) => {
-                let rest = self.rests[index];
+                let rest = self.open_dequeues[index];
                 self.rest_found(rules, place, index, rest)
             }
             None => self.refuse(place),

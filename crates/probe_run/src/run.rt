@@ -8,7 +8,7 @@ use crate::actor::Actor;
 use crate::notes::{EntityNotes, FirstNotes, SumNotes};
 use crate::rules::{Processor, RunStart, StartBw};
 use crate::sums::{RootDomain, Runqueue};
-use crate::waiting::{Blind, Claim, Duty, PendingEffect, Rest};
+use crate::waiting::{Claim, OlderDequeue, OpenDequeue, PendingEffect, TimerToArm};
 use probe_findings::{Findings, Why};
 use std::alloc::{AllocError, Global};
 use std::collections::HashMap;
@@ -25,10 +25,10 @@ pub struct Run {
     pub(crate) processors: Vec<Processor>,
     pub(crate) pending: Vec<PendingEffect>,
     pub(crate) claims: Vec<Claim>,
-    pub(crate) rests: Vec<Rest>,
-    pub(crate) early: Vec<Rest>,
-    pub(crate) duties: Vec<Duty>,
-    pub(crate) blinds: Vec<Blind>,
+    pub(crate) open_dequeues: Vec<OpenDequeue>,
+    pub(crate) early: Vec<OpenDequeue>,
+    pub(crate) timers_to_arm: Vec<TimerToArm>,
+    pub(crate) older_dequeues: Vec<OlderDequeue>,
     pub(crate) wrote: Vec<u32>,
     pub(crate) moment: u64,
     pub(crate) open_until: u64,
@@ -91,10 +91,10 @@ impl Run {
             processors,
             pending: Vec::new(alloc),
             claims: Vec::new(alloc),
-            rests: Vec::new(alloc),
+            open_dequeues: Vec::new(alloc),
             early: Vec::new(alloc),
-            duties: Vec::new(alloc),
-            blinds: Vec::new(alloc),
+            timers_to_arm: Vec::new(alloc),
+            older_dequeues: Vec::new(alloc),
             wrote: Vec::new(alloc),
             moment: 0,
             open_until: amid_until,

@@ -65,7 +65,7 @@ pub enum Awaits {
 
 /// A dequeue whose rest is to come.
 #[derive(Clone, Copy)]
-pub struct Rest {
+pub struct OpenDequeue {
     pub place: ProbedLine,
 
     /// The number of the entity that is dequeued.
@@ -84,7 +84,7 @@ pub struct Rest {
 
 /// A timer that a CPU must arm now.
 #[derive(Clone, Copy)]
-pub struct Duty {
+pub struct TimerToArm {
     pub place: ProbedLine,
 
     /// The number of the entity whose timer it is.
@@ -98,7 +98,7 @@ pub struct Duty {
 
 /// A CPU that dequeues a task of before the record, whose timer it may arm.
 #[derive(Clone, Copy)]
-pub struct Blind {
+pub struct OlderDequeue {
     pub by: u32,
 
     /// The number of that task.

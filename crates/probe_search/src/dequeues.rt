@@ -3,12 +3,12 @@
 use crate::shown::is_passed_over;
 use kernel_entity::{REPLENISH, has};
 use probe_explain::ProbeLine;
-use probe_run::{Awaits, PlayRules, Rest, Run, RunMove};
+use probe_run::{Awaits, OpenDequeue, PlayRules, Run, RunMove};
 use std::collections::VecDeque;
 use trace_data::Probe;
 
 /// Whether a line is the charge of a dequeue, of the task that runs there.
-fn is_charge(rest: &Rest, line: &ProbeLine) -> bool {
+fn is_charge(rest: &OpenDequeue, line: &ProbeLine) -> bool {
     match &line.probe {
         Probe::Updated(updated) => {
             !updated.is_server && updated.pid == rest.current && updated.cpu == rest.cpu
@@ -18,7 +18,7 @@ fn is_charge(rest: &Rest, line: &ProbeLine) -> bool {
 }
 
 /// Whether a line is the enqueue of the task that a dequeue has charged.
-fn is_enqueue(rest: &Rest, line: &ProbeLine) -> bool {
+fn is_enqueue(rest: &OpenDequeue, line: &ProbeLine) -> bool {
     match &line.probe {
         Probe::Enqueued(enqueued) => {
             enqueued.pid == rest.current && has(enqueued.flags, REPLENISH)
@@ -28,7 +28,7 @@ fn is_enqueue(rest: &Rest, line: &ProbeLine) -> bool {
 }
 
 /// Whether a line is what the rest of a dequeue waits for.
-fn is_awaited(rest: &Rest, line: &ProbeLine) -> bool {
+fn is_awaited(rest: &OpenDequeue, line: &ProbeLine) -> bool {
     match rest.awaits {
         Awaits::Charge => is_charge(rest, line),
         Awaits::Enqueue => is_enqueue(rest, line),
@@ -54,7 +54,7 @@ fn next_by<'a>(
 }
 
 /// Whether the task that runs would be charged, by what is known of it; none where nothing is.
-fn would_be_charged(run: &Run, rest: &Rest) -> Option<bool> {
+fn would_be_charged(run: &Run, rest: &OpenDequeue) -> Option<bool> {
     let number = run.task_number(rest.current)?;
     let actor = run.actor(number);
     if actor.knows_parameters && actor.knows_budget {
@@ -68,7 +68,7 @@ fn would_be_charged(run: &Run, rest: &Rest) -> Option<bool> {
 /// there is something to charge.
 fn is_charged(
     run: &Run,
-    rest: &Rest,
+    rest: &OpenDequeue,
     shows_spans: bool,
     next: &ProbeLine,
     ahead: &VecDeque<ProbeLine>,
@@ -92,14 +92,14 @@ pub(crate) fn rest_at_once(
     next: &ProbeLine,
     ahead: &VecDeque<ProbeLine>,
 ) -> Option<RunMove> {
-    for rest in run.rests() {
+    for rest in run.open_dequeues() {
         let comes = match rest.awaits {
             Awaits::Nothing => true,
             Awaits::Enqueue => false,
             Awaits::Charge => !is_charged(run, rest, shows_spans, next, ahead),
         };
         if comes {
-            return Some(RunMove::Rest(rest.place.cpu));
+            return Some(RunMove::OpenDequeue(rest.place.cpu));
         }
     }
     None
@@ -107,9 +107,9 @@ pub(crate) fn rest_at_once(
 
 /// The rest of a dequeue whose CPU writes another line than it waits for.
 pub(crate) fn rest_before(run: &Run, next: &ProbeLine) -> Option<RunMove> {
-    for rest in run.rests() {
+    for rest in run.open_dequeues() {
         if rest.place.cpu == next.place.cpu && !is_awaited(rest, next) {
-            return Some(RunMove::Rest(rest.place.cpu));
+            return Some(RunMove::OpenDequeue(rest.place.cpu));
         }
     }
     None

@@ -70,7 +70,7 @@ impl<S> Witness<S> {
                 };
             }
             RunMove::Meet(cpu) => format!(in self.alloc; "meet {cpu}\n")?,
-            RunMove::Rest(cpu) => format!(in self.alloc; "rest {cpu}\n")?,
+            RunMove::OpenDequeue(cpu) => format!(in self.alloc; "rest {cpu}\n")?,
         };
         self.text.push_str(text.as_str())
     }

@@ -31,8 +31,8 @@ impl Search for Nothing {
 pub(crate) struct Everything;
 
 fn any_move(run: &Run) -> Option<RunMove> {
-    if let Some(rest) = run.rests().first() {
-        return Some(RunMove::Rest(rest.place.cpu));
+    if let Some(rest) = run.open_dequeues().first() {
+        return Some(RunMove::OpenDequeue(rest.place.cpu));
     }
     if let Some(claim) = run.claims().first() {
         return Some(RunMove::Meet(claim.place.cpu));

@@ -8,7 +8,7 @@ use crate::gathering::Gathering;
 use crate::names::Names;
 use crate::showing::nothing_shown;
 use check_report::{CheckReport, add_laws, add_tasks};
-use law_findings::{AskedLaws, Breach, LAWS, LawSheet, Whose};
+use law_findings::{AskedLaws, Breach, LAWS, LawTallies, Whose};
 use law_play::{LawPlay, ReadLine};
 use law_verdict::{TaskName, put_law_row, put_laws};
 use probe_verdict::TABLE_HEAD;
@@ -142,14 +142,14 @@ fn laws_told(
         return Ok(verdict);
     };
     let figures = play.finish()?;
-    let names = names_of(alloc, &play.sheet, &gathering.names)?;
-    add_laws(alloc, &mut verdict.report, &play.sheet, figures, &names)?;
-    if was_asked(&play.sheet) {
-        put_laws(alloc, &mut verdict.text, &play.sheet, figures, &names)?;
+    let names = names_of(alloc, &play.tallies, &gathering.names)?;
+    add_laws(alloc, &mut verdict.report, &play.tallies, figures, &names)?;
+    if was_asked(&play.tallies) {
+        put_laws(alloc, &mut verdict.text, &play.tallies, figures, &names)?;
         put_rows(alloc, &mut verdict.table, &gathering.names, &play)?;
         put_tasks(alloc, &mut verdict, gathering)?;
     }
-    verdict.keeps_laws = play.sheet.is_kept();
+    verdict.keeps_laws = play.tallies.is_kept();
     Ok(verdict)
 }
 
@@ -176,9 +176,9 @@ fn put_tasks(
 }
 
 /// Whether a value was held to a law.
-fn was_asked(sheet: &LawSheet) -> bool {
+fn was_asked(tallies: &LawTallies) -> bool {
     LAWS.iter().any(|law| {
-        let tally = sheet.of(*law);
+        let tally = tallies.of(*law);
         tally.held > 0 || tally.broken > 0 || tally.known > 0
     })
 }
@@ -199,10 +199,14 @@ fn put_rows(
 }
 
 /// The names of the tasks of first breaches.
-fn names_of(alloc: Global, sheet: &LawSheet, names: &Names) -> Result<Vec<TaskName>, AllocError> {
+fn names_of(
+    alloc: Global,
+    tallies: &LawTallies,
+    names: &Names,
+) -> Result<Vec<TaskName>, AllocError> {
     let mut named = Vec::new(alloc);
     for law in LAWS {
-        let tally = sheet.of(law);
+        let tally = tallies.of(law);
         if let Some(breach) = tally.first {
             put_name(alloc, &mut named, &breach, names)?;
         }

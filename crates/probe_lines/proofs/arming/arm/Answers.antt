@@ -10,7 +10,7 @@ use Rattle.probe_lines.proofs.arming.arm.Goals as goal
 
 pub returns : goal.returns
 returns c =
-    let s = state_of c.args.run.now in let m = c.args.line in let y = c.args.duty in let i = c.args.index in
+    let s = state_of c.args.run.now in let m = c.args.line in let y = c.args.timer_to_arm in let i = c.args.index in
     let P : Actor → Type 0 =
     λ a. Goes s (where_it_holds (owner_agrees s (s.timers m.timer) y.entity && (address_agrees (timer_address a m.function) m.timer && zero_lag_agrees y.zero_lag m.expiry y.at c.args.place.at)) (armed_next s m i y a)) (state_of c.keep_armed.new.run) in
     subst P c.actor-actor.ensures (then_made (λ t. armed_next t m i y c.actor-actor.result) _ _ _ _

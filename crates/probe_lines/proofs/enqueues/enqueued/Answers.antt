@@ -15,8 +15,8 @@ returns c = λ plain whole.
     let m = c.in_ok-number.number in let v = c.is_within-within.result in let new = state_of c.enqueue_task.new.run in
     let G : ℕ → Bool → Type 0 = λ n w. Goes s (enqueued_with t (arrived_by (with_task s l.pid) (actor_at (with_task s l.pid) n) l) p n (actor_at (with_task s l.pid) n) l c.args.late w) new in
     let W : Bool → Type 0 = λ w. G m w in
-    let N : ℕ → Type 0 = λ n. G n (list_any (is_rest_by p.cpu) s.rests) in
+    let N : ℕ → Type 0 = λ n. G n (list_any (is_rest_by p.cpu) s.open_dequeues) in
     subst N c.in_ok-number.ensures.number
-    (subst W (c.is_within-within.ensures ∙ ap (λ rs. list_any (is_rest_by p.cpu) rs) c.rests.ensures)
+    (subst W (c.is_within-within.ensures ∙ ap (λ rs. list_any (is_rest_by p.cpu) rs) c.open_dequeues.ensures)
     (after (λ r. with_task r l.pid) (λ r. enqueued_with t (arrived_by r (actor_at r m) l) p m (actor_at r m) l c.args.late v) s (state_of c.task.new.self) new
     c.in_ok-number.ensures.state c.in_ok-number.ensures.first (c.in_ok-enqueue_task.ensures plain whole)))

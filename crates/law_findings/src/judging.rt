@@ -27,7 +27,7 @@ pub struct LawTally {
 
 /// The tallies of all laws.
 #[derive(Clone, Copy)]
-pub struct LawSheet {
+pub struct LawTallies {
     pub progress: LawTally,
     pub expiry: LawTally,
     pub firing: LawTally,
@@ -78,11 +78,11 @@ fn first_of(first: Option<Breach>, breach: Breach) -> Option<Breach>
     }
 }
 
-impl LawSheet {
-    pub fn new() -> LawSheet
+impl LawTallies {
+    pub fn new() -> LawTallies
         ensures { result ≡ no_tallies }
     {
-        LawSheet {
+        LawTallies {
             progress: NONE,
             expiry: NONE,
             firing: NONE,
