@@ -19,7 +19,8 @@ writes run.cpu0.grub and so on, which grubrun plays.
 
 Status: 0 done, and the kernel agrees, 1 the trace is at fault or shows nothing to compare,
 or a file is there already, 2 the command line is wrong, 3 a file cannot be read or written,
-or memory or the output was refused, 4 the kernel differs.";
+or memory or the output was refused, 4 the kernel differs, 5 the kernel agrees and breaks a
+law by no known fault.";
 
 /// What stands below the help of `tasks`.
 pub const AFTER_TASKS: &str = "\
@@ -47,8 +48,9 @@ has lines of probes, each value that they show is compared with the rules, bit f
 and with --timers, the moments for which the kernel armed its timers. An option stands above
 the notes. The verdict ends in `agrees` (status 0), or in what is needed to find why the
 kernel `differs` (status 4). Below it stand laws that hold however a scheduler is written; one
-that is broken by no known fault of the kernel has status 5. A record of which not one value, block or timer could be compared
-is a fault that says why (61, status 1). docs/KERNEL.md says what is compared and what is not.
+that is broken by no known fault of the kernel has status 5. A record of which not one value,
+block or timer could be compared is a fault that says why (61, status 1). docs/KERNEL.md says
+what is compared and what is not.
 
     grubtrace check trace.txt
     grubtrace check --task gr_0=5000:50000 --task gr_1=10000:40000 trace.txt
