@@ -1,4 +1,5 @@
 pub mod Faults
+pub mod Handed
 pub mod Heads
 pub mod Lost
 pub mod Messages
