@@ -1,3 +1,4 @@
+mod HandedLemmas
 pub mod HeadLemmas
 mod MessageLemmas
 mod ReadLemmas

@@ -1,10 +1,10 @@
 //! The lines of probes of a record: they are played as they come.
 
-ghost use Rattle.std.specs.Prelude.{◌≡◌, ◌∷◌, [], None, IfOk, IsTrue, OnOk, true};
+ghost use Rattle.std.specs.Prelude.{◌≡◌, ◌∷◌, ◌++◌, [], None, IfOk, IsTrue, OnOk, true};
 ghost use Rattle.probe_explain.specs.Taken.{come_to, TakesLine};
 ghost use Rattle.trace_check.specs.Heads.{law_by};
 ghost use Rattle.trace_options.specs.declared.options.CheckOptions.{CheckOptions};
-ghost use Rattle.trace_check.specs.Handed.{AreEnded, EndsLines, HasPlayed, held_of, KeepsPlay, KeepsPlays, PlaysAllOut, PlaysOut, TakesLines, TakesNone, TakesOne, WasHanded};
+ghost use Rattle.trace_check.specs.Handed.{AreEnded, EndsLines, HasPlayed, held_of, KeepsPlay, KeepsPlays, PlaysAgain, PlaysAllOut, PlaysKept, PlaysOrKeeps, PlaysOut, PlaysRest, TakesLines, TakesNone, TakesOne, WasHanded};
 
 use crate::head::RecordHead;
 use crate::marks::Marks;
@@ -219,11 +219,33 @@ impl Probes {
 
     /// Plays a line where the lines before it were played, and keeps it where they were kept.
     fn hold(&mut self, line: ProbeLine) -> Result<(), AllocError>
-        ensures { OnOk result ((options : CheckOptions) → TakesOne options (held_of self.old) line (held_of self.new)) }
+        ensures { OnOk result ((options : CheckOptions)
+            → TakesOne options (held_of self.old) line (held_of self.new)) }
+    {
+        self.keep_again(line)?;
+        self.play_or_keep(line)?;
+        Ok(())
+    }
+
+    /// Keeps a line, where the lines may be played again.
+    fn keep_again(&mut self, line: ProbeLine) -> Result<(), AllocError>
+        ensures again { OnOk result (self.old.keeps_again ≡ true
+            → self.new.again.items ≡ self.old.again.items ++ line ∷ []) }
+        ensures keeps { self.new.keeps_again ≡ self.old.keeps_again }
+        ensures played { self.new.played ≡ self.old.played }
+        ensures kept { self.new.kept ≡ self.old.kept }
     {
         if self.keeps_again {
             self.again.push(line)?;
         }
+        Ok(())
+    }
+
+    fn play_or_keep(&mut self, line: ProbeLine) -> Result<(), AllocError>
+        ensures played { OnOk result (PlaysOrKeeps (held_of self.old) line (held_of self.new)) }
+        ensures again { self.new.again ≡ self.old.again }
+        ensures keeps { self.new.keeps_again ≡ self.old.keeps_again }
+    {
         match &mut self.played {
             Some(played) => played.take(line),
             None => {
@@ -247,7 +269,7 @@ impl Probes {
     /// Ends the lines. False where the record is to be read again, since its end shows what its begin did not.
     pub fn end(&mut self, told: ToldSettings<'_>, names: &Names) -> Result<bool, AllocError>
         ensures { IfOk result (λ done. done ≡ true
-            → EndsLines told.entry.options.now (held_of self.old) (held_of self.new)) }
+            → EndsLines told.entry.options.now (held_of self.old) self.new.played) }
     {
         self.play_rest(told)?;
         if !self.is_borne_out(told)? {
@@ -274,7 +296,7 @@ impl Probes {
     /// Plays the whole record again, by all that it shows.
     fn play_again(&mut self, told: ToldSettings<'_>) -> Result<(), AllocError>
         requires { self.old.keeps_again ≡ true }
-        ensures { OnOk result (TakesNone told.entry.options.now (held_of self.old) (held_of self.new)) }
+        ensures { OnOk result (PlaysAgain told.entry.options.now (held_of self.old) (held_of self.new)) }
     {
         self.rows.clear();
         self.played = None;
@@ -330,7 +352,7 @@ impl Probes {
 
     /// Plays the lines that are still kept at the end.
     fn play_rest(&mut self, told: ToldSettings<'_>) -> Result<(), AllocError>
-        ensures { OnOk result (TakesNone told.entry.options.now (held_of self.old) (held_of self.new)) }
+        ensures { OnOk result (PlaysRest told.entry.options.now (held_of self.old) (held_of self.new)) }
     {
         if self.played.is_none() && !self.kept.is_empty() {
             self.play_kept(told)
@@ -342,7 +364,7 @@ impl Probes {
     /// Plays the lines that were kept.
     fn play_kept(&mut self, told: ToldSettings<'_>) -> Result<(), AllocError>
         requires { self.old.played ≡ None }
-        ensures { OnOk result (TakesNone told.entry.options.now (held_of self.old) (held_of self.new)) }
+        ensures { OnOk result (PlaysKept told.entry.options.now (held_of self.old) (held_of self.new)) }
     {
         let mut played = self.begun(told)?;
         played.take_all(self.kept.as_slice())?;
