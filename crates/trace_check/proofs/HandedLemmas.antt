@@ -23,9 +23,9 @@ unfolding TakesLines TakesLine
 lines_one a b c xs l some one t start ls h = subst (HasTaken c t start) (append_assoc ls xs (l ∷ [])) (one t start (ls ++ xs) (some t start ls h))
 
 -- the next of some lines
-pub lines_more : (a b c : Player) (lines : List ProbeLine) (i : ℕ) (l : ProbeLine) → i < length lines → get_or lines i l ≡ l → TakesLines a (take i lines) b → TakesLine b l c → TakesLines a (take (i + 1) lines) c
-lines_more a b c lines i l within is some one =
-    subst (λ xs. TakesLines a xs c) (sym (take_more lines i l within ∙ ap (λ x. take i lines ++ x ∷ []) is)) (lines_one a b c (take i lines) l some one)
+pub lines_more : (a b c : Player) (lines : List ProbeLine) (i : ℕ) (d : ProbeLine) → i < length lines → TakesLines a (take i lines) b → TakesLine b (get_or lines i d) c → TakesLines a (take (i + 1) lines) c
+lines_more a b c lines i d within some one =
+    subst (λ xs. TakesLines a xs c) (sym (take_more lines i d within)) (lines_one a b c (take i lines) (get_or lines i d) some one)
 
 pub lines_all : (a b : Player) (lines : List ProbeLine) (i : ℕ) → length lines ≤ i → TakesLines a (take i lines) b → TakesLines a lines b
 lines_all a b lines i past some = subst (λ xs. TakesLines a xs b) (take_all i lines past) some
@@ -83,9 +83,22 @@ one_by o None new kept more l ls one h =
 one_by o (Some p) None kept more l ls one h = absurd one
 one_by o (Some p) (Some q) kept more l ls one h = played_line o p q ls l one.0 one.1 h
 
-pub one_by_play : (o : CheckOptions) (old new : Held) (l : ProbeLine) → PlaysOrKeeps old l new → KeepsOne old l new → TakesOne o old l new
+one_by_play : (o : CheckOptions) (old new : Held) (l : ProbeLine) → PlaysOrKeeps old l new → KeepsOne old l new → TakesOne o old l new
 unfolding TakesOne WasHanded
 one_by_play o old new l plays keeps ls h = (one_by o old.played new.played old.kept new.kept l ls plays h.0, keeps_one old new l ls keeps h.1)
+
+-- what is played or waits, behind what is kept to be played again
+abbrev PlaysBehind : Option Played → List ProbeLine → ProbeLine → Held → Type 0
+PlaysBehind played kept l new =
+    MatchOption played ((new.played ≡ None) × (new.kept ≡ kept ++ l ∷ [])) (λ p. IsSomeAnd new.played (λ q. (q.rules ≡ p.rules) × TakesLine p.player l q.player))
+
+pub one_by_both : (o : CheckOptions) (old mid new : Held) (l : ProbeLine) → mid.played ≡ old.played → mid.kept ≡ old.kept
+    → (old.keeps_again ≡ true → mid.again ≡ old.again ++ l ∷ []) → mid.keeps_again ≡ old.keeps_again
+    → PlaysOrKeeps mid l new → new.again ≡ mid.again → new.keeps_again ≡ mid.keeps_again → TakesOne o old l new
+one_by_both o old mid new l played kept again keeps plays again' keeps' =
+    let first : PlaysBehind old.played mid.kept l new = subst (λ x. PlaysBehind x mid.kept l new) played plays in
+    let both : PlaysBehind old.played old.kept l new = subst (λ xs. PlaysBehind old.played xs l new) kept first in
+    one_by_play o old new l both (keeps' ∙ keeps, λ on. again' ∙ again on)
 
 -- rows are put
 rows_put : (o : CheckOptions) (old new : Option Played) (K : Type 0) (ls : List ProbeLine) → KeepsPlays old new → MatchOption old K (HasPlayed o ls) → MatchOption new K (HasPlayed o ls)

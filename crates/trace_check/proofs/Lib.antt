@@ -2,3 +2,4 @@ mod HandedLemmas
 pub mod HeadLemmas
 mod MessageLemmas
 mod ReadLemmas
+mod ShownLemmas

@@ -4,5 +4,6 @@ pub mod Heads
 pub mod Lost
 pub mod Messages
 pub mod Reading
+pub mod Shown
 pub mod Uncompared
 pub mod Untried

@@ -103,7 +103,8 @@ impl Played {
     fn end(&mut self) -> Result<(), AllocError>
         ensures { OnOk result (PlaysOut self.old self.new) }
     {
-        self.player.finish(&mut self.search)
+        self.player.finish(&mut self.search)?;
+        Ok(())
     }
 
     fn take(&mut self, line: ProbeLine) -> Result<(), AllocError>
@@ -233,7 +234,7 @@ impl Probes {
             → self.new.again.items ≡ self.old.again.items ++ line ∷ []) }
         ensures keeps { self.new.keeps_again ≡ self.old.keeps_again }
         ensures played { self.new.played ≡ self.old.played }
-        ensures kept { self.new.kept ≡ self.old.kept }
+        ensures kept { self.new.kept.items ≡ self.old.kept.items }
     {
         if self.keeps_again {
             self.again.push(line)?;
@@ -243,11 +244,14 @@ impl Probes {
 
     fn play_or_keep(&mut self, line: ProbeLine) -> Result<(), AllocError>
         ensures played { OnOk result (PlaysOrKeeps (held_of self.old) line (held_of self.new)) }
-        ensures again { self.new.again ≡ self.old.again }
+        ensures again { self.new.again.items ≡ self.old.again.items }
         ensures keeps { self.new.keeps_again ≡ self.old.keeps_again }
     {
         match &mut self.played {
-            Some(played) => played.take(line),
+            Some(played) => {
+                played.take(line)?;
+                Ok(())
+            }
             None => {
                 self.kept.push(line)?;
                 Ok(())
@@ -271,14 +275,26 @@ impl Probes {
         ensures { IfOk result (λ done. done ≡ true
             → EndsLines told.entry.options.now (held_of self.old) self.new.played) }
     {
-        self.play_rest(told)?;
-        if !self.is_borne_out(told)? {
-            if !self.keeps_again {
-                return Ok(false);
-            }
-            self.play_again(told)?;
+        if !self.play_out(told)? {
+            return Ok(false);
         }
         self.finish(told, names)?;
+        Ok(true)
+    }
+
+    /// Plays the lines that wait, or all again, by all that the record shows. False where they are not there any more.
+    fn play_out(&mut self, told: ToldSettings<'_>) -> Result<bool, AllocError>
+        ensures { IfOk result (λ done. done ≡ true
+            → PlaysRest told.entry.options.now (held_of self.old) (held_of self.new)) }
+    {
+        self.play_rest(told)?;
+        if self.is_borne_out(told)? {
+            return Ok(true);
+        }
+        if !self.keeps_again {
+            return Ok(false);
+        }
+        self.play_again(told)?;
         Ok(true)
     }
 
@@ -313,14 +329,18 @@ impl Probes {
         self.end_played()?;
         self.finish_laws(&notes)?;
         self.put_rows(names)?;
-        put_law_rows(self.alloc, &mut self.rows, &self.law_findings, names)
+        put_law_rows(self.alloc, &mut self.rows, &self.law_findings, names)?;
+        Ok(())
     }
 
     fn end_played(&mut self) -> Result<(), AllocError>
         ensures { OnOk result (PlaysAllOut self.old.played self.new.played) }
     {
         match &mut self.played {
-            Some(played) => played.end(),
+            Some(played) => {
+                played.end()?;
+                Ok(())
+            }
             None => Ok(()),
         }
     }
@@ -415,15 +435,18 @@ impl Probes {
     /// Appends the rows of the comparisons since the last time.
     fn put_rows(&mut self, names: &Names) -> Result<(), AllocError>
         ensures played { OnOk result (KeepsPlays self.old.played self.new.played) }
-        ensures kept { self.new.kept ≡ self.old.kept }
-        ensures again { self.new.again ≡ self.old.again }
+        ensures kept { self.new.kept.items ≡ self.old.kept.items }
+        ensures again { self.new.again.items ≡ self.old.again.items }
         ensures keeps { self.new.keeps_again ≡ self.old.keeps_again }
     {
         if !self.keeps_rows {
             return Ok(());
         }
         match &mut self.played {
-            Some(played) => played.put_rows(self.alloc, &mut self.rows, names),
+            Some(played) => {
+                played.put_rows(self.alloc, &mut self.rows, names)?;
+                Ok(())
+            }
             None => Ok(()),
         }
     }
