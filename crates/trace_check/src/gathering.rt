@@ -10,13 +10,12 @@ use crate::by_laws::RecordLaws;
 use crate::fault::Fault;
 use crate::head::{RecordHead, cpus_of, is_another, is_older, server_note};
 use crate::names::{Names, is_named};
-use crate::probes::{Probes, ToldSettings};
+use crate::probes::{Probes, SeenRecord, ToldSettings};
 use law_findings::AskedLaws;
 use law_play::ReadLine;
 use probe_explain::ProbeLine;
 use probe_findings::ProbedLine;
 use probe_lines::event_of;
-use probe_start::RecordLook;
 use probe_verdict::DroppedLines;
 use std::alloc::{AllocError, Global};
 use timer_play::{RunqueueSums, setup_of};
@@ -554,10 +553,16 @@ impl<'o> Gathering<'o> {
         self.probes.end(told, &self.names)
     }
 
-    /// What the record has shown, for a second reading of it.
-    pub fn into_look(self) -> RecordLook {
+    /// What the record has shown and told, for a second reading of it.
+    pub fn into_seen(self) -> Result<SeenRecord, AllocError> {
+        let notes = self
+            .head
+            .start_notes(self.alloc, self.options, self.has_older)?;
         let probes = self.probes;
-        probes.look
+        Ok(SeenRecord {
+            look: probes.look,
+            notes,
+        })
     }
 
     /// Whether a timer of any kind was started.

@@ -65,6 +65,13 @@ pub(crate) struct Played {
     pub to: u64,
 }
 
+/// What a whole reading of a record has shown, and its notes told.
+#[derive(Drop)]
+pub(crate) struct SeenRecord {
+    pub look: RecordLook,
+    pub notes: StartNotes,
+}
+
 /// The lines of probes so far.
 #[derive(Drop)]
 pub(crate) struct Probes {
@@ -75,7 +82,7 @@ pub(crate) struct Probes {
 
     /// What they show, and what an earlier reading of the same record has shown.
     pub look: RecordLook,
-    seen_before: Option<RecordLook>,
+    seen_before: Option<SeenRecord>,
     pub played: Option<Played>,
     laws: Laws,
     pub marks: Marks,
@@ -181,10 +188,10 @@ impl Probes {
     }
 
     /// The record was looked at before.
-    pub fn tell(&mut self, look: RecordLook)
+    pub fn tell(&mut self, seen: SeenRecord)
         ensures { held_of self.new ≡ held_of self.old }
     {
-        self.seen_before = Some(look);
+        self.seen_before = Some(seen);
     }
 
     /// Whether there was a line.
@@ -398,10 +405,12 @@ impl Probes {
         ensures law { IfOk result (λ p. p.rules.law ≡ law_by told.entry.head.now told.entry.options.now) }
         ensures none { IfOk result (HasPlayed told.entry.options.now []) }
     {
-        let notes = told.notes(self.alloc)?;
         match &self.seen_before {
-            Some(seen) => self.played_from(told, &notes, seen),
-            None => self.played_from(told, &notes, &self.look),
+            Some(seen) => self.played_from(told, &seen.notes, &seen.look),
+            None => {
+                let notes = told.notes(self.alloc)?;
+                self.played_from(told, &notes, &self.look)
+            }
         }
     }
 
