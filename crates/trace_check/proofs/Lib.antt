@@ -1,3 +1,5 @@
+mod HandedLemmas
 pub mod HeadLemmas
 mod MessageLemmas
 mod ReadLemmas
+mod ShownLemmas

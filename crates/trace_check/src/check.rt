@@ -10,13 +10,13 @@ use crate::evidence::Sought;
 use crate::fault::{Fault, STATUS_DIFFERS, STATUS_LAW, STATUS_SYSTEM};
 use crate::files::{first_there, make_all};
 use crate::gathering::Gathering;
+use crate::probes::SeenRecord;
 use crate::reading::{faultless, read_trace};
 use crate::reports::{put_evidence_of, with_report};
 use crate::showing::Documents;
 use crate::warnings::with_warnings;
 use check_report::CheckReport;
 use law_findings::AskedLaws;
-use probe_start::RecordLook;
 use std::alloc::Global;
 use std::io;
 use std::io::Write;
@@ -128,7 +128,8 @@ fn verdict_of<
     with_warnings(verdict, &gathering.warnings)
 }
 
-/// What the trace of a path says: it is read a second time where its end shows what its begin did not.
+/// What the trace of a path says: it is read a second time where its end shows what its begin did not. A
+/// trace that is another then cannot be read.
 fn gathered_whole<
     'o,
     D: Drop,
@@ -148,13 +149,16 @@ fn gathered_whole<
     if gathering.end_probes()? {
         return Ok(gathering);
     }
-    let look = gathering.into_look();
-    let mut gathering = gathered(alloc, opens, read, wanted, options, Some(look))?;
-    gathering.end_probes()?;
-    Ok(gathering)
+    let seen = gathering.into_seen()?;
+    let mut gathering = gathered(alloc, opens, read, wanted, options, Some(seen))?;
+    if gathering.end_probes()? {
+        Ok(gathering)
+    } else {
+        Err(Fault::Unreadable)
+    }
 }
 
-/// What the trace of a path says; `look` is what an earlier reading has shown.
+/// What the trace of a path says; `seen` is what an earlier reading has shown.
 fn gathered<
     'o,
     D: Drop,
@@ -166,7 +170,7 @@ fn gathered<
     read: &N,
     wanted: CheckRequest<'o>,
     options: &'o CheckOptions<'o>,
-    look: Option<RecordLook>,
+    seen: Option<SeenRecord>,
 ) -> Result<Gathering<'o>, Fault<'o>>
     requires opens { O.IsAlwaysCallable opens.now }
     requires read { N.IsAlwaysCallable read.now }
@@ -179,8 +183,8 @@ fn gathered<
         wanted.path == "-",
         wanted.laws,
     )?;
-    if let Some(look) = look {
-        gathering.probes.tell(look);
+    if let Some(seen) = seen {
+        gathering.probes.tell(seen);
     }
     let read_on = read_trace(alloc, opens, read, wanted.path, &mut gathering);
     faultless(&gathering, read_on)?;

@@ -1,7 +1,10 @@
 //! The lines of probes of a record: they are played as they come.
 
-ghost use Rattle.std.specs.Prelude.{◌≡◌, IfSome, OnOk, IfOk};
+ghost use Rattle.std.specs.Prelude.{◌≡◌, ◌∷◌, ◌++◌, [], None, IfOk, IsTrue, OnOk, true};
+ghost use Rattle.probe_explain.specs.Taken.{come_to, TakesLine};
 ghost use Rattle.trace_check.specs.Heads.{law_by};
+ghost use Rattle.trace_options.specs.declared.options.CheckOptions.{CheckOptions};
+ghost use Rattle.trace_check.specs.Handed.{AreEnded, EndsLines, HasPlayed, held_of, KeepsPlay, KeepsPlays, PlaysAgain, PlaysAllOut, PlaysKept, PlaysOrKeeps, PlaysOut, PlaysRest, TakesLines, TakesNone, TakesOne, WasHanded};
 
 use crate::head::RecordHead;
 use crate::marks::Marks;
@@ -62,6 +65,13 @@ pub(crate) struct Played {
     pub to: u64,
 }
 
+/// What a whole reading of a record has shown, and its notes told.
+#[derive(Drop)]
+pub(crate) struct SeenRecord {
+    pub look: RecordLook,
+    pub notes: StartNotes,
+}
+
 /// The lines of probes so far.
 #[derive(Drop)]
 pub(crate) struct Probes {
@@ -72,7 +82,7 @@ pub(crate) struct Probes {
 
     /// What they show, and what an earlier reading of the same record has shown.
     pub look: RecordLook,
-    seen_before: Option<RecordLook>,
+    seen_before: Option<SeenRecord>,
     pub played: Option<Played>,
     laws: Laws,
     pub marks: Marks,
@@ -97,8 +107,47 @@ pub(crate) struct Probes {
 }
 
 impl Played {
-    fn end(&mut self) -> Result<(), AllocError> {
-        self.player.finish(&mut self.search)
+    fn end(&mut self) -> Result<(), AllocError>
+        ensures { OnOk result (PlaysOut self.old self.new) }
+    {
+        self.player.finish(&mut self.search)?;
+        Ok(())
+    }
+
+    fn take(&mut self, line: ProbeLine) -> Result<(), AllocError>
+        ensures rules { self.new.rules ≡ self.old.rules }
+        ensures line { OnOk result (TakesLine self.old.player line self.new.player) }
+    {
+        self.lines = self.lines.saturating_add(1);
+        self.to = line.place.at;
+        self.player.take(&mut self.search, line)
+    }
+
+    /// Takes lines, one after another.
+    fn take_all(&mut self, lines: &[ProbeLine]) -> Result<(), AllocError>
+        ensures rules { self.new.rules ≡ self.old.rules }
+        ensures lines { OnOk result (TakesLines self.old.player lines.now self.new.player) }
+    {
+        for line in lines {
+            self.take(*line)?;
+        }
+        Ok(())
+    }
+
+    /// Appends the rows of the comparisons since the last time.
+    fn put_rows(
+        &mut self,
+        alloc: Global,
+        out: &mut Vec<u8>,
+        names: &Names,
+    ) -> Result<(), AllocError>
+        ensures { OnOk result (KeepsPlay self.old self.new) }
+    {
+        for row in self.player.run().rows() {
+            put_row(alloc, out, row, &names.tasks)?;
+        }
+        self.player.clear_rows();
+        Ok(())
     }
 }
 
@@ -116,7 +165,9 @@ fn put_law_rows(
 
 impl Probes {
     /// No line. With `keeps_again` all are kept.
-    pub fn new(alloc: Global, keeps_rows: bool, keeps_again: bool) -> Probes {
+    pub fn new(alloc: Global, keeps_rows: bool, keeps_again: bool) -> Probes
+        ensures { (options : CheckOptions) → WasHanded options (held_of result) [] }
+    {
         Probes {
             alloc,
             kept: Vec::new(alloc),
@@ -137,8 +188,10 @@ impl Probes {
     }
 
     /// The record was looked at before.
-    pub fn tell(&mut self, look: RecordLook) {
-        self.seen_before = Some(look);
+    pub fn tell(&mut self, seen: SeenRecord)
+        ensures { held_of self.new ≡ held_of self.old }
+    {
+        self.seen_before = Some(seen);
     }
 
     /// Whether there was a line.
@@ -146,44 +199,109 @@ impl Probes {
         self.played.is_some() || !self.kept.is_empty()
     }
 
-    /// Takes a line.
+    /// Takes a line: it is kept, or played, or both.
     pub fn take(
         &mut self,
         line: ProbeLine,
         told: ToldSettings<'_>,
         names: &Names,
-    ) -> Result<(), AllocError> {
+    ) -> Result<(), AllocError>
+        ensures { OnOk result (TakesOne told.entry.options.now (held_of self.old) line (held_of self.new)) }
+    {
+        self.see(&line)?;
+        self.hold(line)?;
+        self.play_due(told)?;
+        self.put_rows(names)?;
+        Ok(())
+    }
+
+    /// What a line shows, beside its play.
+    fn see(&mut self, line: &ProbeLine) -> Result<(), AllocError>
+        ensures { held_of self.new ≡ held_of self.old }
+    {
         self.see_class(&line.probe)?;
         self.look.see(line.place.at, &line.probe)?;
         self.laws.see(line.place, &line.probe)?;
-        self.marks.see(&line)?;
+        self.marks.see(line)
+    }
+
+    /// Plays a line where the lines before it were played, and keeps it where they were kept.
+    fn hold(&mut self, line: ProbeLine) -> Result<(), AllocError>
+        ensures { OnOk result ((options : CheckOptions)
+            → TakesOne options (held_of self.old) line (held_of self.new)) }
+    {
+        self.keep_again(line)?;
+        self.play_or_keep(line)?;
+        Ok(())
+    }
+
+    /// Keeps a line, where the lines may be played again.
+    fn keep_again(&mut self, line: ProbeLine) -> Result<(), AllocError>
+        ensures again { OnOk result (self.old.keeps_again ≡ true
+            → self.new.again.items ≡ self.old.again.items ++ line ∷ []) }
+        ensures keeps { self.new.keeps_again ≡ self.old.keeps_again }
+        ensures played { self.new.played ≡ self.old.played }
+        ensures kept { self.new.kept.items ≡ self.old.kept.items }
+    {
         if self.keeps_again {
             self.again.push(line)?;
-        }
-        if self.played.is_some() {
-            self.play(line)?;
-            return self.put_rows(names);
-        }
-        self.kept.push(line)?;
-        if self.seen_before.is_some() || self.kept.len() >= LOOK {
-            self.play_kept(told)?;
-            self.put_rows(names)?;
         }
         Ok(())
     }
 
-    /// Ends the lines. False where the record is to be read again, since its end shows what its begin did not.
-    pub fn end(&mut self, told: ToldSettings<'_>, names: &Names) -> Result<bool, AllocError> {
-        if self.played.is_none() {
-            self.play_kept(told)?;
-        }
-        if !self.is_borne_out(told)? {
-            if !self.keeps_again {
-                return Ok(false);
+    fn play_or_keep(&mut self, line: ProbeLine) -> Result<(), AllocError>
+        ensures played { OnOk result (PlaysOrKeeps (held_of self.old) line (held_of self.new)) }
+        ensures again { self.new.again.items ≡ self.old.again.items }
+        ensures keeps { self.new.keeps_again ≡ self.old.keeps_again }
+    {
+        match &mut self.played {
+            Some(played) => {
+                played.take(line)?;
+                Ok(())
             }
-            self.play_again(told)?;
+            None => {
+                self.kept.push(line)?;
+                Ok(())
+            }
+        }
+    }
+
+    /// Plays the lines that were kept, where enough were looked at.
+    fn play_due(&mut self, told: ToldSettings<'_>) -> Result<(), AllocError>
+        ensures { OnOk result (TakesNone told.entry.options.now (held_of self.old) (held_of self.new)) }
+    {
+        if self.played.is_none() && (self.seen_before.is_some() || self.kept.len() >= LOOK) {
+            self.play_kept(told)
+        } else {
+            Ok(())
+        }
+    }
+
+    /// Ends the lines. False where the record is to be read again, since its end shows what its begin did not.
+    pub fn end(&mut self, told: ToldSettings<'_>, names: &Names) -> Result<bool, AllocError>
+        ensures { IfOk result (λ done. done ≡ true
+            → EndsLines told.entry.options.now (held_of self.old) self.new.played) }
+    {
+        if !self.play_out(told)? {
+            return Ok(false);
         }
         self.finish(told, names)?;
+        Ok(true)
+    }
+
+    /// Plays the lines that wait, or all again, by all that the record shows. False where they are not there any more.
+    fn play_out(&mut self, told: ToldSettings<'_>) -> Result<bool, AllocError>
+        ensures { IfOk result (λ done. done ≡ true
+            → PlaysRest told.entry.options.now (held_of self.old) (held_of self.new)) }
+    {
+        self.play_rest(told)?;
+        if self.is_borne_out(told)? {
+            return Ok(true);
+        }
+        if !self.keeps_again {
+            return Ok(false);
+        }
+        self.play_again(told)?;
         Ok(true)
     }
 
@@ -199,42 +317,56 @@ impl Probes {
     }
 
     /// Plays the whole record again, by all that it shows.
-    fn play_again(&mut self, told: ToldSettings<'_>) -> Result<(), AllocError> {
+    fn play_again(&mut self, told: ToldSettings<'_>) -> Result<(), AllocError>
+        requires { self.old.keeps_again ≡ true }
+        ensures { OnOk result (PlaysAgain told.entry.options.now (held_of self.old) (held_of self.new)) }
+    {
         self.rows.clear();
-        self.begin(told)?;
-        for place in 0..self.again.len() {
-            if let Some(line) = self.again.get(place) {
-                let line = *line;
-                self.play(line)?;
-            }
-        }
+        self.played = None;
+        let mut played = self.begun(told)?;
+        played.take_all(self.again.as_slice())?;
+        self.played = Some(played);
         Ok(())
     }
 
-    fn finish(&mut self, told: ToldSettings<'_>, names: &Names) -> Result<(), AllocError> {
+    fn finish(&mut self, told: ToldSettings<'_>, names: &Names) -> Result<(), AllocError>
+        ensures { OnOk result (PlaysAllOut self.old.played self.new.played) }
+    {
         let notes = told.notes(self.alloc)?;
         self.end_played()?;
-        if self.played.is_some() {
-            self.finish_laws(&notes)?;
-        }
+        self.finish_laws(&notes)?;
         self.put_rows(names)?;
-        put_law_rows(self.alloc, &mut self.rows, &self.law_findings, names)
+        put_law_rows(self.alloc, &mut self.rows, &self.law_findings, names)?;
+        Ok(())
     }
 
-    fn end_played(&mut self) -> Result<(), AllocError> {
+    fn end_played(&mut self) -> Result<(), AllocError>
+        ensures { OnOk result (PlaysAllOut self.old.played self.new.played) }
+    {
         match &mut self.played {
-            Some(played) => played.end(),
+            Some(played) => {
+                played.end()?;
+                Ok(())
+            }
             None => Ok(()),
         }
     }
 
-    fn finish_laws(&mut self, notes: &StartNotes) -> Result<(), AllocError> {
+    /// What the laws come to, where there was a line.
+    fn finish_laws(&mut self, notes: &StartNotes) -> Result<(), AllocError>
+        ensures { self.new.played ≡ self.old.played }
+    {
+        if self.played.is_none() {
+            return Ok(());
+        }
         let findings = &mut self.law_findings;
         self.laws.finish(notes.settings, &notes.servers, findings)
     }
 
     /// The tasks that are enqueued are of the class.
-    fn see_class(&mut self, probe: &Probe) -> Result<(), AllocError> {
+    fn see_class(&mut self, probe: &Probe) -> Result<(), AllocError>
+        ensures { held_of self.new ≡ held_of self.old }
+    {
         self.shows_task = self.shows_task || shows_task(probe);
         if let Probe::Enqueued(line) = probe
             && !self.places.contains_key(&line.pid)
@@ -245,34 +377,41 @@ impl Probes {
         Ok(())
     }
 
+    /// Plays the lines that are still kept at the end.
+    fn play_rest(&mut self, told: ToldSettings<'_>) -> Result<(), AllocError>
+        ensures { OnOk result (PlaysRest told.entry.options.now (held_of self.old) (held_of self.new)) }
+    {
+        if self.played.is_none() && !self.kept.is_empty() {
+            self.play_kept(told)
+        } else {
+            Ok(())
+        }
+    }
+
     /// Plays the lines that were kept.
-    fn play_kept(&mut self, told: ToldSettings<'_>) -> Result<(), AllocError> {
-        if self.kept.is_empty() {
-            return Ok(());
-        }
-        self.begin(told)?;
-        for place in 0..self.kept.len() {
-            if let Some(line) = self.kept.get(place) {
-                let line = *line;
-                self.play(line)?;
-            }
-        }
+    fn play_kept(&mut self, told: ToldSettings<'_>) -> Result<(), AllocError>
+        requires { self.old.played ≡ None }
+        ensures { OnOk result (PlaysKept told.entry.options.now (held_of self.old) (held_of self.new)) }
+    {
+        let mut played = self.begun(told)?;
+        played.take_all(self.kept.as_slice())?;
         self.kept.clear();
+        self.played = Some(played);
         Ok(())
     }
 
-    /// Begins to play, by what is known so far.
-    fn begin(&mut self, told: ToldSettings<'_>) -> Result<(), AllocError>
-        ensures { OnOk result (IfSome self.new.played
-            (λ p. p.rules.law ≡ law_by told.entry.head.now told.entry.options.now)) }
+    /// A record of which nothing was played, by what is known so far.
+    fn begun(&self, told: ToldSettings<'_>) -> Result<Played, AllocError>
+        ensures law { IfOk result (λ p. p.rules.law ≡ law_by told.entry.head.now told.entry.options.now) }
+        ensures none { IfOk result (HasPlayed told.entry.options.now []) }
     {
-        let notes = told.notes(self.alloc)?;
-        let played = match &self.seen_before {
-            Some(seen) => self.played_from(told, &notes, seen)?,
-            None => self.played_from(told, &notes, &self.look)?,
-        };
-        self.played = Some(played);
-        Ok(())
+        match &self.seen_before {
+            Some(seen) => self.played_from(told, &seen.notes, &seen.look),
+            None => {
+                let notes = told.notes(self.alloc)?;
+                self.played_from(told, &notes, &self.look)
+            }
+        }
     }
 
     /// A record of which nothing was played, by what a reading of it has shown.
@@ -282,7 +421,8 @@ impl Probes {
         notes: &StartNotes,
         look: &RecordLook,
     ) -> Result<Played, AllocError>
-        ensures { IfOk result (λ p. p.rules.law ≡ law_by told.entry.head.now told.entry.options.now) }
+        ensures law { IfOk result (λ p. p.rules.law ≡ law_by told.entry.head.now told.entry.options.now) }
+        ensures none { IfOk result (HasPlayed told.entry.options.now []) }
     {
         let rules = look.rules(told.law(), None, notes);
         let start = look.start(self.alloc, notes)?;
@@ -301,27 +441,23 @@ impl Probes {
         })
     }
 
-    fn play(&mut self, line: ProbeLine) -> Result<(), AllocError> {
-        if let Some(played) = &mut self.played {
-            played.lines = played.lines.saturating_add(1);
-            played.to = line.place.at;
-            played.player.take(&mut played.search, line)?;
-        }
-        Ok(())
-    }
-
     /// Appends the rows of the comparisons since the last time.
-    fn put_rows(&mut self, names: &Names) -> Result<(), AllocError> {
+    fn put_rows(&mut self, names: &Names) -> Result<(), AllocError>
+        ensures played { OnOk result (KeepsPlays self.old.played self.new.played) }
+        ensures kept { self.new.kept.items ≡ self.old.kept.items }
+        ensures again { self.new.again.items ≡ self.old.again.items }
+        ensures keeps { self.new.keeps_again ≡ self.old.keeps_again }
+    {
         if !self.keeps_rows {
             return Ok(());
         }
-        if let Some(played) = &mut self.played {
-            for row in played.player.run().rows() {
-                put_row(self.alloc, &mut self.rows, row, &names.tasks)?;
+        match &mut self.played {
+            Some(played) => {
+                played.put_rows(self.alloc, &mut self.rows, names)?;
+                Ok(())
             }
-            played.player.clear_rows();
+            None => Ok(()),
         }
-        Ok(())
     }
 
     /// How many values of each kind were compared, those of laws too.
@@ -341,7 +477,9 @@ impl Probes {
     }
 
     /// Whether each value that was compared is the kernel's, and each law holds.
-    pub fn agrees(&self, played: &Played) -> bool {
+    pub fn agrees(&self, played: &Played) -> bool
+        ensures { IsTrue result → (come_to played.now.player).first ≡ None }
+    {
         played.player.run().agrees() && self.keeps_laws()
     }
 
