@@ -98,8 +98,8 @@ while IFS=$tab read -r name cpus loops seconds words; do
     case $words in *gr_1*ch=*) cat "$DIFFERS" > "$out/$name.verdict" ;; esac
 done < "$2"
 """
-# What stands for qemu: it records the loads of the guest one after the other. It ends at a load with the word dies=1, and tells of a load
-# with stuck=1 that a task was stuck.
+# What stands for qemu: it records the loads of the guest one after the other. It ends at a load with the word dies=1, tells of a load
+# with stuck=1 that a task was stuck, and spoils the record of one with lost=1.
 QEMU = r"""#!/bin/sh
 while [ $# -gt 0 ]; do
     case $1 in -serial) records=${2#file:} ;; -initrd) guest=${2%/*}/guest ;; esac
@@ -109,8 +109,10 @@ tab=$(printf '\t')
 while IFS=$tab read -r name loops seconds words; do
     case $words in *dies=1*) echo 'Oops: 0000' > "${records%/*}/console"; exit 1 ;; esac
     case $words in *stuck=1*) echo "=== SAID $name dlgen: stuck: gr_0 (pid 9) was killed" ;; esac
-    echo "=== SAID $name record: 0 events were lost"
-    echo "=== LOAD $name 0"
+    lost=0 status=0
+    case $words in *lost=1*) lost=7 status=4 ;; esac
+    echo "=== SAID $name record: $lost events were lost"
+    echo "=== LOAD $name $status"
     printf '# grub: notes 1 kernel=6.12.117 domain=0\n# grub: lost 0\n' | gzip | base64
     echo '=== END'
 done < "$guest/loads" >> "$records"
@@ -119,6 +121,7 @@ ECHOES = "#!/bin/sh\ncat > /dev/null\n"
 TABLE = """good\t1\t0\t1\tgr_0,q=1,p=2
 dies\t1\t0\t1\tgr_0,q=1,p=2,dies=1
 stuck\t1\t2\t1\tgr_0,q=1,p=2,stuck=1
+lost\t1\t0\t1\tgr_0,q=1,p=2,lost=1
 """
 LONG = "r7\t1\t2\t3\tseed=7 gr_0,q=5000,p=50000,w=5-65 gr_1,q=10000.125,p=40000,st=1.5,ch=700.25:1:2:3:1,may=1 fair_2,q=1,p=2,fair=1 sys,rd=3:/proc/x"
 SHORT = "r7\t1\t0\t0.5\tseed=7 gr_1,q=10000,p=40000,ch=700:1:2:3:1"
@@ -248,8 +251,9 @@ def boots(folder):
         TRIED.add(f"check-kernel.sh {' '.join(words)}", wrong)
     done = told("check-kernel.sh", "--ktap", "--out", folder, "--loads", f"{folder}/table.tsv", f"{folder}/kernel", **more)
     tests = [it for it in done.stdout.splitlines() if it.startswith(("ok", "not ok"))]
-    wanted = ["ok 1 good", "ok 2 dies # SKIP it could not be recorded; its boots ended: Oops: 0000", "not ok 3 stuck # a task was stuck"]
-    TRIED.add("a load that ends each boot", differs("tests", tests, wanted) + differs("status", done.returncode, 125))
+    wanted = ["ok 1 good", "ok 2 dies # SKIP it could not be recorded; its boots ended: Oops: 0000", "not ok 3 stuck # a task was stuck",
+              "ok 4 lost # SKIP it could not be recorded; 7 events were lost"]
+    TRIED.add("loads that end each boot and that are spoiled", differs("tests", tests, wanted) + differs("status", done.returncode, 125))
     TRIED.add("it leaves nothing behind", [it for it in os.listdir(folder) if it.startswith("check-kernel.")])
 
 
