@@ -3,6 +3,7 @@
 scripts answer to bad ones, what stands against a load in a table and in KTAP, what shrink.py leaves of a load, and what states.py
 counts. Programs that print what is given stand for grubtrace and for check-kernel.sh. The last line is 'N passed, M failed'."""
 import hashlib
+import json
 import os
 import re
 import sys
@@ -65,8 +66,12 @@ LAW = AGREES + "  run: 1 broken, first at line 9, 1.6, upd of gr_1 (pid 12) on C
 HANG = AGREES + """  progress: 1 broken, first at line 9, 1.6, enq of gr_1 (pid 12) on CPU 0: no replenishment timer is armed
     its timer fired at line 8; known: a throttled task that comes back (KERNEL, "Throttled for ever")
 """
+READ = {"keeps_laws": True, "rules": {"kinds": [{"kind": "budget", "differ": 0}, {"kind": "extra_bw", "differ": 2}],
+                                      "evidence": {"lines": ["dlgen-9 [000] ..... 1.3: lim: (sched_rt_handler+0x4/0xd0) write=0"]}}}
 NOTHING = "grubtrace: a.txt: 61 NothingCompared: no task blocks\n"
 SUMS = "SUMS this_bw after all tasks had ended: cpu 0 this={}; at boot: cpu 0 this=52428\n"
+REPORTS = {"read": READ, "written": {**READ, "rules": {**READ["rules"], "evidence": {"lines": []}}},
+           "budget": {**READ, "rules": {**READ["rules"], "kinds": [{"kind": "budget", "differ": 1}]}}, "breach": {**READ, "keeps_laws": False}}
 # A load: the check's status and what it says, what stands beside it, the KTAP line, and the script's status.
 LOADS = [
     ("healthy", 0, AGREES, "", "ok 1 healthy", 0),
@@ -84,11 +89,15 @@ LOADS = [
     ("same", 0, AGREES, SUMS.format(52428), "ok 1 same", 0),
     ("left", 0, AGREES, "LEFT total_bw 52428 at boot, 157285 after all tasks had ended\n", "ok 1 left", 0),
     ("servers", 0, AGREES, SUMS.format(1), "ok 1 servers", 0),
+    ("read", 4, DIFFERS, "", 'ok 1 read # XFAIL known: the limit is read (KERNEL, "Reading sched_rt_runtime_us")', 0),
+    ("written", 4, DIFFERS, "", "not ok 1 written # differs", 4),
+    ("budget", 4, DIFFERS, "", "not ok 1 budget # differs", 4),
+    ("breach", 4, DIFFERS, "", "not ok 1 breach # a law is broken", 5),
     ("lost", None, "", "its boots ended: Oops\n", "ok 1 lost # SKIP it could not be recorded; its boots ended: Oops", 125),
 ]
 MADE = "scripts/check-kernel.sh --random 7 KERNEL"
-# grubtrace: prints the file beside the record, and ends with its status.
-CHECKER = '#!/bin/sh\nstem=${2%.txt}\ncat "$stem.told"\nexit "$(cat "$stem.status")"\n'
+# grubtrace: prints the file beside the record, leaves the report that is there, and ends with its status.
+CHECKER = '#!/bin/sh\nstem=${2%.txt}\n[ ! -f "$stem.report" ] || cp "$stem.report" "$4"\ncat "$stem.told"\nexit "$(cat "$stem.status")"\n'
 # check-kernel.sh: a load differs where a task changes itself and another one is there.
 RECORDER = r"""#!/bin/sh
 while [ "$1" != --loads ]; do case $1 in --out) out=$2; shift ;; esac; shift; done
@@ -185,6 +194,8 @@ def verdicts(folder):
             put(f"{folder}/{name}.txt", f"# grub: notes 1\n# grub: made by {MADE}\n# grub: load {name} 1 0 1 {words}\n")
             put(f"{folder}/{name}.told", verdict)
             put(f"{folder}/{name}.status", str(status))
+        if name in REPORTS:
+            put(f"{folder}/{name}.report", json.dumps(REPORTS[name]))
         if said:
             put(f"{folder}/{name}.said", said)
         ktap = told("verdicts.py", "--ktap", "--out", folder, "--head", "kernel K", name, GRUBTRACE=f"{folder}/checker")
@@ -195,11 +206,11 @@ def verdicts(folder):
         table = told("verdicts.py", "--out", folder, "--head", "kernel K", name, GRUBTRACE=f"{folder}/checker")
         wrong += differs("status of the table", table.returncode, wanted)
         for output, made in ((ktap.stdout, f"# made by {MADE}"), (table.stdout, f"       made by {MADE}")):
-            wrong += differs("the command is told", made in output, line.startswith("not ok") or name in ("nothing", "hang") and output is ktap.stdout)
+            wrong += differs("the command is told", made in output, line.startswith("not ok") or name in ("nothing", "hang", "read") and output is ktap.stdout)
         TRIED.add(f"the load {name}", wrong)
     names = [it[0] for it in LOADS if it[0] not in ("lost", "fault", "nothing", "zombie")]
     done = told("verdicts.py", "--ktap", "--out", folder, "--head", "kernel K", *names, GRUBTRACE=f"{folder}/checker")
-    wrong = differs("the counts", done.stdout.splitlines()[-1], "# Totals: pass:5 fail:5 xfail:1 xpass:0 skip:0 error:0")
+    wrong = differs("the counts", done.stdout.splitlines()[-1], "# Totals: pass:5 fail:8 xfail:2 xpass:0 skip:0 error:0")
     wrong += differs("status", done.returncode, 4) + differs("plan", done.stdout.splitlines()[1], f"1..{len(names)}")
     wrong += [f"lacks {it}" for it in ("#   runtime of gr_3 (pid 133): 2972418 by the rules", f"# record: {folder}/values.txt") if it not in done.stdout]
     TRIED.add("all loads", wrong)
