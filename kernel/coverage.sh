@@ -5,7 +5,7 @@
 #     that none reached
 # 'build' wants what a kernel wants to be built, with BTF; 'report' wants gcov and gcov-tool of the same gcc. JOBS is how many jobs build.
 set -eu
-usage() { sed -n '2,6s/^# *//p' "$0" >&2; exit 2; }
+usage() { echo "usage: coverage.sh build TREE [CONFIG] | coverage.sh report TREE FILE.gcda.." >&2; exit 2; }
 fail() { echo "coverage: $*" >&2; exit "${status:-2}"; }
 [[ $# -ge 2 && ($1 == build || $1 == report) ]] || usage
 step=$1 tree=$2
@@ -45,9 +45,8 @@ for file; do
     fi
 done
 cp "$notes" "$work/all/"
-(cd "$work/all" && gcov -b -c build_policy.gcda > /dev/null 2> "$work/said") || fail "gcov: $(head -n 1 "$work/said")"
-# A line of code begins with its count, or ##### where it was never run, and its number. Its branches stand below it; those of a function
-# that stands in several places are told for each.
+(cd "$tree" && gcov -t -b -c "$work/all/build_policy.gcda" 2> "$work/said") > "$work/lines" || fail "gcov: $(head -n 1 "$work/said")"
+# A line of code begins with its count, or ##### where it was never run, and its number. Its branches stand below it.
 awk -F: '
     function rows(  i, name) {
         printf "%-34s %5s %7s %9s %6s\n", "function", "lines", "reached", "branches", "taken"
@@ -58,8 +57,11 @@ awk -F: '
             all += lines[name]; all_reached += reached[name]; all_branches += branches[name]; all_taken += taken[name]
         }
         printf "%-34s %5d %7d %9d %6d\n", "all", all, all_reached, all_branches, all_taken
+        if (!all) { print "coverage: these counts are of no deadline.c" > "/dev/stderr"; exit 1 }
     }
-    /^branch / { split($0, word, " "); branches[here]++; key = no " " word[2]; if ($0 !~ /never executed|taken 0( |$)/) taken[here]++; next }
+    $3 == "Source" { wanted = $4 ~ /sched\/deadline[.]c$/ }
+    !wanted { next }
+    /^branch / { split($0, word, " "); branches[here]++; if ($0 !~ /never executed|taken 0( |$)/) taken[here]++; next }
     /^(function|call|unconditional) / || $2 + 0 == 0 { next }
     {
         no = $2 + 0
@@ -81,4 +83,4 @@ awk -F: '
         rows()
         if (m) print "\nnot reached:"
         for (i = 1; i <= m; i++) { if (of[i] != last) print of[i]; last = of[i]; sub(/[ \t]+/, " ", missed[i]); print missed[i] }
-    }' "$work/all/deadline.c.gcov"
+    }' "$work/lines"
