@@ -40,18 +40,18 @@ tasks_of() {
     *) return 1 ;;
     esac
 }
-# The load rtapp, in a class: a loop of three short jobs and a long one, a job every 30 ms, and jobs with sleeps between them.
+# The load rtapp, in a class (a loop of rt-app takes some 390 ns in such a guest): a loop of three short jobs and a long one, a job every 30 ms, and jobs with sleeps between them.
 rtapp() {
     cat << END
-{ "global": { "duration": 4, "calibration": 100, "default_policy": "$1", "logdir": "/tmp", "ftrace": false },
+{ "global": { "duration": 4, "calibration": 400, "default_policy": "$1", "logdir": "/tmp", "ftrace": false },
   "tasks": {
     "ra_0": { "loop": -1, "phases": {
-        "short": { "loop": 3, "run": 1500, "timer": { "ref": "ra_0", "period": 50000 } },
-        "long": { "loop": 1, "run": 4000, "timer": { "ref": "ra_0", "period": 50000 } } } },
-    "ra_1": { "loop": -1, "run": 2000, "timer": { "ref": "ra_1", "period": 30000 } },
+        "short": { "loop": 3, "run": 3000, "timer": { "ref": "ra_0", "period": 50000 } },
+        "long": { "loop": 1, "run": 8000, "timer": { "ref": "ra_0", "period": 50000 } } } },
+    "ra_1": { "loop": -1, "run": 4000, "timer": { "ref": "ra_1", "period": 30000 } },
     "ra_2": { "loop": -1, "phases": {
-        "few": { "loop": 2, "run": 1000, "sleep": 15000 },
-        "more": { "loop": 1, "run": 3000, "sleep": 40000 } } } } }
+        "few": { "loop": 2, "run": 2000, "sleep": 15000 },
+        "more": { "loop": 1, "run": 6000, "sleep": 40000 } } } } }
 END
 }
 # The command that runs a load in the guest, in a class.
