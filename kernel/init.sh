@@ -22,6 +22,8 @@ admitted() { awk '$1 == ".dl_bw->total_bw" { print $3; exit }' /sys/kernel/debug
 # this_bw of each processor, where the kernel takes the probe.
 this() { TRACEFS=/sys/kernel/tracing /kernel/probes.sh sums 2> /dev/null | sed -n 's/^# grub: \(cpu [0-9]* this=[0-9]*\).*/\1/p' | tr '\n' ' '; }
 warnings() { dmesg | sed 's/^\[[^]]*\] *//' | grep -E 'WARNING|BUG|Oops|^sched: ' | sed "s/^/=== WARNED $1 /"; }
+# A kernel of coverage.sh counts what it runs.
+counts=/sys/kernel/debug/gcov
 at_boot=$(admitted)
 this_at_boot=$(this)
 while IFS=$tab read -r name fair seconds words; do
@@ -33,6 +35,7 @@ while IFS=$tab read -r name fair seconds words; do
         fair=$((fair - 1))
     done
     echo "=== load $name"
+    [ ! -e "$counts/reset" ] || echo 1 > "$counts/reset"
     # What the kernel warns of once it says again.
     [ ! -e /sys/kernel/debug/clear_warn_once ] || echo 1 > /sys/kernel/debug/clear_warn_once
     dmesg -c > /dev/null
@@ -51,6 +54,9 @@ while IFS=$tab read -r name fair seconds words; do
         sleep 1
         left=$(admitted)
         [ "$left" != "$at_boot" ] || break
+    done
+    for file in $(find "$counts" -name build_policy.gcda 2> /dev/null); do
+        { echo "=== GCDA $name"; gzip -9 < "$file" | base64; echo "=== END"; } > "$records"
     done
     this_left=$(this)
     { [ "$left" = "$at_boot" ] || echo "=== LEFT $name total_bw $at_boot at boot, $left after all tasks had ended"

@@ -2,18 +2,21 @@
 """verdicts.py [--ktap] --out DIR --head LINE LOAD..: checks DIR/LOAD.txt with the program GRUBTRACE, leaves DIR/LOAD.verdict, and prints a
 line a load, or a KTAP test. Against a load stand the check's verdict and what DIR/LOAD.said has: a task that was stuck, a warning of the
 kernel (WARNED), and this_bw that is another after all tasks have ended (SUMS). Below it stands the command that makes the record again.
-Bandwidth left behind in total_bw (LEFT) and faults of stock kernels that the check knows are told, and stand against none.
+Bandwidth left behind in total_bw (LEFT) and faults of stock kernels that are known are told, and stand against none.
 It ends with 125 where a load has no record, 4 where one differs or something else stands against it, 5 where a law is broken, 1 where a
 record has a fault, else with 0."""
+import json
 import os
 import re
 import shlex
 import subprocess
 import sys
+import tempfile
 
 WEIGHT = [0, 1, 5, 4, 125]
 # The checker's word for a fault of a task that never runs again, which stock kernels have.
 HANGS = "Throttled for ever"
+READ = 'the limit is read (KERNEL, "Reading sched_rt_runtime_us")'
 
 
 def text_of(path):
@@ -22,6 +25,14 @@ def text_of(path):
             return it.read()
     except FileNotFoundError:
         return ""
+
+
+def is_read(report):
+    """Whether all that differs is what a stock kernel does where sched_rt_runtime_us is read."""
+    rules = report.get("rules") or {}
+    kinds = {it["kind"] for it in rules.get("kinds") or () if it["differ"]}
+    lines = (rules.get("evidence") or {}).get("lines", ())
+    return bool(kinds) and kinds <= {"extra_bw", "total_bw"} and any(" lim: " in it and "write=0" in it for it in lines)
 
 
 def sums(text):
@@ -38,12 +49,18 @@ class Outcome:
         self.made = [it[7:].strip() for it in head if it.startswith(("# grub: made by ", "# grub: load "))]
         if not os.path.exists(self.record):
             return
-        done = subprocess.run([*program, "check", self.record], stdin=subprocess.DEVNULL, capture_output=True, check=False)
+        with tempfile.TemporaryDirectory() as work:
+            words = ["check", self.record, "--report", f"{work}/report"]
+            done = subprocess.run([*program, *words], stdin=subprocess.DEVNULL, capture_output=True, check=False)
+            report = json.loads(text_of(f"{work}/report") or "{}")
         verdict = (done.stdout + done.stderr).decode("utf-8", "replace")
         with open(f"{folder}/{load}.verdict", "w", encoding="utf-8") as it:
             it.write(verdict)
         self.lines, self.status = verdict.splitlines(), done.returncode
-        self.known = re.findall(r"(?:; | {4})known: (.*)", verdict)
+        if self.status == 4 and is_read(report):
+            self.lines.insert(next(i for i, it in enumerate(self.lines) if it.startswith("differs")) + 2, f"    known: {READ}")
+            self.status = 0 if report["keeps_laws"] else 5
+        self.known = re.findall(r"(?:; | {4})known: (.*)", "\n".join(self.lines))
         self.against()
 
     def against(self):

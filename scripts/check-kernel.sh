@@ -192,23 +192,28 @@ command_of() {
         echo "$line${given:+ --loads $given} $asked $1"
     fi
 }
+# What spoiled the record of a load, for which record.sh ends with 4: the last that it said.
+spoiled() { ! grep -q "^=== LOAD $1 4\$" "$work/told" || sed -n "s/^=== SAID $1 record: //p" "$work/told" | tail -n 1; }
 # kept LOAD: takes what the boot told of LOAD: its record, with the command and the words behind the first line, and LOAD.said.
 kept() {
     rm -f "$out/$1.said"
     sed -n "s/^=== \(WARNED\|LEFT\|SUMS\) $1 /\1 /p; s/^=== SAID $1 dlgen: stuck: /STUCK /p" "$work/told" > "$work/said"
     [[ ! -s $work/said ]] || mv "$work/said" "$out/$1.said"
     sed -n "s/^=== SAID $1 /check-kernel: $1: /p" "$work/told" | grep -v ' 0 events were lost$' >&2
+    sed -n "/^=== GCDA $1\$/,/^=== END/p" "$work/told" > "$work/one"
+    ! grep -q '^=== END' "$work/one" || grep -v '^===' "$work/one" | base64 -d | gzip -d > "$out/$1.gcda"
+    [[ -z $(spoiled "$1") ]] || return
     sed -n "/^=== LOAD $1 /,/^=== END/p" "$work/told" > "$work/one"
     grep -q '^=== END' "$work/one" && grep -v '^===' "$work/one" | base64 -d | gzip -d > "$work/record" || return
     awk -v made="$(command_of "$1")" -v words="$(line_of "$1" | tr '\t' ' ')" \
         '{ print } NR == 1 { print "# grub: made by " made; print "# grub: load " words }' "$work/record" > "$out/$1.txt"
 }
 
-# A boot records what is left to be recorded; of random loads one. A load that three boots ended at is given up, and so are all after
-# six boots in a row that recorded nothing.
+# A boot records what is left to be recorded; of random loads one. A load that three boots ended at, or spoiled, is given up, and so are
+# all after six boots in a row that recorded nothing.
 left=$loads
 boots=0 failed=0 ended=
-for load in $loads; do rm -f "$out/$load".{txt,verdict,said}; done
+for load in $loads; do rm -f "$out/$load".{txt,verdict,said,gcda}; done
 while [[ -n $left && $failed -lt ${BOOTS:-6} ]]; do
     boots=$((boots + 1))
     now=$left
@@ -222,10 +227,12 @@ while [[ -n $left && $failed -lt ${BOOTS:-6} ]]; do
     [[ -n $recorded ]] && failed=0 || failed=$((failed + 1))
     for load in $now; do
         [[ " $recorded " != *" $load "* ]] || continue
-        say "boot $boots ended before $load: $(died)"
+        why=$(spoiled "$load")
+        why=${why:-its boots ended: $(died)}
+        say "boot $boots recorded no $load: $why"
         ended+=" $load "
         [[ " $ended " != *" $load "*" $load "*" $load "* ]] || recorded+=" $load"
-        echo "its boots ended: $(died)" > "$out/$load.said"
+        echo "$why" > "$out/$load.said"
         break
     done
     left=$(for load in $left; do [[ " $recorded " == *" $load "* ]] || echo "$load"; done)

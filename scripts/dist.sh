@@ -21,7 +21,7 @@ pack() {
         install -D -m 644 -t "$tree/lib/aarch64-linux-gnu" out/library/aarch64/*.a &&
         wheel=$(python3 bindings/wheel.py out/library/libneddwyrol.so.[0-9] "$tree/share/neddwyrol") && cp "$wheel" out/ && mkdir "$tree/scripts" "$tree/out" && ln -s ../lib "$tree/out/library" &&
         cp scripts/{record.sh,check-kernel.sh} "$tree/scripts/" && cp -r kernel "$tree/" &&
-        sed -i 's|/crates/grubtrace/out/grubtrace|/bin/grubtrace|' "$tree"/{scripts/check-kernel.sh,kernel/record-check.sh} &&
+        sed -i 's|/crates/grubtrace/out/grubtrace|/bin/grubtrace|' "$tree"/{scripts/check-kernel.sh,kernel/record-check.sh,kernel/check-sizing.sh} &&
         git archive HEAD bindings VERSION | tar -xC "$tree" && cp -r examples docs README.md LICENSE CHANGELOG.md "$tree/" || return 1
     printf 'commit %s\nkit %s\n' "$(git describe --always --dirty --abbrev=40)" "$(rt version)" > "$tree/BUILT"
     mkdir -p out && tar -C "$work" --sort=name --owner=0 --group=0 --numeric-owner -czf "out/$name.tar.gz" "$name"

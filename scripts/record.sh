@@ -6,7 +6,7 @@
 #   --few         of the probes only upd and enq: budgets and deadlines, half of the lines
 # It uses tracefs instances of its own and removes all that it made, also after a signal or where it fails. A signal ends PROGRAM
 # and the record. RECORD_BUFFER_KB is the buffer of each CPU (32768 where it is not set).
-# It ends with PROGRAM's status; with 3 where nothing could be recorded, with 4 where events were lost.
+# It ends with PROGRAM's status; with 3 where nothing could be recorded, with 4 where events were lost or lines are not in their order.
 # It reads no file of /proc/sys/kernel/sched_rt_*: some kernels rebuild what is measured when these are read.
 set -u
 export LC_ALL=C
@@ -231,4 +231,7 @@ fi
 } | cat 2> /dev/null >> "$part" && "$kernel_scripts/probes.sh" mask $drop < "$part" > "$part.2" && mv -f "$part.2" "$part" && mv -f "$part" "$out" || fail "$out cannot be written"
 say "$((lost + ${missed:-0})) events were lost"
 [ $((lost + ${missed:-0})) = 0 ] || exit 4
+# Now and then the kernel stamps all lines of a page of its buffer with an earlier moment: they then stand before what came before them.
+back=$(awk '!/^#/ && match($0, / [0-9]+[.][0-9]+: /) { at = substr($0, RSTART, RLENGTH) + 0; if (at < last) { print last - at; exit } last = at }' "$out")
+[ ! "$back" ] || { say "the kernel's moments go back by $back s, so lines are not in their order: record again"; exit 4; }
 exit "$status"

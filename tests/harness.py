@@ -3,6 +3,7 @@
 scripts answer to bad ones, what stands against a load in a table and in KTAP, what shrink.py leaves of a load, and what states.py
 counts. Programs that print what is given stand for grubtrace and for check-kernel.sh. The last line is 'N passed, M failed'."""
 import hashlib
+import json
 import os
 import re
 import sys
@@ -65,8 +66,12 @@ LAW = AGREES + "  run: 1 broken, first at line 9, 1.6, upd of gr_1 (pid 12) on C
 HANG = AGREES + """  progress: 1 broken, first at line 9, 1.6, enq of gr_1 (pid 12) on CPU 0: no replenishment timer is armed
     its timer fired at line 8; known: a throttled task that comes back (KERNEL, "Throttled for ever")
 """
+READ = {"keeps_laws": True, "rules": {"kinds": [{"kind": "budget", "differ": 0}, {"kind": "extra_bw", "differ": 2}],
+                                      "evidence": {"lines": ["dlgen-9 [000] ..... 1.3: lim: (sched_rt_handler+0x4/0xd0) write=0"]}}}
 NOTHING = "grubtrace: a.txt: 61 NothingCompared: no task blocks\n"
 SUMS = "SUMS this_bw after all tasks had ended: cpu 0 this={}; at boot: cpu 0 this=52428\n"
+REPORTS = {"read": READ, "written": {**READ, "rules": {**READ["rules"], "evidence": {"lines": []}}},
+           "budget": {**READ, "rules": {**READ["rules"], "kinds": [{"kind": "budget", "differ": 1}]}}, "breach": {**READ, "keeps_laws": False}}
 # A load: the check's status and what it says, what stands beside it, the KTAP line, and the script's status.
 LOADS = [
     ("healthy", 0, AGREES, "", "ok 1 healthy", 0),
@@ -84,11 +89,15 @@ LOADS = [
     ("same", 0, AGREES, SUMS.format(52428), "ok 1 same", 0),
     ("left", 0, AGREES, "LEFT total_bw 52428 at boot, 157285 after all tasks had ended\n", "ok 1 left", 0),
     ("servers", 0, AGREES, SUMS.format(1), "ok 1 servers", 0),
+    ("read", 4, DIFFERS, "", 'ok 1 read # XFAIL known: the limit is read (KERNEL, "Reading sched_rt_runtime_us")', 0),
+    ("written", 4, DIFFERS, "", "not ok 1 written # differs", 4),
+    ("budget", 4, DIFFERS, "", "not ok 1 budget # differs", 4),
+    ("breach", 4, DIFFERS, "", "not ok 1 breach # a law is broken", 5),
     ("lost", None, "", "its boots ended: Oops\n", "ok 1 lost # SKIP it could not be recorded; its boots ended: Oops", 125),
 ]
 MADE = "scripts/check-kernel.sh --random 7 KERNEL"
-# grubtrace: prints the file beside the record, and ends with its status.
-CHECKER = '#!/bin/sh\nstem=${2%.txt}\ncat "$stem.told"\nexit "$(cat "$stem.status")"\n'
+# grubtrace: prints the file beside the record, leaves the report that is there, and ends with its status.
+CHECKER = '#!/bin/sh\nstem=${2%.txt}\n[ ! -f "$stem.report" ] || cp "$stem.report" "$4"\ncat "$stem.told"\nexit "$(cat "$stem.status")"\n'
 # check-kernel.sh: a load differs where a task changes itself and another one is there.
 RECORDER = r"""#!/bin/sh
 while [ "$1" != --loads ]; do case $1 in --out) out=$2; shift ;; esac; shift; done
@@ -98,8 +107,8 @@ while IFS=$tab read -r name cpus loops seconds words; do
     case $words in *gr_1*ch=*) cat "$DIFFERS" > "$out/$name.verdict" ;; esac
 done < "$2"
 """
-# What stands for qemu: it records the loads of the guest one after the other. It ends at a load with the word dies=1, and tells of a load
-# with stuck=1 that a task was stuck.
+# What stands for qemu: it records the loads of the guest one after the other. It ends at a load with the word dies=1, tells of a load
+# with stuck=1 that a task was stuck, and spoils the record of one with lost=1.
 QEMU = r"""#!/bin/sh
 while [ $# -gt 0 ]; do
     case $1 in -serial) records=${2#file:} ;; -initrd) guest=${2%/*}/guest ;; esac
@@ -109,8 +118,10 @@ tab=$(printf '\t')
 while IFS=$tab read -r name loops seconds words; do
     case $words in *dies=1*) echo 'Oops: 0000' > "${records%/*}/console"; exit 1 ;; esac
     case $words in *stuck=1*) echo "=== SAID $name dlgen: stuck: gr_0 (pid 9) was killed" ;; esac
-    echo "=== SAID $name record: 0 events were lost"
-    echo "=== LOAD $name 0"
+    lost=0 status=0
+    case $words in *lost=1*) lost=7 status=4 ;; esac
+    echo "=== SAID $name record: $lost events were lost"
+    echo "=== LOAD $name $status"
     printf '# grub: notes 1 kernel=6.12.117 domain=0\n# grub: lost 0\n' | gzip | base64
     echo '=== END'
 done < "$guest/loads" >> "$records"
@@ -119,6 +130,7 @@ ECHOES = "#!/bin/sh\ncat > /dev/null\n"
 TABLE = """good\t1\t0\t1\tgr_0,q=1,p=2
 dies\t1\t0\t1\tgr_0,q=1,p=2,dies=1
 stuck\t1\t2\t1\tgr_0,q=1,p=2,stuck=1
+lost\t1\t0\t1\tgr_0,q=1,p=2,lost=1
 """
 LONG = "r7\t1\t2\t3\tseed=7 gr_0,q=5000,p=50000,w=5-65 gr_1,q=10000.125,p=40000,st=1.5,ch=700.25:1:2:3:1,may=1 fair_2,q=1,p=2,fair=1 sys,rd=3:/proc/x"
 SHORT = "r7\t1\t0\t0.5\tseed=7 gr_1,q=10000,p=40000,ch=700:1:2:3:1"
@@ -182,6 +194,8 @@ def verdicts(folder):
             put(f"{folder}/{name}.txt", f"# grub: notes 1\n# grub: made by {MADE}\n# grub: load {name} 1 0 1 {words}\n")
             put(f"{folder}/{name}.told", verdict)
             put(f"{folder}/{name}.status", str(status))
+        if name in REPORTS:
+            put(f"{folder}/{name}.report", json.dumps(REPORTS[name]))
         if said:
             put(f"{folder}/{name}.said", said)
         ktap = told("verdicts.py", "--ktap", "--out", folder, "--head", "kernel K", name, GRUBTRACE=f"{folder}/checker")
@@ -192,11 +206,11 @@ def verdicts(folder):
         table = told("verdicts.py", "--out", folder, "--head", "kernel K", name, GRUBTRACE=f"{folder}/checker")
         wrong += differs("status of the table", table.returncode, wanted)
         for output, made in ((ktap.stdout, f"# made by {MADE}"), (table.stdout, f"       made by {MADE}")):
-            wrong += differs("the command is told", made in output, line.startswith("not ok") or name in ("nothing", "hang") and output is ktap.stdout)
+            wrong += differs("the command is told", made in output, line.startswith("not ok") or name in ("nothing", "hang", "read") and output is ktap.stdout)
         TRIED.add(f"the load {name}", wrong)
     names = [it[0] for it in LOADS if it[0] not in ("lost", "fault", "nothing", "zombie")]
     done = told("verdicts.py", "--ktap", "--out", folder, "--head", "kernel K", *names, GRUBTRACE=f"{folder}/checker")
-    wrong = differs("the counts", done.stdout.splitlines()[-1], "# Totals: pass:5 fail:5 xfail:1 xpass:0 skip:0 error:0")
+    wrong = differs("the counts", done.stdout.splitlines()[-1], "# Totals: pass:5 fail:8 xfail:2 xpass:0 skip:0 error:0")
     wrong += differs("status", done.returncode, 4) + differs("plan", done.stdout.splitlines()[1], f"1..{len(names)}")
     wrong += [f"lacks {it}" for it in ("#   runtime of gr_3 (pid 133): 2972418 by the rules", f"# record: {folder}/values.txt") if it not in done.stdout]
     TRIED.add("all loads", wrong)
@@ -248,8 +262,9 @@ def boots(folder):
         TRIED.add(f"check-kernel.sh {' '.join(words)}", wrong)
     done = told("check-kernel.sh", "--ktap", "--out", folder, "--loads", f"{folder}/table.tsv", f"{folder}/kernel", **more)
     tests = [it for it in done.stdout.splitlines() if it.startswith(("ok", "not ok"))]
-    wanted = ["ok 1 good", "ok 2 dies # SKIP it could not be recorded; its boots ended: Oops: 0000", "not ok 3 stuck # a task was stuck"]
-    TRIED.add("a load that ends each boot", differs("tests", tests, wanted) + differs("status", done.returncode, 125))
+    wanted = ["ok 1 good", "ok 2 dies # SKIP it could not be recorded; its boots ended: Oops: 0000", "not ok 3 stuck # a task was stuck",
+              "ok 4 lost # SKIP it could not be recorded; 7 events were lost"]
+    TRIED.add("loads that end each boot and that are spoiled", differs("tests", tests, wanted) + differs("status", done.returncode, 125))
     TRIED.add("it leaves nothing behind", [it for it in os.listdir(folder) if it.startswith("check-kernel.")])
 
 
