@@ -1,5 +1,3 @@
-mod HandedLemmas
 pub mod HeadLemmas
 mod MessageLemmas
 mod ReadLemmas
-mod ShownLemmas

@@ -1,9 +1,7 @@
 pub mod Faults
-pub mod Handed
 pub mod Heads
 pub mod Lost
 pub mod Messages
 pub mod Reading
-pub mod Shown
 pub mod Uncompared
 pub mod Untried

@@ -128,8 +128,8 @@ fn verdict_of<
     with_warnings(verdict, &gathering.warnings)
 }
 
-/// What the trace of a path says: it is read a second time where its end shows what its begin did not. A
-/// trace that is another then cannot be read.
+/// What the trace of a path says: it is read a second time where its end shows what its begin did not. One that has changed
+/// meanwhile cannot be read.
 fn gathered_whole<
     'o,
     D: Drop,
@@ -158,7 +158,7 @@ fn gathered_whole<
     }
 }
 
-/// What the trace of a path says; `seen` is what an earlier reading has shown.
+/// What the trace of a path says; `seen` is what an earlier reading came to.
 fn gathered<
     'o,
     D: Drop,

@@ -1,8 +1,6 @@
 //! A record, line by line: notes, lines of timers that are kept, and lines of probes that are played at once.
 
-ghost use Rattle.std.specs.Prelude.{◌≡◌, None, OnOk};
-ghost use Rattle.trace_check.specs.Handed.{held_of, TakesOne};
-ghost use Rattle.trace_check.specs.Shown.{gathered_of, HandsOver, shown_at, shown_in};
+ghost use Rattle.std.specs.Prelude.{◌≡◌, OnOk};
 ghost use Rattle.trace_check.specs.Heads.{noted_with, seen_on, told_of};
 ghost use Rattle.trace_check.specs.Lost.{changed_by, dropped_with, fault_noted, is_behind_by, losing_by, lost_by, lost_line_by};
 
@@ -128,10 +126,7 @@ impl<'o> Gathering<'o> {
     }
 
     /// Takes what a line tells, whose number counts from 1.
-    fn take_told(&mut self, number: u64, told: &ToldLine<&[u8]>) -> Result<(), AllocError>
-        ensures { OnOk result (self.new.fault ≡ None → HandsOver self.old.options.now
-            (held_of self.old.probes) (shown_in number told.now.line) (held_of self.new.probes)) }
-    {
+    fn take_told(&mut self, number: u64, told: &ToldLine<&[u8]>) -> Result<(), AllocError> {
         if is_too_late(&told.line) {
             self.fault = Some(Fault::Line {
                 line: number,
@@ -139,30 +134,23 @@ impl<'o> Gathering<'o> {
             });
             return Ok(());
         }
-        self.see_told(number, told)?;
-        self.take_line(number, told.line)?;
-        Ok(())
-    }
-
-    /// What stands beside the line's own words.
-    fn see_told(&mut self, number: u64, told: &ToldLine<&[u8]>) -> Result<(), AllocError>
-        ensures { gathered_of self.new ≡ gathered_of self.old }
-    {
         self.see_head(number, told.processors);
-        self.note_domain(number, told.domain)?;
-        self.note_release(told.release)?;
+        if let Some(domain) = told.domain {
+            self.note_domain(number, domain)?;
+        }
+        if let Some(release) = told.release {
+            self.note_release(release)?;
+        }
         self.see_lost(number, told.lost);
         self.head.has_governor = self.head.has_governor || told.governor.is_some();
-        self.warn(told.warning)?;
-        self.show_task(told)?;
-        Ok(())
-    }
-
-    fn take_line(&mut self, number: u64, line: RecordLine) -> Result<(), AllocError>
-        ensures { OnOk result (HandsOver self.old.options.now
-            (held_of self.old.probes) (shown_in number line) (held_of self.new.probes)) }
-    {
-        match line {
+        if let Some(text) = told.warning {
+            self.warnings.push(text.to_vec(self.alloc)?)?;
+        }
+        if let Some(shown) = told.shown {
+            self.show(shown.pid, shown.comm)?;
+            self.has_older = self.has_older || is_older(&told.line, shown.comm);
+        }
+        match told.line {
             RecordLine::Quiet | RecordLine::Flawed(_) => Ok(()),
             RecordLine::Note(note) => self.note(number, note),
             RecordLine::Event {
@@ -171,50 +159,41 @@ impl<'o> Gathering<'o> {
                 pid,
                 said,
                 ..
-            } => self.take_event(
-                ReadLine {
-                    line: number,
-                    at,
-                    cpu,
-                    pid,
-                },
-                said,
-            ),
-        }
-    }
-
-    fn take_event(&mut self, read: ReadLine, said: Said) -> Result<(), AllocError>
-        ensures { OnOk result (HandsOver self.old.options.now (held_of self.old.probes)
-            (shown_at read.line read.at read.cpu read.pid said) (held_of self.new.probes)) }
-    {
-        self.hold_to_laws(read, &said)?;
-        match said {
-            Said::Fixed(fixed) => self.fixed(read.line, read.at, read.cpu, read.pid, fixed),
-            Said::Probe(probe) => self.probe(ProbeLine {
-                place: ProbedLine {
-                    line: read.line,
-                    at: read.at,
-                    cpu: read.cpu,
-                    pid: read.pid,
-                    event: event_of(&probe),
-                },
-                probe,
-            }),
+            } => {
+                self.hold_to_laws(
+                    ReadLine {
+                        line: number,
+                        at,
+                        cpu,
+                        pid,
+                    },
+                    &said,
+                )?;
+                match said {
+                    Said::Fixed(fixed) => self.fixed(number, at, cpu, pid, fixed),
+                    Said::Probe(probe) => self.probe(ProbeLine {
+                        place: ProbedLine {
+                            line: number,
+                            at,
+                            cpu,
+                            pid,
+                            event: event_of(&probe),
+                        },
+                        probe,
+                    }),
+                }
+            }
         }
     }
 
     /// A line of an event is held to the laws.
-    fn hold_to_laws(&mut self, read: ReadLine, said: &Said) -> Result<(), AllocError>
-        ensures { gathered_of self.new ≡ gathered_of self.old }
-    {
+    fn hold_to_laws(&mut self, read: ReadLine, said: &Said) -> Result<(), AllocError> {
         let kernel = self.head.kernel_by(self.options);
         self.laws.take(kernel, read, said)
     }
 
     /// The head of a trace may say how many processors there are.
-    fn see_head(&mut self, number: u64, processors: Option<u32>)
-        ensures { gathered_of self.new ≡ gathered_of self.old }
-    {
+    fn see_head(&mut self, number: u64, processors: Option<u32>) {
         if self.head.processors.is_some() {
             return;
         }
@@ -230,7 +209,6 @@ impl<'o> Gathering<'o> {
         ensures lost { self.new.lost ≡ lost_by lost self.old.lost }
         ensures line { self.new.lost_line
             ≡ lost_line_by lost self.old.lost number self.old.lost_line }
-        ensures gathered { gathered_of self.new ≡ gathered_of self.old }
     {
         if let Some(lost) = lost {
             self.lost_line = self.losing_line().unwrap_or(number);
@@ -245,9 +223,7 @@ impl<'o> Gathering<'o> {
 
     /// Takes a line of a probe.
     fn probe(&mut self, line: ProbeLine) -> Result<(), AllocError>
-        ensures head { told_of self.new.head ≡ seen_on line.place.cpu (told_of self.old.head) }
-        ensures line { OnOk result (TakesOne self.old.options.now
-            (held_of self.old.probes) line (held_of self.new.probes)) }
+        ensures { told_of self.new.head ≡ seen_on line.place.cpu (told_of self.old.head) }
     {
         if self.plays_probes() && !self.keeps_timers {
             self.record = None;
@@ -261,13 +237,8 @@ impl<'o> Gathering<'o> {
         self.probes.take(line, told, &self.names)
     }
 
-    /// The CPUs of the root domain, where a note lists them.
-    fn note_domain(&mut self, number: u64, domain: Option<&[u8]>) -> Result<(), AllocError>
-        ensures { gathered_of self.new ≡ gathered_of self.old }
-    {
-        let Some(domain) = domain else {
-            return Ok(());
-        };
+    /// The CPUs of the root domain, as a note lists them.
+    fn note_domain(&mut self, number: u64, domain: &[u8]) -> Result<(), AllocError> {
         match cpus_of(self.alloc, domain)? {
             Some(cpus) => self.head.domain = cpus,
             None => self.fault = Some(Fault::BadNote { line: number }),
@@ -275,44 +246,14 @@ impl<'o> Gathering<'o> {
         Ok(())
     }
 
-    /// The kernel's whole release, where a note has it.
-    fn note_release(&mut self, release: Option<&[u8]>) -> Result<(), AllocError>
-        ensures { gathered_of self.new ≡ gathered_of self.old }
-    {
-        let Some(release) = release else {
-            return Ok(());
-        };
+    /// The kernel's whole release, as a note has it.
+    fn note_release(&mut self, release: &[u8]) -> Result<(), AllocError> {
         self.head.release.clear();
         self.head.release.extend_from_slice(release)
     }
 
-    /// The kernel's log warned of this.
-    fn warn(&mut self, text: Option<&[u8]>) -> Result<(), AllocError>
-        ensures { gathered_of self.new ≡ gathered_of self.old }
-    {
-        let Some(text) = text else {
-            return Ok(());
-        };
-        self.warnings.push(text.to_vec(self.alloc)?)?;
-        Ok(())
-    }
-
-    /// A line may show a task.
-    fn show_task(&mut self, told: &ToldLine<&[u8]>) -> Result<(), AllocError>
-        ensures { gathered_of self.new ≡ gathered_of self.old }
-    {
-        let Some(shown) = told.shown else {
-            return Ok(());
-        };
-        self.show(shown.pid, shown.comm)?;
-        self.has_older = self.has_older || is_older(&told.line, shown.comm);
-        Ok(())
-    }
-
     /// A line shows this pid with this comm.
-    fn show(&mut self, pid: u64, comm: &[u8]) -> Result<(), AllocError>
-        ensures { gathered_of self.new ≡ gathered_of self.old }
-    {
+    fn show(&mut self, pid: u64, comm: &[u8]) -> Result<(), AllocError> {
         if self.last == Some(pid) || self.names.has(pid) {
             self.last = Some(pid);
             return Ok(());
@@ -322,9 +263,7 @@ impl<'o> Gathering<'o> {
     }
 
     /// The task of a pid is one of those that were given, if its pid or its comm was.
-    fn give(&mut self, pid: u64, comm: &[u8]) -> Result<(), AllocError>
-        ensures { gathered_of self.new ≡ gathered_of self.old }
-    {
+    fn give(&mut self, pid: u64, comm: &[u8]) -> Result<(), AllocError> {
         let Some(place) = self.place_of(pid, comm) else {
             return Ok(());
         };
@@ -348,9 +287,7 @@ impl<'o> Gathering<'o> {
         None
     }
 
-    fn give_to(&mut self, pid: u64, parameters: Parameters) -> Result<(), AllocError>
-        ensures { gathered_of self.new ≡ gathered_of self.old }
-    {
+    fn give_to(&mut self, pid: u64, parameters: Parameters) -> Result<(), AllocError> {
         self.begin()?;
         match &mut self.record {
             Some(record) => record.give(GivenReservation { pid, parameters }),
@@ -373,7 +310,6 @@ impl<'o> Gathering<'o> {
         ensures head { self.new.head ≡ self.old.head }
         ensures fault { self.new.fault ≡ self.old.fault }
         ensures changed { self.new.changed_line ≡ self.old.changed_line }
-        ensures gathered { gathered_of self.new ≡ gathered_of self.old }
     {
         if self.record.is_some() {
             return Ok(());
@@ -393,7 +329,6 @@ impl<'o> Gathering<'o> {
             ≡ fault_noted note number self.old.latest self.old.fault) }
         ensures changed { OnOk result (self.new.changed_line
             ≡ changed_by note number self.old.head.limit self.old.changed_line) }
-        ensures gathered { gathered_of self.new ≡ gathered_of self.old }
     {
         match note {
             TraceNote::Head {
@@ -451,7 +386,6 @@ impl<'o> Gathering<'o> {
         ensures head { self.new.head ≡ self.old.head }
         ensures fault { self.new.fault ≡ self.old.fault }
         ensures changed { self.new.changed_line ≡ self.old.changed_line }
-        ensures gathered { gathered_of self.new ≡ gathered_of self.old }
     {
         self.has_notes = true;
         self.begin()?;
@@ -468,9 +402,7 @@ impl<'o> Gathering<'o> {
         cpu: u32,
         pid: u64,
         fixed: Fixed,
-    ) -> Result<(), AllocError>
-        ensures { gathered_of self.new ≡ gathered_of self.old }
-    {
+    ) -> Result<(), AllocError> {
         self.head.greatest_cpu = self.head.greatest_cpu.max(cpu).max(cpu_of(&fixed));
         if self.plays_probes() && !self.keeps_timers {
             return Ok(());
@@ -486,9 +418,7 @@ impl<'o> Gathering<'o> {
     }
 
     /// A SCHED_DEADLINE task wakes on a CPU of the root domain.
-    fn see_cpu(&mut self, number: u64, fixed: &Fixed)
-        ensures { gathered_of self.new ≡ gathered_of self.old }
-    {
+    fn see_cpu(&mut self, number: u64, fixed: &Fixed) {
         if let Fixed::Woken {
             cpu,
             is_deadline: true,
@@ -553,7 +483,7 @@ impl<'o> Gathering<'o> {
         self.probes.end(told, &self.names)
     }
 
-    /// What the record has shown and told, for a second reading of it.
+    /// What the record has shown and its notes tell, for a second reading of it.
     pub fn into_seen(self) -> Result<SeenRecord, AllocError> {
         let notes = self
             .head

@@ -1,10 +1,7 @@
 //! The lines of probes of a record: they are played as they come.
 
-ghost use Rattle.std.specs.Prelude.{◌≡◌, ◌∷◌, ◌++◌, [], None, IfOk, IsTrue, OnOk, true};
-ghost use Rattle.probe_explain.specs.Taken.{come_to, TakesLine};
+ghost use Rattle.std.specs.Prelude.{◌≡◌, IfSome, OnOk, IfOk};
 ghost use Rattle.trace_check.specs.Heads.{law_by};
-ghost use Rattle.trace_options.specs.declared.options.CheckOptions.{CheckOptions};
-ghost use Rattle.trace_check.specs.Handed.{AreEnded, EndsLines, HasPlayed, held_of, KeepsPlay, KeepsPlays, PlaysAgain, PlaysAllOut, PlaysKept, PlaysOrKeeps, PlaysOut, PlaysRest, TakesLines, TakesNone, TakesOne, WasHanded};
 
 use crate::head::RecordHead;
 use crate::marks::Marks;
@@ -65,7 +62,7 @@ pub(crate) struct Played {
     pub to: u64,
 }
 
-/// What a whole reading of a record has shown, and its notes told.
+/// What a whole reading of a record has shown, and what its notes told.
 #[derive(Drop)]
 pub(crate) struct SeenRecord {
     pub look: RecordLook,
@@ -107,47 +104,8 @@ pub(crate) struct Probes {
 }
 
 impl Played {
-    fn end(&mut self) -> Result<(), AllocError>
-        ensures { OnOk result (PlaysOut self.old self.new) }
-    {
-        self.player.finish(&mut self.search)?;
-        Ok(())
-    }
-
-    fn take(&mut self, line: ProbeLine) -> Result<(), AllocError>
-        ensures rules { self.new.rules ≡ self.old.rules }
-        ensures line { OnOk result (TakesLine self.old.player line self.new.player) }
-    {
-        self.lines = self.lines.saturating_add(1);
-        self.to = line.place.at;
-        self.player.take(&mut self.search, line)
-    }
-
-    /// Takes lines, one after another.
-    fn take_all(&mut self, lines: &[ProbeLine]) -> Result<(), AllocError>
-        ensures rules { self.new.rules ≡ self.old.rules }
-        ensures lines { OnOk result (TakesLines self.old.player lines.now self.new.player) }
-    {
-        for line in lines {
-            self.take(*line)?;
-        }
-        Ok(())
-    }
-
-    /// Appends the rows of the comparisons since the last time.
-    fn put_rows(
-        &mut self,
-        alloc: Global,
-        out: &mut Vec<u8>,
-        names: &Names,
-    ) -> Result<(), AllocError>
-        ensures { OnOk result (KeepsPlay self.old self.new) }
-    {
-        for row in self.player.run().rows() {
-            put_row(alloc, out, row, &names.tasks)?;
-        }
-        self.player.clear_rows();
-        Ok(())
+    fn end(&mut self) -> Result<(), AllocError> {
+        self.player.finish(&mut self.search)
     }
 }
 
@@ -165,9 +123,7 @@ fn put_law_rows(
 
 impl Probes {
     /// No line. With `keeps_again` all are kept.
-    pub fn new(alloc: Global, keeps_rows: bool, keeps_again: bool) -> Probes
-        ensures { (options : CheckOptions) → WasHanded options (held_of result) [] }
-    {
+    pub fn new(alloc: Global, keeps_rows: bool, keeps_again: bool) -> Probes {
         Probes {
             alloc,
             kept: Vec::new(alloc),
@@ -188,9 +144,7 @@ impl Probes {
     }
 
     /// The record was looked at before.
-    pub fn tell(&mut self, seen: SeenRecord)
-        ensures { held_of self.new ≡ held_of self.old }
-    {
+    pub fn tell(&mut self, seen: SeenRecord) {
         self.seen_before = Some(seen);
     }
 
@@ -199,109 +153,44 @@ impl Probes {
         self.played.is_some() || !self.kept.is_empty()
     }
 
-    /// Takes a line: it is kept, or played, or both.
+    /// Takes a line.
     pub fn take(
         &mut self,
         line: ProbeLine,
         told: ToldSettings<'_>,
         names: &Names,
-    ) -> Result<(), AllocError>
-        ensures { OnOk result (TakesOne told.entry.options.now (held_of self.old) line (held_of self.new)) }
-    {
-        self.see(&line)?;
-        self.hold(line)?;
-        self.play_due(told)?;
-        self.put_rows(names)?;
-        Ok(())
-    }
-
-    /// What a line shows, beside its play.
-    fn see(&mut self, line: &ProbeLine) -> Result<(), AllocError>
-        ensures { held_of self.new ≡ held_of self.old }
-    {
+    ) -> Result<(), AllocError> {
         self.see_class(&line.probe)?;
         self.look.see(line.place.at, &line.probe)?;
         self.laws.see(line.place, &line.probe)?;
-        self.marks.see(line)
-    }
-
-    /// Plays a line where the lines before it were played, and keeps it where they were kept.
-    fn hold(&mut self, line: ProbeLine) -> Result<(), AllocError>
-        ensures { OnOk result ((options : CheckOptions)
-            → TakesOne options (held_of self.old) line (held_of self.new)) }
-    {
-        self.keep_again(line)?;
-        self.play_or_keep(line)?;
-        Ok(())
-    }
-
-    /// Keeps a line, where the lines may be played again.
-    fn keep_again(&mut self, line: ProbeLine) -> Result<(), AllocError>
-        ensures again { OnOk result (self.old.keeps_again ≡ true
-            → self.new.again.items ≡ self.old.again.items ++ line ∷ []) }
-        ensures keeps { self.new.keeps_again ≡ self.old.keeps_again }
-        ensures played { self.new.played ≡ self.old.played }
-        ensures kept { self.new.kept.items ≡ self.old.kept.items }
-    {
+        self.marks.see(&line)?;
         if self.keeps_again {
             self.again.push(line)?;
         }
+        if self.played.is_some() {
+            self.play(line)?;
+            return self.put_rows(names);
+        }
+        self.kept.push(line)?;
+        if self.seen_before.is_some() || self.kept.len() >= LOOK {
+            self.play_kept(told)?;
+            self.put_rows(names)?;
+        }
         Ok(())
     }
 
-    fn play_or_keep(&mut self, line: ProbeLine) -> Result<(), AllocError>
-        ensures played { OnOk result (PlaysOrKeeps (held_of self.old) line (held_of self.new)) }
-        ensures again { self.new.again.items ≡ self.old.again.items }
-        ensures keeps { self.new.keeps_again ≡ self.old.keeps_again }
-    {
-        match &mut self.played {
-            Some(played) => {
-                played.take(line)?;
-                Ok(())
-            }
-            None => {
-                self.kept.push(line)?;
-                Ok(())
-            }
-        }
-    }
-
-    /// Plays the lines that were kept, where enough were looked at.
-    fn play_due(&mut self, told: ToldSettings<'_>) -> Result<(), AllocError>
-        ensures { OnOk result (TakesNone told.entry.options.now (held_of self.old) (held_of self.new)) }
-    {
-        if self.played.is_none() && (self.seen_before.is_some() || self.kept.len() >= LOOK) {
-            self.play_kept(told)
-        } else {
-            Ok(())
-        }
-    }
-
     /// Ends the lines. False where the record is to be read again, since its end shows what its begin did not.
-    pub fn end(&mut self, told: ToldSettings<'_>, names: &Names) -> Result<bool, AllocError>
-        ensures { IfOk result (λ done. done ≡ true
-            → EndsLines told.entry.options.now (held_of self.old) self.new.played) }
-    {
-        if !self.play_out(told)? {
-            return Ok(false);
+    pub fn end(&mut self, told: ToldSettings<'_>, names: &Names) -> Result<bool, AllocError> {
+        if self.played.is_none() {
+            self.play_kept(told)?;
+        }
+        if !self.is_borne_out(told)? {
+            if !self.keeps_again {
+                return Ok(false);
+            }
+            self.play_again(told)?;
         }
         self.finish(told, names)?;
-        Ok(true)
-    }
-
-    /// Plays the lines that wait, or all again, by all that the record shows. False where they are not there any more.
-    fn play_out(&mut self, told: ToldSettings<'_>) -> Result<bool, AllocError>
-        ensures { IfOk result (λ done. done ≡ true
-            → PlaysRest told.entry.options.now (held_of self.old) (held_of self.new)) }
-    {
-        self.play_rest(told)?;
-        if self.is_borne_out(told)? {
-            return Ok(true);
-        }
-        if !self.keeps_again {
-            return Ok(false);
-        }
-        self.play_again(told)?;
         Ok(true)
     }
 
@@ -310,63 +199,52 @@ impl Probes {
         match &self.played {
             Some(played) => {
                 let notes = told.notes(self.alloc)?;
-                Ok(self.look.bears_out(&played.assumed, &notes))
+                Ok(
+                    is_same_law(played.rules.law, told.law())
+                        && self.look.bears_out(&played.assumed, &notes),
+                )
             }
             None => Ok(true),
         }
     }
 
     /// Plays the whole record again, by all that it shows.
-    fn play_again(&mut self, told: ToldSettings<'_>) -> Result<(), AllocError>
-        requires { self.old.keeps_again ≡ true }
-        ensures { OnOk result (PlaysAgain told.entry.options.now (held_of self.old) (held_of self.new)) }
-    {
+    fn play_again(&mut self, told: ToldSettings<'_>) -> Result<(), AllocError> {
         self.rows.clear();
-        self.played = None;
-        let mut played = self.begun(told)?;
-        played.take_all(self.again.as_slice())?;
-        self.played = Some(played);
+        self.begin(told)?;
+        for place in 0..self.again.len() {
+            if let Some(line) = self.again.get(place) {
+                let line = *line;
+                self.play(line)?;
+            }
+        }
         Ok(())
     }
 
-    fn finish(&mut self, told: ToldSettings<'_>, names: &Names) -> Result<(), AllocError>
-        ensures { OnOk result (PlaysAllOut self.old.played self.new.played) }
-    {
+    fn finish(&mut self, told: ToldSettings<'_>, names: &Names) -> Result<(), AllocError> {
         let notes = told.notes(self.alloc)?;
         self.end_played()?;
-        self.finish_laws(&notes)?;
+        if self.played.is_some() {
+            self.finish_laws(&notes)?;
+        }
         self.put_rows(names)?;
-        put_law_rows(self.alloc, &mut self.rows, &self.law_findings, names)?;
-        Ok(())
+        put_law_rows(self.alloc, &mut self.rows, &self.law_findings, names)
     }
 
-    fn end_played(&mut self) -> Result<(), AllocError>
-        ensures { OnOk result (PlaysAllOut self.old.played self.new.played) }
-    {
+    fn end_played(&mut self) -> Result<(), AllocError> {
         match &mut self.played {
-            Some(played) => {
-                played.end()?;
-                Ok(())
-            }
+            Some(played) => played.end(),
             None => Ok(()),
         }
     }
 
-    /// What the laws come to, where there was a line.
-    fn finish_laws(&mut self, notes: &StartNotes) -> Result<(), AllocError>
-        ensures { self.new.played ≡ self.old.played }
-    {
-        if self.played.is_none() {
-            return Ok(());
-        }
+    fn finish_laws(&mut self, notes: &StartNotes) -> Result<(), AllocError> {
         let findings = &mut self.law_findings;
         self.laws.finish(notes.settings, &notes.servers, findings)
     }
 
     /// The tasks that are enqueued are of the class.
-    fn see_class(&mut self, probe: &Probe) -> Result<(), AllocError>
-        ensures { held_of self.new ≡ held_of self.old }
-    {
+    fn see_class(&mut self, probe: &Probe) -> Result<(), AllocError> {
         self.shows_task = self.shows_task || shows_task(probe);
         if let Probe::Enqueued(line) = probe
             && !self.places.contains_key(&line.pid)
@@ -377,41 +255,36 @@ impl Probes {
         Ok(())
     }
 
-    /// Plays the lines that are still kept at the end.
-    fn play_rest(&mut self, told: ToldSettings<'_>) -> Result<(), AllocError>
-        ensures { OnOk result (PlaysRest told.entry.options.now (held_of self.old) (held_of self.new)) }
-    {
-        if self.played.is_none() && !self.kept.is_empty() {
-            self.play_kept(told)
-        } else {
-            Ok(())
-        }
-    }
-
     /// Plays the lines that were kept.
-    fn play_kept(&mut self, told: ToldSettings<'_>) -> Result<(), AllocError>
-        requires { self.old.played ≡ None }
-        ensures { OnOk result (PlaysKept told.entry.options.now (held_of self.old) (held_of self.new)) }
-    {
-        let mut played = self.begun(told)?;
-        played.take_all(self.kept.as_slice())?;
+    fn play_kept(&mut self, told: ToldSettings<'_>) -> Result<(), AllocError> {
+        if self.kept.is_empty() {
+            return Ok(());
+        }
+        self.begin(told)?;
+        for place in 0..self.kept.len() {
+            if let Some(line) = self.kept.get(place) {
+                let line = *line;
+                self.play(line)?;
+            }
+        }
         self.kept.clear();
-        self.played = Some(played);
         Ok(())
     }
 
-    /// A record of which nothing was played, by what is known so far.
-    fn begun(&self, told: ToldSettings<'_>) -> Result<Played, AllocError>
-        ensures law { IfOk result (λ p. p.rules.law ≡ law_by told.entry.head.now told.entry.options.now) }
-        ensures none { IfOk result (HasPlayed told.entry.options.now []) }
+    /// Begins to play, by what is known so far.
+    fn begin(&mut self, told: ToldSettings<'_>) -> Result<(), AllocError>
+        ensures { OnOk result (IfSome self.new.played
+            (λ p. p.rules.law ≡ law_by told.entry.head.now told.entry.options.now)) }
     {
-        match &self.seen_before {
-            Some(seen) => self.played_from(told, &seen.notes, &seen.look),
+        let played = match &self.seen_before {
+            Some(seen) => self.played_from(told, &seen.notes, &seen.look)?,
             None => {
                 let notes = told.notes(self.alloc)?;
-                self.played_from(told, &notes, &self.look)
+                self.played_from(told, &notes, &self.look)?
             }
-        }
+        };
+        self.played = Some(played);
+        Ok(())
     }
 
     /// A record of which nothing was played, by what a reading of it has shown.
@@ -421,8 +294,7 @@ impl Probes {
         notes: &StartNotes,
         look: &RecordLook,
     ) -> Result<Played, AllocError>
-        ensures law { IfOk result (λ p. p.rules.law ≡ law_by told.entry.head.now told.entry.options.now) }
-        ensures none { IfOk result (HasPlayed told.entry.options.now []) }
+        ensures { IfOk result (λ p. p.rules.law ≡ law_by told.entry.head.now told.entry.options.now) }
     {
         let rules = look.rules(told.law(), None, notes);
         let start = look.start(self.alloc, notes)?;
@@ -441,23 +313,27 @@ impl Probes {
         })
     }
 
+    fn play(&mut self, line: ProbeLine) -> Result<(), AllocError> {
+        if let Some(played) = &mut self.played {
+            played.lines = played.lines.saturating_add(1);
+            played.to = line.place.at;
+            played.player.take(&mut played.search, line)?;
+        }
+        Ok(())
+    }
+
     /// Appends the rows of the comparisons since the last time.
-    fn put_rows(&mut self, names: &Names) -> Result<(), AllocError>
-        ensures played { OnOk result (KeepsPlays self.old.played self.new.played) }
-        ensures kept { self.new.kept.items ≡ self.old.kept.items }
-        ensures again { self.new.again.items ≡ self.old.again.items }
-        ensures keeps { self.new.keeps_again ≡ self.old.keeps_again }
-    {
+    fn put_rows(&mut self, names: &Names) -> Result<(), AllocError> {
         if !self.keeps_rows {
             return Ok(());
         }
-        match &mut self.played {
-            Some(played) => {
-                played.put_rows(self.alloc, &mut self.rows, names)?;
-                Ok(())
+        if let Some(played) = &mut self.played {
+            for row in played.player.run().rows() {
+                put_row(self.alloc, &mut self.rows, row, &names.tasks)?;
             }
-            None => Ok(()),
+            played.player.clear_rows();
         }
+        Ok(())
     }
 
     /// How many values of each kind were compared, those of laws too.
@@ -477,9 +353,7 @@ impl Probes {
     }
 
     /// Whether each value that was compared is the kernel's, and each law holds.
-    pub fn agrees(&self, played: &Played) -> bool
-        ensures { IsTrue result → (come_to played.now.player).first ≡ None }
-    {
+    pub fn agrees(&self, played: &Played) -> bool {
         played.player.run().agrees() && self.keeps_laws()
     }
 
@@ -504,6 +378,14 @@ impl Probes {
     /// The first law that is broken.
     pub fn broken(&self) -> Option<Broken> {
         self.laws.broken
+    }
+}
+
+fn is_same_law(one: ChargeLaw, other: ChargeLaw) -> bool {
+    match one {
+        ChargeLaw::LinuxBefore65 => matches!(other, ChargeLaw::LinuxBefore65),
+        ChargeLaw::LinuxFrom65 => matches!(other, ChargeLaw::LinuxFrom65),
+        ChargeLaw::Documentation => matches!(other, ChargeLaw::Documentation),
     }
 }
 
