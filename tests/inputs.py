@@ -4,7 +4,7 @@ import random
 import re
 import subprocess
 
-from shared import RECORDS, ROOT, each, files_below, unpacked
+from shared import RECORDS, ROOT, each, files_below, text_of, unpacked
 
 PROCESSOR = 1048576
 # What a line of another task has in a trace, which tells nothing of a SCHED_DEADLINE task.
@@ -118,6 +118,14 @@ def record(path, name, *edits):
     edited(path, f"examples/records/{name}.txt.xz", *edits)
 
 
+def longer(path, count, *edits):
+    """The record of tests/probes-small.txt, so changed, with so many lines behind its 0-lag timer, of a limit that is only read."""
+    edited(path, "tests/probes-small.txt", *edits)
+    lines = text_of(path).splitlines(True)
+    at = next(number for number, it in enumerate(lines) if " ina: " in it) + 1
+    write(path, *lines[:at], *["<idle>-0 [000] d..2. 10.002000: lim: (sched_rt_handler+0x0/0x10) write=0\n"] * count, *lines[at:])
+
+
 def steered(path, name, millionths):
     """A record of examples/records by a clock that is steered by so many millionths, without its lines of timers that fire."""
     def later(line):
@@ -164,5 +172,5 @@ def damaged(folder, kind, count):
 
 
 def make(path, kind, words):
-    kinds = (zeros, readings, queues, crowded, trace, processors, noted, edited, record, steered, damaged)
+    kinds = (zeros, readings, queues, crowded, trace, processors, noted, edited, record, longer, steered, damaged)
     {it.__name__: it for it in kinds}[kind](path, *(int(it) if it.isdecimal() else it for it in words))
