@@ -18,8 +18,9 @@
 # (kernel/verdicts.py). It ends with 0 where nothing stands against any, 4 where one differs, a task was stuck, the kernel warned or sums
 # are left behind, 5 where a law is broken by no known fault, 1 where one has a fault, 2 for wrong words, 3 where a tool is missing, and
 # 125 where a load could not be recorded: so `git bisect run` takes a kernel that does not boot for one to skip.
-# GRUBTRACE is the program that checks. It needs Debian's packages qemu-system-x86 busybox-static gcc libc6-dev cpio python3; for arm64
-# qemu-system-arm gcc-aarch64-linux-gnu libc6-dev-arm64-cross cpio python3.
+# GRUBTRACE is the program that checks, SECONDS_A_BOOT how long a boot may take (of a busy host more than 300 and 60 a load), APPEND words
+# for the kernel. With KEEP_CONSOLE=1 the last boot's console is left in DIR. It needs Debian's packages qemu-system-x86 busybox-static gcc
+# libc6-dev cpio python3; for arm64 qemu-system-arm gcc-aarch64-linux-gnu libc6-dev-arm64-cross cpio python3.
 set -u
 usage() {
     echo "usage: check-kernel.sh [--arch amd64|arm64] [--cpus N] [--virtual] [--ktap] [--out DIR]"
@@ -159,14 +160,19 @@ boot() {
     say "boot $boots${1:+: $*}"
     find "$guest" -exec touch -hd @0 {} +
     (cd "$guest" && find . | LC_ALL=C sort | cpio -o -H newc --quiet --reproducible | gzip -1n) > "$work/initramfs"
-    timeout "${SECONDS_A_BOOT:-$((300 + 60 * $#))}" "${qemu[@]}" "${machine[@]}" -smp "$cpus" -m 1024 -no-reboot \
+    slow=
+    local seconds=${SECONDS_A_BOOT:-$((300 + 60 * $#))}
+    timeout "$seconds" "${qemu[@]}" "${machine[@]}" -smp "$cpus" -m 1024 -no-reboot \
         -display none -monitor none "${lines[@]}" \
         -kernel "$kernel" -initrd "$work/initramfs" -append "$words quiet panic=-1 noirqdebug nokaslr norandmaps ${APPEND:-}" \
-        < /dev/null 2> "$work/said" || say "qemu ended with $? $(head -n 1 "$work/said")"
+        < /dev/null 2> "$work/said" || {
+        [[ $? != 124 ]] || slow="it took more than $seconds s (SECONDS_A_BOOT)"
+        say "qemu: ${slow:-$(head -n 1 "$work/said")}"
+    }
     [[ -z ${KEEP_CONSOLE:-} ]] || cp "$work/console" "$out/console"
     tr -d '\r' < "$work/records" > "$work/told"
 }
-died() { grep -aE 'Oops|BUG|panic|=== bandwidth left behind' "$work/console" | head -n 2 | tr '\r\n' '  '; }
+died() { grep -aE 'Oops|BUG|panic|=== bandwidth left behind' "$work/console" | head -n 2 | tr '\r\n' '  ' | grep . || echo "$slow"; }
 # Under emulation about one boot in ten dies, so it is repeated.
 if [[ -n $run ]]; then
     cp "$run" "$guest/run.sh"

@@ -53,6 +53,10 @@ BAD = [
     (["states.py"], "states.py [--list]"),
     (["states.py", "nosuch"], "nosuch: "),
     (["verdicts.py", "four"], "verdicts.py [--ktap]"),
+    (["coverage.sh"], "usage: coverage.sh build TREE"),
+    (["coverage.sh", "report", "nosuch", "FILE"], "coverage: nosuch has no kernel/sched/deadline.c"),
+    (["check-sizing.sh"], "usage: check-sizing.sh"),
+    (["check-sizing.sh", "KERNEL", "nosuch"], "check-sizing: there is no load nosuch"),
 ]
 AGREES = "20 values compared: 20 equal\nagrees, bit for bit\nlaws: 9 values hold: budget 9\n"
 DIFFERS = """20 values compared: 18 equal, 2 differ
@@ -156,7 +160,7 @@ def put(path, text, mode=0o644):
 
 
 def told(*words, **more):
-    script = f"{ROOT}/scripts/{words[0]}" if words[0].endswith(".sh") else f"{KERNEL}/{words[0]}"
+    script = f"{ROOT}/scripts/{words[0]}" if words[0] == "check-kernel.sh" else f"{KERNEL}/{words[0]}"
     return ran(script, *words[1:], env={**os.environ, **more})
 
 
