@@ -117,8 +117,8 @@ library-test:
 # How long a transition takes, of other ways to make it in the same run: the shared table and the book beside locks and plain C, the book
 # beside plain Rust (bindings/plain, which wants cargo), and from Python. docs/PERFORMANCE.md says how to read it.
 library-bench: library
-	@for it in rattle llvm; do \
-	    echo "built by $$it" && built=$(CURDIR)/out/library/$$it && \
+	@for it in . rattle llvm; do \
+	    echo "out/library/$$it" && built=$(CURDIR)/out/library/$$it && \
 	    $(CC) -std=gnu11 -O2 -I bindings/include bindings/speed/*.c $$built/libneddwyrol_table.a $$built/libneddwyrol.a -pthread -o $$built/speed && \
 	    $$built/speed kinds && $$built/speed threads && \
 	    NEDDWYROL_LIB=$$built CARGO_TARGET_DIR=$(CURDIR)/out/library/cargo \

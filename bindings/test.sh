@@ -2,8 +2,8 @@
 # The library for C: built by both of the kit's compilers, linked and run from C, C++, Rust and Python. The last line is 'N passed, M failed'.
 # `test.sh --build` builds it alone, into out/library, and `test.sh --build-arm64` for arm64 too; `test.sh --built` tries what these left, and
 # wants no kit. `test.sh --over-ci` builds both over what `rt ci` just left.
-# out/library/rattle and out/library/llvm hold what each compiler makes; the first is the faster, and stands in out/library. What is wanted
-# of a program and of random ops is one text for both, so both answer alike.
+# out/library/rattle and out/library/llvm hold what each compiler makes. The faster stands in out/library: Rattle's of the book, LLVM's of
+# the table. What is wanted of a program and of random ops is one text for both, so both answer alike.
 set -u -o pipefail
 cd "$(dirname "$0")/.." || exit 1
 made=$PWD/out/library passed=0 failed=0
@@ -41,7 +41,7 @@ gathered() {
         mkdir -p "$made/$it" && cp crates/neddwyrol/out/"$it"/lib*.a "$made/$it" &&
             joined '' "crates/neddwyrol_table/out/$it/libneddwyrol_table.a" "${KIT:-/opt/rattle}/c/liblibc_c.a" "$made/$it/libneddwyrol_table.a" || return 1
     done
-    cp "$made"/rattle/lib*.a "$made" && bash bindings/shared.sh "$made/libneddwyrol.a" "$made"
+    cp "$made/rattle/libneddwyrol.a" "$made/llvm/libneddwyrol_table.a" "$made" && bash bindings/shared.sh "$made/libneddwyrol.a" "$made"
 }
 
 # gathered_for_arm64: the same for arm64, where a compiler for it makes the lines over malloc.

@@ -10,8 +10,9 @@ mount -t devtmpfs dev /dev
 mount -t tracefs tracefs /sys/kernel/tracing
 mount -t debugfs debugfs /sys/kernel/debug
 mount -t cgroup2 cgroup2 /sys/fs/cgroup 2> /dev/null
-# The kernel hands its word records= on to its init.
+# The kernel hands its words records= and again= on to its init.
 records=/dev/${records:-ttyS1}
+[ ! "${again:-}" ] || sleep "0.0${again}3"
 stty raw -F "$records"
 if [ -f /run.sh ]; then
     { sh /run.sh 2>&1; echo "=== END"; } > "$records"

@@ -18,9 +18,10 @@
 # (kernel/verdicts.py). It ends with 0 where nothing stands against any, 4 where one differs, a task was stuck, the kernel warned or sums
 # are left behind, 5 where a law is broken by no known fault, 1 where one has a fault, 2 for wrong words, 3 where a tool is missing, and
 # 125 where a load could not be recorded: so `git bisect run` takes a kernel that does not boot for one to skip.
-# GRUBTRACE is the program that checks, SECONDS_A_BOOT how long a boot may take (of a busy host more than 300 and 60 a load), APPEND words
-# for the kernel. With KEEP_CONSOLE=1 the last boot's console is left in DIR. It needs Debian's packages qemu-system-x86 busybox-static gcc
-# libc6-dev cpio python3; for arm64 qemu-system-arm gcc-aarch64-linux-gnu libc6-dev-arm64-cross cpio python3.
+# GRUBTRACE is the program that checks, SECONDS_A_BOOT how long a boot may take (of a busy host more than 300 and 60 a load),
+# SECONDS_AFTER_OOPS how long it may go on after the kernel's oops (60), APPEND words for the kernel. With KEEP_CONSOLE=1 the last boot's
+# console is left in DIR. It needs Debian's packages qemu-system-x86 busybox-static gcc libc6-dev cpio python3; for arm64
+# qemu-system-arm gcc-aarch64-linux-gnu libc6-dev-arm64-cross cpio python3.
 set -u
 usage() {
     echo "usage: check-kernel.sh [--arch amd64|arm64] [--cpus N] [--virtual] [--ktap] [--out DIR]"
@@ -63,7 +64,8 @@ asked=$kernel
 command -v python3 > /dev/null || fail "there is no python3"
 
 work=$(mktemp -d "${TMPDIR:-/tmp}/check-kernel.XXXXXX")
-trap 'rm -rf "$work"' EXIT
+runs=
+trap '[[ -z $runs ]] || kill "$runs" 2> /dev/null; rm -rf "$work"' EXIT
 trap 'exit 130' HUP INT TERM
 if [[ -n $random$given ]]; then
     if [[ -n $random ]]; then
@@ -155,20 +157,32 @@ fi
 # In host time the first load pays for the translation of code that is run for the first time.
 [[ $cpus -gt 1 && -z $virtual ]] && warm='warm warm2' || warm=
 
-# boot LOAD..: boots once.
+# boot TRIED LOAD..: boots once. So many boots of these loads have ended before: in virtual time another one would end in the same way,
+# so it begins a little later. A kernel that has an oops may hang: it has a minute more.
 boot() {
+    local again=${1#0} seconds after=${SECONDS_AFTER_OOPS:-60} said
+    shift
     say "boot $boots${1:+: $*}"
     find "$guest" -exec touch -hd @0 {} +
     (cd "$guest" && find . | LC_ALL=C sort | cpio -o -H newc --quiet --reproducible | gzip -1n) > "$work/initramfs"
     slow=
-    local seconds=${SECONDS_A_BOOT:-$((300 + 60 * $#))}
+    seconds=${SECONDS_A_BOOT:-$((300 + 60 * $#))}
+    : > "$work/console"
     timeout "$seconds" "${qemu[@]}" "${machine[@]}" -smp "$cpus" -m 1024 -no-reboot \
         -display none -monitor none "${lines[@]}" \
-        -kernel "$kernel" -initrd "$work/initramfs" -append "$words quiet panic=-1 noirqdebug nokaslr norandmaps ${APPEND:-}" \
-        < /dev/null 2> "$work/said" || {
+        -kernel "$kernel" -initrd "$work/initramfs" -append "$words quiet panic=-1 noirqdebug nokaslr norandmaps ${again:+again=$again }${APPEND:-}" \
+        < /dev/null 2> "$work/said" &
+    runs=$!
+    while sleep 0.2 && kill -0 "$runs" 2> /dev/null; do
+        [[ $after != 0 ]] || kill "$runs"
+        ! grep -qaE 'Oops:|kernel BUG' "$work/console" || { sleep 0.8; after=$((after - 1)); }
+    done
+    wait "$runs" || {
         [[ $? != 124 ]] || slow="it took more than $seconds s (SECONDS_A_BOOT)"
-        say "qemu: ${slow:-$(head -n 1 "$work/said")}"
+        said=${slow:-$(head -n 1 "$work/said")}
+        say "qemu: ${said:-it was ended after an oops}"
     }
+    runs=
     [[ -z ${KEEP_CONSOLE:-} ]] || cp "$work/console" "$out/console"
     tr -d '\r' < "$work/records" > "$work/told"
 }
@@ -177,7 +191,7 @@ died() { grep -aE 'Oops|BUG|panic|=== bandwidth left behind' "$work/console" | h
 if [[ -n $run ]]; then
     cp "$run" "$guest/run.sh"
     for boots in $(seq "${BOOTS:-6}"); do
-        boot "${run##*/}"
+        boot $((boots - 1)) "${run##*/}"
         grep -q '^=== END' "$work/told" && break
         say "boot $boots ended before the script: $(died)"
     done
@@ -226,7 +240,7 @@ while [[ -n $left && $failed -lt ${BOOTS:-6} ]]; do
     [[ -z $random ]] || now=${left%%[[:space:]]*}
     for load in $warm $now; do line_of "$load" | cut -f1,3-; done > "$guest/loads"
     # shellcheck disable=SC2086
-    boot $now
+    boot "$(tr ' ' '\n' <<< "$ended" | grep -cxF "${now%%[[:space:]]*}")" $now
     recorded=
     for load in $now; do kept "$load" && recorded+=" $load"; done
     release=$(sed -n '1s/^# grub: notes.* kernel=\([^ ]*\).*/\1/p' "$out/${recorded##* }.txt" 2> /dev/null || echo "${release:-}")

@@ -1,11 +1,12 @@
 #!/usr/bin/env python3
 """harness.py: tries what check-kernel.sh does around a kernel, with none: that a seed is the same load for ever, what the words of the
 scripts answer to bad ones, what stands against a load in a table and in KTAP, what shrink.py leaves of a load, and what states.py
-counts. Programs that print what is given stand for grubtrace and for check-kernel.sh. The last line is 'N passed, M failed'."""
+and coverage.sh count. Programs that print what is given stand for grubtrace and for check-kernel.sh. The last line is 'N passed, M failed'."""
 import hashlib
 import json
 import os
 import re
+import shutil
 import sys
 import tempfile
 
@@ -111,16 +112,19 @@ while IFS=$tab read -r name cpus loops seconds words; do
     case $words in *gr_1*ch=*) cat "$DIFFERS" > "$out/$name.verdict" ;; esac
 done < "$2"
 """
-# What stands for qemu: it records the loads of the guest one after the other. It ends at a load with the word dies=1, tells of a load
-# with stuck=1 that a task was stuck, and spoils the record of one with lost=1.
+# What stands for qemu: it records the loads of the guest one after the other. It ends at a load with the word dies=1, and in a first
+# boot at one with once=1. It hangs at one with hangs=1, tells of a load with stuck=1 that a task was stuck,
+# and spoils the record of one with lost=1.
 QEMU = r"""#!/bin/sh
 while [ $# -gt 0 ]; do
-    case $1 in -serial) records=${2#file:} ;; -initrd) guest=${2%/*}/guest ;; esac
+    case $1 in -serial) records=${2#file:} ;; -initrd) guest=${2%/*}/guest ;; -append) words=$2 ;; esac
     shift
 done
+case $words in *' again='*) once=never ;; *) once=once=1 ;; esac
 tab=$(printf '\t')
 while IFS=$tab read -r name loops seconds words; do
-    case $words in *dies=1*) echo 'Oops: 0000' > "${records%/*}/console"; exit 1 ;; esac
+    case $words in *dies=1* | *$once*) echo 'Oops: 0000' > "${records%/*}/console"; exit 1 ;; esac
+    case $words in *hangs=1*) echo 'kernel BUG at lib/list_debug.c:62!' > "${records%/*}/console"; sleep 600 ;; esac
     case $words in *stuck=1*) echo "=== SAID $name dlgen: stuck: gr_0 (pid 9) was killed" ;; esac
     lost=0 status=0
     case $words in *lost=1*) lost=7 status=4 ;; esac
@@ -133,6 +137,8 @@ done < "$guest/loads" >> "$records"
 ECHOES = "#!/bin/sh\ncat > /dev/null\n"
 TABLE = """good\t1\t0\t1\tgr_0,q=1,p=2
 dies\t1\t0\t1\tgr_0,q=1,p=2,dies=1
+once\t1\t0\t1\tgr_0,q=1,p=2,once=1
+hangs\t1\t0\t1\tgr_0,q=1,p=2,hangs=1
 stuck\t1\t2\t1\tgr_0,q=1,p=2,stuck=1
 lost\t1\t0\t1\tgr_0,q=1,p=2,lost=1
 """
@@ -151,6 +157,36 @@ SITUATIONS = [
     "enq, blocked, flags 0x9, budget, ahead, reclaims",
     "ina, known, blocked",
 ]
+
+# What stands for a kernel that counts: deadline.c as a part of build_policy.c, and what two loads reach of it.
+DEADLINE = """#include <stdlib.h>
+static inline int dl_time_before(int a, int b)
+{
+	return a - b < 0;
+}
+static int replenish(int runtime, int period)
+{
+	while (runtime <= 0)
+		runtime += period;
+	return runtime;
+}
+int enqueue_task_dl(int runtime)
+{
+	if (runtime < 0)
+		return replenish(runtime, 5);
+	return dl_time_before(runtime, 2);
+}
+void yield_task_dl(void)
+{
+	exit(2);
+}
+"""
+POLICY = '#include "deadline.c"\nint main(int n, char **v) { return enqueue_task_dl(atoi(v[1])) < 0; }\n'
+# Of the loads together: functions with their lines, reached, branches, taken; then what none reached.
+REACHED = {
+    "1": ["dl_time_before 2 2 0 0", "replenish 4 0 2 0", "enqueue_task_dl 4 3 2 1", "yield_task_dl 2 0 0 0", "all 12 5 4 1"],
+    "1 -7": ["dl_time_before 2 2 0 0", "replenish 4 4 2 2", "enqueue_task_dl 4 4 2 2", "yield_task_dl 2 0 0 0", "all 12 10 4 4"],
+}
 
 
 def put(path, text, mode=0o644):
@@ -246,6 +282,52 @@ def states(folder):
     TRIED.add("states.py of two sets", differs("counts", done.stdout.splitlines()[:3], ["b: 2 situations", "a: 4 situations, 2 of them not in b", "all: 4 situations"]))
 
 
+def probes():
+    """The events of a record: a filter asks for a field of its event; a processor that could not be taken off comes back by another function."""
+    forms, wrong = [], []
+    for line in text_of(f"{KERNEL}/probes.txt").splitlines():
+        if re.match("[a-z]", line):
+            forms.append((*line.split(), []))
+        elif line.startswith("    if "):
+            wrong += [f"{forms[-1][0]} has no {it}=" for it in re.findall(r"([a-z]\w*) (?:==|>|&)", line) if it not in forms[-1][2]]
+        elif line.startswith("    "):
+            forms[-1][2].extend(it.split("=")[0] for it in line.split())
+    gone = [it[:2] for it in forms if it[0] in ("onl", "off")]
+    wanted = [("onl", "balance_push_set"), ("onl", "sched_cpu_activate"), ("off", "balance_push_set"), ("off", "sched_cpu_deactivate")]
+    TRIED.add("probes.txt", wrong + differs("of processors that come and go", gone, wanted))
+
+
+def coverage(folder):
+    """A kernel that counts: what is asked of its build, and what a report says of two loads."""
+    for it in ("kernel/sched", "scripts", "bin"):
+        os.makedirs(f"{folder}/{it}")
+    put(f"{folder}/kernel/sched/deadline.c", DEADLINE)
+    put(f"{folder}/kernel/sched/build_policy.c", POLICY)
+    put(f"{folder}/kernel/sched/Makefile", "obj-y += build_policy.o\n")
+    put(f"{folder}/CONFIG", "CONFIG_DEBUG_INFO_BTF=y\n")
+    put(f"{folder}/scripts/config", f'#!/bin/sh\necho "config $*" >> {folder}/asked\n', 0o755)
+    put(f"{folder}/bin/make", f'#!/bin/sh\necho "make $*" >> {folder}/asked\n', 0o755)
+    for _ in range(2):
+        done = told("coverage.sh", "build", folder, f"{folder}/CONFIG", PATH=f"{folder}/bin:{os.environ['PATH']}", JOBS="3")
+    asked = [f"config --file {folder}/.config -e GCOV_KERNEL -d GCOV_PROFILE_ALL", f"make -s -C {folder} olddefconfig", f"make -s -C {folder} -j3 bzImage"]
+    wrong = differs("status", done.returncode, 0) + differs("what is asked", text_of(f"{folder}/asked").splitlines(), 2 * asked)
+    wrong += differs("the Makefile", text_of(f"{folder}/kernel/sched/Makefile"), "obj-y += build_policy.o\nGCOV_PROFILE_build_policy.o := y\n")
+    TRIED.add("coverage.sh build", wrong + differs("the configuration", text_of(f"{folder}/.config"), text_of(f"{folder}/CONFIG")))
+    if not all(map(shutil.which, ("gcc", "gcov", "gcov-tool"))):
+        return
+    policy = "kernel/sched/build_policy"
+    for words in (["-c", f"{policy}.c", "-o", f"{policy}.o"], ["-o", "run", f"{policy}.o"]):
+        ran("gcc", "--coverage", "-O0", *words, cwd=folder)
+    for runtime in ("1", "-7"):
+        ran("./run", runtime, cwd=folder)
+        os.rename(f"{folder}/{policy}.gcda", f"{folder}/{runtime}.gcda")
+    for loads, rows in REACHED.items():
+        done = told("coverage.sh", "report", folder, *(f"{folder}/{it}.gcda" for it in loads.split()))
+        got, _, missed = done.stdout.partition("\n\nnot reached:\n")
+        wrong = differs("rows", [" ".join(it.split()) for it in got.splitlines()[1:]], rows)
+        TRIED.add(f"coverage.sh report of {loads}", wrong + differs("the last lines", " ".join(missed.split()[-6:]), "yield_task_dl 18: void yield_task_dl(void) 20: exit(2);"))
+
+
 def boots(folder):
     """The script around a machine that records without a kernel."""
     os.makedirs(f"{folder}/bin")
@@ -254,7 +336,7 @@ def boots(folder):
         put(f"{folder}/bin/{name}", text, 0o755)
     put(f"{folder}/kernel", "")
     put(f"{folder}/table.tsv", TABLE)
-    more = {"PATH": f"{folder}/bin:{os.environ['PATH']}", "GRUBTRACE": f"{folder}/bin/checker", "TMPDIR": folder}
+    more = {"PATH": f"{folder}/bin:{os.environ['PATH']}", "GRUBTRACE": f"{folder}/bin/checker", "TMPDIR": folder, "SECONDS_AFTER_OOPS": "1"}
     for words, name in ((["--random", "1"], "r1"), (["--cpus", "4", "--virtual", "--random", "3", "--with", "limit"], "r3.4l")):
         done = told("check-kernel.sh", "--out", folder, *words, f"{folder}/kernel", **more)
         at = words.index("--random")
@@ -266,9 +348,10 @@ def boots(folder):
         TRIED.add(f"check-kernel.sh {' '.join(words)}", wrong)
     done = told("check-kernel.sh", "--ktap", "--out", folder, "--loads", f"{folder}/table.tsv", f"{folder}/kernel", **more)
     tests = [it for it in done.stdout.splitlines() if it.startswith(("ok", "not ok"))]
-    wanted = ["ok 1 good", "ok 2 dies # SKIP it could not be recorded; its boots ended: Oops: 0000", "not ok 3 stuck # a task was stuck",
-              "ok 4 lost # SKIP it could not be recorded; 7 events were lost"]
-    TRIED.add("loads that end each boot and that are spoiled", differs("tests", tests, wanted) + differs("status", done.returncode, 125))
+    wanted = ["ok 1 good", "ok 2 dies # SKIP it could not be recorded; its boots ended: Oops: 0000", "ok 3 once",
+              "ok 4 hangs # SKIP it could not be recorded; its boots ended: kernel BUG at lib/list_debug.c:62!", "not ok 5 stuck # a task was stuck",
+              "ok 6 lost # SKIP it could not be recorded; 7 events were lost"]
+    TRIED.add("loads that end boots and that are spoiled", differs("tests", tests, wanted) + differs("status", done.returncode, 125))
     TRIED.add("it leaves nothing behind", [it for it in os.listdir(folder) if it.startswith("check-kernel.")])
 
 
@@ -277,7 +360,8 @@ def main():
         done = told(*words)
         TRIED.add(" ".join(words), differs("status", done.returncode, 2) + ([] if wanted in done.stderr else [f"it says {done.stderr[:200]!r}"]))
     seeds()
-    for part in (verdicts, shrinks, states, boots):
+    probes()
+    for part in (verdicts, shrinks, states, coverage, boots):
         with tempfile.TemporaryDirectory() as folder:
             part(folder)
     TRIED.end()

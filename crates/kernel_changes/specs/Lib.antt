@@ -1,1 +1,4 @@
 pub mod Charges
+pub mod Reckoning
+pub mod Changes
+pub mod Others

@@ -7,6 +7,8 @@ ghost use Rattle.kernel_functions.specs.Leave.{leaving_of};
 ghost use Rattle.kernel_functions.specs.Timer.{fired_of};
 ghost use Rattle.kernel_functions.specs.Admit.{admitting_of};
 ghost use Rattle.kernel_functions.specs.Later.{locked_of};
+ghost use Rattle.kernel_changes.specs.Changes.{admitting_with, changed_admitting, changed_dequeuing, changed_firing, changed_leaving, changed_lock, changed_lock_at, changed_spending, dequeuing_with, firing_with, frees_nothing, had_bandwidth, is_entry, is_move, is_past, leaving_with, left_at_once, left_in_sums, locking_with, spending_with, with_running, with_this};
+ghost use Rattle.kernel_changes.specs.Reckoning.{block_clock, block_entity, later_by, own_again, with_period};
 
 use crate::change::RuleChange;
 use kernel_entity::{Block, Entity, SumsChange, unchanged, zero_lag};
@@ -16,7 +18,9 @@ use kernel_functions::{
 };
 use trace_data::{Admitted, Parameters};
 
-fn with_period(entity: Entity, dl_period: u64) -> Entity {
+pub(crate) fn with_period(entity: Entity, dl_period: u64) -> Entity
+    ensures { result ≡ with_period dl_period entity }
+{
     Entity {
         parameters: Parameters {
             dl_period,
@@ -26,7 +30,9 @@ fn with_period(entity: Entity, dl_period: u64) -> Entity {
     }
 }
 
-fn changed_spend(change: RuleChange, entity: Entity, clock: u64, has_run: bool) -> Spending {
+fn changed_spend(change: RuleChange, entity: Entity, clock: u64, has_run: bool) -> Spending
+    ensures { result ≡ changed_spending change entity clock has_run }
+{
     match change {
         RuleChange::UntilDeadline => {
             let by = with_period(entity, entity.parameters.dl_deadline);
@@ -41,8 +47,10 @@ fn changed_spend(change: RuleChange, entity: Entity, clock: u64, has_run: bool) 
 }
 
 /// What becomes of an entity that was charged at this clock.
+#[tactic(auto, unfolding(crate::specs::Changes::spending_with))]
 pub fn spend_by(change: Option<RuleChange>, entity: Entity, clock: u64, has_run: bool) -> Spending
-    ensures { change ≡ None → result ≡ spending_of entity clock has_run }
+    ensures value { result ≡ spending_with change entity clock has_run }
+    ensures unchanged { change ≡ None → result ≡ spending_of entity clock has_run }
 {
     match change {
         None => spend(entity, clock, has_run),
@@ -51,14 +59,18 @@ pub fn spend_by(change: Option<RuleChange>, entity: Entity, clock: u64, has_run:
 }
 
 /// The clock by which the wait for the 0-lag time is so many hundredths of what it is.
-fn clock_for(entity: Entity, clock: u64, hundredths: i64) -> u64 {
+fn later(entity: Entity, clock: u64, hundredths: i64) -> u64
+    ensures { result ≡ later_by entity clock hundredths }
+{
     let wait = zero_lag(entity, clock);
     let other = wait.wrapping_mul(hundredths).div_euclid(100);
     clock.wrapping_add(wait.wrapping_sub(other).cast_unsigned())
 }
 
 /// The entity by which a block reckons, and its clock.
-fn blocks_by(change: RuleChange, entity: Entity) -> Entity {
+fn blocks_by(change: RuleChange, entity: Entity) -> Entity
+    ensures { result ≡ block_entity change entity }
+{
     match change {
         RuleChange::ZeroLagByDeadline => with_period(entity, entity.parameters.dl_deadline),
         RuleChange::ZeroLagNever => Entity {
@@ -69,19 +81,27 @@ fn blocks_by(change: RuleChange, entity: Entity) -> Entity {
     }
 }
 
-fn blocks_at(change: RuleChange, entity: Entity, clock: u64) -> u64 {
+fn blocks_at(change: RuleChange, entity: Entity, clock: u64) -> u64
+    ensures { result ≡ block_clock change entity clock }
+{
     match change {
-        RuleChange::ZeroLagShorter => clock_for(entity, clock, 95),
-        RuleChange::ZeroLagLonger => clock_for(entity, clock, 101),
+        RuleChange::ZeroLagShorter => later(entity, clock, 95),
+        RuleChange::ZeroLagLonger => later(entity, clock, 101),
         _ => clock,
     }
 }
 
 /// The entity after such a block, with what it had itself.
-fn own_again(change: RuleChange, before: Entity, after: Entity) -> Entity {
+fn own_again(change: RuleChange, before: Entity, after: Entity) -> Entity
+    ensures { result ≡ own_again change before after }
+{
     match change {
-        RuleChange::ZeroLagByDeadline if after.parameters.dl_runtime != 0 => {
-            with_period(after, before.parameters.dl_period)
+        RuleChange::ZeroLagByDeadline => {
+            if after.parameters.dl_runtime == 0 {
+                after
+            } else {
+                with_period(after, before.parameters.dl_period)
+            }
         }
         RuleChange::ZeroLagNever => Entity {
             has_inactive_timer: before.has_inactive_timer,
@@ -91,41 +111,78 @@ fn own_again(change: RuleChange, before: Entity, after: Entity) -> Entity {
     }
 }
 
-/// What a block past the 0-lag time does, where it leaves `running_bw`.
-fn runs_on(
-    change: RuleChange,
-    entity: Entity,
-    block: Option<Block>,
-    sums: SumsChange,
-) -> SumsChange {
-    match block {
-        Some(Block::Past)
-            if change == RuleChange::PastRunsOn && (entity.is_server || entity.is_in_class) =>
-            SumsChange {
-                running_bw: sums.running_bw.wrapping_add(entity.dl_bw),
-                ..sums
-            },
-        _ => sums,
+fn with_this(sums: SumsChange, bw: u64) -> SumsChange
+    ensures { result ≡ with_this bw sums }
+{
+    SumsChange {
+        this_bw: sums.this_bw.wrapping_add(bw),
+        ..sums
     }
 }
 
-/// What a dequeue that moves the task leaves behind.
-fn left_behind(
-    change: RuleChange,
-    entity: Entity,
-    departure: Arrival,
-    sums: SumsChange,
-) -> SumsChange {
-    match (change, departure) {
-        (RuleChange::MoveLeavesThis, Arrival::Moves) => SumsChange {
-            this_bw: sums.this_bw.wrapping_add(entity.dl_bw),
-            ..sums
-        },
-        (RuleChange::MoveLeavesRunning, Arrival::Moves) => SumsChange {
-            running_bw: sums.running_bw.wrapping_add(entity.dl_bw),
-            ..sums
-        },
-        _ => sums,
+fn with_running(sums: SumsChange, bw: u64) -> SumsChange
+    ensures { result ≡ with_running bw sums }
+{
+    SumsChange {
+        running_bw: sums.running_bw.wrapping_add(bw),
+        ..sums
+    }
+}
+
+fn frees_nothing(sums: SumsChange) -> SumsChange
+    ensures { result ≡ frees_nothing sums }
+{
+    SumsChange {
+        freed: None,
+        ..sums
+    }
+}
+
+pub(crate) fn moves(arrival: Arrival) -> bool
+    ensures { result ≡ is_move arrival }
+{
+    match arrival {
+        Arrival::Moves => true,
+        Arrival::Stays | Arrival::Restores => false,
+    }
+}
+
+fn is_past(block: Option<Block>) -> bool
+    ensures { result ≡ is_past block }
+{
+    match block {
+        Some(Block::Past) => true,
+        Some(Block::Unreserved | Block::ZeroLagTimer(_)) | None => false,
+    }
+}
+
+/// What a dequeue takes from the sums, where it leaves something in them.
+fn left_in_sums(change: RuleChange, entity: Entity, done: Dequeuing) -> SumsChange
+    ensures { result ≡ left_in_sums change entity done }
+{
+    match change {
+        RuleChange::MoveLeavesThis => {
+            if moves(done.departure) {
+                with_this(done.change, entity.dl_bw)
+            } else {
+                done.change
+            }
+        }
+        RuleChange::MoveLeavesRunning => {
+            if moves(done.departure) {
+                with_running(done.change, entity.dl_bw)
+            } else {
+                done.change
+            }
+        }
+        RuleChange::PastRunsOn => {
+            if is_past(done.block) && (entity.is_server || entity.is_in_class) {
+                with_running(done.change, entity.dl_bw)
+            } else {
+                done.change
+            }
+        }
+        _ => done.change,
     }
 }
 
@@ -135,18 +192,20 @@ fn changed_dequeue(
     flags: u64,
     on_rq: u64,
     clock: u64,
-) -> Dequeuing {
+) -> Dequeuing
+    ensures { result ≡ changed_dequeuing change entity flags on_rq clock }
+{
     let by = blocks_by(change, entity);
     let done = dequeue(by, flags, on_rq, blocks_at(change, entity, clock));
-    let sums = left_behind(change, entity, done.departure, done.change);
     Dequeuing {
         entity: own_again(change, entity, done.entity),
-        change: runs_on(change, entity, done.block, sums),
+        change: left_in_sums(change, entity, done),
         ..done
     }
 }
 
 /// What a dequeue with these DEQUEUE_ flags does, after the charge in it.
+#[tactic(auto, unfolding(crate::specs::Changes::dequeuing_with))]
 pub fn dequeue_by(
     change: Option<RuleChange>,
     entity: Entity,
@@ -154,7 +213,8 @@ pub fn dequeue_by(
     on_rq: u64,
     clock: u64,
 ) -> Dequeuing
-    ensures { change ≡ None → result ≡ dequeuing_of entity flags on_rq clock }
+    ensures value { result ≡ dequeuing_with change entity flags on_rq clock }
+    ensures unchanged { change ≡ None → result ≡ dequeuing_of entity flags on_rq clock }
 {
     match change {
         None => dequeue(entity, flags, on_rq, clock),
@@ -163,7 +223,9 @@ pub fn dequeue_by(
 }
 
 /// Leaving the class with no block.
-fn left_at_once(entity: Entity) -> Leaving {
+fn left_at_once(entity: Entity) -> Leaving
+    ensures { result ≡ left_at_once entity }
+{
     Leaving {
         entity: Entity {
             is_in_class: false,
@@ -175,30 +237,41 @@ fn left_at_once(entity: Entity) -> Leaving {
     }
 }
 
-fn changed_leave(change: RuleChange, entity: Entity, on_rq: u64, clock: u64) -> Leaving {
+fn changed_leave(change: RuleChange, entity: Entity, on_rq: u64, clock: u64) -> Leaving
+    ensures { result ≡ changed_leaving change entity on_rq clock }
+{
     let by = blocks_by(change, entity);
     let done = leave(by, on_rq, blocks_at(change, entity, clock));
-    if change == RuleChange::LeavesAtOnce && done.block.is_some() {
-        return left_at_once(entity);
-    }
-    let freed = if change == RuleChange::LeavingFreesNothing && !entity.is_dead {
-        None
-    } else {
-        done.change.freed
-    };
-    Leaving {
-        entity: own_again(change, entity, done.entity),
-        change: SumsChange {
-            freed,
-            ..done.change
+    match change {
+        RuleChange::LeavesAtOnce => {
+            if done.block.is_some() {
+                left_at_once(entity)
+            } else {
+                done
+            }
+        }
+        RuleChange::LeavingFreesNothing => {
+            if entity.is_dead {
+                done
+            } else {
+                Leaving {
+                    change: frees_nothing(done.change),
+                    ..done
+                }
+            }
+        }
+        _ => Leaving {
+            entity: own_again(change, entity, done.entity),
+            ..done
         },
-        ..done
     }
 }
 
 /// What leaving the class at this clock does.
+#[tactic(auto, unfolding(crate::specs::Changes::leaving_with))]
 pub fn leave_by(change: Option<RuleChange>, entity: Entity, on_rq: u64, clock: u64) -> Leaving
-    ensures { change ≡ None → result ≡ leaving_of entity on_rq clock }
+    ensures value { result ≡ leaving_with change entity on_rq clock }
+    ensures unchanged { change ≡ None → result ≡ leaving_of entity on_rq clock }
 {
     match change {
         None => leave(entity, on_rq, clock),
@@ -206,28 +279,44 @@ pub fn leave_by(change: Option<RuleChange>, entity: Entity, on_rq: u64, clock: u
     }
 }
 
-fn changed_fired(change: RuleChange, entity: Entity) -> Fired {
+fn changed_fired(change: RuleChange, entity: Entity) -> Fired
+    ensures { result ≡ changed_firing change entity }
+{
     let done = zero_lag_fired(entity);
     match change {
         RuleChange::EndFreesNothing => Fired {
             freed: None,
             ..done
         },
-        RuleChange::LeavingFreesNothing if !entity.is_dead => Fired {
-            freed: None,
-            ..done
-        },
-        RuleChange::ServerRunsOn if entity.is_server => Fired {
-            stops: false,
-            ..done
-        },
+        RuleChange::LeavingFreesNothing => {
+            if entity.is_dead {
+                done
+            } else {
+                Fired {
+                    freed: None,
+                    ..done
+                }
+            }
+        }
+        RuleChange::ServerRunsOn => {
+            if entity.is_server {
+                Fired {
+                    stops: false,
+                    ..done
+                }
+            } else {
+                done
+            }
+        }
         _ => done,
     }
 }
 
 /// What the timer of the 0-lag time does.
+#[tactic(auto, unfolding(crate::specs::Changes::firing_with))]
 pub fn fired_by(change: Option<RuleChange>, entity: Entity) -> Fired
-    ensures { change ≡ None → result ≡ fired_of entity }
+    ensures value { result ≡ firing_with change entity }
+    ensures unchanged { change ≡ None → result ≡ fired_of entity }
 {
     match change {
         None => zero_lag_fired(entity),
@@ -235,28 +324,62 @@ pub fn fired_by(change: Option<RuleChange>, entity: Entity) -> Fired
     }
 }
 
-fn changed_admit(change: RuleChange, entity: Entity, line: Admitted, room: u64) -> Admitting {
+/// Whether a task comes into the class, or back.
+fn enters(admission: Admission) -> bool
+    ensures { result ≡ is_entry admission }
+{
+    match admission {
+        Admission::New | Admission::Back => true,
+        Admission::Other | Admission::Refused | Admission::Same | Admission::Changed => false,
+    }
+}
+
+fn had_bandwidth(admission: Admission) -> bool
+    ensures { result ≡ had_bandwidth admission }
+{
+    match admission {
+        Admission::Changed | Admission::Back => true,
+        Admission::Other | Admission::Refused | Admission::Same | Admission::New => false,
+    }
+}
+
+fn changed_admit(change: RuleChange, entity: Entity, line: Admitted, room: u64) -> Admitting
+    ensures { result ≡ changed_admitting change entity line room }
+{
     let done = admit(entity, line, room);
-    let sums = match (change, done.admission) {
-        (RuleChange::AdmissionTakesNothing, Admission::New | Admission::Back) => SumsChange {
-            taken: None,
-            ..done.change
-        },
-        (RuleChange::ChangeFreesNothing, Admission::Changed | Admission::Back) => SumsChange {
-            freed: None,
-            ..done.change
-        },
-        _ => done.change,
-    };
-    Admitting {
-        change: sums,
-        ..done
+    match change {
+        RuleChange::AdmissionTakesNothing => {
+            if enters(done.admission) {
+                Admitting {
+                    change: SumsChange {
+                        taken: None,
+                        ..done.change
+                    },
+                    ..done
+                }
+            } else {
+                done
+            }
+        }
+        RuleChange::ChangeFreesNothing => {
+            if had_bandwidth(done.admission) {
+                Admitting {
+                    change: frees_nothing(done.change),
+                    ..done
+                }
+            } else {
+                done
+            }
+        }
+        _ => done,
     }
 }
 
 /// What a call does that asks for a reservation in a root domain with room for so much bandwidth.
+#[tactic(auto, unfolding(crate::specs::Changes::admitting_with))]
 pub fn admit_by(change: Option<RuleChange>, entity: Entity, line: Admitted, room: u64) -> Admitting
-    ensures { change ≡ None → result ≡ admitting_of entity line room }
+    ensures value { result ≡ admitting_with change entity line room }
+    ensures unchanged { change ≡ None → result ≡ admitting_of entity line room }
 {
     match change {
         None => admit(entity, line, room),
@@ -264,35 +387,54 @@ pub fn admit_by(change: Option<RuleChange>, entity: Entity, line: Admitted, room
     }
 }
 
-fn changed_lock(change: RuleChange, entity: Entity, delayed: Delayed) -> Locked {
-    let done = lock(entity, delayed);
-    if delayed == Delayed::Moved {
-        return done;
-    }
-    if change == RuleChange::ServerRunsOn && entity.is_server {
-        return Locked {
-            entity,
-            change: unchanged(),
-        };
-    }
-    let frees_nothing = change == RuleChange::EndFreesNothing
-        || change == RuleChange::LeavingFreesNothing && !entity.is_dead;
-    Locked {
-        change: SumsChange {
-            freed: if frees_nothing {
-                None
-            } else {
-                done.change.freed
-            },
-            ..done.change
+/// What `inactive_task_timer` does once it has its lock.
+fn changed_lock_at(change: RuleChange, entity: Entity) -> Locked
+    ensures { result ≡ changed_lock_at change entity }
+{
+    let done = lock(entity, Delayed::ZeroLag);
+    match change {
+        RuleChange::EndFreesNothing => Locked {
+            change: frees_nothing(done.change),
+            ..done
         },
-        ..done
+        RuleChange::LeavingFreesNothing => {
+            if entity.is_dead {
+                done
+            } else {
+                Locked {
+                    change: frees_nothing(done.change),
+                    ..done
+                }
+            }
+        }
+        RuleChange::ServerRunsOn => {
+            if entity.is_server {
+                Locked {
+                    entity,
+                    change: unchanged(),
+                }
+            } else {
+                done
+            }
+        }
+        _ => done,
+    }
+}
+
+fn changed_lock(change: RuleChange, entity: Entity, delayed: Delayed) -> Locked
+    ensures { result ≡ changed_lock change entity delayed }
+{
+    match delayed {
+        Delayed::Moved => lock(entity, Delayed::Moved),
+        Delayed::ZeroLag => changed_lock_at(change, entity),
     }
 }
 
 /// What a function does once it has its lock.
+#[tactic(auto, unfolding(crate::specs::Changes::locking_with))]
 pub fn lock_by(change: Option<RuleChange>, entity: Entity, delayed: Delayed) -> Locked
-    ensures { change ≡ None → result ≡ locked_of entity delayed }
+    ensures value { result ≡ locking_with change entity delayed }
+    ensures unchanged { change ≡ None → result ≡ locked_of entity delayed }
 {
     match change {
         None => lock(entity, delayed),

@@ -2,169 +2,153 @@
 
 ghost use Rattle.std.specs.Prelude.{◌≡◌, None};
 ghost use Rattle.kernel_functions.specs.Enqueue.{enqueuing_of};
+ghost use Rattle.kernel_changes.specs.Changes.{before_refill, changed_enqueue, changed_enqueuing, contends, contends_on, enqueued_by, enqueuing_with, is_no_wake, is_replenishment, is_restart, is_wake, never_constrained, of_one_period, rewoken, waking_with};
 
 use crate::change::RuleChange;
+use crate::departures::{moves, with_period};
 use crate::refills::{changed_waking, changed_woken};
 use crate::replenishments::{replenished_once, with_budget, with_left};
 use kernel_entity::{ChargeLaw, Contention, Entity, MIGRATED, REPLENISH, SumsChange, has};
-use kernel_functions::{Arrival, Enqueuing, Refill, enqueue};
-use trace_data::{Enqueued, Parameters};
-
-/// The entity with the deadline in place of the period.
-fn unconstrained(entity: Entity) -> Entity {
-    Entity {
-        parameters: Parameters {
-            dl_period: entity.parameters.dl_deadline,
-            ..entity.parameters
-        },
-        ..entity
-    }
-}
-
-fn with_entity(done: Enqueuing, entity: Entity) -> Enqueuing {
-    Enqueuing { entity, ..done }
-}
+use kernel_functions::{Enqueuing, Refill, enqueue};
+use trace_data::Enqueued;
 
 /// The entity that it leaves, with the budget that it had.
-fn before_refill(entity: Entity, done: Enqueuing) -> Entity {
+fn before_refill(entity: Entity, done: Enqueuing) -> Entity
+    ensures { result ≡ before_refill entity done }
+{
     with_budget(done.entity, entity.budget.runtime, entity.budget.deadline)
 }
 
 /// An enqueue that never throttles a constrained task.
-fn never_constrained(law: ChargeLaw, entity: Entity, line: Enqueued) -> Enqueuing {
-    let done = enqueue(law, unconstrained(entity), line);
-    with_entity(
-        done,
-        Entity {
+fn never_constrained(law: ChargeLaw, entity: Entity, line: Enqueued) -> Enqueuing
+    ensures { result ≡ never_constrained law entity line }
+{
+    let by = with_period(entity, entity.parameters.dl_deadline);
+    let done = enqueue(law, by, line);
+    Enqueuing {
+        entity: Entity {
             parameters: entity.parameters,
             ..done.entity
         },
-    )
-}
-
-fn changed_constraint(
-    change: RuleChange,
-    law: ChargeLaw,
-    entity: Entity,
-    line: Enqueued,
-    done: Enqueuing,
-) -> Enqueuing {
-    let late = line
-        .clock
-        .wrapping_sub(entity.budget.deadline)
-        .cast_signed();
-    let is_left = change == RuleChange::NotConstrained
-        || change == RuleChange::UntilDeadline && late >= 1000;
-    if done.is_constrained && is_left {
-        never_constrained(law, entity, line)
-    } else {
-        done
+        ..done
     }
 }
 
-fn changed_wake(
+fn is_wake(refill: Refill) -> bool
+    ensures { result ≡ is_wake refill }
+{
+    match refill {
+        Refill::Wakes(_) => true,
+        Refill::Waits | Refill::Stays | Refill::Replenishes | Refill::Restarts => false,
+    }
+}
+
+/// Whether a refill is neither a wake nor a wait.
+fn is_no_wake(refill: Refill) -> bool
+    ensures { result ≡ is_no_wake refill }
+{
+    match refill {
+        Refill::Stays | Refill::Replenishes | Refill::Restarts => true,
+        Refill::Wakes(_) | Refill::Waits => false,
+    }
+}
+
+fn is_replenishment(refill: Refill) -> bool
+    ensures { result ≡ is_replenishment refill }
+{
+    match refill {
+        Refill::Replenishes => true,
+        Refill::Wakes(_) | Refill::Waits | Refill::Stays | Refill::Restarts => false,
+    }
+}
+
+fn is_restart(refill: Refill) -> bool
+    ensures { result ≡ is_restart refill }
+{
+    match refill {
+        Refill::Restarts => true,
+        Refill::Wakes(_) | Refill::Waits | Refill::Stays | Refill::Replenishes => false,
+    }
+}
+
+/// Whether a wake comes before the 0-lag time.
+fn contends_on(contention: Option<Contention>) -> bool
+    ensures { result ≡ contends_on contention }
+{
+    match contention {
+        Some(Contention::StillRuns) => true,
+        Some(Contention::Unreserved | Contention::RunsAgain) | None => false,
+    }
+}
+
+/// Whether a task that reserves something wakes.
+fn contends(contention: Option<Contention>) -> bool
+    ensures { result ≡ contends contention }
+{
+    match contention {
+        Some(Contention::StillRuns | Contention::RunsAgain) => true,
+        Some(Contention::Unreserved) | None => false,
+    }
+}
+
+/// The same enqueue, where it is a wake by the changed rule.
+fn rewoken(
     change: RuleChange,
     law: ChargeLaw,
     entity: Entity,
     clock: u64,
     done: Enqueuing,
-) -> Enqueuing {
-    match done.refill {
-        Refill::Wakes(_) => {
-            let before = before_refill(entity, done);
-            let wake = changed_waking(change, law, before, clock);
-            Enqueuing {
-                entity: changed_woken(change, before, clock, wake),
-                refill: Refill::Wakes(wake),
-                ..done
-            }
-        }
-        _ => done,
+) -> Enqueuing
+    ensures { result ≡ rewoken change law entity clock done }
+{
+    let before = before_refill(entity, done);
+    let wake = changed_waking(change, law, before, clock);
+    Enqueuing {
+        entity: changed_woken(change, before, clock, wake),
+        refill: Refill::Wakes(wake),
+        ..done
     }
 }
 
-/// A move that is a wake.
-fn moved_as_wake(law: ChargeLaw, entity: Entity, line: Enqueued, done: Enqueuing) -> Enqueuing {
-    match (done.arrival, done.refill) {
-        (Arrival::Moves, Refill::Stays | Refill::Restarts | Refill::Replenishes) => {
-            let before = before_refill(entity, done);
-            let wake = changed_waking(RuleChange::MoveWakes, law, before, line.clock);
-            Enqueuing {
-                entity: changed_woken(RuleChange::MoveWakes, before, line.clock, wake),
-                refill: Refill::Wakes(wake),
-                ..done
-            }
-        }
-        _ => done,
+fn waking_by(
+    change: RuleChange,
+    law: ChargeLaw,
+    entity: Entity,
+    line: Enqueued,
+    done: Enqueuing,
+) -> Enqueuing
+    ensures { result ≡ waking_with change law entity line done }
+{
+    if is_wake(done.refill) {
+        rewoken(change, law, entity, line.clock, done)
+    } else {
+        done
     }
 }
 
-/// An enqueue with a restore that never begins a new period.
-fn never_restarted(entity: Entity, done: Enqueuing) -> Enqueuing {
-    match done.refill {
-        Refill::Restarts => Enqueuing {
-            entity: before_refill(entity, done),
-            refill: Refill::Stays,
-            ..done
-        },
-        _ => done,
-    }
-}
-
-/// A wake that leaves the 0-lag timer.
-fn with_timer(entity: Entity, done: Enqueuing) -> Enqueuing {
-    match done.contention {
-        Some(Contention::StillRuns) => with_entity(
-            done,
-            Entity {
-                has_inactive_timer: entity.has_inactive_timer,
-                ..done.entity
-            },
-        ),
-        _ => done,
-    }
-}
-
-/// A wake on another processor that adds nothing to `this_bw`.
-fn without_this(entity: Entity, line: Enqueued, done: Enqueuing) -> Enqueuing {
-    match done.contention {
-        Some(Contention::StillRuns | Contention::RunsAgain) if has(line.flags, MIGRATED) => {
-            Enqueuing {
-                change: SumsChange {
-                    this_bw: done.change.this_bw.wrapping_sub(entity.dl_bw),
-                    ..done.change
-                },
-                ..done
-            }
-        }
-        _ => done,
-    }
-}
-
-/// A replenishment of one period.
-fn of_one_period(entity: Entity, line: Enqueued, done: Enqueuing) -> Enqueuing {
-    match done.refill {
-        Refill::Replenishes if entity.parameters.dl_deadline != 0 => {
-            let by = replenished_once(entity_served(entity, done), line.clock);
-            with_entity(
-                done,
-                with_budget(done.entity, by.budget.runtime, by.budget.deadline),
-            )
-        }
-        _ => done,
-    }
-}
-
-/// The entity as it was, served as it is now.
-fn entity_served(entity: Entity, done: Enqueuing) -> Entity {
-    Entity {
+/// A replenishment of one period, by the donor that serves it now.
+fn of_one_period(entity: Entity, line: Enqueued, done: Enqueuing) -> Enqueuing
+    ensures { result ≡ of_one_period entity line done }
+{
+    let served = Entity {
         donor: done.entity.donor,
         ..entity
+    };
+    let by = replenished_once(served, line.clock);
+    if is_replenishment(done.refill) && entity.parameters.dl_deadline != 0 {
+        Enqueuing {
+            entity: with_budget(done.entity, by.budget.runtime, by.budget.deadline),
+            ..done
+        }
+    } else {
+        done
     }
 }
 
-/// What an enqueue that may replenish finds.
-fn found(change: RuleChange, entity: Entity, line: Enqueued) -> Entity {
+/// What an enqueue finds that may replenish.
+fn found(change: RuleChange, entity: Entity, line: Enqueued) -> Entity
+    ensures { result ≡ enqueued_by change entity line }
+{
     if has(line.flags, REPLENISH) {
         with_left(change, entity)
     } else {
@@ -172,40 +156,108 @@ fn found(change: RuleChange, entity: Entity, line: Enqueued) -> Entity {
     }
 }
 
-fn changed_enqueue(
+/// What is another after the kernel's enqueue.
+fn after_enqueue(
     change: RuleChange,
     law: ChargeLaw,
     entity: Entity,
     line: Enqueued,
-) -> Enqueuing {
-    let done = enqueue(law, found(change, entity, line), line);
+    done: Enqueuing,
+) -> Enqueuing
+    ensures { result ≡ changed_enqueue change law entity line done }
+{
     match change {
-        RuleChange::NotConstrained | RuleChange::UntilDeadline => {
-            changed_constraint(change, law, entity, line, done)
+        RuleChange::NotConstrained => {
+            if done.is_constrained {
+                never_constrained(law, entity, line)
+            } else {
+                done
+            }
         }
-        RuleChange::WakeTurned
-        | RuleChange::WakeByPeriod
-        | RuleChange::WakeNotRevised
-        | RuleChange::WakeByBandwidth
-        | RuleChange::WakeRenews
-        | RuleChange::WakeEarly => changed_wake(change, law, entity, line.clock, done),
-        RuleChange::MoveWakes => moved_as_wake(law, entity, line, done),
-        RuleChange::RestoreStays => never_restarted(entity, done),
-        RuleChange::TimerStays => with_timer(entity, done),
-        RuleChange::WakeElsewhereAddsNothing => without_this(entity, line, done),
+        RuleChange::UntilDeadline => {
+            let late = line.clock.wrapping_sub(entity.budget.deadline);
+            if done.is_constrained && late.cast_signed() >= 1000 {
+                never_constrained(law, entity, line)
+            } else {
+                done
+            }
+        }
+        RuleChange::WakeTurned => waking_by(RuleChange::WakeTurned, law, entity, line, done),
+        RuleChange::WakeByPeriod => waking_by(RuleChange::WakeByPeriod, law, entity, line, done),
+        RuleChange::WakeNotRevised => {
+            waking_by(RuleChange::WakeNotRevised, law, entity, line, done)
+        }
+        RuleChange::WakeByBandwidth => {
+            waking_by(RuleChange::WakeByBandwidth, law, entity, line, done)
+        }
+        RuleChange::WakeRenews => waking_by(RuleChange::WakeRenews, law, entity, line, done),
+        RuleChange::WakeEarly => waking_by(RuleChange::WakeEarly, law, entity, line, done),
+        RuleChange::MoveWakes => {
+            if moves(done.arrival) && is_no_wake(done.refill) {
+                rewoken(RuleChange::MoveWakes, law, entity, line.clock, done)
+            } else {
+                done
+            }
+        }
+        RuleChange::RestoreStays => {
+            if is_restart(done.refill) {
+                Enqueuing {
+                    entity: before_refill(entity, done),
+                    refill: Refill::Stays,
+                    ..done
+                }
+            } else {
+                done
+            }
+        }
+        RuleChange::TimerStays => {
+            if contends_on(done.contention) {
+                Enqueuing {
+                    entity: Entity {
+                        has_inactive_timer: entity.has_inactive_timer,
+                        ..done.entity
+                    },
+                    ..done
+                }
+            } else {
+                done
+            }
+        }
+        RuleChange::WakeElsewhereAddsNothing => {
+            if contends(done.contention) && has(line.flags, MIGRATED) {
+                Enqueuing {
+                    change: SumsChange {
+                        this_bw: done.change.this_bw.wrapping_sub(entity.dl_bw),
+                        ..done.change
+                    },
+                    ..done
+                }
+            } else {
+                done
+            }
+        }
         RuleChange::OnePeriod => of_one_period(entity, line, done),
         _ => done,
     }
 }
 
+fn changed_enqueue(change: RuleChange, law: ChargeLaw, entity: Entity, line: Enqueued) -> Enqueuing
+    ensures { result ≡ changed_enqueuing change law entity line }
+{
+    let done = enqueue(law, found(change, entity, line), line);
+    after_enqueue(change, law, entity, line, done)
+}
+
 /// What an enqueue does to an entity that has the values of the line.
+#[tactic(auto, unfolding(crate::specs::Changes::enqueuing_with))]
 pub fn enqueue_by(
     change: Option<RuleChange>,
     law: ChargeLaw,
     entity: Entity,
     line: Enqueued,
 ) -> Enqueuing
-    ensures { change ≡ None → result ≡ enqueuing_of law entity line }
+    ensures value { result ≡ enqueuing_with change law entity line }
+    ensures unchanged { change ≡ None → result ≡ enqueuing_of law entity line }
 {
     match change {
         None => enqueue(law, entity, line),

@@ -1,5 +1,8 @@
 //! What a wake does to budget and deadline, with one rule changed.
 
+ghost use Rattle.std.specs.Prelude.{◌≡◌};
+ghost use Rattle.kernel_changes.specs.Reckoning.{not_revised, revised_by_bandwidth, underflows, wake_for, waking_by, with_deadline_as_period, woken_by};
+
 use crate::change::RuleChange;
 use crate::replenishments::with_budget;
 use kernel_entity::{ChargeLaw, Entity, Wake, is_before, overflows, served_by, waking, woken};
@@ -9,7 +12,9 @@ use trace_data::{Donor, Parameters};
 const EARLY: u64 = 1 << 20;
 
 /// The entity with the period in place of the deadline, its own and its donor's.
-fn with_deadline_as_period(entity: Entity) -> Entity {
+fn with_deadline_as_period(entity: Entity) -> Entity
+    ensures { result ≡ with_deadline_as_period entity }
+{
     Entity {
         parameters: Parameters {
             dl_deadline: entity.parameters.dl_period,
@@ -27,36 +32,49 @@ fn with_deadline_as_period(entity: Entity) -> Entity {
 }
 
 /// Whether the budget until the deadline is less than the reservation gives.
-fn underflows(entity: Entity, clock: u64) -> bool {
+fn underflows(entity: Entity, clock: u64) -> bool
+    ensures { result ≡ underflows entity clock }
+{
     let serving = served_by(entity);
+    let budget = entity.budget.runtime;
     let span = entity.budget.deadline.wrapping_sub(clock);
-    let left = (serving.dl_deadline >> 10).wrapping_mul(
-        (entity.budget.runtime >> 10).cast_unsigned(),
-    );
+    let left = (serving.dl_deadline >> 10).wrapping_mul((budget >> 10).cast_unsigned());
     let right = (span >> 10).wrapping_mul(serving.dl_runtime >> 10);
     is_before(left, right)
 }
 
 /// The answer of a wake whose test says that there is too much, or not.
-fn wake_for(entity: Entity, clock: u64, is_too_much: bool) -> Wake {
+fn wake_for(entity: Entity, clock: u64, is_too_much: bool) -> Wake
+    ensures { result ≡ wake_for entity clock is_too_much }
+{
+    if is_before(entity.budget.deadline, clock) {
+        return Wake::Renewed;
+    }
+    if !is_too_much {
+        return Wake::Kept;
+    }
     let is_constrained = entity.parameters.dl_deadline != entity.parameters.dl_period;
-    let is_past = is_before(entity.budget.deadline, clock);
-    if !is_past && !is_too_much {
-        Wake::Kept
-    } else if is_constrained && !is_past && entity.donor.is_none() {
+    if is_constrained && entity.donor.is_none() {
         Wake::Revised
     } else {
         Wake::Renewed
     }
 }
 
+fn not_revised(wake: Wake) -> Wake
+    ensures { result ≡ not_revised wake }
+{
+    match wake {
+        Wake::Revised => Wake::Renewed,
+        Wake::Kept => Wake::Kept,
+        Wake::Renewed => Wake::Renewed,
+    }
+}
+
 /// What a wake does to this entity.
-pub(crate) fn changed_waking(
-    change: RuleChange,
-    law: ChargeLaw,
-    entity: Entity,
-    clock: u64,
-) -> Wake {
+pub(crate) fn changed_waking(change: RuleChange, law: ChargeLaw, entity: Entity, clock: u64) -> Wake
+    ensures { result ≡ waking_by change law entity clock }
+{
     match change {
         RuleChange::WakeTurned => wake_for(entity, clock, underflows(entity, clock)),
         RuleChange::WakeByPeriod => wake_for(
@@ -64,14 +82,7 @@ pub(crate) fn changed_waking(
             clock,
             overflows(law, with_deadline_as_period(entity), clock),
         ),
-        RuleChange::WakeNotRevised => {
-            let wake = waking(law, entity, clock);
-            if wake == Wake::Revised {
-                Wake::Renewed
-            } else {
-                wake
-            }
-        }
+        RuleChange::WakeNotRevised => not_revised(waking(law, entity, clock)),
         RuleChange::WakeRenews => wake_for(entity, clock, true),
         RuleChange::WakeEarly => {
             let is_early = is_before(entity.budget.deadline, clock.wrapping_add(EARLY));
@@ -81,11 +92,24 @@ pub(crate) fn changed_waking(
     }
 }
 
+/// The entity after a wake that revises its budget by the bandwidth.
+fn revised_by_bandwidth(entity: Entity, clock: u64) -> Entity
+    ensures { result ≡ revised_by_bandwidth entity clock }
+{
+    let by = woken(with_deadline_as_period(entity), clock, Wake::Revised);
+    with_budget(entity, by.budget.runtime, by.budget.deadline)
+}
+
 /// The entity after such a wake.
-pub(crate) fn changed_woken(change: RuleChange, entity: Entity, clock: u64, wake: Wake) -> Entity {
-    if change == RuleChange::WakeByBandwidth && wake == Wake::Revised {
-        let by = woken(with_deadline_as_period(entity), clock, wake);
-        return with_budget(entity, by.budget.runtime, by.budget.deadline);
+pub(crate) fn changed_woken(change: RuleChange, entity: Entity, clock: u64, wake: Wake) -> Entity
+    ensures { result ≡ woken_by change entity clock wake }
+{
+    match change {
+        RuleChange::WakeByBandwidth => match wake {
+            Wake::Revised => revised_by_bandwidth(entity, clock),
+            Wake::Kept => woken(entity, clock, Wake::Kept),
+            Wake::Renewed => woken(entity, clock, Wake::Renewed),
+        },
+        _ => woken(entity, clock, wake),
     }
-    woken(entity, clock, wake)
 }

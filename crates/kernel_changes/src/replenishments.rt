@@ -1,15 +1,20 @@
 //! A replenishment, with one rule changed.
 
-ghost use Rattle.std.specs.Prelude.{◌≡◌, None};
+ghost use Rattle.std.specs.Prelude.{◌≡◌, None, if◌then◌else◌};
+ghost use Rattle.kernel_entity.specs.Budget.{left_of, ready_of};
 ghost use Rattle.kernel_functions.specs.Timer.{replenish_fired_of};
+ghost use Rattle.kernel_changes.specs.Changes.{changed_replenish_firing, disarmed, replenish_firing_with, waits_blocked};
+ghost use Rattle.kernel_changes.specs.Reckoning.{found_by, recharged_once, replenished_once, with_budget};
 
 use crate::change::RuleChange;
-use kernel_entity::{Entity, is_before, renewed, served_by};
+use kernel_entity::{Entity, is_before, recharges, renewed, served_by};
 use kernel_functions::replenish_fired;
 use trace_data::Budget;
 
 /// The entity with another budget and deadline.
-pub(crate) fn with_budget(entity: Entity, runtime: i64, deadline: u64) -> Entity {
+pub(crate) fn with_budget(entity: Entity, runtime: i64, deadline: u64) -> Entity
+    ensures { result ≡ with_budget runtime deadline entity }
+{
     Entity {
         budget: Budget {
             runtime,
@@ -21,45 +26,71 @@ pub(crate) fn with_budget(entity: Entity, runtime: i64, deadline: u64) -> Entity
 }
 
 /// The entity with this taken for what is left of its budget.
-pub(crate) fn with_left(change: RuleChange, entity: Entity) -> Entity {
+pub(crate) fn with_left(change: RuleChange, entity: Entity) -> Entity
+    ensures { result ≡ found_by change entity }
+{
     let budget = entity.budget;
     match change {
-        RuleChange::BudgetSet if budget.runtime < 0 => with_budget(entity, 0, budget.deadline),
-        RuleChange::YieldKeeps if budget.runtime > 0 => Entity {
-            budget: Budget {
-                is_yielded: false,
-                ..budget
-            },
-            ..entity
-        },
+        RuleChange::BudgetSet => {
+            if budget.runtime < 0 {
+                with_budget(entity, 0, budget.deadline)
+            } else {
+                entity
+            }
+        }
+        RuleChange::YieldKeeps => {
+            if budget.runtime > 0 {
+                Entity {
+                    budget: Budget {
+                        is_yielded: false,
+                        ..budget
+                    },
+                    ..entity
+                }
+            } else {
+                entity
+            }
+        }
         _ => entity,
     }
 }
 
-/// The entity with one runtime and one period more, where its budget is used up or given up.
-pub(crate) fn recharged_once(entity: Entity) -> Entity {
-    let budget = entity.budget;
-    let serving = served_by(entity);
-    if budget.runtime > 0 && !budget.is_yielded {
-        return entity;
-    }
-    let left = if budget.runtime > 0 {
+/// What of the budget is left: a yield gives up all of it.
+fn left(entity: Entity) -> i64
+    ensures { result ≡ left_of entity }
+{
+    if entity.budget.is_yielded && entity.budget.runtime > 0 {
         0
     } else {
-        budget.runtime
-    };
-    if serving.dl_runtime == 0 {
-        return with_budget(entity, left, budget.deadline);
+        entity.budget.runtime
     }
-    with_budget(
-        entity,
-        left.wrapping_add(serving.dl_runtime.cast_signed()),
-        budget.deadline.wrapping_add(serving.dl_period),
-    )
+}
+
+/// The entity with one runtime and one period more, where its budget is used up or given up.
+pub(crate) fn recharged_once(entity: Entity) -> Entity
+    ensures { result ≡ recharged_once entity }
+{
+    let serving = served_by(entity);
+    let budget = left(entity);
+    let times = recharges(budget, serving.dl_runtime).min(1);
+    let more = times.wrapping_mul(serving.dl_runtime);
+    Entity {
+        budget: Budget {
+            runtime: budget.wrapping_add(more.cast_signed()),
+            deadline: entity
+                .budget
+                .deadline
+                .wrapping_add(times.wrapping_mul(serving.dl_period)),
+            ..entity.budget
+        },
+        ..entity
+    }
 }
 
 /// The entity neither throttled nor yielded.
-fn ready(entity: Entity) -> Entity {
+fn ready(entity: Entity) -> Entity
+    ensures { result ≡ ready_of entity }
+{
     Entity {
         budget: Budget {
             is_throttled: false,
@@ -71,7 +102,9 @@ fn ready(entity: Entity) -> Entity {
 }
 
 /// The entity after a replenishment of one period at this clock.
-pub(crate) fn replenished_once(entity: Entity, clock: u64) -> Entity {
+pub(crate) fn replenished_once(entity: Entity, clock: u64) -> Entity
+    ensures { result ≡ replenished_once entity clock }
+{
     let recharged = recharged_once(entity);
     if is_before(recharged.budget.deadline, clock) {
         ready(renewed(recharged, clock))
@@ -81,34 +114,68 @@ pub(crate) fn replenished_once(entity: Entity, clock: u64) -> Entity {
 }
 
 /// Whether the timer of the replenishment finds it blocked.
-fn is_blocked(entity: Entity) -> bool {
+fn is_blocked(entity: Entity) -> bool
+    ensures { result ≡ waits_blocked entity }
+{
     entity.is_in_class && entity.budget.is_throttled && !entity.is_queued && entity.donor.is_none()
 }
 
-fn changed_fired(change: RuleChange, entity: Entity) -> Entity {
-    let disarmed = Entity {
+/// The entity whose timer of the replenishment is no more armed.
+fn disarmed(entity: Entity) -> Entity
+    ensures { result ≡ disarmed entity }
+{
+    Entity {
         has_deadline_timer: false,
         ..entity
-    };
+    }
+}
+
+/// What the timer of a replenishment finds.
+fn found(change: RuleChange, entity: Entity) -> Entity
+    ensures { result ≡ (if waits_blocked entity then found_by change entity else entity) }
+{
+    if is_blocked(entity) {
+        with_left(change, entity)
+    } else {
+        entity
+    }
+}
+
+fn changed_fired(change: RuleChange, entity: Entity) -> Entity
+    ensures { result ≡ changed_replenish_firing change entity }
+{
     match change {
-        RuleChange::BudgetSet | RuleChange::YieldKeeps if is_blocked(entity) => {
-            replenish_fired(with_left(change, entity))
+        RuleChange::BudgetSet => replenish_fired(found(RuleChange::BudgetSet, entity)),
+        RuleChange::YieldKeeps => replenish_fired(found(RuleChange::YieldKeeps, entity)),
+        RuleChange::BlockedStays => {
+            if is_blocked(entity) {
+                Entity {
+                    is_late: true,
+                    ..disarmed(entity)
+                }
+            } else {
+                replenish_fired(entity)
+            }
         }
-        RuleChange::BlockedStays if is_blocked(entity) => Entity {
-            is_late: true,
-            ..disarmed
-        },
-        RuleChange::OnePeriod if is_blocked(entity) => Entity {
-            is_late: true,
-            ..ready(recharged_once(disarmed))
-        },
+        RuleChange::OnePeriod => {
+            if is_blocked(entity) {
+                Entity {
+                    is_late: true,
+                    ..ready(recharged_once(disarmed(entity)))
+                }
+            } else {
+                replenish_fired(entity)
+            }
+        }
         _ => replenish_fired(entity),
     }
 }
 
 /// The entity after its timer of the replenishment fired.
+#[tactic(auto, unfolding(crate::specs::Changes::replenish_firing_with))]
 pub fn replenish_fired_by(change: Option<RuleChange>, entity: Entity) -> Entity
-    ensures { change ≡ None → result ≡ replenish_fired_of entity }
+    ensures value { result ≡ replenish_firing_with change entity }
+    ensures unchanged { change ≡ None → result ≡ replenish_fired_of entity }
 {
     match change {
         None => replenish_fired(entity),

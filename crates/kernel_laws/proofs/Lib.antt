@@ -6,6 +6,7 @@ pub mod RechargeLemmas
 pub mod SumLemmas
 pub mod EnqueueLemmas
 pub mod MoreSums
+pub mod TotalLemmas
 pub mod AdmittingLemmas
 pub mod WaitLemmas
 pub mod ZeroLagLemmas

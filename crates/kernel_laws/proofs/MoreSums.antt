@@ -18,10 +18,10 @@ use Rattle.kernel_laws.specs.Summing.{counted, away, blocked_place, Balances, Le
 use Rattle.kernel_laws.proofs.SumLemmas.{taken_off, kept}
 
 -- a change of one term is a change of the sum
-joined : (x y c t : ℕ) → plus x c ≡ y → plus (plus x t) c ≡ plus y t
+pub joined : (x y c t : ℕ) → plus x c ≡ y → plus (plus x t) c ≡ plus y t
 joined x y c t h = rw (← h) (omega arith)
 
-behind : (x t u c : ℕ) → plus t c ≡ u → plus (plus x t) c ≡ plus x u
+pub behind : (x t u c : ℕ) → plus t c ≡ u → plus (plus x t) c ≡ plus x u
 behind x t u c h = rw (← h) (omega arith)
 
 this_stays : (before : List Standing) (one after : Standing) (ss : List Standing) (c : ℕ)
@@ -68,7 +68,7 @@ pub leave_balances : (e : Entity) (on_rq clock : ℕ) → LeaveBalances e on_rq 
 leave_balances e on_rq clock s d h = leaves_by e on_rq clock _ refl s d h
 
 -- a bandwidth has 64 bits
-ratio_fits : (runtime period : ℕ) → ratio_of runtime period < 2 ^ 64
+pub ratio_fits : (runtime period : ℕ) → ratio_of runtime period < 2 ^ 64
 ratio_fits runtime period =
     elim (period == 0) as (λ b. (if b then 0 else runtime * 2 ^ 20 % 2 ^ 64 / period) < 2 ^ 64) [
       | true ↦ omega arith

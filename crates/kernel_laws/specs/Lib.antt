@@ -2,6 +2,7 @@ pub mod Rounding
 pub mod Waking
 pub mod Replenishing
 pub mod Summing
+pub mod Totals
 pub mod Admitting
 pub mod Waiting
 pub mod ZeroLag

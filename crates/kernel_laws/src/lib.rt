@@ -1,10 +1,11 @@
 //! Laws of a kernel's accounting: its charge and its test of a wake beside the documentation's,
-//! its replenishment, and the sums of a runqueue event by event.
+//! its replenishment, the sums of a runqueue and total_bw event by event.
 #![tactic(auto)]
 
 mod admitted;
 mod law;
 mod sums;
+mod totals;
 mod waiting;
 
 pub use admitted::extra_stays;
@@ -15,6 +16,10 @@ pub use law::{
 pub use sums::{
     admissions_balance, leavings_balance, moves_balance, replenishments_balance, restores_balance,
     saves_balance, sleeps_balance, sums_stay, wakes_balance, zero_lag_times_balance,
+};
+pub use totals::{
+    admissions_move_total, leavings_move_total, others_keep_total, sleeps_move_total, total_stays,
+    zero_lag_times_move_total,
 };
 pub use waiting::{
     charges_throttle, charges_wait, dequeues_wait, enqueues_wait, returns_wait, timers_wait,

@@ -10,3 +10,4 @@ pub mod Pick
 pub mod Run
 pub mod Total
 pub mod Server
+pub mod Spread

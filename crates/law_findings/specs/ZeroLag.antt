@@ -10,6 +10,10 @@ work_of b = int_div (b.budget *ℤ pos b.dl_period) (pos b.dl_runtime)
 abbrev pub ahead_of : Blocked → ℤ
 ahead_of b = pos b.deadline -ℤ pos b.clock
 
+-- the span to the 0-lag time
+abbrev pub span_of : Blocked → ℤ
+span_of b = ahead_of b -ℤ work_of b
+
 -- the 0-lag time is past
 abbrev pub IsPast : Blocked → Type 0
 IsPast b = ahead_of b <ℤ work_of b

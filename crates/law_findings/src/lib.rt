@@ -12,6 +12,7 @@ mod pick;
 mod progress;
 mod run;
 mod server;
+mod spread;
 mod total;
 mod words;
 mod zero_lag;
@@ -26,6 +27,7 @@ pub use pick::{LowerRun, Queued, is_pick_right, is_run_short, is_tick_counted};
 pub use progress::{Throttled, is_waited_for};
 pub use run::{begins_at_switch, is_apart};
 pub use server::{is_near, is_taken_once};
+pub use spread::spread_of;
 pub use total::{bandwidth, is_not_negative};
 pub use words::{
     Breach, Finding, FiredTimer, LAWS, Law, LawFigures, LawLine, LineKind, Spread, Standing,

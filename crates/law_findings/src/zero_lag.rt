@@ -1,8 +1,9 @@
 //! The 0-lag time: a task that blocks stays active until the moment at which its budget would be used up at its reserved rate
 //! (Lipari and Baruah 2000; Documentation/scheduler/sched-deadline.rst, section 2.2).
 
-ghost use Rattle.std.specs.Prelude.{◌≡◌, ◌<◌, ◌↔◌, IsTrue};
-ghost use Rattle.law_findings.specs.ZeroLag.{IsNotLate, IsNotSoon, IsPast, IsWide, ahead_of, left_of, work_of};
+ghost use Rattle.std.specs.Prelude.{◌≡◌, ◌<◌, ◌↔◌, IsTrue, FitsSigned};
+ghost use Rattle.std.specs.Int.{w64};
+ghost use Rattle.law_findings.specs.ZeroLag.{IsNotLate, IsNotSoon, IsPast, IsWide, ahead_of, left_of, span_of, work_of};
 
 /// 2^63, beyond which a number is none of the kernel's s64.
 const WIDE: i128 = 1 << 63;
@@ -29,6 +30,7 @@ impl Blocked {
     /// The span to the 0-lag time in nanoseconds, for words: those beyond 64 bits are cut to the next that fits.
     pub fn span(self) -> i64
         requires { 0 < self.dl_runtime }
+        ensures { FitsSigned w64 (span_of self) → result ≡ span_of self }
     {
         let span = ahead(self).saturating_sub(work(self));
         match i64::try_from(span) {

@@ -1,5 +1,7 @@
 -- The names of laws, as options and verdicts have them, and of the events of lines.
 use Rattle.std.specs.Prelude.{ℕ, List, codes}
+use Rattle.law_findings.specs.declared.known.Sign.{Sign}
+use Rattle.law_findings.specs.declared.known.Sign.TheVariants.{LeftThrottled, BoostEnded, ProductWraps, LeftAsleep, ServersTakenTwice, SharesTakenAgain}
 use Rattle.law_findings.specs.declared.words.Law.{Law}
 use Rattle.law_findings.specs.declared.words.Law.TheVariants.{Progress, Expiry, Firing, ZeroLag, Budget, Total, Pick, Run, Server}
 use Rattle.law_findings.specs.declared.words.LineKind.{LineKind}
@@ -30,3 +32,12 @@ line_word ServerStart = codes "ede"
 line_word ServerPick = codes "pck"
 line_word ServerStop = codes "dls"
 line_word ServerIdle = codes "idl"
+
+-- a known fault, and its heading in docs/KERNEL.md
+abbrev pub fault_word : Sign → List ℕ
+fault_word LeftThrottled = codes "a throttled task that leaves the class and comes back (KERNEL, \"Throttled for ever\")"
+fault_word BoostEnded = codes "a throttled task whose boost ends while it is blocked (KERNEL, \"Throttled for ever\")"
+fault_word ProductWraps = codes "the product of budget and period wraps (KERNEL, \"A 0-lag time that wraps\")"
+fault_word LeftAsleep = codes "a task that is put out of the class while it sleeps (KERNEL, under that heading)"
+fault_word ServersTakenTwice = codes "shares are taken again (KERNEL, \"Hotplug and partitions\")"
+fault_word SharesTakenAgain = codes "shares are taken again (KERNEL, \"Hotplug and partitions\")"

@@ -1,7 +1,7 @@
 //! Names of laws, of lines, and of known faults.
 
 ghost use Rattle.std.specs.Prelude.{◌≡◌, IfSome};
-ghost use Rattle.law_verdict.specs.Names.{law_word, line_word};
+ghost use Rattle.law_verdict.specs.Names.{fault_word, law_word, line_word};
 
 use law_findings::{AskedLaws, LAWS, Law, LineKind, Sign, Standing, TimerKind};
 
@@ -86,7 +86,9 @@ pub(crate) fn standing_name(standing: Standing) -> &'static str {
 }
 
 /// A known fault, and its heading in KERNEL.
-pub fn fault_name(sign: Sign) -> &'static str {
+pub fn fault_name(sign: Sign) -> &'static str
+    ensures { result.now ≡ fault_word sign }
+{
     match sign {
         Sign::LeftThrottled => {
             "a throttled task that leaves the class and comes back (KERNEL, \"Throttled for ever\")"

@@ -1,5 +1,5 @@
 -- The answers of `start`, `finish` and `cancel`, put together to one call.
-use Rattle.std.proofs.Common.{◌≡◌, ℕ, ◌<◌, length, Some, Result, refl, sym, subst}
+use Rattle.std.proofs.Common.{◌≡◌, ℕ, ◌<◌, ◌⊎◌, length, Some, refl, sym, subst, arith}
 use Rattle.grub_book.specs.declared.op.Op.{Op}
 use Rattle.grub_book.specs.declared.reply.Reply.{Reply}
 use Rattle.grub_book.specs.Op.{IsOp}
@@ -17,7 +17,8 @@ use Rattle.grub_table.specs.declared.answer.Finished.TheVariants as finished
 use Rattle.grub_table.specs.declared.claim.Claim.{Claim}
 use Rattle.grub_table.specs.declared.pass.Pass.{Pass}
 use Rattle.grub_table.specs.declared.shared.Shared.{Shared}
-use Rattle.neddwyrol_table.specs.Called.{EndsBy, GoesBy, IsBeside, WasCalled, WasCalledBy, code_reply, setup_of, table_of}
+use Rattle.neddwyrol_table.specs.Called.{EndsBy, GoesBy, WasAsked, WasCalled, WasCalledBy, table_of}
+use Rattle.neddwyrol_table.specs.inside.Answered.{AnswersAsk, AnswersOp, IsMadeBy, IsNotMadeBy}
 use Rattle.neddwyrol_table.specs.declared.calls.TheConstants.{BUSY, LOST}
 use Rattle.neddwyrol_table.specs.declared.held.Kept.{Kept}
 
@@ -39,20 +40,33 @@ module _ (s : Shared) (p : Pass) (t : ℕ) (it : Op) (tries : ℕ) (b : Started)
         let ends : EndsBy s f (plain_reply LOST) q = subst (λ (z : Finished). EndsBy s z (plain_reply LOST) q) (sym lost) (refl, back) in
         (b, begun, brief, subst (λ (z : Started). GoesBy s tries z (plain_reply LOST) q) (sym is) (f, ended, within, ends))
 
--- the call of an op is that of the same op by another name
-pub called_of : (s : Shared) (p : Pass) (t : ℕ) (it other : Op) (tries : ℕ) (reply : NdReply) (q : Pass) → it ≡ other → WasCalled s p t other tries reply q → WasCalled s p t it tries reply q
-called_of s p t it other tries reply q is = subst (λ (o : Op). WasCalled s p t o tries reply q) (sym is)
+-- the call with a reply is that with the same one by another name
+pub called_with : (s : Shared) (p : Pass) (t : ℕ) (it : Op) (tries : ℕ) (reply other : NdReply) (q : Pass) → reply ≡ other → WasCalled s p t it tries other q → WasCalled s p t it tries reply q
+called_with s p t it tries reply other q is = subst (λ (z : NdReply). WasCalled s p t it tries z q) (sym is)
 
--- the call of a pass is that of what was asked
-pub called_as : (s : Shared) (k : Kept) (q : Pass) (t : ℕ) (op : NdOp) (tries : ℕ) (found : Op) (answer : Result Reply ℕ) (reply : NdReply) → s ≡ table_of k → op_of op ≡ Some found → reply ≡ code_reply answer
-    → WasCalled s k.pass t found tries (code_reply answer) q → (it : Op) → t < length (setup_of k).tasks → op_of op ≡ Some it → IsOp (setup_of k) it → WasCalled (table_of k) k.pass t it tries reply q
-called_as s k q t op tries found answer reply home is told called it here asked fits =
-    let same : found ≡ it = cc in
-    let at_home : WasCalled (table_of k) k.pass t found tries (code_reply answer) q = subst (λ (z : Shared). WasCalled z k.pass t found tries (code_reply answer) q) home called in
-    let replied : WasCalled (table_of k) k.pass t found tries reply q = subst (λ (z : NdReply). WasCalled (table_of k) k.pass t found tries z q) (sym told) at_home in
-    subst (λ (z : Op). WasCalled (table_of k) k.pass t z tries reply q) same replied
+-- what the op of plain numbers is answered is what these are
+pub answers_ask : (s : Shared) (t : ℕ) (op : NdOp) (tries : ℕ) (reply : NdReply) (p q : Pass) (found : Op) → t < length (terms s).setup.tasks → op_of op ≡ Some found
+    → AnswersOp s t found tries reply p q → AnswersAsk s t op tries reply p q
+answers_ask s t op tries reply p q found here is a =
+    let same : (it : Op) → op_of op ≡ Some it → found ≡ it = λ it asked. cc in
+    let fits : (it : Op) → op_of op ≡ Some it → IsOp (terms s).setup it → IsOp (terms s).setup found = λ it asked. subst (λ (o : Op). IsOp (terms s).setup o) (sym (same it asked)) in
+    record {
+      made = λ it _ asked ok. subst (λ (o : Op). IsMadeBy t o reply p q ⊎ IsNotMadeBy reply p q) (same it asked) (a.made (fits it asked ok));
+      called = λ it _ asked ok. subst (λ (o : Op). WasCalled s p t o tries reply q) (same it asked) (a.called (fits it asked ok));
+      no_task = λ none. absurd (omega (arith, here, none));
+      no_op = λ _ none. a.no_op (none found is);
+    }
 
--- what is known of what was kept, of the same by another name
-pub called_between : (a b k l : Kept) (t : ℕ) (op : NdOp) (tries : ℕ) (reply : NdReply) → a ≡ k → b ≡ l → IsBeside a b × WasCalledBy t op tries reply a b → IsBeside k l × WasCalledBy t op tries reply k l
-called_between a b k l t op tries reply first second it =
-    subst (λ (x : Kept). IsBeside x l × WasCalledBy t op tries reply x l) first (subst (λ (y : Kept). IsBeside a y × WasCalledBy t op tries reply a y) second it)
+-- what a pass was answered is what the handle was that keeps it
+module _ (s : Shared) (p q : Pass) (k l : Kept) (t : ℕ) (op : NdOp) (tries : ℕ) (reply : NdReply) (home : s ≡ table_of k) (before : p ≡ k.pass) (after : q ≡ l.pass) (told : AnswersAsk s t op tries reply p q) where
+  by_handle : AnswersAsk (table_of k) t op tries reply k.pass l.pass
+  by_handle =
+      let at_home : AnswersAsk (table_of k) t op tries reply p q = subst (λ (z : Shared). AnswersAsk z t op tries reply p q) home told in
+      let first : AnswersAsk (table_of k) t op tries reply k.pass q = subst (λ (z : Pass). AnswersAsk (table_of k) t op tries reply z q) before at_home in
+      subst (λ (z : Pass). AnswersAsk (table_of k) t op tries reply k.pass z) after first
+
+  pub asked_by_handle : WasAsked t op reply k l
+  asked_by_handle = record { asked = by_handle.made; no_task = by_handle.no_task; no_op = by_handle.no_op }
+
+  pub called_by_handle : WasCalledBy t op tries reply k l
+  called_by_handle = by_handle.called

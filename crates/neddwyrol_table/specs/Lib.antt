@@ -3,3 +3,4 @@ pub mod Claims
 pub mod Ended
 pub mod Opened
 pub mod Owned
+pub mod inside

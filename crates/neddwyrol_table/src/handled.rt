@@ -5,43 +5,15 @@ ghost use Rattle.neddwyrol_table.specs.Called.{IsWell, Stands, IsBeside, IsSame,
 ghost use Rattle.neddwyrol_table.specs.Ended.{AreOfOne, IsPartedInto, TookIn, HaveMetBy, IsAgain, IsClosedBy};
 ghost use Rattle.neddwyrol_table.specs.declared.held.Kept.{Kept};
 
-use crate::calls::{ask, op_for};
+use crate::calls::ask;
 use crate::closing::{NO_MEMORY, NO_PART, closed, gathered, met, parted};
 use crate::held::{Held, Kept};
 use crate::pass::NdTable;
-use library_book::{DONE, NdOp, NdReading, NdReply, QUEUE_OUT_OF_RANGE, plain_reply, reply_of};
+use core::mem::replace_with;
+use grub_table::Shared;
+use library_book::{DONE, NdOp, NdReading, NdReply, QUEUE_OUT_OF_RANGE};
 use std::alloc::Global;
 use std::ptr::NonNull;
-
-/// Makes a call, where there is such a task and op.
-#[inline(always)]
-fn asked(kept: Kept, t: u32, op: NdOp, tries: u8) -> (Kept, NdReply)
-    requires { IsWell kept }
-    ensures well { IsWell result.0 }
-    ensures beside { IsBeside kept result.0 }
-    ensures asked { WasAsked t op result.1 kept result.0 }
-    ensures called { WasCalledBy t op tries result.1 kept result.0 }
-{
-    let it = match op_for(&kept.shared, t, op) {
-        Ok(it) => it,
-        Err(code) => return (kept, plain_reply(code)),
-    };
-    let Kept {
-        shared,
-        pass,
-        gathered,
-    } = kept;
-    let (pass, answer) = ask(&shared, pass, t, it, tries);
-    let kept = Kept {
-        shared,
-        pass,
-        gathered,
-    };
-    match answer {
-        Ok(reply) => (kept, reply_of(reply)),
-        Err(code) => (kept, plain_reply(code)),
-    }
-}
 
 /// Reads a runqueue, where there is one of this number.
 fn looked(kept: Kept, r: u32, reading: &mut NdReading) -> (Kept, u32)
@@ -71,19 +43,22 @@ fn looked(kept: Kept, r: u32, reading: &mut NdReading) -> (Kept, u32)
     (kept, DONE)
 }
 
+/// Makes a call. The pass alone moves.
 #[inline(always)]
+#[tactic(auto, using(crate::proofs::Calling::asked_by_handle))]
 pub(crate) fn call(held: &mut Held, task: u32, op: NdOp, tries: u8) -> NdReply
     requires { Stands held.old }
     ensures stands { Stands held.new }
     ensures asked { Went held.old held.new (WasAsked task op result) }
     ensures called { Went held.old held.new (WasCalledBy task op tries result) }
 {
-    let Some(kept) = held.kept.take() else {
+    let Some(Kept { shared, pass, .. }) = &mut held.kept else {
         unreachable!()
     };
-    let (kept, reply) = asked(kept, task, op, tries);
-    held.kept = Some(kept);
-    reply
+    let shared: &Shared = shared;
+    replace_with(pass, (), move |pass, ()| {
+        ask(shared, pass, task, op, tries)
+    })
 }
 
 pub(crate) fn look(held: &mut Held, queue: u32, reading: &mut NdReading) -> u32

@@ -9,7 +9,8 @@ use Rattle.probe_run.specs.Moves.{moved_of}
 use Rattle.probe_lines.specs.declared.choice.LineChoice.{LineChoice}
 use Rattle.probe_lines.specs.Lines.{line_of}
 use Rattle.probe_explain.specs.declared.search.ProbeLine.{ProbeLine}
-use Rattle.probe_explain.specs.Explained.{RunStep, makes, plays, step_of, run_of, lines_of, Leads, IsPlain, IsPlayed}
+use Rattle.probe_explain.specs.Explained.{RunStep, makes, plays, step_of, run_of, lines_of, Leads, IsPlain}
+use Rattle.probe_explain.specs.inside.Playing.{IsPlayed}
 
 some_is : (a b : State) → Some a ≡ Some b → a ≡ b
 some_is a b e = ap (λ o. unwrap_or o a) e

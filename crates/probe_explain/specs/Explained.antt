@@ -46,7 +46,3 @@ IsExplained t start ls = (here : State) × Leads t start ls here × (here.claims
 -- the rules are the kernel's, and the record shows dequeues
 abbrev pub IsPlain : PlayRules → Type 0
 IsPlain t = (t.change ≡ None) × (t.has_dequeues ≡ true)
-
--- these lines were played: where nothing differs after them, nothing did before, and a run leads over them
-unfoldable pub IsPlayed : PlayRules → State → List ProbeLine → State → Type 0
-IsPlayed t old ls new = IsPlain t → new.first ≡ None → (old.first ≡ None) × Leads t old ls new

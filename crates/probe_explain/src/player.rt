@@ -1,117 +1,48 @@
-//! A record is played: line by line, with the choices of a search.
+//! A player takes a record line by line, and knows what it took.
 
-ghost use Rattle.std.specs.Prelude.{◌≡◌, ◌∷◌, [], OnOk, IfOk};
+ghost use Rattle.std.specs.Prelude.{◌≡◌, ◌∷◌, ◌++◌, [], IfOk, OnOk};
 ghost use Rattle.probe_run.specs.Runs.{state_of};
-ghost use Rattle.probe_run.specs.Start.{start_of};
-ghost use Rattle.probe_explain.specs.Explained.{IsPlayed};
-ghost use Rattle.probe_explain.specs.Taken.{come_to, HasTaken, TakesNothing, TakesLine, Finishes, FinishesSoFar};
+ghost use Rattle.probe_explain.specs.Taken.{IsExplainedWhere, IsExplainedSoFarWhere};
 
-use crate::search::{ProbeLine, Search, Step};
-use probe_findings::{FIRST_SEEN, ProbedLine};
-use probe_lines::{AS_SHOWN, LineChoice, play_line};
-use probe_run::{PlayRules, Run, RunMove, RunStart};
+use crate::play::Play;
+use crate::search::{ProbeLine, Search};
+use crate::taken::TakenLines;
+use probe_run::{PlayRules, Run, RunStart};
 use std::alloc::{AllocError, Global};
-use std::collections::VecDeque;
+use std::marker::Model;
+use std::snapshot::Snapshot;
 
-/// More moves than this before one line are not made.
-const MOST_MOVES: usize = 65_536;
-
-/// A record that is being played.
+/// A record that is being played, and which lines of it were taken so far. Behind a call that fails `finish` fails too.
 #[derive(Drop)]
 pub struct Player {
     rules: PlayRules,
-    run: Run,
+    play: Play,
 
-    /// Lines that were taken and not played yet.
-    waiting: VecDeque<ProbeLine>,
+    /// With what it began, and the lines since, for clauses alone.
+    start: Snapshot<RunStart>,
+    taken: TakenLines,
 
-    /// How many lines wait at most.
-    ahead: usize,
-
-    /// How many lines were played, modulo 2^64, and where the last one stands.
-    lines: u64,
-    last: ProbedLine,
+    /// Memory ran out while a line was played, so nothing is known of the run.
+    has_failed: bool,
 }
 
-/// Makes a move that a search chose.
-#[tactic(auto, using(crate::proofs::Moves::move_played))]
-fn make_move(
-    run: &mut Run,
-    rules: PlayRules,
-    place: ProbedLine,
-    chosen: RunMove,
-) -> Result<(), AllocError>
-    ensures { OnOk result (IsPlayed rules (state_of run.old) [] (state_of run.new)) }
-{
-    run.make(rules, place, chosen)
-}
+impl Model for Player {
+    ghost use Rattle.std.specs.Prelude.{◌≡◌, false};
+    ghost use Rattle.probe_run.specs.Start.{start_of};
+    ghost use Rattle.probe_explain.specs.Taken.{Taken};
+    ghost use Rattle.probe_explain.specs.inside.Playing.{HasTaken, come_to};
 
-/// Makes the moves that a search chooses before a line, and gives what it chooses of the line.
-#[tactic(auto, using(crate::proofs::Moves::none_played, crate::proofs::Moves::moves_on))]
-fn make_moves<S: Search>(
-    run: &mut Run,
-    rules: PlayRules,
-    search: &mut S,
-    next: &ProbeLine,
-    ahead: &VecDeque<ProbeLine>,
-) -> Result<LineChoice, AllocError>
-    ensures { OnOk result (IsPlayed rules (state_of run.old) [] (state_of run.new)) }
-{
-    'moves: for _ in 0..MOST_MOVES {
-        match search.choose(&*run, next, ahead)? {
-            Step::Line(choice) => return Ok(choice),
-            Step::Move(chosen) => make_move(run, rules, next.place, chosen)?,
-        }
-    }
-    Ok(AS_SHOWN)
-}
+    ghost Value = { Taken };
 
-/// Plays a line with what a search chose of it.
-fn play_chosen(
-    run: &mut Run,
-    rules: PlayRules,
-    next: ProbeLine,
-    choice: LineChoice,
-) -> Result<(), AllocError>
-    ensures { OnOk result (IsPlayed rules (state_of run.old) (next ∷ []) (state_of run.new)) }
-{
-    play_line(run, rules, next.place, &next.probe, choice)?;
-    Ok(())
-}
+    ghost view = { λ p. record {
+      rules = p.rules;
+      start = p.start.value;
+      lines = p.taken.lines;
+      first = (come_to p.play).first;
+    } };
 
-/// Plays a line, with the choices of a search.
-#[tactic(auto, using(crate::proofs::Moves::moves_on))]
-fn play_with<S: Search>(
-    run: &mut Run,
-    rules: PlayRules,
-    search: &mut S,
-    next: ProbeLine,
-    ahead: &VecDeque<ProbeLine>,
-) -> Result<(), AllocError>
-    ensures { OnOk result (IsPlayed rules (state_of run.old) (next ∷ []) (state_of run.new)) }
-{
-    let choice = make_moves(run, rules, search, &next, ahead)?;
-    play_chosen(run, rules, next, choice)?;
-    Ok(())
-}
-
-/// Makes the moves that a search chooses behind the last line.
-#[tactic(auto, using(crate::proofs::Moves::none_played, crate::proofs::Moves::moves_on))]
-fn end_moves<S: Search>(
-    run: &mut Run,
-    rules: PlayRules,
-    search: &mut S,
-    last: ProbedLine,
-) -> Result<(), AllocError>
-    ensures { OnOk result (IsPlayed rules (state_of run.old) [] (state_of run.new)) }
-{
-    'moves: for _ in 0..MOST_MOVES {
-        match search.end(&*run)? {
-            None => return Ok(()),
-            Some(chosen) => make_move(run, rules, last, chosen)?,
-        }
-    }
-    Ok(())
+    ghost invariant = { λ p. p.has_failed ≡ false →
+        HasTaken p.play p.rules (start_of p.start.value) p.taken.lines };
 }
 
 impl Player {
@@ -124,144 +55,89 @@ impl Player {
         ahead: usize,
         keeps_rows: bool,
     ) -> Result<Player, AllocError>
-        ensures { IfOk result (λ player. HasTaken player rules (start_of start) []) }
+        ensures rules { IfOk result (λ player. player.rules ≡ rules) }
+        ensures start { IfOk result (λ player. player.start ≡ start) }
+        ensures lines { IfOk result (λ player. player.lines ≡ []) }
     {
+        let began = Snapshot::of(&start);
+        let play = Play::new(alloc, rules, start, ahead, keeps_rows)?;
         Ok(Player {
             rules,
-            run: Run::new(alloc, start, keeps_rows)?,
-            waiting: VecDeque::new(alloc),
-            ahead,
-            lines: 0,
-            last: ProbedLine {
-                line: 0,
-                at: 0,
-                cpu: 0,
-                pid: 0,
-                event: FIRST_SEEN.event,
-            },
+            play,
+            start: began,
+            taken: TakenLines::new(),
+            has_failed: false,
         })
     }
 
     /// The run so far.
     pub fn run(&self) -> &Run
-        ensures { state_of result.now ≡ come_to self.now }
+        ensures { (state_of result.now).first ≡ self.now.first }
     {
-        &self.run
+        self.play.run()
     }
 
     /// By which rules it is played.
-    pub fn rules(&self) -> PlayRules {
+    pub fn rules(&self) -> PlayRules
+        ensures { result ≡ self.now.rules }
+    {
         self.rules
-    }
-
-    /// How many lines were played, modulo 2^64.
-    pub fn lines(&self) -> u64 {
-        self.lines
     }
 
     /// Forgets the comparisons that were kept.
     pub fn clear_rows(&mut self)
-        ensures state { come_to self.new ≡ come_to self.old }
-        ensures lines { TakesNothing self.old self.new }
+        ensures { self.new ≡ self.old }
     {
-        self.run.clear_rows();
+        self.play.clear_rows();
     }
 
     /// Takes the next line of the record.
-    #[tactic(auto, using(crate::proofs::Taking::line_then))]
     pub fn take<S: Search>(&mut self, search: &mut S, line: ProbeLine) -> Result<(), AllocError>
-        ensures { OnOk result (TakesLine self.old line self.new) }
+        ensures rules { OnOk result (self.new.rules ≡ self.old.rules) }
+        ensures start { OnOk result (self.new.start ≡ self.old.start) }
+        ensures lines { OnOk result (self.new.lines ≡ self.old.lines ++ line ∷ []) }
     {
-        self.wait(line)?;
-        self.play_due(search)?;
-        Ok(())
-    }
-
-    #[tactic(auto, using(crate::proofs::Taking::pushed))]
-    fn wait(&mut self, line: ProbeLine) -> Result<(), AllocError>
-        ensures { OnOk result (TakesLine self.old line self.new) }
-    {
-        self.waiting.push_back(line)?;
-        Ok(())
-    }
-
-    /// Plays the first line that waits, where more wait than a search is to see.
-    fn play_due<S: Search>(&mut self, search: &mut S) -> Result<(), AllocError>
-        ensures { OnOk result (TakesNothing self.old self.new) }
-    {
-        if self.waiting.len() > self.ahead {
-            self.play_first(search)
-        } else {
-            Ok(())
-        }
-    }
-
-    fn play_first<S: Search>(&mut self, search: &mut S) -> Result<(), AllocError>
-        ensures { OnOk result (TakesNothing self.old self.new) }
-    {
-        match self.waiting.pop_front() {
-            Some(next) => {
-                play_with(&mut self.run, self.rules, search, next, &self.waiting)?;
-                self.lines = self.lines.wrapping_add(1);
-                self.last = next.place;
+        match self.play.take(search, line) {
+            Ok(()) => {
+                self.taken = self.taken.and(&line);
                 Ok(())
             }
-            None => Ok(()),
+            Err(AllocError) => {
+                self.has_failed = true;
+                Err(AllocError)
+            }
         }
     }
 
-    #[tactic(auto, using(crate::proofs::Taking::same, crate::proofs::Taking::one_then))]
-    fn play_all<S: Search>(&mut self, search: &mut S) -> Result<(), AllocError>
-        ensures { OnOk result (TakesNothing self.old self.new) }
-    {
-        'lines: for _ in 0..self.waiting.len() {
-            self.play_first(search)?;
-        }
-        Ok(())
-    }
-
-    fn move_at_end<S: Search>(&mut self, search: &mut S) -> Result<(), AllocError>
-        ensures { OnOk result (TakesNothing self.old self.new) }
-    {
-        end_moves(&mut self.run, self.rules, search, self.last)?;
-        Ok(())
-    }
-
-    /// Plays the lines that wait: no more come. Where nothing differs, all lines that were taken are explained.
+    /// Plays the lines that wait: no more come. Where nothing differs, all lines that were taken are explained, and so is each
+    /// beginning of theirs.
     pub fn finish<S: Search>(&mut self, search: &mut S) -> Result<(), AllocError>
-        ensures all { OnOk result (Finishes self.old self.new) }
-        ensures so_far { OnOk result (FinishesSoFar self.old self.new) }
+        ensures rules { OnOk result (self.new.rules ≡ self.old.rules) }
+        ensures start { OnOk result (self.new.start ≡ self.old.start) }
+        ensures lines { OnOk result (self.new.lines ≡ self.old.lines) }
+        ensures all { OnOk result (IsExplainedWhere self.new) }
+        ensures so_far { OnOk result (IsExplainedSoFarWhere self.new) }
     {
-        self.play_all(search)?;
-        self.move_at_end(search)?;
-        self.end()?;
-        Ok(())
-    }
-
-    /// What was read and has no point, and a line that was not played, is a deviation.
-    fn end(&mut self) -> Result<(), AllocError>
-        ensures { OnOk result (Finishes self.old self.new) }
-    {
-        if self.waiting.is_empty() && self.run.claims().is_empty() {
-            Ok(())
-        } else {
-            self.refuse_last()
+        if self.has_failed {
+            return Err(AllocError);
         }
-    }
-
-    /// Counts a deviation at the last line.
-    fn refuse_last(&mut self) -> Result<(), AllocError>
-        ensures { OnOk result (Finishes self.old self.new) }
-    {
-        self.run.refuse(self.last)?;
-        Ok(())
+        match self.play.finish(search) {
+            Ok(()) => Ok(()),
+            Err(AllocError) => {
+                self.has_failed = true;
+                Err(AllocError)
+            }
+        }
     }
 }
 
 #[cfg(test)]
 mod tests {
     use super::*;
+    use crate::search::Step;
     use kernel_entity::ChargeLaw;
+    use probe_lines::AS_SHOWN;
+    use std::collections::VecDeque;
     use std::test::Fail;
 
     #[derive(Drop)]

@@ -1,1 +1,2 @@
+pub mod Late
 pub mod Renewed

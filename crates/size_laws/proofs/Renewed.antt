@@ -29,10 +29,10 @@ refilled_is : (b : Bool) (x y : ℕ × Server) → cond b (Some x) None ≡ Some
 refilled_is true x y is = cc
 refilled_is false x y is = absurd cc
 
-no_refill : (n runtime : ℕ) → n < runtime → n / runtime ≡ 0
+pub no_refill : (n runtime : ℕ) → n < runtime → n / runtime ≡ 0
 no_refill n runtime lt = let P : ℕ → Type 0 = λ x. x / runtime ≡ 0 in let e : 0 * runtime + n ≡ n = omega arith in subst P e (div-mul-add 0 runtime n lt)
 
-one_refill : (runtime : ℕ) → 1 ≤ runtime → runtime / runtime ≡ 1
+pub one_refill : (runtime : ℕ) → 1 ≤ runtime → runtime / runtime ≡ 1
 one_refill runtime some = let P : ℕ → Type 0 = λ x. x / runtime ≡ 1 in let e : 1 * runtime + 0 ≡ runtime = omega arith in subst P e (div-mul-add 1 runtime 0 (omega arith))
 
 -- what a run leaves
@@ -62,7 +62,7 @@ left_of p s t paid count some q_some q_most within is =
           record { times = 1; budget = omega arith; deadline = d'; some = omega arith; most = omega arith; refilled = inr (omega arith) }
     ]
 
-times-split : (k d q p : ℕ) → p ≡ d + q → k * p ≡ k * d + k * q
+pub times-split : (k d q p : ℕ) → p ≡ d + q → k * p ≡ k * d + k * q
 times-split k d q p e = let F : ℕ → Type 0 = λ x. k * x ≡ k * d + k * q in subst F (sym e) (omega arith)
 
 -- a run goes on from a renewal

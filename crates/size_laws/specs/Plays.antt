@@ -1,9 +1,10 @@
 -- Plays of a record's jobs by the server of a task, whatever else runs.
-use Rattle.std.specs.Prelude.{◌≡◌, ℕ, ◌+◌, ◌-◌, ◌≤◌, max, true, List, [], ◌∷◌, sum_by, Some, ◌⊎◌}
+use Rattle.std.specs.Prelude.{◌≡◌, ℕ, ◌+◌, ◌-◌, ◌*◌, ◌^◌, ◌<◌, ◌≤◌, max, true, List, [], ◌∷◌, ◌++◌, sum_by, Some, ◌⊎◌}
 use Rattle.grub_bw.specs.Bandwidth.{Reservation}
 use Rattle.grub_bw.specs.Server.{fresh_of, woken_of, depleted_of}
 use Rattle.grub_bw.specs.declared.server.Server.{Server}
 use Rattle.size_least.specs.Jobs.{is_done_by}
+use Rattle.size_least.specs.Span.{budgets_of}
 use Rattle.size_least.specs.declared.job.Job.{Job}
 
 -- the task runs for some time up to a moment, and pays of its budget
@@ -59,3 +60,25 @@ EndInTime p past [] ends = Unit {0}
 EndInTime p past (job ∷ jobs) [] = Unit {0}
 EndInTime p past (job ∷ jobs) (end ∷ ends) =
     (is_done_by p.runtime p.period job.due 0 (job ∷ past) ≡ true → end ≤ job.due) × EndInTime p (job ∷ past) jobs ends
+
+-- jobs behind those before them, the newest first
+abbrev pub onto : List Job → List Job → List Job
+onto [] past = past
+onto (job ∷ jobs) past = onto jobs (job ∷ past)
+
+-- a play from each of the jobs on, the newest first, keeps its deadlines below 2^32; `after` is the work behind them
+abbrev pub HaveRoom : Reservation → ℕ → List Job → Type 0
+HaveRoom p after [] = Unit {0}
+HaveRoom p after (job ∷ past) =
+    (job.release + (budgets_of (job.work + after) p.runtime + 1) * p.period < 2 ^ 32) × HaveRoom p (job.work + after) past
+
+-- some play of the last of these jobs, which stand the newest first, ends after a moment
+pub record EndsLate (p : Reservation) (due : ℕ) (past : List Job) : Type 0 where
+  pub before : List Job
+  pub jobs : List Job
+  pub are : onto jobs before ≡ past
+  pub runs : List (List Run)
+  pub ends : List ℕ
+  pub end : ℕ
+  pub plays : PlaysFresh p jobs runs (ends ++ end ∷ [])
+  pub late : due < end

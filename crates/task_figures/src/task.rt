@@ -1,6 +1,12 @@
 //! One task.
 
-use law_findings::Spread;
+ghost use Rattle.std.specs.Prelude.{◌≡◌, ◌&&◌, not, IfOk, IfSome, IsPermutation, IsSome, IsSorted, None, OnOk, true, false};
+ghost use Rattle.std.specs.Ordering.{nat_cmp};
+ghost use Rattle.law_findings.specs.Spread.{IsSpread};
+ghost use Rattle.task_figures.specs.inside.Figures.{has_own};
+ghost use Rattle.task_figures.specs.inside.Tasks.{charged_with, cost_of, enqueued_with, had_with, is_off, is_run, leaving_with, left_with, opened_with, placed_with, reclaims_by, seen_with, shown_with, stood_with, task_of, throttled_with};
+
+use law_findings::{Spread, spread_of};
 use std::alloc::{AllocError, Global};
 use trace_data::{Budget, Enqueued, Parameters};
 
@@ -68,16 +74,30 @@ pub(crate) struct OpenTask {
     reclaimed: u64,
 }
 
-/// The median and the greatest of these values, which are put in order.
-fn spread_of(values: &mut [u64]) -> Option<Spread> {
-    values.sort_unstable();
-    let median = *values.get(values.len() / 2)?;
-    let most = *values.last()?;
-    Some(Spread {
-        count: values.len() as u64,
-        median,
-        most,
-    })
+/// What a charge cost, by the task's next line: where that has the same deadline, what the budget fell by, at most the run.
+fn cost_of(charge: OpenCharge, budget: Budget) -> Option<u64>
+    ensures { result ≡ cost_of charge budget }
+{
+    if charge.budget.deadline != budget.deadline {
+        return None;
+    }
+    let spent = charge.budget.runtime.saturating_sub(budget.runtime);
+    if spent >= 0 && spent.unsigned_abs() <= charge.nanos {
+        Some(spent.unsigned_abs())
+    } else {
+        None
+    }
+}
+
+impl Standing {
+    fn is_off(self) -> bool
+        ensures { result ≡ is_off self }
+    {
+        match self {
+            Standing::Off => true,
+            Standing::Queued | Standing::Leaving => false,
+        }
+    }
 }
 
 impl OpenTask {
@@ -99,23 +119,49 @@ impl OpenTask {
     }
 
     /// A line shows a budget: what the charge before it cost, and whether that throttled the task.
-    fn see(&mut self, budget: Budget) {
-        if let Some(charge) = self.charge.take()
-            && charge.budget.deadline == budget.deadline
-            && let Ok(cost) = u64::try_from(charge.budget.runtime.saturating_sub(budget.runtime))
-            && cost <= charge.nanos
-        {
-            self.ran = self.ran.saturating_add(charge.nanos);
-            self.reclaimed = self.reclaimed.saturating_add(charge.nanos - cost);
-        }
-        if budget.is_throttled && !self.was_throttled {
-            self.throttled = self.throttled.saturating_add(1);
-        }
-        self.was_throttled = budget.is_throttled;
+    fn see(&mut self, budget: Budget)
+        ensures { task_of self.new ≡ seen_with budget (task_of self.old) }
+    {
+        self.end_charge(budget);
+        self.throttle(budget.is_throttled);
     }
 
-    pub fn enqueued(&mut self, line: &Enqueued) {
+    #[tactic(auto, unfolding(crate::specs::inside::Tasks::shown_with))]
+    fn end_charge(&mut self, budget: Budget)
+        ensures { task_of self.new ≡ shown_with budget (task_of self.old) }
+    {
+        let Some(charge) = self.charge.take() else {
+            return;
+        };
+        let Some(cost) = cost_of(charge, budget) else {
+            return;
+        };
+        self.ran = self.ran.saturating_add(charge.nanos);
+        self.reclaimed = self.reclaimed.saturating_add(charge.nanos - cost);
+    }
+
+    #[tactic(auto, unfolding(crate::specs::inside::Tasks::throttled_with))]
+    fn throttle(&mut self, is_throttled: bool)
+        ensures { task_of self.new ≡ throttled_with is_throttled (task_of self.old) }
+    {
+        if is_throttled && !self.was_throttled {
+            self.throttled = self.throttled.saturating_add(1);
+        }
+        self.was_throttled = is_throttled;
+    }
+
+    pub fn enqueued(&mut self, line: &Enqueued)
+        ensures { task_of self.new ≡ enqueued_with line.now (task_of self.old) }
+    {
         self.see(line.budget);
+        self.place(line);
+    }
+
+    /// Where an enqueue puts the task: that of a task of another class is the end of a boost.
+    #[tactic(auto, unfolding(crate::specs::inside::Tasks::placed_with))]
+    fn place(&mut self, line: &Enqueued)
+        ensures { task_of self.new ≡ placed_with line.now (task_of self.old) }
+    {
         self.is_boosted = line.entity != line.served_by;
         if line.normal_prio >= 0 && !self.is_boosted {
             self.standing = Standing::Off;
@@ -129,42 +175,93 @@ impl OpenTask {
         }
     }
 
-    pub fn dequeued(&mut self, budget: Budget) {
+    pub fn dequeued(&mut self, budget: Budget)
+        ensures { task_of self.new ≡ leaving_with (seen_with budget (task_of self.old)) }
+    {
         self.see(budget);
+        self.leave();
+    }
+
+    #[tactic(auto, unfolding(crate::specs::inside::Tasks::leaving_with))]
+    fn leave(&mut self)
+        ensures { task_of self.new ≡ leaving_with (task_of self.old) }
+    {
         self.standing = Standing::Leaving;
     }
 
-    pub fn left(&mut self) {
+    #[tactic(auto, unfolding(crate::specs::inside::Tasks::left_with))]
+    pub fn left(&mut self)
+        ensures { task_of self.new ≡ left_with (task_of self.old) }
+    {
         self.charge = None;
         self.standing = Standing::Off;
     }
 
     /// A charge for a run of so many nanoseconds; whether it is of this task's own budget.
-    pub fn charged(&mut self, clock: u64, budget: Budget, nanos: u64) -> Result<bool, AllocError> {
+    pub fn charged(&mut self, clock: u64, budget: Budget, nanos: u64) -> Result<bool, AllocError>
+        ensures run { IfOk result (λ r.
+            r ≡ is_run (seen_with budget (task_of self.old)) budget nanos) }
+        ensures task { IfOk result (λ r.
+            task_of self.new ≡ charged_with clock budget nanos (task_of self.old)) }
+    {
         self.see(budget);
-        let is_queued = self.standing != Standing::Off;
-        if self.standing == Standing::Leaving {
-            self.standing = Standing::Off;
+        let is_run = self.is_run(budget, nanos);
+        self.end_dequeue();
+        if is_run {
+            self.open_charge(budget, nanos);
+            self.have(clock, budget)?;
         }
-        if !is_queued || budget.is_throttled || nanos == 0 {
-            return Ok(false);
-        }
+        Ok(is_run)
+    }
+
+    /// Whether a charge is for a run of the task: it is queued, and not throttled.
+    fn is_run(&self, budget: Budget, nanos: u64) -> bool
+        ensures { result ≡ is_run (task_of self.now) budget nanos }
+    {
+        !self.standing.is_off() && !budget.is_throttled && nanos != 0
+    }
+
+    /// The charge within a dequeue is the last one.
+    #[tactic(auto, unfolding(crate::specs::inside::Tasks::stood_with))]
+    fn end_dequeue(&mut self)
+        ensures { task_of self.new ≡ stood_with (task_of self.old) }
+    {
+        self.standing = match self.standing {
+            Standing::Off | Standing::Leaving => Standing::Off,
+            Standing::Queued => Standing::Queued,
+        };
+    }
+
+    /// What a charge cost is shown by the next line, where the task reclaims.
+    #[tactic(auto, unfolding(crate::specs::inside::Tasks::opened_with))]
+    fn open_charge(&mut self, budget: Budget, nanos: u64)
+        ensures { task_of self.new ≡ opened_with budget nanos (task_of self.old) }
+    {
         self.charge = if self.reclaims() {
             Some(OpenCharge { budget, nanos })
         } else {
             None
         };
+    }
+
+    /// Own budget was had at this moment of the runqueue's clock.
+    #[tactic(auto, unfolding(crate::specs::inside::Tasks::had_with))]
+    fn have(&mut self, clock: u64, budget: Budget) -> Result<(), AllocError>
+        ensures { OnOk result (task_of self.new ≡ had_with clock budget (task_of self.old)) }
+    {
         if self.is_boosted || budget.runtime <= 0 {
-            return Ok(true);
+            return Ok(());
         }
         self.charges = self.charges.saturating_add(1);
         if clock > budget.deadline {
             self.late.push(clock - budget.deadline)?;
         }
-        Ok(true)
+        Ok(())
     }
 
-    fn reclaims(&self) -> bool {
+    fn reclaims(&self) -> bool
+        ensures { result ≡ (reclaims_by self.now.parameters && not self.now.is_boosted) }
+    {
         match self.parameters {
             Some(parameters) => parameters.flags & RECLAIM != 0 && !self.is_boosted,
             None => false,
@@ -172,7 +269,18 @@ impl OpenTask {
     }
 
     /// What the task had; none of a task without a reservation of its own.
-    pub fn figures(&mut self) -> Option<TaskFigures> {
+    pub fn figures(&mut self) -> Option<TaskFigures>
+        ensures other { has_own self.old.parameters ≡ false → result ≡ None }
+        ensures own { has_own self.old.parameters ≡ true → IsSome result }
+        ensures jobs { IfSome result (λ f. f.jobs ≡ self.old.jobs) }
+        ensures throttled { IfSome result (λ f. f.throttled ≡ self.old.throttled) }
+        ensures charges { IfSome result (λ f. f.charges ≡ self.old.charges) }
+        ensures ran { IfSome result (λ f. f.ran ≡ self.old.ran) }
+        ensures reclaimed { IfSome result (λ f. f.reclaimed ≡ self.old.reclaimed) }
+        ensures same { IsSome result → IsPermutation self.old.late.items self.new.late.items }
+        ensures order { IsSome result → IsSorted nat_cmp self.new.late.items }
+        ensures late { IfSome result (λ f. IfSome f.late (λ s. IsSpread s self.new.late.items)) }
+    {
         let parameters = self.parameters?;
         if parameters.flags & SUGOV != 0 || parameters.dl_runtime == 0 {
             return None;

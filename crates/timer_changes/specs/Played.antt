@@ -1,10 +1,9 @@
 -- A record, played with one rule changed.
-use Rattle.std.specs.Prelude.{◌≡◌, ℕ, MatchBool, Bool, true, false, not, ◌&&◌, ◌==◌, nat_eq, nat_lt, if◌then◌else◌, Option, Some, None, option_and_then, unwrap_or, List, [], ◌∷◌, slice_get}
+use Rattle.std.specs.Prelude.{◌≡◌, ℕ, Bool, true, false, not, ◌&&◌, ◌==◌, nat_eq, nat_lt, if◌then◌else◌, Option, Some, None, option_and_then, unwrap_or, List, [], ◌∷◌, slice_get}
 use Rattle.std.specs.HashMap.{HashMap, get}
 use Rattle.std.specs.declared.hash.BuildHasherDefault.{BuildHasherDefault}
 use Rattle.std.specs.declared.hash.FoldHasher.{FoldHasher}
 use Rattle.trace_data.specs.declared.fixed.Stop.{Stop}
-use Rattle.trace_data.specs.declared.quantities.Budget.{Budget}
 use Rattle.trace_data.specs.declared.fixed.Stop.TheVariants.{Blocks}
 use Rattle.kernel_entity.specs.Budget.{timer_is_ahead}
 use Rattle.kernel_entity.specs.Clock.{plus}
@@ -20,7 +19,7 @@ use Rattle.timer_play.specs.Turns.{at_run_of, runs_of, wakes_of}
 use Rattle.kernel_changes.specs.Charges.{cost_with}
 use Rattle.kernel_changes.specs.declared.change.RuleChange.{RuleChange}
 use Rattle.kernel_changes.specs.declared.change.RuleChange.TheVariants.{PastRunsOn, AdmissionTakesNothing, ChangeFreesNothing, EndFreesNothing, LeavingFreesNothing}
-use Rattle.timer_changes.specs.Changed.{charged_with, moved_as_wake, start_answer_by, waking_with}
+use Rattle.timer_changes.specs.Changed.{charged_with, fired_with, moved_as_wake, refilled_with, start_answer_by, waking_with}
 use Rattle.timer_changes.specs.declared.play.Play.{Play}
 use Rattle.timer_record.specs.declared.event.KeptEvent.{KeptEvent}
 use Rattle.timer_record.specs.declared.event.KeptEvent.TheVariants.{Idles, Switched, Cancelled, ZeroLagFired}
@@ -33,7 +32,6 @@ use Rattle.timer_tasks.specs.declared.observation.Observation.{Observation}
 use Rattle.timer_tasks.specs.declared.observation.ObservedAnswer.{ObservedAnswer}
 use Rattle.timer_tasks.specs.declared.observation.ObservedAnswer.TheVariants.{Differs}
 use Rattle.timer_tasks.specs.declared.task.DeadlineTask.{DeadlineTask}
-use Rattle.timer_tasks.specs.Tasks.{refilled_of, replenished_by}
 use Rattle.timer_tasks.specs.Wakes.{waking_by}
 
 -- by the same rule, and of the same record
@@ -90,9 +88,9 @@ starting_by c (Task n) m at expires within = option_and_then (λ t. start_answer
 starting_by c _ m at expires within = None
 
 -- a timer of the replenishment fires; that of a task does nothing else
-abbrev pub firing_by : Owner → List TaskLines → KeptLine → State → State
-firing_by (Task n) xs k m = edited (λ t. replenished_by t k.at) n m
-firing_by _ xs k m = step_in xs k m
+abbrev pub firing_by : RuleChange → ChargeLaw → Owner → List TaskLines → KeptLine → State → State
+firing_by c law (Task n) xs k m = edited (λ t. fired_with c law t k.at) n m
+firing_by c law _ xs k m = step_in xs k m
 
 abbrev pub is_different : ObservedAnswer → Bool
 is_different Differs = true
@@ -103,8 +101,8 @@ abbrev pub differs_by : HashMap ℕ ObservedAnswer (BuildHasherDefault FoldHashe
 differs_by answers o = is_different (unwrap_or (get nat_eq answers o.line) o.answer)
 
 -- a budget that was used up is filled at once, where no timer can be started
-abbrev pub refilled_at_once : DeadlineTask → DeadlineTask
-refilled_at_once t = if timer_is_ahead t.entity (unwrap_or t.exceeded 0) then t else refilled_of t
+abbrev pub refilled_at_once : RuleChange → ChargeLaw → DeadlineTask → DeadlineTask
+refilled_at_once c law t = if timer_is_ahead t.entity (unwrap_or t.exceeded 0) then t else refilled_with c law t
 
 abbrev pub is_inactive : Activity → Bool
 is_inactive Inactive = true
@@ -127,7 +125,7 @@ abbrev pub running_by : RuleChange → ChargeLaw → Option DeadlineTask → Kep
 running_by c law (Some t) k n nanos m =
     let shown = at_run_of t k in
     let next = replaced n shown m in
-    if runs_of shown then replaced n (charged_on c law (refilled_at_once shown) k.at nanos next) next else next
+    if runs_of shown then replaced n (charged_on c law (refilled_at_once c law shown) k.at nanos next) next else next
 running_by c law None k n nanos m = m
 
 -- a task is switched out, after a budget that was used up is filled
@@ -140,12 +138,13 @@ switching_from c cpus xs k n before stop m =
     let after = taking_after c n cpus m (step_in xs k m) in
     switched_on c n before (slice_get after.tasks n) stop after
 
-abbrev pub switching_by : Option DeadlineTask → RuleChange → ℕ → List TaskLines → KeptLine → ℕ → Stop → State → State
-switching_by (Some t) c cpus xs k n stop m = switching_from c cpus xs k n (refilled_of t) stop (replaced n (refilled_of t) m)
-switching_by None c cpus xs k n stop m = step_in xs k m
+abbrev pub switching_by : Option DeadlineTask → RuleChange → ChargeLaw → ℕ → List TaskLines → KeptLine → ℕ → Stop → State → State
+switching_by (Some t) c law cpus xs k n stop m =
+    switching_from c cpus xs k n (refilled_with c law t) stop (replaced n (refilled_with c law t) m)
+switching_by None c law cpus xs k n stop m = step_in xs k m
 
--- a line of a wake: nothing but its own effect, where the task was not asleep
-abbrev pub Wakes : Option DeadlineTask → Option DeadlineTask → ChargeLaw → ℕ → ℕ → ℕ → State → State → Type 0
-Wakes (Some was) (Some t) law begins clock n m new =
-    MatchBool (wakes_of was) ((b : Budget) × (new ≡ replaced n (waking_with was t (waking_by law was begins clock) b) m)) (new ≡ m)
-Wakes _ _ law begins clock n m new = new ≡ m
+-- a task that was asleep wakes by the changed rule, after the line's own effect
+abbrev pub waking_on : RuleChange → ChargeLaw → ℕ → Option DeadlineTask → Option DeadlineTask → ℕ → ℕ → State → State
+waking_on c law begins (Some was) (Some t) n clock m =
+    if wakes_of was then replaced n (waking_with c law was t (waking_by law was begins clock) clock) m else m
+waking_on c law begins _ _ n clock m = m

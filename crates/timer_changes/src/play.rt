@@ -5,9 +5,9 @@ ghost use Rattle.std.specs.HashMap.{get};
 ghost use Rattle.timer_play.specs.Events.{step_in};
 ghost use Rattle.timer_play.specs.Playing.{left_after};
 ghost use Rattle.timer_play.specs.States.{owner_at, state_of};
-ghost use Rattle.timer_play.specs.Turns.{runs_of};
-ghost use Rattle.timer_changes.specs.Changed.{block_difference_by, is_of_replenishments};
-ghost use Rattle.timer_changes.specs.Played.{GoesOn, Wakes, differs_by, firing_by, moving_by, quieted, refilled_at_once, running_by, running_on, served_on, starting_by, switching_by, taking_after, taking_by, told_until_by};
+ghost use Rattle.timer_play.specs.Turns.{runs_of, wakes_of};
+ghost use Rattle.timer_changes.specs.Changed.{block_difference_by};
+ghost use Rattle.timer_changes.specs.Played.{GoesOn, differs_by, firing_by, moving_by, quieted, refilled_at_once, running_by, running_on, served_on, starting_by, switching_by, taking_after, taking_by, told_until_by, waking_on};
 ghost use Rattle.timer_tasks.specs.declared.observation.ObservedAnswer.{ObservedAnswer};
 ghost use Rattle.timer_tasks.specs.Observations.{block_answer_of};
 
@@ -45,6 +45,12 @@ fn runs(task: DeadlineTask) -> bool
     ensures { result ≡ runs_of task }
 {
     task.entity.is_in_class && is_awake(task.activity)
+}
+
+fn wakes(task: DeadlineTask) -> bool
+    ensures { result ≡ wakes_of task }
+{
+    task.entity.is_in_class && !is_awake(task.activity)
 }
 
 /// A line that says nothing of a task or a timer.
@@ -243,7 +249,7 @@ impl Play {
         number: u32,
         nanos: u64,
     ) -> Result<(), AllocError>
-        ensures charge { IsTrue (not (is_of_replenishments self.old.change)) → OnOk result
+        ensures charge { OnOk result
             (let m = step_in lines.now.tasks.items (quieted kept) (state_of self.old.machine) in
             state_of self.new.machine ≡ running_by self.old.change self.old.setup.law
             (slice_get m.tasks number) kept number nanos m) }
@@ -266,8 +272,7 @@ impl Play {
 
     /// A task that runs on, after a budget that was used up is filled at once.
     fn refilled(&self, task: DeadlineTask) -> DeadlineTask
-        ensures { IsTrue (not (is_of_replenishments self.now.change)) → result
-            ≡ refilled_at_once task }
+        ensures { result ≡ refilled_at_once self.now.change self.now.setup.law task }
     {
         if has_timer_ahead(task.entity, task.exceeded.unwrap_or(0)) {
             task
@@ -285,9 +290,10 @@ impl Play {
         clock: u64,
     ) -> Result<(), AllocError>
         ensures woken { OnOk result (let m = step_in lines.now.tasks.items kept
-            (state_of self.old.machine) in Wakes
+            (state_of self.old.machine) in state_of self.new.machine
+            ≡ waking_on self.old.change self.old.setup.law self.old.begins
             (slice_get (state_of self.old.machine).tasks number) (slice_get m.tasks number)
-            self.old.setup.law self.old.begins clock number m (state_of self.new.machine)) }
+            number clock m) }
         ensures rest { GoesOn self.old self.new }
     {
         let before = self.machine.task(number);
@@ -295,7 +301,7 @@ impl Play {
         let (Some(before), Some(after)) = (before, self.machine.task(number)) else {
             return Ok(());
         };
-        if before.entity.is_in_class && !runs(before) {
+        if wakes(before) {
             let did = waking_of(self.law(), before, self.begins, clock);
             let woken = woken_by(self.change, self.law(), before, after, did, clock);
             self.machine.replace(number, woken);
@@ -335,10 +341,9 @@ impl Play {
         number: u32,
         stop: Stop,
     ) -> Result<(), AllocError>
-        ensures machine { IsTrue (not (is_of_replenishments self.old.change)) → OnOk result
-            (state_of self.new.machine ≡ switching_by
+        ensures machine { OnOk result (state_of self.new.machine ≡ switching_by
             (slice_get (state_of self.old.machine).tasks number) self.old.change
-            self.old.setup.cpus lines.now.tasks.items kept number stop
+            self.old.setup.law self.old.setup.cpus lines.now.tasks.items kept number stop
             (state_of self.old.machine)) }
         ensures rest { GoesOn self.old self.new }
     {
@@ -433,9 +438,10 @@ impl Play {
     /// `dl_task_timer` fires.
     #[tactic(auto, unfolding(timer_play::specs::Events::edited))]
     fn fire(&mut self, lines: &KeptLines, kept: KeptLine, timer: u32) -> Result<(), AllocError>
-        ensures machine { IsTrue (not (is_of_replenishments self.old.change)) → OnOk result
-            (state_of self.new.machine ≡ firing_by (owner_at timer (state_of self.old.machine))
-            lines.now.tasks.items kept (state_of self.old.machine)) }
+        ensures machine { OnOk result (state_of self.new.machine
+            ≡ firing_by self.old.change self.old.setup.law
+            (owner_at timer (state_of self.old.machine)) lines.now.tasks.items kept
+            (state_of self.old.machine)) }
         ensures rest { GoesOn self.old self.new }
     {
         let Owner::Task(number) = self.machine.owner(timer) else {

@@ -1,10 +1,8 @@
 //! What a line of a record does to a task, with one rule changed.
 
-ghost use Rattle.std.specs.Prelude.{◌≡◌, Some, not, IsTrue};
-ghost use Rattle.kernel_entity.specs.Budget.{replenished_of};
+ghost use Rattle.std.specs.Prelude.{◌≡◌, Some};
 ghost use Rattle.kernel_changes.specs.Charges.{cost_with};
-ghost use Rattle.timer_changes.specs.Changed.{block_difference_by, blocks_by, charged_with, is_of_replenishments, moved_as_wake, start_answer_by, waits_by, waking_with, with_period_of, with_wait_of};
-ghost use Rattle.timer_tasks.specs.Tasks.{refilled_of, refills_of, replenished_by};
+ghost use Rattle.timer_changes.specs.Changed.{block_difference_by, blocks_by, charged_with, enqueued_with, fired_with, line_by, moved_as_wake, refilled_with, replenishing_with, start_answer_by, waits_by, waking_with, with_period_of, with_wait_of};
 
 use kernel_changes::{RuleChange, cost_by, enqueue_by};
 use kernel_entity::{
@@ -22,11 +20,7 @@ const OWN: u64 = 1;
 
 /// The entity is enqueued by itself with these ENQUEUE_ flags.
 fn line_of(entity: Entity, flags: u64, clock: u64) -> Enqueued
-    ensures asked { result.flags ≡ flags }
-    ensures moment { result.clock ≡ clock }
-    ensures budget { result.budget ≡ entity.budget }
-    ensures reservation { result.parameters ≡ entity.parameters }
-    ensures itself { result.served_by ≡ result.entity }
+    ensures { result ≡ line_by entity flags clock }
 {
     Enqueued {
         pid: 0,
@@ -54,8 +48,9 @@ fn line_of(entity: Entity, flags: u64, clock: u64) -> Enqueued
 }
 
 /// The entity with another budget, after an enqueue with these flags.
+#[tactic(auto, unfolding(crate::specs::Changed::enqueued_with))]
 fn enqueued(change: RuleChange, law: ChargeLaw, entity: Entity, flags: u64, clock: u64) -> Entity
-    ensures { result ≡ record entity { budget = result.budget } }
+    ensures { result ≡ enqueued_with change law entity flags clock }
 {
     let done = enqueue_by(Some(change), law, entity, line_of(entity, flags, clock));
     Entity {
@@ -73,7 +68,7 @@ pub(crate) fn woken_by(
     did: Waking,
     clock: u64,
 ) -> DeadlineTask
-    ensures { result ≡ waking_with before after did result.entity.budget }
+    ensures { result ≡ waking_with change law before after did clock }
 {
     if is_tested(did) {
         DeadlineTask {
@@ -102,15 +97,12 @@ pub(crate) fn moved_by(law: ChargeLaw, task: DeadlineTask, at: u64) -> DeadlineT
 
 /// The entity after a replenishment at this moment.
 fn replenished_by(change: RuleChange, law: ChargeLaw, entity: Entity, at: u64) -> Entity
-    ensures other { IsTrue (not (is_of_replenishments change)) → result
-        ≡ replenished_of entity at }
-    ensures changed { IsTrue (is_of_replenishments change) → result
-        ≡ record entity { budget = result.budget } }
+    ensures { result ≡ replenishing_with change law entity at }
 {
     match change {
-        RuleChange::BudgetSet | RuleChange::OnePeriod | RuleChange::YieldKeeps => {
-            enqueued(change, law, entity, REPLENISH, at)
-        }
+        RuleChange::BudgetSet => enqueued(RuleChange::BudgetSet, law, entity, REPLENISH, at),
+        RuleChange::OnePeriod => enqueued(RuleChange::OnePeriod, law, entity, REPLENISH, at),
+        RuleChange::YieldKeeps => enqueued(RuleChange::YieldKeeps, law, entity, REPLENISH, at),
         _ => replenished(entity, at),
     }
 }
@@ -122,41 +114,30 @@ pub(crate) fn fired_by(
     task: DeadlineTask,
     at: u64,
 ) -> DeadlineTask
-    ensures ready { IsTrue (not task.entity.budget.is_throttled) → result ≡ task }
-    ensures other { IsTrue (not (is_of_replenishments change)) → result ≡ replenished_by task at }
-    ensures changed { IsTrue (is_of_replenishments change) → result ≡ record task {
-      entity = record task.entity { budget = result.entity.budget };
-    } }
+    ensures { result ≡ fired_with change law task at }
 {
-    if task.entity.budget.is_throttled {
-        DeadlineTask {
-            entity: replenished_by(change, law, task.entity, at),
-            ..task
-        }
-    } else {
-        task
+    DeadlineTask {
+        entity: if task.entity.budget.is_throttled {
+            replenished_by(change, law, task.entity, at)
+        } else {
+            task.entity
+        },
+        ..task
     }
 }
 
 /// The task after a budget that was used up is filled at once, since no timer was started for it.
 pub(crate) fn refilled_by(change: RuleChange, law: ChargeLaw, task: DeadlineTask) -> DeadlineTask
-    ensures stays { IsTrue (not (refills_of task)) → result ≡ record task { exceeded = None } }
-    ensures other { IsTrue (not (is_of_replenishments change)) → result ≡ refilled_of task }
-    ensures changed { IsTrue (is_of_replenishments change) → result ≡ record task {
-      entity = record task.entity { budget = result.entity.budget };
-      exceeded = None;
-    } }
+    ensures { result ≡ refilled_with change law task }
 {
-    match task.exceeded {
-        Some(exceeded) if refills(task) => DeadlineTask {
-            entity: replenished_by(change, law, task.entity, exceeded),
-            exceeded: None,
-            ..task
+    DeadlineTask {
+        entity: if refills(task) {
+            replenished_by(change, law, task.entity, task.exceeded.unwrap_or(0))
+        } else {
+            task.entity
         },
-        _ => DeadlineTask {
-            exceeded: None,
-            ..task
-        },
+        exceeded: None,
+        ..task
     }
 }
 

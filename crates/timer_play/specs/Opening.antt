@@ -1,7 +1,8 @@
 -- The tasks and runqueues of a record before its first line.
-use Rattle.std.specs.Prelude.{ℕ, ◌+◌, ◌-◌, ◌^◌, Bool, true, false, not, ◌&&◌, ◌==◌, nat_lt, nat_le, max, min, if◌then◌else◌, List, [], Option, Some, None, is_some, unwrap_or, map, fold, position}
+use Rattle.std.specs.Prelude.{ℕ, ◌+◌, ◌-◌, ◌^◌, Bool, true, false, not, ◌&&◌, ◌==◌, nat_lt, nat_le, max, min, if◌then◌else◌, List, [], Option, Some, None, is_some, unwrap_or, map, fold, position, slice_get}
 use Rattle.std.specs.List.{range_with_len}
 use Rattle.trace_data.specs.declared.quantities.Sums.{Sums}
+use Rattle.timer_record.specs.declared.lines.AddressLines.{AddressLines}
 use Rattle.timer_record.specs.declared.lines.FirstLine.{FirstLine}
 use Rattle.timer_record.specs.declared.lines.FirstLine.TheVariants.{Start as WithStart}
 use Rattle.timer_record.specs.declared.lines.KeptLines.{KeptLines}
@@ -30,16 +31,20 @@ abbrev pub server_owner : Option ℕ → Owner
 server_owner (Some n) = Server n
 server_owner None = Nobody
 
--- whose a timer is, by its lines
-unfoldable pub first_owner : TimerLines → Owner
-first_owner x = if is_of_task_by x then task_owner (winner_of x.task) else server_owner (winner_of x.cpu)
+-- whose a timer is, by its lines, and by all of its address
+abbrev pub first_owner_by : Option AddressLines → TimerLines → Owner
+first_owner_by (Some a) x = if is_of_task_by a then task_owner (winner_of x.task) else server_owner (winner_of a.cpu)
+first_owner_by None x = Nobody
+
+unfoldable pub first_owner : List AddressLines → TimerLines → Owner
+first_owner xs x = first_owner_by (slice_get xs x.address) x
 
 abbrev pub starts_with_start : Option FirstLine → Bool
 starts_with_start (Some WithStart) = true
 starts_with_start _ = false
 
 -- a fair server whose timer's first line is a start was stopped before
-abbrev pub starts_server : ℕ → TimerLines → Bool
+abbrev pub starts_server : ℕ → AddressLines → Bool
 starts_server cpu x = not (is_of_task_by x) && is_number (winner_of x.cpu) cpu && starts_with_start x.first
 
 abbrev pub runs_at_first : Bool → ServerState
@@ -62,12 +67,12 @@ told_runqueue s sums = record { sums = sums; server = runs_at_first (nat_lt 0 s.
 abbrev pub later_of : ℕ → Option RunqueueSums → RunqueueSums → Option RunqueueSums
 later_of cpu found x = if x.cpu == cpu then Some x else found
 
-abbrev pub first_by : Option RunqueueSums → RecordSetup → List TimerLines → ℕ → Runqueue
-first_by (Some x) s timers cpu = told_runqueue s x.sums
-first_by None s timers cpu = untold_runqueue s cpu (is_some (position (starts_server cpu) timers))
+abbrev pub first_by : Option RunqueueSums → RecordSetup → List AddressLines → ℕ → Runqueue
+first_by (Some x) s addresses cpu = told_runqueue s x.sums
+first_by None s addresses cpu = untold_runqueue s cpu (is_some (position (starts_server cpu) addresses))
 
-unfoldable pub first_runqueue : RecordSetup → List RunqueueSums → List TimerLines → ℕ → Runqueue
-first_runqueue s xs timers cpu = first_by (fold (later_of cpu) None xs) s timers cpu
+unfoldable pub first_runqueue : RecordSetup → List RunqueueSums → List AddressLines → ℕ → Runqueue
+first_runqueue s xs addresses cpu = first_by (fold (later_of cpu) None xs) s addresses cpu
 
 -- up to the greatest CPU of the root domain and of the notes
 abbrev pub cpus_of : RecordStart → ℕ
@@ -79,4 +84,5 @@ opened f ts rs os = record { terms = f; tasks = ts; runqueues = rs; taken = 0; o
 unfoldable pub first_state : RecordSetup → RecordStart → KeptLines → ℕ → State
 first_state s x lines within =
     opened (record { setup = s; begins = unwrap_or lines.begins 0; within = within }) (map (λ y. unseen_task) lines.tasks.items)
-    (map (first_runqueue s x.sums.items lines.timers.items) (range_with_len 0 (cpus_of x))) (map first_owner lines.timers.items)
+    (map (first_runqueue s x.sums.items lines.addresses.items) (range_with_len 0 (cpus_of x)))
+    (map (first_owner lines.addresses.items) lines.timers.items)

@@ -12,7 +12,7 @@ use crate::place::is_it;
 use crate::setup::{RecordSetup, RecordStart, RunqueueSums};
 use crate::terms::PlayTerms;
 use std::alloc::{AllocError, Global};
-use timer_record::{FirstLine, KeptLines, TaskLines, TimerLines};
+use timer_record::{AddressLines, FirstLine, KeptLines, TaskLines, TimerLines};
 use timer_tasks::{DeadlineTask, Runqueue, ServerState, unseen};
 use trace_data::Sums;
 
@@ -26,11 +26,11 @@ fn begins_with_start(first: Option<FirstLine>) -> bool
     }
 }
 
-/// Whether a timer is the fair server's of a CPU, and its first line a start.
-fn is_started(timer: &TimerLines, cpu: u32) -> bool
-    ensures { result ≡ starts_server cpu timer.now }
+/// Whether an address is the fair server's of a CPU, and its first line a start.
+fn is_started(address: &AddressLines, cpu: u32) -> bool
+    ensures { result ≡ starts_server cpu address.now }
 {
-    !timer.is_of_task() && is_it(timer.cpu.winner(), cpu) && begins_with_start(timer.first)
+    !address.is_of_task() && is_it(address.cpu.winner(), cpu) && begins_with_start(address.first)
 }
 
 /// A fair server's state, which runs or does not.
@@ -87,28 +87,35 @@ fn later(cpu: u32, found: Option<RunqueueSums>, note: RunqueueSums) -> Option<Ru
     if note.cpu == cpu { Some(note) } else { found }
 }
 
-/// The timer of a CPU's fair server that begins with a start, by its place.
-fn first_start(timers: &[TimerLines], cpu: u32) -> Option<usize>
-    ensures { result ≡ position (starts_server cpu) timers.now }
+/// The address of a CPU's fair server that begins with a start, by its place.
+fn first_start(addresses: &[AddressLines], cpu: u32) -> Option<usize>
+    ensures { result ≡ position (starts_server cpu) addresses.now }
 {
-    timers.iter().position(|timer| is_started(timer, cpu))
+    addresses
+        .iter()
+        .position(|address| is_started(address, cpu))
 }
 
 /// Whether the timer of a CPU's fair server begins with a start: it was stopped before.
-fn was_stopped(timers: &[TimerLines], cpu: u32) -> bool
-    ensures { result ≡ is_some (position (starts_server cpu) timers.now) }
+fn was_stopped(addresses: &[AddressLines], cpu: u32) -> bool
+    ensures { result ≡ is_some (position (starts_server cpu) addresses.now) }
 {
-    first_start(timers, cpu).is_some()
+    first_start(addresses, cpu).is_some()
 }
 
 /// A runqueue as a record begins.
 #[tactic(auto, unfolding(crate::specs::Opening::first_runqueue))]
-fn first(setup: &RecordSetup, notes: &[RunqueueSums], timers: &[TimerLines], cpu: u32) -> Runqueue
-    ensures { result ≡ first_runqueue setup.now notes.now timers.now cpu }
+fn first(
+    setup: &RecordSetup,
+    notes: &[RunqueueSums],
+    addresses: &[AddressLines],
+    cpu: u32,
+) -> Runqueue
+    ensures { result ≡ first_runqueue setup.now notes.now addresses.now cpu }
 {
     match sums_told(notes, cpu) {
         Some(note) => told(setup, note.sums),
-        None => untold(setup, cpu, was_stopped(timers, cpu)),
+        None => untold(setup, cpu, was_stopped(addresses, cpu)),
     }
 }
 
@@ -131,15 +138,15 @@ fn runqueues(
     alloc: Global,
     setup: &RecordSetup,
     start: &RecordStart,
-    timers: &[TimerLines],
+    addresses: &[AddressLines],
 ) -> Result<Vec<Runqueue>, AllocError>
     ensures { IfOk result (λ v. v.items
-        ≡ map (first_runqueue setup.now start.now.sums.items timers.now)
+        ≡ map (first_runqueue setup.now start.now.sums.items addresses.now)
         (range_with_len 0 (cpus_of start.now))) }
 {
     let last = greatest(&start.domain).max(greatest_told(&start.sums));
     (0..last.saturating_add(1))
-        .map(|cpu| first(setup, &start.sums, timers, cpu))
+        .map(|cpu| first(setup, &start.sums, addresses, cpu))
         .collect(alloc)
 }
 
@@ -163,23 +170,32 @@ fn owner_of_server(number: Option<u32>) -> Owner
 
 /// Whose a timer is from the beginning.
 #[tactic(auto, unfolding(crate::specs::Opening::first_owner))]
-fn first_owner_of(timer: &TimerLines) -> Owner
-    ensures { result ≡ first_owner timer.now }
+fn first_owner_of(addresses: &[AddressLines], timer: &TimerLines) -> Owner
+    ensures { result ≡ first_owner addresses.now timer.now }
 {
-    if timer.is_of_task() {
-        owner_of_task(timer.task.winner())
-    } else {
-        owner_of_server(timer.cpu.winner())
+    match addresses.get(timer.address as usize) {
+        Some(address) => {
+            if address.is_of_task() {
+                owner_of_task(timer.task.winner())
+            } else {
+                owner_of_server(address.cpu.winner())
+            }
+        }
+        None => Owner::Nobody,
     }
 }
 
 /// Whose each timer is from the beginning.
-fn owners(alloc: Global, timers: &[TimerLines]) -> Result<Vec<Owner>, AllocError>
-    ensures { IfOk result (λ v. v.items ≡ map first_owner timers.now) }
+fn owners(
+    alloc: Global,
+    addresses: &[AddressLines],
+    timers: &[TimerLines],
+) -> Result<Vec<Owner>, AllocError>
+    ensures { IfOk result (λ v. v.items ≡ map (first_owner addresses.now) timers.now) }
 {
     timers
         .iter()
-        .map(|timer| first_owner_of(timer))
+        .map(|timer| first_owner_of(addresses, timer))
         .collect(alloc)
 }
 
@@ -229,8 +245,8 @@ impl TimedMachine {
         ensures { IfOk result (λ m. state_of m ≡ first_state setup start.now lines.now within) }
     {
         let tasks = unseen_tasks(alloc, &lines.tasks)?;
-        let runqueues = runqueues(alloc, &setup, start, &lines.timers)?;
-        let owners = owners(alloc, &lines.timers)?;
+        let runqueues = runqueues(alloc, &setup, start, &lines.addresses)?;
+        let owners = owners(alloc, &lines.addresses, &lines.timers)?;
         let terms = PlayTerms {
             setup,
             begins: lines.begins.unwrap_or(0),

@@ -13,11 +13,12 @@ use Rattle.timer_record.specs.declared.event.KeptLine.{KeptLine}
 use Rattle.timer_record.specs.declared.lines.TaskNote.{TaskNote}
 use Rattle.timer_record.specs.declared.moment.Passing.{Passing}
 use Rattle.timer_record.specs.declared.record.KeptPlace.{KeptPlace}
-use Rattle.timer_record.specs.Kept.{Kept, before_is, changed_by, counted, keeps, place_in, placed_by, placed_in, with_passing, with_timer}
-use Rattle.timer_record.specs.Passing.{called_in, cancelled_at, cancelled_in, charged_before, charged_by, charged_in, claimed_by, classed_in, clocked_by, clocked_of, fired_of, idled_in, idles_already, is_deadline_at, lag_started_at, lag_started_in, lagged_by, met_by, met_in, migrated_by, moved_in, passed_in, passing_by, ran_by, ran_in, replenish_started_at, replenish_started_in, returned_in, run_kept, started_in, suspected_by, suspected_in, switched_at, told_by_charge, woken_as, woken_behind, woken_by, woken_in}
+use Rattle.timer_record.specs.declared.record.TimerPlace.{TimerPlace}
+use Rattle.timer_record.specs.Kept.{Kept, before_is, changed_by, counted, handed_by, handed_in, handed_to, is_left_at, keeps, place_in, placed_by, placed_in, with_address, with_passing, with_timer}
+use Rattle.timer_record.specs.Passing.{called_in, cancelled_at, cancelled_in, charged_before, charged_by, charged_in, claimed_by, clocked_by, clocked_of, fired_of, idled_in, idles_already, is_deadline_at, lag_started_at, lag_started_in, lagged_by, met_by, met_in, migrated_by, moved_in, out_in, passed_in, passing_by, ran_by, ran_in, replenish_started_at, replenish_started_in, returned_in, run_kept, started_at, started_in, suspected_by, suspected_in, switched_at, told_by_charge, woken_as, woken_behind, woken_by, woken_in}
 use Rattle.timer_record.specs.Records.{EventLine, begun_in, come_in, come_until, is_due, kept_with, place_of, told_in}
-use Rattle.timer_record.specs.Timers.{with_line_of, with_start_of, with_wake_of}
-use Rattle.timer_record.specs.Moments.{calling_of, in_class_of, returned_of}
+use Rattle.timer_record.specs.Timers.{started_after, with_line_of, with_start_of, with_wake_of}
+use Rattle.timer_record.specs.Moments.{calling_of, returned_of, switched_of}
 
 come_keeps : (x : TaskNote) (k : Kept) → (come_in x k).kept ≡ k.kept
 unfolding come_in
@@ -69,13 +70,21 @@ passing_has : (n : ℕ) (o : Option ℕ) (f : Passing → Passing) (k : Kept) �
 passing_has n (Some t) f k has = has
 passing_has n None f k has = has
 
-placed_has_by : (n : ℕ) (o : Option ℕ) (a : ℕ) (k : Kept) → Has n k → Has n (placed_by o a k)
+placed_has_by : (n : ℕ) (o : Option TimerPlace) (a : ℕ) (k : Kept) → Has n k → Has n (placed_by o a k)
 placed_has_by n (Some t) a k has = has
 placed_has_by n None a k has = has
 
 placed_has : (n a : ℕ) (k : Kept) → Has n k → Has n (placed_in a k)
 unfolding placed_in
 placed_has n a k has = placed_has_by n (k.places a) a k has
+
+handed_has_by : (n : ℕ) (b : Bool) (a : ℕ) (there : TimerPlace) (k : Kept) → Has n k → Has n (handed_by b a there k)
+handed_has_by n true a there k has = has
+handed_has_by n false a there k has = has
+
+handed_has : (n a : ℕ) (there : TimerPlace) (k : Kept) → Has n k → Has n (handed_in a there k)
+unfolding handed_in
+handed_has n a there k has = handed_has_by n (is_left_at there.timer k) a there k has
 
 claimed_has : (n : ℕ) (b : Before) (t : ℕ) (k : Kept) → Has n k → Has n (claimed_by b t k)
 claimed_has n (before.Started timer) t k has = if_has n (is_deadline_at t k) (with_timer (λ x. with_wake_of x t) timer k) k has has
@@ -160,39 +169,42 @@ switched_one : (n : ℕ) (place : KeptPlace) (pid : ℕ) (deadline : Bool) (stop
 unfolding switched_at
 switched_one n place pid deadline stop idle k has =
     let number : Option ℕ = k.numbers pid in
-    let m : Kept = if deadline then classed_in number k else k in
-    let same : Has n m = if_has n deadline (classed_in number k) k (passing_has n number in_class_of k has) has in
+    let m : Kept = out_in number deadline stop k in
+    let same : Has n m = passing_has n number (λ p. switched_of p deadline stop) k has in
     if_one n (is_none number && not (deadline && idle)) (idled_in place m) (keeps place (Switched number deadline stop idle) m) (idled_one n place m same) (keeps_one n place (Switched number deadline stop idle) m same)
 
 lag_one : (n : ℕ) (place : KeptPlace) (pid address expires : ℕ) (k : Kept) → Has n k → AtMostOne n (lag_started_in place pid address expires k)
 unfolding lag_started_in lag_started_at
 lag_one n place pid address expires k has =
-    let m : Kept = placed_in address k in let timer : ℕ = place_in address k in
+    let m : Kept = placed_in address k in let timer : ℕ = (place_in address k).timer in
     keeps_one n place (ZeroLagStarted timer (m.numbers pid) expires) (lagged_by (m.numbers pid) pid timer m) (lagged_has n (m.numbers pid) pid timer m (placed_has n address k has))
 
 replenish_one : (n : ℕ) (place : KeptPlace) (address expires : ℕ) (k : Kept) → Has n k → AtMostOne n (replenish_started_in place address expires k)
-unfolding replenish_started_in replenish_started_at
+unfolding replenish_started_in started_at replenish_started_at
 replenish_one n place address expires k has =
-    let m : Kept = placed_in address k in let timer : ℕ = place_in address k in
-    let t : Kept = with_timer (λ x. with_start_of x place.cpu (expires - place.at) (charged_before (m.before place.cpu))) timer m in
-    keeps_one n place (ReplenishStarted timer expires) (before_is place.cpu (before.Started timer) t) (before_has n place.cpu (before.Started timer) t (placed_has n address k has))
+    let p : Kept = placed_in address k in let first : TimerPlace = place_in address k in
+    let m : Kept = handed_in address first p in let there : TimerPlace = handed_to first p in
+    let charged : Option ℕ = charged_before (m.before place.cpu) in
+    let t : Kept = with_timer (λ x. started_after x charged) there.timer (with_address (λ x. with_start_of x place.cpu (expires - place.at) charged) there.address m) in
+    keeps_one n place (ReplenishStarted there.timer expires) (before_is place.cpu (before.Started there.timer) t)
+    (before_has n place.cpu (before.Started there.timer) t (handed_has n address first p (placed_has n address k has)))
 
 cancelled_one : (n : ℕ) (place : KeptPlace) (address : ℕ) (k : Kept) → Has n k → AtMostOne n (cancelled_in place address k)
 unfolding cancelled_in cancelled_at
 cancelled_one n place address k has =
-    let m : Kept = placed_in address k in let timer : ℕ = place_in address k in
-    let t : Kept = with_timer with_line_of timer m in
+    let m : Kept = placed_in address k in let there : TimerPlace = place_in address k in
+    let t : Kept = with_address with_line_of there.address m in
     let same : Has n t = placed_has n address k has in
-    if_one n m.wants_cancels (keeps place (Cancelled timer) t) t (keeps_one n place (Cancelled timer) t same) (none_more n t same)
+    if_one n m.wants_cancels (keeps place (Cancelled there.timer) t) t (keeps_one n place (Cancelled there.timer) t same) (none_more n t same)
 
 fired_one : (n : ℕ) (place : KeptPlace) (address : ℕ) (f : TimerFunction) (k : Kept) → Has n k → AtMostOne n (fired_of place address f k)
 unfolding fired_of
 fired_one n place address ZeroLag k has =
-    let timer : ℕ = place_in address k in
-    keeps_one n place (ZeroLagFired timer) (with_timer with_line_of timer (placed_in address k)) (placed_has n address k has)
+    let there : TimerPlace = place_in address k in
+    keeps_one n place (ZeroLagFired there.timer) (with_address with_line_of there.address (placed_in address k)) (placed_has n address k has)
 fired_one n place address Replenish k has =
-    let timer : ℕ = place_in address k in
-    keeps_one n place (ReplenishFired timer) (with_timer with_line_of timer (placed_in address k)) (placed_has n address k has)
+    let there : TimerPlace = place_in address k in
+    keeps_one n place (ReplenishFired there.timer) (with_address with_line_of there.address (placed_in address k)) (placed_has n address k has)
 fired_one n place address Other k has = none_more n k has
 
 started_one : (n : ℕ) (place : KeptPlace) (pid timer : ℕ) (f : TimerFunction) (expires : ℕ) (k : Kept) → Has n k → AtMostOne n (started_in place pid timer f expires k)

@@ -1,3 +1,4 @@
 pub mod BeforeLemmas
 mod ComingLemmas
+mod FirstLemmas
 mod GrowthLemmas

@@ -1,5 +1,5 @@
 -- What is kept of a record so far.
-use Rattle.std.specs.Prelude.{ℕ, ◌+◌, ◌-◌, ◌^◌, min, Bool, List, [], ◌∷◌, ◌++◌, length, nat_eq, ◌==◌, if◌then◌else◌, drop, Option, Some, None, unwrap_or, slice_get, slice_set}
+use Rattle.std.specs.Prelude.{ℕ, ◌+◌, ◌-◌, ◌^◌, min, Bool, true, false, List, [], ◌∷◌, ◌++◌, length, nat_eq, ◌==◌, if◌then◌else◌, drop, Option, Some, None, unwrap_or, slice_get, slice_set}
 use Rattle.std.specs.Map.{update}
 use Rattle.std.specs.HashMap.{get}
 use Rattle.trace_data.specs.declared.quantities.Parameters.{Parameters}
@@ -7,6 +7,7 @@ use Rattle.timer_record.specs.declared.before.Before.{Before}
 use Rattle.timer_record.specs.declared.before.Before.TheVariants.{Nothing}
 use Rattle.timer_record.specs.declared.event.KeptEvent.{KeptEvent}
 use Rattle.timer_record.specs.declared.event.KeptLine.{KeptLine}
+use Rattle.timer_record.specs.declared.lines.AddressLines.{AddressLines}
 use Rattle.timer_record.specs.declared.lines.TaskLines.{TaskLines}
 use Rattle.timer_record.specs.declared.lines.TaskNote.{TaskNote}
 use Rattle.timer_record.specs.declared.lines.TimerLines.{TimerLines}
@@ -14,12 +15,13 @@ use Rattle.timer_record.specs.declared.lines.Unlisted.{Unlisted}
 use Rattle.timer_record.specs.declared.moment.Passing.{Passing}
 use Rattle.timer_record.specs.declared.record.KeptPlace.{KeptPlace}
 use Rattle.timer_record.specs.declared.record.OpenRecord.{OpenRecord}
-use Rattle.timer_record.specs.Timers.{unknown_timer}
-use Rattle.timer_record.specs.Votes.{no_vote}
-use Rattle.timer_record.specs.Moments.{passing_at_first}
+use Rattle.timer_record.specs.declared.record.TimerPlace.{TimerPlace}
+use Rattle.timer_record.specs.Timers.{unknown_address, unknown_timer}
+use Rattle.timer_record.specs.Votes.{no_vote, winner_of}
+use Rattle.timer_record.specs.Moments.{is_gone_of, passing_at_first}
 
--- which lines are wanted; the tasks, and what is known of each; the timers; the numbers of tasks by their pids, and of timers by their
--- addresses; the first wakes of tasks without a reservation, by their pids; what the last line of each CPU tells; the notes before the
+-- which lines are wanted; the tasks, and what is known of each; the addresses of timers, and the timers; the numbers of tasks by their
+-- pids, and the timer that is at each address now; the first wakes of tasks without a reservation, by their pids; what the last line of each CPU tells; the notes before the
 -- first line, and how many came; those that came, by the moment of the change; the lines that are kept; the moments of the first and the
 -- last line; how many lines there are, and how many are about a task of the class without a reservation; the first of these with a timer
 pub record Kept : Type 0 where
@@ -27,9 +29,10 @@ pub record Kept : Type 0 where
   pub wants_cancels : Bool
   pub tasks : List TaskLines
   pub passing : List Passing
+  pub addresses : List AddressLines
   pub timers : List TimerLines
   pub numbers : ℕ → Option ℕ
-  pub places : ℕ → Option ℕ
+  pub places : ℕ → Option TimerPlace
   pub strangers : ℕ → Option ℕ
   pub before : ℕ → Before
   pub notes : List TaskNote
@@ -52,6 +55,7 @@ kept_of r = record {
   wants_cancels = r.keeps_cancels;
   tasks = r.lines.tasks.items;
   passing = r.passing.items;
+  addresses = r.lines.addresses.items;
   timers = r.lines.timers.items;
   numbers = get nat_eq r.pids;
   places = get nat_eq r.addresses;
@@ -75,6 +79,7 @@ kept_at_first idle cancels = record {
   wants_cancels = cancels;
   tasks = [];
   passing = [];
+  addresses = [];
   timers = [];
   numbers = λ pid. None;
   places = λ address. None;
@@ -113,6 +118,9 @@ with_passing f n k = record k { passing = changed f n k.passing }
 abbrev pub with_timer : (TimerLines → TimerLines) → ℕ → Kept → Kept
 with_timer f n k = record k { timers = changed f n k.timers }
 
+abbrev pub with_address : (AddressLines → AddressLines) → ℕ → Kept → Kept
+with_address f n k = record k { addresses = changed f n k.addresses }
+
 abbrev pub with_task : (TaskLines → TaskLines) → ℕ → Kept → Kept
 with_task f n k = record k { tasks = changed f n k.tasks }
 
@@ -131,19 +139,54 @@ numbered_in pid k = numbered_by (k.numbers pid) pid k
 abbrev pub number_in : ℕ → Kept → ℕ
 number_in pid k = unwrap_or (k.numbers pid) (numbered (length k.tasks))
 
--- and so has the timer at an address
-abbrev pub placed_by : Option ℕ → ℕ → Kept → Kept
-placed_by (Some n) address k = k
+-- and so have an address and its first timer
+abbrev pub next_place : Kept → TimerPlace
+next_place k = record { address = numbered (length k.addresses); timer = numbered (length k.timers) }
+
+abbrev pub placed_by : Option TimerPlace → ℕ → Kept → Kept
+placed_by (Some there) address k = k
 placed_by None address k = record k {
-  timers = k.timers ++ unknown_timer ∷ [];
-  places = update nat_eq k.places address (Some (numbered (length k.timers)));
+  addresses = k.addresses ++ unknown_address ∷ [];
+  timers = k.timers ++ unknown_timer (numbered (length k.addresses)) ∷ [];
+  places = update nat_eq k.places address (Some (next_place k));
 }
 
 unfoldable pub placed_in : ℕ → Kept → Kept
 placed_in address k = placed_by (k.places address) address k
 
-abbrev pub place_in : ℕ → Kept → ℕ
-place_in address k = unwrap_or (k.places address) (numbered (length k.timers))
+abbrev pub place_in : ℕ → Kept → TimerPlace
+place_in address k = unwrap_or (k.places address) (next_place k)
+
+-- the task that a timer is of, by its starts so far, has ended or left the class
+abbrev pub is_gone_by : Option Passing → Bool
+is_gone_by (Some p) = is_gone_of p
+is_gone_by None = false
+
+abbrev pub is_left_by : Option ℕ → Kept → Bool
+is_left_by (Some task) k = is_gone_by (slice_get k.passing task)
+is_left_by None k = false
+
+abbrev pub winner_by : Option TimerLines → Option ℕ
+winner_by (Some t) = winner_of t.task
+winner_by None = None
+
+abbrev pub is_left_at : ℕ → Kept → Bool
+is_left_at timer k = is_left_by (winner_by (slice_get k.timers timer)) k
+
+-- an address belongs to the task that last started its timer, until that task has ended or left the class: the next start there is
+-- that of another timer
+abbrev pub handed_to : TimerPlace → Kept → TimerPlace
+handed_to there k = if is_left_at there.timer k then record there { timer = numbered (length k.timers) } else there
+
+abbrev pub handed_by : Bool → ℕ → TimerPlace → Kept → Kept
+handed_by true address there k = record k {
+  timers = k.timers ++ unknown_timer there.address ∷ [];
+  places = update nat_eq k.places address (Some (record there { timer = numbered (length k.timers) }));
+}
+handed_by false address there k = k
+
+unfoldable pub handed_in : ℕ → TimerPlace → Kept → Kept
+handed_in address there k = handed_by (is_left_at there.timer k) address there k
 
 -- what a line tells of the next one on its CPU
 abbrev pub with_before : ℕ → Before → (ℕ → Before) → ℕ → Before

@@ -1,10 +1,12 @@
 -- When the kernel took a change that a note tells of, and the clock of a wake.
-use Rattle.std.specs.Prelude.{ℕ, ◌+◌, ◌-◌, ◌^◌, Bool, true, false, not, ◌&&◌, nat_lt, min, if◌then◌else◌, Option, Some, None}
+use Rattle.std.specs.Prelude.{ℕ, ◌+◌, ◌-◌, ◌^◌, Bool, true, false, not, ◌&&◌, ◌||◌, nat_lt, min, if◌then◌else◌, Option, Some, None}
+use Rattle.trace_data.specs.declared.fixed.Stop.{Stop}
+use Rattle.trace_data.specs.declared.fixed.Stop.TheVariants.{Ends}
 use Rattle.timer_record.specs.declared.moment.Passing.{Passing}
 use Rattle.timer_record.specs.declared.moment.TheConstants.{CALL, FIRST_CALL, LAG, WAKE}
 
 abbrev pub passing_at_first : Passing
-passing_at_first = record { charged = None; is_calling = false; within_call = None; earlier_in_call = None; has_note = false; is_deadline = false; woken = None }
+passing_at_first = record { charged = None; is_calling = false; within_call = None; earlier_in_call = None; has_note = false; is_deadline = false; has_ended = false; woken = None }
 
 abbrev pub or_of : Option ℕ → Option ℕ → Option ℕ
 or_of (Some a) b = Some a
@@ -20,6 +22,19 @@ charged_of p at =
 abbrev pub in_class_of : Passing → Passing
 in_class_of p =
     if p.is_calling && not p.is_deadline then record p { is_calling = false; within_call = or_of p.earlier_in_call p.within_call } else p
+
+-- X or Z
+abbrev pub ends_of : Stop → Bool
+ends_of Ends = true
+ends_of _ = false
+
+-- switched out, as one of the class or not
+abbrev pub switched_of : Passing → Bool → Stop → Passing
+switched_of p deadline stop = record (if deadline then in_class_of p else p) { has_ended = ends_of stop }
+
+-- it has ended, or left the class
+abbrev pub is_gone_of : Passing → Bool
+is_gone_of p = p.has_ended || not p.is_deadline
 
 abbrev pub returned_of : Passing → Passing
 returned_of p = record p { is_calling = false }

@@ -15,10 +15,11 @@ use Rattle.timer_record.specs.declared.lines.TaskLines.{TaskLines}
 use Rattle.timer_record.specs.declared.lines.Unlisted.{Unlisted}
 use Rattle.timer_record.specs.declared.moment.Passing.{Passing}
 use Rattle.timer_record.specs.declared.record.KeptPlace.{KeptPlace}
-use Rattle.timer_record.specs.Kept.{Kept, before_is, changed, counted, keeps, place_in, placed_in, with_passing, with_task, with_timer}
-use Rattle.timer_record.specs.Timers.{with_line_of, with_start_of, with_wake_of}
+use Rattle.timer_record.specs.declared.record.TimerPlace.{TimerPlace}
+use Rattle.timer_record.specs.Kept.{Kept, before_is, changed, counted, handed_in, handed_to, keeps, place_in, placed_in, with_address, with_passing, with_task, with_timer}
+use Rattle.timer_record.specs.Timers.{started_after, with_line_of, with_start_of, with_wake_of}
 use Rattle.timer_record.specs.Votes.{voted}
-use Rattle.timer_record.specs.Moments.{calling_of, charged_of, in_class_of, returned_of, wake_clock_of}
+use Rattle.timer_record.specs.Moments.{calling_of, charged_of, returned_of, switched_of, wake_clock_of}
 
 -- the last line that is kept says no more than that this CPU idles
 abbrev pub idles_at : ℕ → ℕ → KeptEvent → Bool
@@ -50,9 +51,9 @@ called_in pid k = passing_by (k.numbers pid) calling_of k
 abbrev pub returned_in : ℕ → Kept → Kept
 returned_in pid k = passing_by (k.numbers pid) returned_of k
 
--- a task that has a reservation is switched out as one of the class
-abbrev pub classed_in : Option ℕ → Kept → Kept
-classed_in number k = passing_by number in_class_of k
+-- a task that has a reservation is switched out
+abbrev pub out_in : Option ℕ → Bool → Stop → Kept → Kept
+out_in number deadline stop k = passing_by number (λ p. switched_of p deadline stop) k
 
 abbrev pub is_deadline_by : Option Passing → Bool
 is_deadline_by (Some p) = p.is_deadline
@@ -158,7 +159,7 @@ unfoldable pub lag_started_at : KeptPlace → ℕ → ℕ → ℕ → Kept → K
 lag_started_at place pid timer expires k = keeps place (ZeroLagStarted timer (k.numbers pid) expires) (lagged_by (k.numbers pid) pid timer k)
 
 unfoldable pub lag_started_in : KeptPlace → ℕ → ℕ → ℕ → Kept → Kept
-lag_started_in place pid address expires k = lag_started_at place pid (place_in address k) expires (placed_in address k)
+lag_started_in place pid address expires k = lag_started_at place pid (place_in address k).timer expires (placed_in address k)
 
 abbrev pub zero_lag_started_in : KeptPlace → ℕ → ℕ → ℕ → Kept → Kept
 zero_lag_started_in place pid address expires k = lag_started_in place pid address expires (before_is place.cpu before.Nothing k)
@@ -170,28 +171,33 @@ charged_before (before.Started timer) = None
 charged_before before.Nothing = None
 
 -- dl_task_timer is started
-unfoldable pub replenish_started_at : KeptPlace → ℕ → ℕ → Kept → Kept
-replenish_started_at place timer expires k =
-    keeps place (ReplenishStarted timer expires) (before_is place.cpu (before.Started timer)
-    (with_timer (λ t. with_start_of t place.cpu (expires - place.at) (charged_before (k.before place.cpu))) timer k))
+unfoldable pub replenish_started_at : KeptPlace → TimerPlace → ℕ → Kept → Kept
+replenish_started_at place there expires k =
+    let charged = charged_before (k.before place.cpu) in
+    keeps place (ReplenishStarted there.timer expires) (before_is place.cpu (before.Started there.timer)
+    (with_timer (λ t. started_after t charged) there.timer
+    (with_address (λ a. with_start_of a place.cpu (expires - place.at) charged) there.address k)))
+
+unfoldable pub started_at : KeptPlace → ℕ → TimerPlace → ℕ → Kept → Kept
+started_at place address there expires k = replenish_started_at place (handed_to there k) expires (handed_in address there k)
 
 unfoldable pub replenish_started_in : KeptPlace → ℕ → ℕ → Kept → Kept
-replenish_started_in place address expires k = replenish_started_at place (place_in address k) expires (placed_in address k)
+replenish_started_in place address expires k = started_at place address (place_in address k) expires (placed_in address k)
 
 -- hrtimer_cancel
-unfoldable pub cancelled_at : KeptPlace → ℕ → Kept → Kept
-cancelled_at place timer k =
-    let m = with_timer with_line_of timer k in
-    if k.wants_cancels then keeps place (Cancelled timer) m else m
+unfoldable pub cancelled_at : KeptPlace → TimerPlace → Kept → Kept
+cancelled_at place there k =
+    let m = with_address with_line_of there.address k in
+    if k.wants_cancels then keeps place (Cancelled there.timer) m else m
 
 unfoldable pub cancelled_in : KeptPlace → ℕ → Kept → Kept
 cancelled_in place address k = cancelled_at place (place_in address k) (placed_in address k)
 
 -- hrtimer_expire_entry
-abbrev pub fired_at : KeptPlace → ℕ → TimerFunction → Kept → Kept
-fired_at place timer ZeroLag k = keeps place (ZeroLagFired timer) (with_timer with_line_of timer k)
-fired_at place timer Replenish k = keeps place (ReplenishFired timer) (with_timer with_line_of timer k)
-fired_at place timer Other k = k
+abbrev pub fired_at : KeptPlace → TimerPlace → TimerFunction → Kept → Kept
+fired_at place there ZeroLag k = keeps place (ZeroLagFired there.timer) (with_address with_line_of there.address k)
+fired_at place there Replenish k = keeps place (ReplenishFired there.timer) (with_address with_line_of there.address k)
+fired_at place there Other k = k
 
 unfoldable pub fired_of : KeptPlace → ℕ → TimerFunction → Kept → Kept
 fired_of place address Other k = k
@@ -203,7 +209,7 @@ fired_in place address function k = fired_of place address function (before_is p
 -- sched_switch: the CPU idles if it did before, or if the idle task stops to run
 abbrev pub switched_by : Option ℕ → KeptPlace → Bool → Stop → Bool → Kept → Kept
 switched_by number place deadline stop next_idle k =
-    let m = if deadline then classed_in number k else k in
+    let m = out_in number deadline stop k in
     if is_none number && not (deadline && next_idle) then idled_in place m else keeps place (Switched number deadline stop next_idle) m
 
 unfoldable pub switched_at : KeptPlace → ℕ → Bool → Stop → Bool → Kept → Kept

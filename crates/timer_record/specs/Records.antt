@@ -5,6 +5,7 @@ use Rattle.trace_data.specs.declared.note.Policy.{Policy}
 use Rattle.trace_data.specs.declared.note.Policy.TheVariants as policy
 use Rattle.trace_data.specs.declared.quantities.Parameters.{Parameters}
 use Rattle.timer_record.specs.declared.event.KeptLine.{KeptLine}
+use Rattle.timer_record.specs.declared.lines.AddressLines.{AddressLines}
 use Rattle.timer_record.specs.declared.lines.GivenReservation.{GivenReservation}
 use Rattle.timer_record.specs.declared.lines.KeptLines.{KeptLines}
 use Rattle.timer_record.specs.declared.lines.TaskLines.{TaskLines}
@@ -111,6 +112,7 @@ withdrawn tasks x = if is_in_class x.policy then changed (λ t. record t { given
 -- the lines of a record
 pub record Lines : Type 0 where
   pub tasks : List TaskLines
+  pub addresses : List AddressLines
   pub timers : List TimerLines
   pub told : List TaskNote
   pub kept : List KeptLine
@@ -123,6 +125,7 @@ pub record Lines : Type 0 where
 abbrev pub lines_of : KeptLines → Lines
 lines_of l = record {
   tasks = l.tasks.items;
+  addresses = l.addresses.items;
   timers = l.timers.items;
   told = l.told.items;
   kept = l.kept.items;
@@ -138,6 +141,7 @@ lines_in k =
     let told = map (above_in k.tasks) k.told in
     record {
       tasks = fold withdrawn k.tasks told;
+      addresses = k.addresses;
       timers = k.timers;
       told = told;
       kept = k.kept;

@@ -17,7 +17,7 @@ mod waking;
 
 pub use event::{KeptEvent, KeptLine};
 pub use lines::{
-    FirstLine, GivenReservation, KeptLines, TaskLines, TaskNote, TimerLines, Unlisted,
+    AddressLines, FirstLine, GivenReservation, KeptLines, TaskLines, TaskNote, TimerLines, Unlisted,
 };
 pub use record::OpenRecord;
 pub use vote::Vote;

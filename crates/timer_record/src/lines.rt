@@ -31,66 +31,97 @@ pub enum FirstLine {
     Another,
 }
 
-/// A timer.
+/// An address at which there are timers: memory of a task that has ended may become a later task's.
 #[derive(Clone, Copy)]
-pub struct TimerLines {
+pub struct AddressLines {
     pub first: Option<FirstLine>,
 
-    /// How often it is started as a `dl_task_timer`; right after the charge of a task of the class; less than 0.3 s ahead.
+    /// How often a `dl_task_timer` is started there; right after the charge of a task of the class; less than 0.3 s ahead.
     pub starts: u64,
     pub after_charge: u64,
     pub soon: u64,
 
-    /// The CPU whose lines start it, and the task whose charge is the line before, or whose wake is the line after.
+    /// The CPU whose lines start it.
     pub cpu: Vote,
-    pub task: Vote,
 }
 
-impl TimerLines {
-    ghost use Rattle.timer_record.specs.Timers.{is_of_task_by, unknown_timer, with_line_of, with_start_of, with_wake_of};
+impl AddressLines {
+    ghost use Rattle.timer_record.specs.Timers.{is_of_task_by, unknown_address, with_line_of, with_start_of};
 
-    /// A timer without a line.
-    pub fn new() -> TimerLines
-        ensures { result ≡ unknown_timer }
+    /// An address without a line.
+    pub fn new() -> AddressLines
+        ensures { result ≡ unknown_address }
     {
-        TimerLines {
+        AddressLines {
             first: None,
             starts: 0,
             after_charge: 0,
             soon: 0,
             cpu: Vote::new(),
-            task: Vote::new(),
         }
     }
 
-    /// Whether it is a task's `dl_task_timer`; a fair server's is mostly started by no charge, and set far ahead.
+    /// Whether a `dl_task_timer` there is a task's; a fair server's is mostly started by no charge, and set far ahead.
     pub fn is_of_task(self) -> bool
         ensures { result ≡ is_of_task_by self }
     {
         self.after_charge > self.starts / 2 || self.soon > self.starts / 2
     }
 
-    /// The timer with one more line, which is no start.
-    pub fn with_line(self) -> TimerLines
+    /// The address with one more line, which is no start.
+    pub fn with_line(self) -> AddressLines
         ensures { result ≡ with_line_of self }
     {
-        TimerLines {
+        AddressLines {
             first: Some(self.first.unwrap_or(FirstLine::Another)),
             ..self
         }
     }
 
-    /// The timer with one more start as a `dl_task_timer`: on this CPU, so far ahead, after the charge of this task.
-    pub fn with_start(self, cpu: u32, ahead: u64, charged: Option<u32>) -> TimerLines
+    /// The address with one more start of a `dl_task_timer`: on this CPU, so far ahead, after the charge of this task.
+    pub fn with_start(self, cpu: u32, ahead: u64, charged: Option<u32>) -> AddressLines
         ensures { result ≡ with_start_of self cpu ahead charged }
     {
-        TimerLines {
+        AddressLines {
             first: Some(self.first.unwrap_or(FirstLine::Start)),
             starts: self.starts.saturating_add(1),
             after_charge: more(self.after_charge, charged.is_some()),
             soon: more(self.soon, ahead < SOON),
             cpu: self.cpu.with(cpu),
+        }
+    }
+}
+
+/// A timer: of one task, or of one fair server.
+#[derive(Clone, Copy)]
+pub struct TimerLines {
+    /// The number of its address.
+    pub address: u32,
+
+    /// The task whose charge is the line before its starts, or whose wake is the line after.
+    pub task: Vote,
+}
+
+impl TimerLines {
+    ghost use Rattle.timer_record.specs.Timers.{started_after, unknown_timer, with_wake_of};
+
+    /// A timer without a line, at the address of this number.
+    pub fn new(address: u32) -> TimerLines
+        ensures { result ≡ unknown_timer address }
+    {
+        TimerLines {
+            address,
+            task: Vote::new(),
+        }
+    }
+
+    /// The timer with one more start, after the charge of this task.
+    pub fn with_start(self, charged: Option<u32>) -> TimerLines
+        ensures { result ≡ started_after self charged }
+    {
+        TimerLines {
             task: with_some(self.task, charged),
+            ..self
         }
     }
 
@@ -172,6 +203,7 @@ pub struct Unlisted {
 #[derive(Drop)]
 pub struct KeptLines {
     pub tasks: Vec<TaskLines>,
+    pub addresses: Vec<AddressLines>,
     pub timers: Vec<TimerLines>,
 
     /// What notes tell, by the moment of the change.

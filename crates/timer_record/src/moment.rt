@@ -1,7 +1,9 @@
 //! When the kernel took a change that a note tells of.
 
 ghost use Rattle.std.specs.Prelude.{◌≡◌};
-ghost use Rattle.timer_record.specs.Moments.{near_of, wake_clock_of};
+ghost use Rattle.timer_record.specs.Moments.{ends_of, near_of, wake_clock_of};
+
+use trace_data::Stop;
 
 /// A charge so much before a note may be that within the call.
 const CALL: u64 = 30_000;
@@ -39,12 +41,15 @@ pub struct Passing {
     /// It is of the class.
     pub is_deadline: bool,
 
+    /// It was switched out last as it ended.
+    pub has_ended: bool,
+
     /// Its last wake, among the kept lines, where no charge followed yet.
     pub woken: Option<usize>,
 }
 
 impl Passing {
-    ghost use Rattle.timer_record.specs.Moments.{calling_of, change_of, charged_of, in_class_of, passing_at_first, returned_of, told_of};
+    ghost use Rattle.timer_record.specs.Moments.{calling_of, change_of, charged_of, in_class_of, passing_at_first, is_gone_of, returned_of, switched_of, told_of};
 
     /// A task of which no line has passed by.
     pub fn new() -> Passing
@@ -57,6 +62,7 @@ impl Passing {
             earlier_in_call: None,
             has_note: false,
             is_deadline: false,
+            has_ended: false,
             woken: None,
         }
     }
@@ -94,6 +100,24 @@ impl Passing {
         } else {
             self
         }
+    }
+
+    /// The task after it is switched out, as one of the class or not.
+    pub fn switched(self, is_deadline: bool, stop: Stop) -> Passing
+        ensures { result ≡ switched_of self is_deadline stop }
+    {
+        let passing = if is_deadline { self.in_class() } else { self };
+        Passing {
+            has_ended: ends(stop),
+            ..passing
+        }
+    }
+
+    /// Whether it has ended, or left the class: a timer that is started is not its own.
+    pub fn is_gone(self) -> bool
+        ensures { result ≡ is_gone_of self }
+    {
+        self.has_ended || !self.is_deadline
     }
 
     /// The task after its call returned.
@@ -145,6 +169,16 @@ impl Passing {
             Some(charge) => charge.saturating_add(1),
             None => note.saturating_sub(LAG),
         }
+    }
+}
+
+/// Whether a task that stops so has ended.
+fn ends(stop: Stop) -> bool
+    ensures { result ≡ ends_of stop }
+{
+    match stop {
+        Stop::Ends => true,
+        Stop::Ready | Stop::Blocks => false,
     }
 }
 

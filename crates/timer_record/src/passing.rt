@@ -2,7 +2,7 @@
 
 ghost use Rattle.std.specs.Prelude.{◌≡◌, OnOk};
 ghost use Rattle.timer_record.specs.Kept.{kept_of};
-ghost use Rattle.timer_record.specs.Passing.{called_in, classed_in, passed_in, returned_in, switched_at};
+ghost use Rattle.timer_record.specs.Passing.{called_in, out_in, passed_in, returned_in, switched_at};
 
 use crate::before::Before;
 use crate::event::KeptEvent;
@@ -87,9 +87,7 @@ impl OpenRecord {
             ≡ switched_at place pid is_deadline stop is_next_idle (kept_of self.old)) }
     {
         let task = self.task_of(pid);
-        if is_deadline {
-            self.see_in_class(task);
-        }
+        self.see_out(task, is_deadline, stop);
         if task.is_none() && !(is_deadline && is_next_idle) {
             return self.keep_idle(place);
         }
@@ -126,13 +124,13 @@ impl OpenRecord {
         }
     }
 
-    /// A task that has a reservation is switched out as one of the class.
-    fn see_in_class(&mut self, task: Option<u32>)
-        ensures { kept_of self.new ≡ classed_in task (kept_of self.old) }
+    /// A task that has a reservation is switched out.
+    fn see_out(&mut self, task: Option<u32>, is_deadline: bool, stop: Stop)
+        ensures { kept_of self.new ≡ out_in task is_deadline stop (kept_of self.old) }
     {
         if let Some(task) = task {
             if let Some(passing) = self.passing.get_mut(task as usize) {
-                *passing = passing.in_class();
+                *passing = passing.switched(is_deadline, stop);
             }
         }
     }

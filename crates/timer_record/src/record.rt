@@ -8,7 +8,8 @@ ghost use Rattle.timer_record.specs.Records.{above_by, above_in, begun_in, come_
 use crate::before::Before;
 use crate::event::{KeptEvent, KeptLine};
 use crate::lines::{
-    GivenReservation, KeptLines, TaskLines, TaskNote, TimerLines, Unlisted, policy_above,
+    AddressLines, GivenReservation, KeptLines, TaskLines, TaskNote, TimerLines, Unlisted,
+    policy_above,
 };
 use crate::moment::{Passing, ROUNDING};
 use std::alloc::{AllocError, Global};
@@ -29,7 +30,7 @@ pub struct OpenRecord {
     /// How many of them came.
     pub(crate) come: usize,
     pub(crate) pids: HashMap<u64, u32>,
-    pub(crate) addresses: HashMap<u64, u32>,
+    pub(crate) addresses: HashMap<u64, TimerPlace>,
 
     /// The lines of the first wakes of tasks of the class that have no reservation, by their pids.
     pub(crate) strangers: HashMap<u64, u64>,
@@ -53,6 +54,13 @@ pub(crate) struct KeptPlace {
     pub(crate) is_idle: bool,
 }
 
+/// An address, and the timer that is there now, by their numbers.
+#[derive(Clone, Copy)]
+pub(crate) struct TimerPlace {
+    pub(crate) address: u32,
+    pub(crate) timer: u32,
+}
+
 impl OpenRecord {
     /// A record without a line. Lines that say no more than that a CPU idles, and lines of cancelled timers, are kept where they are
     /// wanted.
@@ -62,6 +70,7 @@ impl OpenRecord {
         OpenRecord {
             lines: KeptLines {
                 tasks: Vec::new(alloc),
+                addresses: Vec::new(alloc),
                 timers: Vec::new(alloc),
                 told: Vec::new(alloc),
                 kept: Vec::new(alloc),
@@ -221,19 +230,23 @@ impl OpenRecord {
         self.pids.get(&pid).copied()
     }
 
-    /// The number of the timer at this address.
+    /// The timer at this address, which is new where none is.
     #[tactic(auto, unfolding(crate::specs::Kept::placed_in))]
-    pub(crate) fn timer(&mut self, address: u64) -> Result<u32, AllocError>
-        ensures number { IfOk result (λ n. n ≡ place_in address (kept_of self.old)) }
+    pub(crate) fn timer(&mut self, address: u64) -> Result<TimerPlace, AllocError>
+        ensures place { IfOk result (λ p. p ≡ place_in address (kept_of self.old)) }
         ensures state { OnOk result (kept_of self.new ≡ placed_in address (kept_of self.old)) }
     {
-        if let Some(timer) = self.addresses.get(&address) {
-            return Ok(*timer);
+        if let Some(there) = self.addresses.get(&address) {
+            return Ok(*there);
         }
-        let timer = number(self.lines.timers.len());
-        self.lines.timers.push(TimerLines::new())?;
-        let _ = self.addresses.insert(address, timer)?;
-        Ok(timer)
+        let there = TimerPlace {
+            address: number(self.lines.addresses.len()),
+            timer: number(self.lines.timers.len()),
+        };
+        self.lines.addresses.push(AddressLines::new())?;
+        self.lines.timers.push(TimerLines::new(there.address))?;
+        let _ = self.addresses.insert(address, there)?;
+        Ok(there)
     }
 
     /// The notes of moments before this one come.
@@ -343,7 +356,7 @@ fn put_before(before: &mut Vec<Before>, cpu: u32, told: Before) -> Result<(), Al
 }
 
 /// A count as a number of a list, or the greatest one.
-fn number(count: usize) -> u32
+pub(crate) fn number(count: usize) -> u32
     ensures { result ≡ numbered count }
 {
     count.min(u32::MAX as usize) as u32

@@ -1,21 +1,10 @@
 -- What of a record is compared, and what is left out.
-use Rattle.std.specs.Prelude.{ℕ, ◌≡◌, Bool, true, false, ◌==◌, List, count_by}
+use Rattle.std.specs.Prelude.{ℕ, ◌≡◌, Bool, ◌==◌, List, count_by}
 use Rattle.timer_tasks.specs.declared.observation.ObservedAnswer.{ObservedAnswer}
-use Rattle.timer_tasks.specs.declared.observation.ObservedAnswer.TheVariants.{Agrees, Differs, End, Unknown, Edge, Gap}
+use Rattle.timer_tasks.specs.declared.observation.ObservedAnswer.TheVariants.{End, Unknown, Edge, Gap}
 use Rattle.timer_tasks.specs.declared.observation.Observation.{Observation}
 use Rattle.timer_verdict.specs.declared.omitted.LeftOut.{LeftOut}
 use Rattle.timer_verdict.specs.Numbers.{number_of}
-
-abbrev pub is_compared_answer : ObservedAnswer → Bool
-is_compared_answer Agrees = true
-is_compared_answer Differs = true
-is_compared_answer End = false
-is_compared_answer Unknown = false
-is_compared_answer Edge = false
-is_compared_answer Gap = false
-
-abbrev pub is_compared : Observation → Bool
-is_compared o = is_compared_answer o.answer
 
 abbrev pub answers : ObservedAnswer → Observation → Bool
 answers answer o = number_of o.answer == number_of answer

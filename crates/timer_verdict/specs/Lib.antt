@@ -1,3 +1,4 @@
-pub mod Verdicts
-pub mod Numbers
 pub mod LeftOut
+pub mod Numbers
+pub mod Verdicts
+pub mod inside

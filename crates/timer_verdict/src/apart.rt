@@ -1,17 +1,21 @@
 //! How far the blocks of each task lie from the kernel's timers, in words.
 
+ghost use Rattle.std.specs.Prelude.{◌≡◌};
+ghost use Rattle.timer_verdict.specs.inside.Apart.{with_block};
+
+use crate::judging::differs;
 use crate::numbers::{is_compared, is_of};
 use crate::table::name_of;
 use crate::writing::{put, put_count, put_micros};
 use std::alloc::{AllocError, Global};
-use timer_tasks::{Observation, ObservedAnswer, TimerKind};
+use timer_tasks::{Observation, TimerKind};
 
 /// So many tasks are told of.
 const TASKS: u64 = 16;
 
 /// The blocks of a task. Differences are nanoseconds, the rules' moment less the kernel's, of blocks that differ.
 #[derive(Clone, Copy)]
-struct Apart {
+pub(crate) struct Apart {
     compared: u64,
     differ: u64,
     least: i64,
@@ -25,19 +29,10 @@ const NONE: Apart = Apart {
     greatest: i64::MIN,
 };
 
-fn differs(answer: ObservedAnswer) -> bool {
-    match answer {
-        ObservedAnswer::Differs => true,
-        ObservedAnswer::Agrees
-        | ObservedAnswer::End
-        | ObservedAnswer::Unknown
-        | ObservedAnswer::Edge
-        | ObservedAnswer::Gap => false,
-    }
-}
-
 /// With one more block that is compared.
-fn with(apart: Apart, observation: &Observation) -> Apart {
+fn with(apart: Apart, observation: &Observation) -> Apart
+    ensures { result ≡ with_block apart observation.now }
+{
     let compared = apart.compared.saturating_add(1);
     if !differs(observation.answer) {
         return Apart { compared, ..apart };

@@ -1,8 +1,9 @@
 //! How many observations there are, and how far they lie from the kernel's timers.
 
-ghost use Rattle.std.specs.Prelude.{◌≡◌, IfOk, count_by};
-ghost use Rattle.timer_verdict.specs.LeftOut.{answers, is_compared};
-ghost use Rattle.timer_verdict.specs.Numbers.{AreCounts, comes_to_of, is_kind, number_of};
+ghost use Rattle.std.specs.Prelude.{◌≡◌, IfOk, IsPermutation, IsSorted, count_by};
+ghost use Rattle.std.specs.Ordering.{int_cmp};
+ghost use Rattle.timer_verdict.specs.LeftOut.{answers};
+ghost use Rattle.timer_verdict.specs.Numbers.{AreNumbers, at, comes_to_of, compared_of, differences_of, is_compared, is_compared_kind, is_kind, number_of};
 
 use std::alloc::{AllocError, Global};
 use timer_tasks::{Observation, ObservedAnswer, TimerKind};
@@ -26,7 +27,10 @@ pub struct KindNumbers {
 }
 
 impl KindNumbers {
-    pub fn compared(self) -> u64 {
+    /// How many are compared.
+    pub fn compared(self) -> u64
+        ensures { result ≡ compared_of self }
+    {
         self.agree.saturating_add(self.differ)
     }
 }
@@ -100,23 +104,40 @@ fn count(observations: &[Observation], kind: TimerKind, answer: ObservedAnswer) 
         .count() as u64
 }
 
-/// The differences of those of a kind that are compared, by their size.
+/// Whether it is of this kind, and compared.
+fn is_compared_kind(kind: TimerKind, observation: &Observation) -> bool
+    ensures { result ≡ is_compared_kind kind observation.now }
+{
+    is_of(kind, observation) && is_compared(observation)
+}
+
+/// The differences of those of a kind that are compared.
 fn differences(
     alloc: Global,
     observations: &[Observation],
     kind: TimerKind,
-) -> Result<Vec<i64>, AllocError> {
-    let mut differences: Vec<i64> = Vec::new(alloc);
-    for observation in observations {
-        if is_of(kind, observation) && is_compared(observation) {
-            differences.push(observation.difference)?;
-        }
-    }
-    differences.sort_unstable();
-    Ok(differences)
+) -> Result<Vec<i64>, AllocError>
+    ensures { IfOk result (λ ds. ds.items ≡ differences_of kind observations.now) }
+{
+    observations
+        .iter()
+        .filter(|o| is_compared_kind(kind, o))
+        .map(|o| o.difference)
+        .collect(alloc)
 }
 
-fn at(sorted: &[i64], place: usize) -> i64 {
+/// The differences from the least to the greatest.
+fn sorted(mut differences: Vec<i64>) -> Vec<i64>
+    ensures ascending { IsSorted int_cmp result.items }
+    ensures same { IsPermutation differences.items result.items }
+{
+    differences.sort_unstable();
+    differences
+}
+
+fn at(sorted: &[i64], place: usize) -> i64
+    ensures { result ≡ at place sorted.now }
+{
     sorted.get(place).copied().unwrap_or(0)
 }
 
@@ -126,9 +147,9 @@ pub fn numbers_of(
     observations: &[Observation],
     kind: TimerKind,
 ) -> Result<KindNumbers, AllocError>
-    ensures { IfOk result (λ n. AreCounts n kind observations.now) }
+    ensures { IfOk result (λ n. AreNumbers n kind observations.now) }
 {
-    let sorted = differences(alloc, observations, kind)?;
+    let sorted = sorted(differences(alloc, observations, kind)?);
     let last = sorted.len().saturating_sub(1);
     Ok(KindNumbers {
         all: count_all(observations, kind),

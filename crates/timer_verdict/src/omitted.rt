@@ -2,7 +2,8 @@
 
 ghost use Rattle.std.specs.Prelude.{◌≡◌, IfSome, count_by, is_none};
 ghost use Rattle.std.specs.List.{list_any};
-ghost use Rattle.timer_verdict.specs.LeftOut.{AreLeftOut, answers, is_compared};
+ghost use Rattle.timer_verdict.specs.LeftOut.{AreLeftOut, answers};
+ghost use Rattle.timer_verdict.specs.Numbers.{is_compared};
 
 use crate::numbers::{is_answer, is_compared};
 use timer_tasks::{Observation, ObservedAnswer};

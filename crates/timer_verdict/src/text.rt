@@ -1,5 +1,8 @@
 //! The words of a verdict.
 
+ghost use Rattle.std.specs.Prelude.{IfNone, OnOk};
+ghost use Rattle.timer_verdict.specs.Verdicts.{SaysAgreed};
+
 use crate::cause::{Cause, cause_of};
 use crate::charges::{put_charges, put_implied};
 use crate::figures::put_numbers;
@@ -27,7 +30,9 @@ pub fn put_verdict(
     lines: &KeptLines,
     names: &[Vec<u8>],
     judged: &Judged,
-) -> Result<(), AllocError> {
+) -> Result<(), AllocError>
+    ensures { OnOk result (IfNone judged.now.first (SaysAgreed out.new.items)) }
+{
     let observations: &[Observation] = &judged.outcome.observations;
     put_record(alloc, out, heading, lines)?;
     put_tasks(alloc, out, lines, names)?;
@@ -54,7 +59,7 @@ pub fn put_verdict(
     put_total(out, heading, setup, lines)?;
     put_speed(alloc, out, judged.speed_unknown)?;
     let Some(place) = judged.first else {
-        return put(out, b"agrees\n");
+        return put_agreement(out);
     };
     let Some(first) = observations.get(place) else {
         return Ok(());
@@ -65,6 +70,13 @@ pub fn put_verdict(
     put_charges(alloc, out, &judged.outcome.charges)?;
     put_implied(alloc, out, first, parameters, &judged.outcome.charges)?;
     put_ending(alloc, out, first, observations, names)
+}
+
+/// Appends that each timer is where the rules put it.
+fn put_agreement(out: &mut Vec<u8>) -> Result<(), AllocError>
+    ensures { OnOk result (SaysAgreed out.new.items) }
+{
+    put(out, b"agrees\n")
 }
 
 /// Appends how far each task is off, and what the deviations look like.

@@ -1,3 +1,1 @@
-pub mod HeadLemmas
-mod MessageLemmas
-mod ReadLemmas
+pub mod VerdictLemmas

@@ -2,8 +2,8 @@
 use Rattle.std.specs.Prelude.{Bool, not, if◌then◌else◌, Option, Some, None}
 use Rattle.trace_data.specs.declared.note.Kernel.{Kernel}
 use Rattle.kernel_versions.specs.Releases.{is_judged_by_probes, is_judged_by_timers}
-use Rattle.trace_check.specs.declared.fault.Check.{Check}
-use Rattle.trace_check.specs.declared.fault.Check.TheVariants.{Probes, Timers}
+use Rattle.check_faults.specs.declared.fault.Check.{Check}
+use Rattle.check_faults.specs.declared.fault.Check.TheVariants.{Probes, Timers}
 
 abbrev pub is_judged : Check → Option Kernel → Bool
 is_judged Probes kernel = is_judged_by_probes kernel

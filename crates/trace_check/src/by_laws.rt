@@ -3,77 +3,17 @@
 ghost use Rattle.std.specs.Prelude.{◌≡◌, IfOk, false};
 
 use crate::check::Verdict;
-use crate::fault::{Fault, Uncompared};
-use crate::gathering::Gathering;
-use crate::names::Names;
 use crate::showing::nothing_shown;
+use check_faults::{Fault, Uncompared};
+use check_record::{Gathering, Names};
 use check_report::{CheckReport, add_laws, add_tasks};
-use law_findings::{AskedLaws, Breach, LAWS, LawTallies, Whose};
-use law_play::{LawPlay, ReadLine};
+use law_findings::{Breach, LAWS, LawTallies, Whose};
+use law_play::LawPlay;
 use law_verdict::{TaskName, put_law_row, put_laws};
 use probe_verdict::TABLE_HEAD;
 use std::alloc::{AllocError, Global};
-use task_figures::{FigureLines, put_figures};
+use task_figures::put_figures;
 use timer_verdict::table_head;
-use trace_data::{Kernel, Said};
-
-/// What the laws need of the lines so far.
-#[derive(Drop)]
-pub(crate) struct RecordLaws {
-    alloc: Global,
-    asked: AskedLaws,
-    keeps_breaches: bool,
-
-    /// The root domain of the last note, and whether notes tell of several.
-    domain: Option<u64>,
-    has_domains: bool,
-    play: Option<LawPlay>,
-
-    /// What each task had.
-    figures: FigureLines,
-}
-
-impl RecordLaws {
-    pub fn new(alloc: Global, asked: AskedLaws, keeps_breaches: bool) -> RecordLaws {
-        RecordLaws {
-            alloc,
-            asked,
-            keeps_breaches,
-            domain: None,
-            has_domains: false,
-            play: None,
-            figures: FigureLines::new(alloc),
-        }
-    }
-
-    /// A note tells the root domain of a CPU.
-    pub fn note_domain(&mut self, domain: Option<u64>) {
-        self.has_domains = self.has_domains || self.domain.is_some() && domain != self.domain;
-        self.domain = domain;
-    }
-
-    /// Takes a line of an event, of a record of this kernel.
-    pub fn take(
-        &mut self,
-        kernel: Option<Kernel>,
-        read: ReadLine,
-        said: &Said,
-    ) -> Result<(), AllocError> {
-        self.figures.take(said)?;
-        match &mut self.play {
-            Some(play) => play.take(read, said),
-            None => {
-                let mut play = LawPlay::new(self.alloc, kernel, self.asked, self.keeps_breaches);
-                if self.has_domains {
-                    play.part_domains();
-                }
-                let taken = play.take(read, said);
-                self.play = Some(play);
-                taken
-            }
-        }
-    }
-}
 
 /// A verdict with what the laws say below what the rules say.
 pub(crate) fn with_laws<'o>(

@@ -1,17 +1,18 @@
 //! The verdict by lines of probes.
 
-ghost use Rattle.std.specs.Prelude.{◌≡◌, IfOk};
+ghost use Rattle.std.specs.Prelude.{◌≡◌, IfOk, IfSome, IsTrue, None};
+ghost use Rattle.check_record.specs.Playing.{IsEqual, taken_in};
+ghost use Rattle.check_record.specs.Seen.{NothingDiffers};
 ghost use Rattle.trace_check.specs.Uncompared.{unvalued_of};
 
 use crate::by_timers::timer_states;
 use crate::check::{CheckRequest, Verdict};
-use crate::fault::{Check, Fault, Uncompared};
-use crate::gathering::Gathering;
 use crate::probe_states::probe_states;
-use crate::probes::Played;
 use crate::showing::nothing_shown;
 use crate::untried::of_release;
 use crate::why::tried;
+use check_faults::{Check, Fault, Uncompared};
+use check_record::{Gathering, Played};
 use check_report::{CheckReport, ProbeAnswers, add_probes};
 use probe_findings::KindCounts;
 use probe_verdict::{
@@ -27,19 +28,37 @@ pub(crate) fn verdict_by_probes<'o>(
     wanted: CheckRequest<'_>,
     options: &CheckOptions<'o>,
     gathering: &mut Gathering<'o>,
-) -> Result<Option<Verdict>, Fault<'o>> {
+) -> Result<Option<Verdict>, Fault<'o>>
+    ensures agrees { IfOk result (λ found. IfSome found (λ v.
+        IsTrue v.agrees → NothingDiffers options.now gathering.old)) }
+    ensures none { IfOk result (λ found. found ≡ None → NothingDiffers options.now gathering.old) }
+{
     if options.by_timers {
         return Ok(None);
     }
     match probe_verdict(alloc, wanted, options, gathering)? {
         Some(verdict) => {
-            let kernel = gathering.head.kernel_by(options);
-            let differ = gathering.probes.differ();
-            let verdict = of_release(alloc, verdict, Check::Probes, kernel, differ)?;
-            Ok(Some(with_states(alloc, wanted, options, gathering, verdict)?))
+            let verdict = of_probes(alloc, wanted, options, gathering, verdict)?;
+            Ok(Some(verdict))
         }
         None => Ok(None),
     }
+}
+
+/// A verdict by probes on a kernel that was tried, with the states that are wanted.
+fn of_probes<'o>(
+    alloc: Global,
+    wanted: CheckRequest<'_>,
+    options: &CheckOptions<'o>,
+    gathering: &mut Gathering<'o>,
+    verdict: Verdict,
+) -> Result<Verdict, Fault<'o>>
+    ensures { IfOk result (λ v. v.agrees ≡ verdict.agrees) }
+{
+    let kernel = gathering.head.kernel_by(options);
+    let differ = gathering.probes.differ();
+    let verdict = of_release(alloc, verdict, Check::Probes, kernel, differ)?;
+    with_states(alloc, wanted, options, gathering, verdict)
 }
 
 /// A verdict by probes, with the states that lines of timers beside them show, or else the lines of probes.
@@ -68,10 +87,31 @@ fn probe_verdict<'o>(
     wanted: CheckRequest<'_>,
     options: &CheckOptions<'_>,
     gathering: &Gathering<'o>,
-) -> Result<Option<Verdict>, Fault<'o>> {
-    let Some(played) = &gathering.probes.played else {
-        return Ok(None);
-    };
+) -> Result<Option<Verdict>, Fault<'o>>
+    ensures agrees { IfOk result (λ found. IfSome found (λ v.
+        IsTrue v.agrees → IfSome (taken_in gathering.now.probes) IsEqual)) }
+    ensures none { IfOk result (λ found.
+        found ≡ None → IfSome (taken_in gathering.now.probes) IsEqual) }
+{
+    match &gathering.probes.played {
+        Some(played) => {
+            let verdict = valued_verdict(alloc, wanted, options, gathering, played)?;
+            Ok(Some(verdict))
+        }
+        None => Ok(None),
+    }
+}
+
+/// The verdict on what was played: a fault where not one value was compared.
+fn valued_verdict<'o>(
+    alloc: Global,
+    wanted: CheckRequest<'_>,
+    options: &CheckOptions<'_>,
+    gathering: &Gathering<'o>,
+    played: &Played,
+) -> Result<Verdict, Fault<'o>>
+    ensures { IfOk result (λ v. IsTrue v.agrees → IsEqual played.now.player) }
+{
     let counts = gathering.probes.counts(played);
     let shows_task = gathering.probes.shows_task;
     match uncompared(
@@ -80,7 +120,10 @@ fn probe_verdict<'o>(
         shows_task,
     ) {
         Some(why) => Err(Fault::NothingCompared { why }),
-        None => Ok(Some(verdict_by(alloc, wanted, options, gathering, played)?)),
+        None => {
+            let verdict = verdict_by(alloc, wanted, options, gathering, played)?;
+            Ok(verdict)
+        }
     }
 }
 
@@ -103,7 +146,9 @@ fn verdict_by(
     options: &CheckOptions<'_>,
     gathering: &Gathering<'_>,
     played: &Played,
-) -> Result<Verdict, AllocError> {
+) -> Result<Verdict, AllocError>
+    ensures { IfOk result (λ v. IsTrue v.agrees → IsEqual played.now.player) }
+{
     let tasks = class_names(alloc, gathering)?;
     let domain = gathering.head.cpus(alloc, options)?;
     let heading = ProbeHeading {
@@ -116,7 +161,7 @@ fn verdict_by(
         from: played.from,
         to: played.to,
         lost: gathering.lost,
-        takes_sums: !played.rules.has_dequeues,
+        takes_sums: !played.player.rules().has_dequeues,
     };
     let counts = gathering.probes.counts(played);
     let agrees = gathering.probes.agrees(played);

@@ -4,11 +4,11 @@ ghost use Rattle.std.specs.Prelude.{◌≡◌, IfOk, is_none};
 ghost use Rattle.trace_check.specs.Uncompared.{uncompared_of};
 
 use crate::check::{CheckRequest, Verdict};
-use crate::fault::{Check, Fault, Uncompared};
-use crate::gathering::Gathering;
 use crate::showing::{ShownStates, TimerPlay, shown_of};
 use crate::untried::of_release;
 use crate::why::put_timer_explanation;
+use check_faults::{Check, Fault, Uncompared};
+use check_record::Gathering;
 use check_report::{CheckReport, TimerAnswers, add_timers};
 use std::alloc::{AllocError, Global};
 use timer_play::{RecordSetup, RecordStart, play, setup_of};

@@ -1,20 +1,19 @@
 //! A record is read, played, and judged.
 
-ghost use Rattle.std.specs.Prelude.{◌≡◌, ◌⊎◌, IsOkAnd, IsTrue, false};
-ghost use Rattle.trace_check.specs.declared.fault.TheConstants.{STATUS_DIFFERS, STATUS_FILE, STATUS_LAW, STATUS_SYSTEM, STATUS_USAGE};
+ghost use Rattle.std.specs.Prelude.{◌≡◌, ◌⊎◌, IfOk, IsOkAnd, IsTrue, false};
+ghost use Rattle.check_record.specs.Seen.{NothingDiffers};
+ghost use Rattle.check_faults.specs.declared.fault.TheConstants.{STATUS_DIFFERS, STATUS_FILE, STATUS_LAW, STATUS_SYSTEM, STATUS_USAGE};
 
 use crate::by_laws::{laws_alone, with_laws};
 use crate::by_probes::{put_probe_explanation, verdict_by_probes};
 use crate::by_timers::timer_verdict;
 use crate::evidence::Sought;
-use crate::fault::{Fault, STATUS_DIFFERS, STATUS_LAW, STATUS_SYSTEM};
 use crate::files::{first_there, make_all};
-use crate::gathering::Gathering;
-use crate::probes::SeenRecord;
-use crate::reading::{faultless, read_trace};
 use crate::reports::{put_evidence_of, with_report};
 use crate::showing::Documents;
 use crate::warnings::with_warnings;
+use check_faults::{Fault, STATUS_DIFFERS, STATUS_LAW, STATUS_SYSTEM};
+use check_record::{Gathering, RecordRequest, gathered_whole};
 use check_report::CheckReport;
 use law_findings::AskedLaws;
 use std::alloc::Global;
@@ -43,10 +42,20 @@ pub struct CheckRequest<'a> {
     pub laws: AskedLaws,
 }
 
-impl CheckRequest<'_> {
+impl<'a> CheckRequest<'a> {
     /// Whether states are wanted.
     pub fn shows(self) -> bool {
         self.json.is_some() || self.picture.is_some()
+    }
+
+    /// How the record is to be read for it.
+    fn record(self) -> RecordRequest<'a> {
+        RecordRequest {
+            path: self.path,
+            keeps_rows: self.table.is_some(),
+            keeps_timers: self.shows(),
+            laws: self.laws,
+        }
     }
 }
 
@@ -89,7 +98,9 @@ fn verdict_by_rules<'o>(
     wanted: CheckRequest<'_>,
     options: &CheckOptions<'o>,
     gathering: &mut Gathering<'o>,
-) -> Result<Verdict, Fault<'o>> {
+) -> Result<Verdict, Fault<'o>>
+    ensures { IfOk result (λ v. IsTrue v.agrees → NothingDiffers options.now gathering.old) }
+{
     match verdict_by_probes(alloc, wanted, options, gathering)? {
         Some(verdict) => Ok(verdict),
         None => verdict_without_loss(alloc, wanted, options, gathering),
@@ -112,54 +123,38 @@ fn verdict_of<
     requires opens { O.IsAlwaysCallable opens.now }
     requires read { N.IsAlwaysCallable read.now }
 {
-    let mut gathering = gathered_whole(alloc, opens, read, wanted, options)?;
-    let verdict = match verdict_by_rules(alloc, wanted, options, &mut gathering) {
-        Ok(mut verdict) => {
-            if !verdict.agrees && !options.by_timers {
-                put_sought(alloc, opens, read, wanted, &gathering, &mut verdict)?;
-                put_probe_explanation(alloc, &mut verdict.text, options, &gathering)?;
-            }
-            with_laws(alloc, &mut gathering, verdict)?
-        }
-        Err(Fault::NothingCompared { why }) => laws_alone(alloc, &mut gathering, why)?,
-        Err(fault) => return Err(fault),
-    };
+    let mut gathering = gathered_whole(alloc, opens, read, wanted.record(), options)?;
+    let verdict = judged(alloc, opens, read, wanted, options, &mut gathering)?;
     let verdict = with_report(alloc, wanted, options, &gathering, verdict)?;
     with_warnings(verdict, &gathering.warnings)
 }
 
-/// What the trace of a path says: it is read a second time where its end shows what its begin did not. One that has changed
-/// meanwhile cannot be read.
-fn gathered_whole<
-    'o,
-    D: Drop,
-    O: Fn(&str) -> io::Result<D>,
-    N: Fn(&mut D, &mut [u8]) -> io::Result<usize>,
->(
+/// The verdict on what was gathered, by rules and laws.
+fn judged<'o, D: Drop, O: Fn(&str) -> io::Result<D>, N: Fn(&mut D, &mut [u8]) -> io::Result<usize>>(
     alloc: Global,
     opens: &O,
     read: &N,
     wanted: CheckRequest<'o>,
-    options: &'o CheckOptions<'o>,
-) -> Result<Gathering<'o>, Fault<'o>>
+    options: &CheckOptions<'o>,
+    gathering: &mut Gathering<'o>,
+) -> Result<Verdict, Fault<'o>>
     requires opens { O.IsAlwaysCallable opens.now }
     requires read { N.IsAlwaysCallable read.now }
+    ensures { IfOk result (λ v. IsTrue v.agrees → IsTrue v.keeps_laws →
+        NothingDiffers options.now gathering.old) }
 {
-    let mut gathering = gathered(alloc, opens, read, wanted, options, None)?;
-    if gathering.end_probes()? {
-        return Ok(gathering);
-    }
-    let seen = gathering.into_seen()?;
-    let mut gathering = gathered(alloc, opens, read, wanted, options, Some(seen))?;
-    if gathering.end_probes()? {
-        Ok(gathering)
-    } else {
-        Err(Fault::Unreadable)
+    match verdict_by_rules(alloc, wanted, options, gathering) {
+        Ok(verdict) => {
+            let verdict = with_evidence(alloc, opens, read, wanted, gathering, verdict)?;
+            with_laws(alloc, gathering, verdict)
+        }
+        Err(Fault::NothingCompared { why }) => laws_alone(alloc, gathering, why),
+        Err(fault) => Err(fault),
     }
 }
 
-/// What the trace of a path says; `seen` is what an earlier reading came to.
-fn gathered<
+/// A verdict by probes that differs, with what speaks for it.
+fn with_evidence<
     'o,
     D: Drop,
     O: Fn(&str) -> io::Result<D>,
@@ -169,26 +164,20 @@ fn gathered<
     opens: &O,
     read: &N,
     wanted: CheckRequest<'o>,
-    options: &'o CheckOptions<'o>,
-    seen: Option<SeenRecord>,
-) -> Result<Gathering<'o>, Fault<'o>>
+    gathering: &Gathering<'o>,
+    mut verdict: Verdict,
+) -> Result<Verdict, Fault<'o>>
     requires opens { O.IsAlwaysCallable opens.now }
     requires read { N.IsAlwaysCallable read.now }
+    ensures { IfOk result (λ v. v.agrees ≡ verdict.agrees) }
 {
-    let mut gathering = Gathering::new(
-        alloc,
-        options,
-        wanted.table.is_some(),
-        wanted.shows(),
-        wanted.path == "-",
-        wanted.laws,
-    )?;
-    if let Some(seen) = seen {
-        gathering.probes.tell(seen);
+    let options = gathering.options();
+    if verdict.agrees || options.by_timers {
+        return Ok(verdict);
     }
-    let read_on = read_trace(alloc, opens, read, wanted.path, &mut gathering);
-    faultless(&gathering, read_on)?;
-    Ok(gathering)
+    put_sought(alloc, opens, read, wanted, gathering, &mut verdict)?;
+    put_probe_explanation(alloc, &mut verdict.text, options, gathering)?;
+    Ok(verdict)
 }
 
 /// Appends what speaks for the first deviation, from the lines of a trace that can be read again.
@@ -207,6 +196,7 @@ fn put_sought<
 ) -> Result<(), Fault<'o>>
     requires opens { O.IsAlwaysCallable opens.now }
     requires read { N.IsAlwaysCallable read.now }
+    ensures { verdict.new.agrees ≡ verdict.old.agrees }
 {
     let Some(played) = &gathering.probes.played else {
         return Ok(());

@@ -1,6 +1,6 @@
 //! The lines of a trace that bear on the first deviation: the trace is read a second time for them.
 
-use crate::probes::Played;
+use check_record::Played;
 use kernel_entity::ChargeLaw;
 use probe_findings::{Deviation, Quantity, Subject, Whose};
 use probe_run::{Actor, FirstNotes, Run};
@@ -136,7 +136,7 @@ impl Sought {
         Some(Sought {
             first,
             notes,
-            law: played.rules.law,
+            law: played.player.rules().law,
             bearing: bearing_of(run, &first)?,
             number: 0,
             carry: Vec::new(alloc),

@@ -1,7 +1,7 @@
 //! The files that a check writes.
 
 use crate::check::CheckRequest;
-use crate::fault::Fault;
+use check_faults::Fault;
 use std::io;
 
 /// A file that is wanted, and its bytes; no path where it is not.

@@ -1,4 +1,4 @@
-//! The program's part of `grubtrace check`: a record is read, played and judged; its faults, and its answers.
+//! The program's part of `grubtrace check`: a record that was read is judged, and the verdict written.
 #![tactic(auto)]
 
 mod by_laws;
@@ -6,15 +6,8 @@ mod by_probes;
 mod by_timers;
 mod check;
 mod evidence;
-mod fault;
 mod files;
-mod gathering;
-mod head;
-mod marks;
-mod names;
 mod probe_states;
-mod probes;
-mod reading;
 mod reports;
 mod showing;
 mod untried;
@@ -22,7 +15,9 @@ mod warnings;
 mod why;
 
 pub use check::{CheckRequest, serve_check};
-pub use fault::{Fault, STATUS_DIFFERS, STATUS_FILE, STATUS_LAW, STATUS_SYSTEM, STATUS_USAGE};
+pub use check_faults::{
+    Fault, STATUS_DIFFERS, STATUS_FILE, STATUS_LAW, STATUS_SYSTEM, STATUS_USAGE,
+};
 pub use law_findings::AskedLaws;
 pub use law_verdict::asked_of as laws_of;
 pub use trace_options::{

@@ -1,8 +1,8 @@
 //! The states of a record that its lines of probes show.
 
 use crate::check::CheckRequest;
-use crate::gathering::Gathering;
 use crate::showing::{Documents, documents_of, span_of};
+use check_record::Gathering;
 use probe_findings::Deviation;
 use state_history::{ProbeLine, ProbedStates, RecordScene, TaskName};
 use std::alloc::{AllocError, Global};
@@ -29,7 +29,7 @@ pub(crate) fn probe_states(
     let pids = gathering.probes.in_class.as_slice();
     let limits = limits_of(alloc, options, gathering)?;
     let mut states = ProbedStates::new(alloc, pids, limits.len(), span)?;
-    for kept in &gathering.probes.again {
+    for kept in &gathering.probes.kept {
         states.see(ProbeLine {
             line: kept.place.line,
             at: kept.place.at,
@@ -73,7 +73,7 @@ fn limits_of(
     let mut limits = Vec::new(alloc);
     let cpus = gathering.head.greatest_cpu as usize + 1;
     limits.resize(cpus, settings.limit.unwrap_or(MAX_BW))?;
-    for kept in &gathering.probes.again {
+    for kept in &gathering.probes.kept {
         if let Probe::Updated(line) = kept.probe
             && let Ran::Span { max_bw, .. } = line.ran
             && let Some(limit) = limits.get_mut(line.cpu as usize)

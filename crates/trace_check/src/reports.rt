@@ -3,8 +3,8 @@
 ghost use Rattle.std.specs.Prelude.{◌≡◌, IfOk};
 
 use crate::check::{CheckRequest, Verdict};
-use crate::fault::Fault;
-use crate::gathering::Gathering;
+use check_faults::Fault;
+use check_record::Gathering;
 use check_report::{ReportSettings, add_evidence, add_settings};
 use probe_verdict::{Evidence, put_evidence};
 use std::alloc::{AllocError, Global};
@@ -15,7 +15,9 @@ pub(crate) fn put_evidence_of<'o>(
     alloc: Global,
     verdict: &mut Verdict,
     evidence: Evidence<'_>,
-) -> Result<(), Fault<'o>> {
+) -> Result<(), Fault<'o>>
+    ensures { verdict.new.agrees ≡ verdict.old.agrees }
+{
     put_evidence(alloc, &mut verdict.text, evidence)?;
     add_evidence(alloc, &mut verdict.report, evidence)?;
     Ok(())

@@ -1,7 +1,7 @@
 //! The states of a record, as a document of JSON and as a picture.
 
 use crate::check::CheckRequest;
-use crate::fault::Fault;
+use check_faults::Fault;
 use state_history::{RecordScene, Span, TaskName, states_of};
 use state_json::put_document;
 use state_picture::picture_of;

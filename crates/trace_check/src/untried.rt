@@ -1,10 +1,10 @@
 //! Kernels whose release was not tried.
 
-ghost use Rattle.std.specs.Prelude.{◌≡◌};
+ghost use Rattle.std.specs.Prelude.{◌≡◌, IfOk};
 ghost use Rattle.trace_check.specs.Untried.{is_judged, untried_by};
 
 use crate::check::Verdict;
-use crate::fault::{Check, Fault, tried_by};
+use check_faults::{Check, Fault, tried_by};
 use kernel_versions::{is_judged_by_probes, is_judged_by_timers};
 use std::alloc::{AllocError, Global};
 use trace_data::Kernel;
@@ -36,7 +36,9 @@ pub(crate) fn of_release<'o>(
     check: Check,
     kernel: Option<Kernel>,
     differ: u64,
-) -> Result<Verdict, Fault<'o>> {
+) -> Result<Verdict, Fault<'o>>
+    ensures { IfOk result (λ v. v.agrees ≡ verdict.agrees) }
+{
     let Some(kernel) = untried(check, kernel) else {
         return Ok(verdict);
     };

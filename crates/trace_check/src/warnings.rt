@@ -3,7 +3,7 @@
 ghost use Rattle.std.specs.Prelude.{◌≡◌, IfOk};
 
 use crate::check::Verdict;
-use crate::fault::Fault;
+use check_faults::Fault;
 use std::alloc::AllocError;
 
 /// A verdict with a line for each warning of the kernel's log.

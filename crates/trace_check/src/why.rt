@@ -1,8 +1,7 @@
 //! A record is played again, with one rule changed at a time.
 
-use crate::gathering::Gathering;
-use crate::probes::AHEAD;
 use crate::showing::TimerPlay;
+use check_record::{AHEAD, Gathering};
 use kernel_changes::{ALL, RuleChange};
 use probe_explain::Player;
 use probe_search::ProbeSearch;
@@ -40,7 +39,7 @@ fn trial_of(
     let rules = look.rules(head.law(options), Some(change), &notes);
     let mut search = ProbeSearch::new(alloc, rules, look.shows_spans());
     let mut player = Player::new(alloc, rules, look.start(alloc, &notes)?, AHEAD, false)?;
-    for line in &gathering.probes.again {
+    for line in &gathering.probes.kept {
         player.take(&mut search, *line)?;
     }
     player.finish(&mut search)?;

@@ -14,4 +14,4 @@ returns-clause-state c = λ plain.
     c.in_ok-change_and_share.ensures.state
     ∙ ap (λ r. share_in (change r m.cpu d.change) p m.cpu d.change) c.keep.ensures.state
     ∙ ap (λ r. K r d) c.note_admission.ensures
-    ∙ ap (λ e. K s e) (c.admit_by-done.ensures plain ∙ ap (λ (r : ℕ). admitting_of a.entity m r) c.room-limit.ensures)
+    ∙ ap (λ e. K s e) (c.admit_by-done.ensures.unchanged plain ∙ ap (λ (r : ℕ). admitting_of a.entity m r) c.room-limit.ensures)

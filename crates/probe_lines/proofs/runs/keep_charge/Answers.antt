@@ -18,6 +18,6 @@ returns-clause-state c = λ plain whole.
     let R : State → State = λ r. claim_later (sums_read r p u.cpu u.sums) p u.cpu q.choice.extra_bw in
     c.in_ok-keep_spent.ensures.state
     ∙ ap (λ r. K r b d) (c.in_ok-read_and_claim.ensures.state whole ∙ ap R c.note_spent.ensures)
-    ∙ ap (λ e. K (R s) b e) (c.spend_by-done.ensures plain ∙ ap (λ (h : Bool). spending_of c.with_charge-charged.result u.clock h) c.ran.ensures
+    ∙ ap (λ e. K (R s) b e) (c.spend_by-done.ensures.unchanged plain ∙ ap (λ (h : Bool). spending_of c.with_charge-charged.result u.clock h) c.ran.ensures
     ∙ ap (λ (e : Entity). spending_of e u.clock (has_run u)) (c.with_charge-charged.ensures plain))
     ∙ ap (λ (a : Actor). K (R s) a (spending_of (charged_by t s a.entity u q.choice) u.clock (has_run u))) c.shown_charge-shown.ensures

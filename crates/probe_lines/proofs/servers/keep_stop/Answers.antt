@@ -20,5 +20,5 @@ returns-clause-state c = λ plain whole.
     c.in_ok-change_and_block.ensures.state
     ∙ ap (λ r. block_in t (change r l.cpu d.change) q.place q.number l.cpu d.change d.block) (c.in_ok-read_and_keep.ensures.state whole)
     ∙ ap (λ r. K r b d) c.note_rule.ensures
-    ∙ ap (λ e. K s b e) (c.dequeue_by-done.ensures plain)
+    ∙ ap (λ e. K s b e) (c.dequeue_by-done.ensures.unchanged plain)
     ∙ ap (λ a. K s a (dequeuing_of a.entity WAKEUP 0 l.clock)) (c.stopping-shown.ensures ∙ ap (λ a. stopping_of a l.runtime l.deadline) c.shown_contending-contending.ensures)

@@ -1,6 +1,5 @@
-use Rattle.std.proofs.Common.{refl}
-use Rattle.probe_explain.proofs.Taking.{alike}
+use Rattle.probe_explain.proofs.Taking.{taken_still}
 use Rattle.probe_explain.proofs.player.Player.clear_rows.Goals as goal
 
-pub returns-clause-lines : goal.returns-clause-lines
-returns-clause-lines c = alike _ _ refl refl c.clear_rows.ensures
+pub invariant_of-self : goal.invariant_of-self
+invariant_of-self c = λ h. taken_still _ _ c.clear_rows.ensures.lines _ _ _ (c.self.invariant h)

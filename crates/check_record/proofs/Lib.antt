@@ -1,0 +1,3 @@
+pub mod AgreedLemmas
+mod ReadLemmas
+mod ShownLemmas

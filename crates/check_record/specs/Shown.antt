@@ -1,0 +1,57 @@
+-- What the lines of a text show: the lines of probes among them, and the kernel that they name.
+use Rattle.std.specs.Prelude.{ℕ, true, List, [], ◌∷◌, ◌++◌, Option, None}
+use Rattle.trace_data.specs.declared.line.RecordLine.{RecordLine}
+use Rattle.trace_data.specs.declared.line.RecordLine.TheVariants.{Event, Note}
+use Rattle.trace_data.specs.declared.line.Said.{Said}
+use Rattle.trace_data.specs.declared.line.Said.TheVariants as said
+use Rattle.trace_data.specs.declared.note.Kernel.{Kernel}
+use Rattle.trace_data.specs.declared.note.TraceNote.{TraceNote}
+use Rattle.trace_data.specs.declared.note.TraceNote.TheVariants as note
+use Rattle.trace_data.specs.declared.probe.Probe.{Probe}
+use Rattle.trace_lines.specs.declared.line.ToldLine.{ToldLine}
+use Rattle.trace_lines.specs.Reading.{After, reading}
+use Rattle.probe_explain.specs.declared.search.ProbeLine.{ProbeLine}
+
+-- a line of a probe: its number in the text, its moment, its CPU, the task that ran there, and what the probe shows
+pub record ShownProbe : Type 0 where
+  pub line : ℕ
+  pub at : ℕ
+  pub cpu : ℕ
+  pub pid : ℕ
+  pub probe : Probe
+
+-- what was shown so far
+pub record Shown : Type 0 where
+  pub probes : List ShownProbe
+  pub kernel : Option Kernel
+
+-- the kernel that the last such note names
+abbrev pub kernel_noted : TraceNote → Option Kernel → Option Kernel
+kernel_noted (note.Head kernel limit total_bw) before = kernel
+kernel_noted other before = before
+
+-- an event more
+abbrev pub with_said : ℕ → ℕ → ℕ → ℕ → Said → Shown → Shown
+with_said line at cpu pid (said.Probe probe) s = record s { probes = s.probes ++ record { line = line; at = at; cpu = cpu; pid = pid; probe = probe } ∷ [] }
+with_said line at cpu pid (said.Fixed fixed) s = s
+
+-- a line more, of this number
+abbrev pub shown_with : ℕ → RecordLine → Shown → Shown
+shown_with n (Event at grain cpu pid said) s = with_said n at cpu pid said s
+shown_with n (Note note) s = record s { kernel = kernel_noted note s.kernel }
+shown_with n other s = s
+
+-- each line that has no flaw is taken, and more is wanted
+abbrev pub with_line : ℕ → ToldLine (List ℕ) → Shown → After Shown
+with_line n told s = record { more = true; seen = shown_with n told.line s }
+
+abbrev pub nothing_shown : Shown
+nothing_shown = record { probes = []; kernel = None }
+
+-- what the lines of a text show
+unfoldable pub shown_by : List ℕ → Shown
+shown_by text = (reading with_line text nothing_shown).seen
+
+-- a line as it was read; how the program names its event is left out
+abbrev pub as_read : ProbeLine → ShownProbe
+as_read l = record { line = l.place.line; at = l.place.at; cpu = l.place.cpu; pid = l.place.pid; probe = l.probe }

@@ -1,0 +1,178 @@
+//! The lines of timers of a record, and the tasks that are given or named.
+
+ghost use Rattle.std.specs.Prelude.{◌≡◌};
+ghost use Rattle.check_record.specs.Seen.{shown_in};
+
+use crate::gathering::Gathering;
+use crate::names::is_named;
+use check_faults::Fault;
+use std::alloc::AllocError;
+use timer_play::setup_of;
+use timer_record::{GivenReservation, OpenRecord, Unlisted};
+use trace_data::{Fixed, Parameters};
+
+impl<'o> Gathering<'o> {
+    /// A line shows this pid with this comm.
+    #[tactic(auto, unfolding(crate::specs::Seen::shown_in))]
+    pub(crate) fn show(&mut self, pid: u64, comm: &[u8]) -> Result<(), AllocError>
+        ensures { shown_in self.new ≡ shown_in self.old }
+    {
+        if self.last == Some(pid) || self.names.has(pid) {
+            self.last = Some(pid);
+            return Ok(());
+        }
+        self.names.show(self.alloc, pid, comm)?;
+        self.give(pid, comm)
+    }
+
+    /// The task of a pid is one of those that were given, if its pid or its comm was.
+    #[tactic(auto, unfolding(crate::specs::Seen::shown_in))]
+    fn give(&mut self, pid: u64, comm: &[u8]) -> Result<(), AllocError>
+        ensures { shown_in self.new ≡ shown_in self.old }
+    {
+        let Some(place) = self.place_of(pid, comm) else {
+            return Ok(());
+        };
+        if let Some(found) = self.found.get_mut(place) {
+            *found = true;
+        }
+        match self.options.tasks.get(place) {
+            Some(given) => self.give_to(pid, given.parameters),
+            None => Ok(()),
+        }
+    }
+
+    /// Which of the given tasks that were not found is the task of this pid.
+    fn place_of(&self, pid: u64, comm: &[u8]) -> Option<usize> {
+        for (place, given) in self.options.tasks.iter().enumerate() {
+            let is_found = self.found.get(place).copied().unwrap_or(true);
+            if !is_found && is_named(given.name, pid, comm) {
+                return Some(place);
+            }
+        }
+        None
+    }
+
+    #[tactic(auto, unfolding(crate::specs::Seen::shown_in))]
+    fn give_to(&mut self, pid: u64, parameters: Parameters) -> Result<(), AllocError>
+        ensures { shown_in self.new ≡ shown_in self.old }
+    {
+        self.begin()?;
+        match &mut self.record {
+            Some(record) => record.give(GivenReservation { pid, parameters }),
+            None => Ok(()),
+        }
+    }
+
+    /// The first given task that no line has shown.
+    pub fn not_found(&self) -> Option<&'o str> {
+        for (place, given) in self.options.tasks.iter().enumerate() {
+            if !self.found.get(place).copied().unwrap_or(true) {
+                return Some(given.name);
+            }
+        }
+        None
+    }
+
+    /// The lines of timers are kept from here on, by what is known of the kernel.
+    #[tactic(auto, unfolding(crate::specs::Seen::shown_in))]
+    pub(crate) fn begin(&mut self) -> Result<(), AllocError>
+        ensures head { self.new.head ≡ self.old.head }
+        ensures fault { self.new.fault ≡ self.old.fault }
+        ensures changed { self.new.changed_line ≡ self.old.changed_line }
+        ensures shown { shown_in self.new ≡ shown_in self.old }
+    {
+        if self.record.is_some() {
+            return Ok(());
+        }
+        let start = self.head.start(self.alloc, self.options)?;
+        let (keeps_idle, keeps_cancels) = match setup_of(self.head.kernels(self.options), &start) {
+            Ok(setup) => (setup.wants_idle(), setup.wants_cancels()),
+            Err(_) => (true, true),
+        };
+        self.record = Some(OpenRecord::new(self.alloc, keeps_idle, keeps_cancels));
+        Ok(())
+    }
+
+    #[tactic(auto, unfolding(crate::specs::Seen::shown_in))]
+    pub(crate) fn fixed(
+        &mut self,
+        number: u64,
+        at: u64,
+        cpu: u32,
+        pid: u64,
+        fixed: Fixed,
+    ) -> Result<(), AllocError>
+        ensures { shown_in self.new ≡ shown_in self.old }
+    {
+        self.head.greatest_cpu = self.head.greatest_cpu.max(cpu).max(cpu_of(&fixed));
+        if self.plays_probes() && !self.keeps_timers {
+            return Ok(());
+        }
+        self.see_cpu(number, &fixed);
+        self.latest = self.latest.max(at);
+        self.has_timers = self.has_timers || matches!(fixed, Fixed::TimerStarted { .. });
+        self.begin()?;
+        match &mut self.record {
+            Some(record) => record.line(number, at, cpu, pid, fixed),
+            None => Ok(()),
+        }
+    }
+
+    /// A SCHED_DEADLINE task wakes on a CPU of the root domain.
+    #[tactic(auto, unfolding(crate::specs::Seen::shown_in))]
+    fn see_cpu(&mut self, number: u64, fixed: &Fixed)
+        ensures { shown_in self.new ≡ shown_in self.old }
+    {
+        if let Fixed::Woken {
+            cpu,
+            is_deadline: true,
+            ..
+        } = *fixed
+            && !self.head.has_cpu(self.options, cpu)
+        {
+            self.fault = Some(Fault::OutsideDomain { line: number });
+        }
+    }
+
+    /// The first task with a 0-lag timer that neither an option nor a note gives, where timers are compared and no note tells of tasks.
+    pub fn unknown(&self) -> Result<Option<Fault<'o>>, AllocError> {
+        let Some(unlisted) = self.unlisted() else {
+            return Ok(None);
+        };
+        let comm = self.names.comm(self.alloc, unlisted.pid)?;
+        Ok(Some(Fault::UnknownTask {
+            line: unlisted.line,
+            pid: unlisted.pid,
+            comm,
+        }))
+    }
+
+    fn unlisted(&self) -> Option<Unlisted> {
+        if self.has_notes || self.plays_probes() {
+            return None;
+        }
+        match &self.record {
+            Some(record) => record.unlisted(),
+            None => None,
+        }
+    }
+
+    /// Whether a timer of any kind was started.
+    pub fn has_timers(&self) -> bool {
+        self.has_timers
+    }
+
+    /// Gives the lines of timers out.
+    pub fn take_record(&mut self) -> Option<OpenRecord> {
+        self.record.take()
+    }
+}
+
+/// The CPU that an event names beside its line's, or 0.
+fn cpu_of(fixed: &Fixed) -> u32 {
+    match *fixed {
+        Fixed::Woken { cpu, .. } | Fixed::Migrated { cpu, .. } => cpu,
+        _ => 0,
+    }
+}

@@ -1,5 +1,0 @@
-use Rattle.probe_explain.proofs.Taking.{begins}
-use Rattle.probe_explain.proofs.player.Player.new.Goals as goal
-
-pub returns : goal.returns
-returns c = begins _ _ c.new-2.ensures.items c.in_ok-new.ensures

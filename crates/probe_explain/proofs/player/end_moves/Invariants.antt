@@ -1,7 +1,0 @@
-use Rattle.std.proofs.Common.{[]}
-use Rattle.probe_run.specs.Runs.{state_of}
-use Rattle.probe_explain.specs.Explained.{IsPlayed}
-use Rattle.probe_explain.proofs.player.end_moves.Given as goal
-
-abbrev pub invariant-moves : goal.invariant-moves
-invariant-moves g l = IsPlayed l.rules (state_of l.initial.run) [] (state_of l.run)

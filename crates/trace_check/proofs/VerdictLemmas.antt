@@ -1,0 +1,25 @@
+-- A verdict that agrees, and what was read.
+use Rattle.std.proofs.Common.{◌≡◌, ℕ, List, Result, Ok, Err, IfOk, IsOkAnd, IsTrue}
+use Rattle.text_bytes.specs.Source.{Opener, Reader}
+use Rattle.trace_file.specs.Reading.{IsSoOf}
+use Rattle.trace_file.proofs.SoLemmas.{so_by}
+use Rattle.trace_options.specs.declared.options.CheckOptions.{CheckOptions}
+use Rattle.check_faults.specs.declared.fault.Fault.{Fault}
+use Rattle.check_record.specs.Explains.{IsAgreedBy}
+use Rattle.check_record.specs.Reading.{HasShown}
+use Rattle.check_record.specs.Seen.{IsEnded, NothingDiffers, shown_in}
+use Rattle.check_record.proofs.AgreedLemmas.{agreed}
+use Rattle.check_record.specs.declared.gathering.Gathering.{Gathering}
+use Rattle.trace_check.specs.declared.check.Verdict.{Verdict}
+
+-- what is so of a verdict that agrees, where there is one
+pub of_agreed : (r : Result Verdict Fault) (P : Type 0) → IfOk r (λ (v : Verdict). IsTrue v.agrees → IsTrue v.keeps_laws → P)
+    → IsOkAnd r (λ (v : Verdict). IsTrue v.agrees) → IsOkAnd r (λ (v : Verdict). IsTrue v.keeps_laws) → P
+of_agreed (Ok v) P so agrees kept = so agrees kept
+of_agreed (Err e) P so agrees kept = absurd agrees
+
+module _ {O N D : Type 0} (o : Opener O D) (opener : O) (g : Reader N D) (read : N) (name : List ℕ) where
+  pub explained : (options : CheckOptions) (gathering : Gathering) → IsSoOf o opener g read name (HasShown (shown_in gathering))
+      → IsEnded options gathering → NothingDiffers options gathering → IsSoOf o opener g read name (IsAgreedBy options)
+  explained options gathering so ended equal =
+      so_by o opener g read (HasShown (shown_in gathering)) (IsAgreedBy options) name (agreed options gathering ended equal) so

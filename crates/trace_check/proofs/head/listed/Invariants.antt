@@ -1,7 +1,0 @@
-use Rattle.std.proofs.Common.{◌≡◌, ◌++◌, drop}
-use Rattle.trace_check.specs.Heads.{listed_in}
-use Rattle.trace_check.proofs.head.listed.Given as goal
-
--- the CPUs of the ranges so far, and of those that are left
-abbrev pub invariant-loop-range : goal.invariant-loop-range
-invariant-loop-range l = l.cpus.items ++ listed_in (drop l.range-index l.ranges) ≡ listed_in l.ranges
