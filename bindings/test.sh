@@ -44,10 +44,16 @@ gathered() {
     cp "$made/rattle/libneddwyrol.a" "$made/llvm/libneddwyrol_table.a" "$made" && bash bindings/shared.sh "$made/libneddwyrol.a" "$made"
 }
 
+# compiles_for_arm64: whether a C program can be made for arm64. (Debian's gcc-aarch64-linux-gnu can stand without libc6-dev-arm64-cross.)
+compiles_for_arm64() {
+    command -v aarch64-linux-gnu-gcc > /dev/null && printf '#include <stdint.h>\n#include <stdlib.h>\nint main(void) { return 0; }\n' |
+        aarch64-linux-gnu-gcc -static -x c - -o "$work/arm" 2> /dev/null
+}
+
 # gathered_for_arm64: the same for arm64, where a compiler for it makes the lines over malloc.
 gathered_for_arm64() {
     mkdir -p "$made/aarch64" && cp crates/neddwyrol/out/aarch64/libneddwyrol.a "$made/aarch64" || return 1
-    ! command -v aarch64-linux-gnu-gcc > /dev/null || {
+    ! compiles_for_arm64 || {
         aarch64-linux-gnu-gcc -O2 -Wall -Wextra -fPIC -c bindings/heap.c -o "$work/heap.o" &&
             joined aarch64-linux-gnu- crates/neddwyrol_table/out/aarch64/libneddwyrol_table.a "$work/heap.o" "$made/aarch64/libneddwyrol_table.a"
     }
@@ -98,7 +104,7 @@ for it in llvm rattle; do
 done
 
 # For arm64: compiled for it, and run by qemu. (It runs the threads in the memory order of the machine that it runs on.)
-if [[ -f $made/aarch64/libneddwyrol.a ]] && command -v qemu-aarch64 > /dev/null && command -v aarch64-linux-gnu-gcc > /dev/null; then
+if [[ -f $made/aarch64/libneddwyrol.a ]] && command -v qemu-aarch64 > /dev/null && compiles_for_arm64; then
     tried 'arm64: no undefined symbol' - awk '/ U / { print; found = 1 } END { exit found }' <(aarch64-linux-gnu-nm "$made/aarch64/libneddwyrol.a")
     for example in documentation book arithmetic simulator damage claims empty threads; do
         arm=("$made/aarch64/libneddwyrol.a")
@@ -107,7 +113,7 @@ if [[ -f $made/aarch64/libneddwyrol.a ]] && command -v qemu-aarch64 > /dev/null 
         tried "$example on arm64" "$example" qemu-aarch64 "$work/arm"
     done
 else
-    echo 'library: there is no qemu-aarch64, aarch64-linux-gnu-gcc or library for arm64: that is not tried'
+    echo 'library: there is no qemu-aarch64, C compiler with its library or library of ours for arm64: that is not tried'
 fi
 
 # Each example under valgrind, and threads under helgrind and ThreadSanitizer too: they find nothing. (Of the last the C part alone
