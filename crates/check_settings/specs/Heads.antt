@@ -1,7 +1,7 @@
 -- What options and notes say of the kernel that was recorded: an option stands above a note.
-use Rattle.std.specs.Prelude.{ℕ, pos, int_lt, zero, suc, ◌+◌, ◌-◌, ◌^◌, min, max, Bool, true, false, ◌&&◌, nat_le, ◌==◌, if◌then◌else◌, List, [], ◌∷◌, ◌++◌, length, Option, Some, None, option_and_then, option_map, slice_get, unwrap_or}
+use Rattle.std.specs.Prelude.{ℕ, pos, int_lt, zero, suc, ◌+◌, ◌-◌, ◌^◌, min, max, Bool, true, false, not, ◌&&◌, ◌||◌, nat_eq, nat_le, ◌==◌, if◌then◌else◌, List, [], ◌∷◌, ◌++◌, length, codes, Option, Some, None, is_some, option_and_then, option_map, slice_get, unwrap_or}
 use Rattle.std.specs.Int.{w64, cast_unsigned}
-use Rattle.std.specs.List.{list_any}
+use Rattle.std.specs.List.{list_any, starts_with}
 use Rattle.trace_lines.specs.declared.word.CpuRange.{CpuRange}
 use Rattle.trace_options.specs.declared.options.Arithmetic.{Arithmetic}
 use Rattle.trace_options.specs.declared.options.Arithmetic.TheVariants as arithmetic
@@ -20,9 +20,12 @@ use Rattle.timer_play.specs.declared.setup.FairServer.TheVariants as fair
 use Rattle.timer_play.specs.declared.setup.KernelSettings.{KernelSettings}
 use Rattle.timer_play.specs.declared.setup.RunqueueSums.{RunqueueSums}
 use Rattle.timer_play.specs.Kernels.{current, law_for}
+use Rattle.trace_data.specs.declared.line.RecordLine.{RecordLine}
+use Rattle.trace_data.specs.declared.line.RecordLine.TheVariants as line
 use Rattle.trace_data.specs.declared.note.Kernel.{Kernel}
 use Rattle.trace_data.specs.declared.note.Limit.{Limit}
 use Rattle.trace_data.specs.declared.note.Limit.TheVariants as limit
+use Rattle.trace_data.specs.declared.note.Policy.TheVariants.{Deadline}
 use Rattle.trace_data.specs.declared.note.TraceNote.{TraceNote}
 use Rattle.trace_data.specs.declared.note.TraceNote.TheVariants as note
 use Rattle.check_settings.specs.declared.head.RecordHead.{RecordHead}
@@ -52,6 +55,10 @@ is_documented arithmetic.Documentation = true
 
 abbrev pub kernel_by : RecordHead → CheckOptions → Option Kernel
 kernel_by head o = chosen o.kernel head.kernel
+
+-- the whole release that a note tells, where no option names the kernel
+abbrev pub release_by : RecordHead → CheckOptions → Option (List ℕ)
+release_by head o = if is_some o.kernel || length head.release.items == 0 then None else Some head.release.items
 
 -- what the rules are told of the kernel
 abbrev pub settings_by : RecordHead → CheckOptions → KernelSettings
@@ -126,6 +133,17 @@ noted_domain head = if length head.domain.items == 0 then cpus_from 0 (last_by h
 
 abbrev pub domain_by : RecordHead → CheckOptions → List ℕ
 domain_by head o = if length o.domain.items == 0 then noted_domain head else listed_in o.domain.items
+
+-- a CPU is of the root domain that an option or a note lists; each is where none does
+abbrev pub is_of_domain : RecordHead → CheckOptions → ℕ → Bool
+is_of_domain head o cpu =
+    if length o.domain.items == 0 then length head.domain.items == 0 || list_any (λ c. c == cpu) head.domain.items
+    else list_any (is_in_range cpu) o.domain.items
+
+-- a note tells of a task that was in the class at the start, by its comm; threads of schedutil are not of it
+abbrev pub is_older_by : RecordLine → List ℕ → Bool
+is_older_by (line.Note (note.Task pid None by cpu (Deadline parameters))) comm = not (starts_with nat_eq comm (codes "sugov:"))
+is_older_by other comm = false
 
 -- what notes and the head of a trace told
 pub record Told : Type 0 where

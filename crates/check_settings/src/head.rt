@@ -1,8 +1,9 @@
 //! What options and notes say of the kernel that was recorded.
 
-ghost use Rattle.std.specs.Prelude.{◌≡◌, ◌++◌, IfOk, None, OnOk};
+ghost use Rattle.std.specs.Prelude.{◌≡◌, ◌++◌, IfOk, None, OnOk, option_map};
 ghost use Rattle.std.specs.List.{list_any};
-ghost use Rattle.check_settings.specs.Heads.{bandwidth_by, chosen, cpus_from, domain_by, first_server, has_servers_by, is_documented, is_in_range, kernel_by, last_by, law_by, law_settings_by, listed_in, max_bw_by, max_bw_in, server_by, server_note, settings_by, told_of};
+ghost use Rattle.check_settings.specs.Heads.{bandwidth_by, chosen, cpus_from, domain_by, first_server, has_servers_by, is_documented, is_in_range, is_of_domain, is_older_by, kernel_by, last_by, law_by, law_settings_by, listed_in, max_bw_by, max_bw_in, release_by, server_by, server_note, settings_by, told_of};
+ghost use Rattle.trace_options.specs.Words.{domain_in};
 
 use kernel_entity::{BW_UNIT, ChargeLaw, ratio};
 use kernel_versions::{charge_law, has_servers};
@@ -73,7 +74,9 @@ impl RecordHead {
     }
 
     /// The whole release that a note tells; none where an option names the kernel.
-    pub fn release_by(&self, options: &CheckOptions<'_>) -> Option<&[u8]> {
+    pub fn release_by(&self, options: &CheckOptions<'_>) -> Option<&[u8]>
+        ensures { option_map (λ r. r.now) result ≡ release_by self.now options.now }
+    {
         if options.kernel.is_some() || self.release.is_empty() {
             None
         } else {
@@ -165,7 +168,9 @@ impl RecordHead {
     }
 
     /// Whether a CPU is of the root domain that an option or a note lists; each is where none does.
-    pub fn has_cpu(&self, options: &CheckOptions<'_>, cpu: u32) -> bool {
+    pub fn has_cpu(&self, options: &CheckOptions<'_>, cpu: u32) -> bool
+        ensures { result ≡ is_of_domain self.now options.now cpu }
+    {
         if options.domain.is_empty() {
             self.domain.is_empty() || self.domain.contains(&cpu)
         } else {
@@ -227,7 +232,11 @@ impl RecordHead {
         alloc: Global,
         options: &CheckOptions<'_>,
         has_older: bool,
-    ) -> Result<StartNotes, AllocError> {
+    ) -> Result<StartNotes, AllocError>
+        ensures settings { IfOk result (λ n. n.settings
+            ≡ law_settings_by self.now options.now has_older) }
+        ensures servers { IfOk result (λ n. n.servers.items ≡ self.now.servers.items) }
+    {
         let mut cpus = Vec::new(alloc);
         let follows_notes = options.domain.is_empty()
             && self.cpus.iter().any(|one| one.domain.is_some());
@@ -269,7 +278,10 @@ fn push_range(cpus: &mut Vec<u32>, first: u32, last: u32) -> Result<(), AllocErr
 }
 
 /// The CPUs of a list as `0-3,8`; none where it is no such list.
-pub fn cpus_of(alloc: Global, text: &[u8]) -> Result<Option<Vec<u32>>, AllocError> {
+pub fn cpus_of(alloc: Global, text: &[u8]) -> Result<Option<Vec<u32>>, AllocError>
+    ensures { IfOk result (λ made. option_map (λ v. v.items) made
+        ≡ option_map listed_in (domain_in text.now)) }
+{
     match domain_of(alloc, text)? {
         Some(ranges) => Ok(Some(listed(alloc, &ranges)?)),
         None => Ok(None),
@@ -379,7 +391,9 @@ fn max_bw_given(limit: Option<Limit>) -> Option<u64>
 }
 
 /// Whether a note tells of a task that was in the class at the start; threads of schedutil are not of it.
-pub fn is_older(line: &RecordLine, comm: &[u8]) -> bool {
+pub fn is_older(line: &RecordLine, comm: &[u8]) -> bool
+    ensures { result ≡ is_older_by line.now comm.now }
+{
     let is_there = matches!(
         line,
         RecordLine::Note(TraceNote::Task {

@@ -3,7 +3,7 @@
 
 ghost use Rattle.std.specs.Prelude.{◌≡◌, ◌<◌, ◌↔◌, IsTrue, FitsSigned};
 ghost use Rattle.std.specs.Int.{w64};
-ghost use Rattle.law_findings.specs.ZeroLag.{IsNotLate, IsNotSoon, IsPast, IsWide, ahead_of, left_of, span_of, work_of};
+ghost use Rattle.law_findings.specs.ZeroLag.{IsArmedFor, IsNotLate, IsNotSoon, IsPast, IsWide, ahead_of, left_of, span_of, work_of};
 
 /// 2^63, beyond which a number is none of the kernel's s64.
 const WIDE: i128 = 1 << 63;
@@ -82,6 +82,7 @@ fn is_not_soon(block: Blocked, span: i64) -> bool
 pub fn is_armed_for(least: Blocked, most: Blocked, from: i64, to: i64) -> bool
     requires least { 0 < least.dl_runtime }
     requires most { 0 < most.dl_runtime }
+    ensures { IsTrue result ↔ IsArmedFor least most from to }
 {
     is_not_soon(most, to) && is_not_late(least, from)
 }

@@ -1,6 +1,7 @@
 //! A first look at a record's lines.
 
-ghost use Rattle.std.specs.Prelude.{◌≡◌};
+ghost use Rattle.std.specs.Prelude.{◌≡◌, ◌||◌, OnOk, false};
+ghost use Rattle.probe_start.specs.Looks.{arms_timer, shows_dequeue};
 
 use crate::notes::StartNotes;
 use kernel_changes::RuleChange;
@@ -29,8 +30,9 @@ struct ShownServer {
 /// What the lines of a record show before it is played.
 #[derive(Drop)]
 pub struct RecordLook {
-    has_dequeues: bool,
-    has_timers: bool,
+    /// Whether a line shows a dequeue, and whether one shows a timer that is armed.
+    pub has_dequeues: bool,
+    pub has_timers: bool,
     shows_spans: Option<bool>,
     tasks: HashMap<u64, TaskSeen>,
     servers: Vec<ShownServer>,
@@ -43,7 +45,10 @@ pub struct RecordLook {
 
 impl RecordLook {
     /// No line was seen.
-    pub fn new(alloc: Global) -> RecordLook {
+    pub fn new(alloc: Global) -> RecordLook
+        ensures dequeues { result.has_dequeues ≡ false }
+        ensures timers { result.has_timers ≡ false }
+    {
         RecordLook {
             has_dequeues: false,
             has_timers: false,
@@ -57,7 +62,12 @@ impl RecordLook {
     }
 
     /// Takes a line.
-    pub fn see(&mut self, at: u64, probe: &Probe) -> Result<(), AllocError> {
+    pub fn see(&mut self, at: u64, probe: &Probe) -> Result<(), AllocError>
+        ensures dequeues { OnOk result
+            (self.new.has_dequeues ≡ (self.old.has_dequeues || shows_dequeue probe.now)) }
+        ensures timers { OnOk result
+            (self.new.has_timers ≡ (self.old.has_timers || arms_timer probe.now)) }
+    {
         if self.first_moment.is_none() {
             self.first_moment = Some(at);
         }
@@ -94,7 +104,10 @@ impl RecordLook {
         }
     }
 
-    fn see_cpu(&mut self, cpu: u32) -> Result<(), AllocError> {
+    fn see_cpu(&mut self, cpu: u32) -> Result<(), AllocError>
+        ensures dequeues { self.new.has_dequeues ≡ self.old.has_dequeues }
+        ensures timers { self.new.has_timers ≡ self.old.has_timers }
+    {
         if self.last_cpu == Some(cpu) || self.cpus.contains(&cpu) {
             self.last_cpu = Some(cpu);
             return Ok(());
@@ -107,7 +120,10 @@ impl RecordLook {
         self.tasks.get(&pid).copied().unwrap_or(nothing_seen())
     }
 
-    fn see_task(&mut self, pid: u64) -> Result<(), AllocError> {
+    fn see_task(&mut self, pid: u64) -> Result<(), AllocError>
+        ensures dequeues { self.new.has_dequeues ≡ self.old.has_dequeues }
+        ensures timers { self.new.has_timers ≡ self.old.has_timers }
+    {
         let seen = self.seen(pid);
         if !seen.is_admitted && !seen.is_shown_first {
             self.tasks.insert(pid, shown_in_class(seen))?;
@@ -115,7 +131,10 @@ impl RecordLook {
         Ok(())
     }
 
-    fn see_enqueued(&mut self, line: &Enqueued) -> Result<(), AllocError> {
+    fn see_enqueued(&mut self, line: &Enqueued) -> Result<(), AllocError>
+        ensures dequeues { self.new.has_dequeues ≡ self.old.has_dequeues }
+        ensures timers { self.new.has_timers ≡ self.old.has_timers }
+    {
         self.see_cpu(line.cpu)?;
         let is_other = line.normal_prio >= 0 || has(line.parameters.flags, SUGOV);
         if !is_other {
@@ -128,7 +147,10 @@ impl RecordLook {
         Ok(())
     }
 
-    fn see_admitted(&mut self, line: &Admitted) -> Result<(), AllocError> {
+    fn see_admitted(&mut self, line: &Admitted) -> Result<(), AllocError>
+        ensures dequeues { self.new.has_dequeues ≡ self.old.has_dequeues }
+        ensures timers { self.new.has_timers ≡ self.old.has_timers }
+    {
         if line.policy == DEADLINE_POLICY && line.policy_before != DEADLINE_POLICY {
             let seen = self.seen(line.pid);
             self.tasks.insert(line.pid, with_admission(seen))?;
@@ -136,7 +158,10 @@ impl RecordLook {
         Ok(())
     }
 
-    fn see_server(&mut self, cpu: u32, dl_runtime: u64, dl_period: u64) -> Result<(), AllocError> {
+    fn see_server(&mut self, cpu: u32, dl_runtime: u64, dl_period: u64) -> Result<(), AllocError>
+        ensures dequeues { self.new.has_dequeues ≡ self.old.has_dequeues }
+        ensures timers { self.new.has_timers ≡ self.old.has_timers }
+    {
         self.see_cpu(cpu)?;
         if !self.servers.iter().any(|one| one.cpu == cpu) {
             self.servers.push(ShownServer {
@@ -158,7 +183,9 @@ impl RecordLook {
     }
 
     /// Whether a line shows a dequeue: without one the sums are taken from the lines.
-    pub fn has_dequeues(&self) -> bool {
+    pub fn has_dequeues(&self) -> bool
+        ensures { result ≡ self.now.has_dequeues }
+    {
         self.has_dequeues
     }
 
@@ -169,7 +196,10 @@ impl RecordLook {
 
     /// By which rules the record is played.
     pub fn rules(&self, law: ChargeLaw, change: Option<RuleChange>, notes: &StartNotes) -> PlayRules
-        ensures { result.law ≡ law }
+        ensures law { result.law ≡ law }
+        ensures change { result.change ≡ change }
+        ensures dequeues { result.has_dequeues ≡ self.now.has_dequeues }
+        ensures timers { result.has_timers ≡ self.now.has_timers }
     {
         PlayRules {
             law,
