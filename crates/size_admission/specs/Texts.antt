@@ -1,6 +1,10 @@
 -- The lines that tell what all proposals come to together.
-use Rattle.std.specs.Prelude.{ℕ, ◌+◌, ◌-◌, ◌*◌, ◌/◌, ◌%◌, ◌^◌, min, nat_le, nat_lt, Bool, List, [], ◌++◌, codes, decimal, if◌then◌else◌}
+use Rattle.std.specs.Prelude.{ℕ, ◌+◌, ◌-◌, ◌*◌, ◌/◌, ◌%◌, ◌^◌, ◌==◌, min, nat_le, nat_lt, zero, suc, Bool, List, [], ◌∷◌, ◌++◌, length, codes, decimal, Option, Some, None, if◌then◌else◌}
+use Rattle.std.specs.List.{list_any}
+use Rattle.size_admission.specs.Together.{load_on}
+use Rattle.size_admission.specs.declared.admission.Proposal.{Proposal}
 use Rattle.size_admission.specs.declared.admission.RootDomain.{RootDomain}
+use Rattle.size_admission.specs.declared.together.Placed.{Placed}
 
 -- hundredths, with two digits behind the point
 abbrev pub hundredths_text : ℕ → List ℕ
@@ -46,3 +50,32 @@ unfoldable pub in_time_text : ℕ → ℕ → RootDomain → List ℕ
 in_time_text sum greatest machine =
     (if keeps sum greatest machine then codes "  in time on " else codes "  late by a bounded time, maybe, on ") ++ together_text sum machine
     ++ (if keeps sum greatest machine then codes " <= " else codes " > ") ++ bound_text greatest machine
+
+-- a piece behind others, and a sign between them
+abbrev pub with_piece : List ℕ → List ℕ → List ℕ → List ℕ
+with_piece sign text piece = if length piece == 0 then text else if length text == 0 then piece else text ++ sign ++ piece
+
+-- a text with the comms of the tasks on a processor, and a space between each and the next
+abbrev pub with_names : ℕ → List ℕ → List Proposal → List Placed → List ℕ
+with_names processor text [] placed = text
+with_names processor text (one ∷ proposals) [] = text
+with_names processor text (one ∷ proposals) (place ∷ placed) =
+    with_names processor (if place.processor == processor then with_piece (codes " ") text one.comm.items else text) proposals placed
+
+-- a task is on a processor
+abbrev pub is_used : ℕ → List Placed → Bool
+is_used processor placed = list_any (λ place. place.processor == processor) placed
+
+-- which tasks share a processor, and what they come to; nothing of one that no task has
+unfoldable pub processor_text : ℕ → List Proposal → List Placed → List ℕ
+processor_text processor proposals placed =
+    if is_used processor placed then with_names processor [] proposals placed ++ codes " " ++ percent_text (min (load_on processor placed) 18446744073709551615) ++ codes " %" else []
+
+-- that of the first so many processors
+abbrev pub processors_text : ℕ → List Proposal → List Placed → List ℕ
+processors_text zero proposals placed = []
+processors_text (suc n) proposals placed = with_piece (codes "; ") (processors_text n proposals placed) (processor_text n proposals placed)
+
+abbrev pub placed_text : List Proposal → Option (List Placed) → ℕ → List ℕ
+placed_text proposals None processors = codes "  a processor each: they do not fit so\n"
+placed_text proposals (Some placed) processors = codes "  a processor each: " ++ processors_text processors proposals placed ++ codes "\n"

@@ -1,8 +1,8 @@
 //! What all proposals together come to, in words.
 
-ghost use Rattle.std.specs.Prelude.{◌≡◌, ◌++◌, ◌*◌, OnOk, decimal, if◌then◌else◌};
+ghost use Rattle.std.specs.Prelude.{◌≡◌, ◌++◌, ◌*◌, IfOk, OnOk, decimal, option_map, if◌then◌else◌};
 ghost use Rattle.size_admission.specs.Told.{TellsAll, all_text};
-ghost use Rattle.size_admission.specs.Texts.{admission_text, admits_text, bound_text, in_time_text, less_text, percent_text, together_text};
+ghost use Rattle.size_admission.specs.Texts.{admission_text, admits_text, bound_text, in_time_text, is_used, less_text, percent_text, placed_text, processor_text, processors_text, together_text, with_names, with_piece};
 
 use crate::admission::{Proposal, RootDomain, bandwidth, hundredths, is_admitted, is_in_time};
 use crate::table::{
@@ -138,32 +138,84 @@ fn put_in_time(
     Ok(())
 }
 
-/// Writes which tasks share a processor, and what they come to. A processor that nothing uses is left out.
-fn put_processor(
+/// Writes a piece behind others, and a sign between them.
+fn put_piece(out: &mut Vec<u8>, sign: &[u8], piece: &[u8]) -> Result<(), AllocError>
+    ensures { OnOk result (out.new.items ≡ with_piece sign.now out.old.items piece.now) }
+{
+    if piece.is_empty() {
+        return Ok(());
+    }
+    if !out.is_empty() {
+        out.extend_from_slice(sign)?;
+    }
+    out.extend_from_slice(piece)
+}
+
+/// Writes the comms of the tasks on a processor, with a space between each and the next.
+fn put_names(
     out: &mut Vec<u8>,
     proposals: &[Proposal],
     placed: &[Placed],
     processor: usize,
-    is_first: bool,
-) -> Result<bool, AllocError> {
-    let mut is_used = false;
-    for (one, place) in proposals.iter().zip(placed) {
-        if place.processor == processor {
-            if is_used {
-                put_text(out, " ")?;
-            } else if !is_first {
-                put_text(out, "; ")?;
-            }
-            out.extend_from_slice(&one.comm)?;
-            is_used = true;
-        }
+) -> Result<(), AllocError>
+    ensures { OnOk result (out.new.items
+        ≡ with_names processor out.old.items proposals.now placed.now) }
+{
+    let [one, proposals @ ..] = proposals else {
+        return Ok(());
+    };
+    let [place, placed @ ..] = placed else {
+        return Ok(());
+    };
+    if place.processor == processor {
+        put_piece(out, b" ", &one.comm)?;
     }
-    if is_used {
-        put_text(out, " ")?;
-        put_percent(out, load(placed, processor))?;
-        put_text(out, " %")?;
+    put_names(out, proposals, placed, processor)
+}
+
+/// Whether a task is on a processor.
+fn is_used(placed: &[Placed], processor: usize) -> bool
+    ensures { result ≡ is_used processor placed.now }
+{
+    placed.iter().any(|place| place.processor == processor)
+}
+
+/// Which tasks share a processor, and what they come to. A processor that nothing uses is left out.
+#[tactic(auto, unfolding(crate::specs::Texts::processor_text))]
+fn processor_text(
+    alloc: Global,
+    proposals: &[Proposal],
+    placed: &[Placed],
+    processor: usize,
+) -> Result<Vec<u8>, AllocError>
+    ensures { IfOk result (λ v. v.items ≡ processor_text processor proposals.now placed.now) }
+{
+    let mut out = Vec::new(alloc);
+    if !is_used(placed, processor) {
+        return Ok(out);
     }
-    Ok(is_used)
+    put_names(&mut out, proposals, placed, processor)?;
+    put_text(&mut out, " ")?;
+    put_percent(&mut out, load(placed, processor))?;
+    put_text(&mut out, " %")?;
+    Ok(out)
+}
+
+/// Which tasks share each processor.
+fn processors_text(
+    alloc: Global,
+    proposals: &[Proposal],
+    placed: &[Placed],
+    processors: u32,
+) -> Result<Vec<u8>, AllocError>
+    ensures { IfOk result (λ v. v.items ≡ processors_text processors proposals.now placed.now) }
+{
+    let mut out = Vec::new(alloc);
+    for processor in 0..processors as usize {
+        let piece = processor_text(alloc, proposals, placed, processor)?;
+        put_piece(&mut out, b"; ", &piece)?;
+    }
+    Ok(out)
 }
 
 /// Which tasks share a processor, where they fit so.
@@ -172,21 +224,19 @@ fn placed_text(
     proposals: &[Proposal],
     placed: &Option<Vec<Placed>>,
     processors: u32,
-) -> Result<Vec<u8>, AllocError> {
+) -> Result<Vec<u8>, AllocError>
+    ensures { IfOk result (λ v. v.items
+        ≡ placed_text proposals.now (option_map (λ p. p.items) placed.now) processors) }
+{
     let mut out = Vec::new(alloc);
-    put_text(&mut out, "  a processor each: ")?;
     match placed {
-        None => put_text(&mut out, "they do not fit so")?,
+        None => put_text(&mut out, "  a processor each: they do not fit so\n")?,
         Some(placed) => {
-            let mut is_first = true;
-            for processor in 0..processors as usize {
-                if put_processor(&mut out, proposals, placed, processor, is_first)? {
-                    is_first = false;
-                }
-            }
+            put_text(&mut out, "  a processor each: ")?;
+            out.extend_from_slice(&processors_text(alloc, proposals, placed, processors)?)?;
+            put_text(&mut out, "\n")?;
         }
     }
-    put_text(&mut out, "\n")?;
     Ok(out)
 }
 
