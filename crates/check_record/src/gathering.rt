@@ -17,6 +17,7 @@ use probe_findings::ProbedLine;
 use probe_lines::event_of;
 use probe_verdict::DroppedLines;
 use std::alloc::{AllocError, Global};
+use task_figures::shows_class;
 use timer_record::OpenRecord;
 use trace_data::{Flaw, RecordLine, Said, TraceNote};
 use trace_lines::{Lines, ToldLine};
@@ -36,8 +37,11 @@ pub struct Gathering<'o> {
     /// The pid of the last line that showed a task.
     pub(crate) last: Option<u64>,
 
-    /// Of each given task, whether a line has shown it.
-    pub(crate) found: Vec<bool>,
+    /// Of each given task, the pid with which a line has shown it.
+    pub(crate) found: Vec<Option<u64>>,
+
+    /// Whether a line has shown each of them.
+    pub(crate) has_found: bool,
 
     /// The lines of timers; none before the first line of an event.
     pub(crate) record: Option<OpenRecord>,
@@ -111,7 +115,7 @@ impl<'o> Gathering<'o> {
         let keeps_lines = options.explains || request.keeps_timers || request.path == "-";
         let mut found = Vec::new(alloc);
         for _ in 0..options.tasks.len() {
-            found.push(false)?;
+            found.push(None)?;
         }
         Ok(Gathering {
             alloc,
@@ -131,6 +135,7 @@ impl<'o> Gathering<'o> {
             laws: RecordLaws::new(alloc, request.laws, request.keeps_rows),
             lost: None,
             lost_line: 0,
+            has_found: options.tasks.is_empty(),
             changed_line: None,
             fault: None,
         })
@@ -195,7 +200,7 @@ impl<'o> Gathering<'o> {
     {
         match told.shown {
             Some(shown) => {
-                self.show(shown.pid, shown.comm)?;
+                self.show(shown.pid, shown.comm, shows_class(&told.line))?;
                 self.see_older(is_older(&told.line, shown.comm));
                 Ok(())
             }
