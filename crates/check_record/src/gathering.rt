@@ -26,6 +26,13 @@ use trace_options::{CPUS, CheckOptions};
 /// A moment that is greater than each number of nanoseconds is read as this one.
 const TOO_LATE: u64 = u64::MAX;
 
+/// A line of an event whose moment is so much before that of the line before it.
+#[derive(Clone, Copy)]
+pub struct EarlierLine {
+    pub line: u64,
+    pub nanos: u64,
+}
+
 /// A record that is being read.
 #[derive(Drop)]
 pub struct Gathering<'o> {
@@ -49,6 +56,10 @@ pub struct Gathering<'o> {
 
     /// The latest moment of a line of an event that was kept.
     pub(crate) latest: u64,
+
+    /// The moment of the last line of an event, and the first line that is before the one before it.
+    pub(crate) before: u64,
+    pub earlier: Option<EarlierLine>,
 
     /// Whether a note tells of a task.
     pub(crate) has_notes: bool,
@@ -124,9 +135,12 @@ impl<'o> Gathering<'o> {
             names: Names::new(alloc),
             last: None,
             found,
+            has_found: options.tasks.is_empty(),
             record: None,
             has_timers: false,
             latest: 0,
+            before: 0,
+            earlier: None,
             has_notes: false,
             has_older: false,
             warnings: Vec::new(alloc),
@@ -135,7 +149,6 @@ impl<'o> Gathering<'o> {
             laws: RecordLaws::new(alloc, request.laws, request.keeps_rows),
             lost: None,
             lost_line: 0,
-            has_found: options.tasks.is_empty(),
             changed_line: None,
             fault: None,
         })
@@ -245,6 +258,7 @@ impl<'o> Gathering<'o> {
         ensures { OnOk result (shown_in self.new
             ≡ with_said read.line read.at read.cpu read.pid said (shown_in self.old)) }
     {
+        self.see_moment(read);
         self.hold_to_laws(read, &said)?;
         match said {
             Said::Fixed(fixed) => self.fixed(read.line, read.at, read.cpu, read.pid, fixed),
@@ -259,6 +273,20 @@ impl<'o> Gathering<'o> {
                 probe,
             }),
         }
+    }
+
+    /// A line of an event may be before the one before it.
+    #[tactic(auto, unfolding(crate::specs::Seen::shown_in))]
+    fn see_moment(&mut self, read: ReadLine)
+        ensures { shown_in self.new ≡ shown_in self.old }
+    {
+        if read.at < self.before && self.earlier.is_none() {
+            self.earlier = Some(EarlierLine {
+                line: read.line,
+                nanos: self.before - read.at,
+            });
+        }
+        self.before = read.at;
     }
 
     /// A line of an event is held to the laws.
