@@ -160,7 +160,7 @@ fn events<
     let prefix = matches.get_str("out").unwrap_or("");
     match options_in(alloc, matches) {
         Ok(Some(options)) => serve_events(alloc, input, target, path, prefix, &options, faults),
-        Ok(None) => no_options(faults),
+        Ok(None) => no_options(alloc, matches, faults),
         Err(_) => no_memory(faults),
     }
 }
@@ -212,7 +212,7 @@ fn check<
         Err(wrong) => return wrong_option(wrong, faults),
     };
     let Some(laws) = laws_in(matches.get_str("laws")) else {
-        return wrong_laws(matches.get_str("laws").unwrap_or(""), faults);
+        return wrong_value("--laws", matches.get_str("laws").unwrap_or(""), faults);
     };
     let wanted = CheckRequest {
         path: matches.get_str("TRACE").unwrap_or(""),
@@ -249,11 +249,11 @@ fn laws_in(word: Option<&str>) -> Option<AskedLaws> {
     }
 }
 
-/// The line of a word of `--laws` that names no law.
-fn wrong_laws<E: Write>(value: &str, faults: &mut E) -> u8
+/// The line of an option that says nothing that it may say.
+fn wrong_value<E: Write>(name: &str, value: &str, faults: &mut E) -> u8
     ensures { result ≡ STATUS_USAGE }
 {
-    let _ = writeln!(faults, "error: invalid value '{value}' for '--laws'");
+    let _ = writeln!(faults, "error: invalid value '{value}' for '{name}'");
     STATUS_USAGE
 }
 
@@ -274,7 +274,6 @@ fn window_in<'a>(matches: &ArgMatches<'a>, shows_states: bool) -> Result<Window,
     }
 }
 
-/// The line of an option that says nothing that it may say.
 fn wrong_option<E: Write>(wrong: WrongOption<'_>, faults: &mut E) -> u8
     ensures { result ≡ STATUS_USAGE }
 {
@@ -287,9 +286,7 @@ fn wrong_option<E: Write>(wrong: WrongOption<'_>, faults: &mut E) -> u8
         CheckOption::From => "--from",
         CheckOption::To => "--to",
     };
-    let value = wrong.value;
-    let _ = writeln!(faults, "error: invalid value '{value}' for '{name}'");
-    STATUS_USAGE
+    wrong_value(name, wrong.value, faults)
 }
 
 /// What the words say of the tasks and the runqueues; none where a number or a name of them is no such.
@@ -307,13 +304,30 @@ fn options_in<'a>(
     )
 }
 
-fn no_options<E: Write>(faults: &mut E) -> u8
+fn says_nothing(made: Result<Option<ConvertOptions<'_>>, AllocError>) -> bool {
+    matches!(made, Ok(None))
+}
+
+/// The line of the first option of `events` that says nothing that it may say; a task that is given once more is one.
+fn no_options<E: Write>(alloc: Global, matches: &ArgMatches<'_>, faults: &mut E) -> u8
     ensures { result ≡ STATUS_USAGE }
 {
-    let _ = faults.write_all(
-        b"error: a task, --rt or --fair-server says no reservation, or a task is given twice\n",
-    );
-    STATUS_USAGE
+    let tasks = matches.get_strs("task").unwrap_or(&[]);
+    for (place, value) in tasks.iter().enumerate() {
+        let first = tasks.get(..=place).unwrap_or(&[]);
+        if says_nothing(options_of(alloc, first, None, None, None)) {
+            return wrong_value("--task", value, faults);
+        }
+    }
+    match matches.get_str("rt") {
+        Some(value) if says_nothing(options_of(alloc, &[], None, Some(value), None)) => {
+            wrong_value("--rt", value, faults)
+        }
+        _ => {
+            let value = matches.get_str("fair-server").unwrap_or("");
+            wrong_value("--fair-server", value, faults)
+        }
+    }
 }
 
 /// Prints the tasks of a trace, or the reservations that the words of `size` ask for.
