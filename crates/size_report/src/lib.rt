@@ -9,6 +9,7 @@ mod picture;
 mod price;
 mod reading;
 mod serving;
+mod sheet;
 mod sizing;
 mod task_text;
 
