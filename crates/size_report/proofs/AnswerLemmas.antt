@@ -12,14 +12,14 @@ use Rattle.size_jobs.specs.Taking.{Tasks, tasks_of}
 use Rattle.size_jobs.specs.Told.{IsTold, jobs_reading}
 use Rattle.size_jobs.specs.declared.lines.JobRecord.{JobRecord}
 use Rattle.size_least.specs.declared.job.Job.{Job}
-use Rattle.size_report.specs.Answers.{Adds, AreJobs, IsAnswer, PrintsAnswer, PrintsFor, ProposesNone, Sheet, Sizes, no_sheet}
+use Rattle.size_report.specs.Answers.{Adds, AreJobs, IsAnswer, PrintsAnswer, PrintsFor, ProposesNone, Sections, Sizes, no_sections}
 use Rattle.size_report.specs.Options.{Asked, Said, asked_task}
 use Rattle.size_report.specs.Periods.{HasPeriod}
 use Rattle.size_report.specs.declared.options.AskedTask.{AskedTask}
-use Rattle.size_report.specs.declared.sheet.FoundTask.{FoundTask}
-use Rattle.size_report.specs.inside.Sheets.{IsFound}
+use Rattle.size_report.specs.declared.sections.FoundTask.{FoundTask}
+use Rattle.size_report.specs.inside.Sections.{IsFound}
 
-module _ (o : Said) (tasks : Tasks) (asked : Asked) (found : FoundTask) (is : IsFound asked.name tasks found) (some : 0 < length found.task.now.jobs.items) (old new : Sheet) where
+module _ (o : Said) (tasks : Tasks) (asked : Asked) (found : FoundTask) (is : IsFound asked.name tasks found) (some : 0 < length found.task.now.jobs.items) (old new : Sections) where
   pub none_added : HasPeriod asked found.task.now.jobs.items None → ProposesNone old new → Adds o tasks old asked new
   none_added has none = record {
     pid = found.pid;
@@ -46,11 +46,11 @@ module _ (o : Said) (tasks : Tasks) (asked : Asked) (found : FoundTask) (is : Is
   }
 
 -- one task more
-pub task_more : (o : Said) (tasks : Tasks) (asked : List AskedTask) (i : ℕ) (d : AskedTask) (old new : Sheet) → i < length asked → FoldsTo (Adds o tasks) no_sheet (map asked_task (take i asked)) old
-    → Adds o tasks old (asked_task (get_or asked i d)) new → FoldsTo (Adds o tasks) no_sheet (map asked_task (take (i + 1) asked)) new
+pub task_more : (o : Said) (tasks : Tasks) (asked : List AskedTask) (i : ℕ) (d : AskedTask) (old new : Sections) → i < length asked → FoldsTo (Adds o tasks) no_sections (map asked_task (take i asked)) old
+    → Adds o tasks old (asked_task (get_or asked i d)) new → FoldsTo (Adds o tasks) no_sections (map asked_task (take (i + 1) asked)) new
 task_more o tasks asked i d old new within before adds =
-    subst (λ ts. FoldsTo (Adds o tasks) no_sheet ts new) (sym (map_more asked_task asked i d within))
-    (FoldsTo-push (Adds o tasks) no_sheet (map asked_task (take i asked)) old (asked_task (get_or asked i d)) new before adds)
+    subst (λ ts. FoldsTo (Adds o tasks) no_sections ts new) (sym (map_more asked_task asked i d within))
+    (FoldsTo-push (Adds o tasks) no_sections (map asked_task (take i asked)) old (asked_task (get_or asked i d)) new before adds)
 
 module _ (o : Said) (told : JobRecord) (old new : Option (List ℕ)) (answer : List ℕ) (whole : Appends old new answer)
     (answers : 0 < length o.tasks → IsAnswer o (tasks_of told.tasks) told.processors answer) where

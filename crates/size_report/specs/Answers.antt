@@ -39,7 +39,7 @@ abbrev pub AreJobs : ℕ → List Seen → List Job → Type 0
 AreJobs within seen jobs = map due_of jobs ≡ map (due_within within) seen
 
 -- what is printed so far, and what is proposed
-pub record Sheet : Type 0 where
+pub record Sections : Type 0 where
   pub text : List ℕ
   pub proposals : List Proposal
 
@@ -49,7 +49,7 @@ command_text runtime period pid =
     codes "  chrt -d -T " ++ decimal (runtime * 1000) ++ (codes " -D " ++ decimal (period * 1000)) ++ (codes " -P " ++ decimal (period * 1000)) ++ (codes " -p 0 " ++ decimal pid) ++ codes "\n"
 
 -- a section more, whose last line is the command of a reservation, and that reservation among the proposals
-pub record Reserves (pid : ℕ) (comm : List ℕ) (runtime period : ℕ) (old new : Sheet) : Type 0 where
+pub record Reserves (pid : ℕ) (comm : List ℕ) (runtime period : ℕ) (old new : Sections) : Type 0 where
   pub lead : List ℕ
   pub one : Proposal
   pub text : new.text ≡ old.text ++ lead ++ command_text runtime period pid
@@ -59,24 +59,24 @@ pub record Reserves (pid : ℕ) (comm : List ℕ) (runtime period : ℕ) (old ne
   pub each : one.period ≡ period
 
 -- a section more, in which nothing is proposed
-pub record ProposesNone (old new : Sheet) : Type 0 where
+pub record ProposesNone (old new : Sections) : Type 0 where
   pub lead : List ℕ
   pub text : new.text ≡ old.text ++ lead
   pub proposals : new.proposals ≡ old.proposals
 
 -- the jobs of a task in a period: the least runtime with which no more than so many may be late, and the margin; nothing where the whole
 -- period is too little
-pub record Sizes (late margin period pid : ℕ) (comm : List ℕ) (jobs : List Job) (old new : Sheet) : Type 0 where
+pub record Sizes (late margin period pid : ℕ) (comm : List ℕ) (jobs : List Job) (old new : Sections) : Type 0 where
   pub is : ((least : ℕ) × IsLeast jobs period late least × Reserves pid comm (proposed_of least margin period) period old new)
       ⊎ ((late < late_of period period jobs) ⊎ (period ≡ 0)) × ProposesNone old new
 
 -- a task with jobs, in a period, each job to be done in the time that is given or else in the period
-abbrev pub SizesIn : Said → Asked → ℕ → Watched → ℕ → Sheet → Sheet → Type 0
+abbrev pub SizesIn : Said → Asked → ℕ → Watched → ℕ → Sections → Sections → Type 0
 SizesIn o asked pid task period old new =
     (jobs : List Job) × AreJobs (unwrap_or asked.within period) task.jobs jobs × Sizes o.late o.margin period pid task.comm jobs old new
 
 -- a task that is asked for: it has a job, and is sized where it has a period
-pub record Adds (o : Said) (tasks : Tasks) (old : Sheet) (asked : Asked) (new : Sheet) : Type 0 where
+pub record Adds (o : Said) (tasks : Tasks) (old : Sections) (asked : Asked) (new : Sections) : Type 0 where
   pub pid : ℕ
   pub named : pid_of asked.name tasks ≡ Some pid
   pub some : 0 < length (tasks.watched pid).jobs
@@ -84,23 +84,23 @@ pub record Adds (o : Said) (tasks : Tasks) (old : Sheet) (asked : Asked) (new : 
       ⊎ HasPeriod asked (tasks.watched pid).jobs None × ProposesNone old new
 
 -- nothing is printed yet
-abbrev pub no_sheet : Sheet
-no_sheet = record { text = []; proposals = [] }
+abbrev pub no_sections : Sections
+no_sections = record { text = []; proposals = [] }
 
 -- the root domain by the options, or else by the trace
 abbrev pub domain_of : Said → ℕ → RootDomain
 domain_of o processors = record { processors = unwrap_or o.cpus processors; most = o.most; fair = o.fair }
 
 -- behind the sections stand all proposals together, where there are some
-pub record IsWith (machine : RootDomain) (sheet : Sheet) (text : List ℕ) : Type 0 where
-  pub none : length sheet.proposals ≡ 0 → text ≡ sheet.text
-  pub some : 0 < length sheet.proposals → TellsAll sheet.proposals machine sheet.text text
+pub record IsWith (machine : RootDomain) (sections : Sections) (text : List ℕ) : Type 0 where
+  pub none : length sections.proposals ≡ 0 → text ≡ sections.text
+  pub some : 0 < length sections.proposals → TellsAll sections.proposals machine sections.text text
 
 -- a section for each task that is asked for, in their order
 pub record IsAnswer (o : Said) (tasks : Tasks) (processors : ℕ) (text : List ℕ) : Type 0 where
-  pub sheet : Sheet
-  pub each : FoldsTo (Adds o tasks) no_sheet o.tasks sheet
-  pub all : IsWith (domain_of o processors) sheet text
+  pub sections : Sections
+  pub each : FoldsTo (Adds o tasks) no_sections o.tasks sections
+  pub all : IsWith (domain_of o processors) sections text
 
 -- where tasks are asked for, that was printed, by the jobs of these tasks, and nothing else
 pub record PrintsAnswer (o : Said) (tasks : Tasks) (processors : ℕ) (old new : Option (List ℕ)) : Type 0 where

@@ -8,8 +8,8 @@ mod options;
 mod picture;
 mod price;
 mod reading;
+mod sections;
 mod serving;
-mod sheet;
 mod sizing;
 mod task_text;
 

@@ -7,14 +7,14 @@ ghost use Rattle.trace_file.specs.Reading.{IsSoOf};
 ghost use Rattle.size_report.specs.Answers.{IsAnswer, IsWith, PrintsFor, domain_of};
 ghost use Rattle.size_report.specs.Faults.{PrintsWhole, status_of};
 ghost use Rattle.size_report.specs.Options.{said_by};
-ghost use Rattle.size_report.specs.inside.Sheets.{sheet_in};
+ghost use Rattle.size_report.specs.inside.Sections.{sections_in};
 
 use crate::census::{census_text, duration};
 use crate::fault::SizeFault;
 use crate::options::SizeOptions;
 use crate::picture::picture_of;
 use crate::reading::read_record;
-use crate::sheet::{SizeSheet, sheet_of};
+use crate::sections::{SizeSections, sections_of};
 use size_admission::{RootDomain, put_proposals};
 use size_jobs::JobRecord;
 use std::alloc::{AllocError, Global};
@@ -66,27 +66,27 @@ fn answer_of<'a>(
             picture: None,
         });
     }
-    let sheet = sheet_of(alloc, record, path, options)?;
-    let Ok(answer) = answer_in(sheet, record, options) else {
+    let sections = sections_of(alloc, record, path, options)?;
+    let Ok(answer) = answer_in(sections, record, options) else {
         return Err(SizeFault::NoText);
     };
     Ok(answer)
 }
 
-/// What a sheet comes to: all proposals together stand below it.
+/// What sections come to: all proposals together stand below them.
 fn answer_in(
-    sheet: SizeSheet,
+    sections: SizeSections,
     record: &JobRecord,
     options: &SizeOptions<'_>,
 ) -> Result<SizeAnswer, AllocError>
     ensures { IfOk result (λ a. IsWith (domain_of (said_by options.now) record.now.processors)
-        (sheet_in sheet) a.text.items) }
+        (sections_in sections) a.text.items) }
 {
-    let SizeSheet {
+    let SizeSections {
         mut text,
         proposals,
         drawn,
-    } = sheet;
+    } = sections;
     let alloc = *text.allocator();
     if !proposals.is_empty() {
         put_proposals(&mut text, &proposals, machine_of(record, options))?;

@@ -1,13 +1,13 @@
-//! A sheet: the section of each task that is asked for, and what is proposed for it.
+//! A sections: the section of each task that is asked for, and what is proposed for it.
 
 ghost use Rattle.std.specs.Prelude.{◌≡◌, ◌≤◌, ◌<◌, IfErr, IfOk, IfSome, OnOk, length, option_and_then, vec_len};
 ghost use Rattle.std.specs.List.{FoldsTo};
 ghost use Rattle.size_jobs.specs.Taking.{tasks_of};
-ghost use Rattle.size_report.specs.Answers.{Adds, ProposesNone, Reserves, Sizes, no_sheet, pid_of};
+ghost use Rattle.size_report.specs.Answers.{Adds, ProposesNone, Reserves, Sizes, no_sections, pid_of};
 ghost use Rattle.size_report.specs.Faults.{IsOfTask};
 ghost use Rattle.size_report.specs.Options.{asked_task, said_by};
 ghost use Rattle.size_report.specs.Periods.{admitted_period, period_in, regular};
-ghost use Rattle.size_report.specs.inside.Sheets.{IsFound, sheet_in};
+ghost use Rattle.size_report.specs.inside.Sections.{IsFound, sections_in};
 
 use crate::census::duration;
 use crate::fault::SizeFault;
@@ -28,7 +28,7 @@ use trace_probes::numeral;
 
 /// What is printed of the tasks so far, and what is proposed for them.
 #[derive(Drop)]
-pub(crate) struct SizeSheet {
+pub(crate) struct SizeSections {
     pub text: Vec<u8>,
     pub proposals: Vec<Proposal>,
 
@@ -36,11 +36,11 @@ pub(crate) struct SizeSheet {
     pub drawn: Vec<Drawn>,
 }
 
-impl SizeSheet {
-    fn new(alloc: Global) -> SizeSheet
-        ensures { sheet_in result ≡ no_sheet }
+impl SizeSections {
+    fn new(alloc: Global) -> SizeSections
+        ensures { sections_in result ≡ no_sections }
     {
-        SizeSheet {
+        SizeSections {
             text: Vec::new(alloc),
             proposals: Vec::new(alloc),
             drawn: Vec::new(alloc),
@@ -49,7 +49,7 @@ impl SizeSheet {
 
     /// Adds a section in which nothing is proposed.
     fn tell(&mut self, lead: &[u8]) -> Result<(), AllocError>
-        ensures { OnOk result (ProposesNone (sheet_in self.old) (sheet_in self.new)) }
+        ensures { OnOk result (ProposesNone (sections_in self.old) (sections_in self.new)) }
     {
         self.text.extend_from_slice(lead)
     }
@@ -153,19 +153,19 @@ fn put_none_enough(
 
 /// Adds a section that ends with the command of what is proposed.
 fn put_proposed(
-    sheet: &mut SizeSheet,
+    sections: &mut SizeSections,
     lead: &[u8],
     found: FoundTask<'_>,
     runtime: u32,
     period: u32,
 ) -> Result<(), AllocError>
     ensures { OnOk result (Reserves found.entry.pid found.entry.task.now.comm.items runtime period
-        (sheet_in sheet.old) (sheet_in sheet.new)) }
+        (sections_in sections.old) (sections_in sections.new)) }
 {
-    let alloc = *sheet.text.allocator();
-    sheet.text.extend_from_slice(lead)?;
-    put_command(&mut sheet.text, runtime, period, found.pid)?;
-    sheet.proposals.push(Proposal {
+    let alloc = *sections.text.allocator();
+    sections.text.extend_from_slice(lead)?;
+    put_command(&mut sections.text, runtime, period, found.pid)?;
+    sections.proposals.push(Proposal {
         comm: Vec::from_slice(alloc, &found.task.comm)?,
         runtime,
         period,
@@ -188,7 +188,7 @@ fn put_lead(
 
 /// Adds the section of a task, whose first lines are given: what it needs in a period.
 fn put_needed(
-    sheet: &mut SizeSheet,
+    sections: &mut SizeSections,
     mut lead: Vec<u8>,
     found: FoundTask<'_>,
     jobs: &[Job],
@@ -196,12 +196,12 @@ fn put_needed(
     span: JobSpan,
 ) -> Result<(), AllocError>
     ensures { OnOk result (Sizes wanted.allowed wanted.margin wanted.period found.entry.pid
-        found.entry.task.now.comm.items jobs.now (sheet_in sheet.old) (sheet_in sheet.new)) }
+        found.entry.task.now.comm.items jobs.now (sections_in sections.old) (sections_in sections.new)) }
 {
-    let alloc = *sheet.text.allocator();
+    let alloc = *sections.text.allocator();
     let period = wanted.period;
     if period == 0 {
-        return sheet.tell(&lead);
+        return sections.tell(&lead);
     }
     let needed = needed_of(alloc, jobs, wanted)?;
     if span.is_drawn {
@@ -214,14 +214,14 @@ fn put_needed(
             span.within,
             &needed,
         )?;
-        sheet.drawn.push(drawn)?;
+        sections.drawn.push(drawn)?;
     }
     let Some(needed) = needed else {
         put_none_enough(&mut lead, found.task, jobs, period)?;
-        return sheet.tell(&lead);
+        return sections.tell(&lead);
     };
     put_lead(&mut lead, &needed, found.task, jobs, wanted)?;
-    put_proposed(sheet, &lead, found, needed.proposed, period)
+    put_proposed(sections, &lead, found, needed.proposed, period)
 }
 
 /// The first lines of the section of a task.
@@ -246,7 +246,7 @@ fn lead_of(
 
 /// Adds the section of a task that is asked for.
 fn put_asked(
-    sheet: &mut SizeSheet,
+    sections: &mut SizeSections,
     record: &JobRecord,
     found: FoundTask<'_>,
     asked: &AskedTask<'_>,
@@ -255,15 +255,15 @@ fn put_asked(
     requires found { IsFound asked.now.name.now (tasks_of record.now.tasks) found }
     requires some { 0 < length found.task.now.jobs.items }
     ensures { OnOk result (Adds (said_by options.now) (tasks_of record.now.tasks)
-        (sheet_in sheet.old) (asked_task asked.now) (sheet_in sheet.new)) }
+        (sections_in sections.old) (asked_task asked.now) (sections_in sections.new)) }
 {
-    let alloc = *sheet.text.allocator();
+    let alloc = *sections.text.allocator();
     let figures = Figures::new(alloc, &found.task.jobs)?;
-    let mut lead = lead_of(alloc, record, found, &figures, sheet.text.is_empty())?;
+    let mut lead = lead_of(alloc, record, found, &figures, sections.text.is_empty())?;
     let Some(period) = period_of(asked, &figures) else {
         put_not_regular(&mut lead)?;
         put_prices(&mut lead, &found.task.jobs, &figures, asked.within)?;
-        return sheet.tell(&lead);
+        return sections.tell(&lead);
     };
     let within = asked.within.unwrap_or(period);
     put_question(&mut lead, &figures, within, period)?;
@@ -279,22 +279,22 @@ fn put_asked(
         within,
         is_drawn: options.picture.is_some(),
     };
-    put_needed(sheet, lead, found, &jobs, wanted, span)
+    put_needed(sections, lead, found, &jobs, wanted, span)
 }
 
 /// Adds the section of a task that is asked for, by its name.
 fn put_task<'a>(
-    sheet: &mut SizeSheet,
+    sections: &mut SizeSections,
     record: &JobRecord,
     path: &'a str,
     asked: &AskedTask<'a>,
     options: &SizeOptions<'a>,
 ) -> Result<(), SizeFault<'a>>
     ensures { OnOk result (Adds (said_by options.now) (tasks_of record.now.tasks)
-        (sheet_in sheet.old) (asked_task asked.now) (sheet_in sheet.new)) }
+        (sections_in sections.old) (asked_task asked.now) (sections_in sections.new)) }
 {
     let found = asked_task(record, path, asked.name)?;
-    if put_asked(sheet, record, found, asked, options).is_err() {
+    if put_asked(sections, record, found, asked, options).is_err() {
         return Err(SizeFault::NoText);
     }
     Ok(())
@@ -313,19 +313,19 @@ fn find_all<'a>(
 }
 
 /// What is printed of the tasks that are asked for.
-pub(crate) fn sheet_of<'a>(
+pub(crate) fn sections_of<'a>(
     alloc: Global,
     record: &JobRecord,
     path: &'a str,
     options: &SizeOptions<'a>,
-) -> Result<SizeSheet, SizeFault<'a>>
+) -> Result<SizeSections, SizeFault<'a>>
     ensures { IfOk result (λ s. FoldsTo (Adds (said_by options.now) (tasks_of record.now.tasks))
-        no_sheet (said_by options.now).tasks (sheet_in s)) }
+        no_sections (said_by options.now).tasks (sections_in s)) }
 {
     find_all(record, path, options)?;
-    let mut sheet = SizeSheet::new(alloc);
+    let mut sections = SizeSections::new(alloc);
     for asked in &options.tasks {
-        put_task(&mut sheet, record, path, asked, options)?;
+        put_task(&mut sections, record, path, asked, options)?;
     }
-    Ok(sheet)
+    Ok(sections)
 }

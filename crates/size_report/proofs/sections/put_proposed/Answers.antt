@@ -1,6 +1,6 @@
 use Rattle.std.proofs.Common.{◌++◌, ap, ◌∙◌, refl}
 use Rattle.size_report.specs.Answers.{command_text}
-use Rattle.size_report.proofs.sheet.put_proposed.Goals as goal
+use Rattle.size_report.proofs.sections.put_proposed.Goals as goal
 
 pub returns : goal.returns
 returns c = record {

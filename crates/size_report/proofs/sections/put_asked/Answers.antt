@@ -5,11 +5,11 @@ use Rattle.size_jobs.specs.declared.watch.Seen.{Seen}
 use Rattle.size_report.specs.Answers.{AreJobs}
 use Rattle.size_report.specs.Options.{asked_task, said_by}
 use Rattle.size_report.specs.Periods.{AreSorted, HasPeriod, between_of}
-use Rattle.size_report.specs.inside.Sheets.{sheet_in}
+use Rattle.size_report.specs.inside.Sections.{sections_in}
 use Rattle.size_report.proofs.AnswerLemmas.{none_added, one_added}
-use Rattle.size_report.proofs.sheet.put_asked.Goals as goal
+use Rattle.size_report.proofs.sections.put_asked.Goals as goal
 
--- src/sheet.rt:245:9
+-- src/sections.rt:245:9
 pub returns-in_default : goal.returns-in_default
 returns-in_default c =
     let sorted = c.in_ok-figures.figures.between.items in
@@ -19,10 +19,10 @@ returns-in_default c =
       is = c.in_default.ensures;
     } in
     on_ok_weaker c.tell.result
-    (none_added (said_by c.args.options.now) (tasks_of c.args.record.now.tasks) (asked_task c.args.asked.now) c.args.found c.requires.found c.requires.some (sheet_in c.args.sheet.now) (sheet_in c.tell.new.self) has)
+    (none_added (said_by c.args.options.now) (tasks_of c.args.record.now.tasks) (asked_task c.args.asked.now) c.args.found c.requires.found c.requires.some (sections_in c.args.sections.now) (sections_in c.tell.new.self) has)
     c.tell.ensures
 
--- src/sheet.rt:227:1
+-- src/sections.rt:227:1
 pub returns : goal.returns
 returns c =
     let period = c.in-Some.period in
@@ -38,5 +38,5 @@ returns c =
     let here : AreJobs within js c.in_ok-jobs.jobs.items = subst (λ (ss : List Seen). AreJobs within ss c.in_ok-jobs.jobs.items) c.deref-2.ensures.value given in
     let are : AreJobs within js c.deref-3.result.now = subst (λ jobs. AreJobs within js jobs) (sym c.deref-3.ensures.value) here in
     on_ok_weaker c.put_needed.result
-    (one_added (said_by c.args.options.now) (tasks_of c.args.record.now.tasks) (asked_task c.args.asked.now) c.args.found c.requires.found c.requires.some (sheet_in c.args.sheet.now) (sheet_in c.put_needed.new.sheet) period has c.deref-3.result.now are)
+    (one_added (said_by c.args.options.now) (tasks_of c.args.record.now.tasks) (asked_task c.args.asked.now) c.args.found c.requires.found c.requires.some (sections_in c.args.sections.now) (sections_in c.put_needed.new.sections) period has c.deref-3.result.now are)
     c.put_needed.ensures
