@@ -1,10 +1,10 @@
 //! One task.
 
-ghost use Rattle.std.specs.Prelude.{◌≡◌, ◌&&◌, not, IfOk, IfSome, IsPermutation, IsSome, IsSorted, None, OnOk, true, false};
+ghost use Rattle.std.specs.Prelude.{◌≡◌, ◌↔◌, ◌&&◌, not, length, IfOk, IfSome, IsNone, IsPermutation, IsSome, IsSorted, None, OnOk, Some, true, false};
 ghost use Rattle.std.specs.Ordering.{nat_cmp};
 ghost use Rattle.law_findings.specs.Spread.{IsSpread};
 ghost use Rattle.task_figures.specs.inside.Figures.{has_own};
-ghost use Rattle.task_figures.specs.inside.Tasks.{charged_with, cost_of, enqueued_with, had_with, is_off, is_run, leaving_with, left_with, opened_with, placed_with, reclaims_by, seen_with, shown_with, stood_with, task_of, throttled_with};
+ghost use Rattle.task_figures.specs.inside.Tasks.{charged_with, cost_of, enqueued_with, had_with, is_off, is_run, leaving_with, left_with, new_task, opened_with, placed_with, reclaims_by, seen_with, shown_with, stood_with, task_of, throttled_with};
 
 use law_findings::{Spread, spread_of};
 use std::alloc::{AllocError, Global};
@@ -101,7 +101,9 @@ impl Standing {
 }
 
 impl OpenTask {
-    pub fn new(alloc: Global, pid: u64) -> OpenTask {
+    pub fn new(alloc: Global, pid: u64) -> OpenTask
+        ensures { task_of result ≡ new_task pid }
+    {
         OpenTask {
             pid,
             parameters: None,
@@ -272,6 +274,8 @@ impl OpenTask {
     pub fn figures(&mut self) -> Option<TaskFigures>
         ensures other { has_own self.old.parameters ≡ false → result ≡ None }
         ensures own { has_own self.old.parameters ≡ true → IsSome result }
+        ensures pid { IfSome result (λ f. f.pid ≡ self.old.pid) }
+        ensures reservation { IfSome result (λ f. Some f.parameters ≡ self.old.parameters) }
         ensures jobs { IfSome result (λ f. f.jobs ≡ self.old.jobs) }
         ensures throttled { IfSome result (λ f. f.throttled ≡ self.old.throttled) }
         ensures charges { IfSome result (λ f. f.charges ≡ self.old.charges) }
@@ -279,6 +283,7 @@ impl OpenTask {
         ensures reclaimed { IfSome result (λ f. f.reclaimed ≡ self.old.reclaimed) }
         ensures same { IsSome result → IsPermutation self.old.late.items self.new.late.items }
         ensures order { IsSome result → IsSorted nat_cmp self.new.late.items }
+        ensures nothing { IfSome result (λ f. IsNone f.late ↔ (length self.old.late.items ≡ 0)) }
         ensures late { IfSome result (λ f. IfSome f.late (λ s. IsSpread s self.new.late.items)) }
     {
         let parameters = self.parameters?;

@@ -4,6 +4,8 @@ use Rattle.std.specs.Int.{w64, saturate_signed}
 use Rattle.trace_data.specs.declared.quantities.Budget.{Budget}
 use Rattle.trace_data.specs.declared.quantities.Parameters.{Parameters}
 use Rattle.trace_data.specs.declared.probe.Enqueued.{Enqueued}
+use Rattle.trace_data.specs.declared.probe.Ran.{Ran}
+use Rattle.trace_data.specs.declared.probe.Ran.TheVariants.{Span, Clocks}
 use Rattle.task_figures.specs.declared.task.OpenCharge.{OpenCharge}
 use Rattle.task_figures.specs.declared.task.OpenTask.{OpenTask}
 use Rattle.task_figures.specs.declared.task.Standing.{Standing}
@@ -42,6 +44,28 @@ task_of t = record {
   ran = t.ran;
   reclaimed = t.reclaimed;
 }
+
+-- of which no line was taken
+abbrev pub new_task : ℕ → TaskState
+new_task pid = record {
+  pid = pid;
+  parameters = None;
+  is_boosted = false;
+  standing = Off;
+  was_throttled = false;
+  jobs = 0;
+  throttled = 0;
+  charges = 0;
+  late = [];
+  charge = None;
+  ran = 0;
+  reclaimed = 0;
+}
+
+-- the end of a run that is charged, and its length
+abbrev pub run_by : ℕ → Ran → ℕ × ℕ
+run_by clock (Span delta max_bw) = (clock, if int_lt (pos 0) delta then unsigned_abs delta else 0)
+run_by clock (Clocks now start entity max_bw) = (now, now - start)
 
 -- what a charge cost, by the task's next line: where that has the same deadline, what the budget fell by, at most the run
 abbrev pub cost_by : ℤ → ℕ → Option ℕ
