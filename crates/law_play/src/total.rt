@@ -249,6 +249,7 @@ impl LawPlay {
         }
         let Some(base) = self.total.base else {
             self.total.base = Some(total_bw.wrapping_sub(self.total.sum));
+            self.total.asleep = 0;
             return Ok(());
         };
         if self.total.is_sum(total_bw, base) {
