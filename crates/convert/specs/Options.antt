@@ -1,10 +1,13 @@
--- What the words of options say: each `--task`, and the values of `--cpus`, `--rt` and `--fair-server`.
-use Rattle.std.specs.Prelude.{ℕ, ◌*◌, ◌/◌, ◌^◌, Bool, not, ◌&&◌, ◌==◌, nat_le, List, [], ◌∷◌, ◌++◌, map, codes, Option, Some, None, option_map, option_and_then, if◌then◌else◌}
+-- What the words of options say: each `--task`, and the values of `--cpus`, `--rt` and `--fair-server`; or which of them says nothing.
+use Rattle.std.specs.Prelude.{ℕ, ◌*◌, ◌/◌, ◌^◌, Bool, not, ◌&&◌, ◌==◌, nat_le, List, [], ◌∷◌, ◌++◌, map, codes, Option, Some, None, Result, Ok, Err, option_map, option_and_then, unwrap_or, if◌then◌else◌}
+use Rattle.std.specs.Option.{option_map_or}
 use Rattle.std.specs.List.{list_any}
 use Rattle.std.specs.Path.{rsplit_once}
 use Rattle.std.specs.Str.{bytes_eq}
 use Rattle.grub_bw.specs.Bandwidth.{Reservation, reservation_fits}
 use Rattle.trace_probes.specs.Numerals.{numeral}
+use Rattle.trace_options.specs.Settings.{Wrong, and_then, asked, wrong}
+use Rattle.trace_options.specs.declared.options.CheckOption.TheVariants as option
 use Rattle.convert.specs.declared.options.FairReservation.{FairReservation}
 use Rattle.convert.specs.declared.options.FairReservation.TheVariants.{Usual, Absent, Reserves}
 use Rattle.convert.specs.declared.options.TaskReservation.{TaskReservation}
@@ -42,15 +45,11 @@ task_in word = option_and_then (λ parts. option_map (task_from parts.0) (reserv
 abbrev pub has_name : List ℕ → List Task → Bool
 has_name name tasks = list_any (λ task. bytes_eq task.name name) tasks
 
--- these tasks and those of the words behind them; none where a word says no task, or a name that came before
-abbrev pub tasks_on : List Task → List (List ℕ) → Option (List Task)
-tasks_on tasks [] = Some tasks
+-- these tasks and those of the words behind them, or the first word that says no task, or a name that came before
+abbrev pub tasks_on : List Task → List (List ℕ) → Result (List Task) Wrong
+tasks_on tasks [] = Ok tasks
 tasks_on tasks (word ∷ words) =
-    option_and_then (λ task. if has_name task.name tasks then None else tasks_on (tasks ++ task ∷ []) words) (task_in word)
-
--- the tasks that all `--task` say
-abbrev pub tasks_in : List (List ℕ) → Option (List Task)
-tasks_in words = tasks_on [] words
+    option_map_or (λ task. if has_name task.name tasks then Err (wrong option.Task word) else tasks_on (tasks ++ task ∷ []) words) (task_in word) (Err (wrong option.Task word))
 
 -- the most bandwidth of deadline tasks on a runqueue: RUNTIME of each PERIOD, in 1/2^20, where that is 1 to 2^20
 abbrev pub most_from : ℕ × ℕ → Option ℕ
@@ -61,18 +60,13 @@ most_from pair =
 abbrev pub most_in : List ℕ → Option ℕ
 most_in text = option_and_then most_from (pair_in text)
 
-abbrev pub maybe_most_in : Option (List ℕ) → Option (Option ℕ)
-maybe_most_in None = Some None
-maybe_most_in (Some text) = option_map (λ most. Some most) (most_in text)
-
 -- the server of fair tasks on each runqueue, RUNTIME:PERIOD or none
 abbrev pub fair_in : List ℕ → Option FairReservation
 fair_in text = if bytes_eq text (codes "none") then Some Absent else option_map (λ server. Reserves server) (reservation_in text)
 
--- that of an option, or the recorded kernel's where it is not given
-abbrev pub maybe_fair_in : Option (List ℕ) → Option FairReservation
-maybe_fair_in None = Some Usual
-maybe_fair_in (Some text) = fair_in text
+-- the recorded kernel's own, where none is given
+abbrev pub fair_by : Option FairReservation → FairReservation
+fair_by server = unwrap_or server Usual
 
 -- what is known beside the trace
 pub record Said : Type 0 where
@@ -84,10 +78,10 @@ pub record Said : Type 0 where
 abbrev pub said_from : Option ℕ → List Task → Option ℕ → FairReservation → Said
 said_from cpus tasks umax fair = record { tasks = tasks; cpus = cpus; umax = umax; fair = fair }
 
--- what all options say; none where one of them says nothing
-abbrev pub said_in : List (List ℕ) → Option ℕ → Option (List ℕ) → Option (List ℕ) → Option Said
+-- what all options say, or the first one that is wrong
+abbrev pub said_in : List (List ℕ) → Option ℕ → Option (List ℕ) → Option (List ℕ) → Result Said Wrong
 said_in words cpus rt fair =
-    option_and_then (λ tasks. option_and_then (λ umax. option_map (said_from cpus tasks umax) (maybe_fair_in fair)) (maybe_most_in rt)) (tasks_in words)
+    and_then (λ tasks. and_then (λ most. and_then (λ server. Ok (said_from cpus tasks most (fair_by server))) (asked fair_in option.FairServer fair)) (asked most_in option.Rt rt)) (tasks_on [] words)
 
 abbrev pub given_task : TaskReservation → Task
 given_task given = task_from given.name.now given.params

@@ -1,15 +1,18 @@
 //! What the words of options say.
 
-ghost use Rattle.std.specs.Prelude.{◌≡◌, Some, IfOk, map, option_map};
+ghost use Rattle.std.specs.Prelude.{◌≡◌, [], Some, IfOk, map, option_map};
 ghost use Rattle.std.specs.List.{list_any};
+ghost use Rattle.std.specs.Result.{result_map_both};
 ghost use Rattle.trace_fields.specs.Words.{text_of};
-ghost use Rattle.convert.specs.Options.{admitted, fair_in, given_task, maybe_fair_in, maybe_most_in, most_in, pair_in, reservation_from, reservation_in, said_by, said_in, task_in, tasks_in};
+ghost use Rattle.trace_options.specs.Settings.{asked, value_of, wrong_by};
+ghost use Rattle.trace_options.specs.declared.options.CheckOption.TheVariants as option;
+ghost use Rattle.convert.specs.Options.{admitted, fair_by, fair_in, given_task, most_in, pair_in, reservation_from, reservation_in, said_by, said_in, task_in, tasks_on};
 ghost use Rattle.convert.specs.inside.Words.{is_named};
 
 use convert_events::umax_of;
 use grub_bw::Params;
 use std::alloc::{AllocError, Global};
-use trace_options::last_parts;
+use trace_options::{CheckOption, WrongOption, last_parts};
 use trace_probes::numeral;
 
 /// A task that is given: its comm or its pid, and its reservation.
@@ -92,13 +95,23 @@ fn fair_of(text: &str) -> Option<FairReservation>
     Some(FairReservation::Reserves(params_of(text)?))
 }
 
-/// That of an option, or the recorded kernel's where it is not given.
-fn maybe_fair_of(text: Option<&str>) -> Option<FairReservation>
-    ensures { result ≡ maybe_fair_in (option_map text_of text.entry) }
+fn wrong<'a>(option: CheckOption, value: &'a str) -> WrongOption<'a>
+    ensures { result ≡ record { option = option; value = value.entry } }
+{
+    WrongOption { option, value }
+}
+
+/// The server of `--fair-server`, or the recorded kernel's where it is not given.
+fn server_of(text: Option<&str>) -> Result<FairReservation, WrongOption<'_>>
+    ensures { result_map_both (λ server. server) wrong_by result
+        ≡ result_map_both fair_by (λ wrong. wrong) (asked fair_in option.FairServer (value_of text.entry)) }
 {
     match text {
-        None => Some(FairReservation::Usual),
-        Some(text) => fair_of(text),
+        None => Ok(FairReservation::Usual),
+        Some(text) => match fair_of(text) {
+            Some(server) => Ok(server),
+            None => Err(wrong(CheckOption::FairServer, text)),
+        },
     }
 }
 
@@ -109,27 +122,27 @@ fn names(tasks: &[TaskReservation<'_>], name: &str) -> bool
     tasks.iter().any(|task| task.name == name)
 }
 
-/// The tasks of these words; none where one of them says no task, or one name comes twice.
+/// The tasks of these words, or the first word that says none or names a task once more.
 fn tasks_of<'a>(
     alloc: Global,
     words: &[&'a str],
-) -> Result<Option<Vec<TaskReservation<'a>>>, AllocError>
-    ensures { IfOk result
-        (λ made. option_map (λ v. map given_task v.items) made ≡ tasks_in (map text_of words.now)) }
+) -> Result<Result<Vec<TaskReservation<'a>>, WrongOption<'a>>, AllocError>
+    ensures { IfOk result (λ made. result_map_both (λ v. map given_task v.items) wrong_by made
+        ≡ tasks_on [] (map text_of words.now)) }
 {
     let mut tasks = Vec::new(alloc);
     for word in words {
         let Some(task) = task_of(word) else {
-            return Ok(None);
+            return Ok(Err(wrong(CheckOption::Task, word)));
         };
         if names(&tasks, task.name) {
-            return Ok(None);
+            return Ok(Err(wrong(CheckOption::Task, word)));
         }
         if tasks.push(task).is_err() {
             return Err(AllocError);
         }
     }
-    Ok(Some(tasks))
+    Ok(Ok(tasks))
 }
 
 /// The most bandwidth of deadline tasks on a runqueue, of `RUNTIME:PERIOD`.
@@ -140,39 +153,43 @@ fn most_of(text: &str) -> Option<u32>
     umax_of(runtime, period)
 }
 
-/// That of an option; none where it says nothing, and nothing where it is not given.
-fn maybe_most_of(text: Option<&str>) -> Option<Option<u32>>
-    ensures { result ≡ maybe_most_in (option_map text_of text.entry) }
+/// The most bandwidth of `--rt`, where it is given.
+fn limit_of(text: Option<&str>) -> Result<Option<u32>, WrongOption<'_>>
+    ensures { result_map_both (λ most. most) wrong_by result
+        ≡ asked most_in option.Rt (value_of text.entry) }
 {
     match text {
-        None => Some(None),
-        Some(text) => Some(Some(most_of(text)?)),
+        None => Ok(None),
+        Some(text) => match most_of(text) {
+            Some(most) => Ok(Some(most)),
+            None => Err(wrong(CheckOption::Rt, text)),
+        },
     }
 }
 
-/// What the values of the options say: each `--task`, `--cpus`, `--rt` and `--fair-server`; none where one of them says
-/// nothing.
+/// What the values of the options say: each `--task`, `--cpus`, `--rt` and `--fair-server`; or the first of them that says
+/// nothing that it may say. `AllocError` is want of memory.
 pub fn options_of<'a>(
     alloc: Global,
     tasks: &[&'a str],
     cpus: Option<u32>,
-    rt: Option<&str>,
-    fair: Option<&str>,
-) -> Result<Option<ConvertOptions<'a>>, AllocError>
-    ensures { IfOk result
-        (λ made. option_map said_by made ≡ said_in (map text_of tasks.now) cpus
-        (option_map text_of rt.entry) (option_map text_of fair.entry)) }
+    rt: Option<&'a str>,
+    fair: Option<&'a str>,
+) -> Result<Result<ConvertOptions<'a>, WrongOption<'a>>, AllocError>
+    ensures { IfOk result (λ made. result_map_both said_by wrong_by made
+        ≡ said_in (map text_of tasks.now) cpus (value_of rt.entry) (value_of fair.entry)) }
 {
-    let Some(tasks) = tasks_of(alloc, tasks)? else {
-        return Ok(None);
+    let tasks = match tasks_of(alloc, tasks)? {
+        Ok(tasks) => tasks,
+        Err(wrong) => return Ok(Err(wrong)),
     };
-    match (maybe_most_of(rt), maybe_fair_of(fair)) {
-        (Some(umax), Some(fair)) => Ok(Some(ConvertOptions {
+    match (limit_of(rt), server_of(fair)) {
+        (Ok(umax), Ok(fair)) => Ok(Ok(ConvertOptions {
             tasks,
             cpus,
             umax,
             fair,
         })),
-        _ => Ok(None),
+        (Err(wrong), _) | (_, Err(wrong)) => Ok(Err(wrong)),
     }
 }

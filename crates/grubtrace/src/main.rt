@@ -3,6 +3,7 @@
 #![tactic(auto)]
 
 mod serve;
+mod wrong;
 
 use crate::serve::{serve, serve_no_words};
 use convert::{Input, Target};

@@ -3,6 +3,7 @@
 ghost use Rattle.std.specs.Prelude.{◌≡◌, ◌≤◌, ◌⊎◌};
 ghost use Rattle.convert.specs.declared.fault.TheConstants.{STATUS_SYSTEM, STATUS_USAGE};
 
+use crate::wrong::{wrong_of_check, wrong_of_events, wrong_of_size, wrong_value};
 use clap::error::ErrorKind;
 use clap::{ArgMatches, Error};
 use convert::{
@@ -10,7 +11,7 @@ use convert::{
     serve_tasks,
 };
 use grubtrace_command::command_line;
-use size_report::{FaultKind, OptionFault, SizeWords, serve_size, size_options_of};
+use size_report::{SizeWords, serve_size, size_options_of};
 use std::alloc::{AllocError, Global};
 use std::io;
 use std::io::Write;
@@ -25,6 +26,8 @@ const MARGIN: u32 = 10;
 
 /// How far a moment may lie from the kernel's, in microseconds, where the words of `check` do not say it.
 const WITHIN: u32 = 20;
+
+const TAKES_LAWS: &str = "it takes names of laws with commas between, or none";
 
 /// What the words ask for.
 fn matches_of<'a>(alloc: Global, words: &'a [String]) -> Result<ArgMatches<'a>, Error> {
@@ -159,8 +162,8 @@ fn events<
     let path = matches.get_str("TRACE").unwrap_or("");
     let prefix = matches.get_str("out").unwrap_or("");
     match options_in(alloc, matches) {
-        Ok(Some(options)) => serve_events(alloc, input, target, path, prefix, &options, faults),
-        Ok(None) => no_options(faults),
+        Ok(Ok(options)) => serve_events(alloc, input, target, path, prefix, &options, faults),
+        Ok(Err(wrong)) => wrong_of_events(wrong, faults),
         Err(_) => no_memory(faults),
     }
 }
@@ -209,10 +212,11 @@ fn check<
     let picture = matches.get_str("picture");
     let window = match window_in(matches, json.is_some() || picture.is_some()) {
         Ok(window) => window,
-        Err(wrong) => return wrong_option(wrong, faults),
+        Err(wrong) => return wrong_of_check(wrong, faults),
     };
-    let Some(laws) = laws_in(matches.get_str("laws")) else {
-        return wrong_laws(matches.get_str("laws").unwrap_or(""), faults);
+    let law_names = matches.get_str("laws");
+    let Some(laws) = laws_in(law_names) else {
+        return wrong_value("--laws", law_names.unwrap_or(""), TAKES_LAWS, faults);
     };
     let wanted = CheckRequest {
         path: matches.get_str("TRACE").unwrap_or(""),
@@ -236,7 +240,7 @@ fn check<
             out,
             faults,
         ),
-        Ok(Err(wrong)) => wrong_option(wrong, faults),
+        Ok(Err(wrong)) => wrong_of_check(wrong, faults),
         Err(_) => no_memory(faults),
     }
 }
@@ -247,14 +251,6 @@ fn laws_in(word: Option<&str>) -> Option<AskedLaws> {
         Some(word) => laws_of(word),
         None => Some(AskedLaws::all()),
     }
-}
-
-/// The line of a word of `--laws` that names no law.
-fn wrong_laws<E: Write>(value: &str, faults: &mut E) -> u8
-    ensures { result ≡ STATUS_USAGE }
-{
-    let _ = writeln!(faults, "error: invalid value '{value}' for '--laws'");
-    STATUS_USAGE
 }
 
 /// The part of the record that `--from` and `--to` name, which only states have.
@@ -274,29 +270,11 @@ fn window_in<'a>(matches: &ArgMatches<'a>, shows_states: bool) -> Result<Window,
     }
 }
 
-/// The line of an option that says nothing that it may say.
-fn wrong_option<E: Write>(wrong: WrongOption<'_>, faults: &mut E) -> u8
-    ensures { result ≡ STATUS_USAGE }
-{
-    let name = match wrong.option {
-        CheckOption::Task => "--task",
-        CheckOption::Domain => "--domain",
-        CheckOption::Rt => "--rt",
-        CheckOption::FairServer => "--fair-server",
-        CheckOption::Kernel => "--kernel",
-        CheckOption::From => "--from",
-        CheckOption::To => "--to",
-    };
-    let value = wrong.value;
-    let _ = writeln!(faults, "error: invalid value '{value}' for '{name}'");
-    STATUS_USAGE
-}
-
-/// What the words say of the tasks and the runqueues; none where a number or a name of them is no such.
+/// What the words of `events` say of the tasks and the runqueues, or the first of them that is wrong.
 fn options_in<'a>(
     alloc: Global,
     matches: &ArgMatches<'a>,
-) -> Result<Option<ConvertOptions<'a>>, AllocError> {
+) -> Result<Result<ConvertOptions<'a>, WrongOption<'a>>, AllocError> {
     let tasks = matches.get_strs("task").unwrap_or(&[]);
     options_of(
         alloc,
@@ -305,15 +283,6 @@ fn options_in<'a>(
         matches.get_str("rt"),
         matches.get_str("fair-server"),
     )
-}
-
-fn no_options<E: Write>(faults: &mut E) -> u8
-    ensures { result ≡ STATUS_USAGE }
-{
-    let _ = faults.write_all(
-        b"error: a task, --rt or --fair-server says no reservation, or a task is given twice\n",
-    );
-    STATUS_USAGE
 }
 
 /// Prints the tasks of a trace, or the reservations that the words of `size` ask for.
@@ -372,37 +341,9 @@ fn size<
                 status
             }
         }
-        Ok(Err(fault)) => no_sizing(fault, faults),
+        Ok(Err(wrong)) => wrong_of_size(wrong, faults),
         Err(_) => no_memory(faults),
     }
-}
-
-/// Tells which option of `size` says nothing.
-fn no_sizing<E: Write>(fault: OptionFault<'_>, faults: &mut E) -> u8
-    ensures { result ≡ STATUS_USAGE }
-{
-    let value = fault.value;
-    let _ = match fault.kind {
-        FaultKind::Task => writeln!(
-            faults,
-            "error: --task {value} is no NAME, NAME=PERIOD or NAME=RUNTIME:PERIOD with a period of 100 to 4194304 and a runtime of 2 to the period"
-        ),
-        FaultKind::Twice => writeln!(faults, "error: the task {value} is given twice"),
-        FaultKind::Within => writeln!(
-            faults,
-            "error: --within {value} is no NAME=US of a task that is given"
-        ),
-        FaultKind::Rt => writeln!(faults, "error: --rt {value} is no RUNTIME:PERIOD"),
-        FaultKind::Fair => writeln!(
-            faults,
-            "error: --fair-server {value} is no RUNTIME:PERIOD, nor none"
-        ),
-        FaultKind::Picture => writeln!(
-            faults,
-            "error: --picture {value} wants a --task, of which it is drawn"
-        ),
-    };
-    STATUS_USAGE
 }
 
 fn no_memory<E: Write>(faults: &mut E) -> u8

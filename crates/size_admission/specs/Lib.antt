@@ -1,2 +1,4 @@
 pub mod Admission
 pub mod Together
+pub mod Texts
+pub mod Told

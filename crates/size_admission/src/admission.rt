@@ -2,6 +2,7 @@
 
 ghost use Rattle.std.specs.Prelude.{◌≡◌, ◌≤◌, ◌↔◌, ◌*◌, ◌/◌, ◌^◌, IsTrue};
 ghost use Rattle.size_admission.specs.Admission.{IsAdmitted, KeepsDeadlines};
+ghost use Rattle.size_admission.specs.Texts.{admits, hundredths_of, keeps};
 
 /// A bandwidth of one.
 const UNIT: u64 = 1048576;
@@ -43,13 +44,16 @@ pub fn bandwidth(runtime: u32, period: u32) -> u64
 }
 
 /// A bandwidth in hundredths of a percent, rounded down.
-pub fn hundredths(bandwidth: u64) -> u64 {
+pub fn hundredths(bandwidth: u64) -> u64
+    ensures { result ≡ hundredths_of bandwidth }
+{
     bandwidth.saturating_mul(10000) / UNIT
 }
 
 /// Whether a root domain admits this sum (the kernel's `sched-deadline.rst`, "Admission of SCHED_DEADLINE tasks").
 pub(crate) fn is_admitted(sum: u64, machine: RootDomain) -> bool
-    ensures { IsTrue result ↔ IsAdmitted sum machine }
+    ensures admits { IsTrue result ↔ IsAdmitted sum machine }
+    ensures value { result ≡ admits sum machine }
 {
     let room = u128::from(machine.most.saturating_sub(machine.fair));
     u128::from(sum) <= room * u128::from(machine.processors)
@@ -57,7 +61,8 @@ pub(crate) fn is_admitted(sum: u64, machine: RootDomain) -> bool
 
 /// Whether global EDF keeps all deadlines of reservations of this sum, of which this is the greatest (Goossens, Funk and Baruah 2003).
 pub(crate) fn is_in_time(sum: u64, greatest: u64, machine: RootDomain) -> bool
-    ensures { IsTrue result ↔ KeepsDeadlines sum greatest machine }
+    ensures keeps { IsTrue result ↔ KeepsDeadlines sum greatest machine }
+    ensures value { result ≡ keeps sum greatest machine }
 {
     let processors = u128::from(machine.processors);
     let fair = u128::from(machine.fair) * processors;

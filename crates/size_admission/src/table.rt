@@ -1,5 +1,8 @@
 //! Tables of text.
 
+ghost use Rattle.std.specs.Prelude.{◌≡◌, ◌++◌, OnOk};
+ghost use Rattle.size_admission.specs.Texts.{hundredths_text};
+
 use std::alloc::{AllocError, Global};
 use text_bytes::put_number;
 
@@ -7,16 +10,20 @@ use text_bytes::put_number;
 pub type TableRow = Vec<Vec<u8>>;
 
 /// Writes a text.
-pub fn put_text(out: &mut Vec<u8>, text: &str) -> Result<(), AllocError> {
+pub fn put_text(out: &mut Vec<u8>, text: &str) -> Result<(), AllocError>
+    ensures { OnOk result (out.new.items ≡ out.old.items ++ text.now) }
+{
     out.extend_from_slice(text.as_bytes())
 }
 
 /// Hundredths as a number with two digits behind the point.
-pub fn put_hundredths(out: &mut Vec<u8>, n: u64) -> Result<(), AllocError> {
-    let whole = n / 100;
+pub fn put_hundredths(out: &mut Vec<u8>, n: u64) -> Result<(), AllocError>
+    ensures { OnOk result (out.new.items ≡ out.old.items ++ hundredths_text n) }
+{
+    put_number(out, b"", n / 100)?;
     let part = n % 100;
-    let text = format!(in *out.allocator(); "{whole}.{part:02}")?;
-    out.extend_from_slice(text.as_bytes())
+    put_text(out, if part < 10 { ".0" } else { "." })?;
+    put_number(out, b"", part)
 }
 
 /// A text as a cell.

@@ -13,16 +13,16 @@ use Rattle.trace_lines.specs.Reading.{After}
 use Rattle.trace_lines.specs.declared.line.ToldLine.{ToldLine}
 use Rattle.trace_lines.specs.declared.scheduled.Scheduled.{Scheduled}
 use Rattle.trace_lines.specs.declared.scheduled.Scheduled.TheVariants as scheduled
-use Rattle.size_jobs.specs.Taking.{Watched, none_watched, tasks_of, told_to}
+use Rattle.size_jobs.specs.Taking.{Tasks, none_watched, tasks_of, told_to}
 use Rattle.size_jobs.specs.declared.lines.JobLines.{JobLines}
 use Rattle.size_jobs.specs.declared.task.JobStep.{JobStep}
 use Rattle.size_jobs.specs.declared.task.JobStep.TheVariants.{Wakes, Runs, Enters, Stops}
 
--- the tasks by their pids, with the wakes of sched_wakeup, and with those of sched_waking until one of sched_wakeup comes; the moments of
+-- the tasks, with the wakes of sched_wakeup, and with those of sched_waking until one of sched_wakeup comes; the moments of
 -- the first and the last event; how many processors the head tells of; the greatest CPU of a line; whether a line tells of a run
 pub record Jobs : Type 0 where
-  pub woken : ℕ → Watched
-  pub waking : ℕ → Watched
+  pub woken : Tasks
+  pub waking : Tasks
   pub has_wakeup : Bool
   pub first : Option ℕ
   pub last : ℕ
@@ -55,51 +55,51 @@ jobs_at_first = record {
 }
 
 -- a line tells of a task; pid 0 is that of each idle task, which has no jobs
-abbrev pub told_to_all : ℕ → JobStep → Jobs → Jobs
-told_to_all pid told j =
-    if pid == 0 then j else record j { woken = told_to pid told j.woken; waking = if j.has_wakeup then j.waking else told_to pid told j.waking }
+abbrev pub told_to_all : Shown (List ℕ) → JobStep → Jobs → Jobs
+told_to_all task told j =
+    if task.pid == 0 then j else record j { woken = told_to task told j.woken; waking = if j.has_wakeup then j.waking else told_to task told j.waking }
 
 -- wakes of sched_waking do not count in a trace with a line of sched_wakeup
 abbrev pub preferring : Jobs → Jobs
 preferring j = if j.has_wakeup then j else record j { has_wakeup = true; waking = none_watched }
 
-abbrev pub wakes : ℕ → ℕ → ℕ → Bool → Jobs → Jobs
-wakes n at pid is_new j = told_to_all pid (Wakes n at is_new) (if is_new then j else preferring j)
+abbrev pub wakes : ℕ → ℕ → Shown (List ℕ) → Bool → Jobs → Jobs
+wakes n at task is_new j = told_to_all task (Wakes n at is_new) (if is_new then j else preferring j)
 
-abbrev pub expects : ℕ → ℕ → ℕ → Jobs → Jobs
-expects n at pid j = if j.has_wakeup || pid == 0 then j else record j { waking = told_to pid (Wakes n at false) j.waking }
+abbrev pub expects : ℕ → ℕ → Shown (List ℕ) → Jobs → Jobs
+expects n at task j = if j.has_wakeup || task.pid == 0 then j else record j { waking = told_to task (Wakes n at false) j.waking }
 
-abbrev pub runs : ℕ → ℕ → Jobs → Jobs
-runs pid nanos j = told_to_all pid (Runs nanos) (record j { has_runs = true })
+abbrev pub runs : Shown (List ℕ) → ℕ → Jobs → Jobs
+runs task nanos j = told_to_all task (Runs nanos) (record j { has_runs = true })
 
 -- an event of the scheduler stands at this moment, on a line of this CPU
 abbrev pub passed : ℕ → ℕ → Jobs → Jobs
 passed at cpu j = record j { first = Some (unwrap_or j.first at); last = at; greatest = max j.greatest cpu }
 
-abbrev pub wake_told : ℕ → ℕ → ℕ → Option (Scheduled (List ℕ)) → Jobs → Jobs
-wake_told n at pid None j = j
-wake_told n at pid (Some (scheduled.BadWaking flaw)) j = j
-wake_told n at pid (Some (scheduled.Woken class is_new)) j = wakes n at pid is_new j
-wake_told n at pid (Some (scheduled.Waking m cpu task class)) j = j
-wake_told n at pid (Some (scheduled.Switched class next next_class)) j = j
+abbrev pub wake_told : ℕ → ℕ → Shown (List ℕ) → Option (Scheduled (List ℕ)) → Jobs → Jobs
+wake_told n at task None j = j
+wake_told n at task (Some (scheduled.BadWaking flaw)) j = j
+wake_told n at task (Some (scheduled.Woken class is_new)) j = wakes n at task is_new j
+wake_told n at task (Some (scheduled.Waking m cpu other class)) j = j
+wake_told n at task (Some (scheduled.Switched class next next_class)) j = j
 
-abbrev pub switch_told : ℕ → ℕ → Stop → Option (Scheduled (List ℕ)) → Jobs → Jobs
-switch_told at pid stop None j = j
-switch_told at pid stop (Some (scheduled.BadWaking flaw)) j = j
-switch_told at pid stop (Some (scheduled.Switched class next next_class)) j = told_to_all next.pid Enters (told_to_all pid (Stops at stop) j)
-switch_told at pid stop (Some (scheduled.Waking m cpu task class)) j = j
-switch_told at pid stop (Some (scheduled.Woken class is_new)) j = j
+abbrev pub switch_told : ℕ → Shown (List ℕ) → Stop → Option (Scheduled (List ℕ)) → Jobs → Jobs
+switch_told at task stop None j = j
+switch_told at task stop (Some (scheduled.BadWaking flaw)) j = j
+switch_told at task stop (Some (scheduled.Switched class next next_class)) j = told_to_all next Enters (told_to_all task (Stops at stop class) j)
+switch_told at task stop (Some (scheduled.Waking m cpu other class)) j = j
+switch_told at task stop (Some (scheduled.Woken class is_new)) j = j
 
--- an event that shows the task of this pid, on a line of this number
-abbrev pub fixed_told : ℕ → ℕ → ℕ → Fixed → ℕ → Option (Scheduled (List ℕ)) → Jobs → Jobs
-fixed_told n at cpu (fixed.Migrated p deadline to) pid s j = passed at cpu j
-fixed_told n at cpu (fixed.Ran p nanos) pid s j = runs pid nanos (passed at cpu j)
-fixed_told n at cpu (fixed.Woken p deadline on) pid s j = wake_told n at pid s (passed at cpu j)
-fixed_told n at cpu (fixed.Switched p deadline stop next next_deadline) pid s j = switch_told at pid stop s (passed at cpu j)
-fixed_told n at cpu event pid s j = j
+-- an event that shows this task, on a line of this number
+abbrev pub fixed_told : ℕ → ℕ → ℕ → Fixed → Shown (List ℕ) → Option (Scheduled (List ℕ)) → Jobs → Jobs
+fixed_told n at cpu (fixed.Migrated p deadline to) task s j = passed at cpu j
+fixed_told n at cpu (fixed.Ran p nanos) task s j = runs task nanos (passed at cpu j)
+fixed_told n at cpu (fixed.Woken p deadline on) task s j = wake_told n at task s (passed at cpu j)
+fixed_told n at cpu (fixed.Switched p deadline stop next next_deadline) task s j = switch_told at task stop s (passed at cpu j)
+fixed_told n at cpu event task s j = j
 
 abbrev pub event_told : ℕ → ℕ → ℕ → Said → Option (Shown (List ℕ)) → Option (Scheduled (List ℕ)) → Jobs → Jobs
-event_told n at cpu (said.Fixed event) (Some task) s j = fixed_told n at cpu event task.pid s j
+event_told n at cpu (said.Fixed event) (Some task) s j = fixed_told n at cpu event task s j
 event_told n at cpu (said.Fixed event) None s j = j
 event_told n at cpu (said.Probe probe) shown s j = j
 
@@ -107,7 +107,7 @@ event_told n at cpu (said.Probe probe) shown s j = j
 abbrev pub quiet_told : ℕ → Option (Scheduled (List ℕ)) → Jobs → Jobs
 quiet_told n None j = j
 quiet_told n (Some (scheduled.BadWaking flaw)) j = j
-quiet_told n (Some (scheduled.Waking at cpu task class)) j = expects n at task.pid (passed at cpu j)
+quiet_told n (Some (scheduled.Waking at cpu task class)) j = expects n at task (passed at cpu j)
 quiet_told n (Some (scheduled.Woken class is_new)) j = j
 quiet_told n (Some (scheduled.Switched class next next_class)) j = j
 
@@ -129,7 +129,7 @@ abbrev pub jobs_step : ℕ → ToldLine (List ℕ) → Jobs → After Jobs
 jobs_step n told j = record { more = true; seen = line_told n told (headed told.processors j) }
 
 -- the tasks that a trace tells of, and how many processors
-abbrev pub tasks_told : Jobs → ℕ → Watched
+abbrev pub tasks_told : Jobs → Tasks
 tasks_told j = if j.has_wakeup then j.woken else j.waking
 
 abbrev pub processors_told : Jobs → ℕ

@@ -6,6 +6,7 @@ use Rattle.size_jobs.specs.declared.watch.Phase.{Phase}
 use Rattle.size_jobs.specs.declared.watch.Phase.TheVariants.{Unseen, UnderWay, Busy, Asleep}
 use Rattle.trace_data.specs.declared.fixed.Stop.{Stop}
 use Rattle.trace_data.specs.declared.fixed.Stop.TheVariants.{Ready, Blocks, Ends}
+use Rattle.trace_lines.specs.declared.scheduled.Class.{Class}
 use Rattle.size_jobs.specs.declared.watch.LeftOut.TheVariants.{New, Last, NoWake}
 use Rattle.size_jobs.specs.declared.watch.Ended.{Ended}
 use Rattle.size_jobs.specs.declared.watch.Ended.TheVariants as ended
@@ -23,13 +24,15 @@ ran_of UnderWay nanos = UnderWay
 ran_of Asleep nanos = Asleep
 
 -- In whole microseconds: the release rounded down, the end and the work rounded up.
-abbrev pub seen_of : ℕ → ℕ → ℕ → ℕ → Seen
-seen_of line wake nanos at = record { line = line; release = wake / 1000; end = div_ceil at 1000; work = max (div_ceil nanos 1000) 1 }
+abbrev pub seen_of : ℕ → ℕ → ℕ → ℕ → Class → Seen
+seen_of line wake nanos at class =
+    record { line = line; release = wake / 1000; end = div_ceil at 1000; work = max (div_ceil nanos 1000) 1; class = class }
 
-abbrev pub stopped_of : Phase → ℕ → Stop → Phase × Ended
-stopped_of Unseen at Ready = (UnderWay, ended.Nothing)
-stopped_of phase at Ready = (phase, ended.Nothing)
-stopped_of (Busy line wake nanos true) at stop = (Asleep, ended.LeftOut New)
-stopped_of (Busy line wake nanos false) at Ends = (Asleep, ended.LeftOut Last)
-stopped_of (Busy line wake nanos false) at Blocks = (Asleep, ended.Job (seen_of line wake nanos at))
-stopped_of phase at stop = (Asleep, ended.LeftOut NoWake)
+-- a task of this class stops at a moment
+abbrev pub stopped_of : Phase → ℕ → Stop → Class → Phase × Ended
+stopped_of Unseen at Ready class = (UnderWay, ended.Nothing)
+stopped_of phase at Ready class = (phase, ended.Nothing)
+stopped_of (Busy line wake nanos true) at stop class = (Asleep, ended.LeftOut New)
+stopped_of (Busy line wake nanos false) at Ends class = (Asleep, ended.LeftOut Last)
+stopped_of (Busy line wake nanos false) at Blocks class = (Asleep, ended.Job (seen_of line wake nanos at class))
+stopped_of phase at stop class = (Asleep, ended.LeftOut NoWake)

@@ -12,7 +12,7 @@ use crate::tasks::JobTasks;
 use std::alloc::{AllocError, Global};
 use trace_data::{Fixed, Flaw, RecordLine, Said, Stop};
 use trace_fields::Shown;
-use trace_lines::{CPUS, Class, Lines, Scheduled, ToldLine};
+use trace_lines::{CPUS, Lines, Scheduled, ToldLine};
 
 /// What a trace tells of its tasks.
 #[derive(Drop)]
@@ -95,20 +95,16 @@ impl JobLines {
     }
 
     /// Takes what a line tells of a task; pid 0 is that of each idle task.
-    fn tell(
-        &mut self,
-        shown: &Shown<&[u8]>,
-        class: Option<Class>,
-        told: JobStep,
-    ) -> Result<(), AllocError>
-        ensures { OnOk result (jobs_of self.new ≡ told_to_all shown.now.pid told (jobs_of self.old)) }
+    fn tell(&mut self, shown: &Shown<&[u8]>, told: JobStep) -> Result<(), AllocError>
+        ensures { OnOk result
+            (jobs_of self.new ≡ told_to_all (shown_text shown.now) told (jobs_of self.old)) }
     {
         if shown.pid == 0 {
             return Ok(());
         }
-        self.by_wakeup.take(shown, class, told)?;
+        self.by_wakeup.take(shown, told)?;
         if !self.has_wakeup {
-            self.by_waking.take(shown, class, told)?;
+            self.by_waking.take(shown, told)?;
         }
         Ok(())
     }
@@ -128,28 +124,22 @@ impl JobLines {
         &mut self,
         place: EventPlace,
         task: &Shown<&[u8]>,
-        class: Class,
         is_new: bool,
     ) -> Result<(), AllocError>
         ensures { OnOk result (jobs_of self.new
-            ≡ wakes place.line place.at task.now.pid is_new (jobs_of self.old)) }
+            ≡ wakes place.line place.at (shown_text task.now) is_new (jobs_of self.old)) }
     {
         if !is_new {
             self.prefer_wakeup();
         }
         let (line, at) = (place.line, place.at);
-        self.tell(task, Some(class), JobStep::Wakes { line, at, is_new })
+        self.tell(task, JobStep::Wakes { line, at, is_new })
     }
 
     /// A task is about to wake.
-    fn expect(
-        &mut self,
-        place: EventPlace,
-        task: &Shown<&[u8]>,
-        class: Class,
-    ) -> Result<(), AllocError>
+    fn expect(&mut self, place: EventPlace, task: &Shown<&[u8]>) -> Result<(), AllocError>
         ensures { OnOk result (jobs_of self.new
-            ≡ expects place.line place.at task.now.pid (jobs_of self.old)) }
+            ≡ expects place.line place.at (shown_text task.now) (jobs_of self.old)) }
     {
         if self.has_wakeup || task.pid == 0 {
             return Ok(());
@@ -159,14 +149,15 @@ impl JobLines {
             at: place.at,
             is_new: false,
         };
-        self.by_waking.take(task, Some(class), told)
+        self.by_waking.take(task, told)
     }
 
     fn run(&mut self, task: &Shown<&[u8]>, nanos: u64) -> Result<(), AllocError>
-        ensures { OnOk result (jobs_of self.new ≡ runs task.now.pid nanos (jobs_of self.old)) }
+        ensures { OnOk result
+            (jobs_of self.new ≡ runs (shown_text task.now) nanos (jobs_of self.old)) }
     {
         self.has_runs = true;
-        self.tell(task, None, JobStep::Runs { nanos })
+        self.tell(task, JobStep::Runs { nanos })
     }
 
     /// An event of the scheduler stands there.
@@ -184,11 +175,11 @@ impl JobLines {
         task: &Shown<&[u8]>,
         scheduled: Option<Scheduled<&[u8]>>,
     ) -> Result<(), AllocError>
-        ensures { OnOk result (jobs_of self.new ≡ wake_told place.line place.at task.now.pid
+        ensures { OnOk result (jobs_of self.new ≡ wake_told place.line place.at (shown_text task.now)
             (option_map scheduled_text scheduled.entry) (jobs_of self.old)) }
     {
         match scheduled {
-            Some(Scheduled::Woken { class, is_new }) => self.wake(place, task, class, is_new),
+            Some(Scheduled::Woken { is_new, .. }) => self.wake(place, task, is_new),
             _ => Ok(()),
         }
     }
@@ -200,19 +191,13 @@ impl JobLines {
         stop: Stop,
         scheduled: Option<Scheduled<&[u8]>>,
     ) -> Result<(), AllocError>
-        ensures { OnOk result (jobs_of self.new ≡ switch_told at task.now.pid stop
+        ensures { OnOk result (jobs_of self.new ≡ switch_told at (shown_text task.now) stop
             (option_map scheduled_text scheduled.entry) (jobs_of self.old)) }
     {
         match scheduled {
-            Some(
-                Scheduled::Switched {
-                    class,
-                    next,
-                    next_class,
-                },
-            ) => {
-                self.tell(task, Some(class), JobStep::Stops { at, stop })?;
-                self.tell(&next, Some(next_class), JobStep::Enters)
+            Some(Scheduled::Switched { class, next, .. }) => {
+                self.tell(task, JobStep::Stops { at, stop, class })?;
+                self.tell(&next, JobStep::Enters)
             }
             _ => Ok(()),
         }
@@ -227,7 +212,7 @@ impl JobLines {
         scheduled: Option<Scheduled<&[u8]>>,
     ) -> Result<(), AllocError>
         ensures { OnOk result (jobs_of self.new ≡ fixed_told place.line place.at place.cpu fixed
-            task.now.pid (option_map scheduled_text scheduled.entry) (jobs_of self.old)) }
+            (shown_text task.now) (option_map scheduled_text scheduled.entry) (jobs_of self.old)) }
     {
         match fixed {
             Fixed::Migrated { .. } => {
@@ -273,17 +258,10 @@ impl JobLines {
             ≡ quiet_told line (option_map scheduled_text scheduled.entry) (jobs_of self.old)) }
     {
         match scheduled {
-            Some(
-                Scheduled::Waking {
-                    at,
-                    cpu,
-                    task,
-                    class,
-                },
-            ) => {
+            Some(Scheduled::Waking { at, cpu, task, .. }) => {
                 let place = EventPlace { line, at, cpu };
                 self.pass(place);
-                self.expect(place, &task, class)?;
+                self.expect(place, &task)?;
                 Ok(())
             }
             Some(Scheduled::BadWaking(flaw)) => Err(JobFault::Line { line, flaw }),

@@ -22,19 +22,14 @@ pub enum JobStep {
     Enters,
 
     /// It stops to run.
-    Stops { at: u64, stop: Stop },
+    Stops { at: u64, stop: Stop, class: Class },
 }
 
 /// A task of a trace, and its jobs.
 #[derive(Debug, Drop)]
 pub struct JobTask {
-    pub pid: u64,
-
     /// Its comm at the last line that shows it.
     pub comm: Vec<u8>,
-
-    /// Its class at the last line that tells it.
-    pub class: Class,
 
     /// Where it is at the end of the trace.
     pub phase: Phase,
@@ -56,14 +51,12 @@ pub struct JobTask {
 }
 
 impl JobTask {
-    pub(crate) fn new(alloc: Global, pid: u64) -> JobTask
+    pub(crate) fn new(alloc: Global) -> JobTask
         ensures phase { result.phase ≡ phases.Unseen }
         ensures jobs { result.jobs.items ≡ [] }
     {
         JobTask {
-            pid,
             comm: Vec::new(alloc),
-            class: Class::Fair,
             phase: Phase::Unseen,
             jobs: Vec::new(alloc),
             begun: 0,
@@ -102,8 +95,8 @@ impl JobTask {
                 self.has_runs = true;
             }
             JobStep::Enters => self.phase = ran(self.phase, 0),
-            JobStep::Stops { at, stop } => {
-                let (phase, ended) = stopped(self.phase, at, stop);
+            JobStep::Stops { at, stop, class } => {
+                let (phase, ended) = stopped(self.phase, at, stop, class);
                 self.end(ended)?;
                 self.phase = phase;
             }
@@ -111,23 +104,15 @@ impl JobTask {
         Ok(())
     }
 
-    /// Takes the class and the comm that a line shows, and answers whether the comm is another than before.
-    pub(crate) fn show(
-        &mut self,
-        alloc: Global,
-        class: Option<Class>,
-        comm: &[u8],
-    ) -> Result<bool, AllocError>
+    /// Takes the comm that a line shows.
+    pub(crate) fn show(&mut self, alloc: Global, comm: &[u8]) -> Result<(), AllocError>
         ensures phase { self.new.phase ≡ self.old.phase }
         ensures jobs { self.new.jobs ≡ self.old.jobs }
+        ensures comm { OnOk result (self.new.comm.items ≡ comm.now) }
     {
-        if let Some(class) = class {
-            self.class = class;
+        if self.comm.as_slice() != comm {
+            self.comm = Vec::from_slice(alloc, comm)?;
         }
-        if self.comm.as_slice() == comm {
-            return Ok(false);
-        }
-        self.comm = Vec::from_slice(alloc, comm)?;
-        Ok(true)
+        Ok(())
     }
 }

@@ -2,14 +2,14 @@
 
 ghost use Rattle.std.specs.Prelude.{◌≡◌, [], IfNone, IfSome, OnOk, nat_eq};
 ghost use Rattle.std.specs.HashMap.{get};
-ghost use Rattle.size_jobs.specs.Taking.{none_watched, tasks_of, told_to};
+ghost use Rattle.trace_fields.specs.Shown.{shown_text};
+ghost use Rattle.size_jobs.specs.Taking.{named_with, none_watched, tasks_of, told_to};
 ghost use Rattle.size_jobs.specs.inside.Keeping.{Keeps, Takes};
 
 use crate::task::{JobStep, JobTask};
 use std::alloc::{AllocError, Global};
 use std::collections::HashMap;
 use trace_fields::Shown;
-use trace_lines::Class;
 
 /// The tasks of a trace.
 #[derive(Drop)]
@@ -43,69 +43,68 @@ impl JobTasks {
 
     /// The task of a pid.
     pub fn task(&self, pid: u64) -> Option<&JobTask>
-        ensures jobs { IfSome result (λ t. t.now.jobs.items ≡ (tasks_of self.now pid).jobs) }
-        ensures none { IfNone result ((tasks_of self.now pid).jobs ≡ []) }
+        ensures jobs { IfSome result
+            (λ t. t.now.jobs.items ≡ ((tasks_of self.now).watched pid).jobs) }
+        ensures comm { IfSome result
+            (λ t. t.now.comm.items ≡ ((tasks_of self.now).watched pid).comm) }
+        ensures none { IfNone result (((tasks_of self.now).watched pid).jobs ≡ []) }
     {
         self.by_pid.get(&pid)
     }
 
     /// The pid of a name: the first that a line shows with it as its comm.
-    pub fn pid_named(&self, comm: &[u8]) -> Option<u64> {
+    pub fn pid_named(&self, comm: &[u8]) -> Option<u64>
+        ensures { result ≡ (tasks_of self.now).named comm.now }
+    {
         self.named.get(comm).copied()
     }
 
-    fn name(&mut self, comm: &[u8], pid: u64) -> Result<(), AllocError>
-        ensures { self.new.by_pid ≡ self.old.by_pid }
+    /// A comm is the name of the first pid that is shown with it.
+    fn name(&mut self, shown: &Shown<&[u8]>) -> Result<(), AllocError>
+        ensures tasks { self.new.by_pid ≡ self.old.by_pid }
+        ensures named { OnOk result ((tasks_of self.new).named
+            ≡ named_with (shown_text shown.now) (tasks_of self.old).named) }
     {
-        if self.named.get(comm).is_none() {
-            let comm = Vec::from_slice(self.alloc, comm)?;
-            self.named.insert(comm, pid)?;
+        if self.named.get(shown.comm).is_none() {
+            let comm = Vec::from_slice(self.alloc, shown.comm)?;
+            self.named.insert(comm, shown.pid)?;
         }
         Ok(())
     }
 
     /// Adds a task that no line showed before.
     fn add(&mut self, pid: u64) -> Result<(), AllocError>
-        ensures { OnOk result
+        ensures tasks { OnOk result
             (Keeps pid (get nat_eq self.old.by_pid) (get nat_eq self.new.by_pid)) }
+        ensures named { self.new.named ≡ self.old.named }
     {
         if self.by_pid.get(&pid).is_some() {
             return Ok(());
         }
         self.pids.push(pid)?;
-        self.by_pid.insert(pid, JobTask::new(self.alloc, pid))?;
+        self.by_pid.insert(pid, JobTask::new(self.alloc))?;
         Ok(())
     }
 
-    fn take_step(
-        &mut self,
-        shown: &Shown<&[u8]>,
-        class: Option<Class>,
-        told: JobStep,
-    ) -> Result<(), AllocError>
-        ensures { OnOk result (Takes shown.now.pid told
+    fn take_step(&mut self, shown: &Shown<&[u8]>, told: JobStep) -> Result<(), AllocError>
+        ensures tasks { OnOk result (Takes shown.now.pid shown.now.comm.now told
             (get nat_eq self.old.by_pid) (get nat_eq self.new.by_pid)) }
+        ensures named { self.new.named ≡ self.old.named }
     {
         self.add(shown.pid)?;
         let Some(task) = self.by_pid.get_mut(&shown.pid) else {
             return Ok(());
         };
         task.take(told)?;
-        if task.show(self.alloc, class, shown.comm)? {
-            self.name(shown.comm, shown.pid)?;
-        }
-        Ok(())
+        task.show(self.alloc, shown.comm)
     }
 
     /// Takes what a line tells of the task that it shows, and nothing of any other.
-    pub(crate) fn take(
-        &mut self,
-        shown: &Shown<&[u8]>,
-        class: Option<Class>,
-        told: JobStep,
-    ) -> Result<(), AllocError>
-        ensures { OnOk result (tasks_of self.new ≡ told_to shown.now.pid told (tasks_of self.old)) }
+    pub(crate) fn take(&mut self, shown: &Shown<&[u8]>, told: JobStep) -> Result<(), AllocError>
+        ensures { OnOk result
+            (tasks_of self.new ≡ told_to (shown_text shown.now) told (tasks_of self.old)) }
     {
-        self.take_step(shown, class, told)
+        self.take_step(shown, told)?;
+        self.name(shown)
     }
 }

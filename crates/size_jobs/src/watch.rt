@@ -4,6 +4,7 @@ ghost use Rattle.std.specs.Prelude.{◌≡◌};
 ghost use Rattle.size_jobs.specs.Watch.{ran_of, seen_of, stopped_of, woken_of};
 
 use trace_data::Stop;
+use trace_lines::Class;
 
 /// A job: from a wake of the task to the block after it.
 #[derive(Clone, Copy, Debug, PartialEq, Eq)]
@@ -19,6 +20,9 @@ pub struct Seen {
 
     /// How long the task ran, in microseconds, rounded up, at least 1.
     pub work: u64,
+
+    /// The class in which it ran, as the line of its block tells it.
+    pub class: Class,
 }
 
 /// Where a task is.
@@ -107,20 +111,21 @@ pub(crate) fn ran(phase: Phase, nanos: u64) -> Phase
 }
 
 /// The job that ends at a moment.
-fn ended_job(line: u64, wake: u64, nanos: u64, at: u64) -> Seen
-    ensures { result ≡ seen_of line wake nanos at }
+fn ended_job(line: u64, wake: u64, nanos: u64, at: u64, class: Class) -> Seen
+    ensures { result ≡ seen_of line wake nanos at class }
 {
     Seen {
         line,
         release: wake / 1000,
         end: at.div_ceil(1000),
         work: nanos.div_ceil(1000).max(1),
+        class,
     }
 }
 
 /// A block ends a job; a task that is ready goes on with it.
-pub(crate) fn stopped(phase: Phase, at: u64, stop: Stop) -> (Phase, Ended)
-    ensures { result ≡ stopped_of phase at stop }
+pub(crate) fn stopped(phase: Phase, at: u64, stop: Stop, class: Class) -> (Phase, Ended)
+    ensures { result ≡ stopped_of phase at stop class }
 {
     match (stop, phase) {
         (Stop::Ready, Phase::Unseen) => (Phase::UnderWay, Ended::Nothing),
@@ -135,7 +140,10 @@ pub(crate) fn stopped(phase: Phase, at: u64, stop: Stop) -> (Phase, Ended)
                 nanos,
                 ..
             },
-        ) => (Phase::Asleep, Ended::Job(ended_job(line, wake, nanos, at))),
+        ) => (
+            Phase::Asleep,
+            Ended::Job(ended_job(line, wake, nanos, at, class)),
+        ),
         (_, _) => (Phase::Asleep, Ended::LeftOut(LeftOut::NoWake)),
     }
 }

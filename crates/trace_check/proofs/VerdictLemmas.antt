@@ -18,6 +18,12 @@ pub of_agreed : (r : Result Verdict Fault) (P : Type 0) → IfOk r (λ (v : Verd
 of_agreed (Ok v) P so agrees kept = so agrees kept
 of_agreed (Err e) P so agrees kept = absurd agrees
 
+-- what follows where nothing differs
+pub of_equal : (r : Result Verdict Fault) (E P : Type 0) → IfOk r (λ (v : Verdict). IsTrue v.agrees → IsTrue v.keeps_laws → E)
+    → (E → P) → IfOk r (λ (v : Verdict). IsTrue v.agrees → IsTrue v.keeps_laws → P)
+of_equal (Ok v) E P so to = λ agrees kept. to (so agrees kept)
+of_equal (Err e) E P so to = so
+
 module _ {O N D : Type 0} (o : Opener O D) (opener : O) (g : Reader N D) (read : N) (name : List ℕ) where
   pub explained : (options : CheckOptions) (gathering : Gathering) → IsSoOf o opener g read name (HasShown (shown_in gathering))
       → IsEnded options gathering → NothingDiffers options gathering → IsSoOf o opener g read name (IsAgreedBy options)

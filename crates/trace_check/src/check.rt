@@ -1,6 +1,8 @@
 //! A record is read, played, and judged.
 
 ghost use Rattle.std.specs.Prelude.{◌≡◌, ◌⊎◌, IfOk, IsOkAnd, IsTrue, false};
+ghost use Rattle.trace_file.specs.Reading.{IsSoOf};
+ghost use Rattle.check_record.specs.Explains.{IsAgreedBy};
 ghost use Rattle.check_record.specs.Seen.{NothingDiffers};
 ghost use Rattle.check_faults.specs.declared.fault.TheConstants.{STATUS_DIFFERS, STATUS_FILE, STATUS_LAW, STATUS_SYSTEM, STATUS_USAGE};
 
@@ -46,16 +48,6 @@ impl<'a> CheckRequest<'a> {
     /// Whether states are wanted.
     pub fn shows(self) -> bool {
         self.json.is_some() || self.picture.is_some()
-    }
-
-    /// How the record is to be read for it.
-    fn record(self) -> RecordRequest<'a> {
-        RecordRequest {
-            path: self.path,
-            keeps_rows: self.table.is_some(),
-            keeps_timers: self.shows(),
-            laws: self.laws,
-        }
     }
 }
 
@@ -122,10 +114,54 @@ fn verdict_of<
 ) -> Result<Verdict, Fault<'o>>
     requires opens { O.IsAlwaysCallable opens.now }
     requires read { N.IsAlwaysCallable read.now }
+    ensures { IfOk result (λ v. IsTrue v.agrees → IsTrue v.keeps_laws →
+        IsSoOf O.Fn opens.now N.Fn read.now wanted.entry.path.now (IsAgreedBy options.entry.now)) }
 {
-    let mut gathering = gathered_whole(alloc, opens, read, wanted.record(), options)?;
-    let verdict = judged(alloc, opens, read, wanted, options, &mut gathering)?;
-    let verdict = with_report(alloc, wanted, options, &gathering, verdict)?;
+    let request = RecordRequest {
+        path: wanted.path,
+        keeps_rows: wanted.table.is_some(),
+        keeps_timers: wanted.shows(),
+        laws: wanted.laws,
+    };
+    let mut gathering = gathered_whole(alloc, opens, read, request, options)?;
+    verdict_on(alloc, opens, read, wanted, options, &mut gathering)
+}
+
+/// The verdict on what was gathered, with its report and what the kernel's log warned of.
+fn verdict_on<
+    'o,
+    D: Drop,
+    O: Fn(&str) -> io::Result<D>,
+    N: Fn(&mut D, &mut [u8]) -> io::Result<usize>,
+>(
+    alloc: Global,
+    opens: &O,
+    read: &N,
+    wanted: CheckRequest<'o>,
+    options: &CheckOptions<'o>,
+    gathering: &mut Gathering<'o>,
+) -> Result<Verdict, Fault<'o>>
+    requires opens { O.IsAlwaysCallable opens.now }
+    requires read { N.IsAlwaysCallable read.now }
+    ensures { IfOk result (λ v. IsTrue v.agrees → IsTrue v.keeps_laws →
+        NothingDiffers options.now gathering.old) }
+{
+    let verdict = judged(alloc, opens, read, wanted, options, gathering)?;
+    with_notes(alloc, wanted, options, gathering, verdict)
+}
+
+/// A verdict with its report, where that is wanted, and with what the kernel's log warned of.
+fn with_notes<'o>(
+    alloc: Global,
+    wanted: CheckRequest<'_>,
+    options: &CheckOptions<'_>,
+    gathering: &Gathering<'_>,
+    verdict: Verdict,
+) -> Result<Verdict, Fault<'o>>
+    ensures agrees { IfOk result (λ v. v.agrees ≡ verdict.agrees) }
+    ensures laws { IfOk result (λ v. v.keeps_laws ≡ verdict.keeps_laws) }
+{
+    let verdict = with_report(alloc, wanted, options, gathering, verdict)?;
     with_warnings(verdict, &gathering.warnings)
 }
 
@@ -311,6 +347,7 @@ fn answer<M: Fn(&str, &[u8]) -> io::Result<()>, R: Fn(&str), W: Write, E: Write>
 
 /// Prints the verdict on the trace of a path, or the line of its fault, and gives the status: 0 where the kernel agrees, 4 where
 /// it differs, 5 where it agrees and breaks a law, 1 where the trace is at fault or a file is there already, 3 where the system is.
+#[tactic(auto, using(crate::proofs::VerdictLemmas::of_agreed))]
 pub fn serve_check<
     D: Drop,
     O: Fn(&str) -> io::Result<D>,
@@ -341,6 +378,9 @@ pub fn serve_check<
         ⊎ (result ≡ STATUS_FILE) ⊎ (result ≡ STATUS_USAGE) ⊎ (result ≡ STATUS_SYSTEM) }
     // Where the trace is at fault, or the words are, nothing was printed.
     ensures nothing { (result ≡ STATUS_FILE) ⊎ (result ≡ STATUS_USAGE) → out.new ≡ out.old }
+    // Where the kernel agrees by lines of probes, those of the text that was read are explained by its rules.
+    ensures explained { result ≡ 0 →
+        IsSoOf O.Fn opens.now N.Fn read.now wanted.entry.path.now (IsAgreedBy options.now) }
 {
     if let Some(path) = first_there(exists, wanted) {
         let fault = Fault::FileExists { path };

@@ -18,7 +18,7 @@ pub(crate) fn read_text(text: &[u8], at: &mut usize, room: &mut [u8]) -> io::Res
 /// The options of these tasks alone; None where the words say none, or memory is refused.
 pub(crate) fn options<'a>(alloc: Global, tasks: &[&'a str]) -> Option<ConvertOptions<'a>> {
     match options_of(alloc, tasks, None, None, None) {
-        Ok(options) => options,
-        Err(_) => None,
+        Ok(Ok(options)) => Some(options),
+        Ok(Err(_)) | Err(_) => None,
     }
 }

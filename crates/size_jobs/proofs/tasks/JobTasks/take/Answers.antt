@@ -1,11 +1,11 @@
-use Rattle.std.proofs.Common.{nat_eq}
-use Rattle.std.specs.HashMap.{get}
 use Rattle.std.proofs.lemmas.Result.{on_ok_weaker}
-use Rattle.size_jobs.proofs.TaskLemmas.{takes_told}
+use Rattle.trace_fields.specs.Shown.{shown_text}
+use Rattle.size_jobs.proofs.TaskLemmas.{all_told}
 use Rattle.size_jobs.proofs.tasks.JobTasks.take.Goals as goal
 
+-- src/tasks.rt:103:5
 pub returns : goal.returns
 returns c =
-    on_ok_weaker c.take_step.result
-    (takes_told c.args.shown.now.pid c.args.told (get nat_eq c.args.self.now.by_pid) (get nat_eq c.take_step.new.self.by_pid))
-    c.take_step.ensures
+    on_ok_weaker c.name.result
+    (λ named. all_told (shown_text c.args.shown.now) c.args.told c.args.self.now c.take_step.new.self c.name.new.self c.in_ok-take_step.ensures.tasks c.in_ok-take_step.ensures.named c.name.ensures.tasks named)
+    c.name.ensures.named
