@@ -7,27 +7,34 @@ use Rattle.probe_explain.specs.Taken.{IsExplainedWhere}
 use Rattle.probe_explain.specs.declared.search.ProbeLine.{ProbeLine}
 use Rattle.check_settings.specs.Heads.{law_by}
 use Rattle.check_record.specs.Explains.{IsAgreedBy, IsExplainedText, law_of}
-use Rattle.check_record.specs.Playing.{IsEqual, IsPlayedBy, lines_of}
+use Rattle.check_record.specs.Playing.{IsEqual, IsPlayedBy, lines_of, rules_in}
 use Rattle.check_record.specs.Reading.{HasShown}
 use Rattle.check_record.specs.Seen.{IsEnded, NothingDiffers, shown_in}
 use Rattle.check_record.specs.Shown.{ShownProbe, Shown, as_read, shown_by}
 use Rattle.check_record.specs.declared.gathering.Gathering.{Gathering}
 use Rattle.check_record.specs.declared.played.Played.{Played}
 
+-- the rules compare what a text shows
+abbrev IsSeenOf : Shown → PlayRules → Type 0
+IsSeenOf s t = (t.has_dequeues ≡ s.dequeues) × (t.has_timers ≡ s.timers)
+
 from_played : (o : CheckOptions) (text : List ℕ) (law : ChargeLaw) (kept : List ProbeLine) (p : Option Played) → law ≡ law_of (shown_by text) o
     → map as_read (lines_of kept p) ≡ (shown_by text).probes
     → IfSome (option_map (λ (q : Played). q.player) p) IsExplainedWhere
     → IfSome (option_map (λ (q : Played). q.player.rules) p) (IsPlayedBy law)
+    → IfSome (option_map (λ (q : Played). q.player.rules) p) (IsSeenOf (shown_by text))
     → (option_map (λ (q : Played). q.player) p ≡ None → lines_of kept p ≡ [])
     → IfSome (option_map (λ (q : Played). q.player) p) IsEqual → (shown_by text).probes ≢ [] → IsExplainedText o text
-from_played o text law kept None by all explained rules none equal some = absurd (some (sym all ∙ ap (λ ls. map as_read ls) (none refl)))
-from_played o text law kept (Some q) by all explained rules none equal some = record {
+from_played o text law kept None by all explained rules seen none equal some = absurd (some (sym all ∙ ap (λ ls. map as_read ls) (none refl)))
+from_played o text law kept (Some q) by all explained rules seen none equal some = record {
   rules = q.player.rules;
   start = q.player.start;
   lines = q.player.lines;
   all = all;
   by = (rules.0 ∙ by, rules.1);
-  explained = λ dequeues. explained (rules.1, dequeues) equal;
+  dequeues = seen.0;
+  timers = seen.1;
+  explained = λ dequeues. explained (rules.1, seen.0 ∙ dequeues) equal;
 }
 
 pub agreed : (o : CheckOptions) (g : Gathering) → IsEnded o g → NothingDiffers o g → (text : List ℕ) → HasShown (shown_in g) text → IsAgreedBy o text
@@ -38,5 +45,6 @@ agreed o g ended equal text (whole, shows) =
       whole,
       λ probes some.
           let e = ended probes in
-          from_played o text (law_by g.head o) g.probes.kept.items g.probes.played law all e.0 e.1 e.2 (equal probes) some,
+          let seen = subst (λ (s : Shown). IfSome (rules_in g.probes) (IsSeenOf s)) (sym shows) e.2 in
+          from_played o text (law_by g.head o) g.probes.kept.items g.probes.played law all e.0 e.1 seen e.3 (equal probes) some,
     )

@@ -26,7 +26,9 @@ pub record IsExplainedText (o : CheckOptions) (text : List ℕ) : Type 0 where
   pub lines : List ProbeLine
   pub all : map as_read lines ≡ (shown_by text).probes
   pub by : IsPlayedBy (law_of (shown_by text) o) rules
-  pub explained : rules.has_dequeues ≡ true → IsExplained rules (start_of start) lines
+  pub dequeues : rules.has_dequeues ≡ (shown_by text).dequeues
+  pub timers : rules.has_timers ≡ (shown_by text).timers
+  pub explained : (shown_by text).dequeues ≡ true → IsExplained rules (start_of start) lines
 
 -- what a verdict that agrees says of the text that was read: no line has a flaw, and unless timers are compared, its lines of probes
 -- are explained, if it has some

@@ -1,9 +1,10 @@
 -- The lines of probes that came so far: those that are kept, or those that were played.
-use Rattle.std.specs.Prelude.{◌≡◌, List, Option, Some, None, option_map}
+use Rattle.std.specs.Prelude.{◌≡◌, Bool, not, ◌||◌, ◌==◌, List, length, Option, Some, None, is_some, option_map}
 use Rattle.kernel_entity.specs.declared.charge.ChargeLaw.{ChargeLaw}
 use Rattle.probe_run.specs.declared.rules.PlayRules.{PlayRules}
 use Rattle.probe_explain.specs.Taken.{Taken}
 use Rattle.probe_explain.specs.declared.search.ProbeLine.{ProbeLine}
+use Rattle.probe_start.specs.declared.look.RecordLook.{RecordLook}
 use Rattle.check_record.specs.declared.played.Played.{Played}
 use Rattle.check_record.specs.declared.probes.Probes.{Probes}
 
@@ -24,6 +25,13 @@ lines_in p = lines_of p.kept.items p.played
 -- by this arithmetic, and with no rule changed
 abbrev pub IsPlayedBy : ChargeLaw → PlayRules → Type 0
 IsPlayedBy law t = (t.law ≡ law) × (t.change ≡ None)
+
+-- sums and timers are compared where lines show dequeues and timers
+abbrev pub AreSeenBy : RecordLook → PlayRules → Type 0
+AreSeenBy look t = (t.has_dequeues ≡ look.has_dequeues) × (t.has_timers ≡ look.has_timers)
+
+abbrev pub has_lines : Probes → Bool
+has_lines p = is_some p.played || not (length p.kept.items == 0)
 
 -- each value that was compared is the kernel's
 abbrev pub IsEqual : Taken → Type 0

@@ -1,5 +1,5 @@
--- What the lines of a text show: the lines of probes among them, and the kernel that they name.
-use Rattle.std.specs.Prelude.{ℕ, true, List, [], ◌∷◌, ◌++◌, Option, None}
+-- What the lines of a text show: the lines of probes among them, whether these show dequeues and timers, and the kernel that is named.
+use Rattle.std.specs.Prelude.{ℕ, Bool, true, false, ◌||◌, List, [], ◌∷◌, ◌++◌, Option, None}
 use Rattle.trace_data.specs.declared.line.RecordLine.{RecordLine}
 use Rattle.trace_data.specs.declared.line.RecordLine.TheVariants.{Event, Note}
 use Rattle.trace_data.specs.declared.line.Said.{Said}
@@ -11,6 +11,7 @@ use Rattle.trace_data.specs.declared.probe.Probe.{Probe}
 use Rattle.trace_lines.specs.declared.line.ToldLine.{ToldLine}
 use Rattle.trace_lines.specs.Reading.{After, reading}
 use Rattle.probe_explain.specs.declared.search.ProbeLine.{ProbeLine}
+use Rattle.probe_start.specs.Looks.{arms_timer, shows_dequeue}
 
 -- a line of a probe: its number in the text, its moment, its CPU, the task that ran there, and what the probe shows
 pub record ShownProbe : Type 0 where
@@ -24,15 +25,22 @@ pub record ShownProbe : Type 0 where
 pub record Shown : Type 0 where
   pub probes : List ShownProbe
   pub kernel : Option Kernel
+  -- one of them shows a dequeue, or a timer that is armed
+  pub dequeues : Bool
+  pub timers : Bool
 
 -- the kernel that the last such note names
 abbrev pub kernel_noted : TraceNote → Option Kernel → Option Kernel
 kernel_noted (note.Head kernel limit total_bw) before = kernel
 kernel_noted other before = before
 
+-- a line of a probe more
+abbrev pub with_probe : ShownProbe → Shown → Shown
+with_probe p s = record s { probes = s.probes ++ p ∷ []; dequeues = s.dequeues || shows_dequeue p.probe; timers = s.timers || arms_timer p.probe }
+
 -- an event more
 abbrev pub with_said : ℕ → ℕ → ℕ → ℕ → Said → Shown → Shown
-with_said line at cpu pid (said.Probe probe) s = record s { probes = s.probes ++ record { line = line; at = at; cpu = cpu; pid = pid; probe = probe } ∷ [] }
+with_said line at cpu pid (said.Probe probe) s = with_probe (record { line = line; at = at; cpu = cpu; pid = pid; probe = probe }) s
 with_said line at cpu pid (said.Fixed fixed) s = s
 
 -- a line more, of this number
@@ -46,7 +54,7 @@ abbrev pub with_line : ℕ → ToldLine (List ℕ) → Shown → After Shown
 with_line n told s = record { more = true; seen = shown_with n told.line s }
 
 abbrev pub nothing_shown : Shown
-nothing_shown = record { probes = []; kernel = None }
+nothing_shown = record { probes = []; kernel = None; dequeues = false; timers = false }
 
 -- what the lines of a text show
 unfoldable pub shown_by : List ℕ → Shown

@@ -1,9 +1,11 @@
 //! A record, line by line: notes, lines of timers that are kept, and lines of probes that are played at once.
 
-ghost use Rattle.std.specs.Prelude.{◌≡◌, ◌∷◌, ◌++◌, IfOk, IsTrue, OnOk, []};
-ghost use Rattle.check_settings.specs.Heads.{seen_on, told_of};
+ghost use Rattle.std.specs.Prelude.{◌≡◌, ◌&&◌, not, IfOk, IsTrue, None, OnOk};
+ghost use Rattle.check_settings.specs.Heads.{chosen, seen_on, told_of};
+ghost use Rattle.check_record.specs.FirstFault.{fault_headed, is_too_late, raised_by};
+ghost use Rattle.check_record.specs.Playing.{has_lines};
 ghost use Rattle.check_record.specs.Seen.{IsEnded, shown_in};
-ghost use Rattle.check_record.specs.Shown.{as_read, nothing_shown, shown_with, with_said};
+ghost use Rattle.check_record.specs.Shown.{as_read, nothing_shown, shown_with, with_probe, with_said};
 
 use crate::laws::RecordLaws;
 use crate::names::Names;
@@ -165,7 +167,9 @@ impl<'o> Gathering<'o> {
     /// What is wrong by the line that was taken.
     #[tactic(auto, unfolding(crate::specs::Seen::shown_in))]
     fn end_line(&mut self) -> Result<(), Fault<'o>>
-        ensures { shown_in self.new ≡ shown_in self.old }
+        ensures fault { result ≡ raised_by self.old.fault }
+        ensures none { self.new.fault ≡ None }
+        ensures shown { shown_in self.new ≡ shown_in self.old }
     {
         match self.fault.take() {
             Some(fault) => Err(fault),
@@ -301,7 +305,10 @@ impl<'o> Gathering<'o> {
     /// The head of a trace may say how many processors there are.
     #[tactic(auto, unfolding(crate::specs::Seen::shown_in))]
     fn see_head(&mut self, number: u64, processors: Option<u32>)
-        ensures { shown_in self.new ≡ shown_in self.old }
+        ensures processors { self.new.head.processors ≡ chosen self.old.head.processors processors }
+        ensures fault { self.new.fault
+            ≡ fault_headed self.old.head.processors processors number self.old.fault }
+        ensures shown { shown_in self.new ≡ shown_in self.old }
     {
         if self.head.processors.is_some() {
             return;
@@ -315,16 +322,17 @@ impl<'o> Gathering<'o> {
     }
 
     /// Whether the verdict is by lines of probes: lines of timers are not kept then.
-    pub(crate) fn plays_probes(&self) -> bool {
+    pub(crate) fn plays_probes(&self) -> bool
+        ensures { result ≡ (has_lines self.now.probes && not self.now.options.now.by_timers) }
+    {
         self.probes.has_lines() && !self.options.by_timers
     }
 
     /// Takes a line of a probe.
     fn probe(&mut self, line: ProbeLine) -> Result<(), AllocError>
         ensures head { told_of self.new.head ≡ seen_on line.place.cpu (told_of self.old.head) }
-        ensures shown { OnOk result (shown_in self.new ≡ record (shown_in self.old) {
-          probes = (shown_in self.old).probes ++ as_read line ∷ [];
-        }) }
+        ensures shown { OnOk result
+            (shown_in self.new ≡ with_probe (as_read line) (shown_in self.old)) }
     {
         self.see_probe(line.place.cpu);
         self.take_probe(line)
@@ -345,9 +353,8 @@ impl<'o> Gathering<'o> {
     #[tactic(auto, unfolding(crate::specs::Seen::shown_in))]
     fn take_probe(&mut self, line: ProbeLine) -> Result<(), AllocError>
         ensures head { self.new.head ≡ self.old.head }
-        ensures shown { OnOk result (shown_in self.new ≡ record (shown_in self.old) {
-          probes = (shown_in self.old).probes ++ as_read line ∷ [];
-        }) }
+        ensures shown { OnOk result
+            (shown_in self.new ≡ with_probe (as_read line) (shown_in self.old)) }
     {
         let told = ToldSettings {
             head: &self.head,
@@ -395,7 +402,9 @@ impl<'o> Gathering<'o> {
 }
 
 /// Whether the moment of a line, or that of its note, is greater than each number of nanoseconds.
-fn is_too_late(line: &RecordLine) -> bool {
+fn is_too_late(line: &RecordLine) -> bool
+    ensures { result ≡ is_too_late line.now }
+{
     match *line {
         RecordLine::Event { at, .. } => at == TOO_LATE,
         RecordLine::Note(TraceNote::Task { at: Some(at), .. }) => at == TOO_LATE,

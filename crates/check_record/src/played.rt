@@ -2,7 +2,7 @@
 
 ghost use Rattle.std.specs.Prelude.{◌≡◌, ◌∷◌, ◌++◌, [], IfOk, IsTrue, OnOk};
 ghost use Rattle.probe_explain.specs.Taken.{IsExplainedWhere};
-ghost use Rattle.check_record.specs.Playing.{IsPlayedBy};
+ghost use Rattle.check_record.specs.Playing.{AreSeenBy, IsPlayedBy};
 
 use crate::names::Names;
 use kernel_entity::ChargeLaw;
@@ -90,13 +90,17 @@ impl Played {
         self.player.finish(&mut self.search)
     }
 
-    /// Whether it was begun by this law, with no rule changed, and what was taken for granted then is borne out.
+    /// Whether it was begun by this law, with no rule changed, and what was taken for granted then is borne out: what lines show is
+    /// compared.
     pub(crate) fn is_borne_out(&self, law: ChargeLaw, look: &RecordLook, notes: &StartNotes) -> bool
-        ensures { IsTrue result → IsPlayedBy law self.now.player.rules }
+        ensures rules { IsTrue result → IsPlayedBy law self.now.player.rules }
+        ensures seen { IsTrue result → AreSeenBy look.now self.now.player.rules }
     {
         let rules = self.player.rules();
         is_same_law(rules.law, law)
             && rules.change.is_none()
+            && rules.has_dequeues == look.has_dequeues
+            && rules.has_timers == look.has_timers
             && look.bears_out(&self.assumed, notes)
     }
 

@@ -1,9 +1,11 @@
 //! The lines of probes of a record: they are played as they come.
 
-ghost use Rattle.std.specs.Prelude.{◌≡◌, ◌∷◌, ◌++◌, [], IfOk, IfSome, IsTrue, None, OnOk};
-ghost use Rattle.check_settings.specs.Heads.{law_by};
+ghost use Rattle.std.specs.Prelude.{◌≡◌, ◌∷◌, ◌++◌, ◌||◌, ◌&&◌, [], IfOk, IfSome, IsTrue, None, OnOk, false, is_none};
+ghost use Rattle.check_settings.specs.Heads.{chosen, law_by};
 ghost use Rattle.probe_explain.specs.Taken.{IsExplainedWhere};
-ghost use Rattle.check_record.specs.Playing.{IsPlayedBy, lines_in, rules_in, taken_in};
+ghost use Rattle.probe_findings.specs.Tallies.{none_differs};
+ghost use Rattle.probe_start.specs.Looks.{arms_timer, shows_dequeue};
+ghost use Rattle.check_record.specs.Playing.{AreSeenBy, IsPlayedBy, has_lines, lines_in, rules_in, taken_in};
 
 use crate::marks::Marks;
 use crate::names::Names;
@@ -70,7 +72,7 @@ pub struct Probes {
     pub marks: Marks,
 
     /// What the laws came to, at the end.
-    law_findings: Findings,
+    pub law_findings: Findings,
 
     /// The tasks that they show in the class, in the order of their first lines.
     pub in_class: Vec<u64>,
@@ -99,7 +101,9 @@ fn put_law_rows(
 impl Probes {
     /// No line. With `keeps_all` all are kept, and played at their end.
     pub(crate) fn new(alloc: Global, keeps_rows: bool, keeps_all: bool) -> Probes
-        ensures { lines_in result ≡ [] }
+        ensures lines { lines_in result ≡ [] }
+        ensures dequeues { result.look.has_dequeues ≡ false }
+        ensures timers { result.look.has_timers ≡ false }
     {
         Probes {
             alloc,
@@ -121,13 +125,16 @@ impl Probes {
 
     /// The record was looked at before.
     pub(crate) fn tell(&mut self, seen: SeenRecord)
-        ensures { lines_in self.new ≡ lines_in self.old }
+        ensures lines { lines_in self.new ≡ lines_in self.old }
+        ensures look { self.new.look ≡ self.old.look }
     {
         self.seen_before = Some(seen);
     }
 
     /// Whether there was a line.
-    pub(crate) fn has_lines(&self) -> bool {
+    pub(crate) fn has_lines(&self) -> bool
+        ensures { result ≡ has_lines self.now }
+    {
         self.played.is_some() || !self.kept.is_empty()
     }
 
@@ -138,7 +145,11 @@ impl Probes {
         told: ToldSettings<'_>,
         names: &Names,
     ) -> Result<(), AllocError>
-        ensures { OnOk result (lines_in self.new ≡ lines_in self.old ++ line ∷ []) }
+        ensures lines { OnOk result (lines_in self.new ≡ lines_in self.old ++ line ∷ []) }
+        ensures dequeues { OnOk result
+            (self.new.look.has_dequeues ≡ (self.old.look.has_dequeues || shows_dequeue line.probe)) }
+        ensures timers { OnOk result
+            (self.new.look.has_timers ≡ (self.old.look.has_timers || arms_timer line.probe)) }
     {
         self.look_at(&line)?;
         self.keep_or_play(line, told, names)?;
@@ -149,6 +160,10 @@ impl Probes {
     fn look_at(&mut self, line: &ProbeLine) -> Result<(), AllocError>
         ensures kept { self.new.kept ≡ self.old.kept }
         ensures taken { taken_in self.new ≡ taken_in self.old }
+        ensures dequeues { OnOk result
+            (self.new.look.has_dequeues ≡ (self.old.look.has_dequeues || shows_dequeue line.now.probe)) }
+        ensures timers { OnOk result
+            (self.new.look.has_timers ≡ (self.old.look.has_timers || arms_timer line.now.probe)) }
     {
         self.see_class(&line.probe)?;
         self.look.see(line.place.at, &line.probe)?;
@@ -162,7 +177,8 @@ impl Probes {
         told: ToldSettings<'_>,
         names: &Names,
     ) -> Result<(), AllocError>
-        ensures { OnOk result (lines_in self.new ≡ lines_in self.old ++ line ∷ []) }
+        ensures lines { OnOk result (lines_in self.new ≡ lines_in self.old ++ line ∷ []) }
+        ensures look { self.new.look ≡ self.old.look }
     {
         match &mut self.played {
             Some(played) => played.take(line),
@@ -178,7 +194,8 @@ impl Probes {
         names: &Names,
     ) -> Result<(), AllocError>
         requires { self.old.played ≡ None }
-        ensures { OnOk result (lines_in self.new ≡ lines_in self.old ++ line ∷ []) }
+        ensures lines { OnOk result (lines_in self.new ≡ lines_in self.old ++ line ∷ []) }
+        ensures look { self.new.look ≡ self.old.look }
     {
         self.kept.push(line)?;
         if self.is_looked_at() {
@@ -200,8 +217,11 @@ impl Probes {
             taken_in self.new ≡ None → lines_in self.new ≡ []) }
         ensures rules { IfOk result (λ over. IsTrue over → IfSome (rules_in self.new)
             (IsPlayedBy (law_by told.entry.head.now told.entry.options.now))) }
+        ensures seen { IfOk result (λ over. IsTrue over →
+            IfSome (rules_in self.new) (AreSeenBy self.new.look)) }
         ensures explained { IfOk result (λ over. IsTrue over →
             IfSome (taken_in self.new) IsExplainedWhere) }
+        ensures look { self.new.look ≡ self.old.look }
     {
         self.play_rest(told, names)?;
         if !self.is_borne_out(told)? {
@@ -215,6 +235,7 @@ impl Probes {
     fn play_rest(&mut self, told: ToldSettings<'_>, names: &Names) -> Result<(), AllocError>
         ensures lines { OnOk result (lines_in self.new ≡ lines_in self.old) }
         ensures none { OnOk result (taken_in self.new ≡ None → lines_in self.new ≡ []) }
+        ensures look { self.new.look ≡ self.old.look }
     {
         if self.played.is_none() {
             self.play_kept(told, names)
@@ -225,8 +246,10 @@ impl Probes {
 
     /// Whether what was taken for granted at the begin holds to the end.
     fn is_borne_out(&self, told: ToldSettings<'_>) -> Result<bool, AllocError>
-        ensures { IfOk result (λ holds. IsTrue holds → IfSome (rules_in self.now)
+        ensures rules { IfOk result (λ holds. IsTrue holds → IfSome (rules_in self.now)
             (IsPlayedBy (law_by told.entry.head.now told.entry.options.now))) }
+        ensures seen { IfOk result (λ holds. IsTrue holds →
+            IfSome (rules_in self.now) (AreSeenBy self.now.look)) }
     {
         match &self.played {
             Some(played) => {
@@ -241,6 +264,7 @@ impl Probes {
         ensures rules { OnOk result (rules_in self.new ≡ rules_in self.old) }
         ensures lines { OnOk result (lines_in self.new ≡ lines_in self.old) }
         ensures explained { OnOk result (IfSome (taken_in self.new) IsExplainedWhere) }
+        ensures look { self.new.look ≡ self.old.look }
     {
         let notes = told.notes(self.alloc)?;
         self.end_played()?;
@@ -255,6 +279,7 @@ impl Probes {
         ensures rules { OnOk result (rules_in self.new ≡ rules_in self.old) }
         ensures lines { OnOk result (lines_in self.new ≡ lines_in self.old) }
         ensures explained { OnOk result (IfSome (taken_in self.new) IsExplainedWhere) }
+        ensures look { self.new.look ≡ self.old.look }
     {
         match &mut self.played {
             Some(played) => played.end(),
@@ -265,6 +290,7 @@ impl Probes {
     fn finish_laws(&mut self, notes: &StartNotes) -> Result<(), AllocError>
         ensures kept { self.new.kept ≡ self.old.kept }
         ensures taken { taken_in self.new ≡ taken_in self.old }
+        ensures look { self.new.look ≡ self.old.look }
     {
         let findings = &mut self.law_findings;
         self.laws.finish(notes.settings, &notes.servers, findings)
@@ -274,6 +300,7 @@ impl Probes {
     fn see_class(&mut self, probe: &Probe) -> Result<(), AllocError>
         ensures kept { self.new.kept ≡ self.old.kept }
         ensures taken { taken_in self.new ≡ taken_in self.old }
+        ensures look { self.new.look ≡ self.old.look }
     {
         self.shows_task = self.shows_task || shows_task(probe);
         if let Probe::Enqueued(line) = probe
@@ -290,6 +317,7 @@ impl Probes {
         requires { self.old.played ≡ None }
         ensures lines { OnOk result (lines_in self.new ≡ lines_in self.old) }
         ensures none { OnOk result (taken_in self.new ≡ None → lines_in self.new ≡ []) }
+        ensures look { self.new.look ≡ self.old.look }
     {
         if self.kept.is_empty() {
             return Ok(());
@@ -326,6 +354,7 @@ impl Probes {
     fn put_rows(&mut self, names: &Names) -> Result<(), AllocError>
         ensures kept { self.new.kept ≡ self.old.kept }
         ensures taken { taken_in self.new ≡ taken_in self.old }
+        ensures look { self.new.look ≡ self.old.look }
     {
         if !self.keeps_rows {
             return Ok(());
@@ -354,23 +383,31 @@ impl Probes {
 
     /// Whether each value that was compared is the kernel's, and each law holds.
     pub fn agrees(&self, played: &Played) -> bool
-        ensures { IsTrue result → played.now.player.first ≡ None }
+        ensures equal { IsTrue result → played.now.player.first ≡ None }
+        ensures all { result ≡ (is_none played.now.player.first
+            && none_differs self.now.law_findings.counts) }
     {
         played.player.run().agrees() && self.keeps_laws()
     }
 
     /// Whether each law holds.
-    pub fn keeps_laws(&self) -> bool {
+    pub fn keeps_laws(&self) -> bool
+        ensures { result ≡ none_differs self.now.law_findings.counts }
+    {
         self.law_findings.agrees()
     }
 
     /// How many laws are broken.
-    pub fn broken_laws(&self) -> u64 {
+    pub fn broken_laws(&self) -> u64
+        ensures { result ≡ self.now.law_findings.counts.laws.differ }
+    {
         self.law_findings.counts.laws.differ
     }
 
     /// The first value that differs; where none does, the first law that is broken.
-    pub fn first(&self, played: &Played) -> Option<Deviation> {
+    pub fn first(&self, played: &Played) -> Option<Deviation>
+        ensures { result ≡ chosen played.now.player.first self.now.law_findings.first }
+    {
         match played.player.run().first() {
             Some(first) => Some(first),
             None => self.law_findings.first,

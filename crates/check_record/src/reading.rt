@@ -2,7 +2,7 @@
 
 ghost use Rattle.std.specs.Prelude.{◌≡◌, OnOk};
 ghost use Rattle.trace_file.specs.Reading.{IsSoOf};
-ghost use Rattle.check_record.specs.FirstFault.{earlier_of, is_before_by};
+ghost use Rattle.check_record.specs.FirstFault.{earlier_of, fault_read, is_before_by};
 ghost use Rattle.check_record.specs.Reading.{HasShown, ended_by};
 ghost use Rattle.check_record.specs.Seen.{shown_in};
 ghost use Rattle.check_record.specs.Shown.{nothing_shown};
@@ -15,7 +15,9 @@ use trace_file::{ReadFault, read_lines};
 use trace_lines::Halt;
 
 /// Why a trace was not read.
-fn fault_of<'o>(fault: ReadFault<Fault<'o>>) -> Fault<'o> {
+fn fault_of<'o>(fault: ReadFault<Fault<'o>>) -> Fault<'o>
+    ensures { result ≡ fault_read fault.entry }
+{
     match fault {
         ReadFault::Unreadable => Fault::Unreadable,
         ReadFault::NoMemory => Fault::NoMemory,

@@ -1,6 +1,8 @@
 //! The lines of timers of a record, and the tasks that are given or named.
 
 ghost use Rattle.std.specs.Prelude.{◌≡◌};
+ghost use Rattle.check_settings.specs.Heads.{is_of_domain};
+ghost use Rattle.check_record.specs.FirstFault.{fault_woken};
 ghost use Rattle.check_record.specs.Seen.{shown_in};
 
 use crate::gathering::Gathering;
@@ -137,7 +139,9 @@ impl<'o> Gathering<'o> {
     /// A SCHED_DEADLINE task wakes on a CPU of the root domain.
     #[tactic(auto, unfolding(crate::specs::Seen::shown_in))]
     fn see_cpu(&mut self, number: u64, fixed: &Fixed)
-        ensures { shown_in self.new ≡ shown_in self.old }
+        ensures fault { self.new.fault ≡ fault_woken
+            (is_of_domain self.old.head self.old.options.now) fixed.now number self.old.fault }
+        ensures shown { shown_in self.new ≡ shown_in self.old }
     {
         if let Fixed::Woken {
             cpu,
