@@ -19,7 +19,7 @@ complete -c grubtrace -n '__fish_seen_subcommand_from check' -l kernel -x -d 'Th
 complete -c grubtrace -n '__fish_seen_subcommand_from check' -l by -x -a 'kernel documentation' -d 'Whose arithmetic the record is played by'
 complete -c grubtrace -n '__fish_seen_subcommand_from check' -l timers -d 'Compare timers, not probes'
 complete -c grubtrace -n '__fish_seen_subcommand_from check' -l laws -x -a 'progress expiry firing 0-lag budget total pick run server none' -d 'The laws that the record is held to'
-complete -c grubtrace -n '__fish_seen_subcommand_from check' -l why -d 'Name the one changed rule that explains a record'
+complete -c grubtrace -n '__fish_seen_subcommand_from check' -l why -d 'Name each changed rule that explains a record'
 complete -c grubtrace -n '__fish_seen_subcommand_from check' -l table -r -d 'A row for each comparison'
 complete -c grubtrace -n '__fish_seen_subcommand_from check' -l json -r -d 'The states, for ui.perfetto.dev'
 complete -c grubtrace -n '__fish_seen_subcommand_from check' -l picture -r -d 'The states, as SVG'

@@ -17,6 +17,7 @@ use probe_findings::ProbedLine;
 use probe_lines::event_of;
 use probe_verdict::DroppedLines;
 use std::alloc::{AllocError, Global};
+use task_figures::shows_class;
 use timer_record::OpenRecord;
 use trace_data::{Flaw, RecordLine, Said, TraceNote};
 use trace_lines::{Lines, ToldLine};
@@ -24,6 +25,13 @@ use trace_options::{CPUS, CheckOptions};
 
 /// A moment that is greater than each number of nanoseconds is read as this one.
 const TOO_LATE: u64 = u64::MAX;
+
+/// A line of an event whose moment is so much before that of the line before it.
+#[derive(Clone, Copy)]
+pub struct EarlierLine {
+    pub line: u64,
+    pub nanos: u64,
+}
 
 /// A record that is being read.
 #[derive(Drop)]
@@ -36,8 +44,11 @@ pub struct Gathering<'o> {
     /// The pid of the last line that showed a task.
     pub(crate) last: Option<u64>,
 
-    /// Of each given task, whether a line has shown it.
-    pub(crate) found: Vec<bool>,
+    /// Of each given task, the pid with which a line has shown it.
+    pub(crate) found: Vec<Option<u64>>,
+
+    /// Whether a line has shown each of them.
+    pub(crate) has_found: bool,
 
     /// The lines of timers; none before the first line of an event.
     pub(crate) record: Option<OpenRecord>,
@@ -45,6 +56,10 @@ pub struct Gathering<'o> {
 
     /// The latest moment of a line of an event that was kept.
     pub(crate) latest: u64,
+
+    /// The moment of the last line of an event, and the first line that is before the one before it.
+    pub(crate) before: u64,
+    pub earlier: Option<EarlierLine>,
 
     /// Whether a note tells of a task.
     pub(crate) has_notes: bool,
@@ -111,7 +126,7 @@ impl<'o> Gathering<'o> {
         let keeps_lines = options.explains || request.keeps_timers || request.path == "-";
         let mut found = Vec::new(alloc);
         for _ in 0..options.tasks.len() {
-            found.push(false)?;
+            found.push(None)?;
         }
         Ok(Gathering {
             alloc,
@@ -120,9 +135,12 @@ impl<'o> Gathering<'o> {
             names: Names::new(alloc),
             last: None,
             found,
+            has_found: options.tasks.is_empty(),
             record: None,
             has_timers: false,
             latest: 0,
+            before: 0,
+            earlier: None,
             has_notes: false,
             has_older: false,
             warnings: Vec::new(alloc),
@@ -195,7 +213,7 @@ impl<'o> Gathering<'o> {
     {
         match told.shown {
             Some(shown) => {
-                self.show(shown.pid, shown.comm)?;
+                self.show(shown.pid, shown.comm, shows_class(&told.line))?;
                 self.see_older(is_older(&told.line, shown.comm));
                 Ok(())
             }
@@ -240,6 +258,7 @@ impl<'o> Gathering<'o> {
         ensures { OnOk result (shown_in self.new
             ≡ with_said read.line read.at read.cpu read.pid said (shown_in self.old)) }
     {
+        self.see_moment(read);
         self.hold_to_laws(read, &said)?;
         match said {
             Said::Fixed(fixed) => self.fixed(read.line, read.at, read.cpu, read.pid, fixed),
@@ -254,6 +273,20 @@ impl<'o> Gathering<'o> {
                 probe,
             }),
         }
+    }
+
+    /// A line of an event may be before the one before it.
+    #[tactic(auto, unfolding(crate::specs::Seen::shown_in))]
+    fn see_moment(&mut self, read: ReadLine)
+        ensures { shown_in self.new ≡ shown_in self.old }
+    {
+        if read.at < self.before && self.earlier.is_none() {
+            self.earlier = Some(EarlierLine {
+                line: read.line,
+                nanos: self.before - read.at,
+            });
+        }
+        self.before = read.at;
     }
 
     /// A line of an event is held to the laws.

@@ -12,7 +12,7 @@ mod reading;
 mod timers;
 mod whole;
 
-pub use gathering::Gathering;
+pub use gathering::{EarlierLine, Gathering};
 pub use laws::RecordLaws;
 pub use marks::Marks;
 pub use names::Names;

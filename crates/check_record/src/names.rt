@@ -4,11 +4,18 @@ use probe_verdict::NamedTask;
 use std::alloc::{AllocError, Global};
 use std::collections::HashMap;
 
-/// The tasks of a record: each pid with its comm at the first line that shows it.
+/// Where a task's name stands, and whether a line has shown it in the class.
+#[derive(Clone, Copy)]
+struct NamePlace {
+    place: usize,
+    is_in_class: bool,
+}
+
+/// The tasks of a record: each pid with its comm at the first line that shows it in the class, else at the first that shows it.
 #[derive(Drop)]
 pub struct Names {
     pub tasks: Vec<NamedTask>,
-    places: HashMap<u64, usize>,
+    places: HashMap<u64, NamePlace>,
 }
 
 impl Names {
@@ -19,18 +26,28 @@ impl Names {
         }
     }
 
-    /// Whether a line has shown this pid.
-    pub fn has(&self, pid: u64) -> bool {
-        self.places.get(&pid).is_some()
-    }
-
-    /// Keeps the comm of a pid that no line has shown before.
-    pub fn show(&mut self, alloc: Global, pid: u64, comm: &[u8]) -> Result<(), AllocError> {
-        let mut kept = Vec::new(alloc);
-        kept.extend_from_slice(comm)?;
-        let place = self.tasks.len();
-        self.tasks.push(NamedTask { pid, comm: kept })?;
-        self.places.insert(pid, place)?;
+    /// A line shows a pid with this comm.
+    pub fn show(
+        &mut self,
+        alloc: Global,
+        pid: u64,
+        comm: &[u8],
+        is_in_class: bool,
+    ) -> Result<(), AllocError> {
+        let place = match self.places.get(&pid).copied() {
+            None => self.tasks.len(),
+            Some(known) if is_in_class && !known.is_in_class => known.place,
+            Some(_) => return Ok(()),
+        };
+        let name = NamedTask {
+            pid,
+            comm: Vec::from_slice(alloc, comm)?,
+        };
+        match self.tasks.get_mut(place) {
+            Some(named) => *named = name,
+            None => self.tasks.push(name)?,
+        }
+        self.places.insert(pid, NamePlace { place, is_in_class })?;
         Ok(())
     }
 
@@ -40,7 +57,7 @@ impl Names {
         if let Some(name) = self
             .places
             .get(&pid)
-            .and_then(|place| self.tasks.get(*place))
+            .and_then(|known| self.tasks.get(known.place))
         {
             out.extend_from_slice(name.comm.as_slice())?;
             return Ok(out);

@@ -12,16 +12,23 @@ use timer_record::{GivenReservation, OpenRecord, Unlisted};
 use trace_data::{Fixed, Parameters};
 
 impl<'o> Gathering<'o> {
-    /// A line shows this pid with this comm.
+    /// A line shows this pid with this comm; a task may have another one later.
     #[tactic(auto, unfolding(crate::specs::Seen::shown_in))]
-    pub(crate) fn show(&mut self, pid: u64, comm: &[u8]) -> Result<(), AllocError>
+    pub(crate) fn show(
+        &mut self,
+        pid: u64,
+        comm: &[u8],
+        is_in_class: bool,
+    ) -> Result<(), AllocError>
         ensures { shown_in self.new ≡ shown_in self.old }
     {
-        if self.last == Some(pid) || self.names.has(pid) {
+        if self.last != Some(pid) || is_in_class {
             self.last = Some(pid);
+            self.names.show(self.alloc, pid, comm, is_in_class)?;
+        }
+        if self.has_found {
             return Ok(());
         }
-        self.names.show(self.alloc, pid, comm)?;
         self.give(pid, comm)
     }
 
@@ -34,23 +41,31 @@ impl<'o> Gathering<'o> {
             return Ok(());
         };
         if let Some(found) = self.found.get_mut(place) {
-            *found = true;
+            *found = Some(pid);
         }
+        self.has_found = self.not_found().is_none();
         match self.options.tasks.get(place) {
             Some(given) => self.give_to(pid, given.parameters),
             None => Ok(()),
         }
     }
 
-    /// Which of the given tasks that were not found is the task of this pid.
+    /// Which of the given tasks that were not found is the task of this pid, unless that is one that was.
     fn place_of(&self, pid: u64, comm: &[u8]) -> Option<usize> {
+        if self.found.iter().any(|found| *found == Some(pid)) {
+            return None;
+        }
         for (place, given) in self.options.tasks.iter().enumerate() {
-            let is_found = self.found.get(place).copied().unwrap_or(true);
-            if !is_found && is_named(given.name, pid, comm) {
+            if self.is_sought(place) && is_named(given.name, pid, comm) {
                 return Some(place);
             }
         }
         None
+    }
+
+    /// Whether no line has shown this one of the given tasks.
+    fn is_sought(&self, place: usize) -> bool {
+        matches!(self.found.get(place), Some(None))
     }
 
     #[tactic(auto, unfolding(crate::specs::Seen::shown_in))]
@@ -67,7 +82,7 @@ impl<'o> Gathering<'o> {
     /// The first given task that no line has shown.
     pub fn not_found(&self) -> Option<&'o str> {
         for (place, given) in self.options.tasks.iter().enumerate() {
-            if !self.found.get(place).copied().unwrap_or(true) {
+            if self.is_sought(place) {
                 return Some(given.name);
             }
         }

@@ -156,7 +156,7 @@ fn why_arg<'a>(alloc: Global) -> Arg<'a>
 {
     Arg::new(alloc, "why")
         .long("why")
-        .help("Names the one changed rule that explains a record of probes that differs")
+        .help("Names each changed rule that explains a record that differs")
         .action(ArgAction::SetTrue)
 }
 

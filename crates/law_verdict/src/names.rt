@@ -1,9 +1,10 @@
 //! Names of laws, of lines, and of known faults.
 
-ghost use Rattle.std.specs.Prelude.{◌≡◌, IfSome};
-ghost use Rattle.law_verdict.specs.Names.{fault_word, law_word, line_word};
+ghost use Rattle.std.specs.Prelude.{◌≡◌, position};
+ghost use Rattle.law_verdict.specs.Names.{asked_in, fault_word, is_name_of, law_named, law_word, line_word};
 
 use law_findings::{AskedLaws, LAWS, Law, LineKind, Sign, Standing, TimerKind};
+use trace_lines::first_part;
 
 /// The name of a law, as options and verdicts have it.
 pub fn law_name(law: Law) -> &'static str
@@ -24,29 +25,43 @@ pub fn law_name(law: Law) -> &'static str
 }
 
 /// The laws that a word of names asks, which are parted by commas; `none` asks none. Nothing where a name is no law's.
-pub fn asked_of(word: &str) -> Option<AskedLaws> {
+pub fn asked_of(word: &str) -> Option<AskedLaws>
+    ensures { result ≡ asked_in word.now }
+{
     let mut asked = AskedLaws::none();
     if word == "none" {
         return Some(asked);
     }
-    let mut rest = word;
-    for _ in 0..=word.len() {
-        match rest.split_once(',') {
-            Some((name, others)) => {
-                asked = asked.with(law_of(name)?);
-                rest = others;
-            }
-            None => return Some(asked.with(law_of(rest)?)),
-        }
+    let mut left = Some(word.as_bytes());
+    while let Some(text) = left {
+        let (name, rest) = first_part(text);
+        asked = asked.with(law_of(name)?);
+        left = rest;
     }
     Some(asked)
 }
 
 /// The law of this name.
-fn law_of(name: &str) -> Option<Law>
-    ensures { IfSome result (λ law. law_word law ≡ name.now) }
+fn law_of(name: &[u8]) -> Option<Law>
+    ensures { result ≡ law_named name.now }
 {
-    LAWS.iter().copied().find(|law| law_name(*law) == name)
+    match place_of(name) {
+        Some(place) => LAWS.get(place).copied(),
+        None => None,
+    }
+}
+
+/// Where the law of this name stands among all.
+fn place_of(name: &[u8]) -> Option<usize>
+    ensures { result ≡ position (is_name_of name.now) LAWS }
+{
+    LAWS.iter().position(|law| is_name_of(name, *law))
+}
+
+fn is_name_of(name: &[u8], law: Law) -> bool
+    ensures { result ≡ is_name_of name.now law }
+{
+    law_name(law).as_bytes() == name
 }
 
 /// The event of a line.

@@ -185,7 +185,7 @@ pub fn rule_name(rule: ExactRule) -> &'static str {
         ExactRule::ReplenishedAtOnce => "replenished at once",
         ExactRule::Replenished => "replenished",
         ExactRule::ReplenishedBlocked => "replenished while blocked",
-        ExactRule::ReplenishedBlockedLate => "replenished while blocked, too late",
+        ExactRule::ReplenishedBlockedLate => "new period while blocked",
         ExactRule::WakeKept => "wake: kept",
         ExactRule::WakeRevised => "wake: revised",
         ExactRule::WakeNewPeriod => "wake: new period",

@@ -8,6 +8,7 @@ mod options;
 mod picture;
 mod price;
 mod reading;
+mod sections;
 mod serving;
 mod sizing;
 mod task_text;

@@ -2,6 +2,7 @@
 
 ghost use Rattle.std.specs.Prelude.{◌≡◌, ◌≤◌, ◌<◌, ◌↔◌, All, IfOk, IfSome, IsNone, OnOk};
 ghost use Rattle.size_least.specs.Jobs.{late_of};
+ghost use Rattle.size_report.specs.Answers.{AreJobs};
 ghost use Rattle.size_report.specs.Needs.{IsCounted, IsNeeded, IsPriced, less_of, proposed_of};
 
 use size_jobs::Seen;
@@ -47,7 +48,9 @@ pub(crate) struct Needed {
 }
 
 /// The jobs that are to be done in so many microseconds after their wakes.
-pub(crate) fn jobs_of(alloc: Global, seen: &[Seen], within: u32) -> Result<Vec<Job>, AllocError> {
+pub(crate) fn jobs_of(alloc: Global, seen: &[Seen], within: u32) -> Result<Vec<Job>, AllocError>
+    ensures { IfOk result (λ v. AreJobs within seen.now v.items) }
+{
     let mut jobs = Vec::new(alloc);
     for one in seen {
         jobs.push(Job::new(one.release, one.work, within))?;

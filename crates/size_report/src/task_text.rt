@@ -1,5 +1,8 @@
 //! The text of one task.
 
+ghost use Rattle.std.specs.Prelude.{◌≡◌, ◌++◌, OnOk};
+ghost use Rattle.size_report.specs.Answers.{command_text};
+
 use crate::figures::{Figures, at, share};
 use crate::sizing::{Needed, SizeRequest};
 use size_admission::table::{
@@ -28,10 +31,15 @@ fn put_left_out(
 }
 
 /// The head line: how many jobs there are, in how many microseconds, and which were left out.
-pub(crate) fn put_head(out: &mut Vec<u8>, task: &JobTask, micros: u64) -> Result<(), AllocError> {
+pub(crate) fn put_head(
+    out: &mut Vec<u8>,
+    task: &JobTask,
+    pid: u64,
+    micros: u64,
+) -> Result<(), AllocError> {
     put_text(out, "task ")?;
     out.extend_from_slice(&task.comm)?;
-    put_number(out, b" pid=", task.pid)?;
+    put_number(out, b" pid=", pid)?;
     put_number(out, b": ", task.jobs.len() as u64)?;
     put_text(
         out,
@@ -313,7 +321,9 @@ pub(crate) fn put_command(
     runtime: u32,
     period: u32,
     pid: u64,
-) -> Result<(), AllocError> {
+) -> Result<(), AllocError>
+    ensures { OnOk result (out.new.items ≡ out.old.items ++ command_text runtime period pid) }
+{
     put_number(out, b"  chrt -d -T ", u64::from(runtime) * 1000)?;
     put_number(out, b" -D ", u64::from(period) * 1000)?;
     put_number(out, b" -P ", u64::from(period) * 1000)?;

@@ -10,6 +10,6 @@ mod text;
 
 pub use lines::FigureLines;
 pub use others::CpuLeft;
-pub use serving::{FigureText, print_figures};
+pub use serving::{FigureText, print_figures, shows_class};
 pub use task::TaskFigures;
 pub use text::{put_figures, put_supply};

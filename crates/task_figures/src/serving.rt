@@ -7,17 +7,46 @@ use std::alloc::{AllocError, Global};
 use std::collections::HashMap;
 use std::io;
 use std::io::Write;
-use trace_data::RecordLine;
+use trace_data::{Fixed, RecordLine, Said};
 use trace_file::read_lines;
 use trace_lines::{Lines, ToldLine};
 
-/// The lines of a trace, with the comm of each task.
+/// Whether a line of an event shows its task in the class: from the first one on the task has this comm.
+pub fn shows_class(line: &RecordLine) -> bool {
+    matches!(
+        *line,
+        RecordLine::Event {
+            said: Said::Fixed(
+                Fixed::Woken {
+                    is_deadline: true,
+                    ..
+                } | Fixed::Migrated {
+                    is_deadline: true,
+                    ..
+                } | Fixed::Switched {
+                    is_deadline: true,
+                    ..
+                },
+            ),
+            ..
+        }
+    )
+}
+
+/// Where a task's name stands, and whether a line has shown it in the class.
+#[derive(Clone, Copy)]
+struct NamePlace {
+    place: usize,
+    is_in_class: bool,
+}
+
+/// The lines of a trace, with the comm of each task: that of its first line in the class, else that of its first line.
 #[derive(Drop)]
 struct NamedLines {
     alloc: Global,
     figures: FigureLines,
     names: Vec<TaskName>,
-    places: HashMap<u64, usize>,
+    places: HashMap<u64, NamePlace>,
 }
 
 impl Lines for NamedLines {
@@ -33,7 +62,7 @@ impl Lines for NamedLines {
 
     fn take(&mut self, number: u64, told: &ToldLine<&[u8]>) -> Result<bool, AllocError> {
         if let Some(shown) = told.shown {
-            self.show(shown.pid, shown.comm)?;
+            self.show(shown.pid, shown.comm, shows_class(&told.line))?;
         }
         if let RecordLine::Event { said, .. } = &told.line {
             self.figures.take(said)?;
@@ -44,15 +73,21 @@ impl Lines for NamedLines {
 
 impl NamedLines {
     /// A line shows a task with this comm.
-    fn show(&mut self, pid: u64, comm: &[u8]) -> Result<(), AllocError> {
-        if self.places.contains_key(&pid) {
-            return Ok(());
+    fn show(&mut self, pid: u64, comm: &[u8], is_in_class: bool) -> Result<(), AllocError> {
+        let place = match self.places.get(&pid).copied() {
+            None => self.names.len(),
+            Some(known) if is_in_class && !known.is_in_class => known.place,
+            Some(_) => return Ok(()),
+        };
+        let name = TaskName {
+            pid,
+            comm: Vec::from_slice(self.alloc, comm)?,
+        };
+        match self.names.get_mut(place) {
+            Some(named) => *named = name,
+            None => self.names.push(name)?,
         }
-        let mut kept = Vec::new(self.alloc);
-        kept.extend_from_slice(comm)?;
-        let place = self.names.len();
-        self.names.push(TaskName { pid, comm: kept })?;
-        self.places.insert(pid, place)?;
+        self.places.insert(pid, NamePlace { place, is_in_class })?;
         Ok(())
     }
 }

@@ -7,6 +7,7 @@ ghost use Rattle.trace_check.specs.Uncompared.{unvalued_of};
 
 use crate::by_timers::timer_states;
 use crate::check::{CheckRequest, Verdict};
+use crate::order::with_order;
 use crate::probe_states::probe_states;
 use crate::showing::nothing_shown;
 use crate::untried::of_release;
@@ -58,6 +59,7 @@ fn of_probes<'o>(
     let kernel = gathering.head.kernel_by(options);
     let differ = gathering.probes.differ();
     let verdict = of_release(alloc, verdict, Check::Probes, kernel, differ)?;
+    let verdict = with_order(alloc, verdict, gathering.earlier)?;
     with_states(alloc, wanted, options, gathering, verdict)
 }
 

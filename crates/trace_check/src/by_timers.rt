@@ -4,6 +4,7 @@ ghost use Rattle.std.specs.Prelude.{◌≡◌, IfOk, is_none};
 ghost use Rattle.trace_check.specs.Uncompared.{uncompared_of};
 
 use crate::check::{CheckRequest, Verdict};
+use crate::order::with_order;
 use crate::showing::{ShownStates, TimerPlay, shown_of};
 use crate::untried::of_release;
 use crate::why::put_timer_explanation;
@@ -98,7 +99,8 @@ pub(crate) fn timer_verdict<'o>(
     }
     let verdict = told_verdict(alloc, wanted, options, gathering, timed.play(&judged))?;
     let kernel = gathering.head.kernel_by(options);
-    of_release(alloc, verdict, Check::Timers, kernel, differ(&judged))
+    let verdict = of_release(alloc, verdict, Check::Timers, kernel, differ(&judged))?;
+    with_order(alloc, verdict, gathering.earlier)
 }
 
 /// How many blocks and timers differ.

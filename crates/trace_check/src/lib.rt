@@ -7,6 +7,7 @@ mod by_timers;
 mod check;
 mod evidence;
 mod files;
+mod order;
 mod probe_states;
 mod reports;
 mod showing;

@@ -87,9 +87,13 @@ limit_in text = option_and_then (λ parts. option_and_then (limit_with parts.0) 
 abbrev pub server_from : Parameters → FairServerOption
 server_from it = Reserves it.dl_runtime it.dl_period
 
+-- RUNTIME:PERIOD, in microseconds
+abbrev pub server_with : List ℕ × List ℕ → Option FairServerOption
+server_with parts = option_map server_from (reserved 0 (span_in parts.0) (span_in parts.1) (span_in parts.1))
+
 -- the server of fair tasks on each runqueue: none, or what it reserves
 abbrev pub server_in : List ℕ → Option FairServerOption
-server_in text = if bytes_eq text (codes "none") then Some Absent else option_map server_from (parameters_in 0 text)
+server_in text = if bytes_eq text (codes "none") then Some Absent else option_and_then server_with (colon_parts text)
 
 -- whether CPUs are above those before them
 abbrev pub is_behind : Option CpuRange → CpuRange → Bool

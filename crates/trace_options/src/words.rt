@@ -3,7 +3,7 @@
 ghost use Rattle.std.specs.Prelude.{◌≡◌, ◌<◌, ◌==◌, ◌^◌, IfOk, option_map, position};
 ghost use Rattle.std.specs.Path.{rsplit_once};
 ghost use Rattle.trace_fields.specs.Words.{text_of};
-ghost use Rattle.trace_options.specs.Words.{colon_parts, domain_in, is_behind, limit_from, limit_in, limit_with, moment_in, moment_from, moment_with, ordered, parameters_in, reservation_in, reserved, server_in, span_in, texts_of};
+ghost use Rattle.trace_options.specs.Words.{colon_parts, domain_in, is_behind, limit_from, limit_in, limit_with, moment_in, moment_from, moment_with, ordered, parameters_in, reservation_in, reserved, server_in, server_with, span_in, texts_of};
 
 use std::alloc::{AllocError, Global};
 use trace_data::{Limit, Parameters};
@@ -152,6 +152,16 @@ pub(crate) fn limit_of(text: &[u8]) -> Option<Limit>
     limit_with(runtime, numeral(10, period)?)
 }
 
+fn server_with(runtime: &[u8], period: &[u8]) -> Option<FairServerOption>
+    ensures { result ≡ server_with (runtime.now, period.now) }
+{
+    let parameters = reserved(0, span_of(runtime), span_of(period), span_of(period))?;
+    Some(FairServerOption::Reserves {
+        dl_runtime: parameters.dl_runtime,
+        dl_period: parameters.dl_period,
+    })
+}
+
 /// The server of fair tasks of `RUNTIME:PERIOD`, in microseconds, or `none`.
 pub(crate) fn server_of(text: &[u8]) -> Option<FairServerOption>
     ensures { result ≡ server_in text.now }
@@ -159,11 +169,8 @@ pub(crate) fn server_of(text: &[u8]) -> Option<FairServerOption>
     if text == b"none".as_slice() {
         return Some(FairServerOption::Absent);
     }
-    let parameters = parameters_of(0, text)?;
-    Some(FairServerOption::Reserves {
-        dl_runtime: parameters.dl_runtime,
-        dl_period: parameters.dl_period,
-    })
+    let (runtime, period) = colon_parts(text)?;
+    server_with(runtime, period)
 }
 
 /// Whether CPUs are above those before them.
