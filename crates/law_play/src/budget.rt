@@ -1,10 +1,13 @@
 //! Budget: what a task runs and wakes with.
 
-ghost use Rattle.std.specs.Prelude.{◌≡◌, IsTrue, OnOk};
+ghost use Rattle.std.specs.Prelude.{◌≡◌, IfNone, IfSome, OnOk, Some, false, slice_get, true};
 ghost use Rattle.law_findings.specs.Budget.{HasBudget};
-ghost use Rattle.law_findings.specs.Tallies.{judged_in};
-ghost use Rattle.law_findings.specs.declared.judging.Judgement.TheVariants.{Holds};
 ghost use Rattle.law_findings.specs.declared.words.Law.TheVariants.{Budget as OfBudget};
+ghost use Rattle.law_findings.specs.declared.words.LineKind.TheVariants.{Enqueue};
+ghost use Rattle.law_play.specs.inside.Judged.{broken_in, held_in};
+ghost use Rattle.law_play.specs.inside.Runs.{no_budget};
+ghost use Rattle.law_play.specs.inside.Tasks.{has_own_budget, is_wake, with_line, with_runtime};
+ghost use Rattle.law_play.specs.inside.Lent.{changed_at};
 
 use crate::play::{LawPlay, ReadLine};
 use crate::task::Task;
@@ -40,7 +43,18 @@ impl LawPlay {
         read: ReadLine,
         budget: Budget,
         flags: u64,
-    ) -> Result<(), AllocError> {
+    ) -> Result<(), AllocError>
+        ensures other { IfSome (slice_get self.old.tasks.all.items place)
+            (λ t. is_wake t budget flags ≡ false
+            → OnOk result (self.new.tallies ≡ self.old.tallies)) }
+        ensures kept { IfSome (slice_get self.old.tasks.all.items place)
+            (λ t. is_wake t budget flags ≡ true → HasBudget budget.runtime
+            → OnOk result (self.new.tallies ≡ held_in self.old OfBudget)) }
+        ensures broken { IfSome (slice_get self.old.tasks.all.items place)
+            (λ t. is_wake t budget flags ≡ true → (HasBudget budget.runtime → ⊥)
+            → OnOk result (self.new.tallies
+            ≡ broken_in self.old (no_budget read t.pid Enqueue budget.runtime))) }
+    {
         let Some(task) = self.budget_of(place, budget) else {
             return Ok(());
         };
@@ -96,7 +110,12 @@ impl LawPlay {
     }
 
     /// The task whose budget is its own, and which is not throttled.
-    fn budget_of(&self, place: usize, budget: Budget) -> Option<&Task> {
+    fn budget_of(&self, place: usize, budget: Budget) -> Option<&Task>
+        ensures own { IfSome result (λ t. has_own_budget t.now.reservation budget ≡ true) }
+        ensures other { IfNone result (IfSome (slice_get self.now.tasks.all.items place)
+            (λ t. has_own_budget t.reservation budget ≡ false)) }
+        ensures task { IfSome result (λ t. slice_get self.now.tasks.all.items place ≡ Some t.now) }
+    {
         let task = self.tasks.get(place)?;
         let reservation = task.reservation?;
         let is_own = !reservation.is_special() && !reservation.is_boosted;
@@ -108,7 +127,10 @@ impl LawPlay {
     }
 
     /// A line shows a deadline: the runtime that the task has under it, its own or that of the one that boosts it.
-    pub(crate) fn see_runtime(&mut self, place: usize, deadline: u64) {
+    pub(crate) fn see_runtime(&mut self, place: usize, deadline: u64)
+        ensures { self.new.tasks.all.items
+            ≡ changed_at self.old.tasks.all.items place (with_runtime deadline) }
+    {
         let Some(task) = self.tasks.get_mut(place) else {
             return;
         };
@@ -147,8 +169,10 @@ impl LawPlay {
         kind: LineKind,
         budget: i64,
     ) -> Result<(), AllocError>
-        ensures { HasBudget budget → IsTrue self.old.asked.budget
-            → OnOk result (self.new.tallies ≡ judged_in self.old.tallies OfBudget Holds) }
+        ensures kept { HasBudget budget
+            → OnOk result (self.new.tallies ≡ held_in self.old OfBudget) }
+        ensures broken { (HasBudget budget → ⊥)
+            → OnOk result (self.new.tallies ≡ broken_in self.old (no_budget read pid kind budget)) }
     {
         if has_budget(budget) {
             self.holds(Law::Budget);
@@ -164,7 +188,10 @@ impl LawPlay {
     }
 
     /// A task's line is the one before its next.
-    pub(crate) fn see_before(&mut self, place: usize, line: u64, kind: LineKind) {
+    pub(crate) fn see_before(&mut self, place: usize, line: u64, kind: LineKind)
+        ensures { self.new.tasks.all.items
+            ≡ changed_at self.old.tasks.all.items place (with_line line kind) }
+    {
         if let Some(task) = self.tasks.get_mut(place) {
             task.before = Some(Before {
                 line,

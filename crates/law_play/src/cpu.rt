@@ -1,5 +1,11 @@
 //! What the last lines of a CPU were.
 
+ghost use Rattle.std.specs.Prelude.{◌≡◌, slice_get};
+ghost use Rattle.std.specs.Borrow.{sem};
+ghost use Rattle.std.specs.Option.{option_copied_mut};
+ghost use Rattle.law_play.specs.inside.Lent.{LendsCpu};
+ghost use Rattle.law_play.specs.inside.Cpus.{blocked_of, cpu_of, is_recent};
+
 use crate::zero_lag::OpenBlock;
 use std::alloc::{AllocError, Global};
 
@@ -71,12 +77,16 @@ const NEW: Cpu = Cpu {
 
 impl Cpu {
     /// Whether the line with this number of its CPU stands among the last ones.
-    pub fn is_recent(&self, count: u64) -> bool {
+    pub fn is_recent(&self, count: u64) -> bool
+        ensures { result ≡ is_recent self.now count }
+    {
         self.count.saturating_sub(count) <= BEFORE
     }
 
     /// The entity whose block arms a 0-lag timer at the present line.
-    pub fn blocked(&self) -> Option<Blocker> {
+    pub fn blocked(&self) -> Option<Blocker>
+        ensures { result ≡ blocked_of self.now }
+    {
         match self.blocker {
             Some(blocker) if self.is_recent(blocker.count) => Some(blocker),
             _ => None,
@@ -102,7 +112,9 @@ impl Cpus {
     }
 
     /// What is known of this CPU.
-    pub fn of(&self, cpu: u32) -> Cpu {
+    pub fn of(&self, cpu: u32) -> Cpu
+        ensures { result ≡ cpu_of self.now cpu }
+    {
         self.cpus.get(cpu as usize).copied().unwrap_or(NEW)
     }
 
@@ -115,7 +127,10 @@ impl Cpus {
         Ok(())
     }
 
-    pub fn get_mut(&mut self, cpu: u32) -> Option<&mut Cpu> {
+    pub fn get_mut(&mut self, cpu: u32) -> Option<&mut Cpu>
+        ensures* lends { sem 𝓛 (LendsCpu self.entry cpu result) }
+        ensures value { option_copied_mut result ≡ slice_get self.old.cpus.items cpu }
+    {
         self.cpus.get_mut(cpu as usize)
     }
 

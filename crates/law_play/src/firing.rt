@@ -1,12 +1,13 @@
 //! Firing: timers fire, at their moments, or are stopped.
 
-ghost use Rattle.std.specs.Prelude.{◌≡◌, IfNone, IfSome, IsTrue, OnOk, false};
-ghost use Rattle.law_findings.specs.Firing.{IsEarly};
-ghost use Rattle.law_findings.specs.Tallies.{judged_in};
-ghost use Rattle.law_findings.specs.declared.judging.Judgement.TheVariants.{Holds};
+ghost use Rattle.std.specs.Prelude.{◌≡◌, ◌-◌, ◌++◌, ◌∷◌, [], IfNone, IfSome, IsTrue, OnOk, false, slice_get};
+ghost use Rattle.law_findings.specs.Firing.{IsAwakeLong, IsEarly};
 ghost use Rattle.law_findings.specs.declared.words.Law.TheVariants.{Firing as OfFiring};
-ghost use Rattle.law_findings.specs.declared.words.Standing.TheVariants.{Away, Blocked, Queued};
-ghost use Rattle.law_findings.specs.declared.words.Whose.TheVariants.{Task as OfTask, Timer as OfTimer};
+ghost use Rattle.law_play.specs.inside.Judged.{broken_in, held_in};
+ghost use Rattle.law_play.specs.inside.Timers.{armed_of, awake_by, disarmed, early_by, fired_unowned, never_fired, whose_of, zero_lag_moment};
+ghost use Rattle.law_play.specs.inside.Cpus.{cpu_of};
+ghost use Rattle.law_play.specs.inside.Lent.{changed_at};
+ghost use Rattle.law_play.specs.inside.Tasks.{standing_of, with_fired};
 
 use crate::cpu::FiringHere;
 use crate::play::{LawPlay, ReadLine};
@@ -60,12 +61,26 @@ impl LawPlay {
         }
     }
 
-    fn take_armed(&mut self, place: usize) -> Option<ArmedTimer> {
+    #[tactic(auto, unfolding(crate::specs::inside::Timers::disarmed))]
+    fn take_armed(&mut self, place: usize) -> Option<ArmedTimer>
+        ensures armed { result ≡ armed_of (slice_get self.old.timers.all.items place) }
+        ensures timers { self.new.timers.all.items
+            ≡ changed_at self.old.timers.all.items place disarmed }
+        ensures tallies { self.new.tallies ≡ self.old.tallies }
+        ensures asked { self.new.asked ≡ self.old.asked }
+        ensures kernel { self.new.kernel ≡ self.old.kernel }
+    {
         self.timers.get_mut(place)?.armed.take()
     }
 
     /// A timer that has not fired: its task was seen to do what stops it.
-    fn judge_stopped(&mut self, armed: ArmedTimer, again: Option<u64>) -> Result<(), AllocError> {
+    fn judge_stopped(&mut self, armed: ArmedTimer, again: Option<u64>) -> Result<(), AllocError>
+        ensures nobody { IfNone armed.owner (OnOk result (self.new.tallies ≡ self.old.tallies)) }
+        ensures excused { IfSome armed.owner (λ pid. IsTrue armed.is_excused
+            → OnOk result (self.new.tallies ≡ held_in self.old OfFiring)) }
+        ensures missed { IfSome armed.owner (λ pid. armed.is_excused ≡ false
+            → OnOk result (self.new.tallies ≡ broken_in self.old (never_fired armed pid again))) }
+    {
         let Some(pid) = armed.owner else {
             return Ok(());
         };
@@ -156,7 +171,11 @@ impl LawPlay {
     }
 
     /// A timer fires of which no line has shown whose it is; it was armed at that line.
-    fn fire_unowned(&mut self, timer: usize, read: ReadLine, armed: u64) {
+    #[tactic(auto, unfolding(crate::specs::inside::Timers::fired_unowned))]
+    fn fire_unowned(&mut self, timer: usize, read: ReadLine, armed: u64)
+        ensures { self.new.timers.all.items ≡ changed_at self.old.timers.all.items timer
+            (fired_unowned armed read (cpu_of self.old.cpus read.cpu).count) }
+    {
         let count = self.cpus.of(read.cpu).count;
         if let Some(timer) = self.timers.get_mut(timer) {
             timer.unowned = Some(Unowned {
@@ -169,7 +188,11 @@ impl LawPlay {
     }
 
     /// The replenishment timer of a task fired at this line of a CPU.
-    fn fire(&mut self, task: usize, line: u64, cpu: u32) {
+    #[tactic(auto, unfolding(crate::specs::inside::Tasks::with_fired))]
+    fn fire(&mut self, task: usize, line: u64, cpu: u32)
+        ensures { self.new.tasks.all.items ≡ changed_at self.old.tasks.all.items task
+            (with_fired line cpu (cpu_of self.old.cpus cpu).count) }
+    {
         let count = self.cpus.of(cpu).count;
         if let Some(task) = self.tasks.get_mut(task) {
             task.is_armed = false;
@@ -217,8 +240,12 @@ impl LawPlay {
         armed: ArmedTimer,
         address: u64,
     ) -> Result<(), AllocError>
-        ensures in_time { (IsEarly armed.expiry line.at → ⊥) → IsTrue self.old.asked.firing
-            → OnOk result (self.new.tallies ≡ judged_in self.old.tallies OfFiring Holds) }
+        ensures in_time { (IsEarly armed.expiry line.at → ⊥)
+            → OnOk result (self.new.tallies ≡ held_in self.old OfFiring) }
+        ensures late { (IsEarly armed.expiry line.at → ⊥)
+            → OnOk result (self.new.late.items ≡ self.old.late.items ++ (line.at - armed.expiry) ∷ []) }
+        ensures early { IsEarly armed.expiry line.at
+            → OnOk result (self.new.tallies ≡ broken_in self.old (early_by line armed address)) }
     {
         if is_early(armed.expiry, line.at) {
             return self.breaks(Breach {
@@ -237,12 +264,13 @@ impl LawPlay {
         Ok(())
     }
 
-    fn judge_awake(
-        &mut self,
-        line: LawLine,
-        armed: ArmedTimer,
-        pid: u64,
-    ) -> Result<(), AllocError> {
+    fn judge_awake(&mut self, line: LawLine, armed: ArmedTimer, pid: u64) -> Result<(), AllocError>
+        ensures asleep { IfNone armed.woke (OnOk result (self.new.tallies ≡ held_in self.old OfFiring)) }
+        ensures short { IfSome armed.woke (λ w. (IsAwakeLong w.at armed.expiry line.at → ⊥)
+            → OnOk result (self.new.tallies ≡ held_in self.old OfFiring)) }
+        ensures long { IfSome armed.woke (λ w. IsAwakeLong w.at armed.expiry line.at
+            → OnOk result (self.new.tallies ≡ broken_in self.old (awake_by line pid w.line))) }
+    {
         match armed.woke {
             Some(woken) if is_awake_long(woken.at, armed.expiry, line.at) => self.breaks(Breach {
                 law: Law::Firing,
@@ -325,8 +353,7 @@ impl LawPlay {
 }
 
 fn whose_of(owner: Option<u64>, timer: u64) -> Whose
-    ensures task { IfSome owner (λ pid. result ≡ OfTask pid) }
-    ensures nobody { IfNone owner (result ≡ OfTimer timer) }
+    ensures { result ≡ whose_of owner timer }
 {
     match owner {
         Some(pid) => Whose::Task { pid },
@@ -335,9 +362,7 @@ fn whose_of(owner: Option<u64>, timer: u64) -> Whose
 }
 
 pub(crate) fn standing_of(task: &Task) -> Standing
-    ensures away { IsTrue task.now.is_away → result ≡ Away }
-    ensures queued { task.now.is_away ≡ false → IsTrue task.now.is_queued → result ≡ Queued }
-    ensures blocked { task.now.is_away ≡ false → task.now.is_queued ≡ false → result ≡ Blocked }
+    ensures { result ≡ standing_of task.now }
 {
     if task.is_away {
         Standing::Away
@@ -349,7 +374,9 @@ pub(crate) fn standing_of(task: &Task) -> Standing
 }
 
 /// When a 0-lag timer that is armed at this moment is to fire.
-fn zero_lag_moment(at: u64, expiry: Expiry) -> u64 {
+fn zero_lag_moment(at: u64, expiry: Expiry) -> u64
+    ensures { result ≡ zero_lag_moment at expiry }
+{
     match expiry {
         Expiry::After(span) => at.wrapping_add(span.cast_unsigned()),
         Expiry::At(moment) => moment.cast_unsigned(),

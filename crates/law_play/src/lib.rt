@@ -12,7 +12,6 @@ mod play;
 mod progress;
 mod run;
 mod server;
-mod spread;
 mod states;
 mod task;
 mod timer;

@@ -1,5 +1,9 @@
 //! Tasks of the class that can run while their CPU runs a task of a lower class.
 
+ghost use Rattle.std.specs.Prelude.{◌≡◌, ◌+◌, ◌-◌, ◌^◌, ◌++◌, ◌∷◌, [], OnOk, min};
+ghost use Rattle.law_findings.specs.Pick.{IsRunShort};
+ghost use Rattle.law_play.specs.inside.Waits.{has_servers, lower_run, lower_runs};
+
 use crate::play::{LawPlay, ReadLine};
 use law_findings::{
     Breach, Finding, Law, LawLine, LineKind, LowerRun, Whose, is_run_short, is_tick_counted,
@@ -48,7 +52,9 @@ pub(crate) struct ReadyTasks {
 }
 
 /// Whether a kernel of this release has fair servers; one that is not known may have them.
-fn has_servers(kernel: Option<Kernel>) -> bool {
+fn has_servers(kernel: Option<Kernel>) -> bool
+    ensures { result ≡ has_servers kernel }
+{
     match kernel {
         Some(kernel) => kernel.major > 6 || kernel.major == 6 && kernel.minor >= 12,
         None => true,
@@ -57,14 +63,24 @@ fn has_servers(kernel: Option<Kernel>) -> bool {
 
 impl ReadyTask {
     /// How long the lower class ran up to this moment while the task could run.
-    fn lower_run(&self, lower: LowerTask, at: u64) -> LowerRun {
+    fn lower_run(&self, lower: LowerTask, at: u64) -> LowerRun
+        ensures { result ≡ lower_run self.now lower at }
+    {
         LowerRun {
             nanos: at.saturating_sub(self.since.max(lower.at)),
             ticks: self.ticks,
         }
     }
 
-    fn judge(&mut self, lower: LowerTask, place: LawLine) -> Result<(), AllocError> {
+    fn judge(&mut self, lower: LowerTask, place: LawLine) -> Result<(), AllocError>
+        ensures short { IsRunShort (lower_run self.old lower place.at)
+            → self.new.held ≡ min (self.old.held + 1) (2 ^ 64 - 1) }
+        ensures long { (IsRunShort (lower_run self.old lower place.at) → ⊥) → OnOk result
+            (self.new.long.items ≡ self.old.long.items
+            ++ lower_runs self.old.pid lower place (lower_run self.old lower place.at) ∷ []) }
+        ensures unheld { (IsRunShort (lower_run self.old lower place.at) → ⊥)
+            → self.new.held ≡ self.old.held }
+    {
         let run = self.lower_run(lower, place.at);
         if is_run_short(run) {
             self.held = self.held.saturating_add(1);

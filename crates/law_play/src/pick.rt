@@ -2,9 +2,9 @@
 
 ghost use Rattle.std.specs.Prelude.{◌≡◌, IsTrue, OnOk, false};
 ghost use Rattle.law_findings.specs.Pick.{IsPickRight};
-ghost use Rattle.law_findings.specs.Tallies.{judged_in};
-ghost use Rattle.law_findings.specs.declared.judging.Judgement.TheVariants.{Holds};
 ghost use Rattle.law_findings.specs.declared.words.Law.TheVariants.{Pick as OfPick};
+ghost use Rattle.law_play.specs.inside.Judged.{broken_in, held_in};
+ghost use Rattle.law_play.specs.inside.Waits.{later_deadline, put_on_throttled};
 
 use crate::play::{LawPlay, ReadLine};
 use law_findings::{Breach, Finding, Law, LawLine, LineKind, Queued, Whose, is_pick_right};
@@ -202,7 +202,12 @@ impl LawPlay {
         Ok(())
     }
 
-    fn judge_put_on(&mut self, place: LawLine, pid: u64, shown: Queued) -> Result<(), AllocError> {
+    fn judge_put_on(&mut self, place: LawLine, pid: u64, shown: Queued) -> Result<(), AllocError>
+        ensures ready { shown.is_throttled ≡ false
+            → OnOk result (self.new.tallies ≡ held_in self.old OfPick) }
+        ensures throttled { IsTrue shown.is_throttled
+            → OnOk result (self.new.tallies ≡ broken_in self.old (put_on_throttled place pid)) }
+    {
         if !shown.is_throttled {
             self.holds(Law::Pick);
             return Ok(());
@@ -226,8 +231,10 @@ impl LawPlay {
         ensures throttled { IsTrue other.shown.is_throttled
             → OnOk result (self.new.tallies ≡ self.old.tallies) }
         ensures right { other.shown.is_throttled ≡ false → IsPickRight picked other.shown
-            → IsTrue self.old.asked.pick
-            → OnOk result (self.new.tallies ≡ judged_in self.old.tallies OfPick Holds) }
+            → OnOk result (self.new.tallies ≡ held_in self.old OfPick) }
+        ensures wrong { other.shown.is_throttled ≡ false → (IsPickRight picked other.shown → ⊥)
+            → OnOk result (self.new.tallies
+            ≡ broken_in self.old (later_deadline place pid picked other)) }
     {
         if other.shown.is_throttled {
             return Ok(());

@@ -4,18 +4,20 @@ ghost use Rattle.std.specs.Prelude.{◌≡◌, OnOk, true, false};
 ghost use Rattle.law_findings.specs.Asked.{is_asked};
 ghost use Rattle.law_findings.specs.Tallies.{judged_in};
 ghost use Rattle.law_findings.specs.declared.judging.Judgement.TheVariants.{Holds};
+ghost use Rattle.law_play.specs.inside.Judged.{OnlyTells, breaches_with, broken_in, held_in, judged_by, sign_in};
+ghost use Rattle.law_play.specs.inside.Lines.{is_of_admission, is_of_call, place_of};
 
 use crate::cpu::{Blocker, Cpus, Last};
 use crate::lower::ReadyTasks;
 use crate::pick::Picks;
 use crate::run::Runs;
 use crate::server::Servers;
-use crate::spread::spread_of;
 use crate::task::{Tasks, Waiting};
 use crate::timer::Timers;
 use crate::total::Total;
 use law_findings::{
-    AskedLaws, Breach, Judgement, Law, LawFigures, LawLine, LawTallies, LineKind, is_known,
+    AskedLaws, Breach, Judgement, Law, LawFigures, LawLine, LawTallies, LineKind, Sign, is_known,
+    spread_of,
 };
 use std::alloc::{AllocError, Global};
 use trace_data::{Armed, Fixed, Kernel, Mark, Probe, Said, Sums, TimerFunction};
@@ -30,7 +32,9 @@ pub struct ReadLine {
 }
 
 impl ReadLine {
-    pub(crate) fn place(self, kind: LineKind) -> LawLine {
+    pub(crate) fn place(self, kind: LineKind) -> LawLine
+        ensures { result ≡ place_of self kind }
+    {
         LawLine {
             line: self.line,
             at: self.at,
@@ -308,6 +312,8 @@ impl LawPlay {
         ensures asked { is_asked self.old.asked law ≡ true
             → self.new.tallies ≡ judged_in self.old.tallies law Holds }
         ensures unasked { is_asked self.old.asked law ≡ false → self.new.tallies ≡ self.old.tallies }
+        ensures all { self.new.tallies ≡ held_in self.old law }
+        ensures only { OnlyTells self.old self.new }
     {
         if self.asked.asks(law) {
             self.tallies.judge(law, Judgement::Holds);
@@ -318,35 +324,56 @@ impl LawPlay {
     pub(crate) fn breaks(&mut self, breach: Breach) -> Result<(), AllocError>
         ensures unasked { is_asked self.old.asked breach.law ≡ false
             → OnOk result (self.new.tallies ≡ self.old.tallies) }
+        ensures all { OnOk result (self.new.tallies ≡ broken_in self.old breach) }
+        ensures breaches { OnOk result (self.new.breaches.items ≡ breaches_with self.old breach) }
+        ensures only { OnlyTells self.old self.new }
     {
         if !self.asked.asks(breach.law) {
             return Ok(());
         }
         let breach = Breach {
-            sign: breach.sign.filter(|sign| is_known(*sign, self.kernel)),
+            sign: sign_in(breach.sign, self.kernel),
             ..breach
         };
         if self.keeps_breaches {
             self.breaches.push(breach)?;
         }
-        let is_known = breach.sign.is_some();
-        let judgement = if is_known {
-            Judgement::Known(breach)
-        } else {
-            Judgement::Breaks(breach)
-        };
-        self.tallies.judge(breach.law, judgement);
+        self.tallies
+            .judge(breach.law, judged_by(breach.sign, breach));
         Ok(())
     }
 }
 
+/// A sign counts where the kernel is known to have the fault.
+fn sign_in(sign: Option<Sign>, kernel: Option<Kernel>) -> Option<Sign>
+    ensures { result ≡ sign_in kernel sign }
+{
+    match sign {
+        Some(sign) if is_known(sign, kernel) => Some(sign),
+        _ => None,
+    }
+}
+
+fn judged_by(sign: Option<Sign>, breach: Breach) -> Judgement
+    ensures { result ≡ judged_by sign breach }
+{
+    match sign {
+        Some(_) => Judgement::Known(breach),
+        None => Judgement::Breaks(breach),
+    }
+}
+
 /// Whether a line may stand in the call of the line before: a charge within a dequeue, or a timer that is armed.
-fn is_of_call(probe: &Probe) -> bool {
+fn is_of_call(probe: &Probe) -> bool
+    ensures { result ≡ is_of_call probe.now }
+{
     matches!(probe, Probe::Updated(_) | Probe::Armed(_))
 }
 
 /// Whether a line may stand in the call of an admission.
-fn is_of_admission(probe: &Probe) -> bool {
+fn is_of_admission(probe: &Probe) -> bool
+    ensures { result ≡ is_of_admission probe.now }
+{
     matches!(
         probe,
         Probe::Updated(_) | Probe::Armed(_) | Probe::Dequeued(_) | Probe::Enqueued(_)

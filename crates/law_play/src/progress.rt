@@ -1,8 +1,8 @@
 //! Progress: whatever throttles a task arms its replenishment timer.
 
-ghost use Rattle.std.specs.Prelude.{◌≡◌, IfSome, Some, None};
-ghost use Rattle.law_findings.specs.declared.words.Standing.TheVariants.{Away, Blocked, Queued};
-ghost use Rattle.law_findings.specs.declared.known.Sign.TheVariants.{LeftThrottled, BoostEnded};
+ghost use Rattle.std.specs.Prelude.{◌≡◌, OnOk, slice_get};
+ghost use Rattle.law_play.specs.inside.Tasks.{is_governors_task};
+ghost use Rattle.law_play.specs.inside.Throttled.{enqueue_judged, enqueue_shown, sign_by, task_shown};
 
 use crate::play::{LawPlay, ReadLine};
 use crate::states::REPLENISH;
@@ -46,7 +46,10 @@ impl LawPlay {
         &mut self,
         place: usize,
         is_throttled: bool,
-    ) -> Result<(), AllocError> {
+    ) -> Result<(), AllocError>
+        ensures { OnOk result (self.new.tallies
+            ≡ task_shown self.old is_throttled (slice_get self.old.tasks.all.items place)) }
+    {
         let Some(task) = self.tasks.get_mut(place) else {
             return Ok(());
         };
@@ -82,7 +85,10 @@ impl LawPlay {
         read: ReadLine,
         line: &Enqueued,
         is_back: bool,
-    ) -> Result<(), AllocError> {
+    ) -> Result<(), AllocError>
+        ensures { OnOk result (self.new.tallies ≡ enqueue_shown self.old read line.now is_back
+            (slice_get self.old.tasks.all.items place)) }
+    {
         let Some(task) = self.tasks.get_mut(place) else {
             return Ok(());
         };
@@ -101,7 +107,9 @@ impl LawPlay {
         self.judge_enqueue(&task, read)
     }
 
-    fn judge_enqueue(&mut self, task: &Task, read: ReadLine) -> Result<(), AllocError> {
+    fn judge_enqueue(&mut self, task: &Task, read: ReadLine) -> Result<(), AllocError>
+        ensures { OnOk result (self.new.tallies ≡ enqueue_judged self.old read task.now) }
+    {
         let is_firing = match task.fired {
             Some(fired) => self.cpus.of(fired.cpu).count == fired.count,
             None => false,
@@ -130,7 +138,9 @@ impl LawPlay {
     }
 }
 
-fn is_special(task: &Task) -> bool {
+fn is_special(task: &Task) -> bool
+    ensures { result ≡ is_governors_task task.now.reservation }
+{
     match task.reservation {
         Some(reservation) => reservation.is_special(),
         None => false,
@@ -139,9 +149,7 @@ fn is_special(task: &Task) -> bool {
 
 /// By where the task stood as its timer fired in vain.
 fn sign_of(fired: Option<FiredTimer>) -> Option<Sign>
-    ensures away { IfSome fired (λ f. f.standing ≡ Away → result ≡ Some LeftThrottled) }
-    ensures blocked { IfSome fired (λ f. f.standing ≡ Blocked → result ≡ Some BoostEnded) }
-    ensures queued { IfSome fired (λ f. f.standing ≡ Queued → result ≡ None) }
+    ensures { result ≡ sign_by fired }
 {
     match fired?.standing {
         Standing::Away => Some(Sign::LeftThrottled),

@@ -1,9 +1,11 @@
 //! Runs: which time is charged.
 
-ghost use Rattle.std.specs.Prelude.{◌≡◌, IsTrue, OnOk};
-ghost use Rattle.law_findings.specs.Tallies.{judged_in};
-ghost use Rattle.law_findings.specs.declared.judging.Judgement.TheVariants.{Holds};
+ghost use Rattle.std.specs.Prelude.{◌≡◌, ◌≢◌, IsTrue, OnOk, false, true, unwrap_or};
 ghost use Rattle.law_findings.specs.declared.words.Law.TheVariants.{Run as OfRun};
+ghost use Rattle.law_play.specs.inside.Judged.{broken_in, held_in};
+ghost use Rattle.law_play.specs.inside.Runs.{is_first_of, put_on_at, run_broken};
+ghost use Rattle.law_findings.specs.Run.{BeginsAtSwitch};
+ghost use Rattle.law_findings.specs.declared.words.Finding.TheVariants.{NotAtSwitch, NotCharged};
 
 use crate::play::{LawPlay, ReadLine};
 use crate::zero_lag::nanos_of;
@@ -154,7 +156,12 @@ impl LawPlay {
     }
 
     /// Two charges of one run.
-    fn judge_gap(&mut self, early: Early) -> Result<(), AllocError> {
+    fn judge_gap(&mut self, early: Early) -> Result<(), AllocError>
+        ensures kept { early.ends ≡ early.begins
+            → OnOk result (self.new.tallies ≡ held_in self.old OfRun) }
+        ensures gap { early.ends ≢ early.begins → OnOk result (self.new.tallies
+            ≡ broken_in self.old (run_broken early.read early.pid (NotCharged early.ends early.begins))) }
+    {
         let Early {
             read,
             pid,
@@ -232,7 +239,17 @@ impl LawPlay {
         switch: Switch,
         begins: u64,
         lag: i64,
-    ) -> Result<(), AllocError> {
+    ) -> Result<(), AllocError>
+        ensures other { is_first_of pid before switch ≡ false
+            → OnOk result (self.new.tallies ≡ self.old.tallies) }
+        ensures kept { is_first_of pid before switch ≡ true
+            → BeginsAtSwitch (unwrap_or switch.clock begins) begins (put_on_at switch lag)
+            → OnOk result (self.new.tallies ≡ held_in self.old OfRun) }
+        ensures broken { is_first_of pid before switch ≡ true
+            → (BeginsAtSwitch (unwrap_or switch.clock begins) begins (put_on_at switch lag) → ⊥)
+            → OnOk result (self.new.tallies ≡ broken_in self.old
+            (run_broken read pid (NotAtSwitch (put_on_at switch lag) begins))) }
+    {
         let is_first = before.is_none_or(|line| line < switch.line);
         if switch.next != pid || !switch.is_deadline || !is_first {
             return Ok(());
@@ -253,8 +270,10 @@ impl LawPlay {
         is_right: bool,
         finding: Finding,
     ) -> Result<(), AllocError>
-        ensures { IsTrue is_right → IsTrue self.old.asked.run
-            → OnOk result (self.new.tallies ≡ judged_in self.old.tallies OfRun Holds) }
+        ensures kept { IsTrue is_right
+            → OnOk result (self.new.tallies ≡ held_in self.old OfRun) }
+        ensures broken { is_right ≡ false
+            → OnOk result (self.new.tallies ≡ broken_in self.old (run_broken read pid finding)) }
     {
         if is_right {
             self.holds(Law::Run);

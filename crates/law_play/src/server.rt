@@ -1,9 +1,12 @@
 //! Servers: what fair servers are charged, and stop with.
 
-ghost use Rattle.std.specs.Prelude.{◌≡◌, IsTrue, OnOk};
-ghost use Rattle.law_findings.specs.Tallies.{judged_in};
-ghost use Rattle.law_findings.specs.declared.judging.Judgement.TheVariants.{Holds};
+ghost use Rattle.std.specs.Prelude.{◌≡◌, ◌≢◌, IsTrue, OnOk, false, slice_index_or};
 ghost use Rattle.law_findings.specs.declared.words.Law.TheVariants.{Server as OfServer};
+ghost use Rattle.law_play.specs.inside.Judged.{OnlyTells, broken_in, held_in, held_twice};
+ghost use Rattle.law_play.specs.inside.Runs.{server_broken, unknown_server};
+ghost use Rattle.law_findings.specs.Budget.{IsWithin};
+ghost use Rattle.law_findings.specs.Server.{IsNear, left_by};
+ghost use Rattle.law_findings.specs.declared.words.Finding.TheVariants.{OtherCharge};
 
 use crate::play::{LawPlay, ReadLine};
 use crate::zero_lag::nanos_of;
@@ -71,7 +74,9 @@ impl Servers {
         Ok(self.servers.get_mut(cpu as usize))
     }
 
-    fn of(&self, cpu: u32) -> Server {
+    fn of(&self, cpu: u32) -> Server
+        ensures { result ≡ slice_index_or self.now.servers.items cpu unknown_server }
+    {
         self.servers.get(cpu as usize).copied().unwrap_or(NEW)
     }
 }
@@ -185,7 +190,11 @@ impl LawPlay {
         read: ReadLine,
         shown: ShownServer,
         reservation: ServerReservation,
-    ) -> Result<(), AllocError> {
+    ) -> Result<(), AllocError>
+        ensures { IsWithin shown.budget reservation.dl_runtime
+            → IsNear shown.deadline shown.clock reservation.dl_runtime reservation.dl_period
+            → OnOk result (self.new.tallies ≡ held_twice self.old OfServer) }
+    {
         let ServerReservation {
             dl_runtime,
             dl_period,
@@ -208,7 +217,13 @@ impl LawPlay {
         read: ReadLine,
         shown: ShownServer,
         charge: ServerCharge,
-    ) -> Result<(), AllocError> {
+    ) -> Result<(), AllocError>
+        ensures kept { shown.budget ≡ left_by charge.is_idle charge.budget charge.nanos
+            → OnOk result (self.new.tallies ≡ held_in self.old OfServer) }
+        ensures broken { shown.budget ≢ left_by charge.is_idle charge.budget charge.nanos
+            → OnOk result (self.new.tallies ≡ broken_in self.old (server_broken read shown
+            (OtherCharge charge.nanos charge.budget shown.budget))) }
+    {
         let is_right = is_taken_once(charge.budget, charge.nanos, charge.is_idle, shown.budget);
         let other = Finding::OtherCharge {
             nanos: charge.nanos,
@@ -225,8 +240,11 @@ impl LawPlay {
         is_right: bool,
         finding: Finding,
     ) -> Result<(), AllocError>
-        ensures { IsTrue is_right → IsTrue self.old.asked.server
-            → OnOk result (self.new.tallies ≡ judged_in self.old.tallies OfServer Holds) }
+        ensures kept { IsTrue is_right
+            → OnOk result (self.new.tallies ≡ held_in self.old OfServer) }
+        ensures broken { is_right ≡ false
+            → OnOk result (self.new.tallies ≡ broken_in self.old (server_broken read shown finding)) }
+        ensures only { OnlyTells self.old self.new }
     {
         if is_right {
             self.holds(Law::Server);

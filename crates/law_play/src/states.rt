@@ -1,6 +1,8 @@
 //! Lines that show a task's state: enqueues, charges, dequeues, and the end of the class.
 
-ghost use Rattle.std.specs.Prelude.{◌≡◌, IsTrue, false};
+ghost use Rattle.std.specs.Prelude.{◌≡◌};
+ghost use Rattle.law_play.specs.inside.Cpus.{is_charged_leaving};
+ghost use Rattle.law_play.specs.inside.Tasks.{is_charged};
 
 use crate::cpu::Last;
 use crate::play::{LawPlay, ReadLine};
@@ -247,8 +249,7 @@ impl LawPlay {
 
 /// Whether a charge is of a task in the tree: it is queued, or this very dequeue takes it off, and it is not throttled.
 fn is_charged(task: &Task, line: &Updated, is_leaving: bool) -> bool
-    ensures throttled { IsTrue line.now.budget.is_throttled → result ≡ false }
-    ensures off { task.now.is_queued ≡ false → is_leaving ≡ false → result ≡ false }
+    ensures { result ≡ is_charged task.now line.now is_leaving }
 {
     let Some(reservation) = task.reservation else {
         return false;
@@ -271,7 +272,9 @@ fn queued_of(budget: Budget) -> Queued
 }
 
 /// Whether the last line of a CPU is the charge within the dequeue of this task.
-fn is_charged_leaving(last: Last, pid: u64) -> bool {
+fn is_charged_leaving(last: Last, pid: u64) -> bool
+    ensures { result ≡ is_charged_leaving last pid }
+{
     match last {
         Last::Charged {
             pid: charged,

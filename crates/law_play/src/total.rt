@@ -1,5 +1,8 @@
 //! The total: what the root domain has admitted.
 
+ghost use Rattle.std.specs.Prelude.{◌≡◌, ◌+◌, ◌^◌, ◌-◌, None, max, min, slice_get, slice_index_or, true};
+ghost use Rattle.law_play.specs.inside.Shares.{is_reserved_task, no_share};
+
 use crate::play::{LawPlay, ReadLine};
 use crate::states::{RESTORE, SLEEP};
 use law_findings::{Breach, Finding, Law, LineKind, Sign, Whose, bandwidth, is_not_negative};
@@ -115,7 +118,9 @@ impl Total {
         Ok(self.shares.get_mut(task))
     }
 
-    fn of(&self, task: usize) -> Share {
+    fn of(&self, task: usize) -> Share
+        ensures { result ≡ slice_index_or self.now.shares.items task no_share }
+    {
         self.shares.get(task).copied().unwrap_or(NEW)
     }
 
@@ -146,7 +151,12 @@ impl Total {
     }
 
     /// What is known of total_bw begins anew at this moment.
-    pub fn restart(&mut self, at: u64) {
+    pub fn restart(&mut self, at: u64)
+        ensures base { self.new.base ≡ None }
+        ensures asleep { self.new.asleep ≡ 0 }
+        ensures open_until { self.new.open_until ≡ max self.old.open_until (min (at + 100000000) (2 ^ 64 - 1)) }
+        ensures has_marks { self.new.has_marks ≡ true }
+    {
         self.base = None;
         self.asleep = 0;
         self.open_until = self.open_until.max(at.saturating_add(LONG));
@@ -154,7 +164,9 @@ impl Total {
     }
 
     /// There are several root domains: no line says which one total_bw is of.
-    pub fn part(&mut self) {
+    pub fn part(&mut self)
+        ensures { self.new.open_until ≡ 2 ^ 64 - 1 }
+    {
         self.open_until = u64::MAX;
     }
 
@@ -451,7 +463,9 @@ impl LawPlay {
         Ok(())
     }
 
-    fn has_reservation(&self, task: usize) -> bool {
+    fn has_reservation(&self, task: usize) -> bool
+        ensures { result ≡ is_reserved_task (slice_get self.now.tasks.all.items task) }
+    {
         match self.tasks.get(task) {
             Some(task) => task.reservation.is_some_and(|it| {
                 it.parameters.dl_runtime > 0 && it.parameters.flags & SUGOV == 0

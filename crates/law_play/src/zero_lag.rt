@@ -1,5 +1,12 @@
 //! The 0-lag time: what a block arms.
 
+ghost use Rattle.std.specs.Prelude.{◌≡◌, ◌<◌, IfNone, None, OnOk, Some};
+ghost use Rattle.law_findings.specs.ZeroLag.{IsPast, IsWide};
+ghost use Rattle.law_findings.specs.declared.words.Law.TheVariants.{ZeroLag as OfZeroLag};
+ghost use Rattle.law_play.specs.inside.Judged.{held_in};
+ghost use Rattle.law_findings.specs.declared.known.Sign.TheVariants.{ProductWraps};
+ghost use Rattle.law_play.specs.inside.Blocks.{least_span, most_span, nanos_of, shown_with};
+
 use crate::cpu::Last;
 use crate::play::{LawPlay, ReadLine};
 use crate::states::SLEEP;
@@ -43,7 +50,9 @@ pub(crate) struct OpenBlock {
 }
 
 impl OpenBlock {
-    fn with(&self, budget: i64, deadline: u64) -> Blocked {
+    fn with(&self, budget: i64, deadline: u64) -> Blocked
+        ensures { result ≡ shown_with self.now budget deadline }
+    {
         Blocked {
             budget,
             deadline,
@@ -293,7 +302,10 @@ impl LawPlay {
         block: &OpenBlock,
         least: Blocked,
         most: Blocked,
-    ) -> Result<(), AllocError> {
+    ) -> Result<(), AllocError>
+        ensures past { IfNone block.now.armed (0 < most.dl_runtime → IsPast most
+            → OnOk result (self.new.tallies ≡ held_in self.old OfZeroLag)) }
+    {
         let whose = Whose::Task { pid };
         if let Some(armed) = block.armed {
             return self.judge_armed(whose, block, armed, least, most);
@@ -345,7 +357,10 @@ impl LawPlay {
 }
 
 /// Between which spans behind the block at this moment a timer is armed.
-fn spans_of(blocked_at: u64, armed: ArmedAt) -> (i64, i64) {
+fn spans_of(blocked_at: u64, armed: ArmedAt) -> (i64, i64)
+    ensures from { result.0 ≡ least_span armed.place.at armed.expiry }
+    ensures to { result.1 ≡ most_span blocked_at armed.expiry }
+{
     match armed.expiry {
         Expiry::After(span) => (span, span),
         Expiry::At(moment) => (
@@ -360,14 +375,19 @@ fn spans_of(blocked_at: u64, armed: ArmedAt) -> (i64, i64) {
 }
 
 /// How long a task ran by a charge.
-pub(crate) fn nanos_of(ran: Ran) -> i64 {
+pub(crate) fn nanos_of(ran: Ran) -> i64
+    ensures { result ≡ nanos_of ran }
+{
     match ran {
         Ran::Span { delta, .. } => delta,
         Ran::Clocks { now, start, .. } => now.wrapping_sub(start).cast_signed(),
     }
 }
 
-fn sign_of(block: Blocked) -> Option<Sign> {
+fn sign_of(block: Blocked) -> Option<Sign>
+    ensures wraps { IsWide block → result ≡ Some ProductWraps }
+    ensures fits { (IsWide block → ⊥) → result ≡ None }
+{
     if block.has_wide_product() {
         Some(Sign::ProductWraps)
     } else {
