@@ -2,6 +2,7 @@
 
 ghost use Rattle.std.specs.Prelude.{◌≡◌, IfOk, false};
 
+use crate::beside::put_rules_beside;
 use crate::check::Verdict;
 use crate::showing::nothing_shown;
 use check_faults::{Fault, Uncompared};
@@ -86,6 +87,7 @@ fn laws_told(
     add_laws(alloc, &mut verdict.report, &play.tallies, figures, &names)?;
     if was_asked(&play.tallies) {
         put_laws(alloc, &mut verdict.text, &play.tallies, figures, &names)?;
+        put_rules_beside(alloc, &mut verdict.text, gathering, &play.tallies)?;
         put_rows(alloc, &mut verdict.table, &gathering.names, &play)?;
         put_tasks(alloc, &mut verdict, gathering)?;
     }

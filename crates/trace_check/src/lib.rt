@@ -1,6 +1,7 @@
 //! The program's part of `grubtrace check`: a record that was read is judged, and the verdict written.
 #![tactic(auto)]
 
+mod beside;
 mod by_laws;
 mod by_probes;
 mod by_timers;
