@@ -20,7 +20,7 @@ In a table '{WORD N times}' is a word so many times, '{all of FOLDER}' its files
                          a file is there afterwards, or none is; rows: of the kinds of that table's rows, in its columns;
                          counts: with so many equal and different rows of each kind; says: JSON that has this value at the
                          keys and places that points part
-    slower CASE          it takes five times the processor time of that case, and 20 ms at least
+    slower CASE          it takes five times the processor time of that case, and 10 ms at least
     values PROGRAM WORD..    words with {} for the values of the next lines:
     taken VALUE..        runs with each of them, which the program takes: its status is 0, 4 or 5
     refused VALUE..      runs with each of them, of which it says that the words are wrong
@@ -192,7 +192,7 @@ class Case:
         spent[self.name], texts = seconds, {"out": out, "err": err, "run": b"%d\n%b\0%b" % (status, out, err)}
         said = err[:300].decode(errors="replace")
         wrong = [] if status in self.statuses else [f"status {status}, wanted {self.statuses}: {said}"]
-        if "slower" in self.given and seconds < max(0.02, 5 * spent[self.given["slower"]]):
+        if "slower" in self.given and seconds < max(0.01, 5 * spent[self.given["slower"]]):
             wrong.append(f"{seconds} s, which is not slower than {self.given['slower']}")
         silent = {"out", "err"} - {it[0] for it in self.wants}
         for of, how, what in [*self.wants, *((it, "", b"") for it in silent)]:

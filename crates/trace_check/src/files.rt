@@ -7,26 +7,21 @@ use std::io;
 /// A file that is wanted, and its bytes; no path where it is not.
 type Wish<'a> = (Option<&'a str>, &'a [u8]);
 
-/// The first of the files that are wanted that is there already, or would be by then: two options name it.
+/// The first of the files that are wanted that is there already.
 pub(crate) fn first_there<'o, X: Fn(&str) -> bool>(
     exists: &X,
     wanted: CheckRequest<'o>,
 ) -> Option<&'o str>
     requires { X.IsAlwaysCallable exists.now }
 {
-    let paths = [wanted.table, wanted.json, wanted.picture, wanted.report];
-    for (place, path) in paths.iter().enumerate() {
-        if let Some(path) = *path
-            && (is_among(paths.get(..place).unwrap_or(&[]), path) || exists(path))
+    for path in [wanted.table, wanted.json, wanted.picture, wanted.report] {
+        if let Some(path) = path
+            && exists(path)
         {
             return Some(path);
         }
     }
     None
-}
-
-fn is_among(paths: &[Option<&str>], path: &str) -> bool {
-    paths.iter().any(|it| *it == Some(path))
 }
 
 fn make_one<M: Fn(&str, &[u8]) -> io::Result<()>>(make: &M, wish: Wish<'_>) -> bool
