@@ -10,12 +10,14 @@ fn is_of_rules(law: Law) -> bool {
     matches!(law, Law::Progress | Law::ZeroLag | Law::Budget | Law::Total)
 }
 
-/// What the rules say of a line, whose first deviation is at this one.
-fn told_of(line: u64, first: Option<u64>) -> Option<&'static str> {
+/// What the rules say at the line where a law is broken, by their first deviation. Where they agree, they may not know `total_bw`.
+fn told_of(law: Law, line: u64, first: Option<u64>) -> Option<&'static str> {
     match first {
-        None => Some("the rules say so, and the law says otherwise: a fault of the rules' source"),
         Some(first) if first == line => Some("the kernel does not follow its rules"),
-        Some(_) => None,
+        None if !matches!(law, Law::Total) => {
+            Some("the rules say so, and the law says otherwise: a fault of the rules' source")
+        }
+        _ => None,
     }
 }
 
@@ -39,7 +41,7 @@ pub(crate) fn put_rules_beside(
     for law in LAWS {
         if is_of_rules(law)
             && let Some(breach) = tallies.of(law).first
-            && let Some(told) = told_of(breach.place.line, first)
+            && let Some(told) = told_of(law, breach.place.line, first)
         {
             let line = breach.place.line;
             let text = format!(in alloc; "  line {line}: {told}\n")?;
