@@ -25,7 +25,7 @@
    A TASK named sys is none. At its moments the parent does
      wr=MS:FILE:TEXT  writes TEXT to FILE; @NAME in TEXT is the pid of that task      rd=MS:FILE  reads FILE      md=MS:DIR  makes DIR
    A TASK seed=N stands in place of SEED. A task that has not ended after its time, four periods and a second is killed; after as long
-   again it is put out of the class, and "stuck: NAME" is said. */
+   again it is put out of the class, and "stuck: NAME" is said, or "throttled: NAME" where its next period is yet to come. */
 #define _GNU_SOURCE
 #include <errno.h>
 #include <fcntl.h>
@@ -397,6 +397,27 @@ static void ends(pid_t pid, int status, int *worst)
         *worst = WEXITSTATUS(status);
 }
 
+/* How long a task without budget waits for its next period, which is far away where a small budget was overrun by many periods. */
+static uint64_t waits(pid_t pid)
+{
+    struct attributes of = { 0 };
+    char path[32], line[256];
+    long long budget = 1, deadline = 0;
+    snprintf(path, sizeof path, "/proc/%d/sched", pid);
+    FILE *file = fopen(path, "r");
+    if (!file)
+        return 0;
+    while (fgets(line, sizeof line, file)) {
+        sscanf(line, "dl.runtime :%lld", &budget);
+        sscanf(line, "dl.deadline :%lld", &deadline);
+    }
+    fclose(file);
+    if (budget > 0 || syscall(SYS_sched_getattr, pid, &of, sizeof of, 0) || of.policy != DEADLINE)
+        return 0;
+    uint64_t next = deadline - of.deadline + of.period, at = now();
+    return next > at ? next - at : 0;
+}
+
 /* Kills whoever is there still; the second time it was stuck, and is put out of the class, which ends it. */
 static void end_all(int again, uint64_t patience)
 {
@@ -406,7 +427,11 @@ static void end_all(int again, uint64_t patience)
         kill(made[i].pid, SIGKILL);
         if (!again)
             continue;
-        fprintf(stderr, "dlgen: stuck: %s (pid %d) was killed and did not run for %.1f s\n", made[i].name, made[i].pid, patience / 1e9);
+        uint64_t more = waits(made[i].pid);
+        if (more)
+            fprintf(stderr, "dlgen: throttled: %s (pid %d) was killed, and waits %.1f s for its next period\n", made[i].name, made[i].pid, more / 1e9);
+        else
+            fprintf(stderr, "dlgen: stuck: %s (pid %d) was killed and did not run for %.1f s\n", made[i].name, made[i].pid, patience / 1e9);
         set_parameters(made[i].pid, &(struct parameters){ .flags = SCHED_OTHER }, 0);
     }
 }

@@ -20,13 +20,17 @@ if [ -f /run.sh ]; then
 fi
 tab=$(printf '\t')
 admitted() { awk '$1 == ".dl_bw->total_bw" { print $3; exit }' /sys/kernel/debug/sched/debug; }
-# this_bw of each processor, where the kernel takes the probe.
-this() { TRACEFS=/sys/kernel/tracing /kernel/probes.sh sums 2> /dev/null | sed -n 's/^# grub: \(cpu [0-9]* this=[0-9]*\).*/\1/p' | tr '\n' ' '; }
+# The sums of each processor, where the kernel takes the probe; of these sums this_bw, and extra_bw.
+sums() { TRACEFS=/sys/kernel/tracing /kernel/probes.sh sums 2> /dev/null; }
+this() { echo "$1" | sed -n 's/^# grub: \(cpu [0-9]* this=[0-9]*\).*/\1/p' | tr '\n' ' '; }
+extra() { echo "$1" | sed -n 's/^# grub: \(cpu [0-9]*\) .*\( extra=[0-9]*\).*/\1\2/p' | tr '\n' ' '; }
 warnings() { dmesg | sed 's/^\[[^]]*\] *//' | grep -E 'WARNING|BUG|Oops|^sched: ' | sed "s/^/=== WARNED $1 /"; }
 # A kernel of coverage.sh counts what it runs.
 counts=/sys/kernel/debug/gcov
 at_boot=$(admitted)
-this_at_boot=$(this)
+sums_at_boot=$(sums)
+this_at_boot=$(this "$sums_at_boot")
+extra_at_boot=$(extra "$sums_at_boot")
 while IFS=$tab read -r name fair seconds words; do
     IFS=' '
     hogs=
@@ -59,10 +63,11 @@ while IFS=$tab read -r name fair seconds words; do
     for file in $(find "$counts" -name build_policy.gcda 2> /dev/null); do
         { echo "=== GCDA $name"; gzip -9 < "$file" | base64; echo "=== END"; } > "$records"
     done
-    this_left=$(this)
+    sums_left=$(sums)
+    this_left=$(this "$sums_left")
     { [ "$left" = "$at_boot" ] || echo "=== LEFT $name total_bw $at_boot at boot, $left after all tasks had ended"
       [ "$this_left" = "$this_at_boot" ] || echo "=== SUMS $name this_bw after all tasks had ended: $this_left; at boot: $this_at_boot"; } > "$records"
-    [ "$left $this_left" = "$at_boot $this_at_boot" ] || { echo "=== bandwidth left behind"; break; }
+    [ "$left $this_left $(extra "$sums_left")" = "$at_boot $this_at_boot $extra_at_boot" ] || { echo "=== bandwidth left behind"; break; }
 done < /loads
 echo "=== left behind: $(ls -d /sys/kernel/tracing/events/grub* /sys/kernel/tracing/instances/* /tmp/* 2> /dev/null)"
 dmesg | grep -E 'WARN|BUG|deadline.c' | tail -n 5

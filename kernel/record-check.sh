@@ -1,13 +1,19 @@
 #!/usr/bin/env bash
 # Records a load of four SCHED_DEADLINE tasks on this machine and checks the record with grubtrace, which has to be built (GRUBTRACE may
-# name another one). Where the machine does not let it, it says why, and ends with 0.
+# name another one). Where the machine does not let it, it says why, and ends with 0. A record with which something is wrong is left in
+# the directory for temporary files.
 set -u
 root=$(cd "$(dirname "$0")/.." && pwd)
 grubtrace=${GRUBTRACE:-$root/crates/grubtrace/out/grubtrace}
 work=$(mktemp -d)
 trap 'rm -rf "$work"' EXIT
 cannot() { echo "record-check: it cannot be done here: $*"; exit 0; }
-fail() { echo "record-check: $*"; exit 1; }
+fail() {
+    local left=${TMPDIR:-/tmp}/record-check.$$.txt
+    echo "record-check: $*"
+    [[ ! -f $work/trace.txt ]] || { mv "$work/trace.txt" "$left" && echo "record-check: the record is $left"; }
+    exit 1
+}
 
 [[ $(id -u) == 0 ]] || cannot "it has to be run as root"
 command -v cc > /dev/null || cannot "there is no C compiler"

@@ -86,6 +86,8 @@ done
 for event in hrtimer_start hrtimer_cancel hrtimer_expire_entry; do
     turn_on "$record" "timer/$event" || fail "the event timer/$event is not there"
 done
+# Steps of CPU hotplug, where the kernel tells of them.
+turn_on "$record" cpuhp/cpuhp_enter || :
 system_calls='sys_enter_sched_setattr sys_exit_sched_setattr sys_enter_sched_setscheduler sys_exit_sched_setscheduler'
 no_calls=
 for event in $system_calls; do turn_on "$record" "syscalls/$event" || no_calls=1; done

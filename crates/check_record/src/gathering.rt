@@ -3,6 +3,7 @@
 ghost use Rattle.std.specs.Prelude.{◌≡◌, ◌&&◌, not, IfOk, IsTrue, None, OnOk};
 ghost use Rattle.check_settings.specs.Heads.{chosen, seen_on, told_of};
 ghost use Rattle.check_record.specs.FirstFault.{fault_headed, is_too_late, raised_by};
+ghost use Rattle.check_settings.specs.Opening.{opened_with};
 ghost use Rattle.check_record.specs.Playing.{has_lines};
 ghost use Rattle.check_record.specs.Seen.{IsEnded, shown_in};
 ghost use Rattle.check_record.specs.Shown.{as_read, nothing_shown, shown_with, with_probe, with_said};
@@ -11,9 +12,10 @@ use crate::laws::RecordLaws;
 use crate::names::Names;
 use crate::probes::{Probes, SeenRecord, ToldSettings};
 use crate::whole::RecordRequest;
-use check_faults::Fault;
-use check_settings::{RecordHead, is_older};
-use law_play::ReadLine;
+use check_settings::{
+    OpeningSign, RecordHead, is_frequency, is_older, opening_by_change, opening_of,
+};
+use law_findings::ReadLine;
 use probe_explain::ProbeLine;
 use probe_findings::ProbedLine;
 use probe_lines::event_of;
@@ -22,6 +24,7 @@ use std::alloc::{AllocError, Global};
 use task_figures::shows_class;
 use timer_record::OpenRecord;
 use trace_data::{Flaw, RecordLine, Said, TraceNote};
+use trace_faults::Fault;
 use trace_lines::{Lines, ToldLine};
 use trace_options::{CPUS, CheckOptions};
 
@@ -186,13 +189,14 @@ impl<'o> Gathering<'o> {
         self.see_domain(number, told.domain)?;
         self.see_release(told.release)?;
         self.see_lost(number, told.lost);
-        self.see_governor(told.governor.is_some());
+        self.see_governor(told.governor.is_some() || is_frequency(told.change));
+        self.see_opening(number, opening_by_change(told.change));
         self.see_warning(told.warning)?;
-        self.see_shown(told)?;
+        self.see_shown(number, told)?;
         self.take_line(number, told.line)
     }
 
-    /// A note may tell that something sets the frequency of a CPU.
+    /// A note or an event may tell that something sets the frequency of a CPU.
     #[tactic(auto, unfolding(crate::specs::Seen::shown_in))]
     fn see_governor(&mut self, is_told: bool)
         ensures { shown_in self.new ≡ shown_in self.old }
@@ -212,16 +216,29 @@ impl<'o> Gathering<'o> {
     }
 
     /// A line may show a task.
-    fn see_shown(&mut self, told: &ToldLine<&[u8]>) -> Result<(), AllocError>
+    fn see_shown(&mut self, number: u64, told: &ToldLine<&[u8]>) -> Result<(), AllocError>
         ensures { shown_in self.new ≡ shown_in self.old }
     {
         match told.shown {
             Some(shown) => {
                 self.show(shown.pid, shown.comm, shows_class(&told.line))?;
                 self.see_older(is_older(&told.line, shown.comm));
+                self.see_opening(number, opening_of(&told.line, shown.comm));
                 Ok(())
             }
             None => Ok(()),
+        }
+    }
+
+    /// A line may show that `extra_bw` is not known any more.
+    #[tactic(auto, unfolding(crate::specs::Seen::shown_in))]
+    pub(crate) fn see_opening(&mut self, number: u64, sign: Option<OpeningSign>)
+        ensures opening { self.new.head.opening ≡ opened_with sign number self.old.head.opening }
+        ensures told { told_of self.new.head ≡ told_of self.old.head }
+        ensures shown { shown_in self.new ≡ shown_in self.old }
+    {
+        if let Some(sign) = sign {
+            self.head.see_sign(number, sign);
         }
     }
 

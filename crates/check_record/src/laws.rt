@@ -1,10 +1,18 @@
 //! The laws of a record, beside its rules.
 
-use law_findings::AskedLaws;
-use law_play::{LawPlay, ReadLine};
+use law_findings::{AskedLaws, JudgedLaws, LawFigures, ReadLine};
+use law_play::LawPlay;
+use law_timers::TimerLaws;
 use std::alloc::{AllocError, Global};
 use task_figures::FigureLines;
-use trace_data::{Kernel, Said};
+use trace_data::{Kernel, Probe, Said};
+
+/// What became of the laws in a record, and what is told beside them.
+#[derive(Drop)]
+pub struct LawsOfRecord {
+    pub judged: JudgedLaws,
+    pub figures: LawFigures,
+}
 
 /// What the laws need of the lines so far.
 #[derive(Drop)]
@@ -16,7 +24,11 @@ pub struct RecordLaws {
     /// The root domain of the last note, and whether notes tell of several.
     domain: Option<u64>,
     has_domains: bool,
-    pub play: Option<LawPlay>,
+    play: Option<LawPlay>,
+
+    /// By lines of timers, as long as no line of a probe was read.
+    timers: Option<TimerLaws>,
+    has_probes: bool,
 
     /// What each task had.
     pub figures: FigureLines,
@@ -31,6 +43,8 @@ impl RecordLaws {
             domain: None,
             has_domains: false,
             play: None,
+            timers: None,
+            has_probes: false,
             figures: FigureLines::new(alloc),
         }
     }
@@ -49,6 +63,7 @@ impl RecordLaws {
         said: &Said,
     ) -> Result<(), AllocError> {
         self.figures.take(said)?;
+        self.take_timers(kernel, read, said)?;
         match &mut self.play {
             Some(play) => play.take(read, said),
             None => {
@@ -61,5 +76,57 @@ impl RecordLaws {
                 taken
             }
         }
+    }
+
+    /// Lines of probes show more than lines of timers: from the first of them on these are not needed. Marks stand in both records.
+    fn take_timers(
+        &mut self,
+        kernel: Option<Kernel>,
+        read: ReadLine,
+        said: &Said,
+    ) -> Result<(), AllocError> {
+        match said {
+            Said::Fixed(fixed) if !self.has_probes => match &mut self.timers {
+                Some(timers) => timers.take(read, fixed),
+                None => {
+                    let mut timers = TimerLaws::new(
+                        self.alloc,
+                        kernel,
+                        self.asked,
+                        self.keeps_breaches,
+                    );
+                    let taken = timers.take(read, fixed);
+                    self.timers = Some(timers);
+                    taken
+                }
+            },
+            Said::Fixed(_) => Ok(()),
+            Said::Probe(Probe::Mark(_)) => {
+                if let Some(timers) = &mut self.timers {
+                    timers.mark();
+                }
+                Ok(())
+            }
+            Said::Probe(_) => {
+                self.has_probes = true;
+                self.timers = None;
+                Ok(())
+            }
+        }
+    }
+
+    /// Takes the end of the record: what became of the laws, by its lines of probes, or else by those of timers.
+    pub fn finish(&mut self) -> Result<Option<LawsOfRecord>, AllocError> {
+        if let Some(mut timers) = self.timers.take() {
+            let figures = timers.finish()?;
+            let judged = timers.judged;
+            return Ok(Some(LawsOfRecord { judged, figures }));
+        }
+        let Some(mut play) = self.play.take() else {
+            return Ok(None);
+        };
+        let figures = play.finish()?;
+        let judged = play.judged;
+        Ok(Some(LawsOfRecord { judged, figures }))
     }
 }

@@ -13,7 +13,7 @@ mod timers;
 mod whole;
 
 pub use gathering::{EarlierLine, Gathering};
-pub use laws::RecordLaws;
+pub use laws::{LawsOfRecord, RecordLaws};
 pub use marks::Marks;
 pub use names::Names;
 pub use played::{AHEAD, Played};

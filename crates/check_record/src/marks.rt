@@ -53,8 +53,22 @@ impl Marks {
         Ok(())
     }
 
-    /// Appends how many marks of which kinds there were.
+    /// Appends how many marks of which kinds there were, for a verdict by probes.
     pub fn put(&self, alloc: Global, out: &mut Vec<u8>) -> Result<(), AllocError> {
+        self.put_with(
+            alloc,
+            out,
+            b"; sums that they may change are taken anew, and nothing is said of what the kernel did there\n",
+        )
+    }
+
+    /// Appends how many marks of which kinds there were, and a text behind them.
+    pub fn put_with(
+        &self,
+        alloc: Global,
+        out: &mut Vec<u8>,
+        behind: &[u8],
+    ) -> Result<(), AllocError> {
         if self.counts.is_empty() {
             return Ok(());
         }
@@ -67,9 +81,7 @@ impl Marks {
             let text = format!(in alloc; "{name} {count} (first at line {first})")?;
             out.extend_from_slice(text.as_bytes())?;
         }
-        out.extend_from_slice(
-            b"; sums that they may change are taken anew, and nothing is said of what the kernel did there\n",
-        )?;
+        out.extend_from_slice(behind)?;
         Ok(())
     }
 }

@@ -8,12 +8,12 @@ ghost use Rattle.check_settings.specs.Heads.{noted_with, told_of};
 ghost use Rattle.check_record.specs.Lost.{changed_by, dropped_with, fault_noted, is_another_by, is_behind_by, losing_by, lost_by, lost_line_by};
 
 use crate::gathering::Gathering;
-use check_faults::Fault;
 use check_settings::{cpus_of, server_note};
 use probe_verdict::DroppedLines;
 use std::alloc::AllocError;
 use timer_play::RunqueueSums;
 use trace_data::{Limit, Policy, TraceNote};
+use trace_faults::Fault;
 use trace_lines::Lost as LostLines;
 
 impl Gathering<'_> {

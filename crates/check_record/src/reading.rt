@@ -8,9 +8,9 @@ ghost use Rattle.check_record.specs.Seen.{shown_in};
 ghost use Rattle.check_record.specs.Shown.{nothing_shown};
 
 use crate::gathering::Gathering;
-use check_faults::Fault;
 use std::alloc::{AllocError, Global};
 use std::io;
+use trace_faults::Fault;
 use trace_file::{ReadFault, read_lines};
 use trace_lines::Halt;
 

@@ -1,17 +1,18 @@
 //! The lines of timers of a record, and the tasks that are given or named.
 
-ghost use Rattle.std.specs.Prelude.{◌≡◌};
+ghost use Rattle.std.specs.Prelude.{◌≡◌, ◌||◌, is_some};
 ghost use Rattle.check_settings.specs.Heads.{is_of_domain};
 ghost use Rattle.check_record.specs.FirstFault.{fault_woken};
 ghost use Rattle.check_record.specs.Seen.{shown_in};
 
 use crate::gathering::Gathering;
 use crate::names::is_named;
-use check_faults::Fault;
+use check_settings::newcomer;
 use std::alloc::AllocError;
 use timer_play::setup_of;
 use timer_record::{GivenReservation, OpenRecord, Unlisted};
 use trace_data::{Fixed, Parameters};
+use trace_faults::Fault;
 
 impl<'o> Gathering<'o> {
     /// A line shows this pid with this comm; a task may have another one later.
@@ -126,6 +127,7 @@ impl<'o> Gathering<'o> {
         if self.plays_probes() && !self.keeps_timers {
             return Ok(());
         }
+        self.see_newcomer(number, cpu);
         self.see_cpu(number, &fixed);
         self.latest = self.latest.max(at);
         self.has_timers = self.has_timers || matches!(fixed, Fixed::TimerStarted { .. });
@@ -136,11 +138,21 @@ impl<'o> Gathering<'o> {
         }
     }
 
-    /// A SCHED_DEADLINE task wakes on a CPU of the root domain.
+    /// A line of a CPU that the head lacks shows that one came.
+    #[tactic(auto, unfolding(crate::specs::Seen::shown_in))]
+    fn see_newcomer(&mut self, number: u64, cpu: u32)
+        ensures { shown_in self.new ≡ shown_in self.old }
+    {
+        let sign = newcomer(&self.head, self.options, cpu);
+        self.see_opening(number, sign);
+    }
+
+    /// A SCHED_DEADLINE task wakes on a CPU of the root domain, unless CPUs came before.
     #[tactic(auto, unfolding(crate::specs::Seen::shown_in))]
     fn see_cpu(&mut self, number: u64, fixed: &Fixed)
         ensures fault { self.new.fault ≡ fault_woken
-            (is_of_domain self.old.head self.old.options.now) fixed.now number self.old.fault }
+            (λ cpu. is_some self.old.head.opening || is_of_domain self.old.head self.old.options.now cpu)
+            fixed.now number self.old.fault }
         ensures shown { shown_in self.new ≡ shown_in self.old }
     {
         if let Fixed::Woken {
@@ -148,6 +160,7 @@ impl<'o> Gathering<'o> {
             is_deadline: true,
             ..
         } = *fixed
+            && self.head.opening.is_none()
             && !self.head.has_cpu(self.options, cpu)
         {
             self.fault = Some(Fault::OutsideDomain { line: number });

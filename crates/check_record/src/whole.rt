@@ -9,10 +9,10 @@ ghost use Rattle.check_record.specs.Shown.{nothing_shown};
 use crate::gathering::Gathering;
 use crate::probes::SeenRecord;
 use crate::reading::{first_fault, knows_tasks, read_trace};
-use check_faults::Fault;
 use law_findings::AskedLaws;
 use std::alloc::{AllocError, Global};
 use std::io;
+use trace_faults::Fault;
 use trace_options::CheckOptions;
 
 /// How a record is to be read.

@@ -22,9 +22,11 @@ pub(crate) fn values_of(alloc: Global, finding: Finding) -> Result<Value, AllocE
         Finding::OtherMoment { period, moment } => {
             json!(in alloc; {"period": period, "moment": moment})
         }
-        Finding::Early { timer, expiry } => {
-            json!(in alloc; {"timer": timer_word(timer), "expiry": expiry})
-        }
+        Finding::Early {
+            timer,
+            expiry,
+            fired,
+        } => json!(in alloc; {"timer": timer_word(timer), "expiry": expiry, "fired": fired}),
         Finding::Awake { woke } => json!(in alloc; {"woke_line": woke}),
         Finding::NeverFired {
             timer,

@@ -65,7 +65,7 @@ fn record_of(alloc: Global, heading: ProbeHeading<'_>) -> Result<Value, AllocErr
     })
 }
 
-fn marks_of(alloc: Global, marks: &[MarkCount]) -> Result<Value, AllocError> {
+pub(crate) fn marks_of(alloc: Global, marks: &[MarkCount]) -> Result<Value, AllocError> {
     let mut values = Vec::new(alloc);
     for mark in marks {
         let name = event_name(mark.event);

@@ -1,5 +1,6 @@
 //! What a check by timers has found.
 
+use crate::probes::{MarkCount, marks_of};
 use crate::record::{cpus_of, kernel_of, release_of, task_of};
 use crate::report::CheckReport;
 use crate::words::number_or_null;
@@ -16,9 +17,13 @@ pub struct TimerAnswers<'a> {
     pub lines: &'a KeptLines,
     pub names: &'a [Vec<u8>],
     pub judged: &'a Judged,
+    pub marks: &'a [MarkCount],
+
+    /// The line from which on `extra_bw` is not known.
+    pub open_from: Option<u64>,
 }
 
-/// Adds the record, and what of it was compared.
+/// Adds the record, its marks, and what of it was compared.
 pub fn add_timers(
     alloc: Global,
     report: &mut CheckReport,
@@ -26,6 +31,8 @@ pub fn add_timers(
 ) -> Result<(), AllocError> {
     let record = record_of(alloc, found)?;
     report.add(alloc, "record", record)?;
+    let marks = marks_of(alloc, found.marks)?;
+    report.add(alloc, "marks", marks)?;
     let rules = rules_of(alloc, found)?;
     report.add(alloc, "rules", rules)
 }
@@ -75,6 +82,7 @@ fn rules_of(alloc: Global, found: TimerAnswers<'_>) -> Result<Value, AllocError>
         "equal": blocks.agree.saturating_add(starts.agree),
         "differ": blocks.differ.saturating_add(starts.differ),
         "speed_unknown": found.judged.speed_unknown,
+        "extra_bw_unknown_from": number_or_null(found.open_from),
         "zero_lag_timers": zero_lag,
         "replenishment_timers": replenishment,
         "first": first

@@ -28,7 +28,9 @@ use Rattle.trace_data.specs.declared.note.Limit.TheVariants as limit
 use Rattle.trace_data.specs.declared.note.Policy.TheVariants.{Deadline}
 use Rattle.trace_data.specs.declared.note.TraceNote.{TraceNote}
 use Rattle.trace_data.specs.declared.note.TraceNote.TheVariants as note
+use Rattle.check_settings.specs.declared.head.OpeningSign.{OpeningSign}
 use Rattle.check_settings.specs.declared.head.RecordHead.{RecordHead}
+use Rattle.check_settings.specs.declared.head.SumsOpened.{SumsOpened}
 
 -- an option stands above a note
 abbrev pub chosen : {A : Type 0} → Option A → Option A → Option A
@@ -139,6 +141,27 @@ abbrev pub is_of_domain : RecordHead → CheckOptions → ℕ → Bool
 is_of_domain head o cpu =
     if length o.domain.items == 0 then length head.domain.items == 0 || list_any (λ c. c == cpu) head.domain.items
     else list_any (is_in_range cpu) o.domain.items
+
+-- the head lists CPUs, or says how many there are
+abbrev pub tells_cpus : RecordHead → Bool
+tells_cpus head = is_some head.processors || not (length head.domain.items == 0)
+
+abbrev pub is_note_of : ℕ → RunqueueSums → Bool
+is_note_of cpu note = note.cpu == cpu
+
+-- but not of this one: it is in no list, has no note, and is beyond the number of processors
+abbrev pub lacks_cpu : RecordHead → CheckOptions → ℕ → Bool
+lacks_cpu head o cpu =
+    tells_cpus head && not (list_any (is_in_range cpu) o.domain.items) && not (list_any (λ c. c == cpu) head.domain.items)
+    && not (list_any (is_note_of cpu) head.sums.items) && nat_le (unwrap_or head.processors 0) cpu
+
+-- the kernel changes extra_bw by no rule of a task: from the first line on that shows it, extra_bw is not known
+abbrev pub opened_by : Option SumsOpened → ℕ → OpeningSign → Option SumsOpened
+opened_by (Some first) line sign = Some first
+opened_by None line sign = Some (record { line = line; sign = sign })
+
+abbrev pub open_from : Option SumsOpened → Option ℕ
+open_from opening = option_map (λ (o : SumsOpened). o.line) opening
 
 -- a note tells of a task that was in the class at the start, by its comm; threads of schedutil are not of it
 abbrev pub is_older_by : RecordLine → List ℕ → Bool

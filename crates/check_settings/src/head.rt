@@ -2,7 +2,7 @@
 
 ghost use Rattle.std.specs.Prelude.{◌≡◌, ◌++◌, IfOk, None, OnOk, option_map};
 ghost use Rattle.std.specs.List.{list_any};
-ghost use Rattle.check_settings.specs.Heads.{bandwidth_by, chosen, cpus_from, domain_by, first_server, has_servers_by, is_documented, is_in_range, is_of_domain, is_older_by, kernel_by, last_by, law_by, law_settings_by, listed_in, max_bw_by, max_bw_in, release_by, server_by, server_note, settings_by, told_of};
+ghost use Rattle.check_settings.specs.Heads.{bandwidth_by, chosen, cpus_from, domain_by, first_server, has_servers_by, is_documented, is_in_range, is_note_of, is_of_domain, is_older_by, kernel_by, lacks_cpu, last_by, law_by, law_settings_by, listed_in, max_bw_by, max_bw_in, open_from, opened_by, release_by, server_by, server_note, settings_by, tells_cpus, told_of};
 ghost use Rattle.trace_options.specs.Words.{domain_in};
 
 use kernel_entity::{BW_UNIT, ChargeLaw, ratio};
@@ -40,8 +40,31 @@ pub struct RecordHead {
     pub servers: Vec<ServerNote>,
     pub cpus: Vec<CpuNote>,
 
-    /// A note tells that something sets the frequency of a CPU.
+    /// A note or an event tells that something sets the frequency of a CPU.
     pub has_governor: bool,
+
+    /// The first line that shows that `extra_bw` is not known any more.
+    pub opening: Option<SumsOpened>,
+}
+
+/// What shows that the kernel changes `extra_bw` by no rule of a task.
+#[derive(Clone, Copy)]
+pub enum OpeningSign {
+    /// A line of a function that does so, or may.
+    Mark,
+
+    /// A CPU goes or comes: its thread of CPU hotplug wakes.
+    Hotplug { cpu: u32 },
+
+    /// A CPU came: a line is of a CPU that the head lacks.
+    NewCpu { cpu: u32 },
+}
+
+/// From which line on `extra_bw` is not known, and by what.
+#[derive(Clone, Copy)]
+pub struct SumsOpened {
+    pub line: u64,
+    pub sign: OpeningSign,
 }
 
 impl RecordHead {
@@ -60,6 +83,7 @@ impl RecordHead {
             servers: Vec::new(alloc),
             cpus: Vec::new(alloc),
             has_governor: false,
+            opening: None,
         }
     }
 
@@ -178,6 +202,45 @@ impl RecordHead {
         }
     }
 
+    /// The line from which on `extra_bw` is not known.
+    pub fn open_from(&self) -> Option<u64>
+        ensures { result ≡ open_from self.now.opening }
+    {
+        match self.opening {
+            Some(opening) => Some(opening.line),
+            None => None,
+        }
+    }
+
+    /// A line shows that the kernel changes `extra_bw` by no rule of a task: the first such line counts.
+    pub fn see_sign(&mut self, line: u64, sign: OpeningSign)
+        ensures opening { self.new.opening ≡ opened_by self.old.opening line sign }
+        ensures told { told_of self.new ≡ told_of self.old }
+        ensures kernel { self.new.kernel ≡ self.old.kernel }
+    {
+        if self.opening.is_none() {
+            self.opening = Some(SumsOpened { line, sign });
+        }
+    }
+
+    /// Whether the head tells of CPUs, but not of this one: it is in no list, has no note, and is beyond the number of processors.
+    pub fn lacks(&self, options: &CheckOptions<'_>, cpu: u32) -> bool
+        ensures { result ≡ lacks_cpu self.now options.now cpu }
+    {
+        self.tells_cpus()
+            && !is_listed(&options.domain, cpu)
+            && !self.domain.contains(&cpu)
+            && !has_note(&self.sums, cpu)
+            && cpu >= self.processors.unwrap_or(0)
+    }
+
+    /// Whether the head lists CPUs, or says how many there are.
+    fn tells_cpus(&self) -> bool
+        ensures { result ≡ tells_cpus self.now }
+    {
+        self.processors.is_some() || !self.domain.is_empty()
+    }
+
     fn last_cpu(&self) -> u32
         ensures { result ≡ last_by self.now.processors self.now.greatest_cpu }
     {
@@ -195,11 +258,16 @@ impl RecordHead {
     ) -> Result<RecordStart, AllocError>
         ensures domain { IfOk result (λ s. s.domain.items ≡ domain_by self.now options.now) }
         ensures sums { IfOk result (λ s. s.sums.items ≡ self.now.sums.items) }
+        ensures unknown { IfOk result (λ s. s.open_from ≡ open_from self.now.opening) }
     {
         let domain = self.cpus(alloc, options)?;
         let mut sums = Vec::new(alloc);
         sums.extend_from_slice(self.sums.as_slice())?;
-        Ok(RecordStart { domain, sums })
+        Ok(RecordStart {
+            domain,
+            sums,
+            open_from: self.open_from(),
+        })
     }
 }
 
@@ -297,6 +365,13 @@ fn listed(alloc: Global, ranges: &[CpuRange]) -> Result<Vec<u32>, AllocError>
         push_range(&mut cpus, range.first, range.last)?;
     }
     Ok(cpus)
+}
+
+/// Whether a CPU has a note of its own.
+fn has_note(notes: &[RunqueueSums], cpu: u32) -> bool
+    ensures { result ≡ list_any (is_note_of cpu) notes.now }
+{
+    notes.iter().any(|note| note.cpu == cpu)
 }
 
 fn is_listed(ranges: &[CpuRange], cpu: u32) -> bool

@@ -2,5 +2,7 @@
 #![tactic(auto)]
 
 mod head;
+mod opening;
 
-pub use head::{RecordHead, cpus_of, is_older, server_note};
+pub use head::{OpeningSign, RecordHead, SumsOpened, cpus_of, is_older, server_note};
+pub use opening::{is_frequency, newcomer, opening_by_change, opening_of};

@@ -1,4 +1,3 @@
-mod MessageLemmas
 mod OptionLemmas
 mod PrintLemmas
 mod ReadLemmas

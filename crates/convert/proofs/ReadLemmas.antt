@@ -1,5 +1,5 @@
 -- What a trace tells, by what its lines come to.
-use Rattle.std.proofs.Common.{◌≡◌, ℕ, List, Option, Some, sym, ap, ◌∙◌, subst}
+use Rattle.std.proofs.Common.{◌≡◌, inl, inr, ℕ, List, Option, Some, sym, ap, ◌∙◌, subst}
 use Rattle.text_bytes.specs.Source.{Opener, Reader}
 use Rattle.trace_file.specs.Reading.{ComesTo, IsSoOf}
 use Rattle.trace_file.proofs.SoLemmas.{so_by}
@@ -13,10 +13,10 @@ use Rattle.convert_facts.specs.declared.fact.Facts.{Facts}
 use Rattle.convert_facts.specs.declared.fault.LineFault.{LineFault}
 use Rattle.convert.specs.Faults.{IsOfReading}
 use Rattle.convert.specs.Read.{IsFaultIn, IsShownOf, IsToldBy, IsToldOf, names_in}
-use Rattle.convert.specs.declared.fault.ConvertFault.{ConvertFault}
-use Rattle.convert.specs.declared.fault.ConvertFault.TheVariants as faults
 use Rattle.convert.specs.declared.options.ConvertOptions.{ConvertOptions}
-use Rattle.convert.specs.declared.pieces.Input.{Input}
+use Rattle.trace_faults.specs.Faults.{status_of}
+use Rattle.trace_faults.specs.declared.fault.Fault.{Fault}
+use Rattle.text_bytes.specs.declared.files.Source.{Source}
 
 facts_at : (options : ConvertOptions) (seen : Gathered) (halt : Option Halt) (facts : Facts) → Tells seen halt facts → (text : List ℕ) → ComesTo gather_step (gathered_first (names_in options) options.cpus) halt seen text → IsToldBy options text facts
 facts_at options seen halt facts tells text come =
@@ -43,25 +43,20 @@ fault_by : (start seen : Roll) (halt : Option Halt) (fault : LineFault) → star
 fault_by start seen halt fault first is text comes =
     fault_at seen halt fault is text (subst (λ (s : Roll). ComesTo census_step s halt seen text) first comes)
 
-module _ {O N D : Type 0} (o : Opener O D) (g : Reader N D) (input : Input O N) (name : List ℕ) where
-  pub facts_told : (options : ConvertOptions) (start seen : Gathered) (halt : Option Halt) (facts : Facts) → start ≡ gathered_first (names_in options) options.cpus → Tells seen halt facts → IsSoOf o input.open g input.read name (ComesTo gather_step start halt seen) → IsToldOf o g input name options facts
+module _ {O N D : Type 0} (o : Opener O D) (g : Reader N D) (source : Source O N) (name : List ℕ) where
+  pub facts_told : (options : ConvertOptions) (start seen : Gathered) (halt : Option Halt) (facts : Facts) → start ≡ gathered_first (names_in options) options.cpus → Tells seen halt facts → IsSoOf o source.open g source.read name (ComesTo gather_step start halt seen) → IsToldOf o g source name options facts
   facts_told options start seen halt facts first tells so =
-      so_by o input.open g input.read (ComesTo gather_step start halt seen) (λ text. IsToldBy options text facts) name (facts_by options start seen halt facts first tells) so
+      so_by o source.open g source.read (ComesTo gather_step start halt seen) (λ text. IsToldBy options text facts) name (facts_by options start seen halt facts first tells) so
 
-  pub tasks_shown : (start seen : Roll) (halt : Option Halt) (tasks : ShownTasks) → start ≡ roll_first → Shows seen halt tasks → IsSoOf o input.open g input.read name (ComesTo census_step start halt seen) → IsShownOf o g input name tasks
+  pub tasks_shown : (start seen : Roll) (halt : Option Halt) (tasks : ShownTasks) → start ≡ roll_first → Shows seen halt tasks → IsSoOf o source.open g source.read name (ComesTo census_step start halt seen) → IsShownOf o g source name tasks
   tasks_shown start seen halt tasks first shows so =
-      so_by o input.open g input.read (ComesTo census_step start halt seen) (λ text. AreShown text tasks) name (shown_by start seen halt tasks first shows) so
+      so_by o source.open g source.read (ComesTo census_step start halt seen) (λ text. AreShown text tasks) name (shown_by start seen halt tasks first shows) so
 
-  pub fault_told : (start seen : Roll) (halt : Option Halt) (fault : LineFault) → start ≡ roll_first → fault_of_halt halt ≡ Some (fault_text fault) → IsSoOf o input.open g input.read name (ComesTo census_step start halt seen) → IsSoOf o input.open g input.read name (λ text. fault_counted text ≡ Some (fault_text fault))
+  pub fault_told : (start seen : Roll) (halt : Option Halt) (fault : LineFault) → start ≡ roll_first → fault_of_halt halt ≡ Some (fault_text fault) → IsSoOf o source.open g source.read name (ComesTo census_step start halt seen) → IsSoOf o source.open g source.read name (λ text. fault_counted text ≡ Some (fault_text fault))
   fault_told start seen halt fault first is so =
-      so_by o input.open g input.read (ComesTo census_step start halt seen) (λ text. fault_counted text ≡ Some (fault_text fault)) name (fault_by start seen halt fault first is) so
+      so_by o source.open g source.read (ComesTo census_step start halt seen) (λ text. fault_counted text ≡ Some (fault_text fault)) name (fault_by start seen halt fault first is) so
 
 -- want of memory or of reading says nothing of the text
-pub of_reading : {O N D : Type 0} (o : Opener O D) (g : Reader N D) (input : Input O N) (name : List ℕ) (e : ConvertFault) → IsOfReading e → IsFaultIn o g input name e
-of_reading o g input name (faults.Line path fault) is = absurd is
-of_reading o g input name (faults.NoSuchTask path task) is = absurd is
-of_reading o g input name (faults.FileExists path) is = absurd is
-of_reading o g input name faults.Write is = tt
-of_reading o g input name (faults.Unreadable path) is = tt
-of_reading o g input name faults.NoMemory is = tt
-of_reading o g input name faults.NoText is = tt
+pub of_reading : {O N D : Type 0} (o : Opener O D) (g : Reader N D) (source : Source O N) (name : List ℕ) (e : Fault) → IsOfReading e → IsFaultIn o g source name e
+of_reading o g source name e (inl is) = inr (ap status_of is)
+of_reading o g source name e (inr is) = inr (ap status_of is)

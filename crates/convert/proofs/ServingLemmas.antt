@@ -1,15 +1,12 @@
--- Files that are made one after another, and the statuses of that.
-use Rattle.std.proofs.Common.{◌≡◌, ◌<◌, ◌+◌, ◌∙◌, ◌⊎◌, inl, inr, ap, arith, sym, subst, refl, ℕ, zero, suc, List, [], ◌∷◌, ◌++◌, get_or, length, map, take, Result, Ok, Err}
-use Rattle.std.specs.Prelude.{All, IfErr, MatchResult, OnOk, Some, slice_get, slice_index_or}
-use Rattle.std.proofs.lemmas.Option.{none-some, same_Some}
+-- Files that are made one after another.
+use Rattle.std.proofs.Common.{◌≡◌, ◌<◌, ◌+◌, ◌∙◌, ap, arith, sym, subst, refl, ℕ, zero, suc, List, [], ◌∷◌, ◌++◌, get_or, length, map, take}
+use Rattle.std.specs.Prelude.{All, Some, slice_get}
 use Rattle.std.specs.List.{AllZip}
 use Rattle.std.proofs.lemmas.List.{length-append, map_more}
 use Rattle.std.proofs.lemmas.List.Elements.{All-push}
 use Rattle.std.proofs.lemmas.Slice.Zip.{all_zipped_more}
-use Rattle.convert.specs.Faults.{status_of}
-use Rattle.convert.specs.Serving.{event_path, event_paths}
-use Rattle.convert.specs.declared.fault.ConvertFault.{ConvertFault}
-use Rattle.convert.specs.declared.fault.ConvertFault.TheVariants as faults
+use Rattle.convert.specs.Serving.{event_paths}
+use Rattle.trace_faults.specs.Messages.{event_path}
 
 -- one element more
 pub all_next : {A B : Type 0} (P : B → Type 0) (f : A → B) (xs : List A) (i : ℕ) (x : A) → i < length xs → x ≡ get_or xs i x → All P (map f (take i xs)) → P (f x) → All P (map f (take (i + 1) xs))
@@ -33,38 +30,3 @@ pub slice_at : {A B : Type 0} (f : A → B) (xs : List A) (i : ℕ) (x : A) → 
 slice_at f [] i x below is = absurd (omega (arith, below))
 slice_at f (z ∷ xs) zero x below is = ap (λ y. Some (f y)) (sym is)
 slice_at f (z ∷ xs) (suc i) x below is = slice_at f xs i x (omega (arith, below)) is
-
--- what is taken out of a list is what stands there
-pub removed_is : {A B : Type 0} (f : A → B) (xs : List A) (i : ℕ) (x : A) (y : B) → slice_get (map f xs) i ≡ Some y → x ≡ slice_index_or xs i x → f x ≡ y
-removed_is f [] i x y at is = absurd (none-some y at)
-removed_is f (z ∷ xs) zero x y at is = ap f is ∙ same_Some (f z) y at
-removed_is f (z ∷ xs) (suc i) x y at is = removed_is f xs i x y at is
-
-one_or_three : (e : ConvertFault) → (status_of e ≡ 1) ⊎ (status_of e ≡ 3)
-one_or_three (faults.Line path fault) = inl refl
-one_or_three (faults.NoSuchTask path task) = inl refl
-one_or_three (faults.FileExists path) = inl refl
-one_or_three faults.Write = inr refl
-one_or_three (faults.Unreadable path) = inr refl
-one_or_three faults.NoMemory = inr refl
-one_or_three faults.NoText = inr refl
-
-not_done : (e : ConvertFault) (n : ℕ) → n ≡ status_of e → n ≡ 0 → ⊥
-not_done e n is nil = elim (one_or_three e) [
-  | inl one ↦ omega (arith, is, nil, one)
-  | inr three ↦ omega (arith, is, nil, three)
-]
-
--- status 0 is that of a success
-pub of_done : {U P : Type 0} (r : Result U ConvertFault) (n : ℕ) → MatchResult r (λ _. n ≡ 0) (λ e. n ≡ status_of e) → n ≡ 0 → OnOk r P → P
-of_done (Ok u) n is nil p = p
-of_done (Err e) n is nil p = absurd (not_done e n is nil)
-
--- status 1 is that of a fault
-pub of_fault : {U : Type 0} (P : ConvertFault → Type 0) (r : Result U ConvertFault) (n : ℕ) → MatchResult r (λ _. n ≡ 0) (λ e. n ≡ status_of e) → n ≡ 1 → IfErr r (λ e. status_of e ≡ 1 → P e) → (e : ConvertFault) × (status_of e ≡ 1) × P e
-of_fault P (Ok u) n is one p = absurd (omega (arith, is, one))
-of_fault P (Err e) n is one p = (e, sym is ∙ one, p (sym is ∙ one))
-
-pub fault_at_one : {U : Type 0} (P : ConvertFault → Type 0) (r : Result U ConvertFault) → IfErr r P → IfErr r (λ e. status_of e ≡ 1 → P e)
-fault_at_one P (Ok u) p = p
-fault_at_one P (Err e) p = λ _. p

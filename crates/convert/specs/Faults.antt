@@ -1,34 +1,34 @@
--- The program's fault and status where a trace tells no event files.
-use Rattle.std.specs.Prelude.{ℕ, List, Option, Some, None}
-use Rattle.std.specs.Borrow.{Bor}
+-- The fault of a trace that is not converted.
+use Rattle.std.specs.Prelude.{◌≡◌, ◌⊎◌, ℕ, Option, Some, None}
+use Rattle.trace_data.specs.declared.line.Flaw.TheVariants as flaw
 use Rattle.convert_facts.specs.declared.fault.LineFault.{LineFault}
+use Rattle.convert_facts.specs.declared.fault.Wrong.{Wrong}
 use Rattle.convert_facts.specs.declared.fault.Wrong.TheVariants as wrong
 use Rattle.convert.specs.declared.files.FilesFault.{FilesFault}
 use Rattle.convert.specs.declared.files.FilesFault.TheVariants as files
-use Rattle.convert.specs.declared.fault.ConvertFault.{ConvertFault}
-use Rattle.convert.specs.declared.fault.ConvertFault.TheVariants.{Line, NoSuchTask, FileExists, Write, Unreadable, NoMemory, NoText}
+use Rattle.trace_faults.specs.declared.fault.Fault.{Fault}
+use Rattle.trace_faults.specs.declared.fault.Fault.TheVariants.{Line, UnknownTask, NoSuchTask, Unreadable, NoMemory, NoText}
 
--- 1 where the trace is at fault or a file is there already, 3 where the system failed
-abbrev pub status_of : ConvertFault → ℕ
-status_of (Line path fault) = 1
-status_of (NoSuchTask path name) = 1
-status_of (FileExists path) = 1
-status_of Write = 3
-status_of (Unreadable path) = 3
-status_of NoMemory = 3
-status_of NoText = 3
+abbrev pub fault_on : ℕ → Wrong → Fault
+fault_on line (wrong.UnknownTask comm pid) = UnknownTask line pid comm
+fault_on line wrong.WrongClock = Line line flaw.WrongClock
+fault_on line wrong.LostEvents = Line line flaw.LostEvents
+fault_on line wrong.TooLong = Line line flaw.TooLong
+fault_on line wrong.BadTraceLine = Line line flaw.BadTraceLine
 
--- the fault of the trace of a name that tells no event files for this reason, whose own lines have this fault
-abbrev pub explained : Bor (List ℕ) → FilesFault → Option LineFault → ConvertFault
-explained path (files.TooLong line) own = Line path (record { line = line; wrong = wrong.TooLong })
-explained path files.Line (Some fault) = Line path fault
-explained path files.Line None = NoMemory
-explained path (files.NoSuchTask name) own = NoSuchTask path name
-explained path files.NoMemory own = NoMemory
-explained path files.NoText own = NoText
+-- the fault of a trace by that of its line
+abbrev pub fault_from : LineFault → Fault
+fault_from fault = fault_on fault.line fault.wrong
+
+-- the fault of a trace that tells no event files for this reason, whose own lines have this fault
+abbrev pub explained : FilesFault → Option LineFault → Fault
+explained (files.TooLong line) own = Line line flaw.TooLong
+explained files.Line (Some fault) = fault_from fault
+explained files.Line None = NoMemory
+explained (files.NoSuchTask name) own = NoSuchTask name
+explained files.NoMemory own = NoMemory
+explained files.NoText own = NoText
 
 -- want of memory, or of reading
-abbrev pub IsOfReading : ConvertFault → Type 0
-IsOfReading (Unreadable path) = Unit {0}
-IsOfReading NoMemory = Unit {0}
-IsOfReading fault = ⊥
+abbrev pub IsOfReading : Fault → Type 0
+IsOfReading fault = (fault ≡ Unreadable) ⊎ (fault ≡ NoMemory)

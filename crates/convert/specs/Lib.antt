@@ -1,7 +1,6 @@
 pub mod Census
 pub mod Faults
 pub mod Files
-pub mod Messages
 pub mod Options
 pub mod Read
 pub mod Serving

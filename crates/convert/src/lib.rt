@@ -8,8 +8,7 @@ mod options;
 mod pieces;
 mod serving;
 
-pub use fault::{ConvertFault, STATUS_FILE, STATUS_SYSTEM, STATUS_USAGE};
 pub use files::{FilesFault, event_files, events_told, setting_of};
 pub use options::{ConvertOptions, FairReservation, TaskReservation, options_of};
-pub use pieces::{Input, read_facts};
-pub use serving::{Target, explain, serve_events, serve_tasks, told_status};
+pub use pieces::read_facts;
+pub use serving::{explain, serve_events, serve_tasks};

@@ -7,30 +7,22 @@ ghost use Rattle.convert.specs.Faults.{IsOfReading};
 ghost use Rattle.trace_fields.specs.Words.{text_of};
 ghost use Rattle.convert.specs.Read.{IsFaultIn, IsShownOf, IsToldOf, names_in};
 
-use crate::fault::ConvertFault;
+use crate::fault::fault_from;
 use crate::options::ConvertOptions;
 use convert_facts::{Census, FactLines, Facts, ShownTasks};
 use std::alloc::{AllocError, Global};
 use std::io;
+use text_bytes::Source;
+use trace_faults::Fault;
 use trace_file::{ReadFault, read_lines};
 
-/// How traces are opened and read.
-#[derive(Drop)]
-pub struct Input<O, N> {
-    /// Opens the trace of a name.
-    pub open: O,
-
-    /// Reads the next bytes of an opened trace into room, and gives their number: 0 at the end.
-    pub read: N,
-}
-
-/// Why the trace of a path was not read.
-fn fault_of<'a>(path: &'a str, fault: ReadFault<AllocError>) -> ConvertFault<'a>
+/// Why a trace was not read.
+fn fault_of<'a>(fault: ReadFault<AllocError>) -> Fault<'a>
     ensures { IsOfReading result }
 {
     match fault {
-        ReadFault::Unreadable => ConvertFault::Unreadable { path },
-        ReadFault::NoMemory | ReadFault::Lines(AllocError) => ConvertFault::NoMemory,
+        ReadFault::Unreadable => Fault::Unreadable,
+        ReadFault::NoMemory | ReadFault::Lines(AllocError) => Fault::NoMemory,
     }
 }
 
@@ -62,24 +54,24 @@ pub fn read_facts<
     N: Fn(&mut D, &mut [u8]) -> io::Result<usize>,
 >(
     alloc: Global,
-    input: &Input<O, N>,
-    path: &'a str,
+    source: &Source<O, N>,
+    path: &str,
     options: &ConvertOptions<'_>,
-) -> Result<Facts, ConvertFault<'a>>
-    requires open { O.IsAlwaysCallable input.now.open }
-    requires read { N.IsAlwaysCallable input.now.read }
-    ensures told { IfOk result (IsToldOf O.Fn N.Fn input.now path.now options.now) }
+) -> Result<Facts, Fault<'a>>
+    requires open { O.IsAlwaysCallable source.now.open }
+    requires read { N.IsAlwaysCallable source.now.read }
+    ensures told { IfOk result (IsToldOf O.Fn N.Fn source.now path.now options.now) }
     ensures fault { IfErr result IsOfReading }
 {
     let Ok(mut lines) = fact_lines(alloc, options) else {
-        return Err(ConvertFault::NoMemory);
+        return Err(Fault::NoMemory);
     };
-    match read_lines(alloc, &input.open, &input.read, path, &mut lines) {
+    match read_lines(alloc, &source.open, &source.read, path, &mut lines) {
         Ok(halt) => match lines.end(halt) {
             Ok(facts) => Ok(facts),
-            Err(_) => Err(ConvertFault::NoMemory),
+            Err(_) => Err(Fault::NoMemory),
         },
-        Err(fault) => Err(fault_of(path, fault)),
+        Err(fault) => Err(fault_of(fault)),
     }
 }
 
@@ -89,18 +81,18 @@ pub(crate) fn read_tasks<
     D: Drop,
     O: Fn(&str) -> io::Result<D>,
     N: Fn(&mut D, &mut [u8]) -> io::Result<usize>,
->(alloc: Global, input: &Input<O, N>, path: &'a str) -> Result<ShownTasks, ConvertFault<'a>>
-    requires open { O.IsAlwaysCallable input.now.open }
-    requires read { N.IsAlwaysCallable input.now.read }
-    ensures shown { IfOk result (IsShownOf O.Fn N.Fn input.now path.now) }
-    ensures fault { IfErr result (IsFaultIn O.Fn N.Fn input.now path.now) }
+>(alloc: Global, source: &Source<O, N>, path: &str) -> Result<ShownTasks, Fault<'a>>
+    requires open { O.IsAlwaysCallable source.now.open }
+    requires read { N.IsAlwaysCallable source.now.read }
+    ensures shown { IfOk result (IsShownOf O.Fn N.Fn source.now path.now) }
+    ensures fault { IfErr result (IsFaultIn O.Fn N.Fn source.now path.now) }
 {
     let mut census = Census::new(alloc);
-    match read_lines(alloc, &input.open, &input.read, path, &mut census) {
+    match read_lines(alloc, &source.open, &source.read, path, &mut census) {
         Ok(halt) => match census.end(halt) {
             Ok(tasks) => Ok(tasks),
-            Err(fault) => Err(ConvertFault::Line { path, fault }),
+            Err(fault) => Err(fault_from(fault)),
         },
-        Err(fault) => Err(fault_of(path, fault)),
+        Err(fault) => Err(fault_of(fault)),
     }
 }

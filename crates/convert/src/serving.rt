@@ -1,33 +1,29 @@
 //! What the program does with a trace: it prints which tasks there are, or writes the event files.
 
-ghost use Rattle.std.specs.Prelude.{◌≡◌, ◌⊎◌, ◌<◌, None, IfErr, IfOk, IfSome, MatchResult, ℕ, List, OnOk, length, map, string_bytes};
+ghost use Rattle.std.specs.Prelude.{◌≡◌, ◌⊎◌, ◌<◌, None, IfErr, IfOk, IfSome, ℕ, List, OnOk, length, map, string_bytes};
 ghost use Rattle.grub_plan.specs.Contents.{contents};
-ghost use Rattle.convert.specs.Faults.{explained, status_of};
+ghost use Rattle.convert.specs.Faults.{explained};
 ghost use Rattle.convert.specs.Read.{IsFaultIn, PrintsTasks};
-ghost use Rattle.convert.specs.Serving.{AreFree, AreMade, HasNoEvents, IsFirstThere, MakesEvents, event_path, event_paths};
-ghost use Rattle.convert.specs.declared.fault.ConvertFault.{ConvertFault};
-ghost use Rattle.convert.specs.declared.fault.ConvertFault.TheVariants as faults;
-ghost use Rattle.convert.specs.declared.fault.TheConstants.{STATUS_FILE, STATUS_SYSTEM};
+ghost use Rattle.convert.specs.Serving.{AreFree, AreMade, HasNoEvents, IsFirstThere, MakesEvents, event_paths};
+ghost use Rattle.trace_faults.specs.Faults.{status_of};
+ghost use Rattle.trace_faults.specs.Messages.{event_path};
+ghost use Rattle.trace_faults.specs.declared.fault.Fault.{Fault};
+ghost use Rattle.trace_faults.specs.declared.fault.Fault.TheVariants as faults;
+ghost use Rattle.trace_faults.specs.declared.fault.TheConstants.{STATUS_FILE, STATUS_SYSTEM};
 
 use crate::census::tasks_text;
-use crate::fault::ConvertFault;
+use crate::fault::fault_from;
 use crate::files::{FilesFault, event_files};
 use crate::options::ConvertOptions;
-use crate::pieces::{Input, read_facts, read_tasks};
-use convert_facts::{LineFault, Wrong};
+use crate::pieces::{read_facts, read_tasks};
+use convert_facts::LineFault;
 use std::alloc::{AllocError, Global};
 use std::io;
 use std::io::Write;
-
-/// How event files are written.
-#[derive(Drop)]
-pub struct Target<X, M> {
-    /// Whether there is something at a path.
-    pub exists: X,
-
-    /// Makes a file at a path with these bytes.
-    pub make: M,
-}
+use text_bytes::Source;
+use trace_data::Flaw;
+use trace_faults::{Fault, told_status};
+use trace_file::{Files, Target};
 
 /// The path of the event file of a runqueue.
 fn path_of(alloc: Global, prefix: &str, runqueue: usize) -> Result<String, AllocError>
@@ -68,7 +64,7 @@ fn write_files<'a, M: Fn(&str, &[u8]) -> io::Result<()>>(
     make: &M,
     paths: &[String],
     files: &[Vec<u8>],
-) -> Result<(), ConvertFault<'a>>
+) -> Result<(), Fault<'a>>
     requires callable { M.IsAlwaysCallable make.now }
     requires same { length paths.now ≡ length files.now }
     ensures made { OnOk result
@@ -78,28 +74,25 @@ fn write_files<'a, M: Fn(&str, &[u8]) -> io::Result<()>>(
     for i in 0..files.len() {
         match make(paths[i].as_str(), files[i].as_slice()) {
             Ok(()) => {}
-            Err(_) => return Err(ConvertFault::Write),
+            Err(_) => return Err(Fault::Write),
         }
     }
     Ok(())
 }
 
-/// The fault of the trace of a name that tells no event files, whose own lines have this one.
-pub fn explain<'a>(path: &'a str, fault: FilesFault<'a>, own: Option<LineFault>) -> ConvertFault<'a>
-    ensures { result ≡ explained path.entry fault.entry own }
+/// The fault of a trace that tells no event files, whose own lines have this one.
+pub fn explain<'a>(fault: FilesFault<'a>, own: Option<LineFault>) -> Fault<'a>
+    ensures { result ≡ explained fault.entry own }
 {
     match (fault, own) {
-        (FilesFault::TooLong { line }, _) => ConvertFault::Line {
-            path,
-            fault: LineFault {
-                line,
-                wrong: Wrong::TooLong,
-            },
+        (FilesFault::TooLong { line }, _) => Fault::Line {
+            line,
+            flaw: Flaw::TooLong,
         },
-        (FilesFault::Line, Some(fault)) => ConvertFault::Line { path, fault },
-        (FilesFault::NoSuchTask { name }, _) => ConvertFault::NoSuchTask { path, name },
-        (FilesFault::NoText, _) => ConvertFault::NoText,
-        (FilesFault::NoMemory, _) | (FilesFault::Line, None) => ConvertFault::NoMemory,
+        (FilesFault::Line, Some(fault)) => fault_from(fault),
+        (FilesFault::NoSuchTask { name }, _) => Fault::NoSuchTask { name },
+        (FilesFault::NoText, _) => Fault::NoText,
+        (FilesFault::NoMemory, _) | (FilesFault::Line, None) => Fault::NoMemory,
     }
 }
 
@@ -111,36 +104,35 @@ fn write_events<
     N: Fn(&mut D, &mut [u8]) -> io::Result<usize>,
     X: Fn(&str) -> bool,
     M: Fn(&str, &[u8]) -> io::Result<()>,
+    R,
 >(
     alloc: Global,
-    input: &Input<O, N>,
-    target: &Target<X, M>,
-    path: &'a str,
-    prefix: &str,
+    source: &Source<O, N>,
+    target: &Target<X, M, R>,
+    path: &str,
+    prefix: &'a str,
     options: &ConvertOptions<'a>,
-) -> Result<(), ConvertFault<'a>>
-    requires open { O.IsAlwaysCallable input.now.open }
-    requires read { N.IsAlwaysCallable input.now.read }
+) -> Result<(), Fault<'a>>
+    requires open { O.IsAlwaysCallable source.now.open }
+    requires read { N.IsAlwaysCallable source.now.read }
     requires exists { X.IsAlwaysCallable target.now.exists }
     requires make { M.IsAlwaysCallable target.now.make }
     ensures done { OnOk result
-        (MakesEvents O.Fn N.Fn X.Fn M.Fn input.now target.now path.now prefix.now options.now) }
+        (MakesEvents O.Fn N.Fn X.Fn M.Fn source.now target.now path.now prefix.now options.now) }
     ensures nothing { IfErr result (λ e. status_of e ≡ 1
-        → HasNoEvents O.Fn N.Fn X.Fn M.Fn input.now target.now path.entry prefix.now options.now
+        → HasNoEvents O.Fn N.Fn X.Fn M.Fn source.now target.now path.now prefix.entry options.now
         e) }
 {
-    let mut facts = read_facts(alloc, input, path, options)?;
+    let mut facts = read_facts(alloc, source, path, options)?;
     let files = match event_files(alloc, options, &facts) {
         Ok(files) => files,
-        Err(fault) => return Err(explain(path, fault, facts.fault.take())),
+        Err(fault) => return Err(explain(fault, facts.fault.take())),
     };
-    let Ok(mut paths) = paths_of(alloc, prefix, files.len()) else {
-        return Err(ConvertFault::NoText);
+    let Ok(paths) = paths_of(alloc, prefix, files.len()) else {
+        return Err(Fault::NoText);
     };
-    if let Some(i) = first_taken(&target.exists, &paths) {
-        return Err(ConvertFault::FileExists {
-            path: paths.remove(i),
-        });
+    if let Some(runqueue) = first_taken(&target.exists, &paths) {
+        return Err(Fault::EventFileExists { prefix, runqueue });
     }
     write_files(&target.make, &paths, &files)
 }
@@ -152,36 +144,22 @@ fn print_tasks<
     O: Fn(&str) -> io::Result<D>,
     N: Fn(&mut D, &mut [u8]) -> io::Result<usize>,
     W: Write,
->(alloc: Global, input: &Input<O, N>, path: &'a str, out: &mut W) -> Result<(), ConvertFault<'a>>
-    requires open { O.IsAlwaysCallable input.now.open }
-    requires read { N.IsAlwaysCallable input.now.read }
+>(alloc: Global, source: &Source<O, N>, path: &str, out: &mut W) -> Result<(), Fault<'a>>
+    requires open { O.IsAlwaysCallable source.now.open }
+    requires read { N.IsAlwaysCallable source.now.read }
     ensures done { OnOk result
-        (PrintsTasks O.Fn N.Fn input.now path.now (W.contents out.old) (W.contents out.new)) }
+        (PrintsTasks O.Fn N.Fn source.now path.now (W.contents out.old) (W.contents out.new)) }
     ensures nothing { IfErr result (λ e. status_of e ≡ 1 → out.new ≡ out.old) }
-    ensures fault { IfErr result (IsFaultIn O.Fn N.Fn input.now path.now) }
+    ensures fault { IfErr result (IsFaultIn O.Fn N.Fn source.now path.now) }
 {
-    let tasks = read_tasks(alloc, input, path)?;
+    let tasks = read_tasks(alloc, source, path)?;
     let Ok(text) = tasks_text(alloc, &tasks) else {
-        return Err(ConvertFault::NoText);
+        return Err(Fault::NoText);
     };
     if out.write_all(&text).is_err() || out.flush().is_err() {
-        return Err(ConvertFault::Write);
+        return Err(Fault::Write);
     }
     Ok(())
-}
-
-/// The status of a result, whose fault is told.
-pub fn told_status<E: Write>(done: Result<(), ConvertFault<'_>>, faults: &mut E) -> u8
-    ensures told { MatchResult done.entry (λ _. result ≡ 0) (λ e. result ≡ status_of e) }
-    ensures status { (result ≡ 0) ⊎ (result ≡ STATUS_FILE) ⊎ (result ≡ STATUS_SYSTEM) }
-{
-    match done {
-        Ok(()) => 0,
-        Err(fault) => {
-            let _ = fault.tell(faults);
-            fault.status()
-        }
-    }
 }
 
 /// Prints the SCHED_DEADLINE tasks that the trace of a name shows, or the line of a fault, and gives the status.
@@ -191,19 +169,19 @@ pub fn serve_tasks<
     N: Fn(&mut D, &mut [u8]) -> io::Result<usize>,
     W: Write,
     E: Write,
->(alloc: Global, input: &Input<O, N>, path: &str, out: &mut W, faults: &mut E) -> u8
-    requires open { O.IsAlwaysCallable input.now.open }
-    requires read { N.IsAlwaysCallable input.now.read }
+>(alloc: Global, source: &Source<O, N>, path: &str, out: &mut W, faults: &mut E) -> u8
+    requires open { O.IsAlwaysCallable source.now.open }
+    requires read { N.IsAlwaysCallable source.now.read }
     ensures status { (result ≡ 0) ⊎ (result ≡ STATUS_FILE) ⊎ (result ≡ STATUS_SYSTEM) }
     // At 0 the text of the tasks that the trace shows was printed. At 1 nothing was, and its first line with a fault is told.
     ensures done { result ≡ 0
-        → PrintsTasks O.Fn N.Fn input.now path.now (W.contents out.old) (W.contents out.new) }
+        → PrintsTasks O.Fn N.Fn source.now path.now (W.contents out.old) (W.contents out.new) }
     ensures nothing { result ≡ 1 → out.new ≡ out.old }
     ensures fault { result ≡ 1
-        → (e : ConvertFault) × (status_of e ≡ 1) × IsFaultIn O.Fn N.Fn input.now path.now e }
+        → (e : Fault) × (status_of e ≡ 1) × IsFaultIn O.Fn N.Fn source.now path.now e }
 {
-    let done = print_tasks(alloc, input, path, out);
-    told_status(done, faults)
+    let done = print_tasks(alloc, source, path, out);
+    told_status(done, path, faults)
 }
 
 /// Writes the event files of the trace of a name, or the line of a fault, and gives the status.
@@ -213,29 +191,29 @@ pub fn serve_events<
     N: Fn(&mut D, &mut [u8]) -> io::Result<usize>,
     X: Fn(&str) -> bool,
     M: Fn(&str, &[u8]) -> io::Result<()>,
+    R,
     E: Write,
 >(
     alloc: Global,
-    input: &Input<O, N>,
-    target: &Target<X, M>,
+    files: &Files<O, N, X, M, R>,
     path: &str,
     prefix: &str,
     options: &ConvertOptions<'_>,
     faults: &mut E,
 ) -> u8
-    requires open { O.IsAlwaysCallable input.now.open }
-    requires read { N.IsAlwaysCallable input.now.read }
-    requires exists { X.IsAlwaysCallable target.now.exists }
-    requires make { M.IsAlwaysCallable target.now.make }
+    requires open { O.IsAlwaysCallable files.now.source.open }
+    requires read { N.IsAlwaysCallable files.now.source.read }
+    requires exists { X.IsAlwaysCallable files.now.target.exists }
+    requires make { M.IsAlwaysCallable files.now.target.make }
     // At 0 the event files of what the trace tells were made at paths where nothing was. At 1 the fault is the trace's own, or that of
     // the first path at which something was.
-    ensures done { result ≡ 0
-        → MakesEvents O.Fn N.Fn X.Fn M.Fn input.now target.now path.now prefix.now options.now }
-    ensures nothing { result ≡ 1 → (e : ConvertFault) × (status_of e ≡ 1)
-        × HasNoEvents O.Fn N.Fn X.Fn M.Fn input.now target.now path.entry prefix.now options.now
-        e }
+    ensures done { result ≡ 0 → MakesEvents O.Fn N.Fn X.Fn M.Fn files.now.source files.now.target
+        path.now prefix.now options.now }
+    ensures nothing { result ≡ 1 → (e : Fault) × (status_of e ≡ 1)
+        × HasNoEvents O.Fn N.Fn X.Fn M.Fn files.now.source files.now.target path.now prefix.entry
+        options.now e }
     ensures status { (result ≡ 0) ⊎ (result ≡ STATUS_FILE) ⊎ (result ≡ STATUS_SYSTEM) }
 {
-    let done = write_events(alloc, input, target, path, prefix, options);
-    told_status(done, faults)
+    let done = write_events(alloc, &files.source, &files.target, path, prefix, options);
+    told_status(done, path, faults)
 }

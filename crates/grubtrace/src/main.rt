@@ -2,16 +2,17 @@
 //! that tasks need, and to event files.
 #![tactic(auto)]
 
+mod refusal;
 mod serve;
-mod wrong;
 
 use crate::serve::{serve, serve_no_words};
-use convert::{Input, Target};
 use std::alloc::Global;
 use std::io::{Read, Write};
 use std::process::ExitCode;
 use std::rt::Files;
 use std::{env, fs, io};
+use text_bytes::Source;
+use trace_file::Target;
 
 /// How many bytes of a trace are read until the next word of how far it is.
 const STEP: u64 = 64 * 1024 * 1024;
@@ -77,44 +78,38 @@ fn write_whole<W: Write>(file: &mut W, bytes: &[u8]) -> io::Result<()> {
 fn main(rt: HostRuntime) -> ExitCode {
     let alloc = rt.alloc();
     let shows = faults_go_to_terminal(&rt, alloc);
-    let input = Input {
-        open: |path: &str| {
-            let origin = if path == "-" {
-                Origin::Standard(rt.stdin())
-            } else {
-                Origin::File(fs::open(&rt, path)?)
-            };
-            Ok(Trace { origin, bytes: 0 })
+    let files = trace_file::Files {
+        source: Source {
+            open: |path: &str| {
+                let origin = if path == "-" {
+                    Origin::Standard(rt.stdin())
+                } else {
+                    Origin::File(fs::open(&rt, path)?)
+                };
+                Ok(Trace { origin, bytes: 0 })
+            },
+            read: |trace: &mut Trace<fs::File, io::Stdin>, room: &mut [u8]| {
+                let count = read(trace, room)?;
+                let before = trace.bytes;
+                trace.bytes = before.saturating_add(count as u64);
+                if shows && (before / STEP != trace.bytes / STEP || count == 0 && before >= STEP) {
+                    show_progress(trace.bytes, count == 0, &mut rt.stderr());
+                }
+                Ok(count)
+            },
         },
-        read: |trace: &mut Trace<fs::File, io::Stdin>, room: &mut [u8]| {
-            let count = read(trace, room)?;
-            let before = trace.bytes;
-            trace.bytes = before.saturating_add(count as u64);
-            if shows && (before / STEP != trace.bytes / STEP || count == 0 && before >= STEP) {
-                show_progress(trace.bytes, count == 0, &mut rt.stderr());
-            }
-            Ok(count)
+        target: Target {
+            exists: |path: &str| rt.symlink_metadata(path).is_ok(),
+            make: |path: &str, bytes: &[u8]| make(&rt, path, bytes),
+            remove: |path: &str| {
+                let _ = fs::remove_file(&rt, path);
+            },
         },
-    };
-    let target = Target {
-        exists: |path: &str| rt.symlink_metadata(path).is_ok(),
-        make: |path: &str, bytes: &[u8]| make(&rt, path, bytes),
-    };
-    let remove = |path: &str| {
-        let _ = fs::remove_file(&rt, path);
     };
     let mut out = rt.stdout();
     let mut faults = rt.stderr();
     let status = match env::args(&rt).and_then(|args| Ok(args.collect::<Vec<String>>(alloc)?)) {
-        Ok(words) => serve(
-            alloc,
-            &words,
-            &input,
-            &target,
-            &remove,
-            &mut out,
-            &mut faults,
-        ),
+        Ok(words) => serve(alloc, &words, &files, &mut out, &mut faults),
         Err(error) => serve_no_words(&error, &mut faults),
     };
     ExitCode::from(status)

@@ -1,25 +1,25 @@
 //! The program over its words and two writers.
 
 ghost use Rattle.std.specs.Prelude.{◌≡◌, ◌≤◌, ◌⊎◌};
-ghost use Rattle.convert.specs.declared.fault.TheConstants.{STATUS_SYSTEM, STATUS_USAGE};
+ghost use Rattle.trace_faults.specs.declared.fault.TheConstants.{STATUS_SYSTEM, STATUS_USAGE};
 
-use crate::wrong::{wrong_of_check, wrong_of_events, wrong_of_size, wrong_value};
+use crate::refusal::Refusal;
 use clap::error::ErrorKind;
 use clap::{ArgMatches, Error};
-use convert::{
-    ConvertOptions, Input, STATUS_SYSTEM, STATUS_USAGE, Target, options_of, serve_events,
-    serve_tasks,
-};
+use convert::{ConvertOptions, options_of, serve_events, serve_tasks};
 use grubtrace_command::command_line;
 use size_report::{SizeWords, serve_size, size_options_of};
 use std::alloc::{AllocError, Global};
 use std::io;
 use std::io::Write;
 use task_figures::{FigureText, print_figures};
+use text_bytes::Source;
 use trace_check::{
     AskedLaws, CheckOption, CheckRequest, CheckWords, Window, WrongOption, laws_of,
     options_of as check_options, serve_check, window_of,
 };
+use trace_faults::{Fault, STATUS_USAGE};
+use trace_file::Files;
 
 /// How many percent more than the least runtime are proposed, where the words do not say it.
 const MARGIN: u32 = 10;
@@ -27,9 +27,7 @@ const MARGIN: u32 = 10;
 /// How far a moment may lie from the kernel's, in microseconds, where the words of `check` do not say it.
 const WITHIN: u32 = 20;
 
-const TAKES_LAWS: &str = "it takes names of laws with commas between, or none";
-
-/// What the words ask for.
+/// What the words match.
 fn matches_of<'a>(alloc: Global, words: &'a [String]) -> Result<ArgMatches<'a>, Error> {
     command_line(alloc)?.try_get_matches_from(words)
 }
@@ -44,26 +42,18 @@ pub(crate) fn serve<
     R: Fn(&str),
     W: Write,
     E: Write,
->(
-    alloc: Global,
-    words: &[String],
-    input: &Input<O, N>,
-    target: &Target<X, M>,
-    remove: &R,
-    out: &mut W,
-    faults: &mut E,
-) -> u8
-    requires open { O.IsAlwaysCallable input.now.open }
-    requires read { N.IsAlwaysCallable input.now.read }
-    requires exists { X.IsAlwaysCallable target.now.exists }
-    requires make { M.IsAlwaysCallable target.now.make }
-    requires remove { R.IsAlwaysCallable remove.now }
+>(alloc: Global, words: &[String], files: &Files<O, N, X, M, R>, out: &mut W, faults: &mut E) -> u8
+    requires open { O.IsAlwaysCallable files.now.source.open }
+    requires read { N.IsAlwaysCallable files.now.source.read }
+    requires exists { X.IsAlwaysCallable files.now.target.exists }
+    requires make { M.IsAlwaysCallable files.now.target.make }
+    requires remove { R.IsAlwaysCallable files.now.target.remove }
     ensures status { result ≤ 5 }
     // Where the trace is at fault, or the words are, nothing was printed.
     ensures nothing { (result ≡ 1) ⊎ (result ≡ 2) → out.new ≡ out.old }
 {
     match matches_of(alloc, words) {
-        Ok(matches) => serve_command(alloc, &matches, input, target, remove, out, faults),
+        Ok(matches) => serve_command(alloc, &matches, files, out, faults),
         Err(error) => serve_error(&error, out, faults),
     }
 }
@@ -81,29 +71,27 @@ fn serve_command<
 >(
     alloc: Global,
     matches: &ArgMatches<'_>,
-    input: &Input<O, N>,
-    target: &Target<X, M>,
-    remove: &R,
+    files: &Files<O, N, X, M, R>,
     out: &mut W,
     faults: &mut E,
 ) -> u8
-    requires open { O.IsAlwaysCallable input.now.open }
-    requires read { N.IsAlwaysCallable input.now.read }
-    requires exists { X.IsAlwaysCallable target.now.exists }
-    requires make { M.IsAlwaysCallable target.now.make }
-    requires remove { R.IsAlwaysCallable remove.now }
+    requires open { O.IsAlwaysCallable files.now.source.open }
+    requires read { N.IsAlwaysCallable files.now.source.read }
+    requires exists { X.IsAlwaysCallable files.now.target.exists }
+    requires make { M.IsAlwaysCallable files.now.target.make }
+    requires remove { R.IsAlwaysCallable files.now.target.remove }
     ensures status { result ≤ 5 }
     ensures nothing { (result ≡ 1) ⊎ (result ≡ 2) → out.new ≡ out.old }
 {
     match matches.subcommand() {
-        Some(("events", matches)) => events(alloc, matches, input, target, faults),
-        Some(("check", matches)) => check(alloc, matches, input, target, remove, out, faults),
-        Some(("size", matches)) => size(alloc, matches, input, target, out, faults),
+        Some(("events", matches)) => events(alloc, matches, files, faults),
+        Some(("check", matches)) => check(alloc, matches, files, out, faults),
+        Some(("size", matches)) => size(alloc, matches, files, out, faults),
         Some((_, matches)) => {
             let path = matches.get_str("TRACE").unwrap_or("");
-            let status = serve_tasks(alloc, input, path, out, faults);
+            let status = serve_tasks(alloc, &files.source, path, out, faults);
             if status == 0 {
-                figures(alloc, input, path, FigureText::Tasks, out, faults)
+                figures(alloc, &files.source, path, FigureText::Tasks, out, faults)
             } else {
                 status
             }
@@ -121,21 +109,32 @@ fn figures<
     E: Write,
 >(
     alloc: Global,
-    input: &Input<O, N>,
+    source: &Source<O, N>,
     path: &str,
     wanted: FigureText,
     out: &mut W,
     faults: &mut E,
 ) -> u8
-    requires open { O.IsAlwaysCallable input.now.open }
-    requires read { N.IsAlwaysCallable input.now.read }
+    requires open { O.IsAlwaysCallable source.now.open }
+    requires read { N.IsAlwaysCallable source.now.read }
     ensures { (result ≡ 0) ⊎ (result ≡ STATUS_SYSTEM) }
 {
-    if print_figures(alloc, &input.open, &input.read, path, wanted, out) {
+    if print_figures(alloc, source, path, wanted, out) {
         return 0;
     }
-    let _ = faults.write_all(b"grubtrace: 45 WriteFault\n");
-    STATUS_SYSTEM
+    write_fault(faults)
+}
+
+fn write_fault<E: Write>(faults: &mut E) -> u8
+    ensures { result ≡ STATUS_SYSTEM }
+{
+    Fault::Write.told("", faults)
+}
+
+fn no_memory<E: Write>(faults: &mut E) -> u8
+    ensures { result ≡ STATUS_SYSTEM }
+{
+    Fault::NoMemory.told("", faults)
 }
 
 /// Writes the event files that the words of `events` ask for.
@@ -145,25 +144,21 @@ fn events<
     N: Fn(&mut D, &mut [u8]) -> io::Result<usize>,
     X: Fn(&str) -> bool,
     M: Fn(&str, &[u8]) -> io::Result<()>,
+    R: Fn(&str),
     E: Write,
->(
-    alloc: Global,
-    matches: &ArgMatches<'_>,
-    input: &Input<O, N>,
-    target: &Target<X, M>,
-    faults: &mut E,
-) -> u8
-    requires open { O.IsAlwaysCallable input.now.open }
-    requires read { N.IsAlwaysCallable input.now.read }
-    requires exists { X.IsAlwaysCallable target.now.exists }
-    requires make { M.IsAlwaysCallable target.now.make }
+>(alloc: Global, matches: &ArgMatches<'_>, files: &Files<O, N, X, M, R>, faults: &mut E) -> u8
+    requires open { O.IsAlwaysCallable files.now.source.open }
+    requires read { N.IsAlwaysCallable files.now.source.read }
+    requires exists { X.IsAlwaysCallable files.now.target.exists }
+    requires make { M.IsAlwaysCallable files.now.target.make }
+    requires remove { R.IsAlwaysCallable files.now.target.remove }
     ensures { result ≤ 5 }
 {
     let path = matches.get_str("TRACE").unwrap_or("");
     let prefix = matches.get_str("out").unwrap_or("");
     match options_in(alloc, matches) {
-        Ok(Ok(options)) => serve_events(alloc, input, target, path, prefix, &options, faults),
-        Ok(Err(wrong)) => wrong_of_events(wrong, faults),
+        Ok(Ok(options)) => serve_events(alloc, files, path, prefix, &options, faults),
+        Ok(Err(wrong)) => Refusal::OfEvents(wrong).told(faults),
         Err(_) => no_memory(faults),
     }
 }
@@ -181,17 +176,15 @@ fn check<
 >(
     alloc: Global,
     matches: &ArgMatches<'_>,
-    input: &Input<O, N>,
-    target: &Target<X, M>,
-    remove: &R,
+    files: &Files<O, N, X, M, R>,
     out: &mut W,
     faults: &mut E,
 ) -> u8
-    requires open { O.IsAlwaysCallable input.now.open }
-    requires read { N.IsAlwaysCallable input.now.read }
-    requires exists { X.IsAlwaysCallable target.now.exists }
-    requires make { M.IsAlwaysCallable target.now.make }
-    requires remove { R.IsAlwaysCallable remove.now }
+    requires open { O.IsAlwaysCallable files.now.source.open }
+    requires read { N.IsAlwaysCallable files.now.source.read }
+    requires exists { X.IsAlwaysCallable files.now.target.exists }
+    requires make { M.IsAlwaysCallable files.now.target.make }
+    requires remove { R.IsAlwaysCallable files.now.target.remove }
     ensures status { result ≤ 5 }
     ensures nothing { (result ≡ 1) ⊎ (result ≡ 2) → out.new ≡ out.old }
 {
@@ -212,11 +205,11 @@ fn check<
     let picture = matches.get_str("picture");
     let window = match window_in(matches, json.is_some() || picture.is_some()) {
         Ok(window) => window,
-        Err(wrong) => return wrong_of_check(wrong, faults),
+        Err(wrong) => return Refusal::OfCheck(wrong).told(faults),
     };
     let law_names = matches.get_str("laws");
     let Some(laws) = laws_in(law_names) else {
-        return wrong_value("--laws", law_names.unwrap_or(""), TAKES_LAWS, faults);
+        return Refusal::Laws(law_names.unwrap_or("")).told(faults);
     };
     let wanted = CheckRequest {
         path: matches.get_str("TRACE").unwrap_or(""),
@@ -228,19 +221,8 @@ fn check<
         laws,
     };
     match check_options(alloc, words) {
-        Ok(Ok(options)) => serve_check(
-            alloc,
-            &input.open,
-            &input.read,
-            &target.exists,
-            &target.make,
-            remove,
-            wanted,
-            &options,
-            out,
-            faults,
-        ),
-        Ok(Err(wrong)) => wrong_of_check(wrong, faults),
+        Ok(Ok(options)) => serve_check(alloc, files, wanted, &options, out, faults),
+        Ok(Err(wrong)) => Refusal::OfCheck(wrong).told(faults),
         Err(_) => no_memory(faults),
     }
 }
@@ -292,20 +274,21 @@ fn size<
     N: Fn(&mut D, &mut [u8]) -> io::Result<usize>,
     X: Fn(&str) -> bool,
     M: Fn(&str, &[u8]) -> io::Result<()>,
+    R: Fn(&str),
     W: Write,
     E: Write,
 >(
     alloc: Global,
     matches: &ArgMatches<'_>,
-    input: &Input<O, N>,
-    target: &Target<X, M>,
+    files: &Files<O, N, X, M, R>,
     out: &mut W,
     faults: &mut E,
 ) -> u8
-    requires open { O.IsAlwaysCallable input.now.open }
-    requires read { N.IsAlwaysCallable input.now.read }
-    requires exists { X.IsAlwaysCallable target.now.exists }
-    requires make { M.IsAlwaysCallable target.now.make }
+    requires open { O.IsAlwaysCallable files.now.source.open }
+    requires read { N.IsAlwaysCallable files.now.source.read }
+    requires exists { X.IsAlwaysCallable files.now.target.exists }
+    requires make { M.IsAlwaysCallable files.now.target.make }
+    requires remove { R.IsAlwaysCallable files.now.target.remove }
     ensures status { result ≤ 5 }
     ensures nothing { (result ≡ 1) ⊎ (result ≡ 2) → out.new ≡ out.old }
 {
@@ -324,33 +307,16 @@ fn size<
     };
     match size_options_of(alloc, words) {
         Ok(Ok(options)) => {
-            let status = serve_size(
-                alloc,
-                &input.open,
-                &input.read,
-                &target.exists,
-                &target.make,
-                path,
-                &options,
-                out,
-                faults,
-            );
+            let status = serve_size(alloc, files, path, &options, out, faults);
             if status == 0 {
-                figures(alloc, input, path, FigureText::Supply, out, faults)
+                figures(alloc, &files.source, path, FigureText::Supply, out, faults)
             } else {
                 status
             }
         }
-        Ok(Err(wrong)) => wrong_of_size(wrong, faults),
+        Ok(Err(wrong)) => Refusal::OfSize(wrong).told(faults),
         Err(_) => no_memory(faults),
     }
-}
-
-fn no_memory<E: Write>(faults: &mut E) -> u8
-    ensures { result ≡ STATUS_SYSTEM }
-{
-    let _ = faults.write_all(b"grubtrace: 47 NoMemory\n");
-    STATUS_SYSTEM
 }
 
 /// The text of the command line's fault, or the text that the words ask for.
@@ -362,8 +328,7 @@ fn serve_error<W: Write, E: Write>(error: &Error, out: &mut W, faults: &mut E) -
         ErrorKind::OutOfMemory => no_memory(faults),
         ErrorKind::DisplayHelp | ErrorKind::DisplayVersion => {
             if write!(out, "{error}").is_err() || out.flush().is_err() {
-                let _ = faults.write_all(b"grubtrace: 45 WriteFault\n");
-                return STATUS_SYSTEM;
+                return write_fault(faults);
             }
             0
         }

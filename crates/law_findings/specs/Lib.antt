@@ -4,6 +4,7 @@ pub mod Progress
 pub mod Expiry
 pub mod Firing
 pub mod Tallies
+pub mod Judged
 pub mod Budget
 pub mod ZeroLag
 pub mod Pick

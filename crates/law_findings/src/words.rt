@@ -46,7 +46,7 @@ pub const LAWS: [Law; 9] = [
     Law::Server,
 ];
 
-/// What kind of line shows a value.
+/// What kind of line shows a value: one of a probe, or of a fixed event.
 #[derive(Clone, Copy, PartialEq, Eq)]
 pub enum LineKind {
     Enqueue,
@@ -62,6 +62,8 @@ pub enum LineKind {
     ServerPick,
     ServerStop,
     ServerIdle,
+    TimerStarts,
+    TimerExpires,
 }
 
 /// A line: its number, its moment in nanoseconds, and the CPU that wrote it.
@@ -136,6 +138,7 @@ pub enum Finding {
     Early {
         timer: TimerKind,
         expiry: u64,
+        fired: u64,
     },
 
     /// The 0-lag timer fires though the task woke at that line.

@@ -1,11 +1,8 @@
-pub mod Judged
 pub mod Tasks
 pub mod Cpus
 pub mod Timers
 pub mod Blocks
-pub mod Waits
-pub mod Runs
 pub mod Lines
 pub mod Throttled
 pub mod Lent
-pub mod Shares
+pub mod Budgets

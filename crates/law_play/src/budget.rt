@@ -4,14 +4,14 @@ ghost use Rattle.std.specs.Prelude.{◌≡◌, IfNone, IfSome, OnOk, Some, false
 ghost use Rattle.law_findings.specs.Budget.{HasBudget};
 ghost use Rattle.law_findings.specs.declared.words.Law.TheVariants.{Budget as OfBudget};
 ghost use Rattle.law_findings.specs.declared.words.LineKind.TheVariants.{Enqueue};
-ghost use Rattle.law_play.specs.inside.Judged.{broken_in, held_in};
-ghost use Rattle.law_play.specs.inside.Runs.{no_budget};
+ghost use Rattle.law_findings.specs.Judged.{broken_in, held_in};
+ghost use Rattle.law_play.specs.inside.Budgets.{no_budget};
 ghost use Rattle.law_play.specs.inside.Tasks.{has_own_budget, is_wake, with_line, with_runtime};
 ghost use Rattle.law_play.specs.inside.Lent.{changed_at};
 
-use crate::play::{LawPlay, ReadLine};
+use crate::play::LawPlay;
 use crate::task::Task;
-use law_findings::{Breach, Finding, Law, LineKind, Whose, has_budget, is_within};
+use law_findings::{Breach, Finding, Law, LineKind, ReadLine, Whose, has_budget, is_within};
 use std::alloc::AllocError;
 use trace_data::Budget;
 
@@ -46,14 +46,14 @@ impl LawPlay {
     ) -> Result<(), AllocError>
         ensures other { IfSome (slice_get self.old.tasks.all.items place)
             (λ t. is_wake t budget flags ≡ false
-            → OnOk result (self.new.tallies ≡ self.old.tallies)) }
+            → OnOk result (self.new.judged.tallies ≡ self.old.judged.tallies)) }
         ensures kept { IfSome (slice_get self.old.tasks.all.items place)
             (λ t. is_wake t budget flags ≡ true → HasBudget budget.runtime
-            → OnOk result (self.new.tallies ≡ held_in self.old OfBudget)) }
+            → OnOk result (self.new.judged.tallies ≡ held_in self.old.judged OfBudget)) }
         ensures broken { IfSome (slice_get self.old.tasks.all.items place)
             (λ t. is_wake t budget flags ≡ true → (HasBudget budget.runtime → ⊥)
-            → OnOk result (self.new.tallies
-            ≡ broken_in self.old (no_budget read t.pid Enqueue budget.runtime))) }
+            → OnOk result (self.new.judged.tallies
+            ≡ broken_in self.old.judged (no_budget read t.pid Enqueue budget.runtime))) }
     {
         let Some(task) = self.budget_of(place, budget) else {
             return Ok(());
@@ -94,10 +94,10 @@ impl LawPlay {
         }
         let dl_runtime = self.most_runtime(place, budget.deadline);
         if is_within(budget.runtime, dl_runtime) {
-            self.holds(Law::Budget);
+            self.judged.holds(Law::Budget);
             return Ok(());
         }
-        self.breaks(Breach {
+        self.judged.breaks(Breach {
             law: Law::Budget,
             place: read.place(kind),
             whose: Whose::Task { pid },
@@ -170,15 +170,15 @@ impl LawPlay {
         budget: i64,
     ) -> Result<(), AllocError>
         ensures kept { HasBudget budget
-            → OnOk result (self.new.tallies ≡ held_in self.old OfBudget) }
+            → OnOk result (self.new.judged.tallies ≡ held_in self.old.judged OfBudget) }
         ensures broken { (HasBudget budget → ⊥)
-            → OnOk result (self.new.tallies ≡ broken_in self.old (no_budget read pid kind budget)) }
+            → OnOk result (self.new.judged.tallies ≡ broken_in self.old.judged (no_budget read pid kind budget)) }
     {
         if has_budget(budget) {
-            self.holds(Law::Budget);
+            self.judged.holds(Law::Budget);
             return Ok(());
         }
-        self.breaks(Breach {
+        self.judged.breaks(Breach {
             law: Law::Budget,
             place: read.place(kind),
             whose: Whose::Task { pid },

@@ -3,18 +3,19 @@
 ghost use Rattle.std.specs.Prelude.{◌≡◌, IfNone, IfSome, OnOk, slice_get};
 ghost use Rattle.law_findings.specs.Expiry.{IsNextPeriod};
 ghost use Rattle.law_findings.specs.declared.words.Law.TheVariants.{Expiry as OfExpiry};
-ghost use Rattle.law_play.specs.inside.Judged.{broken_in, held_in};
+ghost use Rattle.law_findings.specs.Judged.{broken_in, held_in};
 ghost use Rattle.law_play.specs.inside.Cpus.{cpu_of};
 ghost use Rattle.law_play.specs.inside.Timers.{candidate_of, expiry_by, has_fired, moment_of, other_moment, servers_perhaps, throttling_of};
 ghost use Rattle.law_play.specs.inside.Lent.{changed_at};
 
 use crate::cpu::Last;
 use crate::firing::standing_of;
-use crate::play::{LawPlay, ReadLine};
+use crate::play::LawPlay;
 use crate::task::{Arming, Fired, Throttling, Waiting};
 use crate::timer::{Armed as ArmedTimer, Unowned};
 use law_findings::{
-    Breach, Expiry, Finding, FiredTimer, Law, LawLine, LineKind, TimerKind, Whose, is_next_period,
+    Breach, Expiry, Finding, FiredTimer, Law, LawLine, LineKind, ReadLine, TimerKind, Whose,
+    is_next_period,
 };
 use std::alloc::AllocError;
 use trace_data::{Armed, Expiry as ArmedFor};
@@ -256,11 +257,11 @@ impl LawPlay {
 
     fn judge_expiry(&mut self, pid: u64, arming: Arming) -> Result<(), AllocError>
         ensures unseen { IfNone arming.throttling
-            (OnOk result (self.new.tallies ≡ self.old.tallies)) }
+            (OnOk result (self.new.judged.tallies ≡ self.old.judged.tallies)) }
         ensures kept { IfSome arming.throttling (λ t. IsNextPeriod (expiry_by arming t)
-            → OnOk result (self.new.tallies ≡ held_in self.old OfExpiry)) }
+            → OnOk result (self.new.judged.tallies ≡ held_in self.old.judged OfExpiry)) }
         ensures broken { IfSome arming.throttling (λ t. (IsNextPeriod (expiry_by arming t) → ⊥)
-            → OnOk result (self.new.tallies ≡ broken_in self.old (other_moment pid arming t))) }
+            → OnOk result (self.new.judged.tallies ≡ broken_in self.old.judged (other_moment pid arming t))) }
     {
         let Some(throttling) = arming.throttling else {
             return Ok(());
@@ -276,11 +277,11 @@ impl LawPlay {
             armed_for,
         };
         if is_next_period(expiry) {
-            self.holds(Law::Expiry);
+            self.judged.holds(Law::Expiry);
             return Ok(());
         }
         let behind = armed_for.wrapping_sub(throttling.at);
-        self.breaks(Breach {
+        self.judged.breaks(Breach {
             law: Law::Expiry,
             place,
             whose: Whose::Task { pid },

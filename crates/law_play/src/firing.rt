@@ -3,20 +3,20 @@
 ghost use Rattle.std.specs.Prelude.{◌≡◌, ◌-◌, ◌++◌, ◌∷◌, [], IfNone, IfSome, IsTrue, OnOk, false, slice_get};
 ghost use Rattle.law_findings.specs.Firing.{IsAwakeLong, IsEarly};
 ghost use Rattle.law_findings.specs.declared.words.Law.TheVariants.{Firing as OfFiring};
-ghost use Rattle.law_play.specs.inside.Judged.{broken_in, held_in};
+ghost use Rattle.law_findings.specs.Judged.{broken_in, held_in};
 ghost use Rattle.law_play.specs.inside.Timers.{armed_of, awake_by, disarmed, early_by, fired_unowned, never_fired, whose_of, zero_lag_moment};
 ghost use Rattle.law_play.specs.inside.Cpus.{cpu_of};
 ghost use Rattle.law_play.specs.inside.Lent.{changed_at};
 ghost use Rattle.law_play.specs.inside.Tasks.{standing_of, with_fired};
 
 use crate::cpu::FiringHere;
-use crate::play::{LawPlay, ReadLine};
+use crate::play::LawPlay;
 use crate::states::{REPLENISH, RESTORE};
 use crate::task::{Fired, Task};
 use crate::timer::{Armed as ArmedTimer, Unowned, Woken};
 use law_findings::{
-    Breach, Finding, FiredTimer, Law, LawLine, LineKind, Standing, TimerKind, Whose, is_awake_long,
-    is_due, is_early,
+    Breach, Finding, FiredTimer, Law, LawLine, LineKind, ReadLine, Standing, TimerKind, Whose,
+    is_awake_long, is_due, is_early,
 };
 use std::alloc::AllocError;
 use trace_data::{Armed, Enqueued, Expiry};
@@ -66,29 +66,29 @@ impl LawPlay {
         ensures armed { result ≡ armed_of (slice_get self.old.timers.all.items place) }
         ensures timers { self.new.timers.all.items
             ≡ changed_at self.old.timers.all.items place disarmed }
-        ensures tallies { self.new.tallies ≡ self.old.tallies }
-        ensures asked { self.new.asked ≡ self.old.asked }
-        ensures kernel { self.new.kernel ≡ self.old.kernel }
+        ensures tallies { self.new.judged.tallies ≡ self.old.judged.tallies }
+        ensures asked { self.new.judged.asked ≡ self.old.judged.asked }
+        ensures kernel { self.new.judged.kernel ≡ self.old.judged.kernel }
     {
         self.timers.get_mut(place)?.armed.take()
     }
 
     /// A timer that has not fired: its task was seen to do what stops it.
     fn judge_stopped(&mut self, armed: ArmedTimer, again: Option<u64>) -> Result<(), AllocError>
-        ensures nobody { IfNone armed.owner (OnOk result (self.new.tallies ≡ self.old.tallies)) }
+        ensures nobody { IfNone armed.owner (OnOk result (self.new.judged.tallies ≡ self.old.judged.tallies)) }
         ensures excused { IfSome armed.owner (λ pid. IsTrue armed.is_excused
-            → OnOk result (self.new.tallies ≡ held_in self.old OfFiring)) }
+            → OnOk result (self.new.judged.tallies ≡ held_in self.old.judged OfFiring)) }
         ensures missed { IfSome armed.owner (λ pid. armed.is_excused ≡ false
-            → OnOk result (self.new.tallies ≡ broken_in self.old (never_fired armed pid again))) }
+            → OnOk result (self.new.judged.tallies ≡ broken_in self.old.judged (never_fired armed pid again))) }
     {
         let Some(pid) = armed.owner else {
             return Ok(());
         };
         if armed.is_excused {
-            self.holds(Law::Firing);
+            self.judged.holds(Law::Firing);
             return Ok(());
         }
-        self.breaks(Breach {
+        self.judged.breaks(Breach {
             law: Law::Firing,
             place: armed.place,
             whose: Whose::Task { pid },
@@ -128,7 +128,7 @@ impl LawPlay {
         if let Some(pid) = armed.owner
             && let Some(task) = self.tasks.find(pid)
         {
-            self.zero_lag_total(task, read)?;
+            self.total.zero_lag_fired(task, read)?;
         }
         let line = read.place(LineKind::ZeroLagFires);
         self.judge_early(line, armed, address)?;
@@ -241,46 +241,49 @@ impl LawPlay {
         address: u64,
     ) -> Result<(), AllocError>
         ensures in_time { (IsEarly armed.expiry line.at → ⊥)
-            → OnOk result (self.new.tallies ≡ held_in self.old OfFiring) }
+            → OnOk result (self.new.judged.tallies ≡ held_in self.old.judged OfFiring) }
         ensures late { (IsEarly armed.expiry line.at → ⊥)
             → OnOk result (self.new.late.items ≡ self.old.late.items ++ (line.at - armed.expiry) ∷ []) }
         ensures early { IsEarly armed.expiry line.at
-            → OnOk result (self.new.tallies ≡ broken_in self.old (early_by line armed address)) }
+            → OnOk result (self.new.judged.tallies ≡ broken_in self.old.judged (early_by line armed address)) }
     {
         if is_early(armed.expiry, line.at) {
-            return self.breaks(Breach {
+            return self.judged.breaks(Breach {
                 law: Law::Firing,
                 place: line,
                 whose: whose_of(armed.owner, address),
                 finding: Finding::Early {
                     timer: armed.kind,
                     expiry: armed.expiry,
+                    fired: line.at,
                 },
                 sign: None,
             });
         }
-        self.holds(Law::Firing);
+        self.judged.holds(Law::Firing);
         self.late.push(line.at.saturating_sub(armed.expiry))?;
         Ok(())
     }
 
     fn judge_awake(&mut self, line: LawLine, armed: ArmedTimer, pid: u64) -> Result<(), AllocError>
-        ensures asleep { IfNone armed.woke (OnOk result (self.new.tallies ≡ held_in self.old OfFiring)) }
+        ensures asleep { IfNone armed.woke (OnOk result (self.new.judged.tallies ≡ held_in self.old.judged OfFiring)) }
         ensures short { IfSome armed.woke (λ w. (IsAwakeLong w.at armed.expiry line.at → ⊥)
-            → OnOk result (self.new.tallies ≡ held_in self.old OfFiring)) }
+            → OnOk result (self.new.judged.tallies ≡ held_in self.old.judged OfFiring)) }
         ensures long { IfSome armed.woke (λ w. IsAwakeLong w.at armed.expiry line.at
-            → OnOk result (self.new.tallies ≡ broken_in self.old (awake_by line pid w.line))) }
+            → OnOk result (self.new.judged.tallies ≡ broken_in self.old.judged (awake_by line pid w.line))) }
     {
         match armed.woke {
-            Some(woken) if is_awake_long(woken.at, armed.expiry, line.at) => self.breaks(Breach {
-                law: Law::Firing,
-                place: line,
-                whose: Whose::Task { pid },
-                finding: Finding::Awake { woke: woken.line },
-                sign: None,
-            }),
+            Some(woken) if is_awake_long(woken.at, armed.expiry, line.at) => self.judged.breaks(
+                Breach {
+                    law: Law::Firing,
+                    place: line,
+                    whose: Whose::Task { pid },
+                    finding: Finding::Awake { woke: woken.line },
+                    sign: None,
+                },
+            ),
             _ => {
-                self.holds(Law::Firing);
+                self.judged.holds(Law::Firing);
                 Ok(())
             }
         }

@@ -6,16 +6,12 @@ mod budget;
 mod cpu;
 mod expiry;
 mod firing;
-mod lower;
-mod pick;
 mod play;
 mod progress;
-mod run;
-mod server;
 mod states;
+mod switches;
 mod task;
 mod timer;
-mod total;
 mod zero_lag;
 
-pub use play::{LawPlay, ReadLine};
+pub use play::LawPlay;

@@ -1,54 +1,22 @@
 //! The lines of a record are taken one by one.
 
-ghost use Rattle.std.specs.Prelude.{◌≡◌, OnOk, true, false};
-ghost use Rattle.law_findings.specs.Asked.{is_asked};
-ghost use Rattle.law_findings.specs.Tallies.{judged_in};
-ghost use Rattle.law_findings.specs.declared.judging.Judgement.TheVariants.{Holds};
-ghost use Rattle.law_play.specs.inside.Judged.{OnlyTells, breaches_with, broken_in, held_in, judged_by, sign_in};
-ghost use Rattle.law_play.specs.inside.Lines.{is_of_admission, is_of_call, place_of};
+ghost use Rattle.std.specs.Prelude.{◌≡◌};
+ghost use Rattle.law_play.specs.inside.Lines.{is_of_admission, is_of_call};
 
 use crate::cpu::{Blocker, Cpus, Last};
-use crate::lower::ReadyTasks;
-use crate::pick::Picks;
-use crate::run::Runs;
-use crate::server::Servers;
 use crate::task::{Tasks, Waiting};
 use crate::timer::Timers;
-use crate::total::Total;
-use law_findings::{
-    AskedLaws, Breach, Judgement, Law, LawFigures, LawLine, LawTallies, LineKind, Sign, is_known,
-    spread_of,
-};
+use law_charges::{Runs, Servers};
+use law_findings::{AskedLaws, JudgedLaws, LawFigures, LineKind, ReadLine, spread_of};
+use law_switches::{Picks, ReadyTasks};
+use law_total::{Total, is_of_reservation};
 use std::alloc::{AllocError, Global};
 use trace_data::{Armed, Fixed, Kernel, Mark, Probe, Said, Sums, TimerFunction};
-
-/// Where a line stands: its number, its moment in nanoseconds, the CPU that wrote it, and the task that ran there.
-#[derive(Clone, Copy)]
-pub struct ReadLine {
-    pub line: u64,
-    pub at: u64,
-    pub cpu: u32,
-    pub pid: u64,
-}
-
-impl ReadLine {
-    pub(crate) fn place(self, kind: LineKind) -> LawLine
-        ensures { result ≡ place_of self kind }
-    {
-        LawLine {
-            line: self.line,
-            at: self.at,
-            cpu: self.cpu,
-            kind,
-        }
-    }
-}
 
 /// What the laws need of the lines so far, and how often each law held.
 #[derive(Drop)]
 pub struct LawPlay {
-    kernel: Option<Kernel>,
-    asked: AskedLaws,
+    pub judged: JudgedLaws,
     pub(crate) tasks: Tasks,
     pub(crate) cpus: Cpus,
     pub(crate) timers: Timers,
@@ -67,11 +35,6 @@ pub struct LawPlay {
 
     /// By how many nanoseconds timers fired late.
     pub(crate) late: Vec<u64>,
-    pub tallies: LawTallies,
-    keeps_breaches: bool,
-
-    /// Each breach, where they are kept.
-    pub breaches: Vec<Breach>,
 }
 
 impl LawPlay {
@@ -83,8 +46,7 @@ impl LawPlay {
         keeps_breaches: bool,
     ) -> LawPlay {
         LawPlay {
-            kernel,
-            asked,
+            judged: JudgedLaws::new(alloc, kernel, asked, keeps_breaches),
             tasks: Tasks::new(alloc),
             cpus: Cpus::new(alloc),
             timers: Timers::new(alloc),
@@ -96,9 +58,6 @@ impl LawPlay {
             servers: Servers::new(alloc),
             end: 0,
             late: Vec::new(alloc),
-            tallies: LawTallies::new(),
-            keeps_breaches,
-            breaches: Vec::new(alloc),
         }
     }
 
@@ -131,12 +90,7 @@ impl LawPlay {
                 },
             ) => {
                 self.end = read.at;
-                self.switch_run(read, *next_pid, *next_is_deadline)?;
-                self.switch_lower(read, *next_pid, *next_is_deadline)?;
-                if *next_is_deadline {
-                    self.switch_pick(read, *next_pid)?;
-                }
-                Ok(())
+                self.switched(read, *next_pid, *next_is_deadline)
             }
             Said::Fixed(Fixed::TimerFired { is_tick: true, .. }) => {
                 self.ready.tick(read.cpu, read.at);
@@ -158,16 +112,16 @@ impl LawPlay {
     }
 
     fn probe(&mut self, read: ReadLine, probe: &Probe) -> Result<(), AllocError> {
-        self.settle_total(read, is_of_call(probe));
+        self.total.settle(read.cpu, read.at, is_of_call(probe));
         if !is_of_admission(probe) {
-            self.refuse_admission(read.cpu);
+            self.total.refuse(read.cpu);
         }
         match probe {
             Probe::Enqueued(line) => self.enqueued(read, line),
             Probe::Updated(line) if line.is_server => {
                 self.charged_line(read.cpu);
                 self.see_sums(read, LineKind::Update, line.cpu, line.clock, line.sums)?;
-                self.charged_server(read, line)
+                self.servers.charge(&mut self.judged, read, line)
             }
             Probe::Updated(line) => self.updated(read, line),
             Probe::Dequeued(line) => self.dequeued(read, line),
@@ -176,7 +130,11 @@ impl LawPlay {
                 self.other_line(read.cpu);
                 self.excuse_all(line.pid);
                 self.change_block(line.pid);
-                self.admitted(read, line)
+                if !is_of_reservation(line) {
+                    return Ok(());
+                }
+                let task = self.tasks.place(line.pid)?;
+                self.total.admit(&mut self.judged, task, read, line)
             }
             Probe::Migrating(line) => {
                 self.other_line(read.cpu);
@@ -188,8 +146,8 @@ impl LawPlay {
                 self.see_blocker(read.cpu, None);
                 self.block_picked(read, line);
                 self.see_sums(read, LineKind::ServerPick, line.cpu, line.clock, line.sums)?;
-                self.see_server(line.cpu, line.dl_runtime, line.dl_period)?;
-                self.picked_server(read, line)
+                self.servers.see(line.cpu, line.dl_runtime, line.dl_period)?;
+                self.servers.pick(&mut self.judged, read, line)
             }
             Probe::Armed(line) => self.armed(read, line),
             Probe::ZeroLagFired { timer } => {
@@ -203,7 +161,7 @@ impl LawPlay {
             Probe::ServerStarted(line) => {
                 self.other_line(read.cpu);
                 self.see_sums(read, LineKind::ServerStart, line.cpu, line.clock, line.sums)?;
-                self.see_server(line.cpu, line.dl_runtime, line.dl_period)
+                self.servers.see(line.cpu, line.dl_runtime, line.dl_period)
             }
             Probe::ServerStopped(line) => {
                 self.other_line(read.cpu);
@@ -214,7 +172,7 @@ impl LawPlay {
             Probe::ServerIdled(line) => {
                 self.other_line(read.cpu);
                 self.runs.see_clock(line.cpu, read.at, line.now)?;
-                self.idled_server(read, line)
+                self.servers.idle(&mut self.judged, read, line)
             }
             Probe::Mark(mark) => {
                 self.marked(read, *mark);
@@ -233,7 +191,8 @@ impl LawPlay {
         sums: Sums,
     ) -> Result<(), AllocError> {
         self.runs.see_clock(cpu, read.at, clock)?;
-        self.judge_extra(read, kind, cpu, sums.extra_bw)
+        self.total
+            .judge_extra(&mut self.judged, read, kind, cpu, sums.extra_bw)
     }
 
     fn armed(&mut self, read: ReadLine, line: &Armed) -> Result<(), AllocError> {
@@ -280,7 +239,7 @@ impl LawPlay {
             | Mark::AffinitySet { .. } => self.total.restart(read.at),
             Mark::ServerChanged { cpu, .. } => {
                 self.total.restart(read.at);
-                self.forget_server(cpu);
+                self.servers.forget(cpu);
             }
         }
     }
@@ -305,61 +264,6 @@ impl LawPlay {
                 count: cpu.count,
             });
         }
-    }
-
-    /// A value keeps this law.
-    pub(crate) fn holds(&mut self, law: Law)
-        ensures asked { is_asked self.old.asked law ≡ true
-            → self.new.tallies ≡ judged_in self.old.tallies law Holds }
-        ensures unasked { is_asked self.old.asked law ≡ false → self.new.tallies ≡ self.old.tallies }
-        ensures all { self.new.tallies ≡ held_in self.old law }
-        ensures only { OnlyTells self.old self.new }
-    {
-        if self.asked.asks(law) {
-            self.tallies.judge(law, Judgement::Holds);
-        }
-    }
-
-    /// A value breaks its law.
-    pub(crate) fn breaks(&mut self, breach: Breach) -> Result<(), AllocError>
-        ensures unasked { is_asked self.old.asked breach.law ≡ false
-            → OnOk result (self.new.tallies ≡ self.old.tallies) }
-        ensures all { OnOk result (self.new.tallies ≡ broken_in self.old breach) }
-        ensures breaches { OnOk result (self.new.breaches.items ≡ breaches_with self.old breach) }
-        ensures only { OnlyTells self.old self.new }
-    {
-        if !self.asked.asks(breach.law) {
-            return Ok(());
-        }
-        let breach = Breach {
-            sign: sign_in(breach.sign, self.kernel),
-            ..breach
-        };
-        if self.keeps_breaches {
-            self.breaches.push(breach)?;
-        }
-        self.tallies
-            .judge(breach.law, judged_by(breach.sign, breach));
-        Ok(())
-    }
-}
-
-/// A sign counts where the kernel is known to have the fault.
-fn sign_in(sign: Option<Sign>, kernel: Option<Kernel>) -> Option<Sign>
-    ensures { result ≡ sign_in kernel sign }
-{
-    match sign {
-        Some(sign) if is_known(sign, kernel) => Some(sign),
-        _ => None,
-    }
-}
-
-fn judged_by(sign: Option<Sign>, breach: Breach) -> Judgement
-    ensures { result ≡ judged_by sign breach }
-{
-    match sign {
-        Some(_) => Judgement::Known(breach),
-        None => Judgement::Breaks(breach),
     }
 }
 

@@ -4,11 +4,12 @@ ghost use Rattle.std.specs.Prelude.{◌≡◌, OnOk, slice_get};
 ghost use Rattle.law_play.specs.inside.Tasks.{is_governors_task};
 ghost use Rattle.law_play.specs.inside.Throttled.{enqueue_judged, enqueue_shown, sign_by, task_shown};
 
-use crate::play::{LawPlay, ReadLine};
+use crate::play::LawPlay;
 use crate::states::REPLENISH;
 use crate::task::Task;
 use law_findings::{
-    Breach, Finding, FiredTimer, Law, LineKind, Sign, Standing, Throttled, Whose, is_waited_for,
+    Breach, Finding, FiredTimer, Law, LineKind, ReadLine, Sign, Standing, Throttled, Whose,
+    is_waited_for,
 };
 use std::alloc::AllocError;
 use trace_data::Enqueued;
@@ -47,7 +48,7 @@ impl LawPlay {
         place: usize,
         is_throttled: bool,
     ) -> Result<(), AllocError>
-        ensures { OnOk result (self.new.tallies
+        ensures { OnOk result (self.new.judged.tallies
             ≡ task_shown self.old is_throttled (slice_get self.old.tasks.all.items place)) }
     {
         let Some(task) = self.tasks.get_mut(place) else {
@@ -66,10 +67,10 @@ impl LawPlay {
             is_answered: charge.is_answered,
         };
         if is_waited_for(shown) {
-            self.holds(Law::Progress);
+            self.judged.holds(Law::Progress);
             return Ok(());
         }
-        self.breaks(Breach {
+        self.judged.breaks(Breach {
             law: Law::Progress,
             place: charge.place,
             whose: Whose::Task { pid },
@@ -86,7 +87,7 @@ impl LawPlay {
         line: &Enqueued,
         is_back: bool,
     ) -> Result<(), AllocError>
-        ensures { OnOk result (self.new.tallies ≡ enqueue_shown self.old read line.now is_back
+        ensures { OnOk result (self.new.judged.tallies ≡ enqueue_shown self.old read line.now is_back
             (slice_get self.old.tasks.all.items place)) }
     {
         let Some(task) = self.tasks.get_mut(place) else {
@@ -108,7 +109,7 @@ impl LawPlay {
     }
 
     fn judge_enqueue(&mut self, task: &Task, read: ReadLine) -> Result<(), AllocError>
-        ensures { OnOk result (self.new.tallies ≡ enqueue_judged self.old read task.now) }
+        ensures { OnOk result (self.new.judged.tallies ≡ enqueue_judged self.old read task.now) }
     {
         let is_firing = match task.fired {
             Some(fired) => self.cpus.of(fired.cpu).count == fired.count,
@@ -124,11 +125,11 @@ impl LawPlay {
             is_answered: false,
         };
         if is_waited_for(shown) {
-            self.holds(Law::Progress);
+            self.judged.holds(Law::Progress);
             return Ok(());
         }
         let fired = task.fired.map(|fired| fired.timer);
-        self.breaks(Breach {
+        self.judged.breaks(Breach {
             law: Law::Progress,
             place: read.place(LineKind::Enqueue),
             whose: Whose::Task { pid: task.pid },

@@ -1,13 +1,13 @@
 //! Lines that show a task's state: enqueues, charges, dequeues, and the end of the class.
 
-ghost use Rattle.std.specs.Prelude.{◌≡◌};
+ghost use Rattle.std.specs.Prelude.{◌≡◌, slice_get};
 ghost use Rattle.law_play.specs.inside.Cpus.{is_charged_leaving};
-ghost use Rattle.law_play.specs.inside.Tasks.{is_charged};
+ghost use Rattle.law_play.specs.inside.Tasks.{is_charged, is_reserved_task};
 
 use crate::cpu::Last;
-use crate::play::{LawPlay, ReadLine};
-use crate::task::{Charge, Reservation, Task, Throttling};
-use law_findings::{LineKind, Queued};
+use crate::play::LawPlay;
+use crate::task::{Charge, Reservation, SUGOV, Task, Throttling};
+use law_findings::{LineKind, Queued, ReadLine};
 use std::alloc::AllocError;
 use trace_data::{Budget, Dequeued, Enqueued, LeftClass, Ran, Updated};
 
@@ -38,7 +38,7 @@ impl LawPlay {
         let reservation = Reservation::of(line);
         let is_back = line.normal_prio >= 0 && !reservation.is_boosted;
         self.shown_pick(place, line.pid, Some(queued_of(line.budget)))?;
-        self.enqueue_admitted(place, read, line, is_back)?;
+        self.total.enqueue(place, read, line, is_back)?;
         let is_leaving = is_replenished
             && line.flags & RESTORE == 0
             && is_charged_leaving(self.cpus.of(read.cpu).last, line.pid);
@@ -152,7 +152,7 @@ impl LawPlay {
             Some(task) => task.before.map(|it| it.line),
             None => None,
         };
-        self.charge_run(read, line, before)?;
+        self.runs.charge(&mut self.judged, read, line, before)?;
         if !self.charge_block(place, read, line) {
             self.block_unseen(place)?;
         }
@@ -190,7 +190,9 @@ impl LawPlay {
         self.end_block(read.cpu);
         self.block_dequeued(place, read, line);
         self.shown_pick(place, line.pid, Some(queued_of(line.budget)))?;
-        self.block_total(place, read, line.flags, line.state & DEAD != 0)?;
+        if line.flags & SLEEP != 0 && self.has_reservation(place) {
+            self.total.block(place, read, line.state & DEAD != 0)?;
+        }
         self.budget_in_use(place, read, LineKind::Dequeue, line.budget)?;
         self.see_before(place, read.line, LineKind::Dequeue);
         if let Some(task) = self.tasks.get_mut(place) {
@@ -223,7 +225,9 @@ impl LawPlay {
         self.end_block(read.cpu);
         self.block_left(place, read, line);
         self.shown_pick(place, line.pid, None)?;
-        self.leave_total(place, read, line.on_rq == 1)?;
+        if self.has_reservation(place) {
+            self.total.leave(place, read, line.on_rq == 1)?;
+        }
         self.see_before(place, read.line, LineKind::Leave);
         if let Some(task) = self.tasks.get_mut(place) {
             task.is_queued = false;
@@ -238,6 +242,18 @@ impl LawPlay {
         }
         self.see_blocker(read.cpu, Some(line.pid));
         Ok(())
+    }
+
+    /// Whether a task has a share of the total.
+    fn has_reservation(&self, task: usize) -> bool
+        ensures { result ≡ is_reserved_task (slice_get self.now.tasks.all.items task) }
+    {
+        match self.tasks.get(task) {
+            Some(task) => task.reservation.is_some_and(|it| {
+                it.parameters.dl_runtime > 0 && it.parameters.flags & SUGOV == 0
+            }),
+            None => false,
+        }
     }
 
     /// A task's next line shows what the line before left behind.

@@ -14,7 +14,7 @@ use std::collections::HashMap;
 use trace_data::{Donor, Enqueued, Parameters};
 
 /// SCHED_FLAG_SUGOV: a task without a reservation of its own, of the frequency governor.
-const SUGOV: u64 = 0x1000_0000;
+pub(crate) const SUGOV: u64 = 0x1000_0000;
 
 /// A task's reservation as its last enqueue showed it.
 #[derive(Clone, Copy)]

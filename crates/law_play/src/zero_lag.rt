@@ -3,18 +3,19 @@
 ghost use Rattle.std.specs.Prelude.{◌≡◌, ◌<◌, IfNone, None, OnOk, Some};
 ghost use Rattle.law_findings.specs.ZeroLag.{IsPast, IsWide};
 ghost use Rattle.law_findings.specs.declared.words.Law.TheVariants.{ZeroLag as OfZeroLag};
-ghost use Rattle.law_play.specs.inside.Judged.{held_in};
+ghost use Rattle.law_findings.specs.Judged.{held_in};
 ghost use Rattle.law_findings.specs.declared.known.Sign.TheVariants.{ProductWraps};
-ghost use Rattle.law_play.specs.inside.Blocks.{least_span, most_span, nanos_of, shown_with};
+ghost use Rattle.law_play.specs.inside.Blocks.{least_span, most_span, shown_with};
 
 use crate::cpu::Last;
-use crate::play::{LawPlay, ReadLine};
+use crate::play::LawPlay;
 use crate::states::SLEEP;
 use law_findings::{
-    Blocked, Breach, Finding, Law, LawLine, LineKind, Sign, Whose, is_armed_for, is_past,
+    Blocked, Breach, Finding, Law, LawLine, LineKind, ReadLine, Sign, Whose, is_armed_for, is_past,
+    nanos_of,
 };
 use std::alloc::AllocError;
-use trace_data::{Dequeued, Enqueued, Expiry, LeftClass, Picked, Ran, ServerStopped, Updated};
+use trace_data::{Dequeued, Enqueued, Expiry, LeftClass, Picked, ServerStopped, Updated};
 
 /// A microsecond, to which moments of lines are cut.
 const MICRO: i64 = 1000;
@@ -196,7 +197,7 @@ impl LawPlay {
             && cpu.is_recent(block.count)
         {
             block.armed = Some(armed);
-            return self.await_total(place);
+            return self.total.await_zero_lag(place);
         }
         Ok(())
     }
@@ -304,7 +305,7 @@ impl LawPlay {
         most: Blocked,
     ) -> Result<(), AllocError>
         ensures past { IfNone block.now.armed (0 < most.dl_runtime → IsPast most
-            → OnOk result (self.new.tallies ≡ held_in self.old OfZeroLag)) }
+            → OnOk result (self.new.judged.tallies ≡ held_in self.old.judged OfZeroLag)) }
     {
         let whose = Whose::Task { pid };
         if let Some(armed) = block.armed {
@@ -314,10 +315,10 @@ impl LawPlay {
             return Ok(());
         }
         if is_past(most) {
-            self.holds(Law::ZeroLag);
+            self.judged.holds(Law::ZeroLag);
             return Ok(());
         }
-        self.breaks(Breach {
+        self.judged.breaks(Breach {
             law: Law::ZeroLag,
             place: block.place,
             whose,
@@ -340,10 +341,10 @@ impl LawPlay {
         }
         let (from, to) = spans_of(block.place.at, armed);
         if is_armed_for(least, most, from, to) {
-            self.holds(Law::ZeroLag);
+            self.judged.holds(Law::ZeroLag);
             return Ok(());
         }
-        self.breaks(Breach {
+        self.judged.breaks(Breach {
             law: Law::ZeroLag,
             place: armed.place,
             whose,
@@ -371,16 +372,6 @@ fn spans_of(blocked_at: u64, armed: ArmedAt) -> (i64, i64)
                 .saturating_sub(blocked_at.cast_signed())
                 .saturating_add(MICRO),
         ),
-    }
-}
-
-/// How long a task ran by a charge.
-pub(crate) fn nanos_of(ran: Ran) -> i64
-    ensures { result ≡ nanos_of ran }
-{
-    match ran {
-        Ran::Span { delta, .. } => delta,
-        Ran::Clocks { now, start, .. } => now.wrapping_sub(start).cast_signed(),
     }
 }
 

@@ -10,7 +10,7 @@ use Rattle.law_findings.specs.declared.words.TheConstants.{LAWS}
 use Rattle.law_findings.specs.declared.words.Law.{Law}
 use Rattle.law_findings.specs.declared.words.Law.TheVariants.{Progress, Expiry, Firing, ZeroLag, Budget, Total, Pick, Run, Server}
 use Rattle.law_findings.specs.declared.words.LineKind.{LineKind}
-use Rattle.law_findings.specs.declared.words.LineKind.TheVariants.{Enqueue, Update, Dequeue, Leave, Admit, ZeroLagFires, ReplenishFires, Arm, Switch, ServerStart, ServerPick, ServerStop, ServerIdle}
+use Rattle.law_findings.specs.declared.words.LineKind.TheVariants.{Enqueue, Update, Dequeue, Leave, Admit, ZeroLagFires, ReplenishFires, Arm, Switch, ServerStart, ServerPick, ServerStop, ServerIdle, TimerStarts, TimerExpires}
 use Rattle.trace_lines.specs.NoteWords.{is_comma}
 
 abbrev pub law_word : Law → List ℕ
@@ -54,6 +54,8 @@ line_word ServerStart = codes "ede"
 line_word ServerPick = codes "pck"
 line_word ServerStop = codes "dls"
 line_word ServerIdle = codes "idl"
+line_word TimerStarts = codes "hrtimer_start"
+line_word TimerExpires = codes "hrtimer_expire_entry"
 
 -- a known fault, and its heading in docs/KERNEL.md
 abbrev pub fault_word : Sign → List ℕ

@@ -2,7 +2,7 @@
 
 use crate::names::{fault_name, line_name, standing_name, timer_name};
 use crate::writing::{TaskName, put, put_seconds, put_signed_span, put_span, put_whose};
-use law_findings::{Breach, Finding, FiredTimer};
+use law_findings::{Breach, Finding, FiredTimer, Whose};
 use std::alloc::{AllocError, Global};
 use text_bytes::put_number;
 
@@ -42,17 +42,21 @@ pub fn put_finding(alloc: Global, out: &mut Vec<u8>, breach: &Breach) -> Result<
             put(out, ", and its next period begins at ")?;
             put_seconds(alloc, out, period)
         }
-        Finding::Early { timer, expiry } => {
-            put(out, "its ")?;
+        Finding::Early {
+            timer,
+            expiry,
+            fired,
+        } => {
+            put(out, owned_by(breach.whose))?;
             put(out, timer_name(timer))?;
             put(out, " fires early by ")?;
-            put_span(alloc, out, expiry.saturating_sub(breach.place.at))
+            put_span(alloc, out, expiry.saturating_sub(fired))
         }
         Finding::Awake { woke } => {
             put_number(out, b"its 0-lag timer fires, though it woke at line ", woke)
         }
         Finding::NeverFired { timer, expiry, .. } => {
-            put(out, "its ")?;
+            put(out, owned_by(breach.whose))?;
             put(out, timer_name(timer))?;
             put(out, ", armed for ")?;
             put_seconds(alloc, out, expiry)?;
@@ -81,6 +85,14 @@ pub fn put_finding(alloc: Global, out: &mut Vec<u8>, breach: &Breach) -> Result<
             put(out, text.as_str())
         }
         _ => put_other_finding(alloc, out, breach),
+    }
+}
+
+/// How a timer is spoken of: it is a task's, or it is named itself.
+fn owned_by(whose: Whose) -> &'static str {
+    match whose {
+        Whose::Timer { .. } => "this ",
+        _ => "its ",
     }
 }
 

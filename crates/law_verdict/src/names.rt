@@ -82,6 +82,8 @@ pub fn line_name(kind: LineKind) -> &'static str
         LineKind::ServerPick => "pck",
         LineKind::ServerStop => "dls",
         LineKind::ServerIdle => "idl",
+        LineKind::TimerStarts => "hrtimer_start",
+        LineKind::TimerExpires => "hrtimer_expire_entry",
     }
 }
 

@@ -6,7 +6,7 @@ use Rattle.probe_run.specs.declared.rules.PlayRules.{PlayRules}
 use Rattle.probe_run.specs.declared.moves.RunMove.{RunMove}
 use Rattle.probe_run.specs.State.{State}
 use Rattle.probe_run.specs.Moves.{moved_of}
-use Rattle.probe_lines.specs.declared.choice.LineChoice.{LineChoice}
+use Rattle.probe_tasks.specs.declared.choice.LineChoice.{LineChoice}
 use Rattle.probe_lines.specs.Lines.{line_of}
 use Rattle.probe_explain.specs.declared.search.ProbeLine.{ProbeLine}
 

@@ -7,8 +7,9 @@ ghost use Rattle.probe_explain.specs.inside.Playing.{IsPlayed, come_to, HasTaken
 
 use crate::search::{ProbeLine, Search, Step};
 use probe_findings::{FIRST_SEEN, ProbedLine};
-use probe_lines::{AS_SHOWN, LineChoice, play_line};
+use probe_lines::play_line;
 use probe_run::{PlayRules, Run, RunMove, RunStart};
+use probe_tasks::{AS_SHOWN, LineChoice};
 use std::alloc::{AllocError, Global};
 use std::collections::VecDeque;
 

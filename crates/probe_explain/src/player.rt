@@ -136,7 +136,7 @@ mod tests {
     use super::*;
     use crate::search::Step;
     use kernel_entity::ChargeLaw;
-    use probe_lines::AS_SHOWN;
+    use probe_tasks::AS_SHOWN;
     use std::collections::VecDeque;
     use std::test::Fail;
 

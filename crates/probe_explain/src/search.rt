@@ -1,8 +1,8 @@
 //! Whoever chooses: nothing is asked of it.
 
 use probe_findings::ProbedLine;
-use probe_lines::LineChoice;
 use probe_run::{Run, RunMove};
+use probe_tasks::LineChoice;
 use std::alloc::AllocError;
 use std::collections::VecDeque;
 use trace_data::Probe;

@@ -17,13 +17,13 @@ use Rattle.probe_run.specs.State.{State}
 use Rattle.probe_run.specs.Counting.{where_it_holds}
 use Rattle.probe_run.specs.Moves.{is_claim_by}
 use Rattle.probe_run.specs.Begin.{is_of_cpu, begun}
-use Rattle.probe_lines.specs.declared.choice.LineChoice.{LineChoice}
-use Rattle.probe_lines.specs.Enqueues.{enqueued_by}
-use Rattle.probe_lines.specs.Runs.{updated_by}
-use Rattle.probe_lines.specs.Tasks.{dequeued_by, migrating_by, left_by, admitted_by}
-use Rattle.probe_lines.specs.Timers.{zero_lag_fired_by, replenish_fired_by, armed_by}
-use Rattle.probe_lines.specs.Servers.{started_by, picked_by, stopped_by, does_nothing}
-use Rattle.probe_lines.specs.Marks.{marked_by}
+use Rattle.probe_tasks.specs.declared.choice.LineChoice.{LineChoice}
+use Rattle.probe_tasks.specs.Enqueues.{enqueued_by}
+use Rattle.probe_tasks.specs.Runs.{updated_by}
+use Rattle.probe_tasks.specs.Tasks.{dequeued_by, migrating_by, left_by, admitted_by}
+use Rattle.probe_timers.specs.Timers.{zero_lag_fired_by, replenish_fired_by, armed_by}
+use Rattle.probe_timers.specs.Servers.{started_by, picked_by, stopped_by, does_nothing}
+use Rattle.probe_timers.specs.Marks.{marked_by}
 
 -- the line within a dequeue before which its rest does not come
 abbrev pub follows_by : OpenDequeue → Awaits → Probe → Bool

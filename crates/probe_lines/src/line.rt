@@ -1,5 +1,5 @@
 //! A line, of whatever kind.
-#![tactic(auto, using(crate::proofs::Steps::both, crate::proofs::Steps::made, crate::proofs::Steps::unchanged, crate::proofs::Steps::never))]
+#![tactic(auto, using(probe_values::proofs::Steps::both, probe_values::proofs::Steps::made, probe_values::proofs::Steps::unchanged, probe_values::proofs::Steps::never))]
 
 ghost use Rattle.std.specs.Prelude.{◌≡◌, ◌&&◌, None, OnOk, false, true};
 ghost use Rattle.std.specs.List.{list_any, list_all};
@@ -8,20 +8,15 @@ ghost use Rattle.probe_run.specs.Counting.{Goes, Holds};
 ghost use Rattle.probe_run.specs.Moves.{is_claim_by};
 ghost use Rattle.probe_lines.specs.Lines.{follows_by, waits_for, came_early, is_effect_by, is_timer_to_arm_by, is_armed, is_mark, is_passed_over, is_charge, calls_are_done, timers_are_armed, is_free_for, is_first_of, before_line, none_chosen, choice_fits, played_by, checked_line_of, line_of};
 
-use crate::admissions::admitted;
-use crate::arming::armed;
-use crate::choice::LineChoice;
-use crate::comparing::check_choice;
-use crate::enqueues::enqueued;
-use crate::exits::left_class;
-use crate::marks::marked;
-use crate::runs::updated;
-use crate::servers::{picked, server_started, server_stopped, stops_nothing};
-use crate::tasks::{dequeued, migrating};
-use crate::timers::{replenish_fired, zero_lag_fired};
 use kernel_entity::{REPLENISH, has};
 use probe_findings::{ExactValue, ProbedFunction, ProbedLine, Quantity};
 use probe_run::{Awaits, Claim, Counted, OpenDequeue, PendingEffect, PlayRules, Run, TimerToArm};
+use probe_tasks::{LineChoice, admitted, dequeued, enqueued, left_class, migrating, updated};
+use probe_timers::{
+    armed, marked, picked, replenish_fired, server_started, server_stopped, stops_nothing,
+    zero_lag_fired,
+};
+use probe_values::check_choice;
 use std::alloc::AllocError;
 use trace_data::{IdleCharge, Mark, Probe};
 
@@ -81,7 +76,7 @@ fn follows_enqueue(rest: OpenDequeue, probe: &Probe) -> bool
 }
 
 /// Whether a dequeue waits for this line of its CPU.
-pub fn follows(rest: OpenDequeue, probe: &Probe) -> bool
+fn follows(rest: OpenDequeue, probe: &Probe) -> bool
     ensures { result ≡ follows_by rest rest.awaits probe.now }
 {
     match rest.awaits {

@@ -8,7 +8,7 @@ use Rattle.probe_run.specs.declared.rules.Processor.{Processor}
 use Rattle.probe_run.specs.declared.sums.Runqueue.{Runqueue}
 use Rattle.probe_run.specs.declared.waiting.UnlockedSum.{UnlockedSum}
 use Rattle.probe_run.specs.declared.waiting.UnlockedSum.TheVariants.{ExtraBw}
-use Rattle.probe_run.specs.declared.waiting.Effect.TheVariants.{Locks}
+use Rattle.probe_run.specs.declared.waiting.Effect.TheVariants.{Locks, Returns}
 use Rattle.probe_run.specs.declared.waiting.Awaits.TheVariants.{Enqueue, Nothing}
 use Rattle.probe_run.specs.declared.waiting.OpenDequeue.{OpenDequeue}
 use Rattle.probe_run.specs.declared.waiting.OlderDequeue.{OlderDequeue}
@@ -70,6 +70,10 @@ await_enqueue s x again = if again then record s { open_dequeues = map (again_de
 -- a function waits for the lock of a runqueue
 abbrev pub pend_lock : State → ProbedLine → ℕ → ℕ → Delayed → State
 pend_lock s place cpu n delayed = record s { pending = s.pending ++ record { place = place; effect = Locks cpu n delayed } ∷ [] }
+
+-- a handler runs until it returns
+abbrev pub pend_return : State → ProbedLine → ℕ → State
+pend_return s place n = record s { pending = s.pending ++ record { place = place; effect = Returns n } ∷ [] }
 
 -- timers
 abbrev pub own_timer : State → ℕ → ℕ → State

@@ -3,6 +3,7 @@ pub mod Special
 pub mod Runs
 pub mod Sums
 pub mod Counting
+pub mod Handlers
 pub mod Moves
 pub mod Begin
 pub mod Start

@@ -5,14 +5,14 @@ use Rattle.kernel_entity.specs.declared.entity.Entity.{Entity}
 use Rattle.kernel_entity.specs.declared.sums.SumsChange.{SumsChange}
 use Rattle.kernel_functions.specs.declared.delays.Delayed.{Delayed}
 use Rattle.kernel_functions.specs.declared.delays.Delayed.TheVariants.{Moved, ZeroLag}
-use Rattle.kernel_functions.specs.Dequeue.{dequeuing_of, off_of}
+use Rattle.kernel_functions.specs.Dequeue.{off_of}
 use Rattle.kernel_functions.specs.Later.{locked_of}
 use Rattle.probe_findings.specs.declared.words.ProbedLine.{ProbedLine}
 use Rattle.probe_run.specs.declared.actor.Actor.{Actor}
 use Rattle.probe_run.specs.declared.rules.PlayRules.{PlayRules}
 use Rattle.probe_run.specs.declared.waiting.UnlockedSum.{UnlockedSum}
 use Rattle.probe_run.specs.declared.waiting.Effect.{Effect}
-use Rattle.probe_run.specs.declared.waiting.Effect.TheVariants.{Adds, Locks}
+use Rattle.probe_run.specs.declared.waiting.Effect.TheVariants.{Adds, Locks, Returns}
 use Rattle.probe_run.specs.declared.waiting.PendingEffect.{PendingEffect}
 use Rattle.probe_run.specs.declared.waiting.Claim.{Claim}
 use Rattle.probe_run.specs.declared.waiting.Awaits.{Awaits}
@@ -24,8 +24,9 @@ use Rattle.probe_run.specs.State.{State, same_sum, actor_at, keep_at}
 use Rattle.probe_run.specs.Special.{is_special}
 use Rattle.probe_run.specs.Sums.{sum_of, put_sum, moved, change, forget, share_in, block_in}
 use Rattle.probe_run.specs.Counting.{where_it_holds}
+use Rattle.probe_run.specs.Handlers.{handler_runs, is_handler_by, dequeuing_while}
 
--- a pending effect has its point here; a call reads a sum before it changes it
+-- a pending effect has its point here; a call reads a sum before it changes it, and a handler returns behind its lock
 abbrev pub is_claim_by : ℕ → Claim → Bool
 is_claim_by by c = c.place.cpu == by
 
@@ -54,6 +55,7 @@ locked_by s place cpu n delayed =
 abbrev pub settled_by : State → ProbedLine → Effect → Option State
 settled_by s place (Adds sum amount) = where_it_holds (not (list_any (reads_first place.cpu sum) s.claims)) (put_sum s sum (moved (sum_of s sum) amount))
 settled_by s place (Locks cpu n delayed) = Some (locked_by s place cpu n delayed)
+settled_by s place (Returns n) = where_it_holds (not (list_any (is_handler_by place.cpu n) s.pending)) s
 
 abbrev pub settle_at : State → ℕ → Option PendingEffect → Option State
 settle_at s k None = None
@@ -103,7 +105,7 @@ unseen_of a = record a { entity = off_of a.entity; knows_budget = false; knows_c
 
 abbrev pub rested_known : PlayRules → State → OpenDequeue → Actor → State
 rested_known t s w a =
-    let done = dequeuing_of a.entity w.flags w.on_rq w.clock in
+    let done = dequeuing_while (handler_runs s w.entity) a.entity w.flags w.on_rq w.clock in
     block_in t (change (keep_at s w.entity (record a { entity = done.entity })) w.cpu done.change) w.place w.entity a.cpu done.change done.block
 
 abbrev pub rested_unknown : State → OpenDequeue → Actor → State

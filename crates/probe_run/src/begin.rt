@@ -3,7 +3,7 @@
 ghost use Rattle.std.specs.Prelude.{◌≡◌, ◌<◌, ◌++◌, ◌∷◌, [], OnOk, true, IfSome, filter, map, length, position, slice_get};
 ghost use Rattle.std.specs.List.{list_any};
 ghost use Rattle.probe_run.specs.Runs.{state_of};
-ghost use Rattle.probe_run.specs.Begin.{is_of_cpu, begun_dequeue, is_rest_of_other, is_older_of_other, begun, claim_in, begin_open_dequeue, await_enqueue, again_dequeue, pend_lock, own_timer, without_timer_to_arm, sums_open, shown_queue, queue_read, sums_read, queue_opened, sap_opened, with_older, processor_of, keep_processor, with_domain, with_active};
+ghost use Rattle.probe_run.specs.Begin.{is_of_cpu, begun_dequeue, is_rest_of_other, is_older_of_other, begun, claim_in, begin_open_dequeue, await_enqueue, again_dequeue, pend_lock, pend_return, own_timer, without_timer_to_arm, sums_open, shown_queue, queue_read, sums_read, queue_opened, sap_opened, with_older, processor_of, keep_processor, with_domain, with_active};
 
 use crate::rules::{PlayRules, Processor};
 use crate::run::Run;
@@ -247,6 +247,19 @@ impl Run {
                 entity,
                 delayed,
             },
+        })?;
+        Ok(())
+    }
+
+    /// The handler of the inactive timer of this entity runs, until it returns.
+    pub fn pend_return(&mut self, place: ProbedLine, entity: usize) -> Result<(), AllocError>
+        ensures state { OnOk result (state_of self.new
+            ≡ pend_return (state_of self.old) place entity) }
+        ensures first { OnOk result ((state_of self.new).first ≡ (state_of self.old).first) }
+    {
+        self.pending.push(PendingEffect {
+            place,
+            effect: Effect::Returns { entity },
         })?;
         Ok(())
     }

@@ -7,6 +7,7 @@ mod actor;
 mod begin;
 mod counting;
 mod entities;
+mod handlers;
 mod moves;
 mod notes;
 mod readings;
@@ -18,6 +19,7 @@ mod sums;
 mod waiting;
 
 pub use actor::{Actor, is_special, reserve, server_parameters};
+pub use handlers::{admit_while, dequeue_while, leave_while};
 pub use moves::{RunMove, is_known_as};
 pub use notes::{Counted, EntityNotes, FirstNotes, LastCharge, SumNotes};
 pub use resting::why;

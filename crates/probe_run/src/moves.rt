@@ -5,9 +5,11 @@ ghost use Rattle.std.specs.List.{list_any};
 ghost use Rattle.probe_run.specs.Runs.{state_of};
 ghost use Rattle.probe_run.specs.Counting.{Goes, Holds};
 ghost use Rattle.probe_run.specs.Sums.{sum_of, put_sum, moved};
+ghost use Rattle.probe_run.specs.Handlers.{is_handler_by};
 ghost use Rattle.probe_run.specs.Moves.{is_claim_by, reads_first, is_moved, forgets_unknown, kept_locked, changed_and_shared, locked_by, settled_by, settle_of, agrees_with, without_claim, met_with, met_by, meet_of, moved_of};
 
 use crate::actor::Actor;
+use crate::handlers::has_handler;
 use crate::notes::Counted;
 use crate::rules::PlayRules;
 use crate::run::Run;
@@ -190,6 +192,10 @@ impl Run {
                 entity,
                 delayed,
             } => self.lock(rules, place, cpu, entity, delayed),
+            Effect::Returns { entity } => {
+                let is_legal = !has_handler(self.pending.as_slice(), place.cpu, entity);
+                self.allow(place, is_legal)
+            }
         }
     }
 

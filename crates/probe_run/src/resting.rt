@@ -4,15 +4,16 @@ ghost use Rattle.std.specs.Prelude.{◌≡◌, ◌<◌, None, OnOk, IfSome, leng
 ghost use Rattle.kernel_functions.specs.Dequeue.{off_of};
 ghost use Rattle.probe_run.specs.Runs.{state_of};
 ghost use Rattle.probe_run.specs.Counting.{Goes, where_it_holds};
+ghost use Rattle.probe_run.specs.Handlers.{handler_runs};
 ghost use Rattle.probe_run.specs.Sums.{with_timer_to_arm, start_timer_in, block_in};
 ghost use Rattle.probe_run.specs.Moves.{is_rest_by, awaits_charge, awaits_enqueue, unseen_of, rested_known, rested_unknown, rested_by, without_dequeue, rest_with, rest_of};
 
 use crate::actor::{Actor, is_special};
+use crate::handlers::dequeue_while;
 use crate::notes::Counted;
 use crate::rules::PlayRules;
 use crate::run::Run;
 use crate::waiting::{Awaits, OlderDequeue, OpenDequeue, TimerToArm};
-use kernel_changes::dequeue_by;
 use kernel_entity::{Block, Entity, SumsChange};
 use kernel_functions::Arrival;
 use probe_findings::{ExactRule, ProbedLine, Why};
@@ -203,8 +204,10 @@ impl Run {
             ≡ rested_known rules (state_of self.old) rest actor) }
         ensures first { OnOk result ((state_of self.new).first ≡ (state_of self.old).first) }
     {
-        let done = dequeue_by(
+        let runs = self.handler_runs(rest.entity);
+        let done = dequeue_while(
             rules.change,
+            runs,
             actor.entity,
             rest.flags,
             rest.on_rq,

@@ -32,6 +32,11 @@ pub enum Effect {
         entity: usize,
         delayed: Delayed,
     },
+
+    /// The handler of the inactive timer of the entity of this number returns: till then `hrtimer_active` is true of the timer.
+    Returns {
+        entity: usize,
+    },
 }
 
 /// An effect whose line is played, and whose point is still to come.

@@ -5,8 +5,8 @@ use crate::speeds::{UnknownSpeed, cost_told};
 use kernel_changes::cost_by;
 use kernel_entity::{ChargedRunqueue, RECLAIM, charged, has};
 use probe_explain::ProbeLine;
-use probe_lines::{AS_SHOWN, LineChoice};
 use probe_run::{Actor, Effect, PlayRules, Run, UnlockedSum, is_special};
+use probe_tasks::{AS_SHOWN, LineChoice};
 use std::collections::VecDeque;
 use trace_data::{Enqueued, Probe, Ran, Sums, Updated};
 

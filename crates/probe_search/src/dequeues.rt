@@ -1,5 +1,6 @@
 //! The rest of a dequeue: it comes after the charge within it.
 
+use crate::handlers::rest_move;
 use crate::shown::is_passed_over;
 use kernel_entity::{REPLENISH, has};
 use probe_explain::ProbeLine;
@@ -88,6 +89,7 @@ fn is_charged(
 /// The rest of a dequeue in which no charge comes, or whose charge has come.
 pub(crate) fn rest_at_once(
     run: &Run,
+    rules: PlayRules,
     shows_spans: bool,
     next: &ProbeLine,
     ahead: &VecDeque<ProbeLine>,
@@ -99,17 +101,22 @@ pub(crate) fn rest_at_once(
             Awaits::Charge => !is_charged(run, rest, shows_spans, next, ahead),
         };
         if comes {
-            return Some(RunMove::OpenDequeue(rest.place.cpu));
+            return Some(rest_move(run, rules, rest, next, ahead));
         }
     }
     None
 }
 
 /// The rest of a dequeue whose CPU writes another line than it waits for.
-pub(crate) fn rest_before(run: &Run, next: &ProbeLine) -> Option<RunMove> {
+pub(crate) fn rest_before(
+    run: &Run,
+    rules: PlayRules,
+    next: &ProbeLine,
+    ahead: &VecDeque<ProbeLine>,
+) -> Option<RunMove> {
     for rest in run.open_dequeues() {
         if rest.place.cpu == next.place.cpu && !is_awaited(rest, next) {
-            return Some(RunMove::OpenDequeue(rest.place.cpu));
+            return Some(rest_move(run, rules, rest, next, ahead));
         }
     }
     None

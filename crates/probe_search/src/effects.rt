@@ -127,7 +127,7 @@ pub(crate) fn unlocked_amount(
             delayed: Delayed::ZeroLag,
             ..
         } => amount_to_come(run, rules, entity, sum),
-        Effect::Locks { .. } => None,
+        Effect::Locks { .. } | Effect::Returns { .. } => None,
     }
 }
 

@@ -6,6 +6,7 @@
 mod charges;
 mod dequeues;
 mod effects;
+mod handlers;
 mod locks;
 mod readings;
 mod shown;

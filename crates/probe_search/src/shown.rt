@@ -21,7 +21,7 @@ pub(crate) fn is_passed_over(probe: &Probe) -> bool {
 }
 
 /// Whether `pick_task_dl` stops the server that it shows.
-fn stops(line: &Picked) -> bool {
+pub(crate) fn stops(line: &Picked) -> bool {
     line.is_active && !line.is_throttled && line.fair_tasks == 0 && line.earliest == line.deadline
 }
 

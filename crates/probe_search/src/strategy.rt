@@ -3,12 +3,13 @@
 use crate::charges::line_choice;
 use crate::dequeues::{rest_at_once, rest_before};
 use crate::effects::{Candidates, first_by};
+use crate::handlers::handler_before;
 use crate::locks::{earlier_lock, idle_lock, lock_for_sums};
 use crate::readings::{has_reading, next_reading};
 use crate::shown::is_passed_over;
 use probe_explain::{ProbeLine, Search, Step};
-use probe_lines::AS_SHOWN;
 use probe_run::{PlayRules, Run, RunMove};
+use probe_tasks::AS_SHOWN;
 use std::alloc::{AllocError, Global};
 use std::collections::VecDeque;
 
@@ -44,7 +45,7 @@ impl ProbeSearch {
         if idle.is_some() {
             return Ok(idle);
         }
-        let rest = rest_at_once(run, self.shows_spans, next, ahead);
+        let rest = rest_at_once(run, self.rules, self.shows_spans, next, ahead);
         if rest.is_some() {
             return Ok(rest);
         }
@@ -52,7 +53,12 @@ impl ProbeSearch {
     }
 
     /// What the next line asks for.
-    fn next_before(&mut self, run: &Run, next: &ProbeLine) -> Result<Option<RunMove>, AllocError> {
+    fn next_before(
+        &mut self,
+        run: &Run,
+        next: &ProbeLine,
+        ahead: &VecDeque<ProbeLine>,
+    ) -> Result<Option<RunMove>, AllocError> {
         let cpu = next.place.cpu;
         if has_reading(run, cpu) {
             return Ok(Some(RunMove::Meet(cpu)));
@@ -60,13 +66,17 @@ impl ProbeSearch {
         if let Some(place) = first_by(run, cpu) {
             return Ok(Some(RunMove::Settle(place)));
         }
-        let rest = rest_before(run, next);
+        let rest = rest_before(run, self.rules, next, ahead);
         if rest.is_some() {
             return Ok(rest);
         }
         let earlier = earlier_lock(run, next);
         if earlier.is_some() {
             return Ok(earlier);
+        }
+        let handler = handler_before(run, self.rules, next, ahead);
+        if handler.is_some() {
+            return Ok(handler);
         }
         lock_for_sums(run, self.rules, &mut self.candidates, next)
     }
@@ -85,7 +95,7 @@ impl Search for ProbeSearch {
         if let Some(due) = self.next_due(run, next, ahead)? {
             return Ok(Step::Move(due));
         }
-        if let Some(before) = self.next_before(run, next)? {
+        if let Some(before) = self.next_before(run, next, ahead)? {
             return Ok(Step::Move(before));
         }
         Ok(Step::Line(line_choice(run, self.rules, next, ahead)))

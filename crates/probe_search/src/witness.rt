@@ -2,8 +2,8 @@
 
 use kernel_functions::Delayed;
 use probe_explain::{ProbeLine, Search, Step};
-use probe_lines::LineChoice;
 use probe_run::{Effect, PendingEffect, Run, RunMove, UnlockedSum};
+use probe_tasks::LineChoice;
 use std::alloc::{AllocError, Global};
 use std::collections::VecDeque;
 
@@ -57,6 +57,7 @@ impl<S> Witness<S> {
                 };
                 format!(in self.alloc; "settle {line} {what} {cpu}\n")?
             }
+            Effect::Returns { .. } => format!(in self.alloc; "settle {line} returned\n")?,
         };
         self.text.push_str(text.as_str())
     }

@@ -1,9 +1,9 @@
 //! Searches that search wrongly.
 
 use probe_explain::{ProbeLine, Search, Step};
-use probe_lines::AS_SHOWN;
 use probe_run::{Run, RunMove};
 use probe_search::ProbeSearch;
+use probe_tasks::AS_SHOWN;
 use std::alloc::AllocError;
 use std::collections::VecDeque;
 

@@ -1,9 +1,10 @@
 //! A first look at a record's lines.
 
-ghost use Rattle.std.specs.Prelude.{◌≡◌, ◌||◌, OnOk, false};
+ghost use Rattle.std.specs.Prelude.{◌≡◌, ◌||◌, IfOk, OnOk, [], false, map, true};
 ghost use Rattle.probe_start.specs.Looks.{arms_timer, shows_dequeue};
+ghost use Rattle.probe_start.specs.Notes.{noted_processor};
 
-use crate::notes::StartNotes;
+use crate::notes::{CpuNote, StartNotes};
 use kernel_changes::RuleChange;
 use kernel_entity::{ChargeLaw, DEADLINE_POLICY, has, ratio};
 use probe_findings::{
@@ -41,6 +42,28 @@ pub struct RecordLook {
     cpus: Vec<u32>,
     last_cpu: Option<u32>,
     first_moment: Option<u64>,
+}
+
+fn noted(note: CpuNote) -> Processor
+    ensures { result ≡ noted_processor note }
+{
+    Processor {
+        cpu: note.cpu,
+        domain: note.domain,
+        is_active: true,
+        capacity: note.capacity,
+    }
+}
+
+/// The CPUs of which notes tell.
+fn processors(alloc: Global, cpus: &[CpuNote]) -> Result<Vec<Processor>, AllocError>
+    ensures { IfOk result (λ processors. processors.items ≡ map noted_processor cpus.now) }
+{
+    let mut processors = Vec::new(alloc);
+    for note in cpus {
+        processors.push(noted(*note))?;
+    }
+    Ok(processors)
 }
 
 impl RecordLook {
@@ -190,7 +213,9 @@ impl RecordLook {
     }
 
     /// Whether a task is older than the record.
-    pub fn begins_amid(&self, notes: &StartNotes) -> bool {
+    pub fn begins_amid(&self, notes: &StartNotes) -> bool
+        ensures older { notes.now.settings.has_older ≡ true → result ≡ true }
+    {
         notes.settings.has_older || self.tasks.values().any(|seen| is_older(*seen))
     }
 
@@ -217,32 +242,46 @@ impl RecordLook {
     }
 
     /// What is known before the first line.
-    pub fn start(&self, alloc: Global, notes: &StartNotes) -> Result<RunStart, AllocError> {
-        let mut processors = Vec::new(alloc);
-        for note in &notes.cpus {
-            processors.push(Processor {
-                cpu: note.cpu,
-                domain: note.domain,
-                is_active: true,
-                capacity: note.capacity,
-            })?;
-        }
+    pub fn start(&self, alloc: Global, notes: &StartNotes) -> Result<RunStart, AllocError>
+        ensures processors { IfOk result (λ start.
+            start.processors.items ≡ map noted_processor notes.now.cpus.items) }
+        ensures older { IfOk result (λ start.
+            notes.now.settings.has_older ≡ true → start.starts.items ≡ []) }
+    {
+        let processors = processors(alloc, notes.cpus.as_slice())?;
         let amid = self.begins_amid(notes);
-        let starts = if amid {
-            Vec::new(alloc)
-        } else {
-            self.starts(alloc, notes)?
-        };
-        let amid_until = if amid {
-            self.first_moment.unwrap_or(0).saturating_add(AMID)
-        } else {
-            0
-        };
+        let starts = self.starts_unless(alloc, notes, amid)?;
+        let amid_until = self.amid_until(amid);
         Ok(RunStart {
             processors,
             starts,
             amid_until,
         })
+    }
+
+    /// What runqueues begin with, unless a task is older than the record.
+    fn starts_unless(
+        &self,
+        alloc: Global,
+        notes: &StartNotes,
+        amid: bool,
+    ) -> Result<Vec<StartBw>, AllocError>
+        ensures { IfOk result (λ starts. amid ≡ true → starts.items ≡ []) }
+    {
+        if amid {
+            Ok(Vec::new(alloc))
+        } else {
+            self.starts(alloc, notes)
+        }
+    }
+
+    /// Until when sums are open.
+    fn amid_until(&self, amid: bool) -> u64 {
+        if amid {
+            self.first_moment.unwrap_or(0).saturating_add(AMID)
+        } else {
+            0
+        }
     }
 
     /// What the runqueue of each CPU begins with: of those that lines show, and of those that notes tell.
@@ -267,11 +306,18 @@ impl RecordLook {
 
     /// The CPUs whose sums lines show, and of which neither a note nor a mark tells the root domain, in their order: what a run followed
     /// nothing of.
-    pub fn unfollowed(&self, alloc: Global, run: &Run) -> Result<Vec<u32>, AllocError> {
-        let mut unfollowed = Vec::new(alloc);
-        if !self.has_dequeues {
-            return Ok(unfollowed);
+    pub fn unfollowed(&self, alloc: Global, run: &Run) -> Result<Vec<u32>, AllocError>
+        ensures { IfOk result (λ cpus. self.now.has_dequeues ≡ false → cpus.items ≡ []) }
+    {
+        if self.has_dequeues {
+            self.without_domain(alloc, run)
+        } else {
+            Ok(Vec::new(alloc))
         }
+    }
+
+    fn without_domain(&self, alloc: Global, run: &Run) -> Result<Vec<u32>, AllocError> {
+        let mut unfollowed = Vec::new(alloc);
         for cpu in &self.cpus {
             if run.domain_of(*cpu).is_none() {
                 unfollowed.push(*cpu)?;

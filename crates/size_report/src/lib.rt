@@ -2,7 +2,6 @@
 #![tactic(auto)]
 
 mod census;
-mod fault;
 mod figures;
 mod options;
 mod picture;
@@ -13,6 +12,5 @@ mod serving;
 mod sizing;
 mod task_text;
 
-pub use fault::SizeFault;
 pub use options::{AskedTask, FaultKind, OptionFault, SizeOptions, SizeWords, size_options_of};
 pub use serving::serve_size;

@@ -2,7 +2,8 @@
 
 ghost use Rattle.std.specs.Prelude.{◌≤◌, ◌+◌};
 
-use crate::sizing::{Needed, SizeRequest};
+use crate::sections::JobSpan;
+use crate::sizing::Needed;
 use size_jobs::JobTask;
 use size_least::{Job, heights_of, lates_of, least_runtime};
 use size_picture::{Need, Panel, PanelRuntimes, sizing_picture};
@@ -116,22 +117,29 @@ fn shading_of(runtimes: Option<PanelRuntimes>, period: u32) -> (u32, u32) {
     }
 }
 
-/// What each job needs, on a scale that ends at `top`, and its shade.
+/// The scale of a panel, whose top is at most one more than the period, and with which two runtimes a job that may be late is shaded.
+#[derive(Clone, Copy)]
+struct Scale {
+    period: u32,
+    top: u32,
+    shading: (u32, u32),
+}
+
+/// What each job needs on a scale, and its shade.
 fn shaded_needs(
     alloc: Global,
     task: &JobTask,
     first: u64,
     jobs: &[Job],
-    period: u32,
-    top: u32,
-    shading: (u32, u32),
+    scale: Scale,
 ) -> Result<Vec<Need>, AllocError>
-    requires some { 1 ≤ top }
-    requires most { top ≤ period + 1 }
+    requires some { 1 ≤ scale.top }
+    requires most { scale.top ≤ scale.period + 1 }
 {
-    let heights = heights_of(alloc, jobs, period, top)?;
-    let dark = late_with(alloc, jobs, shading.0, period)?;
-    let late = late_with(alloc, jobs, shading.1, period)?;
+    let period = scale.period;
+    let heights = heights_of(alloc, jobs, period, scale.top)?;
+    let dark = late_with(alloc, jobs, scale.shading.0, period)?;
+    let late = late_with(alloc, jobs, scale.shading.1, period)?;
     needs_of(alloc, task, first, &heights, &dark, &late)
 }
 
@@ -139,10 +147,9 @@ fn shaded_needs(
 pub(crate) fn drawn_of(
     alloc: Global,
     task: &JobTask,
-    first: u64,
+    span: JobSpan,
     jobs: &[Job],
     period: u32,
-    within: u32,
     needed: &Option<Needed>,
 ) -> Result<Drawn, AllocError>
     requires { 1 ≤ period }
@@ -152,14 +159,18 @@ pub(crate) fn drawn_of(
         None => None,
     };
     let top = top_of(greatest_need(alloc, jobs, period)?, runtimes, period);
-    let shading = shading_of(runtimes, period);
-    let needs = shaded_needs(alloc, task, first, jobs, period, top, shading)?;
+    let scale = Scale {
+        period,
+        top,
+        shading: shading_of(runtimes, period),
+    };
+    let needs = shaded_needs(alloc, task, span.first, jobs, scale)?;
     let most = (needs.len() as u64 / 10).max(10);
     let sorted = sorted_of(alloc, &needs, most)?;
     Ok(Drawn {
         comm: Vec::from_slice(alloc, &task.comm)?,
         period,
-        within,
+        within: span.within,
         top,
         runtimes,
         needs,

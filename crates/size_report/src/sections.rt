@@ -10,7 +10,6 @@ ghost use Rattle.size_report.specs.Periods.{admitted_period, period_in, regular}
 ghost use Rattle.size_report.specs.inside.Sections.{IsFound, sections_in};
 
 use crate::census::duration;
-use crate::fault::SizeFault;
 use crate::figures::{Figures, regular_period};
 use crate::options::{AskedTask, SizeOptions};
 use crate::picture::{Drawn, drawn_of};
@@ -24,6 +23,7 @@ use size_admission::Proposal;
 use size_jobs::{JobRecord, JobTask};
 use size_least::{Job, first_late, late_count};
 use std::alloc::{AllocError, Global};
+use trace_faults::Fault;
 use trace_probes::numeral;
 
 /// What is printed of the tasks so far, and what is proposed for them.
@@ -81,21 +81,17 @@ fn pid_named(record: &JobRecord, name: &str) -> Option<u64>
 }
 
 /// The task of a name, which has a job.
-fn asked_task<'r, 'a>(
-    record: &'r JobRecord,
-    path: &'a str,
-    name: &'a str,
-) -> Result<FoundTask<'r>, SizeFault<'a>>
+fn asked_task<'r, 'a>(record: &'r JobRecord, name: &'a str) -> Result<FoundTask<'r>, Fault<'a>>
     ensures jobs { IfOk result (λ f. 0 < vec_len f.task.now.jobs) }
     ensures some { IfOk result (λ f. 0 < length f.task.now.jobs.items) }
     ensures found { IfOk result (IsFound name.now (tasks_of record.now.tasks)) }
-    ensures fault { IfErr result (IsOfTask path.now name.now) }
+    ensures fault { IfErr result (IsOfTask name.now) }
 {
     let Some(found) = task_named(record, name) else {
-        return Err(SizeFault::NoSuchTask { path, name });
+        return Err(Fault::NoSuchTask { name });
     };
     if found.task.jobs.is_empty() {
-        return Err(SizeFault::NoJobs { path, name });
+        return Err(Fault::NoJobs { name });
     }
     Ok(found)
 }
@@ -130,10 +126,10 @@ fn period_of(asked: &AskedTask<'_>, figures: &Figures) -> Option<u32>
 
 /// Where the jobs of a task stand in a record, and in how long after its wake each is to be done.
 #[derive(Clone, Copy)]
-struct JobSpan {
-    first: u64,
-    within: u32,
-    is_drawn: bool,
+pub(crate) struct JobSpan {
+    pub first: u64,
+    pub within: u32,
+    pub is_drawn: bool,
 }
 
 /// Writes that no runtime is enough: the first job that may be late with the whole period, and how many may be.
@@ -205,15 +201,7 @@ fn put_needed(
     }
     let needed = needed_of(alloc, jobs, wanted)?;
     if span.is_drawn {
-        let drawn = drawn_of(
-            alloc,
-            found.task,
-            span.first,
-            jobs,
-            period,
-            span.within,
-            &needed,
-        )?;
+        let drawn = drawn_of(alloc, found.task, span, jobs, period, &needed)?;
         sections.drawn.push(drawn)?;
     }
     let Some(needed) = needed else {
@@ -286,28 +274,23 @@ fn put_asked(
 fn put_task<'a>(
     sections: &mut SizeSections,
     record: &JobRecord,
-    path: &'a str,
     asked: &AskedTask<'a>,
     options: &SizeOptions<'a>,
-) -> Result<(), SizeFault<'a>>
+) -> Result<(), Fault<'a>>
     ensures { OnOk result (Adds (said_by options.now) (tasks_of record.now.tasks)
         (sections_in sections.old) (asked_task asked.now) (sections_in sections.new)) }
 {
-    let found = asked_task(record, path, asked.name)?;
+    let found = asked_task(record, asked.name)?;
     if put_asked(sections, record, found, asked, options).is_err() {
-        return Err(SizeFault::NoText);
+        return Err(Fault::NoText);
     }
     Ok(())
 }
 
 /// Each task that is asked for is in the record, and has a job.
-fn find_all<'a>(
-    record: &JobRecord,
-    path: &'a str,
-    options: &SizeOptions<'a>,
-) -> Result<(), SizeFault<'a>> {
+fn find_all<'a>(record: &JobRecord, options: &SizeOptions<'a>) -> Result<(), Fault<'a>> {
     for asked in &options.tasks {
-        let _ = asked_task(record, path, asked.name)?;
+        let _ = asked_task(record, asked.name)?;
     }
     Ok(())
 }
@@ -316,16 +299,15 @@ fn find_all<'a>(
 pub(crate) fn sections_of<'a>(
     alloc: Global,
     record: &JobRecord,
-    path: &'a str,
     options: &SizeOptions<'a>,
-) -> Result<SizeSections, SizeFault<'a>>
+) -> Result<SizeSections, Fault<'a>>
     ensures { IfOk result (λ s. FoldsTo (Adds (said_by options.now) (tasks_of record.now.tasks))
         no_sections (said_by options.now).tasks (sections_in s)) }
 {
-    find_all(record, path, options)?;
+    find_all(record, options)?;
     let mut sections = SizeSections::new(alloc);
     for asked in &options.tasks {
-        put_task(&mut sections, record, path, asked, options)?;
+        put_task(&mut sections, record, asked, options)?;
     }
     Ok(sections)
 }

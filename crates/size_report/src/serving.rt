@@ -5,12 +5,13 @@ ghost use Rattle.std.specs.Io.KnownBytes.{Appends};
 ghost use Rattle.size_jobs.specs.Taking.{tasks_of};
 ghost use Rattle.trace_file.specs.Reading.{IsSoOf};
 ghost use Rattle.size_report.specs.Answers.{IsAnswer, IsWith, PrintsFor, domain_of};
-ghost use Rattle.size_report.specs.Faults.{PrintsWhole, status_of};
+ghost use Rattle.size_report.specs.Faults.{PrintsWhole};
 ghost use Rattle.size_report.specs.Options.{said_by};
 ghost use Rattle.size_report.specs.inside.Sections.{sections_in};
+ghost use Rattle.trace_faults.specs.Faults.{status_of};
+ghost use Rattle.trace_faults.specs.declared.fault.TheConstants.{STATUS_FILE, STATUS_SYSTEM};
 
 use crate::census::{census_text, duration};
-use crate::fault::SizeFault;
 use crate::options::SizeOptions;
 use crate::picture::picture_of;
 use crate::reading::read_record;
@@ -20,6 +21,8 @@ use size_jobs::JobRecord;
 use std::alloc::{AllocError, Global};
 use std::io;
 use std::io::Write;
+use trace_faults::Fault;
+use trace_file::Files;
 
 fn machine_of(record: &JobRecord, options: &SizeOptions<'_>) -> RootDomain
     ensures { result ≡ domain_of (said_by options.now) record.now.processors }
@@ -31,12 +34,12 @@ fn machine_of(record: &JobRecord, options: &SizeOptions<'_>) -> RootDomain
     }
 }
 
-fn print<'a, W: Write>(out: &mut W, text: &[u8]) -> Result<(), SizeFault<'a>>
-    ensures fault { IfErr result (λ e. status_of e ≡ 3) }
+fn print<'a, W: Write>(out: &mut W, text: &[u8]) -> Result<(), Fault<'a>>
+    ensures fault { IfErr result (λ e. status_of e ≡ STATUS_SYSTEM) }
     ensures whole { OnOk result (Appends (W.contents out.old) (W.contents out.new) text.now) }
 {
     if out.write_all(text).is_err() || out.flush().is_err() {
-        return Err(SizeFault::Write);
+        return Err(Fault::Write);
     }
     Ok(())
 }
@@ -51,24 +54,23 @@ struct SizeAnswer {
 fn answer_of<'a>(
     alloc: Global,
     record: &JobRecord,
-    path: &'a str,
     options: &SizeOptions<'a>,
-) -> Result<SizeAnswer, SizeFault<'a>>
+) -> Result<SizeAnswer, Fault<'a>>
     ensures { 0 < length (said_by options.now).tasks → IfOk result (λ a. IsAnswer (said_by options.now)
         (tasks_of record.now.tasks) record.now.processors a.text.items) }
 {
     if options.tasks.is_empty() {
         let Ok(text) = census_text(alloc, record) else {
-            return Err(SizeFault::NoText);
+            return Err(Fault::NoText);
         };
         return Ok(SizeAnswer {
             text,
             picture: None,
         });
     }
-    let sections = sections_of(alloc, record, path, options)?;
+    let sections = sections_of(alloc, record, options)?;
     let Ok(answer) = answer_in(sections, record, options) else {
-        return Err(SizeFault::NoText);
+        return Err(Fault::NoText);
     };
     Ok(answer)
 }
@@ -104,15 +106,15 @@ fn write_picture<'a, M: Fn(&str, &[u8]) -> io::Result<()>>(
     make: &M,
     path: Option<&'a str>,
     picture: &Option<Vec<u8>>,
-) -> Result<(), SizeFault<'a>>
+) -> Result<(), Fault<'a>>
     requires make { M.IsAlwaysCallable make.now }
-    ensures { IfErr result (λ e. status_of e ≡ 3) }
+    ensures { IfErr result (λ e. status_of e ≡ STATUS_SYSTEM) }
 {
     if let Some(path) = path
         && let Some(text) = picture
         && make(path, text.as_slice()).is_err()
     {
-        return Err(SizeFault::Write);
+        return Err(Fault::Write);
     }
     Ok(())
 }
@@ -124,34 +126,33 @@ fn size<
     N: Fn(&mut D, &mut [u8]) -> io::Result<usize>,
     X: Fn(&str) -> bool,
     M: Fn(&str, &[u8]) -> io::Result<()>,
+    R,
     W: Write,
 >(
     alloc: Global,
-    opener: &O,
-    read: &N,
-    exists: &X,
-    make: &M,
-    path: &'a str,
+    files: &Files<O, N, X, M, R>,
+    path: &str,
     options: &SizeOptions<'a>,
     out: &mut W,
-) -> Result<(), SizeFault<'a>>
-    requires opens { O.IsAlwaysCallable opener.now }
-    requires read { N.IsAlwaysCallable read.now }
-    requires exists { X.IsAlwaysCallable exists.now }
-    requires make { M.IsAlwaysCallable make.now }
-    ensures fault { IfErr result (λ e. status_of e ≡ 1 → out.new ≡ out.old) }
+) -> Result<(), Fault<'a>>
+    requires open { O.IsAlwaysCallable files.now.source.open }
+    requires read { N.IsAlwaysCallable files.now.source.read }
+    requires exists { X.IsAlwaysCallable files.now.target.exists }
+    requires make { M.IsAlwaysCallable files.now.target.make }
+    ensures fault { IfErr result (λ e. status_of e ≡ STATUS_FILE → out.new ≡ out.old) }
     ensures whole { OnOk result (PrintsWhole (W.contents out.old) (W.contents out.new)) }
-    ensures sized { OnOk result (IsSoOf O.Fn opener.now N.Fn read.now path.now
+    ensures sized { OnOk result (IsSoOf O.Fn files.now.source.open N.Fn files.now.source.read path.now
         (PrintsFor (said_by options.now) (W.contents out.old) (W.contents out.new))) }
 {
-    if let Some(picture) = options.picture
-        && exists(picture)
+    let exists = &files.target.exists;
+    if let Some(path) = options.picture
+        && exists(path)
     {
-        return Err(SizeFault::FileExists { path: picture });
+        return Err(Fault::FileExists { path });
     }
-    let record = read_record(alloc, opener, read, path)?;
-    let answer = answer_of(alloc, &record, path, options)?;
-    write_picture(make, options.picture, &answer.picture)?;
+    let record = read_record(alloc, &files.source, path)?;
+    let answer = answer_of(alloc, &record, options)?;
+    write_picture(&files.target.make, options.picture, &answer.picture)?;
     print(out, &answer.text)
 }
 
@@ -163,37 +164,32 @@ pub fn serve_size<
     N: Fn(&mut D, &mut [u8]) -> io::Result<usize>,
     X: Fn(&str) -> bool,
     M: Fn(&str, &[u8]) -> io::Result<()>,
+    R,
     W: Write,
     E: Write,
 >(
     alloc: Global,
-    opener: &O,
-    read: &N,
-    exists: &X,
-    make: &M,
+    files: &Files<O, N, X, M, R>,
     path: &str,
     options: &SizeOptions<'_>,
     out: &mut W,
     faults: &mut E,
 ) -> u8
-    requires opens { O.IsAlwaysCallable opener.now }
-    requires read { N.IsAlwaysCallable read.now }
-    requires exists { X.IsAlwaysCallable exists.now }
-    requires make { M.IsAlwaysCallable make.now }
-    ensures status { (result ≡ 0) ⊎ (result ≡ 1) ⊎ (result ≡ 3) }
+    requires open { O.IsAlwaysCallable files.now.source.open }
+    requires read { N.IsAlwaysCallable files.now.source.read }
+    requires exists { X.IsAlwaysCallable files.now.target.exists }
+    requires make { M.IsAlwaysCallable files.now.target.make }
+    ensures status { (result ≡ 0) ⊎ (result ≡ STATUS_FILE) ⊎ (result ≡ STATUS_SYSTEM) }
     // Where the trace is at fault nothing was printed.
-    ensures nothing { result ≡ 1 → out.new ≡ out.old }
+    ensures nothing { result ≡ STATUS_FILE → out.new ≡ out.old }
     // With status 0 the whole answer was printed, and nothing else.
     ensures whole { result ≡ 0 → PrintsWhole (W.contents out.old) (W.contents out.new) }
     // It is the answer for the jobs of the text that was read.
-    ensures sized { result ≡ 0 → IsSoOf O.Fn opener.now N.Fn read.now path.now
+    ensures sized { result ≡ 0 → IsSoOf O.Fn files.now.source.open N.Fn files.now.source.read path.now
         (PrintsFor (said_by options.now) (W.contents out.old) (W.contents out.new)) }
 {
-    match size(alloc, opener, read, exists, make, path, options, out) {
+    match size(alloc, files, path, options, out) {
         Ok(()) => 0,
-        Err(fault) => {
-            let _ = fault.tell(faults);
-            fault.status()
-        }
+        Err(fault) => fault.told(path, faults),
     }
 }

@@ -41,7 +41,6 @@ fn power(digits: usize) -> u64 {
 }
 
 fn put_tick(
-    alloc: Global,
     out: &mut Vec<u8>,
     frame: PictureFrame,
     top: u64,
@@ -49,6 +48,7 @@ fn put_tick(
     at: u64,
     digits: usize,
 ) -> Result<(), AllocError> {
+    let alloc = *out.allocator();
     let x = frame.x(at);
     let (foot, label) = (y.saturating_add(5), y.saturating_add(18));
     put(
@@ -78,15 +78,7 @@ pub(crate) fn put_axis(
     let first = frame.span.from.div_ceil(step);
     let last = frame.span.to / step;
     for k in first..last.saturating_add(1).min(first.saturating_add(MARKS)) {
-        put_tick(
-            alloc,
-            out,
-            frame,
-            top,
-            y,
-            k.saturating_mul(step),
-            ticks.digits,
-        )?;
+        put_tick(out, frame, top, y, k.saturating_mul(step), ticks.digits)?;
     }
     let (right, label) = (frame.right(), y.saturating_add(36));
     put(

@@ -7,6 +7,7 @@ use std::alloc::{AllocError, Global};
 use std::collections::HashMap;
 use std::io;
 use std::io::Write;
+use text_bytes::Source;
 use trace_data::{Fixed, RecordLine, Said};
 use trace_file::read_lines;
 use trace_lines::{Lines, ToldLine};
@@ -105,13 +106,12 @@ pub enum FigureText {
 /// The text of the figures of a trace; none where it cannot be read.
 fn text_of<D: Drop, O: Fn(&str) -> io::Result<D>, N: Fn(&mut D, &mut [u8]) -> io::Result<usize>>(
     alloc: Global,
-    opener: &O,
-    read: &N,
+    source: &Source<O, N>,
     path: &str,
     wanted: FigureText,
 ) -> Result<Vec<u8>, AllocError>
-    requires opener { O.IsAlwaysCallable opener.now }
-    requires read { N.IsAlwaysCallable read.now }
+    requires open { O.IsAlwaysCallable source.now.open }
+    requires read { N.IsAlwaysCallable source.now.read }
 {
     let mut lines = NamedLines {
         alloc,
@@ -120,7 +120,7 @@ fn text_of<D: Drop, O: Fn(&str) -> io::Result<D>, N: Fn(&mut D, &mut [u8]) -> io
         places: HashMap::new(alloc),
     };
     let mut text = Vec::new(alloc);
-    if read_lines(alloc, opener, read, path, &mut lines).is_err() {
+    if read_lines(alloc, &source.open, &source.read, path, &mut lines).is_err() {
         return Ok(text);
     }
     let tasks = lines.figures.figures()?;
@@ -141,14 +141,14 @@ pub fn print_figures<
     O: Fn(&str) -> io::Result<D>,
     N: Fn(&mut D, &mut [u8]) -> io::Result<usize>,
     W: Write,
->(alloc: Global, opener: &O, read: &N, path: &str, wanted: FigureText, out: &mut W) -> bool
-    requires opener { O.IsAlwaysCallable opener.now }
-    requires read { N.IsAlwaysCallable read.now }
+>(alloc: Global, source: &Source<O, N>, path: &str, wanted: FigureText, out: &mut W) -> bool
+    requires open { O.IsAlwaysCallable source.now.open }
+    requires read { N.IsAlwaysCallable source.now.read }
 {
     if path == "-" {
         return true;
     }
-    match text_of(alloc, opener, read, path, wanted) {
+    match text_of(alloc, source, path, wanted) {
         Ok(text) => out.write_all(&text).is_ok() && out.flush().is_ok(),
         Err(_) => false,
     }

@@ -15,7 +15,7 @@ use Rattle.timer_play.specs.declared.machine.Owner.TheVariants.{Server, Task}
 use Rattle.timer_play.specs.Events.{edited, step_in}
 use Rattle.timer_play.specs.Notes.{told_in}
 use Rattle.timer_play.specs.States.{State, owner_at, replaced, runqueue_for}
-use Rattle.timer_play.specs.Turns.{at_run_of, runs_of, wakes_of}
+use Rattle.timer_play.specs.Turns.{at_open_of, at_run_of, runs_of, wakes_of}
 use Rattle.kernel_changes.specs.Charges.{cost_with}
 use Rattle.kernel_changes.specs.declared.change.RuleChange.{RuleChange}
 use Rattle.kernel_changes.specs.declared.change.RuleChange.TheVariants.{PastRunsOn, AdmissionTakesNothing, ChangeFreesNothing, EndFreesNothing, LeavingFreesNothing}
@@ -123,7 +123,7 @@ charged_on c law t at nanos m = charged_with t at (cost_with (Some c) law t.enti
 -- a task that runs is charged, after a budget that was used up is filled at once
 abbrev pub running_by : RuleChange → ChargeLaw → Option DeadlineTask → KeptLine → ℕ → ℕ → State → State
 running_by c law (Some t) k n nanos m =
-    let shown = at_run_of t k in
+    let shown = at_open_of m.terms (at_run_of t k) k.line in
     let next = replaced n shown m in
     if runs_of shown then replaced n (charged_on c law (refilled_at_once c law shown) k.at nanos next) next else next
 running_by c law None k n nanos m = m

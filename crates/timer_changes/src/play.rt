@@ -260,6 +260,7 @@ impl Play {
             return Ok(());
         };
         let shown = charged_at(seen_running(task, kept.cpu), kept.at);
+        let shown = self.machine.before_charge(shown, kept.line);
         self.machine.replace(number, shown);
         if runs(shown) {
             let ready = self.refilled(shown);

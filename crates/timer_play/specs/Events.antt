@@ -20,7 +20,7 @@ use Rattle.timer_play.specs.declared.machine.Owner.TheVariants as owners
 use Rattle.timer_play.specs.Kernels.{picks_of, stops_with_timer_of}
 use Rattle.timer_play.specs.Places.{observation_of, sums_of}
 use Rattle.timer_play.specs.States.{State, is_number, noted, owned, owner_at, replaced, runqueue_for, served_in, server_at}
-use Rattle.timer_play.specs.Turns.{at_charge_of, at_hold_of, at_move_of, at_refill_of, at_run_of, at_sight_of, at_switch_of, at_wake_of}
+use Rattle.timer_play.specs.Turns.{at_charge_of, at_hold_of, at_move_of, at_open_of, at_refill_of, at_run_of, at_sight_of, at_switch_of, at_wake_of}
 
 -- a task becomes what a rule makes of it
 abbrev pub edited_by : Option DeadlineTask → (DeadlineTask → DeadlineTask) → ℕ → State → State
@@ -54,8 +54,12 @@ woken_in n cpu clock m = edited (λ t. at_wake_of m.terms t cpu clock) n m
 unfoldable pub charged_in : KeptLine → ℕ → ℕ → State → State
 charged_in k n nanos m = edited (λ t. at_charge_of m.terms.setup.law t k.at nanos (runqueue_for t.cpu m)) n m
 
+-- extra_bw may not be known at this line
+unfoldable pub opened_in : ℕ → ℕ → State → State
+opened_in line n m = edited (λ t. at_open_of m.terms t line) n m
+
 abbrev pub ran_in : KeptLine → ℕ → ℕ → State → State
-ran_in k n nanos m = charged_in k n nanos (edited at_refill_of n (edited (λ t. at_run_of t k) n m))
+ran_in k n nanos m = charged_in k n nanos (opened_in k.line n (edited at_refill_of n (edited (λ t. at_run_of t k) n m)))
 
 -- sched_switch away: a block is observed, and then the task is switched out
 abbrev pub blocks_of : DeadlineTask → Bool → Stop → Bool

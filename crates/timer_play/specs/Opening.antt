@@ -83,6 +83,6 @@ opened f ts rs os = record { terms = f; tasks = ts; runqueues = rs; taken = 0; o
 
 unfoldable pub first_state : RecordSetup → RecordStart → KeptLines → ℕ → State
 first_state s x lines within =
-    opened (record { setup = s; begins = unwrap_or lines.begins 0; within = within }) (map (λ y. unseen_task) lines.tasks.items)
+    opened (record { setup = s; begins = unwrap_or lines.begins 0; within = within; open_from = x.open_from }) (map (λ y. unseen_task) lines.tasks.items)
     (map (first_runqueue s x.sums.items lines.addresses.items) (range_with_len 0 (cpus_of x)))
     (map (first_owner lines.addresses.items) lines.timers.items)

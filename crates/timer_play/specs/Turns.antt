@@ -1,11 +1,15 @@
 -- What becomes of a task at a line that is about it.
-use Rattle.std.specs.Prelude.{ℕ, Bool, not, ◌&&◌, ◌||◌, ◌==◌, if◌then◌else◌, Option, Some, None, is_some, unwrap_or}
+use Rattle.std.specs.Prelude.{ℕ, nat_le, Bool, false, not, ◌&&◌, ◌||◌, ◌==◌, if◌then◌else◌, Option, Some, None, is_some, unwrap_or}
 use Rattle.trace_data.specs.declared.fixed.Stop.{Stop}
 use Rattle.trace_data.specs.declared.quantities.Parameters.{Parameters}
 use Rattle.kernel_entity.specs.Budget.{timer_is_ahead}
+use Rattle.kernel_entity.specs.Clock.{contains_bits}
 use Rattle.kernel_entity.specs.declared.charge.ChargeLaw.{ChargeLaw}
 use Rattle.kernel_entity.specs.declared.charge.ChargedRunqueue.{ChargedRunqueue}
+use Rattle.kernel_entity.specs.declared.flags.TheConstants.{RECLAIM}
 use Rattle.timer_record.specs.declared.event.KeptLine.{KeptLine}
+use Rattle.timer_tasks.specs.declared.activity.Knowledge.{Knowledge}
+use Rattle.timer_tasks.specs.declared.activity.Knowledge.TheVariants.{Known, Unknown}
 use Rattle.timer_tasks.specs.declared.task.DeadlineTask.{DeadlineTask}
 use Rattle.timer_tasks.specs.declared.wake.Waking.{Waking}
 use Rattle.timer_tasks.specs.Activity.{is_awake_of}
@@ -46,6 +50,23 @@ at_run_of t k = charged_at_of (seen_running_of t k.cpu) k.at
 -- start_dl_timer starts no timer for a next period that has begun
 unfoldable pub at_refill_of : DeadlineTask → DeadlineTask
 at_refill_of t = if runs_of t && not (timer_is_ahead t.entity (unwrap_or t.exceeded 0)) then refilled_of t else t
+
+-- extra_bw is not known at a line: the kernel changed it there, or before, by no rule of a task
+abbrev pub is_open_by : Option ℕ → ℕ → Bool
+is_open_by (Some first) line = nat_le first line
+is_open_by None line = false
+
+-- what was known is not any more
+abbrev pub forgotten : Knowledge → Knowledge
+forgotten Known = Unknown
+forgotten other = other
+
+-- grub_reclaim reads extra_bw for a task with SCHED_FLAG_RECLAIM: where that is not known, the charge is not
+abbrev pub reads_open : PlayTerms → DeadlineTask → ℕ → Bool
+reads_open f t line = is_open_by f.open_from line && runs_of t && contains_bits t.entity.parameters.flags RECLAIM
+
+unfoldable pub at_open_of : PlayTerms → DeadlineTask → ℕ → DeadlineTask
+at_open_of f t line = if reads_open f t line then record t { knowledge = forgotten t.knowledge } else t
 
 unfoldable pub at_charge_of : ChargeLaw → DeadlineTask → ℕ → ℕ → ChargedRunqueue → DeadlineTask
 at_charge_of law t at nanos r = if runs_of t then ran_of law t at nanos r else t

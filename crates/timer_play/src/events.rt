@@ -1,7 +1,7 @@
 //! What the lines of tasks make of a record's tasks and runqueues.
 
 ghost use Rattle.std.specs.Prelude.{◌≡◌, OnOk, slice_get};
-ghost use Rattle.timer_play.specs.Events.{block_observation, block_seen, blocks_of, charged_in, edited, given_by, idled_in, ran_in, served_where_any, sighted_if, sighted_in, switched_by, switched_in, woken_in};
+ghost use Rattle.timer_play.specs.Events.{block_observation, block_seen, blocks_of, charged_in, edited, given_by, idled_in, opened_in, ran_in, served_where_any, sighted_if, sighted_in, switched_by, switched_in, woken_in};
 ghost use Rattle.timer_play.specs.States.{state_of};
 ghost use Rattle.timer_play.specs.Turns.{at_move_of, at_refill_of, at_run_of, at_switch_of};
 ghost use Rattle.timer_tasks.specs.Tasks.{refilled_of};
@@ -10,8 +10,8 @@ use crate::counting::{rule_of_charge, rule_of_wake};
 use crate::counts::TimerRule;
 use crate::machine::{Charged, TimedMachine, observation};
 use crate::turns::{
-    at_charge, at_move, at_refill, at_run, at_sight, at_switch, at_wake, is_edge_wake, runs,
-    runs_late, wakes,
+    at_charge, at_move, at_open, at_refill, at_run, at_sight, at_switch, at_wake, is_edge_wake,
+    runs, runs_late, wakes,
 };
 use kernel_entity::{ChargedRunqueue, charging, cost};
 use std::alloc::AllocError;
@@ -106,7 +106,19 @@ impl TimedMachine {
     {
         self.show(kept, number);
         self.refill_running(number);
+        self.forget_open(kept.line, number);
         self.charge(kept, number, nanos)
+    }
+
+    /// A charge reads `extra_bw`, which may not be known.
+    #[tactic(auto, unfolding(crate::specs::Events::opened_in, crate::specs::Events::edited))]
+    fn forget_open(&mut self, line: u64, number: u32)
+        ensures { state_of self.new ≡ opened_in line number (state_of self.old) }
+    {
+        let Some(task) = self.task(number) else {
+            return;
+        };
+        self.replace(number, at_open(self.terms, task, line));
     }
 
     /// A line shows a task that runs.

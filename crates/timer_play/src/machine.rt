@@ -2,6 +2,7 @@
 
 ghost use Rattle.std.specs.Prelude.{◌≡◌, ◌++◌, ◌∷◌, [], OnOk, length, slice_get};
 ghost use Rattle.timer_play.specs.Places.{observation_of, sums_of};
+ghost use Rattle.timer_play.specs.Turns.{at_open_of};
 ghost use Rattle.timer_play.specs.States.{begun_with, noted, owned, owner_at, replaced, runqueue_for, server_at, served_in, state_of};
 
 use crate::counts::{TimerRule, TimerRuleCounts};
@@ -9,6 +10,7 @@ use crate::place::{
     gain, is_told, lose, owner_of, serve_at, server_of, set_owner, set_task, sums_at,
 };
 use crate::terms::PlayTerms;
+use crate::turns::at_open;
 use kernel_entity::Charge;
 use std::alloc::AllocError;
 use timer_record::KeptLine;
@@ -152,6 +154,13 @@ impl TimedMachine {
             max_bw: limits.max_bw,
             bw_ratio: limits.bw_ratio,
         }
+    }
+
+    /// A task before a charge in a line at which `extra_bw` may not be known (`grub_reclaim`).
+    pub fn before_charge(&self, task: DeadlineTask, line: u64) -> DeadlineTask
+        ensures { result ≡ at_open_of (state_of self.now).terms task line }
+    {
+        at_open(self.terms, task, line)
     }
 
     /// Whose a timer is.

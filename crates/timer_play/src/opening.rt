@@ -251,6 +251,7 @@ impl TimedMachine {
             setup,
             begins: lines.begins.unwrap_or(0),
             within,
+            open_from: start.open_from,
         };
         Ok(machine_of(alloc, terms, tasks, runqueues, owners, watch))
     }

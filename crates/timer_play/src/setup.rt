@@ -49,6 +49,9 @@ pub struct RecordStart {
     /// The CPUs of the root domain.
     pub domain: Vec<u32>,
     pub sums: Vec<RunqueueSums>,
+
+    /// The line from which on `extra_bw` is not known: the kernel changes it there by no rule of a task.
+    pub open_from: Option<u64>,
 }
 
 /// A kernel whose `extra_bw` depends on its boot, of which no note tells.

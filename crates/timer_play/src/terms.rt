@@ -12,4 +12,7 @@ pub struct PlayTerms {
 
     /// Timers that are at most so many nanoseconds from the prediction agree.
     pub within: u64,
+
+    /// From this line on `extra_bw` is not known.
+    pub open_from: Option<u64>,
 }

@@ -2,14 +2,15 @@
 
 ghost use Rattle.std.specs.Prelude.{◌≡◌, ◌&&◌, not, unwrap_or};
 ghost use Rattle.kernel_entity.specs.Budget.{timer_is_ahead};
-ghost use Rattle.timer_play.specs.Turns.{at_charge_of, at_hold_of, at_move_of, at_refill_of, at_run_of, at_sight_of, at_switch_of, at_wake_of, is_edge_at, runs_of, wakes_of};
+ghost use Rattle.timer_play.specs.Turns.{at_charge_of, at_hold_of, at_move_of, at_open_of, at_refill_of, at_run_of, at_sight_of, at_switch_of, at_wake_of, forgotten, is_edge_at, is_open_by, runs_of, wakes_of};
 
 use crate::terms::PlayTerms;
-use kernel_entity::{ChargeLaw, ChargedRunqueue, has_timer_ahead};
+use kernel_entity::{ChargeLaw, ChargedRunqueue, RECLAIM, has, has_timer_ahead};
 use timer_record::KeptLine;
 use timer_tasks::{
-    DeadlineTask, Waking, blocked, charged_at, is_awake, is_edge, is_tested, moved, ran, refilled,
-    seen_running, sighted, stays_ready, switched, throttled, throttling_of, waking_of, woken,
+    DeadlineTask, Knowledge, Waking, blocked, charged_at, is_awake, is_edge, is_tested, moved, ran,
+    refilled, seen_running, sighted, stays_ready, switched, throttled, throttling_of, waking_of,
+    woken,
 };
 use trace_data::{Parameters, Stop};
 
@@ -105,6 +106,41 @@ pub(crate) fn at_refill(task: DeadlineTask) -> DeadlineTask
 {
     if runs_late(task) {
         refilled(task)
+    } else {
+        task
+    }
+}
+
+/// Whether `extra_bw` is not known at a line.
+fn is_open(open_from: Option<u64>, line: u64) -> bool
+    ensures { result ≡ is_open_by open_from line }
+{
+    match open_from {
+        Some(first) => first <= line,
+        None => false,
+    }
+}
+
+/// What was known is not any more.
+fn forgotten(knowledge: Knowledge) -> Knowledge
+    ensures { result ≡ forgotten knowledge }
+{
+    match knowledge {
+        Knowledge::Known => Knowledge::Unknown,
+        other => other,
+    }
+}
+
+/// The task before a charge in a line at which `extra_bw` may not be known (`grub_reclaim`).
+#[tactic(auto, unfolding(crate::specs::Turns::at_open_of))]
+pub(crate) fn at_open(terms: PlayTerms, task: DeadlineTask, line: u64) -> DeadlineTask
+    ensures { result ≡ at_open_of terms task line }
+{
+    if is_open(terms.open_from, line) && runs(task) && has(task.entity.parameters.flags, RECLAIM) {
+        DeadlineTask {
+            knowledge: forgotten(task.knowledge),
+            ..task
+        }
     } else {
         task
     }

@@ -20,4 +20,7 @@ pub struct TimerHeading<'a> {
 
     /// In nanoseconds.
     pub within: u64,
+
+    /// Lines that tell what else bears on the comparison.
+    pub beside: &'a [u8],
 }

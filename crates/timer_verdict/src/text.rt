@@ -58,6 +58,7 @@ pub fn put_verdict(
     )?;
     put_total(out, heading, setup, lines)?;
     put_speed(alloc, out, judged.speed_unknown)?;
+    put(out, heading.beside)?;
     let Some(place) = judged.first else {
         return put_agreement(out);
     };

@@ -5,16 +5,15 @@ ghost use Rattle.std.specs.Prelude.{◌≡◌, IfOk, false};
 use crate::beside::put_rules_beside;
 use crate::check::Verdict;
 use crate::showing::nothing_shown;
-use check_faults::{Fault, Uncompared};
 use check_record::{Gathering, Names};
 use check_report::{CheckReport, add_laws, add_tasks};
-use law_findings::{Breach, LAWS, LawTallies, Whose};
-use law_play::LawPlay;
+use law_findings::{Breach, JudgedLaws, LAWS, LawTallies, Whose};
 use law_verdict::{TaskName, put_law_row, put_laws};
 use probe_verdict::TABLE_HEAD;
 use std::alloc::{AllocError, Global};
 use task_figures::put_figures;
 use timer_verdict::table_head;
+use trace_faults::{Fault, Uncompared};
 
 /// A verdict with what the laws say below what the rules say.
 pub(crate) fn with_laws<'o>(
@@ -79,19 +78,20 @@ fn laws_told(
 ) -> Result<Verdict, AllocError>
     ensures { IfOk result (λ v. v.agrees ≡ verdict.agrees) }
 {
-    let Some(mut play) = gathering.laws.play.take() else {
+    let Some(laws) = gathering.laws.finish()? else {
         return Ok(verdict);
     };
-    let figures = play.finish()?;
-    let names = names_of(alloc, &play.tallies, &gathering.names)?;
-    add_laws(alloc, &mut verdict.report, &play.tallies, figures, &names)?;
-    if was_asked(&play.tallies) {
-        put_laws(alloc, &mut verdict.text, &play.tallies, figures, &names)?;
-        put_rules_beside(alloc, &mut verdict.text, gathering, &play.tallies)?;
-        put_rows(alloc, &mut verdict.table, &gathering.names, &play)?;
+    let figures = laws.figures;
+    let judged = &laws.judged;
+    let names = names_of(alloc, &judged.tallies, &gathering.names)?;
+    add_laws(alloc, &mut verdict.report, &judged.tallies, figures, &names)?;
+    if was_asked(&judged.tallies) {
+        put_laws(alloc, &mut verdict.text, &judged.tallies, figures, &names)?;
+        put_rules_beside(alloc, &mut verdict.text, gathering, &judged.tallies)?;
+        put_rows(alloc, &mut verdict.table, &gathering.names, judged)?;
         put_tasks(alloc, &mut verdict, gathering)?;
     }
-    verdict.keeps_laws = play.tallies.is_kept();
+    verdict.keeps_laws = judged.tallies.is_kept();
     Ok(verdict)
 }
 
@@ -130,9 +130,9 @@ fn put_rows(
     alloc: Global,
     table: &mut Vec<u8>,
     names: &Names,
-    play: &LawPlay,
+    judged: &JudgedLaws,
 ) -> Result<(), AllocError> {
-    for breach in &play.breaches {
+    for breach in &judged.breaches {
         let mut named = Vec::new(alloc);
         put_name(alloc, &mut named, breach, names)?;
         put_law_row(alloc, table, breach, &named)?;

@@ -10,9 +10,8 @@ use crate::check::{CheckRequest, Verdict};
 use crate::order::with_order;
 use crate::probe_states::probe_states;
 use crate::showing::nothing_shown;
-use crate::untried::of_release;
+use crate::untried::{Check, of_release};
 use crate::why::tried;
-use check_faults::{Check, Fault, Uncompared};
 use check_record::{Gathering, Played};
 use check_report::{CheckReport, ProbeAnswers, add_probes};
 use probe_findings::KindCounts;
@@ -21,6 +20,7 @@ use probe_verdict::{
     put_unfollowed,
 };
 use std::alloc::{AllocError, Global};
+use trace_faults::{Fault, Uncompared};
 use trace_options::CheckOptions;
 
 /// The verdict by lines of probes, unless timers are to be compared; none where the trace has none.

@@ -1,16 +1,16 @@
 //! The verdict by timers.
 
 ghost use Rattle.std.specs.Prelude.{◌≡◌, IfOk, is_none};
-ghost use Rattle.trace_check.specs.Uncompared.{uncompared_of};
+ghost use Rattle.trace_check.specs.Uncompared.{left_by, uncompared_left, uncompared_of};
 
 use crate::check::{CheckRequest, Verdict};
+use crate::opening::opening_text;
 use crate::order::with_order;
 use crate::showing::{ShownStates, TimerPlay, shown_of};
-use crate::untried::of_release;
+use crate::untried::{Check, of_release};
 use crate::why::put_timer_explanation;
-use check_faults::{Check, Fault, Uncompared};
 use check_record::Gathering;
-use check_report::{CheckReport, TimerAnswers, add_timers};
+use check_report::{CheckReport, MarkCount, TimerAnswers, add_timers};
 use std::alloc::{AllocError, Global};
 use timer_play::{RecordSetup, RecordStart, play, setup_of};
 use timer_record::KeptLines;
@@ -19,6 +19,7 @@ use timer_verdict::{
     Judged, LeftOut, TimerHeading, judge, judge_at_unknown_speed, judged_of, left_out, put_table,
     put_verdict as put_timers,
 };
+use trace_faults::{Fault, Uncompared};
 use trace_options::CheckOptions;
 
 /// A record of timers, with what its play begins with.
@@ -94,7 +95,13 @@ pub(crate) fn timer_verdict<'o>(
     let timed = timed_record(alloc, options, gathering)?;
     let judged = timed.judge(alloc, options.within, gathering.head.has_governor)?;
     let left = left_out(&judged.outcome.observations);
-    if let Some(why) = uncompared(left, timed.lines.tasks.len(), judged.speed_unknown) {
+    let open_from = timed.start.open_from;
+    if let Some(why) = uncompared(
+        left,
+        timed.lines.tasks.len(),
+        judged.speed_unknown,
+        open_from,
+    ) {
         return Err(Fault::NothingCompared { why });
     }
     let verdict = told_verdict(alloc, wanted, options, gathering, timed.play(&judged))?;
@@ -141,9 +148,25 @@ pub(crate) fn timer_states<'o>(
     }
 }
 
+fn uncompared_left(left: LeftOut) -> Uncompared
+    ensures { result ≡ uncompared_left left }
+{
+    Uncompared::Left {
+        ends: left.ends,
+        unknown: left.unknown,
+        edges: left.edges,
+        gaps: left.gaps,
+    }
+}
+
 /// Why nothing was compared, of a record of so many tasks, where all blocks and timers are left out, so many by their speed.
-fn uncompared(left: Option<LeftOut>, tasks: usize, speed_unknown: u64) -> Option<Uncompared>
-    ensures { result ≡ uncompared_of left tasks speed_unknown }
+fn uncompared(
+    left: Option<LeftOut>,
+    tasks: usize,
+    speed_unknown: u64,
+    open_from: Option<u64>,
+) -> Option<Uncompared>
+    ensures { result ≡ uncompared_of left tasks speed_unknown open_from }
 {
     let left = left?;
     if tasks == 0 {
@@ -155,7 +178,17 @@ fn uncompared(left: Option<LeftOut>, tasks: usize, speed_unknown: u64) -> Option
     if speed_unknown > 0 {
         return Some(Uncompared::UnknownSpeed);
     }
-    Some(Uncompared::Left(left))
+    Some(left_by(open_from, left))
+}
+
+/// Why all is left out, where `extra_bw` may not be known from a line on.
+fn left_by(open_from: Option<u64>, left: LeftOut) -> Uncompared
+    ensures { result ≡ left_by open_from left }
+{
+    match open_from {
+        Some(line) if left.unknown > 0 => Uncompared::UnknownSum { line },
+        _ => uncompared_left(left),
+    }
 }
 
 /// The names of the tasks of a record, as the trace tells them.
@@ -181,6 +214,7 @@ fn told_verdict(
 ) -> Result<Verdict, AllocError>
     ensures { IfOk result (λ v. v.agrees ≡ is_none play.entry.judged.now.first) }
 {
+    let beside = opening_text(alloc, gathering)?;
     let heading = TimerHeading {
         trace: wanted.path.as_bytes(),
         kernel: gathering.head.kernel_by(options),
@@ -188,6 +222,7 @@ fn told_verdict(
         domain: &play.start.domain,
         total_bw: gathering.head.total_bw,
         within: options.within,
+        beside: &beside,
     };
     let text = timer_text(alloc, heading, options, play)?;
     let table = timer_table(alloc, wanted, play)?;
@@ -196,7 +231,7 @@ fn told_verdict(
         .first
         .and_then(|place| play.judged.outcome.observations.get(place));
     let shown = shown_of(alloc, wanted, play, first)?;
-    let report = timer_report(alloc, heading, play)?;
+    let report = timer_report(alloc, heading, play, gathering.probes.marks.counts())?;
     Ok(Verdict {
         agrees: play.judged.first.is_none(),
         keeps_laws: true,
@@ -212,6 +247,7 @@ fn timer_report(
     alloc: Global,
     heading: TimerHeading<'_>,
     play: TimerPlay<'_>,
+    marks: &[MarkCount],
 ) -> Result<CheckReport, AllocError> {
     let mut report = CheckReport::new(alloc);
     let answers = TimerAnswers {
@@ -219,6 +255,8 @@ fn timer_report(
         lines: play.lines,
         names: play.names,
         judged: play.judged,
+        marks,
+        open_from: play.start.open_from,
     };
     add_timers(alloc, &mut report, answers)?;
     Ok(report)

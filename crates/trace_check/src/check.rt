@@ -4,7 +4,7 @@ ghost use Rattle.std.specs.Prelude.{◌≡◌, ◌⊎◌, IfOk, IsOkAnd, IsTrue,
 ghost use Rattle.trace_file.specs.Reading.{IsSoOf};
 ghost use Rattle.check_record.specs.Explains.{IsAgreedBy};
 ghost use Rattle.check_record.specs.Seen.{NothingDiffers};
-ghost use Rattle.check_faults.specs.declared.fault.TheConstants.{STATUS_DIFFERS, STATUS_FILE, STATUS_LAW, STATUS_SYSTEM, STATUS_USAGE};
+ghost use Rattle.trace_faults.specs.declared.fault.TheConstants.{STATUS_DIFFERS, STATUS_FILE, STATUS_LAW, STATUS_SYSTEM, STATUS_USAGE};
 
 use crate::by_laws::{laws_alone, with_laws};
 use crate::by_probes::{put_probe_explanation, verdict_by_probes};
@@ -14,7 +14,6 @@ use crate::files::{first_there, make_all};
 use crate::reports::{put_evidence_of, with_report};
 use crate::showing::Documents;
 use crate::warnings::with_warnings;
-use check_faults::{Fault, STATUS_DIFFERS, STATUS_LAW, STATUS_SYSTEM};
 use check_record::{Gathering, RecordRequest, gathered_whole};
 use check_report::CheckReport;
 use law_findings::AskedLaws;
@@ -22,6 +21,8 @@ use std::alloc::Global;
 use std::io;
 use std::io::Write;
 use trace_data::Flaw;
+use trace_faults::{Fault, STATUS_DIFFERS, STATUS_LAW, STATUS_USAGE};
+use trace_file::Files;
 use trace_options::{CheckOptions, Window};
 
 /// What is wanted of a check.
@@ -254,13 +255,11 @@ fn write_files<'o, M: Fn(&str, &[u8]) -> io::Result<()>, R: Fn(&str)>(
     remove: &R,
     wanted: CheckRequest<'o>,
     verdict: &Verdict,
+    shown: &Documents,
 ) -> Result<(), Fault<'o>>
     requires make { M.IsAlwaysCallable make.now }
     requires remove { R.IsAlwaysCallable remove.now }
 {
-    let Some(shown) = &verdict.shown else {
-        return Err(Fault::OutsideRecord);
-    };
     let files = [
         (wanted.table, verdict.table.as_slice()),
         (wanted.json, shown.json.as_slice()),
@@ -306,13 +305,15 @@ fn publish<M: Fn(&str, &[u8]) -> io::Result<()>, R: Fn(&str), W: Write, E: Write
     ensures differs { result ≡ STATUS_DIFFERS → verdict.now.agrees ≡ false }
     ensures law { result ≡ STATUS_LAW → verdict.now.keeps_laws ≡ false }
 {
-    if let Err(fault) = write_files(make, remove, wanted, verdict) {
-        let _ = fault.tell(wanted.path, faults);
-        return fault.status();
+    let Some(shown) = &verdict.shown else {
+        let _ = faults.write_all(b"error: --from and --to name no part of the record\n");
+        return STATUS_USAGE;
+    };
+    if let Err(fault) = write_files(make, remove, wanted, verdict, shown) {
+        return fault.told(wanted.path, faults);
     }
     if out.write_all(&verdict.text).is_err() || out.flush().is_err() {
-        let _ = Fault::Write.tell(wanted.path, faults);
-        return STATUS_SYSTEM;
+        return Fault::Write.told(wanted.path, faults);
     }
     status_of(verdict)
 }
@@ -338,10 +339,7 @@ fn answer<M: Fn(&str, &[u8]) -> io::Result<()>, R: Fn(&str), W: Write, E: Write>
 {
     match verdict {
         Ok(verdict) => publish(make, remove, wanted, &verdict, out, faults),
-        Err(fault) => {
-            let _ = fault.tell(wanted.path, faults);
-            fault.status()
-        }
+        Err(fault) => fault.told(wanted.path, faults),
     }
 }
 
@@ -359,34 +357,29 @@ pub fn serve_check<
     E: Write,
 >(
     alloc: Global,
-    opens: &O,
-    read: &N,
-    exists: &X,
-    make: &M,
-    remove: &R,
+    files: &Files<O, N, X, M, R>,
     wanted: CheckRequest<'_>,
     options: &CheckOptions<'_>,
     out: &mut W,
     faults: &mut E,
 ) -> u8
-    requires opens { O.IsAlwaysCallable opens.now }
-    requires read { N.IsAlwaysCallable read.now }
-    requires exists { X.IsAlwaysCallable exists.now }
-    requires make { M.IsAlwaysCallable make.now }
-    requires remove { R.IsAlwaysCallable remove.now }
+    requires open { O.IsAlwaysCallable files.now.source.open }
+    requires read { N.IsAlwaysCallable files.now.source.read }
+    requires exists { X.IsAlwaysCallable files.now.target.exists }
+    requires make { M.IsAlwaysCallable files.now.target.make }
+    requires remove { R.IsAlwaysCallable files.now.target.remove }
     ensures status { (result ≡ 0) ⊎ (result ≡ STATUS_DIFFERS) ⊎ (result ≡ STATUS_LAW)
         ⊎ (result ≡ STATUS_FILE) ⊎ (result ≡ STATUS_USAGE) ⊎ (result ≡ STATUS_SYSTEM) }
     // Where the trace is at fault, or the words are, nothing was printed.
     ensures nothing { (result ≡ STATUS_FILE) ⊎ (result ≡ STATUS_USAGE) → out.new ≡ out.old }
     // Where the kernel agrees by lines of probes, those of the text that was read are explained by its rules.
-    ensures explained { result ≡ 0 →
-        IsSoOf O.Fn opens.now N.Fn read.now wanted.entry.path.now (IsAgreedBy options.now) }
+    ensures explained { result ≡ 0 → IsSoOf O.Fn files.now.source.open N.Fn files.now.source.read
+        wanted.entry.path.now (IsAgreedBy options.now) }
 {
-    if let Some(path) = first_there(exists, wanted) {
-        let fault = Fault::FileExists { path };
-        let _ = fault.tell(wanted.path, faults);
-        return fault.status();
+    let (source, target) = (&files.source, &files.target);
+    if let Some(path) = first_there(&target.exists, wanted) {
+        return Fault::FileExists { path }.told(wanted.path, faults);
     }
-    let verdict = verdict_of(alloc, opens, read, wanted, options);
-    answer(make, remove, wanted, verdict, out, faults)
+    let verdict = verdict_of(alloc, &source.open, &source.read, wanted, options);
+    answer(&target.make, &target.remove, wanted, verdict, out, faults)
 }

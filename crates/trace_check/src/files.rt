@@ -1,8 +1,8 @@
 //! The files that a check writes.
 
 use crate::check::CheckRequest;
-use check_faults::Fault;
 use std::io;
+use trace_faults::Fault;
 
 /// A file that is wanted, and its bytes; no path where it is not.
 type Wish<'a> = (Option<&'a str>, &'a [u8]);

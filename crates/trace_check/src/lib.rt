@@ -8,6 +8,7 @@ mod by_timers;
 mod check;
 mod evidence;
 mod files;
+mod opening;
 mod order;
 mod probe_states;
 mod reports;
@@ -17,9 +18,6 @@ mod warnings;
 mod why;
 
 pub use check::{CheckRequest, serve_check};
-pub use check_faults::{
-    Fault, STATUS_DIFFERS, STATUS_FILE, STATUS_LAW, STATUS_SYSTEM, STATUS_USAGE,
-};
 pub use law_findings::AskedLaws;
 pub use law_verdict::asked_of as laws_of;
 pub use trace_options::{

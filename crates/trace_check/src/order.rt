@@ -3,9 +3,9 @@
 ghost use Rattle.std.specs.Prelude.{◌≡◌, IfOk};
 
 use crate::check::Verdict;
-use check_faults::Fault;
 use check_record::EarlierLine;
 use std::alloc::{AllocError, Global};
+use trace_faults::Fault;
 
 /// A verdict that tells of the first line that is before the one before it.
 pub(crate) fn with_order<'o>(

@@ -3,11 +3,11 @@
 ghost use Rattle.std.specs.Prelude.{◌≡◌, IfOk};
 
 use crate::check::{CheckRequest, Verdict};
-use check_faults::Fault;
 use check_record::Gathering;
 use check_report::{ReportSettings, add_evidence, add_settings};
 use probe_verdict::{Evidence, put_evidence};
 use std::alloc::{AllocError, Global};
+use trace_faults::Fault;
 use trace_options::{Arithmetic, CheckOptions};
 
 /// Adds what speaks for the first deviation to a verdict.

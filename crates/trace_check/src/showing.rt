@@ -1,7 +1,6 @@
 //! The states of a record, as a document of JSON and as a picture.
 
 use crate::check::CheckRequest;
-use check_faults::Fault;
 use state_history::{RecordScene, Span, TaskName, states_of};
 use state_json::put_document;
 use state_picture::picture_of;
@@ -10,6 +9,7 @@ use timer_play::{RecordSetup, RecordStart};
 use timer_record::KeptLines;
 use timer_tasks::Observation;
 use timer_verdict::Judged;
+use trace_faults::Fault;
 use trace_options::Window;
 
 /// The documents that are wanted.

@@ -1,13 +1,30 @@
 //! Kernels whose release was not tried.
 
-ghost use Rattle.std.specs.Prelude.{◌≡◌, IfOk};
-ghost use Rattle.trace_check.specs.Untried.{is_judged, untried_by};
+ghost use Rattle.std.specs.Prelude.{◌≡◌, IfErr, IfOk};
+ghost use Rattle.trace_check.specs.Untried.{TellsTried, is_judged, tried_by, untried_by};
 
 use crate::check::Verdict;
-use check_faults::{Check, Fault, tried_by};
-use kernel_versions::{is_judged_by_probes, is_judged_by_timers};
+use kernel_versions::{is_judged_by_probes, is_judged_by_timers, tried_by_probes, tried_by_timers};
 use std::alloc::{AllocError, Global};
 use trace_data::Kernel;
+use trace_faults::Fault;
+
+/// What a record is compared by.
+#[derive(Clone, Copy)]
+pub(crate) enum Check {
+    Probes,
+    Timers,
+}
+
+/// The releases that were tried, in words.
+fn tried_by(check: Check) -> &'static str
+    ensures { result.now ≡ tried_by check }
+{
+    match check {
+        Check::Probes => tried_by_probes(),
+        Check::Timers => tried_by_timers(),
+    }
+}
 
 fn is_judged(check: Check, kernel: Option<Kernel>) -> bool
     ensures { result ≡ is_judged check kernel }
@@ -37,7 +54,8 @@ pub(crate) fn of_release<'o>(
     kernel: Option<Kernel>,
     differ: u64,
 ) -> Result<Verdict, Fault<'o>>
-    ensures { IfOk result (λ v. v.agrees ≡ verdict.agrees) }
+    ensures agrees { IfOk result (λ v. v.agrees ≡ verdict.agrees) }
+    ensures tried { IfErr result (TellsTried check) }
 {
     let Some(kernel) = untried(check, kernel) else {
         return Ok(verdict);
@@ -45,7 +63,7 @@ pub(crate) fn of_release<'o>(
     if !verdict.agrees {
         return Err(Fault::UntriedKernel {
             kernel,
-            check,
+            tried: tried_by(check),
             differ,
         });
     }

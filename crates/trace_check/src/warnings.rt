@@ -3,8 +3,8 @@
 ghost use Rattle.std.specs.Prelude.{◌≡◌, IfOk};
 
 use crate::check::Verdict;
-use check_faults::Fault;
 use std::alloc::AllocError;
+use trace_faults::Fault;
 
 /// A verdict with a line for each warning of the kernel's log.
 pub(crate) fn with_warnings<'o>(

@@ -1,5 +1,6 @@
 pub mod Verbs
 pub mod Scheduled
+pub mod Changes
 pub mod Clock
 pub mod Fixed
 pub mod NoteWords

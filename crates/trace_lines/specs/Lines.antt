@@ -23,6 +23,7 @@ use Rattle.trace_data.specs.declared.probe.Mark.{Mark}
 use Rattle.trace_data.specs.declared.probe.Mark.TheVariants as mark
 use Rattle.trace_data.specs.declared.probe.Probe.{Probe}
 use Rattle.trace_data.specs.declared.probe.Probe.TheVariants as probe
+use Rattle.trace_lines.specs.Changes.{change_of}
 use Rattle.trace_lines.specs.Fixed.{alone, cancelled, fired, migrated, ran, started, switched, woken}
 use Rattle.trace_lines.specs.Notes.{note_of}
 use Rattle.trace_lines.specs.Scheduled.{waking}
@@ -37,7 +38,7 @@ use Rattle.trace_lines.specs.declared.word.TheConstants.{CPUS}
 
 -- a line with nothing beside it
 abbrev pub told_line : RecordLine → ToldLine (List ℕ)
-told_line told = record { line = told; shown = None; domain = None; release = None; lost = None; processors = None; warning = None; governor = None; scheduled = None }
+told_line told = record { line = told; shown = None; domain = None; release = None; lost = None; processors = None; warning = None; governor = None; change = None; scheduled = None }
 
 abbrev pub note_cpu : TraceNote → ℕ
 note_cpu (note.Runqueue cpu sums domain server) = cpu
@@ -50,16 +51,16 @@ note_line told = if nat_le CPUS (note_cpu told) then line.Flawed TooLong else li
 
 -- a line of the head that says how many processors there are
 abbrev pub head_line : Option ℕ → ToldLine (List ℕ)
-head_line count = record { line = line.Quiet; shown = None; domain = None; release = None; lost = None; processors = count; warning = None; governor = None; scheduled = None }
+head_line count = record { line = line.Quiet; shown = None; domain = None; release = None; lost = None; processors = count; warning = None; governor = None; change = None; scheduled = None }
 
 abbrev pub noted_line : List ℕ → Noted (List ℕ) → ToldLine (List ℕ)
 noted_line text noted.Quiet = head_line (processors text)
-noted_line text (noted.Head note domain release) = record { line = note_line note; shown = None; domain = domain; release = release; lost = None; processors = None; warning = None; governor = None; scheduled = None }
-noted_line text (noted.Task note pid comm) = record { line = note_line note; shown = Some (record { comm = comm; pid = pid }); domain = None; release = None; lost = None; processors = None; warning = None; governor = None; scheduled = None }
+noted_line text (noted.Head note domain release) = record { line = note_line note; shown = None; domain = domain; release = release; lost = None; processors = None; warning = None; governor = None; change = None; scheduled = None }
+noted_line text (noted.Task note pid comm) = record { line = note_line note; shown = Some (record { comm = comm; pid = pid }); domain = None; release = None; lost = None; processors = None; warning = None; governor = None; change = None; scheduled = None }
 noted_line text (noted.Other note) = told_line (note_line note)
-noted_line text (noted.Lost lost) = record { line = line.Quiet; shown = None; domain = None; release = None; lost = Some lost; processors = None; warning = None; governor = None; scheduled = None }
-noted_line text (noted.Governor governed) = record { line = line.Quiet; shown = None; domain = None; release = None; lost = None; processors = None; warning = None; governor = Some governed; scheduled = None }
-noted_line text (noted.Warning warned) = record { line = line.Quiet; shown = None; domain = None; release = None; lost = None; processors = None; warning = Some warned; governor = None; scheduled = None }
+noted_line text (noted.Lost lost) = record { line = line.Quiet; shown = None; domain = None; release = None; lost = Some lost; processors = None; warning = None; governor = None; change = None; scheduled = None }
+noted_line text (noted.Governor governed) = record { line = line.Quiet; shown = None; domain = None; release = None; lost = None; processors = None; warning = None; governor = Some governed; change = None; scheduled = None }
+noted_line text (noted.Warning warned) = record { line = line.Quiet; shown = None; domain = None; release = None; lost = None; processors = None; warning = Some warned; governor = None; change = None; scheduled = None }
 
 abbrev pub comment_by : List ℕ → Option (Noted (List ℕ)) → ToldLine (List ℕ)
 comment_by text None = told_line (line.Flawed BadTraceLine)
@@ -135,7 +136,7 @@ said_by verb.Return fields front pid = Some (alone fixed.PolicyReturned)
 said_by (verb.Probe event) fields front pid = probed event fields front pid
 
 abbrev pub unflawed : Option Flaw → ℕ → ℕ → ℕ → ℕ → Named (List ℕ) → ToldLine (List ℕ)
-unflawed None at grain cpu pid named = record { line = line.Event at grain cpu pid named.said; shown = named.shown; domain = None; release = None; lost = None; processors = None; warning = None; governor = None; scheduled = named.scheduled }
+unflawed None at grain cpu pid named = record { line = line.Event at grain cpu pid named.said; shown = named.shown; domain = None; release = None; lost = None; processors = None; warning = None; governor = None; change = None; scheduled = named.scheduled }
 unflawed (Some flaw) at grain cpu pid named = told_line (line.Flawed flaw)
 
 -- what a line tells whose event says this
@@ -163,7 +164,7 @@ said_or_bad (Some told) = told
 -- what a line tells that names none of the events above
 abbrev pub other_line : Opening → List ℕ → List ℕ → ToldLine (List ℕ)
 other_line opening word fields =
-    record (told_line line.Quiet) { scheduled = if is_waking word then Some (waking opening fields) else None }
+    record (told_line line.Quiet) { change = change_of word fields; scheduled = if is_waking word then Some (waking opening fields) else None }
 
 abbrev pub line_by : List ℕ → Opening → List ℕ → List ℕ → Option Verb → ToldLine (List ℕ)
 line_by text opening word fields None = other_line opening word fields

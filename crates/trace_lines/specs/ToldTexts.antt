@@ -19,5 +19,6 @@ told_text told = record {
   processors = told.processors;
   warning = maybe_text told.warning;
   governor = maybe_text told.governor;
+  change = told.change;
   scheduled = option_map scheduled_text told.scheduled;
 }

@@ -1,6 +1,7 @@
 //! One line of a record: what it says, in the words of `trace_data`.
 #![tactic(auto)]
 
+mod change;
 mod clock;
 mod fixed;
 mod line;
@@ -10,6 +11,7 @@ mod scheduled;
 mod verb;
 mod word;
 
+pub use change::CpuChange;
 pub use clock::{CLOCK_MAX, Clock};
 pub use line::{ToldLine, told_by};
 pub use note::Lost;

@@ -10,6 +10,7 @@ ghost use Rattle.trace_lines.specs.Lines.{checked, comment_line, event_line, fix
 ghost use Rattle.trace_lines.specs.inside.Texts.{named_text, noted_text};
 ghost use Rattle.trace_lines.specs.ToldTexts.{told_text};
 
+use crate::change::{CpuChange, change_of};
 use crate::fixed::{
     Named, called, cancelled, fired, migrated, ran, returned, started, switched, woken,
 };
@@ -52,6 +53,9 @@ pub struct ToldLine<T> {
     /// What sets the frequency of a CPU, where a note tells that something does.
     pub governor: Option<T>,
 
+    /// What an event tells of the CPUs.
+    pub change: Option<CpuChange>,
+
     /// What an event of the scheduler shows of tasks, whatever their class.
     pub scheduled: Option<Scheduled<T>>,
 }
@@ -68,6 +72,7 @@ fn told_line<'a>(line: RecordLine) -> ToldLine<&'a [u8]>
         processors: None,
         warning: None,
         governor: None,
+        change: None,
         scheduled: None,
     }
 }
@@ -106,6 +111,7 @@ fn head_line<'a>(processors: Option<u32>) -> ToldLine<&'a [u8]>
         processors,
         warning: None,
         governor: None,
+        change: None,
         scheduled: None,
     }
 }
@@ -128,6 +134,7 @@ fn noted_line<'a>(line: &'a [u8], noted: Noted<&'a [u8]>) -> ToldLine<&'a [u8]>
             processors: None,
             warning: None,
             governor: None,
+            change: None,
             scheduled: None,
         },
         Noted::Task { note, pid, comm } => ToldLine {
@@ -139,6 +146,7 @@ fn noted_line<'a>(line: &'a [u8], noted: Noted<&'a [u8]>) -> ToldLine<&'a [u8]>
             processors: None,
             warning: None,
             governor: None,
+            change: None,
             scheduled: None,
         },
         Noted::Other { note } => told_line(note_line(note)),
@@ -151,6 +159,7 @@ fn noted_line<'a>(line: &'a [u8], noted: Noted<&'a [u8]>) -> ToldLine<&'a [u8]>
             processors: None,
             warning: None,
             governor: None,
+            change: None,
             scheduled: None,
         },
         Noted::Warning { text } => ToldLine {
@@ -162,6 +171,7 @@ fn noted_line<'a>(line: &'a [u8], noted: Noted<&'a [u8]>) -> ToldLine<&'a [u8]>
             processors: None,
             warning: Some(text),
             governor: None,
+            change: None,
             scheduled: None,
         },
         Noted::Governor { text } => ToldLine {
@@ -173,6 +183,7 @@ fn noted_line<'a>(line: &'a [u8], noted: Noted<&'a [u8]>) -> ToldLine<&'a [u8]>
             processors: None,
             warning: None,
             governor: Some(text),
+            change: None,
             scheduled: None,
         },
     }
@@ -345,6 +356,7 @@ fn checked<'a>(
             processors: None,
             warning: None,
             governor: None,
+            change: None,
             scheduled: named.scheduled,
         },
     }
@@ -387,6 +399,7 @@ fn other_line<'a>(opening: Opening, word: &[u8], fields: &'a [u8]) -> ToldLine<&
         processors: None,
         warning: None,
         governor: None,
+        change: change_of(word, fields),
         scheduled,
     }
 }

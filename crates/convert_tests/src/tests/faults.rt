@@ -1,25 +1,30 @@
 //! Traces that are refused.
 
 use crate::tests::fixtures::{options, read_text};
-use convert::{Input, Target, serve_events};
+use convert::serve_events;
 use std::alloc::Global;
 use std::io;
+use text_bytes::Source;
+use trace_file::{Files, Target};
 
 /// Whether a trace is refused with this status and this line, where there is a file at one path already.
 fn refuses(alloc: Global, tasks: &[&str], text: &str, status: u8, line: &str) -> bool {
-    let input = Input {
-        open: |_path: &str| Ok(0usize),
-        read: |at: &mut usize, room: &mut [u8]| read_text(text.as_bytes(), at, room),
-    };
-    let target = Target {
-        exists: |path: &str| path == "out.cpu1.grub",
-        make: |_path: &str, _bytes: &[u8]| Err(io::Error::from(io::ErrorKind::Other)),
+    let files = Files {
+        source: Source {
+            open: |_path: &str| Ok(0usize),
+            read: |at: &mut usize, room: &mut [u8]| read_text(text.as_bytes(), at, room),
+        },
+        target: Target {
+            exists: |path: &str| path == "out.cpu1.grub",
+            make: |_path: &str, _bytes: &[u8]| Err(io::Error::from(io::ErrorKind::Other)),
+            remove: |_path: &str| {},
+        },
     };
     let Some(options) = options(alloc, tasks) else {
         return false;
     };
     let mut faults: Vec<u8> = Vec::new(alloc);
-    let given = serve_events(alloc, &input, &target, "t", "out", &options, &mut faults);
+    let given = serve_events(alloc, &files, "t", "out", &options, &mut faults);
     given == status && faults.as_slice() == line.as_bytes()
 }
 

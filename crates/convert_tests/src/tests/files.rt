@@ -1,17 +1,18 @@
 //! Traces and the event files that they tell.
 
 use crate::tests::fixtures::{options, read_text};
-use convert::{ConvertOptions, Input, event_files, read_facts};
+use convert::{ConvertOptions, event_files, read_facts};
 use convert_facts::Facts;
 use std::alloc::Global;
+use text_bytes::Source;
 
 /// What a text tells of given tasks; None where it has a fault, or memory is refused.
 fn facts_of(alloc: Global, options: &ConvertOptions<'_>, text: &str) -> Option<Facts> {
-    let input = Input {
+    let source = Source {
         open: |_path: &str| Ok(0usize),
         read: |at: &mut usize, room: &mut [u8]| read_text(text.as_bytes(), at, room),
     };
-    read_facts(alloc, &input, "t", options).ok()
+    read_facts(alloc, &source, "t", options).ok()
 }
 
 /// Whether these are the texts of these files.

@@ -3,16 +3,8 @@ use Rattle.std.specs.Prelude.{ℕ, ℤ, pos, ◌-ℤ◌, ◌+ℤ◌}
 use Rattle.std.specs.Int.{w64, cast_signed, saturate_signed}
 use Rattle.trace_data.specs.declared.probe.Expiry.{Expiry}
 use Rattle.trace_data.specs.declared.probe.Expiry.TheVariants.{After, At}
-use Rattle.trace_data.specs.declared.probe.Ran.{Ran}
-use Rattle.trace_data.specs.declared.probe.Ran.TheVariants.{Span, Clocks}
-use Rattle.law_findings.specs.Expiry.{less}
 use Rattle.law_findings.specs.declared.zero_lag.Blocked.{Blocked}
 use Rattle.law_play.specs.declared.zero_lag.OpenBlock.{OpenBlock}
-
--- how long a task ran by a charge
-abbrev pub nanos_of : Ran → ℤ
-nanos_of (Span delta max_bw) = delta
-nanos_of (Clocks now start entity max_bw) = cast_signed w64 (less now start)
 
 -- the block with the budget and the deadline that a later line shows
 abbrev pub shown_with : OpenBlock → ℤ → ℕ → Blocked

@@ -1,13 +1,7 @@
--- Where a line stands.
+-- Which lines stand in one call.
 use Rattle.std.specs.Prelude.{Bool, true, false}
 use Rattle.trace_data.specs.declared.probe.Probe.{Probe}
 use Rattle.trace_data.specs.declared.probe.Probe.TheVariants.{Enqueued, Updated, Dequeued, Armed}
-use Rattle.law_findings.specs.declared.words.LawLine.{LawLine}
-use Rattle.law_findings.specs.declared.words.LineKind.{LineKind}
-use Rattle.law_play.specs.declared.play.ReadLine.{ReadLine}
-
-abbrev pub place_of : ReadLine → LineKind → LawLine
-place_of r kind = record { line = r.line; at = r.at; cpu = r.cpu; kind = kind }
 
 -- it may stand in the call of the line before: a charge within a dequeue, or a timer that is armed
 abbrev pub is_of_call : Probe → Bool

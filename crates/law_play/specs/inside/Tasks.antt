@@ -99,6 +99,10 @@ abbrev pub is_reserved : Option Reservation → Bool
 is_reserved None = false
 is_reserved (Some r) = nat_lt 0 r.parameters.dl_runtime && (bit_and r.parameters.flags 268435456 == 0)
 
+abbrev pub is_reserved_task : Option Task → Bool
+is_reserved_task None = false
+is_reserved_task (Some t) = is_reserved t.reservation
+
 -- 6.1 shows an entity that is not the task's own in place of one that is off the tree
 abbrev pub is_off : Ran → Reservation → Bool
 is_off (Span delta max_bw) r = false

@@ -12,7 +12,7 @@ use Rattle.law_findings.specs.declared.words.Whose.{Whose}
 use Rattle.law_findings.specs.declared.words.Whose.TheVariants.{Task as OfTask, Timer as OfTimer}
 use Rattle.law_findings.specs.declared.words.Finding.TheVariants.{OtherMoment, Early, Awake, NeverFired}
 use Rattle.law_play.specs.declared.cpu.Cpu.{Cpu}
-use Rattle.law_play.specs.declared.play.ReadLine.{ReadLine}
+use Rattle.law_findings.specs.declared.judged.ReadLine.{ReadLine}
 use Rattle.law_play.specs.declared.task.Arming.{Arming}
 use Rattle.law_play.specs.declared.task.Task.{Task}
 use Rattle.law_play.specs.declared.task.Throttling.{Throttling}
@@ -78,7 +78,7 @@ early_by line a address = record {
   law = OfFiring;
   place = line;
   whose = whose_of a.owner address;
-  finding = Early a.kind a.expiry;
+  finding = Early a.kind a.expiry line.at;
   sign = None;
 }
 

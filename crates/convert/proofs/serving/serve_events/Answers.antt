@@ -1,4 +1,4 @@
-use Rattle.convert.proofs.ServingLemmas.{of_done, of_fault}
+use Rattle.trace_faults.proofs.StatusLemmas.{of_done, of_fault}
 use Rattle.convert.proofs.serving.serve_events.Goals as goal
 
 pub returns-clause-done : goal.returns-clause-done

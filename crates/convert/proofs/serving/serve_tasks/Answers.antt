@@ -1,4 +1,4 @@
-use Rattle.convert.proofs.ServingLemmas.{fault_at_one, of_done, of_fault}
+use Rattle.trace_faults.proofs.StatusLemmas.{fault_at_one, of_done, of_fault}
 use Rattle.convert.proofs.serving.serve_tasks.Goals as goal
 
 pub returns-clause-done : goal.returns-clause-done

@@ -1,18 +1,18 @@
 use Rattle.std.proofs.Common.{◌≡◌, ◌∙◌, ap, inl, inr, length, map, refl, rules, subst, sym, vec_len, ℕ, List}
 use Rattle.std.proofs.lemmas.List.{length-map}
 use Rattle.std.proofs.lemmas.Result.{on_ok_weaker}
-use Rattle.std.specs.Prelude.{Some, slice_get, string_bytes}
+use Rattle.std.specs.Prelude.{string_bytes}
 use Rattle.grub_plan.specs.Contents.{contents}
 use Rattle.convert.specs.Faults.{explained}
 use Rattle.convert.specs.Serving.{AreFree, AreMade, IsFirstThere, event_paths}
-use Rattle.convert.proofs.ServingLemmas.{count_of_paths, removed_is}
+use Rattle.convert.proofs.ServingLemmas.{count_of_paths}
 use Rattle.convert.proofs.serving.write_events.Goals as goal
 
 pub returns-in-Err-clause-nothing : goal.returns-in-Err-clause-nothing
 returns-in-Err-clause-nothing g c one = record {
   facts = c.in_ok-facts.facts;
   told = c.in_ok-facts.ensures.told;
-  why = inl (c.in-Err.fault, c.in-Err.ensures.fault, c.explain.ensures ∙ ap (explained c.args.path c.in-Err.fault) c.take.ensures.value);
+  why = inl (c.in-Err.fault, c.in-Err.ensures.fault, c.explain.ensures ∙ ap (explained c.in-Err.fault) c.take.ensures.value);
 }
 
 pub returns-in-Some-clause-nothing : goal.returns-in-Some-clause-nothing
@@ -24,11 +24,11 @@ returns-in-Some-clause-nothing g c one =
       told = c.in_ok-facts.ensures.told;
       why = inr (
         contents c.in-Ok.files.items,
-        c.in-Some.i,
+        c.in-Some.runqueue,
         c.in-Some.ensures.taken.0,
         c.in-Ok.ensures.files,
-        subst (λ ps. IsFirstThere g.X.Fn c.args.target.now.exists ps c.in-Some.i c.in-Some.ensures.taken.0) paths c.in-Some.ensures.taken.1,
-        removed_is string_bytes c.in-Ok-paths_of.paths.items c.in-Some.i c.remove.result c.in-Some.ensures.taken.0 (subst (λ ps. slice_get ps c.in-Some.i ≡ Some c.in-Some.ensures.taken.0) (ap (map string_bytes) c.deref.ensures.value) c.in-Some.ensures.taken.1.is) c.remove.ensures.value,
+        subst (λ ps. IsFirstThere g.X.Fn c.args.target.now.exists ps c.in-Some.runqueue c.in-Some.ensures.taken.0) paths c.in-Some.ensures.taken.1,
+        refl,
       );
     }
 

@@ -1,6 +1,6 @@
 use Rattle.probe_run.specs.Runs.{state_of}
 use Rattle.probe_lines.specs.Lines.{before_line, played_by, is_first_of}
-use Rattle.probe_lines.proofs.Steps.{then_goes}
+use Rattle.probe_values.proofs.Steps.{then_goes}
 use Rattle.probe_lines.proofs.line.play_checked.Goals as goal
 
 pub returns : goal.returns

@@ -2,7 +2,7 @@ use Rattle.std.proofs.Common.{◌≡◌, Bool, subst}
 use Rattle.probe_run.specs.Runs.{state_of}
 use Rattle.probe_run.specs.Counting.{Goes}
 use Rattle.probe_lines.specs.Lines.{before_line, played_by}
-use Rattle.probe_lines.proofs.Steps.{after}
+use Rattle.probe_values.proofs.Steps.{after}
 use Rattle.probe_lines.proofs.line.play_free.Goals as goal
 
 pub returns : goal.returns

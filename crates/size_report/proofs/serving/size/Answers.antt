@@ -14,5 +14,5 @@ returns-2-clause-sized g c =
     let answers : (0 < length o.tasks → IsAnswer o (tasks_of told.tasks) told.processors printed) =
     λ some. subst (λ (text : List ℕ). IsAnswer o (tasks_of told.tasks) told.processors text) (sym c.deref.ensures.value) (c.in_ok-answer.ensures some) in
     on_ok_weaker c.print.result
-    (λ whole. printed_for o told (g.W.Write.contents c.args.out.now) (g.W.Write.contents c.print.new.out) printed whole answers g.O.Fn c.args.opener.now g.N.Fn c.args.read.now c.args.path.now c.in_ok-record.ensures)
+    (λ whole. printed_for o told (g.W.Write.contents c.args.out.now) (g.W.Write.contents c.print.new.out) printed whole answers g.O.Fn c.args.files.now.source.open g.N.Fn c.args.files.now.source.read c.args.path.now c.in_ok-record.ensures)
     c.print.ensures.whole

@@ -1,0 +1,267 @@
+//! Servers: what fair servers are charged, and stop with.
+
+ghost use Rattle.std.specs.Prelude.{◌≡◌, ◌≢◌, IsTrue, OnOk, false, slice_index_or};
+ghost use Rattle.law_findings.specs.declared.words.Law.TheVariants.{Server as OfServer};
+ghost use Rattle.law_findings.specs.Judged.{OnlyTells, broken_in, held_in, held_twice};
+ghost use Rattle.law_charges.specs.inside.Runs.{server_broken, unknown_server};
+ghost use Rattle.law_findings.specs.Budget.{IsWithin};
+ghost use Rattle.law_findings.specs.Server.{IsNear, left_by};
+ghost use Rattle.law_findings.specs.declared.words.Finding.TheVariants.{OtherCharge};
+
+use law_findings::{
+    Breach, Finding, JudgedLaws, Law, LineKind, ReadLine, Whose, is_near, is_taken_once, is_within,
+    nanos_of,
+};
+use std::alloc::{AllocError, Global};
+use trace_data::{Picked, ServerIdled, Updated};
+
+/// A server's reservation, in nanoseconds.
+#[derive(Clone, Copy)]
+struct ServerReservation {
+    dl_runtime: u64,
+    dl_period: u64,
+}
+
+/// A charge of a server.
+#[derive(Clone, Copy)]
+struct ServerCharge {
+    budget: i64,
+    deadline: u64,
+    nanos: i64,
+
+    /// It is for time in which the CPU was idle.
+    is_idle: bool,
+}
+
+/// A server.
+#[derive(Clone, Copy)]
+struct Server {
+    reservation: Option<ServerReservation>,
+    charge: Option<ServerCharge>,
+}
+
+/// What a line shows of a server.
+#[derive(Clone, Copy)]
+struct ShownServer {
+    cpu: u32,
+    clock: u64,
+    budget: i64,
+    deadline: u64,
+    kind: LineKind,
+}
+
+const NEW: Server = Server {
+    reservation: None,
+    charge: None,
+};
+
+/// The fair servers by their CPUs.
+#[derive(Drop)]
+pub struct Servers {
+    servers: Vec<Server>,
+}
+
+impl Servers {
+    /// No server is known.
+    pub fn new(alloc: Global) -> Servers {
+        Servers {
+            servers: Vec::new(alloc),
+        }
+    }
+
+    fn get_mut(&mut self, cpu: u32) -> Result<Option<&mut Server>, AllocError> {
+        for _ in self.servers.len()..cpu as usize + 1 {
+            self.servers.push(NEW)?;
+        }
+        Ok(self.servers.get_mut(cpu as usize))
+    }
+
+    fn of(&self, cpu: u32) -> Server
+        ensures { result ≡ slice_index_or self.now.servers.items cpu unknown_server }
+    {
+        self.servers.get(cpu as usize).copied().unwrap_or(NEW)
+    }
+
+    /// A line shows the reservation of a CPU's server.
+    pub fn see(&mut self, cpu: u32, dl_runtime: u64, dl_period: u64) -> Result<(), AllocError> {
+        if dl_runtime > 0
+            && let Some(server) = self.get_mut(cpu)?
+        {
+            server.reservation = Some(ServerReservation {
+                dl_runtime,
+                dl_period,
+            });
+        }
+        Ok(())
+    }
+
+    /// The reservation of a CPU's server is changed.
+    pub fn forget(&mut self, cpu: u32) {
+        if let Some(server) = self.servers.get_mut(cpu as usize) {
+            *server = NEW;
+        }
+    }
+
+    /// A fair server is the first of the tree.
+    pub fn pick(
+        &mut self,
+        judged: &mut JudgedLaws,
+        read: ReadLine,
+        line: &Picked,
+    ) -> Result<(), AllocError> {
+        let shown = ShownServer {
+            cpu: line.cpu,
+            clock: line.clock,
+            budget: line.runtime,
+            deadline: line.deadline,
+            kind: LineKind::ServerPick,
+        };
+        self.show(judged, read, shown, None)
+    }
+
+    /// A fair server is charged for a run of its tasks.
+    pub fn charge(
+        &mut self,
+        judged: &mut JudgedLaws,
+        read: ReadLine,
+        line: &Updated,
+    ) -> Result<(), AllocError> {
+        let shown = ShownServer {
+            cpu: line.cpu,
+            clock: line.clock,
+            budget: line.budget.runtime,
+            deadline: line.budget.deadline,
+            kind: LineKind::Update,
+        };
+        self.show(judged, read, shown, Some(nanos_of(line.ran)))
+    }
+
+    /// A fair server is charged for idle time.
+    pub fn idle(
+        &mut self,
+        judged: &mut JudgedLaws,
+        read: ReadLine,
+        line: &ServerIdled,
+    ) -> Result<(), AllocError> {
+        let shown = ShownServer {
+            cpu: line.cpu,
+            clock: line.clock,
+            budget: line.runtime,
+            deadline: line.deadline,
+            kind: LineKind::ServerIdle,
+        };
+        let nanos = line.now.wrapping_sub(line.start).cast_signed();
+        self.show(judged, read, shown, Some(nanos))
+    }
+
+    /// A line shows a server; `nanos` of a charge.
+    fn show(
+        &mut self,
+        judged: &mut JudgedLaws,
+        read: ReadLine,
+        shown: ShownServer,
+        nanos: Option<i64>,
+    ) -> Result<(), AllocError> {
+        let server = self.of(shown.cpu);
+        if let Some(reservation) = server.reservation {
+            judge_reservation(judged, read, shown, reservation)?;
+        }
+        if let Some(charge) = server.charge
+            && charge.deadline == shown.deadline
+        {
+            judge_charge(judged, read, shown, charge)?;
+        }
+        if let Some(server) = self.get_mut(shown.cpu)? {
+            server.charge = match nanos {
+                Some(nanos) if nanos != 0 => Some(ServerCharge {
+                    budget: shown.budget,
+                    deadline: shown.deadline,
+                    nanos,
+                    is_idle: shown.kind == LineKind::ServerIdle,
+                }),
+                _ => None,
+            };
+        }
+        Ok(())
+    }
+}
+
+fn judge_reservation(
+    judged: &mut JudgedLaws,
+    read: ReadLine,
+    shown: ShownServer,
+    reservation: ServerReservation,
+) -> Result<(), AllocError>
+    ensures { IsWithin shown.budget reservation.dl_runtime
+        → IsNear shown.deadline shown.clock reservation.dl_runtime reservation.dl_period
+        → OnOk result (judged.new.tallies ≡ held_twice judged.old OfServer) }
+{
+    let ServerReservation {
+        dl_runtime,
+        dl_period,
+    } = reservation;
+    let much = Finding::TooMuchBudget {
+        budget: shown.budget,
+        dl_runtime,
+    };
+    judge_server(
+        judged,
+        read,
+        shown,
+        is_within(shown.budget, dl_runtime),
+        much,
+    )?;
+    let is_right = is_near(shown.deadline, shown.clock, dl_runtime, dl_period);
+    let far = Finding::FarDeadline {
+        ahead: shown.deadline.saturating_sub(shown.clock),
+    };
+    judge_server(judged, read, shown, is_right, far)
+}
+
+/// The line behind a charge under the same deadline shows what it left.
+fn judge_charge(
+    judged: &mut JudgedLaws,
+    read: ReadLine,
+    shown: ShownServer,
+    charge: ServerCharge,
+) -> Result<(), AllocError>
+    ensures kept { shown.budget ≡ left_by charge.is_idle charge.budget charge.nanos
+        → OnOk result (judged.new.tallies ≡ held_in judged.old OfServer) }
+    ensures broken { shown.budget ≢ left_by charge.is_idle charge.budget charge.nanos
+        → OnOk result (judged.new.tallies ≡ broken_in judged.old (server_broken read shown
+        (OtherCharge charge.nanos charge.budget shown.budget))) }
+{
+    let is_right = is_taken_once(charge.budget, charge.nanos, charge.is_idle, shown.budget);
+    let other = Finding::OtherCharge {
+        nanos: charge.nanos,
+        before: charge.budget,
+        after: shown.budget,
+    };
+    judge_server(judged, read, shown, is_right, other)
+}
+
+fn judge_server(
+    judged: &mut JudgedLaws,
+    read: ReadLine,
+    shown: ShownServer,
+    is_right: bool,
+    finding: Finding,
+) -> Result<(), AllocError>
+    ensures kept { IsTrue is_right
+        → OnOk result (judged.new.tallies ≡ held_in judged.old OfServer) }
+    ensures broken { is_right ≡ false
+        → OnOk result (judged.new.tallies ≡ broken_in judged.old (server_broken read shown finding)) }
+    ensures only { OnlyTells judged.old judged.new }
+{
+    if is_right {
+        judged.holds(Law::Server);
+        return Ok(());
+    }
+    judged.breaks(Breach {
+        law: Law::Server,
+        place: read.place(shown.kind),
+        whose: Whose::Server { cpu: shown.cpu },
+        finding,
+        sign: None,
+    })
+}

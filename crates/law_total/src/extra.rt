@@ -1,0 +1,43 @@
+//! What the admitted leave of a processor: extra_bw.
+
+use crate::shares::Total;
+use law_findings::{
+    Breach, Finding, JudgedLaws, Law, LineKind, ReadLine, Sign, Whose, is_not_negative,
+};
+use std::alloc::AllocError;
+
+impl Total {
+    /// A line shows the extra_bw of a CPU.
+    pub fn judge_extra(
+        &mut self,
+        judged: &mut JudgedLaws,
+        read: ReadLine,
+        kind: LineKind,
+        cpu: u32,
+        extra_bw: u64,
+    ) -> Result<(), AllocError> {
+        if is_not_negative(extra_bw) {
+            if self.below.is_empty() || !self.below.iter().any(|it| *it == cpu) {
+                judged.holds(Law::Total);
+            }
+            return Ok(());
+        }
+        if self.below.iter().any(|it| *it == cpu) {
+            return Ok(());
+        }
+        self.below.push(cpu)?;
+        judged.breaks(Breach {
+            law: Law::Total,
+            place: read.place(kind),
+            whose: Whose::Cpu { cpu },
+            finding: Finding::NegativeExtra {
+                extra_bw: extra_bw.cast_signed(),
+            },
+            sign: Some(if self.has_marks {
+                Sign::SharesTakenAgain
+            } else {
+                Sign::ServersTakenTwice
+            }),
+        })
+    }
+}

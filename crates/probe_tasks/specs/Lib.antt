@@ -1,0 +1,3 @@
+pub mod Enqueues
+pub mod Runs
+pub mod Tasks

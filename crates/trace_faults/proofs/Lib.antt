@@ -1,0 +1,2 @@
+mod MessageLemmas
+pub mod StatusLemmas
