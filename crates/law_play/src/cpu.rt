@@ -1,10 +1,10 @@
 //! What the last lines of a CPU were.
 
-ghost use Rattle.std.specs.Prelude.{◌≡◌, slice_get};
+ghost use Rattle.std.specs.Prelude.{◌≡◌, list_any, slice_get};
 ghost use Rattle.std.specs.Borrow.{sem};
 ghost use Rattle.std.specs.Option.{option_copied_mut};
 ghost use Rattle.law_play.specs.inside.Lent.{LendsCpu};
-ghost use Rattle.law_play.specs.inside.Cpus.{blocked_of, cpu_of, is_recent};
+ghost use Rattle.law_play.specs.inside.Cpus.{blocked_of, cpu_of, is_handling, is_recent};
 
 use crate::zero_lag::OpenBlock;
 use std::alloc::{AllocError, Global};
@@ -60,6 +60,9 @@ pub(crate) struct Cpu {
 
     /// The task that blocked at one of the last lines, as long as what follows may be its timer.
     pub blocking: Option<u64>,
+
+    /// The task whose 0-lag timer fired at the last line: its handler may run still.
+    pub handled: Option<u64>,
 }
 
 /// So many lines before a timer is armed its cause is looked for.
@@ -73,6 +76,7 @@ const NEW: Cpu = Cpu {
     charged: None,
     firing: None,
     blocking: None,
+    handled: None,
 };
 
 impl Cpu {
@@ -81,6 +85,16 @@ impl Cpu {
         ensures { result ≡ is_recent self.now count }
     {
         self.count.saturating_sub(count) <= BEFORE
+    }
+
+    /// Whether the handler of the 0-lag timer of this task may run here.
+    fn handles(&self, pid: u64) -> bool
+        ensures { result ≡ is_handling pid self.now }
+    {
+        match self.handled {
+            Some(handled) => handled == pid,
+            None => false,
+        }
     }
 
     /// The entity whose block arms a 0-lag timer at the present line.
@@ -125,6 +139,13 @@ impl Cpus {
             self.picked.push(None)?;
         }
         Ok(())
+    }
+
+    /// Whether the handler of the 0-lag timer of this task may run: `hrtimer_active` is true then, so a block arms no timer.
+    pub fn handles(&self, pid: u64) -> bool
+        ensures { result ≡ list_any (is_handling pid) self.now.cpus.items }
+    {
+        self.cpus.iter().any(|cpu| cpu.handles(pid))
     }
 
     pub fn get_mut(&mut self, cpu: u32) -> Option<&mut Cpu>

@@ -125,6 +125,9 @@ impl LawPlay {
         let Some(armed) = self.take_armed(place) else {
             return Ok(());
         };
+        if let Some(cpu) = self.cpus.get_mut(read.cpu) {
+            cpu.handled = armed.owner;
+        }
         if let Some(pid) = armed.owner
             && let Some(task) = self.tasks.find(pid)
         {

@@ -74,6 +74,7 @@ impl LawPlay {
                 self.cpus.see(read.cpu)?;
                 if let Some(cpu) = self.cpus.get_mut(read.cpu) {
                     cpu.count = cpu.count.saturating_add(1);
+                    cpu.handled = None;
                 }
                 self.run_in_class(read)?;
                 self.probe(read, probe)?;

@@ -1,6 +1,6 @@
 //! The 0-lag time: what a block arms.
 
-ghost use Rattle.std.specs.Prelude.{◌≡◌, ◌<◌, IfNone, None, OnOk, Some};
+ghost use Rattle.std.specs.Prelude.{◌≡◌, ◌<◌, IfNone, IsTrue, None, OnOk, Some};
 ghost use Rattle.law_findings.specs.ZeroLag.{IsPast, IsWide};
 ghost use Rattle.law_findings.specs.declared.words.Law.TheVariants.{ZeroLag as OfZeroLag};
 ghost use Rattle.law_findings.specs.Judged.{held_in};
@@ -48,6 +48,9 @@ pub(crate) struct OpenBlock {
 
     /// It was replenished, or its reservation was changed, while it was blocked.
     is_changed: bool,
+
+    /// The handler of its 0-lag timer may have run at the block: then none is armed (`hrtimer_active`).
+    is_handled: bool,
 }
 
 impl OpenBlock {
@@ -104,6 +107,7 @@ impl LawPlay {
         if reservation.parameters.dl_runtime == 0 || reservation.is_special() {
             return;
         }
+        let is_handled = self.cpus.handles(task.pid);
         task.block = Some(OpenBlock {
             place: at,
             count,
@@ -115,6 +119,7 @@ impl LawPlay {
             charge: None,
             armed: None,
             is_changed: false,
+            is_handled,
         });
         let pid = task.pid;
         if let Some(cpu) = self.cpus.get_mut(at.cpu) {
@@ -171,6 +176,7 @@ impl LawPlay {
                 charge: None,
                 armed: None,
                 is_changed: false,
+                is_handled: false,
             },
         );
     }
@@ -306,6 +312,8 @@ impl LawPlay {
     ) -> Result<(), AllocError>
         ensures past { IfNone block.now.armed (0 < most.dl_runtime → IsPast most
             → OnOk result (self.new.judged.tallies ≡ held_in self.old.judged OfZeroLag)) }
+        ensures handled { IfNone block.now.armed (IsTrue block.now.is_handled → (IsPast most → ⊥)
+            → OnOk result (self.new.judged.tallies ≡ self.old.judged.tallies)) }
     {
         let whose = Whose::Task { pid };
         if let Some(armed) = block.armed {
@@ -316,6 +324,9 @@ impl LawPlay {
         }
         if is_past(most) {
             self.judged.holds(Law::ZeroLag);
+            return Ok(());
+        }
+        if block.is_handled {
             return Ok(());
         }
         self.judged.breaks(Breach {

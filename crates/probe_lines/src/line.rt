@@ -10,7 +10,9 @@ ghost use Rattle.probe_lines.specs.Lines.{follows_by, waits_for, came_early, is_
 
 use kernel_entity::{REPLENISH, has};
 use probe_findings::{ExactValue, ProbedFunction, ProbedLine, Quantity};
-use probe_run::{Awaits, Claim, Counted, OpenDequeue, PendingEffect, PlayRules, Run, TimerToArm};
+use probe_run::{
+    Awaits, Claim, ComparedValue, Counted, OpenDequeue, PendingEffect, PlayRules, Run, TimerToArm,
+};
 use probe_tasks::{LineChoice, admitted, dequeued, enqueued, left_class, migrating, updated};
 use probe_timers::{
     armed, marked, picked, replenish_fired, server_started, server_stopped, stops_nothing,
@@ -205,10 +207,12 @@ fn miss_timer(run: &mut Run, place: ProbedLine) -> Result<(), AllocError>
                 run.drop_timer_to_arm(index);
                 run.count(
                     place,
-                    Counted::Entity(timer_to_arm.entity),
-                    Quantity::Timer,
-                    ExactValue::Armed(timer_to_arm.function),
-                    ExactValue::NotArmed(timer_to_arm.function),
+                    ComparedValue {
+                        of: Counted::Entity(timer_to_arm.entity),
+                        quantity: Quantity::Timer,
+                        rules: ExactValue::Armed(timer_to_arm.function),
+                        kernel: ExactValue::NotArmed(timer_to_arm.function),
+                    },
                     false,
                 )
             }

@@ -16,20 +16,33 @@ use std::alloc::AllocError;
 /// The rules of so many lines are kept.
 const RECENT: usize = 64;
 
+/// A value by the rules, and the kernel's.
+#[derive(Clone, Copy)]
+pub struct ComparedValue {
+    /// What it is of.
+    pub of: Counted,
+    pub quantity: Quantity,
+    pub rules: ExactValue,
+    pub kernel: ExactValue,
+}
+
 impl Run {
     /// Counts a comparison of the rules' value with the kernel's.
     #[tactic(auto, using(crate::proofs::Steps::none_of))]
     pub fn count(
         &mut self,
         place: ProbedLine,
-        of: Counted,
-        quantity: Quantity,
-        rules: ExactValue,
-        kernel: ExactValue,
+        value: ComparedValue,
         is_equal: bool,
     ) -> Result<(), AllocError>
         ensures { OnOk result (Holds (state_of self.old) is_equal (state_of self.new)) }
     {
+        let ComparedValue {
+            of,
+            quantity,
+            rules,
+            kernel,
+        } = value;
         let since = self.why(of);
         let subject = self.subject(of);
         if !is_equal {
@@ -84,10 +97,12 @@ impl Run {
     {
         self.count(
             place,
-            Counted::Nobody,
-            Quantity::Choice,
-            ExactValue::Flag(false),
-            ExactValue::Flag(true),
+            ComparedValue {
+                of: Counted::Nobody,
+                quantity: Quantity::Choice,
+                rules: ExactValue::Flag(false),
+                kernel: ExactValue::Flag(true),
+            },
             false,
         )
     }

@@ -19,10 +19,11 @@ mod sums;
 mod waiting;
 
 pub use actor::{Actor, is_special, reserve, server_parameters};
+pub use counting::ComparedValue;
 pub use handlers::{admit_while, dequeue_while, leave_while};
 pub use moves::{RunMove, is_known_as};
 pub use notes::{Counted, EntityNotes, FirstNotes, LastCharge, SumNotes};
-pub use resting::why;
+pub use resting::{BlockedEntity, why};
 pub use rules::{PlayRules, Processor, RunStart, StartBw};
 pub use run::Run;
 pub use sums::{RootDomain, Runqueue};

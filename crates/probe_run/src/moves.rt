@@ -9,6 +9,7 @@ ghost use Rattle.probe_run.specs.Handlers.{is_handler_by};
 ghost use Rattle.probe_run.specs.Moves.{is_claim_by, reads_first, is_moved, forgets_unknown, kept_locked, changed_and_shared, locked_by, settled_by, settle_of, agrees_with, without_claim, met_with, met_by, meet_of, moved_of};
 
 use crate::actor::Actor;
+use crate::counting::ComparedValue;
 use crate::handlers::has_handler;
 use crate::notes::Counted;
 use crate::rules::PlayRules;
@@ -220,10 +221,12 @@ impl Run {
             None => Ok(()),
             Some(known) => self.count(
                 claim.place,
-                counted(claim.sum),
-                quantity(claim.sum),
-                ExactValue::Unsigned(known),
-                ExactValue::Unsigned(claim.value),
+                ComparedValue {
+                    of: counted(claim.sum),
+                    quantity: quantity(claim.sum),
+                    rules: ExactValue::Unsigned(known),
+                    kernel: ExactValue::Unsigned(claim.value),
+                },
                 known == claim.value,
             ),
         }

@@ -20,6 +20,15 @@ use probe_findings::{ExactRule, ProbedLine, Why};
 use std::alloc::AllocError;
 use trace_data::TimerFunction;
 
+/// An entity that blocks on a CPU, or goes on: what its sums lose, and which timer it arms.
+#[derive(Clone, Copy)]
+pub struct BlockedEntity {
+    pub number: usize,
+    pub cpu: u32,
+    pub change: SumsChange,
+    pub block: Option<Block>,
+}
+
 fn rest_place(open_dequeues: &[OpenDequeue], by: u32) -> Option<usize>
     ensures place { result ≡ position (is_rest_by by) open_dequeues.now }
     ensures bound { IfSome result (λ place. place < length open_dequeues.now) }
@@ -148,15 +157,18 @@ impl Run {
         &mut self,
         rules: PlayRules,
         place: ProbedLine,
-        number: usize,
-        cpu: u32,
-        change: SumsChange,
-        block: Option<Block>,
+        blocked: BlockedEntity,
     ) -> Result<(), AllocError>
-        ensures state { OnOk result (state_of self.new
-            ≡ block_in rules (state_of self.old) place number cpu change block) }
+        ensures state { OnOk result (state_of self.new ≡ block_in rules (state_of self.old) place
+            blocked.number blocked.cpu blocked.change blocked.block) }
         ensures first { OnOk result ((state_of self.new).first ≡ (state_of self.old).first) }
     {
+        let BlockedEntity {
+            number,
+            cpu,
+            change,
+            block,
+        } = blocked;
         match block {
             None => Ok(()),
             Some(Block::Unreserved) => Ok(()),
@@ -222,14 +234,13 @@ impl Run {
         );
         self.change(rest.cpu, done.change)?;
         self.note_departure(rest.place, rest.cpu, done.departure)?;
-        self.block(
-            rules,
-            rest.place,
-            rest.entity,
-            actor.cpu,
-            done.change,
-            done.block,
-        )
+        let blocked = BlockedEntity {
+            number: rest.entity,
+            cpu: actor.cpu,
+            change: done.change,
+            block: done.block,
+        };
+        self.block(rules, rest.place, blocked)
     }
 
     fn rest_unknown(&mut self, rest: OpenDequeue, actor: Actor) -> Result<(), AllocError>

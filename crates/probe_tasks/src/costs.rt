@@ -11,7 +11,7 @@ use crate::choice::LineChoice;
 use kernel_changes::{charging_by, cost_by};
 use kernel_entity::{Charge, ChargedRunqueue, Entity, RECLAIM, charged, has};
 use probe_findings::{ExactValue, ProbedLine, Quantity};
-use probe_run::{Counted, PlayRules, Run};
+use probe_run::{ComparedValue, Counted, PlayRules, Run};
 use std::alloc::AllocError;
 use trace_data::{Ran, Updated};
 
@@ -153,10 +153,12 @@ fn compare_capacity(run: &mut Run, place: ProbedLine, line: Updated) -> Result<(
             None => Ok(()),
             Some(noted) => run.count(
                 place,
-                Counted::Runqueue(line.cpu),
-                Quantity::Capacity,
-                ExactValue::Unsigned(noted),
-                ExactValue::Unsigned(shown),
+                ComparedValue {
+                    of: Counted::Runqueue(line.cpu),
+                    quantity: Quantity::Capacity,
+                    rules: ExactValue::Unsigned(noted),
+                    kernel: ExactValue::Unsigned(shown),
+                },
                 noted == shown,
             ),
         },

@@ -11,7 +11,7 @@ ghost use Rattle.probe_tasks.specs.Tasks.{left_known, left_unknown, left_shown_b
 
 use kernel_entity::Entity;
 use probe_findings::{ExactRule, ProbedLine};
-use probe_run::{Actor, PlayRules, Run, is_special, leave_while};
+use probe_run::{Actor, BlockedEntity, PlayRules, Run, is_special, leave_while};
 use probe_values::{Compared, check_sums, compare_left, shown_left};
 use std::alloc::AllocError;
 use trace_data::LeftClass;
@@ -61,7 +61,13 @@ fn leave_known(
         },
     );
     run.change(line.cpu, done.change)?;
-    run.block(rules, place, number, actor.cpu, done.change, done.block)
+    let blocked = BlockedEntity {
+        number,
+        cpu: actor.cpu,
+        change: done.change,
+        block: done.block,
+    };
+    run.block(rules, place, blocked)
 }
 
 fn leave_unknown(

@@ -11,7 +11,7 @@ ghost use Rattle.probe_timers.specs.Timers.{same_function, is_zero_lag, is_other
 
 use kernel_entity::Entity;
 use probe_findings::{ExactValue, ProbedLine, Quantity};
-use probe_run::{Actor, Counted, OlderDequeue, PlayRules, Run, TimerToArm};
+use probe_run::{Actor, ComparedValue, Counted, OlderDequeue, PlayRules, Run, TimerToArm};
 use probe_values::{Compared, compare_address};
 use std::alloc::AllocError;
 use trace_data::{Armed, Expiry, TimerFunction};
@@ -151,10 +151,12 @@ fn check_owner(
     let kernel = ExactValue::Owner(run.whose(owner));
     run.count(
         place,
-        Counted::Entity(timer_to_arm.entity),
-        Quantity::Timer,
-        rules,
-        kernel,
+        ComparedValue {
+            of: Counted::Entity(timer_to_arm.entity),
+            quantity: Quantity::Timer,
+            rules,
+            kernel,
+        },
         is_equal,
     )
 }
@@ -182,10 +184,12 @@ fn check_zero_lag(
             let kernel = if is_equal { rules } else { shown };
             run.count(
                 place,
-                Counted::Entity(timer_to_arm.entity),
-                quantity,
-                ExactValue::Signed(rules),
-                ExactValue::Signed(kernel),
+                ComparedValue {
+                    of: Counted::Entity(timer_to_arm.entity),
+                    quantity,
+                    rules: ExactValue::Signed(rules),
+                    kernel: ExactValue::Signed(kernel),
+                },
                 is_equal,
             )
         }
@@ -272,10 +276,12 @@ fn refuse_timer(run: &mut Run, place: ProbedLine, line: Armed) -> Result<(), All
     };
     run.count(
         place,
-        of,
-        Quantity::Timer,
-        ExactValue::NotArmed(line.function),
-        ExactValue::Armed(line.function),
+        ComparedValue {
+            of,
+            quantity: Quantity::Timer,
+            rules: ExactValue::NotArmed(line.function),
+            kernel: ExactValue::Armed(line.function),
+        },
         false,
     )
 }

@@ -7,7 +7,7 @@ ghost use Rattle.probe_run.specs.Counting.{Holds};
 ghost use Rattle.probe_values.specs.Shown.{same_flag, same_signed, sums_agree, budget_agrees, flags_agree, contending_agrees, lengths_agree, parameters_agree, enqueued_agrees, dequeued_agrees, left_agrees, address_agrees};
 
 use probe_findings::{ExactValue, ProbedLine, Quantity};
-use probe_run::{Actor, Counted, PlayRules, Run};
+use probe_run::{Actor, ComparedValue, Counted, PlayRules, Run};
 use std::alloc::AllocError;
 use trace_data::{Budget, Dequeued, Enqueued, LeftClass, Parameters, Sums};
 
@@ -42,10 +42,12 @@ fn add_flag(
 {
     run.count(
         of.place,
-        Counted::Entity(of.number),
-        quantity,
-        ExactValue::Flag(rules),
-        ExactValue::Flag(kernel),
+        ComparedValue {
+            of: Counted::Entity(of.number),
+            quantity,
+            rules: ExactValue::Flag(rules),
+            kernel: ExactValue::Flag(kernel),
+        },
         is_same_flag(rules, kernel),
     )
 }
@@ -61,10 +63,12 @@ fn add_unsigned(
 {
     run.count(
         of.place,
-        Counted::Entity(of.number),
-        quantity,
-        ExactValue::Unsigned(rules),
-        ExactValue::Unsigned(kernel),
+        ComparedValue {
+            of: Counted::Entity(of.number),
+            quantity,
+            rules: ExactValue::Unsigned(rules),
+            kernel: ExactValue::Unsigned(kernel),
+        },
         rules == kernel,
     )
 }
@@ -80,10 +84,12 @@ fn add_signed(
 {
     run.count(
         of.place,
-        Counted::Entity(of.number),
-        quantity,
-        ExactValue::Signed(rules),
-        ExactValue::Signed(kernel),
+        ComparedValue {
+            of: Counted::Entity(of.number),
+            quantity,
+            rules: ExactValue::Signed(rules),
+            kernel: ExactValue::Signed(kernel),
+        },
         is_same_signed(rules, kernel),
     )
 }
@@ -269,10 +275,12 @@ pub fn compare_address(
             } else {
                 run.count(
                     of.place,
-                    Counted::Entity(of.number),
-                    Quantity::Address,
-                    ExactValue::Unsigned(known),
-                    ExactValue::Unsigned(shown),
+                    ComparedValue {
+                        of: Counted::Entity(of.number),
+                        quantity: Quantity::Address,
+                        rules: ExactValue::Unsigned(known),
+                        kernel: ExactValue::Unsigned(shown),
+                    },
                     false,
                 )
             }
@@ -294,10 +302,12 @@ fn compare_sum(
         None => Ok(()),
         Some(known) => run.count(
             place,
-            Counted::Runqueue(cpu),
-            quantity,
-            ExactValue::Unsigned(known),
-            ExactValue::Unsigned(shown),
+            ComparedValue {
+                of: Counted::Runqueue(cpu),
+                quantity,
+                rules: ExactValue::Unsigned(known),
+                kernel: ExactValue::Unsigned(shown),
+            },
             known == shown,
         ),
     }

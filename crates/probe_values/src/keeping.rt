@@ -8,7 +8,7 @@ ghost use Rattle.probe_run.specs.Begin.{sums_read};
 
 use kernel_entity::{Block, Contention, SumsChange};
 use probe_findings::{ExactRule, ProbedLine};
-use probe_run::{Actor, PlayRules, Run};
+use probe_run::{Actor, BlockedEntity, PlayRules, Run};
 use std::alloc::AllocError;
 use trace_data::Sums;
 
@@ -68,7 +68,13 @@ pub fn change_and_block(
     ensures first { OnOk result ((state_of run.new).first ≡ (state_of run.old).first) }
 {
     run.change(shown.cpu, by)?;
-    run.block(rules, shown.place, number, shown.cpu, by, block)
+    let blocked = BlockedEntity {
+        number,
+        cpu: shown.cpu,
+        change: by,
+        block,
+    };
+    run.block(rules, shown.place, blocked)
 }
 
 /// Notes what a wake does to the sums.

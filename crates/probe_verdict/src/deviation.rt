@@ -6,7 +6,7 @@ ghost use Rattle.probe_verdict.specs.Answers.{TellsFirst, agreement_text, both_t
 ghost use Rattle.probe_verdict.specs.Texts.{Extends};
 ghost use Rattle.probe_verdict.specs.Totals.{total_differ};
 
-use crate::heading::NamedTask;
+use crate::heading::{NamedTask, ProbeHeading};
 use crate::names::{event_name, function_of, quantity_name, rule_function, rule_name};
 use crate::text::total_of;
 use crate::writing::{put, put_count, put_seconds, put_subject, put_value};
@@ -18,12 +18,11 @@ use std::alloc::{AllocError, Global};
 use trace_data::Kernel;
 
 /// Appends whether each value is the kernel's and each law holds, or the first that is not, and does not. The functions of the kernel
-/// have the names that they have in this one.
+/// have the names that they have in the record's.
 pub fn put_answer(
     alloc: Global,
     out: &mut Vec<u8>,
-    names: &[NamedTask],
-    kernel: Option<Kernel>,
+    heading: ProbeHeading<'_>,
     counts: &KindCounts,
     first: Option<Deviation>,
     broken: Option<Broken>,
@@ -33,13 +32,16 @@ pub fn put_answer(
     ensures law { OnOk result (IfSome first (λ d. IfSome (law_told d broken)
         (λ b. Extends (out.old.items ++ law_text b.line) out.new.items))) }
     ensures value { OnOk result (IfSome first (λ d. IfNone (law_told d broken) (TellsFirst
-        out.old.items out.new.items (total_differ counts.now) names.now d.comparison))) }
+        out.old.items out.new.items (total_differ counts.now) heading.tasks.now d.comparison))) }
 {
     match first {
         None => put(out, "agrees, bit for bit\n"),
         Some(first) => match broken {
             Some(broken) if is_of_law(first) => put_broken(alloc, out, broken),
-            _ => put_differs(alloc, out, names, kernel, total_of(counts).differ, first),
+            _ => {
+                let differ = total_of(counts).differ;
+                put_differs(alloc, out, heading.tasks, heading.kernel, differ, first)
+            }
         },
     }
 }

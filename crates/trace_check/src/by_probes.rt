@@ -240,8 +240,7 @@ fn probe_text(
     put_answer(
         alloc,
         &mut text,
-        heading.tasks,
-        heading.kernel,
+        heading,
         counts,
         gathering.probes.first(played),
         gathering.probes.broken(),

@@ -27,6 +27,7 @@ unknown_cpu = record {
   charged = None;
   firing = None;
   blocking = None;
+  handled = None;
 }
 
 abbrev pub cpu_of : Cpus → ℕ → Cpu
@@ -45,3 +46,11 @@ armed_behind Other = None
 armed_behind (Enqueued pid) = Some pid
 armed_behind (Dequeued pid) = None
 armed_behind (Charged pid is_live is_leaving) = if is_live then Some pid else None
+
+-- the handler of the 0-lag timer of this task may run: it fired at the last line of the CPU
+abbrev pub is_handled_by : ℕ → Option ℕ → Bool
+is_handled_by pid (Some handled) = handled == pid
+is_handled_by pid None = false
+
+abbrev pub is_handling : ℕ → Cpu → Bool
+is_handling pid c = is_handled_by pid c.handled
