@@ -7,7 +7,7 @@ ghost use Rattle.check_record.specs.Seen.{shown_in};
 
 use crate::gathering::Gathering;
 use crate::names::is_named;
-use check_settings::newcomer;
+use check_settings::{newcomer, opening_by_note};
 use std::alloc::AllocError;
 use timer_play::setup_of;
 use timer_record::{GivenReservation, OpenRecord, Unlisted};
@@ -132,10 +132,23 @@ impl<'o> Gathering<'o> {
         self.latest = self.latest.max(at);
         self.has_timers = self.has_timers || matches!(fixed, Fixed::TimerStarted { .. });
         self.begin()?;
+        self.see_late_note(number, at, &fixed);
         match &mut self.record {
             Some(record) => record.line(number, at, cpu, pid, fixed),
             None => Ok(()),
         }
+    }
+
+    /// A line of a task in the class whose notes put it outside: a note came too late, and its reservation is not known.
+    #[tactic(auto, unfolding(crate::specs::Seen::shown_in))]
+    fn see_late_note(&mut self, number: u64, at: u64, fixed: &Fixed)
+        ensures { shown_in self.new ≡ shown_in self.old }
+    {
+        let late = match &self.record {
+            Some(record) => record.late_noted(at, fixed),
+            None => None,
+        };
+        self.see_opening(number, opening_by_note(late));
     }
 
     /// A line of a CPU that the head lacks shows that one came.

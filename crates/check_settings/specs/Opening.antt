@@ -1,4 +1,4 @@
--- When a line shows that the kernel changes extra_bw by no rule of a task: from there on it is not known.
+-- When a line shows that extra_bw changes by no rule of a task whose reservation is known: from there on it is not known.
 use Rattle.std.specs.Prelude.{ℕ, Bool, true, false, nat_eq, if◌then◌else◌, List, codes, Option, Some, None}
 use Rattle.std.specs.List.{starts_with}
 use Rattle.trace_data.specs.declared.fixed.Fixed.TheVariants as fixed
@@ -48,6 +48,11 @@ changes_frequency other = false
 -- a line of a CPU that the head lacks
 abbrev pub newcomer_by : Bool → ℕ → Option OpeningSign
 newcomer_by lacks cpu = if lacks then Some (sign.NewCpu cpu) else None
+
+-- a line of a task in the class whose notes put it outside
+abbrev pub late_note_opens : Option ℕ → Option OpeningSign
+late_note_opens (Some pid) = Some (sign.LateNote pid)
+late_note_opens None = None
 
 -- the first such line counts
 abbrev pub opened_with : Option OpeningSign → ℕ → Option SumsOpened → Option SumsOpened

@@ -47,7 +47,7 @@ pub struct RecordHead {
     pub opening: Option<SumsOpened>,
 }
 
-/// What shows that the kernel changes `extra_bw` by no rule of a task.
+/// What shows that `extra_bw` changes by no rule of a task whose reservation is known.
 #[derive(Clone, Copy)]
 pub enum OpeningSign {
     /// A line of a function that does so, or may.
@@ -58,6 +58,9 @@ pub enum OpeningSign {
 
     /// A CPU came: a line is of a CPU that the head lacks.
     NewCpu { cpu: u32 },
+
+    /// A task is in the class though its notes put it outside: what it reserves is not known.
+    LateNote { pid: u64 },
 }
 
 /// From which line on `extra_bw` is not known, and by what.
@@ -212,7 +215,7 @@ impl RecordHead {
         }
     }
 
-    /// A line shows that the kernel changes `extra_bw` by no rule of a task: the first such line counts.
+    /// A line shows that `extra_bw` changes by no rule of a task whose reservation is known: the first such line counts.
     pub fn see_sign(&mut self, line: u64, sign: OpeningSign)
         ensures opening { self.new.opening ≡ opened_by self.old.opening line sign }
         ensures told { told_of self.new ≡ told_of self.old }

@@ -4,4 +4,5 @@ pub mod Kept
 pub mod Passing
 pub mod Records
 pub mod Given
+pub mod Late
 pub mod Moments

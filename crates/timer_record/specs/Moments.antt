@@ -1,5 +1,5 @@
 -- When the kernel took a change that a note tells of, and the clock of a wake.
-use Rattle.std.specs.Prelude.{ℕ, ◌+◌, ◌-◌, ◌^◌, Bool, true, false, not, ◌&&◌, ◌||◌, nat_lt, min, if◌then◌else◌, Option, Some, None}
+use Rattle.std.specs.Prelude.{ℕ, ◌+◌, ◌-◌, ◌^◌, Bool, true, false, not, ◌&&◌, ◌||◌, nat_lt, min, if◌then◌else◌, Option, Some, None, is_none}
 use Rattle.trace_data.specs.declared.fixed.Stop.{Stop}
 use Rattle.trace_data.specs.declared.fixed.Stop.TheVariants.{Ends}
 use Rattle.timer_record.specs.declared.moment.Passing.{Passing}
@@ -35,6 +35,10 @@ switched_of p deadline stop = record (if deadline then in_class_of p else p) { h
 -- it has ended, or left the class
 abbrev pub is_gone_of : Passing → Bool
 is_gone_of p = p.has_ended || not p.is_deadline
+
+-- its notes put it outside the class, and no call of it is at work
+abbrev pub is_outside_of : Passing → Bool
+is_outside_of p = p.has_note && not p.is_deadline && not p.is_calling && is_none p.within_call
 
 abbrev pub returned_of : Passing → Passing
 returned_of p = record p { is_calling = false }

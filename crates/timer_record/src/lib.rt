@@ -7,6 +7,7 @@
 mod before;
 mod charging;
 mod event;
+mod late;
 mod lines;
 mod moment;
 mod passing;

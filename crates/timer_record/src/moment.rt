@@ -49,7 +49,7 @@ pub struct Passing {
 }
 
 impl Passing {
-    ghost use Rattle.timer_record.specs.Moments.{calling_of, change_of, charged_of, in_class_of, passing_at_first, is_gone_of, returned_of, switched_of, told_of};
+    ghost use Rattle.timer_record.specs.Moments.{calling_of, change_of, charged_of, in_class_of, passing_at_first, is_gone_of, is_outside_of, returned_of, switched_of, told_of};
 
     /// A task of which no line has passed by.
     pub fn new() -> Passing
@@ -118,6 +118,13 @@ impl Passing {
         ensures { result ≡ is_gone_of self }
     {
         self.has_ended || !self.is_deadline
+    }
+
+    /// Whether its notes put it outside the class, and no call of it is at work that may put it there again.
+    pub fn is_outside(self) -> bool
+        ensures { result ≡ is_outside_of self }
+    {
+        self.has_note && !self.is_deadline && !self.is_calling && self.within_call.is_none()
     }
 
     /// The task after its call returned.

@@ -363,7 +363,7 @@ pub(crate) fn number(count: usize) -> u32
 }
 
 /// The note at a place.
-fn note_at(notes: &[TaskNote], place: usize) -> Option<TaskNote>
+pub(crate) fn note_at(notes: &[TaskNote], place: usize) -> Option<TaskNote>
     ensures { result ≡ slice_get notes.now place }
 {
     notes.get(place).copied()

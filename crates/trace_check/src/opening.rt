@@ -35,6 +35,11 @@ fn put_opening(alloc: Global, out: &mut Vec<u8>, opening: SumsOpened) -> Result<
                 "extra_bw unknown: from line {line} on, of CPU {cpu}, which the head does not have"
             )?
         }
+        OpeningSign::LateNote { pid } => {
+            format!(in alloc;
+                "extra_bw unknown: from line {line} on, since the note of pid {pid} came too late, and tells a later state"
+            )?
+        }
     };
     out.extend_from_slice(start.as_bytes())?;
     out.extend_from_slice(
