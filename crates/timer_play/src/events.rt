@@ -8,7 +8,7 @@ ghost use Rattle.timer_tasks.specs.Tasks.{refilled_of};
 
 use crate::counting::{rule_of_charge, rule_of_wake};
 use crate::counts::TimerRule;
-use crate::machine::{Charged, TimedMachine, observation};
+use crate::machine::{Charged, PredictedTimer, TimedMachine, observation};
 use crate::turns::{
     at_charge, at_move, at_open, at_refill, at_run, at_sight, at_switch, at_wake, is_edge_wake,
     runs, runs_late, wakes,
@@ -291,7 +291,12 @@ impl TimedMachine {
         let moments = block_moments(task, kept.at);
         let answer = block_answer(task, stop, moments.difference, self.terms.within);
         let sums = self.sums(task.cpu);
-        observation(kept, number, task, TimerKind::Block, moments, sums, answer)
+        let timer = PredictedTimer {
+            kind: TimerKind::Block,
+            moments,
+            answer,
+        };
+        observation(kept, number, task, sums, timer)
     }
 
     fn count_block(&mut self, stop: Stop, answer: ObservedAnswer)

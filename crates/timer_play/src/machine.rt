@@ -240,18 +240,29 @@ fn count_service(counts: &mut TimerRuleCounts, was_stopped: bool, is_stopped: bo
     }
 }
 
+/// A task's timer beside its prediction.
+#[derive(Clone, Copy)]
+pub(crate) struct PredictedTimer {
+    pub(crate) kind: TimerKind,
+    pub(crate) moments: Moments,
+    pub(crate) answer: ObservedAnswer,
+}
+
 /// The observation of a task's timer at a line.
 pub(crate) fn observation(
     kept: KeptLine,
     task: u32,
     state: DeadlineTask,
-    kind: TimerKind,
-    moments: Moments,
     sums: Sums,
-    answer: ObservedAnswer,
+    timer: PredictedTimer,
 ) -> Observation
-    ensures { result ≡ observation_of kept task state kind moments sums answer }
+    ensures { result ≡ observation_of kept task state timer.kind timer.moments sums timer.answer }
 {
+    let PredictedTimer {
+        kind,
+        moments,
+        answer,
+    } = timer;
     Observation {
         line: kept.line,
         at: kept.at,

@@ -7,7 +7,7 @@ ghost use Rattle.timer_play.specs.Turns.{at_hold_of};
 
 use crate::counting::rule_of_throttling;
 use crate::counts::TimerRule;
-use crate::machine::{Owner, TimedMachine, observation};
+use crate::machine::{Owner, PredictedTimer, TimedMachine, observation};
 use crate::place::is_it;
 use crate::setup::{picks, stops_with_timer};
 use crate::turns::at_hold;
@@ -164,15 +164,12 @@ impl TimedMachine {
         let moments = replenish_moments(task, kept.at, expires);
         let answer = answer_of(task.knowledge, moments.difference, self.terms.within);
         let sums = self.sums(task.cpu);
-        observation(
-            kept,
-            number,
-            task,
-            TimerKind::Replenish,
+        let timer = PredictedTimer {
+            kind: TimerKind::Replenish,
             moments,
-            sums,
             answer,
-        )
+        };
+        observation(kept, number, task, sums, timer)
     }
 
     /// `dl_task_timer` fires.

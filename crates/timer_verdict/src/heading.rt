@@ -1,5 +1,6 @@
 //! What a verdict says of a record besides its timers.
 
+use timer_play::RecordSetup;
 use trace_data::Kernel;
 
 /// What a verdict says of a record besides its timers.
@@ -14,6 +15,7 @@ pub struct TimerHeading<'a> {
 
     /// The CPUs of the root domain.
     pub domain: &'a [u32],
+    pub setup: RecordSetup,
 
     /// `dl_bw->total_bw` at the beginning, modulo 2^64, where a note tells it.
     pub total_bw: Option<u64>,

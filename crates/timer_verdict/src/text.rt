@@ -16,7 +16,6 @@ use crate::writing::{put, put_count, put_cpus, put_millis, put_seconds};
 use kernel_entity::{RECLAIM, has, ratio};
 use std::alloc::{AllocError, Global};
 use text_bytes::put_number;
-use timer_play::RecordSetup;
 use timer_record::KeptLines;
 use timer_tasks::{Observation, TimerKind};
 use trace_data::{Kernel, Parameters, Policy};
@@ -26,7 +25,6 @@ pub fn put_verdict(
     alloc: Global,
     out: &mut Vec<u8>,
     heading: TimerHeading<'_>,
-    setup: &RecordSetup,
     lines: &KeptLines,
     names: &[Vec<u8>],
     judged: &Judged,
@@ -56,7 +54,7 @@ pub fn put_verdict(
         heading.within,
         starts,
     )?;
-    put_total(out, heading, setup, lines)?;
+    put_total(out, heading, lines)?;
     put_speed(alloc, out, judged.speed_unknown)?;
     put(out, heading.beside)?;
     let Some(place) = judged.first else {
@@ -228,12 +226,12 @@ fn put_speed(alloc: Global, out: &mut Vec<u8>, left_out: u64) -> Result<(), Allo
 fn put_total(
     out: &mut Vec<u8>,
     heading: TimerHeading<'_>,
-    setup: &RecordSetup,
     lines: &KeptLines,
 ) -> Result<(), AllocError> {
     let Some(total_bw) = heading.total_bw else {
         return Ok(());
     };
+    let setup = heading.setup;
     let mut known = setup.cpus.saturating_mul(setup.server_bw);
     for told in &lines.told {
         known = known.saturating_add(bw_at_start(told.at, told.policy));
