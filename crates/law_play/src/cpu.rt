@@ -1,6 +1,7 @@
 //! What the last lines of a CPU were.
 
-ghost use Rattle.std.specs.Prelude.{◌≡◌, list_any, slice_get};
+ghost use Rattle.std.specs.List.{list_any};
+ghost use Rattle.std.specs.Prelude.{◌≡◌, slice_get};
 ghost use Rattle.std.specs.Borrow.{sem};
 ghost use Rattle.std.specs.Option.{option_copied_mut};
 ghost use Rattle.law_play.specs.inside.Lent.{LendsCpu};

@@ -32,7 +32,7 @@ pub fn put_answer(
     ensures law { OnOk result (IfSome first (λ d. IfSome (law_told d broken)
         (λ b. Extends (out.old.items ++ law_text b.line) out.new.items))) }
     ensures value { OnOk result (IfSome first (λ d. IfNone (law_told d broken) (TellsFirst
-        out.old.items out.new.items (total_differ counts.now) heading.tasks.now d.comparison))) }
+        out.old.items out.new.items (total_differ counts.now) heading.entry.tasks.now d.comparison))) }
 {
     match first {
         None => put(out, "agrees, bit for bit\n"),
