@@ -1,4 +1,5 @@
 pub mod LeftOut
 pub mod Numbers
+pub mod Speed
 pub mod Verdicts
 pub mod inside

@@ -10,6 +10,7 @@ mod heading;
 mod judging;
 mod numbers;
 mod omitted;
+mod reserved;
 mod speed;
 mod table;
 mod tested;

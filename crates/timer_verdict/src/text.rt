@@ -10,6 +10,7 @@ use crate::first::put_first;
 use crate::heading::TimerHeading;
 use crate::judging::Judged;
 use crate::numbers::{KindNumbers, numbers_of};
+use crate::reserved::{parameters_at, parameters_of};
 use crate::table::name_of;
 use crate::tested::put_tested;
 use crate::writing::{put, put_count, put_cpus, put_millis, put_seconds};
@@ -125,37 +126,6 @@ fn put_kernel(
     put_number(out, b"", u64::from(kernel.major))?;
     put_number(out, b".", u64::from(kernel.minor))?;
     put_number(out, b".", u64::from(kernel.patch))
-}
-
-/// The reservation of a task: an option's, or that of its first note.
-pub(crate) fn parameters_of(lines: &KeptLines, task: u32) -> Option<Parameters> {
-    if let Some(of_task) = lines.tasks.get(task as usize) {
-        if of_task.given.is_some() {
-            return of_task.given;
-        }
-    }
-    for told in &lines.told {
-        if told.task == task {
-            if let Policy::Deadline(parameters) = told.policy {
-                return Some(parameters);
-            }
-        }
-    }
-    None
-}
-
-/// The reservation that a task has at a moment: that of its last note before it.
-pub(crate) fn parameters_at(lines: &KeptLines, task: u32, at: u64) -> Option<Parameters> {
-    let mut parameters = parameters_of(lines, task);
-    for told in &lines.told {
-        if told.task == task
-            && told.moment <= at
-            && let Policy::Deadline(changed) = told.policy
-        {
-            parameters = Some(changed);
-        }
-    }
-    parameters
 }
 
 fn put_tasks(
