@@ -73,7 +73,3 @@ left_out_of slow o = if is_left_out slow o then record o { answer = Unknown } el
 
 abbrev pub without_slow : KeptLines → List Observation → List Observation
 without_slow lines os = map (left_out_of (slow_tasks lines os)) os
-
--- what is compared of what a play observes, on a machine with a governor or on one without
-abbrev pub compared_by : Bool → KeptLines → List Observation → List Observation
-compared_by has_governor lines os = if has_governor then without_slow lines os else os
