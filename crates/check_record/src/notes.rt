@@ -122,7 +122,7 @@ impl Gathering<'_> {
                     self.fault = Some(Fault::BadNote { line: number });
                     return Ok(());
                 }
-                self.note_task(pid, at, by, cpu, policy)
+                self.note_task(pid, at, by, cpu, noted_policy(policy))
             }
             TraceNote::End { limit, .. } => {
                 if is_another(self.head.limit, limit) {
@@ -153,6 +153,14 @@ impl Gathering<'_> {
             Some(record) => record.note(pid, at, by, cpu, policy),
             None => Ok(()),
         }
+    }
+}
+
+/// The policy that a note tells: a task that has ended reserves nothing any more (`__dl_clear_params`).
+fn noted_policy(policy: Policy) -> Policy {
+    match policy {
+        Policy::Deadline(parameters) if parameters.dl_runtime == 0 => Policy::Other,
+        other => other,
     }
 }
 

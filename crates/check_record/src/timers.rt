@@ -7,7 +7,7 @@ ghost use Rattle.check_record.specs.Seen.{shown_in};
 
 use crate::gathering::Gathering;
 use crate::names::is_named;
-use check_settings::{newcomer, opening_by_note};
+use check_settings::{OpeningSign, newcomer};
 use std::alloc::AllocError;
 use timer_play::setup_of;
 use timer_record::{GivenReservation, OpenRecord, Unlisted};
@@ -139,16 +139,17 @@ impl<'o> Gathering<'o> {
         }
     }
 
-    /// A line of a task in the class whose notes put it outside: a note came too late, and its reservation is not known.
+    /// A line of a task in the class whose notes put it outside: its reservation is not known from the moment of the note on.
     #[tactic(auto, unfolding(crate::specs::Seen::shown_in))]
     fn see_late_note(&mut self, number: u64, at: u64, fixed: &Fixed)
         ensures { shown_in self.new ≡ shown_in self.old }
     {
-        let late = match &self.record {
-            Some(record) => record.late_noted(at, fixed),
-            None => None,
-        };
-        self.see_opening(number, opening_by_note(late));
+        if let Some(record) = &self.record
+            && let Some(late) = record.late_noted(at, fixed)
+        {
+            let line = record.line_from(late.moment).unwrap_or(number);
+            self.see_opening(line, Some(OpeningSign::LateNote { pid: late.pid }));
+        }
     }
 
     /// A line of a CPU that the head lacks shows that one came.

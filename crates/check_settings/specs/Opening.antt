@@ -49,11 +49,6 @@ changes_frequency other = false
 abbrev pub newcomer_by : Bool → ℕ → Option OpeningSign
 newcomer_by lacks cpu = if lacks then Some (sign.NewCpu cpu) else None
 
--- a line of a task in the class whose notes put it outside
-abbrev pub late_note_opens : Option ℕ → Option OpeningSign
-late_note_opens (Some pid) = Some (sign.LateNote pid)
-late_note_opens None = None
-
 -- the first such line counts
 abbrev pub opened_with : Option OpeningSign → ℕ → Option SumsOpened → Option SumsOpened
 opened_with (Some sign) number before = opened_by before number sign

@@ -5,4 +5,4 @@ mod head;
 mod opening;
 
 pub use head::{OpeningSign, RecordHead, SumsOpened, cpus_of, is_older, server_note};
-pub use opening::{is_frequency, newcomer, opening_by_change, opening_by_note, opening_of};
+pub use opening::{is_frequency, newcomer, opening_by_change, opening_of};

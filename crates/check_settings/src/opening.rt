@@ -1,7 +1,7 @@
 //! When a line shows that the kernel changes `extra_bw` by no rule of a task.
 
 ghost use Rattle.std.specs.Prelude.{◌≡◌};
-ghost use Rattle.check_settings.specs.Opening.{change_opens, changes_frequency, late_note_opens, newcomer_by, opening_by, opens_by};
+ghost use Rattle.check_settings.specs.Opening.{change_opens, changes_frequency, newcomer_by, opening_by, opens_by};
 ghost use Rattle.check_settings.specs.Heads.{lacks_cpu};
 
 use crate::head::{OpeningSign, RecordHead};
@@ -56,16 +56,6 @@ fn opens(mark: Mark) -> bool
         | Mark::ServerChanged { .. }
         | Mark::CpuDeactivated { .. }
         | Mark::CpuActivated { .. } => true,
-    }
-}
-
-/// What a line shows by which a task is in the class though its notes put it outside.
-pub fn opening_by_note(pid: Option<u64>) -> Option<OpeningSign>
-    ensures { result ≡ late_note_opens pid }
-{
-    match pid {
-        Some(pid) => Some(OpeningSign::LateNote { pid }),
-        None => None,
     }
 }
 

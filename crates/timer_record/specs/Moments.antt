@@ -6,7 +6,7 @@ use Rattle.timer_record.specs.declared.moment.Passing.{Passing}
 use Rattle.timer_record.specs.declared.moment.TheConstants.{CALL, FIRST_CALL, LAG, WAKE}
 
 abbrev pub passing_at_first : Passing
-passing_at_first = record { charged = None; is_calling = false; within_call = None; earlier_in_call = None; has_note = false; is_deadline = false; has_ended = false; woken = None }
+passing_at_first = record { charged = None; is_calling = false; within_call = None; earlier_in_call = None; has_note = false; noted = 0; is_deadline = false; has_ended = false; woken = None }
 
 abbrev pub or_of : Option ℕ → Option ℕ → Option ℕ
 or_of (Some a) b = Some a
@@ -46,8 +46,8 @@ returned_of p = record p { is_calling = false }
 abbrev pub calling_of : Passing → Passing
 calling_of p = record p { is_calling = true; within_call = None; earlier_in_call = None }
 
-abbrev pub told_of : Passing → Bool → Passing
-told_of p deadline = record p { within_call = None; has_note = true; is_deadline = deadline }
+abbrev pub told_of : Passing → Bool → ℕ → Passing
+told_of p deadline moment = record p { within_call = None; has_note = true; noted = moment; is_deadline = deadline }
 
 abbrev pub near_of : Option ℕ → ℕ → ℕ → Option ℕ
 near_of (Some charge) note span = if nat_lt (note - charge) span then Some charge else None

@@ -63,7 +63,7 @@ moment_by None x = x.moment
 -- a note comes
 unfoldable pub come_in : TaskNote → Kept → Kept
 come_in x k = record k {
-  passing = changed (λ p. told_of p (is_in_class x.policy)) x.task k.passing;
+  passing = changed (λ p. told_of p (is_in_class x.policy) x.moment) x.task k.passing;
   told = with_note (record x { moment = moment_by (slice_get k.passing x.task) x }) k.told;
 }
 

@@ -17,6 +17,7 @@ mod vote;
 mod waking;
 
 pub use event::{KeptEvent, KeptLine};
+pub use late::LateNote;
 pub use lines::{
     AddressLines, FirstLine, GivenReservation, KeptLines, TaskLines, TaskNote, TimerLines, Unlisted,
 };

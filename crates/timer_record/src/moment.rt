@@ -38,6 +38,9 @@ pub struct Passing {
     /// It has had a note before.
     pub has_note: bool,
 
+    /// The moment of its last note.
+    pub noted: u64,
+
     /// It is of the class.
     pub is_deadline: bool,
 
@@ -61,6 +64,7 @@ impl Passing {
             within_call: None,
             earlier_in_call: None,
             has_note: false,
+            noted: 0,
             is_deadline: false,
             has_ended: false,
             woken: None,
@@ -149,13 +153,14 @@ impl Passing {
         }
     }
 
-    /// The task after a note.
-    pub fn told(self, is_deadline: bool) -> Passing
-        ensures { result ≡ told_of self is_deadline }
+    /// The task after a note of this moment.
+    pub fn told(self, is_deadline: bool, noted: u64) -> Passing
+        ensures { result ≡ told_of self is_deadline noted }
     {
         Passing {
             within_call: None,
             has_note: true,
+            noted,
             is_deadline,
             ..self
         }

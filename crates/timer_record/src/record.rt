@@ -276,7 +276,7 @@ impl OpenRecord {
             if let Some(at) = told.at {
                 moment = passing.change_before(at, told.is_by_itself);
             }
-            *passing = passing.told(is_deadline(told.policy));
+            *passing = passing.told(is_deadline(told.policy), told.moment);
         }
         insert_told(&mut self.lines.told, TaskNote { moment, ..told })
     }
