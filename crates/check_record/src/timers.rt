@@ -1,9 +1,10 @@
 //! The lines of timers of a record, and the tasks that are given or named.
 
-ghost use Rattle.std.specs.Prelude.{◌≡◌, ◌||◌, is_some};
+ghost use Rattle.std.specs.Prelude.{◌≡◌, ◌||◌, is_some, option_map};
 ghost use Rattle.check_settings.specs.Heads.{is_of_domain};
 ghost use Rattle.check_record.specs.FirstFault.{fault_woken};
-ghost use Rattle.check_record.specs.Seen.{shown_in};
+ghost use Rattle.check_record.specs.Seen.{kept_in, shown_in};
+ghost use Rattle.timer_record.specs.Kept.{kept_of};
 
 use crate::gathering::Gathering;
 use crate::names::is_named;
@@ -210,7 +211,10 @@ impl<'o> Gathering<'o> {
     }
 
     /// Gives the lines of timers out.
-    pub fn take_record(&mut self) -> Option<OpenRecord> {
+    pub fn take_record(&mut self) -> Option<OpenRecord>
+        ensures record { option_map kept_of result ≡ kept_in self.old }
+        ensures head { self.new.head ≡ self.old.head }
+    {
         self.record.take()
     }
 }

@@ -1,1 +1,2 @@
+pub mod TimedLemmas
 pub mod VerdictLemmas

@@ -1,5 +1,5 @@
 -- A verdict that agrees, and what was read.
-use Rattle.std.proofs.Common.{◌≡◌, ℕ, List, Result, Ok, Err, IfOk, IsOkAnd, IsTrue}
+use Rattle.std.proofs.Common.{◌≡◌, ℕ, false, List, Result, Ok, Err, IfOk, IsOkAnd, IsTrue}
 use Rattle.text_bytes.specs.Source.{Opener, Reader}
 use Rattle.trace_file.specs.Reading.{IsSoOf}
 use Rattle.trace_file.proofs.SoLemmas.{so_by}
@@ -17,6 +17,11 @@ pub of_agreed : (r : Result Verdict Fault) (P : Type 0) → IfOk r (λ (v : Verd
     → IsOkAnd r (λ (v : Verdict). IsTrue v.agrees) → IsOkAnd r (λ (v : Verdict). IsTrue v.keeps_laws) → P
 of_agreed (Ok v) P so agrees kept = so agrees kept
 of_agreed (Err e) P so agrees kept = absurd agrees
+
+-- what is so of one that differs
+pub of_differing : (r : Result Verdict Fault) (P : Type 0) → IfOk r (λ (v : Verdict). v.agrees ≡ false → P) → IsOkAnd r (λ (v : Verdict). v.agrees ≡ false) → P
+of_differing (Ok v) P so differs = so differs
+of_differing (Err e) P so differs = absurd differs
 
 -- what follows where nothing differs
 pub of_equal : (r : Result Verdict Fault) (E P : Type 0) → IfOk r (λ (v : Verdict). IsTrue v.agrees → IsTrue v.keeps_laws → E)

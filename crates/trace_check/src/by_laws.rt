@@ -1,6 +1,6 @@
 //! The laws of a record, beside its rules.
 
-ghost use Rattle.std.specs.Prelude.{◌≡◌, IfOk, false};
+ghost use Rattle.std.specs.Prelude.{◌≡◌, IfOk, false, true};
 
 use crate::beside::put_rules_beside;
 use crate::check::Verdict;
@@ -36,6 +36,7 @@ pub(crate) fn laws_alone<'o>(
     why: Uncompared,
 ) -> Result<Verdict, Fault<'o>>
     ensures broken { IfOk result (λ v. v.keeps_laws ≡ false) }
+    ensures agrees { IfOk result (λ v. v.agrees ≡ true) }
 {
     let verdict = with_laws(alloc, gathering, without_rules(alloc, gathering)?)?;
     if verdict.keeps_laws {
@@ -46,7 +47,9 @@ pub(crate) fn laws_alone<'o>(
 }
 
 /// A verdict that says that nothing was compared, with documents that show nothing.
-fn without_rules(alloc: Global, gathering: &Gathering<'_>) -> Result<Verdict, AllocError> {
+fn without_rules(alloc: Global, gathering: &Gathering<'_>) -> Result<Verdict, AllocError>
+    ensures { IfOk result (λ v. v.agrees ≡ true) }
+{
     let mut text = Vec::new(alloc);
     text.extend_from_slice(b"nothing could be compared with the rules\n")?;
     let mut table = Vec::new(alloc);

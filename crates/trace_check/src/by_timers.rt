@@ -1,6 +1,14 @@
 //! The verdict by timers.
 
-ghost use Rattle.std.specs.Prelude.{◌≡◌, IfOk, is_none};
+ghost use Rattle.std.specs.Prelude.{◌≡◌, IfOk, Ok, Some, is_none, option_map};
+ghost use Rattle.check_record.specs.Seen.{kept_in};
+ghost use Rattle.check_settings.specs.Heads.{domain_by, open_from, settings_by};
+ghost use Rattle.timer_play.specs.Kernels.{setup_by};
+ghost use Rattle.timer_play.specs.Playing.{observations_of};
+ghost use Rattle.timer_record.specs.Records.{ended_in, lines_of};
+ghost use Rattle.timer_verdict.specs.Speed.{compared_by};
+ghost use Rattle.timer_verdict.specs.Verdicts.{IsJudged};
+ghost use Rattle.trace_check.specs.Timed.{IsTimedVerdict};
 ghost use Rattle.trace_check.specs.Uncompared.{left_by, uncompared_left, uncompared_of};
 
 use crate::check::{CheckRequest, Verdict};
@@ -35,7 +43,11 @@ struct TimedRecord {
 
 impl TimedRecord {
     /// Judges it; where a governor sets the frequency of a CPU, no line tells the speed of a charge.
-    fn judge(&self, alloc: Global, within: u64, has_governor: bool) -> Result<Judged, AllocError> {
+    fn judge(&self, alloc: Global, within: u64, has_governor: bool) -> Result<Judged, AllocError>
+        ensures judged { IfOk result (λ j. IsJudged j) }
+        ensures observed { IfOk result (λ j. j.outcome.observations.items ≡ compared_by has_governor
+            self.now.lines (observations_of self.now.setup self.now.start self.now.lines within)) }
+    {
         if has_governor {
             judge_at_unknown_speed(alloc, self.setup, &self.start, &self.lines, within)
         } else {
@@ -43,7 +55,9 @@ impl TimedRecord {
         }
     }
 
-    fn play<'a>(&'a self, judged: &'a Judged) -> TimerPlay<'a> {
+    fn play<'a>(&'a self, judged: &'a Judged) -> TimerPlay<'a>
+        ensures { result.judged.now ≡ judged.entry.now }
+    {
         TimerPlay {
             setup: self.setup,
             start: &self.start,
@@ -59,7 +73,17 @@ fn timed_record<'o>(
     alloc: Global,
     options: &CheckOptions<'o>,
     gathering: &mut Gathering<'o>,
-) -> Result<TimedRecord, Fault<'o>> {
+) -> Result<TimedRecord, Fault<'o>>
+    ensures lines { IfOk result (λ t.
+        option_map ended_in (kept_in gathering.old) ≡ Some (lines_of t.lines)) }
+    ensures domain { IfOk result (λ t.
+        t.start.domain.items ≡ domain_by gathering.old.head options.now) }
+    ensures sums { IfOk result (λ t. t.start.sums.items ≡ gathering.old.head.sums.items) }
+    ensures unknown { IfOk result (λ t.
+        t.start.open_from ≡ open_from gathering.old.head.opening) }
+    ensures setup { IfOk result (λ t.
+        setup_by (settings_by gathering.old.head options.now) t.start ≡ Ok t.setup) }
+{
     let Some(record) = gathering.take_record() else {
         return Err(Fault::NoTimers);
     };
@@ -91,9 +115,27 @@ pub(crate) fn timer_verdict<'o>(
     wanted: CheckRequest<'_>,
     options: &CheckOptions<'o>,
     gathering: &mut Gathering<'o>,
-) -> Result<Verdict, Fault<'o>> {
+) -> Result<Verdict, Fault<'o>>
+    ensures { IfOk result (λ v.
+        IsTimedVerdict options.now gathering.old.head (kept_in gathering.old) v.agrees) }
+{
+    let has_governor = gathering.head.has_governor;
     let timed = timed_record(alloc, options, gathering)?;
-    let judged = timed.judge(alloc, options.within, gathering.head.has_governor)?;
+    let judged = timed.judge(alloc, options.within, has_governor)?;
+    compared_verdict(alloc, wanted, options, gathering, &timed, &judged)
+}
+
+/// The verdict on what was judged: a fault where not one block or timer was compared.
+fn compared_verdict<'o>(
+    alloc: Global,
+    wanted: CheckRequest<'_>,
+    options: &CheckOptions<'o>,
+    gathering: &Gathering<'o>,
+    timed: &TimedRecord,
+    judged: &Judged,
+) -> Result<Verdict, Fault<'o>>
+    ensures { IfOk result (λ v. v.agrees ≡ is_none judged.now.first) }
+{
     let left = left_out(&judged.outcome.observations);
     let open_from = timed.start.open_from;
     if let Some(why) = uncompared(
@@ -104,9 +146,9 @@ pub(crate) fn timer_verdict<'o>(
     ) {
         return Err(Fault::NothingCompared { why });
     }
-    let verdict = told_verdict(alloc, wanted, options, gathering, timed.play(&judged))?;
+    let verdict = told_verdict(alloc, wanted, options, gathering, timed.play(judged))?;
     let kernel = gathering.head.kernel_by(options);
-    let verdict = of_release(alloc, verdict, Check::Timers, kernel, differ(&judged))?;
+    let verdict = of_release(alloc, verdict, Check::Timers, kernel, differ(judged))?;
     with_order(alloc, verdict, gathering.earlier)
 }
 

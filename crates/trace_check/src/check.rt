@@ -1,9 +1,10 @@
 //! A record is read, played, and judged.
 
-ghost use Rattle.std.specs.Prelude.{◌≡◌, ◌⊎◌, IfOk, IsOkAnd, IsTrue, false};
+ghost use Rattle.std.specs.Prelude.{◌≡◌, ◌⊎◌, IfOk, IsOkAnd, IsTrue, false, true};
 ghost use Rattle.trace_file.specs.Reading.{IsSoOf};
 ghost use Rattle.check_record.specs.Explains.{IsAgreedBy};
-ghost use Rattle.check_record.specs.Seen.{NothingDiffers};
+ghost use Rattle.check_record.specs.Seen.{NothingDiffers, kept_in};
+ghost use Rattle.trace_check.specs.Timed.{IsTimed, IsTimedBy, IsTimedVerdict};
 ghost use Rattle.trace_faults.specs.declared.fault.TheConstants.{STATUS_DIFFERS, STATUS_FILE, STATUS_LAW, STATUS_SYSTEM, STATUS_USAGE};
 
 use crate::by_laws::{laws_alone, with_laws};
@@ -74,7 +75,10 @@ fn verdict_without_loss<'o>(
     wanted: CheckRequest<'_>,
     options: &CheckOptions<'o>,
     gathering: &mut Gathering<'o>,
-) -> Result<Verdict, Fault<'o>> {
+) -> Result<Verdict, Fault<'o>>
+    ensures { IfOk result (λ v.
+        IsTimedVerdict options.now gathering.old.head (kept_in gathering.old) v.agrees) }
+{
     match (gathering.changed_line(), gathering.losing_line()) {
         (Some(line), _) => Err(Fault::Changed { line }),
         (None, Some(line)) => Err(Fault::Line {
@@ -92,7 +96,11 @@ fn verdict_by_rules<'o>(
     options: &CheckOptions<'o>,
     gathering: &mut Gathering<'o>,
 ) -> Result<Verdict, Fault<'o>>
-    ensures { IfOk result (λ v. IsTrue v.agrees → NothingDiffers options.now gathering.old) }
+    ensures agrees { IfOk result (λ v.
+        IsTrue v.agrees → NothingDiffers options.now gathering.old) }
+    ensures timed { IfOk result (λ v. IsTrue v.agrees → IsTimed options.now gathering.old true) }
+    ensures differs { IfOk result (λ v.
+        v.agrees ≡ false → IsTimed options.now gathering.old false) }
 {
     match verdict_by_probes(alloc, wanted, options, gathering)? {
         Some(verdict) => Ok(verdict),
@@ -115,8 +123,12 @@ fn verdict_of<
 ) -> Result<Verdict, Fault<'o>>
     requires opens { O.IsAlwaysCallable opens.now }
     requires read { N.IsAlwaysCallable read.now }
-    ensures { IfOk result (λ v. IsTrue v.agrees → IsTrue v.keeps_laws →
+    ensures agrees { IfOk result (λ v. IsTrue v.agrees → IsTrue v.keeps_laws →
         IsSoOf O.Fn opens.now N.Fn read.now wanted.entry.path.now (IsAgreedBy options.entry.now)) }
+    ensures timed { IfOk result (λ v. IsTrue v.agrees → IsTrue v.keeps_laws → IsSoOf O.Fn opens.now
+        N.Fn read.now wanted.entry.path.now (IsTimedBy options.entry.now true)) }
+    ensures differs { IfOk result (λ v. v.agrees ≡ false → IsSoOf O.Fn opens.now
+        N.Fn read.now wanted.entry.path.now (IsTimedBy options.entry.now false)) }
 {
     let request = RecordRequest {
         path: wanted.path,
@@ -144,8 +156,12 @@ fn verdict_on<
 ) -> Result<Verdict, Fault<'o>>
     requires opens { O.IsAlwaysCallable opens.now }
     requires read { N.IsAlwaysCallable read.now }
-    ensures { IfOk result (λ v. IsTrue v.agrees → IsTrue v.keeps_laws →
+    ensures agrees { IfOk result (λ v. IsTrue v.agrees → IsTrue v.keeps_laws →
         NothingDiffers options.now gathering.old) }
+    ensures timed { IfOk result (λ v. IsTrue v.agrees → IsTrue v.keeps_laws →
+        IsTimed options.now gathering.old true) }
+    ensures differs { IfOk result (λ v.
+        v.agrees ≡ false → IsTimed options.now gathering.old false) }
 {
     let verdict = judged(alloc, opens, read, wanted, options, gathering)?;
     with_notes(alloc, wanted, options, gathering, verdict)
@@ -177,8 +193,12 @@ fn judged<'o, D: Drop, O: Fn(&str) -> io::Result<D>, N: Fn(&mut D, &mut [u8]) ->
 ) -> Result<Verdict, Fault<'o>>
     requires opens { O.IsAlwaysCallable opens.now }
     requires read { N.IsAlwaysCallable read.now }
-    ensures { IfOk result (λ v. IsTrue v.agrees → IsTrue v.keeps_laws →
+    ensures agrees { IfOk result (λ v. IsTrue v.agrees → IsTrue v.keeps_laws →
         NothingDiffers options.now gathering.old) }
+    ensures timed { IfOk result (λ v. IsTrue v.agrees → IsTrue v.keeps_laws →
+        IsTimed options.now gathering.old true) }
+    ensures differs { IfOk result (λ v.
+        v.agrees ≡ false → IsTimed options.now gathering.old false) }
 {
     match verdict_by_rules(alloc, wanted, options, gathering) {
         Ok(verdict) => {
@@ -345,7 +365,7 @@ fn answer<M: Fn(&str, &[u8]) -> io::Result<()>, R: Fn(&str), W: Write, E: Write>
 
 /// Prints the verdict on the trace of a path, or the line of its fault, and gives the status: 0 where the kernel agrees, 4 where
 /// it differs, 5 where it agrees and breaks a law, 1 where the trace is at fault or a file is there already, 3 where the system is.
-#[tactic(auto, using(crate::proofs::VerdictLemmas::of_agreed))]
+#[tactic(auto, using(crate::proofs::VerdictLemmas::of_agreed, crate::proofs::VerdictLemmas::of_differing))]
 pub fn serve_check<
     D: Drop,
     O: Fn(&str) -> io::Result<D>,
@@ -375,6 +395,11 @@ pub fn serve_check<
     // Where the kernel agrees by lines of probes, those of the text that was read are explained by its rules.
     ensures explained { result ≡ 0 → IsSoOf O.Fn files.now.source.open N.Fn files.now.source.read
         wanted.entry.path.now (IsAgreedBy options.now) }
+    // Where timers are asked for, none that is compared differs from the rules; where the status says so, one does.
+    ensures timed { result ≡ 0 → IsSoOf O.Fn files.now.source.open N.Fn files.now.source.read
+        wanted.entry.path.now (IsTimedBy options.now true) }
+    ensures differs { result ≡ STATUS_DIFFERS → IsSoOf O.Fn files.now.source.open
+        N.Fn files.now.source.read wanted.entry.path.now (IsTimedBy options.now false) }
 {
     let (source, target) = (&files.source, &files.target);
     if let Some(path) = first_there(&target.exists, wanted) {

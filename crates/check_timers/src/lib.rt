@@ -1,0 +1,8 @@
+//! The lines of timers of a record as they are read, and the tasks that options give.
+#![tactic(auto)]
+
+mod sought;
+mod timers;
+
+pub use sought::SoughtTask;
+pub use timers::{RecordTimers, WantedLines};

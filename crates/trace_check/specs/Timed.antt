@@ -1,0 +1,56 @@
+-- A verdict by timers: it agrees where no timer that is compared is elsewhere than the rules put it.
+use Rattle.std.specs.Prelude.{◌≡◌, ℕ, Bool, not, ◌||◌, List, Option, Some, is_none, option_map, Ok, IsTrue}
+use Rattle.std.specs.List.{list_any}
+use Rattle.check_record.specs.Explains.{law_of}
+use Rattle.check_record.specs.Playing.{taken_in}
+use Rattle.check_record.specs.Seen.{kept_in}
+use Rattle.check_record.specs.Shown.{shown_by}
+use Rattle.check_record.specs.declared.gathering.Gathering.{Gathering}
+use Rattle.check_settings.specs.Heads.{domain_by, open_from, settings_by}
+use Rattle.check_settings.specs.declared.head.RecordHead.{RecordHead}
+use Rattle.timer_play.specs.Kernels.{setup_by}
+use Rattle.timer_play.specs.Playing.{observations_of}
+use Rattle.timer_play.specs.declared.setup.RecordSetup.{RecordSetup}
+use Rattle.timer_play.specs.declared.setup.RecordStart.{RecordStart}
+use Rattle.timer_record.specs.Kept.{Kept}
+use Rattle.timer_record.specs.Records.{ended_in, lines_of}
+use Rattle.timer_record.specs.declared.lines.KeptLines.{KeptLines}
+use Rattle.timer_verdict.specs.Speed.{compared_by}
+use Rattle.timer_verdict.specs.Verdicts.{deviates}
+use Rattle.trace_options.specs.declared.options.CheckOptions.{CheckOptions}
+
+-- the play of these lines, begun so, comes to this verdict
+abbrev pub IsVerdictOn : RecordSetup → RecordStart → KeptLines → Bool → ℕ → Bool → Type 0
+IsVerdictOn setup start lines governor within agrees = agrees ≡ not (list_any deviates (compared_by governor lines (observations_of setup start lines within)))
+
+-- the verdict on what was kept: its play begins with what options and notes tell
+pub record IsTimedVerdict (o : CheckOptions) (h : RecordHead) (kept : Option Kept) (agrees : Bool) : Type 0 where
+  pub setup : RecordSetup
+  pub start : RecordStart
+  pub lines : KeptLines
+  pub all : option_map ended_in kept ≡ Some (lines_of lines)
+  pub domain : start.domain.items ≡ domain_by h o
+  pub sums : start.sums.items ≡ h.sums.items
+  pub unknown : start.open_from ≡ open_from h.opening
+  pub by : setup_by (settings_by h o) start ≡ Ok setup
+  pub verdict : IsVerdictOn setup start lines h.has_governor o.within agrees
+
+-- timers are compared where that is asked for, or no line of a probe was played
+abbrev pub is_by_timers : CheckOptions → Gathering → Bool
+is_by_timers o g = o.by_timers || is_none (taken_in g.probes)
+
+abbrev pub IsTimed : CheckOptions → Gathering → Bool → Type 0
+IsTimed o g agrees = IsTrue (is_by_timers o g) → IsTimedVerdict o g.head (kept_in g) agrees
+
+-- a verdict on a text, by the arithmetic of the kernel that is named
+pub record IsTimedText (o : CheckOptions) (agrees : Bool) (text : List ℕ) : Type 0 where
+  pub setup : RecordSetup
+  pub start : RecordStart
+  pub lines : KeptLines
+  pub governor : Bool
+  pub law : setup.law ≡ law_of (shown_by text) o
+  pub verdict : IsVerdictOn setup start lines governor o.within agrees
+
+-- where timers are asked for
+abbrev pub IsTimedBy : CheckOptions → Bool → List ℕ → Type 0
+IsTimedBy o agrees text = IsTrue o.by_timers → IsTimedText o agrees text
