@@ -1,5 +1,5 @@
 -- The lines of probes of a text are explained by the rules of the kernel.
-use Rattle.std.specs.Prelude.{◌≡◌, ◌≢◌, ℕ, true, false, if◌then◌else◌, List, [], map, unwrap_or}
+use Rattle.std.specs.Prelude.{◌≡◌, ◌≢◌, ℕ, Bool, true, false, if◌then◌else◌, List, [], map, unwrap_or}
 use Rattle.kernel_entity.specs.declared.charge.ChargeLaw.{ChargeLaw}
 use Rattle.kernel_entity.specs.declared.charge.ChargeLaw.TheVariants.{Documentation}
 use Rattle.kernel_versions.specs.Releases.{charge_law}
@@ -19,18 +19,20 @@ use Rattle.check_record.specs.Shown.{Shown, as_read, shown_by}
 abbrev pub law_of : Shown → CheckOptions → ChargeLaw
 law_of s o = if is_documented o.arithmetic then Documentation else charge_law (unwrap_or (chosen o.kernel s.kernel) current)
 
--- all lines of probes of this text, in their order, by that arithmetic and no changed rule, where they show dequeues
-pub record IsExplainedText (o : CheckOptions) (text : List ℕ) : Type 0 where
+-- all lines of probes that were shown, in their order, by that arithmetic and no changed rule, where they show dequeues
+pub record IsExplainedText (o : CheckOptions) (s : Shown) : Type 0 where
   pub rules : PlayRules
   pub start : RunStart
   pub lines : List ProbeLine
-  pub all : map as_read lines ≡ (shown_by text).probes
-  pub by : IsPlayedBy (law_of (shown_by text) o) rules
-  pub dequeues : rules.has_dequeues ≡ (shown_by text).dequeues
-  pub timers : rules.has_timers ≡ (shown_by text).timers
-  pub explained : (shown_by text).dequeues ≡ true → IsExplained rules (start_of start) lines
+  pub all : map as_read lines ≡ s.probes
+  pub by : IsPlayedBy (law_of s o) rules
+  pub dequeues : rules.has_dequeues ≡ s.dequeues
+  pub timers : rules.has_timers ≡ s.timers
+  pub explained : s.dequeues ≡ true → IsExplained rules (start_of start) lines
 
 -- what a verdict that agrees says of the text that was read: no line has a flaw, and unless timers are compared, its lines of probes
 -- are explained, if it has some
-abbrev pub IsAgreedBy : CheckOptions → List ℕ → Type 0
-IsAgreedBy o text = IsWhole text × (o.by_timers ≡ false → (shown_by text).probes ≢ [] → IsExplainedText o text)
+abbrev pub IsAgreedBy : CheckOptions → Bool → List ℕ → Type 0
+IsAgreedBy o beside text =
+    let s = shown_by o beside text in
+    IsWhole o beside text × (o.by_timers ≡ false → s.probes ≢ [] → IsExplainedText o s)

@@ -5,3 +5,4 @@ pub mod Playing
 pub mod Reading
 pub mod Seen
 pub mod Shown
+pub mod Timed

@@ -1,12 +1,25 @@
 -- What a record that is being read has shown so far, and when its lines of probes are ended.
-use Rattle.std.specs.Prelude.{◌≡◌, false, IfSome, [], Option, None, map, option_map}
+use Rattle.std.specs.Prelude.{◌≡◌, false, IfSome, [], None, map}
 use Rattle.trace_options.specs.declared.options.CheckOptions.{CheckOptions}
 use Rattle.probe_explain.specs.Taken.{IsExplainedWhere}
-use Rattle.timer_record.specs.Kept.{Kept, kept_of}
-use Rattle.check_settings.specs.Heads.{law_by}
-use Rattle.check_record.specs.Playing.{AreSeenBy, IsEqual, IsPlayedBy, lines_in, rules_in, taken_in}
+use Rattle.check_timers.specs.Timers.{timers_of}
+use Rattle.check_settings.specs.Heads.{law_by, told_of}
+use Rattle.check_record.specs.Playing.{AreSeenBy, IsEqual, IsPlayedBy, has_lines, lines_in, rules_in, taken_in}
 use Rattle.check_record.specs.Shown.{Shown, as_read}
+use Rattle.check_record.specs.Timed.{Timed}
 use Rattle.check_record.specs.declared.gathering.Gathering.{Gathering}
+
+-- what lines have told of timers so far
+abbrev pub timed_in : Gathering → Timed
+timed_in g = record {
+  options = g.options.now;
+  beside = g.keeps_timers;
+  probed = has_lines g.probes;
+  told = told_of g.head;
+  opening = g.head.opening;
+  governor = g.head.has_governor;
+  lines = timers_of g.timers;
+}
 
 unfoldable pub shown_in : Gathering → Shown
 shown_in g = record {
@@ -14,11 +27,8 @@ shown_in g = record {
   kernel = g.head.kernel;
   dequeues = g.probes.look.has_dequeues;
   timers = g.probes.look.has_timers;
+  timed = timed_in g;
 }
-
--- what is kept of the lines of timers so far, from the first one on
-abbrev pub kept_in : Gathering → Option Kept
-kept_in g = option_map kept_of g.record
 
 -- unless the verdict is by timers, all lines of probes were played by the rules that are told at their end, and are explained where
 -- nothing differs; where none was played, there is none

@@ -1,5 +1,6 @@
 -- What the lines of a text show: the lines of probes among them, whether these show dequeues and timers, and the kernel that is named.
 use Rattle.std.specs.Prelude.{ℕ, Bool, true, false, ◌||◌, List, [], ◌∷◌, ◌++◌, Option, None}
+use Rattle.trace_options.specs.declared.options.CheckOptions.{CheckOptions}
 use Rattle.trace_data.specs.declared.line.RecordLine.{RecordLine}
 use Rattle.trace_data.specs.declared.line.RecordLine.TheVariants.{Event, Note}
 use Rattle.trace_data.specs.declared.line.Said.{Said}
@@ -12,6 +13,7 @@ use Rattle.trace_lines.specs.declared.line.ToldLine.{ToldLine}
 use Rattle.trace_lines.specs.Reading.{After, reading}
 use Rattle.probe_explain.specs.declared.search.ProbeLine.{ProbeLine}
 use Rattle.probe_start.specs.Looks.{arms_timer, shows_dequeue}
+use Rattle.check_record.specs.Timed.{Timed, noted, timed_at_first, with_event_line, with_probe_line, with_told}
 
 -- a line of a probe: its number in the text, its moment, its CPU, the task that ran there, and what the probe shows
 pub record ShownProbe : Type 0 where
@@ -28,6 +30,7 @@ pub record Shown : Type 0 where
   -- one of them shows a dequeue, or a timer that is armed
   pub dequeues : Bool
   pub timers : Bool
+  pub timed : Timed
 
 -- the kernel that the last such note names
 abbrev pub kernel_noted : TraceNote → Option Kernel → Option Kernel
@@ -36,29 +39,38 @@ kernel_noted other before = before
 
 -- a line of a probe more
 abbrev pub with_probe : ShownProbe → Shown → Shown
-with_probe p s = record s { probes = s.probes ++ p ∷ []; dequeues = s.dequeues || shows_dequeue p.probe; timers = s.timers || arms_timer p.probe }
+with_probe p s = record s {
+  probes = s.probes ++ p ∷ [];
+  dequeues = s.dequeues || shows_dequeue p.probe;
+  timers = s.timers || arms_timer p.probe;
+  timed = with_probe_line p.cpu s.timed;
+}
+
+-- a rule of timers
+abbrev pub retimed : (Timed → Timed) → Shown → Shown
+retimed f s = record s { timed = f s.timed }
 
 -- an event more
 abbrev pub with_said : ℕ → ℕ → ℕ → ℕ → Said → Shown → Shown
 with_said line at cpu pid (said.Probe probe) s = with_probe (record { line = line; at = at; cpu = cpu; pid = pid; probe = probe }) s
-with_said line at cpu pid (said.Fixed fixed) s = s
+with_said line at cpu pid (said.Fixed fixed) s = retimed (with_event_line (record { line = line; at = at; cpu = cpu; pid = pid; fixed = fixed })) s
 
 -- a line more, of this number
 abbrev pub shown_with : ℕ → RecordLine → Shown → Shown
 shown_with n (Event at grain cpu pid said) s = with_said n at cpu pid said s
-shown_with n (Note note) s = record s { kernel = kernel_noted note s.kernel }
+shown_with n (Note note) s = record s { kernel = kernel_noted note s.kernel; timed = noted note s.timed }
 shown_with n other s = s
 
 -- each line that has no flaw is taken, and more is wanted
 abbrev pub with_line : ℕ → ToldLine (List ℕ) → Shown → After Shown
-with_line n told s = record { more = true; seen = shown_with n told.line s }
+with_line n told s = record { more = true; seen = shown_with n told.line (retimed (with_told n told) s) }
 
-abbrev pub nothing_shown : Shown
-nothing_shown = record { probes = []; kernel = None; dequeues = false; timers = false }
+abbrev pub nothing_shown : CheckOptions → Bool → Shown
+nothing_shown o beside = record { probes = []; kernel = None; dequeues = false; timers = false; timed = timed_at_first o beside }
 
--- what the lines of a text show
-unfoldable pub shown_by : List ℕ → Shown
-shown_by text = (reading with_line text nothing_shown).seen
+-- what the lines of a text show, by these options, where lines of timers are kept beside lines of probes or not
+unfoldable pub shown_by : CheckOptions → Bool → List ℕ → Shown
+shown_by o beside text = (reading with_line text (nothing_shown o beside)).seen
 
 -- a line as it was read; how the program names its event is left out
 abbrev pub as_read : ProbeLine → ShownProbe

@@ -1,17 +1,20 @@
 //! A record, line by line: notes, lines of timers that are kept, and lines of probes that are played at once.
 
-ghost use Rattle.std.specs.Prelude.{◌≡◌, ◌&&◌, not, IfOk, IsTrue, None, OnOk};
+ghost use Rattle.std.specs.Prelude.{◌≡◌, ◌&&◌, not, IfOk, IsTrue, None, OnOk, Some};
+ghost use Rattle.trace_lines.specs.ToldTexts.{told_text};
 ghost use Rattle.check_settings.specs.Heads.{chosen, seen_on, told_of};
 ghost use Rattle.check_record.specs.FirstFault.{fault_headed, is_too_late, raised_by};
 ghost use Rattle.check_settings.specs.Opening.{opened_with};
 ghost use Rattle.check_record.specs.Playing.{has_lines};
 ghost use Rattle.check_record.specs.Seen.{IsEnded, shown_in};
-ghost use Rattle.check_record.specs.Shown.{as_read, nothing_shown, shown_with, with_probe, with_said};
+ghost use Rattle.check_record.specs.Shown.{as_read, nothing_shown, retimed, shown_with, with_probe, with_said};
+ghost use Rattle.check_record.specs.Timed.{governed, headed, opened, probe_seen, shown_told, with_told};
 
 use crate::laws::RecordLaws;
 use crate::names::Names;
 use crate::probes::{Probes, SeenRecord, ToldSettings};
 use crate::whole::RecordRequest;
+use check_timers::RecordTimers;
 use check_settings::{
     OpeningSign, RecordHead, is_frequency, is_older, opening_by_change, opening_of,
 };
@@ -22,7 +25,6 @@ use probe_lines::event_of;
 use probe_verdict::DroppedLines;
 use std::alloc::{AllocError, Global};
 use task_figures::shows_class;
-use timer_record::OpenRecord;
 use trace_data::{Flaw, RecordLine, Said, TraceNote};
 use trace_faults::Fault;
 use trace_lines::{Lines, ToldLine};
@@ -49,18 +51,8 @@ pub struct Gathering<'o> {
     /// The pid of the last line that showed a task.
     pub(crate) last: Option<u64>,
 
-    /// Of each given task, the pid with which a line has shown it.
-    pub(crate) found: Vec<Option<u64>>,
-
-    /// Whether a line has shown each of them.
-    pub(crate) has_found: bool,
-
-    /// The lines of timers; none before the first line of an event.
-    pub(crate) record: Option<OpenRecord>,
-    pub(crate) has_timers: bool,
-
-    /// The latest moment of a line of an event that was kept.
-    pub(crate) latest: u64,
+    /// The lines of timers, with the tasks that options give.
+    pub(crate) timers: RecordTimers<'o>,
 
     /// The moment of the last line of an event, and the first line that is before the one before it.
     pub(crate) before: u64,
@@ -126,24 +118,17 @@ impl<'o> Gathering<'o> {
         options: &'o CheckOptions<'o>,
         request: RecordRequest<'_>,
     ) -> Result<Gathering<'o>, AllocError>
-        ensures { IfOk result (λ g. shown_in g ≡ nothing_shown) }
+        ensures { IfOk result (λ g.
+            shown_in g ≡ nothing_shown options.entry.now request.entry.keeps_timers) }
     {
         let keeps_lines = options.explains || request.keeps_timers || request.path == "-";
-        let mut found = Vec::new(alloc);
-        for _ in 0..options.tasks.len() {
-            found.push(None)?;
-        }
         Ok(Gathering {
             alloc,
             options,
             head: RecordHead::new(alloc),
             names: Names::new(alloc),
             last: None,
-            found,
-            has_found: options.tasks.is_empty(),
-            record: None,
-            has_timers: false,
-            latest: 0,
+            timers: RecordTimers::new(alloc, &options.tasks)?,
             before: 0,
             earlier: None,
             has_notes: false,
@@ -182,8 +167,17 @@ impl<'o> Gathering<'o> {
 
     /// Takes what a line tells, whose number counts from 1.
     fn take_told(&mut self, number: u64, told: &ToldLine<&[u8]>) -> Result<(), AllocError>
-        ensures { OnOk result
-            (shown_in self.new ≡ shown_with number told.now.line (shown_in self.old)) }
+        ensures { OnOk result (shown_in self.new ≡ shown_with number told.now.line
+            (retimed (with_told number (told_text told.now)) (shown_in self.old))) }
+    {
+        self.see_beside(number, told)?;
+        self.take_line(number, told.line)
+    }
+
+    /// Takes what a line tells beside what it says.
+    fn see_beside(&mut self, number: u64, told: &ToldLine<&[u8]>) -> Result<(), AllocError>
+        ensures { OnOk result (shown_in self.new
+            ≡ retimed (with_told number (told_text told.now)) (shown_in self.old)) }
     {
         self.see_head(number, told.processors);
         self.see_domain(number, told.domain)?;
@@ -192,14 +186,13 @@ impl<'o> Gathering<'o> {
         self.see_governor(told.governor.is_some() || is_frequency(told.change));
         self.see_opening(number, opening_by_change(told.change));
         self.see_warning(told.warning)?;
-        self.see_shown(number, told)?;
-        self.take_line(number, told.line)
+        self.see_shown(number, told)
     }
 
     /// A note or an event may tell that something sets the frequency of a CPU.
     #[tactic(auto, unfolding(crate::specs::Seen::shown_in))]
     fn see_governor(&mut self, is_told: bool)
-        ensures { shown_in self.new ≡ shown_in self.old }
+        ensures { shown_in self.new ≡ retimed (governed is_told) (shown_in self.old) }
     {
         self.head.has_governor = self.head.has_governor || is_told;
     }
@@ -217,17 +210,30 @@ impl<'o> Gathering<'o> {
 
     /// A line may show a task.
     fn see_shown(&mut self, number: u64, told: &ToldLine<&[u8]>) -> Result<(), AllocError>
-        ensures { shown_in self.new ≡ shown_in self.old }
+        ensures { OnOk result (shown_in self.new ≡ retimed
+            (shown_told number told.now.line (told_text told.now).shown) (shown_in self.old)) }
     {
         match told.shown {
-            Some(shown) => {
-                self.show(shown.pid, shown.comm, shows_class(&told.line))?;
-                self.see_older(is_older(&told.line, shown.comm));
-                self.see_opening(number, opening_of(&told.line, shown.comm));
-                Ok(())
-            }
+            Some(shown) => self.see_task(number, &told.line, shown.pid, shown.comm),
             None => Ok(()),
         }
+    }
+
+    /// A line shows the task of this pid with this comm.
+    fn see_task(
+        &mut self,
+        number: u64,
+        line: &RecordLine,
+        pid: u64,
+        comm: &[u8],
+    ) -> Result<(), AllocError>
+        ensures { OnOk result (shown_in self.new ≡ retimed (shown_told number line.now
+            (Some (record { comm = comm.now; pid = pid }))) (shown_in self.old)) }
+    {
+        self.show(pid, comm, shows_class(line))?;
+        self.see_older(is_older(line, comm));
+        self.see_opening(number, opening_of(line, comm));
+        Ok(())
     }
 
     /// A line may show that `extra_bw` is not known any more.
@@ -235,7 +241,7 @@ impl<'o> Gathering<'o> {
     pub(crate) fn see_opening(&mut self, number: u64, sign: Option<OpeningSign>)
         ensures opening { self.new.head.opening ≡ opened_with sign number self.old.head.opening }
         ensures told { told_of self.new.head ≡ told_of self.old.head }
-        ensures shown { shown_in self.new ≡ shown_in self.old }
+        ensures shown { shown_in self.new ≡ retimed (opened number sign) (shown_in self.old) }
     {
         if let Some(sign) = sign {
             self.head.see_sign(number, sign);
@@ -282,7 +288,7 @@ impl<'o> Gathering<'o> {
         self.see_moment(read);
         self.hold_to_laws(read, &said)?;
         match said {
-            Said::Fixed(fixed) => self.fixed(read.line, read.at, read.cpu, read.pid, fixed),
+            Said::Fixed(fixed) => self.fixed(read, fixed),
             Said::Probe(probe) => self.probe(ProbeLine {
                 place: ProbedLine {
                     line: read.line,
@@ -325,7 +331,7 @@ impl<'o> Gathering<'o> {
         ensures processors { self.new.head.processors ≡ chosen self.old.head.processors processors }
         ensures fault { self.new.fault
             ≡ fault_headed self.old.head.processors processors number self.old.fault }
-        ensures shown { shown_in self.new ≡ shown_in self.old }
+        ensures shown { shown_in self.new ≡ retimed (headed processors) (shown_in self.old) }
     {
         if self.head.processors.is_some() {
             return;
@@ -359,10 +365,10 @@ impl<'o> Gathering<'o> {
     #[tactic(auto, unfolding(crate::specs::Seen::shown_in))]
     fn see_probe(&mut self, cpu: u32)
         ensures head { told_of self.new.head ≡ seen_on cpu (told_of self.old.head) }
-        ensures shown { shown_in self.new ≡ shown_in self.old }
+        ensures shown { shown_in self.new ≡ retimed (probe_seen cpu) (shown_in self.old) }
     {
         if self.plays_probes() && !self.keeps_timers {
-            self.record = None;
+            self.timers.forget();
         }
         self.head.greatest_cpu = self.head.greatest_cpu.max(cpu);
     }

@@ -67,16 +67,3 @@ impl Names {
         Ok(out)
     }
 }
-
-/// Whether a name of an option, a pid or a comm, is this task's.
-pub(crate) fn is_named(name: &str, pid: u64, comm: &[u8]) -> bool {
-    let bytes = name.as_bytes();
-    if bytes.iter().all(|b| b.is_ascii_digit()) {
-        match name.parse::<u64>() {
-            Ok(number) => number == pid,
-            Err(_) => false,
-        }
-    } else {
-        bytes == comm
-    }
-}

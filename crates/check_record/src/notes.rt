@@ -1,9 +1,10 @@
 //! What the notes of a record tell.
 
-ghost use Rattle.std.specs.Prelude.{◌≡◌, OnOk};
+ghost use Rattle.std.specs.Prelude.{◌≡◌, OnOk, option_map};
 ghost use Rattle.trace_data.specs.declared.line.RecordLine.TheVariants.{Note};
-ghost use Rattle.check_record.specs.Seen.{shown_in};
-ghost use Rattle.check_record.specs.Shown.{shown_with};
+ghost use Rattle.check_record.specs.Seen.{shown_in, timed_in};
+ghost use Rattle.check_record.specs.Shown.{retimed, shown_with};
+ghost use Rattle.check_record.specs.Timed.{domained, task_noted};
 ghost use Rattle.check_settings.specs.Heads.{noted_with, told_of};
 ghost use Rattle.check_record.specs.Lost.{changed_by, dropped_with, fault_noted, is_another_by, is_behind_by, losing_by, lost_by, lost_line_by};
 
@@ -24,7 +25,8 @@ impl Gathering<'_> {
         number: u64,
         domain: Option<&[u8]>,
     ) -> Result<(), AllocError>
-        ensures { shown_in self.new ≡ shown_in self.old }
+        ensures { OnOk result (shown_in self.new
+            ≡ retimed (domained (option_map (λ d. d.now) domain.entry)) (shown_in self.old)) }
     {
         let Some(domain) = domain else {
             return Ok(());
@@ -82,7 +84,7 @@ impl Gathering<'_> {
     pub(crate) fn note(&mut self, number: u64, note: TraceNote) -> Result<(), AllocError>
         ensures head { OnOk result (told_of self.new.head ≡ noted_with note (told_of self.old.head)) }
         ensures fault { OnOk result (self.new.fault
-            ≡ fault_noted note number self.old.latest self.old.fault) }
+            ≡ fault_noted note number (timed_in self.old).lines.latest self.old.fault) }
         ensures changed { OnOk result (self.new.changed_line
             ≡ changed_by note number self.old.head.limit self.old.changed_line) }
         ensures shown { OnOk result
@@ -118,7 +120,7 @@ impl Gathering<'_> {
                 cpu,
                 policy,
             } => {
-                if is_behind(at, self.latest) {
+                if is_behind(at, self.timers.latest()) {
                     self.fault = Some(Fault::BadNote { line: number });
                     return Ok(());
                 }
@@ -145,14 +147,12 @@ impl Gathering<'_> {
         ensures head { self.new.head ≡ self.old.head }
         ensures fault { self.new.fault ≡ self.old.fault }
         ensures changed { self.new.changed_line ≡ self.old.changed_line }
-        ensures shown { shown_in self.new ≡ shown_in self.old }
+        ensures shown { OnOk result (shown_in self.new
+            ≡ retimed (task_noted pid at by cpu policy) (shown_in self.old)) }
     {
         self.has_notes = true;
-        self.begin()?;
-        match &mut self.record {
-            Some(record) => record.note(pid, at, by, cpu, policy),
-            None => Ok(()),
-        }
+        self.begin();
+        self.timers.note(pid, at, by, cpu, policy)
     }
 }
 

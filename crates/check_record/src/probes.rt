@@ -1,6 +1,6 @@
 //! The lines of probes of a record: they are played as they come.
 
-ghost use Rattle.std.specs.Prelude.{◌≡◌, ◌∷◌, ◌++◌, ◌||◌, ◌&&◌, [], IfOk, IfSome, IsTrue, None, OnOk, false, is_none};
+ghost use Rattle.std.specs.Prelude.{◌≡◌, ◌∷◌, ◌++◌, ◌||◌, ◌&&◌, [], IfOk, IfSome, IsTrue, None, OnOk, false, is_none, true};
 ghost use Rattle.check_settings.specs.Heads.{chosen, law_by};
 ghost use Rattle.probe_explain.specs.Taken.{IsExplainedWhere};
 ghost use Rattle.probe_findings.specs.Tallies.{none_differs};
@@ -102,6 +102,7 @@ impl Probes {
     /// No line. With `keeps_all` all are kept, and played at their end.
     pub(crate) fn new(alloc: Global, keeps_rows: bool, keeps_all: bool) -> Probes
         ensures lines { lines_in result ≡ [] }
+        ensures none { has_lines result ≡ false }
         ensures dequeues { result.look.has_dequeues ≡ false }
         ensures timers { result.look.has_timers ≡ false }
     {
@@ -126,6 +127,7 @@ impl Probes {
     /// The record was looked at before.
     pub(crate) fn tell(&mut self, seen: SeenRecord)
         ensures lines { lines_in self.new ≡ lines_in self.old }
+        ensures some { has_lines self.new ≡ has_lines self.old }
         ensures look { self.new.look ≡ self.old.look }
     {
         self.seen_before = Some(seen);
@@ -146,6 +148,7 @@ impl Probes {
         names: &Names,
     ) -> Result<(), AllocError>
         ensures lines { OnOk result (lines_in self.new ≡ lines_in self.old ++ line ∷ []) }
+        ensures some { OnOk result (has_lines self.new ≡ true) }
         ensures dequeues { OnOk result
             (self.new.look.has_dequeues ≡ (self.old.look.has_dequeues || shows_dequeue line.probe)) }
         ensures timers { OnOk result
@@ -178,6 +181,7 @@ impl Probes {
         names: &Names,
     ) -> Result<(), AllocError>
         ensures lines { OnOk result (lines_in self.new ≡ lines_in self.old ++ line ∷ []) }
+        ensures some { OnOk result (has_lines self.new ≡ true) }
         ensures look { self.new.look ≡ self.old.look }
     {
         match &mut self.played {
@@ -195,6 +199,7 @@ impl Probes {
     ) -> Result<(), AllocError>
         requires { self.old.played ≡ None }
         ensures lines { OnOk result (lines_in self.new ≡ lines_in self.old ++ line ∷ []) }
+        ensures some { OnOk result (has_lines self.new ≡ true) }
         ensures look { self.new.look ≡ self.old.look }
     {
         self.kept.push(line)?;
@@ -213,6 +218,7 @@ impl Probes {
     /// Ends the lines. False where the record is to be read again, since its end shows what its begin did not.
     pub(crate) fn end(&mut self, told: ToldSettings<'_>, names: &Names) -> Result<bool, AllocError>
         ensures lines { IfOk result (λ over. IsTrue over → lines_in self.new ≡ lines_in self.old) }
+        ensures some { IfOk result (λ over. IsTrue over → has_lines self.new ≡ has_lines self.old) }
         ensures none { IfOk result (λ over. IsTrue over →
             taken_in self.new ≡ None → lines_in self.new ≡ []) }
         ensures rules { IfOk result (λ over. IsTrue over → IfSome (rules_in self.new)
@@ -234,6 +240,7 @@ impl Probes {
     /// Plays the lines of a record that is not played yet.
     fn play_rest(&mut self, told: ToldSettings<'_>, names: &Names) -> Result<(), AllocError>
         ensures lines { OnOk result (lines_in self.new ≡ lines_in self.old) }
+        ensures some { OnOk result (has_lines self.new ≡ has_lines self.old) }
         ensures none { OnOk result (taken_in self.new ≡ None → lines_in self.new ≡ []) }
         ensures look { self.new.look ≡ self.old.look }
     {
@@ -263,6 +270,7 @@ impl Probes {
     fn finish(&mut self, told: ToldSettings<'_>, names: &Names) -> Result<(), AllocError>
         ensures rules { OnOk result (rules_in self.new ≡ rules_in self.old) }
         ensures lines { OnOk result (lines_in self.new ≡ lines_in self.old) }
+        ensures some { OnOk result (has_lines self.new ≡ has_lines self.old) }
         ensures explained { OnOk result (IfSome (taken_in self.new) IsExplainedWhere) }
         ensures look { self.new.look ≡ self.old.look }
     {
@@ -278,6 +286,7 @@ impl Probes {
     fn end_played(&mut self) -> Result<(), AllocError>
         ensures rules { OnOk result (rules_in self.new ≡ rules_in self.old) }
         ensures lines { OnOk result (lines_in self.new ≡ lines_in self.old) }
+        ensures some { OnOk result (has_lines self.new ≡ has_lines self.old) }
         ensures explained { OnOk result (IfSome (taken_in self.new) IsExplainedWhere) }
         ensures look { self.new.look ≡ self.old.look }
     {
@@ -316,6 +325,7 @@ impl Probes {
     fn play_kept(&mut self, told: ToldSettings<'_>, names: &Names) -> Result<(), AllocError>
         requires { self.old.played ≡ None }
         ensures lines { OnOk result (lines_in self.new ≡ lines_in self.old) }
+        ensures some { OnOk result (has_lines self.new ≡ has_lines self.old) }
         ensures none { OnOk result (taken_in self.new ≡ None → lines_in self.new ≡ []) }
         ensures look { self.new.look ≡ self.old.look }
     {

@@ -3,9 +3,8 @@
 ghost use Rattle.std.specs.Prelude.{◌≡◌, OnOk};
 ghost use Rattle.trace_file.specs.Reading.{IsSoOf};
 ghost use Rattle.check_record.specs.FirstFault.{earlier_of, fault_read, is_before_by};
-ghost use Rattle.check_record.specs.Reading.{HasShown, ended_by};
+ghost use Rattle.check_record.specs.Reading.{HasShownFrom, ended_by};
 ghost use Rattle.check_record.specs.Seen.{shown_in};
-ghost use Rattle.check_record.specs.Shown.{nothing_shown};
 
 use crate::gathering::Gathering;
 use std::alloc::{AllocError, Global};
@@ -55,9 +54,9 @@ pub(crate) fn read_trace<
 ) -> Result<(), Fault<'o>>
     requires opens { O.IsAlwaysCallable opens.now }
     requires read { N.IsAlwaysCallable read.now }
-    requires nothing { shown_in gathering.old ≡ nothing_shown }
     ensures { OnOk result (IsSoOf O.Fn opens.now N.Fn read.now path.now
-        (HasShown (shown_in gathering.new))) }
+        (HasShownFrom (shown_in gathering.old) (shown_in gathering.new))) }
+
 {
     match read_lines(alloc, opens, read, path, gathering) {
         Ok(halt) => end_of(halt),

@@ -47,7 +47,7 @@ pub fn gathered_whole<
     requires opens { O.IsAlwaysCallable opens.now }
     requires read { N.IsAlwaysCallable read.now }
     ensures shown { IfOk result (λ g. IsSoOf O.Fn opens.now N.Fn read.now request.entry.path.now
-        (HasShown (shown_in g))) }
+        (HasShown options.entry.now request.entry.keeps_timers (shown_in g))) }
     ensures ended { IfOk result (IsEnded options.entry.now) }
 {
     let mut gathering = gathered(alloc, opens, read, request, options, None)?;
@@ -80,7 +80,7 @@ fn gathered<
     requires opens { O.IsAlwaysCallable opens.now }
     requires read { N.IsAlwaysCallable read.now }
     ensures { IfOk result (λ g. IsSoOf O.Fn opens.now N.Fn read.now request.entry.path.now
-        (HasShown (shown_in g))) }
+        (HasShown options.entry.now request.entry.keeps_timers (shown_in g))) }
 {
     let mut gathering = begun(alloc, options, request, seen)?;
     match read_trace(alloc, opens, read, request.path, &mut gathering) {
@@ -99,7 +99,8 @@ fn begun<'o>(
     request: RecordRequest<'_>,
     seen: Option<SeenRecord>,
 ) -> Result<Gathering<'o>, AllocError>
-    ensures { IfOk result (λ g. shown_in g ≡ nothing_shown) }
+    ensures { IfOk result (λ g.
+        shown_in g ≡ nothing_shown options.entry.now request.entry.keeps_timers) }
 {
     let mut gathering = Gathering::new(alloc, options, request)?;
     match seen {

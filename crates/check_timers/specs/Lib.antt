@@ -1,2 +1,3 @@
 pub mod Sought
 pub mod Timers
+pub mod Wanted

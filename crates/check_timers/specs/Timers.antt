@@ -7,7 +7,7 @@ use Rattle.timer_record.specs.Records.{EventLine, given_in, kept_with, noted_in}
 use Rattle.check_timers.specs.Sought.{place_of, unshown}
 use Rattle.check_timers.specs.declared.sought.SoughtTask.{SoughtTask}
 use Rattle.check_timers.specs.declared.timers.RecordTimers.{RecordTimers}
-use Rattle.check_timers.specs.declared.timers.WantedLines.{WantedLines}
+use Rattle.check_timers.specs.declared.wanted.WantedLines.{WantedLines}
 
 -- the given tasks; the latest moment of a line; what is kept, from the first line or note on
 pub record Timers : Type 0 where

@@ -3,6 +3,8 @@
 
 mod sought;
 mod timers;
+mod wanted;
 
 pub use sought::SoughtTask;
-pub use timers::{RecordTimers, WantedLines};
+pub use timers::RecordTimers;
+pub use wanted::{WantedLines, wanted_by};

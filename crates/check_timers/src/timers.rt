@@ -1,26 +1,18 @@
 //! The lines of timers of a record that are kept so far.
 
-ghost use Rattle.std.specs.Prelude.{◌≡◌, IfOk, OnOk, Some, map, option_map};
+ghost use Rattle.std.specs.Prelude.{◌≡◌, IfOk, OnOk, Some, map, option_and_then, option_map};
 ghost use Rattle.timer_record.specs.Kept.{kept_of};
+ghost use Rattle.timer_record.specs.Late.{late_noted};
 ghost use Rattle.timer_record.specs.Records.{given_in};
 ghost use Rattle.check_timers.specs.Sought.{unshown};
 ghost use Rattle.check_timers.specs.Timers.{begun, forgotten, found_at, kept_from, timers_at_first, timers_of, with_event, with_note, with_shown};
 
 use crate::sought::{SoughtTask, place_of, unshown};
+use crate::wanted::WantedLines;
 use std::alloc::{AllocError, Global};
 use timer_record::{GivenReservation, OpenRecord, Unlisted};
 use trace_data::{Fixed, Policy};
 use trace_options::TaskOption;
-
-/// Which lines are kept beside those of timers and tasks.
-#[derive(Clone, Copy)]
-pub struct WantedLines {
-    /// Those that say no more than that a CPU idles.
-    pub idle: bool,
-
-    /// Those of cancelled timers.
-    pub cancels: bool,
-}
 
 /// The lines of timers of a record, with the tasks that options give.
 #[derive(Drop)]
@@ -154,6 +146,16 @@ impl<'o> RecordTimers<'o> {
         match &mut self.record {
             Some(record) => record.give(given),
             None => Ok(()),
+        }
+    }
+
+    /// The pid of a task that a line of this moment shows in the class, though its notes put it outside.
+    pub fn late_noted(&self, at: u64, fixed: &Fixed) -> Option<u64>
+        ensures { result ≡ option_and_then (late_noted at fixed.now) (timers_of self.now).kept }
+    {
+        match &self.record {
+            Some(record) => record.late_noted(at, fixed),
+            None => None,
         }
     }
 

@@ -1,23 +1,20 @@
 -- A verdict by timers, and the text that was read.
-use Rattle.std.proofs.Common.{◌≡◌, ℕ, ◌+◌, Bool, true, false, not, ◌||◌, cond, List, [], ◌∷◌, Option, Some, None, is_none, option_map, Result, Ok, Err, IfOk, IsTrue, refl, sym, ap, subst, ◌∙◌, unwrap_or}
+use Rattle.std.proofs.Common.{◌≡◌, ℕ, ◌+◌, ◌==◌, Bool, true, false, not, ◌||◌, cond, List, [], ◌∷◌, length, Option, Some, None, is_none, is_some, option_map, Result, Ok, Err, IfOk, IsTrue, refl, sym, ap, subst, ◌∙◌}
 use Rattle.std.specs.List.{list_any, position, position_from}
 use Rattle.std.proofs.lemmas.Iterator.Adapters.{position_from-zero}
-use Rattle.kernel_entity.specs.declared.charge.ChargeLaw.{ChargeLaw}
 use Rattle.text_bytes.specs.Source.{Opener, Reader}
 use Rattle.trace_file.specs.Reading.{IsSoOf}
 use Rattle.trace_file.proofs.SoLemmas.{so_by}
 use Rattle.trace_options.specs.declared.options.CheckOptions.{CheckOptions}
 use Rattle.trace_faults.specs.declared.fault.Fault.{Fault}
-use Rattle.check_record.specs.Explains.{law_of}
 use Rattle.check_record.specs.Reading.{HasShown}
-use Rattle.check_record.specs.Seen.{kept_in, shown_in}
+use Rattle.check_record.specs.Seen.{shown_in, timed_in}
 use Rattle.check_record.specs.Shown.{Shown, shown_by}
 use Rattle.check_record.specs.declared.gathering.Gathering.{Gathering}
-use Rattle.check_settings.specs.Heads.{domain_by, law_by, open_from, settings_by}
-use Rattle.timer_play.specs.Kernels.{current, fixed_of, law_for, setup_by}
+use Rattle.check_record.specs.declared.played.Played.{Played}
+use Rattle.check_settings.specs.Heads.{domain_by, open_from, settings_by}
+use Rattle.timer_play.specs.Kernels.{setup_by}
 use Rattle.timer_play.specs.Playing.{observations_of}
-use Rattle.timer_play.specs.declared.setup.KernelSettings.{KernelSettings}
-use Rattle.timer_play.specs.declared.setup.NoSums.{NoSums}
 use Rattle.timer_play.specs.declared.setup.RecordSetup.{RecordSetup}
 use Rattle.timer_play.specs.declared.setup.RecordStart.{RecordStart}
 use Rattle.timer_record.specs.Records.{ended_in, lines_of}
@@ -44,8 +41,8 @@ no_first p xs = ap is_none (position_from-zero p xs) ∙ none_from p 0 xs
 pub timed : (r : Result Verdict Fault) (o : CheckOptions) (g : Gathering) (setup : RecordSetup) (start : RecordStart) (lines : KeptLines) (j : Judged)
     → IfOk r (λ (v : Verdict). v.agrees ≡ is_none j.first) → IsJudged j
     → j.outcome.observations.items ≡ compared_by g.head.has_governor lines (observations_of setup start lines o.within)
-    → option_map ended_in (kept_in g) ≡ Some (lines_of lines) → start.domain.items ≡ domain_by g.head o → start.sums.items ≡ g.head.sums.items
-    → start.open_from ≡ open_from g.head.opening → setup_by (settings_by g.head o) start ≡ Ok setup → IfOk r (λ (v : Verdict). IsTimedVerdict o g.head (kept_in g) v.agrees)
+    → option_map ended_in (timed_in g).lines.kept ≡ Some (lines_of lines) → start.domain.items ≡ domain_by g.head o → start.sums.items ≡ g.head.sums.items
+    → start.open_from ≡ open_from g.head.opening → setup_by (settings_by g.head o) start ≡ Ok setup → IfOk r (λ (v : Verdict). IsTimedVerdict o g.head (timed_in g).lines.kept v.agrees)
 timed (Ok v) o g setup start lines j agrees judged observed gathered domain sums unknown by = record {
   setup = setup;
   start = start;
@@ -59,26 +56,26 @@ timed (Ok v) o g setup start lines j agrees judged observed gathered domain sums
 }
 timed (Err e) o g setup start lines j agrees judged observed gathered domain sums unknown by = tt
 
-law_if : (b : Bool) (s setup : RecordSetup) (no : NoSums) → cond b (Err no) (Ok s) ≡ Ok setup → s ≡ setup
-law_if true s setup no e = absurd (grind e)
-law_if false s setup no e = grind e
-
--- by whose arithmetic the play is
-law_set : (k : KernelSettings) (x : RecordStart) (s : RecordSetup) → setup_by k x ≡ Ok s → s.law ≡ law_for k (unwrap_or k.kernel current)
-law_set k x s e = ap (λ (t : RecordSetup). t.law) (sym (law_if _ (fixed_of k x (unwrap_or k.kernel current)) s _ e))
+-- where no line of a probe came, none was played
+by_timers : (b : Bool) (p : Option Played) (some : Bool) → IsTrue (b || not (is_some p || some)) → IsTrue (b || is_none (option_map (λ (q : Played). q.player) p))
+by_timers true p some asked = asked
+by_timers false None some asked = tt
+by_timers false (Some q) some asked = absurd asked
 
 -- what a verdict on what was gathered says of the text
-pub of_text : (o : CheckOptions) (g : Gathering) (agrees : Bool) → IsTimed o g agrees → (text : List ℕ) → HasShown (shown_in g) text → IsTimedBy o agrees text
-unfolding shown_in
-of_text o g agrees timed text (whole, shows) asked =
-    let v = timed (grind asked) in record {
-      setup = v.setup;
-      start = v.start;
-      lines = v.lines;
-      governor = g.head.has_governor;
-      law = law_set (settings_by g.head o) v.start v.setup v.by ∙ ap (λ (s : Shown). law_of s o) (sym shows);
-      verdict = v.verdict;
-    }
+pub of_text : (o : CheckOptions) (beside : Bool) (g : Gathering) (agrees : Bool) → IsTimed o g agrees → (text : List ℕ)
+    → HasShown o beside (shown_in g) text → IsTimedBy o beside agrees text
+unfolding shown_in, shown_by
+of_text o beside g agrees timed text (whole, shows) =
+    let F : Shown → Type 0 = λ s. IsTrue (o.by_timers || not s.timed.probed) → IsTimedText o agrees s in
+    let so : F (shown_in g) = λ asked. record {
+      head = g.head;
+      told = refl;
+      opening = refl;
+      governor = refl;
+      verdict = timed (by_timers o.by_timers g.probes.played (not (length g.probes.kept.items == 0)) asked);
+    } in
+    subst F (sym shows) so
 
 -- what follows of a verdict that differs
 pub of_unequal : (r : Result Verdict Fault) (E P : Type 0) → IfOk r (λ (v : Verdict). v.agrees ≡ false → E) → (E → P) → IfOk r (λ (v : Verdict). v.agrees ≡ false → P)
@@ -86,7 +83,9 @@ of_unequal (Ok v) E P so to = λ differs. to (so differs)
 of_unequal (Err e) E P so to = so
 
 module _ {O N D : Type 0} (o : Opener O D) (opener : O) (g : Reader N D) (read : N) (name : List ℕ) where
-  pub timed_in : (options : CheckOptions) (gathering : Gathering) (agrees : Bool) → IsSoOf o opener g read name (HasShown (shown_in gathering))
-      → IsTimed options gathering agrees → IsSoOf o opener g read name (IsTimedBy options agrees)
-  timed_in options gathering agrees so timed =
-      so_by o opener g read (HasShown (shown_in gathering)) (IsTimedBy options agrees) name (of_text options gathering agrees timed) so
+  pub timed_by : (options : CheckOptions) (beside : Bool) (gathering : Gathering) (agrees : Bool)
+      → IsSoOf o opener g read name (HasShown options beside (shown_in gathering)) → IsTimed options gathering agrees
+      → IsSoOf o opener g read name (IsTimedBy options beside agrees)
+  timed_by options beside gathering agrees so timed =
+      so_by o opener g read (HasShown options beside (shown_in gathering)) (IsTimedBy options beside agrees) name
+      (of_text options beside gathering agrees timed) so

@@ -1,5 +1,5 @@
 -- A verdict that agrees, and what was read.
-use Rattle.std.proofs.Common.{◌≡◌, ℕ, false, List, Result, Ok, Err, IfOk, IsOkAnd, IsTrue}
+use Rattle.std.proofs.Common.{◌≡◌, ℕ, Bool, false, List, Result, Ok, Err, IfOk, IsOkAnd, IsTrue}
 use Rattle.text_bytes.specs.Source.{Opener, Reader}
 use Rattle.trace_file.specs.Reading.{IsSoOf}
 use Rattle.trace_file.proofs.SoLemmas.{so_by}
@@ -30,7 +30,9 @@ of_equal (Ok v) E P so to = λ agrees kept. to (so agrees kept)
 of_equal (Err e) E P so to = so
 
 module _ {O N D : Type 0} (o : Opener O D) (opener : O) (g : Reader N D) (read : N) (name : List ℕ) where
-  pub explained : (options : CheckOptions) (gathering : Gathering) → IsSoOf o opener g read name (HasShown (shown_in gathering))
-      → IsEnded options gathering → NothingDiffers options gathering → IsSoOf o opener g read name (IsAgreedBy options)
-  explained options gathering so ended equal =
-      so_by o opener g read (HasShown (shown_in gathering)) (IsAgreedBy options) name (agreed options gathering ended equal) so
+  pub explained : (options : CheckOptions) (beside : Bool) (gathering : Gathering)
+      → IsSoOf o opener g read name (HasShown options beside (shown_in gathering)) → IsEnded options gathering → NothingDiffers options gathering
+      → IsSoOf o opener g read name (IsAgreedBy options beside)
+  explained options beside gathering so ended equal =
+      so_by o opener g read (HasShown options beside (shown_in gathering)) (IsAgreedBy options beside) name
+      (agreed options gathering beside ended equal) so

@@ -1,12 +1,11 @@
 -- A verdict by timers: it agrees where no timer that is compared is elsewhere than the rules put it.
-use Rattle.std.specs.Prelude.{◌≡◌, ℕ, Bool, not, ◌||◌, List, Option, Some, is_none, option_map, Ok, IsTrue}
+use Rattle.std.specs.Prelude.{◌≡◌, ℕ, Bool, not, ◌||◌, List, Option, Some, is_none, is_some, option_map, Ok, IsTrue}
 use Rattle.std.specs.List.{list_any}
-use Rattle.check_record.specs.Explains.{law_of}
 use Rattle.check_record.specs.Playing.{taken_in}
-use Rattle.check_record.specs.Seen.{kept_in}
-use Rattle.check_record.specs.Shown.{shown_by}
+use Rattle.check_record.specs.Seen.{timed_in}
+use Rattle.check_record.specs.Shown.{Shown, shown_by}
 use Rattle.check_record.specs.declared.gathering.Gathering.{Gathering}
-use Rattle.check_settings.specs.Heads.{domain_by, open_from, settings_by}
+use Rattle.check_settings.specs.Heads.{domain_by, open_from, settings_by, told_of}
 use Rattle.check_settings.specs.declared.head.RecordHead.{RecordHead}
 use Rattle.timer_play.specs.Kernels.{setup_by}
 use Rattle.timer_play.specs.Playing.{observations_of}
@@ -18,6 +17,7 @@ use Rattle.timer_record.specs.declared.lines.KeptLines.{KeptLines}
 use Rattle.timer_verdict.specs.Speed.{compared_by}
 use Rattle.timer_verdict.specs.Verdicts.{deviates}
 use Rattle.trace_options.specs.declared.options.CheckOptions.{CheckOptions}
+use Rattle.trace_check.specs.declared.check.CheckRequest.{CheckRequest}
 
 -- the play of these lines, begun so, comes to this verdict
 abbrev pub IsVerdictOn : RecordSetup → RecordStart → KeptLines → Bool → ℕ → Bool → Type 0
@@ -40,17 +40,22 @@ abbrev pub is_by_timers : CheckOptions → Gathering → Bool
 is_by_timers o g = o.by_timers || is_none (taken_in g.probes)
 
 abbrev pub IsTimed : CheckOptions → Gathering → Bool → Type 0
-IsTimed o g agrees = IsTrue (is_by_timers o g) → IsTimedVerdict o g.head (kept_in g) agrees
+IsTimed o g agrees = IsTrue (is_by_timers o g) → IsTimedVerdict o g.head (timed_in g).lines.kept agrees
 
--- a verdict on a text, by the arithmetic of the kernel that is named
-pub record IsTimedText (o : CheckOptions) (agrees : Bool) (text : List ℕ) : Type 0 where
-  pub setup : RecordSetup
-  pub start : RecordStart
-  pub lines : KeptLines
-  pub governor : Bool
-  pub law : setup.law ≡ law_of (shown_by text) o
-  pub verdict : IsVerdictOn setup start lines governor o.within agrees
+-- a verdict on what the lines of a text show: on the lines of timers that are kept of it, by what its notes tell
+pub record IsTimedText (o : CheckOptions) (agrees : Bool) (s : Shown) : Type 0 where
+  pub head : RecordHead
+  pub told : told_of head ≡ s.timed.told
+  pub opening : head.opening ≡ s.timed.opening
+  pub governor : head.has_governor ≡ s.timed.governor
+  pub verdict : IsTimedVerdict o head s.timed.lines.kept agrees
 
--- where timers are asked for
-abbrev pub IsTimedBy : CheckOptions → Bool → List ℕ → Type 0
-IsTimedBy o agrees text = IsTrue o.by_timers → IsTimedText o agrees text
+-- lines of timers are kept beside lines of probes where states are wanted
+abbrev pub shows_states : CheckRequest → Bool
+shows_states w = is_some w.json || is_some w.picture
+
+-- where timers are asked for, or there is no line of a probe
+abbrev pub IsTimedBy : CheckOptions → Bool → Bool → List ℕ → Type 0
+IsTimedBy o beside agrees text =
+    let s = shown_by o beside text in
+    IsTrue (o.by_timers || not s.timed.probed) → IsTimedText o agrees s

@@ -1,7 +1,7 @@
 //! The verdict by timers.
 
 ghost use Rattle.std.specs.Prelude.{◌≡◌, IfOk, Ok, Some, is_none, option_map};
-ghost use Rattle.check_record.specs.Seen.{kept_in};
+ghost use Rattle.check_record.specs.Seen.{timed_in};
 ghost use Rattle.check_settings.specs.Heads.{domain_by, open_from, settings_by};
 ghost use Rattle.timer_play.specs.Kernels.{setup_by};
 ghost use Rattle.timer_play.specs.Playing.{observations_of};
@@ -75,7 +75,7 @@ fn timed_record<'o>(
     gathering: &mut Gathering<'o>,
 ) -> Result<TimedRecord, Fault<'o>>
     ensures lines { IfOk result (λ t.
-        option_map ended_in (kept_in gathering.old) ≡ Some (lines_of t.lines)) }
+        option_map ended_in ((timed_in gathering.old).lines.kept) ≡ Some (lines_of t.lines)) }
     ensures domain { IfOk result (λ t.
         t.start.domain.items ≡ domain_by gathering.old.head options.now) }
     ensures sums { IfOk result (λ t. t.start.sums.items ≡ gathering.old.head.sums.items) }
@@ -117,7 +117,7 @@ pub(crate) fn timer_verdict<'o>(
     gathering: &mut Gathering<'o>,
 ) -> Result<Verdict, Fault<'o>>
     ensures { IfOk result (λ v.
-        IsTimedVerdict options.now gathering.old.head (kept_in gathering.old) v.agrees) }
+        IsTimedVerdict options.now gathering.old.head ((timed_in gathering.old).lines.kept) v.agrees) }
 {
     let has_governor = gathering.head.has_governor;
     let timed = timed_record(alloc, options, gathering)?;

@@ -3,8 +3,8 @@
 ghost use Rattle.std.specs.Prelude.{◌≡◌, ◌⊎◌, IfOk, IsOkAnd, IsTrue, false, true};
 ghost use Rattle.trace_file.specs.Reading.{IsSoOf};
 ghost use Rattle.check_record.specs.Explains.{IsAgreedBy};
-ghost use Rattle.check_record.specs.Seen.{NothingDiffers, kept_in};
-ghost use Rattle.trace_check.specs.Timed.{IsTimed, IsTimedBy, IsTimedVerdict};
+ghost use Rattle.check_record.specs.Seen.{NothingDiffers, timed_in};
+ghost use Rattle.trace_check.specs.Timed.{IsTimed, IsTimedBy, IsTimedVerdict, shows_states};
 ghost use Rattle.trace_faults.specs.declared.fault.TheConstants.{STATUS_DIFFERS, STATUS_FILE, STATUS_LAW, STATUS_SYSTEM, STATUS_USAGE};
 
 use crate::by_laws::{laws_alone, with_laws};
@@ -48,7 +48,9 @@ pub struct CheckRequest<'a> {
 
 impl<'a> CheckRequest<'a> {
     /// Whether states are wanted.
-    pub fn shows(self) -> bool {
+    pub fn shows(self) -> bool
+        ensures { result ≡ shows_states self.entry }
+    {
         self.json.is_some() || self.picture.is_some()
     }
 }
@@ -77,7 +79,7 @@ fn verdict_without_loss<'o>(
     gathering: &mut Gathering<'o>,
 ) -> Result<Verdict, Fault<'o>>
     ensures { IfOk result (λ v.
-        IsTimedVerdict options.now gathering.old.head (kept_in gathering.old) v.agrees) }
+        IsTimedVerdict options.now gathering.old.head (timed_in gathering.old).lines.kept v.agrees) }
 {
     match (gathering.changed_line(), gathering.losing_line()) {
         (Some(line), _) => Err(Fault::Changed { line }),
@@ -124,11 +126,12 @@ fn verdict_of<
     requires opens { O.IsAlwaysCallable opens.now }
     requires read { N.IsAlwaysCallable read.now }
     ensures agrees { IfOk result (λ v. IsTrue v.agrees → IsTrue v.keeps_laws →
-        IsSoOf O.Fn opens.now N.Fn read.now wanted.entry.path.now (IsAgreedBy options.entry.now)) }
+        IsSoOf O.Fn opens.now N.Fn read.now wanted.entry.path.now
+        (IsAgreedBy options.entry.now (shows_states wanted.entry))) }
     ensures timed { IfOk result (λ v. IsTrue v.agrees → IsTrue v.keeps_laws → IsSoOf O.Fn opens.now
-        N.Fn read.now wanted.entry.path.now (IsTimedBy options.entry.now true)) }
+        N.Fn read.now wanted.entry.path.now (IsTimedBy options.entry.now (shows_states wanted.entry) true)) }
     ensures differs { IfOk result (λ v. v.agrees ≡ false → IsSoOf O.Fn opens.now
-        N.Fn read.now wanted.entry.path.now (IsTimedBy options.entry.now false)) }
+        N.Fn read.now wanted.entry.path.now (IsTimedBy options.entry.now (shows_states wanted.entry) false)) }
 {
     let request = RecordRequest {
         path: wanted.path,
@@ -394,12 +397,13 @@ pub fn serve_check<
     ensures nothing { (result ≡ STATUS_FILE) ⊎ (result ≡ STATUS_USAGE) → out.new ≡ out.old }
     // Where the kernel agrees by lines of probes, those of the text that was read are explained by its rules.
     ensures explained { result ≡ 0 → IsSoOf O.Fn files.now.source.open N.Fn files.now.source.read
-        wanted.entry.path.now (IsAgreedBy options.now) }
-    // Where timers are asked for, none that is compared differs from the rules; where the status says so, one does.
+        wanted.entry.path.now (IsAgreedBy options.now (shows_states wanted.entry)) }
+    // By timers none that is compared differs from the rules; where the status says so, one does.
     ensures timed { result ≡ 0 → IsSoOf O.Fn files.now.source.open N.Fn files.now.source.read
-        wanted.entry.path.now (IsTimedBy options.now true) }
+        wanted.entry.path.now (IsTimedBy options.now (shows_states wanted.entry) true) }
     ensures differs { result ≡ STATUS_DIFFERS → IsSoOf O.Fn files.now.source.open
-        N.Fn files.now.source.read wanted.entry.path.now (IsTimedBy options.now false) }
+        N.Fn files.now.source.read wanted.entry.path.now
+        (IsTimedBy options.now (shows_states wanted.entry) false) }
 {
     let (source, target) = (&files.source, &files.target);
     if let Some(path) = first_there(&target.exists, wanted) {
