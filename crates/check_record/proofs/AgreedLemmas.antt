@@ -39,7 +39,7 @@ from_played o text law kept (Some q) by all explained rules seen none equal some
 
 pub agreed : (o : CheckOptions) (g : Gathering) (beside : Bool) → IsEnded o g → NothingDiffers o g → (text : List ℕ)
     → HasShown o beside (shown_in g) text → IsAgreedBy o beside text
-unfolding shown_in, shown_by
+unfolding shown_in shown_by
 agreed o g beside ended equal text (whole, shows) =
     let s : Shown = shown_by o beside text in
     let law : law_by g.head o ≡ law_of s o = ap (λ (t : Shown). law_of t o) (sym shows) in

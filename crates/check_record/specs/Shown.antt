@@ -13,7 +13,7 @@ use Rattle.trace_lines.specs.declared.line.ToldLine.{ToldLine}
 use Rattle.trace_lines.specs.Reading.{After, reading}
 use Rattle.probe_explain.specs.declared.search.ProbeLine.{ProbeLine}
 use Rattle.probe_start.specs.Looks.{arms_timer, shows_dequeue}
-use Rattle.check_record.specs.Timed.{Timed, noted, timed_at_first, with_event_line, with_probe_line, with_told}
+use Rattle.check_record.specs.Timed.{Timed, noted, probe_came, probe_seen, timed_at_first, with_event_line, with_told}
 
 -- a line of a probe: its number in the text, its moment, its CPU, the task that ran there, and what the probe shows
 pub record ShownProbe : Type 0 where
@@ -37,18 +37,21 @@ abbrev pub kernel_noted : TraceNote → Option Kernel → Option Kernel
 kernel_noted (note.Head kernel limit total_bw) before = kernel
 kernel_noted other before = before
 
--- a line of a probe more
-abbrev pub with_probe : ShownProbe → Shown → Shown
-with_probe p s = record s {
-  probes = s.probes ++ p ∷ [];
-  dequeues = s.dequeues || shows_dequeue p.probe;
-  timers = s.timers || arms_timer p.probe;
-  timed = with_probe_line p.cpu s.timed;
-}
-
 -- a rule of timers
 abbrev pub retimed : (Timed → Timed) → Shown → Shown
 retimed f s = record s { timed = f s.timed }
+
+-- a line of a probe more
+abbrev pub probe_taken : ShownProbe → Shown → Shown
+probe_taken p s = record s {
+  probes = s.probes ++ p ∷ [];
+  dequeues = s.dequeues || shows_dequeue p.probe;
+  timers = s.timers || arms_timer p.probe;
+  timed = probe_came s.timed;
+}
+
+abbrev pub with_probe : ShownProbe → Shown → Shown
+with_probe p s = probe_taken p (retimed (probe_seen p.cpu) s)
 
 -- an event more
 abbrev pub with_said : ℕ → ℕ → ℕ → ℕ → Said → Shown → Shown

@@ -1,6 +1,5 @@
 -- What the lines of a text tell of timers: what is kept of them, and what notes say of the kernel that wrote them.
-use Rattle.std.specs.Prelude.{ℕ, max, Bool, true, false, not, ◌&&◌, ◌||◌, ◌==◌, if◌then◌else◌, nat_le, List, [], length, Option, Some, None, is_some, option_and_then, option_map, unwrap_or}
-use Rattle.std.specs.List.{list_any}
+use Rattle.std.specs.Prelude.{ℕ, max, Bool, true, false, not, ◌&&◌, ◌||◌, ◌==◌, if◌then◌else◌, List, length, Option, Some, None, is_some, option_and_then, option_map, unwrap_or}
 use Rattle.trace_data.specs.declared.fixed.Fixed.{Fixed}
 use Rattle.trace_data.specs.declared.fixed.Fixed.TheVariants as fixed
 use Rattle.trace_data.specs.declared.line.RecordLine.{RecordLine}
@@ -14,7 +13,7 @@ use Rattle.trace_options.specs.declared.options.CheckOptions.{CheckOptions}
 use Rattle.law_findings.specs.declared.judged.ReadLine.{ReadLine}
 use Rattle.timer_record.specs.Late.{late_noted}
 use Rattle.timer_record.specs.Records.{EventLine}
-use Rattle.check_settings.specs.Heads.{Told, chosen, is_in_range, is_note_of, listed_in, noted_with, seen_on}
+use Rattle.check_settings.specs.Heads.{Told, chosen, lacks_cpu, listed_in, noted_with, nothing_told, seen_on}
 use Rattle.check_settings.specs.Opening.{change_opens, changes_frequency, late_note_opens, newcomer_by, opened_with, opening_by}
 use Rattle.check_settings.specs.declared.head.OpeningSign.{OpeningSign}
 use Rattle.check_settings.specs.declared.head.SumsOpened.{SumsOpened}
@@ -89,18 +88,12 @@ other_cpu (fixed.Woken pid deadline cpu) = cpu
 other_cpu (fixed.Migrated pid deadline cpu) = cpu
 other_cpu other = 0
 
--- what was told lists CPUs, or says how many there are, but not this one
-abbrev pub lacks_cpu_of : Told → CheckOptions → ℕ → Bool
-lacks_cpu_of t o cpu =
-    (is_some t.processors || not (length t.domain == 0)) && not (list_any (is_in_range cpu) o.domain.items) && not (list_any (λ c. c == cpu) t.domain)
-    && not (list_any (is_note_of cpu) t.sums) && nat_le (unwrap_or t.processors 0) cpu
-
 -- a line of the scheduler or of a timer
 abbrev pub event_of : ReadLine → Fixed → EventLine
 event_of read fixed = record { line = read.line; at = read.at; cpu = read.cpu; pid = read.pid; fixed = fixed }
 
 abbrev pub newcomer_seen : ℕ → ℕ → Timed → Timed
-newcomer_seen n cpu t = opened n (newcomer_by (lacks_cpu_of t.told t.options cpu) cpu) t
+newcomer_seen n cpu t = opened n (newcomer_by (lacks_cpu t.told t.options cpu) cpu) t
 
 abbrev pub line_kept : EventLine → Timed → Timed
 line_kept e t = record t { lines = with_event e t.lines }
@@ -124,17 +117,14 @@ with_event_line e t =
 abbrev pub probe_seen : ℕ → Timed → Timed
 probe_seen cpu t = record t { told = seen_on cpu t.told; lines = if is_past t then forgotten t.lines else t.lines }
 
-abbrev pub with_probe_line : ℕ → Timed → Timed
-with_probe_line cpu t = record (probe_seen cpu t) { probed = true }
+abbrev pub probe_came : Timed → Timed
+probe_came t = record t { probed = true }
 
 -- what a line tells beside what it says
 abbrev pub with_told : ℕ → ToldLine (List ℕ) → Timed → Timed
 with_told n told t =
     shown_told n told.line told.shown (opened n (change_opens told.change)
     (governed (is_some told.governor || changes_frequency told.change) (domained told.domain (headed told.processors t))))
-
-abbrev pub nothing_told : Told
-nothing_told = record { kernel = None; limit = None; total_bw = None; domain = []; processors = None; greatest = 0; sums = []; servers = [] }
 
 abbrev pub timed_at_first : CheckOptions → Bool → Timed
 timed_at_first o beside = record { options = o; beside = beside; probed = false; told = nothing_told; opening = None; governor = false; lines = timers_at_first o.tasks.items }

@@ -7,17 +7,17 @@ ghost use Rattle.check_record.specs.FirstFault.{fault_headed, is_too_late, raise
 ghost use Rattle.check_settings.specs.Opening.{opened_with};
 ghost use Rattle.check_record.specs.Playing.{has_lines};
 ghost use Rattle.check_record.specs.Seen.{IsEnded, shown_in};
-ghost use Rattle.check_record.specs.Shown.{as_read, nothing_shown, retimed, shown_with, with_probe, with_said};
+ghost use Rattle.check_record.specs.Shown.{as_read, nothing_shown, probe_taken, retimed, shown_with, with_probe, with_said};
 ghost use Rattle.check_record.specs.Timed.{governed, headed, opened, probe_seen, shown_told, with_told};
 
 use crate::laws::RecordLaws;
 use crate::names::Names;
 use crate::probes::{Probes, SeenRecord, ToldSettings};
 use crate::whole::RecordRequest;
-use check_timers::RecordTimers;
 use check_settings::{
     OpeningSign, RecordHead, is_frequency, is_older, opening_by_change, opening_of,
 };
+use check_timers::RecordTimers;
 use law_findings::ReadLine;
 use probe_explain::ProbeLine;
 use probe_findings::ProbedLine;
@@ -377,7 +377,7 @@ impl<'o> Gathering<'o> {
     fn take_probe(&mut self, line: ProbeLine) -> Result<(), AllocError>
         ensures head { self.new.head ≡ self.old.head }
         ensures shown { OnOk result
-            (shown_in self.new ≡ with_probe (as_read line) (shown_in self.old)) }
+            (shown_in self.new ≡ probe_taken (as_read line) (shown_in self.old)) }
     {
         let told = ToldSettings {
             head: &self.head,

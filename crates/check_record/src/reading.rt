@@ -56,7 +56,6 @@ pub(crate) fn read_trace<
     requires read { N.IsAlwaysCallable read.now }
     ensures { OnOk result (IsSoOf O.Fn opens.now N.Fn read.now path.now
         (HasShownFrom (shown_in gathering.old) (shown_in gathering.new))) }
-
 {
     match read_lines(alloc, opens, read, path, gathering) {
         Ok(halt) => end_of(halt),

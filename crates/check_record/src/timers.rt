@@ -10,9 +10,9 @@ ghost use Rattle.timer_record.specs.Kept.{kept_of};
 
 use crate::gathering::Gathering;
 use check_settings::{OpeningSign, newcomer};
-use std::alloc::AllocError;
 use check_timers::{WantedLines, wanted_by};
 use law_findings::ReadLine;
+use std::alloc::AllocError;
 use timer_record::{OpenRecord, Unlisted};
 use trace_data::Fixed;
 use trace_faults::Fault;

@@ -142,18 +142,32 @@ is_of_domain head o cpu =
     if length o.domain.items == 0 then length head.domain.items == 0 || list_any (λ c. c == cpu) head.domain.items
     else list_any (is_in_range cpu) o.domain.items
 
+-- what notes and the head of a trace told
+pub record Told : Type 0 where
+  pub kernel : Option Kernel
+  pub limit : Option Limit
+  pub total_bw : Option ℕ
+  pub domain : List ℕ
+  pub processors : Option ℕ
+  pub greatest : ℕ
+  pub sums : List RunqueueSums
+  pub servers : List ServerNote
+
+abbrev pub told_of : RecordHead → Told
+told_of h = record { kernel = h.kernel; limit = h.limit; total_bw = h.total_bw; domain = h.domain.items; processors = h.processors; greatest = h.greatest_cpu; sums = h.sums.items; servers = h.servers.items }
+
 -- the head lists CPUs, or says how many there are
-abbrev pub tells_cpus : RecordHead → Bool
-tells_cpus head = is_some head.processors || not (length head.domain.items == 0)
+abbrev pub tells_cpus : Told → Bool
+tells_cpus t = is_some t.processors || not (length t.domain == 0)
 
 abbrev pub is_note_of : ℕ → RunqueueSums → Bool
 is_note_of cpu note = note.cpu == cpu
 
 -- but not of this one: it is in no list, has no note, and is beyond the number of processors
-abbrev pub lacks_cpu : RecordHead → CheckOptions → ℕ → Bool
-lacks_cpu head o cpu =
-    tells_cpus head && not (list_any (is_in_range cpu) o.domain.items) && not (list_any (λ c. c == cpu) head.domain.items)
-    && not (list_any (is_note_of cpu) head.sums.items) && nat_le (unwrap_or head.processors 0) cpu
+abbrev pub lacks_cpu : Told → CheckOptions → ℕ → Bool
+lacks_cpu t o cpu =
+    tells_cpus t && not (list_any (is_in_range cpu) o.domain.items) && not (list_any (λ c. c == cpu) t.domain)
+    && not (list_any (is_note_of cpu) t.sums) && nat_le (unwrap_or t.processors 0) cpu
 
 -- the kernel changes extra_bw by no rule of a task: from the first line on that shows it, extra_bw is not known
 abbrev pub opened_by : Option SumsOpened → ℕ → OpeningSign → Option SumsOpened
@@ -168,19 +182,8 @@ abbrev pub is_older_by : RecordLine → List ℕ → Bool
 is_older_by (line.Note (note.Task pid None by cpu (Deadline parameters))) comm = not (starts_with nat_eq comm (codes "sugov:"))
 is_older_by other comm = false
 
--- what notes and the head of a trace told
-pub record Told : Type 0 where
-  pub kernel : Option Kernel
-  pub limit : Option Limit
-  pub total_bw : Option ℕ
-  pub domain : List ℕ
-  pub processors : Option ℕ
-  pub greatest : ℕ
-  pub sums : List RunqueueSums
-  pub servers : List ServerNote
-
-abbrev pub told_of : RecordHead → Told
-told_of h = record { kernel = h.kernel; limit = h.limit; total_bw = h.total_bw; domain = h.domain.items; processors = h.processors; greatest = h.greatest_cpu; sums = h.sums.items; servers = h.servers.items }
+abbrev pub nothing_told : Told
+nothing_told = record { kernel = None; limit = None; total_bw = None; domain = []; processors = None; greatest = 0; sums = []; servers = [] }
 
 -- a note more
 abbrev pub noted_with : TraceNote → Told → Told

@@ -1,8 +1,8 @@
 //! What options and notes say of the kernel that was recorded.
 
-ghost use Rattle.std.specs.Prelude.{◌≡◌, ◌++◌, IfOk, None, OnOk, option_map};
+ghost use Rattle.std.specs.Prelude.{◌≡◌, ◌++◌, IfOk, None, OnOk, false, option_map};
 ghost use Rattle.std.specs.List.{list_any};
-ghost use Rattle.check_settings.specs.Heads.{bandwidth_by, chosen, cpus_from, domain_by, first_server, has_servers_by, is_documented, is_in_range, is_note_of, is_of_domain, is_older_by, kernel_by, lacks_cpu, last_by, law_by, law_settings_by, listed_in, max_bw_by, max_bw_in, open_from, opened_by, release_by, server_by, server_note, settings_by, tells_cpus, told_of};
+ghost use Rattle.check_settings.specs.Heads.{bandwidth_by, chosen, cpus_from, domain_by, first_server, has_servers_by, is_documented, is_in_range, is_note_of, is_of_domain, is_older_by, kernel_by, lacks_cpu, last_by, law_by, law_settings_by, listed_in, max_bw_by, max_bw_in, nothing_told, open_from, opened_by, release_by, server_by, server_note, settings_by, tells_cpus, told_of};
 ghost use Rattle.trace_options.specs.Words.{domain_in};
 
 use kernel_entity::{BW_UNIT, ChargeLaw, ratio};
@@ -72,7 +72,10 @@ pub struct SumsOpened {
 
 impl RecordHead {
     pub fn new(alloc: Global) -> RecordHead
-        ensures { result.kernel ≡ None }
+        ensures told { told_of result ≡ nothing_told }
+        ensures kernel { result.kernel ≡ None }
+        ensures opening { result.opening ≡ None }
+        ensures governor { result.has_governor ≡ false }
     {
         RecordHead {
             kernel: None,
@@ -220,6 +223,7 @@ impl RecordHead {
         ensures opening { self.new.opening ≡ opened_by self.old.opening line sign }
         ensures told { told_of self.new ≡ told_of self.old }
         ensures kernel { self.new.kernel ≡ self.old.kernel }
+        ensures governor { self.new.has_governor ≡ self.old.has_governor }
     {
         if self.opening.is_none() {
             self.opening = Some(SumsOpened { line, sign });
@@ -228,7 +232,7 @@ impl RecordHead {
 
     /// Whether the head tells of CPUs, but not of this one: it is in no list, has no note, and is beyond the number of processors.
     pub fn lacks(&self, options: &CheckOptions<'_>, cpu: u32) -> bool
-        ensures { result ≡ lacks_cpu self.now options.now cpu }
+        ensures { result ≡ lacks_cpu (told_of self.now) options.now cpu }
     {
         self.tells_cpus()
             && !is_listed(&options.domain, cpu)
@@ -239,7 +243,7 @@ impl RecordHead {
 
     /// Whether the head lists CPUs, or says how many there are.
     fn tells_cpus(&self) -> bool
-        ensures { result ≡ tells_cpus self.now }
+        ensures { result ≡ tells_cpus (told_of self.now) }
     {
         self.processors.is_some() || !self.domain.is_empty()
     }
@@ -277,7 +281,9 @@ impl RecordHead {
 impl RecordHead {
     /// Keeps the root domain that a note tells of a CPU.
     pub fn see_domain(&mut self, cpu: u32, domain: Option<u64>) -> Result<(), AllocError>
-        ensures { OnOk result (told_of self.new ≡ told_of self.old) }
+        ensures told { OnOk result (told_of self.new ≡ told_of self.old) }
+        ensures opening { self.new.opening ≡ self.old.opening }
+        ensures governor { self.new.has_governor ≡ self.old.has_governor }
     {
         let noted = note_of(&self.cpus, cpu);
         put_note(&mut self.cpus, CpuNote { domain, ..noted })
@@ -285,7 +291,9 @@ impl RecordHead {
 
     /// Keeps the capacity of a CPU.
     pub fn see_capacity(&mut self, cpu: u32, capacity: u64) -> Result<(), AllocError>
-        ensures { OnOk result (told_of self.new ≡ told_of self.old) }
+        ensures told { OnOk result (told_of self.new ≡ told_of self.old) }
+        ensures opening { self.new.opening ≡ self.old.opening }
+        ensures governor { self.new.has_governor ≡ self.old.has_governor }
     {
         let noted = note_of(&self.cpus, cpu);
         put_note(

@@ -2,7 +2,7 @@
 
 ghost use Rattle.std.specs.Prelude.{◌≡◌};
 ghost use Rattle.check_settings.specs.Opening.{change_opens, changes_frequency, newcomer_by, opening_by, opens_by};
-ghost use Rattle.check_settings.specs.Heads.{lacks_cpu};
+ghost use Rattle.check_settings.specs.Heads.{lacks_cpu, told_of};
 
 use crate::head::{OpeningSign, RecordHead};
 use trace_data::{Fixed, Mark, Probe, RecordLine, Said};
@@ -61,7 +61,7 @@ fn opens(mark: Mark) -> bool
 
 /// What a line of a CPU shows that the head lacks.
 pub fn newcomer(head: &RecordHead, options: &CheckOptions<'_>, cpu: u32) -> Option<OpeningSign>
-    ensures { result ≡ newcomer_by (lacks_cpu head.now options.now cpu) cpu }
+    ensures { result ≡ newcomer_by (lacks_cpu (told_of head.now) options.now cpu) cpu }
 {
     if head.lacks(options, cpu) {
         Some(OpeningSign::NewCpu { cpu })

@@ -70,7 +70,5 @@ fn are_shown_as(tasks: &[SoughtTask<'_>], pid: u64) -> bool
 fn first_sought(tasks: &[SoughtTask<'_>], pid: u64, comm: &[u8]) -> Option<usize>
     ensures { result ≡ position (is_sought_as pid comm.now) tasks.now }
 {
-    tasks
-        .iter()
-        .position(|task| is_sought_as(task, pid, comm))
+    tasks.iter().position(|task| is_sought_as(task, pid, comm))
 }

@@ -205,10 +205,7 @@ impl<'o> RecordTimers<'o> {
 }
 
 /// The tasks that options give, of which no line has shown one.
-fn sought_of<'o>(
-    alloc: Global,
-    tasks: &[TaskOption<'o>],
-) -> Result<Vec<SoughtTask<'o>>, AllocError>
+fn sought_of<'o>(alloc: Global, tasks: &[TaskOption<'o>]) -> Result<Vec<SoughtTask<'o>>, AllocError>
     ensures { IfOk result (λ v. v.items ≡ map unshown tasks.now) }
 {
     tasks.iter().map(|task| unshown(*task)).collect(alloc)

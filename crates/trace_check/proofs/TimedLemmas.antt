@@ -65,7 +65,7 @@ by_timers false (Some q) some asked = absurd asked
 -- what a verdict on what was gathered says of the text
 pub of_text : (o : CheckOptions) (beside : Bool) (g : Gathering) (agrees : Bool) → IsTimed o g agrees → (text : List ℕ)
     → HasShown o beside (shown_in g) text → IsTimedBy o beside agrees text
-unfolding shown_in, shown_by
+unfolding shown_in shown_by
 of_text o beside g agrees timed text (whole, shows) =
     let F : Shown → Type 0 = λ s. IsTrue (o.by_timers || not s.timed.probed) → IsTimedText o agrees s in
     let so : F (shown_in g) = λ asked. record {

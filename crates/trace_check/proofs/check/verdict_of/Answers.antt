@@ -13,7 +13,7 @@ returns g c =
     let options = c.args.options.now in
     let beside = shows_states c.args.wanted in
     let shown = subst (λ (b : Bool). IsSoOf g.O.Fn c.args.opens.now g.N.Fn c.args.read.now c.args.wanted.path.now (HasShown options b (shown_in made)))
-        c.shows.ensures c.in_ok-gathering.ensures.shown in
+    c.shows.ensures c.in_ok-gathering.ensures.shown in
     let ended = c.in_ok-gathering.ensures.ended in record {
       agrees = of_equal c.verdict_on.result _ _ c.verdict_on.ensures.agrees
           (explained g.O.Fn c.args.opens.now g.N.Fn c.args.read.now c.args.wanted.path.now options beside made shown ended);
