@@ -56,6 +56,9 @@ abbrev pub domained : Option (List ℕ) → Timed → Timed
 domained text t = record t { told = record t.told { domain = domain_by text t.told.domain } }
 
 -- something sets the frequency of a CPU
+abbrev pub tells_governor : ToldLine (List ℕ) → Bool
+tells_governor told = is_some told.governor || changes_frequency told.change
+
 abbrev pub governed : Bool → Timed → Timed
 governed is_told t = record t { governor = t.governor || is_told }
 
@@ -124,7 +127,7 @@ probe_came t = record t { probed = true }
 abbrev pub with_told : ℕ → ToldLine (List ℕ) → Timed → Timed
 with_told n told t =
     shown_told n told.line told.shown (opened n (change_opens told.change)
-    (governed (is_some told.governor || changes_frequency told.change) (domained told.domain (headed told.processors t))))
+    (governed (tells_governor told) (domained told.domain (headed told.processors t))))
 
 abbrev pub timed_at_first : CheckOptions → Bool → Timed
 timed_at_first o beside = record { options = o; beside = beside; probed = false; told = nothing_told; opening = None; governor = false; lines = timers_at_first o.tasks.items }

@@ -8,7 +8,7 @@ ghost use Rattle.check_settings.specs.Opening.{opened_with};
 ghost use Rattle.check_record.specs.Playing.{has_lines};
 ghost use Rattle.check_record.specs.Seen.{IsEnded, shown_in};
 ghost use Rattle.check_record.specs.Shown.{as_read, nothing_shown, probe_taken, retimed, shown_with, with_probe, with_said};
-ghost use Rattle.check_record.specs.Timed.{governed, headed, opened, probe_seen, shown_told, with_told};
+ghost use Rattle.check_record.specs.Timed.{governed, headed, opened, probe_seen, shown_told, tells_governor, with_told};
 
 use crate::laws::RecordLaws;
 use crate::names::Names;
@@ -183,7 +183,7 @@ impl<'o> Gathering<'o> {
         self.see_domain(number, told.domain)?;
         self.see_release(told.release)?;
         self.see_lost(number, told.lost);
-        self.see_governor(told.governor.is_some() || is_frequency(told.change));
+        self.see_governor(tells_governor(told));
         self.see_opening(number, opening_by_change(told.change));
         self.see_warning(told.warning)?;
         self.see_shown(number, told)
@@ -421,6 +421,16 @@ impl<'o> Gathering<'o> {
             look: probes.look,
             notes,
         })
+    }
+}
+
+/// Whether a note or an event tells that something sets the frequency of a CPU.
+fn tells_governor(told: &ToldLine<&[u8]>) -> bool
+    ensures { result ≡ tells_governor (told_text told.now) }
+{
+    match told.governor {
+        Some(_) => true,
+        None => is_frequency(told.change),
     }
 }
 
