@@ -1,3 +1,4 @@
 pub mod AgreedLemmas
+mod PastLemmas
 mod ReadLemmas
 mod ShownLemmas

@@ -111,10 +111,11 @@ event_kept e t = line_kept e (late_note_seen e.line e.at e.fixed (kept_in (newco
 abbrev pub cpus_seen : ℕ → ℕ → Timed → Timed
 cpus_seen cpu other t = record t { told = seen_on other (seen_on cpu t.told) }
 
+unfoldable pub kept_unless_past : EventLine → Timed → Timed
+kept_unless_past e t = if is_past t then t else event_kept e t
+
 abbrev pub with_event_line : EventLine → Timed → Timed
-with_event_line e t =
-    let u = cpus_seen e.cpu (other_cpu e.fixed) t in
-    if is_past u then u else event_kept e u
+with_event_line e t = kept_unless_past e (cpus_seen e.cpu (other_cpu e.fixed) t)
 
 -- a line of a probe: behind the first one lines of timers are not kept
 abbrev pub probe_seen : ℕ → Timed → Timed

@@ -5,7 +5,7 @@ ghost use Rattle.check_settings.specs.Heads.{is_of_domain};
 ghost use Rattle.check_record.specs.FirstFault.{fault_woken};
 ghost use Rattle.check_record.specs.Seen.{shown_in, timed_in};
 ghost use Rattle.check_record.specs.Shown.{retimed};
-ghost use Rattle.check_record.specs.Timed.{cpus_seen, event_kept, event_of, kept_in, late_note_seen, line_kept, newcomer_seen, other_cpu, task_shown, wanted_in, with_event_line};
+ghost use Rattle.check_record.specs.Timed.{cpus_seen, event_kept, event_of, is_past, kept_in, kept_unless_past, late_note_seen, line_kept, newcomer_seen, other_cpu, task_shown, wanted_in, with_event_line};
 ghost use Rattle.timer_record.specs.Kept.{kept_of};
 
 use crate::gathering::Gathering;
@@ -78,7 +78,21 @@ impl<'o> Gathering<'o> {
             ≡ retimed (with_event_line (event_of read fixed)) (shown_in self.old)) }
     {
         self.see_cpus(read.cpu, cpu_of(&fixed));
-        if self.plays_probes() && !self.keeps_timers {
+        self.keep_unless_past(read, fixed)
+    }
+
+    /// Whether lines of timers are not kept any more.
+    fn is_past(&self) -> bool
+        ensures { result ≡ is_past (timed_in self.now) }
+    {
+        self.plays_probes() && !self.keeps_timers
+    }
+
+    fn keep_unless_past(&mut self, read: ReadLine, fixed: Fixed) -> Result<(), AllocError>
+        ensures { OnOk result (shown_in self.new
+            ≡ retimed (kept_unless_past (event_of read fixed)) (shown_in self.old)) }
+    {
+        if self.is_past() {
             return Ok(());
         }
         self.keep(read, fixed)

@@ -33,6 +33,10 @@ none_from : {A : Type 0} (p : A → Bool) (n : ℕ) (xs : List A) → is_none (p
 none_from p n [] = refl
 none_from p n (x ∷ xs) = none_by (p x) n (position_from p (n + 1) xs) (list_any p xs) (none_from p (n + 1) xs)
 
+is_true : (b : Bool) → IsTrue b → b ≡ true
+is_true true t = refl
+is_true false t = absurd t
+
 -- there is no first one where there is none
 no_first : {A : Type 0} (p : A → Bool) (xs : List A) → is_none (position p xs) ≡ not (list_any p xs)
 no_first p xs = ap is_none (position_from-zero p xs) ∙ none_from p 0 xs
@@ -56,6 +60,31 @@ timed (Ok v) o g setup start lines j agrees judged observed gathered domain sums
 }
 timed (Err e) o g setup start lines j agrees judged observed gathered domain sums unknown by = tt
 
+-- where it agrees, and where it differs
+pub agreeing : (r : Result Verdict Fault) (o : CheckOptions) (g : Gathering) → IfOk r (λ (v : Verdict). IsTimedVerdict o g.head (timed_in g).lines.kept v.agrees)
+    → IfOk r (λ (v : Verdict). IsTrue v.agrees → IsTimed o g true)
+unfolding IsTimed
+agreeing (Ok v) o g so = λ agrees asked. subst (IsTimedVerdict o g.head (timed_in g).lines.kept) (is_true v.agrees agrees) so
+agreeing (Err e) o g so = tt
+
+pub differing : (r : Result Verdict Fault) (o : CheckOptions) (g : Gathering) → IfOk r (λ (v : Verdict). IsTimedVerdict o g.head (timed_in g).lines.kept v.agrees)
+    → IfOk r (λ (v : Verdict). v.agrees ≡ false → IsTimed o g false)
+unfolding IsTimed
+differing (Ok v) o g so = λ differs asked. subst (IsTimedVerdict o g.head (timed_in g).lines.kept) differs so
+differing (Err e) o g so = tt
+
+not_both : (b : Bool) → b ≡ false → IsTrue b → ⊥
+not_both true e t = grind e
+not_both false e t = t
+
+pub moved : (o : CheckOptions) (g m : Gathering) (agrees : Bool) → m ≡ g → IsTimed o m agrees → IsTimed o g agrees
+moved o g m agrees same so = subst (λ (h : Gathering). IsTimed o h agrees) same so
+
+-- by probes nothing is said of timers
+pub not_timed : (o : CheckOptions) (g : Gathering) (agrees : Bool) → is_by_timers o g ≡ false → IsTimed o g agrees
+unfolding IsTimed
+not_timed o g agrees by = λ asked. absurd (not_both (is_by_timers o g) by asked)
+
 -- where no line of a probe came, none was played
 by_timers : (b : Bool) (p : Option Played) (some : Bool) → IsTrue (b || not (is_some p || some)) → IsTrue (b || is_none (option_map (λ (q : Played). q.player) p))
 by_timers true p some asked = asked
@@ -65,7 +94,7 @@ by_timers false (Some q) some asked = absurd asked
 -- what a verdict on what was gathered says of the text
 pub of_text : (o : CheckOptions) (beside : Bool) (g : Gathering) (agrees : Bool) → IsTimed o g agrees → (text : List ℕ)
     → HasShown o beside (shown_in g) text → IsTimedBy o beside agrees text
-unfolding shown_in shown_by
+unfolding shown_in shown_by IsTimed
 of_text o beside g agrees timed text (whole, shows) =
     let F : Shown → Type 0 = λ s. IsTrue (o.by_timers || not s.timed.probed) → IsTimedText o agrees s in
     let so : F (shown_in g) = λ asked. record {

@@ -39,7 +39,7 @@ pub record IsTimedVerdict (o : CheckOptions) (h : RecordHead) (kept : Option Kep
 abbrev pub is_by_timers : CheckOptions → Gathering → Bool
 is_by_timers o g = o.by_timers || is_none (taken_in g.probes)
 
-abbrev pub IsTimed : CheckOptions → Gathering → Bool → Type 0
+unfoldable pub IsTimed : CheckOptions → Gathering → Bool → Type 0
 IsTimed o g agrees = IsTrue (is_by_timers o g) → IsTimedVerdict o g.head (timed_in g).lines.kept agrees
 
 -- a verdict on what the lines of a text show: on the lines of timers that are kept of it, by what its notes tell

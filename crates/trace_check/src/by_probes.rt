@@ -1,6 +1,6 @@
 //! The verdict by lines of probes.
 
-ghost use Rattle.std.specs.Prelude.{◌≡◌, IfOk, IfSome, IsTrue, None, is_none};
+ghost use Rattle.std.specs.Prelude.{◌≡◌, IfOk, IfSome, IsTrue, None, false, is_none};
 ghost use Rattle.check_record.specs.Playing.{IsEqual, taken_in};
 ghost use Rattle.check_record.specs.Seen.{NothingDiffers};
 ghost use Rattle.trace_check.specs.Timed.{is_by_timers};
@@ -34,8 +34,8 @@ pub(crate) fn verdict_by_probes<'o>(
     ensures agrees { IfOk result (λ found. IfSome found (λ v.
         IsTrue v.agrees → NothingDiffers options.now gathering.old)) }
     ensures none { IfOk result (λ found. found ≡ None → NothingDiffers options.now gathering.old) }
-    ensures timers { IfOk result (λ found.
-        is_none found ≡ is_by_timers options.now gathering.old) }
+    ensures timers { IfOk result (λ found. IfSome found (λ v.
+        is_by_timers options.now gathering.old ≡ false)) }
     ensures same { IfOk result (λ found. found ≡ None → gathering.new ≡ gathering.old) }
 {
     if options.by_timers {
@@ -98,8 +98,8 @@ fn probe_verdict<'o>(
         IsTrue v.agrees → IfSome (taken_in gathering.now.probes) IsEqual)) }
     ensures none { IfOk result (λ found.
         found ≡ None → IfSome (taken_in gathering.now.probes) IsEqual) }
-    ensures played { IfOk result (λ found.
-        is_none found ≡ is_none (taken_in gathering.now.probes)) }
+    ensures played { IfOk result (λ found. IfSome found (λ v.
+        is_none (taken_in gathering.now.probes) ≡ false)) }
 {
     match &gathering.probes.played {
         Some(played) => {

@@ -1,6 +1,6 @@
 //! The verdict by timers.
 
-ghost use Rattle.std.specs.Prelude.{◌≡◌, IfOk, Ok, Some, is_none, option_map};
+ghost use Rattle.std.specs.Prelude.{◌≡◌, IfOk, IsTrue, Ok, Some, false, is_none, option_map, true};
 ghost use Rattle.check_record.specs.Seen.{timed_in};
 ghost use Rattle.check_settings.specs.Heads.{domain_by, open_from, settings_by};
 ghost use Rattle.timer_play.specs.Kernels.{setup_by};
@@ -8,7 +8,7 @@ ghost use Rattle.timer_play.specs.Playing.{observations_of};
 ghost use Rattle.timer_record.specs.Records.{ended_in, lines_of};
 ghost use Rattle.timer_verdict.specs.Speed.{compared_by};
 ghost use Rattle.timer_verdict.specs.Verdicts.{IsJudged};
-ghost use Rattle.trace_check.specs.Timed.{IsTimedVerdict};
+ghost use Rattle.trace_check.specs.Timed.{IsTimed};
 ghost use Rattle.trace_check.specs.Uncompared.{left_by, uncompared_left, uncompared_of};
 
 use crate::check::{CheckRequest, Verdict};
@@ -20,7 +20,7 @@ use crate::why::put_timer_explanation;
 use check_record::Gathering;
 use check_report::{CheckReport, MarkCount, TimerAnswers, add_timers};
 use std::alloc::{AllocError, Global};
-use timer_play::{RecordSetup, RecordStart, play, setup_of};
+use timer_play::{KernelSettings, RecordSetup, RecordStart, play, setup_of};
 use timer_record::KeptLines;
 use timer_tasks::ObservedAnswer;
 use timer_verdict::{
@@ -68,6 +68,18 @@ impl TimedRecord {
     }
 }
 
+/// What is fixed for a record that begins so; a fault where the kernel's sums are not told.
+fn setup_for<'o>(kernels: KernelSettings, start: &RecordStart) -> Result<RecordSetup, Fault<'o>>
+    ensures { IfOk result (λ s. setup_by kernels start.now ≡ Ok s) }
+{
+    match setup_of(kernels, start) {
+        Ok(setup) => Ok(setup),
+        Err(missing) => Err(Fault::NoSums {
+            kernel: missing.kernel,
+        }),
+    }
+}
+
 /// The record that was gathered; a fault where no timer was started, or the kernel's sums are not told.
 fn timed_record<'o>(
     alloc: Global,
@@ -91,14 +103,7 @@ fn timed_record<'o>(
         return Err(Fault::NoTimers);
     }
     let start = gathering.head.start(alloc, options)?;
-    let setup = match setup_of(gathering.head.kernels(options), &start) {
-        Ok(setup) => setup,
-        Err(missing) => {
-            return Err(Fault::NoSums {
-                kernel: missing.kernel,
-            });
-        }
-    };
+    let setup = setup_for(gathering.head.kernels(options), &start)?;
     let lines = record.finish()?;
     let names = names_of(alloc, gathering, &lines)?;
     Ok(TimedRecord {
@@ -116,8 +121,9 @@ pub(crate) fn timer_verdict<'o>(
     options: &CheckOptions<'o>,
     gathering: &mut Gathering<'o>,
 ) -> Result<Verdict, Fault<'o>>
-    ensures { IfOk result (λ v.
-        IsTimedVerdict options.now gathering.old.head ((timed_in gathering.old).lines.kept) v.agrees) }
+    ensures timed { IfOk result (λ v. IsTrue v.agrees → IsTimed options.now gathering.old true) }
+    ensures differs { IfOk result (λ v.
+        v.agrees ≡ false → IsTimed options.now gathering.old false) }
 {
     let has_governor = gathering.head.has_governor;
     let timed = timed_record(alloc, options, gathering)?;

@@ -3,8 +3,8 @@
 ghost use Rattle.std.specs.Prelude.{◌≡◌, ◌⊎◌, IfOk, IsOkAnd, IsTrue, false, true};
 ghost use Rattle.trace_file.specs.Reading.{IsSoOf};
 ghost use Rattle.check_record.specs.Explains.{IsAgreedBy};
-ghost use Rattle.check_record.specs.Seen.{NothingDiffers, timed_in};
-ghost use Rattle.trace_check.specs.Timed.{IsTimed, IsTimedBy, IsTimedVerdict, shows_states};
+ghost use Rattle.check_record.specs.Seen.{NothingDiffers};
+ghost use Rattle.trace_check.specs.Timed.{IsTimed, IsTimedBy, shows_states};
 ghost use Rattle.trace_faults.specs.declared.fault.TheConstants.{STATUS_DIFFERS, STATUS_FILE, STATUS_LAW, STATUS_SYSTEM, STATUS_USAGE};
 
 use crate::by_laws::{laws_alone, with_laws};
@@ -78,8 +78,9 @@ fn verdict_without_loss<'o>(
     options: &CheckOptions<'o>,
     gathering: &mut Gathering<'o>,
 ) -> Result<Verdict, Fault<'o>>
-    ensures { IfOk result (λ v.
-        IsTimedVerdict options.now gathering.old.head (timed_in gathering.old).lines.kept v.agrees) }
+    ensures timed { IfOk result (λ v. IsTrue v.agrees → IsTimed options.now gathering.old true) }
+    ensures differs { IfOk result (λ v.
+        v.agrees ≡ false → IsTimed options.now gathering.old false) }
 {
     match (gathering.changed_line(), gathering.losing_line()) {
         (Some(line), _) => Err(Fault::Changed { line }),
@@ -92,6 +93,7 @@ fn verdict_without_loss<'o>(
 }
 
 /// The verdict on what was gathered, by the rules.
+#[tactic(auto, using(crate::proofs::TimedLemmas::moved, crate::proofs::TimedLemmas::not_timed))]
 fn verdict_by_rules<'o>(
     alloc: Global,
     wanted: CheckRequest<'_>,

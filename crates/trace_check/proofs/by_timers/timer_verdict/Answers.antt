@@ -1,4 +1,4 @@
-use Rattle.trace_check.proofs.TimedLemmas.{timed}
+use Rattle.trace_check.proofs.TimedLemmas.{agreeing, differing, timed}
 use Rattle.trace_check.proofs.by_timers.timer_verdict.Goals as goal
 
 -- the play of what was gathered, judged
@@ -7,5 +7,8 @@ returns c =
     let played = c.in_ok-timed.timed in
     let told = c.in_ok-timed.ensures in
     let judged = c.in_ok-judged.ensures in
-    timed c.compared_verdict.result c.args.options.now c.args.gathering.now played.setup played.start played.lines c.in_ok-judged.judged
-    c.compared_verdict.ensures judged.judged judged.observed told.lines told.domain told.sums told.unknown told.setup
+    let so = timed c.compared_verdict.result c.args.options.now c.args.gathering.now played.setup played.start played.lines c.in_ok-judged.judged
+    c.compared_verdict.ensures judged.judged judged.observed told.lines told.domain told.sums told.unknown told.setup in record {
+      timed = agreeing c.compared_verdict.result c.args.options.now c.args.gathering.now so;
+      differs = differing c.compared_verdict.result c.args.options.now c.args.gathering.now so;
+    }
