@@ -4,6 +4,7 @@ use Rattle.trace_data.specs.declared.fixed.Fixed.{Fixed}
 use Rattle.trace_data.specs.declared.fixed.Fixed.TheVariants as fixed
 use Rattle.trace_data.specs.declared.line.RecordLine.{RecordLine}
 use Rattle.trace_data.specs.declared.note.Policy.{Policy}
+use Rattle.trace_data.specs.declared.note.Policy.TheVariants as policies
 use Rattle.trace_data.specs.declared.note.TraceNote.{TraceNote}
 use Rattle.trace_data.specs.declared.note.TraceNote.TheVariants as note
 use Rattle.trace_fields.specs.declared.shown.Shown.{Shown as ShownTask}
@@ -11,14 +12,15 @@ use Rattle.trace_lines.specs.declared.line.ToldLine.{ToldLine}
 use Rattle.trace_options.specs.Words.{domain_in}
 use Rattle.trace_options.specs.declared.options.CheckOptions.{CheckOptions}
 use Rattle.law_findings.specs.declared.judged.ReadLine.{ReadLine}
-use Rattle.timer_record.specs.Late.{late_noted}
 use Rattle.timer_record.specs.Records.{EventLine}
 use Rattle.check_settings.specs.Heads.{Told, chosen, lacks_cpu, listed_in, noted_with, nothing_told, seen_on}
-use Rattle.check_settings.specs.Opening.{change_opens, changes_frequency, late_note_opens, newcomer_by, opened_with, opening_by}
+use Rattle.check_settings.specs.Opening.{change_opens, changes_frequency, newcomer_by, opened_with, opening_by}
 use Rattle.check_settings.specs.declared.head.OpeningSign.{OpeningSign}
+use Rattle.check_settings.specs.declared.head.OpeningSign.TheVariants as signs
 use Rattle.check_settings.specs.declared.head.SumsOpened.{SumsOpened}
-use Rattle.check_timers.specs.Timers.{Timers, begun, forgotten, timers_at_first, with_event, with_note, with_shown}
+use Rattle.check_timers.specs.Timers.{Timers, begun, forgotten, late_in, timers_at_first, with_event, with_note, with_shown}
 use Rattle.check_timers.specs.Wanted.{wanted_by}
+use Rattle.check_timers.specs.declared.timers.LateLine.{LateLine}
 use Rattle.check_timers.specs.declared.wanted.WantedLines.{WantedLines}
 use Rattle.check_record.specs.Lost.{is_behind_by}
 
@@ -74,12 +76,17 @@ abbrev pub shown_told : ℕ → RecordLine → Option (ShownTask (List ℕ)) →
 shown_told n line (Some shown) t = opened n (opening_by line shown.comm) (task_shown shown.pid shown.comm t)
 shown_told n line None t = t
 
+-- a task that has ended reserves nothing any more (__dl_clear_params)
+abbrev pub noted_policy : Policy → Policy
+noted_policy (policies.Deadline p) = if p.dl_runtime == 0 then policies.Other else policies.Deadline p
+noted_policy policies.Other = policies.Other
+
 -- a note: one of a task is not taken behind a line of a later moment
 abbrev pub task_noted : ℕ → Option ℕ → Option ℕ → ℕ → Policy → Timed → Timed
 task_noted pid at by cpu policy t = record t { lines = with_note pid at by cpu policy (begun (wanted_in t) t.lines) }
 
 abbrev pub note_kept : TraceNote → Timed → Timed
-note_kept (note.Task pid at by cpu policy) t = if is_behind_by at t.lines.latest then t else task_noted pid at by cpu policy t
+note_kept (note.Task pid at by cpu policy) t = if is_behind_by at t.lines.latest then t else task_noted pid at by cpu (noted_policy policy) t
 note_kept other t = t
 
 abbrev pub noted : TraceNote → Timed → Timed
@@ -102,8 +109,12 @@ abbrev pub line_kept : EventLine → Timed → Timed
 line_kept e t = record t { lines = with_event e t.lines }
 
 -- it may show that a note came too late
+abbrev pub late_opened : Option LateLine → Timed → Timed
+late_opened (Some late) t = opened late.line (Some (signs.LateNote late.pid)) t
+late_opened None t = t
+
 abbrev pub late_note_seen : ℕ → ℕ → Fixed → Timed → Timed
-late_note_seen n at fixed t = opened n (late_note_opens (option_and_then (late_noted at fixed) t.lines.kept)) t
+late_note_seen n at fixed t = late_opened (option_and_then (late_in n at fixed) t.lines.kept) t
 
 abbrev pub event_kept : EventLine → Timed → Timed
 event_kept e t = line_kept e (late_note_seen e.line e.at e.fixed (kept_in (newcomer_seen e.line e.cpu t)))

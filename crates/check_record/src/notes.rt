@@ -4,7 +4,7 @@ ghost use Rattle.std.specs.Prelude.{◌≡◌, OnOk, option_map};
 ghost use Rattle.trace_data.specs.declared.line.RecordLine.TheVariants.{Note};
 ghost use Rattle.check_record.specs.Seen.{shown_in, timed_in};
 ghost use Rattle.check_record.specs.Shown.{retimed, shown_with};
-ghost use Rattle.check_record.specs.Timed.{domained, task_noted};
+ghost use Rattle.check_record.specs.Timed.{domained, noted_policy, task_noted};
 ghost use Rattle.check_settings.specs.Heads.{noted_with, told_of};
 ghost use Rattle.check_record.specs.Lost.{changed_by, dropped_with, fault_noted, is_another_by, is_behind_by, losing_by, lost_by, lost_line_by};
 
@@ -157,7 +157,9 @@ impl Gathering<'_> {
 }
 
 /// The policy that a note tells: a task that has ended reserves nothing any more (`__dl_clear_params`).
-fn noted_policy(policy: Policy) -> Policy {
+fn noted_policy(policy: Policy) -> Policy
+    ensures { result ≡ noted_policy policy }
+{
     match policy {
         Policy::Deadline(parameters) if parameters.dl_runtime == 0 => Policy::Other,
         other => other,

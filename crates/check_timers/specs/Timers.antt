@@ -1,7 +1,11 @@
 -- The lines of timers of a record that are kept so far, with the tasks that options give.
-use Rattle.std.specs.Prelude.{ℕ, max, List, Option, Some, None, map, option_map, slice_get}
+use Rattle.std.specs.Prelude.{ℕ, max, List, Option, Some, None, map, option_map, slice_get, unwrap_or}
 use Rattle.trace_data.specs.declared.note.Policy.{Policy}
 use Rattle.trace_options.specs.declared.options.TaskOption.{TaskOption}
+use Rattle.timer_record.specs.Late.{late_noted, line_from}
+use Rattle.timer_record.specs.declared.late.LateNote.{LateNote}
+use Rattle.trace_data.specs.declared.fixed.Fixed.{Fixed}
+use Rattle.check_timers.specs.declared.timers.LateLine.{LateLine}
 use Rattle.timer_record.specs.Kept.{Kept, changed, kept_at_first, kept_of}
 use Rattle.timer_record.specs.Records.{EventLine, given_in, kept_with, noted_in}
 use Rattle.check_timers.specs.Sought.{place_of, unshown}
@@ -52,6 +56,14 @@ found_at None wanted pid t = t
 -- a line shows the task of this pid and comm: it may be one of those that options give
 unfoldable pub with_shown : WantedLines → ℕ → List ℕ → Timers → Timers
 with_shown wanted pid comm t = found_at (place_of pid comm t.sought) wanted pid t
+
+-- a line that contradicts a note: extra_bw is not known from the first line on that is kept from the note's moment on
+abbrev pub late_by : Option LateNote → ℕ → Kept → Option LateLine
+late_by (Some late) n k = Some (record { line = unwrap_or (line_from late.moment k.kept) n; pid = late.pid })
+late_by None n k = None
+
+abbrev pub late_in : ℕ → ℕ → Fixed → Kept → Option LateLine
+late_in n at fixed k = late_by (late_noted at fixed k) n k
 
 -- nothing is kept
 abbrev pub forgotten : Timers → Timers

@@ -6,5 +6,5 @@ mod timers;
 mod wanted;
 
 pub use sought::SoughtTask;
-pub use timers::RecordTimers;
+pub use timers::{LateLine, RecordTimers};
 pub use wanted::{WantedLines, wanted_by};

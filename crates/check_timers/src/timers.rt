@@ -2,10 +2,9 @@
 
 ghost use Rattle.std.specs.Prelude.{◌≡◌, IfOk, OnOk, Some, map, option_and_then, option_map};
 ghost use Rattle.timer_record.specs.Kept.{kept_of};
-ghost use Rattle.timer_record.specs.Late.{late_noted};
 ghost use Rattle.timer_record.specs.Records.{given_in};
 ghost use Rattle.check_timers.specs.Sought.{unshown};
-ghost use Rattle.check_timers.specs.Timers.{begun, forgotten, found_at, kept_from, timers_at_first, timers_of, with_event, with_note, with_shown};
+ghost use Rattle.check_timers.specs.Timers.{begun, forgotten, found_at, kept_from, late_in, timers_at_first, timers_of, with_event, with_note, with_shown};
 
 use crate::sought::{SoughtTask, place_of, unshown};
 use crate::wanted::WantedLines;
@@ -13,6 +12,13 @@ use std::alloc::{AllocError, Global};
 use timer_record::{GivenReservation, OpenRecord, Unlisted};
 use trace_data::{Fixed, Policy};
 use trace_options::TaskOption;
+
+/// A note of a task that a line contradicts, and the line from which on what the task reserves is not known.
+#[derive(Clone, Copy)]
+pub struct LateLine {
+    pub line: u64,
+    pub pid: u64,
+}
 
 /// The lines of timers of a record, with the tasks that options give.
 #[derive(Drop)]
@@ -149,12 +155,12 @@ impl<'o> RecordTimers<'o> {
         }
     }
 
-    /// The pid of a task that a line of this moment shows in the class, though its notes put it outside.
-    pub fn late_noted(&self, at: u64, fixed: &Fixed) -> Option<u64>
-        ensures { result ≡ option_and_then (late_noted at fixed.now) (timers_of self.now).kept }
+    /// The note that a line of this number and moment contradicts: its pid, and from which line on what it reserves is not known.
+    pub fn late_noted(&self, number: u64, at: u64, fixed: &Fixed) -> Option<LateLine>
+        ensures { result ≡ option_and_then (late_in number at fixed.now) (timers_of self.now).kept }
     {
         match &self.record {
-            Some(record) => record.late_noted(at, fixed),
+            Some(record) => late_in(record, number, at, fixed),
             None => None,
         }
     }
@@ -201,6 +207,18 @@ impl<'o> RecordTimers<'o> {
         ensures { option_map kept_of result ≡ (timers_of self.old).kept }
     {
         self.record.take()
+    }
+}
+
+fn late_in(record: &OpenRecord, number: u64, at: u64, fixed: &Fixed) -> Option<LateLine>
+    ensures { result ≡ late_in number at fixed.now (kept_of record.now) }
+{
+    match record.late_noted(at, fixed) {
+        Some(late) => Some(LateLine {
+            line: record.line_from(late.moment).unwrap_or(number),
+            pid: late.pid,
+        }),
+        None => None,
     }
 }
 
