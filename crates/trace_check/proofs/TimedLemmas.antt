@@ -19,10 +19,9 @@ use Rattle.timer_play.specs.declared.setup.RecordSetup.{RecordSetup}
 use Rattle.timer_play.specs.declared.setup.RecordStart.{RecordStart}
 use Rattle.timer_record.specs.Records.{ended_in, lines_of}
 use Rattle.timer_record.specs.declared.lines.KeptLines.{KeptLines}
-use Rattle.timer_verdict.specs.Speed.{compared_by}
 use Rattle.timer_verdict.specs.Verdicts.{IsJudged, deviates}
 use Rattle.timer_verdict.specs.declared.judging.Judged.{Judged}
-use Rattle.trace_check.specs.Timed.{IsTimed, IsTimedBy, IsTimedText, IsTimedVerdict, is_by_timers}
+use Rattle.trace_check.specs.Timed.{IsTimed, IsTimedBy, IsTimedText, IsTimedVerdict, compared_by, is_by_timers}
 use Rattle.trace_check.specs.declared.check.Verdict.{Verdict}
 
 none_by : (b : Bool) (n : ℕ) (o : Option ℕ) (c : Bool) → is_none o ≡ not c → is_none (cond b (Some n) o) ≡ not (b || c)

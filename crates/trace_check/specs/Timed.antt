@@ -1,5 +1,5 @@
 -- A verdict by timers: it agrees where no timer that is compared is elsewhere than the rules put it.
-use Rattle.std.specs.Prelude.{◌≡◌, ℕ, Bool, not, ◌||◌, List, Option, Some, is_none, is_some, option_map, Ok, IsTrue}
+use Rattle.std.specs.Prelude.{◌≡◌, ℕ, Bool, not, ◌||◌, if◌then◌else◌, List, Option, Some, is_none, is_some, option_map, Ok, IsTrue}
 use Rattle.std.specs.List.{list_any}
 use Rattle.check_record.specs.Playing.{taken_in}
 use Rattle.check_record.specs.Seen.{timed_in}
@@ -14,10 +14,15 @@ use Rattle.timer_play.specs.declared.setup.RecordStart.{RecordStart}
 use Rattle.timer_record.specs.Kept.{Kept}
 use Rattle.timer_record.specs.Records.{ended_in, lines_of}
 use Rattle.timer_record.specs.declared.lines.KeptLines.{KeptLines}
-use Rattle.timer_verdict.specs.Speed.{compared_by}
+use Rattle.timer_tasks.specs.declared.observation.Observation.{Observation}
+use Rattle.timer_verdict.specs.Speed.{without_slow}
 use Rattle.timer_verdict.specs.Verdicts.{deviates}
 use Rattle.trace_options.specs.declared.options.CheckOptions.{CheckOptions}
 use Rattle.trace_check.specs.declared.check.CheckRequest.{CheckRequest}
+
+-- what is compared of what a play observes, on a machine with a governor or on one without
+abbrev pub compared_by : Bool → KeptLines → List Observation → List Observation
+compared_by governor lines os = if governor then without_slow lines os else os
 
 -- the play of these lines, begun so, comes to this verdict
 abbrev pub IsVerdictOn : RecordSetup → RecordStart → KeptLines → Bool → ℕ → Bool → Type 0

@@ -6,9 +6,8 @@ ghost use Rattle.check_settings.specs.Heads.{domain_by, open_from, settings_by};
 ghost use Rattle.timer_play.specs.Kernels.{setup_by};
 ghost use Rattle.timer_play.specs.Playing.{observations_of};
 ghost use Rattle.timer_record.specs.Records.{ended_in, lines_of};
-ghost use Rattle.timer_verdict.specs.Speed.{compared_by};
 ghost use Rattle.timer_verdict.specs.Verdicts.{IsJudged};
-ghost use Rattle.trace_check.specs.Timed.{IsTimed};
+ghost use Rattle.trace_check.specs.Timed.{IsTimed, compared_by};
 ghost use Rattle.trace_check.specs.Uncompared.{left_by, uncompared_left, uncompared_of};
 
 use crate::check::{CheckRequest, Verdict};
